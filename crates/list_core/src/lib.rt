@@ -1,0 +1,10 @@
+//! The lists that cross crates, want of memory as an answer, and copies that are equal.
+#![tactic(auto)]
+
+mod copy;
+mod list;
+mod memory;
+
+pub use copy::TryCopy;
+pub use list::List;
+pub use memory::NoMemory;
