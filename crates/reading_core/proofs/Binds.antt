@@ -1,0 +1,51 @@
+-- What a step of a reading function gave, taken apart.
+use Rattle.std.proofs.Common.{◌≡◌, Bool, true, false, cond, Result, Ok, Err, refl, ◌⊎◌, inl, inr}
+use Rattle.reading_core.specs.Reading.{◌>>=◌, ◌>>◌, unless, refused_as}
+
+-- what was read in the end was read by each step
+pub bind_ok : {A B E : Type 0} (r : Result A E) (f : A → Result B E) (y : B) → (r >>= f) ≡ Ok y → (x : A) × (r ≡ Ok x) × (f x ≡ Ok y)
+bind_ok (Ok x) f y e = (x, refl, e)
+bind_ok (Err d) f y e = absurd cc
+
+-- a refusal is that of the first step, or of what follows it
+pub bind_err : {A B E : Type 0} (r : Result A E) (f : A → Result B E) (d : E) → (r >>= f) ≡ Err d → (r ≡ Err d) ⊎ ((x : A) × (r ≡ Ok x) × (f x ≡ Err d))
+bind_err (Ok x) f d e = inr (x, refl, e)
+bind_err (Err c) f d e = inl cc
+
+pub bind-assoc : {A B C E : Type 0} (r : Result A E) (f : A → Result B E) (g : B → Result C E) → ((r >>= f) >>= g) ≡ (r >>= λ x. f x >>= g)
+bind-assoc (Ok x) f g = refl
+bind-assoc (Err d) f g = refl
+
+-- a test that let the reading go on
+pub unless_ok : {B E : Type 0} (b : Bool) (d : E) (r : Result B E) (y : B) → (unless b d >> r) ≡ Ok y → (b ≡ true) × (r ≡ Ok y)
+unless_ok true d r y e = (refl, e)
+unless_ok false d r y e = absurd cc
+
+-- a choice that refused in its first branch, or in its second
+pub cond_ok : {A E : Type 0} (b : Bool) (d : E) (r : Result A E) (y : A) → cond b (Err d) r ≡ Ok y → (b ≡ false) × (r ≡ Ok y)
+cond_ok true d r y e = absurd cc
+cond_ok false d r y e = (refl, e)
+
+pub cond_ok_second : {A E : Type 0} (b : Bool) (r : Result A E) (d : E) (y : A) → cond b r (Err d) ≡ Ok y → (b ≡ true) × (r ≡ Ok y)
+cond_ok_second true r d y e = (refl, e)
+cond_ok_second false r d y e = absurd cc
+
+-- which way a choice went
+pub cond_is : {A : Type 0} (b : Bool) (x y z : A) → cond b x y ≡ z → ((b ≡ true) × (x ≡ z)) ⊎ ((b ≡ false) × (y ≡ z))
+cond_is true x y z e = inl (refl, e)
+cond_is false x y z e = inr (refl, e)
+
+-- the value is what was read
+pub ok_is : {A E : Type 0} (x y : A) → ◌≡◌ {A = Result A E} (Ok x) (Ok y) → x ≡ y
+ok_is x y e = cc
+
+pub err_is : {A E : Type 0} (d e : E) → ◌≡◌ {A = Result A E} (Err d) (Err e) → d ≡ e
+err_is d e h = cc
+
+pub refused_as_ok : {A D E : Type 0} (f : D → E) (r : Result A D) (y : A) → refused_as f r ≡ Ok y → r ≡ Ok y
+refused_as_ok f (Ok x) y e = cc
+refused_as_ok f (Err d) y e = absurd cc
+
+pub refused_as_err : {A D E : Type 0} (f : D → E) (r : Result A D) (e : E) → refused_as f r ≡ Err e → (d : D) × (r ≡ Err d) × (f d ≡ e)
+refused_as_err f (Ok x) e h = absurd cc
+refused_as_err f (Err d) e h = (d, refl, cc)

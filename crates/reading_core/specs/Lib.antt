@@ -1,0 +1,4 @@
+pub mod Reading
+pub mod Members
+pub mod Grammar
+pub mod Decimal
