@@ -2,5 +2,18 @@
 #![tactic(auto)]
 
 mod blob;
+mod crc;
+mod crc_tables;
+mod cursor;
+mod put;
+mod refusal;
+mod varint;
 
 pub use blob::{Blob, NumberList};
+pub use crc::crc_of;
+pub use cursor::Cursor;
+pub use put::{put_bytes, put_u8, put_u16, put_u32, put_u64, put_uvarint, put_varint};
+pub use refusal::WireRefusal;
+
+#[cfg(test)]
+mod tests;

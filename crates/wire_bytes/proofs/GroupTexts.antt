@@ -1,0 +1,68 @@
+-- What is written for a number is a text of it, and no text of it is shorter.
+use Rattle.std.proofs.Common.{◌≡◌, ℕ, zero, suc, ◌+◌, ◌*◌, ◌/◌, ◌%◌, ◌^◌, ◌<◌, ◌≤◌, true, false, ltb, List, [], ◌∷◌, length, refl, sym, ap, subst, ◌∙◌, arith, inl, inr, ℤ, pos, negsuc}
+use Rattle.std.specs.Int.{w64}
+use Rattle.std.specs.Int.RustNames.{FitsSigned}
+use Rattle.std.proofs.lemmas.Bool.{cases_lt, le-ltb, lt-ltb}
+use Rattle.wire_bytes.specs.Fields.{zigzag}
+use Rattle.wire_bytes.specs.FieldTexts.{IsGroups, IsUvarint, IsVarint}
+use Rattle.wire_bytes.specs.Written.{groups_text, uvarint_text, varint_text}
+use Rattle.wire_bytes.proofs.GroupLaws.{limit, more_groups}
+
+top_group : (n : ℕ) → groups_text 0 n ≡ n ∷ []
+unfolding groups_text
+top_group n = refl
+
+one_group : (more n : ℕ) → n < 128 → groups_text more n ≡ n ∷ []
+unfolding groups_text
+one_group zero n small = refl
+one_group (suc more) n small = rw (lt-ltb _ _ small) refl
+
+group_and_more : (more n : ℕ) → 128 ≤ n → groups_text (suc more) n ≡ (128 + n % 128) ∷ groups_text more (n / 128)
+unfolding groups_text
+group_and_more more n large = rw (le-ltb _ _ large) refl
+
+is_groups : (more n : ℕ) → n < limit more → IsGroups (groups_text more n) n
+is_groups zero n small = rw (one_group 0 n (omega arith)) (omega arith, refl)
+is_groups (suc more) n small =
+    elim (cases_lt n 128) [
+      | inl low ↦ rw (one_group (suc more) n low) (low, refl)
+      | inr large ↦ rw (group_and_more more n large) (more_groups (128 + n % 128) n (n / 128) (groups_text more (n / 128)) (omega arith) (omega arith) (omega arith) (is_groups more (n / 128) (omega arith)))
+    ]
+
+few_groups : (more n : ℕ) → length (groups_text more n) ≤ suc more
+few_groups zero n = rw (top_group n) (omega arith)
+few_groups (suc more) n =
+    elim (cases_lt n 128) [
+      | inl low ↦ rw (one_group (suc more) n low) (omega arith)
+      | inr large ↦ rw (group_and_more more n large) (omega (arith, few_groups more (n / 128)))
+    ]
+
+no_fewer : (text : List ℕ) (more n : ℕ) → IsGroups text n → n < limit more → length (groups_text more n) ≤ length text
+no_fewer [] more n are small = absurd are
+no_fewer (last ∷ []) more n are small = let low : n < 128 = omega (arith, are.0, are.1) in rw (one_group more n low) (omega arith)
+no_fewer (low ∷ next ∷ others) zero n are small = omega (arith, few_groups 0 n)
+no_fewer (low ∷ next ∷ others) (suc more) n are small =
+    elim (cases_lt n 128) [
+      | inl one ↦ rw (one_group (suc more) n one) (omega arith)
+      | inr large ↦
+          let high : n / 128 ≡ are.2 = omega (arith, are.0, are.1, are.3) in
+          rw (group_and_more more n large, high) (omega (arith, no_fewer (next ∷ others) more are.2 are.4 (omega (arith, are.0, are.3))))
+    ]
+
+pub uvarint_text_is : (n : ℕ) → n < 2 ^ 64 → IsUvarint (uvarint_text n) n
+uvarint_text_is n fits = record { groups = is_groups 9 n fits; few = few_groups 9 n; fits = fits }
+
+pub uvarint_text_least : (n : ℕ) (text : List ℕ) → IsUvarint text n → length (uvarint_text n) ≤ length text
+uvarint_text_least n text is = no_fewer text 9 n is.groups is.fits
+
+zigzag_below : (n : ℤ) → FitsSigned w64 n → zigzag n < 2 ^ 64
+zigzag_below (pos n) fits = let p = fits.sfits in omega arith
+zigzag_below (negsuc n) fits = let p = fits.sfits in omega arith
+
+pub varint_text_is : (n : ℤ) → FitsSigned w64 n → IsVarint (varint_text n) n
+unfolding varint_text
+varint_text_is n fits = uvarint_text_is (zigzag n) (zigzag_below n fits)
+
+pub varint_text_least : (n : ℤ) (text : List ℕ) → IsVarint text n → length (varint_text n) ≤ length text
+unfolding varint_text
+varint_text_least n text is = uvarint_text_least (zigzag n) text is

@@ -1,0 +1,90 @@
+ghost use Rattle.std.specs.Prelude.{◌≡◌, ◌≤◌, ◌<◌, ◌^◌, ◌*◌, ◌+◌, drop, Ok, suc, length, take, IfOk, ℕ, ℤ};
+ghost use Rattle.reading_core.specs.Reading.{Answers};
+ghost use Rattle.wire_bytes.specs.Fields.{groups_of, zigzag, unzigzag};
+ghost use Rattle.wire_bytes.specs.Written.{uvarint_text};
+
+use crate::WireRefusal;
+
+/// A number in base 128 at the front of the bytes, and how many bytes it takes.
+pub fn groups_of(bytes: &[u8]) -> Result<(u64, usize), WireRefusal>
+    ensures exact { Answers (λ x. x) result (groups_of 9 bytes.now) }
+    ensures within { IfOk result (λ x. x.1 ≤ length bytes.now) }
+{
+    let mut n = 0;
+    for place in 0..9 {
+        if place >= bytes.len() {
+            return Err(WireRefusal::Short);
+        }
+        let group = bytes[place] as u64;
+        if group < 128 {
+            return Ok((joined(n, group, place), place + 1));
+        }
+        n = joined(n, group - 128, place);
+    }
+    let group = last_group(bytes)?;
+    Ok((n + (group << 63), 10))
+}
+
+/// A group more above the low ones.
+#[inline(always)]
+fn joined(n: u64, group: u64, place: usize) -> u64
+    requires low { n < 2 ^ (7 * place) }
+    requires group { group < 128 }
+    requires limit { place < 9 }
+    ensures value { result ≡ n + group * 2 ^ (7 * place) }
+    ensures below { result < 2 ^ (7 * (place + 1)) }
+{
+    n + (group << (7 * place))
+}
+
+/// The tenth group, which is one bit.
+#[tactic(auto, unfolding(crate::specs::Fields::groups_of))]
+fn last_group(bytes: &[u8]) -> Result<u64, WireRefusal>
+    ensures exact { Answers (λ group. (group, 1)) result (groups_of 0 (drop 9 bytes.now)) }
+    ensures bit { IfOk result (λ group. (group < 2) × (9 < length bytes.now)) }
+{
+    match bytes.get(9) {
+        None => Err(WireRefusal::Short),
+        Some(0) => Ok(0),
+        Some(1) => Ok(1),
+        Some(_) => Err(WireRefusal::Overlong),
+    }
+}
+
+/// The number that stands at a place in the order 0, -1, 1, -2, 2.
+pub fn unzigzag(n: u64) -> i64
+    ensures { result ≡ unzigzag n }
+{
+    let half = (n / 2) as i64;
+    if n % 2 == 0 { half } else { -1 - half }
+}
+
+/// The place of a number in that order.
+pub fn zigzag(n: i64) -> u64
+    ensures { result ≡ zigzag n }
+{
+    if n < 0 {
+        (-1 - n) as u64 * 2 + 1
+    } else {
+        n as u64 * 2
+    }
+}
+
+/// A number in base 128, and how many groups it has.
+pub fn groups(n: u64) -> ([u8; 10], usize)
+    ensures text { take result.1 result.0 ≡ uvarint_text n }
+    ensures count { result.1 ≤ 10 }
+{
+    let mut groups = [0; 10];
+    let mut high = n;
+    for i in 0..9 {
+        if high < 128 {
+            groups[i] = high as u8;
+            return (groups, i + 1);
+        }
+        groups[i] = (128 + high % 128) as u8;
+        high /= 128;
+    }
+    groups[9] = high as u8;
+    (groups, 10)
+}
