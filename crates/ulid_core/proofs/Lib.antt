@@ -1,0 +1,5 @@
+pub mod Tables
+pub mod Positional
+pub mod UlidLaws
+pub mod NumberLoop
+pub mod TextLoop

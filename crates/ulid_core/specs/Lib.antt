@@ -1,0 +1,2 @@
+pub mod FixedDigits
+pub mod UlidText

@@ -1,0 +1,112 @@
+ghost use Rattle.std.specs.Prelude.{◌≡◌, ℕ, ◌+◌, ◌*◌, ◌/◌, ◌%◌, ◌^◌, ◌<◌, ◌++◌, Ok, IfOk, OnOk, OnErr};
+ghost use Rattle.std.specs.Cmp.Lexicographic.{slice_cmp};
+ghost use Rattle.std.specs.Ordering.{nat_cmp};
+ghost use Rattle.ulid_core.specs.UlidText.{IsUlidText, text_of, ulid_of};
+
+use crate::UlidRefusal;
+use crate::characters::{character, read_number};
+use list_core::{List, NoMemory, TryCopy};
+use std::marker::Model;
+
+/// A ULID: 48 bits of milliseconds, then 80 bits of entropy.
+#[derive(Clone, Copy, Debug, PartialEq, Eq, PartialOrd, Ord)]
+pub struct Ulid {
+    number: u128,
+}
+
+impl Model for Ulid {
+    ghost use Rattle.std.specs.Prelude.{ℕ, ◌<◌, ◌^◌};
+
+    ghost Value = { ℕ };
+
+    ghost view = { λ ulid. ulid.number };
+
+    ghost invariant = { λ ulid. ulid.number < 2 ^ 128 };
+
+    ghost inverse = { λ number. record { number = number } };
+}
+
+impl Ulid {
+    /// Reads the 26 characters of the ULID specification, upper case only.
+    pub fn read(text: &str) -> Result<Ulid, UlidRefusal>
+        ensures gives { result ≡ ulid_of text.now }
+        ensures found { IfOk result (IsUlidText text.now) }
+        ensures only { (ulid : ℕ) → IsUlidText text.now ulid → result ≡ Ok ulid }
+    {
+        let number = read_number(text)?;
+        Ok(Ulid { number })
+    }
+
+    /// The 26 characters, most significant first.
+    pub fn text(self) -> [u8; 26]
+        ensures value { result ≡ text_of self }
+        ensures written { IsUlidText result self }
+    {
+        let mut text = [b'0'; 26];
+        let mut rest = self.number;
+        for place in (0..26).rev() {
+            text[place] = character((rest % 32) as usize);
+            rest /= 32;
+        }
+        text
+    }
+
+    /// Appends the 26 characters.
+    pub fn put_text(self, out: &mut Vec<u8>) -> Result<(), NoMemory>
+        ensures ok { OnOk result (out.new.items ≡ out.old.items ++ text_of self) }
+        ensures err { OnErr result (out.new.items ≡ out.old.items) }
+    {
+        out.extend_from_slice(&self.text())?;
+        Ok(())
+    }
+
+    /// Milliseconds since 1970.
+    pub fn time(self) -> u64
+        ensures value { result ≡ self / 2 ^ 80 }
+        ensures bound { result < 2 ^ 48 }
+    {
+        (self.number >> 80) as u64
+    }
+
+    pub fn entropy(self) -> u128
+        ensures value { result ≡ self % 2 ^ 80 }
+        ensures bound { result < 2 ^ 80 }
+    {
+        self.number % (1 << 80)
+    }
+
+    pub fn from_parts(time: u64, entropy: u128) -> Ulid
+        requires time_fits { time < 2 ^ 48 }
+        requires entropy_fits { entropy < 2 ^ 80 }
+        ensures { result ≡ time * 2 ^ 80 + entropy }
+    {
+        Ulid {
+            number: u128::from(time) * (1 << 80) + entropy,
+        }
+    }
+
+    /// A law: the text of a ULID is read as that ULID.
+    pub fn text_is_read(self)
+        ensures { ulid_of (text_of self) ≡ Ok self }
+    {
+        let _number = self.number;
+    }
+
+    /// A law: texts are in the order of their ULIDs.
+    pub fn texts_are_ordered(self, other: Ulid)
+        ensures { slice_cmp nat_cmp (text_of self) (text_of other) ≡ nat_cmp self other }
+    {
+        let (_number, _other) = (self.number, other.number);
+    }
+}
+
+impl TryCopy for Ulid {
+    fn copy(&self) -> Result<Self, NoMemory>
+        ensures { result ≡ Ok self.now }
+    {
+        Ok(*self)
+    }
+}
+
+/// A list of ULIDs.
+pub type UlidList = List<Ulid>;
