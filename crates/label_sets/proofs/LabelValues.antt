@@ -1,0 +1,99 @@
+-- What `value_of` finds in a list of labels, and that a label set is determined by it.
+use Rattle.std.proofs.Common.{◌≡◌, ◌≢◌, ℕ, Bool, true, false, cond, List, [], ◌∷◌, Option, Some, None, refl, sym, ap, ◌∙◌, subst}
+use Rattle.std.specs.declared.cmp.Ordering.{Ordering}
+use Rattle.std.specs.declared.cmp.Ordering.TheVariants.{Less, Equal, Greater}
+use Rattle.std.specs.Ordering.{ordering_reverse, is_eq}
+use Rattle.std.specs.Cmp.Lexicographic.{nat_list_cmp_total, bytes_decides, texts_ties}
+use Rattle.std.specs.Str.{bytes_eq}
+use Rattle.std.proofs.lemmas.Cmp.{tied_itself}
+use Rattle.std.proofs.lemmas.Bool.{true≢false}
+use Rattle.label_sets.specs.declared.label.Label.{Label}
+use Rattle.label_sets.specs.Labels.{compare_texts, ComesBefore, StandsBefore, IsLabelSet, value_of}
+
+lesser_equal : (r : Ordering) → r ≡ Less → r ≡ Equal → ⊥
+lesser_equal r p q = cc
+
+untrue : (b : Bool) → (b ≡ true → ⊥) → b ≡ false
+untrue true h = absurd (h refl)
+untrue false h = refl
+
+pub compare_self : (name : List ℕ) → compare_texts name name ≡ Equal
+compare_self name = tied_itself nat_list_cmp_total name
+
+pub before_differs : (one other : List ℕ) → ComesBefore one other → one ≢ other
+before_differs one other b e = lesser_equal (compare_texts one one) (subst (λ n. ComesBefore one n) (sym e) b) (compare_self one)
+
+pub before_trans : (a b c : List ℕ) → ComesBefore a b → ComesBefore b c → ComesBefore a c
+before_trans a b c p q = nat_list_cmp_total.trans a b c p q
+
+pub bytes_eq_self : (name : List ℕ) → bytes_eq name name ≡ true
+bytes_eq_self name = (bytes_decides name name).1 refl
+
+pub bytes_eq_differs : (one other : List ℕ) → one ≢ other → bytes_eq one other ≡ false
+bytes_eq_differs one other n = untrue (bytes_eq one other) (λ t. n ((bytes_decides one other).0 t))
+
+pub same_text : (one other : List ℕ) → compare_texts one other ≡ Equal → one ≡ other
+same_text one other e = (bytes_decides one other).0 (texts_ties one other ∙ ap is_eq e)
+
+pub by_bool : {P : Type 0} (b : Bool) → (b ≡ true → P) → (b ≡ false → P) → P
+by_bool true f g = f refl
+by_bool false f g = g refl
+
+pub by_ordering : {P : Type 0} (r : Ordering) → (r ≡ Less → P) → (r ≡ Equal → P) → (r ≡ Greater → P) → P
+by_ordering Less f g h = f refl
+by_ordering Equal f g h = g refl
+by_ordering Greater f g h = h refl
+
+pub value_hit : (l : Label) (ls : List Label) (name : List ℕ) → l.name ≡ name → value_of (l ∷ ls) name ≡ Some l.value
+unfolding value_of
+value_hit l ls name e = ap (λ b. cond b (Some l.value) (value_of ls name)) ((bytes_decides l.name name).1 e)
+
+pub value_miss : (l : Label) (ls : List Label) (name : List ℕ) → l.name ≢ name → value_of (l ∷ ls) name ≡ value_of ls name
+unfolding value_of
+value_miss l ls name n = ap (λ b. cond b (Some l.value) (value_of ls name)) (bytes_eq_differs l.name name n)
+
+pub value_nil : (name : List ℕ) → value_of [] name ≡ None
+unfolding value_of
+value_nil name = refl
+
+-- a name that stands before all names is not among them
+pub value_of-below : (name : List ℕ) (ls : List Label) → StandsBefore name ls → value_of ls name ≡ None
+value_of-below name [] h = value_nil name
+value_of-below name (l ∷ ls) h = value_miss l ls name (λ e. before_differs name l.name h.0 (sym e)) ∙ value_of-below name ls h.1
+
+pub StandsBefore-trans : (a b : List ℕ) (ls : List Label) → ComesBefore a b → StandsBefore b ls → StandsBefore a ls
+StandsBefore-trans a b [] p h = tt
+StandsBefore-trans a b (l ∷ ls) p h = (before_trans a b l.name p h.0, StandsBefore-trans a b ls p h.1)
+
+pub some_none : (v : List ℕ) (o : Option (List ℕ)) → o ≡ Some v → o ≡ None → ⊥
+some_none v o p q = cc
+
+some_same : (u v : List ℕ) (o : Option (List ℕ)) → o ≡ Some u → o ≡ Some v → u ≡ v
+some_same u v o p q = cc
+
+-- a set that begins after the name has no value under it, as one that begins with it has
+head_not_before : (x y : Label) (xs ys : List Label) → StandsBefore y.name ys → value_of (x ∷ xs) x.name ≡ value_of (y ∷ ys) x.name → ComesBefore x.name y.name → ⊥
+head_not_before x y xs ys q same b = some_none x.value (value_of (x ∷ xs) x.name) (value_hit x xs x.name refl)
+    (same ∙ value_of-below x.name (y ∷ ys) (b, StandsBefore-trans x.name y.name ys b q))
+
+tail_values : (x y : Label) (xs ys : List Label) (name : List ℕ) → x.name ≡ y.name → StandsBefore x.name xs → StandsBefore y.name ys → value_of (x ∷ xs) name ≡ value_of (y ∷ ys) name → value_of xs name ≡ value_of ys name
+tail_values x y xs ys name e p q same = by_bool (bytes_eq x.name name)
+    (λ t. let here : x.name ≡ name = (bytes_decides x.name name).0 t in
+    subst (λ n. value_of xs n ≡ value_of ys n) here
+    (value_of-below x.name xs p ∙ sym (subst (λ n. value_of ys n ≡ None) (sym e) (value_of-below y.name ys q))))
+    (λ f. let apart : x.name ≢ name = λ h. true≢false (sym ((bytes_decides x.name name).1 h) ∙ f) in
+    sym (value_miss x xs name apart) ∙ same ∙ value_miss y ys name (λ h. apart (e ∙ h)))
+
+-- A label set is determined by the values under all names.
+pub same_sets : (xs ys : List Label) → IsLabelSet xs → IsLabelSet ys → ((name : List ℕ) → value_of xs name ≡ value_of ys name) → xs ≡ ys
+same_sets [] [] p q same = refl
+same_sets [] (y ∷ ys) p q same = absurd (some_none y.value (value_of (y ∷ ys) y.name) (value_hit y ys y.name refl) (sym (same y.name) ∙ value_nil y.name))
+same_sets (x ∷ xs) [] p q same = absurd (some_none x.value (value_of (x ∷ xs) x.name) (value_hit x xs x.name refl) (same x.name ∙ value_nil x.name))
+same_sets (x ∷ xs) (y ∷ ys) p q same = by_ordering (compare_texts x.name y.name)
+    (λ b. absurd (head_not_before x y xs ys q.2 (same x.name) b))
+    (λ t. let e : x.name ≡ y.name = same_text x.name y.name t in
+    let v : x.value ≡ y.value = some_same x.value y.value (value_of (x ∷ xs) x.name) (value_hit x xs x.name refl) (same x.name ∙ value_hit y ys x.name (sym e)) in
+    let l : x ≡ y = λ i. record { name = e i; value = v i } in
+    let ls : xs ≡ ys = same_sets xs ys p.3 q.3 (λ name. tail_values x y xs ys name e p.2 q.2 (same name)) in
+    λ i. l i ∷ ls i)
+    (λ g. absurd (head_not_before y x ys xs p.2 (sym (same y.name)) (nat_list_cmp_total.antisymm y.name x.name ∙ ap ordering_reverse g)))

@@ -1,0 +1,11 @@
+pub mod StableSorts
+pub mod LabelValues
+pub mod OrderedLabels
+pub mod LabelPlaces
+pub mod FinalLabels
+pub mod ReadValues
+pub mod Utf8Parts
+pub mod ReadPairs
+pub mod ReadWalks
+pub mod RepeatedNames
+pub mod ReadSets

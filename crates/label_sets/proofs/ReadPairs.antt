@@ -1,0 +1,121 @@
+-- What the readers of values and pairs have read is in the notation.
+use Rattle.std.proofs.Common.{◌≡◌, ℕ, ◌<◌, Bool, true, false, cond, ◌||◌, List, [], ◌∷◌, ◌++◌, length, take, drop, Result, Ok, Err, refl, sym, ap, ◌∙◌, subst, arith, append_assoc, eqb}
+use Rattle.std.proofs.lemmas.Bool.Decides.{Decides-eqb}
+use Rattle.std.proofs.lemmas.List.{take-append-drop, length-append}
+use Rattle.std.specs.Str.{IsUtf8}
+use Rattle.label_sets.specs.declared.label_refusal.LabelRefusal.{LabelRefusal}
+use Rattle.label_sets.specs.declared.label_refusal.LabelRefusal.TheVariants.{BadText}
+use Rattle.label_sets.specs.Notation.{past, with_byte, value_at, quoted, quoted_byte}
+use Rattle.label_sets.proofs.LabelValues.{by_bool}
+use Rattle.label_sets.proofs.Utf8Parts.{cut_front, cut_rest, unquoted}
+
+pub two_ways : {A G : Type 0} (a b : Bool) (p q r t : A) → cond a p (cond b q r) ≡ t → (a ≡ true → p ≡ t → G) → (b ≡ true → q ≡ t → G) → (a ≡ false → b ≡ false → r ≡ t → G) → G
+two_ways true b p q r t e f g h = f refl e
+two_ways false true p q r t e f g h = g refl e
+two_ways false false p q r t e f g h = h refl refl e
+
+pub three_ways : {A G : Type 0} (a b c : Bool) (p q r s t : A) → cond a p (cond b q (cond c r s)) ≡ t → (a ≡ true → p ≡ t → G) → (b ≡ true → q ≡ t → G) → (c ≡ true → r ≡ t → G) → (a ≡ false → b ≡ false → c ≡ false → s ≡ t → G) → G
+three_ways true b c p q r s t e f g h k = f refl e
+three_ways false true c p q r s t e f g h k = g refl e
+three_ways false false true p q r s t e f g h k = h refl e
+three_ways false false false p q r s t e f g h k = k refl refl refl e
+
+not_err : {A : Type 0} (e : LabelRefusal) (x : A) → Err e ≡ Ok x → ⊥
+not_err e x h = cc
+
+not_ok : {A : Type 0} (e : LabelRefusal) (x : A) → Ok x ≡ Err e → ⊥
+not_ok e x h = cc
+
+same_ok : {A : Type 0} (x y : A) (r : Result A LabelRefusal) → r ≡ Ok x → r ≡ Ok y → x ≡ y
+same_ok x y r h k = cc
+
+same_pair : (x : List ℕ × List ℕ) (w after : List ℕ) (r : Result (List ℕ × List ℕ) LabelRefusal) → r ≡ Ok x → r ≡ Ok (w, after) → (x.0 ≡ w) × (x.1 ≡ after)
+same_pair x w after r h k = let e = same_ok x (w, after) r h k in (ap (λ p. p.0) e, ap (λ p. p.1) e)
+
+is_byte : (byte n : ℕ) → eqb byte n ≡ true → byte ≡ n
+is_byte byte n t = (Decides-eqb byte n).0 t
+
+pub past-only : (byte : ℕ) (text rest : List ℕ) → past byte text ≡ Ok rest → text ≡ byte ∷ rest
+unfolding past
+past-only byte [] rest e = absurd (not_err (BadText 0) rest e)
+past-only byte (first ∷ text) rest e = by_bool (eqb first byte)
+    (λ t. let h : text ≡ rest = same_ok text rest (past byte (first ∷ text)) (ap (λ b. cond b (Ok text) (Err (BadText (length (first ∷ text))))) t) e in
+    λ i. is_byte first byte t i ∷ h i)
+    (λ f. absurd (not_err (BadText (length (first ∷ text))) rest (sym (ap (λ b. cond b (Ok text) (Err (BadText (length (first ∷ text))))) f) ∙ e)))
+
+with_byte-ok : (byte : ℕ) (r : Result (List ℕ × List ℕ) LabelRefusal) (value rest : List ℕ) → with_byte byte r ≡ Ok (value, rest) → (w : List ℕ) × (r ≡ Ok (w, rest)) × (value ≡ byte ∷ w)
+unfolding with_byte
+with_byte-ok byte (Ok read) value rest e =
+    let p = same_pair (byte ∷ read.0, read.1) value rest (with_byte byte (Ok read)) refl e in
+    (read.0, ap (λ after. Ok (read.0, after)) p.1, sym p.0)
+with_byte-ok byte (Err refusal) value rest e = absurd (not_err refusal (value, rest) e)
+
+-- a backslash or a quote
+escaped_sign : (byte : ℕ) → (eqb byte 92 || eqb byte 34) ≡ true → quoted_byte byte ≡ 92 ∷ byte ∷ []
+unfolding quoted_byte
+escaped_sign byte t = by_bool (eqb byte 92)
+    (λ a. ap (λ b. cond b (92 ∷ 92 ∷ []) (cond (eqb byte 34) (92 ∷ 34 ∷ []) (cond (eqb byte 10) (92 ∷ 110 ∷ []) (byte ∷ [])))) a ∙ ap (λ n. 92 ∷ n ∷ []) (sym (is_byte byte 92 a)))
+    (λ a. let q : eqb byte 34 ≡ true = sym (ap (λ b. b || eqb byte 34) a) ∙ t in
+    (λ i. cond (a i) (92 ∷ 92 ∷ []) (cond (q i) (92 ∷ 34 ∷ []) (cond (eqb byte 10) (92 ∷ 110 ∷ []) (byte ∷ [])))) ∙ ap (λ n. 92 ∷ n ∷ []) (sym (is_byte byte 34 q)))
+
+plain_byte : (byte : ℕ) → eqb byte 34 ≡ false → eqb byte 10 ≡ false → eqb byte 92 ≡ false → quoted_byte byte ≡ byte ∷ []
+unfolding quoted_byte
+plain_byte byte q n b = λ i. cond (b i) (92 ∷ 92 ∷ []) (cond (q i) (92 ∷ 34 ∷ []) (cond (n i) (92 ∷ 110 ∷ []) (byte ∷ [])))
+
+newline : quoted_byte 10 ≡ 92 ∷ 110 ∷ []
+unfolding quoted_byte
+newline = refl
+
+-- the backslash that was read before the text
+abbrev escape_mark : Bool → List ℕ
+escape_mark true = 92 ∷ []
+escape_mark false = []
+
+one_more : (front part text value w rest : List ℕ) (byte : ℕ) → quoted_byte byte ≡ part → value ≡ byte ∷ w → text ≡ quoted w ++ 34 ∷ rest → part ++ text ≡ quoted value ++ 34 ∷ rest
+unfolding quoted
+one_more front part text value w rest byte q v e =
+    ap (λ p. p ++ text) (sym q) ∙ ap (λ t. quoted_byte byte ++ t) e ∙ sym (append_assoc (quoted_byte byte) (quoted w) (34 ∷ rest)) ∙ sym (ap (λ u. quoted u ++ 34 ∷ rest) v)
+
+-- what is read as a value stands in front of a closing quote
+value-only : (escaping : Bool) (text value rest : List ℕ) → value_at escaping text ≡ Ok (value, rest) → escape_mark escaping ++ text ≡ quoted value ++ 34 ∷ rest
+unfolding value_at quoted
+value-only true [] value rest e = absurd (not_err (BadText 0) (value, rest) e)
+value-only false [] value rest e = absurd (not_err (BadText 0) (value, rest) e)
+value-only true (byte ∷ text) value rest e = two_ways (eqb byte 110) (eqb byte 92 || eqb byte 34) (with_byte 10 (value_at false text)) (with_byte byte (value_at false text)) (Err (BadText (length (byte ∷ text)))) (Ok (value, rest)) e
+    (λ t r. let w = with_byte-ok 10 (value_at false text) value rest r in
+    ap (λ n. 92 ∷ n ∷ text) (is_byte byte 110 t) ∙ one_more [] (92 ∷ 110 ∷ []) text value w.0 rest 10 newline w.2 (value-only false text w.0 rest w.1))
+    (λ t r. let w = with_byte-ok byte (value_at false text) value rest r in
+    one_more [] (92 ∷ byte ∷ []) text value w.0 rest byte (escaped_sign byte t) w.2 (value-only false text w.0 rest w.1))
+    (λ a b r. absurd (not_err (BadText (length (byte ∷ text))) (value, rest) r))
+value-only false (byte ∷ text) value rest e = three_ways (eqb byte 34) (eqb byte 10) (eqb byte 92) (Ok ([], text)) (Err (BadText (length (byte ∷ text)))) (value_at true text) (with_byte byte (value_at false text)) (Ok (value, rest)) e
+    (λ t r. let p = same_pair ([], text) value rest (Ok (value, rest)) (sym r) refl in
+    (λ i. is_byte byte 34 t i ∷ p.1 i) ∙ ap (λ v. quoted v ++ 34 ∷ rest) p.0)
+    (λ t r. absurd (not_err (BadText (length (byte ∷ text))) (value, rest) r))
+    (λ t r. ap (λ n. n ∷ text) (is_byte byte 92 t) ∙ value-only true text value rest r)
+    (λ q n b r. let w = with_byte-ok byte (value_at false text) value rest r in
+    one_more [] (byte ∷ []) text value w.0 rest byte (plain_byte byte q n b) w.2 (value-only false text w.0 rest w.1))
+
+pub value_is_quoted : (text value rest : List ℕ) → value_at false text ≡ Ok (value, rest) → text ≡ quoted value ++ 34 ∷ rest
+value_is_quoted text value rest e = value-only false text value rest e
+
+-- the text of a pair that was read in steps
+pub pair_shape : (text name rest after inside value last : List ℕ) (n m : ℕ) → m ≡ n → name ≡ take m text → rest ≡ drop m text → past 61 rest ≡ Ok after → past 34 after ≡ Ok inside → value_at false inside ≡ Ok (value, last)
+    → text ≡ name ++ 61 ∷ 34 ∷ (quoted value ++ 34 ∷ last)
+pair_shape text name rest after inside value last n m k e r p q v =
+    sym (take-append-drop m text) ∙ (λ i. sym e i ++ sym r i)
+    ∙ ap (λ t. name ++ t) (past-only 61 rest after p ∙ ap (λ t. 61 ∷ t) (past-only 34 after inside q ∙ ap (λ t. 34 ∷ t) (value_is_quoted inside value last v)))
+
+pub shape_name : (text name value last : List ℕ) → text ≡ name ++ 61 ∷ 34 ∷ (quoted value ++ 34 ∷ last) → IsUtf8 text → IsUtf8 name
+shape_name text name value last e u = cut_front name (34 ∷ (quoted value ++ 34 ∷ last)) 61 (omega arith) (subst IsUtf8 e u)
+
+inside_shape : (text name value last : List ℕ) → text ≡ name ++ 61 ∷ 34 ∷ (quoted value ++ 34 ∷ last) → IsUtf8 text → IsUtf8 (quoted value ++ 34 ∷ last)
+inside_shape text name value last e u = cut_rest [] (quoted value ++ 34 ∷ last) 34 (omega arith) (cut_rest name (34 ∷ (quoted value ++ 34 ∷ last)) 61 (omega arith) (subst IsUtf8 e u))
+
+pub shape_value : (text name value last : List ℕ) → text ≡ name ++ 61 ∷ 34 ∷ (quoted value ++ 34 ∷ last) → IsUtf8 text → IsUtf8 value
+shape_value text name value last e u = unquoted value (cut_front (quoted value) last 34 (omega arith) (inside_shape text name value last e u))
+
+pub shape_last : (text name value last : List ℕ) → text ≡ name ++ 61 ∷ 34 ∷ (quoted value ++ 34 ∷ last) → IsUtf8 text → IsUtf8 last
+shape_last text name value last e u = cut_rest (quoted value) last 34 (omega arith) (inside_shape text name value last e u)
+
+pub shape_shorter : (text name value last : List ℕ) → text ≡ name ++ 61 ∷ 34 ∷ (quoted value ++ 34 ∷ last) → length last < length text
+shape_shorter text name value last e = omega (arith, ap length e, length-append name (61 ∷ 34 ∷ (quoted value ++ 34 ∷ last)), length-append (quoted value) (34 ∷ last))

@@ -1,0 +1,170 @@
+-- Names that stand twice among labels, before and after the labels are put in order.
+use Rattle.std.proofs.Common.{◌≡◌, ◌≢◌, ℕ, zero, suc, ◌+◌, ◌-◌, ◌<◌, ◌≤◌, Bool, true, false, cond, ◌||◌, List, [], ◌∷◌, length, get_or, Option, Some, None, refl, sym, ap, ◌∙◌, subst, arith}
+use Rattle.std.specs.Ordering.{ordering_reverse, is_lt}
+use Rattle.std.specs.Cmp.Lexicographic.{nat_list_cmp_total, nat_list_eq_equiv, bytes_decides}
+use Rattle.std.specs.Str.{bytes_eq}
+use Rattle.std.specs.List.{list_any}
+use Rattle.std.specs.List.Sorted.{IsSortedBy}
+use Rattle.std.specs.Option.{is_some}
+use Rattle.std.proofs.lemmas.Bool.{true≢false}
+use Rattle.std.proofs.lemmas.List.Sorted.{ranks_by}
+use Rattle.std.proofs.lemmas.List.{get_or_default}
+use Rattle.label_sets.specs.declared.label.Label.{Label}
+use Rattle.label_sets.specs.Labels.{compare_texts, ComesBefore, MakeASet, value_of, names_of, has_lesser_name}
+use Rattle.label_sets.specs.Ordered.{placed, in_order}
+use Rattle.label_sets.specs.Finals.{is_among}
+use Rattle.label_sets.specs.Notation.{repeats}
+use Rattle.label_sets.proofs.LabelValues.{by_ordering, before_differs, before_trans, bytes_eq_differs, same_text}
+use Rattle.label_sets.proofs.OrderedLabels.{value_of-in_order}
+use Rattle.label_sets.proofs.FinalLabels.{among_names}
+use Rattle.label_sets.proofs.StableSorts.{NoneLess, Rises, Rises-from_sorted}
+
+pub among_labels : (labels : List Label) (name : List ℕ) → list_any (λ l. bytes_eq l.name name) labels ≡ is_among (names_of labels) name
+unfolding is_among
+among_labels [] name = refl
+among_labels (l ∷ ls) name = ap (λ b. bytes_eq l.name name || b) (among_labels ls name)
+
+or_true : (b : Bool) → (b || true) ≡ true
+or_true true = refl
+or_true false = refl
+
+either_true : (a b : Bool) → a ≡ true → (a || b) ≡ true
+either_true a b h = ap (λ x. x || b) h
+
+neither : (a b : Bool) → a ≡ false → b ≡ false → (a || b) ≡ false
+neither a b p q = λ i. p i || q i
+
+-- two neighbours with one name
+pub repeats_at : (labels : List Label) (k : ℕ) (d : Label) → suc k < length labels → bytes_eq (get_or labels k d).name (get_or labels (suc k) d).name ≡ true → repeats (names_of labels) ≡ true
+unfolding repeats is_among
+repeats_at [] k d l e = absurd (omega arith)
+repeats_at (x ∷ []) k d l e = absurd (omega arith)
+repeats_at (x ∷ y ∷ ys) zero d l e =
+    either_true (is_among (names_of (y ∷ ys)) x.name) (repeats (names_of (y ∷ ys)))
+    (either_true (bytes_eq y.name x.name) (is_among (names_of ys) x.name) ((bytes_decides y.name x.name).1 (sym ((bytes_decides x.name y.name).0 e))))
+repeats_at (x ∷ y ∷ ys) (suc k) d l e =
+    ap (λ b. is_among (names_of (y ∷ ys)) x.name || b) (repeats_at (y ∷ ys) k d (omega arith) e) ∙ or_true (is_among (names_of (y ∷ ys)) x.name)
+
+not_less : (one other : List ℕ) → is_lt (compare_texts one other) ≡ false → ComesBefore one other → ⊥
+not_less one other f b = true≢false (sym (ap is_lt b) ∙ f)
+
+-- what is not less than y, and not its equal, stands after it
+goes_after : (one other : List ℕ) → is_lt (compare_texts other one) ≡ false → bytes_eq one other ≡ false → ComesBefore one other
+goes_after one other f n = by_ordering (compare_texts one other)
+    (λ e. e)
+    (λ e. absurd (true≢false (sym ((bytes_decides one other).1 (same_text one other e)) ∙ n)))
+    (λ e. absurd (not_less other one f (nat_list_cmp_total.antisymm other one ∙ ap ordering_reverse e)))
+
+still_before : (a b c : List ℕ) → ComesBefore a b → is_lt (compare_texts c b) ≡ false → ComesBefore a c
+still_before a b c p f = by_ordering (compare_texts b c)
+    (λ e. before_trans a b c p e)
+    (λ e. subst (λ n. ComesBefore a n) (same_text b c e) p)
+    (λ e. absurd (not_less c b f (nat_list_cmp_total.antisymm c b ∙ ap ordering_reverse e)))
+
+not_among_later : (name : List ℕ) (y : Label) (ys : List Label) → ComesBefore name y.name → NoneLess has_lesser_name y ys → is_among (names_of ys) name ≡ false
+unfolding is_among
+not_among_later name y [] b n = refl
+not_among_later name y (w ∷ ws) b n = neither (bytes_eq w.name name) (is_among (names_of ws) name)
+    (bytes_eq_differs w.name name (λ e. before_differs name w.name (still_before name y.name w.name b n.0) (sym e)))
+    (not_among_later name y ws b n.1)
+
+no_repeats : (labels : List Label) → Rises has_lesser_name labels → ((k : ℕ) (d : Label) → suc k < length labels → bytes_eq (get_or labels k d).name (get_or labels (suc k) d).name ≡ false) → repeats (names_of labels) ≡ false
+unfolding repeats is_among
+no_repeats [] r h = refl
+no_repeats (x ∷ []) r h = refl
+no_repeats (x ∷ y ∷ ys) r h =
+    let b : ComesBefore x.name y.name = goes_after x.name y.name r.0.0 (h 0 x (omega arith)) in
+    neither (is_among (names_of (y ∷ ys)) x.name) (repeats (names_of (y ∷ ys)))
+    (neither (bytes_eq y.name x.name) (is_among (names_of ys) x.name) (bytes_eq_differs y.name x.name (λ e. before_differs x.name y.name b (sym e))) (not_among_later x.name y ys b r.1.0))
+    (no_repeats (y ∷ ys) r.1 (λ k d l. h (suc k) d (omega arith)))
+
+pub no_repeats-sorted : (labels : List Label) → IsSortedBy has_lesser_name labels → ((k : ℕ) (d : Label) → suc k < length labels → bytes_eq (get_or labels k d).name (get_or labels (suc k) d).name ≡ false) → repeats (names_of labels) ≡ false
+no_repeats-sorted labels up h = no_repeats labels (Rises-from_sorted has_lesser_name (ranks_by nat_list_cmp_total (λ (l : Label). l.name)) labels up) h
+
+-- the same at a place of a loop
+pub repeats_before : (labels : List Label) (i : ℕ) (d e : Label) → 1 ≤ i → i < length labels → true ≡ bytes_eq (get_or labels (i - 1) d).name (get_or labels i e).name → true ≡ repeats (names_of labels)
+repeats_before labels i d e low l h =
+    let j : i ≡ suc (i - 1) = omega arith in
+    let same : get_or labels i e ≡ get_or labels (suc (i - 1)) d = get_or_default labels i e d l ∙ ap (λ n. get_or labels n d) j in
+    sym (repeats_at labels (i - 1) d (omega arith) (ap (λ y. bytes_eq (get_or labels (i - 1) d).name y.name) (sym same) ∙ sym h))
+
+pub no_repeats_before : (labels : List Label) (i : ℕ) → length labels ≤ i → IsSortedBy has_lesser_name labels
+    → ((k : ℕ) (d : Label) → k + 1 < i → bytes_eq (get_or labels k d).name (get_or labels (k + 1) d).name ≡ false) → false ≡ repeats (names_of labels)
+no_repeats_before labels i end up h = sym (no_repeats-sorted labels up
+    (λ k d l. subst (λ (n : ℕ). bytes_eq (get_or labels k d).name (get_or labels n d).name ≡ false) {x = k + 1} {y = suc k} (omega arith) (h k d (omega arith))))
+
+pub among-in_order : (labels : List Label) (name : List ℕ) → is_among (names_of (in_order has_lesser_name labels)) name ≡ is_among (names_of labels) name
+among-in_order labels name = among_names (in_order has_lesser_name labels) name ∙ ap is_some (value_of-in_order labels name) ∙ sym (among_names labels name)
+
+swap_or : (a b c : Bool) → (a || (b || c)) ≡ (b || (a || c))
+swap_or true b c = sym (or_true b)
+swap_or false true c = refl
+swap_or false false c = refl
+
+middle_or : (a b c d : Bool) → ((a || b) || (c || d)) ≡ ((a || c) || (b || d))
+middle_or true b c d = refl
+middle_or false true c d = sym (or_true c)
+middle_or false false c d = refl
+
+same_either_way : (one other : List ℕ) → bytes_eq one other ≡ bytes_eq other one
+same_either_way one other = nat_list_eq_equiv.symm one other
+
+none_from : (o : Option (List ℕ)) → is_some o ≡ false → o ≡ None
+none_from None h = refl
+none_from (Some v) h = absurd (true≢false h)
+
+among-placed : (l : Label) (ls : List Label) (name : List ℕ) → is_among (names_of (placed has_lesser_name l ls)) name ≡ (bytes_eq l.name name || is_among (names_of ls) name)
+unfolding placed is_among
+among-placed l [] name = refl
+among-placed l (m ∷ ms) name = elim (has_lesser_name m l) as (λ b. is_among (names_of (cond b (m ∷ placed has_lesser_name l ms) (l ∷ m ∷ ms))) name ≡ (bytes_eq l.name name || (bytes_eq m.name name || is_among (names_of ms) name))) [
+  | true ↦ ap (λ b. bytes_eq m.name name || b) (among-placed l ms name) ∙ swap_or (bytes_eq m.name name) (bytes_eq l.name name) (is_among (names_of ms) name)
+  | false ↦ refl
+]
+
+repeats-placed : (l : Label) (ls : List Label) → repeats (names_of (placed has_lesser_name l ls)) ≡ (is_among (names_of ls) l.name || repeats (names_of ls))
+unfolding placed repeats is_among
+repeats-placed l [] = refl
+repeats-placed l (m ∷ ms) = elim (has_lesser_name m l) as (λ b. repeats (names_of (cond b (m ∷ placed has_lesser_name l ms) (l ∷ m ∷ ms))) ≡ ((bytes_eq m.name l.name || is_among (names_of ms) l.name) || (is_among (names_of ms) m.name || repeats (names_of ms)))) [
+  | true ↦ (λ i. among-placed l ms m.name i || repeats-placed l ms i)
+      ∙ ap (λ b. (b || is_among (names_of ms) m.name) || (is_among (names_of ms) l.name || repeats (names_of ms))) (same_either_way l.name m.name)
+      ∙ middle_or (bytes_eq m.name l.name) (is_among (names_of ms) m.name) (is_among (names_of ms) l.name) (repeats (names_of ms))
+  | false ↦ refl
+]
+
+pub repeats-in_order : (labels : List Label) → repeats (names_of (in_order has_lesser_name labels)) ≡ repeats (names_of labels)
+unfolding in_order repeats
+repeats-in_order [] = refl
+repeats-in_order (l ∷ ls) = repeats-placed l (in_order has_lesser_name ls) ∙ (λ i. among-in_order ls l.name i || repeats-in_order ls i)
+
+-- in a form that takes what a sort ensures
+pub repeats_sorted : (labels sorted : List Label) → sorted ≡ in_order has_lesser_name labels → repeats (names_of sorted) ≡ repeats (names_of labels)
+repeats_sorted labels sorted e = ap (λ ls. repeats (names_of ls)) e ∙ repeats-in_order labels
+
+pub repeats_sorted_with : (labels sorted : List Label) (name : List ℕ) → sorted ≡ in_order has_lesser_name labels → repeats (name ∷ names_of sorted) ≡ repeats (name ∷ names_of labels)
+unfolding repeats
+repeats_sorted_with labels sorted name e = ap (λ ls. is_among (names_of ls) name || repeats (names_of ls)) e ∙ (λ i. among-in_order labels name i || repeats-in_order labels i)
+
+-- each label has a name and a value
+abbrev pub AreFilled : List Label → Type 0
+AreFilled [] = Unit {0}
+AreFilled (l ∷ ls) = (l.name ≢ []) × (l.value ≢ []) × AreFilled ls
+
+not_some : (b : Bool) (v : Bool) → (b || v) ≡ false → (b ≡ false) × (v ≡ false)
+not_some true v h = absurd (true≢false h)
+not_some false v h = (refl, h)
+
+pub MakeASet-from_read : (labels : List Label) → AreFilled labels → repeats (names_of labels) ≡ false → MakeASet labels
+unfolding repeats
+MakeASet-from_read [] h n = tt
+MakeASet-from_read (l ∷ ls) h n =
+    let p = not_some (is_among (names_of ls) l.name) (repeats (names_of ls)) n in
+    (h.0, h.1, none_from (value_of ls l.name) (sym (among_names ls l.name) ∙ p.0), MakeASet-from_read ls h.2 p.1)
+
+-- the name that is added is among the others, or only the others decide
+pub repeats_found : (labels : List Label) (name : List ℕ) (r : Bool) → r ≡ list_any (λ l. bytes_eq l.name name) labels → r ≡ true → r ≡ repeats (name ∷ names_of labels)
+unfolding repeats
+repeats_found labels name r e t = t ∙ sym (ap (λ b. b || repeats (names_of labels)) (sym (among_labels labels name) ∙ sym e ∙ t))
+
+pub repeats_others : (labels : List Label) (name : List ℕ) (a r : Bool) → a ≡ list_any (λ l. bytes_eq l.name name) labels → a ≡ false → r ≡ repeats (names_of labels) → r ≡ repeats (name ∷ names_of labels)
+unfolding repeats
+repeats_others labels name a r e f h = h ∙ sym (ap (λ b. b || repeats (names_of labels)) (sym (among_labels labels name) ∙ sym e ∙ f))

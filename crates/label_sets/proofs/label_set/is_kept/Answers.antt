@@ -1,0 +1,14 @@
+use Rattle.std.proofs.Common.{sym, ◌∙◌, ap, []}
+use Rattle.label_sets.specs.Labels.{value_of}
+use Rattle.label_sets.specs.Finals.{is_among}
+use Rattle.label_sets.proofs.FinalLabels.{reduced_external, reduced_own}
+use Rattle.label_sets.proofs.label_set.is_kept.Goals as goal
+
+pub returns-in-Ok : goal.returns-in-Ok
+returns-in-Ok c = reduced_external c.args.label.now c.args.external.now c.args.replicas.now _
+    (ap (value_of c.args.external.now) (sym c.as_str-name.ensures) ∙ c.in-Ok.ensures.found.1 (record { name = []; value = [] }))
+
+pub returns-in-Err : goal.returns-in-Err
+returns-in-Err c = reduced_own c.args.label.now c.args.external.now c.args.replicas.now c.is_among.result
+    (ap (value_of c.args.external.now) (sym c.as_str-name.ensures) ∙ c.in-Err.ensures.absent.1)
+    (c.is_among.ensures ∙ ap (is_among c.args.replicas.now) c.as_str-name.ensures)

@@ -1,0 +1,19 @@
+//! Label sets, texts, and the series and samples that stand under label sets.
+#![tactic(auto)]
+
+mod label;
+mod label_refusal;
+mod label_set;
+mod notation;
+mod sample;
+mod sample_refusal;
+mod series;
+mod text;
+
+pub use label::Label;
+pub use label_refusal::LabelRefusal;
+pub use label_set::{LabelSet, final_labels, reduced};
+pub use sample::{Sample, SampleList};
+pub use sample_refusal::SampleRefusal;
+pub use series::{Series, SeriesList};
+pub use text::{Text, TextList};

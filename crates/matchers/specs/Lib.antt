@@ -1,0 +1,3 @@
+pub use Rattle.reading_core.specs.Reading
+pub use Rattle.label_sets.specs.Labels
+pub mod Selectors
