@@ -1,0 +1,3 @@
+pub mod NameText
+pub mod SixDigits
+pub mod KeyLaws

@@ -1,0 +1,14 @@
+//! The keys of a block's objects in a bucket, and their texts.
+#![tactic(auto)]
+
+mod key;
+mod names;
+mod object;
+mod refusal;
+
+pub use key::Key;
+pub use object::{Object, ObjectList};
+pub use refusal::NotAKey;
+
+#[cfg(test)]
+mod tests;

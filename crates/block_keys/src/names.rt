@@ -1,0 +1,90 @@
+ghost use Rattle.std.specs.Prelude.{◌≡◌, ◌++◌, ◌+◌, ◌%◌, ◌≤◌, OnOk, codes};
+ghost use Rattle.std.specs.Char.{is_ascii_digit};
+ghost use Rattle.std.specs.List.{list_all};
+ghost use Rattle.block_keys.specs.KeyText.{key_of, key_named, number_of, segment_of, six_digits};
+
+use crate::Key;
+use list_core::NoMemory;
+use ulid_core::Ulid;
+
+/// Appends `chunks/` and the six digits of a segment's number.
+pub(crate) fn put_segment_name(out: &mut Vec<u8>, number: u32) -> Result<(), NoMemory>
+    requires { number ≤ 999_999 }
+    ensures { OnOk result (out.new.items ≡ out.old.items ++ codes "chunks/" ++ six_digits number) }
+{
+    out.extend_from_slice(b"chunks/")?;
+    out.extend_from_slice(&decimal_of(number))?;
+    Ok(())
+}
+
+#[tactic(auto, unfolding(crate::specs::KeyText::six_digits))]
+fn decimal_of(number: u32) -> [u8; 6]
+    ensures { result ≡ six_digits number }
+{
+    [
+        digit_of(number / 100_000),
+        digit_of(number / 10_000),
+        digit_of(number / 1_000),
+        digit_of(number / 100),
+        digit_of(number / 10),
+        digit_of(number),
+    ]
+}
+
+fn digit_of(number: u32) -> u8
+    ensures { result ≡ 48 + number % 10 }
+{
+    b'0' + (number % 10) as u8
+}
+
+#[tactic(auto, unfolding(crate::specs::KeyText::key_of))]
+pub(crate) fn read_key(text: &str) -> Option<Key>
+    ensures { result ≡ key_of text.now }
+{
+    let (block, name) = text.split_once('/')?;
+    let ulid = Ulid::read(block).ok()?;
+    read_name(ulid, name)
+}
+
+#[tactic(auto, unfolding(crate::specs::KeyText::key_named))]
+fn read_name(ulid: Ulid, name: &str) -> Option<Key>
+    ensures { result ≡ key_named ulid name.now }
+{
+    match name {
+        "meta.json" => Some(Key::Meta(ulid)),
+        "index" => Some(Key::Index(ulid)),
+        "deletion-mark.json" => Some(Key::Mark(ulid)),
+        _ => read_segment(name).map(|number| Key::Segment(ulid, number)),
+    }
+}
+
+#[tactic(auto, unfolding(crate::specs::KeyText::segment_of))]
+fn read_segment(name: &str) -> Option<u32>
+    ensures { result ≡ segment_of name.now }
+{
+    let (folder, digits) = name.split_once('/')?;
+    if folder != "chunks" {
+        return None;
+    }
+    read_number(digits)
+}
+
+fn are_digits(text: &[u8]) -> bool
+    ensures { result ≡ list_all is_ascii_digit text.now }
+{
+    text.iter().all(|byte| byte.is_ascii_digit())
+}
+
+#[tactic(auto, unfolding(crate::specs::KeyText::number_of))]
+fn read_number(digits: &str) -> Option<u32>
+    ensures { result ≡ number_of digits.now }
+{
+    if digits.len() != 6 || !are_digits(digits.as_bytes()) {
+        return None;
+    }
+    let number = digits.parse::<u32>().ok()?;
+    if number == 0 {
+        return None;
+    }
+    Some(number)
+}

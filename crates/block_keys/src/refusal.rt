@@ -1,0 +1,3 @@
+/// The text is no key.
+#[derive(Clone, Copy, Debug, PartialEq, Eq)]
+pub struct NotAKey;

@@ -1,0 +1,3 @@
+pub mod DigitLoop
+pub mod MomentLaws
+pub mod SpanLaws

@@ -1,0 +1,4 @@
+pub mod Digits
+pub mod MomentText
+pub mod SpanText
+pub mod StandardRules

@@ -1,0 +1,34 @@
+ghost use Rattle.std.specs.Prelude.{◌≡◌, ◌≤◌, length, true};
+ghost use Rattle.std.specs.Char.{is_ascii_digit};
+ghost use Rattle.std.specs.List.{list_all};
+ghost use Rattle.std.specs.Str.Parse.{digits_value};
+ghost use Rattle.moment_core.specs.Digits.{number_of};
+
+/// The number of 1 to `most` decimal digits, of which the first may be zeros.
+pub(crate) fn read_digits(digits: &[u8], most: usize) -> Option<u64>
+    requires { most ≤ 15 }
+    ensures { result ≡ number_of most digits.now }
+{
+    if digits.is_empty() || digits.len() > most || !are_digits(digits) {
+        return None;
+    }
+    Some(value_of(digits))
+}
+
+fn are_digits(text: &[u8]) -> bool
+    ensures { result ≡ list_all is_ascii_digit text.now }
+{
+    text.iter().all(|byte| byte.is_ascii_digit())
+}
+
+fn value_of(digits: &[u8]) -> u64
+    requires count { length digits.now ≤ 15 }
+    requires decimal { list_all is_ascii_digit digits.now ≡ true }
+    ensures { result ≡ digits_value 10 digits.now }
+{
+    let mut number = 0u64;
+    for digit in digits {
+        number = number * 10 + u64::from(*digit - b'0');
+    }
+    number
+}

@@ -1,0 +1,18 @@
+//! Moments, spans of time, ranges of times, and the rules of a run.
+#![tactic(auto)]
+
+mod digits;
+mod moment;
+mod partition;
+mod refusal;
+mod rules;
+mod span;
+
+pub use moment::Moment;
+pub use partition::Partition;
+pub use refusal::{BadSpan, MomentRefusal};
+pub use rules::Rules;
+pub use span::Span;
+
+#[cfg(test)]
+mod tests;
