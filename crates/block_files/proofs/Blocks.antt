@@ -1,0 +1,29 @@
+-- The objects of a block, as they are put together.
+use Rattle.std.proofs.Common.{◌≡◌, ℕ, zero, suc, ◌+◌, ◌<◌, ◌≤◌, List, [], ◌∷◌, ◌++◌, length, arith, ◌∙◌, ap, append_assoc}
+use Rattle.std.specs.Prelude.{All}
+use Rattle.std.proofs.lemmas.List.Elements.{All-append}
+use Rattle.block_keys.specs.Blocks.{IsSegmentOf, IsBlock}
+use Rattle.block_keys.specs.declared.key.Key.TheVariants.{Meta, Index}
+use Rattle.block_keys.specs.declared.object.Object.{Object}
+
+all_single : {X : Type 0} (P : X → Type 0) (x : X) → P x → All P (x ∷ [])
+all_single P x holds zero d below = holds
+all_single P x holds (suc k) d below = absurd (omega arith)
+
+-- what holds of all and of one more, holds of all with it
+pub all_pushed : {X : Type 0} (P : X → Type 0) (xs : List X) (x : X) → All P xs → P x → All P (xs ++ x ∷ [])
+all_pushed P xs x all holds = All-append P xs (x ∷ []) all (all_single P x holds)
+
+-- segments, then an index, then a meta
+pub block_of : (ulid : ℕ) (segments one both : List Object) (index meta : Object) → All (λ object. IsSegmentOf ulid object.key) segments
+    → length segments ≤ 999_999 → one ≡ segments ++ index ∷ [] → both ≡ one ++ meta ∷ [] → index.key ≡ Index ulid → meta.key ≡ Meta ulid → IsBlock ulid both
+block_of ulid segments one both index meta keys few first second index_key meta_key = record {
+  segments = segments;
+  index = index;
+  meta = meta;
+  in_order = second ∙ (ap (λ (l : List Object). l ++ meta ∷ []) first ∙ append_assoc segments (index ∷ []) (meta ∷ []));
+  segment_keys = keys;
+  index_key = index_key;
+  meta_key = meta_key;
+  few = few;
+}

@@ -1,0 +1,104 @@
+ghost use Rattle.std.specs.Prelude.{◌≡◌, ◌≤◌, length, IfOk};
+
+use crate::{BlobList, BlockFiles, BuildRefusal};
+use block_meta::{BlockPlan, FileSize, FileSizeList, Meta};
+use label_sets::{Series, SeriesList, Text, TextList};
+use list_core::{NoMemory, TryCopy};
+use std::alloc::Global;
+use wire_bytes::Blob;
+
+/// The whole index of the plain form.
+pub(crate) const PLAIN_INDEX: &[u8; 6] = b"plain\n";
+
+/// Builds a block's files of its series, which ascend by their labels.
+pub fn build(
+    alloc: Global,
+    plan: &BlockPlan,
+    series: &SeriesList,
+) -> Result<BlockFiles, BuildRefusal> {
+    let index = Blob::from_bytes(alloc, PLAIN_INDEX)?;
+    let segments = build_segments(alloc, series)?;
+    let meta = build_meta(alloc, plan, series, segments.members(), &index)?;
+    Ok(BlockFiles {
+        meta,
+        index,
+        segments,
+    })
+}
+
+/// One segment of all series, and none where there is no series.
+fn build_segments(alloc: Global, series: &SeriesList) -> Result<BlobList, NoMemory>
+    ensures { IfOk result (λ made. length made ≤ 1) }
+{
+    let mut segments = BlobList::new(alloc);
+    if !series.is_empty() {
+        segments.push(Blob::from_vec(segment_text(alloc, series.members())?))?;
+    }
+    Ok(segments)
+}
+
+fn segment_text(alloc: Global, series: &[Series]) -> Result<Vec<u8>, NoMemory> {
+    let mut out = Vec::new(alloc);
+    for one in series {
+        one.write(&mut out)?;
+        out.push(b'\n')?;
+    }
+    Ok(out)
+}
+
+fn build_meta(
+    alloc: Global,
+    plan: &BlockPlan,
+    series: &SeriesList,
+    segments: &[Blob],
+    index: &Blob,
+) -> Result<Meta, NoMemory> {
+    Ok(Meta {
+        ulid: plan.ulid,
+        min_time: plan.min_time,
+        max_time: plan.max_time,
+        series: series.len() as u64,
+        samples: count_samples(series.members()),
+        chunks: series.len() as u64,
+        level: plan.level,
+        sources: plan.sources.copy()?,
+        parents: plan.parents.copy()?,
+        labels: plan.labels.copy()?,
+        resolution: 0,
+        source: plan.source.copy()?,
+        files: file_sizes(alloc, segments, index)?,
+        segment_files: segment_files(alloc, segments)?,
+    })
+}
+
+fn count_samples(series: &[Series]) -> u64 {
+    let mut count = 0u64;
+    for one in series {
+        count = count.saturating_add(one.samples.len() as u64);
+    }
+    count
+}
+
+fn file_sizes(alloc: Global, segments: &[Blob], index: &Blob) -> Result<FileSizeList, NoMemory> {
+    let mut sizes = FileSizeList::new(alloc);
+    if let Some(segment) = segments.first() {
+        sizes.push(file_size(alloc, "chunks/000001", segment)?)?;
+    }
+    sizes.push(file_size(alloc, "index", index)?)?;
+    Ok(sizes)
+}
+
+fn file_size(alloc: Global, path: &str, file: &Blob) -> Result<FileSize, NoMemory> {
+    Ok(FileSize {
+        path: Text::from_str(alloc, path)?,
+        bytes: file.bytes().len() as u64,
+    })
+}
+
+fn segment_files(alloc: Global, segments: &[Blob]) -> Result<TextList, NoMemory> {
+    let mut names = TextList::new(alloc);
+    if !segments.is_empty() {
+        names.push(Text::from_str(alloc, "000001")?)?;
+    }
+    Ok(names)
+}

@@ -1,0 +1,66 @@
+ghost use Rattle.std.specs.Prelude.{◌≡◌, ◌+◌, ◌≤◌, All, length, vec_len, IfOk, OnOk};
+ghost use Rattle.block_keys.specs.Blocks.{IsSegmentOf, IsBlock};
+
+use crate::BlockFiles;
+use block_keys::{Key, Object, ObjectList};
+use list_core::NoMemory;
+use std::alloc::Global;
+use ulid_core::Ulid;
+use wire_bytes::Blob;
+
+/// The objects of a block in the order in which they are uploaded: segments ascending, index, meta.
+#[tactic(auto, using(crate::proofs::Blocks::block_of))]
+pub fn files_objects(alloc: Global, files: BlockFiles) -> Result<ObjectList, NoMemory>
+    ensures { IfOk result (IsBlock files.meta.ulid) }
+{
+    let BlockFiles {
+        meta,
+        index,
+        segments,
+    } = files;
+    let text = meta.write(alloc)?;
+    let mut objects = segment_objects(alloc, meta.ulid, segments.into_vec())?;
+    objects.push(Object {
+        key: Key::Index(meta.ulid),
+        bytes: index,
+    })?;
+    objects.push(Object {
+        key: Key::Meta(meta.ulid),
+        bytes: text,
+    })?;
+    Ok(objects)
+}
+
+fn segment_objects(alloc: Global, ulid: Ulid, segments: Vec<Blob>) -> Result<ObjectList, NoMemory>
+    requires { vec_len segments ≤ 999_999 }
+    ensures keys { IfOk result (λ objects. All (λ object. IsSegmentOf ulid object.key) objects) }
+    ensures count { IfOk result (λ objects. length objects ≡ vec_len segments) }
+{
+    let mut objects = ObjectList::new(alloc);
+    let mut number = 0u32;
+    for bytes in segments {
+        number += 1;
+        push_segment(&mut objects, ulid, number, bytes)?;
+    }
+    Ok(objects)
+}
+
+#[tactic(auto, using(crate::proofs::Blocks::all_pushed))]
+fn push_segment(
+    objects: &mut ObjectList,
+    ulid: Ulid,
+    number: u32,
+    bytes: Blob,
+) -> Result<(), NoMemory>
+    requires least { 1 ≤ number }
+    requires most { number ≤ 999_999 }
+    requires before { All (λ object. IsSegmentOf ulid object.key) objects.old }
+    ensures keys { OnOk result (All (λ object. IsSegmentOf ulid object.key) objects.new) }
+    ensures count { OnOk result (length objects.new ≡ length objects.old + 1) }
+{
+    objects.push(Object {
+        key: Key::Segment(ulid, number),
+        bytes,
+    })?;
+    Ok(())
+}

@@ -1,0 +1,25 @@
+//! What a block says of itself beside its data: its meta and the mark of its deletion, as JSON.
+#![tactic(auto)]
+
+mod block_plan;
+mod compaction;
+mod deletion_mark;
+mod file_size;
+mod json;
+mod meta;
+mod parent;
+mod refusal;
+mod sources;
+mod stats;
+mod thanos;
+mod times;
+
+pub use block_plan::{BlockPlan, own_sources};
+pub use deletion_mark::DeletionMark;
+pub use file_size::{FileSize, FileSizeList};
+pub use meta::Meta;
+pub use parent::{Parent, ParentList};
+pub use refusal::MetaRefusal;
+
+#[cfg(test)]
+mod tests;
