@@ -1,0 +1,132 @@
+-- The edits at a place of a list.
+use Rattle.std.proofs.Common.{◌≡◌, ℕ, ◌≤◌, ◌<◌, zero, suc, Bool, true, false, cond, List, [], ◌∷◌, ◌++◌, length, take, drop, set, get_or, refl, sym, ◌∙◌, ap, subst, inl, inr, arith, Some, None}
+use Rattle.std.specs.List.{insert, remove, list_all, AllByRecursion}
+use Rattle.std.specs.Str.{bytes_eq}
+use Rattle.std.proofs.lemmas.Bool.{and_from, cases_lt, cases_Bool, false_from_ne_true}
+use Rattle.std.proofs.lemmas.List.{take-append-drop, get_or_default}
+use Rattle.std.proofs.Math.Seq.{drop-cons}
+use Rattle.bucket_core.specs.Contents.{is_key}
+use Rattle.bucket_core.specs.declared.stored.Stored.{Stored}
+use Rattle.bucket_core.specs.Stored.{is_before, in_order, have_keys, object_in, updated, IsPlace, IsUpdated, StandsAt}
+use Rattle.bucket_core.proofs.Edits.{replaced_behind, inserted_behind, removed_behind, in_order-drop, found_behind, nothing_here, same_text, eq_refl, after_all, comes_after}
+
+set_is : {X : Type 0} (xs : List X) (i : ℕ) (v : X) → i < length xs → set xs i v ≡ take i xs ++ v ∷ drop (suc i) xs
+set_is [] i v lt = absurd (omega arith)
+set_is (x ∷ xs) zero v lt = refl
+set_is (x ∷ xs) (suc i) v lt = ap (λ r. x ∷ r) (set_is xs i v (omega arith))
+
+drop_past : {X : Type 0} (xs : List X) (i : ℕ) → length xs ≤ i → drop i xs ≡ []
+drop_past [] zero le = refl
+drop_past [] (suc i) le = refl
+drop_past (x ∷ xs) zero le = absurd (omega arith)
+drop_past (x ∷ xs) (suc i) le = drop_past xs i (omega arith)
+
+-- a list around the element at a place
+around : {X : Type 0} (xs : List X) (i : ℕ) (d : X) → i < length xs → take i xs ++ get_or xs i d ∷ drop (suc i) xs ≡ xs
+around xs i d lt = ap (λ b. take i xs ++ b) (sym (drop-cons xs i d lt)) ∙ take-append-drop i xs
+
+pub replaced_at : (key : List ℕ) (objects : List Stored) (place : ℕ) (v : Stored) → in_order objects ≡ true → have_keys objects ≡ true
+    → IsPlace key objects place → StandsAt key objects place → v.key ≡ key → IsUpdated key (Some v.bytes) objects (set objects place v)
+replaced_at key objects place v ordered keys at stands vk =
+    let o : Stored = get_or objects place v in
+    let whole : take place objects ++ o ∷ drop (suc place) objects ≡ objects = around objects place v stands.0 in
+    let P : List Stored → Type 0 = λ old. IsUpdated key (Some v.bytes) old (set objects place v) in
+    let Q : List Stored → Type 0 = λ new. IsUpdated key (Some v.bytes) (take place objects ++ o ∷ drop (suc place) objects) new in
+    subst P whole
+    (subst Q (sym (set_is objects place v stands.0))
+    (replaced_behind key (take place objects) o v (drop (suc place) objects)
+    (ap in_order whole ∙ ordered) (ap have_keys whole ∙ keys)
+    (ap in_order (sym (drop-cons objects place v stands.0)) ∙ in_order-drop place objects ordered)
+    at.front (stands.1 v) vk))
+
+pub removed_at : (key : List ℕ) (objects : List Stored) (place : ℕ) (d : Stored) → in_order objects ≡ true → have_keys objects ≡ true
+    → IsPlace key objects place → StandsAt key objects place → IsUpdated key None objects (remove objects place)
+removed_at key objects place d ordered keys at stands =
+    let o : Stored = get_or objects place d in
+    let whole : take place objects ++ o ∷ drop (suc place) objects ≡ objects = around objects place d stands.0 in
+    let P : List Stored → Type 0 = λ old. IsUpdated key None old (remove objects place) in
+    subst P whole
+    (removed_behind key (take place objects) o (drop (suc place) objects)
+    (ap in_order whole ∙ ordered) (ap have_keys whole ∙ keys)
+    (ap in_order (sym (drop-cons objects place d stands.0)) ∙ in_order-drop place objects ordered)
+    at.front (stands.1 d))
+
+-- what is first behind a place is not under the key, where none stands at the place
+first_differs : (key : List ℕ) (objects : List Stored) (place : ℕ) (d : Stored) → place < length objects → (StandsAt key objects place → ⊥)
+    → bytes_eq (get_or objects place d).key key ≡ false
+first_differs key objects place d lt free =
+    false_from_ne_true _ (λ same. free (lt, λ e. ap (λ o. o.key) (get_or_default objects place e d lt) ∙ same_text (get_or objects place d).key key same))
+
+head_fails : {X : Type 0} (p : X → Bool) (xs : List X) (n : ℕ) (d : X) → n < length xs → AllByRecursion (λ x. p x ≡ false) (drop n xs) → p (get_or xs n d) ≡ false
+head_fails p [] n d lt all = absurd (omega arith)
+head_fails p (x ∷ xs) zero d lt all = all.0
+head_fails p (x ∷ xs) (suc n) d lt all = head_fails p xs n d (omega arith) all
+
+-- where no object under the key stands at its place, what is behind the place comes after the key
+behind_free : (v : Stored) (objects : List Stored) (place : ℕ) → in_order objects ≡ true → IsPlace v.key objects place
+    → (StandsAt v.key objects place → ⊥) → list_all (λ l. is_before l.key v) (drop place objects) ≡ true
+behind_free v objects place ordered at free =
+    elim (cases_lt place (length objects)) [
+      | inl lt ↦ (let o : Stored = get_or objects place v in
+          let here : drop place objects ≡ o ∷ drop (suc place) objects = drop-cons objects place v lt in
+          let there : in_order (o ∷ drop (suc place) objects) ≡ true = ap in_order (sym here) ∙ in_order-drop place objects ordered in
+          let after = comes_after o v.key (head_fails (is_before v.key) objects place v lt at.back) (first_differs v.key objects place v lt free) in
+          ap (λ l. list_all (λ l'. is_before l'.key v) l) here
+          ∙ and_from (is_before o.key v) (list_all (λ l. is_before l.key v) (drop (suc place) objects)) after (after_all v.key o (drop (suc place) objects) there after))
+      | inr past ↦ ap (λ l. list_all (λ l'. is_before l'.key v) l) (drop_past objects place past)
+    ]
+
+pub inserted_at : (v : Stored) (objects : List Stored) (place : ℕ) → in_order objects ≡ true → have_keys objects ≡ true
+    → is_key v.key ≡ true → IsPlace v.key objects place → (StandsAt v.key objects place → ⊥)
+    → IsUpdated v.key (Some v.bytes) objects (insert objects place v)
+inserted_at v objects place ordered keys key at free =
+    let whole : take place objects ++ drop place objects ≡ objects = take-append-drop place objects in
+    let P : List Stored → Type 0 = λ old. IsUpdated v.key (Some v.bytes) old (insert objects place v) in
+    subst P whole
+    (inserted_behind v (take place objects) (drop place objects) (ap in_order whole ∙ ordered) (ap have_keys whole ∙ keys)
+    (in_order-drop place objects ordered) key at.front (behind_free v objects place ordered at free))
+
+none_behind : (key : List ℕ) (objects : List Stored) (place : ℕ) → in_order objects ≡ true → IsPlace key objects place
+    → (StandsAt key objects place → ⊥) → object_in (drop place objects) key ≡ None
+none_behind key objects place ordered at free =
+    elim (cases_lt place (length objects)) [
+      | inl lt ↦ (let d : Stored = record { key = key; bytes = [] } in
+          let o : Stored = get_or objects place d in
+          let here : drop place objects ≡ o ∷ drop (suc place) objects = drop-cons objects place d lt in
+          let there : in_order (o ∷ drop (suc place) objects) ≡ true = ap in_order (sym here) ∙ in_order-drop place objects ordered in
+          ap (λ l. object_in l key) here
+          ∙ nothing_here key o (drop (suc place) objects) there (head_fails (is_before key) objects place d lt at.back) (first_differs key objects place d lt free))
+      | inr past ↦ ap (λ l. object_in l key) (drop_past objects place past)
+    ]
+
+unmoved : (key : List ℕ) (objects : List Stored) → object_in objects key ≡ None → (q : List ℕ)
+    → object_in objects q ≡ updated key None (object_in objects) q
+unmoved key objects none q =
+    elim (cases_Bool (bytes_eq key q)) [
+      | inl same ↦ ap (object_in objects) (sym (same_text key q same)) ∙ none ∙ ap (λ b. cond b None (object_in objects q)) (sym same)
+      | inr differs ↦ ap (λ b. cond b None (object_in objects q)) (sym differs)
+    ]
+
+pub found_at : (key : List ℕ) (objects : List Stored) (place : ℕ) (d : Stored) → IsPlace key objects place → StandsAt key objects place
+    → object_in objects key ≡ Some (get_or objects place d).bytes
+found_at key objects place d at stands =
+    let o : Stored = get_or objects place d in
+    ap (λ l. object_in l key) (sym (around objects place d stands.0))
+    ∙ found_behind key (take place objects) (o ∷ drop (suc place) objects) at.front
+    ∙ ap (λ b. cond b (Some o.bytes) (object_in (drop (suc place) objects) key)) (ap (λ k. bytes_eq k key) (stands.1 d) ∙ eq_refl key)
+
+pub absent_at : (key : List ℕ) (objects : List Stored) (place : ℕ) → in_order objects ≡ true → IsPlace key objects place
+    → (StandsAt key objects place → ⊥) → object_in objects key ≡ None
+absent_at key objects place ordered at free =
+    ap (λ l. object_in l key) (sym (take-append-drop place objects))
+    ∙ found_behind key (take place objects) (drop place objects) at.front
+    ∙ none_behind key objects place ordered at free
+
+-- an update that changes nothing
+pub untouched : (key : List ℕ) (objects : List Stored) → in_order objects ≡ true → have_keys objects ≡ true → object_in objects key ≡ None
+    → IsUpdated key None objects objects
+untouched key objects ordered keys none = record {
+  ordered = ordered;
+  keys = keys;
+  stands = λ i q. unmoved key objects none q i;
+}

@@ -1,0 +1,189 @@
+-- What is picked behind the cursor's place is the page.
+use Rattle.std.proofs.Common.{◌≡◌, ◌⊎◌, ℕ, zero, suc, Bool, true, false, cond, List, [], ◌∷◌, ◌++◌, length, take, drop, refl, sym, ◌∙◌, ap, subst, inl, inr, arith, Option, Some, None}
+use Rattle.std.specs.Prelude.{◌==◌, IsSome, is_some}
+use Rattle.std.specs.List.{list_all, AllByRecursion}
+use Rattle.std.specs.Option.{option_map_or}
+use Rattle.std.specs.Ordering.{nat_cmp, is_lt}
+use Rattle.std.specs.Cmp.Lexicographic.{slice_cmp}
+use Rattle.std.specs.Str.{bytes_eq}
+use Rattle.std.specs.declared.cmp.Ordering.TheVariants.{Less}
+use Rattle.std.proofs.lemmas.Bool.{cases_Bool, and_parts, eqb-true}
+use Rattle.std.proofs.lemmas.List.{take-append-drop}
+use Rattle.bucket_core.specs.Contents.{Contents}
+use Rattle.bucket_core.specs.Pages.{Before, Lists, IsName, IsPage}
+use Rattle.bucket_core.specs.declared.stored.Stored.{Stored}
+use Rattle.bucket_core.specs.Stored.{first_part, key_cmp, is_before, in_order, object_in, is_below, name_of, names_of, text_after, picked, IsPlace, IsStart}
+use Rattle.bucket_core.proofs.Edits.{same_text, eq_refl, in_order-drop}
+use Rattle.bucket_core.proofs.Order.{root_skipped, folder_cmp, folder_key, folder_name, names_rise, key_between, not_below}
+use Rattle.bucket_core.proofs.Picks.{Among, contains_among, all_of, at_among, Rises, picked_ascends, picked_few, picked_within, picked_whole}
+use Rattle.bucket_core.proofs.Places.{lt_less}
+
+-- what stands, stands for a member
+pub stands_for : (os : List Stored) (key : List ℕ) → IsSome (object_in os key) → (p : Stored) × Among p os × (p.key ≡ key)
+stands_for [] key some = cc
+stands_for (o ∷ os) key some =
+    elim (cases_Bool (bytes_eq o.key key)) [
+      | inl same ↦ (o, inl refl, same_text o.key key same)
+      | inr differs ↦ (let below : _ = stands_for os key (sym (ap (λ b. is_some (cond b (Some o.bytes) (object_in os key))) differs) ∙ some) in
+          (below.0, inr below.1, below.2))
+    ]
+
+-- a member stands
+pub member_stands : (os : List Stored) (p : Stored) → Among p os → IsSome (object_in os p.key)
+member_stands [] p among = absurd among
+member_stands (o ∷ os) p (inl same) =
+    ap (λ b. is_some (cond b (Some o.bytes) (object_in os p.key))) (ap (λ k. bytes_eq o.key k.key) (sym same) ∙ eq_refl o.key)
+member_stands (o ∷ os) p (inr among) =
+    elim (cases_Bool (bytes_eq o.key p.key)) [
+      | inl same ↦ ap (λ b. is_some (cond b (Some o.bytes) (object_in os p.key))) same
+      | inr differs ↦ ap (λ b. is_some (cond b (Some o.bytes) (object_in os p.key))) differs ∙ member_stands os p among
+    ]
+
+pub among_front : {X : Type 0} (x : X) (xs ys : List X) → Among x (xs ++ ys) → Among x xs ⊎ Among x ys
+among_front x [] ys among = inr among
+among_front x (y ∷ xs) ys (inl same) = inl (inl same)
+among_front x (y ∷ xs) ys (inr among) =
+    elim (among_front x xs ys among) [
+      | inl front ↦ inl (inr front)
+      | inr back ↦ inr back
+    ]
+
+among_drop : {X : Type 0} (x : X) (n : ℕ) (xs : List X) → Among x (drop n xs) → Among x xs
+among_drop x zero [] among = among
+among_drop x zero (y ∷ xs) among = among
+among_drop x (suc n) [] among = among
+among_drop x (suc n) (y ∷ xs) among = inr (among_drop x n xs among)
+
+-- a name as the definition of listings has it
+lists_of : (within key name : List ℕ) → name_of within key ≡ Some name → Lists within key name
+lists_of [] key name e = cc
+lists_of (b ∷ w) key name e = folder_key (b ∷ w) key name e
+
+name_from : (within key name : List ℕ) → Lists within key name → name_of within key ≡ Some name
+name_from [] key name lists = ap (λ n. Some n) (sym lists)
+name_from (b ∷ w) key name lists = ap (text_after ((b ∷ w) ++ 47 ∷ [])) lists ∙ folder_name (b ∷ w) name
+
+-- the names of a run of objects, by whether the first has one
+by_names : (P : List (List ℕ) → Type 0) (within : List ℕ) (o : Stored) (os : List Stored) → (name_of within o.key ≡ None → P [])
+    → ((n : List ℕ) → name_of within o.key ≡ Some n → P (n ∷ names_of within os)) → P (names_of within (o ∷ os))
+by_names P within o os none some =
+    let cases : (r : Option (List ℕ)) → name_of within o.key ≡ r → P (option_map_or (λ name. name ∷ names_of within os) r []) =
+    (elim [ None ↦ none | Some n ↦ some n ]) in
+    cases (name_of within o.key) refl
+
+names_stand : (within : List ℕ) (contents : Contents) (os : List Stored) → ((o : Stored) → Among o os → IsSome (contents o.key))
+    → AllByRecursion (IsName contents within) (names_of within os)
+names_stand within contents [] stand = tt
+names_stand within contents (o ∷ os) stand =
+    by_names (AllByRecursion (IsName contents within)) within o os (λ none. tt)
+    (λ n some. ((o.key, stand o (inl refl), lists_of within o.key n some), names_stand within contents os (λ p among. stand p (inr among))))
+
+later_names : (within : List ℕ) (o : Stored) (n : List ℕ) (os : List Stored) → name_of within o.key ≡ Some n
+    → list_all (λ l. is_before l.key o) os ≡ true → AllByRecursion (λ m. is_below m n ≡ false) (names_of within os)
+later_names within o n [] named all = tt
+later_names within o n (l ∷ os) named all =
+    let parts : _ = and_parts (is_before l.key o) (list_all (λ l'. is_before l'.key o) os) all in
+    by_names (AllByRecursion (λ m. is_below m n ≡ false)) within l os (λ none. tt)
+    (λ m some. (names_rise within o.key l.key n m (lt_less _ parts.0) named some, later_names within o n os named parts.1))
+
+-- the names of objects in order do not fall
+pub names_in_order : (within : List ℕ) (os : List Stored) → in_order os ≡ true → Rises (names_of within os)
+names_in_order within [] ordered = tt
+names_in_order within (o ∷ os) ordered =
+    let parts : _ = and_parts (list_all (λ later. is_before later.key o) os) (in_order os) ordered in
+    by_names Rises within o os (λ none. tt)
+    (λ n some. (later_names within o n os some parts.0, names_in_order within os parts.1))
+
+-- what is picked behind a place is the page, where all of the folder's names that are due stand behind it
+pub page_is : (objects : List Stored) (within after : List ℕ) (limit place : ℕ) → in_order objects ≡ true
+    → ((p : Stored) (name : List ℕ) → Among p (take place objects) → name_of within p.key ≡ Some name → is_below after name ≡ false)
+    → ((p : Stored) (name : List ℕ) → Among p (drop place objects) → name_of within p.key ≡ Some name → Among name (names_of within (drop place objects)))
+    → IsPage (object_in objects) within after limit (picked after limit (names_of within (drop place objects)))
+page_is objects within after limit place ordered skipped behind =
+    let back : List Stored = drop place objects in
+    let names : List (List ℕ) = names_of within back in
+    let page : List (List ℕ) = picked after limit names in
+    record {
+      ascend = picked_ascends after limit names;
+      few = picked_few after limit names;
+      stand = all_of (IsName (object_in objects) within) page
+          (picked_within (IsName (object_in objects) within) after limit names
+          (names_stand within (object_in objects) back (λ o among. member_stands objects o (among_drop o place objects among))));
+      whole = λ name is due. (let found : (p : Stored) × Among p objects × (p.key ≡ is.0) = stands_for objects is.0 is.1 in
+          let named : name_of within found.0.key ≡ Some name = ap (name_of within) found.2 ∙ name_from within is.0 name is.2 in
+          let whole_list : take place objects ++ back ≡ objects = take-append-drop place objects in
+          elim (among_front found.0 (take place objects) back (subst (Among found.0) (sym whole_list) found.1)) [
+            | inl front ↦ absurd (let e : is_below after name ≡ false = skipped found.0 name front named in
+                let t : is_below after name ≡ true = ap is_lt due in cc)
+            | inr there ↦ elim (picked_whole after limit names name (names_in_order within back (in_order-drop place objects ordered)) (behind found.0 name there named) (ap is_lt due)) [
+              | inl among ↦ inl (contains_among name page among)
+              | inr full ↦ inr (full.0, all_of (λ listed. Before listed name) page full.1)
+            ]
+          ]);
+    }
+
+-- each object has a name in the listing of the whole bucket
+root_names : (p : Stored) (name : List ℕ) (os : List Stored) → Among p os → name_of [] p.key ≡ Some name → Among name (names_of [] os)
+root_names p name [] among named = among
+root_names p name (o ∷ os) (inl same) named = let e : first_part p.key ≡ name = cc in inl (ap (λ q. first_part q.key) same ∙ e)
+root_names p name (o ∷ os) (inr among) named = inr (root_names p name os among named)
+
+pub root_page : (objects : List Stored) (after : List ℕ) (limit place : ℕ) → in_order objects ≡ true → IsPlace after objects place
+    → IsPage (object_in objects) [] after limit (picked after limit (names_of [] (drop place objects)))
+root_page objects after limit place ordered at =
+    page_is objects [] after limit place ordered
+    (λ p name among named. (let e : first_part p.key ≡ name = cc in
+    ap (is_below after) (sym e) ∙ root_skipped p.key after (lt_less _ (at_among (λ o. is_before after o ≡ true) p (take place objects) at.front among))))
+    (λ p name among named. root_names p name (drop place objects) among named)
+
+each_of : {X : Type 0} (q : X → Bool) (xs : List X) → list_all q xs ≡ true → AllByRecursion (λ x. q x ≡ true) xs
+each_of q [] all = tt
+each_of q (x ∷ xs) all = let parts : _ = and_parts (q x) (list_all q xs) all in (parts.0, each_of q xs parts.1)
+
+-- from the cursor on, the objects of a folder stand together
+folder_names : (b : ℕ) (w after : List ℕ) (p : Stored) (name : List ℕ) (os : List Stored) → in_order os ≡ true
+    → AllByRecursion (λ o. is_before ((b ∷ w) ++ 47 ∷ after) o ≡ false) os → Among p os → name_of (b ∷ w) p.key ≡ Some name
+    → Among name (names_of (b ∷ w) os)
+folder_names b w after p name [] ordered all among named = among
+folder_names b w after p name (o ∷ os) ordered all (inl same) named =
+    by_names (Among name) (b ∷ w) o os
+    (λ none. (let e : name_of (b ∷ w) o.key ≡ Some name = ap (λ q. name_of (b ∷ w) q.key) same ∙ named in cc))
+    (λ n some. (let e : name_of (b ∷ w) o.key ≡ Some name = ap (λ q. name_of (b ∷ w) q.key) same ∙ named in
+    let s : n ≡ name = cc in inl s))
+folder_names b w after p name (o ∷ os) ordered all (inr among) named =
+    let parts : _ = and_parts (list_all (λ later. is_before later.key o) os) (in_order os) ordered in
+    let ahead : key_cmp o.key p.key ≡ Less = lt_less _ (at_among (λ l. is_before l.key o ≡ true) p os (each_of (λ l. is_before l.key o) os parts.0) among) in
+    let between : (n : List ℕ) × (text_after ((b ∷ w) ++ 47 ∷ []) o.key ≡ Some n) =
+    key_between (b ∷ w) after o.key name all.0 (ap (key_cmp o.key) (sym (folder_key (b ∷ w) p.key name named)) ∙ ahead) in
+    by_names (Among name) (b ∷ w) o os
+    (λ none. (let e = between.1 in cc))
+    (λ n some. inr (folder_names b w after p name os parts.1 all.1 among named))
+
+pub folder_page : (objects : List Stored) (within after : List ℕ) (limit place : ℕ) → (within ≡ [] → ⊥) → in_order objects ≡ true
+    → IsPlace (within ++ 47 ∷ after) objects place
+    → IsPage (object_in objects) within after limit (picked after limit (names_of within (drop place objects)))
+folder_page objects [] after limit place given ordered at = absurd (given refl)
+folder_page objects (b ∷ w) after limit place given ordered at =
+    page_is objects (b ∷ w) after limit place ordered
+    (λ p name among named. (let before = lt_less _ (at_among (λ o. is_before ((b ∷ w) ++ 47 ∷ after) o ≡ true) p (take place objects) at.front among) in
+    let e : slice_cmp nat_cmp name after ≡ Less =
+    sym (folder_cmp (b ∷ w) name after) ∙ ap (λ k. key_cmp k ((b ∷ w) ++ 47 ∷ after)) (sym (folder_key (b ∷ w) p.key name named)) ∙ before in
+    not_below name after (inr e)))
+    (λ p name among named. folder_names b w after p name (drop place objects) (in_order-drop place objects ordered) at.back among named)
+
+-- the places behind which pages are picked
+pub root_start : (within after : List ℕ) (objects : List Stored) (place : ℕ) → true ≡ (length within == 0) → in_order objects ≡ true
+    → IsPlace after objects place → IsStart within after objects place
+root_start [] after objects place empty ordered at = record {
+  start_within = at.within;
+  page = λ limit. root_page objects after limit place ordered at;
+}
+root_start (b ∷ w) after objects place empty ordered at = absurd (let e : suc (length w) ≡ 0 = eqb-true (suc (length w)) 0 (sym empty) in omega arith)
+
+pub folder_start : (within after key : List ℕ) (objects : List Stored) (place : ℕ) → false ≡ (length within == 0) → key ≡ within ++ 47 ∷ after
+    → in_order objects ≡ true → IsPlace key objects place → IsStart within after objects place
+folder_start [] after key objects place given is ordered at = cc
+folder_start (b ∷ w) after key objects place given is ordered at = record {
+  start_within = at.within;
+  page = λ limit. folder_page objects (b ∷ w) after limit place (λ e. cc) ordered (subst (λ k. IsPlace k objects place) is at);
+}

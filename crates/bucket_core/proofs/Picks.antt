@@ -1,0 +1,122 @@
+-- What is picked from a rising list of names.
+use Rattle.std.proofs.Common.{◌≡◌, ◌⊎◌, ℕ, ◌≤◌, ◌-◌, zero, suc, true, false, cond, List, [], ◌∷◌, length, refl, sym, ◌∙◌, ap, subst, inl, inr, arith}
+use Rattle.std.specs.Prelude.{◌==◌, All, Contains}
+use Rattle.std.specs.List.{AllByRecursion}
+use Rattle.std.specs.Ordering.{nat_cmp, is_lt, ordering_reverse}
+use Rattle.std.specs.Cmp.Lexicographic.{slice_cmp}
+use Rattle.std.specs.declared.cmp.Ordering.{Ordering}
+use Rattle.std.specs.declared.cmp.Ordering.TheVariants.{Less, Equal, Greater}
+use Rattle.std.proofs.lemmas.Bool.{cases_Bool, ne_eqb}
+use Rattle.std.proofs.lemmas.Cmp.{nat_list_cmp_total}
+use Rattle.bucket_core.specs.Pages.{Before, Ascends}
+use Rattle.bucket_core.specs.Stored.{is_below, picked}
+use Rattle.bucket_core.proofs.Places.{lt_less, texts_equal}
+
+-- x is in the list
+abbrev pub Among : {X : Type 0} → X → List X → Type 0
+Among x [] = ⊥
+Among x (y ∷ ys) = (y ≡ x) ⊎ Among x ys
+
+pub contains_among : {X : Type 0} (x : X) (xs : List X) → Among x xs → Contains xs x
+contains_among x [] among = absurd among
+contains_among x (y ∷ xs) (inl same) = (0, omega arith, same)
+contains_among x (y ∷ xs) (inr among) = let found : Contains xs x = contains_among x xs among in (suc found.0, omega arith, found.2)
+
+pub all_of : {X : Type 0} (P : X → Type 0) (xs : List X) → AllByRecursion P xs → All P xs
+all_of P [] all k d lt = absurd (omega arith)
+all_of P (x ∷ xs) all zero d lt = all.0
+all_of P (x ∷ xs) all (suc k) d lt = all_of P xs all.1 k d (omega arith)
+
+pub at_among : {X : Type 0} (P : X → Type 0) (x : X) (xs : List X) → AllByRecursion P xs → Among x xs → P x
+at_among P x [] all among = absurd among
+at_among P x (y ∷ xs) all (inl same) = subst P same all.0
+at_among P x (y ∷ xs) all (inr among) = at_among P x xs all.1 among
+
+-- no name is less than one before it
+abbrev pub Rises : List (List ℕ) → Type 0
+Rises [] = Unit {0}
+Rises (name ∷ names) = AllByRecursion (λ later. is_below later name ≡ false) names × Rises names
+
+-- the three outcomes of picking from a list with a first name
+picked_pass : (last : List ℕ) (limit : ℕ) (n : List ℕ) (ns : List (List ℕ)) → is_below last n ≡ false → picked last limit (n ∷ ns) ≡ picked last limit ns
+picked_pass last limit n ns e = ap (λ b. cond b (cond (limit == 0) [] (n ∷ picked n (limit - 1) ns)) (picked last limit ns)) e
+
+picked_full : (last : List ℕ) (n : List ℕ) (ns : List (List ℕ)) → is_below last n ≡ true → picked last 0 (n ∷ ns) ≡ []
+picked_full last n ns e = ap (λ b. cond b [] (picked last 0 ns)) e
+
+picked_take : (last : List ℕ) (k : ℕ) (n : List ℕ) (ns : List (List ℕ)) → is_below last n ≡ true → picked last (suc k) (n ∷ ns) ≡ n ∷ picked n k ns
+picked_take last k n ns e =
+    ap (λ b. cond b (cond (suc k == 0) [] (n ∷ picked n (suc k - 1) ns)) (picked last (suc k) ns)) e
+    ∙ ap (λ b. cond b [] (n ∷ picked n (suc k - 1) ns)) (ne_eqb (suc k) 0 (λ same. omega arith))
+    ∙ (let one : suc k - 1 ≡ k = omega arith in ap (λ j. n ∷ picked n j ns) one)
+
+-- a property of what is picked, by these outcomes
+by_picked : (P : List (List ℕ) → Type 0) (last : List ℕ) (limit : ℕ) (n : List ℕ) (ns : List (List ℕ))
+    → (is_below last n ≡ false → P (picked last limit ns))
+    → (is_below last n ≡ true → limit ≡ 0 → P [])
+    → ((k : ℕ) → is_below last n ≡ true → limit ≡ suc k → P (n ∷ picked n k ns))
+    → P (picked last limit (n ∷ ns))
+by_picked P last zero n ns pass full take =
+    elim (cases_Bool (is_below last n)) [
+      | inl below ↦ subst P (sym (picked_full last n ns below)) (full below refl)
+      | inr not_below ↦ subst P (sym (picked_pass last zero n ns not_below)) (pass not_below)
+    ]
+by_picked P last (suc k) n ns pass full take =
+    elim (cases_Bool (is_below last n)) [
+      | inl below ↦ subst P (sym (picked_take last k n ns below)) (take k below refl)
+      | inr not_below ↦ subst P (sym (picked_pass last (suc k) n ns not_below)) (pass not_below)
+    ]
+
+pub picked_ascends : (last : List ℕ) (limit : ℕ) (ns : List (List ℕ)) → Ascends last (picked last limit ns)
+picked_ascends last limit [] = tt
+picked_ascends last limit (n ∷ ns) =
+    by_picked (Ascends last) last limit n ns (λ pass. picked_ascends last limit ns) (λ below e. tt)
+    (λ k below e. (lt_less _ below, picked_ascends n k ns))
+
+pub picked_few : (last : List ℕ) (limit : ℕ) (ns : List (List ℕ)) → length (picked last limit ns) ≤ limit
+picked_few last limit [] = omega arith
+picked_few last limit (n ∷ ns) =
+    by_picked (λ l. length l ≤ limit) last limit n ns (λ pass. picked_few last limit ns) (λ below e. omega arith)
+    (λ k below e. omega (arith, picked_few n k ns))
+
+pub picked_within : (P : List ℕ → Type 0) (last : List ℕ) (limit : ℕ) (ns : List (List ℕ)) → AllByRecursion P ns → AllByRecursion P (picked last limit ns)
+picked_within P last limit [] all = tt
+picked_within P last limit (n ∷ ns) all =
+    by_picked (AllByRecursion P) last limit n ns (λ pass. picked_within P last limit ns all.1) (λ below e. tt)
+    (λ k below e. (all.0, picked_within P n k ns all.1))
+
+-- where a name of the list stands to what is picked: in it, or behind all of it where it is full
+abbrev pub IsCovered : ℕ → List ℕ → List (List ℕ) → Type 0
+IsCovered limit name picks = Among name picks ⊎ ((length picks ≡ limit) × AllByRecursion (λ n. Before n name) picks)
+
+equal_or_less : (o p : Ordering) → p ≡ ordering_reverse o → is_lt o ≡ false → (o ≡ Equal) ⊎ (p ≡ Less)
+equal_or_less Less p e lt = cc
+equal_or_less Equal p e lt = inl refl
+equal_or_less Greater p e lt = inr e
+
+pub below_cases : (n m : List ℕ) → is_below m n ≡ false → (n ≡ m) ⊎ Before n m
+below_cases n m e =
+    elim (equal_or_less (slice_cmp nat_cmp m n) (slice_cmp nat_cmp n m) (nat_list_cmp_total.antisymm n m) e) [
+      | inl equal ↦ inl (sym (texts_equal m n equal))
+      | inr less ↦ inr less
+    ]
+
+pub picked_whole : (last : List ℕ) (limit : ℕ) (ns : List (List ℕ)) (m : List ℕ) → Rises ns → Among m ns → is_below last m ≡ true
+    → IsCovered limit m (picked last limit ns)
+picked_whole last limit [] m rises among below = absurd among
+picked_whole last limit (n ∷ ns) m rises (inl same) below =
+    by_picked (IsCovered limit m) last limit n ns
+    (λ pass. absurd (let e : is_below last n ≡ true = ap (is_below last) same ∙ below in cc))
+    (λ b e. inr (sym e, tt))
+    (λ k b e. inl (inl same))
+picked_whole last limit (n ∷ ns) m rises (inr among) below =
+    by_picked (IsCovered limit m) last limit n ns
+    (λ pass. picked_whole last limit ns m rises.1 among below)
+    (λ b e. inr (sym e, tt))
+    (λ k b e. elim (below_cases n m (at_among (λ later. is_below later n ≡ false) m ns rises.0 among)) [
+      | inl same ↦ inl (inl same)
+      | inr before ↦ elim (picked_whole n k ns m rises.1 among (ap is_lt before)) [
+        | inl found ↦ inl (inr found)
+        | inr full ↦ inr (omega (arith, full.0), (before, full.1))
+      ]
+    ])

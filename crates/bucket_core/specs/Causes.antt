@@ -1,0 +1,47 @@
+-- Counts of faults: a failure is answered only where the count rose in the call.
+use Rattle.std.specs.Prelude.{ℕ, ◌+◌, ◌-◌, ◌^◌, ◌≤◌, min, Bool, true, false}
+use Rattle.bucket_core.specs.declared.answer.PutAnswer.{PutAnswer}
+use Rattle.bucket_core.specs.declared.answer.PutAnswer.TheVariants as put
+use Rattle.bucket_core.specs.declared.answer.GetAnswer.{GetAnswer}
+use Rattle.bucket_core.specs.declared.answer.GetAnswer.TheVariants as get
+use Rattle.bucket_core.specs.declared.answer.DeleteAnswer.{DeleteAnswer}
+use Rattle.bucket_core.specs.declared.answer.DeleteAnswer.TheVariants as delete
+use Rattle.bucket_core.specs.declared.answer.PageAnswer.{PageAnswer}
+use Rattle.bucket_core.specs.declared.answer.PageAnswer.TheVariants as page
+use Rattle.bucket_core.specs.declared.answer.ReadAnswer.{ReadAnswer}
+use Rattle.bucket_core.specs.declared.answer.ReadAnswer.TheVariants as read
+use Rattle.bucket_core.specs.declared.answer.WriteAnswer.{WriteAnswer}
+use Rattle.bucket_core.specs.declared.answer.WriteAnswer.TheVariants as write
+
+-- the count went up by one at least, or stands at the end of its type
+abbrev pub Rose : ℕ → ℕ → Type 0
+Rose before now = min (before + 1) (2 ^ 64 - 1) ≤ now
+
+-- whether a call failed, by its answer
+abbrev pub put_failed : PutAnswer → Bool
+put_failed put.Stored = false
+put_failed (put.Failed landed) = true
+put_failed put.NoMemory = false
+
+abbrev pub get_failed : GetAnswer → Bool
+get_failed (get.Found bytes) = false
+get_failed get.Absent = false
+get_failed get.Failed = true
+get_failed get.NoMemory = false
+
+abbrev pub delete_failed : DeleteAnswer → Bool
+delete_failed delete.Deleted = false
+delete_failed (delete.Failed landed) = true
+
+abbrev pub page_failed : PageAnswer → Bool
+page_failed (page.Names names) = false
+page_failed page.Failed = true
+page_failed page.NoMemory = false
+
+abbrev pub read_failed : ReadAnswer → Bool
+read_failed (read.Got count) = false
+read_failed read.Failed = true
+
+abbrev pub write_failed : WriteAnswer → Bool
+write_failed (write.Took count) = false
+write_failed write.Failed = true

@@ -1,0 +1,11 @@
+pub mod Calls
+pub mod Causes
+pub mod Contents
+pub mod KeyLaw
+pub mod MemoryBucket
+pub mod MemorySink
+pub mod MemorySite
+pub mod MemorySource
+pub mod Pages
+pub mod Stored
+pub mod Streams

@@ -1,0 +1,129 @@
+ghost use Rattle.std.specs.Prelude.{◌≡◌, ◌<◌, ◌↔◌, length, List, ℕ, Some, None, IsTrue, OnOk, OnErr};
+ghost use Rattle.std.specs.Option.{option_copied};
+ghost use Rattle.bucket_core.specs.Contents.{IsKey};
+ghost use Rattle.bucket_core.specs.Stored.{first_part as first_part_of, key_cmp, is_before, in_order, have_keys, object_in, IsPlace, IsUpdated, StandsAt};
+
+use crate::stored::Stored;
+use label_sets::Text;
+use list_core::NoMemory;
+use std::alloc::Global;
+use std::cmp::Ordering;
+use wire_bytes::Blob;
+
+/// A key's part before its first slash.
+pub(crate) fn first_part(key: &str) -> &str
+    ensures { result.now ≡ first_part_of key.now }
+{
+    match key.split_once('/') {
+        Some((first, _)) => first,
+        None => key,
+    }
+}
+
+/// The order of keys.
+fn order(one: &str, other: &str) -> Ordering
+    ensures { result ≡ key_cmp one.now other.now }
+{
+    match first_part(one).cmp(first_part(other)) {
+        Ordering::Equal => one.cmp(other),
+        other => other,
+    }
+}
+
+/// Whether an object's key comes before this one.
+fn comes_before(object: &Stored, key: &str) -> bool
+    ensures { result ≡ is_before key.now object.now }
+{
+    order(object.key.as_str(), key) == Ordering::Less
+}
+
+/// The place where a key stands or would stand.
+pub(crate) fn place_of(objects: &[Stored], key: &str) -> usize
+    requires { IsTrue (in_order objects.now) }
+    ensures { IsPlace key.now objects.now result }
+{
+    objects.partition_point(|object| comes_before(object, key))
+}
+
+/// Whether an object under the key stands at the place.
+fn stands_at(objects: &[Stored], place: usize, key: &str) -> bool
+    ensures { IsTrue result ↔ StandsAt key.now objects.now place }
+{
+    match objects.get(place) {
+        Some(object) => object.key.as_str() == key,
+        None => false,
+    }
+}
+
+/// The object under the key.
+pub(crate) fn find<'a>(objects: &'a [Stored], key: &str) -> Option<&'a Blob>
+    requires { IsTrue (in_order objects.now) }
+    ensures { option_copied result ≡ object_in objects.now key.now }
+{
+    let place = place_of(objects, key);
+    if stands_at(objects, place, key) {
+        Some(&objects[place].bytes)
+    } else {
+        None
+    }
+}
+
+/// Puts other bytes in the place of those of an object.
+fn replace_at(objects: &mut Vec<Stored>, place: usize, key: &str, bytes: Blob)
+    requires ordered { IsTrue (in_order objects.old.items) }
+    requires keys { IsTrue (have_keys objects.old.items) }
+    requires place { IsPlace key.now objects.old.items place }
+    requires stands { StandsAt key.now objects.old.items place }
+    ensures { IsUpdated key.now (Some bytes) objects.old.items objects.new.items }
+{
+    objects[place].bytes = bytes;
+}
+
+/// Adds an object at the place where its key would stand.
+fn insert_at(objects: &mut Vec<Stored>, place: usize, object: Stored) -> Result<(), NoMemory>
+    requires ordered { IsTrue (in_order objects.old.items) }
+    requires keys { IsTrue (have_keys objects.old.items) }
+    requires key { IsKey object.key }
+    requires place { IsPlace object.key objects.old.items place }
+    requires free { StandsAt object.key objects.old.items place → ⊥ }
+    ensures ok { OnOk result (IsUpdated object.key (Some object.bytes) objects.old.items objects.new.items) }
+    ensures err { OnErr result (objects.new.items ≡ objects.old.items) }
+{
+    objects.insert(place, object)?;
+    Ok(())
+}
+
+/// Puts an object under the key.
+pub(crate) fn put_in(
+    alloc: Global,
+    objects: &mut Vec<Stored>,
+    key: &str,
+    bytes: &[u8],
+) -> Result<(), NoMemory>
+    requires ordered { IsTrue (in_order objects.old.items) }
+    requires keys { IsTrue (have_keys objects.old.items) }
+    requires key { IsKey key.now }
+    ensures ok { OnOk result (IsUpdated key.now (Some bytes.now) objects.old.items objects.new.items) }
+    ensures err { OnErr result (objects.new.items ≡ objects.old.items) }
+{
+    let place = place_of(objects.as_slice(), key);
+    let kept = Blob::from_bytes(alloc, bytes)?;
+    if stands_at(objects.as_slice(), place, key) {
+        replace_at(objects, place, key, kept);
+        return Ok(());
+    }
+    let key = Text::from_str(alloc, key)?;
+    insert_at(objects, place, Stored { key, bytes: kept })
+}
+
+/// Takes away the object under the key.
+pub(crate) fn remove_from(objects: &mut Vec<Stored>, key: &str)
+    requires ordered { IsTrue (in_order objects.old.items) }
+    requires keys { IsTrue (have_keys objects.old.items) }
+    ensures { IsUpdated key.now None objects.old.items objects.new.items }
+{
+    let place = place_of(objects.as_slice(), key);
+    if stands_at(objects.as_slice(), place, key) {
+        objects.remove(place);
+    }
+}
