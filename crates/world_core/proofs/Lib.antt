@@ -1,0 +1,4 @@
+pub mod Turns
+pub mod Growing
+pub mod Opening
+pub mod BlockNames

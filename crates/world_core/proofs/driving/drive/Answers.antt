@@ -1,0 +1,38 @@
+use Rattle.std.proofs.Common.{rules, refl, ◌∙◌, ap, [], ◌∷◌, ◌++◌, arith}
+use Rattle.world_core.specs.Operations.{entry_of}
+use Rattle.world_core.proofs.Turns.{ends, stops, goes_on}
+use Rattle.world_core.proofs.driving.drive.Goals as goal
+
+pub returns-then-answered-last-clause-run : goal.returns-then-answered-last-clause-run
+returns-then-answered-last-clause-run g c =
+    stops g.M.Machine.may g.M.Machine.asked _ _ _ _ _ _ _ _ c.turns.invariant.waiting c.args.stop _ c.in-Done.seen _ c.unwrap_or-last.ensures
+    (c.in-Done.ensures.entries ∙ ap (λ s. g.H.Hand.entries c.turns.hand ++ entry_of s c.turns.op c.in-Done.seen ∷ []) c.turns.invariant.seat)
+    (omega arith) c.in-Done.ensures.answer refl
+
+pub returns-in-Ok-Done-step-clause-run : goal.returns-in-Ok-Done-step-clause-run
+returns-in-Ok-Done-step-clause-run g c =
+    ends g.M.Machine.may g.M.Machine.asked _ _ _ _ _ _ _ _ c.turns.invariant.waiting c.args.stop _ c.in-Done.seen _ c.unwrap_or-last.ensures
+    (c.in-Done.ensures.entries ∙ ap (λ s. g.H.Hand.entries c.turns.hand ++ entry_of s c.turns.op c.in-Done.seen ∷ []) c.turns.invariant.seat)
+    (λ e. omega arith) (omega arith) _
+    (rw c.in-Ok-Done-step.field-0-is at (c.in-Ok-Done-step.ensures.goes_on (g.H.Hand.seat c.args.hand.now) c.turns.op c.turns.invariant.waiting.asks.waits))
+    (λ n e. cc)
+
+pub returns-in-Err-step-clause-run : goal.returns-in-Err-step-clause-run
+returns-in-Err-step-clause-run g c =
+    ends g.M.Machine.may g.M.Machine.asked _ _ _ _ _ _ _ _ c.turns.invariant.waiting c.args.stop _ c.in-Done.seen _ c.unwrap_or-last.ensures
+    (c.in-Done.ensures.entries ∙ ap (λ s. g.H.Hand.entries c.turns.hand ++ entry_of s c.turns.op c.in-Done.seen ∷ []) c.turns.invariant.seat)
+    (λ e. omega arith) (omega arith) _
+    (c.in-Err-step.ensures.goes_on (g.H.Hand.seat c.args.hand.now) c.turns.op c.turns.invariant.waiting.asks.waits)
+    (λ n e. cc)
+
+pub turns-preserved : goal.turns-preserved
+turns-preserved g c = record {
+  waiting =
+      goes_on g.M.Machine.may g.M.Machine.asked _ _ _ _ _ _ _ _ c.turns.invariant.waiting c.in-Done.seen _ _ _ _ c.saturating_add-answered.ensures
+      (c.in-Done.ensures.entries ∙ ap (λ s. g.H.Hand.entries c.turns.hand ++ entry_of s c.turns.op c.in-Done.seen ∷ []) c.turns.invariant.seat)
+      (λ e. omega arith) (omega arith)
+      (rw c.in-Ok-Do-step.field-0-is at (c.in-Ok-Do-step.ensures.goes_on (g.H.Hand.seat c.args.hand.now) c.turns.op c.turns.invariant.waiting.asks.waits));
+  seat = c.in-Done.ensures.seat ∙ c.turns.invariant.seat;
+  refused = search rules;
+  keeps = g.met.H.Hand.keeps_more _ _ _ c.turns.invariant.keeps c.in-Done.ensures.keeps;
+}

@@ -1,0 +1,15 @@
+pub mod Operations
+pub mod Journals
+pub mod Moments
+pub mod Keeping
+pub mod Standing
+pub mod Machines
+pub mod Walks
+pub mod Performing
+pub mod Worlds
+pub use Rattle.ulid_core.specs.UlidText
+pub use Rattle.block_keys.specs.Keys
+pub use Rattle.block_keys.specs.KeyText
+pub use Rattle.bucket_core.specs.Causes
+pub use Rattle.bucket_core.specs.Contents
+pub use Rattle.bucket_core.specs.Pages

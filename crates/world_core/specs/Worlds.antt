@@ -1,0 +1,78 @@
+-- What is seen of a world, and what holds of every one.
+use Rattle.std.specs.Prelude.{◌≡◌, ℕ, ◌+◌, ◌-◌, ◌*◌, ◌^◌, ◌<◌, ◌≤◌, min, List, length, count_by, Option, IfSome, refl}
+use Rattle.std.proofs.Common.{◌∙◌, arith}
+use Rattle.bucket_core.specs.Contents.{Contents}
+use Rattle.world_core.specs.Operations.{IsLawful, IsReplyTo, has_failed}
+use Rattle.world_core.specs.Journals.{Each, IsNumbered}
+use Rattle.world_core.specs.Keeping.{kept_bytes}
+use Rattle.world_core.specs.Moments.{HasMoments, last_moment}
+use Rattle.world_core.specs.Standing.{stands, left_by, IsHonest}
+use Rattle.world_core.specs.declared.op.Op.{Op}
+use Rattle.world_core.specs.declared.entry.Entry.{Entry}
+use Rattle.world_core.specs.declared.acted.Acted.{Acted}
+use Rattle.world_core.specs.declared.acted.Acted.TheVariants.{Done, Full, NoMemory}
+
+-- a world: its bucket, its journal, and how many milliseconds an operation takes
+pub record WorldView (B : Type 0) : Type 0 where
+  pub bucket : B
+  pub journal : List Entry
+  pub tick : ℕ
+
+-- the entries of failed calls
+abbrev pub failed_count : List Entry → ℕ
+failed_count entries = count_by (λ e. has_failed e.reply) entries
+
+-- what holds of a world's journal
+pub record IsJournal (tick : ℕ) (journal : List Entry) : Type 0 where
+  pub few : length journal ≤ 1_048_576
+  pub numbered : IsNumbered journal
+  pub lawful : Each (λ before e. IsLawful e.op) journal
+  pub kinds : Each (λ before e. IsReplyTo e.op e.reply) journal
+  pub moments : HasMoments tick journal
+  pub small : Each (λ before e. e.moment.ms < 2 ^ 48) journal
+
+-- the journal is honest, and what stands at its end is what the bucket holds
+pub record IsTrueOf (contents : Contents) (journal : List Entry) : Type 0 where
+  pub honest : IsHonest journal
+  pub held : contents ≡ stands journal
+
+-- what holds of every world
+pub record IsWorld {B : Type 0} (contents : B → Option Contents) (faults : B → ℕ) (world : WorldView B) : Type 0 where
+  pub journal : IsJournal world.tick world.journal
+  -- the bucket has failed at least as often as the journal's entries
+  pub failures : failed_count world.journal ≤ faults world.bucket
+  -- where the bucket tells what it holds
+  pub honest : IfSome (contents world.bucket) (λ c. IsTrueOf c world.journal)
+
+-- what a world keeps beside: the moment of the last entry, and how many bytes the journal keeps
+pub record IsCounted (tick : ℕ) (journal : List Entry) (last kept : ℕ) : Type 0 where
+  pub short : tick ≤ 86_400_000
+  pub latest : last ≡ last_moment journal
+  pub bound : last ≤ 2 ^ 47 + 86_400_000 * length journal
+  pub size : kept ≡ min (kept_bytes journal) (2 ^ 64 - 1)
+
+pub record IsSound {B : Type 0} (contents : B → Option Contents) (faults : B → ℕ) (bucket : B) (journal : List Entry) (tick last kept : ℕ) : Type 0 where
+  pub counted : IsCounted tick journal last kept
+  pub world : IsWorld contents faults (record { bucket = bucket; journal = journal; tick = tick })
+
+-- what stands in the bucket after an operation was asked for
+abbrev pub left_by_act : Op → Acted → Contents → Contents
+left_by_act op (Done seen) contents = left_by op seen.reply contents
+left_by_act op Full contents = contents
+left_by_act op NoMemory contents = contents
+
+-- A world after operations: time goes on as it did, the bucket's faults never fall, and a bucket without faults stays so.
+pub record WorldGoesOn {B : Type 0} (faults : B → ℕ) (quiet : B → Type 0) (old new : WorldView B) : Type 0 where
+  pub tick : new.tick ≡ old.tick
+  pub later : faults old.bucket ≤ faults new.bucket
+  pub calm : quiet old.bucket → quiet new.bucket × (failed_count new.journal ≡ failed_count old.journal)
+
+pub goes_on-none : {B : Type 0} (faults : B → ℕ) (quiet : B → Type 0) (world : WorldView B) → WorldGoesOn faults quiet world world
+goes_on-none faults quiet world = record { tick = refl; later = omega arith; calm = λ q. (q, refl) }
+
+pub goes_on-more : {B : Type 0} (faults : B → ℕ) (quiet : B → Type 0) (first next last : WorldView B) → WorldGoesOn faults quiet first next → WorldGoesOn faults quiet next last → WorldGoesOn faults quiet first last
+goes_on-more faults quiet first next last one two = record {
+  tick = two.tick ∙ one.tick;
+  later = omega (arith, one.later, two.later);
+  calm = λ q. let a = one.calm q in let b = two.calm a.0 in (b.0, b.1 ∙ a.1);
+}

@@ -1,0 +1,104 @@
+ghost use Rattle.std.specs.Prelude.{◌≡◌, ◌↔◌, ℕ, ◌+◌, ◌≤◌, ◌<◌, IsTrue, List, [], ◌∷◌, ◌++◌, length, IfOk, OnErr};
+ghost use Rattle.std.specs.Option.{option_copied};
+ghost use Rattle.world_core.specs.Journals.{entry_at};
+ghost use Rattle.world_core.specs.Operations.{IsLawful, entry_of};
+ghost use Rattle.world_core.specs.Performing.{IsPerformed, reply_seen};
+
+use crate::bucket_calls::perform;
+use crate::{Entry, Op, Seen};
+use bucket_core::Bucket;
+use list_core::{NoMemory, TryCopy};
+use moment_core::Moment;
+use std::alloc::Global;
+use std::marker::Model;
+
+/// The entries of a run, one for each operation that was done.
+#[derive(Drop)]
+pub struct Journal {
+    entries: Vec<Entry>,
+}
+
+impl Model for Journal {
+    ghost use Rattle.std.specs.Prelude.{List};
+    ghost use Rattle.world_core.specs.declared.entry.Entry.{Entry};
+
+    ghost Value = { List Entry };
+
+    ghost view = { λ journal. journal.entries.items };
+}
+
+impl Journal {
+    /// No entries. It takes no memory.
+    pub fn empty(alloc: Global) -> Journal
+        ensures { result ≡ [] }
+    {
+        Journal {
+            entries: Vec::new(alloc),
+        }
+    }
+
+    pub fn len(&self) -> u64
+        ensures { result ≡ length self.now }
+    {
+        self.entries.len() as u64
+    }
+
+    pub fn is_empty(&self) -> bool
+        ensures { IsTrue result ↔ (self.now ≡ []) }
+    {
+        self.entries.is_empty()
+    }
+
+    /// The entry of this number. Numbers begin at 1.
+    pub fn get(&self, seq: u64) -> Option<&Entry>
+        ensures { option_copied result ≡ entry_at self.now seq }
+    {
+        if seq == 0 {
+            return None;
+        }
+        self.entries.get((seq - 1) as usize)
+    }
+
+    /// The entries in order.
+    pub fn entries(&self) -> &[Entry]
+        ensures { result.now ≡ self.now }
+    {
+        self.entries.as_slice()
+    }
+
+    /// Does an operation on the bucket and adds its entry. Room for the entry is there before the operation is done.
+    pub(crate) fn record<B: Bucket>(
+        &mut self,
+        alloc: Global,
+        bucket: &mut B,
+        seat: u32,
+        moment: Moment,
+        op: Op,
+    ) -> Result<Seen, NoMemory>
+        requires few { length self.old < 1048576 }
+        requires lawful { IsLawful op }
+        ensures added { IfOk result (λ seen. self.new ≡ self.old ++ entry_of seat op seen ∷ []) }
+        ensures seq { IfOk result (λ seen. seen.seq ≡ length self.old + 1) }
+        ensures moment { IfOk result (λ seen. seen.moment ≡ moment) }
+        ensures err { OnErr result (self.new ≡ self.old) }
+        ensures performed { IsPerformed B.contents B.faults B.quiet bucket.old op (reply_seen result) bucket.new }
+    {
+        self.entries.reserve(1)?;
+        let seq = self.entries.len() as u64 + 1;
+        let reply = perform(alloc, bucket, &op)?;
+        let told = reply.copy()?;
+        let pushed = self.entries.push(Entry {
+            seq,
+            seat,
+            moment,
+            op,
+            reply,
+        });
+        pushed.unwrap();
+        Ok(Seen {
+            seq,
+            moment,
+            reply: told,
+        })
+    }
+}

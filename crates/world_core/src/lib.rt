@@ -1,0 +1,37 @@
+//! The world of one bucket: its journal of operations, and the machines and hands that work on it.
+#![tactic(auto)]
+
+mod act;
+mod acted;
+mod bucket_calls;
+mod driven;
+mod driving;
+mod entry;
+mod hand;
+mod journal;
+mod keeping;
+mod machine;
+mod op;
+mod open_refusal;
+mod reply;
+mod seen;
+mod world;
+mod world_hand;
+
+pub use act::Act;
+pub use acted::Acted;
+pub use driven::Driven;
+pub use driving::drive;
+pub use entry::{Entry, EntryList};
+pub use hand::Hand;
+pub use journal::Journal;
+pub use machine::Machine;
+pub use op::Op;
+pub use open_refusal::OpenRefusal;
+pub use reply::Reply;
+pub use seen::Seen;
+pub use world::World;
+pub use world_hand::WorldHand;
+
+#[cfg(test)]
+mod tests;

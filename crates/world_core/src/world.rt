@@ -1,0 +1,170 @@
+ghost use Rattle.std.specs.Prelude.{◌≡◌, false, ◌↔◌, ℕ, ◌+◌, ◌^◌, ◌≤◌, ◌<◌, IsTrue, [], ◌∷◌, ◌++◌, length, ◌≢◌, List, slice_get, IfOk, IfErr, MatchResult, IfSome, option_map};
+ghost use Rattle.bucket_core.specs.Contents.{nothing};
+ghost use Rattle.bucket_core.specs.Pages.{IsPage};
+ghost use Rattle.world_core.specs.Standing.{Tells};
+ghost use Rattle.world_core.specs.Keeping.{IsFull};
+ghost use Rattle.world_core.specs.Operations.{IsLawful, IsAnswer, has_failed};
+ghost use Rattle.bucket_core.specs.Causes.{Rose};
+ghost use Rattle.world_core.specs.Machines.{gained, IfDone, IfNotDone};
+ghost use Rattle.world_core.specs.Moments.{moment_after, last_moment};
+
+use crate::keeping::{MAX_ENTRIES, MAX_KEPT, put_size, told_size};
+use crate::{Acted, Journal, Op, OpenRefusal};
+use bucket_core::{Bucket, PageAnswer};
+use label_sets::{Text, TextList};
+use list_core::NoMemory;
+use moment_core::{Moment, Span};
+use std::alloc::Global;
+use std::marker::Model;
+
+/// A bucket, and the journal of all that was done on it.
+#[derive(Drop)]
+pub struct World<B: Bucket> {
+    alloc: Global,
+    bucket: B,
+    journal: Journal,
+    tick: Span,
+    last: Moment,
+    /// How many bytes the journal keeps.
+    kept: u64,
+}
+
+impl<B: Bucket> Model for World<B> {
+    ghost use Rattle.world_core.specs.Worlds.{WorldView, IsSound};
+
+    ghost Value = { WorldView B };
+
+    ghost view = { λ w. record { bucket = w.bucket; journal = w.journal; tick = w.tick.ms } };
+
+    ghost invariant = { λ w. IsSound B.contents B.faults w.bucket w.journal w.tick.ms w.last.ms w.kept };
+}
+
+impl<B: Bucket> World<B> {
+    ghost use Rattle.world_core.specs.Worlds.{IsWorld, left_by_act};
+
+    /// Opens an empty bucket. It asks for one page of names, which is no entry. Each operation takes a tick of time.
+    pub fn open(alloc: Global, mut bucket: B, tick: Span) -> Result<World<B>, (OpenRefusal, B)>
+        requires { tick.ms ≤ 86400000 }
+        ensures journal { IfOk result (λ world. world.journal ≡ []) }
+        ensures tick { IfOk result (λ world. world.tick ≡ tick.ms) }
+        ensures kept { MatchResult result (λ world. B.contents world.bucket ≡ B.contents bucket) (λ e. B.contents e.1 ≡ B.contents bucket) }
+
+        // A bucket that tells what it holds is opened where nothing stands, and else names its least name.
+        ensures empty { IfOk result (λ world. IfSome (B.contents bucket) (λ c. c ≡ nothing)) }
+        ensures not_empty { IfErr result (λ e. (name : List ℕ) → e.0 ≡ OpenRefusal.NotEmpty name →
+            IfSome (B.contents bucket) (λ c. IsPage c [] [] 1 (name ∷ []))) }
+
+        // A failure has its cause in the bucket.
+        ensures later { MatchResult result (λ world. B.faults bucket ≤ B.faults world.bucket) (λ e. B.faults bucket ≤ B.faults e.1) }
+        ensures failed { IfErr result (λ e. e.0 ≡ OpenRefusal.Failed → Rose (B.faults bucket) (B.faults e.1)) }
+        ensures calm { B.quiet bucket → MatchResult result (λ world. B.quiet world.bucket) (λ e. B.quiet e.1 × (e.0 ≢ OpenRefusal.Failed)) }
+        ensures holds { IfOk result (λ world. IsWorld B.contents B.faults world) }
+    {
+        let refusal = match bucket.page("", "", 1) {
+            PageAnswer::Names(names) => match first_name(names) {
+                Some(name) => OpenRefusal::NotEmpty(name),
+                None => {
+                    return Ok(World {
+                        alloc,
+                        bucket,
+                        journal: Journal::empty(alloc),
+                        tick,
+                        last: Moment { ms: 0 },
+                        kept: 0,
+                    });
+                }
+            },
+            PageAnswer::Failed => OpenRefusal::Failed,
+            PageAnswer::NoMemory => OpenRefusal::NoMemory,
+        };
+        Err((refusal, bucket))
+    }
+
+    /// Does one operation and adds its entry, unless the journal is full.
+    pub fn act(&mut self, seat: u32, op: Op) -> Acted
+        requires { IsLawful op }
+        ensures full { (result ≡ Acted.Full) ↔ IsFull self.old.journal }
+        ensures added { self.new.journal ≡ self.old.journal ++ gained seat op result }
+        ensures answer { IfDone result (IsAnswer op) }
+        ensures seq { IfDone result (λ seen. seen.seq ≡ length self.old.journal + 1) }
+        ensures moment { IfDone result (λ seen. seen.moment.ms ≡ moment_after self.old.tick (last_moment self.old.journal) op) }
+        ensures tick { self.new.tick ≡ self.old.tick }
+        ensures unchanged { result ≡ Acted.Full → self.new ≡ self.old }
+        ensures as_before { IfNotDone result
+            ((self.new.journal ≡ self.old.journal) × (B.contents self.new.bucket ≡ B.contents self.old.bucket)) }
+
+        // Where the bucket tells what it holds, the reply shows it, and what is left follows from the reply.
+        ensures told { IfSome (B.contents self.old.bucket) (λ c. IfDone result (λ seen. Tells c op seen.reply)) }
+        ensures left { B.contents self.new.bucket ≡ option_map (left_by_act op result) (B.contents self.old.bucket) }
+
+        // A failure has its cause in the bucket.
+        ensures later { B.faults self.old.bucket ≤ B.faults self.new.bucket }
+        ensures cause { IfDone result (λ seen. IsTrue (has_failed seen.reply) → Rose (B.faults self.old.bucket) (B.faults self.new.bucket)) }
+        ensures calm { B.quiet self.old.bucket → B.quiet self.new.bucket × IfDone result (λ seen. has_failed seen.reply ≡ false) }
+        ensures holds { IsWorld B.contents B.faults self.new }
+    {
+        if self.is_full() {
+            return Acted::Full;
+        }
+        let moment = self.moment_of(&op);
+        let size = put_size(&op);
+        match self
+            .journal
+            .record(self.alloc, &mut self.bucket, seat, moment, op)
+        {
+            Ok(seen) => {
+                self.last = moment;
+                self.kept = self
+                    .kept
+                    .saturating_add(size)
+                    .saturating_add(told_size(&seen.reply));
+                Acted::Done(seen)
+            }
+            Err(NoMemory) => Acted::NoMemory,
+        }
+    }
+
+    /// What was done so far.
+    pub fn journal(&self) -> &Journal
+        ensures journal { result.now ≡ self.now.journal }
+        ensures holds { IsWorld B.contents B.faults self.now }
+    {
+        &self.journal
+    }
+
+    /// The journal and the bucket.
+    pub fn into_parts(self) -> (Journal, B)
+        ensures journal { result.0 ≡ self.journal }
+        ensures bucket { result.1 ≡ self.bucket }
+        ensures holds { IsWorld B.contents B.faults self }
+    {
+        (self.journal, self.bucket)
+    }
+
+    fn is_full(&self) -> bool
+        ensures { IsTrue result ↔ IsFull self.now.journal }
+    {
+        self.journal.len() >= MAX_ENTRIES || self.kept >= MAX_KEPT
+    }
+
+    /// The moment of the next entry.
+    fn moment_of(&self, op: &Op) -> Moment
+        requires room { length self.now.journal < 1048576 }
+        requires lawful { IsLawful op.now }
+        ensures value { result.ms ≡ moment_after self.now.tick (last_moment self.now.journal) op.now }
+        ensures bound { result.ms < 2 ^ 48 }
+    {
+        match op {
+            Op::Clock(moment) => self.last.max(*moment),
+            _ => Moment {
+                ms: self.last.ms + self.tick.ms,
+            },
+        }
+    }
+}
+
+fn first_name(names: TextList) -> Option<Text>
+    ensures { result ≡ slice_get names 0 }
+{
+    names.into_vec().into_iter().next()
+}

@@ -1,0 +1,58 @@
+ghost use Rattle.std.specs.Prelude.{◌≡◌, Some, false};
+
+use crate::{Acted, Hand, Op, World};
+use bucket_core::Bucket;
+
+/// A hand that does the operations of one seat on a world of its own.
+#[derive(Drop)]
+pub struct WorldHand<B: Bucket> {
+    world: World<B>,
+    seat: u32,
+    refused: bool,
+}
+
+impl<B: Bucket> WorldHand<B> {
+    pub fn new(world: World<B>, seat: u32) -> Self
+        ensures world { result.world ≡ world }
+        ensures seat { result.seat ≡ seat }
+        ensures refused { result.refused ≡ false }
+    {
+        WorldHand {
+            world,
+            seat,
+            refused: false,
+        }
+    }
+
+    pub fn into_world(self) -> World<B>
+        ensures { result ≡ self.world }
+    {
+        self.world
+    }
+}
+
+impl<B: Bucket> Hand for WorldHand<B> {
+    ghost use Rattle.world_core.specs.Worlds.{WorldGoesOn, goes_on-none, goes_on-more};
+
+    ghost entries = { λ hand. hand.world.journal };
+
+    ghost seat = { λ hand. hand.seat };
+
+    ghost front = { λ hand. Some hand.world.journal };
+
+    ghost refused = { λ hand. hand.refused };
+
+    ghost keeps = { λ old new. WorldGoesOn B.faults B.quiet old.world new.world };
+
+    ghost keeps_none = { λ hand. goes_on-none B.faults B.quiet hand.world };
+
+    ghost keeps_more = { λ first next last. goes_on-more B.faults B.quiet first.world next.world last.world };
+
+    fn act(&mut self, op: Op) -> Acted {
+        let acted = self.world.act(self.seat, op);
+        if let Acted::Full = acted {
+            self.refused = true;
+        }
+        acted
+    }
+}
