@@ -1,0 +1,17 @@
+use moment_core::Moment;
+use sync_filters::FoundList;
+
+/// What a gateway sees of the bucket.
+#[derive(Drop)]
+pub struct View {
+    /// The number of the sync's first entry.
+    pub first: u64,
+    /// The moment of that entry.
+    pub begin: Moment,
+    /// The moment of the sync's last entry.
+    pub end: Moment,
+    /// The blocks that are looked at, ascending by ULID.
+    pub kept: FoundList,
+    /// The blocks that others hold whole.
+    pub covered: FoundList,
+}

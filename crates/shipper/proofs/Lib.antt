@@ -1,0 +1,2 @@
+mod Begin
+mod Steps

@@ -1,0 +1,26 @@
+use Rattle.std.proofs.Common.{List, ◌≡◌, refl, ap, ◌∙◌, sym, subst}
+use Rattle.block_keys.specs.Keys.{key_ulid}
+use Rattle.block_keys.specs.declared.object.Object.{Object}
+use Rattle.block_keys.specs.Blocks.{IsBlock}
+use Rattle.shipper.specs.Uploads.{UploadRun}
+use Rattle.shipper.proofs.Begin.{block_lawful, block_length, first_ulid}
+use Rattle.shipper.proofs.upload.Upload.start.Goals as goal
+
+pub invariant_of-result : goal.invariant_of-result
+invariant_of-result c =
+    let block : IsBlock c.requires.0 c.into_vec-objects.result.items = subst (λ (l : List Object). IsBlock c.requires.0 l) (sym c.into_vec-objects.ensures) c.requires.1 in
+    record {
+      keys = block_lawful c.requires.0 c.into_vec-objects.result.items block;
+      few = (block_length c.requires.0 c.into_vec-objects.result.items block).0;
+      within = (block_length c.requires.0 c.into_vec-objects.result.items block).1;
+    }
+
+pub returns : goal.returns
+returns c = record {
+  begun = refl;
+  run = λ ulid given entries end last run. (let block : IsBlock ulid c.into_vec-objects.result.items = subst (λ (l : List Object). IsBlock ulid l) (sym c.into_vec-objects.ensures) given in
+      let same : c.ulid-ulid.result ≡ ulid =
+      c.ulid-ulid.ensures ∙ ap (λ (o : Object). key_ulid o.key) c.index.ensures ∙ first_ulid ulid c.into_vec-objects.result.items c.index.result.now block in
+      subst (λ (l : List Object). UploadRun ulid l entries end) c.into_vec-objects.ensures
+      (subst (λ u. UploadRun u c.into_vec-objects.result.items entries end) same run));
+}

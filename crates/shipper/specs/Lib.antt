@@ -1,0 +1,3 @@
+pub mod UploadStates
+pub mod Uploads
+pub mod Waiting

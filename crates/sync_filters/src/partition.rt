@@ -1,0 +1,12 @@
+ghost use Rattle.std.specs.Prelude.{◌≡◌};
+ghost use Rattle.sync_filters.specs.Filters.{is_in_partition};
+
+use block_meta::Meta;
+use moment_core::Partition;
+
+/// Tells whether some of the block's times lie in the partition, whose ends count.
+pub fn in_partition(meta: &Meta, partition: &Partition) -> bool
+    ensures { result ≡ is_in_partition meta.now partition.now }
+{
+    partition.low <= meta.max_time && meta.min_time <= partition.high
+}
