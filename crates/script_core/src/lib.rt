@@ -1,0 +1,39 @@
+//! Scripts: texts that say what a run does.
+#![tactic(auto)]
+
+mod block;
+mod body;
+mod cause;
+mod draft;
+mod fields;
+mod hands;
+mod inline_block;
+mod label_key;
+mod line_kind;
+mod line_refusal;
+mod phase;
+mod phase_lines;
+mod reader;
+mod rule;
+mod rule_name;
+mod samples;
+mod script;
+mod script_refusal;
+mod setup_lines;
+mod task;
+mod values;
+mod work;
+mod worker;
+
+pub use block::{Block, BlockList};
+pub use body::Body;
+pub use cause::LineCause;
+pub use phase::{Phase, PhaseList};
+pub use script::Script;
+pub use script_refusal::ScriptRefusal;
+pub use task::{Task, TaskList};
+pub use work::Work;
+pub use worker::{Worker, WorkerList};
+
+#[cfg(test)]
+mod tests;

@@ -1,0 +1,28 @@
+/// What a line is, by its first word.
+#[derive(Clone, Copy, Debug, PartialEq, Eq)]
+pub(crate) enum LineKind {
+    Rule,
+    Gateway,
+    Block,
+    Series,
+    At,
+    Upload,
+    Sync,
+    Query,
+}
+
+impl LineKind {
+    pub(crate) fn of_word(word: &str) -> Option<LineKind> {
+        match word {
+            "rule" => Some(LineKind::Rule),
+            "gateway" => Some(LineKind::Gateway),
+            "block" => Some(LineKind::Block),
+            "series" => Some(LineKind::Series),
+            "at" => Some(LineKind::At),
+            "upload" => Some(LineKind::Upload),
+            "sync" => Some(LineKind::Sync),
+            "query" => Some(LineKind::Query),
+            _ => None,
+        }
+    }
+}

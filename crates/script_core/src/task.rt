@@ -1,0 +1,18 @@
+use crate::Work;
+use list_core::{List, NoMemory, TryCopy};
+
+/// A line of a phase, with its number in the script.
+#[derive(Clone, Copy, Debug, PartialEq, Eq)]
+pub struct Task {
+    pub line: u32,
+    pub work: Work,
+}
+
+/// A list of tasks.
+pub type TaskList = List<Task>;
+
+impl TryCopy for Task {
+    fn copy(&self) -> Result<Self, NoMemory> {
+        Ok(*self)
+    }
+}

@@ -1,0 +1,357 @@
+use super::*;
+use LineCause::*;
+use ScriptRefusal::*;
+use std::test::Fail;
+
+fn refusal_of(rt: &HostRuntime, text: &[u8]) -> Option<ScriptRefusal> {
+    Script::read(rt.alloc(), text).err()
+}
+
+/// Texts, and what is the first thing wrong with them.
+const REFUSED: [(&str, ScriptRefusal); 90] = [
+    ("frob", BadLine(1, UnknownWord)),
+    ("rule speed 5s", BadLine(1, UnknownWord)),
+    ("gateway g h", BadLine(1, BadShape)),
+    ("rule page-limit 10001", BadLine(1, BadNumber)),
+    ("at noon", BadLine(1, BadMomentText)),
+    ("rule tick 25h", BadLine(1, BadSpanText)),
+    ("block a 1 2 {}", BadLine(1, BadUlidText)),
+    ("gateway 1g", BadLine(1, BadName)),
+    (
+        "block 0000000000000000000000000A 1 2 {a=}",
+        BadLine(1, BadLabelText),
+    ),
+    (
+        "block 0000000000000000000000000A 1000 2000 {}\nseries {} 1000:1",
+        BadLine(2, BadSample),
+    ),
+    (
+        "block 0000000000000000000000000A 1000 2000 {}\nseries {} 1001:0000000000000001 1001:0000000000000001",
+        BadLine(2, FallingTimes),
+    ),
+    (
+        "block 0000000000000000000000000A 1000 2000 {}\nseries {} 2000:0000000000000001",
+        BadLine(2, OutsideBlock),
+    ),
+    (
+        "block 0000000000000000000000000A 1000 2000 {}\nseries {} 999:0000000000000001",
+        BadLine(2, OutsideBlock),
+    ),
+    (
+        "block 0000000000000000000000000A 1000 2000 {}\nseries {a=\"x\"} 1000:0000000000000001\nseries {a=\"x\"} 1000:0000000000000001\n",
+        BadLine(3, RepeatedSeries),
+    ),
+    (
+        "block 0000000000000000000000000A 1000 2000 {}\n",
+        BadLine(1, EmptyInline),
+    ),
+    (
+        "block 0000000000000000000000000A 1000 2000 {}\n# no series\n\ngateway g\n",
+        BadLine(1, EmptyInline),
+    ),
+    (
+        "series {a=\"x\"} 1000:0000000000000001\n",
+        BadLine(1, NoBlock),
+    ),
+    (
+        "block 0000000000000000000000000A 1000 2000 {}\nseries {a=\"x\"} 1000:0000000000000001\ngateway g\nseries {} 1000:0000000000000001",
+        BadLine(4, NoBlock),
+    ),
+    ("upload 0000000000000000000000000A", BadLine(1, NoPhase)),
+    ("at 0\ngateway g", BadLine(2, LateLine)),
+    (
+        "block 0000000000000000000000000A 2000 2000 {}",
+        BadLine(1, BadTimes),
+    ),
+    ("at 0\nquery 1 0 {}", BadLine(2, BadTimes)),
+    (
+        "block 0000000000ZZZZZZZZZZZZ0000 1 2 {}",
+        BadLine(1, ReservedUlid),
+    ),
+    ("at 0\nsync g", BadLine(2, UnknownGateway)),
+    ("gateway g\ngateway g", BadLine(2, RepeatedGateway)),
+    ("at 5\nat 4", FallingMoment(2)),
+    ("at 0\nupload 0000000000000000000000000A", UnknownBlock(2)),
+    (
+        "block 0000000000000000000000000A 1000 2000 {}\nseries {a=\"x\"} 1000:0000000000000001\nblock 0000000000000000000000000A 1000 2000 {}\nseries {a=\"x\"} 1000:0000000000000001\n",
+        BlockChanged(3),
+    ),
+    ("rule upload-limit 49h\nat 0", BadRules(2)),
+    ("gateway g\nat 0\nquery 0 1 {}", NeverSynced(3)),
+    ("gateway g\ngateway h", TooMany(2)),
+    ("rule speed", BadLine(1, UnknownWord)),
+    ("rule ", BadLine(1, UnknownWord)),
+    ("rule", BadLine(1, BadShape)),
+    ("at 0\nrule page-limit 0", BadLine(2, BadNumber)),
+    ("at 0\nrule tick 1d", BadLine(2, BadSpanText)),
+    ("at 0\ngateway 1g", BadLine(2, BadName)),
+    ("gateway g\nat 0\ngateway g", BadLine(3, LateLine)),
+    ("block a b 2", BadLine(1, BadShape)),
+    ("block a b 2 ", BadLine(1, BadShape)),
+    ("block a b 2 {} ", BadLine(1, BadShape)),
+    ("block a  2 {a=}", BadLine(1, BadShape)),
+    ("block a b 2 {a=}", BadLine(1, BadNumber)),
+    ("block a 1 2 {a=}", BadLine(1, BadUlidText)),
+    (
+        "at 0\nblock 0000000000000000000000000A 1 2 {a=}",
+        BadLine(2, BadLabelText),
+    ),
+    (
+        "at 0\nblock 0000000000000000000000000A 2 1 {}",
+        BadLine(2, LateLine),
+    ),
+    (
+        "block 0000000000ZZZZZZZZZZZZ0000 2 1 {}",
+        BadLine(1, BadTimes),
+    ),
+    (
+        "block 0000000000000000000000000A 1000 2000 {}\nseries {a=\"x\"} 1000:0000000000000001\nblock 0000000000000000000000000A 2 1 {}",
+        BadLine(3, BadTimes),
+    ),
+    ("series", BadLine(1, BadShape)),
+    ("series ", BadLine(1, BadShape)),
+    ("series {}", BadLine(1, BadShape)),
+    ("series {} ", BadLine(1, BadShape)),
+    ("series {}1:1", BadLine(1, BadShape)),
+    ("series {} 1:1  1:1", BadLine(1, BadShape)),
+    ("series {a= 9223372036854775808:1", BadLine(1, BadLabelText)),
+    ("series {} x 9223372036854775808:1", BadLine(1, BadNumber)),
+    ("series {} 4611686018427387905:1", BadLine(1, BadNumber)),
+    (
+        "block 0000000000000000000000000A 1000 2000 {}\nseries {} 2001:1 1:0000000000000001",
+        BadLine(2, BadSample),
+    ),
+    (
+        "block 0000000000000000000000000A 1000 2000 {}\nseries {} 2001:0000000000000001 1:0000000000000001",
+        BadLine(2, FallingTimes),
+    ),
+    (
+        "block 0000000000000000000000000A 1000 2000 {}\nseries {a=\"x\"} 1000:0000000000000001\nseries {a=\"x\"} 2001:0000000000000001",
+        BadLine(3, OutsideBlock),
+    ),
+    (
+        "block 0000000000000000000000000A 1000 2000 {}\nseries {a=\"x\"} 1000:0000000000000001\ngateway g\nseries {a=\"x\"} 2001:0000000000000001",
+        BadLine(4, OutsideBlock),
+    ),
+    (
+        "block 0000000000000000000000000A 1000 2000 {}\nseries {a=\"x\"} 1000:0000000000000001\ngateway g\nseries {a=\"x\"} 1001:0000000000000001",
+        BadLine(4, RepeatedSeries),
+    ),
+    ("at 5\nat 4 4", BadLine(2, BadShape)),
+    ("at 5\nat 4x", BadLine(2, BadMomentText)),
+    (
+        "upload 0000000000000000000000000A stop",
+        BadLine(1, UnknownWord),
+    ),
+    ("upload  stop", BadLine(1, UnknownWord)),
+    ("upload a stop x", BadLine(1, UnknownWord)),
+    ("upload a 5", BadLine(1, BadShape)),
+    ("upload a", BadLine(1, BadUlidText)),
+    ("upload 0000000000ZZZZZZZZZZZZ0000", BadLine(1, NoPhase)),
+    (
+        "at 0\nupload 0000000000ZZZZZZZZZZZZ0000",
+        BadLine(2, ReservedUlid),
+    ),
+    ("sync 1g", BadLine(1, BadName)),
+    ("sync g", BadLine(1, NoPhase)),
+    ("query a b c d", BadLine(1, UnknownWord)),
+    ("query a b {a}", BadLine(1, UnknownWord)),
+    ("query a b", BadLine(1, BadShape)),
+    ("query a b ", BadLine(1, BadShape)),
+    ("query  b {}", BadLine(1, BadShape)),
+    ("query 2 b {}", BadLine(1, BadNumber)),
+    ("query 2 1 {}", BadLine(1, NoPhase)),
+    ("gateway g\nat 0\nquery 2 1 {}", BadLine(3, BadTimes)),
+    ("gateway g\nat 0\nquery -0 1 {}", BadLine(3, BadNumber)),
+    ("rule replica-label r", BadLine(1, UnknownWord)),
+    (
+        "shelf 0000000000000000000000000A {}",
+        BadLine(1, UnknownWord),
+    ),
+    ("compact", BadLine(1, UnknownWord)),
+    ("clean", BadLine(1, UnknownWord)),
+    (
+        "block 0000000000000000000000000A 1000 2000 {}\nfrob",
+        BadLine(1, EmptyInline),
+    ),
+    (
+        "block 0000000000000000000000000A 1000 2000 {}\nseriesx",
+        BadLine(1, EmptyInline),
+    ),
+    (
+        "block 0000000000000000000000000A 1000 2000 {}\nseries",
+        BadLine(2, BadShape),
+    ),
+    (" gateway g", BadLine(1, UnknownWord)),
+];
+
+const LAWFUL: [&str; 14] = [
+    "",
+    "\n",
+    "#",
+    "# frob\n\n",
+    "gateway g",
+    "gateway _g9\nat 0\n",
+    "block 0000000000000000000000000A 1000 2000 {}\nseries {a=\"x\"} 1000:0000000000000001\n",
+    "block 0000000000000000000000000A 1000 2000 {}\n# a comment\n\nseries {a=\"x\"} 1000:0000000000000001\nseries {b=\"y z\"} 1000:0000000000000001 1999:ffffffffffffffff",
+    "rule consistency-delay 19h\nrule page-limit 10000",
+    "rule upload-limit 49h\nrule upload-limit 30m\nat 0",
+    "rule upload-limit 999999m\nrule delete-delay 999999m\nrule partial-delay 999999m",
+    "at 000000000000005\nat 5\nat 140737488355327",
+    "block 0000000000000000000000000A -4611686018427387904 4611686018427387904 {}\nseries {} -4611686018427387904:0000000000000001 4611686018427387903:0000000000000001\nat 0\nupload 0000000000000000000000000A\nquery -4611686018427387904 4611686018427387904 up",
+    "gateway g\nat 0\nsync g\nquery 0 0 {}\nat 0\nquery 0 1 a:b",
+];
+
+#[test]
+fn the_first_cause_is_given(rt: HostRuntime) {
+    for (text, refusal) in REFUSED {
+        assert_eq!(rt; refusal_of(&rt, text.as_bytes()), Some(refusal), "{text}");
+    }
+}
+
+#[test]
+fn lawful_texts_are_read(rt: HostRuntime) {
+    for text in LAWFUL {
+        assert_eq!(rt; refusal_of(&rt, text.as_bytes()), None, "{text}");
+    }
+}
+
+#[test]
+fn bytes_that_are_no_text(rt: HostRuntime) {
+    assert_eq!(rt; refusal_of(&rt, b"# \xff\n#\xc0"), None);
+    assert_eq!(rt;
+        refusal_of(&rt, b"gateway g\nat \xff"),
+        Some(BadLine(2, NotText))
+    );
+    assert_eq!(rt;
+        refusal_of(&rt, b"block 0000000000000000000000000A 1 2 {}\nseries \xff"),
+        Some(BadLine(1, EmptyInline))
+    );
+}
+
+const TWO_PHASES: &str =
+    "rule tick 5ms\ngateway g\nblock 0000000000000000000000000A 1000 2000 {}\nseries {b=\"1\"} 1000:3ff0000000000000\nseries {a=\"1\"} 1000:0000000000000001 1001:0000000000000002\nat 0\nupload 0000000000000000000000000A\nsync g\nupload 0000000000000000000000000A\nat 1800000\nquery 0 5000 up\nsync g";
+
+#[test]
+fn a_script_has_what_its_lines_say(rt: HostRuntime) -> Result<(), Fail> {
+    let script = Script::read(rt.alloc(), TWO_PHASES.as_bytes())?;
+    assert_eq!(rt; script.rules.tick.ms, 5);
+    assert_eq!(rt; script.rules.page_limit, 1000);
+    assert_eq!(rt; script.gateways.get(0).ok_or("a gateway")?.as_str(), "g");
+    assert_eq!(rt; script.selectors.len(), 1);
+    let block = script.blocks.get(0).ok_or("a block")?;
+    assert_eq!(rt; block.ulid.entropy(), 10);
+    let Body::Inline {
+        min_time,
+        max_time,
+        series,
+    } = &block.body;
+    assert_eq!(rt; *min_time, 1000);
+    assert_eq!(rt; *max_time, 2000);
+    assert_eq!(rt; series.len(), 2);
+    let first = series.get(0).ok_or("a series")?;
+    assert_eq!(rt; first.labels.value("a"), Some("1"));
+    assert_eq!(rt; first.samples.len(), 2);
+    let phase = script.phases.get(1).ok_or("a phase")?;
+    assert_eq!(rt; phase.line, 10);
+    assert_eq!(rt; phase.moment.ms, 1_800_000);
+    let task = phase.tasks.get(0).ok_or("a task")?;
+    assert_eq!(rt; task.line, 11);
+    let asks = matches!(
+        &task.work,
+        Work::Query {
+            low: 0,
+            high: 5000,
+            selector: 0
+        }
+    );
+    assert!(rt; asks);
+    Ok(())
+}
+
+#[test]
+fn workers_have_seats_over_the_whole_script(rt: HostRuntime) -> Result<(), Fail> {
+    let script = Script::read(rt.alloc(), TWO_PHASES.as_bytes())?;
+    let first = script.workers(rt.alloc(), 0)?;
+    assert_eq!(rt; first.len(), 3);
+    let gateway = first.get(1).ok_or("a gateway")?;
+    assert_eq!(rt; gateway.seat, 2);
+    assert_eq!(rt; gateway.gateway, Some(0));
+    assert_eq!(rt; gateway.tasks.members(), [1].as_slice());
+    let upload = first.get(2).ok_or("an upload")?;
+    assert_eq!(rt; upload.seat, 3);
+    assert_eq!(rt; upload.gateway, None);
+    assert_eq!(rt; upload.tasks.members(), [2].as_slice());
+    let second = script.workers_after(rt.alloc(), 1, 3)?;
+    assert_eq!(rt; second.len(), 1);
+    let gateway = second.get(0).ok_or("a gateway")?;
+    assert_eq!(rt; gateway.seat, 4);
+    assert_eq!(rt; gateway.tasks.members(), [0, 1].as_slice());
+    Ok(())
+}
+
+/// A text of so many equal parts behind a front.
+fn repeated(rt: &HostRuntime, front: &str, part: &str, count: u32) -> Result<String, Fail> {
+    let mut text = String::from_str(rt.alloc(), front)?;
+    for _ in 0..count {
+        text.push_str(part)?;
+    }
+    Ok(text)
+}
+
+#[test]
+fn limits_are_met_and_not_passed(rt: HostRuntime) -> Result<(), Fail> {
+    let begun =
+        "gateway g\nblock 0000000000000000000000000A 1 2 {}\nseries {} 1:0000000000000001\nat 0\n";
+    let upload = "upload 0000000000000000000000000A\n";
+    let text = repeated(&rt, begun, upload, 64)?;
+    assert_eq!(rt; refusal_of(&rt, text.as_bytes()), None);
+    let text = repeated(&rt, begun, upload, 65)?;
+    assert_eq!(rt; refusal_of(&rt, text.as_bytes()), Some(TooMany(69)));
+    let text = repeated(&rt, begun, "sync g\n", 65_536)?;
+    assert_eq!(rt; refusal_of(&rt, text.as_bytes()), None);
+    let text = repeated(&rt, begun, "sync g\n", 65_537)?;
+    assert_eq!(rt; refusal_of(&rt, text.as_bytes()), Some(TooMany(65_541)));
+    Ok(())
+}
+
+#[test]
+fn a_block_too_many(rt: HostRuntime) -> Result<(), Fail> {
+    let mut text = String::new(rt.alloc());
+    for number in 0..4_097u32 {
+        let line = format!(in rt.alloc();
+            "block 000000000000000000000A{number:04} 1 2 {{}}\nseries {{}} 1:0000000000000001\n"
+        )?;
+        text.push_str(line.as_str())?;
+    }
+    assert_eq!(rt; refusal_of(&rt, text.as_bytes()), Some(TooMany(8_193)));
+    Ok(())
+}
+
+#[test]
+fn a_text_too_long(rt: HostRuntime) -> Result<(), Fail> {
+    let text = vec![in rt.alloc(); b'\n'; 67_108_865]?;
+    assert_eq!(rt; refusal_of(&rt, text.as_slice()), Some(TooLong));
+    Ok(())
+}
+
+#[test]
+fn refusals_have_words(rt: HostRuntime) -> Result<(), Fail> {
+    for (refusal, words) in [
+        (TooLong, "too long"),
+        (BadLine(1, UnknownWord), "line 1: bad line 2"),
+        (BadLine(4, PatternSizeText), "line 4: bad line 25"),
+        (FallingMoment(2), "line 2: falling moment"),
+        (TwoCompactors(3), "line 3: two compactors"),
+        (UnknownBlock(2), "line 2: unknown block"),
+        (BlockChanged(2), "line 2: block changed"),
+        (BadRules(2), "line 2: bad rules"),
+        (NeverSynced(3), "line 3: never synced"),
+        (TooMany(17), "line 17: too many"),
+    ] {
+        let mut text = Vec::new(rt.alloc());
+        refusal.write(&mut text)?;
+        assert_eq!(rt; text.as_slice(), words.as_bytes());
+    }
+    Ok(())
+}

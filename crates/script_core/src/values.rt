@@ -1,0 +1,57 @@
+//! The numbers, times, spans and ULIDs that stand in fields.
+
+use crate::LineCause;
+use moment_core::Span;
+use reading_core::{read_signed, read_unsigned};
+use ulid_core::Ulid;
+
+/// The greatest distance of a time from 0.
+const TIME_LIMIT: i64 = 1 << 62;
+
+const PAGE_LIMIT: u64 = 10_000;
+
+const DAY_MS: u64 = 86_400_000;
+
+/// The least entropy that is kept for compacted blocks.
+const RESERVED: u128 = 0xffff_ffff_ffff_fff0_0000;
+
+/// A time in milliseconds, from -2^62 to 2^62.
+pub(crate) fn time(field: &str) -> Result<i64, LineCause> {
+    match read_signed(field) {
+        Ok(time) if is_time(time) => Ok(time),
+        _ => Err(LineCause::BadNumber),
+    }
+}
+
+pub(crate) fn is_time(time: i64) -> bool {
+    -TIME_LIMIT <= time && time <= TIME_LIMIT
+}
+
+/// A page limit, from 1 to 10,000.
+pub(crate) fn page_limit(field: &str) -> Result<u32, LineCause> {
+    match read_unsigned(field) {
+        Ok(number) if 1 <= number && number <= PAGE_LIMIT => Ok(number as u32),
+        _ => Err(LineCause::BadNumber),
+    }
+}
+
+pub(crate) fn span(field: &str) -> Result<Span, LineCause> {
+    Span::read(field).map_err(|_| LineCause::BadSpanText)
+}
+
+/// A span of at most a day.
+pub(crate) fn tick(field: &str) -> Result<Span, LineCause> {
+    match Span::read(field) {
+        Ok(tick) if tick.ms <= DAY_MS => Ok(tick),
+        _ => Err(LineCause::BadSpanText),
+    }
+}
+
+pub(crate) fn ulid(field: &str) -> Result<Ulid, LineCause> {
+    Ulid::read(field).map_err(|_| LineCause::BadUlidText)
+}
+
+/// Whether a ULID is one of the 2^20 of its millisecond that compacted blocks take.
+pub(crate) fn is_reserved(ulid: Ulid) -> bool {
+    ulid.entropy() >= RESERVED
+}
