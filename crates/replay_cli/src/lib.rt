@@ -1,0 +1,28 @@
+//! The program as a library: it reads words and a script, runs the script over a bucket, and writes the report.
+#![tactic(auto)]
+
+mod activity;
+mod came;
+mod input;
+mod input_refusal;
+mod outcome;
+mod output;
+mod phases;
+mod plan;
+mod report;
+mod run;
+mod seats;
+mod standard;
+mod status;
+mod status_number;
+mod tool;
+mod words;
+
+pub use input::read_all;
+pub use input_refusal::InputRefusal;
+pub use output::{SinkFault, write_all};
+pub use run::Run;
+pub use standard::{ReaderSource, WriterSink};
+pub use status::Status;
+pub use tool::run_tool;
+pub use words::is_serial_over_memory;

@@ -1,0 +1,62 @@
+use label_sets::SeriesList;
+use list_core::List;
+use ulid_core::UlidList;
+
+/// How one activity of the script ended, as its report line tells it. E counts entries of the journal from 1.
+#[derive(Drop)]
+pub enum Outcome {
+    Upload(UploadOutcome),
+    Sync(SyncOutcome),
+    Query(QueryOutcome),
+}
+
+pub type OutcomeList = List<Outcome>;
+
+#[derive(Clone, Copy, Debug, PartialEq, Eq)]
+pub enum UploadOutcome {
+    /// So many objects were put.
+    Done(u32),
+    /// The bucket has the block's meta already.
+    Already,
+    Fault(u64),
+    /// The block's files are too large.
+    TooLarge,
+}
+
+#[derive(Clone, Copy, Debug, PartialEq, Eq)]
+pub enum SyncOutcome {
+    /// The view keeps so many blocks.
+    Blocks(u64),
+    Fault(u64),
+    Damaged(u64),
+    TooMany,
+}
+
+#[derive(Drop)]
+pub enum QueryOutcome {
+    Answer(SeriesList, UlidList),
+    /// The first gateway in order that gave no answer, and why.
+    NoAnswer(u32, NoAnswer),
+}
+
+#[derive(Clone, Copy, Debug, PartialEq, Eq)]
+pub enum NoAnswer {
+    NoView,
+    Missing(u64),
+    Damaged(u64),
+    Fault(u64),
+}
+
+impl Outcome {
+    /// Whether the activity ended as asked.
+    pub fn is_as_asked(&self) -> bool {
+        match self {
+            Outcome::Upload(UploadOutcome::Done(_) | UploadOutcome::Already) => true,
+            Outcome::Upload(_) => false,
+            Outcome::Sync(SyncOutcome::Blocks(_)) => true,
+            Outcome::Sync(_) => false,
+            Outcome::Query(QueryOutcome::Answer(..)) => true,
+            Outcome::Query(QueryOutcome::NoAnswer(..)) => false,
+        }
+    }
+}

@@ -1,0 +1,7 @@
+//! Tests that cross crates: whole runs over memory, against outputs that were worked out by hand.
+#![tactic(auto)]
+
+#[cfg(test)]
+mod runs;
+#[cfg(test)]
+mod strange_bucket;
