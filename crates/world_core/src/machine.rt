@@ -8,7 +8,7 @@ use list_core::NoMemory;
 
 /// An activity that asks for one operation at a time, and sees nothing of the world but the replies.
 ///
-/// `first` is called once. After `Done` or `NoMemory` a machine is not called again.
+/// Call `first` to begin it, and `step` with each reply. Once it is done, or wanted memory, leave it alone.
 pub trait Machine {
     type End: Drop;
 
