@@ -5,3 +5,5 @@
 mod runs;
 #[cfg(test)]
 mod strange_bucket;
+#[cfg(test)]
+mod strange_runs;

@@ -1,14 +1,38 @@
-//! A bucket that shows other bytes than it holds.
+//! A bucket that shows other objects than it holds, and the site that opens it.
 
-use bucket_core::{Bucket, DeleteAnswer, GetAnswer, MemoryBucket, PageAnswer, PutAnswer};
+use bucket_core::{
+    Bucket, DeleteAnswer, FailList, GetAnswer, MemoryBucket, PageAnswer, PutAnswer, Site,
+    SiteRefusal,
+};
+use label_sets::{Text, TextList};
+use list_core::NoMemory;
 use std::alloc::Global;
 use wire_bytes::Blob;
 
-/// Shows the one byte `x` for each meta that stands. It tells no contents.
+/// How a strange bucket lies.
+#[derive(Clone, Copy, Debug, PartialEq, Eq)]
+pub enum Lie {
+    Never,
+    /// Each meta that stands is shown as the one byte `x`.
+    Metas,
+    /// Each page has the one name `x`.
+    Pages,
+}
+
+/// A bucket in memory that may lie. It tells no contents.
 #[derive(Drop)]
 pub struct StrangeBucket {
-    pub alloc: Global,
-    pub inner: MemoryBucket,
+    alloc: Global,
+    inner: MemoryBucket,
+    lie: Lie,
+}
+
+impl StrangeBucket {
+    fn name_page(&self) -> Result<TextList, NoMemory> {
+        let mut names = TextList::new(self.alloc);
+        names.push(Text::from_str(self.alloc, "x")?)?;
+        Ok(names)
+    }
 }
 
 impl Bucket for StrangeBucket {
@@ -30,7 +54,7 @@ impl Bucket for StrangeBucket {
     fn get(&mut self, key: &str) -> GetAnswer {
         match self.inner.get(key) {
             GetAnswer::Found(bytes) => {
-                if !key.ends_with("meta.json") {
+                if self.lie != Lie::Metas || !key.ends_with("meta.json") {
                     return GetAnswer::Found(bytes);
                 }
                 match Blob::from_bytes(self.alloc, b"x") {
@@ -51,6 +75,46 @@ impl Bucket for StrangeBucket {
     }
 
     fn page(&mut self, within: &str, after: &str, limit: u32) -> PageAnswer {
-        self.inner.page(within, after, limit)
+        if self.lie != Lie::Pages {
+            return self.inner.page(within, after, limit);
+        }
+        match self.name_page() {
+            Ok(names) => PageAnswer::Names(names),
+            Err(_) => PageAnswer::NoMemory,
+        }
+    }
+}
+
+/// A site that opens empty strange buckets.
+#[derive(Drop)]
+pub struct StrangeSite {
+    pub alloc: Global,
+    pub lie: Lie,
+    pub opened: u32,
+    pub faults: u64,
+}
+
+impl Site for StrangeSite {
+    type Store = StrangeBucket;
+
+    ghost use Rattle.std.specs.Prelude.{None};
+
+    ghost faults = { λ s. s.faults };
+
+    ghost opened = { λ s. s.opened };
+
+    ghost next = { λ s. None };
+
+    fn open_bucket(&mut self, _name: &str) -> Result<StrangeBucket, SiteRefusal> {
+        if self.opened == u32::MAX {
+            self.faults = self.faults.saturating_add(1);
+            return Err(SiteRefusal::Failed);
+        }
+        self.opened += 1;
+        Ok(StrangeBucket {
+            alloc: self.alloc,
+            inner: MemoryBucket::new(self.alloc, FailList::new(self.alloc)),
+            lie: self.lie,
+        })
     }
 }
