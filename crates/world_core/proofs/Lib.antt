@@ -2,3 +2,4 @@ pub mod Turns
 pub mod Growing
 pub mod Opening
 pub mod BlockNames
+pub mod LastLanded

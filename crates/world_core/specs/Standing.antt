@@ -1,5 +1,6 @@
 -- What stands in the bucket after a list of entries, and the honest journals.
-use Rattle.std.specs.Prelude.{◌≡◌, Bool, true, false, if◌then◌else◌, List, [], fold, Some, None, option_map}
+use Rattle.std.specs.Prelude.{◌≡◌, ◌≢◌, ℕ, Bool, true, false, if◌then◌else◌, List, [], fold, Some, None, Option, option_map}
+use Rattle.std.specs.List.{AllByRecursion}
 use Rattle.ulid_core.specs.UlidText.{text_of}
 use Rattle.block_keys.specs.KeyText.{key_text}
 use Rattle.bucket_core.specs.Contents.{Contents, nothing, with_object, without_object, range_of}
@@ -41,3 +42,13 @@ Tells contents op reply = Unit {0}
 -- each get, range and page that did not fail shows what stands after the entries before it
 abbrev pub IsHonest : List Entry → Type 0
 IsHonest entries = Each (λ before e. Tells (stands before) e.op e.reply) entries
+
+-- the text of the key whose object a landed put or delete changed
+abbrev pub changed_by : Op → Reply → Option (List ℕ)
+changed_by (Put key bytes) reply = if has_landed reply then Some (key_text key) else None
+changed_by (Delete key) reply = if has_landed reply then Some (key_text key) else None
+changed_by op reply = None
+
+-- no landed put or delete of the key is among the entries
+abbrev pub IsUnchanged : List ℕ → List Entry → Type 0
+IsUnchanged text entries = AllByRecursion (λ e. changed_by e.op e.reply ≢ Some text) entries
