@@ -1,3 +1,6 @@
+ghost use Rattle.std.specs.Prelude.{◌≡◌};
+ghost use Rattle.world_core.specs.Keeping.{IsFull};
+
 use crate::came::Came;
 use crate::outcome::{NoAnswer, Outcome, QueryOutcome, SyncOutcome, UploadOutcome};
 use crate::plan::{Unbuilt, objects_of};
@@ -20,7 +23,9 @@ pub(crate) fn upload<B: Bucket>(
     block: &Block,
     world: World<B>,
     seat: u32,
-) -> (Came, World<B>) {
+) -> (Came, World<B>)
+    ensures { result.0 ≡ Came.Full → IsFull result.1.journal }
+{
     let objects = match objects_of(alloc, block) {
         Ok(objects) => objects,
         Err(Unbuilt::TooLarge) => return (
@@ -61,7 +66,9 @@ pub(crate) fn sync<B: Bucket>(
     gateway: &mut Gateway,
     world: World<B>,
     seat: u32,
-) -> (Came, World<B>) {
+) -> (Came, World<B>)
+    ensures { result.0 ≡ Came.Full → IsFull result.1.journal }
+{
     let asked = SyncRules {
         consistency: rules.consistency,
         mark_delay: rules.ignore,
@@ -80,7 +87,9 @@ pub(crate) fn sync<B: Bucket>(
     (take_view(driven, gateway), hand.into_world())
 }
 
-fn take_view(driven: Driven<SyncEnd>, gateway: &mut Gateway) -> Came {
+fn take_view(driven: Driven<SyncEnd>, gateway: &mut Gateway) -> Came
+    ensures { result ≡ Came.Full → driven ≡ Driven.Full }
+{
     match driven {
         Driven::Ended(end) => Came::To(Outcome::Sync(sync_outcome(end, gateway))),
         Driven::Full => Came::Full,
@@ -117,7 +126,9 @@ pub(crate) fn query<B: Bucket>(
     question: Question<'_>,
     world: World<B>,
     seat: u32,
-) -> (Came, World<B>) {
+) -> (Came, World<B>)
+    ensures { result.0 ≡ Came.Full → IsFull result.1.journal }
+{
     let Some(gateway) = gateway else {
         let nothing = QueryOutcome::Answer(SeriesList::new(alloc), UlidList::new(alloc));
         return (Came::To(Outcome::Query(nothing)), world);

@@ -1,3 +1,6 @@
+ghost use Rattle.std.specs.Prelude.{◌≡◌, ◌≢◌, Some};
+ghost use Rattle.world_core.specs.Keeping.{IsFull};
+
 use crate::activity::{Question, query, sync, upload};
 use crate::came::{Broken, Came};
 use crate::outcome::Outcome;
@@ -55,7 +58,9 @@ pub(crate) fn run_phases<B: Bucket>(
     script: &Script,
     progress: &mut Progress,
     world: World<B>,
-) -> (Option<Broken>, World<B>) {
+) -> (Option<Broken>, World<B>)
+    ensures { result.0 ≡ Some Broken.Full → IsFull result.1.journal }
+{
     let mut world = world;
     for (place, phase) in script.phases.members().iter().enumerate() {
         let (broken, next) = run_phase(alloc, script, place, phase, progress, world);
@@ -78,7 +83,9 @@ fn run_phase<B: Bucket>(
     phase: &Phase,
     progress: &mut Progress,
     world: World<B>,
-) -> (Option<Broken>, World<B>) {
+) -> (Option<Broken>, World<B>)
+    ensures { result.0 ≡ Some Broken.Full → IsFull result.1.journal }
+{
     let seats = match Seats::new(alloc, script, place, phase, progress.workers) {
         Ok(seats) => seats,
         Err(_) => return (Some(Broken::NoMemory), world),
@@ -110,7 +117,9 @@ fn run_tasks<B: Bucket>(
     seats: &Seats,
     progress: &mut Progress,
     world: World<B>,
-) -> (Option<Broken>, World<B>) {
+) -> (Option<Broken>, World<B>)
+    ensures { result.0 ≡ Some Broken.Full → IsFull result.1.journal }
+{
     let mut world = world;
     let finished = progress.lines.len();
     for (place, task) in tasks.iter().enumerate() {
@@ -126,7 +135,9 @@ fn run_tasks<B: Bucket>(
 }
 
 /// Adds the lines of one activity to the report.
-fn tell(script: &Script, task: &Task, came: Came, progress: &mut Progress) -> Option<Broken> {
+fn tell(script: &Script, task: &Task, came: Came, progress: &mut Progress) -> Option<Broken>
+    ensures { result ≡ Some Broken.Full → came ≡ Came.Full }
+{
     let outcome = match came {
         Came::To(outcome) => outcome,
         Came::Refused(refusal) => return Some(Broken::Refused(refusal)),
@@ -149,7 +160,9 @@ fn run_task<B: Bucket>(
     seats: &Seats,
     progress: &mut Progress,
     world: World<B>,
-) -> (Came, World<B>) {
+) -> (Came, World<B>)
+    ensures { result.0 ≡ Came.Full → IsFull result.1.journal }
+{
     let line = task.line;
     match task.work {
         Work::Upload(ulid, _) => {
@@ -186,6 +199,8 @@ fn run_task<B: Bucket>(
     }
 }
 
-fn refused(line: u32, cause: LineCause) -> Came {
+fn refused(line: u32, cause: LineCause) -> Came
+    ensures { result ≢ Came.Full }
+{
     Came::Refused(ScriptRefusal::BadLine(line, cause))
 }

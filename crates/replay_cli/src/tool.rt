@@ -1,7 +1,10 @@
-ghost use Rattle.std.specs.Prelude.{◌≡◌, ◌≢◌, ◌↔◌, ◌⊎◌, ◌≤◌, ◌+◌, IsSome, is_some, if◌then◌else◌};
+ghost use Rattle.std.specs.Prelude.{◌≡◌, ◌≢◌, ◌↔◌, ◌⊎◌, ◌≤◌, ◌<◌, ◌+◌, IfSome, IsSome, IsSomeAnd, is_some, if◌then◌else◌};
 ghost use Rattle.bucket_core.specs.Causes.{Rose};
+ghost use Rattle.bucket_core.specs.Contents.{nothing};
+ghost use Rattle.world_core.specs.Keeping.{IsFull};
+ghost use Rattle.replay_cli.specs.Kept.{IsHandedBack, IsUntouched, HoldsNothing, HoldsSome, IsWithoutEntry};
 ghost use Rattle.replay_cli.specs.Words.{IsSerialOverMemory};
-ghost use Rattle.replay_cli.specs.Statuses.{IsSaid, IsRunStatus, IsRunNumber};
+ghost use Rattle.replay_cli.specs.Statuses.{IsSaid, IsRefusal, IsClosed, IsUnopened, IsReported, HasWorked};
 
 use crate::came::Broken;
 use crate::input::read_all;
@@ -32,6 +35,19 @@ pub fn run_tool<S: Site, R: Source, K: Sink>(
     ensures sink { result.status ≡ 4 → Rose (K.faults out.old) (K.faults out.new) }
     ensures handed { S.opened site.new ≡ (if is_some result.store then S.opened site.old + 1 else S.opened site.old) }
     ensures kept { is_some result.journal ≡ is_some result.store }
+
+    // The journal is true of the bucket that is handed back, and without an entry that is as the site opened it.
+    ensures back { IsHandedBack S.Store.contents S.Store.faults result.journal result.store }
+    ensures untouched { IfSome (S.next site.old) (λ c. IsUntouched S.Store.contents c result.journal result.store) }
+
+    // Why the bucket was not worked on: it could not be opened or listed, or an object stood in it before.
+    ensures site { result.status ≡ 9 → Rose (S.faults site.old) (S.faults site.new) ⊎ IsSomeAnd result.store (λ store. 0 < S.Store.faults store) }
+    ensures not_empty { result.status ≡ 7 → IfSome (S.next site.old) HoldsSome }
+    ensures nothing_done { (result.status ≡ 9) ⊎ (result.status ≡ 7) → IsWithoutEntry result.journal }
+    ensures empty { HasWorked result.status → IfSome (S.next site.old) HoldsNothing }
+
+    // Where the journal took no more entries.
+    ensures full { result.status ≡ 8 → IsSomeAnd result.journal IsFull }
 {
     if !is_serial_over_memory(words) {
         return Run::without_bucket(say(out, Status::WordsRefused, b"words refused\n"));
@@ -60,9 +76,17 @@ fn run_text<S: Site, K: Sink>(
     site: &mut S,
     out: &mut K,
 ) -> Run<S::Store>
-    ensures status { IsRunNumber (K.faults out.old) (K.faults out.new) result.status }
+    ensures sink { result.status ≡ 4 → Rose (K.faults out.old) (K.faults out.new) }
+    ensures others { (result.status ≢ 1) × (result.status ≢ 3) }
     ensures handed { S.opened site.new ≡ (if is_some result.store then S.opened site.old + 1 else S.opened site.old) }
     ensures kept { is_some result.journal ≡ is_some result.store }
+    ensures back { IsHandedBack S.Store.contents S.Store.faults result.journal result.store }
+    ensures untouched { IfSome (S.next site.old) (λ c. IsUntouched S.Store.contents c result.journal result.store) }
+    ensures site { result.status ≡ 9 → Rose (S.faults site.old) (S.faults site.new) ⊎ IsSomeAnd result.store (λ store. 0 < S.Store.faults store) }
+    ensures not_empty { result.status ≡ 7 → IfSome (S.next site.old) HoldsSome }
+    ensures nothing_done { (result.status ≡ 9) ⊎ (result.status ≡ 7) → IsWithoutEntry result.journal }
+    ensures empty { HasWorked result.status → IfSome (S.next site.old) HoldsNothing }
+    ensures full { result.status ≡ 8 → IsSomeAnd result.journal IsFull }
 {
     match Script::read(alloc, text) {
         Ok(script) => over_site(alloc, &script, site, out),
@@ -76,9 +100,17 @@ fn over_site<S: Site, K: Sink>(
     site: &mut S,
     out: &mut K,
 ) -> Run<S::Store>
-    ensures status { IsRunNumber (K.faults out.old) (K.faults out.new) result.status }
+    ensures sink { result.status ≡ 4 → Rose (K.faults out.old) (K.faults out.new) }
+    ensures others { (result.status ≢ 1) × (result.status ≢ 3) }
     ensures handed { S.opened site.new ≡ (if is_some result.store then S.opened site.old + 1 else S.opened site.old) }
     ensures kept { is_some result.journal ≡ is_some result.store }
+    ensures back { IsHandedBack S.Store.contents S.Store.faults result.journal result.store }
+    ensures untouched { IfSome (S.next site.old) (λ c. IsUntouched S.Store.contents c result.journal result.store) }
+    ensures site { result.status ≡ 9 → Rose (S.faults site.old) (S.faults site.new) ⊎ IsSomeAnd result.store (λ store. 0 < S.Store.faults store) }
+    ensures not_empty { result.status ≡ 7 → IfSome (S.next site.old) HoldsSome }
+    ensures nothing_done { (result.status ≡ 9) ⊎ (result.status ≡ 7) → IsWithoutEntry result.journal }
+    ensures empty { HasWorked result.status → IfSome (S.next site.old) HoldsNothing }
+    ensures full { result.status ≡ 8 → IsSomeAnd result.journal IsFull }
 {
     match site.open_bucket("memory") {
         Ok(bucket) => over_bucket(alloc, script, bucket, out),
@@ -90,9 +122,17 @@ fn over_site<S: Site, K: Sink>(
 const DAY: u64 = 86_400_000;
 
 fn over_bucket<B: Bucket, K: Sink>(alloc: Global, script: &Script, bucket: B, out: &mut K) -> Run<B>
-    ensures status { IsRunNumber (K.faults out.old) (K.faults out.new) result.status }
+    ensures sink { result.status ≡ 4 → Rose (K.faults out.old) (K.faults out.new) }
+    ensures others { (result.status ≢ 1) × (result.status ≢ 3) }
     ensures store { IsSome result.store }
     ensures journal { IsSome result.journal }
+    ensures back { IsHandedBack B.contents B.faults result.journal result.store }
+    ensures untouched { IfSome (B.contents bucket) (λ c. IsUntouched B.contents c result.journal result.store) }
+    ensures site { result.status ≡ 9 → IsSomeAnd result.store (λ store. Rose (B.faults bucket) (B.faults store)) }
+    ensures not_empty { result.status ≡ 7 → IfSome (B.contents bucket) HoldsSome }
+    ensures nothing_done { (result.status ≡ 9) ⊎ (result.status ≡ 7) → IsWithoutEntry result.journal }
+    ensures empty { HasWorked result.status → IfSome (B.contents bucket) HoldsNothing }
+    ensures full { result.status ≡ 8 → IsSomeAnd result.journal IsFull }
 {
     let tick = Span {
         ms: script.rules.tick.ms.min(DAY),
@@ -112,9 +152,13 @@ fn over_world<B: Bucket, K: Sink>(
     world: World<B>,
     out: &mut K,
 ) -> Run<B>
-    ensures status { IsRunNumber (K.faults out.old) (K.faults out.new) result.status }
+    ensures sink { result.status ≡ 4 → Rose (K.faults out.old) (K.faults out.new) }
+    ensures others { (result.status ≢ 1) × (result.status ≢ 3) × (result.status ≢ 7) × (result.status ≢ 9) }
     ensures store { IsSome result.store }
     ensures journal { IsSome result.journal }
+    ensures back { IsHandedBack B.contents B.faults result.journal result.store }
+    ensures untouched { IsUntouched B.contents nothing result.journal result.store }
+    ensures full { result.status ≡ 8 → IsSomeAnd result.journal IsFull }
 {
     let mut progress = match Progress::new(alloc, script) {
         Ok(progress) => progress,
@@ -136,7 +180,7 @@ fn say_report<K: Sink>(
     broken: Option<Broken>,
     out: &mut K,
 ) -> Status
-    ensures { IsRunStatus (K.faults out.old) (K.faults out.new) result }
+    ensures { IsReported (K.faults out.old) (K.faults out.new) broken result }
 {
     match broken {
         None => {
@@ -163,7 +207,7 @@ fn with_end(lines: Vec<u8>, end: &[u8]) -> Result<Vec<u8>, AllocError> {
 }
 
 fn say_refusal<K: Sink>(alloc: Global, refusal: ScriptRefusal, out: &mut K) -> Status
-    ensures { IsRunStatus (K.faults out.old) (K.faults out.new) result }
+    ensures { IsRefusal (K.faults out.old) (K.faults out.new) result }
 {
     if refusal == ScriptRefusal::NoMemory {
         return Status::NoMemory;
@@ -182,7 +226,7 @@ fn refusal_text(alloc: Global, refusal: ScriptRefusal) -> Result<Vec<u8>, NoMemo
 }
 
 fn say_closed<K: Sink>(refusal: SiteRefusal, out: &mut K) -> Status
-    ensures { IsRunStatus (K.faults out.old) (K.faults out.new) result }
+    ensures { IsClosed (K.faults out.old) (K.faults out.new) refusal result }
 {
     match refusal {
         SiteRefusal::Failed => say(out, Status::SiteFault, b"site fault\n"),
@@ -191,7 +235,7 @@ fn say_closed<K: Sink>(refusal: SiteRefusal, out: &mut K) -> Status
 }
 
 fn say_unopened<K: Sink>(alloc: Global, refusal: OpenRefusal, out: &mut K) -> Status
-    ensures { IsRunStatus (K.faults out.old) (K.faults out.new) result }
+    ensures { IsUnopened (K.faults out.old) (K.faults out.new) refusal result }
 {
     match refusal {
         OpenRefusal::Failed => say(out, Status::SiteFault, b"site fault\n"),
