@@ -68,7 +68,7 @@ StandsBefore-trans a b (l ∷ ls) p h = (before_trans a b l.name p h.0, StandsBe
 pub some_none : (v : List ℕ) (o : Option (List ℕ)) → o ≡ Some v → o ≡ None → ⊥
 some_none v o p q = cc
 
-some_same : (u v : List ℕ) (o : Option (List ℕ)) → o ≡ Some u → o ≡ Some v → u ≡ v
+pub some_same : (u v : List ℕ) (o : Option (List ℕ)) → o ≡ Some u → o ≡ Some v → u ≡ v
 some_same u v o p q = cc
 
 -- a set that begins after the name has no value under it, as one that begins with it has

@@ -9,3 +9,9 @@ pub mod ReadPairs
 pub mod ReadWalks
 pub mod RepeatedNames
 pub mod ReadSets
+pub mod SetsFound
+pub mod SetsAgain
+pub mod SetLaws
+pub mod HexNumbers
+pub mod HexTexts
+pub mod SampleTexts

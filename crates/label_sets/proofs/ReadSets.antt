@@ -82,7 +82,7 @@ pub length-name_at : (text : List ℕ) → length (name_at text) ≡ name_length
 unfolding name_at
 length-name_at text = length-take-le (name_length text) text (name_within text)
 
-filled_pair : (text : List ℕ) (label : Label) (rest : List ℕ) → PairSteps text label rest → (label.name ≢ []) × (label.value ≢ [])
+pub filled_pair : (text : List ℕ) (label : Label) (rest : List ℕ) → PairSteps text label rest → (label.name ≢ []) × (label.value ≢ [])
 filled_pair text label rest s = (not_nothing label.name (ap (λ n. nat_lt 0 (length n)) s.name_is ∙ ap (nat_lt 0) (length-name_at text) ∙ s.named), not_nothing label.value s.valued)
 
 end-filled : (text : List ℕ) (r : Result (List ℕ) LabelRefusal) → AreFilled (at_end text r).0

@@ -1,6 +1,9 @@
 pub use Rattle.reading_core.specs.Reading
+pub use Rattle.reading_core.specs.Decimal
 pub mod Ordered
 pub mod Labels
 pub mod Finals
 pub mod Notation
+pub mod SetText
+pub mod SampleText
 pub mod Triples

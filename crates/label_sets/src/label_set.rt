@@ -1,10 +1,16 @@
-ghost use Rattle.std.specs.Prelude.{◌≡◌, ◌<◌, ◌≤◌, [], ◌∷◌, ◌++◌, if◌then◌else◌, length, slice_index_or, Some, None, IfOk, IfErr, OnOk, OnErr};
+ghost use Rattle.std.specs.Prelude.{◌≡◌, ◌<◌, ◌≤◌, ℕ, List, [], ◌∷◌, ◌++◌, if◌then◌else◌, length, take, slice_index_or, Some, None, MatchResult, IfOk, IfErr, OnOk, OnErr};
 ghost use Rattle.std.specs.Option.{option_copied};
 ghost use Rattle.std.specs.List.{insert};
 ghost use Rattle.std.specs.List.Sorted.{IsSortedBy};
+ghost use Rattle.std.specs.Str.{IsCharBoundary};
+ghost use Rattle.std.specs.Cmp.{partial_order_from_own_ties};
+ghost use Rattle.std.specs.Cmp.Rules.{comparing};
+ghost use Rattle.std.specs.Ordering.{is_eq, as_partial_cmp};
+ghost use Rattle.std.proofs.Common.{rules};
 ghost use Rattle.reading_core.specs.Reading.{Gives};
 ghost use Rattle.label_sets.specs.declared.label.Label.{Label};
 ghost use Rattle.label_sets.specs.Notation.{read_set, set_text};
+ghost use Rattle.label_sets.specs.SetText.{AreNamed, IsSetText};
 ghost use Rattle.label_sets.specs.Ordered.{placed, in_order};
 ghost use Rattle.label_sets.specs.Labels.{compare_sets, IsLabelSet, value_of, names_of, has_lesser_name, added};
 ghost use Rattle.label_sets.specs.Finals.{is_among, without, final_of, reduced_of};
@@ -75,16 +81,24 @@ impl LabelSet {
 
     /// Reads one label set at the front of a text, and says how many bytes it took.
     pub fn read(alloc: Global, text: &str) -> Result<(LabelSet, usize), LabelRefusal>
+        // What is read is a text of the set, and each text of a set is read, whatever follows, unless memory runs out.
+        ensures found { IfOk result (λ read. IsSetText (take read.1 text.now) read.0) }
+        ensures only { (front after : List ℕ) (set : List Label) → IsSetText front set → text.now ≡ front ++ after
+            → MatchResult result (λ read. (read.0 ≡ set) × (read.1 ≡ length front)) (λ e. e ≡ LabelRefusal.NoMemory) }
+
         ensures gives { Gives LabelRefusal.NoMemory (λ read. (read.0, read.1)) result (read_set text.now) }
+        ensures cut { IfOk result (λ read. IsCharBoundary text.now read.1) }
     {
-        let (labels, end) = read_labels(alloc, text.as_bytes())?;
-        Ok((LabelSet { labels }, end))
+        read_front(alloc, text)
     }
 
     /// Appends the set in its notation: ascending, with no spaces.
     pub fn write(&self, out: &mut Vec<u8>) -> Result<(), NoMemory>
         ensures ok { OnOk result (out.new.items ≡ out.old.items ++ set_text self.now) }
         ensures err { OnErr result (out.new.items ≡ out.old.items) }
+
+        // What is written is a text of the set, where each name has the form of a name.
+        ensures text { AreNamed self.now → IsSetText (set_text self.now) self.now }
     {
         put_labels(out, self.labels.as_slice())
     }
@@ -100,6 +114,44 @@ impl LabelSet {
     pub fn compare(&self, other: &LabelSet) -> Ordering
         ensures { result ≡ compare_sets self.now other.now }
     {
+        self.cmp(other)
+    }
+}
+
+impl PartialEq for LabelSet {
+    ghost eq = { λ one other. is_eq (compare_sets one other) };
+
+    ghost laws = { Prim.search (comparing, rules) };
+
+    fn eq(&self, other: &LabelSet) -> bool {
+        self.cmp(other) == Ordering::Equal
+    }
+}
+
+impl Eq for LabelSet {
+    ghost laws = { Prim.search (comparing, rules) };
+}
+
+impl PartialOrd for LabelSet {
+    ghost partial_cmp = { as_partial_cmp compare_sets };
+
+    ghost laws = { partial_order_from_own_ties (Prim.search (comparing, rules)) (Prim.search (comparing, rules)) };
+
+    fn partial_cmp(&self, other: &LabelSet) -> Option<Ordering> {
+        Some(self.cmp(other))
+    }
+}
+
+impl Ord for LabelSet {
+    ghost cmp = { compare_sets };
+
+    ghost total = { Prim.search (comparing, rules) };
+
+    ghost matches_partial_cmp = { Prim.search (comparing, rules) };
+
+    ghost matches_eq = { Prim.search (comparing, rules) };
+
+    fn cmp(&self, other: &LabelSet) -> Ordering {
         self.labels().cmp(other.labels())
     }
 }
@@ -143,7 +195,11 @@ pub fn reduced(
     external: &LabelSet,
     replicas: &TextList,
 ) -> Result<LabelSet, NoMemory>
-    ensures { IfOk result (λ made. made ≡ reduced_of labels.now external.now replicas.now) }
+    ensures value { IfOk result (λ made. made ≡ reduced_of labels.now external.now replicas.now) }
+
+    // The final labels can be taken from the reduced ones.
+    ensures joined { IfOk result (λ made. final_of made (without replicas.now external.now) replicas.now
+        ≡ final_of labels.now external.now replicas.now) }
 {
     let mut kept = Vec::new(alloc);
     copy_kept(
@@ -153,6 +209,14 @@ pub fn reduced(
         replicas.members(),
     )?;
     Ok(LabelSet { labels: kept })
+}
+
+fn read_front(alloc: Global, text: &str) -> Result<(LabelSet, usize), LabelRefusal>
+    ensures gives { Gives LabelRefusal.NoMemory (λ read. (read.0, read.1)) result (read_set text.now) }
+    ensures cut { IfOk result (λ read. IsCharBoundary text.now read.1) }
+{
+    let (labels, end) = read_labels(alloc, text.as_bytes())?;
+    Ok((LabelSet { labels }, end))
 }
 
 fn new_label(alloc: Global, name: &str, value: &str) -> Result<Label, NoMemory>

@@ -1,3 +1,9 @@
+ghost use Rattle.std.specs.Prelude.{◌≡◌, ◌≢◌, ◌↔◌, ◌+◌, ◌*◌, ◌/◌, ◌%◌, ◌<◌, ◌≤◌, ◌^◌, ℕ, ℤ, ◌++◌, length, take, IsTrue, IfOk, OnOk, OnErr, Err, Ok};
+ghost use Rattle.std.specs.Int.{w64};
+ghost use Rattle.std.specs.Int.RustNames.{FitsSigned};
+ghost use Rattle.std.specs.List.{list_all};
+ghost use Rattle.label_sets.specs.SampleText.{hex_sign, hex_text, pattern_text, timed_text, sample_text, is_hex_sign, hex_digit, hex_number, pattern_of, sample_of};
+
 use crate::SampleRefusal;
 use list_core::{List, NoMemory, TryCopy};
 use reading_core::{NumberRefusal, put_signed, read_signed};
@@ -19,63 +25,140 @@ impl TryCopy for Sample {
 }
 
 impl Sample {
+    ghost use Rattle.label_sets.specs.declared.sample.Sample.{Sample};
+
     /// Reads `TIME:PATTERN`: a decimal time, and 16 lower-case hexadecimal digits.
-    pub fn read(text: &str) -> Result<Sample, SampleRefusal> {
-        let Some((time, pattern)) = text.split_once(':') else {
-            return Err(SampleRefusal::NotASample);
-        };
-        let Some(pattern) = read_pattern(pattern.as_bytes()) else {
-            return Err(SampleRefusal::NotASample);
-        };
-        match read_signed(time) {
-            Ok(time) => Ok(Sample { time, pattern }),
-            Err(NumberRefusal::NotANumber) => Err(SampleRefusal::NotASample),
-            Err(NumberRefusal::TooLarge) => Err(SampleRefusal::OutOfRange),
-        }
+    pub fn read(text: &str) -> Result<Sample, SampleRefusal>
+        // What is read is the text of the sample, and each sample is read from its text.
+        ensures found { IfOk result (λ sample. text.now ≡ sample_text sample) }
+        ensures only { (sample : Sample) → FitsSigned w64 sample.time → sample.pattern < 2 ^ 64
+            → text.now ≡ sample_text sample → result ≡ Ok sample }
+
+        // Which refusal it is.
+        ensures out_of_range { (result ≡ Err SampleRefusal.OutOfRange)
+            ↔ ((time : ℤ) × (pattern : ℕ) × (¬ FitsSigned w64 time) × (pattern < 2 ^ 64) × (text.now ≡ timed_text time pattern)) }
+        ensures no_sample { (result ≡ Err SampleRefusal.NotASample)
+            ↔ ((time : ℤ) (pattern : ℕ) → pattern < 2 ^ 64 → text.now ≢ timed_text time pattern) }
+
+        ensures gives { result ≡ sample_of text.now }
+    {
+        read_sample(text)
     }
 
     /// Appends `TIME:PATTERN`.
-    pub fn write(self, out: &mut Vec<u8>) -> Result<(), NoMemory> {
-        put_signed(out, self.time)?;
-        out.push(b':')?;
-        out.extend_from_slice(&pattern_digits(self.pattern))?;
-        Ok(())
+    #[tactic(auto, unfolding(crate::specs::SampleText::sample_text))]
+    pub fn write(self, out: &mut Vec<u8>) -> Result<(), NoMemory>
+        ensures ok { OnOk result (out.new.items ≡ out.old.items ++ sample_text self) }
+        ensures err { OnErr result (out.new.items ≡ out.old.items) }
+    {
+        let start = out.len();
+        let put = put_sample(out, self.time, self.pattern);
+        if put.is_err() {
+            out.truncate(start);
+        }
+        put
     }
 }
 
-fn read_pattern(digits: &[u8]) -> Option<u64> {
-    if digits.len() != 16 {
-        return None;
+#[tactic(auto, unfolding(crate::specs::SampleText::sample_of, crate::specs::SampleText::sample_with))]
+fn read_sample(text: &str) -> Result<Sample, SampleRefusal>
+    ensures { result ≡ sample_of text.now }
+{
+    let Some((time, pattern)) = text.split_once(':') else {
+        return Err(SampleRefusal::NotASample);
+    };
+    let Some(pattern) = read_pattern(pattern.as_bytes()) else {
+        return Err(SampleRefusal::NotASample);
+    };
+    match read_signed(time) {
+        Ok(time) => Ok(Sample { time, pattern }),
+        Err(NumberRefusal::NotANumber) => Err(SampleRefusal::NotASample),
+        Err(NumberRefusal::TooLarge) => Err(SampleRefusal::OutOfRange),
     }
-    let mut pattern = 0u64;
+}
+
+/// Appends a sample, or a part of it where memory runs out.
+#[tactic(auto, unfolding(crate::specs::SampleText::timed_text))]
+fn put_sample(out: &mut Vec<u8>, time: i64, pattern: u64) -> Result<(), NoMemory>
+    ensures ok { OnOk result (out.new.items ≡ out.old.items ++ timed_text time pattern) }
+    ensures kept { take (length out.old.items) out.new.items ≡ out.old.items }
+{
+    put_signed(out, time)?;
+    out.push(b':')?;
+    out.extend_from_slice(&pattern_digits(pattern))?;
+    Ok(())
+}
+
+#[tactic(auto, unfolding(crate::specs::SampleText::pattern_of))]
+fn read_pattern(digits: &[u8]) -> Option<u64>
+    ensures { result ≡ pattern_of digits.now }
+{
+    if digits.len() == 16 && are_hex_signs(digits) {
+        Some(hex_number(digits))
+    } else {
+        None
+    }
+}
+
+fn are_hex_signs(digits: &[u8]) -> bool
+    ensures { result ≡ list_all is_hex_sign digits.now }
+{
+    digits.iter().all(|digit| is_hex_sign(*digit))
+}
+
+#[tactic(auto, unfolding(crate::specs::SampleText::hex_number))]
+fn hex_number(digits: &[u8]) -> u64
+    requires long { length digits.now ≡ 16 }
+    requires hex { IsTrue (list_all is_hex_sign digits.now) }
+    ensures { result ≡ hex_number digits.now }
+{
+    let mut value = 0u64;
     for digit in digits {
-        pattern = pattern << 4 | u64::from(hex_value(*digit)?);
+        value = value * 16 + u64::from(hex_digit(*digit));
     }
-    Some(pattern)
+    value
 }
 
-fn hex_value(digit: u8) -> Option<u8> {
-    match digit {
-        b'0'..=b'9' => Some(digit - b'0'),
-        b'a'..=b'f' => Some(digit - b'a' + 10),
-        _ => None,
+#[tactic(auto, unfolding(crate::specs::SampleText::is_hex_sign))]
+fn is_hex_sign(byte: u8) -> bool
+    ensures { result ≡ is_hex_sign byte }
+{
+    byte.is_ascii_digit() || (b'a' <= byte && byte <= b'f')
+}
+
+#[tactic(auto, unfolding(crate::specs::SampleText::hex_digit, crate::specs::SampleText::is_hex_sign))]
+fn hex_digit(byte: u8) -> u8
+    requires { IsTrue (is_hex_sign byte) }
+    ensures digit { result ≡ hex_digit byte }
+    ensures small { result < 16 }
+{
+    if byte < b':' {
+        byte - b'0'
+    } else {
+        byte - b'W'
     }
 }
 
-fn pattern_digits(pattern: u64) -> [u8; 16] {
+fn pattern_digits(pattern: u64) -> [u8; 16]
+    ensures { result ≡ pattern_text pattern }
+{
     let mut digits = [b'0'; 16];
     let mut left = pattern;
-    for digit in digits.iter_mut().rev() {
-        *digit = hex_digit((left & 0xf) as u8);
-        left >>= 4;
+    for i in 0..16 {
+        digits[15 - i] = hex_sign((left % 16) as u8);
+        left /= 16;
     }
     digits
 }
 
-fn hex_digit(value: u8) -> u8 {
-    if value < 10 {
-        b'0' + value
+#[tactic(auto, unfolding(crate::specs::SampleText::hex_sign))]
+fn hex_sign(digit: u8) -> u8
+    requires { digit < 16 }
+    ensures { result ≡ hex_sign digit }
+{
+    if digit < 10 {
+        b'0' + digit
     } else {
-        b'a'.saturating_add(value - 10)
+        b'W' + digit
     }
 }

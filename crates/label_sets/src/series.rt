@@ -1,4 +1,9 @@
-use crate::{LabelSet, SampleList};
+ghost use Rattle.std.specs.Prelude.{◌≡◌, ◌++◌, length, take, OnOk, OnErr};
+ghost use Rattle.std.specs.List.{flat_map};
+ghost use Rattle.label_sets.specs.Notation.{set_text};
+ghost use Rattle.label_sets.specs.SampleText.{series_text, spaced_sample_text};
+
+use crate::{LabelSet, Sample, SampleList};
 use list_core::{List, NoMemory, TryCopy};
 
 /// Samples under one label set.
@@ -22,12 +27,37 @@ impl TryCopy for Series {
 
 impl Series {
     /// Appends the label set and then each sample after a space, with no newline.
-    pub fn write(&self, out: &mut Vec<u8>) -> Result<(), NoMemory> {
-        self.labels.write(out)?;
-        for sample in self.samples.members() {
-            out.push(b' ')?;
-            sample.write(out)?;
+    #[tactic(auto, unfolding(crate::specs::SampleText::series_text))]
+    pub fn write(&self, out: &mut Vec<u8>) -> Result<(), NoMemory>
+        ensures ok { OnOk result (out.new.items ≡ out.old.items ++ series_text self.now) }
+        ensures err { OnErr result (out.new.items ≡ out.old.items) }
+    {
+        let start = out.len();
+        let put = put_series(out, &self.labels, self.samples.members());
+        if put.is_err() {
+            out.truncate(start);
         }
-        Ok(())
+        put
     }
+}
+
+/// Appends a label set and samples, or a part of it where memory runs out.
+fn put_series(out: &mut Vec<u8>, labels: &LabelSet, samples: &[Sample]) -> Result<(), NoMemory>
+    ensures ok { OnOk result (out.new.items ≡ out.old.items ++ set_text labels.now ++ flat_map spaced_sample_text samples.now) }
+    ensures kept { take (length out.old.items) out.new.items ≡ out.old.items }
+{
+    labels.write(out)?;
+    for sample in samples {
+        put_spaced_sample(out, *sample)?;
+    }
+    Ok(())
+}
+
+#[tactic(auto, unfolding(crate::specs::SampleText::spaced_sample_text))]
+fn put_spaced_sample(out: &mut Vec<u8>, sample: Sample) -> Result<(), NoMemory>
+    ensures ok { OnOk result (out.new.items ≡ out.old.items ++ spaced_sample_text sample) }
+    ensures kept { take (length out.old.items) out.new.items ≡ out.old.items }
+{
+    out.push(b' ')?;
+    sample.write(out)
 }

@@ -58,17 +58,25 @@ uvarint_parts p q n e =
     let same : ◌≡◌ {A = ℕ × Position} (x.0.0, further x.0.1 p) (n, q) = ok_is {E = WireRefusal} _ _ x.2 in
     (x.0.1, x.1 ∙ ap (λ (y : ℕ × Position). Ok (y.0, x.0.1)) same, sym (ap (λ (y : ℕ × Position). y.1) same))
 
+-- of a list alone: what is read is a text of the number, and each text is read
+pub uvarint_taken : (bytes : List ℕ) (n count : ℕ) → IsBytes bytes → groups_of 9 bytes ≡ Ok (n, count) → IsUvarint (take count bytes) n × (count ≤ length bytes)
+uvarint_taken bytes n count are e =
+    let reads = groups_found 9 bytes n count are e in
+    (record { groups = reads.groups; few = omega (arith, length-take count bytes, reads.few); fits = reads.small }, reads.within)
+
+pub uvarint_given : (text : List ℕ) (n : ℕ) (after : List ℕ) → IsUvarint text n → groups_of 9 (text ++ after) ≡ Ok (n, length text)
+uvarint_given text n after is = groups_again 9 text n after is.groups is.few is.fits
+
 -- what is read is a text of the number
 pub uvarint_found : (p q : Position) (n : ℕ) → IsBytes (left p) → uvarint_at p ≡ Ok (n, q) → HasFront IsUvarint (left p) n (left q)
 uvarint_found p q n are e =
     let x = uvarint_parts p q n e in
-    let reads = groups_found 9 (left p) n x.0 are x.1 in
-    let text : IsUvarint (take x.0 (left p)) n = record { groups = reads.groups; few = omega (arith, length-take x.0 (left p), reads.few); fits = reads.small } in
-    (take x.0 (left p), text, sym (take-append-drop x.0 (left p)) ∙ ap (λ (others : List ℕ). take x.0 (left p) ++ others) (sym (ap left x.2 ∙ left-further x.0 p)))
+    let text = uvarint_taken (left p) n x.0 are x.1 in
+    (take x.0 (left p), text.0, sym (take-append-drop x.0 (left p)) ∙ ap (λ (others : List ℕ). take x.0 (left p) ++ others) (sym (ap left x.2 ∙ left-further x.0 p)))
 
 -- each text is read, whatever follows
 pub uvarint_again : (p : Position) (text : List ℕ) (n : ℕ) (after : List ℕ) → IsUvarint text n → left p ≡ text ++ after → uvarint_at p ≡ Ok (n, further (length text) p)
-uvarint_again p text n after is e = uvarint_is p n (length text) (ap (groups_of 9) e ∙ groups_again 9 text n after is.groups is.few is.fits)
+uvarint_again p text n after is e = uvarint_is p n (length text) (ap (groups_of 9) e ∙ uvarint_given text n after is)
 
 -- each refusal has its cause
 pub uvarint_short : (p : Position) → (uvarint_at p ≡ Err Short) ↔ EndsInside (left p)

@@ -21,12 +21,12 @@ group_and_more : (more n : ℕ) → 128 ≤ n → groups_text (suc more) n ≡ (
 unfolding groups_text
 group_and_more more n large = rw (le-ltb _ _ large) refl
 
-is_groups : (more n : ℕ) → n < limit more → IsGroups (groups_text more n) n
-is_groups zero n small = rw (one_group 0 n (omega arith)) (omega arith, refl)
-is_groups (suc more) n small =
+pub groups_text_is : (more n : ℕ) → n < limit more → IsGroups (groups_text more n) n
+groups_text_is zero n small = rw (one_group 0 n (omega arith)) (omega arith, refl)
+groups_text_is (suc more) n small =
     elim (cases_lt n 128) [
       | inl low ↦ rw (one_group (suc more) n low) (low, refl)
-      | inr large ↦ rw (group_and_more more n large) (more_groups (128 + n % 128) n (n / 128) (groups_text more (n / 128)) (omega arith) (omega arith) (omega arith) (is_groups more (n / 128) (omega arith)))
+      | inr large ↦ rw (group_and_more more n large) (more_groups (128 + n % 128) n (n / 128) (groups_text more (n / 128)) (omega arith) (omega arith) (omega arith) (groups_text_is more (n / 128) (omega arith)))
     ]
 
 few_groups : (more n : ℕ) → length (groups_text more n) ≤ suc more
@@ -50,7 +50,7 @@ no_fewer (low ∷ next ∷ others) (suc more) n are small =
     ]
 
 pub uvarint_text_is : (n : ℕ) → n < 2 ^ 64 → IsUvarint (uvarint_text n) n
-uvarint_text_is n fits = record { groups = is_groups 9 n fits; few = few_groups 9 n; fits = fits }
+uvarint_text_is n fits = record { groups = groups_text_is 9 n fits; few = few_groups 9 n; fits = fits }
 
 pub uvarint_text_least : (n : ℕ) (text : List ℕ) → IsUvarint text n → length (uvarint_text n) ≤ length text
 uvarint_text_least n text is = no_fewer text 9 n is.groups is.fits

@@ -1,5 +1,15 @@
-use Rattle.label_sets.proofs.ReadSets.{read_set-lawful}
+use Rattle.std.proofs.Common.{ℕ, List}
+use Rattle.label_sets.specs.declared.label.Label.{Label}
+use Rattle.label_sets.specs.declared.label_set.LabelSet.{LabelSet}
+use Rattle.label_sets.proofs.SetLaws.{found_of, only_of}
 use Rattle.label_sets.proofs.label_set.LabelSet.read.Goals as goal
 
-pub invariant_of-result : goal.invariant_of-result
-invariant_of-result c = read_set-lawful _ _ _ c.in_ok-labels.ensures
+-- the labels of a set that was read, and how many bytes it took
+abbrev labels_read : LabelSet × ℕ → List Label × ℕ
+labels_read read = (read.0, read.1)
+
+pub returns-clause-found : goal.returns-clause-found
+returns-clause-found c = found_of labels_read c.read_front.result c.args.text.now c.read_front.ensures.gives
+
+pub returns-clause-only : goal.returns-clause-only
+returns-clause-only c = λ front after set is e. only_of labels_read c.read_front.result c.args.text.now front after set c.read_front.ensures.gives is e

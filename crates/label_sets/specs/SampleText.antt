@@ -1,0 +1,69 @@
+-- Samples and series as text: `TIME:PATTERN`, and a label set with its samples after it, each after a space.
+use Rattle.std.specs.Prelude.{ℕ, zero, suc, ◌+◌, ◌-◌, ◌*◌, ◌/◌, ◌%◌, ℤ, List, [], ◌∷◌, ◌++◌, length, Bool, ◌&&◌, ◌||◌, ◌==◌, nat_lt, Option, Some, None, Result, Ok, Err, fold, if◌then◌else◌}
+use Rattle.std.specs.Int.{is_in_range}
+use Rattle.std.specs.List.{flat_map, list_all, before_first, after_first}
+use Rattle.reading_core.specs.Decimal.{signed_text, signed_of}
+use Rattle.reading_core.specs.declared.refusal.NumberRefusal.{NumberRefusal}
+use Rattle.reading_core.specs.declared.refusal.NumberRefusal.TheVariants.{NotANumber, TooLarge}
+use Rattle.label_sets.specs.declared.sample.Sample.{Sample}
+use Rattle.label_sets.specs.declared.sample_refusal.SampleRefusal.{SampleRefusal}
+use Rattle.label_sets.specs.declared.sample_refusal.SampleRefusal.TheVariants.{NotASample, OutOfRange}
+use Rattle.label_sets.specs.declared.series.Series.{Series}
+use Rattle.label_sets.specs.Notation.{set_text}
+
+-- the sign of a hexadecimal digit, in lower case
+unfoldable pub hex_sign : ℕ → ℕ
+hex_sign digit = if nat_lt digit 10 then 48 + digit else 87 + digit
+
+-- the last digits of a number in base 16, so many of them, the most significant first
+unfoldable pub hex_text : ℕ → ℕ → List ℕ
+hex_text zero n = []
+hex_text (suc count) n = hex_text count (n / 16) ++ hex_sign (n % 16) ∷ []
+
+-- a pattern of 64 bits
+unfoldable pub pattern_text : ℕ → List ℕ
+pattern_text pattern = hex_text 16 pattern
+
+-- `TIME:PATTERN`
+unfoldable pub timed_text : ℤ → ℕ → List ℕ
+timed_text time pattern = signed_text time ++ 58 ∷ pattern_text pattern
+
+unfoldable pub sample_text : Sample → List ℕ
+sample_text sample = timed_text sample.time sample.pattern
+
+-- the same after a space
+unfoldable pub spaced_sample_text : Sample → List ℕ
+spaced_sample_text sample = 32 ∷ sample_text sample
+
+-- LABELS, and ` TIME:PATTERN` for each sample
+unfoldable pub series_text : Series → List ℕ
+series_text series = set_text series.labels ++ flat_map spaced_sample_text series.samples
+
+-- ---- reading
+
+unfoldable pub is_hex_sign : ℕ → Bool
+is_hex_sign byte = is_in_range 48 57 byte || is_in_range 97 102 byte
+
+unfoldable pub hex_digit : ℕ → ℕ
+hex_digit byte = if nat_lt byte 58 then byte - 48 else byte - 87
+
+unfoldable pub hex_number : List ℕ → ℕ
+hex_number digits = fold (λ value byte. value * 16 + hex_digit byte) 0 digits
+
+-- the pattern of 16 digits
+unfoldable pub pattern_of : List ℕ → Option ℕ
+pattern_of digits = if length digits == 16 && list_all is_hex_sign digits then Some (hex_number digits) else None
+
+-- a sample of a time and a pattern that were read
+unfoldable pub sample_with : Option ℕ → Result ℤ NumberRefusal → Result Sample SampleRefusal
+sample_with None time = Err NotASample
+sample_with (Some pattern) (Ok time) = Ok (record { time = time; pattern = pattern })
+sample_with (Some pattern) (Err NotANumber) = Err NotASample
+sample_with (Some pattern) (Err TooLarge) = Err OutOfRange
+
+abbrev pub is_colon : ℕ → Bool
+is_colon byte = byte == 58
+
+-- what reading a sample gives: it is cut at its first colon
+unfoldable pub sample_of : List ℕ → Result Sample SampleRefusal
+sample_of text = sample_with (pattern_of (after_first is_colon text)) (signed_of (before_first is_colon text))
