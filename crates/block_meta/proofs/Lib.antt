@@ -1,0 +1,12 @@
+pub mod Plain
+pub mod Texts
+pub mod Lists
+pub mod Again
+pub mod Rising
+pub mod LabelMembers
+pub mod Found
+pub mod FoundLabels
+pub mod FoundLists
+pub mod FoundSections
+pub mod FoundTexts
+pub mod AscendingOnce

@@ -1,5 +1,5 @@
 -- Which times a block may have, and how its sources are listed.
-use Rattle.std.specs.Prelude.{ℕ, ℤ, pos, neg_ℤ, ◌<ℤ◌, ◌≤ℤ◌, ◌^◌, List, [], fold}
+use Rattle.std.specs.Prelude.{ℕ, ℤ, pos, neg_ℤ, ◌<ℤ◌, ◌≤ℤ◌, ◌^◌, ◌&&◌, Bool, int_lt, int_le, List, [], fold}
 use Rattle.std.specs.BTreeSet.{insert_key}
 use Rattle.std.specs.Ordering.{nat_cmp}
 
@@ -8,6 +8,10 @@ pub record AreLawfulTimes (min max : ℤ) : Type 0 where
   pub early : neg_ℤ (pos (2 ^ 62)) ≤ℤ min
   pub ascend : min <ℤ max
   pub late : max ≤ℤ pos (2 ^ 62)
+
+-- the test of that
+unfoldable pub are_lawful_times : ℤ → ℤ → Bool
+are_lawful_times min max = int_le (neg_ℤ (pos (2 ^ 62))) min && int_lt min max && int_le max (pos (2 ^ 62))
 
 -- the listed numbers ascending, each once
 abbrev pub ascending : List ℕ → List ℕ

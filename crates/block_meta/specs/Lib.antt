@@ -1,1 +1,6 @@
 pub mod Lawful
+pub mod Members
+pub mod MetaFields
+pub mod MetaReading
+pub mod MetaValue
+pub mod MetaText

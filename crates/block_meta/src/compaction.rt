@@ -1,9 +1,15 @@
-ghost use Rattle.std.specs.Prelude.{IfOk};
+ghost use Rattle.std.specs.Prelude.{◌≡◌, Ok, IfOk, OnOk};
 ghost use Rattle.std.specs.List.Sorted.{IsStrictlyIncreasing};
+ghost use Rattle.reading_core.specs.Reading.{Gives};
+ghost use Rattle.serde_json.specs.View.{view};
+ghost use Rattle.block_meta.specs.declared.refusal.MetaRefusal.TheVariants.{NoMemory};
+ghost use Rattle.block_meta.specs.MetaReading.{compaction_of, compaction_members_of, level_of};
+ghost use Rattle.block_meta.specs.MetaValue.{compaction_value};
+ghost use Rattle.block_meta.specs.Lawful.{ascending};
 
-use crate::json::{items, member, missing, needed, section, wrong_kind};
-use crate::parent::{read_parents, write_parents};
-use crate::sources::{read_sources, write_sources};
+use crate::item::{read_list, write_list};
+use crate::json::{missing, needed, section, unsigned, wrong_kind};
+use crate::sources::read_sources;
 use crate::{MetaRefusal, ParentList};
 use serde_json::{Value, json};
 use std::alloc::{AllocError, Global};
@@ -18,43 +24,65 @@ pub(crate) struct Compaction {
 }
 
 impl Compaction {
+    #[tactic(auto, unfolding(crate::specs::MetaReading::compaction_of))]
     pub(crate) fn read(alloc: Global, meta: &Value) -> Result<Compaction, MetaRefusal>
-        ensures { IfOk result (λ made. IsStrictlyIncreasing made.sources) }
+        ensures gives { Gives NoMemory (λ made. made) result (compaction_of (view meta.now)) }
+        ensures increasing { IfOk result (λ made. IsStrictlyIncreasing made.sources) }
     {
-        let Some(compaction) = section(alloc, meta, "compaction")? else {
-            return Err(missing(alloc, "level"));
-        };
+        match section(alloc, meta, "compaction")? {
+            Some(compaction) => Compaction::read_members(alloc, compaction),
+            None => Err(missing(alloc, "level")),
+        }
+    }
+
+    #[tactic(auto, unfolding(crate::specs::MetaReading::compaction_members_of))]
+    fn read_members(alloc: Global, compaction: &Value) -> Result<Compaction, MetaRefusal>
+        ensures gives { Gives NoMemory (λ made. made) result
+            (compaction_members_of (view compaction.now)) }
+        ensures increasing { IfOk result (λ made. IsStrictlyIncreasing made.sources) }
+    {
         Ok(Compaction {
             level: read_level(alloc, compaction)?,
             sources: read_sources(alloc, compaction)?,
-            parents: read_parents(alloc, compaction)?,
+            parents: read_list(alloc, compaction, "parents")?,
         })
     }
 }
 
-fn read_level(alloc: Global, compaction: &Value) -> Result<u32, MetaRefusal> {
-    let value = needed(alloc, compaction, "level")?;
-    match value.as_u64() {
-        Some(number) => match u32::try_from(number) {
-            Ok(level) => Ok(level),
-            Err(_) => Err(wrong_kind(alloc, "level")),
-        },
-        None => Err(wrong_kind(alloc, "level")),
+#[tactic(auto, unfolding(crate::specs::MetaReading::level_of))]
+fn read_level(alloc: Global, compaction: &Value) -> Result<u32, MetaRefusal>
+    ensures { Gives NoMemory (λ level. level) result (level_of (view compaction.now)) }
+{
+    let number = unsigned(alloc, needed(alloc, compaction, "level")?, "level")?;
+    if number < LEVELS {
+        Ok(number as u32)
+    } else {
+        Err(wrong_kind(alloc, "level"))
     }
 }
 
+/// 2^32
+const LEVELS: u64 = 0x1_0000_0000;
+
 /// The member `compaction`. No parents are left out.
+#[tactic(auto, unfolding(crate::specs::MetaValue::compaction_value), using(crate::proofs::Again::compaction_again, crate::proofs::Again::compaction_again_alone))]
 pub(crate) fn write_compaction(
     alloc: Global,
     level: u32,
     sources: &UlidList,
     parents: &ParentList,
-) -> Result<Value, AllocError> {
-    let listed = write_sources(alloc, sources)?;
+) -> Result<Value, AllocError>
+    ensures value { IfOk result (λ v. view v
+        ≡ compaction_value level sources.now parents.now) }
+    ensures again { OnOk result
+        (compaction_members_of (compaction_value level sources.now parents.now)
+        ≡ Ok (record { level = level; sources = ascending sources.now; parents = parents.now })) }
+{
+    let listed = write_list(alloc, sources)?;
     if parents.is_empty() {
         json!(in alloc; {"level": level, "sources": listed})
     } else {
-        let before = write_parents(alloc, parents)?;
+        let before = write_list(alloc, parents)?;
         json!(in alloc; {"level": level, "parents": before, "sources": listed})
     }
 }

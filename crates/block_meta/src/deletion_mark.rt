@@ -1,8 +1,9 @@
 ghost use Rattle.std.specs.Prelude.{◌≡◌, ◌<◌, ◌^◌, IfOk};
 
 use crate::MetaRefusal;
-use crate::json::{member, needed, object_of, text, ulid, version, wrong_kind};
+use crate::json::{needed, read_object, ulid, unsigned, version, wrong_kind};
 use crate::sources::write_ulid;
+use crate::thanos::read_text_or_empty;
 use label_sets::Text;
 use list_core::{NoMemory, TryCopy};
 use serde_json::{Value, json};
@@ -25,28 +26,78 @@ pub struct DeletionMark {
 const LIMIT: u64 = 0x4000_0000_0000;
 
 impl DeletionMark {
+    ghost use Rattle.std.specs.Prelude.{Ok, OnOk};
+    ghost use Rattle.reading_core.specs.Reading.{Gives};
+    ghost use Rattle.serde_json.specs.View.{view};
+    ghost use Rattle.block_meta.specs.declared.refusal.MetaRefusal.TheVariants.{NoMemory as WithoutMemory};
+    ghost use Rattle.block_meta.specs.MetaFields.{MarkFields, mark_fields_of};
+    ghost use Rattle.block_meta.specs.MetaReading.{deletion_time_of, mark_of, mark_of_text};
+    ghost use Rattle.block_meta.specs.MetaText.{IsMarkText};
+    ghost use Rattle.block_meta.specs.MetaValue.{mark_value, mark_text};
+
     /// Reads a `deletion-mark.json` of Thanos.
-    pub fn read(alloc: Global, bytes: &[u8]) -> Result<DeletionMark, MetaRefusal> {
-        let value = object_of(alloc, bytes)?;
+    pub fn read(alloc: Global, bytes: &[u8]) -> Result<DeletionMark, MetaRefusal>
+        ensures gives { Gives WithoutMemory mark_fields_of result (mark_of_text bytes.now) }
+        ensures found { IfOk result (λ mark. IsMarkText bytes.now (mark_fields_of mark)) }
+        ensures only { (mark : MarkFields) → IsMarkText bytes.now mark
+            → mark_of_text bytes.now ≡ Ok mark }
+    {
+        DeletionMark::of_text(alloc, bytes)
+    }
+
+    #[tactic(auto, unfolding(crate::specs::MetaReading::mark_of_text))]
+    fn of_text(alloc: Global, bytes: &[u8]) -> Result<DeletionMark, MetaRefusal>
+        ensures { Gives WithoutMemory mark_fields_of result (mark_of_text bytes.now) }
+    {
+        let value = read_object(alloc, bytes)?;
         DeletionMark::of_value(alloc, &value)
     }
 
-    fn of_value(alloc: Global, value: &Value) -> Result<DeletionMark, MetaRefusal> {
+    #[tactic(auto, unfolding(crate::specs::MetaReading::mark_of))]
+    fn of_value(alloc: Global, value: &Value) -> Result<DeletionMark, MetaRefusal>
+        ensures { Gives WithoutMemory mark_fields_of result (mark_of (view value.now)) }
+    {
         version(needed(alloc, value, "version")?)?;
         Ok(DeletionMark {
             id: ulid(alloc, needed(alloc, value, "id")?, "id")?,
-            deletion_time: read_time(alloc, value)?,
-            details: read_details(alloc, value)?,
+            deletion_time: DeletionMark::read_time(alloc, value)?,
+            details: read_text_or_empty(alloc, value, "details")?,
         })
     }
 
+    #[tactic(auto, unfolding(crate::specs::MetaReading::deletion_time_of))]
+    fn read_time(alloc: Global, mark: &Value) -> Result<u64, MetaRefusal>
+        ensures gives { Gives WithoutMemory (λ time. time) result (deletion_time_of (view mark.now)) }
+        ensures early { IfOk result (λ time. time < 2 ^ 46) }
+    {
+        let time = unsigned(
+            alloc,
+            needed(alloc, mark, "deletion_time")?,
+            "deletion_time",
+        )?;
+        if time < LIMIT {
+            Ok(time)
+        } else {
+            Err(wrong_kind(alloc, "deletion_time"))
+        }
+    }
+
     /// The text of a `deletion-mark.json`: compact JSON with ascending keys.
-    pub fn write(&self, alloc: Global) -> Result<Blob, NoMemory> {
+    pub fn write(&self, alloc: Global) -> Result<Blob, NoMemory>
+        ensures text { IfOk result (λ blob. blob ≡ mark_text (mark_fields_of self.now)) }
+        ensures again { OnOk result (mark_of_text (mark_text (mark_fields_of self.now))
+            ≡ Ok (mark_fields_of self.now)) }
+    {
         let value = self.to_value(alloc)?;
         Ok(Blob::from_vec(value.to_vec(alloc)?))
     }
 
-    fn to_value(&self, alloc: Global) -> Result<Value, AllocError> {
+    #[tactic(auto, unfolding(crate::specs::MetaValue::mark_value))]
+    fn to_value(&self, alloc: Global) -> Result<Value, AllocError>
+        ensures value { IfOk result (λ v. view v ≡ mark_value (mark_fields_of self.now)) }
+        ensures again { OnOk result (mark_of (mark_value (mark_fields_of self.now))
+            ≡ Ok (mark_fields_of self.now)) }
+    {
         let name = write_ulid(alloc, self.id)?;
         json!(in alloc; {
             "deletion_time": self.deletion_time,
@@ -54,26 +105,6 @@ impl DeletionMark {
             "id": name,
             "version": 1u64
         })
-    }
-}
-
-fn read_time(alloc: Global, mark: &Value) -> Result<u64, MetaRefusal>
-    ensures { IfOk result (λ time. time < 2 ^ 46) }
-{
-    match needed(alloc, mark, "deletion_time")?.as_u64() {
-        Some(time) => if time < LIMIT {
-            Ok(time)
-        } else {
-            Err(wrong_kind(alloc, "deletion_time"))
-        },
-        None => Err(wrong_kind(alloc, "deletion_time")),
-    }
-}
-
-fn read_details(alloc: Global, mark: &Value) -> Result<Text, MetaRefusal> {
-    match member(mark, "details") {
-        Some(value) => text(alloc, value, "details"),
-        None => Ok(Text::from_str(alloc, "")?),
     }
 }
 

@@ -1,7 +1,8 @@
 ghost use Rattle.std.specs.Prelude.{◌≡◌};
 
 use crate::MetaRefusal;
-use crate::json::{count, items, member, needed, text, wrong_kind};
+use crate::item::Item;
+use crate::json::{count, needed, text, wrong_kind};
 use label_sets::Text;
 use list_core::{List, NoMemory, TryCopy};
 use serde_json::{Value, json};
@@ -26,40 +27,27 @@ impl TryCopy for FileSize {
 
 pub type FileSizeList = List<FileSize>;
 
-/// The member `files`, empty where it is absent.
-pub(crate) fn read_files(alloc: Global, thanos: &Value) -> Result<FileSizeList, MetaRefusal> {
-    match member(thanos, "files") {
-        Some(value) => listed_files(alloc, value),
-        None => Ok(FileSizeList::new(alloc)),
-    }
-}
+impl Item for FileSize {
+    ghost use Rattle.block_meta.specs.MetaReading.{file_of};
+    ghost use Rattle.block_meta.specs.MetaValue.{file_value};
 
-fn listed_files(alloc: Global, value: &Value) -> Result<FileSizeList, MetaRefusal> {
-    let mut found = FileSizeList::new(alloc);
-    for item in items(alloc, value, "files")? {
-        found.push(read_file(alloc, item)?)?;
-    }
-    Ok(found)
-}
+    ghost reads = { file_of };
 
-fn read_file(alloc: Global, value: &Value) -> Result<FileSize, MetaRefusal> {
-    if !value.is_object() {
-        return Err(wrong_kind(alloc, "files"));
-    }
-    Ok(FileSize {
-        path: text(alloc, needed(alloc, value, "rel_path")?, "rel_path")?,
-        bytes: count(alloc, value, "size_bytes")?,
-    })
-}
+    ghost written = { file_value };
 
-pub(crate) fn write_files(alloc: Global, files: &FileSizeList) -> Result<Value, AllocError> {
-    let mut written = Vec::new(alloc);
-    for file in files.members() {
-        written.push(write_file(alloc, file)?)?;
+    #[tactic(auto, unfolding(crate::specs::MetaReading::file_of, crate::specs::Members::of_kind))]
+    fn read(alloc: Global, value: &Value, list: &str) -> Result<Self, MetaRefusal> {
+        if !value.is_object() {
+            return Err(wrong_kind(alloc, list));
+        }
+        Ok(FileSize {
+            path: text(alloc, needed(alloc, value, "rel_path")?, "rel_path")?,
+            bytes: count(alloc, value, "size_bytes")?,
+        })
     }
-    Ok(Value::Array(written))
-}
 
-fn write_file(alloc: Global, file: &FileSize) -> Result<Value, AllocError> {
-    json!(in alloc; {"rel_path": file.path.as_str(), "size_bytes": file.bytes})
+    #[tactic(auto, unfolding(crate::specs::MetaValue::file_value), using(crate::proofs::Again::file_again))]
+    fn write(&self, alloc: Global) -> Result<Value, AllocError> {
+        json!(in alloc; {"rel_path": self.path.as_str(), "size_bytes": self.bytes})
+    }
 }

@@ -5,6 +5,7 @@ mod block_plan;
 mod compaction;
 mod deletion_mark;
 mod file_size;
+mod item;
 mod json;
 mod meta;
 mod parent;

@@ -3,11 +3,11 @@ ghost use Rattle.std.specs.List.Sorted.{IsStrictlyIncreasing};
 ghost use Rattle.block_meta.specs.Lawful.{AreLawfulTimes};
 
 use crate::compaction::{Compaction, write_compaction};
-use crate::file_size::write_files;
-use crate::json::{needed, object_of, ulid, version};
+use crate::item::write_list;
+use crate::json::{needed, read_object, ulid, version};
 use crate::sources::write_ulid;
-use crate::stats::Stats;
-use crate::thanos::{Thanos, write_labels, write_texts};
+use crate::stats::{Stats, write_stats};
+use crate::thanos::{Thanos, write_labels};
 use crate::times::Times;
 use crate::{FileSizeList, MetaRefusal, ParentList};
 use label_sets::{LabelSet, Text, TextList};
@@ -45,13 +45,37 @@ pub struct Meta {
 }
 
 impl Meta {
+    ghost use Rattle.std.specs.Prelude.{Ok, IfOk, OnOk};
+    ghost use Rattle.reading_core.specs.Reading.{Gives};
+    ghost use Rattle.serde_json.specs.View.{view};
+    ghost use Rattle.block_meta.specs.declared.refusal.MetaRefusal.TheVariants.{NoMemory as WithoutMemory};
+    ghost use Rattle.block_meta.specs.MetaFields.{MetaFields, fields_of, thanos_part};
+    ghost use Rattle.block_meta.specs.MetaReading.{meta_of, meta_of_text, thanos_members_of};
+    ghost use Rattle.block_meta.specs.MetaText.{IsMetaText};
+    ghost use Rattle.block_meta.specs.MetaValue.{meta_text, meta_value, thanos_value};
+
     /// Reads a `meta.json` of Prometheus or of Thanos.
-    pub fn read(alloc: Global, bytes: &[u8]) -> Result<Meta, MetaRefusal> {
-        let value = object_of(alloc, bytes)?;
+    pub fn read(alloc: Global, bytes: &[u8]) -> Result<Meta, MetaRefusal>
+        ensures gives { Gives WithoutMemory fields_of result (meta_of_text bytes.now) }
+        ensures found { IfOk result (λ meta. IsMetaText bytes.now (fields_of meta)) }
+        ensures only { (meta : MetaFields) → IsMetaText bytes.now meta
+            → meta_of_text bytes.now ≡ Ok meta }
+    {
+        Meta::of_text(alloc, bytes)
+    }
+
+    #[tactic(auto, unfolding(crate::specs::MetaReading::meta_of_text))]
+    fn of_text(alloc: Global, bytes: &[u8]) -> Result<Meta, MetaRefusal>
+        ensures { Gives WithoutMemory fields_of result (meta_of_text bytes.now) }
+    {
+        let value = read_object(alloc, bytes)?;
         Meta::of_value(alloc, &value)
     }
 
-    fn of_value(alloc: Global, value: &Value) -> Result<Meta, MetaRefusal> {
+    #[tactic(auto, unfolding(crate::specs::MetaReading::meta_of))]
+    fn of_value(alloc: Global, value: &Value) -> Result<Meta, MetaRefusal>
+        ensures { Gives WithoutMemory fields_of result (meta_of (view value.now)) }
+    {
         version(needed(alloc, value, "version")?)?;
         let ulid = ulid(alloc, needed(alloc, value, "ulid")?, "ulid")?;
         let times = Times::read(alloc, value)?;
@@ -77,18 +101,22 @@ impl Meta {
     }
 
     /// The text of a `meta.json`: compact JSON with ascending keys.
-    pub fn write(&self, alloc: Global) -> Result<Blob, NoMemory> {
+    pub fn write(&self, alloc: Global) -> Result<Blob, NoMemory>
+        ensures text { IfOk result (λ blob. blob ≡ meta_text (fields_of self.now)) }
+        ensures again { OnOk result (meta_of_text (meta_text (fields_of self.now))
+            ≡ Ok (fields_of self.now)) }
+    {
         let value = self.to_value(alloc)?;
         Ok(Blob::from_vec(value.to_vec(alloc)?))
     }
 
-    fn to_value(&self, alloc: Global) -> Result<Value, AllocError> {
-        let stats = Stats {
-            series: self.series,
-            samples: self.samples,
-            chunks: self.chunks,
-        };
-        let counts = stats.write(alloc)?;
+    #[tactic(auto, unfolding(crate::specs::MetaValue::meta_value))]
+    fn to_value(&self, alloc: Global) -> Result<Value, AllocError>
+        ensures value { IfOk result (λ v. view v ≡ meta_value (fields_of self.now)) }
+        ensures again { OnOk result (meta_of (meta_value (fields_of self.now))
+            ≡ Ok (fields_of self.now)) }
+    {
+        let counts = write_stats(alloc, self.series, self.samples, self.chunks)?;
         let compaction = write_compaction(alloc, self.level, &self.sources, &self.parents)?;
         let thanos = self.write_thanos(alloc)?;
         let name = write_ulid(alloc, self.ulid)?;
@@ -103,10 +131,15 @@ impl Meta {
         })
     }
 
-    fn write_thanos(&self, alloc: Global) -> Result<Value, AllocError> {
-        let files = write_files(alloc, &self.files)?;
+    #[tactic(auto, unfolding(crate::specs::MetaValue::thanos_value))]
+    fn write_thanos(&self, alloc: Global) -> Result<Value, AllocError>
+        ensures value { IfOk result (λ v. view v ≡ thanos_value (fields_of self.now)) }
+        ensures again { OnOk result (thanos_members_of (thanos_value (fields_of self.now))
+            ≡ Ok (thanos_part (fields_of self.now))) }
+    {
+        let files = write_list(alloc, &self.files)?;
         let labels = write_labels(alloc, &self.labels)?;
-        let segments = write_texts(alloc, &self.segment_files)?;
+        let segments = write_list(alloc, &self.segment_files)?;
         json!(in alloc; {
             "downsample": {"resolution": self.resolution},
             "files": files,

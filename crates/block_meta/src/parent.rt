@@ -1,7 +1,8 @@
 ghost use Rattle.std.specs.Prelude.{◌≡◌};
 
 use crate::MetaRefusal;
-use crate::json::{items, member, needed, signed, ulid, wrong_kind};
+use crate::item::Item;
+use crate::json::{needed, signed, ulid, wrong_kind};
 use crate::sources::write_ulid;
 use list_core::{List, NoMemory, TryCopy};
 use serde_json::{Value, json};
@@ -24,42 +25,29 @@ impl TryCopy for Parent {
 
 pub type ParentList = List<Parent>;
 
-/// The member `parents`, empty where it is absent.
-pub(crate) fn read_parents(alloc: Global, compaction: &Value) -> Result<ParentList, MetaRefusal> {
-    match member(compaction, "parents") {
-        Some(value) => listed_parents(alloc, value),
-        None => Ok(ParentList::new(alloc)),
-    }
-}
+impl Item for Parent {
+    ghost use Rattle.block_meta.specs.MetaReading.{parent_of};
+    ghost use Rattle.block_meta.specs.MetaValue.{parent_value};
 
-fn listed_parents(alloc: Global, value: &Value) -> Result<ParentList, MetaRefusal> {
-    let mut found = ParentList::new(alloc);
-    for item in items(alloc, value, "parents")? {
-        found.push(read_parent(alloc, item)?)?;
-    }
-    Ok(found)
-}
+    ghost reads = { parent_of };
 
-fn read_parent(alloc: Global, value: &Value) -> Result<Parent, MetaRefusal> {
-    if !value.is_object() {
-        return Err(wrong_kind(alloc, "parents"));
-    }
-    Ok(Parent {
-        ulid: ulid(alloc, needed(alloc, value, "ulid")?, "ulid")?,
-        min_time: signed(alloc, needed(alloc, value, "minTime")?, "minTime")?,
-        max_time: signed(alloc, needed(alloc, value, "maxTime")?, "maxTime")?,
-    })
-}
+    ghost written = { parent_value };
 
-pub(crate) fn write_parents(alloc: Global, parents: &ParentList) -> Result<Value, AllocError> {
-    let mut written = Vec::new(alloc);
-    for parent in parents.members() {
-        written.push(write_parent(alloc, parent)?)?;
+    #[tactic(auto, unfolding(crate::specs::MetaReading::parent_of, crate::specs::Members::of_kind))]
+    fn read(alloc: Global, value: &Value, list: &str) -> Result<Self, MetaRefusal> {
+        if !value.is_object() {
+            return Err(wrong_kind(alloc, list));
+        }
+        Ok(Parent {
+            ulid: ulid(alloc, needed(alloc, value, "ulid")?, "ulid")?,
+            min_time: signed(alloc, needed(alloc, value, "minTime")?, "minTime")?,
+            max_time: signed(alloc, needed(alloc, value, "maxTime")?, "maxTime")?,
+        })
     }
-    Ok(Value::Array(written))
-}
 
-fn write_parent(alloc: Global, parent: &Parent) -> Result<Value, AllocError> {
-    let name = write_ulid(alloc, parent.ulid)?;
-    json!(in alloc; {"maxTime": parent.max_time, "minTime": parent.min_time, "ulid": name})
+    #[tactic(auto, unfolding(crate::specs::MetaValue::parent_value), using(crate::proofs::Again::parent_again))]
+    fn write(&self, alloc: Global) -> Result<Value, AllocError> {
+        let name = write_ulid(alloc, self.ulid)?;
+        json!(in alloc; {"maxTime": self.max_time, "minTime": self.min_time, "ulid": name})
+    }
 }

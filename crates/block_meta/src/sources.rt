@@ -1,34 +1,47 @@
-ghost use Rattle.std.specs.Prelude.{◌≡◌, IfOk};
+ghost use Rattle.std.specs.Prelude.{◌≡◌, IfOk, OnOk};
 ghost use Rattle.std.specs.List.Sorted.{IsStrictlyIncreasing};
+ghost use Rattle.reading_core.specs.Reading.{Gives};
+ghost use Rattle.serde_json.specs.View.{view};
+ghost use Rattle.block_meta.specs.declared.refusal.MetaRefusal.TheVariants.{NoMemory as WithoutMemory};
 ghost use Rattle.block_meta.specs.Lawful.{ascending};
+ghost use Rattle.ulid_core.specs.UlidText.{IsUlidText, text_of};
+ghost use Rattle.block_meta.specs.Members.{ulid_of};
+ghost use Rattle.block_meta.specs.MetaReading.{sources_of};
+ghost use Rattle.block_meta.specs.MetaValue.{ulid_value};
 
 use crate::MetaRefusal;
-use crate::json::{items, member, ulid};
+use crate::item::{Item, read_list};
+use crate::json::ulid;
 use list_core::NoMemory;
 use serde_json::Value;
 use std::alloc::{AllocError, Global};
 use std::collections::BTreeSet;
 use ulid_core::{Ulid, UlidList};
 
-/// The member `sources`: ULIDs in any order, empty where it is absent.
-pub(crate) fn read_sources(alloc: Global, compaction: &Value) -> Result<UlidList, MetaRefusal>
-    ensures { IfOk result (λ sources. IsStrictlyIncreasing sources) }
-{
-    match member(compaction, "sources") {
-        Some(value) => {
-            let listed = ulids(alloc, value, "sources")?;
-            Ok(in_order(alloc, &listed)?)
-        }
-        None => Ok(UlidList::new(alloc)),
+impl Item for Ulid {
+    ghost reads = { ulid_of };
+
+    ghost written = { ulid_value };
+
+    fn read(alloc: Global, value: &Value, list: &str) -> Result<Self, MetaRefusal> {
+        ulid(alloc, value, list)
+    }
+
+    #[tactic(auto, using(crate::proofs::Again::ulid_again))]
+    fn write(&self, alloc: Global) -> Result<Value, AllocError> {
+        write_ulid(alloc, *self)
     }
 }
 
-fn ulids(alloc: Global, value: &Value, name: &str) -> Result<Vec<Ulid>, MetaRefusal> {
-    let mut found = Vec::new(alloc);
-    for item in items(alloc, value, name)? {
-        found.push(ulid(alloc, item, name)?)?;
-    }
-    Ok(found)
+/// The member `sources`: ULIDs in any order, empty where it is absent.
+#[tactic(auto, unfolding(crate::specs::MetaReading::sources_of))]
+pub(crate) fn read_sources(alloc: Global, compaction: &Value) -> Result<UlidList, MetaRefusal>
+    ensures gives { Gives WithoutMemory (λ sources. sources) result
+        (sources_of (view compaction.now)) }
+    ensures increasing { IfOk result (λ sources. IsStrictlyIncreasing sources) }
+{
+    let listed: UlidList = read_list(alloc, compaction, "sources")?;
+    Ok(in_order(alloc, listed.members())?)
 }
 
 /// The ULIDs ascending, each once.
@@ -57,16 +70,13 @@ fn members(alloc: Global, set: &BTreeSet<Ulid>) -> Result<UlidList, NoMemory>
     Ok(UlidList::from_vec(members))
 }
 
-pub(crate) fn write_sources(alloc: Global, sources: &UlidList) -> Result<Value, AllocError> {
-    let mut written = Vec::new(alloc);
-    for source in sources.members() {
-        written.push(write_ulid(alloc, *source)?)?;
-    }
-    Ok(Value::Array(written))
-}
-
-pub(crate) fn write_ulid(alloc: Global, ulid: Ulid) -> Result<Value, AllocError> {
-    let bytes = Vec::from_slice(alloc, &ulid.text())?;
+#[tactic(auto, unfolding(crate::specs::MetaValue::ulid_value), using(crate::proofs::Again::ulid_again))]
+pub(crate) fn write_ulid(alloc: Global, ulid: Ulid) -> Result<Value, AllocError>
+    ensures value { IfOk result (λ v. view v ≡ ulid_value ulid) }
+    ensures written { OnOk result (IsUlidText (text_of ulid) ulid) }
+{
+    let text = ulid.text();
+    let bytes = Vec::from_slice(alloc, &text)?;
     match String::from_utf8(bytes) {
         Ok(text) => Ok(Value::String(text)),
         Err(_) => Err(AllocError),

@@ -1,3 +1,10 @@
+ghost use Rattle.std.specs.Prelude.{◌≡◌, IfOk};
+ghost use Rattle.reading_core.specs.Reading.{Gives};
+ghost use Rattle.serde_json.specs.View.{view};
+ghost use Rattle.block_meta.specs.declared.refusal.MetaRefusal.TheVariants.{NoMemory};
+ghost use Rattle.block_meta.specs.MetaReading.{stats_of, stats_members_of};
+ghost use Rattle.block_meta.specs.MetaValue.{stats_value};
+
 use crate::MetaRefusal;
 use crate::json::{count, missing, section};
 use serde_json::{Value, json};
@@ -12,22 +19,40 @@ pub(crate) struct Stats {
 }
 
 impl Stats {
-    pub(crate) fn read(alloc: Global, meta: &Value) -> Result<Stats, MetaRefusal> {
-        let Some(stats) = section(alloc, meta, "stats")? else {
-            return Err(missing(alloc, "stats"));
-        };
+    #[tactic(auto, unfolding(crate::specs::MetaReading::stats_of))]
+    pub(crate) fn read(alloc: Global, meta: &Value) -> Result<Stats, MetaRefusal>
+        ensures { Gives NoMemory (λ stats. stats) result (stats_of (view meta.now)) }
+    {
+        match section(alloc, meta, "stats")? {
+            Some(stats) => Stats::read_members(alloc, stats),
+            None => Err(missing(alloc, "stats")),
+        }
+    }
+
+    #[tactic(auto, unfolding(crate::specs::MetaReading::stats_members_of))]
+    fn read_members(alloc: Global, stats: &Value) -> Result<Stats, MetaRefusal>
+        ensures { Gives NoMemory (λ stats. stats) result (stats_members_of (view stats.now)) }
+    {
         Ok(Stats {
             series: count(alloc, stats, "numSeries")?,
             samples: count(alloc, stats, "numSamples")?,
             chunks: count(alloc, stats, "numChunks")?,
         })
     }
+}
 
-    pub(crate) fn write(self, alloc: Global) -> Result<Value, AllocError> {
-        json!(in alloc; {
-            "numChunks": self.chunks,
-            "numSamples": self.samples,
-            "numSeries": self.series
-        })
-    }
+#[tactic(auto, unfolding(crate::specs::MetaValue::stats_value))]
+pub(crate) fn write_stats(
+    alloc: Global,
+    series: u64,
+    samples: u64,
+    chunks: u64,
+) -> Result<Value, AllocError>
+    ensures { IfOk result (λ v. view v ≡ stats_value series samples chunks) }
+{
+    json!(in alloc; {
+        "numChunks": chunks,
+        "numSamples": samples,
+        "numSeries": series
+    })
 }

@@ -1,8 +1,19 @@
-use crate::file_size::{read_files, write_files};
-use crate::json::{items, member, section, signed, text, version, wrong_kind};
+ghost use Rattle.std.specs.Prelude.{◌≡◌, [], codes, Ok, MatchResult, IfOk, OnOk};
+ghost use Rattle.reading_core.specs.Reading.{Gives, Answers};
+ghost use Rattle.serde_json.specs.Data.{string, object};
+ghost use Rattle.serde_json.specs.View.{view, members_view};
+ghost use Rattle.block_meta.specs.declared.refusal.MetaRefusal.TheVariants.{NoMemory};
+ghost use Rattle.label_sets.specs.Labels.{IsLabelSet};
+ghost use Rattle.block_meta.specs.Members.{or_absent, text_of, version_of, member_of};
+ghost use Rattle.block_meta.specs.MetaFields.{no_thanos};
+ghost use Rattle.block_meta.specs.MetaReading.{thanos_of, thanos_members_of, resolution_of, text_or_empty, labels_of, labels_from, label_added};
+ghost use Rattle.block_meta.specs.MetaValue.{label_members};
+
+use crate::item::{Item, read_list};
+use crate::json::{member, section, signed, text, version, wrong_kind};
 use crate::{FileSizeList, MetaRefusal};
-use label_sets::{LabelSet, Text, TextList};
-use serde_json::{Map, Value, json};
+use label_sets::{Label, LabelRefusal, LabelSet, Text, TextList};
+use serde_json::{Map, Value};
 use std::alloc::{AllocError, Global};
 
 /// What the system adds to a meta of Prometheus.
@@ -16,7 +27,10 @@ pub(crate) struct Thanos {
 }
 
 impl Thanos {
-    pub(crate) fn read(alloc: Global, meta: &Value) -> Result<Thanos, MetaRefusal> {
+    #[tactic(auto, unfolding(crate::specs::MetaReading::thanos_of))]
+    pub(crate) fn read(alloc: Global, meta: &Value) -> Result<Thanos, MetaRefusal>
+        ensures { Gives NoMemory (λ thanos. thanos) result (thanos_of (view meta.now)) }
+    {
         match section(alloc, meta, "thanos")? {
             Some(thanos) => Thanos::read_members(alloc, thanos),
             None => Thanos::absent(alloc),
@@ -24,7 +38,10 @@ impl Thanos {
     }
 
     /// What a meta has where it says nothing of it.
-    fn absent(alloc: Global) -> Result<Thanos, MetaRefusal> {
+    #[tactic(auto, unfolding(crate::specs::MetaFields::no_thanos))]
+    fn absent(alloc: Global) -> Result<Thanos, MetaRefusal>
+        ensures { MatchResult result (λ thanos. thanos ≡ no_thanos) (λ e. e ≡ NoMemory) }
+    {
         Ok(Thanos {
             labels: LabelSet::empty(alloc),
             resolution: 0,
@@ -34,26 +51,50 @@ impl Thanos {
         })
     }
 
-    fn read_members(alloc: Global, thanos: &Value) -> Result<Thanos, MetaRefusal> {
+    #[tactic(auto, unfolding(crate::specs::MetaReading::thanos_members_of))]
+    fn read_members(alloc: Global, thanos: &Value) -> Result<Thanos, MetaRefusal>
+        ensures { Gives NoMemory (λ thanos. thanos) result (thanos_members_of (view thanos.now)) }
+    {
         read_version(thanos)?;
         Ok(Thanos {
             labels: read_labels(alloc, thanos)?,
             resolution: read_resolution(alloc, thanos)?,
-            source: read_source(alloc, thanos)?,
-            segment_files: read_segment_files(alloc, thanos)?,
-            files: read_files(alloc, thanos)?,
+            source: read_text_or_empty(alloc, thanos, "source")?,
+            segment_files: read_list(alloc, thanos, "segment_files")?,
+            files: read_list(alloc, thanos, "files")?,
         })
     }
 }
 
-fn read_version(thanos: &Value) -> Result<(), MetaRefusal> {
+impl Item for Text {
+    ghost reads = { text_of };
+
+    ghost written = { string };
+
+    fn read(alloc: Global, value: &Value, list: &str) -> Result<Self, MetaRefusal> {
+        text(alloc, value, list)
+    }
+
+    #[tactic(auto, unfolding(crate::specs::Members::text_of, crate::specs::Members::of_kind))]
+    fn write(&self, alloc: Global) -> Result<Value, AllocError> {
+        Value::try_from_str(alloc, self.as_str())
+    }
+}
+
+fn read_version(thanos: &Value) -> Result<(), MetaRefusal>
+    ensures { Answers (λ v. v) result
+        (or_absent tt version_of (member_of (codes "version") (view thanos.now))) }
+{
     match member(thanos, "version") {
         Some(value) => version(value),
         None => Ok(()),
     }
 }
 
-fn read_resolution(alloc: Global, thanos: &Value) -> Result<i64, MetaRefusal> {
+#[tactic(auto, unfolding(crate::specs::MetaReading::resolution_of))]
+fn read_resolution(alloc: Global, thanos: &Value) -> Result<i64, MetaRefusal>
+    ensures { Gives NoMemory (λ n. n) result (resolution_of (view thanos.now)) }
+{
     let Some(downsample) = section(alloc, thanos, "downsample")? else {
         return Ok(0);
     };
@@ -63,68 +104,79 @@ fn read_resolution(alloc: Global, thanos: &Value) -> Result<i64, MetaRefusal> {
     }
 }
 
-fn read_source(alloc: Global, thanos: &Value) -> Result<Text, MetaRefusal> {
-    match member(thanos, "source") {
-        Some(value) => text(alloc, value, "source"),
+/// The text of that name, empty where it is absent.
+#[tactic(auto, unfolding(crate::specs::MetaReading::text_or_empty))]
+pub(crate) fn read_text_or_empty(
+    alloc: Global,
+    within: &Value,
+    name: &str,
+) -> Result<Text, MetaRefusal>
+    ensures { Gives NoMemory (λ t. t) result (text_or_empty name.now (view within.now)) }
+{
+    match member(within, name) {
+        Some(value) => text(alloc, value, name),
         None => Ok(Text::from_str(alloc, "")?),
     }
 }
 
-fn read_segment_files(alloc: Global, thanos: &Value) -> Result<TextList, MetaRefusal> {
-    match member(thanos, "segment_files") {
-        Some(value) => texts(alloc, value, "segment_files"),
-        None => Ok(TextList::new(alloc)),
-    }
-}
-
-fn texts(alloc: Global, value: &Value, name: &str) -> Result<TextList, MetaRefusal> {
-    let mut found = TextList::new(alloc);
-    for item in items(alloc, value, name)? {
-        found.push(text(alloc, item, name)?)?;
-    }
-    Ok(found)
-}
-
-fn read_labels(alloc: Global, thanos: &Value) -> Result<LabelSet, MetaRefusal> {
+#[tactic(auto, unfolding(crate::specs::MetaReading::labels_of, crate::specs::Members::of_kind))]
+fn read_labels(alloc: Global, thanos: &Value) -> Result<LabelSet, MetaRefusal>
+    ensures { Gives NoMemory (λ labels. labels) result (labels_of (view thanos.now)) }
+{
     match member(thanos, "labels") {
         Some(value) => match value.as_object() {
-            Some(members) => labels(alloc, members),
+            Some(members) => add_labels(alloc, members),
             None => Err(wrong_kind(alloc, "labels")),
         },
         None => Ok(LabelSet::empty(alloc)),
     }
 }
 
-fn labels(alloc: Global, members: &Map<String, Value>) -> Result<LabelSet, MetaRefusal> {
+fn add_labels(alloc: Global, members: &Map<String, Value>) -> Result<LabelSet, MetaRefusal>
+    ensures { Gives NoMemory (λ found. found) result
+        (labels_from [] (members_view members.now.entries)) }
+{
     let mut found = LabelSet::empty(alloc);
     for (name, member) in members.iter() {
-        let Some(value) = member.as_str() else {
-            return Err(wrong_kind(alloc, "labels"));
-        };
-        if name.is_empty() || value.is_empty() {
-            return Err(MetaRefusal::BadLabels);
-        }
-        match found.add(name.as_str(), value) {
-            Ok(()) => {}
-            Err(_) => return Err(MetaRefusal::NoMemory),
-        }
+        add_label(alloc, &mut found, name.as_str(), member)?;
     }
     Ok(found)
 }
 
-pub(crate) fn write_labels(alloc: Global, labels: &LabelSet) -> Result<Value, AllocError> {
+#[tactic(auto, unfolding(crate::specs::MetaReading::label_added))]
+fn add_label(
+    alloc: Global,
+    labels: &mut LabelSet,
+    name: &str,
+    member: &Value,
+) -> Result<(), MetaRefusal>
+    ensures { Gives NoMemory (λ _. labels.new) result
+        (label_added labels.old name.now (view member.now)) }
+{
+    let value = text(alloc, member, "labels")?;
+    match labels.add(name, value.as_str()) {
+        Ok(()) => Ok(()),
+        Err(LabelRefusal::NoMemory) => Err(MetaRefusal::NoMemory),
+        Err(_) => Err(MetaRefusal::BadLabels),
+    }
+}
+
+/// The member `labels`.
+pub(crate) fn write_labels(alloc: Global, labels: &LabelSet) -> Result<Value, AllocError>
+    ensures value { IfOk result (λ v. view v ≡ object (label_members labels.now)) }
+    ensures again { OnOk result (labels_from [] (label_members labels.now) ≡ Ok labels.now) }
+{
+    Ok(Value::Object(write_members(alloc, labels.labels())?))
+}
+
+fn write_members(alloc: Global, labels: &[Label]) -> Result<Map<String, Value>, AllocError>
+    requires { IsLabelSet labels.now }
+    ensures { IfOk result (λ map. members_view map.entries ≡ label_members labels.now) }
+{
     let mut members = Map::new(alloc);
-    for label in labels.labels() {
+    for label in labels {
         let value = Value::try_from_str(alloc, label.value.as_str())?;
         serde_json::put(&mut members, alloc, label.name.as_str(), value)?;
     }
-    Ok(Value::Object(members))
-}
-
-pub(crate) fn write_texts(alloc: Global, texts: &TextList) -> Result<Value, AllocError> {
-    let mut written = Vec::new(alloc);
-    for text in texts.members() {
-        written.push(Value::try_from_str(alloc, text.as_str())?)?;
-    }
-    Ok(Value::Array(written))
+    Ok(members)
 }

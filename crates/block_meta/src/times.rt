@@ -1,8 +1,12 @@
-ghost use Rattle.std.specs.Prelude.{◌≡◌, ◌<ℤ◌, ◌≤ℤ◌, pos, neg_ℤ, ◌^◌, IfOk, IsTrue, ◌↔◌, MatchOption};
-ghost use Rattle.block_meta.specs.Lawful.{AreLawfulTimes};
+ghost use Rattle.std.specs.Prelude.{◌≡◌, ◌≤ℤ◌, pos, neg_ℤ, ◌^◌, IfOk, IsTrue};
+ghost use Rattle.reading_core.specs.Reading.{Gives};
+ghost use Rattle.serde_json.specs.View.{view};
+ghost use Rattle.block_meta.specs.declared.refusal.MetaRefusal.TheVariants.{NoMemory};
+ghost use Rattle.block_meta.specs.Lawful.{AreLawfulTimes, are_lawful_times};
+ghost use Rattle.block_meta.specs.MetaReading.{times_of};
 
 use crate::MetaRefusal;
-use crate::json::{needed, wrong_kind};
+use crate::json::{needed, whole};
 use serde_json::Value;
 use std::alloc::Global;
 
@@ -14,39 +18,39 @@ pub(crate) struct Times {
 }
 
 /// 2^62
-const LIMIT: i64 = 0x4000_0000_0000_0000;
+const LIMIT: i128 = 0x4000_0000_0000_0000;
 
 impl Times {
+    #[tactic(auto, unfolding(crate::specs::MetaReading::times_of))]
     pub(crate) fn read(alloc: Global, meta: &Value) -> Result<Times, MetaRefusal>
-        ensures { IfOk result (λ times. AreLawfulTimes times.min times.max) }
+        ensures gives { Gives NoMemory (λ times. times) result (times_of (view meta.now)) }
+        ensures lawful { IfOk result (λ times. AreLawfulTimes times.min times.max) }
     {
         let min = whole(alloc, needed(alloc, meta, "minTime")?, "minTime")?;
         let max = whole(alloc, needed(alloc, meta, "maxTime")?, "maxTime")?;
-        match (min, max) {
-            (Some(min), Some(max)) => if are_lawful(min, max) {
-                Ok(Times { min, max })
-            } else {
-                Err(MetaRefusal::BadTimes)
-            },
-            _ => Err(MetaRefusal::BadTimes),
+        if are_lawful(min, max) {
+            Ok(Times {
+                min: narrow(min),
+                max: narrow(max),
+            })
+        } else {
+            Err(MetaRefusal::BadTimes)
         }
     }
 }
 
-/// A whole number of 64 bits, where it is in the range of times.
-fn whole(alloc: Global, value: &Value, name: &str) -> Result<Option<i64>, MetaRefusal> {
-    match value.as_i64() {
-        Some(number) => Ok(Some(number)),
-        None => if value.is_u64() {
-            Ok(None)
-        } else {
-            Err(wrong_kind(alloc, name))
-        },
-    }
+fn narrow(time: i128) -> i64
+    requires low { neg_ℤ (pos (2 ^ 62)) ≤ℤ time }
+    requires high { time ≤ℤ pos (2 ^ 62) }
+    ensures { result ≡ time }
+{
+    time as i64
 }
 
-fn are_lawful(min: i64, max: i64) -> bool
-    ensures { IsTrue result ↔ AreLawfulTimes min max }
+#[tactic(auto, unfolding(crate::specs::Lawful::are_lawful_times))]
+fn are_lawful(min: i128, max: i128) -> bool
+    ensures value { result ≡ are_lawful_times min max }
+    ensures lawful { IsTrue result → AreLawfulTimes min max }
 {
     -LIMIT <= min && min < max && max <= LIMIT
 }
