@@ -1,12 +1,13 @@
-ghost use Rattle.std.specs.Prelude.{◌≡◌, ◌+◌, ◌≤◌, length, OnOk};
+ghost use Rattle.std.specs.Prelude.{◌≤◌, length};
 
-use crate::hands::{Hand, add_hands, gateway_count};
+use crate::hand::Hand;
+use crate::hands::{add_hands, gateway_count};
 use crate::inline_block::InlineBlock;
-use crate::label_key::LabelKey;
 use crate::line_refusal::LineRefusal;
 use crate::samples::are_within;
+use crate::texts::text_place;
 use crate::{BlockList, LineCause, Phase, PhaseList, Script, ScriptRefusal, Task, Work};
-use label_sets::{LabelSet, SampleList, Text, TextList};
+use label_sets::{LabelSet, Sample, SampleList, Text, TextList};
 use list_core::NoMemory;
 use matchers::{Selector, SelectorList};
 use moment_core::Rules;
@@ -35,7 +36,7 @@ pub(crate) struct Draft {
     /// The last block.
     pub last: Option<InlineBlock>,
     /// Whether a series line may follow: the line before, but for silent ones, was a block line or a series line.
-    pub open: bool,
+    pub continues: bool,
     /// The ULIDs of all blocks.
     pub ulids: BTreeSet<Ulid>,
     pub selectors: SelectorList,
@@ -47,20 +48,32 @@ pub(crate) struct Draft {
     pub hands: Vec<Hand>,
     /// How many tasks all phases have.
     pub activities: u32,
+    ghost few_gateways: { length gateways ≤ 16 },
     ghost few_activities: { activities ≤ 65536 },
     ghost few_selectors: { length selectors ≤ activities },
 }
 
 impl Draft {
+    ghost use Rattle.std.specs.Prelude.{◌≡◌, ◌+◌, [], None, OnOk, ok_or, option_map, length};
+    ghost use Rattle.reading_core.specs.Reading.{Gives};
+    ghost use Rattle.script_core.specs.declared.cause.LineCause.TheVariants as causes;
+    ghost use Rattle.script_core.specs.declared.line_refusal.LineRefusal.TheVariants as line_refusals;
+    ghost use Rattle.script_core.specs.declared.script_refusal.ScriptRefusal.TheVariants as script_refusals;
+    ghost use Rattle.script_core.specs.State.{start, end_block, gateway_named, add_gateway, is_declared, begin_block, test_series, add_series, begin_phase, add_task, add_query, note_sync, are_all_synced, finish, all_blocks, all_phases, last_of};
+    ghost use Rattle.script_core.specs.View.{state_of};
+
     /// What is there before the first line.
-    pub(crate) fn new(alloc: Global) -> Draft {
+    #[tactic(auto, unfolding(crate::specs::View::state_of, crate::specs::State::start))]
+    pub(crate) fn new(alloc: Global, rules: Rules) -> Draft
+        ensures { state_of result ≡ start rules }
+    {
         Draft {
-            rules: Rules::standard(alloc),
+            rules,
             gateways: TextList::new(alloc),
             synced: Vec::new(alloc),
             blocks: BlockList::new(alloc),
             last: None,
-            open: false,
+            continues: false,
             ulids: BTreeSet::new(alloc),
             selectors: SelectorList::new(alloc),
             phases: PhaseList::new(alloc),
@@ -71,10 +84,13 @@ impl Draft {
     }
 
     /// What is left after the last line, as a script.
-    pub(crate) fn finish(mut self, alloc: Global) -> Result<Script, ScriptRefusal> {
+    #[tactic(auto, unfolding(crate::specs::View::state_of, crate::specs::State::finish))]
+    pub(crate) fn finish(mut self, alloc: Global) -> Result<Script, ScriptRefusal>
+        ensures { Gives script_refusals.NoMemory (λ script. script) result (finish (state_of self)) }
+    {
         self.end_block()?;
         self.store_block(alloc)?;
-        self.store_phase()?;
+        self.store_phase(alloc)?;
         Ok(Script {
             rules: self.rules,
             gateways: self.gateways,
@@ -85,25 +101,37 @@ impl Draft {
     }
 
     /// No series line follows the last block's lines.
-    pub(crate) fn end_block(&mut self) -> Result<(), ScriptRefusal> {
+    #[tactic(auto, unfolding(crate::specs::View::state_of, crate::specs::State::end_block))]
+    pub(crate) fn end_block(&mut self) -> Result<(), ScriptRefusal>
+        ensures { Gives script_refusals.NoMemory (λ _. state_of self.new) result (end_block (state_of self.old)) }
+    {
         if let Some(block) = &self.last {
             if block.series.is_empty() {
                 let cause = LineCause::EmptyInline;
                 return Err(ScriptRefusal::BadLine(block.line, cause));
             }
         }
-        self.open = false;
+        self.continues = false;
         Ok(())
     }
 
-    fn store_block(&mut self, alloc: Global) -> Result<(), NoMemory> {
+    /// The last block joins those before it.
+    #[tactic(auto, unfolding(crate::specs::View::state_of))]
+    fn store_block(&mut self, alloc: Global) -> Result<(), NoMemory>
+        ensures { OnOk result (state_of self.new ≡ record (state_of self.old) { blocks = all_blocks (state_of self.old).blocks (state_of self.old).last; last = None }) }
+    {
         if let Some(block) = self.last.take() {
             self.blocks.push(block.into_block(alloc)?)?;
         }
         Ok(())
     }
 
-    fn store_phase(&mut self) -> Result<(), NoMemory> {
+    /// The last phase joins those before it.
+    #[tactic(auto, unfolding(crate::specs::View::state_of))]
+    fn store_phase(&mut self, alloc: Global) -> Result<(), NoMemory>
+        ensures { OnOk result (state_of self.new ≡ record (state_of self.old) { phases = all_phases (state_of self.old).phases (state_of self.old).phase; phase = None; hands = [] }) }
+    {
+        self.hands = Vec::new(alloc);
         if let Some(phase) = self.phase.take() {
             self.phases.push(phase)?;
         }
@@ -111,64 +139,92 @@ impl Draft {
     }
 
     /// The place of the gateway of this name.
-    pub(crate) fn gateway_named(&self, name: &str) -> Option<u32> {
-        let place = self
-            .gateways
-            .members()
-            .iter()
-            .position(|gateway| gateway.as_str() == name)?;
-        u32::try_from(place).ok()
+    #[tactic(auto, unfolding(crate::specs::View::state_of))]
+    pub(crate) fn gateway_named(&self, name: &str) -> Option<u32>
+        ensures { result ≡ gateway_named (state_of self.now).gateways name.now }
+    {
+        let place = text_place(self.gateways.members(), name)?;
+        Some(place as u32)
     }
 
-    pub(crate) fn add_gateway(&mut self, name: Text) -> Result<(), LineRefusal> {
+    #[tactic(auto, unfolding(crate::specs::View::state_of, crate::specs::State::add_gateway))]
+    pub(crate) fn add_gateway(&mut self, name: Text) -> Result<(), LineRefusal>
+        ensures { Gives line_refusals.NoMemory (λ _. state_of self.new) result (add_gateway (state_of self.old) name) }
+    {
         LineRefusal::TooMany.unless(self.gateways.len() < GATEWAYS)?;
         self.gateways.push(name)?;
         Ok(())
     }
 
+    #[tactic(auto, unfolding(crate::specs::View::state_of))]
+    pub(crate) fn is_declared(&self, ulid: Ulid) -> bool
+        ensures { result ≡ is_declared (state_of self.now) ulid }
+    {
+        self.ulids.contains(&ulid)
+    }
+
+    #[tactic(auto, unfolding(crate::specs::View::state_of, crate::specs::State::begin_block))]
     pub(crate) fn begin_block(
         &mut self,
         alloc: Global,
         block: InlineBlock,
-    ) -> Result<(), LineRefusal> {
-        LineRefusal::BlockChanged.unless(!self.ulids.contains(&block.ulid))?;
+    ) -> Result<(), LineRefusal>
+        ensures { Gives line_refusals.NoMemory (λ _. state_of self.new) result (begin_block (state_of self.old) (last_of block)) }
+    {
+        LineRefusal::BlockChanged.unless(!self.is_declared(block.ulid))?;
         LineRefusal::TooMany.unless(self.ulids.len() < BLOCKS)?;
         self.store_block(alloc)?;
         self.ulids.insert(block.ulid)?;
         self.last = Some(block);
-        self.open = true;
+        self.continues = true;
         Ok(())
     }
 
     /// Adds a series to the last block.
+    #[tactic(auto, unfolding(crate::specs::View::state_of, crate::specs::State::add_series))]
     pub(crate) fn add_series(
         &mut self,
         labels: LabelSet,
         samples: SampleList,
-    ) -> Result<(), LineRefusal> {
-        let Some(block) = &mut self.last else {
-            return Err(LineRefusal::Bad(LineCause::NoBlock));
-        };
-        let inside = are_within(samples.members(), block.min_time, block.max_time);
-        LineCause::OutsideBlock.unless(inside)?;
-        let key = LabelKey { labels };
-        LineCause::RepeatedSeries.unless(!block.series.contains_key(&key))?;
-        LineCause::NoBlock.unless(self.open)?;
-        block.series.insert(key, samples)?;
+    ) -> Result<(), LineRefusal>
+        ensures { Gives line_refusals.NoMemory (λ _. state_of self.new) result (add_series (state_of self.old) (record { labels = labels; samples = samples })) }
+    {
+        self.test_series(&labels, samples.members())?;
+        if let Some(block) = &mut self.last {
+            block.insert_series(labels, samples)?;
+        }
         Ok(())
     }
 
-    pub(crate) fn begin_phase(&mut self, alloc: Global, phase: Phase) -> Result<(), LineRefusal> {
-        self.store_phase()?;
+    /// Whether a series fits the last block.
+    #[tactic(auto, unfolding(crate::specs::View::state_of))]
+    fn test_series(&self, labels: &LabelSet, samples: &[Sample]) -> Result<(), LineRefusal>
+        ensures { result ≡ test_series (state_of self.now) labels.now samples.now }
+    {
+        let Some(block) = &self.last else {
+            return Err(LineRefusal::Bad(LineCause::NoBlock));
+        };
+        let inside = are_within(samples, block.min_time, block.max_time);
+        LineCause::OutsideBlock.unless(inside)?;
+        LineCause::RepeatedSeries.unless(!block.has_series(labels))?;
+        LineCause::NoBlock.unless(self.continues)
+    }
+
+    #[tactic(auto, unfolding(crate::specs::View::state_of, crate::specs::State::begin_phase))]
+    pub(crate) fn begin_phase(&mut self, alloc: Global, phase: Phase) -> Result<(), NoMemory>
+        ensures { OnOk result (state_of self.new ≡ begin_phase (state_of self.old) phase) }
+    {
+        self.store_phase(alloc)?;
         self.phase = Some(phase);
-        self.hands = Vec::new(alloc);
         Ok(())
     }
 
     /// Adds a task to the last phase.
+    #[tactic(auto, unfolding(crate::specs::View::state_of, crate::specs::State::add_task))]
     pub(crate) fn add_task(&mut self, line: u32, work: Work) -> Result<(), LineRefusal>
-        ensures counted { OnOk result (self.new.activities ≡ self.old.activities + 1) }
+        ensures gives { Gives line_refusals.NoMemory (λ _. state_of self.new) result (add_task (state_of self.old) line work) }
         ensures selectors { self.new.selectors ≡ self.old.selectors }
+        ensures counted { OnOk result (self.new.activities ≡ self.old.activities + 1) }
     {
         LineRefusal::TooMany.unless(self.activities < ACTIVITIES)?;
         let gateways = gateway_count(&self.gateways);
@@ -183,18 +239,23 @@ impl Draft {
     }
 
     /// The place of the next task in the last phase.
-    fn next_place(&self) -> Result<u64, LineCause> {
+    fn next_place(&self) -> Result<u64, LineCause>
+        ensures { result ≡ ok_or (option_map (λ phase. length phase.tasks) self.now.phase) causes.NoPhase }
+    {
         let phase = self.phase.as_ref().ok_or(LineCause::NoPhase)?;
         Ok(phase.tasks.len() as u64)
     }
 
+    #[tactic(auto, unfolding(crate::specs::View::state_of, crate::specs::State::add_query))]
     pub(crate) fn add_query(
         &mut self,
         line: u32,
         low: i64,
         high: i64,
         selector: Selector,
-    ) -> Result<(), LineRefusal> {
+    ) -> Result<(), LineRefusal>
+        ensures { Gives line_refusals.NoMemory (λ _. state_of self.new) result (add_query (state_of self.old) line low high selector) }
+    {
         let place = self.selectors.len() as u32;
         let work = Work::Query {
             low,
@@ -206,14 +267,21 @@ impl Draft {
         Ok(())
     }
 
-    pub(crate) fn note_sync(&mut self, gateway: u32) -> Result<(), LineRefusal> {
+    #[tactic(auto, unfolding(crate::specs::View::state_of, crate::specs::State::note_sync))]
+    pub(crate) fn note_sync(&mut self, gateway: u32) -> Result<(), NoMemory>
+        ensures { OnOk result (state_of self.new ≡ note_sync (state_of self.old) gateway) }
+    {
         if !self.synced.contains(&gateway) {
             self.synced.push(gateway)?;
         }
         Ok(())
     }
 
-    pub(crate) fn are_all_synced(&self) -> bool {
-        self.synced.len() == self.gateways.len()
+    #[tactic(auto, unfolding(crate::specs::View::state_of))]
+    pub(crate) fn are_all_synced(&self) -> bool
+        ensures { result ≡ are_all_synced (state_of self.now) }
+    {
+        let gateways = self.gateways.len() as u32;
+        (0..gateways).all(|gateway| self.synced.contains(&gateway))
     }
 }

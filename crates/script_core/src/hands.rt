@@ -1,25 +1,41 @@
 //! Which workers the tasks of a phase need.
 
-use crate::Work;
+ghost use Rattle.std.specs.Prelude.{◌≡◌, OnOk, IfOk, map, min};
+ghost use Rattle.std.specs.List.{list_any, fold, range_with_len};
+ghost use Rattle.script_core.specs.declared.hand.Hand.TheVariants as hand_kinds;
+ghost use Rattle.script_core.specs.Hands.{greatest, gateway_count, same_hand, with_hand, with_hands, hands_of, does, places_from};
+
+use crate::hand::Hand;
+use crate::{Task, Work};
 use label_sets::TextList;
 use list_core::NoMemory;
+use std::alloc::Global;
+use wire_bytes::NumberList;
 
-/// Who does a task: a worker for that upload alone, or the worker of a gateway.
-#[derive(Clone, Copy, Debug, PartialEq, Eq)]
-pub(crate) enum Hand {
-    /// The upload at this place of the phase.
-    Upload(u64),
-    /// The gateway at this place.
-    Gateway(u32),
+/// How many gateways there are, as far as a place can name them.
+pub(crate) fn gateway_count(gateways: &TextList) -> u32
+    ensures { result ≡ gateway_count gateways.now }
+{
+    small_count(gateways.len())
+}
+
+/// A count, or the greatest number of 32 bits where the count is greater.
+pub(crate) fn small_count(count: usize) -> u32
+    ensures { result ≡ min count greatest }
+{
+    u32::try_from(count).unwrap_or(u32::MAX)
 }
 
 /// Adds the hands that a task needs and that are not there yet, at the end.
+#[tactic(auto, unfolding(crate::specs::Hands::with_hands, crate::specs::Hands::hands_of_task))]
 pub(crate) fn add_hands(
     hands: &mut Vec<Hand>,
     gateways: u32,
     place: u64,
     work: &Work,
-) -> Result<(), NoMemory> {
+) -> Result<(), NoMemory>
+    ensures { OnOk result (hands.new.items ≡ with_hands gateways hands.old.items place work.now) }
+{
     match work {
         Work::Upload(..) => add_hand(hands, Hand::Upload(place)),
         Work::Sync(gateway) => add_hand(hands, Hand::Gateway(*gateway)),
@@ -27,47 +43,67 @@ pub(crate) fn add_hands(
     }
 }
 
-/// How many gateways there are, as far as a place can name them.
-pub(crate) fn gateway_count(gateways: &TextList) -> u32 {
-    u32::try_from(gateways.len()).unwrap_or(u32::MAX)
-}
-
-fn add_gateways(hands: &mut Vec<Hand>, gateways: u32) -> Result<(), NoMemory> {
+fn add_gateways(hands: &mut Vec<Hand>, gateways: u32) -> Result<(), NoMemory>
+    ensures { OnOk result (hands.new.items ≡ fold with_hand hands.old.items (map hand_kinds.Gateway (range_with_len 0 gateways))) }
+{
     for gateway in 0..gateways {
         add_hand(hands, Hand::Gateway(gateway))?;
     }
     Ok(())
 }
 
-fn add_hand(hands: &mut Vec<Hand>, hand: Hand) -> Result<(), NoMemory> {
-    if !hands.contains(&hand) {
+fn add_hand(hands: &mut Vec<Hand>, hand: Hand) -> Result<(), NoMemory>
+    ensures { OnOk result (hands.new.items ≡ with_hand hands.old.items hand) }
+{
+    if !has_hand(hands.as_slice(), hand) {
         hands.push(hand)?;
     }
     Ok(())
 }
 
+fn has_hand(hands: &[Hand], hand: Hand) -> bool
+    ensures { result ≡ list_any (same_hand hand) hands.now }
+{
+    hands.iter().any(|other| hand.is(*other))
+}
+
 /// Whether the task at a place is one of those that a hand does.
-pub(crate) fn does(hand: Hand, place: u64, work: &Work) -> bool {
-    match hand {
-        Hand::Upload(own) => own == place,
-        Hand::Gateway(gateway) => asks(gateway, work),
-    }
-}
-
-/// Whether a task is one for the gateway at a place.
-fn asks(gateway: u32, work: &Work) -> bool {
+#[tactic(auto, unfolding(crate::specs::Hands::hands_of_task))]
+pub(crate) fn does(gateways: u32, hand: Hand, place: u64, work: &Work) -> bool
+    ensures { result ≡ does gateways hand place work.now }
+{
     match work {
-        Work::Upload(..) => false,
-        Work::Sync(own) => *own == gateway,
-        Work::Query { .. } => true,
+        Work::Upload(..) => hand.is(Hand::Upload(place)),
+        Work::Sync(gateway) => hand.is(Hand::Gateway(*gateway)),
+        Work::Query { .. } => hand.is_among(gateways),
     }
 }
 
-impl Hand {
-    pub(crate) fn gateway(self) -> Option<u32> {
-        match self {
-            Hand::Upload(_) => None,
-            Hand::Gateway(gateway) => Some(gateway),
+/// Who does the tasks of a phase, each once, in the order of their first tasks.
+pub(crate) fn hands_of(alloc: Global, gateways: u32, tasks: &[Task]) -> Result<Vec<Hand>, NoMemory>
+    ensures { IfOk result (λ hands. hands.items ≡ hands_of gateways tasks.now) }
+{
+    let mut hands = Vec::new(alloc);
+    for (place, task) in tasks.iter().enumerate() {
+        add_hands(&mut hands, gateways, place as u64, &task.work)?;
+    }
+    Ok(hands)
+}
+
+/// The places of the tasks that a hand does.
+pub(crate) fn places_of(
+    alloc: Global,
+    gateways: u32,
+    hand: Hand,
+    tasks: &[Task],
+) -> Result<NumberList, NoMemory>
+    ensures { IfOk result (λ places. places ≡ places_from gateways hand 0 tasks.now) }
+{
+    let mut places = NumberList::new(alloc);
+    for (place, task) in tasks.iter().enumerate() {
+        if does(gateways, hand, place as u64, &task.work) {
+            places.push(place as u64)?;
         }
     }
+    Ok(places)
 }

@@ -1,6 +1,6 @@
-use crate::label_key::LabelKey;
+use crate::series_map::series_list;
 use crate::{Block, Body};
-use label_sets::{LabelSet, SampleList, Series, SeriesList};
+use label_sets::{LabelSet, SampleList};
 use list_core::NoMemory;
 use std::alloc::Global;
 use std::collections::BTreeMap;
@@ -15,10 +15,13 @@ pub(crate) struct InlineBlock {
     pub labels: LabelSet,
     pub min_time: i64,
     pub max_time: i64,
-    pub series: BTreeMap<LabelKey, SampleList>,
+    pub series: BTreeMap<LabelSet, SampleList>,
 }
 
 impl InlineBlock {
+    ghost use Rattle.std.specs.Prelude.{◌≡◌, [], IfOk, OnOk};
+    ghost use Rattle.script_core.specs.State.{last_of, block_of, has_series, insert_series, series_of};
+
     pub(crate) fn new(
         alloc: Global,
         line: u32,
@@ -26,7 +29,9 @@ impl InlineBlock {
         labels: LabelSet,
         min_time: i64,
         max_time: i64,
-    ) -> InlineBlock {
+    ) -> InlineBlock
+        ensures { last_of result ≡ record { line = line; ulid = ulid; labels = labels; min_time = min_time; max_time = max_time; series = [] } }
+    {
         InlineBlock {
             line,
             ulid,
@@ -37,7 +42,24 @@ impl InlineBlock {
         }
     }
 
-    pub(crate) fn into_block(self, alloc: Global) -> Result<Block, NoMemory> {
+    #[tactic(auto, using(crate::proofs::SeriesLists::has_series_entries))]
+    pub(crate) fn has_series(&self, labels: &LabelSet) -> bool
+        ensures { result ≡ has_series (last_of self.now).series labels.now }
+    {
+        self.series.contains_key(labels)
+    }
+
+    #[tactic(auto, using(crate::proofs::SeriesLists::insert_series_entries))]
+    pub(crate) fn insert_series(&mut self, labels: LabelSet, samples: SampleList) -> Result<(), NoMemory>
+        ensures { OnOk result (last_of self.new ≡ record (last_of self.old) { series = insert_series (last_of self.old).series (series_of (labels, samples)) }) }
+    {
+        self.series.insert(labels, samples)?;
+        Ok(())
+    }
+
+    pub(crate) fn into_block(self, alloc: Global) -> Result<Block, NoMemory>
+        ensures { IfOk result (λ block. block ≡ block_of (last_of self)) }
+    {
         Ok(Block {
             ulid: self.ulid,
             labels: self.labels,
@@ -48,19 +70,4 @@ impl InlineBlock {
             },
         })
     }
-}
-
-/// The series in ascending order of their labels.
-fn series_list(
-    alloc: Global,
-    series: BTreeMap<LabelKey, SampleList>,
-) -> Result<SeriesList, NoMemory> {
-    let mut list = SeriesList::new(alloc);
-    for (key, samples) in series {
-        list.push(Series {
-            labels: key.labels,
-            samples,
-        })?;
-    }
-    Ok(list)
 }

@@ -12,7 +12,12 @@ pub(crate) enum LineKind {
 }
 
 impl LineKind {
-    pub(crate) fn of_word(word: &str) -> Option<LineKind> {
+    ghost use Rattle.std.specs.Prelude.{◌≡◌};
+    ghost use Rattle.script_core.specs.Fields.{line_kind};
+
+    pub(crate) fn of_word(word: &str) -> Option<LineKind>
+        ensures { result ≡ line_kind word.now }
+    {
         match word {
             "rule" => Some(LineKind::Rule),
             "gateway" => Some(LineKind::Gateway),

@@ -1,5 +1,4 @@
 ghost use Rattle.std.specs.Prelude.{◌≡◌};
-ghost use Rattle.reading_core.specs.Reading.{unless};
 ghost use Rattle.script_core.specs.declared.line_refusal.LineRefusal.TheVariants.{Bad, NoMemory};
 
 use crate::{LineCause, ScriptRefusal};
@@ -20,8 +19,14 @@ pub(crate) enum LineRefusal {
 }
 
 impl LineRefusal {
+    ghost use Rattle.std.specs.Prelude.{◌≡◌};
+    ghost use Rattle.reading_core.specs.Reading.{unless};
+    ghost use Rattle.script_core.specs.Reading.{of_line};
+
     /// The refusal of the line with this number.
-    pub(crate) fn of_line(self, line: u32) -> ScriptRefusal {
+    pub(crate) fn of_line(self, line: u32) -> ScriptRefusal
+        ensures { result ≡ of_line line self }
+    {
         match self {
             LineRefusal::Bad(cause) => ScriptRefusal::BadLine(line, cause),
             LineRefusal::FallingMoment => ScriptRefusal::FallingMoment(line),

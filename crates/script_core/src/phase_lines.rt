@@ -1,5 +1,12 @@
 //! The lines of phases: their moments and their tasks.
 
+ghost use Rattle.std.specs.Prelude.{◌≡◌, option_copied};
+ghost use Rattle.reading_core.specs.Reading.{Gives};
+ghost use Rattle.script_core.specs.declared.line_refusal.LineRefusal.TheVariants as line_refusals;
+ghost use Rattle.script_core.specs.Values.{agree, moment_field};
+ghost use Rattle.script_core.specs.Lines.{bad, may_begin, at_line, upload_line, sync_line, query_line, last_selector};
+ghost use Rattle.script_core.specs.View.{state_of};
+
 use crate::draft::Draft;
 use crate::fields::{is_name, next_field, only_field};
 use crate::line_refusal::LineRefusal;
@@ -10,28 +17,30 @@ use moment_core::{Moment, MomentRefusal, Rules};
 use std::alloc::Global;
 
 /// `at MOMENT`
+#[tactic(auto, unfolding(crate::specs::View::state_of, crate::specs::Lines::at_line))]
 pub(crate) fn at_line(
     draft: &mut Draft,
     alloc: Global,
     number: u32,
     fields: Option<&str>,
-) -> Result<(), LineRefusal> {
+) -> Result<(), LineRefusal>
+    ensures { Gives line_refusals.NoMemory (λ _. state_of draft.new) result (at_line (state_of draft.old) number (option_copied fields.entry)) }
+{
     let moment = moment(alloc, only_field(fields)?)?;
-    match &draft.phase {
-        Some(last) => LineRefusal::FallingMoment.unless(last.moment.ms <= moment.ms)?,
-        None => LineRefusal::BadRules.unless(agree(&draft.rules))?,
-    }
-    draft.begin_phase(
-        alloc,
-        Phase {
-            line: number,
-            moment,
-            tasks: TaskList::new(alloc),
-        },
-    )
+    may_begin(&draft.rules, &draft.phase, moment)?;
+    let phase = Phase {
+        line: number,
+        moment,
+        tasks: TaskList::new(alloc),
+    };
+    draft.begin_phase(alloc, phase)?;
+    Ok(())
 }
 
-fn moment(alloc: Global, field: &str) -> Result<Moment, LineRefusal> {
+#[tactic(auto, unfolding(crate::specs::Values::moment_field))]
+fn moment(alloc: Global, field: &str) -> Result<Moment, LineRefusal>
+    ensures { Gives line_refusals.NoMemory (λ moment. moment) result (bad (moment_field field.now)) }
+{
     match Moment::read(alloc, field) {
         Ok(moment) => Ok(moment),
         Err(MomentRefusal::BadMoment) => Err(LineRefusal::Bad(LineCause::BadMomentText)),
@@ -39,9 +48,21 @@ fn moment(alloc: Global, field: &str) -> Result<Moment, LineRefusal> {
     }
 }
 
+/// The first phase asks that the rules agree, a later one that it is not before the last.
+fn may_begin(rules: &Rules, last: &Option<Phase>, moment: Moment) -> Result<(), LineRefusal>
+    ensures { result ≡ may_begin rules.now last.now moment }
+{
+    match last {
+        Some(last) => LineRefusal::FallingMoment.unless(last.moment.ms <= moment.ms),
+        None => LineRefusal::BadRules.unless(agree(rules)),
+    }
+}
+
 /// Whether an upload ends before a partial block is deleted and a second before a marked one is, and a mark is heeded
 /// no later than it deletes.
-fn agree(rules: &Rules) -> bool {
+fn agree(rules: &Rules) -> bool
+    ensures { result ≡ agree rules.now }
+{
     let upload = rules.upload.ms;
     let delete = rules.delete.ms;
     upload <= rules.partial.ms
@@ -51,11 +72,14 @@ fn agree(rules: &Rules) -> bool {
 }
 
 /// `upload ULID`
+#[tactic(auto, unfolding(crate::specs::View::state_of, crate::specs::Lines::upload_line))]
 pub(crate) fn upload_line(
     draft: &mut Draft,
     number: u32,
     fields: Option<&str>,
-) -> Result<(), LineRefusal> {
+) -> Result<(), LineRefusal>
+    ensures { Gives line_refusals.NoMemory (λ _. state_of draft.new) result (upload_line (state_of draft.old) number (option_copied fields.entry)) }
+{
     let (ulid_text, rest) = next_field(fields);
     let (option, _) = next_field(rest);
     LineCause::UnknownWord.unless(option != "stop")?;
@@ -63,31 +87,38 @@ pub(crate) fn upload_line(
     let ulid = ulid(ulid_text)?;
     LineCause::NoPhase.unless(draft.phase.is_some())?;
     LineCause::ReservedUlid.unless(!is_reserved(ulid))?;
-    LineRefusal::UnknownBlock.unless(draft.ulids.contains(&ulid))?;
+    LineRefusal::UnknownBlock.unless(draft.is_declared(ulid))?;
     draft.add_task(number, Work::Upload(ulid, None))
 }
 
 /// `sync NAME`
+#[tactic(auto, unfolding(crate::specs::View::state_of, crate::specs::Lines::sync_line))]
 pub(crate) fn sync_line(
     draft: &mut Draft,
     number: u32,
     fields: Option<&str>,
-) -> Result<(), LineRefusal> {
+) -> Result<(), LineRefusal>
+    ensures { Gives line_refusals.NoMemory (λ _. state_of draft.new) result (sync_line (state_of draft.old) number (option_copied fields.entry)) }
+{
     let name = only_field(fields)?;
     LineCause::BadName.unless(is_name(name))?;
     LineCause::NoPhase.unless(draft.phase.is_some())?;
     let gateway = draft.gateway_named(name).ok_or(LineCause::UnknownGateway)?;
     draft.add_task(number, Work::Sync(gateway))?;
-    draft.note_sync(gateway)
+    draft.note_sync(gateway)?;
+    Ok(())
 }
 
 /// `query LOW HIGH SELECTOR`
+#[tactic(auto, unfolding(crate::specs::View::state_of, crate::specs::Lines::query_line))]
 pub(crate) fn query_line(
     draft: &mut Draft,
     alloc: Global,
     number: u32,
     fields: Option<&str>,
-) -> Result<(), LineRefusal> {
+) -> Result<(), LineRefusal>
+    ensures { Gives line_refusals.NoMemory (λ _. state_of draft.new) result (query_line (state_of draft.old) number (option_copied fields.entry)) }
+{
     let (low_text, rest) = next_field(fields);
     let (high_text, rest) = next_field(rest);
     let selector = last_selector(alloc, rest)?;
@@ -102,7 +133,10 @@ pub(crate) fn query_line(
 }
 
 /// The selector that is left of a line, or none where nothing is left.
-fn last_selector(alloc: Global, left: Option<&str>) -> Result<Option<Selector>, LineRefusal> {
+#[tactic(auto, unfolding(crate::specs::Lines::last_selector))]
+fn last_selector(alloc: Global, left: Option<&str>) -> Result<Option<Selector>, LineRefusal>
+    ensures { Gives line_refusals.NoMemory (λ selector. selector) result (last_selector (option_copied left.entry)) }
+{
     let text = left.unwrap_or("");
     if text.is_empty() {
         return Ok(None);

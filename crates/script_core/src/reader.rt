@@ -1,6 +1,15 @@
 //! Reading a script line by line.
 
-ghost use Rattle.std.specs.Prelude.{◌≤◌, length};
+ghost use Rattle.std.specs.Prelude.{◌≡◌, ◌≤◌, Some, None, length, option_copied, if◌then◌else◌};
+ghost use Rattle.reading_core.specs.Reading.{Gives};
+ghost use Rattle.script_core.specs.declared.script_refusal.ScriptRefusal.TheVariants as script_refusals;
+ghost use Rattle.script_core.specs.declared.line_refusal.LineRefusal.TheVariants as line_refusals;
+ghost use Rattle.script_core.specs.Reading.{is_series, kind_line, text_line, line_at, lines_at};
+ghost use Rattle.std.specs.Str.{is_utf8};
+ghost use Rattle.script_core.specs.Fields.{lines_of};
+ghost use Rattle.script_core.specs.State.{start};
+ghost use Rattle.moment_core.specs.StandardRules.{standard_rules};
+ghost use Rattle.script_core.specs.View.{state_of};
 
 use crate::draft::Draft;
 use crate::fields::{cut_line, is_silent, next_field};
@@ -9,13 +18,15 @@ use crate::line_refusal::LineRefusal;
 use crate::phase_lines::{at_line, query_line, sync_line, upload_line};
 use crate::setup_lines::{block_line, gateway_line, rule_line, series_line};
 use crate::{LineCause, ScriptRefusal};
+use moment_core::Rules;
 use std::alloc::Global;
 
 /// Reads the lines of a text in order, and answers what they leave.
 pub(crate) fn read_lines(alloc: Global, text: &[u8]) -> Result<Draft, ScriptRefusal>
     requires { length text.now ≤ 67108864 }
+    ensures { Gives script_refusals.NoMemory state_of result (lines_at (start standard_rules) 1 (lines_of text.now)) }
 {
-    let mut draft = Draft::new(alloc);
+    let mut draft = Draft::new(alloc, Rules::standard(alloc));
     let mut number = 0u32;
     let mut left = text;
     while !left.is_empty() {
@@ -27,34 +38,73 @@ pub(crate) fn read_lines(alloc: Global, text: &[u8]) -> Result<Draft, ScriptRefu
     Ok(draft)
 }
 
+#[tactic(auto, unfolding(crate::specs::Reading::line_at, crate::specs::Reading::spoken_line))]
 fn read_line(
     draft: &mut Draft,
     alloc: Global,
     number: u32,
     line: &[u8],
-) -> Result<(), ScriptRefusal> {
+) -> Result<(), ScriptRefusal>
+    ensures { Gives script_refusals.NoMemory (λ _. state_of draft.new) result (line_at (state_of draft.old) number line.now) }
+{
     if is_silent(line) {
         return Ok(());
     }
-    let Ok(text) = str::from_utf8(line) else {
-        draft.end_block()?;
-        return Err(ScriptRefusal::BadLine(number, LineCause::NotText));
-    };
-    let (word, fields) = next_field(Some(text));
-    let kind = LineKind::of_word(word);
-    if kind != Some(LineKind::Series) {
-        draft.end_block()?;
+    match text_of(line) {
+        Some(text) => read_text(draft, alloc, number, text),
+        None => {
+            draft.end_block()?;
+            Err(ScriptRefusal::BadLine(number, LineCause::NotText))
+        }
     }
-    read_fields(draft, alloc, number, kind, fields).map_err(|refusal| refusal.of_line(number))
 }
 
+/// The bytes as text, where they are UTF-8.
+fn text_of(line: &[u8]) -> Option<&str>
+    ensures { option_copied result ≡ (if is_utf8 line.now then Some line.now else None) }
+{
+    match str::from_utf8(line) {
+        Ok(text) => Some(text),
+        Err(_) => None,
+    }
+}
+
+#[tactic(auto, unfolding(crate::specs::Reading::text_line))]
+fn read_text(
+    draft: &mut Draft,
+    alloc: Global,
+    number: u32,
+    text: &str,
+) -> Result<(), ScriptRefusal>
+    ensures { Gives script_refusals.NoMemory (λ _. state_of draft.new) result (text_line (state_of draft.old) number text.now) }
+{
+    let (word, fields) = next_field(Some(text));
+    let kind = LineKind::of_word(word);
+    if !is_series(kind) {
+        draft.end_block()?;
+    }
+    match read_fields(draft, alloc, number, kind, fields) {
+        Ok(()) => Ok(()),
+        Err(refusal) => Err(refusal.of_line(number)),
+    }
+}
+
+fn is_series(kind: Option<LineKind>) -> bool
+    ensures { result ≡ is_series kind }
+{
+    kind == Some(LineKind::Series)
+}
+
+#[tactic(auto, unfolding(crate::specs::Reading::kind_line, crate::specs::Lines::fields_line))]
 fn read_fields(
     draft: &mut Draft,
     alloc: Global,
     number: u32,
     kind: Option<LineKind>,
     fields: Option<&str>,
-) -> Result<(), LineRefusal> {
+) -> Result<(), LineRefusal>
+    ensures { Gives line_refusals.NoMemory (λ _. state_of draft.new) result (kind_line (state_of draft.old) number kind (option_copied fields.entry)) }
+{
     match kind.ok_or(LineCause::UnknownWord)? {
         LineKind::Rule => rule_line(draft, fields),
         LineKind::Gateway => gateway_line(draft, alloc, fields),

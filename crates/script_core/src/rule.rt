@@ -16,7 +16,13 @@ pub(crate) enum Rule {
 }
 
 impl Rule {
-    pub(crate) fn read(name: RuleName, value: &str) -> Result<Rule, LineCause> {
+    ghost use Rattle.std.specs.Prelude.{◌≡◌};
+    ghost use Rattle.script_core.specs.Values.{rule_of, with_rule};
+
+    #[tactic(auto, unfolding(crate::specs::Values::rule_of))]
+    pub(crate) fn read(name: RuleName, value: &str) -> Result<Rule, LineCause>
+        ensures { result ≡ rule_of name value.now }
+    {
         match name {
             RuleName::Consistency => Ok(Rule::Consistency(span(value)?)),
             RuleName::Ignore => Ok(Rule::Ignore(span(value)?)),
@@ -29,7 +35,9 @@ impl Rule {
     }
 
     /// The rule takes the place of what was set before.
-    pub(crate) fn set(self, rules: &mut Rules) {
+    pub(crate) fn set(self, rules: &mut Rules)
+        ensures { rules.new ≡ with_rule rules.old self }
+    {
         match self {
             Rule::Consistency(span) => rules.consistency = span,
             Rule::Ignore(span) => rules.ignore = span,

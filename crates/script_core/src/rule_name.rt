@@ -11,7 +11,12 @@ pub(crate) enum RuleName {
 }
 
 impl RuleName {
-    pub(crate) fn of_word(word: &str) -> Option<RuleName> {
+    ghost use Rattle.std.specs.Prelude.{◌≡◌};
+    ghost use Rattle.script_core.specs.Fields.{rule_name};
+
+    pub(crate) fn of_word(word: &str) -> Option<RuleName>
+        ensures { result ≡ rule_name word.now }
+    {
         match word {
             "consistency-delay" => Some(RuleName::Consistency),
             "ignore-delay" => Some(RuleName::Ignore),

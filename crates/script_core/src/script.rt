@@ -1,12 +1,12 @@
-use crate::hands::{Hand, add_hands, does, gateway_count};
+use crate::hands::gateway_count;
 use crate::reader::read_lines;
-use crate::{BlockList, PhaseList, ScriptRefusal, Task, Worker, WorkerList};
+use crate::workers::{phase_workers, seats_of};
+use crate::{BlockList, PhaseList, ScriptRefusal, WorkerList};
 use label_sets::TextList;
 use list_core::NoMemory;
 use matchers::SelectorList;
 use moment_core::Rules;
 use std::alloc::Global;
-use wire_bytes::NumberList;
 
 /// How many bytes a script may have.
 const TEXT_LIMIT: usize = 67_108_864;
@@ -25,64 +25,49 @@ pub struct Script {
 }
 
 impl Script {
+    ghost use Rattle.std.specs.Prelude.{◌≡◌, IfOk, slice_get};
+    ghost use Rattle.reading_core.specs.Reading.{Gives};
+    ghost use Rattle.script_core.specs.declared.script_refusal.ScriptRefusal.TheVariants as script_refusals;
+    ghost use Rattle.script_core.specs.Hands.{workers_of, workers_after};
+    ghost use Rattle.script_core.specs.Reading.{script_of};
+
     /// Reads a script.
-    pub fn read(alloc: Global, text: &[u8]) -> Result<Script, ScriptRefusal> {
+    #[tactic(auto, unfolding(crate::specs::Reading::script_of))]
+    pub fn read(alloc: Global, text: &[u8]) -> Result<Script, ScriptRefusal>
+        ensures gives { Gives script_refusals.NoMemory (λ script. script) result (script_of text.now) }
+    {
         if text.len() > TEXT_LIMIT {
             return Err(ScriptRefusal::TooLong);
         }
         read_lines(alloc, text)?.finish(alloc)
     }
 
-    /// Who does the tasks of a phase, in the order of their first tasks.
-    pub fn workers(&self, alloc: Global, phase: usize) -> Result<WorkerList, NoMemory> {
-        let mut before = 0u32;
-        for earlier in self.phases.members().iter().take(phase) {
-            let hands = self.hands(alloc, earlier.tasks.members())?;
-            before = before.saturating_add(u32::try_from(hands.len()).unwrap_or(u32::MAX));
-        }
+    /// Who does the tasks of a phase, in the order of their first tasks. It goes over the phases before to count their
+    /// workers.
+    pub fn workers(&self, alloc: Global, phase: usize) -> Result<WorkerList, NoMemory>
+        ensures { IfOk result (λ workers. workers ≡ workers_of self.now phase) }
+    {
+        let gateways = gateway_count(&self.gateways);
+        let earlier = &self.phases.members()[..phase.min(self.phases.len())];
+        let before = seats_of(alloc, gateways, earlier)?;
         self.workers_after(alloc, phase, before)
     }
 
-    /// The same where so many workers are needed before the phase, which are then not counted again.
+    /// The same where the phases before need so many workers, which are then not counted again.
     pub fn workers_after(
         &self,
         alloc: Global,
         phase: usize,
         before: u32,
-    ) -> Result<WorkerList, NoMemory> {
-        let mut workers = WorkerList::new(alloc);
-        let Some(phase) = self.phases.get(phase) else {
-            return Ok(workers);
-        };
-        let tasks = phase.tasks.members();
-        let mut seat = before;
-        for hand in self.hands(alloc, tasks)? {
-            seat = seat.saturating_add(1);
-            workers.push(worker(alloc, seat, hand, tasks)?)?;
-        }
-        Ok(workers)
-    }
-
-    fn hands(&self, alloc: Global, tasks: &[Task]) -> Result<Vec<Hand>, NoMemory> {
-        let gateways = gateway_count(&self.gateways);
-        let mut hands = Vec::new(alloc);
-        for (place, task) in tasks.iter().enumerate() {
-            add_hands(&mut hands, gateways, place as u64, &task.work)?;
-        }
-        Ok(hands)
-    }
-}
-
-fn worker(alloc: Global, seat: u32, hand: Hand, tasks: &[Task]) -> Result<Worker, NoMemory> {
-    let mut places = NumberList::new(alloc);
-    for (place, task) in tasks.iter().enumerate() {
-        if does(hand, place as u64, &task.work) {
-            places.push(place as u64)?;
+    ) -> Result<WorkerList, NoMemory>
+        ensures { IfOk result (λ workers. workers ≡ workers_after self.now before (slice_get self.now.phases phase)) }
+    {
+        match self.phases.get(phase) {
+            Some(phase) => {
+                let gateways = gateway_count(&self.gateways);
+                phase_workers(alloc, gateways, before, phase.tasks.members())
+            }
+            None => Ok(WorkerList::new(alloc)),
         }
     }
-    Ok(Worker {
-        seat,
-        gateway: hand.gateway(),
-        tasks: places,
-    })
 }

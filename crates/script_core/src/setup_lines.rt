@@ -1,19 +1,28 @@
 //! The lines before the first phase: rules, gateways, and blocks with their series.
 
+ghost use Rattle.std.specs.Prelude.{option_copied};
+ghost use Rattle.reading_core.specs.Reading.{Gives};
+ghost use Rattle.script_core.specs.declared.line_refusal.LineRefusal.TheVariants as line_refusals;
+ghost use Rattle.script_core.specs.Lines.{rule_line, gateway_line, block_line, last_labels, series_line, first_labels};
+ghost use Rattle.script_core.specs.View.{state_of};
+
 use crate::LineCause;
 use crate::draft::Draft;
-use crate::fields::{is_name, next_field, only_field};
+use crate::fields::{after_space, is_name, next_field, only_field};
 use crate::inline_block::InlineBlock;
 use crate::line_refusal::LineRefusal;
 use crate::rule::Rule;
 use crate::rule_name::RuleName;
-use crate::samples::{are_rising, are_whole, have_numbers_in_range, read_samples};
+use crate::samples::{are_rising, are_whole, have_small_numbers, read_samples};
 use crate::values::{is_reserved, time, ulid};
 use label_sets::{LabelRefusal, LabelSet, Text};
 use std::alloc::Global;
 
 /// `rule NAME VALUE`
-pub(crate) fn rule_line(draft: &mut Draft, fields: Option<&str>) -> Result<(), LineRefusal> {
+#[tactic(auto, unfolding(crate::specs::View::state_of, crate::specs::Lines::rule_line))]
+pub(crate) fn rule_line(draft: &mut Draft, fields: Option<&str>) -> Result<(), LineRefusal>
+    ensures { Gives line_refusals.NoMemory (λ _. state_of draft.new) result (rule_line (state_of draft.old) (option_copied fields.entry)) }
+{
     let fields = fields.ok_or(LineCause::BadShape)?;
     let (name, value) = next_field(Some(fields));
     let name = RuleName::of_word(name).ok_or(LineCause::UnknownWord)?;
@@ -24,11 +33,14 @@ pub(crate) fn rule_line(draft: &mut Draft, fields: Option<&str>) -> Result<(), L
 }
 
 /// `gateway NAME`
+#[tactic(auto, unfolding(crate::specs::View::state_of, crate::specs::Lines::gateway_line))]
 pub(crate) fn gateway_line(
     draft: &mut Draft,
     alloc: Global,
     fields: Option<&str>,
-) -> Result<(), LineRefusal> {
+) -> Result<(), LineRefusal>
+    ensures { Gives line_refusals.NoMemory (λ _. state_of draft.new) result (gateway_line (state_of draft.old) (option_copied fields.entry)) }
+{
     let name = only_field(fields)?;
     LineCause::BadName.unless(is_name(name))?;
     LineCause::LateLine.unless(draft.phase.is_none())?;
@@ -37,12 +49,15 @@ pub(crate) fn gateway_line(
 }
 
 /// `block ULID MIN MAX LABELS`
+#[tactic(auto, unfolding(crate::specs::View::state_of, crate::specs::Lines::block_line))]
 pub(crate) fn block_line(
     draft: &mut Draft,
     alloc: Global,
     number: u32,
     fields: Option<&str>,
-) -> Result<(), LineRefusal> {
+) -> Result<(), LineRefusal>
+    ensures { Gives line_refusals.NoMemory (λ _. state_of draft.new) result (block_line (state_of draft.old) number (option_copied fields.entry)) }
+{
     let (ulid_text, rest) = next_field(fields);
     let (min_text, rest) = next_field(rest);
     let (max_text, rest) = next_field(rest);
@@ -63,7 +78,10 @@ pub(crate) fn block_line(
 }
 
 /// The label set that is left of a line, or none where the text is no label set.
-fn last_labels(alloc: Global, left: Option<&str>) -> Result<Option<LabelSet>, LineRefusal> {
+#[tactic(auto, unfolding(crate::specs::Lines::last_labels))]
+fn last_labels(alloc: Global, left: Option<&str>) -> Result<Option<LabelSet>, LineRefusal>
+    ensures { Gives line_refusals.NoMemory (λ set. set) result (last_labels (option_copied left.entry)) }
+{
     let text = left.unwrap_or("");
     LineCause::BadShape.unless(!text.is_empty())?;
     match LabelSet::read(alloc, text) {
@@ -77,30 +95,34 @@ fn last_labels(alloc: Global, left: Option<&str>) -> Result<Option<LabelSet>, Li
 }
 
 /// `series LABELS TIME:PATTERN TIME:PATTERN ..`
+#[tactic(auto, unfolding(crate::specs::View::state_of, crate::specs::Lines::series_line))]
 pub(crate) fn series_line(
     draft: &mut Draft,
     alloc: Global,
     fields: Option<&str>,
-) -> Result<(), LineRefusal> {
-    let (labels, rest) = first_labels(alloc, fields)?;
-    let (glued, texts) = next_field(Some(rest));
-    let texts = texts.unwrap_or("");
-    LineCause::BadShape.unless(glued.is_empty() && are_whole(texts))?;
-    LineCause::BadNumber.unless(have_numbers_in_range(texts))?;
+) -> Result<(), LineRefusal>
+    ensures { Gives line_refusals.NoMemory (λ _. state_of draft.new) result (series_line (state_of draft.old) (option_copied fields.entry)) }
+{
+    let (labels, texts) = first_labels(alloc, fields)?;
+    LineCause::BadShape.unless(are_whole(texts))?;
+    LineCause::BadNumber.unless(have_small_numbers(texts))?;
     let samples = read_samples(alloc, texts)?;
     LineCause::FallingTimes.unless(are_rising(samples.members()))?;
     draft.add_series(labels, samples)
 }
 
-/// The label set at the front of what is left of a line, and the text behind it.
+/// The label set at the front of what is left of a line, and the text behind the space after it.
+#[tactic(auto, unfolding(crate::specs::Lines::first_labels))]
 fn first_labels<'a>(
     alloc: Global,
     left: Option<&'a str>,
-) -> Result<(LabelSet, &'a str), LineRefusal> {
+) -> Result<(LabelSet, &'a str), LineRefusal>
+    ensures { Gives line_refusals.NoMemory (λ found. (found.0, found.1.now)) result (first_labels (option_copied left.entry)) }
+{
     let text = left.unwrap_or("");
     LineCause::BadShape.unless(!text.is_empty())?;
     match LabelSet::read(alloc, text) {
-        Ok((labels, end)) => Ok((labels, text.get(end..).unwrap_or(""))),
+        Ok((labels, end)) => Ok((labels, after_space(text, end)?)),
         Err(LabelRefusal::NoMemory) => Err(LineRefusal::NoMemory),
         Err(_) => Err(LineRefusal::Bad(LineCause::BadLabelText)),
     }

@@ -1,5 +1,8 @@
 //! The numbers, times, spans and ULIDs that stand in fields.
 
+ghost use Rattle.std.specs.Prelude.{◌≡◌};
+ghost use Rattle.script_core.specs.Values.{time_field, is_time, page_limit_field, span_field, tick_field, ulid_field, is_reserved};
+
 use crate::LineCause;
 use moment_core::Span;
 use reading_core::{read_signed, read_unsigned};
@@ -16,42 +19,63 @@ const DAY_MS: u64 = 86_400_000;
 const RESERVED: u128 = 0xffff_ffff_ffff_fff0_0000;
 
 /// A time in milliseconds, from -2^62 to 2^62.
-pub(crate) fn time(field: &str) -> Result<i64, LineCause> {
+#[tactic(auto, unfolding(crate::specs::Values::time_field))]
+pub(crate) fn time(field: &str) -> Result<i64, LineCause>
+    ensures { result ≡ time_field field.now }
+{
     match read_signed(field) {
         Ok(time) if is_time(time) => Ok(time),
         _ => Err(LineCause::BadNumber),
     }
 }
 
-pub(crate) fn is_time(time: i64) -> bool {
+pub(crate) fn is_time(time: i64) -> bool
+    ensures { result ≡ is_time time }
+{
     -TIME_LIMIT <= time && time <= TIME_LIMIT
 }
 
 /// A page limit, from 1 to 10,000.
-pub(crate) fn page_limit(field: &str) -> Result<u32, LineCause> {
+#[tactic(auto, unfolding(crate::specs::Values::page_limit_field))]
+pub(crate) fn page_limit(field: &str) -> Result<u32, LineCause>
+    ensures { result ≡ page_limit_field field.now }
+{
     match read_unsigned(field) {
         Ok(number) if 1 <= number && number <= PAGE_LIMIT => Ok(number as u32),
         _ => Err(LineCause::BadNumber),
     }
 }
 
-pub(crate) fn span(field: &str) -> Result<Span, LineCause> {
+#[tactic(auto, unfolding(crate::specs::Values::span_field))]
+pub(crate) fn span(field: &str) -> Result<Span, LineCause>
+    ensures { result ≡ span_field field.now }
+{
     Span::read(field).map_err(|_| LineCause::BadSpanText)
 }
 
 /// A span of at most a day.
-pub(crate) fn tick(field: &str) -> Result<Span, LineCause> {
-    match Span::read(field) {
-        Ok(tick) if tick.ms <= DAY_MS => Ok(tick),
-        _ => Err(LineCause::BadSpanText),
+#[tactic(auto, unfolding(crate::specs::Values::tick_field))]
+pub(crate) fn tick(field: &str) -> Result<Span, LineCause>
+    ensures { result ≡ tick_field field.now }
+{
+    let tick = span(field)?;
+    if tick.ms <= DAY_MS {
+        Ok(tick)
+    } else {
+        Err(LineCause::BadSpanText)
     }
 }
 
-pub(crate) fn ulid(field: &str) -> Result<Ulid, LineCause> {
+#[tactic(auto, unfolding(crate::specs::Values::ulid_field))]
+pub(crate) fn ulid(field: &str) -> Result<Ulid, LineCause>
+    ensures { result ≡ ulid_field field.now }
+{
     Ulid::read(field).map_err(|_| LineCause::BadUlidText)
 }
 
 /// Whether a ULID is one of the 2^20 of its millisecond that compacted blocks take.
-pub(crate) fn is_reserved(ulid: Ulid) -> bool {
+pub(crate) fn is_reserved(ulid: Ulid) -> bool
+    ensures { result ≡ is_reserved ulid }
+{
     ulid.entropy() >= RESERVED
 }

@@ -1,8 +1,15 @@
-use Rattle.std.proofs.Common.{◌≤◌, ◌+◌, length}
+use Rattle.std.proofs.Common.{◌≡◌, ◌≤◌, ◌+◌, length}
+use Rattle.script_core.specs.Fields.{lines_of}
+use Rattle.script_core.specs.State.{start}
+use Rattle.moment_core.specs.StandardRules.{standard_rules}
+use Rattle.script_core.specs.Reading.{lines_at}
+use Rattle.script_core.specs.View.{state_of}
 use Rattle.script_core.proofs.reader.read_lines.Given as goal
 
+-- what is read of the lines that are left is what is read of all
 abbrev pub invariant-loop-left : goal.invariant-loop-left
-invariant-loop-left l = l.number + length l.left ≤ 67108864
+invariant-loop-left l =
+    (l.number + length l.left ≤ 67108864) × (lines_at (state_of l.draft) (l.number + 1) (lines_of l.left) ≡ lines_at (start standard_rules) 1 (lines_of l.text))
 
 abbrev pub decreases-loop-left : goal.decreases-loop-left
 decreases-loop-left l = length l.left

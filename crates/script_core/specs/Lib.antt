@@ -1,0 +1,10 @@
+pub mod Fields
+pub mod Values
+pub mod Samples
+pub mod Hands
+pub mod State
+pub mod View
+pub mod Lines
+pub mod Reading
+pub mod Works
+pub mod Spelling

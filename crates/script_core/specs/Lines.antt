@@ -1,0 +1,173 @@
+-- One definition for each kind of line: the causes for which it is refused, in the order in which they are tested, and
+-- what it leaves to the next line.
+use Rattle.std.specs.Prelude.{ℕ, ◌+◌, List, [], length, drop, Bool, true, false, not, ◌&&◌, ◌==◌, nat_le, int_lt, ok_or, unwrap_or, Option, None, Some, is_none, is_some, Result, Ok, Err, codes, if◌then◌else◌}
+use Rattle.std.specs.Str.{bytes_eq}
+use Rattle.reading_core.specs.Reading.{◌>>=◌, ◌>>◌, unless, refused_as}
+use Rattle.label_sets.specs.declared.label.Label.{Label}
+use Rattle.label_sets.specs.declared.label_refusal.LabelRefusal.{LabelRefusal}
+use Rattle.matchers.specs.declared.matcher.Matcher.{Matcher}
+use Rattle.moment_core.specs.declared.moment.Moment.{Moment}
+use Rattle.moment_core.specs.declared.rules.Rules.{Rules}
+use Rattle.script_core.specs.declared.cause.LineCause.{LineCause}
+use Rattle.script_core.specs.declared.cause.LineCause.TheVariants as causes
+use Rattle.script_core.specs.declared.line_kind.LineKind.{LineKind}
+use Rattle.script_core.specs.declared.line_kind.LineKind.TheVariants as kinds
+use Rattle.script_core.specs.declared.line_refusal.LineRefusal.{LineRefusal}
+use Rattle.script_core.specs.declared.line_refusal.LineRefusal.TheVariants.{Bad, FallingMoment, UnknownBlock, BadRules, NeverSynced}
+use Rattle.script_core.specs.declared.phase.Phase.{Phase}
+use Rattle.script_core.specs.declared.work.Work.TheVariants as works
+use Rattle.script_core.specs.Fields.{is_empty, next_field, only_field, after_space, is_name, rule_name}
+use Rattle.script_core.specs.Values.{time_field, moment_field, ulid_field, is_reserved, rule_of, with_rule, agree}
+use Rattle.script_core.specs.Samples.{are_whole, have_small_numbers, samples_of, are_rising}
+use Rattle.script_core.specs.State.{State, gateway_named, add_gateway, is_declared, begin_block, add_series, begin_phase, add_task, add_query, note_sync, are_all_synced}
+use Rattle.matchers.specs.Selectors.{read_selector}
+use Rattle.label_sets.specs.Notation.{read_set}
+
+-- a cause of `BadLine` as a refusal
+abbrev pub bad : {A : Type 0} → Result A LineCause → Result A LineRefusal
+bad result = refused_as Bad result
+
+-- before the first phase, and after its beginning
+abbrev pub is_early : State → Bool
+is_early st = is_none st.phase
+
+abbrev pub has_begun : State → Bool
+has_begun st = is_some st.phase
+
+-- rule NAME VALUE
+unfoldable pub rule_line : State → Option (List ℕ) → Result State LineRefusal
+rule_line st left = do
+  text ← ok_or left (Bad causes.BadShape)
+  name ← ok_or (rule_name (next_field (Some text)).0) (Bad causes.UnknownWord)
+  value ← bad (only_field (next_field (Some text)).1)
+  rule ← bad (rule_of name value)
+  unless (is_early st) (Bad causes.LateLine)
+  Ok (record st { rules = with_rule st.rules rule })
+
+-- gateway NAME
+unfoldable pub gateway_line : State → Option (List ℕ) → Result State LineRefusal
+gateway_line st left = do
+  name ← bad (only_field left)
+  unless (is_name name) (Bad causes.BadName)
+  unless (is_early st) (Bad causes.LateLine)
+  unless (is_none (gateway_named st.gateways name)) (Bad causes.RepeatedGateway)
+  add_gateway st name
+
+-- a label set has to take all of its text
+abbrev pub whole_labels : ℕ → Result (List Label × ℕ) LabelRefusal → Result (Option (List Label)) LineRefusal
+whole_labels count (Err refusal) = Ok None
+whole_labels count (Ok found) = do
+  unless (found.1 == count) (Bad causes.BadShape)
+  Ok (Some found.0)
+
+-- The label set that is left of a line. Where its text is none there is no set, which is refused after the fields before
+-- it.
+unfoldable pub last_labels : Option (List ℕ) → Result (Option (List Label)) LineRefusal
+last_labels left = do
+  unless (not (is_empty (unwrap_or left []))) (Bad causes.BadShape)
+  whole_labels (length (unwrap_or left [])) (read_set (unwrap_or left []))
+
+-- block ULID MIN MAX LABELS
+unfoldable pub block_line : State → ℕ → Option (List ℕ) → Result State LineRefusal
+block_line st number left = do
+  let ulid_text = next_field left
+  let min_text = next_field ulid_text.1
+  let max_text = next_field min_text.1
+  unless (not (is_empty ulid_text.0) && not (is_empty min_text.0) && not (is_empty max_text.0)) (Bad causes.BadShape)
+  set ← last_labels max_text.1
+  min_time ← bad (time_field min_text.0)
+  max_time ← bad (time_field max_text.0)
+  ulid ← bad (ulid_field ulid_text.0)
+  labels ← ok_or set (Bad causes.BadLabelText)
+  unless (is_early st) (Bad causes.LateLine)
+  unless (int_lt min_time max_time) (Bad causes.BadTimes)
+  unless (not (is_reserved ulid)) (Bad causes.ReservedUlid)
+  begin_block st (record { line = number; ulid = ulid; labels = labels; min_time = min_time; max_time = max_time; series = [] })
+
+-- the label set at the front of what is left of a line, and what follows the space after it
+unfoldable pub first_labels : Option (List ℕ) → Result (List Label × List ℕ) LineRefusal
+first_labels left = do
+  unless (not (is_empty (unwrap_or left []))) (Bad causes.BadShape)
+  found ← refused_as (λ _. Bad causes.BadLabelText) (read_set (unwrap_or left []))
+  texts ← bad (after_space (drop found.1 (unwrap_or left [])))
+  Ok (found.0, texts)
+
+-- series LABELS TIME:PATTERN TIME:PATTERN ..
+unfoldable pub series_line : State → Option (List ℕ) → Result State LineRefusal
+series_line st left = do
+  found ← first_labels left
+  unless (are_whole found.1) (Bad causes.BadShape)
+  unless (have_small_numbers found.1) (Bad causes.BadNumber)
+  samples ← bad (samples_of found.1)
+  unless (are_rising samples) (Bad causes.FallingTimes)
+  add_series st (record { labels = found.0; samples = samples })
+
+-- the first phase asks that the rules agree, a later one that it is not before the last
+abbrev pub may_begin : Rules → Option Phase → Moment → Result (Unit {0}) LineRefusal
+may_begin rules None moment = unless (agree rules) BadRules
+may_begin rules (Some last) moment = unless (nat_le last.moment.ms moment.ms) FallingMoment
+
+-- at MOMENT
+unfoldable pub at_line : State → ℕ → Option (List ℕ) → Result State LineRefusal
+at_line st number left = do
+  text ← bad (only_field left)
+  moment ← bad (moment_field text)
+  may_begin st.rules st.phase moment
+  Ok (begin_phase st (record { line = number; moment = moment; tasks = [] }))
+
+-- upload ULID
+unfoldable pub upload_line : State → ℕ → Option (List ℕ) → Result State LineRefusal
+upload_line st number left = do
+  let ulid_text = next_field left
+  let option = next_field ulid_text.1
+  unless (not (bytes_eq option.0 (codes "stop"))) (Bad causes.UnknownWord)
+  unless (not (is_empty ulid_text.0) && is_none ulid_text.1) (Bad causes.BadShape)
+  ulid ← bad (ulid_field ulid_text.0)
+  unless (has_begun st) (Bad causes.NoPhase)
+  unless (not (is_reserved ulid)) (Bad causes.ReservedUlid)
+  unless (is_declared st ulid) UnknownBlock
+  add_task st number (works.Upload ulid None)
+
+-- sync NAME
+unfoldable pub sync_line : State → ℕ → Option (List ℕ) → Result State LineRefusal
+sync_line st number left = do
+  name ← bad (only_field left)
+  unless (is_name name) (Bad causes.BadName)
+  unless (has_begun st) (Bad causes.NoPhase)
+  gateway ← ok_or (gateway_named st.gateways name) (Bad causes.UnknownGateway)
+  after ← add_task st number (works.Sync gateway)
+  Ok (note_sync after gateway)
+
+-- the selector that is left of a line, if anything is
+unfoldable pub last_selector : Option (List ℕ) → Result (Option (List Matcher)) LineRefusal
+last_selector left =
+    if is_empty (unwrap_or left []) then Ok None
+    else (do
+      selector ← refused_as (λ _. Bad causes.UnknownWord) (read_selector (unwrap_or left []))
+      Ok (Some selector))
+
+-- query LOW HIGH SELECTOR
+unfoldable pub query_line : State → ℕ → Option (List ℕ) → Result State LineRefusal
+query_line st number left = do
+  let low_text = next_field left
+  let high_text = next_field low_text.1
+  read ← last_selector high_text.1
+  unless (not (is_empty low_text.0) && not (is_empty high_text.0)) (Bad causes.BadShape)
+  selector ← ok_or read (Bad causes.BadShape)
+  low ← bad (time_field low_text.0)
+  high ← bad (time_field high_text.0)
+  unless (has_begun st) (Bad causes.NoPhase)
+  unless (not (int_lt high low)) (Bad causes.BadTimes)
+  unless (are_all_synced st) NeverSynced
+  add_query st number low high selector
+
+-- a line by its kind
+unfoldable pub fields_line : State → ℕ → LineKind → Option (List ℕ) → Result State LineRefusal
+fields_line st number kinds.Rule left = rule_line st left
+fields_line st number kinds.Gateway left = gateway_line st left
+fields_line st number kinds.Block left = block_line st number left
+fields_line st number kinds.Series left = series_line st left
+fields_line st number kinds.At left = at_line st number left
+fields_line st number kinds.Upload left = upload_line st number left
+fields_line st number kinds.Sync left = sync_line st number left
+fields_line st number kinds.Query left = query_line st number left

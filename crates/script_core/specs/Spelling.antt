@@ -1,0 +1,275 @@
+-- What the lines of a script spell. Each line that says something adds to the script of the lines before it, and there is one
+-- record for each kind of line: how the line is written, what has to hold of the script so far, and what the line adds. Here
+-- is nothing of causes and of their order: a text that is read is one that spells its script, and each text that spells a
+-- script is read.
+use Rattle.std.specs.Prelude.{◌≡◌, ◌≢◌, ℕ, ◌+◌, ◌^◌, ◌<◌, ◌≤◌, ℤ, ◌<ℤ◌, ◌≤ℤ◌, List, [], ◌∷◌, ◌++◌, length, Bool, true, false, not, IsTrue, IsFalse, Option, None, Some, Result, Ok, codes}
+use Rattle.std.specs.Bool.{MatchBool}
+use Rattle.std.specs.List.{list_all, join_with_byte, AllByRecursion}
+use Rattle.std.specs.Str.{is_utf8}
+use Rattle.reading_core.specs.Decimal.{decimal_text, signed_text}
+use Rattle.label_sets.specs.Notation.{read_set}
+use Rattle.label_sets.specs.SampleText.{sample_text}
+use Rattle.label_sets.specs.declared.label.Label.{Label}
+use Rattle.label_sets.specs.declared.sample.Sample.{Sample}
+use Rattle.label_sets.specs.declared.series.Series.{Series}
+use Rattle.matchers.specs.Selectors.{read_selector}
+use Rattle.matchers.specs.declared.matcher.Matcher.{Matcher}
+use Rattle.moment_core.specs.MomentText.{IsMomentText}
+use Rattle.moment_core.specs.SpanText.{IsSpanText}
+use Rattle.moment_core.specs.StandardRules.{standard_rules}
+use Rattle.moment_core.specs.declared.moment.Moment.{Moment}
+use Rattle.moment_core.specs.declared.rules.Rules.{Rules}
+use Rattle.ulid_core.specs.UlidText.{IsUlidText}
+use Rattle.script_core.specs.declared.block.Block.{Block}
+use Rattle.script_core.specs.declared.body.Body.{Body}
+use Rattle.script_core.specs.declared.body.Body.TheVariants.{Inline}
+use Rattle.script_core.specs.declared.phase.Phase.{Phase}
+use Rattle.script_core.specs.declared.rule.Rule.{Rule}
+use Rattle.script_core.specs.declared.rule.Rule.TheVariants as rules
+use Rattle.script_core.specs.declared.script.Script.{Script}
+use Rattle.script_core.specs.declared.task.Task.{Task}
+use Rattle.script_core.specs.declared.work.Work.{Work}
+use Rattle.script_core.specs.declared.work.Work.TheVariants.{Upload, Sync, Query}
+use Rattle.script_core.specs.Fields.{lines_of, is_silent, is_space, is_name}
+use Rattle.script_core.specs.Values.{is_time, is_reserved, with_rule, agree}
+use Rattle.script_core.specs.Samples.{are_rising, are_within}
+use Rattle.script_core.specs.State.{gateway_named, has_series, insert_series}
+use Rattle.script_core.specs.Hands.{gateway_count, hands_of}
+use Rattle.script_core.specs.Works.{works_of, has_sync, declares}
+
+-- ---- fields and values
+
+-- texts with one space between each and the next
+abbrev pub spaced : List (List ℕ) → List ℕ
+spaced = join_with_byte 32
+
+-- a field: something, and no space
+pub record IsField (field : List ℕ) : Type 0 where
+  pub some : field ≢ []
+  pub no_space : IsTrue (list_all (λ byte. not (is_space byte)) field)
+
+-- a time from -2^62 to 2^62, as a decimal number
+pub record IsTimeText (text : List ℕ) (time : ℤ) : Type 0 where
+  pub field : IsField text
+  pub written : text ≡ signed_text time
+  pub near : IsTrue (is_time time)
+
+pub record IsUlidField (text : List ℕ) (ulid : ℕ) : Type 0 where
+  pub field : IsField text
+  pub written : IsUlidText text ulid
+  pub not_reserved : IsFalse (is_reserved ulid)
+
+-- TIME:PATTERN
+pub record IsSampleField (text : List ℕ) (sample : Sample) : Type 0 where
+  pub field : IsField text
+  pub written : text ≡ sample_text sample
+  pub near : IsTrue (is_time sample.time)
+  pub pattern : sample.pattern < 2 ^ 64
+
+-- each text is that of the sample at its place
+abbrev pub AreSampleFields : List (List ℕ) → List Sample → Type 0
+AreSampleFields [] [] = Unit {0}
+AreSampleFields [] (sample ∷ samples) = ⊥
+AreSampleFields (text ∷ texts) [] = ⊥
+AreSampleFields (text ∷ texts) (sample ∷ samples) = IsSampleField text sample × AreSampleFields texts samples
+
+-- the name and the value of a rule
+abbrev pub IsRuleText : List ℕ → List ℕ → Rule → Type 0
+IsRuleText name value (rules.Consistency span) = (name ≡ codes "consistency-delay") × IsSpanText value span.ms
+IsRuleText name value (rules.Ignore span) = (name ≡ codes "ignore-delay") × IsSpanText value span.ms
+IsRuleText name value (rules.Delete span) = (name ≡ codes "delete-delay") × IsSpanText value span.ms
+IsRuleText name value (rules.Partial span) = (name ≡ codes "partial-delay") × IsSpanText value span.ms
+IsRuleText name value (rules.Upload span) = (name ≡ codes "upload-limit") × IsSpanText value span.ms
+IsRuleText name value (rules.Tick span) = (name ≡ codes "tick") × IsSpanText value span.ms × (span.ms ≤ 86_400_000)
+IsRuleText name value (rules.PageLimit limit) = (name ≡ codes "page-limit") × (value ≡ decimal_text limit) × (1 ≤ limit) × (limit ≤ 10_000)
+
+-- ---- the script so far
+
+pub record SoFar : Type 0 where
+  pub script : Script
+  -- whether the line before, but for silent ones, is a block line or a series line
+  pub in_block : Bool
+
+-- what there is before the first line
+abbrev pub nothing : SoFar
+nothing =
+    record { script = record { rules = standard_rules; gateways = []; blocks = []; selectors = []; phases = [] }; in_block = false }
+
+-- after a line that no series line may follow
+abbrev pub outside : Script → SoFar
+outside script = record { script = script; in_block = false }
+
+abbrev pub inside : Script → SoFar
+inside script = record { script = script; in_block = true }
+
+-- the first phase has not begun
+abbrev pub IsEarly : SoFar → Type 0
+IsEarly before = before.script.phases ≡ []
+
+abbrev pub HasSeries : Body → Type 0
+HasSeries (Inline min_time max_time series) = series ≢ []
+
+-- the last block is complete
+abbrev pub HasEnded : List Block → Type 0
+HasEnded blocks = (others : List Block) (block : Block) → blocks ≡ others ++ block ∷ [] → HasSeries block.body
+
+-- ---- lines before the first phase
+
+-- rule NAME VALUE
+pub record RuleLine (before : SoFar) (line : List ℕ) (after : SoFar) : Type 0 where
+  pub name : List ℕ
+  pub value : List ℕ
+  pub rule : Rule
+  pub spelled : line ≡ spaced (codes "rule" ∷ name ∷ value ∷ [])
+  pub field : IsField value
+  pub is_rule : IsRuleText name value rule
+  pub early : IsEarly before
+  pub adds : after ≡ outside (record before.script { rules = with_rule before.script.rules rule })
+
+-- gateway NAME
+pub record GatewayLine (before : SoFar) (line : List ℕ) (after : SoFar) : Type 0 where
+  pub name : List ℕ
+  pub spelled : line ≡ spaced (codes "gateway" ∷ name ∷ [])
+  pub field : IsField name
+  pub is_name : IsTrue (is_name name)
+  pub early : IsEarly before
+  pub new : gateway_named before.script.gateways name ≡ None
+  pub few : length before.script.gateways < 1
+  pub adds : after ≡ outside (record before.script { gateways = before.script.gateways ++ name ∷ [] })
+
+-- block ULID MIN MAX LABELS
+pub record BlockLine (before : SoFar) (line : List ℕ) (after : SoFar) : Type 0 where
+  pub ulid_text : List ℕ
+  pub min_text : List ℕ
+  pub max_text : List ℕ
+  pub labels_text : List ℕ
+  pub ulid : ℕ
+  pub min_time : ℤ
+  pub max_time : ℤ
+  pub labels : List Label
+  pub spelled : line ≡ spaced (codes "block" ∷ ulid_text ∷ min_text ∷ max_text ∷ labels_text ∷ [])
+  pub is_ulid : IsUlidField ulid_text ulid
+  pub is_min : IsTimeText min_text min_time
+  pub is_max : IsTimeText max_text max_time
+  pub are_labels : read_set labels_text ≡ Ok (labels, length labels_text)
+  pub early : IsEarly before
+  pub times : min_time <ℤ max_time
+  pub new : IsFalse (declares before.script.blocks ulid)
+  pub few : length before.script.blocks < 4_096
+  pub adds : after ≡ inside (record before.script { blocks = before.script.blocks ++ record { ulid = ulid; labels = labels; body = Inline min_time max_time [] } ∷ [] })
+
+-- series LABELS TIME:PATTERN TIME:PATTERN ..
+pub record SeriesLine (before : SoFar) (line : List ℕ) (after : SoFar) : Type 0 where
+  pub labels_text : List ℕ
+  pub texts : List (List ℕ)
+  pub labels : List Label
+  pub samples : List Sample
+  pub spelled : line ≡ spaced (codes "series" ∷ labels_text ∷ spaced texts ∷ [])
+  pub are_labels : read_set (spaced (labels_text ∷ spaced texts ∷ [])) ≡ Ok (labels, length labels_text)
+  pub some : texts ≢ []
+  pub are_samples : AreSampleFields texts samples
+  pub rising : IsTrue (are_rising samples)
+  pub in_block : IsTrue before.in_block
+  -- the last block
+  pub others : List Block
+  pub ulid : ℕ
+  pub block_labels : List Label
+  pub min_time : ℤ
+  pub max_time : ℤ
+  pub series : List Series
+  pub last : before.script.blocks ≡ others ++ record { ulid = ulid; labels = block_labels; body = Inline min_time max_time series } ∷ []
+  pub within : IsTrue (are_within min_time max_time samples)
+  pub new : IsFalse (has_series series labels)
+  pub adds : after ≡ inside (record before.script { blocks = others ++ record { ulid = ulid; labels = block_labels; body = Inline min_time max_time (insert_series series (record { labels = labels; samples = samples })) } ∷ [] })
+
+-- ---- phases and their tasks
+
+-- at MOMENT
+pub record AtLine (before : SoFar) (number : ℕ) (line : List ℕ) (after : SoFar) : Type 0 where
+  pub text : List ℕ
+  pub moment : ℕ
+  pub spelled : line ≡ spaced (codes "at" ∷ text ∷ [])
+  pub field : IsField text
+  pub is_moment : IsMomentText text moment
+  -- The first phase begins with rules that agree, a later one no sooner than the one before it.
+  pub first : IsEarly before → IsTrue (agree before.script.rules)
+  pub later : (others : List Phase) (last : Phase) → before.script.phases ≡ others ++ last ∷ [] → last.moment.ms ≤ moment
+  pub adds : after ≡ outside (record before.script { phases = before.script.phases ++ record { line = number; moment = record { ms = moment }; tasks = [] } ∷ [] })
+
+-- the last phase with one more task
+pub record AddsTask (before : Script) (number : ℕ) (work : Work) (after : Script) : Type 0 where
+  pub others : List Phase
+  pub phase : Phase
+  pub last : before.phases ≡ others ++ phase ∷ []
+  pub few : length (works_of before.phases) < 65_536
+  pub few_workers : length (hands_of (gateway_count before.gateways) (phase.tasks ++ record { line = number; work = work } ∷ [])) ≤ 64
+  pub adds : after ≡ record before { phases = others ++ record phase { tasks = phase.tasks ++ record { line = number; work = work } ∷ [] } ∷ [] }
+
+-- upload ULID
+pub record UploadLine (before : SoFar) (number : ℕ) (line : List ℕ) (after : SoFar) : Type 0 where
+  pub text : List ℕ
+  pub ulid : ℕ
+  pub spelled : line ≡ spaced (codes "upload" ∷ text ∷ [])
+  pub is_ulid : IsUlidField text ulid
+  pub declared : IsTrue (declares before.script.blocks ulid)
+  pub script : Script
+  pub task : AddsTask before.script number (Upload ulid None) script
+  pub adds : after ≡ outside script
+
+-- sync NAME
+pub record SyncLine (before : SoFar) (number : ℕ) (line : List ℕ) (after : SoFar) : Type 0 where
+  pub name : List ℕ
+  pub gateway : ℕ
+  pub spelled : line ≡ spaced (codes "sync" ∷ name ∷ [])
+  pub field : IsField name
+  pub is_name : IsTrue (is_name name)
+  pub declared : gateway_named before.script.gateways name ≡ Some gateway
+  pub script : Script
+  pub task : AddsTask before.script number (Sync gateway) script
+  pub adds : after ≡ outside script
+
+-- query LOW HIGH SELECTOR
+pub record QueryLine (before : SoFar) (number : ℕ) (line : List ℕ) (after : SoFar) : Type 0 where
+  pub low_text : List ℕ
+  pub high_text : List ℕ
+  pub selector_text : List ℕ
+  pub low : ℤ
+  pub high : ℤ
+  pub selector : List Matcher
+  pub spelled : line ≡ spaced (codes "query" ∷ low_text ∷ high_text ∷ selector_text ∷ [])
+  pub is_low : IsTimeText low_text low
+  pub is_high : IsTimeText high_text high
+  pub is_selector : read_selector selector_text ≡ Ok selector
+  pub times : low ≤ℤ high
+  pub synced : (gateway : ℕ) → gateway < length before.script.gateways → IsTrue (has_sync (works_of before.script.phases) gateway)
+  pub script : Script
+  pub task : AddsTask before.script number (Query low high (length before.script.selectors)) script
+  pub adds : after ≡ outside (record script { selectors = script.selectors ++ selector ∷ [] })
+
+-- ---- whole texts
+
+-- What a line says. Every line but a series line ends the block before it.
+pub data Says (before : SoFar) (number : ℕ) (line : List ℕ) (after : SoFar) : Type 0 where
+  series : SeriesLine before line after → Says before number line after
+  rule : HasEnded before.script.blocks → RuleLine before line after → Says before number line after
+  gateway : HasEnded before.script.blocks → GatewayLine before line after → Says before number line after
+  block : HasEnded before.script.blocks → BlockLine before line after → Says before number line after
+  at : HasEnded before.script.blocks → AtLine before number line after → Says before number line after
+  upload : HasEnded before.script.blocks → UploadLine before number line after → Says before number line after
+  sync : HasEnded before.script.blocks → SyncLine before number line after → Says before number line after
+  query : HasEnded before.script.blocks → QueryLine before number line after → Says before number line after
+
+-- Lines in order, the first of which has this number. A silent line is passed over, and counted.
+abbrev pub Say : SoFar → ℕ → List (List ℕ) → SoFar → Type 0
+Say before number [] after = before ≡ after
+Say before number (line ∷ lines) after =
+    MatchBool (is_silent line)
+        (Say before (number + 1) lines after)
+        ((next : SoFar) × IsTrue (is_utf8 line) × Says before number line next × Say next (number + 1) lines after)
+
+-- The text spells the script.
+pub record Spells (text : List ℕ) (script : Script) : Type 0 where
+  pub short : length text ≤ 67_108_864
+  pub in_block : Bool
+  pub lines : Say nothing 1 (lines_of text) (record { script = script; in_block = in_block })
+  pub ended : HasEnded script.blocks

@@ -1,0 +1,195 @@
+-- What the lines of a script so far leave to the next one.
+use Rattle.std.specs.Prelude.{ℕ, ◌+◌, List, [], ◌∷◌, ◌++◌, length, map, Bool, true, false, not, ◌&&◌, ◌||◌, ◌==◌, nat_lt, nat_le, option_map, ok_or, Option, None, Some, Result, Ok, Err, ℤ, position, if◌then◌else◌}
+use Rattle.std.specs.List.{list_any, list_all, range_with_len}
+use Rattle.std.specs.Ordering.{is_eq, match_ordering, nat_cmp}
+use Rattle.std.specs.BTreeMap.{is_at}
+use Rattle.std.specs.BTreeSet.{insert_key}
+use Rattle.std.specs.Str.{bytes_eq}
+use Rattle.reading_core.specs.Reading.{◌>>=◌, ◌>>◌, unless}
+use Rattle.label_sets.specs.Labels.{compare_sets}
+use Rattle.label_sets.specs.declared.label.Label.{Label}
+use Rattle.label_sets.specs.declared.sample.Sample.{Sample}
+use Rattle.label_sets.specs.declared.series.Series.{Series}
+use Rattle.matchers.specs.declared.matcher.Matcher.{Matcher}
+use Rattle.moment_core.specs.declared.rules.Rules.{Rules}
+use Rattle.script_core.specs.declared.cause.LineCause.{LineCause}
+use Rattle.script_core.specs.declared.cause.LineCause.TheVariants.{EmptyInline, NoBlock, NoPhase, OutsideBlock, RepeatedSeries}
+use Rattle.script_core.specs.declared.line_refusal.LineRefusal.{LineRefusal}
+use Rattle.script_core.specs.declared.line_refusal.LineRefusal.TheVariants.{Bad, BlockChanged, TooMany}
+use Rattle.script_core.specs.declared.block.Block.{Block}
+use Rattle.script_core.specs.declared.body.Body.{Body}
+use Rattle.script_core.specs.declared.body.Body.TheVariants.{Inline}
+use Rattle.script_core.specs.declared.phase.Phase.{Phase}
+use Rattle.script_core.specs.declared.work.Work.{Work}
+use Rattle.script_core.specs.declared.work.Work.TheVariants.{Query}
+use Rattle.script_core.specs.declared.script.Script.{Script}
+use Rattle.script_core.specs.declared.script_refusal.ScriptRefusal.{ScriptRefusal}
+use Rattle.script_core.specs.declared.script_refusal.ScriptRefusal.TheVariants.{BadLine}
+use Rattle.script_core.specs.declared.inline_block.InlineBlock.{InlineBlock}
+use Rattle.script_core.specs.Samples.{are_within}
+use Rattle.script_core.specs.Hands.{gateway_count, with_hands}
+use Rattle.script_core.specs.declared.hand.Hand.{Hand}
+
+-- the last declared block, with the number of its line
+pub record Last : Type 0 where
+  pub line : ℕ
+  pub ulid : ℕ
+  pub labels : List Label
+  pub min_time : ℤ
+  pub max_time : ℤ
+  -- ascending by labels
+  pub series : List Series
+
+pub record State : Type 0 where
+  pub rules : Rules
+  -- the names of the gateways
+  pub gateways : List (List ℕ)
+  -- the places of those that have a sync line, each once
+  pub synced : List ℕ
+  -- the blocks before the last, and the last
+  pub blocks : List Block
+  pub last : Option Last
+  -- whether a series line may follow
+  pub continues : Bool
+  -- the ULIDs of all blocks, ascending
+  pub ulids : List ℕ
+  pub selectors : List (List Matcher)
+  -- the phases before the last, and the last
+  pub phases : List Phase
+  pub phase : Option Phase
+  -- who does the tasks of the last phase
+  pub hands : List Hand
+  -- how many tasks there are
+  pub activities : ℕ
+
+-- an entry of the map of a block's series
+abbrev pub series_of : List Label × List Sample → Series
+series_of entry = record { labels = entry.0; samples = entry.1 }
+
+abbrev pub last_of : InlineBlock → Last
+last_of block =
+    record { line = block.line; ulid = block.ulid; labels = block.labels; min_time = block.min_time; max_time = block.max_time; series = map series_of block.series.entries }
+
+-- what there is before the first line
+unfoldable pub start : Rules → State
+start rules =
+    record { rules = rules; gateways = []; synced = []; blocks = []; last = None; continues = false; ulids = []; selectors = []; phases = []; phase = None; hands = []; activities = 0 }
+
+-- a declared block as the script has it
+abbrev pub block_of : Last → Block
+block_of last =
+    record { ulid = last.ulid; labels = last.labels; body = Inline last.min_time last.max_time last.series }
+
+-- the blocks with the last one
+abbrev pub all_blocks : List Block → Option Last → List Block
+all_blocks blocks None = blocks
+all_blocks blocks (Some last) = blocks ++ block_of last ∷ []
+
+-- the phases with the last one
+abbrev pub all_phases : List Phase → Option Phase → List Phase
+all_phases phases None = phases
+all_phases phases (Some phase) = phases ++ phase ∷ []
+
+abbrev pub is_declared : State → ℕ → Bool
+is_declared st ulid = list_any (is_at (nat_cmp ulid)) st.ulids
+
+-- the place of the gateway of this name
+abbrev pub gateway_named : List (List ℕ) → List ℕ → Option ℕ
+gateway_named gateways name = position (λ gateway. bytes_eq gateway name) gateways
+
+-- a block that is complete has a series
+abbrev pub has_ended : Option Last → Result (Unit {0}) ScriptRefusal
+has_ended None = Ok tt
+has_ended (Some last) = unless (not (length last.series == 0)) (BadLine last.line EmptyInline)
+
+-- no series line follows the last block's lines
+unfoldable pub end_block : State → Result State ScriptRefusal
+end_block st = do
+  has_ended st.last
+  Ok (record st { continues = false })
+
+unfoldable pub add_gateway : State → List ℕ → Result State LineRefusal
+add_gateway st name = do
+  unless (nat_lt (length st.gateways) 1) TooMany
+  Ok (record st { gateways = st.gateways ++ name ∷ [] })
+
+unfoldable pub begin_block : State → Last → Result State LineRefusal
+begin_block st block = do
+  unless (not (is_declared st block.ulid)) BlockChanged
+  unless (nat_lt (length st.ulids) 4096) TooMany
+  Ok (record st { blocks = all_blocks st.blocks st.last; last = Some block; continues = true; ulids = insert_key nat_cmp st.ulids block.ulid })
+
+-- whether the block has a series with these labels
+abbrev pub has_series : List Series → List Label → Bool
+has_series [] labels = false
+has_series (series ∷ others) labels = is_eq (compare_sets labels series.labels) || has_series others labels
+
+-- a series at its place among those of the block, ascending by labels
+abbrev pub insert_series : List Series → Series → List Series
+insert_series [] new = new ∷ []
+insert_series (series ∷ others) new =
+    match_ordering (compare_sets new.labels series.labels) (new ∷ series ∷ others) (record series { samples = new.samples } ∷ others) (series ∷ insert_series others new)
+
+-- whether a series fits the last block, and may follow
+abbrev pub test_block : Bool → Option Last → List Label → List Sample → Result (Unit {0}) LineRefusal
+test_block continues None labels samples = Err (Bad NoBlock)
+test_block continues (Some last) labels samples = do
+  unless (are_within last.min_time last.max_time samples) (Bad OutsideBlock)
+  unless (not (has_series last.series labels)) (Bad RepeatedSeries)
+  unless continues (Bad NoBlock)
+
+abbrev pub test_series : State → List Label → List Sample → Result (Unit {0}) LineRefusal
+test_series st labels samples = test_block st.continues st.last labels samples
+
+-- the last block with one more series
+abbrev pub with_series : Series → Last → Last
+with_series series last = record last { series = insert_series last.series series }
+
+unfoldable pub add_series : State → Series → Result State LineRefusal
+add_series st series = do
+  test_series st series.labels series.samples
+  Ok (record st { last = option_map (with_series series) st.last })
+
+unfoldable pub begin_phase : State → Phase → State
+begin_phase st phase = record st { phases = all_phases st.phases st.phase; phase = Some phase; hands = [] }
+
+-- who does the tasks of the last phase with one more
+abbrev pub more_hands : State → Phase → Work → List Hand
+more_hands st phase work = with_hands (gateway_count st.gateways) st.hands (length phase.tasks) work
+
+-- a task at the end of the last phase
+unfoldable pub add_task : State → ℕ → Work → Result State LineRefusal
+add_task st line work = do
+  unless (nat_lt st.activities 65536) TooMany
+  phase ← ok_or st.phase (Bad NoPhase)
+  unless (nat_le (length (more_hands st phase work)) 64) TooMany
+  Ok (record st { phase = Some (record phase { tasks = phase.tasks ++ record { line = line; work = work } ∷ [] }); hands = more_hands st phase work; activities = st.activities + 1 })
+
+unfoldable pub add_query : State → ℕ → ℤ → ℤ → List Matcher → Result State LineRefusal
+add_query st line low high selector = do
+  after ← add_task st line (Query low high (length st.selectors))
+  Ok (record after { selectors = after.selectors ++ selector ∷ [] })
+
+-- whether a gateway has a sync line
+abbrev pub is_synced : List ℕ → ℕ → Bool
+is_synced synced gateway = list_any (λ place. place == gateway) synced
+
+-- a sync line of the gateway at a place
+unfoldable pub note_sync : State → ℕ → State
+note_sync st gateway =
+    record st { synced = (if is_synced st.synced gateway then st.synced else st.synced ++ gateway ∷ []) }
+
+-- each gateway has a sync line
+abbrev pub are_all_synced : State → Bool
+are_all_synced st = list_all (is_synced st.synced) (range_with_len 0 (length st.gateways))
+
+-- the script of a state that no line follows
+abbrev pub script_of_state : State → Script
+script_of_state st =
+    record { rules = st.rules; gateways = st.gateways; blocks = all_blocks st.blocks st.last; selectors = st.selectors; phases = all_phases st.phases st.phase }
+
+-- what is left after the last line, as a script
+unfoldable pub finish : State → Result Script ScriptRefusal
+finish st = do
+  ended ← end_block st
+  Ok (script_of_state ended)

@@ -1,0 +1,99 @@
+-- The numbers, times, spans and ULIDs that stand in fields.
+use Rattle.std.specs.Prelude.{ℕ, ◌+◌, ◌-◌, ◌%◌, ◌^◌, List, Bool, true, false, not, ◌&&◌, nat_le, nat_lt, option_map, ok_or, Result, Ok, Err, ℤ, pos, negsuc, if◌then◌else◌}
+use Rattle.reading_core.specs.Reading.{◌>>=◌, ◌>>◌, unless, refused_as}
+use Rattle.reading_core.specs.Decimal.{unsigned_of, signed_of}
+use Rattle.ulid_core.specs.UlidText.{ulid_of}
+use Rattle.moment_core.specs.declared.span.Span.{Span}
+use Rattle.moment_core.specs.declared.rules.Rules.{Rules}
+use Rattle.script_core.specs.declared.rule.Rule.{Rule}
+use Rattle.script_core.specs.declared.rule.Rule.TheVariants as rules
+use Rattle.script_core.specs.declared.rule_name.RuleName.{RuleName}
+use Rattle.script_core.specs.declared.rule_name.RuleName.TheVariants as names
+use Rattle.moment_core.specs.SpanText.{span_of}
+use Rattle.moment_core.specs.MomentText.{moment_of}
+use Rattle.moment_core.specs.declared.moment.Moment.{Moment}
+use Rattle.script_core.specs.declared.cause.LineCause.{LineCause}
+use Rattle.script_core.specs.declared.cause.LineCause.TheVariants.{BadNumber, BadMomentText, BadSpanText, BadUlidText}
+
+-- a time of the script: within 2^62 of 0
+abbrev pub is_time : ℤ → Bool
+is_time (pos n) = nat_le n (2 ^ 62)
+is_time (negsuc n) = nat_lt n (2 ^ 62)
+
+unfoldable pub time_field : List ℕ → Result ℤ LineCause
+time_field field = do
+  time ← refused_as (λ _. BadNumber) (signed_of field)
+  unless (is_time time) BadNumber
+  Ok time
+
+unfoldable pub page_limit_field : List ℕ → Result ℕ LineCause
+page_limit_field field = do
+  limit ← refused_as (λ _. BadNumber) (unsigned_of field)
+  unless (nat_le 1 limit && nat_le limit 10000) BadNumber
+  Ok limit
+
+abbrev pub span_from : ℕ → Span
+span_from ms = record { ms = ms }
+
+unfoldable pub span_field : List ℕ → Result Span LineCause
+span_field field = ok_or (option_map span_from (span_of field)) BadSpanText
+
+-- a span of at most a day
+unfoldable pub tick_field : List ℕ → Result Span LineCause
+tick_field field = do
+  tick ← span_field field
+  unless (nat_le tick.ms 86400000) BadSpanText
+  Ok tick
+
+abbrev pub moment_from : ℕ → Moment
+moment_from ms = record { ms = ms }
+
+unfoldable pub moment_field : List ℕ → Result Moment LineCause
+moment_field field = ok_or (option_map moment_from (moment_of field)) BadMomentText
+
+unfoldable pub ulid_field : List ℕ → Result ℕ LineCause
+ulid_field field = refused_as (λ _. BadUlidText) (ulid_of field)
+
+-- The last 2^20 ULIDs of each millisecond are kept for compacted blocks.
+abbrev pub is_reserved : ℕ → Bool
+is_reserved ulid = nat_le (2 ^ 80 - 2 ^ 20) (ulid % 2 ^ 80)
+
+-- what a rule line sets
+unfoldable pub rule_of : RuleName → List ℕ → Result Rule LineCause
+rule_of names.Consistency value = do
+  span ← span_field value
+  Ok (rules.Consistency span)
+rule_of names.Ignore value = do
+  span ← span_field value
+  Ok (rules.Ignore span)
+rule_of names.Delete value = do
+  span ← span_field value
+  Ok (rules.Delete span)
+rule_of names.Partial value = do
+  span ← span_field value
+  Ok (rules.Partial span)
+rule_of names.Upload value = do
+  span ← span_field value
+  Ok (rules.Upload span)
+rule_of names.Tick value = do
+  span ← tick_field value
+  Ok (rules.Tick span)
+rule_of names.PageLimit value = do
+  limit ← page_limit_field value
+  Ok (rules.PageLimit limit)
+
+-- a rule takes the place of what was set before
+abbrev pub with_rule : Rules → Rule → Rules
+with_rule set (rules.Consistency span) = record set { consistency = span }
+with_rule set (rules.Ignore span) = record set { ignore = span }
+with_rule set (rules.Delete span) = record set { delete = span }
+with_rule set (rules.Partial span) = record set { partial = span }
+with_rule set (rules.Upload span) = record set { upload = span }
+with_rule set (rules.Tick span) = record set { tick = span }
+with_rule set (rules.PageLimit limit) = record set { page_limit = limit }
+
+-- An upload has its time before a partial block is deleted, and a second more before a marked one is. A mark is heeded
+-- no later than it deletes.
+abbrev pub agree : Rules → Bool
+agree set =
+    nat_le set.upload.ms set.partial.ms && nat_le (set.upload.ms + 1000) set.delete.ms && nat_le set.ignore.ms set.delete.ms
