@@ -4,3 +4,6 @@
 mod merger;
 
 pub use merger::Merger;
+
+#[cfg(test)]
+mod tests;

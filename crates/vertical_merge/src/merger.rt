@@ -1,79 +1,163 @@
-use label_sets::{LabelSet, Sample, SampleList, Series, SeriesList};
-use list_core::{List, NoMemory, TryCopy};
-use std::alloc::Global;
-use std::cmp::Ordering;
+ghost use Rattle.std.specs.Prelude.{◌≡◌, ◌≢◌, [], ◌++◌, ◌∷◌, List, map, All, IfOk, OnOk, OnErr, IsTrue, ◌↔◌, fold};
+ghost use Rattle.std.specs.List.Sorted.{IsSortedBy, IsStableBy};
+ghost use Rattle.label_sets.specs.Triples.{Triple, triples_of, triples_under};
+ghost use Rattle.vertical_merge.specs.Merged.{IsMerge, IsDeduplication, PatternsAgree};
+ghost use Rattle.vertical_merge.specs.Joined.{has_lesser_labels, has_lesser_time, joined_to, first_samples};
+ghost use Rattle.label_sets.specs.Ordered.{in_order};
 
-/// Series that were added, to be merged.
+use label_sets::{LabelSet, Sample, SampleList, Series, SeriesList};
+use list_core::{NoMemory, TryCopy};
+use std::alloc::Global;
+use std::marker::Model;
+
+/// Series that were added, to be merged. It is seen as the samples that were added, in that order.
 #[derive(Drop)]
 pub struct Merger {
     added: Vec<Series>,
 }
 
+impl Model for Merger {
+    ghost use Rattle.std.specs.Prelude.{◌≢◌, [], List, All};
+    ghost use Rattle.label_sets.specs.Triples.{Triple, triples_of};
+
+    ghost Value = { List Triple };
+
+    ghost view = { λ m. triples_of m.added.items };
+
+    ghost invariant = { λ m. All (λ s. s.samples ≢ []) m.added.items };
+}
+
 impl Merger {
     /// Nothing was added yet. It takes no memory.
-    pub fn new(alloc: Global) -> Self {
+    pub fn new(alloc: Global) -> Self
+        ensures { result ≡ [] }
+    {
         Merger {
             added: Vec::new(alloc),
         }
     }
 
-    /// Adds samples under a label set. On an error nothing was added.
-    pub fn add(&mut self, labels: &LabelSet, samples: &SampleList) -> Result<(), NoMemory> {
+    /// Adds samples under a label set.
+    pub fn add(&mut self, labels: &LabelSet, samples: &SampleList) -> Result<(), NoMemory>
+        ensures ok { OnOk result (self.new ≡ self.old ++ triples_under labels.now samples.now) }
+        ensures err { OnErr result (self.new ≡ self.old) }
+    {
         let series = Series {
             labels: labels.copy()?,
             samples: samples.copy()?,
         };
-        self.added.push(series)?;
+        self.take(series)
+    }
+
+    /// Adds a series.
+    pub fn take(&mut self, series: Series) -> Result<(), NoMemory>
+        ensures ok { OnOk result (self.new ≡ self.old ++ triples_under series.labels series.samples) }
+        ensures err { OnErr result (self.new ≡ self.old) }
+    {
+        if !series.samples.is_empty() {
+            self.added.push(series)?;
+        }
         Ok(())
     }
 
-    /// The merged series, ascending by labels, each with at least one sample and rising times.
-    pub fn finish(self) -> Result<SeriesList, NoMemory> {
-        let alloc = *self.added.allocator();
-        let mut added = self.added;
-        added.sort_by(|one, other| one.labels.compare(&other.labels))?;
-        let mut merged = List::new(alloc);
-        let mut samples = Vec::new(alloc);
-        let mut labels: Option<LabelSet> = None;
-        for series in added {
-            let Series {
-                labels: next,
-                samples: more,
-            } = series;
-            match labels {
-                Some(last) if last.compare(&next) == Ordering::Equal => {
-                    labels = Some(last);
-                }
-                Some(last) => {
-                    push_series(&mut merged, last, samples)?;
-                    samples = Vec::new(alloc);
-                    labels = Some(next);
-                }
-                None => labels = Some(next),
-            }
-            samples.extend_from_slice(more.members())?;
-        }
-        if let Some(last) = labels {
-            push_series(&mut merged, last, samples)?;
-        }
-        Ok(merged)
+    /// The merged series.
+    pub fn finish(self) -> Result<SeriesList, NoMemory>
+        ensures merged { IfOk result (IsMerge self) }
+        ensures deduplicated { IfOk result (λ series. IsDeduplication (triples_of series) self) }
+        // where no two patterns differ at a key, there is one deduplication
+        ensures only { IfOk result (λ series. PatternsAgree self → (kept : List Triple) → IsDeduplication kept self → kept ≡ triples_of series) }
+    {
+        merge(self.added)
     }
 }
 
-/// Adds a series of these samples, in order and the first at each time; none where there is no sample.
-fn push_series(
-    merged: &mut SeriesList,
-    labels: LabelSet,
-    samples: Vec<Sample>,
-) -> Result<(), NoMemory> {
-    let mut samples = samples;
-    samples.sort_by_key(|sample| sample.time)?;
-    samples.dedup_by_key(|sample| sample.time);
-    if !samples.is_empty() {
-        merged.push(Series {
+fn merge(added: Vec<Series>) -> Result<SeriesList, NoMemory>
+    requires { All (λ s. s.samples ≢ []) added.items }
+    ensures { IfOk result (IsMerge (triples_of added.items)) }
+{
+    let mut series = added;
+    sort_by_labels(&mut series)?;
+    first_of_each(join_equal(series)?)
+}
+
+/// Puts series in the order of their labels. Those with equal labels keep their order.
+fn sort_by_labels(series: &mut Vec<Series>) -> Result<(), NoMemory>
+    ensures sorted { OnOk result (IsSortedBy has_lesser_labels series.new.items) }
+    ensures stable { OnOk result (IsStableBy has_lesser_labels series.old.items series.new.items) }
+    ensures inhabited { All (λ s. s.samples ≢ []) series.old.items → All (λ s. s.samples ≢ []) series.new.items }
+{
+    series.sort_by(|one, other| one.labels.cmp(&other.labels))?;
+    Ok(())
+}
+
+/// Joins neighbours under equal labels.
+fn join_equal(series: Vec<Series>) -> Result<Vec<Series>, NoMemory>
+    ensures { IfOk result (λ made. made.items ≡ fold joined_to [] series.items) }
+{
+    let mut made = Vec::new(*series.allocator());
+    for next in series {
+        join(&mut made, next)?;
+    }
+    Ok(made)
+}
+
+/// Adds a series after the others: to the last one where that has the same labels.
+fn join(made: &mut Vec<Series>, next: Series) -> Result<(), NoMemory>
+    ensures { OnOk result (made.new.items ≡ joined_to made.old.items next) }
+{
+    let Some(last) = made.pop() else {
+        made.push(next)?;
+        return Ok(());
+    };
+    if last.labels == next.labels {
+        made.push(with_samples(last, next.samples)?)?;
+    } else {
+        made.push(last)?;
+        made.push(next)?;
+    }
+    Ok(())
+}
+
+fn with_samples(series: Series, more: SampleList) -> Result<Series, NoMemory>
+    ensures { IfOk result (λ made. made ≡ record { labels = series.labels; samples = series.samples ++ more }) }
+{
+    let Series { labels, samples } = series;
+    let mut samples = samples.into_vec();
+    samples.extend_from_slice(more.members())?;
+    Ok(Series {
+        labels,
+        samples: SampleList::from_vec(samples),
+    })
+}
+
+/// The series with the first pattern at each time.
+fn first_of_each(series: Vec<Series>) -> Result<SeriesList, NoMemory>
+    ensures { IfOk result (λ made. made ≡ map (λ s. record { labels = s.labels; samples = first_samples s.samples }) series.items) }
+{
+    let mut made = SeriesList::new(*series.allocator());
+    for one in series {
+        let Series { labels, samples } = one;
+        made.push(Series {
             labels,
-            samples: List::from_vec(samples),
+            samples: first_samples(samples)?,
         })?;
     }
+    Ok(made)
+}
+
+/// The samples in the order of their times, of those at one time the first.
+fn first_samples(samples: SampleList) -> Result<SampleList, NoMemory>
+    ensures { IfOk result (λ made. made ≡ first_samples samples) }
+{
+    let mut samples = samples.into_vec();
+    sort_by_time(&mut samples)?;
+    samples.dedup_by_key(|sample| sample.time);
+    Ok(SampleList::from_vec(samples))
+}
+
+fn sort_by_time(samples: &mut Vec<Sample>) -> Result<(), NoMemory>
+    ensures { OnOk result (samples.new.items ≡ in_order has_lesser_time samples.old.items) }
+{
+    samples.sort_by_key(|sample| sample.time)?;
     Ok(())
 }

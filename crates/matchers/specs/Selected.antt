@@ -1,0 +1,26 @@
+-- Which samples a query asks for, and what answers it.
+use Rattle.std.specs.Prelude.{ℤ, List, Bool, ◌&&◌}
+use Rattle.std.specs.Ordering.{int_cmp, is_le}
+use Rattle.std.specs.List.{filter}
+use Rattle.std.specs.List.Sorted.{IsStrictlySortedBy}
+use Rattle.label_sets.specs.Triples.{Triple, compare_keys, IsOneToOne}
+use Rattle.matchers.specs.declared.matcher.Matcher.{Matcher}
+use Rattle.matchers.specs.Selectors.{is_match}
+
+-- whether a time is from low to high, both included
+abbrev pub is_within : ℤ → ℤ → ℤ → Bool
+is_within low high time = is_le (int_cmp low time) && is_le (int_cmp time high)
+
+-- whether all matchers accept the labels, and the time is within the range
+unfoldable pub is_selected : List Matcher → ℤ → ℤ → Triple → Bool
+is_selected selector low high t = is_match selector t.labels && is_within low high t.time
+
+-- those of the samples that the query asks for
+unfoldable pub selected : List Matcher → ℤ → ℤ → List Triple → List Triple
+selected selector low high list = filter (is_selected selector low high) list
+
+-- The answer to a query over these samples: the keys strictly ascend, and it is a one-to-one deduplication of those that
+-- the query asks for.
+pub record IsAnswer (selector : List Matcher) (low high : ℤ) (answer held : List Triple) : Type 0 where
+  pub ascending : IsStrictlySortedBy compare_keys answer
+  pub one_to_one : IsOneToOne answer (selected selector low high held)

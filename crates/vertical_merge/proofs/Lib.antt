@@ -1,0 +1,5 @@
+pub mod Orders
+pub mod Concats
+pub mod Joining
+pub mod Merging
+pub mod Laws
