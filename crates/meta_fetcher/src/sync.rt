@@ -1,39 +1,253 @@
-use crate::{Stage, SyncRules};
-use label_sets::Text;
+ghost use Rattle.std.specs.Prelude.{◌≡◌, ◌+◌, ◌*◌, ◌≤◌, ℕ, List, [], length, map, Option, IfOk, IsSomeAnd};
+ghost use Rattle.world_core.specs.Machines.{GoesOn, Falls};
+ghost use Rattle.world_core.specs.Operations.{IsAnswer, entry_of};
+ghost use Rattle.world_core.specs.declared.op.Op.{Op};
+ghost use Rattle.world_core.specs.declared.entry.Entry.{Entry};
+ghost use Rattle.meta_fetcher.specs.declared.sync_end.SyncEnd.{SyncEnd};
+ghost use Rattle.meta_fetcher.specs.Syncs.{SyncRun};
+
+use crate::filters::kept_blocks;
+use crate::names::{add_ulids, ascends, is_short, last_name};
+use crate::reading::meta_of;
+use crate::stage::Stage;
+use crate::{SyncEnd, SyncRules, View};
+use block_keys::Key;
+use label_sets::{Text, TextList};
+use list_core::{NoMemory, TryCopy};
 use moment_core::Moment;
 use std::alloc::Global;
-use std::marker::Model;
-use sync_filters::Found;
+use std::collections::VecDeque;
+use std::mem;
+use sync_filters::{Found, FoundList};
 use ulid_core::Ulid;
+use world_core::{Act, Machine, Op, Reply, Seen};
+
+/// A walk that has listed so many names and has not come to its end is given up.
+const MOST_NAMES: u64 = 1_000_000;
 
 /// A sync: the pages of the bucket's names up to the first short one, and then of each block its mark and its meta.
 #[derive(Drop)]
 pub struct Sync {
-    pub(crate) alloc: Global,
-    pub(crate) rules: SyncRules,
-    pub(crate) stage: Stage,
-    /// The last name that was listed, and the empty text before the first.
-    pub(crate) after: Text,
+    alloc: Global,
+    rules: SyncRules,
+    stage: Stage,
+    /// The number and the moment of the first entry, once it was made.
+    first: u64,
+    begin: Moment,
+    /// The moment of the last entry.
+    last: Moment,
+    /// The last name that was listed.
+    after: Text,
     /// How many names were listed.
-    pub(crate) listed: u64,
-    /// The blocks among them, ascending.
-    pub(crate) ulids: Vec<Ulid>,
-    /// The place of the block that is read.
-    pub(crate) place: usize,
-    pub(crate) found: Vec<Found>,
-    /// The number and the moment of the first entry, and 0 before it.
-    pub(crate) first: u64,
-    pub(crate) begin: Moment,
-    /// The moment of the last read of a mark.
-    pub(crate) mark_read: Moment,
+    listed: u64,
+    /// The blocks that are still to be read, ascending.
+    waiting: VecDeque<Ulid>,
+    found: Vec<Found>,
+    ghost limit: { 1 ≤ rules.page_limit },
 }
 
-impl Model for Sync {
-    ghost use Rattle.meta_fetcher.specs.Sync.{Syncing, IsHeld};
+impl Sync {
+    ghost use Rattle.meta_fetcher.specs.Sightings.{IsView, sighting_of};
+    ghost use Rattle.meta_fetcher.specs.SyncStates.{IsFresh, may_sync, asked_sync, left_at, left_sync, Leads, reads_on, reads_meta, after_names, after_at};
 
-    ghost Value = { Syncing };
+    /// Begins a sync.
+    pub fn start(alloc: Global, rules: SyncRules) -> Result<Sync, NoMemory>
+        requires { 1 ≤ rules.page_limit }
+        ensures begun { IfOk result IsFresh }
+        ensures run { IfOk result (λ sync. (entries : List Entry) (end : Option SyncEnd) (last : _) → may_sync sync entries end last → SyncRun rules entries end) }
+    {
+        let none = Moment { ms: 0 };
+        Ok(Sync {
+            alloc,
+            rules,
+            stage: Stage::Fresh,
+            first: 0,
+            begin: none,
+            last: none,
+            after: Text::from_str(alloc, "")?,
+            listed: 0,
+            waiting: VecDeque::new(alloc),
+            found: Vec::new(alloc),
+        })
+    }
 
-    ghost view = { λ s. record { stage = s.stage; after = s.after; limit = s.rules.page_limit; listed = s.listed; ulids = s.ulids.items; place = s.place } };
+    /// Goes on after the first page of names.
+    fn opened(&mut self, seen: Seen) -> Result<Act<SyncEnd>, NoMemory>
+        requires stage { self.old.stage ≡ Stage.Opening }
+        requires answer { IsSomeAnd (asked_sync self.old) (λ op. IsAnswer op seen) }
+        ensures leads { Leads (after_at Stage.Opening self.old seen.seq seen.moment seen.reply) result self.new }
+        ensures falls { Falls (left_at Stage.Opening self.old) result (left_sync self.new) }
+    {
+        let Seen { seq, moment, reply } = seen;
+        self.first = seq;
+        self.begin = moment;
+        self.last = moment;
+        match reply {
+            Reply::Names(names) => if ascends(None, names.members()) {
+                self.take_names(&names)
+            } else {
+                Ok(Act::Done(SyncEnd::Damaged(seq)))
+            },
+            Reply::Failed(_) => Ok(Act::Done(SyncEnd::Fault(seq))),
+            _ => unreachable!(),
+        }
+    }
 
-    ghost invariant = { λ s. IsHeld (record { stage = s.stage; after = s.after; limit = s.rules.page_limit; listed = s.listed; ulids = s.ulids.items; place = s.place }) };
+    /// Goes on after a further page of names.
+    fn listed_more(&mut self, seen: Seen) -> Result<Act<SyncEnd>, NoMemory>
+        requires stage { self.old.stage ≡ Stage.Listing }
+        requires answer { IsSomeAnd (asked_sync self.old) (λ op. IsAnswer op seen) }
+        ensures leads { Leads (after_at Stage.Listing self.old seen.seq seen.moment seen.reply) result self.new }
+        ensures falls { Falls (left_at Stage.Listing self.old) result (left_sync self.new) }
+    {
+        let Seen { seq, moment, reply } = seen;
+        self.last = moment;
+        match reply {
+            Reply::Names(names) => if ascends(Some(&self.after), names.members()) {
+                self.take_names(&names)
+            } else {
+                Ok(Act::Done(SyncEnd::Damaged(seq)))
+            },
+            Reply::Failed(_) => Ok(Act::Done(SyncEnd::Fault(seq))),
+            _ => unreachable!(),
+        }
+    }
+
+    /// Goes on with the names of a page, which ascend.
+    fn take_names(&mut self, names: &TextList) -> Result<Act<SyncEnd>, NoMemory>
+        ensures leads { Leads (after_names self.old names.now) result self.new }
+        ensures falls { Falls (left_at Stage.Listing self.old) result (left_sync self.new) }
+    {
+        add_ulids(&mut self.waiting, names.members())?;
+        if is_short(names.len(), self.rules.page_limit) {
+            return self.read_next();
+        }
+        self.listed = self.listed.saturating_add(names.len() as u64);
+        if self.listed >= MOST_NAMES {
+            return Ok(Act::Done(SyncEnd::TooMany));
+        }
+        self.after = last_name(names.members())?;
+        self.stage = Stage::Listing;
+        Ok(Act::Do(Op::RootPage(
+            self.after.copy()?,
+            self.rules.page_limit,
+        )))
+    }
+
+    /// Asks for the mark of the next block, or ends where there is none.
+    fn read_next(&mut self) -> Result<Act<SyncEnd>, NoMemory>
+        ensures leads { Leads (reads_on self.old) result self.new }
+        ensures falls { Falls (2 * length self.old.waiting.items + 1) result (left_sync self.new) }
+    {
+        match self.waiting.pop_front() {
+            Some(ulid) => {
+                self.stage = Stage::Marking(ulid);
+                Ok(Act::Do(Op::Get(Key::Mark(ulid))))
+            }
+            None => Ok(Act::Done(SyncEnd::View(self.take_view()))),
+        }
+    }
+
+    /// The view of what was found.
+    fn take_view(&mut self) -> View
+        ensures { IsView self.old.rules self.old.first self.old.begin self.old.last (map sighting_of self.old.found.items) result }
+    {
+        let found = mem::replace(&mut self.found, Vec::new(self.alloc));
+        View {
+            first: self.first,
+            begin: self.begin,
+            end: self.last,
+            kept: kept_blocks(found, self.rules),
+            covered: FoundList::new(self.alloc),
+        }
+    }
+
+    /// Goes on after the look for the mark of a block.
+    fn marked(&mut self, ulid: Ulid, seen: Seen) -> Result<Act<SyncEnd>, NoMemory>
+        requires stage { self.old.stage ≡ Stage.Marking ulid }
+        requires answer { IsSomeAnd (asked_sync self.old) (λ op. IsAnswer op seen) }
+        ensures leads { Leads (after_at (Stage.Marking ulid) self.old seen.seq seen.moment seen.reply) result self.new }
+        ensures falls { Falls (left_at (Stage.Marking ulid) self.old) result (left_sync self.new) }
+    {
+        let Seen { seq, moment, reply } = seen;
+        self.last = moment;
+        match reply {
+            // no part of the system puts marks yet
+            Reply::Found(_) => Ok(Act::Done(SyncEnd::Damaged(seq))),
+            Reply::Failed(_) => Ok(Act::Done(SyncEnd::Fault(seq))),
+            Reply::Absent => self.ask_meta(ulid),
+            _ => unreachable!(),
+        }
+    }
+
+    /// Asks for the meta of a block.
+    fn ask_meta(&mut self, ulid: Ulid) -> Result<Act<SyncEnd>, NoMemory>
+        ensures leads { Leads (reads_meta self.old ulid) result self.new }
+        ensures falls { Falls (2 * length self.old.waiting.items + 2) result (left_sync self.new) }
+    {
+        self.stage = Stage::Reading(ulid);
+        Ok(Act::Do(Op::Get(Key::Meta(ulid))))
+    }
+
+    /// Goes on after the read of the meta of a block.
+    fn meta_read(&mut self, ulid: Ulid, seen: Seen) -> Result<Act<SyncEnd>, NoMemory>
+        requires stage { self.old.stage ≡ Stage.Reading ulid }
+        requires answer { IsSomeAnd (asked_sync self.old) (λ op. IsAnswer op seen) }
+        ensures leads { Leads (after_at (Stage.Reading ulid) self.old seen.seq seen.moment seen.reply) result self.new }
+        ensures falls { Falls (left_at (Stage.Reading ulid) self.old) result (left_sync self.new) }
+    {
+        let Seen { seq, moment, reply } = seen;
+        let mark_read = self.last;
+        self.last = moment;
+        match reply {
+            Reply::Found(bytes) => match meta_of(self.alloc, ulid, bytes.bytes())? {
+                Some(meta) => {
+                    self.found.push(Found {
+                        ulid,
+                        mark: None,
+                        mark_read,
+                        meta,
+                        meta_read: moment,
+                    })?;
+                    self.read_next()
+                }
+                None => Ok(Act::Done(SyncEnd::Damaged(seq))),
+            },
+            Reply::Failed(_) => Ok(Act::Done(SyncEnd::Fault(seq))),
+            // a block without a meta gives nothing
+            Reply::Absent => self.read_next(),
+            _ => unreachable!(),
+        }
+    }
+}
+
+impl Machine for Sync {
+    type End = SyncEnd;
+
+    ghost use Rattle.meta_fetcher.specs.SyncStates.{IsFresh, may_sync, asked_sync, left_sync};
+
+    ghost may = { may_sync };
+
+    ghost asked = { asked_sync };
+
+    ghost measure = { left_sync };
+
+    ghost fresh = { IsFresh };
+
+    fn first(&mut self) -> Result<Act<SyncEnd>, NoMemory> {
+        let cursor = Text::from_str(self.alloc, "")?;
+        self.stage = Stage::Opening;
+        Ok(Act::Do(Op::RootPage(cursor, self.rules.page_limit)))
+    }
+
+    fn step(&mut self, seen: Seen) -> Result<Act<SyncEnd>, NoMemory> {
+        let stage = self.stage;
+        match stage {
+            Stage::Fresh => unreachable!(),
+            Stage::Opening => self.opened(seen),
+            Stage::Listing => self.listed_more(seen),
+            Stage::Marking(ulid) => self.marked(ulid, seen),
+            Stage::Reading(ulid) => self.meta_read(ulid, seen),
+        }
+    }
 }

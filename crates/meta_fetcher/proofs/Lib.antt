@@ -1,0 +1,4 @@
+mod Listed
+mod Steps
+mod Pages
+mod Metas

@@ -1,0 +1,71 @@
+-- Names of a page, the ULIDs among them, and the last one.
+use Rattle.std.proofs.Common.{◌≡◌, ℕ, ◌≤◌, ◌<◌, ◌+◌, ◌-◌, zero, suc, Bool, true, false, List, [], ◌∷◌, ◌++◌, length, get_or, refl, sym, ◌∙◌, ap, arith, Option, Some, None, Result, Ok, Err, length-append, append_assoc, append-nil, take}
+use Rattle.std.specs.Prelude.{IfOk}
+use Rattle.list_core.specs.declared.memory.NoMemory.{NoMemory}
+use Rattle.std.specs.List.{filter_map, last_or, cons_option}
+use Rattle.std.specs.Result.{result_ok}
+use Rattle.std.proofs.lemmas.List.Elements.{filter_map-append}
+use Rattle.std.proofs.lemmas.List.{take_more}
+use Rattle.ulid_core.specs.UlidText.{ulid_of}
+use Rattle.world_core.specs.Walks.{last_listed}
+use Rattle.meta_fetcher.specs.Syncs.{ulids_in}
+
+length-cons_option : {X : Type 0} (o : Option X) (xs : List X) → length (cons_option o xs) ≤ length xs + 1
+length-cons_option None xs = omega arith
+length-cons_option (Some x) xs = omega arith
+
+-- no more than there are names
+pub length-ulids_in : (names : List (List ℕ)) → length (ulids_in names) ≤ length names
+length-ulids_in [] = omega arith
+length-ulids_in (name ∷ names) =
+    let few : length (ulids_in names) ≤ length names = length-ulids_in names in
+    let more : length (cons_option (result_ok (ulid_of name)) (ulids_in names)) ≤ length (ulids_in names) + 1 = length-cons_option (result_ok (ulid_of name)) (ulids_in names) in
+    omega (arith, few, more)
+
+pub ulids_in-append : (before more : List (List ℕ)) → ulids_in (before ++ more) ≡ ulids_in before ++ ulids_in more
+ulids_in-append before more = filter_map-append (λ name. result_ok (ulid_of name)) before more
+
+last_or-append : {X : Type 0} (o : Option X) (xs : List X) (y : X) (ys : List X) → last_or o (xs ++ y ∷ ys) ≡ last_or (Some y) ys
+last_or-append o [] y ys = refl
+last_or-append o (x ∷ xs) y ys = last_or-append (Some x) xs y ys
+
+-- the last of more names is the last of all
+pub last_listed-append : (before more : List (List ℕ)) (name : List ℕ) → last_listed more ≡ Some name → last_listed (before ++ more) ≡ Some name
+last_listed-append before [] name is = absurd (cc)
+last_listed-append before (x ∷ more) name is = last_or-append None before x more ∙ is
+
+last_or-at : {X : Type 0} (o : Option X) (xs : List X) (d : X) → 0 < length xs → last_or o xs ≡ Some (get_or xs (length xs - 1) d)
+last_or-at o [] d some = absurd (omega arith)
+last_or-at o (x ∷ []) d some = refl
+last_or-at o (x ∷ y ∷ xs) d some =
+    let here : length (x ∷ y ∷ xs) - 1 ≡ suc (length (y ∷ xs) - 1) = omega arith in
+    last_or-at (Some x) (y ∷ xs) d (omega arith) ∙ ap (λ n. Some (get_or (x ∷ y ∷ xs) n d)) (sym here)
+
+pub last_listed-at : (names : List (List ℕ)) (d : List ℕ) → 0 < length names → last_listed names ≡ Some (get_or names (length names - 1) d)
+last_listed-at names d some = last_or-at None names d some
+
+no_ulid : {E : Type 0} (read : Result ℕ E) → ((ulid : ℕ) → read ≡ Ok ulid → ⊥) → result_ok read ≡ None
+no_ulid (Ok ulid) refused = absurd (refused ulid refl)
+no_ulid (Err e) refused = refl
+
+-- one name more
+ulids_in-more : (names : List (List ℕ)) (i : ℕ) (d name : List ℕ) → i < length names → name ≡ get_or names i d
+    → ulids_in (take (i + 1) names) ≡ ulids_in (take i names) ++ cons_option (result_ok (ulid_of name)) []
+ulids_in-more names i d name lt is =
+    ap ulids_in (take_more names i d lt ∙ ap (λ n. take i names ++ n ∷ []) (sym is)) ∙ ulids_in-append (take i names) (name ∷ [])
+
+pub add_found : (names : List (List ℕ)) (i : ℕ) (d name : List ℕ) (ulid : ℕ) (before old new : List ℕ) → i < length names → name ≡ get_or names i d
+    → ulid_of name ≡ Ok ulid → before ≡ old ++ ulids_in (take i names) → new ≡ before ++ ulid ∷ [] → new ≡ old ++ ulids_in (take (i + 1) names)
+add_found names i d name ulid before old new lt is read invariant pushed =
+    pushed ∙ ap (λ l. l ++ ulid ∷ []) invariant ∙ append_assoc old (ulids_in (take i names)) (ulid ∷ [])
+    ∙ ap (λ o. old ++ (ulids_in (take i names) ++ cons_option (result_ok o) [])) (sym read) ∙ ap (λ l. old ++ l) (sym (ulids_in-more names i d name lt is))
+
+pub add_none : (names : List (List ℕ)) (i : ℕ) (d name : List ℕ) (before old new : List ℕ) → i < length names → name ≡ get_or names i d
+    → ((ulid : ℕ) → ulid_of name ≡ Ok ulid → ⊥) → before ≡ old ++ ulids_in (take i names) → new ≡ before → new ≡ old ++ ulids_in (take (i + 1) names)
+add_none names i d name before old new lt is refused invariant same =
+    same ∙ invariant ∙ sym (ap (λ l. old ++ l) (ulids_in-more names i d name lt is ∙ ap (λ o. ulids_in (take i names) ++ cons_option o []) (no_ulid (ulid_of name) refused) ∙ append-nil (ulids_in (take i names))))
+
+pub last_copied : (r : Result (List ℕ) NoMemory) (names : List (List ℕ)) (name d : List ℕ) → 0 < length names
+    → name ≡ get_or names (length names - 1) d → IfOk r (λ copied. copied ≡ name) → IfOk r (λ copied. last_listed names ≡ Some copied)
+last_copied (Ok copied) names name d some at is = last_listed-at names d some ∙ ap Some (sym (is ∙ at))
+last_copied (Err e) names name d some at is = tt

@@ -1,0 +1,48 @@
+-- What a sync reads of a block, and the view that it comes to.
+use Rattle.std.specs.Prelude.{◌≡◌, ℕ, ◌==◌, if◌then◌else◌, List, [], map, Option, Some, None, option_map, Result, Ok, Err}
+use Rattle.std.specs.List.{filter}
+use Rattle.moment_core.specs.declared.moment.Moment.{Moment}
+use Rattle.block_meta.specs.MetaFields.{MetaFields, MarkFields, fields_of, mark_fields_of}
+use Rattle.block_meta.specs.declared.refusal.MetaRefusal.{MetaRefusal}
+use Rattle.block_meta.specs.MetaReading.{meta_of_text}
+use Rattle.sync_filters.specs.Filters.{is_consistent, is_in_partition}
+use Rattle.sync_filters.specs.declared.found.Found.{Found}
+use Rattle.meta_fetcher.specs.declared.rules.SyncRules.{SyncRules}
+use Rattle.meta_fetcher.specs.declared.view.View.{View}
+
+-- what was read of a block whose meta stands, and when
+pub record Sighting : Type 0 where
+  pub ulid : ℕ
+  pub mark : Option MarkFields
+  pub mark_read : Moment
+  pub meta : MetaFields
+  pub meta_read : Moment
+
+abbrev pub sighting_of : Found → Sighting
+sighting_of block = record { ulid = block.ulid; mark = option_map mark_fields_of block.mark; mark_read = block.mark_read; meta = fields_of block.meta; meta_read = block.meta_read }
+
+-- the meta that bytes are read as, where it is this block's
+abbrev pub named_meta : ℕ → Result MetaFields MetaRefusal → Option MetaFields
+named_meta ulid (Ok meta) = if meta.ulid == ulid then Some meta else None
+named_meta ulid (Err refusal) = None
+
+abbrev pub block_meta : ℕ → List ℕ → Option MetaFields
+block_meta ulid bytes = named_meta ulid (meta_of_text bytes)
+
+-- the blocks that pass the filters, one filter after another
+abbrev pub kept_by : SyncRules → List Found → List Found
+kept_by rules found =
+    let in_time = filter (λ block. is_in_partition block.meta rules.partition) found in
+    filter (λ block. is_consistent block rules.consistency) in_time
+
+-- The view of a sync whose first entry has that number, which began and ended at these moments, and which read this of the
+-- blocks that it found.
+pub record IsView (rules : SyncRules) (number : ℕ) (begun ended : Moment) (sightings : List Sighting) (view : View) : Type 0 where
+  pub first : view.first ≡ number
+  pub begin : view.begin ≡ begun
+  pub end : view.end ≡ ended
+  pub found : List Found
+  pub sighted : map sighting_of found ≡ sightings
+  pub kept : view.kept ≡ kept_by rules found
+  -- no filter by sources yet
+  pub covered : view.covered ≡ []

@@ -1,0 +1,60 @@
+ghost use Rattle.std.specs.Prelude.{◌≡◌, ◌<◌, ◌^◌, ◌++◌, nat_lt, length, Some, IfOk, OnOk, IsTrue};
+ghost use Rattle.std.specs.Option.{option_copied};
+ghost use Rattle.world_core.specs.Walks.{ascends as do_ascend, is_after as comes_after, last_listed};
+ghost use Rattle.meta_fetcher.specs.Syncs.{ulids_in};
+
+use label_sets::Text;
+use list_core::{NoMemory, TryCopy};
+use std::collections::VecDeque;
+use ulid_core::Ulid;
+
+/// Tells whether each name is greater than the one before it, where the first one may have one before it too.
+pub(crate) fn ascends(before: Option<&Text>, names: &[Text]) -> bool
+    ensures { result ≡ do_ascend (option_copied before.entry) names.now }
+{
+    let mut last = before;
+    for name in names {
+        if !is_after(last, name) {
+            return false;
+        }
+        last = Some(name);
+    }
+    true
+}
+
+fn is_after(before: Option<&Text>, name: &Text) -> bool
+    ensures { result ≡ comes_after (option_copied before.entry) name.now }
+{
+    match before {
+        Some(before) => before.as_str() < name.as_str(),
+        None => true,
+    }
+}
+
+/// Tells whether a page of so many names has fewer than it was asked for.
+pub(crate) fn is_short(count: usize, limit: u32) -> bool
+    ensures value { result ≡ nat_lt count limit }
+    ensures few { IsTrue result → count < 2 ^ 32 }
+{
+    (count as u64) < u64::from(limit)
+}
+
+/// Adds the ULIDs among the names.
+pub(crate) fn add_ulids(ulids: &mut VecDeque<Ulid>, names: &[Text]) -> Result<(), NoMemory>
+    ensures { OnOk result (ulids.new.items ≡ ulids.old.items ++ ulids_in names.now) }
+{
+    for name in names {
+        if let Ok(ulid) = Ulid::read(name.as_str()) {
+            ulids.push_back(ulid)?;
+        }
+    }
+    Ok(())
+}
+
+/// A copy of the last name.
+pub(crate) fn last_name(names: &[Text]) -> Result<Text, NoMemory>
+    requires { 0 < length names.now }
+    ensures { IfOk result (λ name. last_listed names.now ≡ Some name) }
+{
+    names[names.len() - 1].copy()
+}

@@ -1,0 +1,24 @@
+ghost use Rattle.std.specs.Prelude.{◌≡◌, option_map, IfOk};
+ghost use Rattle.block_meta.specs.MetaFields.{fields_of};
+ghost use Rattle.meta_fetcher.specs.Sightings.{block_meta as meta_named};
+
+use block_meta::{Meta, MetaRefusal};
+use list_core::NoMemory;
+use std::alloc::Global;
+use ulid_core::Ulid;
+
+/// The meta of a block, and none where the bytes are no meta or another block's.
+pub(crate) fn meta_of(alloc: Global, ulid: Ulid, bytes: &[u8]) -> Result<Option<Meta>, NoMemory>
+    ensures { IfOk result (λ meta. option_map fields_of meta ≡ meta_named ulid bytes.now) }
+{
+    let meta = match Meta::read(alloc, bytes) {
+        Ok(meta) => meta,
+        Err(MetaRefusal::NoMemory) => return Err(NoMemory),
+        Err(_) => return Ok(None),
+    };
+    if meta.ulid == ulid {
+        Ok(Some(meta))
+    } else {
+        Ok(None)
+    }
+}
