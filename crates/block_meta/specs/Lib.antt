@@ -1,3 +1,4 @@
+pub use Rattle.reading_core.specs.Reading
 pub mod Lawful
 pub mod Members
 pub mod MetaFields

@@ -35,11 +35,8 @@ fn read_json(alloc: Global, bytes: &[u8]) -> Result<Value, MetaRefusal>
     };
     match Value::from_str(alloc, text) {
         Ok(value) => Ok(value),
-        Err(error) => if error.is_memory() {
-            Err(MetaRefusal::NoMemory)
-        } else {
-            Err(MetaRefusal::NotJson)
-        },
+        Err(error) if error.is_memory() => Err(MetaRefusal::NoMemory),
+        Err(_) => Err(MetaRefusal::NotJson),
     }
 }
 
@@ -49,8 +46,8 @@ pub(crate) fn member<'v>(object: &'v Value, name: &str) -> Option<&'v Value>
     ensures { option_map (λ v. view v.now) result ≡ member_of name.now (view object.now) }
 {
     match object.get(name) {
-        Some(value) => if value.is_null() { None } else { Some(value) },
-        None => None,
+        Some(value) if !value.is_null() => Some(value),
+        _ => None,
     }
 }
 
@@ -80,11 +77,8 @@ pub(crate) fn section<'v>(
         (section_of name.now (view object.now)) }
 {
     match member(object, name) {
-        Some(value) => if value.is_object() {
-            Ok(Some(value))
-        } else {
-            Err(wrong_kind(alloc, name))
-        },
+        Some(value) if value.is_object() => Ok(Some(value)),
+        Some(_) => Err(wrong_kind(alloc, name)),
         None => Ok(None),
     }
 }
@@ -95,12 +89,8 @@ pub(crate) fn version(value: &Value) -> Result<(), MetaRefusal>
     ensures { Answers (λ v. v) result (version_of (view value.now)) }
 {
     match value.as_u64() {
-        Some(number) => if number == 1 {
-            Ok(())
-        } else {
-            Err(MetaRefusal::BadVersion)
-        },
-        None => Err(MetaRefusal::BadVersion),
+        Some(1) => Ok(()),
+        _ => Err(MetaRefusal::BadVersion),
     }
 }
 

@@ -75,10 +75,6 @@ pub(crate) fn write_ulid(alloc: Global, ulid: Ulid) -> Result<Value, AllocError>
     ensures value { IfOk result (λ v. view v ≡ ulid_value ulid) }
     ensures written { OnOk result (IsUlidText (text_of ulid) ulid) }
 {
-    let text = ulid.text();
-    let bytes = Vec::from_slice(alloc, &text)?;
-    match String::from_utf8(bytes) {
-        Ok(text) => Ok(Value::String(text)),
-        Err(_) => Err(AllocError),
-    }
+    let bytes = Vec::from_slice(alloc, &ulid.text())?;
+    Ok(Value::String(String::from_utf8(bytes).unwrap()))
 }
