@@ -4,3 +4,17 @@ pub mod Finishing
 pub mod LineLists
 pub mod FieldLaws
 pub mod SampleLists
+pub mod ValueLaws
+pub mod Kept
+pub mod LineTools
+pub mod FoundSetup
+pub mod FoundSeries
+pub mod FoundPhases
+pub mod FoundLines
+pub mod LawfulParts
+pub mod LawfulScripts
+pub mod ReadScripts
+pub mod AgainSetup
+pub mod AgainSeries
+pub mod AgainPhases
+pub mod AgainLines

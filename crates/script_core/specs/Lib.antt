@@ -7,4 +7,5 @@ pub mod View
 pub mod Lines
 pub mod Reading
 pub mod Works
+pub mod Lawful
 pub mod Spelling

@@ -21,7 +21,6 @@ use Rattle.moment_core.specs.declared.moment.Moment.{Moment}
 use Rattle.moment_core.specs.declared.rules.Rules.{Rules}
 use Rattle.ulid_core.specs.UlidText.{IsUlidText}
 use Rattle.script_core.specs.declared.block.Block.{Block}
-use Rattle.script_core.specs.declared.body.Body.{Body}
 use Rattle.script_core.specs.declared.body.Body.TheVariants.{Inline}
 use Rattle.script_core.specs.declared.phase.Phase.{Phase}
 use Rattle.script_core.specs.declared.rule.Rule.{Rule}
@@ -36,6 +35,7 @@ use Rattle.script_core.specs.Samples.{are_rising, are_within}
 use Rattle.script_core.specs.State.{gateway_named, has_series, insert_series}
 use Rattle.script_core.specs.Hands.{gateway_count, hands_of}
 use Rattle.script_core.specs.Works.{works_of, has_sync, declares}
+use Rattle.script_core.specs.Lawful.{HasSeries}
 
 -- ---- fields and values
 
@@ -105,9 +105,6 @@ inside script = record { script = script; in_block = true }
 -- the first phase has not begun
 abbrev pub IsEarly : SoFar → Type 0
 IsEarly before = before.script.phases ≡ []
-
-abbrev pub HasSeries : Body → Type 0
-HasSeries (Inline min_time max_time series) = series ≢ []
 
 -- the last block is complete
 abbrev pub HasEnded : List Block → Type 0

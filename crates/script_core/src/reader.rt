@@ -4,7 +4,7 @@ ghost use Rattle.std.specs.Prelude.{◌≡◌, ◌≤◌, Some, None, length, op
 ghost use Rattle.reading_core.specs.Reading.{Gives};
 ghost use Rattle.script_core.specs.declared.script_refusal.ScriptRefusal.TheVariants as script_refusals;
 ghost use Rattle.script_core.specs.declared.line_refusal.LineRefusal.TheVariants as line_refusals;
-ghost use Rattle.script_core.specs.Reading.{is_series, kind_line, text_line, line_at, lines_at};
+ghost use Rattle.script_core.specs.Reading.{is_series, kind_line, text_line, line_at, lines_at, script_of};
 ghost use Rattle.std.specs.Str.{is_utf8};
 ghost use Rattle.script_core.specs.Fields.{lines_of};
 ghost use Rattle.script_core.specs.State.{start};
@@ -17,12 +17,26 @@ use crate::line_kind::LineKind;
 use crate::line_refusal::LineRefusal;
 use crate::phase_lines::{at_line, query_line, sync_line, upload_line};
 use crate::setup_lines::{block_line, gateway_line, rule_line, series_line};
-use crate::{LineCause, ScriptRefusal};
+use crate::{LineCause, Script, ScriptRefusal};
 use moment_core::Rules;
 use std::alloc::Global;
 
+/// How many bytes a script may have.
+const TEXT_LIMIT: usize = 67_108_864;
+
+/// Reads a script.
+#[tactic(auto, unfolding(crate::specs::Reading::script_of))]
+pub(crate) fn read_script(alloc: Global, text: &[u8]) -> Result<Script, ScriptRefusal>
+    ensures { Gives script_refusals.NoMemory (λ script. script) result (script_of text.now) }
+{
+    if text.len() > TEXT_LIMIT {
+        return Err(ScriptRefusal::TooLong);
+    }
+    read_lines(alloc, text)?.finish(alloc)
+}
+
 /// Reads the lines of a text in order, and answers what they leave.
-pub(crate) fn read_lines(alloc: Global, text: &[u8]) -> Result<Draft, ScriptRefusal>
+fn read_lines(alloc: Global, text: &[u8]) -> Result<Draft, ScriptRefusal>
     requires { length text.now ≤ 67108864 }
     ensures { Gives script_refusals.NoMemory state_of result (lines_at (start standard_rules) 1 (lines_of text.now)) }
 {

@@ -1,5 +1,5 @@
 use crate::hands::gateway_count;
-use crate::reader::read_lines;
+use crate::reader::read_script;
 use crate::workers::{phase_workers, seats_of};
 use crate::{BlockList, PhaseList, ScriptRefusal, WorkerList};
 use label_sets::TextList;
@@ -7,9 +7,6 @@ use list_core::NoMemory;
 use matchers::SelectorList;
 use moment_core::Rules;
 use std::alloc::Global;
-
-/// How many bytes a script may have.
-const TEXT_LIMIT: usize = 67_108_864;
 
 /// What a run does: by which rules, with which gateways and blocks, and in which phases.
 #[derive(Drop)]
@@ -27,19 +24,27 @@ pub struct Script {
 impl Script {
     ghost use Rattle.std.specs.Prelude.{◌≡◌, IfOk, slice_get};
     ghost use Rattle.reading_core.specs.Reading.{Gives};
+    ghost use Rattle.script_core.specs.declared.script.Script.{Script};
     ghost use Rattle.script_core.specs.declared.script_refusal.ScriptRefusal.TheVariants as script_refusals;
     ghost use Rattle.script_core.specs.Hands.{workers_of, workers_after};
+    ghost use Rattle.script_core.specs.Lawful.{IsLawfulScript};
     ghost use Rattle.script_core.specs.Reading.{script_of};
+    ghost use Rattle.script_core.specs.Spelling.{Spells};
 
     /// Reads a script.
-    #[tactic(auto, unfolding(crate::specs::Reading::script_of))]
     pub fn read(alloc: Global, text: &[u8]) -> Result<Script, ScriptRefusal>
+        // What is read is spelled by the text, and what is spelled is read, unless memory runs out.
+        ensures found { IfOk result (λ script. Spells text.now script) }
+        ensures only { (script : Script) → Spells text.now script
+            → Gives script_refusals.NoMemory (λ read. read) result (Ok script) }
+
+        // What a caller may rest on.
+        ensures lawful { IfOk result (λ script. IsLawfulScript script) }
+
+        // Which refusal it is: the first that the lines in order give.
         ensures gives { Gives script_refusals.NoMemory (λ script. script) result (script_of text.now) }
     {
-        if text.len() > TEXT_LIMIT {
-            return Err(ScriptRefusal::TooLong);
-        }
-        read_lines(alloc, text)?.finish(alloc)
+        read_script(alloc, text)
     }
 
     /// Who does the tasks of a phase, in the order of their first tasks. It goes over the phases before to count their

@@ -1,0 +1,248 @@
+-- What is read of a line of a phase is what the line spells.
+use Rattle.std.proofs.Common.{◌≡◌, ◌≢◌, ℕ, zero, suc, ◌+◌, ◌-◌, ◌<◌, ◌≤◌, ℤ, ◌≤ℤ◌, Bool, true, false, not, ◌==◌, ◌&&◌, ◌||◌, cond, nat_lt, nat_le, ltb-true, leb-true, int_lt, List, [], ◌∷◌, ◌++◌, length, Option, Some, None, is_none, is_some, unwrap_or, ok_or, Result, Ok, Err, refl, sym, ap, ◌∙◌, subst, arith, codes, inl, inr}
+use Rattle.std.specs.List.{list_all, range_with_len}
+use Rattle.std.specs.Str.{bytes_eq}
+use Rattle.std.proofs.lemmas.Bool.Decides.{nat_tests}
+use Rattle.std.proofs.lemmas.Int.{ints}
+use Rattle.reading_core.specs.Reading.{◌>>=◌, ◌>>◌, unless, refused_as}
+use Rattle.reading_core.proofs.Binds.{bind_ok, unless_ok, ok_is, refused_as_ok}
+use Rattle.reading_core.proofs.Decimals.{both}
+use Rattle.reading_core.proofs.Parsed.{true_or_false}
+use Rattle.matchers.specs.Selectors.{read_selector}
+use Rattle.matchers.specs.declared.matcher.Matcher.{Matcher}
+use Rattle.moment_core.specs.declared.moment.Moment.{Moment}
+use Rattle.moment_core.specs.declared.rules.Rules.{Rules}
+use Rattle.script_core.specs.declared.cause.LineCause.TheVariants as causes
+use Rattle.script_core.specs.declared.line_refusal.LineRefusal.{LineRefusal}
+use Rattle.script_core.specs.declared.line_refusal.LineRefusal.TheVariants.{Bad, BadRules, FallingMoment}
+use Rattle.script_core.specs.declared.phase.Phase.{Phase}
+use Rattle.script_core.specs.declared.script.Script.{Script}
+use Rattle.script_core.specs.declared.task.Task.{Task}
+use Rattle.script_core.specs.declared.work.Work.{Work}
+use Rattle.script_core.specs.declared.work.Work.TheVariants as works
+use Rattle.script_core.specs.Fields.{is_empty, next_field, only_field, is_name}
+use Rattle.script_core.specs.Hands.{gateway_count, with_hands, hands_of}
+use Rattle.script_core.specs.Values.{is_reserved, is_time, agree}
+use Rattle.script_core.specs.Lines.{may_begin, at_line, upload_line, sync_line, last_selector, query_line}
+use Rattle.script_core.specs.State.{State, all_phases, begin_phase, add_task, add_query, note_sync, is_declared, is_synced, gateway_named, script_of_state, are_all_synced}
+use Rattle.script_core.specs.Works.{works_of, has_sync, is_sync_of, declares}
+use Rattle.script_core.specs.Spelling.{IsEarly, IsField, AtLine, AddsTask, UploadLine, SyncLine, QueryLine}
+use Rattle.script_core.proofs.FieldLaws.{no_space, Cut, cut_found}
+use Rattle.script_core.proofs.ValueLaws.{ok_or_ok, is_none_is, not_is, time_found, ulid_found, moment_found}
+use Rattle.script_core.proofs.Kept.{Kept, KeepsTasks, at, so_far_of, among, phase_kept, task_kept, sync_noted, hands_of-append, or_same}
+use Rattle.script_core.proofs.LineTools.{is_field, cut_rest, cut_end, only_found, begun_is, last_phase, no_end}
+use Rattle.script_core.proofs.FoundSetup.{Starts, closed, some_is}
+
+-- ---- moments
+
+unless_is : {E : Type 0} (b : Bool) (e : E) → unless b e ≡ Ok tt → b ≡ true
+unless_is true e h = refl
+unless_is false e h = absurd cc
+
+first_agrees : (rules : Rules) (phases : List Phase) (phase : Option Phase) (moment : Moment) → may_begin rules phase moment ≡ Ok tt → all_phases phases phase ≡ [] → agree rules ≡ true
+first_agrees rules phases None moment h early = unless_is (agree rules) BadRules h
+first_agrees rules phases (Some phase) moment h early = absurd (no_end phases phase early)
+
+not_sooner : (rules : Rules) (last : Phase) (moment : Moment) → may_begin rules (Some last) moment ≡ Ok tt → last.moment.ms ≤ moment.ms
+not_sooner rules last moment h = leb-true _ _ (unless_is (nat_le last.moment.ms moment.ms) FallingMoment h)
+
+then_ok : {A B E : Type 0} (r : Result A E) (s : Result B E) (y : B) → (r >> s) ≡ Ok y → (x : A) × (r ≡ Ok x) × (s ≡ Ok y)
+then_ok (Ok x) s y h = (x, refl, h)
+then_ok (Err e) s y h = absurd cc
+
+unit_is : (x : Unit {0}) → ◌≡◌ {A = Result (Unit {0}) LineRefusal} (Ok x) (Ok tt)
+unit_is x = refl
+
+-- ---- tasks
+
+-- a task that was added
+pub record Added (st : State) (number : ℕ) (work : Work) (after : State) : Type 0 where
+  pub phase : Phase
+  pub begun : st.phase ≡ Some phase
+  pub few : st.activities < 65_536
+  pub few_workers : length (with_hands (gateway_count st.gateways) st.hands (length phase.tasks) work) ≤ 64
+  pub is : record st { phase = Some (record phase { tasks = phase.tasks ++ record { line = number; work = work } ∷ [] }); hands = with_hands (gateway_count st.gateways) st.hands (length phase.tasks) work; activities = st.activities + 1 } ≡ after
+
+pub added : (st after : State) (number : ℕ) (work : Work) → add_task st number work ≡ Ok after → Added st number work after
+unfolding add_task
+added st after number work h =
+    let a = unless_ok _ _ _ _ h in
+    let b = bind_ok _ _ _ a.1 in
+    let c = unless_ok _ _ _ _ b.2 in
+    record { phase = b.0; begun = ok_or_ok _ _ _ b.1; few = ltb-true _ _ a.0; few_workers = leb-true _ _ c.0; is = ok_is _ _ c.1 }
+
+module _ (st after : State) (number : ℕ) (work : Work) (kept : Kept st) (task : Added st number work after) where
+  with_phase : (a : Option Phase) → st.phase ≡ a → KeepsTasks st.gateways st.phases a st.synced st.hands st.activities
+  with_phase a is = subst (λ p. KeepsTasks st.gateways st.phases p st.synced st.hands st.activities) is kept.tasks
+
+  pub adds_task : AddsTask (script_of_state st) number work (script_of_state after)
+  adds_task =
+      let hands = kept.tasks.are_hands task.phase task.begun in
+      record {
+        others = st.phases;
+        phase = task.phase;
+        last = ap (all_phases st.phases) task.begun;
+        few = subst (λ n. n < 65_536) kept.tasks.are_counted task.few;
+        few_workers = subst (λ hs. length hs ≤ 64) (ap (λ hs. with_hands (gateway_count st.gateways) hs (length task.phase.tasks) work) hands ∙ sym (hands_of-append (gateway_count st.gateways) task.phase.tasks (record { line = number; work = work }))) task.few_workers;
+        adds = ap script_of_state (sym task.is);
+      }
+
+  -- the last phase with the task, whatever syncs are noted beside it
+  pub more_kept : (noted : List ℕ) → ((gateway : ℕ) → is_synced noted gateway ≡ (is_synced st.synced gateway || is_sync_of gateway work)) → Kept (record after { synced = noted })
+  more_kept noted notes =
+      let tasks = task_kept st.gateways st.phases task.phase st.synced noted st.hands st.activities (record { line = number; work = work }) (with_phase (Some task.phase) task.begun) notes in
+      subst (λ (s : State). Kept (record s { synced = noted })) task.is (record { blocks = kept.blocks; tasks = tasks })
+
+  -- nothing is noted
+  pub same_kept : ((gateway : ℕ) → is_sync_of gateway work ≡ false) → Kept after
+  same_kept never =
+      let all = more_kept st.synced (λ gateway. or_same (is_synced st.synced gateway) ∙ ap (λ b. is_synced st.synced gateway || b) (sym (never gateway))) in
+      subst (λ (s : State). Kept (record s { synced = st.synced }) → Kept s) task.is (λ k. k) all
+
+-- ---- queries
+
+selector_by : (text : List ℕ) (selector : List Matcher) (b : Bool) → cond {A = Result (Option (List Matcher)) LineRefusal} b (Ok None) (refused_as (λ _. Bad causes.UnknownWord) (read_selector text) >>= λ read. Ok (Some read)) ≡ Ok (Some selector) → read_selector text ≡ Ok selector
+selector_by text selector true h = absurd cc
+selector_by text selector false h =
+    let a = bind_ok _ _ _ h in
+    let same : a.0 ≡ selector = some_is _ _ (ok_is _ _ a.2) in
+    refused_as_ok _ _ _ a.1 ∙ ap Ok same
+
+selector_found : (left : Option (List ℕ)) (selector : List Matcher) → last_selector left ≡ Ok (Some selector) → (text : List ℕ) × (left ≡ Some text) × (read_selector text ≡ Ok selector)
+unfolding last_selector
+selector_found None selector h = absurd cc
+selector_found (Some text) selector h = (text, refl, selector_by text selector (is_empty text) h)
+
+-- a test of each number of a range
+pub all_in_range : (p : ℕ → Bool) (first count : ℕ) → list_all p (range_with_len first count) ≡ true → (n : ℕ) → first ≤ n → n < first + count → p n ≡ true
+all_in_range p first zero h n low high = absurd (omega arith)
+all_in_range p first (suc count) h n low high =
+    let parts = both (p first) (list_all p (range_with_len (first + 1) count)) h in
+    elim (true_or_false (first == n)) [
+      | inl same ↦ let e : first ≡ n = grind (arith, nat_tests) in ap p (sym e) ∙ parts.0
+      | inr other ↦ let later : first + 1 ≤ n = grind (arith, nat_tests) in all_in_range p (first + 1) count parts.1 n later (omega arith)
+    ]
+
+not_below : (low high : ℤ) → not (int_lt high low) ≡ true → low ≤ℤ high
+not_below low high h = let test = not_is (int_lt high low) h in grind (arith, ints)
+
+-- ---- lines
+
+module _ (st after : State) (number : ℕ) (line : List ℕ) (left : Option (List ℕ)) (kept : Kept st) where
+  kept_closed : Kept (closed st)
+  kept_closed = record { blocks = kept.blocks; tasks = kept.tasks }
+
+  pub at_line_found : Starts line (codes "at") left → at_line (closed st) number left ≡ Ok after → AtLine (so_far_of st) number line (so_far_of after) × Kept after
+  unfolding at_line begin_phase
+  at_line_found starts h =
+      let a = bind_ok _ _ _ h in
+      let b = bind_ok _ _ _ a.2 in
+      let c = then_ok (may_begin st.rules st.phase b.0) _ _ b.2 in
+      let same = ok_is _ _ c.2 in
+      let may : may_begin st.rules st.phase b.0 ≡ Ok tt = c.1 ∙ unit_is c.0 in
+      let text = only_found left a.0 (refused_as_ok _ _ _ a.1) in
+      (record {
+        text = a.0;
+        moment = b.0.ms;
+        spelled = starts a.0 text.0;
+        field = text.1;
+        is_moment = moment_found a.0 b.0 (refused_as_ok _ _ _ b.1);
+        first = first_agrees st.rules st.phases st.phase b.0 may;
+        later = λ others last is. let p = last_phase st.phases st.phase others last kept.tasks.no_phase is in not_sooner st.rules last b.0 (ap (λ o. may_begin st.rules o b.0) (sym p.0) ∙ may);
+        adds = ap so_far_of (sym same);
+      }, subst Kept same (record { blocks = kept.blocks; tasks = phase_kept st.gateways st.phases st.phase st.synced st.hands st.activities kept.tasks number b.0 }))
+
+  pub upload_line_found : Starts line (codes "upload") left → upload_line (closed st) number left ≡ Ok after → UploadLine (so_far_of st) number line (so_far_of after) × Kept after
+  unfolding upload_line
+  upload_line_found starts h =
+      let text = (next_field left).0 in
+      let rest = (next_field left).1 in
+      let a = unless_ok (not (bytes_eq (next_field rest).0 (codes "stop"))) (Bad causes.UnknownWord) _ _ h in
+      let b = unless_ok (not (is_empty text) && is_none rest) (Bad causes.BadShape) _ _ a.1 in
+      let c = bind_ok _ _ _ b.1 in
+      let d = unless_ok _ _ _ _ c.2 in
+      let e = unless_ok _ _ _ _ d.1 in
+      let f = unless_ok _ _ _ _ e.1 in
+      let tests = both (not (is_empty text)) (is_none rest) b.0 in
+      let end = cut_end left text rest (cut_found left) (is_none_is rest tests.1) tests.0 in
+      let task = added (closed st) after number (works.Upload c.0 None) f.1 in
+      let declared : is_declared st c.0 ≡ true = f.0 in
+      (record {
+        text = text;
+        ulid = c.0;
+        spelled = starts text end.0;
+        is_ulid = record { field = is_field text tests.0 end.1; written = ulid_found text c.0 (refused_as_ok _ _ _ c.1); not_reserved = not_is _ e.0 };
+        declared = sym (kept.blocks.declared c.0) ∙ declared;
+        script = script_of_state after;
+        task = adds_task (closed st) after number (works.Upload c.0 None) kept_closed task;
+        adds = ap (λ (s : State). at (script_of_state after) s.continues) (sym task.is);
+      }, same_kept (closed st) after number (works.Upload c.0 None) kept_closed task (λ gateway. refl))
+
+  pub sync_line_found : Starts line (codes "sync") left → sync_line (closed st) number left ≡ Ok after → SyncLine (so_far_of st) number line (so_far_of after) × Kept after
+  unfolding sync_line note_sync
+  sync_line_found starts h =
+      let a = bind_ok _ _ _ h in
+      let b = unless_ok _ _ _ _ a.2 in
+      let c = unless_ok _ _ _ _ b.1 in
+      let d = bind_ok _ _ _ c.1 in
+      let e = bind_ok _ _ _ d.2 in
+      let same = ok_is _ _ e.2 in
+      let name = only_found left a.0 (refused_as_ok _ _ _ a.1) in
+      let task = added (closed st) e.0 number (works.Sync d.0) e.1 in
+      let synced : e.0.synced ≡ st.synced = ap (λ (s : State). s.synced) (sym task.is) in
+      let noted = more_kept (closed st) e.0 number (works.Sync d.0) kept_closed task (cond (is_synced e.0.synced d.0) e.0.synced (e.0.synced ++ d.0 ∷ [])) (λ gateway. sync_noted e.0.synced d.0 gateway ∙ ap (λ s. is_synced s gateway || (d.0 == gateway)) synced) in
+      (record {
+        name = a.0;
+        gateway = d.0;
+        spelled = starts a.0 name.0;
+        field = name.1;
+        is_name = b.0;
+        declared = ok_or_ok _ _ _ d.1;
+        script = script_of_state e.0;
+        task = adds_task (closed st) e.0 number (works.Sync d.0) kept_closed task;
+        adds = ap so_far_of (sym same) ∙ ap (λ (s : State). at (script_of_state e.0) s.continues) (sym task.is);
+      }, subst Kept same noted)
+
+  pub query_line_found : Starts line (codes "query") left → query_line (closed st) number left ≡ Ok after → QueryLine (so_far_of st) number line (so_far_of after) × Kept after
+  unfolding query_line add_query
+  query_line_found starts h =
+      let low_text = (next_field left).0 in
+      let after_low = (next_field left).1 in
+      let high_text = (next_field after_low).0 in
+      let after_high = (next_field after_low).1 in
+      let a = bind_ok (last_selector after_high) _ _ h in
+      let b = unless_ok (not (is_empty low_text) && not (is_empty high_text)) (Bad causes.BadShape) _ _ a.2 in
+      let c = bind_ok (ok_or a.0 (Bad causes.BadShape)) _ _ b.1 in
+      let d = bind_ok _ _ _ c.2 in
+      let e = bind_ok _ _ _ d.2 in
+      let f = unless_ok _ _ _ _ e.2 in
+      let g = unless_ok _ _ _ _ f.1 in
+      let i = unless_ok (are_all_synced (closed st)) _ _ _ g.1 in
+      let j = bind_ok _ _ _ i.1 in
+      let same = ok_is _ _ j.2 in
+      let work : Work = works.Query d.0 e.0 (length st.selectors) in
+      let fields = both (not (is_empty low_text)) (not (is_empty high_text)) b.0 in
+      let selector = selector_found after_high c.0 (a.1 ∙ ap Ok (ok_or_ok a.0 (Bad causes.BadShape) c.0 c.1)) in
+      let second = cut_rest after_low high_text after_high selector.0 (cut_found after_low) selector.1 in
+      let first = cut_rest left low_text after_low (high_text ++ 32 ∷ selector.0) (cut_found left) second.0 in
+      let low_is = time_found low_text d.0 (refused_as_ok _ _ _ d.1) in
+      let high_is = time_found high_text e.0 (refused_as_ok _ _ _ e.1) in
+      let task = added (closed st) j.0 number work j.1 in
+      let k = same_kept (closed st) j.0 number work kept_closed task (λ gateway. refl) in
+      (record {
+        low_text = low_text;
+        high_text = high_text;
+        selector_text = selector.0;
+        low = d.0;
+        high = e.0;
+        selector = c.0;
+        spelled = starts (low_text ++ 32 ∷ (high_text ++ 32 ∷ selector.0)) first.0;
+        is_low = record { field = is_field low_text fields.0 first.1; written = low_is.0; near = low_is.1 };
+        is_high = record { field = is_field high_text fields.1 second.1; written = high_is.0; near = high_is.1 };
+        is_selector = selector.2;
+        times = not_below d.0 e.0 g.0;
+        synced = λ gateway below. sym (kept.tasks.are_synced gateway) ∙ all_in_range (is_synced st.synced) 0 (length st.gateways) i.0 gateway (omega arith) (omega arith);
+        script = script_of_state j.0;
+        task = adds_task (closed st) j.0 number work kept_closed task;
+        adds = ap so_far_of (sym same) ∙ ap (λ (s : State). at (record (script_of_state j.0) { selectors = j.0.selectors ++ c.0 ∷ [] }) s.continues) (sym task.is);
+      }, subst Kept same (record { blocks = k.blocks; tasks = k.tasks }))

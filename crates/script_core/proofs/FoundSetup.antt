@@ -1,0 +1,150 @@
+-- What is read of a rule line, a gateway line or a block line is what the line spells.
+use Rattle.std.proofs.Common.{◌≡◌, ◌≢◌, ℕ, ◌+◌, ◌<◌, ◌≤◌, ℤ, ◌<ℤ◌, Bool, true, false, not, ◌==◌, ◌&&◌, nat_lt, ltb-true, int_lt, List, [], ◌∷◌, ◌++◌, length, Option, Some, None, is_none, unwrap_or, ok_or, Result, Ok, Err, refl, sym, ap, ◌∙◌, subst, arith, codes}
+use Rattle.std.proofs.lemmas.Bool.Decides.{nat_tests}
+use Rattle.std.proofs.lemmas.Int.{ints}
+use Rattle.reading_core.specs.Reading.{◌>>=◌, ◌>>◌, unless, refused_as}
+use Rattle.reading_core.proofs.Binds.{bind_ok, unless_ok, ok_is, refused_as_ok}
+use Rattle.reading_core.proofs.Decimals.{both}
+use Rattle.label_sets.specs.Notation.{read_set}
+use Rattle.label_sets.specs.declared.label.Label.{Label}
+use Rattle.label_sets.specs.declared.label_refusal.LabelRefusal.{LabelRefusal}
+use Rattle.script_core.specs.declared.cause.LineCause.TheVariants as causes
+use Rattle.script_core.specs.declared.line_refusal.LineRefusal.{LineRefusal}
+use Rattle.script_core.specs.declared.line_refusal.LineRefusal.TheVariants.{Bad}
+use Rattle.script_core.specs.Fields.{is_empty, next_field, only_field, rule_name, is_name}
+use Rattle.script_core.specs.Values.{is_reserved, is_time}
+use Rattle.script_core.specs.Lines.{rule_line, gateway_line, block_line, whole_labels, last_labels}
+use Rattle.script_core.specs.State.{State, add_gateway, begin_block, gateway_named, is_declared}
+use Rattle.script_core.specs.Spelling.{IsField, IsTimeText, IsUlidField, IsRuleText, RuleLine, GatewayLine, BlockLine}
+use Rattle.script_core.proofs.FieldLaws.{no_space, Cut, cut_found}
+use Rattle.script_core.proofs.ValueLaws.{ok_or_ok, is_none_is, not_is, time_found, ulid_found, rule_word, rule_found}
+use Rattle.script_core.proofs.Kept.{Kept, so_far_of, among, gateway_kept, block_kept}
+use Rattle.script_core.proofs.LineTools.{is_field, cut_rest, cut_end, only_found, name_found, early_found}
+
+-- what is left stands behind the line's word and a space
+abbrev pub Starts : List ℕ → List ℕ → Option (List ℕ) → Type 0
+Starts line word left = (rest : List ℕ) → left ≡ Some rest → line ≡ word ++ 32 ∷ rest
+
+-- no series line may follow
+abbrev pub closed : State → State
+closed st = record st { continues = false }
+
+pub some_is : {A : Type 0} (x y : A) → ◌≡◌ {A = Option A} (Some x) (Some y) → x ≡ y
+some_is x y e = cc
+
+pub below_is : (a b : ℤ) → int_lt a b ≡ true → a <ℤ b
+below_is a b e = grind (arith, ints)
+
+-- a label set that takes all that is left
+whole_found : (count : ℕ) (read : Result (List Label × ℕ) LabelRefusal) (labels : List Label) → whole_labels count read ≡ Ok (Some labels) → read ≡ Ok (labels, count)
+whole_found count (Err refusal) labels h = absurd cc
+whole_found count (Ok found) labels h =
+    let a = unless_ok (found.1 == count) (Bad causes.BadShape) (Ok (Some found.0)) (Some labels) h in
+    let size : found.1 ≡ count = let test = a.0 in grind (arith, nat_tests) in
+    let set : found.0 ≡ labels = some_is _ _ (ok_is _ _ a.1) in
+    λ i. Ok (set i, size i)
+
+pub labels_found : (left : Option (List ℕ)) (labels : List Label) → last_labels left ≡ Ok (Some labels) → (text : List ℕ) × (left ≡ Some text) × (read_set text ≡ Ok (labels, length text))
+unfolding last_labels
+labels_found None labels h = absurd cc
+labels_found (Some text) labels h =
+    let a = unless_ok (not (is_empty text)) (Bad causes.BadShape) (whole_labels (length text) (read_set text)) (Some labels) h in
+    (text, refl, whole_found (length text) (read_set text) labels a.1)
+
+module _ (st after : State) (line : List ℕ) (left : Option (List ℕ)) (kept : Kept st) where
+  pub rule_line_found : Starts line (codes "rule") left → rule_line (closed st) left ≡ Ok after → RuleLine (so_far_of st) line (so_far_of after) × Kept after
+  unfolding rule_line
+  rule_line_found starts h =
+      let a = bind_ok _ _ _ h in
+      let b = bind_ok _ _ _ a.2 in
+      let c = bind_ok _ _ _ b.2 in
+      let d = bind_ok _ _ _ c.2 in
+      let e = unless_ok _ _ _ _ d.2 in
+      let same = ok_is _ _ e.1 in
+      let name = (next_field (Some a.0)).0 in
+      let value = only_found (next_field (Some a.0)).1 c.0 (refused_as_ok _ _ _ c.1) in
+      let cut = cut_rest (Some a.0) name (next_field (Some a.0)).1 c.0 (cut_found (Some a.0)) value.0 in
+      let word : name ≡ rule_word b.0 = name_found name b.0 (ok_or_ok _ _ _ b.1) in
+      (record {
+        name = name;
+        value = c.0;
+        rule = d.0;
+        spelled = starts a.0 (ok_or_ok _ _ _ a.1) ∙ ap (λ rest. codes "rule" ++ 32 ∷ rest) (some_is a.0 (name ++ 32 ∷ c.0) cut.0);
+        field = value.1;
+        is_rule = subst (λ w. IsRuleText w c.0 d.0) (sym word) (rule_found b.0 c.0 d.0 (refused_as_ok _ _ _ d.1));
+        early = early_found st.phases st.phase kept.tasks.no_phase e.0;
+        adds = ap so_far_of (sym same);
+      }, subst Kept same (record { blocks = kept.blocks; tasks = kept.tasks }))
+
+  pub gateway_line_found : Starts line (codes "gateway") left → gateway_line (closed st) left ≡ Ok after → GatewayLine (so_far_of st) line (so_far_of after) × Kept after
+  unfolding gateway_line add_gateway
+  gateway_line_found starts h =
+      let a = bind_ok _ _ _ h in
+      let b = unless_ok _ _ _ _ a.2 in
+      let c = unless_ok _ _ _ _ b.1 in
+      let d = unless_ok _ _ _ _ c.1 in
+      let e = unless_ok _ _ _ _ d.1 in
+      let same = ok_is _ _ e.1 in
+      let name = only_found left a.0 (refused_as_ok _ _ _ a.1) in
+      (record {
+        name = a.0;
+        spelled = starts a.0 name.0;
+        field = name.1;
+        is_name = b.0;
+        early = early_found st.phases st.phase kept.tasks.no_phase c.0;
+        new = is_none_is _ d.0;
+        few = ltb-true _ _ e.0;
+        adds = ap so_far_of (sym same);
+      }, subst Kept same (record { blocks = kept.blocks; tasks = gateway_kept st.gateways st.phases st.phase st.synced st.hands st.activities kept.tasks a.0 (is_none_is st.phase c.0) }))
+
+  pub block_line_found : (number : ℕ) → Starts line (codes "block") left → block_line (closed st) number left ≡ Ok after → BlockLine (so_far_of st) line (so_far_of after) × Kept after
+  unfolding block_line begin_block
+  block_line_found number starts h =
+      let ulid_text = (next_field left).0 in
+      let after_ulid = (next_field left).1 in
+      let min_text = (next_field after_ulid).0 in
+      let after_min = (next_field after_ulid).1 in
+      let max_text = (next_field after_min).0 in
+      let after_max = (next_field after_min).1 in
+      let a = unless_ok (not (is_empty ulid_text) && not (is_empty min_text) && not (is_empty max_text)) (Bad causes.BadShape) _ _ h in
+      let b = bind_ok _ _ _ a.1 in
+      let c = bind_ok _ _ _ b.2 in
+      let d = bind_ok _ _ _ c.2 in
+      let e = bind_ok _ _ _ d.2 in
+      let f = bind_ok _ _ _ e.2 in
+      let g = unless_ok _ _ _ _ f.2 in
+      let i = unless_ok _ _ _ _ g.1 in
+      let j = unless_ok _ _ _ _ i.1 in
+      let k = unless_ok _ _ _ _ j.1 in
+      let l = unless_ok _ _ _ _ k.1 in
+      let same = ok_is _ _ l.1 in
+      let front = both (not (is_empty ulid_text) && not (is_empty min_text)) (not (is_empty max_text)) a.0 in
+      let fields = both (not (is_empty ulid_text)) (not (is_empty min_text)) front.0 in
+      let set = labels_found after_max f.0 (subst (λ o. last_labels after_max ≡ Ok o) (ok_or_ok b.0 _ f.0 f.1) b.1) in
+      let third = cut_rest after_min max_text after_max set.0 (cut_found after_min) set.1 in
+      let second = cut_rest after_ulid min_text after_min (max_text ++ 32 ∷ set.0) (cut_found after_ulid) third.0 in
+      let first = cut_rest left ulid_text after_ulid (min_text ++ 32 ∷ (max_text ++ 32 ∷ set.0)) (cut_found left) second.0 in
+      let min_is = time_found min_text c.0 (refused_as_ok _ _ _ c.1) in
+      let max_is = time_found max_text d.0 (refused_as_ok _ _ _ d.1) in
+      let fresh : is_declared st e.0 ≡ false = not_is _ k.0 in
+      let few : length st.ulids < 4_096 = ltb-true _ _ l.0 in
+      (record {
+        ulid_text = ulid_text;
+        min_text = min_text;
+        max_text = max_text;
+        labels_text = set.0;
+        ulid = e.0;
+        min_time = c.0;
+        max_time = d.0;
+        labels = f.0;
+        spelled = starts (ulid_text ++ 32 ∷ (min_text ++ 32 ∷ (max_text ++ 32 ∷ set.0))) first.0;
+        is_ulid = record { field = is_field ulid_text fields.0 first.1; written = ulid_found ulid_text e.0 (refused_as_ok _ _ _ e.1); not_reserved = not_is _ j.0 };
+        is_min = record { field = is_field min_text fields.1 second.1; written = min_is.0; near = min_is.1 };
+        is_max = record { field = is_field max_text front.1 third.1; written = max_is.0; near = max_is.1 };
+        are_labels = set.2;
+        early = early_found st.phases st.phase kept.tasks.no_phase g.0;
+        times = below_is c.0 d.0 i.0;
+        new = sym (kept.blocks.declared e.0) ∙ fresh;
+        few = omega (arith, kept.blocks.count, few);
+        adds = ap so_far_of (sym same);
+      }, subst Kept same (record { blocks = block_kept st.blocks st.last st.ulids kept.blocks (record { line = number; ulid = e.0; labels = f.0; min_time = c.0; max_time = d.0; series = [] }) fresh; tasks = kept.tasks }))

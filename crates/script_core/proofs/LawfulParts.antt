@@ -1,0 +1,178 @@
+-- The parts of a lawful script stay lawful as lines are added.
+use Rattle.std.proofs.Common.{◌≡◌, ◌≢◌, ℕ, zero, suc, ◌+◌, ◌-◌, ◌^◌, ◌<◌, ◌≤◌, ℤ, pos, negsuc, neg_ℤ, ◌<ℤ◌, ◌≤ℤ◌, Bool, true, false, not, ◌==◌, ◌||◌, cond, nat_eq, nat_lt, List, [], ◌∷◌, ◌++◌, length, map, get_or, refl, sym, ap, ◌∙◌, subst, arith, ◌⊎◌, inl, inr, append_assoc}
+use Rattle.std.specs.List.{All, AllByRecursion, IsDistinct, list_any}
+use Rattle.std.specs.List.Sorted.{IsStrictlySortedBy, IsNonDecreasingBy}
+use Rattle.std.specs.Cmp.{IsTotalOrder}
+use Rattle.std.specs.Ordering.{is_eq, match_ordering, ordering_reverse}
+use Rattle.std.specs.declared.cmp.Ordering.{Ordering}
+use Rattle.std.specs.declared.cmp.Ordering.TheVariants.{Less, Equal, Greater}
+use Rattle.std.proofs.lemmas.Bool.Decides.{nat_tests}
+use Rattle.std.proofs.lemmas.Cmp.{lists_total, then_total, on_total, nat_list_cmp_total}
+use Rattle.std.proofs.lemmas.Int.{ints}
+use Rattle.std.proofs.lemmas.List.{length-append, get_or_at, get_or_append_left, map-append}
+use Rattle.std.proofs.lemmas.List.Elements.{All-nil, All-cons, All-tail, All-push, All-weaker}
+use Rattle.reading_core.proofs.Parsed.{true_or_false}
+use Rattle.label_sets.specs.Labels.{compare_sets, compare_labels}
+use Rattle.label_sets.specs.declared.label.Label.{Label}
+use Rattle.label_sets.specs.declared.series.Series.{Series}
+use Rattle.script_core.specs.declared.block.Block.{Block}
+use Rattle.script_core.specs.declared.phase.Phase.{Phase}
+use Rattle.script_core.specs.declared.work.Work.{Work}
+use Rattle.script_core.specs.declared.work.Work.TheVariants.{Upload, Sync, Query}
+use Rattle.script_core.specs.Values.{is_time}
+use Rattle.script_core.specs.State.{has_series, insert_series}
+use Rattle.script_core.specs.Works.{works_of, has_sync, declares}
+use Rattle.script_core.specs.Lawful.{HasLawfulSamples}
+use Rattle.script_core.proofs.LineTools.{snoc_is, no_end}
+
+-- ---- ends of lists
+
+-- a list is empty or has a last member
+pub ends : {A : Type 0} (xs : List A) → (xs ≡ []) ⊎ ((others : List A) × (last : A) × (xs ≡ others ++ last ∷ []))
+ends [] = inl refl
+ends (x ∷ xs) =
+    elim (ends xs) [
+      | inl none ↦ inr ([], x, ap (λ l. x ∷ l) none)
+      | inr more ↦ inr (x ∷ more.0, more.1, ap (λ l. x ∷ l) more.2)
+    ]
+
+pub All-front : {A : Type 0} (P : A → Type 0) (xs : List A) (x : A) → All P (xs ++ x ∷ []) → All P xs
+All-front P xs x all k d below =
+    subst P (get_or_append_left xs (x ∷ []) d k below) (all k d (omega (arith, length-append xs (x ∷ []))))
+
+pub All-last : {A : Type 0} (P : A → Type 0) (xs : List A) (x : A) → All P (xs ++ x ∷ []) → P x
+All-last P xs x all =
+    subst P (get_or_at xs x [] x (length xs) refl) (all (length xs) x (omega (arith, length-append xs (x ∷ []))))
+
+-- ---- times
+
+pub near_low : (time : ℤ) → is_time time ≡ true → neg_ℤ (pos (2 ^ 62)) ≤ℤ time
+near_low (pos n) near = omega (arith, ints)
+near_low (negsuc n) near = let l : n < 2 ^ 62 = grind (arith, nat_tests) in omega (arith, ints)
+
+pub near_high : (time : ℤ) → is_time time ≡ true → time ≤ℤ pos (2 ^ 62)
+near_high (pos n) near = let l : n ≤ 2 ^ 62 = grind (arith, nat_tests) in omega (arith, ints)
+near_high (negsuc n) near = omega (arith, ints)
+
+-- ---- series in order
+
+abbrev pub labels_of : List Series → List (List Label)
+labels_of series = map (λ (one : Series). one.labels) series
+
+sets_total : IsTotalOrder compare_sets
+sets_total = lists_total (then_total (on_total (λ (l : Label). l.name) nat_list_cmp_total) (on_total (λ (l : Label). l.value) nat_list_cmp_total))
+
+above_all : (labels : List (List Label)) (one other : List Label) → compare_sets one other ≡ Less → AllByRecursion (λ y. compare_sets other y ≡ Less) labels → AllByRecursion (λ y. compare_sets one y ≡ Less) labels
+above_all [] one other below all = tt
+above_all (first ∷ labels) one other below all =
+    (sets_total.trans one other first below all.0, above_all labels one other below all.1)
+
+all_insert_by : (series : List Series) (new first : Series) (one : List Label) (o : Ordering) → compare_sets one new.labels ≡ Less → AllByRecursion (λ y. compare_sets one y ≡ Less) (labels_of (first ∷ series)) → AllByRecursion (λ y. compare_sets one y ≡ Less) (labels_of (insert_series series new)) → AllByRecursion (λ y. compare_sets one y ≡ Less) (labels_of (match_ordering o (new ∷ first ∷ series) (record first { samples = new.samples } ∷ series) (first ∷ insert_series series new)))
+all_insert_by series new first one Less below all later = (below, all)
+all_insert_by series new first one Equal below all later = all
+all_insert_by series new first one Greater below all later = (all.0, later)
+
+all_insert : (series : List Series) (new : Series) (one : List Label) → compare_sets one new.labels ≡ Less → AllByRecursion (λ y. compare_sets one y ≡ Less) (labels_of series) → AllByRecursion (λ y. compare_sets one y ≡ Less) (labels_of (insert_series series new))
+all_insert [] new one below all = (below, tt)
+all_insert (first ∷ series) new one below all =
+    all_insert_by series new first one (compare_sets new.labels first.labels) below all (all_insert series new one below all.1)
+
+sorted_by : (series : List Series) (new first : Series) (o : Ordering) → compare_sets new.labels first.labels ≡ o → IsStrictlySortedBy compare_sets (labels_of (first ∷ series)) → IsStrictlySortedBy compare_sets (labels_of (insert_series series new)) → IsStrictlySortedBy compare_sets (labels_of (match_ordering o (new ∷ first ∷ series) (record first { samples = new.samples } ∷ series) (first ∷ insert_series series new)))
+unfolding IsStrictlySortedBy
+sorted_by series new first Less is sorted later =
+    ((is, above_all (labels_of series) new.labels first.labels is sorted.0), sorted)
+sorted_by series new first Equal is sorted later = sorted
+sorted_by series new first Greater is sorted later =
+    let below : compare_sets first.labels new.labels ≡ Less = sets_total.antisymm first.labels new.labels ∙ ap ordering_reverse is in
+    (all_insert series new first.labels below sorted.0, later)
+
+pub sorted_insert : (series : List Series) (new : Series) → IsStrictlySortedBy compare_sets (labels_of series) → IsStrictlySortedBy compare_sets (labels_of (insert_series series new))
+unfolding IsStrictlySortedBy
+sorted_insert [] new sorted = (tt, tt)
+sorted_insert (first ∷ series) new sorted =
+    sorted_by series new first (compare_sets new.labels first.labels) refl sorted (sorted_insert series new sorted.1)
+
+neither : (a b : Bool) → (a || b) ≡ false → (a ≡ false) × (b ≡ false)
+neither true b h = absurd cc
+neither false b h = (refl, h)
+
+-- a fact on each series, also on the new one
+each_by : (P : Series → Type 0) (series : List Series) (new first : Series) (o : Ordering) → is_eq o ≡ false → All P (first ∷ series) → P new → All P (insert_series series new) → All P (match_ordering o (new ∷ first ∷ series) (record first { samples = new.samples } ∷ series) (first ∷ insert_series series new))
+each_by P series new first Less other all one later = All-cons P new (first ∷ series) one all
+each_by P series new first Equal other all one later = absurd cc
+each_by P series new first Greater other all one later = All-cons P first (insert_series series new) (all 0 first (omega arith)) later
+
+pub each_insert : (P : Series → Type 0) (series : List Series) (new : Series) → has_series series new.labels ≡ false → All P series → P new → All P (insert_series series new)
+each_insert P [] new fresh all one = All-cons P new [] one all
+each_insert P (first ∷ series) new fresh all one =
+    let parts = neither (is_eq (compare_sets new.labels first.labels)) (has_series series new.labels) fresh in
+    each_by P series new first (compare_sets new.labels first.labels) parts.0 all one (each_insert P series new parts.1 (All-tail P first series all) one)
+
+-- ---- ULIDs
+
+abbrev pub ulids_of : List Block → List ℕ
+ulids_of blocks = map (λ (block : Block). block.ulid) blocks
+
+fresh_each : (blocks : List Block) (ulid : ℕ) (new : ℕ) → AllByRecursion (λ y. nat_eq ulid y ≡ false) (ulids_of blocks) → nat_eq ulid new ≡ false → AllByRecursion (λ y. nat_eq ulid y ≡ false) (ulids_of blocks ++ new ∷ [])
+fresh_each [] ulid new all other = (other, tt)
+fresh_each (block ∷ blocks) ulid new all other = (all.0, fresh_each blocks ulid new all.1 other)
+
+distinct_push : (blocks : List Block) (new : ℕ) → IsDistinct nat_eq (ulids_of blocks) → declares blocks new ≡ false → IsDistinct nat_eq (ulids_of blocks ++ new ∷ [])
+unfolding IsDistinct
+distinct_push [] new once fresh = (tt, tt)
+distinct_push (block ∷ blocks) new once fresh =
+    let parts = neither (block.ulid == new) (declares blocks new) fresh in
+    (fresh_each blocks block.ulid new once.0 parts.0, distinct_push blocks new once.1 parts.1)
+
+pub once_push : (blocks : List Block) (block : Block) → IsDistinct nat_eq (ulids_of blocks) → declares blocks block.ulid ≡ false → IsDistinct nat_eq (ulids_of (blocks ++ block ∷ []))
+once_push blocks block once fresh =
+    subst (IsDistinct nat_eq) (sym (map-append (λ (b : Block). b.ulid) blocks (block ∷ []))) (distinct_push blocks block.ulid once fresh)
+
+pub same_ulids : (blocks : List Block) (one other : Block) → one.ulid ≡ other.ulid → ulids_of (blocks ++ one ∷ []) ≡ ulids_of (blocks ++ other ∷ [])
+same_ulids blocks one other same =
+    map-append (λ (b : Block). b.ulid) blocks (one ∷ []) ∙ ap (λ u. ulids_of blocks ++ u ∷ []) same ∙ sym (map-append (λ (b : Block). b.ulid) blocks (other ∷ []))
+
+-- ---- moments
+
+abbrev Moments : List Phase → Type 0
+Moments phases = IsNonDecreasingBy (λ (phase : Phase). phase.moment.ms) phases
+
+-- no phase is later than the new one
+to_new : (phases : List Phase) (new : Phase) → Moments phases → ((others : List Phase) (last : Phase) → phases ≡ others ++ last ∷ [] → last.moment.ms ≤ new.moment.ms) → (i : ℕ) (d : Phase) → i < length phases → (get_or phases i d).moment.ms ≤ new.moment.ms
+to_new phases new moments later i d inside =
+    elim (ends phases) [
+      | inl none ↦ absurd (omega (arith, ap length none))
+      | inr more ↦
+          let size : length phases ≡ length more.0 + 1 = ap length more.2 ∙ length-append more.0 (more.1 ∷ []) in
+          let end : get_or phases (length more.0) d ≡ more.1 = ap (λ l. get_or l (length more.0) d) more.2 ∙ get_or_at more.0 more.1 [] d (length more.0) refl in
+          let before = moments i (length more.0) d (omega arith) (omega arith) in
+          let last = later more.0 more.1 more.2 in
+          let same : (get_or phases (length more.0) d).moment.ms ≡ more.1.moment.ms = ap (λ (p : Phase). p.moment.ms) end in
+          omega (arith, before, last, same)
+    ]
+
+to_last : (phases : List Phase) (new : Phase) → Moments phases → ((others : List Phase) (last : Phase) → phases ≡ others ++ last ∷ [] → last.moment.ms ≤ new.moment.ms) → (i : ℕ) (d : Phase) → i ≤ length phases → (get_or (phases ++ new ∷ []) i d).moment.ms ≤ new.moment.ms
+to_last phases new moments later i d inside =
+    elim (true_or_false (nat_lt i (length phases))) [
+      | inl test ↦
+          let within : i < length phases = grind (arith, nat_tests) in
+          subst (λ (p : Phase). p.moment.ms ≤ new.moment.ms) (sym (get_or_append_left phases (new ∷ []) d i within)) (to_new phases new moments later i d within)
+      | inr past ↦
+          let at_end : length phases ≡ i = grind (arith, nat_tests) in
+          subst (λ (p : Phase). p.moment.ms ≤ new.moment.ms) (sym (get_or_at phases new [] d i at_end)) (omega arith)
+    ]
+
+-- one more phase, not sooner than the last
+pub moments_push : (phases : List Phase) (new : Phase) → Moments phases → ((others : List Phase) (last : Phase) → phases ≡ others ++ last ∷ [] → last.moment.ms ≤ new.moment.ms) → Moments (phases ++ new ∷ [])
+moments_push phases new moments later i j d below inside =
+    elim (true_or_false (nat_lt j (length phases))) [
+      | inl test ↦
+          let within : j < length phases = grind (arith, nat_tests) in
+          let first : i < length phases = omega arith in
+          subst (λ (p : Phase). p.moment.ms ≤ (get_or (phases ++ new ∷ []) j d).moment.ms) (sym (get_or_append_left phases (new ∷ []) d i first)) (subst (λ (p : Phase). (get_or phases i d).moment.ms ≤ p.moment.ms) (sym (get_or_append_left phases (new ∷ []) d j within)) (moments i j d below within))
+      | inr past ↦
+          let size = length-append phases (new ∷ []) in
+          let at_end : length phases ≡ j = grind (arith, nat_tests) in
+          let last_is : get_or (phases ++ new ∷ []) j d ≡ new = get_or_at phases new [] d j at_end in
+          subst (λ (p : Phase). (get_or (phases ++ new ∷ []) i d).moment.ms ≤ p.moment.ms) (sym last_is) (to_last phases new moments later i d (omega arith))
+    ]

@@ -1,0 +1,392 @@
+-- What is spelled is lawful.
+use Rattle.std.proofs.Common.{◌≡◌, ◌≢◌, ℕ, zero, suc, ◌+◌, ◌-◌, ◌^◌, ◌<◌, ◌≤◌, ℤ, pos, negsuc, ◌<ℤ◌, ◌≤ℤ◌, Bool, true, false, not, ◌==◌, ◌||◌, cond, nat_eq, nat_lt, List, [], ◌∷◌, ◌++◌, length, map, get_or, Option, Some, None, position, refl, sym, ap, ◌∙◌, subst, arith, ◌⊎◌, inl, inr, append_assoc, append-nil, add_assoc}
+use Rattle.std.specs.Bool.{MatchBool}
+use Rattle.std.specs.List.{All, IsDistinct, position_or_len}
+use Rattle.std.specs.List.Sorted.{IsStrictlySortedBy, IsNonDecreasingBy}
+use Rattle.std.specs.Str.{is_utf8, bytes_eq}
+use Rattle.std.proofs.lemmas.Bool.Decides.{nat_tests}
+use Rattle.std.proofs.lemmas.List.{length-append, get_or_at, get_or_append_left}
+use Rattle.std.proofs.lemmas.List.Elements.{All-nil, All-cons, All-push, All-weaker}
+use Rattle.reading_core.proofs.Parsed.{true_or_false}
+use Rattle.label_sets.specs.Labels.{compare_sets}
+use Rattle.label_sets.specs.declared.sample.Sample.{Sample}
+use Rattle.label_sets.specs.declared.series.Series.{Series}
+use Rattle.moment_core.specs.StandardRules.{standard_rules}
+use Rattle.moment_core.specs.declared.rules.Rules.{Rules}
+use Rattle.script_core.specs.declared.block.Block.{Block}
+use Rattle.script_core.specs.declared.body.Body.TheVariants.{Inline}
+use Rattle.script_core.specs.declared.phase.Phase.{Phase}
+use Rattle.script_core.specs.declared.rule.Rule.{Rule}
+use Rattle.script_core.specs.declared.rule.Rule.TheVariants as rules
+use Rattle.script_core.specs.declared.script.Script.{Script}
+use Rattle.script_core.specs.declared.task.Task.{Task}
+use Rattle.script_core.specs.declared.work.Work.{Work}
+use Rattle.script_core.specs.declared.work.Work.TheVariants.{Upload, Sync, Query}
+use Rattle.script_core.specs.Fields.{lines_of, is_silent, is_name}
+use Rattle.script_core.specs.Hands.{gateway_count, hands_of, hands_from}
+use Rattle.script_core.specs.State.{gateway_named, insert_series}
+use Rattle.script_core.specs.Values.{with_rule, agree}
+use Rattle.script_core.specs.Works.{works_in, works_of, has_sync, is_sync_of, declares}
+use Rattle.script_core.specs.Lawful.{AreLawfulRules, HasLawfulSamples, IsLawfulInline, HasSeries, IsLawfulBlock, AreLawfulBlocks, IsLawfulWork, IsLawfulPhase, AreLawfulPhases, IsLawfulScript}
+use Rattle.script_core.specs.Spelling as spelling
+use Rattle.script_core.specs.Spelling.{SoFar, HasEnded, IsRuleText, AreSampleFields, RuleLine, GatewayLine, BlockLine, SeriesLine, AtLine, AddsTask, UploadLine, SyncLine, QueryLine, Says, Say, Spells}
+use Rattle.script_core.proofs.Kept.{works_of-append, works_of-more}
+use Rattle.script_core.proofs.LineTools.{snoc_is, no_end}
+use Rattle.script_core.proofs.LawfulParts.{ends, All-front, All-last, near_low, near_high, sorted_insert, each_insert, once_push, same_ulids, ulids_of, moments_push}
+
+-- what is lawful so far: all but the last block have series
+pub record InOrder (so_far : SoFar) : Type 0 where
+  pub rules : AreLawfulRules so_far.script.rules
+  pub agreed : so_far.script.phases ≢ [] → agree so_far.script.rules ≡ true
+  pub few_gateways : length so_far.script.gateways ≤ 1
+  pub names : All (λ name. is_name name ≡ true) so_far.script.gateways
+  pub blocks : AreLawfulBlocks so_far.script.blocks
+  pub full : (others : List Block) (block : Block) → so_far.script.blocks ≡ others ++ block ∷ [] → All (λ (b : Block). HasSeries b.body) others
+  pub phases : AreLawfulPhases so_far.script.gateways so_far.script.blocks (length so_far.script.selectors) so_far.script.phases
+  pub early : so_far.in_block ≡ true → so_far.script.phases ≡ []
+
+no_query : (before after : List Work) (work : Work) → [] ≡ before ++ work ∷ after → ⊥
+no_query before after work e = omega (arith, ap length e, length-append before (work ∷ after))
+
+no_phases : (gateways : List (List ℕ)) (blocks : List Block) (selectors : ℕ) → AreLawfulPhases gateways blocks selectors []
+no_phases gateways blocks selectors = record {
+  each = All-nil (IsLawfulPhase gateways blocks selectors);
+  moments = λ i j d below inside. absurd (omega arith);
+  few_tasks = omega arith;
+  synced = λ before after low high selector gateway is below. absurd (no_query before after (Query low high selector) is);
+}
+
+early_phases : (gateways : List (List ℕ)) (blocks : List Block) (selectors : ℕ) (phases : List Phase) → phases ≡ [] → AreLawfulPhases gateways blocks selectors phases
+early_phases gateways blocks selectors phases early =
+    subst (AreLawfulPhases gateways blocks selectors) (sym early) (no_phases gateways blocks selectors)
+
+-- ---- rules, gateways and blocks
+
+lawful_rule : (set : Rules) (name value : List ℕ) (rule : Rule) → IsRuleText name value rule → AreLawfulRules set → AreLawfulRules (with_rule set rule)
+lawful_rule set name value (rules.Consistency span) is lawful = record { consistency = is.1.at_most; ignore = lawful.ignore; delete = lawful.delete; partial = lawful.partial; upload = lawful.upload; tick = lawful.tick; page_limit_low = lawful.page_limit_low; page_limit_high = lawful.page_limit_high; replicas = lawful.replicas }
+lawful_rule set name value (rules.Ignore span) is lawful = record { consistency = lawful.consistency; ignore = is.1.at_most; delete = lawful.delete; partial = lawful.partial; upload = lawful.upload; tick = lawful.tick; page_limit_low = lawful.page_limit_low; page_limit_high = lawful.page_limit_high; replicas = lawful.replicas }
+lawful_rule set name value (rules.Delete span) is lawful = record { consistency = lawful.consistency; ignore = lawful.ignore; delete = is.1.at_most; partial = lawful.partial; upload = lawful.upload; tick = lawful.tick; page_limit_low = lawful.page_limit_low; page_limit_high = lawful.page_limit_high; replicas = lawful.replicas }
+lawful_rule set name value (rules.Partial span) is lawful = record { consistency = lawful.consistency; ignore = lawful.ignore; delete = lawful.delete; partial = is.1.at_most; upload = lawful.upload; tick = lawful.tick; page_limit_low = lawful.page_limit_low; page_limit_high = lawful.page_limit_high; replicas = lawful.replicas }
+lawful_rule set name value (rules.Upload span) is lawful = record { consistency = lawful.consistency; ignore = lawful.ignore; delete = lawful.delete; partial = lawful.partial; upload = is.1.at_most; tick = lawful.tick; page_limit_low = lawful.page_limit_low; page_limit_high = lawful.page_limit_high; replicas = lawful.replicas }
+lawful_rule set name value (rules.Tick span) is lawful = record { consistency = lawful.consistency; ignore = lawful.ignore; delete = lawful.delete; partial = lawful.partial; upload = lawful.upload; tick = is.2; page_limit_low = lawful.page_limit_low; page_limit_high = lawful.page_limit_high; replicas = lawful.replicas }
+lawful_rule set name value (rules.PageLimit limit) is lawful = record { consistency = lawful.consistency; ignore = lawful.ignore; delete = lawful.delete; partial = lawful.partial; upload = lawful.upload; tick = lawful.tick; page_limit_low = is.2; page_limit_high = is.3; replicas = lawful.replicas }
+
+-- with the last block complete, all blocks are
+all_full : (blocks : List Block) → ((others : List Block) (block : Block) → blocks ≡ others ++ block ∷ [] → All (λ (b : Block). HasSeries b.body) others) → HasEnded blocks → All (λ (b : Block). HasSeries b.body) blocks
+all_full blocks full ended =
+    elim (ends blocks) [
+      | inl none ↦ subst (All (λ (b : Block). HasSeries b.body)) (sym none) (All-nil (λ (b : Block). HasSeries b.body))
+      | inr more ↦ subst (All (λ (b : Block). HasSeries b.body)) (sym more.2) (All-push (λ (b : Block). HasSeries b.body) more.0 more.1 (full more.0 more.1 more.2) (ended more.0 more.1 more.2))
+    ]
+
+none_sorted : IsStrictlySortedBy compare_sets (map (λ (one : Series). one.labels) [])
+unfolding IsStrictlySortedBy
+none_sorted = tt
+
+some_samples : (texts : List (List ℕ)) (samples : List Sample) → texts ≢ [] → AreSampleFields texts samples → samples ≢ []
+some_samples [] samples some are none = some refl
+some_samples (text ∷ texts) [] some are none = are
+some_samples (text ∷ texts) (sample ∷ samples) some are none = cc
+
+module _ (before after : SoFar) (line : List ℕ) (order : InOrder before) where
+  rule_in_order : RuleLine before line after → InOrder after
+  rule_in_order says = subst InOrder (sym says.adds) (record {
+    rules = lawful_rule before.script.rules says.name says.value says.rule says.is_rule order.rules;
+    agreed = λ some. absurd (some says.early);
+    few_gateways = order.few_gateways;
+    names = order.names;
+    blocks = order.blocks;
+    full = order.full;
+    phases = order.phases;
+    early = λ e. absurd cc;
+  })
+
+  gateway_in_order : GatewayLine before line after → InOrder after
+  gateway_in_order says =
+      let size = length-append before.script.gateways (says.name ∷ []) in
+      let few = says.few in
+      subst InOrder (sym says.adds) (record {
+        rules = order.rules;
+        agreed = order.agreed;
+        few_gateways = omega arith;
+        names = All-push (λ name. is_name name ≡ true) before.script.gateways says.name order.names says.is_name;
+        blocks = order.blocks;
+        full = order.full;
+        phases = early_phases _ before.script.blocks (length before.script.selectors) before.script.phases says.early;
+        early = λ e. absurd cc;
+      })
+
+  block_in_order : HasEnded before.script.blocks → BlockLine before line after → InOrder after
+  block_in_order ended says =
+      let new : Block = record { ulid = says.ulid; labels = says.labels; body = Inline says.min_time says.max_time [] } in
+      let size = length-append before.script.blocks (new ∷ []) in
+      let few = says.few in
+      let inline : IsLawfulInline says.min_time says.max_time [] = record { early = near_low says.min_time says.is_min.near; ascend = says.times; late = near_high says.max_time says.is_max.near; ordered = none_sorted; samples = All-nil (HasLawfulSamples says.min_time says.max_time) } in
+      subst InOrder (sym says.adds) (record {
+        rules = order.rules;
+        agreed = order.agreed;
+        few_gateways = order.few_gateways;
+        names = order.names;
+        blocks = record {
+          few = omega arith;
+          each = All-push IsLawfulBlock before.script.blocks new order.blocks.each (record { body = inline; not_reserved = says.is_ulid.not_reserved });
+          once = once_push before.script.blocks new order.blocks.once says.new;
+        };
+        full = λ others block is. subst (All (λ (b : Block). HasSeries b.body)) (snoc_is before.script.blocks others new block is).0 (all_full before.script.blocks order.full ended);
+        phases = early_phases before.script.gateways _ (length before.script.selectors) before.script.phases says.early;
+        early = λ e. says.early;
+      })
+
+  series_in_order : SeriesLine before line after → InOrder after
+  series_in_order says =
+      let new : Series = record { labels = says.labels; samples = says.samples } in
+      let last : Block = record { ulid = says.ulid; labels = says.block_labels; body = Inline says.min_time says.max_time says.series } in
+      let more : Block = record { ulid = says.ulid; labels = says.block_labels; body = Inline says.min_time says.max_time (insert_series says.series new) } in
+      let each : All IsLawfulBlock (says.others ++ last ∷ []) = subst (All IsLawfulBlock) says.last order.blocks.each in
+      let old : IsLawfulBlock last = All-last IsLawfulBlock says.others last each in
+      let size = ap length says.last ∙ length-append says.others (last ∷ []) in
+      let size_more = length-append says.others (more ∷ []) in
+      let few = order.blocks.few in
+      let early = order.early says.in_block in
+      let inline : IsLawfulInline says.min_time says.max_time (insert_series says.series new) = record {
+        early = old.body.early;
+        ascend = old.body.ascend;
+        late = old.body.late;
+        ordered = sorted_insert says.series new old.body.ordered;
+        samples = each_insert (HasLawfulSamples says.min_time says.max_time) says.series new says.new old.body.samples (record { some = some_samples says.texts says.samples says.some says.are_samples; rising = says.rising; within = says.within });
+      } in
+      subst InOrder (sym says.adds) (record {
+        rules = order.rules;
+        agreed = order.agreed;
+        few_gateways = order.few_gateways;
+        names = order.names;
+        blocks = record {
+          few = omega arith;
+          each = All-push IsLawfulBlock says.others more (All-front IsLawfulBlock says.others last each) (record { body = inline; not_reserved = old.not_reserved });
+          once = subst (IsDistinct nat_eq) (ap ulids_of says.last ∙ same_ulids says.others last more refl) order.blocks.once;
+        };
+        full = λ others block is. subst (All (λ (b : Block). HasSeries b.body)) (snoc_is says.others others more block is).0 (order.full says.others last says.last);
+        phases = early_phases before.script.gateways _ (length before.script.selectors) before.script.phases early;
+        early = λ e. early;
+      })
+
+-- ---- phases and tasks
+
+no_workers : (gateways : ℕ) → length (hands_of gateways []) ≤ 64
+unfolding hands_from
+no_workers gateways = omega arith
+
+phase_in_order : (gateways : List (List ℕ)) (blocks : List Block) (selectors : ℕ) (phases : List Phase) (phase : Phase) → AreLawfulPhases gateways blocks selectors phases → phase.tasks ≡ [] → phase.moment.ms < 2 ^ 47 → ((others : List Phase) (last : Phase) → phases ≡ others ++ last ∷ [] → last.moment.ms ≤ phase.moment.ms) → AreLawfulPhases gateways blocks selectors (phases ++ phase ∷ [])
+phase_in_order gateways blocks selectors phases phase lawful none below later =
+    let same : works_of (phases ++ phase ∷ []) ≡ works_of phases = works_of-append phases phase ∙ ap (λ tasks. works_of phases ++ works_in tasks) none ∙ append-nil (works_of phases) in
+    record {
+      each = All-push (IsLawfulPhase gateways blocks selectors) phases phase lawful.each (record {
+        moment = below;
+        tasks = subst (All (λ (task : Task). IsLawfulWork gateways blocks selectors task.work)) (sym none) (All-nil (λ (task : Task). IsLawfulWork gateways blocks selectors task.work));
+        few_workers = subst (λ tasks. length (hands_of (gateway_count gateways) tasks) ≤ 64) (sym none) (no_workers (gateway_count gateways));
+      });
+      moments = moments_push phases phase lawful.moments later;
+      few_tasks = subst (λ works. length works ≤ 65_536) (sym same) lawful.few_tasks;
+      synced = λ before after low high selector gateway is inside. lawful.synced before after low high selector gateway (sym same ∙ is) inside;
+    }
+
+-- phases whose last has another list of tasks have the same moments
+same_moment : (others : List Phase) (one other : Phase) → one.moment.ms ≡ other.moment.ms → (i : ℕ) (d : Phase) → i < length (others ++ one ∷ []) → (get_or (others ++ one ∷ []) i d).moment.ms ≡ (get_or (others ++ other ∷ []) i d).moment.ms
+same_moment others one other same i d inside =
+    elim (true_or_false (nat_lt i (length others))) [
+      | inl test ↦
+          let within : i < length others = grind (arith, nat_tests) in
+          ap (λ (p : Phase). p.moment.ms) (get_or_append_left others (one ∷ []) d i within ∙ sym (get_or_append_left others (other ∷ []) d i within))
+      | inr past ↦
+          let size = length-append others (one ∷ []) in
+          let at_end : length others ≡ i = grind (arith, nat_tests) in
+          ap (λ (p : Phase). p.moment.ms) (get_or_at others one [] d i at_end) ∙ same ∙ ap (λ (p : Phase). p.moment.ms) (sym (get_or_at others other [] d i at_end))
+    ]
+
+same_moments : (others : List Phase) (one other : Phase) → one.moment.ms ≡ other.moment.ms → IsNonDecreasingBy (λ (p : Phase). p.moment.ms) (others ++ one ∷ []) → IsNonDecreasingBy (λ (p : Phase). p.moment.ms) (others ++ other ∷ [])
+same_moments others one other same moments i j d below inside =
+    let sizes : length (others ++ one ∷ []) ≡ length (others ++ other ∷ []) = length-append others (one ∷ []) ∙ sym (length-append others (other ∷ [])) in
+    let within : j < length (others ++ one ∷ []) = omega arith in
+    let old = moments i j d below within in
+    omega (arith, old, same_moment others one other same i d (omega arith), same_moment others one other same j d within)
+
+-- a query among the tasks with one more
+sync_by : (gateways : ℕ) (works : List Work) (work : Work) → ((before after : List Work) (low high : ℤ) (selector gateway : ℕ) → works ≡ before ++ Query low high selector ∷ after → gateway < gateways → has_sync before gateway ≡ true) → ((low high : ℤ) (selector gateway : ℕ) → work ≡ Query low high selector → gateway < gateways → has_sync works gateway ≡ true) → (before after : List Work) (low high : ℤ) (selector gateway : ℕ) → works ++ work ∷ [] ≡ before ++ Query low high selector ∷ after → gateway < gateways → has_sync before gateway ≡ true
+sync_by gateways works work old new before after low high selector gateway is inside =
+    elim (ends after) [
+      | inl none ↦
+          let p = snoc_is works before work (Query low high selector) (is ∙ ap (λ rest. before ++ Query low high selector ∷ rest) none) in
+          subst (λ (ws : List Work). has_sync ws gateway ≡ true) p.0 (new low high selector gateway p.1 inside)
+      | inr more ↦
+          let regrouped : before ++ Query low high selector ∷ after ≡ (before ++ Query low high selector ∷ more.0) ++ more.1 ∷ [] = ap (λ rest. before ++ Query low high selector ∷ rest) more.2 ∙ sym (append_assoc before (Query low high selector ∷ more.0) (more.1 ∷ [])) in
+          let p = snoc_is works (before ++ Query low high selector ∷ more.0) work more.1 (is ∙ regrouped) in
+          old before more.0 low high selector gateway p.0 inside
+    ]
+
+task_in_order : (before after : Script) (selectors number : ℕ) (work : Work) → AreLawfulPhases before.gateways before.blocks selectors before.phases → AddsTask before number work after → IsLawfulWork before.gateways before.blocks selectors work → ((low high : ℤ) (selector gateway : ℕ) → work ≡ Query low high selector → gateway < length before.gateways → has_sync (works_of before.phases) gateway ≡ true) → AreLawfulPhases before.gateways before.blocks selectors after.phases
+task_in_order before after selectors number work lawful adds fits syncs =
+    let task : Task = record { line = number; work = work } in
+    let old : Phase = adds.phase in
+    let new : Phase = record old { tasks = old.tasks ++ task ∷ [] } in
+    let each : All (IsLawfulPhase before.gateways before.blocks selectors) (adds.others ++ old ∷ []) = subst (All (IsLawfulPhase before.gateways before.blocks selectors)) adds.last lawful.each in
+    let last = All-last (IsLawfulPhase before.gateways before.blocks selectors) adds.others old each in
+    let works : works_of (adds.others ++ new ∷ []) ≡ works_of before.phases ++ work ∷ [] = works_of-more adds.others old task ∙ ap (λ phases. works_of phases ++ work ∷ []) (sym adds.last) in
+    let size = ap length works ∙ length-append (works_of before.phases) (work ∷ []) in
+    let few = adds.few in
+    let phases : AreLawfulPhases before.gateways before.blocks selectors (adds.others ++ new ∷ []) = record {
+      each = All-push (IsLawfulPhase before.gateways before.blocks selectors) adds.others new (All-front (IsLawfulPhase before.gateways before.blocks selectors) adds.others old each) (record {
+        moment = last.moment;
+        tasks = All-push (λ (t : Task). IsLawfulWork before.gateways before.blocks selectors t.work) old.tasks task last.tasks fits;
+        few_workers = adds.few_workers;
+      });
+      moments = same_moments adds.others old new refl (subst (IsNonDecreasingBy (λ (p : Phase). p.moment.ms)) adds.last lawful.moments);
+      few_tasks = omega arith;
+      synced = λ first rest low high selector gateway is inside. sync_by (length before.gateways) (works_of before.phases) work lawful.synced syncs first rest low high selector gateway (sym works ∙ is) inside;
+    } in
+    subst (AreLawfulPhases before.gateways before.blocks selectors) (ap (λ (s : Script). s.phases) (sym adds.adds)) phases
+
+named_by : (gateways : List (List ℕ)) (place gateway : ℕ) (b : Bool) → nat_lt place (length gateways) ≡ b → cond b (Some place) None ≡ Some gateway → gateway < length gateways
+named_by gateways place gateway true inside is =
+    let same : place ≡ gateway = cc in
+    let within : place < length gateways = grind (arith, nat_tests) in
+    omega arith
+named_by gateways place gateway false inside is = absurd cc
+
+-- a gateway of a name has a place
+named_inside : (gateways : List (List ℕ)) (name : List ℕ) (gateway : ℕ) → gateway_named gateways name ≡ Some gateway → gateway < length gateways
+named_inside gateways name gateway named =
+    named_by gateways (position_or_len (λ one. bytes_eq one name) gateways) gateway (nat_lt (position_or_len (λ one. bytes_eq one name) gateways) (length gateways)) refl named
+
+-- with one more selector
+more_selectors : (gateways : List (List ℕ)) (blocks : List Block) (selectors : ℕ) (work : Work) → IsLawfulWork gateways blocks selectors work → IsLawfulWork gateways blocks (selectors + 1) work
+more_selectors gateways blocks selectors (Upload ulid stop) lawful = lawful
+more_selectors gateways blocks selectors (Sync gateway) lawful = lawful
+more_selectors gateways blocks selectors (Query low high selector) lawful =
+    let below = lawful.3 in (lawful.0, lawful.1, lawful.2, omega arith)
+
+selector_in_order : (gateways : List (List ℕ)) (blocks : List Block) (selectors : ℕ) (phases : List Phase) → AreLawfulPhases gateways blocks selectors phases → AreLawfulPhases gateways blocks (selectors + 1) phases
+selector_in_order gateways blocks selectors phases lawful = record {
+  each = All-weaker (IsLawfulPhase gateways blocks selectors) (IsLawfulPhase gateways blocks (selectors + 1)) (λ phase is. record {
+    moment = is.moment;
+    tasks = All-weaker (λ (t : Task). IsLawfulWork gateways blocks selectors t.work) (λ (t : Task). IsLawfulWork gateways blocks (selectors + 1) t.work) (λ task fits. more_selectors gateways blocks selectors task.work fits) phase.tasks is.tasks;
+    few_workers = is.few_workers;
+  }) phases lawful.each;
+  moments = lawful.moments;
+  few_tasks = lawful.few_tasks;
+  synced = lawful.synced;
+}
+
+agreed_by : (set : Rules) (phases : List Phase) → (phases ≡ [] → agree set ≡ true) → (phases ≢ [] → agree set ≡ true) → agree set ≡ true
+agreed_by set [] first later = first refl
+agreed_by set (phase ∷ phases) first later = later (λ none. cc)
+
+module _ (before after : SoFar) (number : ℕ) (line : List ℕ) (order : InOrder before) where
+  at_in_order : AtLine before number line after → InOrder after
+  at_in_order says =
+      let new : Phase = record { line = number; moment = record { ms = says.moment }; tasks = [] } in
+      subst InOrder (sym says.adds) (record {
+        rules = order.rules;
+        agreed = λ _. agreed_by before.script.rules before.script.phases says.first order.agreed;
+        few_gateways = order.few_gateways;
+        names = order.names;
+        blocks = order.blocks;
+        full = order.full;
+        phases = phase_in_order before.script.gateways before.script.blocks (length before.script.selectors) before.script.phases new order.phases refl says.is_moment.below says.later;
+        early = λ e. absurd cc;
+      })
+
+  -- a task leaves all but the phases
+  with_task : (script : Script) (work : Work) → AddsTask before.script number work script → AreLawfulPhases before.script.gateways before.script.blocks (length before.script.selectors) script.phases → InOrder (spelling.outside script)
+  with_task script work adds phases =
+      let all : InOrder (spelling.outside (record before.script { phases = adds.others ++ record adds.phase { tasks = adds.phase.tasks ++ record { line = number; work = work } ∷ [] } ∷ [] })) = record {
+        rules = order.rules;
+        agreed = λ _. order.agreed (λ none. no_end adds.others adds.phase (sym adds.last ∙ none));
+        few_gateways = order.few_gateways;
+        names = order.names;
+        blocks = order.blocks;
+        full = order.full;
+        phases = subst (AreLawfulPhases before.script.gateways before.script.blocks (length before.script.selectors)) (ap (λ (s : Script). s.phases) adds.adds) phases;
+        early = λ e. absurd cc;
+      } in
+      subst (λ (s : Script). InOrder (spelling.outside s)) (sym adds.adds) all
+
+  upload_in_order : UploadLine before number line after → InOrder after
+  upload_in_order says =
+      subst InOrder (sym says.adds) (with_task says.script (Upload says.ulid None) says.task (task_in_order before.script says.script (length before.script.selectors) number (Upload says.ulid None) order.phases says.task says.declared (λ low high selector gateway is inside. absurd cc)))
+
+  sync_in_order : SyncLine before number line after → InOrder after
+  sync_in_order says =
+      subst InOrder (sym says.adds) (with_task says.script (Sync says.gateway) says.task (task_in_order before.script says.script (length before.script.selectors) number (Sync says.gateway) order.phases says.task (named_inside before.script.gateways says.name says.gateway says.declared) (λ low high selector gateway is inside. absurd cc)))
+
+  query_in_order : QueryLine before number line after → InOrder after
+  query_in_order says =
+      let selectors = length before.script.selectors in
+      let work : Work = Query says.low says.high selectors in
+      let adds = says.task in
+      let script : Script = record before.script { phases = adds.others ++ record adds.phase { tasks = adds.phase.tasks ++ record { line = number; work = work } ∷ [] } ∷ [] } in
+      let fits : IsLawfulWork before.script.gateways before.script.blocks (selectors + 1) work = (near_low says.low says.is_low.near, says.times, near_high says.high says.is_high.near, omega arith) in
+      let phases = task_in_order before.script says.script (selectors + 1) number work (selector_in_order before.script.gateways before.script.blocks selectors before.script.phases order.phases) adds fits (λ low high selector gateway is inside. says.synced gateway inside) in
+      let moved : AreLawfulPhases before.script.gateways before.script.blocks (selectors + 1) script.phases = subst (AreLawfulPhases before.script.gateways before.script.blocks (selectors + 1)) (ap (λ (s : Script). s.phases) adds.adds) phases in
+      let all : InOrder (spelling.outside (record script { selectors = before.script.selectors ++ says.selector ∷ [] })) = record {
+        rules = order.rules;
+        agreed = λ _. order.agreed (λ none. no_end adds.others adds.phase (sym adds.last ∙ none));
+        few_gateways = order.few_gateways;
+        names = order.names;
+        blocks = order.blocks;
+        full = order.full;
+        phases = subst (λ n. AreLawfulPhases before.script.gateways before.script.blocks n script.phases) (sym (length-append before.script.selectors (says.selector ∷ []))) moved;
+        early = λ e. absurd cc;
+      } in
+      subst InOrder (sym (says.adds ∙ ap (λ (s : Script). spelling.outside (record s { selectors = s.selectors ++ says.selector ∷ [] })) adds.adds)) all
+
+  says_in_order : Says before number line after → InOrder after
+  says_in_order (spelling.series says) = series_in_order before after line order says
+  says_in_order (spelling.rule ended says) = rule_in_order before after line order says
+  says_in_order (spelling.gateway ended says) = gateway_in_order before after line order says
+  says_in_order (spelling.block ended says) = block_in_order before after line order ended says
+  says_in_order (spelling.at ended says) = at_in_order says
+  says_in_order (spelling.upload ended says) = upload_in_order says
+  says_in_order (spelling.sync ended says) = sync_in_order says
+  says_in_order (spelling.query ended says) = query_in_order says
+
+-- ---- whole texts
+
+say_by : (before after : SoFar) (number : ℕ) (line : List ℕ) (lines : List (List ℕ)) (b : Bool) → InOrder before → ((next : SoFar) → InOrder next → Say next (number + 1) lines after → InOrder after) → MatchBool b (Say before (number + 1) lines after) ((next : SoFar) × (is_utf8 line ≡ true) × Says before number line next × Say next (number + 1) lines after) → InOrder after
+say_by before after number line lines true order later said = later before order said
+say_by before after number line lines false order later said =
+    later said.0 (says_in_order before said.0 number line order said.2) said.3
+
+say_in_order : (before after : SoFar) (number : ℕ) (lines : List (List ℕ)) → InOrder before → Say before number lines after → InOrder after
+say_in_order before after number [] order said = subst InOrder said order
+say_in_order before after number (line ∷ lines) order said =
+    say_by before after number line lines (is_silent line) order (λ next next_order later. say_in_order next after (number + 1) lines next_order later) said
+
+none_once : IsDistinct nat_eq (ulids_of [])
+unfolding IsDistinct
+none_once = tt
+
+nothing_in_order : InOrder spelling.nothing
+nothing_in_order = record {
+  rules = record { consistency = omega arith; ignore = omega arith; delete = omega arith; partial = omega arith; upload = omega arith; tick = omega arith; page_limit_low = omega arith; page_limit_high = omega arith; replicas = refl };
+  agreed = λ some. absurd (some refl);
+  few_gateways = omega arith;
+  names = All-nil (λ name. is_name name ≡ true);
+  blocks = record { few = omega arith; each = All-nil IsLawfulBlock; once = none_once };
+  full = λ others block is. absurd (no_end others block (sym is));
+  phases = no_phases [] [] 0;
+  early = λ e. absurd cc;
+}
+
+-- what a text spells is lawful
+pub spelled_lawful : (text : List ℕ) (script : Script) → Spells text script → IsLawfulScript script
+spelled_lawful text script spells =
+    let order = say_in_order spelling.nothing (record { script = script; in_block = spells.in_block }) 1 (lines_of text) nothing_in_order spells.lines in
+    record {
+      rules = order.rules;
+      agreed = order.agreed;
+      few_gateways = order.few_gateways;
+      names = order.names;
+      blocks = order.blocks;
+      full = all_full script.blocks order.full spells.ended;
+      phases = order.phases;
+    }

@@ -1,0 +1,91 @@
+-- What holds of each script that is read, whatever its text.
+use Rattle.std.specs.Prelude.{◌≡◌, ◌≢◌, ℕ, ◌+◌, ◌^◌, ◌<◌, ◌≤◌, ℤ, pos, neg_ℤ, ◌<ℤ◌, ◌≤ℤ◌, List, [], ◌∷◌, ◌++◌, length, map, IsTrue, IsFalse, nat_eq}
+use Rattle.std.specs.List.{All, IsDistinct}
+use Rattle.std.specs.List.Sorted.{IsStrictlySortedBy, IsNonDecreasingBy}
+use Rattle.label_sets.specs.Labels.{compare_sets}
+use Rattle.label_sets.specs.declared.series.Series.{Series}
+use Rattle.moment_core.specs.declared.rules.Rules.{Rules}
+use Rattle.script_core.specs.declared.block.Block.{Block}
+use Rattle.script_core.specs.declared.body.Body.{Body}
+use Rattle.script_core.specs.declared.body.Body.TheVariants.{Inline}
+use Rattle.script_core.specs.declared.phase.Phase.{Phase}
+use Rattle.script_core.specs.declared.script.Script.{Script}
+use Rattle.script_core.specs.declared.work.Work.{Work}
+use Rattle.script_core.specs.declared.work.Work.TheVariants.{Upload, Sync, Query}
+use Rattle.script_core.specs.Fields.{is_name}
+use Rattle.script_core.specs.Values.{is_reserved, agree}
+use Rattle.script_core.specs.Samples.{are_rising, are_within}
+use Rattle.script_core.specs.Hands.{gateway_count, hands_of}
+use Rattle.script_core.specs.Works.{works_of, has_sync, declares}
+
+-- spans of at most 2^46 milliseconds, a tick of at most a day, and pages of 1 to 10,000 names
+pub record AreLawfulRules (rules : Rules) : Type 0 where
+  pub consistency : rules.consistency.ms ≤ 2 ^ 46
+  pub ignore : rules.ignore.ms ≤ 2 ^ 46
+  pub delete : rules.delete.ms ≤ 2 ^ 46
+  pub partial : rules.partial.ms ≤ 2 ^ 46
+  pub upload : rules.upload.ms ≤ 2 ^ 46
+  pub tick : rules.tick.ms ≤ 86_400_000
+  pub page_limit_low : 1 ≤ rules.page_limit
+  pub page_limit_high : rules.page_limit ≤ 10_000
+  pub replicas : rules.replicas ≡ []
+
+-- a series with samples, whose times rise within a range
+pub record HasLawfulSamples (min_time max_time : ℤ) (series : Series) : Type 0 where
+  pub some : series.samples ≢ []
+  pub rising : IsTrue (are_rising series.samples)
+  pub within : IsTrue (are_within min_time max_time series.samples)
+
+-- times that a block may have, and series ascending by their labels
+pub record IsLawfulInline (min_time max_time : ℤ) (series : List Series) : Type 0 where
+  pub early : neg_ℤ (pos (2 ^ 62)) ≤ℤ min_time
+  pub ascend : min_time <ℤ max_time
+  pub late : max_time ≤ℤ pos (2 ^ 62)
+  pub ordered : IsStrictlySortedBy compare_sets (map (λ one. one.labels) series)
+  pub samples : All (HasLawfulSamples min_time max_time) series
+
+abbrev pub IsLawfulBody : Body → Type 0
+IsLawfulBody (Inline min_time max_time series) = IsLawfulInline min_time max_time series
+
+abbrev pub HasSeries : Body → Type 0
+HasSeries (Inline min_time max_time series) = series ≢ []
+
+pub record IsLawfulBlock (block : Block) : Type 0 where
+  pub body : IsLawfulBody block.body
+  pub not_reserved : IsFalse (is_reserved block.ulid)
+
+pub record AreLawfulBlocks (blocks : List Block) : Type 0 where
+  pub few : length blocks ≤ 4_096
+  pub each : All IsLawfulBlock blocks
+  -- no ULID twice
+  pub once : IsDistinct nat_eq (map (λ block. block.ulid) blocks)
+
+-- an upload is of a declared block, a sync of a declared gateway, and a query has its range and its selector
+abbrev pub IsLawfulWork : List (List ℕ) → List Block → ℕ → Work → Type 0
+IsLawfulWork gateways blocks selectors (Upload ulid stop) = IsTrue (declares blocks ulid)
+IsLawfulWork gateways blocks selectors (Sync gateway) = gateway < length gateways
+IsLawfulWork gateways blocks selectors (Query low high selector) =
+    (neg_ℤ (pos (2 ^ 62)) ≤ℤ low) × (low ≤ℤ high) × (high ≤ℤ pos (2 ^ 62)) × (selector < selectors)
+
+pub record IsLawfulPhase (gateways : List (List ℕ)) (blocks : List Block) (selectors : ℕ) (phase : Phase) : Type 0 where
+  pub moment : phase.moment.ms < 2 ^ 47
+  pub tasks : All (λ task. IsLawfulWork gateways blocks selectors task.work) phase.tasks
+  pub few_workers : length (hands_of (gateway_count gateways) phase.tasks) ≤ 64
+
+pub record AreLawfulPhases (gateways : List (List ℕ)) (blocks : List Block) (selectors : ℕ) (phases : List Phase) : Type 0 where
+  pub each : All (IsLawfulPhase gateways blocks selectors) phases
+  pub moments : IsNonDecreasingBy (λ phase. phase.moment.ms) phases
+  pub few_tasks : length (works_of phases) ≤ 65_536
+  -- each gateway has a sync before each query
+  pub synced : (before after : List Work) (low high : ℤ) (selector gateway : ℕ) → works_of phases ≡ before ++ Query low high selector ∷ after → gateway < length gateways → IsTrue (has_sync before gateway)
+
+pub record IsLawfulScript (script : Script) : Type 0 where
+  pub rules : AreLawfulRules script.rules
+  -- once a phase begins, the rules agree
+  pub agreed : script.phases ≢ [] → IsTrue (agree script.rules)
+  pub few_gateways : length script.gateways ≤ 1
+  pub names : All (λ name. IsTrue (is_name name)) script.gateways
+  pub blocks : AreLawfulBlocks script.blocks
+  -- each block has a series
+  pub full : All (λ block. HasSeries block.body) script.blocks
+  pub phases : AreLawfulPhases script.gateways script.blocks (length script.selectors) script.phases
