@@ -26,7 +26,7 @@ use Rattle.script_core.specs.Lines.{fields_line, first_labels, series_line}
 use Rattle.script_core.specs.State.{State, Last, block_of, all_blocks, add_series, test_block, with_series, has_series, insert_series, script_of_state}
 use Rattle.script_core.specs.Spelling.{SoFar, inside, spaced, IsSampleField, AreSampleFields, SeriesLine}
 use Rattle.reading_core.proofs.Decimals.{both}
-use Rattle.script_core.proofs.FieldLaws.{no_space, not_true}
+use Rattle.script_core.proofs.FieldLaws.{no_space, spaceless}
 use Rattle.script_core.proofs.ValueLaws.{time_fits}
 use Rattle.script_core.proofs.Kept.{Kept, so_far_of}
 use Rattle.script_core.proofs.LineTools.{is_some_field, snoc_is, no_end}
@@ -34,9 +34,6 @@ use Rattle.script_core.proofs.FoundSeries.{sample_time, added}
 use Rattle.script_core.proofs.AgainSetup.{IsRead, starts_again, not_false}
 
 -- ---- texts that are joined and cut again
-
-spaceless : (field : List ℕ) → no_space field ≡ true → (k : ℕ) (d : ℕ) → k < length field → is_space (get_or field k d) ≡ false
-spaceless field free k d below = not_true _ (AllPass-from_list_all (λ byte. not (is_space byte)) field free k d below)
 
 pub cut_joined : (texts : List (List ℕ)) → texts ≢ [] → list_all no_space texts ≡ true → slice_split is_space (join_with_byte 32 texts) ≡ texts
 cut_joined [] some free = absurd (some refl)

@@ -18,9 +18,13 @@ no_space field = list_all (λ byte. not (is_space byte)) field
 not_false : (b : Bool) → b ≡ false → not b ≡ true
 not_false b e = ap not e
 
-pub not_true : (b : Bool) → not b ≡ true → b ≡ false
+not_true : (b : Bool) → not b ≡ true → b ≡ false
 not_true true e = sym e
 not_true false e = refl
+
+-- each byte of such a field
+pub spaceless : (field : List ℕ) → no_space field ≡ true → (k : ℕ) (d : ℕ) → k < length field → is_space (get_or field k d) ≡ false
+spaceless field free k d below = not_true _ (AllPass-from_list_all (λ byte. not (is_space byte)) field free k d below)
 
 -- before the first space there is none
 no_space-before : (text : List ℕ) → no_space (before_first is_space text) ≡ true
@@ -34,7 +38,7 @@ no_space-whole text none =
     list_all-from_AllPass (λ byte. not (is_space byte)) text (λ k d below. not_false _ (fails_before_first is_space text k d (omega arith)))
 
 -- the byte that is a space
-space_is : (byte : ℕ) → is_space byte ≡ true → byte ≡ 32
+pub space_is : (byte : ℕ) → is_space byte ≡ true → byte ≡ 32
 space_is byte e = grind (arith, nat_tests)
 
 -- what was cut off
@@ -59,10 +63,10 @@ cut_found None = cut_nothing refl refl refl
 cut_found (Some text) = cut_by text (nat_lt (position_or_len is_space text) (length text)) refl
 
 -- where the first space of joined texts is
-module _ (field text : List ℕ) (spaceless : no_space field ≡ true) where
+module _ (field text : List ℕ) (free : no_space field ≡ true) where
   within : (k d : ℕ) → k < length field → is_space (get_or (field ++ 32 ∷ text) k d) ≡ false
   within k d below =
-      ap is_space (get_or_append_left field (32 ∷ text) d k below) ∙ not_true _ (AllPass-from_list_all (λ byte. not (is_space byte)) field spaceless k d below)
+      ap is_space (get_or_append_left field (32 ∷ text) d k below) ∙ spaceless field free k d below
 
   place : position_or_len is_space (field ++ 32 ∷ text) ≡ length field
   place =
@@ -84,7 +88,7 @@ module _ (field text : List ℕ) (spaceless : no_space field ≡ true) where
 -- a field alone
 pub cut_last : (field : List ℕ) → no_space field ≡ true → next_field (Some field) ≡ (field, None)
 unfolding next_field
-cut_last field spaceless =
-    let none : position_or_len is_space field ≡ length field = position_or_len_is is_space field (length field) 0 (omega arith) (λ k below. not_true _ (AllPass-from_list_all (λ byte. not (is_space byte)) field spaceless k 0 below)) (λ l. absurd (omega arith)) in
+cut_last field free =
+    let none : position_or_len is_space field ≡ length field = position_or_len_is is_space field (length field) 0 (omega arith) (λ k below. spaceless field free k 0 below) (λ l. absurd (omega arith)) in
     let test : nat_lt (position_or_len is_space field) (length field) ≡ false = grind (arith, nat_tests) in
     rw test refl

@@ -23,13 +23,10 @@ use Rattle.script_core.specs.Spelling.{SoFar, HasEnded, Says, Say, Spells}
 use Rattle.script_core.proofs.FieldLaws.{Cut, cut_found}
 use Rattle.script_core.proofs.ValueLaws.{ok_or_ok}
 use Rattle.script_core.proofs.Kept.{Kept, so_far_of, start_kept, start_is}
-use Rattle.script_core.proofs.LineTools.{cut_rest, line_word, kind_found, ended_found}
+use Rattle.script_core.proofs.LineTools.{cut_rest, line_word, kind_found, ended_found, then_ok, unit_is}
 use Rattle.script_core.proofs.FoundSetup.{Starts, closed, some_is, rule_line_found, gateway_line_found, block_line_found}
-use Rattle.script_core.proofs.FoundSeries.{then_ok, series_line_found}
+use Rattle.script_core.proofs.FoundSeries.{series_line_found}
 use Rattle.script_core.proofs.FoundPhases.{at_line_found, upload_line_found, sync_line_found, query_line_found}
-
-unit_is : (x : Unit {0}) → ◌≡◌ {A = Result (Unit {0}) ScriptRefusal} (Ok x) (Ok tt)
-unit_is x = refl
 
 -- the block has ended
 pub end_found : (st before : State) → Kept st → end_block st ≡ Ok before → HasEnded (all_blocks st.blocks st.last) × (closed st ≡ before)

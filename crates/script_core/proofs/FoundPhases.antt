@@ -30,14 +30,10 @@ use Rattle.script_core.specs.Spelling.{IsEarly, IsField, AtLine, AddsTask, Uploa
 use Rattle.script_core.proofs.FieldLaws.{no_space, Cut, cut_found}
 use Rattle.script_core.proofs.ValueLaws.{ok_or_ok, is_none_is, not_is, time_found, ulid_found, moment_found}
 use Rattle.script_core.proofs.Kept.{Kept, KeepsTasks, at, so_far_of, among, phase_kept, task_kept, sync_noted, hands_of-append, or_same}
-use Rattle.script_core.proofs.LineTools.{is_field, cut_rest, cut_end, only_found, begun_is, last_phase, no_end}
+use Rattle.script_core.proofs.LineTools.{is_field, cut_rest, cut_end, only_found, last_phase, no_end, then_ok, unless_is, unit_is}
 use Rattle.script_core.proofs.FoundSetup.{Starts, closed, some_is}
 
 -- ---- moments
-
-unless_is : {E : Type 0} (b : Bool) (e : E) → unless b e ≡ Ok tt → b ≡ true
-unless_is true e h = refl
-unless_is false e h = absurd cc
 
 first_agrees : (rules : Rules) (phases : List Phase) (phase : Option Phase) (moment : Moment) → may_begin rules phase moment ≡ Ok tt → all_phases phases phase ≡ [] → agree rules ≡ true
 first_agrees rules phases None moment h early = unless_is (agree rules) BadRules h
@@ -45,13 +41,6 @@ first_agrees rules phases (Some phase) moment h early = absurd (no_end phases ph
 
 not_sooner : (rules : Rules) (last : Phase) (moment : Moment) → may_begin rules (Some last) moment ≡ Ok tt → last.moment.ms ≤ moment.ms
 not_sooner rules last moment h = leb-true _ _ (unless_is (nat_le last.moment.ms moment.ms) FallingMoment h)
-
-then_ok : {A B E : Type 0} (r : Result A E) (s : Result B E) (y : B) → (r >> s) ≡ Ok y → (x : A) × (r ≡ Ok x) × (s ≡ Ok y)
-then_ok (Ok x) s y h = (x, refl, h)
-then_ok (Err e) s y h = absurd cc
-
-unit_is : (x : Unit {0}) → ◌≡◌ {A = Result (Unit {0}) LineRefusal} (Ok x) (Ok tt)
-unit_is x = refl
 
 -- ---- tasks
 

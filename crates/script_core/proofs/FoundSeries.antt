@@ -30,20 +30,13 @@ use Rattle.script_core.specs.Samples.{is_colon, texts_of, are_whole, is_small_nu
 use Rattle.script_core.specs.Lines.{first_labels, series_line}
 use Rattle.script_core.specs.State.{State, Last, block_of, all_blocks, add_series, test_block, with_series, has_series, insert_series, script_of_state}
 use Rattle.script_core.specs.Spelling.{spaced, inside, IsSampleField, AreSampleFields, SeriesLine}
-use Rattle.script_core.proofs.FieldLaws.{no_space}
+use Rattle.script_core.proofs.FieldLaws.{no_space, space_is}
 use Rattle.script_core.proofs.ValueLaws.{not_is}
 use Rattle.script_core.proofs.Kept.{Kept, at, so_far_of, series_kept}
-use Rattle.script_core.proofs.LineTools.{is_field}
+use Rattle.script_core.proofs.LineTools.{is_field, then_ok, unless_is, unit_is}
 use Rattle.script_core.proofs.FoundSetup.{Starts, some_is}
 
 -- ---- the label set at the front
-
-pub then_ok : {A B E : Type 0} (r : Result A E) (s : Result B E) (y : B) → (r >> s) ≡ Ok y → (x : A) × (r ≡ Ok x) × (s ≡ Ok y)
-then_ok (Ok x) s y h = (x, refl, h)
-then_ok (Err e) s y h = absurd cc
-
-space_is : (byte : ℕ) → is_space byte ≡ true → byte ≡ 32
-space_is byte e = grind (arith, nat_tests)
 
 space_by : (byte : ℕ) (text rest : List ℕ) (b : Bool) → is_space byte ≡ b → cond {A = Result (List ℕ) LineCause} b (Ok text) (Err causes.BadShape) ≡ Ok rest → byte ∷ text ≡ 32 ∷ rest
 space_by byte text rest true space h =
@@ -86,7 +79,6 @@ first_labels_found (Some text) found h =
 
 -- ---- the samples
 
--- no piece has a space
 onto_free : (byte : ℕ) (pieces : List (List ℕ)) → is_space byte ≡ false → list_all no_space pieces ≡ true → list_all no_space (onto_first byte pieces) ≡ true
 onto_free byte [] space free = rw space refl
 onto_free byte (piece ∷ pieces) space free = rw space free
@@ -95,6 +87,7 @@ pieces_by : (byte : ℕ) (pieces : List (List ℕ)) (b : Bool) → is_space byte
 pieces_by byte pieces true space free = free
 pieces_by byte pieces false space free = onto_free byte pieces space free
 
+-- no piece has a space
 pieces_free : (texts : List ℕ) → list_all no_space (slice_split is_space texts) ≡ true
 pieces_free [] = refl
 pieces_free (byte ∷ texts) = pieces_by byte (slice_split is_space texts) (is_space byte) refl (pieces_free texts)
@@ -147,13 +140,6 @@ pub record InLast (blocks : List Block) (continues : Bool) (last : Option Last) 
   pub within : are_within block.min_time block.max_time series.samples ≡ true
   pub new : has_series block.series series.labels ≡ false
   pub follows : continues ≡ true
-
-unless_is : {E : Type 0} (b : Bool) (e : E) → unless b e ≡ Ok tt → b ≡ true
-unless_is true e h = refl
-unless_is false e h = absurd cc
-
-unit_is : (x : Unit {0}) → ◌≡◌ {A = Result (Unit {0}) LineRefusal} (Ok x) (Ok tt)
-unit_is x = refl
 
 some_pieces : (texts : List ℕ) → texts_of texts ≢ []
 some_pieces texts none = omega (arith, ap length none, length-slice_split is_space texts)

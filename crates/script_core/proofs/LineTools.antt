@@ -25,6 +25,20 @@ use Rattle.script_core.specs.Spelling.{IsField, HasEnded}
 use Rattle.script_core.proofs.FieldLaws.{no_space, Cut, cut_nothing, cut_whole, cut_front, cut_found, cut_last}
 use Rattle.script_core.proofs.ValueLaws.{is_none_is, rule_word}
 
+-- ---- steps
+
+pub unless_is : {E : Type 0} (b : Bool) (e : E) → unless b e ≡ Ok tt → b ≡ true
+unless_is true e h = refl
+unless_is false e h = absurd cc
+
+pub then_ok : {A B E : Type 0} (r : Result A E) (s : Result B E) (y : B) → (r >> s) ≡ Ok y → (x : A) × (r ≡ Ok x) × (s ≡ Ok y)
+then_ok (Ok x) s y h = (x, refl, h)
+then_ok (Err e) s y h = absurd cc
+
+-- there is one unit
+pub unit_is : {E : Type 0} (x : Unit {0}) → ◌≡◌ {A = Result (Unit {0}) E} (Ok x) (Ok tt)
+unit_is x = refl
+
 -- ---- what is left of a line
 
 pub is_field : (field : List ℕ) → not (is_empty field) ≡ true → no_space field ≡ true → IsField field
@@ -160,10 +174,6 @@ snoc_is (z ∷ xs) (w ∷ ys) x y e =
 no_series : (series_count : ℕ) → not (series_count == 0) ≡ true → series_count ≡ 0 → ⊥
 no_series n some none = grind (arith, nat_tests)
 
-unless_is : {E : Type 0} (b : Bool) (e : E) → unless b e ≡ Ok tt → b ≡ true
-unless_is true e h = refl
-unless_is false e h = absurd cc
-
 some_series : (series : List Series) → series ≢ [] → not (length series == 0) ≡ true
 some_series [] some = absurd (some refl)
 some_series (one ∷ series) some = grind (arith, nat_tests)
@@ -182,11 +192,6 @@ ended_found blocks (Some last) first h =
 pub ended_again : (blocks : List Block) (last : Option Last) → HasEnded (all_blocks blocks last) → has_ended last ≡ Ok tt
 ended_again blocks None ended = refl
 ended_again blocks (Some last) ended = ended_by last (ended blocks (block_of last) refl)
-
--- a phase has begun
-pub begun_is : {A : Type 0} (o : Option A) → is_some o ≡ true → (x : A) × (o ≡ Some x)
-begun_is None h = absurd cc
-begun_is (Some x) h = (x, refl)
 
 pub early_found : (phases : List Phase) (phase : Option Phase) → (phase ≡ None → phases ≡ []) → is_none phase ≡ true → all_phases phases phase ≡ []
 early_found phases None first h = first refl

@@ -11,7 +11,7 @@ use Rattle.script_core.specs.declared.cause.LineCause.{LineCause}
 use Rattle.script_core.specs.declared.cause.LineCause.TheVariants.{BadSample}
 use Rattle.script_core.specs.Fields.{is_space, next_field}
 use Rattle.script_core.specs.Samples.{texts_of, samples_from}
-use Rattle.script_core.proofs.FieldLaws.{no_space, not_true, Cut, cut_nothing, cut_whole, cut_front, cut_found}
+use Rattle.script_core.proofs.FieldLaws.{no_space, spaceless, Cut, cut_nothing, cut_whole, cut_front, cut_found}
 
 -- the texts that are left
 abbrev pub texts_left : Option (List ℕ) → List (List ℕ)
@@ -26,9 +26,6 @@ size_left (Some texts) = length texts + 1
 -- samples, and those that were read after them
 abbrev pub after : List Sample → Result (List Sample) LineCause → Result (List Sample) LineCause
 after samples read = read >>= λ more. Ok (samples ++ more)
-
-spaceless : (field : List ℕ) → no_space field ≡ true → (k : ℕ) (d : ℕ) → k < length field → is_space (get_or field k d) ≡ false
-spaceless field free k d below = not_true _ (AllPass-from_list_all (λ byte. not (is_space byte)) field free k d below)
 
 -- the first text, and the others
 pub record FirstText (text field : List ℕ) (rest : Option (List ℕ)) : Type 0 where

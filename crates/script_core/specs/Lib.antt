@@ -9,3 +9,4 @@ pub mod Reading
 pub mod Works
 pub mod Lawful
 pub mod Spelling
+pub mod Wording

@@ -1,5 +1,6 @@
 ghost use Rattle.std.specs.Prelude.{◌≡◌};
 ghost use Rattle.reading_core.specs.Reading.{unless};
+ghost use Rattle.script_core.specs.Wording.{cause_number};
 ghost use Rattle.script_core.specs.declared.line_refusal.LineRefusal.TheVariants.{Bad};
 
 use crate::line_refusal::LineRefusal;
@@ -61,7 +62,9 @@ pub enum LineCause {
 
 impl LineCause {
     /// The number by which reports name the cause, from 1.
-    pub fn number(self) -> u8 {
+    pub fn number(self) -> u8
+        ensures { result ≡ cause_number self }
+    {
         self as u8
     }
 

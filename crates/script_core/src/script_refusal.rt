@@ -1,10 +1,12 @@
-ghost use Rattle.std.specs.Prelude.{◌≡◌, OnErr};
+ghost use Rattle.std.specs.Prelude.{◌≡◌, ◌++◌, IfOk, codes};
+ghost use Rattle.reading_core.specs.Decimal.{decimal_text};
 ghost use Rattle.script_core.specs.declared.script_refusal.ScriptRefusal.TheVariants.{NoMemory};
+ghost use Rattle.script_core.specs.Wording.{cause_number, line_text};
 
 use crate::LineCause;
 use list_core::NoMemory;
 use reading_core::put_unsigned;
-use std::alloc::{AllocError, AllocFailed};
+use std::alloc::{AllocError, AllocFailed, Global};
 
 /// Why a text is no script. A number is that of the line, from 1.
 #[derive(Clone, Copy, Debug, PartialEq, Eq)]
@@ -31,38 +33,63 @@ pub enum ScriptRefusal {
 }
 
 impl ScriptRefusal {
+    ghost use Rattle.std.specs.Prelude.{◌≡◌, ◌++◌, IfOk, OnOk, OnErr};
+    ghost use Rattle.script_core.specs.Wording.{refusal_text};
+
     /// Appends the refusal as reports word it, without a newline: `too long`, or `line N: ` and what is wrong. Want of
     /// memory has no words.
     pub fn write(self, out: &mut Vec<u8>) -> Result<(), NoMemory>
+        ensures ok { OnOk result (out.new.items ≡ out.old.items ++ refusal_text self) }
         ensures err { OnErr result (out.new.items ≡ out.old.items) }
     {
-        let mut text = Vec::new(*out.allocator());
-        match self {
-            ScriptRefusal::TooLong => text.extend_from_slice(b"too long")?,
-            ScriptRefusal::BadLine(line, cause) => {
-                put_line(&mut text, line, b"bad line ")?;
-                put_unsigned(&mut text, u64::from(cause.number()))?;
-            }
-            ScriptRefusal::FallingMoment(line) => put_line(&mut text, line, b"falling moment")?,
-            ScriptRefusal::TwoCompactors(line) => put_line(&mut text, line, b"two compactors")?,
-            ScriptRefusal::UnknownBlock(line) => put_line(&mut text, line, b"unknown block")?,
-            ScriptRefusal::BlockChanged(line) => put_line(&mut text, line, b"block changed")?,
-            ScriptRefusal::BadRules(line) => put_line(&mut text, line, b"bad rules")?,
-            ScriptRefusal::NeverSynced(line) => put_line(&mut text, line, b"never synced")?,
-            ScriptRefusal::TooMany(line) => put_line(&mut text, line, b"too many")?,
-            ScriptRefusal::NoMemory => {}
-        }
+        let text = self.text(*out.allocator())?;
         out.extend_from_slice(text.as_slice())?;
         Ok(())
     }
+
+    fn text(self, alloc: Global) -> Result<Vec<u8>, NoMemory>
+        ensures { IfOk result (λ text. text.items ≡ refusal_text self) }
+    {
+        match self {
+            ScriptRefusal::TooLong => words(alloc, b"too long"),
+            ScriptRefusal::BadLine(line, cause) => bad_line(alloc, line, cause),
+            ScriptRefusal::FallingMoment(line) => of_line(alloc, line, b"falling moment"),
+            ScriptRefusal::TwoCompactors(line) => of_line(alloc, line, b"two compactors"),
+            ScriptRefusal::UnknownBlock(line) => of_line(alloc, line, b"unknown block"),
+            ScriptRefusal::BlockChanged(line) => of_line(alloc, line, b"block changed"),
+            ScriptRefusal::BadRules(line) => of_line(alloc, line, b"bad rules"),
+            ScriptRefusal::NeverSynced(line) => of_line(alloc, line, b"never synced"),
+            ScriptRefusal::TooMany(line) => of_line(alloc, line, b"too many"),
+            ScriptRefusal::NoMemory => Ok(Vec::new(alloc)),
+        }
+    }
 }
 
-fn put_line(text: &mut Vec<u8>, line: u32, words: &[u8]) -> Result<(), NoMemory> {
+fn words(alloc: Global, words: &[u8]) -> Result<Vec<u8>, NoMemory>
+    ensures { IfOk result (λ text. text.items ≡ words.now) }
+{
+    let mut text = Vec::new(alloc);
+    text.extend_from_slice(words)?;
+    Ok(text)
+}
+
+fn of_line(alloc: Global, line: u32, words: &[u8]) -> Result<Vec<u8>, NoMemory>
+    ensures { IfOk result (λ text. text.items ≡ line_text line words.now) }
+{
+    let mut text = Vec::new(alloc);
     text.extend_from_slice(b"line ")?;
-    put_unsigned(text, u64::from(line))?;
+    put_unsigned(&mut text, u64::from(line))?;
     text.extend_from_slice(b": ")?;
     text.extend_from_slice(words)?;
-    Ok(())
+    Ok(text)
+}
+
+fn bad_line(alloc: Global, line: u32, cause: LineCause) -> Result<Vec<u8>, NoMemory>
+    ensures { IfOk result (λ text. text.items ≡ line_text line (codes "bad line " ++ decimal_text (cause_number cause))) }
+{
+    let mut text = of_line(alloc, line, b"bad line ")?;
+    put_unsigned(&mut text, u64::from(cause.number()))?;
+    Ok(text)
 }
 
 impl From<NoMemory> for ScriptRefusal {
