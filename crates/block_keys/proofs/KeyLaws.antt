@@ -1,11 +1,12 @@
 -- What ties the text of a key to the key.
-use Rattle.std.proofs.Common.{◌≡◌, ℕ, suc, ◌+◌, ◌<◌, Bool, true, false, not, Option, None, Some, Result, Ok, Err, cond, eqb, ltb, List, [], ◌∷◌, ◌++◌, map, length, take, drop, ◌⊎◌, inl, inr, ⊎_elim, refl, sym, ap, subst, ◌∙◌, arith, codes, append_assoc, length-append, Ordering}
+use Rattle.std.proofs.Common.{◌≡◌, ◌↔◌, ℕ, suc, ◌+◌, ◌<◌, Bool, true, false, not, Option, None, Some, Result, Ok, Err, cond, eqb, ltb, List, [], ◌∷◌, ◌++◌, map, length, take, drop, ◌⊎◌, inl, inr, ⊎_elim, refl, sym, ap, subst, ◌∙◌, arith, codes, append_assoc, length-append, Ordering}
 use Rattle.std.specs.List.{before_first, after_first, position_or_len, list_all}
 use Rattle.std.specs.Int.Digits.{AllBelowBase}
 use Rattle.std.specs.Cmp.Lexicographic.{slice_cmp}
 use Rattle.std.specs.Option.{option_map}
 use Rattle.std.specs.Ordering.{nat_cmp, ordering_then}
-use Rattle.std.specs.Result.{IfOk, result_ok}
+use Rattle.std.specs.Result.{IfOk, IsErr, result_ok}
+use Rattle.std.proofs.lemmas.Bool.{true≢false}
 use Rattle.std.specs.Str.{bytes_eq, IsUtf8, IsAscii}
 use Rattle.std.proofs.lemmas.Str.{IsUtf8-from_ascii, IsAscii-append}
 use Rattle.std.proofs.lemmas.Str.Ascii.{IsAscii-nil, IsAscii-cons}
@@ -197,6 +198,10 @@ IfOk-one_text text (Err e) is = tt
 pub Ok-key_text : {E : Type 0} (text : List ℕ) (r : Result Key E) → result_ok r ≡ key_of text → (key : Key) → IsKeyText text key → r ≡ Ok key
 Ok-key_text text (Ok read) is key of_key = ap Ok (Some-key (is ∙ key_of-only text key of_key))
 Ok-key_text text (Err e) is key of_key = absurd (None-not-Some (is ∙ key_of-only text key of_key))
+
+pub IsErr-key_text : {E : Type 0} (text : List ℕ) (r : Result Key E) → result_ok r ≡ key_of text → IsErr r ↔ ((key : Key) → ¬ IsKeyText text key)
+IsErr-key_text text (Ok key) is = (λ e. absurd (true≢false (sym e)), λ none. absurd (none key (key_of-found text key (sym is))))
+IsErr-key_text text (Err e) is = (λ r key of_key. None-not-Some (is ∙ key_of-only text key of_key), λ none. refl)
 
 -- a key's text is ASCII
 IsAscii-characters : (digits : List ℕ) → AllBelowBase 32 digits → IsAscii (map character digits)

@@ -1,4 +1,4 @@
-ghost use Rattle.std.specs.Prelude.{◌≡◌, ◌++◌, IfOk, OnOk};
+ghost use Rattle.std.specs.Prelude.{◌≡◌, ◌++◌, ◌↔◌, IfOk, IsErr, OnOk};
 ghost use Rattle.std.specs.Cmp.Lexicographic.{slice_cmp};
 ghost use Rattle.std.specs.Result.{result_ok};
 ghost use Rattle.std.specs.Ordering.{nat_cmp};
@@ -81,6 +81,7 @@ impl Key {
         ensures gives { result_ok result ≡ key_of text.now }
         ensures found { IfOk result (IsKeyText text.now) }
         ensures only { (key : _) → IsKeyText text.now key → result ≡ Ok key }
+        ensures none { IsErr result ↔ ((key : _) → ¬ IsKeyText text.now key) }
         ensures lawful { IfOk result IsLawfulKey }
         ensures one_text { IfOk result (λ key. text.now ≡ key_text key) }
     {

@@ -12,6 +12,12 @@ pub mod ReadSets
 pub mod SetsFound
 pub mod SetsAgain
 pub mod SetLaws
+pub mod StopPlaces
+pub mod PairRefusals
+pub mod CommaPairs
+pub mod WalkStops
+pub mod RepeatsFound
+pub mod RefusalLaws
 pub mod HexNumbers
 pub mod HexTexts
 pub mod SampleTexts

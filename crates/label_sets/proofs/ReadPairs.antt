@@ -32,7 +32,7 @@ same_ok x y r h k = cc
 same_pair : (x : List ℕ × List ℕ) (w after : List ℕ) (r : Result (List ℕ × List ℕ) LabelRefusal) → r ≡ Ok x → r ≡ Ok (w, after) → (x.0 ≡ w) × (x.1 ≡ after)
 same_pair x w after r h k = let e = same_ok x (w, after) r h k in (ap (λ p. p.0) e, ap (λ p. p.1) e)
 
-is_byte : (byte n : ℕ) → eqb byte n ≡ true → byte ≡ n
+pub is_byte : (byte n : ℕ) → eqb byte n ≡ true → byte ≡ n
 is_byte byte n t = (Decides-eqb byte n).0 t
 
 pub past-only : (byte : ℕ) (text rest : List ℕ) → past byte text ≡ Ok rest → text ≡ byte ∷ rest
@@ -51,23 +51,23 @@ with_byte-ok byte (Ok read) value rest e =
 with_byte-ok byte (Err refusal) value rest e = absurd (not_err refusal (value, rest) e)
 
 -- a backslash or a quote
-escaped_sign : (byte : ℕ) → (eqb byte 92 || eqb byte 34) ≡ true → quoted_byte byte ≡ 92 ∷ byte ∷ []
+pub escaped_sign : (byte : ℕ) → (eqb byte 92 || eqb byte 34) ≡ true → quoted_byte byte ≡ 92 ∷ byte ∷ []
 unfolding quoted_byte
 escaped_sign byte t = by_bool (eqb byte 92)
     (λ a. ap (λ b. cond b (92 ∷ 92 ∷ []) (cond (eqb byte 34) (92 ∷ 34 ∷ []) (cond (eqb byte 10) (92 ∷ 110 ∷ []) (byte ∷ [])))) a ∙ ap (λ n. 92 ∷ n ∷ []) (sym (is_byte byte 92 a)))
     (λ a. let q : eqb byte 34 ≡ true = sym (ap (λ b. b || eqb byte 34) a) ∙ t in
     (λ i. cond (a i) (92 ∷ 92 ∷ []) (cond (q i) (92 ∷ 34 ∷ []) (cond (eqb byte 10) (92 ∷ 110 ∷ []) (byte ∷ [])))) ∙ ap (λ n. 92 ∷ n ∷ []) (sym (is_byte byte 34 q)))
 
-plain_byte : (byte : ℕ) → eqb byte 34 ≡ false → eqb byte 10 ≡ false → eqb byte 92 ≡ false → quoted_byte byte ≡ byte ∷ []
+pub plain_byte : (byte : ℕ) → eqb byte 34 ≡ false → eqb byte 10 ≡ false → eqb byte 92 ≡ false → quoted_byte byte ≡ byte ∷ []
 unfolding quoted_byte
 plain_byte byte q n b = λ i. cond (b i) (92 ∷ 92 ∷ []) (cond (q i) (92 ∷ 34 ∷ []) (cond (n i) (92 ∷ 110 ∷ []) (byte ∷ [])))
 
-newline : quoted_byte 10 ≡ 92 ∷ 110 ∷ []
+pub newline : quoted_byte 10 ≡ 92 ∷ 110 ∷ []
 unfolding quoted_byte
 newline = refl
 
 -- the backslash that was read before the text
-abbrev escape_mark : Bool → List ℕ
+abbrev pub escape_mark : Bool → List ℕ
 escape_mark true = 92 ∷ []
 escape_mark false = []
 

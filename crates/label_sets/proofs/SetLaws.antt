@@ -27,7 +27,7 @@ use Rattle.label_sets.proofs.SetsAgain.{walk_again}
 
 -- ---- the labels in the order of the text
 
-once_from_able : (labels : List Label) → MakeASet labels → repeats (names_of labels) ≡ false
+pub once_from_able : (labels : List Label) → MakeASet labels → repeats (names_of labels) ≡ false
 unfolding repeats
 once_from_able [] able = refl
 once_from_able (l ∷ ls) able = (λ i. among_names ls l.name i || once_from_able ls able.3 i) ∙ ap (λ o. is_some o || false) able.2
@@ -42,12 +42,12 @@ read_set-again labels after are able =
     ∙ ap (λ b. cond b (Err Repeated) (Ok (in_order has_lesser_name labels, total - length after))) (once_from_able labels able)
     ∙ ap (λ n. Ok (in_order has_lesser_name labels, n)) front
 
-named_some : (name : List ℕ) → is_name name ≡ true → name ≢ []
+pub named_some : (name : List ℕ) → is_name name ≡ true → name ≢ []
 unfolding is_name
 named_some [] is e = absurd cc
 named_some (x ∷ name) is e = absurd cc
 
-filled_from_written : (labels : List Label) → AreWritten labels → AreFilled labels
+pub filled_from_written : (labels : List Label) → AreWritten labels → AreFilled labels
 filled_from_written [] are = tt
 filled_from_written (l ∷ ls) are = (named_some l.name are.0, are.1, filled_from_written ls are.2)
 
@@ -68,7 +68,7 @@ placed_moves x (y ∷ ys) = elim (has_lesser_name y x) as (λ b. IsPermutation (
   | false ↦ IsPermutation-refl (x ∷ y ∷ ys)
 ]
 
-order_moves : (labels : List Label) → IsPermutation labels (in_order has_lesser_name labels)
+pub order_moves : (labels : List Label) → IsPermutation labels (in_order has_lesser_name labels)
 unfolding in_order
 order_moves [] = IsPermutation-refl []
 order_moves (l ∷ ls) = IsPermutation-trans (l ∷ ls) (l ∷ in_order has_lesser_name ls) (placed has_lesser_name l (in_order has_lesser_name ls))
@@ -88,7 +88,7 @@ count-hit name l ls e = count-cons name l ls ∙ ap (λ b. cond b 1 0 + count_of
 count-miss : (name : List ℕ) (l : Label) (ls : List Label) → l.name ≢ name → count_of name (l ∷ ls) ≡ count_of name ls
 count-miss name l ls n = count-cons name l ls ∙ ap (λ b. cond b 1 0 + count_of name ls) (bytes_eq_differs l.name name n) ∙ omega arith
 
-by_name : {P : Type 0} (one other : List ℕ) → (one ≡ other → P) → (one ≢ other → P) → P
+pub by_name : {P : Type 0} (one other : List ℕ) → (one ≡ other → P) → (one ≢ other → P) → P
 by_name one other f g = by_bool (bytes_eq one other) (λ t. f ((bytes_decides one other).0 t)) (λ n. g (λ e. true≢false (sym ((bytes_decides one other).1 e) ∙ n)))
 
 count_none : (ls : List Label) (name : List ℕ) → value_of ls name ≡ None → count_of name ls ≡ 0
@@ -158,7 +158,7 @@ moved_value xs ys name value able p some =
     let there = Contains-permutation xs ys (record { name = name; value = value }) p (value_in xs name value some) in
     in_value ys (record { name = name; value = value }) there.0 able there.1 there.2
 
-by_option : {P : Type 0} (o : Option (List ℕ)) → ((v : List ℕ) → o ≡ Some v → P) → (o ≡ None → P) → P
+pub by_option : {P : Type 0} (o : Option (List ℕ)) → ((v : List ℕ) → o ≡ Some v → P) → (o ≡ None → P) → P
 by_option None f g = g refl
 by_option (Some v) f g = f v refl
 
@@ -178,11 +178,11 @@ order_is listed set lawful p =
 
 -- ---- the laws
 
-named_from_written : (ls : List Label) → AreWritten ls → AreNamed ls
+pub named_from_written : (ls : List Label) → AreWritten ls → AreNamed ls
 named_from_written [] are = All-nil (λ (l : Label). IsTrue (is_name l.name))
 named_from_written (l ∷ ls) are = All-cons (λ (l : Label). IsTrue (is_name l.name)) l ls are.0 (named_from_written ls are.2)
 
-written_from_named : (ls : List Label) → AreNamed ls → MakeASet ls → AreWritten ls
+pub written_from_named : (ls : List Label) → AreNamed ls → MakeASet ls → AreWritten ls
 written_from_named [] named able = tt
 written_from_named (l ∷ ls) named able = (named 0 l (omega arith), able.1, written_from_named ls (λ k d lt. named (suc k) d (omega arith)) able.3)
 

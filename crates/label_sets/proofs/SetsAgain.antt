@@ -15,11 +15,11 @@ use Rattle.reading_core.specs.Reading.{◌>>=◌, ◌>>◌, unless}
 
 -- ---- a value
 
-past_it : (byte : ℕ) (text : List ℕ) → past byte (byte ∷ text) ≡ Ok text
+pub past_it : (byte : ℕ) (text : List ℕ) → past byte (byte ∷ text) ≡ Ok text
 unfolding past
 past_it byte text = let same : eqb byte byte ≡ true = grind (arith, nat_tests) in ap (λ b. cond b (Ok text) (Err (BadText (length (byte ∷ text))))) same
 
-past_other : (byte first : ℕ) (text : List ℕ) → first ≢ byte → past byte (first ∷ text) ≡ Err (BadText (length (first ∷ text)))
+pub past_other : (byte first : ℕ) (text : List ℕ) → first ≢ byte → past byte (first ∷ text) ≡ Err (BadText (length (first ∷ text)))
 unfolding past
 past_other byte first text differs = let other : eqb first byte ≡ false = grind (arith, nat_tests) in ap (λ b. cond b (Ok text) (Err (BadText (length (first ∷ text))))) other
 
@@ -42,7 +42,7 @@ byte_again byte text value after h =
     ∙ (λ i. cond (q i) (Ok ([], text)) (cond (n i) (Err (BadText (length (byte ∷ text)))) (cond (b i) (value_at true text) (with_byte byte (value_at false text)))))
     ∙ read)))
 
-value_again : (value after : List ℕ) → value_at false (quoted value ++ 34 ∷ after) ≡ Ok (value, after)
+pub value_again : (value after : List ℕ) → value_at false (quoted value ++ 34 ∷ after) ≡ Ok (value, after)
 unfolding value_at quoted
 value_again [] after = refl
 value_again (byte ∷ value) after =
@@ -76,7 +76,7 @@ name_again (x ∷ name) rest c is stop =
     let all : list_all is_name_byte (x ∷ name) ≡ true = (λ i. (b.0 i || is_ascii_digit x) && b.1 i) in
     ap (λ t. cond t (prefix_len is_name_byte (x ∷ (name ++ c ∷ rest))) 0) b.0 ∙ prefix_through is_name_byte (x ∷ name) rest c all stop
 
-name_some : (name : List ℕ) → is_name name ≡ true → nat_lt 0 (length name) ≡ true
+pub name_some : (name : List ℕ) → is_name name ≡ true → nat_lt 0 (length name) ≡ true
 unfolding is_name
 name_some [] is = absurd cc
 name_some (x ∷ name) is = grind (arith, nat_tests)
@@ -87,34 +87,40 @@ value_some (x ∷ value) some = grind (arith, nat_tests)
 
 -- ---- a pair
 
-pair_shape_again : (label : Label) (rest : List ℕ) → pair_text label ++ rest ≡ label.name ++ 61 ∷ 34 ∷ (quoted label.value ++ 34 ∷ rest)
+pub pair_shape_again : (label : Label) (rest : List ℕ) → pair_text label ++ rest ≡ label.name ++ 61 ∷ 34 ∷ (quoted label.value ++ 34 ∷ rest)
 unfolding pair_text
 pair_shape_again label rest = simp append_assoc
 
-with_value : List ℕ → List ℕ × List ℕ → Result (Label × List ℕ) LabelRefusal
+unfoldable pub with_value : List ℕ → List ℕ × List ℕ → Result (Label × List ℕ) LabelRefusal
 with_value name value = unless (nat_lt 0 (length value.0)) EmptyValue >> Ok (record { name = name; value = value.0 }, value.1)
 
-after_quote : List ℕ → List ℕ → Result (Label × List ℕ) LabelRefusal
+unfoldable pub after_quote : List ℕ → List ℕ → Result (Label × List ℕ) LabelRefusal
 after_quote name inside = value_at false inside >>= with_value name
 
-after_equals : List ℕ → ℕ → List ℕ → Result (Label × List ℕ) LabelRefusal
+unfoldable pub after_equals : List ℕ → ℕ → List ℕ → Result (Label × List ℕ) LabelRefusal
 after_equals name n after = unless (nat_lt 0 n) EmptyName >> (past 34 after >>= after_quote name)
+
+-- a pair whose name is whole and is followed by an equals sign
+pub pair_named : (text name after : List ℕ) → is_name name ≡ true → text ≡ name ++ 61 ∷ after → pair_at text ≡ (past 34 after >>= after_quote name)
+unfolding pair_at name_at after_quote after_equals with_value
+pair_named text name after is e =
+    let n : name_length text ≡ length name = ap name_length e ∙ name_again name after 61 is equals_sign in
+    let d : drop (name_length text) text ≡ 61 ∷ after = (λ i. drop (n i) (e i)) ∙ drop_at name (61 ∷ after) (length name) refl in
+    let t : take (name_length text) text ≡ name = (λ i. take (n i) (e i)) ∙ take_at name (61 ∷ after) (length name) refl in
+    (λ i. past 61 (d i) >>= after_equals (t i) (n i))
+    ∙ ap (λ r. r >>= after_equals name (length name)) (past_it 61 after)
+    ∙ ap (λ b. unless b EmptyName >> (past 34 after >>= after_quote name)) (name_some name is)
 
 pair_steps_again : (text name value rest : List ℕ) → is_name name ≡ true → value ≢ [] → text ≡ name ++ 61 ∷ 34 ∷ (quoted value ++ 34 ∷ rest) → pair_at text ≡ Ok (record { name = name; value = value }, rest)
 unfolding pair_at name_at with_value after_quote after_equals
 pair_steps_again text name value rest is some e =
     let inside : List ℕ = quoted value ++ 34 ∷ rest in
-    let n : name_length text ≡ length name = ap name_length e ∙ name_again name (34 ∷ inside) 61 is equals_sign in
-    let d : drop (name_length text) text ≡ 61 ∷ 34 ∷ inside = (λ i. drop (n i) (e i)) ∙ drop_at name (61 ∷ 34 ∷ inside) (length name) refl in
-    let t : take (name_length text) text ≡ name = (λ i. take (n i) (e i)) ∙ take_at name (61 ∷ 34 ∷ inside) (length name) refl in
-    (λ i. past 61 (d i) >>= after_equals (t i) (n i))
-    ∙ ap (λ r. r >>= after_equals name (length name)) (past_it 61 (34 ∷ inside))
-    ∙ ap (λ b. unless b EmptyName >> (past 34 (34 ∷ inside) >>= after_quote name)) (name_some name is)
+    pair_named text name (34 ∷ inside) is e
     ∙ ap (λ r. r >>= after_quote name) (past_it 34 inside)
     ∙ ap (λ r. r >>= with_value name) (value_again value rest)
     ∙ ap (λ b. unless b EmptyValue >> Ok (record { name = name; value = value }, rest)) (value_some value some)
 
-pair_again : (label : Label) (rest : List ℕ) → is_name label.name ≡ true → label.value ≢ [] → pair_at (pair_text label ++ rest) ≡ Ok (label, rest)
+pub pair_again : (label : Label) (rest : List ℕ) → is_name label.name ≡ true → label.value ≢ [] → pair_at (pair_text label ++ rest) ≡ Ok (label, rest)
 pair_again label rest is some = pair_steps_again (pair_text label ++ rest) label.name label.value rest is some (pair_shape_again label rest)
 
 -- ---- pairs
@@ -141,7 +147,7 @@ unfolding comma_pair_text
 no_more_than_text [] = omega arith
 no_more_than_text (l ∷ ls) = omega (arith, no_more_than_text ls, length-append (comma_pair_text l) (flat_map comma_pair_text ls))
 
-begins_no_end : (name rest : List ℕ) → is_name name ≡ true → past 125 (name ++ rest) ≡ Err (BadText (length (name ++ rest)))
+pub begins_no_end : (name rest : List ℕ) → is_name name ≡ true → past 125 (name ++ rest) ≡ Err (BadText (length (name ++ rest)))
 unfolding is_name
 begins_no_end [] rest is = absurd cc
 begins_no_end (x ∷ name) rest is =

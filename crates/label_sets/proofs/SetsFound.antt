@@ -43,7 +43,7 @@ start_is_byte : (x : ℕ) → is_name_start x ≡ true → is_name_byte x ≡ tr
 start_is_byte x t = ap (λ b. b || is_ascii_digit x) t
 
 -- the longest name at the front of a text has the form of a name
-name_read : (text : List ℕ) → nat_lt 0 (name_length text) ≡ true → is_name (name_at text) ≡ true
+pub name_read : (text : List ℕ) → nat_lt 0 (name_length text) ≡ true → is_name (name_at text) ≡ true
 unfolding name_length name_at is_name
 name_read [] some = absurd cc
 name_read (x ∷ xs) some = by_bool (is_name_start x)
@@ -59,7 +59,7 @@ abbrev pub AreWritten : List Label → Type 0
 AreWritten [] = Unit {0}
 AreWritten (l ∷ ls) = (is_name l.name ≡ true) × (l.value ≢ []) × AreWritten ls
 
-pair_written : (text : List ℕ) (label : Label) (rest : List ℕ) → pair_at text ≡ Ok (label, rest) → (is_name label.name ≡ true) × (label.value ≢ [])
+pub pair_written : (text : List ℕ) (label : Label) (rest : List ℕ) → pair_at text ≡ Ok (label, rest) → (is_name label.name ≡ true) × (label.value ≢ [])
 pair_written text label rest e =
     let s = pair_steps text label rest e in
     (ap is_name s.name_is ∙ name_read text s.named, (filled_pair text label rest s).1)

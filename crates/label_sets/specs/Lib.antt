@@ -5,5 +5,6 @@ pub mod Labels
 pub mod Finals
 pub mod Notation
 pub mod SetText
+pub mod SetRefusals
 pub mod SampleText
 pub mod Triples

@@ -1,4 +1,4 @@
-ghost use Rattle.std.specs.Prelude.{◌≡◌, ◌<◌, ◌≤◌, ℕ, List, [], ◌∷◌, ◌++◌, if◌then◌else◌, length, take, slice_index_or, Some, None, MatchResult, IfOk, IfErr, OnOk, OnErr};
+ghost use Rattle.std.specs.Prelude.{◌≡◌, ◌<◌, ◌≤◌, ℕ, List, [], ◌∷◌, ◌++◌, if◌then◌else◌, length, take, slice_index_or, Some, None, MatchResult, IfOk, IfErr, IsErrAnd, ◌⊎◌, OnOk, OnErr};
 ghost use Rattle.std.specs.Option.{option_copied};
 ghost use Rattle.std.specs.List.{insert};
 ghost use Rattle.std.specs.List.Sorted.{IsSortedBy};
@@ -11,6 +11,8 @@ ghost use Rattle.reading_core.specs.Reading.{Gives};
 ghost use Rattle.label_sets.specs.declared.label.Label.{Label};
 ghost use Rattle.label_sets.specs.Notation.{read_set, set_text};
 ghost use Rattle.label_sets.specs.SetText.{AreNamed, IsSetText};
+ghost use Rattle.label_sets.specs.SetRefusals.{IsRefused};
+ghost use Rattle.label_sets.specs.declared.label_refusal.LabelRefusal.{LabelRefusal};
 ghost use Rattle.label_sets.specs.Ordered.{placed, in_order};
 ghost use Rattle.label_sets.specs.Labels.{compare_sets, IsLabelSet, value_of, names_of, has_lesser_name, added};
 ghost use Rattle.label_sets.specs.Finals.{is_among, without, final_of, reduced_of};
@@ -85,6 +87,11 @@ impl LabelSet {
         ensures found { IfOk result (λ read. IsSetText (take read.1 text.now) read.0) }
         ensures only { (front after : List ℕ) (set : List Label) → IsSetText front set → text.now ≡ front ++ after
             → MatchResult result (λ read. (read.0 ≡ set) × (read.1 ≡ length front)) (λ e. e ≡ LabelRefusal.NoMemory) }
+
+        // Which refusal it is.
+        ensures refused { IfErr result (λ e. (e ≡ LabelRefusal.NoMemory) ⊎ IsRefused text.now e) }
+        ensures exact { (refusal : LabelRefusal) → IsRefused text.now refusal
+            → IsErrAnd result (λ e. (e ≡ LabelRefusal.NoMemory) ⊎ (e ≡ refusal)) }
 
         ensures gives { Gives LabelRefusal.NoMemory (λ read. (read.0, read.1)) result (read_set text.now) }
         ensures cut { IfOk result (λ read. IsCharBoundary text.now read.1) }

@@ -1,4 +1,4 @@
-ghost use Rattle.std.specs.Prelude.{◌≡◌, ℕ, IfOk, IfErr, IsOkAnd};
+ghost use Rattle.std.specs.Prelude.{◌≡◌, ◌↔◌, ℕ, IfOk, IfErr, IsErr, IsOkAnd};
 ghost use Rattle.std.specs.Option.{option_map};
 ghost use Rattle.std.specs.Result.{result_ok};
 ghost use Rattle.jiff.specs.Words.{parse_timestamp};
@@ -32,6 +32,7 @@ impl Moment {
         ensures refused { IfErr result (λ refusal. refusal ≡ MomentRefusal.BadMoment) }
         ensures found { IfOk result (λ moment. IsMomentText text.now moment.ms) }
         ensures only { (ms : ℕ) → IsMomentText text.now ms → IsOkAnd result (λ moment. moment.ms ≡ ms) }
+        ensures none { IsErr result ↔ ((ms : ℕ) → ¬ IsMomentText text.now ms) }
     {
         match read_ms(text) {
             Some(ms) => Ok(Moment { ms }),

@@ -1,4 +1,4 @@
-ghost use Rattle.std.specs.Prelude.{◌≡◌, ◌≤◌, ℕ, IfOk, IsOkAnd, length};
+ghost use Rattle.std.specs.Prelude.{◌≡◌, ◌≤◌, ◌↔◌, ℕ, IfOk, IsErr, IsOkAnd, length};
 ghost use Rattle.std.specs.List.{position, position_or_len};
 ghost use Rattle.std.specs.Option.{option_map};
 ghost use Rattle.std.specs.Result.{result_ok};
@@ -25,6 +25,7 @@ impl Span {
         ensures gives { option_map (λ span. span.ms) (result_ok result) ≡ span_of text.now }
         ensures found { IfOk result (λ span. IsSpanText text.now span.ms) }
         ensures only { (ms : ℕ) → IsSpanText text.now ms → IsOkAnd result (λ span. span.ms ≡ ms) }
+        ensures none { IsErr result ↔ ((ms : ℕ) → ¬ IsSpanText text.now ms) }
     {
         match read_ms(text) {
             Some(ms) => Ok(Span { ms }),

@@ -1,5 +1,5 @@
 -- What ties the text of a ULID to its number.
-use Rattle.std.proofs.Common.{◌≡◌, ℕ, suc, ◌+◌, ◌*◌, ◌^◌, ◌<◌, ◌≤◌, Bool, true, false, not, Option, None, Some, Result, Ok, Err, eqb, ltb, leb, cond, List, [], ◌∷◌, map, length, get_or, refl, sym, ap, subst, ◌∙◌, arith, Ordering}
+use Rattle.std.proofs.Common.{◌≡◌, ◌≢◌, ◌↔◌, ℕ, suc, ◌+◌, ◌*◌, ◌^◌, ◌<◌, ◌≤◌, Bool, true, false, not, Option, None, Some, Result, Ok, Err, eqb, ltb, leb, cond, List, [], ◌∷◌, map, length, get_or, refl, sym, ap, subst, ◌∙◌, arith, Ordering}
 use Rattle.std.proofs.lemmas.Bool.Decides.{nat_tests}
 use Rattle.std.proofs.lemmas.Int.Digits.{number_after_lt}
 use Rattle.std.proofs.lemmas.List.{length-map}
@@ -8,13 +8,14 @@ use Rattle.std.specs.Cmp.Lexicographic.{slice_cmp}
 use Rattle.std.specs.Int.Digits.{number_from_digits, number_from_digits_after, AllBelowBase}
 use Rattle.std.specs.List.{position, position_or_len}
 use Rattle.std.specs.Option.{is_none, unwrap_or}
+use Rattle.std.specs.Prelude.{IfOk}
 use Rattle.std.specs.Ordering.{nat_cmp, ordering_then}
 use Rattle.ulid_core.proofs.Positional.{length-fixed_digits, below-fixed_digits, number-fixed_digits, cmp-digits, number_after-ge}
 use Rattle.ulid_core.proofs.Tables.{digit_of-character, character-digit_of, nat_cmp-character, leb-character}
 use Rattle.ulid_core.specs.FixedDigits.{fixed_digits}
 use Rattle.ulid_core.specs.UlidText.{character, digit_of, IsUlidText, text_of, number_of, bad_place, read_characters, ulid_of}
 use Rattle.ulid_core.specs.declared.refusal.UlidRefusal.{UlidRefusal}
-use Rattle.ulid_core.specs.declared.refusal.UlidRefusal.TheVariants.{BadLength, TooLarge}
+use Rattle.ulid_core.specs.declared.refusal.UlidRefusal.TheVariants.{BadLength, BadCharacter, TooLarge}
 
 pub IsUlidText-text_of : (ulid : ℕ) → ulid < 2 ^ 128 → IsUlidText (text_of ulid) ulid
 unfolding text_of
@@ -208,3 +209,94 @@ ulid_of-only text ulid is =
     (only-characters is.digits is.count is.below_base (subst (λ n. n < 2 ^ 128) is.number is.fits)) in
     ap (λ n. cond (eqb n 26) (read_characters (bad_place text) text) (Err BadLength)) count
     ∙ ap (λ o. read_characters o text) none ∙ read ∙ ap Ok number
+
+by_bool : {P : Type 0} (b : Bool) → (b ≡ true → P) → (b ≡ false → P) → P
+by_bool true f g = f refl
+by_bool false f g = g refl
+
+by_place : {P : Type 0} (o : Option ℕ) → ((p : ℕ) → o ≡ Some p → P) → (o ≡ None → P) → P
+by_place (Some p) f g = f p refl
+by_place None f g = g refl
+
+-- the four answers and when each comes
+ulid_of-cases : {P : Type 0} (text : List ℕ) → (length text ≢ 26 → ulid_of text ≡ Err BadLength → P) → ((place : ℕ) → length text ≡ 26 → bad_place text ≡ Some place → ulid_of text ≡ Err (BadCharacter place) → P)
+    → (length text ≡ 26 → bad_place text ≡ None → 55 < get_or text 0 0 → ulid_of text ≡ Err TooLarge → P) → (length text ≡ 26 → bad_place text ≡ None → get_or text 0 0 ≤ 55 → ulid_of text ≡ Ok (number_of text) → P) → P
+unfolding ulid_of
+ulid_of-cases text f g h k = by_bool (eqb (length text) 26)
+    (λ t. let long : length text ≡ 26 = grind (arith, nat_tests) in
+    let read : ulid_of text ≡ read_characters (bad_place text) text = ap (λ b. cond b (read_characters (bad_place text) text) (Err BadLength)) t in
+    by_place (bad_place text)
+    (λ place e. g place long e (read ∙ ap (λ p. read_characters p text) e))
+    (λ none. by_bool (leb (get_or text 0 0) 55)
+    (λ low. let small : get_or text 0 0 ≤ 55 = grind (arith, nat_tests) in
+    k long none small (read ∙ ap (λ p. read_characters p text) none ∙ ap (λ b. cond b (Ok (number_of text)) (Err TooLarge)) low))
+    (λ high. let large : 55 < get_or text 0 0 = grind (arith, nat_tests) in
+    h long none large (read ∙ ap (λ p. read_characters p text) none ∙ ap (λ b. cond b (Ok (number_of text)) (Err TooLarge)) high))))
+    (λ t. let other : length text ≢ 26 = grind (arith, nat_tests) in f other (ap (λ b. cond b (read_characters (bad_place text) text) (Err BadLength)) t))
+
+two_answers : (x y : Result ℕ UlidRefusal) (r : Result ℕ UlidRefusal) → r ≡ x → r ≡ y → x ≡ y
+two_answers x y r e f = sym e ∙ f
+
+character_not_length : (place : ℕ) → ◌≡◌ {A = Result ℕ UlidRefusal} (Err (BadCharacter place)) (Err BadLength) → ⊥
+character_not_length place e = cc
+
+large_not_length : ◌≡◌ {A = Result ℕ UlidRefusal} (Err TooLarge) (Err BadLength) → ⊥
+large_not_length e = cc
+
+large_not_character : (place : ℕ) → ◌≡◌ {A = Result ℕ UlidRefusal} (Err TooLarge) (Err (BadCharacter place)) → ⊥
+large_not_character place e = cc
+
+read_not_refused : (n : ℕ) (e : UlidRefusal) → Ok n ≡ Err e → ⊥
+read_not_refused n e h = cc
+
+same_character : (p q : ℕ) → ◌≡◌ {A = Result ℕ UlidRefusal} (Err (BadCharacter p)) (Err (BadCharacter q)) → p ≡ q
+same_character p q e = cc
+
+same_place : (p q : ℕ) (o : Option ℕ) → o ≡ Some p → o ≡ Some q → p ≡ q
+same_place p q o e f = cc
+
+some_none : (p : ℕ) (o : Option ℕ) → o ≡ Some p → o ≡ None → ⊥
+some_none p o e f = cc
+
+-- each refusal comes exactly where its case is the first
+pub length_refused : (text : List ℕ) → (ulid_of text ≡ Err BadLength) ↔ (length text ≢ 26)
+length_refused text = (
+  λ e. ulid_of-cases text
+      (λ other r. other)
+      (λ place long bad r. absurd (character_not_length place (two_answers (Err (BadCharacter place)) (Err BadLength) (ulid_of text) r e)))
+      (λ long none large r. absurd (large_not_length (two_answers (Err TooLarge) (Err BadLength) (ulid_of text) r e)))
+      (λ long none small r. absurd (read_not_refused (number_of text) BadLength (two_answers (Ok (number_of text)) (Err BadLength) (ulid_of text) r e))),
+  λ other. ulid_of-cases text (λ n r. r) (λ place long bad r. absurd (other long)) (λ long none large r. absurd (other long)) (λ long none small r. absurd (other long)),
+)
+
+pub character_refused : (text : List ℕ) (place : ℕ) → (ulid_of text ≡ Err (BadCharacter place)) ↔ ((length text ≡ 26) × (bad_place text ≡ Some place))
+character_refused text place = (
+  λ e. ulid_of-cases text
+      (λ other r. absurd (character_not_length place (two_answers (Err (BadCharacter place)) (Err BadLength) (ulid_of text) e r)))
+      (λ p long bad r. (long, bad ∙ ap (λ n. Some n) (same_character p place (two_answers (Err (BadCharacter p)) (Err (BadCharacter place)) (ulid_of text) r e))))
+      (λ long none large r. absurd (large_not_character place (two_answers (Err TooLarge) (Err (BadCharacter place)) (ulid_of text) r e)))
+      (λ long none small r. absurd (read_not_refused (number_of text) (BadCharacter place) (two_answers (Ok (number_of text)) (Err (BadCharacter place)) (ulid_of text) r e))),
+  λ w. ulid_of-cases text
+      (λ other r. absurd (other w.0))
+      (λ p long bad r. r ∙ ap (λ n. Err (BadCharacter n)) (same_place p place (bad_place text) bad w.1))
+      (λ long none large r. absurd (some_none place (bad_place text) w.1 none))
+      (λ long none small r. absurd (some_none place (bad_place text) w.1 none)),
+)
+
+pub large_refused : (text : List ℕ) → (ulid_of text ≡ Err TooLarge) ↔ ((length text ≡ 26) × (bad_place text ≡ None) × (55 < get_or text 0 0))
+large_refused text = (
+  λ e. ulid_of-cases text
+      (λ other r. absurd (large_not_length (two_answers (Err TooLarge) (Err BadLength) (ulid_of text) e r)))
+      (λ p long bad r. absurd (large_not_character p (two_answers (Err TooLarge) (Err (BadCharacter p)) (ulid_of text) e r)))
+      (λ long none large r. (long, none, large))
+      (λ long none small r. absurd (read_not_refused (number_of text) TooLarge (two_answers (Ok (number_of text)) (Err TooLarge) (ulid_of text) r e))),
+  λ w. ulid_of-cases text
+      (λ other r. absurd (other w.0))
+      (λ p long bad r. absurd (some_none p (bad_place text) bad w.1))
+      (λ long none large r. r)
+      (λ long none small r. absurd (omega (arith, w.2))),
+)
+
+pub found_of : (text : List ℕ) (r : Result ℕ UlidRefusal) → r ≡ ulid_of text → IfOk r (IsUlidText text)
+found_of text (Ok ulid) e = ulid_of-found text ulid (sym e)
+found_of text (Err refusal) e = tt

@@ -1,7 +1,8 @@
-ghost use Rattle.std.specs.Prelude.{◌≡◌, ℕ, ◌+◌, ◌*◌, ◌/◌, ◌%◌, ◌^◌, ◌<◌, ◌++◌, Ok, IfOk, OnOk, OnErr};
+ghost use Rattle.std.specs.Prelude.{◌≡◌, ◌≢◌, ◌↔◌, ℕ, ◌+◌, ◌*◌, ◌/◌, ◌%◌, ◌^◌, ◌<◌, ◌++◌, length, slice_index, Some, None, Ok, Err, IfOk, OnOk, OnErr};
+ghost use Rattle.std.specs.Str.{byte};
 ghost use Rattle.std.specs.Cmp.Lexicographic.{slice_cmp};
 ghost use Rattle.std.specs.Ordering.{nat_cmp};
-ghost use Rattle.ulid_core.specs.UlidText.{IsUlidText, text_of, ulid_of};
+ghost use Rattle.ulid_core.specs.UlidText.{IsUlidText, text_of, bad_place, ulid_of};
 
 use crate::UlidRefusal;
 use crate::characters::{character, read_number};
@@ -32,9 +33,15 @@ impl Ulid {
         ensures gives { result ≡ ulid_of text.now }
         ensures found { IfOk result (IsUlidText text.now) }
         ensures only { (ulid : ℕ) → IsUlidText text.now ulid → result ≡ Ok ulid }
+
+        // Which refusal it is.
+        ensures length { (result ≡ Err UlidRefusal.BadLength) ↔ (length text.now ≢ 26) }
+        ensures character { (place : ℕ) → (result ≡ Err (UlidRefusal.BadCharacter place))
+            ↔ ((length text.now ≡ 26) × (bad_place text.now ≡ Some place)) }
+        ensures large { (result ≡ Err UlidRefusal.TooLarge)
+            ↔ ((length text.now ≡ 26) × (bad_place text.now ≡ None) × (byte "7" < slice_index text.now 0)) }
     {
-        let number = read_number(text)?;
-        Ok(Ulid { number })
+        read_ulid(text)
     }
 
     /// The 26 characters, most significant first.
@@ -98,6 +105,13 @@ impl Ulid {
     {
         let (_number, _other) = (self.number, other.number);
     }
+}
+
+fn read_ulid(text: &str) -> Result<Ulid, UlidRefusal>
+    ensures { result ≡ ulid_of text.now }
+{
+    let number = read_number(text)?;
+    Ok(Ulid { number })
 }
 
 impl TryCopy for Ulid {

@@ -1,4 +1,5 @@
-use Rattle.std.proofs.Common.{sym}
+use Rattle.std.proofs.Common.{refl, sym}
+use Rattle.std.proofs.lemmas.Bool.{true≢false}
 use Rattle.moment_core.proofs.SpanLaws.{span_of-found, span_of-same, span_of-none}
 use Rattle.moment_core.proofs.span.Span.read.Goals as goal
 
@@ -10,3 +11,9 @@ returns-in-Some-clause-only c = λ ms is. span_of-same c.args.text.now c.in-Some
 
 pub returns-in-None-clause-only : goal.returns-in-None-clause-only
 returns-in-None-clause-only c = λ ms is. span_of-none c.args.text.now ms c.in-None.ensures is
+
+pub returns-in-Some-clause-none : goal.returns-in-Some-clause-none
+returns-in-Some-clause-none c = (λ e. absurd (true≢false (sym e)), λ h. absurd (h c.in-Some.ms (span_of-found c.args.text.now c.in-Some.ms (sym c.in-Some.ensures))))
+
+pub returns-in-None-clause-none : goal.returns-in-None-clause-none
+returns-in-None-clause-none c = (λ e ms is. span_of-none c.args.text.now ms c.in-None.ensures is, λ h. refl)

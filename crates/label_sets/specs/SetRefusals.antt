@@ -1,0 +1,68 @@
+-- Why no label set is read at the front of a text, by what stands there.
+use Rattle.std.specs.Prelude.{◌≡◌, ◌≢◌, ℕ, ◌<◌, ◌≤◌, suc, List, [], ◌∷◌, ◌++◌, length, take, slice_index, codes, false, IsTrue, IsSome, None}
+use Rattle.std.specs.List.{flat_map}
+use Rattle.label_sets.specs.declared.label.Label.{Label}
+use Rattle.label_sets.specs.declared.label_refusal.LabelRefusal.{LabelRefusal}
+use Rattle.label_sets.specs.declared.label_refusal.LabelRefusal.TheVariants.{EmptyName, EmptyValue, Repeated, BadText, NoMemory}
+use Rattle.label_sets.specs.Labels.{MakeASet, value_of}
+use Rattle.label_sets.specs.Notation.{is_name, is_name_byte, pair_text}
+use Rattle.label_sets.specs.SetText.{AreNamed, IsSetText}
+
+-- a pair and a comma
+unfoldable pub pair_comma_text : Label → List ℕ
+pair_comma_text label = pair_text label ++ 44 ∷ []
+
+-- The opening brace, pairs of which a set can be made, each with a comma after it, and then the rest of the text.
+pub record HasPairs (text : List ℕ) (listed : List Label) (after : List ℕ) : Type 0 where
+  pub begins : text ≡ 123 ∷ (flat_map pair_comma_text listed ++ after)
+  pub named : AreNamed listed
+  pub able : MakeASet listed
+
+-- An equals sign stands where a name is due.
+pub record LacksName (text : List ℕ) : Type 0 where
+  pub listed : List Label
+  pub after : List ℕ
+  pub pairs : HasPairs text listed (codes "=" ++ after)
+
+-- A new name stands with an empty value.
+pub record LacksValue (text : List ℕ) : Type 0 where
+  pub listed : List Label
+  pub name : List ℕ
+  pub after : List ℕ
+  pub pairs : HasPairs text listed (name ++ codes "=\"\"" ++ after)
+  pub named : IsTrue (is_name name)
+  pub new : value_of listed name ≡ None
+
+-- A whole name stands where a pair is due, and it stands before that too.
+pub record RepeatsName (text : List ℕ) : Type 0 where
+  pub listed : List Label
+  pub name : List ℕ
+  pub after : List ℕ
+  pub pairs : HasPairs text listed (name ++ after)
+  pub named : IsTrue (is_name name)
+  pub whole : is_name_byte (slice_index after 0) ≡ false
+  pub known : IsSome (value_of listed name)
+
+-- Some text of a label set begins with it.
+pub record BeginsASet (front : List ℕ) : Type 0 where
+  pub after : List ℕ
+  pub set : List Label
+  pub is_text : IsSetText (front ++ after) set
+
+-- A label set goes on up to this place and not to the next, and none of the other causes is there.
+pub record StopsAt (text : List ℕ) (place : ℕ) : Type 0 where
+  pub within : place ≤ length text
+  pub so_far : BeginsASet (take place text)
+  pub no_further : place < length text → ¬ BeginsASet (take (suc place) text)
+  pub no_set : (front after : List ℕ) (set : List Label) → IsSetText front set → text ≢ front ++ after
+  pub no_lack : ¬ LacksName text
+  pub no_empty : ¬ LacksValue text
+  pub no_repeat : ¬ RepeatsName text
+
+-- The one cause to refuse a text.
+abbrev pub IsRefused : List ℕ → LabelRefusal → Type 0
+IsRefused text EmptyName = LacksName text
+IsRefused text EmptyValue = LacksValue text
+IsRefused text Repeated = RepeatsName text
+IsRefused text (BadText place) = StopsAt text place
+IsRefused text NoMemory = ⊥
