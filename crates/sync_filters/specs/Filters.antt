@@ -1,7 +1,12 @@
 -- Which of the blocks that a sync finds it keeps.
-use Rattle.std.specs.Prelude.{ℕ, ◌+◌, ◌/◌, ◌^◌, nat_le, int_le, Bool, ◌&&◌, ◌||◌, List, codes}
+use Rattle.std.specs.Prelude.{◌≡◌, ℕ, pos, ◌+◌, ◌*◌, ◌/◌, ◌^◌, ◌==◌, nat_lt, nat_le, int_le, Bool, true, ◌&&◌, ◌||◌, not, List, length, Option, Some, None, codes}
+use Rattle.std.specs.List.{filter, list_any, list_all}
+use Rattle.std.specs.List.Sorted.{IsPermutation, IsNonDecreasingBy}
+use Rattle.std.specs.Ordering.{int_eq}
 use Rattle.std.specs.Str.{bytes_eq}
+use Rattle.block_meta.specs.declared.deletion_mark.DeletionMark.{DeletionMark}
 use Rattle.block_meta.specs.declared.meta.Meta.{Meta}
+use Rattle.moment_core.specs.declared.moment.Moment.{Moment}
 use Rattle.moment_core.specs.declared.partition.Partition.{Partition}
 use Rattle.moment_core.specs.declared.span.Span.{Span}
 use Rattle.sync_filters.specs.declared.found.Found.{Found}
@@ -21,3 +26,37 @@ is_consistent found delay = nat_le (time_of found.ulid + delay.ms) found.meta_re
 -- some of the block's times lie in the partition, whose ends count; the block's last time is below its end
 abbrev pub is_in_partition : Meta → Partition → Bool
 is_in_partition meta partition = int_le partition.low meta.max_time && int_le meta.min_time partition.high
+
+-- a mark that was read at that moment was not older than the delay
+abbrev pub is_recent : Option DeletionMark → Moment → Span → Bool
+is_recent None read delay = true
+is_recent (Some mark) read delay = nat_le read.ms (1000 * mark.deletion_time + delay.ms)
+
+-- no mark was found, or one that was not older than the delay
+abbrev pub is_unmarked : Found → Span → Bool
+is_unmarked found delay = is_recent found.mark found.mark_read delay
+
+-- each of the few is one of the many
+abbrev pub has_all : List ℕ → List ℕ → Bool
+has_all many few = list_all (λ ulid. list_any (λ other. other == ulid) many) few
+
+-- it has more sources, or as many and the smaller ULID
+abbrev pub has_more : Meta → Meta → Bool
+has_more one other = nat_lt (length other.sources) (length one.sources) || (length one.sources == length other.sources && nat_lt one.ulid other.ulid)
+
+-- One block holds all that the other was made of, and no sample of either was dropped.
+abbrev pub is_better : Meta → Meta → Bool
+is_better one other =
+    int_eq one.resolution (pos 0) && int_eq other.resolution (pos 0) && has_more one other && has_all one.sources other.sources
+
+-- one of the listed blocks is better
+abbrev pub is_covered : List Found → Found → Bool
+is_covered listed block = list_any (λ other. is_better other.meta block.meta) listed
+
+-- The listed blocks ascend by their ULIDs, and each is kept, unless one of them is better.
+pub record Splits (found stay leave : List Found) : Type 0 where
+  pub listed : List Found
+  pub same : IsPermutation found listed
+  pub ascend : IsNonDecreasingBy (λ block. block.ulid) listed
+  pub kept : stay ≡ filter (λ block. not (is_covered listed block)) listed
+  pub covered : leave ≡ filter (is_covered listed) listed

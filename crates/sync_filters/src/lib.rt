@@ -2,11 +2,15 @@
 #![tactic(auto)]
 
 mod consistency;
+mod coverage;
 mod found;
+mod marks;
 mod partition;
 
 pub use consistency::consistent;
+pub use coverage::{better, uncovered};
 pub use found::{Found, FoundList};
+pub use marks::unmarked;
 pub use partition::in_partition;
 
 #[cfg(test)]

@@ -1,0 +1,108 @@
+ghost use Rattle.std.specs.Prelude.{◌≡◌, ◌==◌, not, map, IfOk};
+ghost use Rattle.std.specs.List.{filter, list_any};
+ghost use Rattle.std.specs.List.Sorted.{IsStrictlyIncreasing, IsPermutation, IsNonDecreasingBy};
+ghost use Rattle.sync_filters.specs.Filters.{is_better, is_covered as is_covered_by, has_more as has_more_than, has_all as has_each, Splits};
+
+use crate::{Found, FoundList};
+use block_meta::Meta;
+use list_core::NoMemory;
+use std::alloc::Global;
+use std::collections::VecDeque;
+use ulid_core::Ulid;
+
+/// Tells whether one block makes another superfluous: no sample of either was dropped, it has all sources of the other,
+/// and it has more of them, or as many and the smaller ULID.
+pub fn better(one: &Meta, other: &Meta) -> bool
+    ensures { result ≡ is_better one.now other.now }
+{
+    one.resolution == 0
+        && other.resolution == 0
+        && has_more(one, other)
+        && has_all(one.sources.members(), other.sources.members())
+}
+
+fn has_more(one: &Meta, other: &Meta) -> bool
+    ensures { result ≡ has_more_than one.now other.now }
+{
+    let (many, few) = (one.sources.len(), other.sources.len());
+    few < many || many == few && one.ulid < other.ulid
+}
+
+fn has_all(many: &[Ulid], few: &[Ulid]) -> bool
+    requires { IsStrictlyIncreasing many.now }
+    ensures { result ≡ has_each many.now few.now }
+{
+    few.iter().all(|ulid| has(many, *ulid))
+}
+
+fn has(ulids: &[Ulid], ulid: Ulid) -> bool
+    requires { IsStrictlyIncreasing ulids.now }
+    ensures { result ≡ list_any (λ other. other == ulid) ulids.now }
+{
+    ulids.binary_search(&ulid).is_ok()
+}
+
+/// Splits blocks into those that are kept and those that another one of them covers, each ascending by ULID.
+///
+/// It compares each block with each other one.
+pub fn uncovered(alloc: Global, found: FoundList) -> Result<(FoundList, FoundList), NoMemory>
+    ensures { IfOk result (λ split. Splits found split.0 split.1) }
+{
+    let listed = ascending(found)?;
+    let covered = covered_places(alloc, &listed)?;
+    split(alloc, listed, &covered)
+}
+
+/// The blocks ascending by ULID.
+fn ascending(found: FoundList) -> Result<Vec<Found>, NoMemory>
+    ensures same { IfOk result (λ listed. IsPermutation found listed.items) }
+    ensures ascend { IfOk result (λ listed. IsNonDecreasingBy (λ block. block.ulid) listed.items) }
+{
+    let mut listed = found.into_vec();
+    listed.sort_by_key(|block| block.ulid)?;
+    Ok(listed)
+}
+
+/// For each block whether another one covers it.
+fn covered_places(alloc: Global, listed: &[Found]) -> Result<Vec<bool>, NoMemory>
+    ensures { IfOk result (λ covered. covered.items ≡ map (is_covered_by listed.now) listed.now) }
+{
+    let mut covered = Vec::new(alloc);
+    for block in listed {
+        covered.push(is_covered(listed, block))?;
+    }
+    Ok(covered)
+}
+
+fn is_covered(listed: &[Found], block: &Found) -> bool
+    ensures { result ≡ is_covered_by listed.now block.now }
+{
+    listed
+        .iter()
+        .any(|other| better(&other.meta, &block.meta))
+}
+
+fn split(
+    alloc: Global,
+    listed: Vec<Found>,
+    covered: &[bool],
+) -> Result<(FoundList, FoundList), NoMemory>
+    requires { covered.now ≡ map (is_covered_by listed.items) listed.items }
+    ensures kept { IfOk result (λ split. split.0 ≡ filter (λ block. not (is_covered_by listed.items block)) listed.items) }
+    ensures covered { IfOk result (λ split. split.1 ≡ filter (is_covered_by listed.items) listed.items) }
+{
+    let mut kept = FoundList::new(alloc);
+    let mut left = FoundList::new(alloc);
+    let mut rest = VecDeque::from_vec(listed);
+    for is_left in covered {
+        let Some(block) = rest.pop_front() else {
+            unreachable!()
+        };
+        if *is_left {
+            left.push(block)?;
+        } else {
+            kept.push(block)?;
+        }
+    }
+    Ok((kept, left))
+}
