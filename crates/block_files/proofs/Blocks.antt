@@ -1,9 +1,10 @@
 -- The objects of a block, as they are put together.
-use Rattle.std.proofs.Common.{◌≡◌, ℕ, zero, suc, ◌+◌, ◌<◌, ◌≤◌, List, [], ◌∷◌, ◌++◌, length, arith, ◌∙◌, ap, append_assoc}
+use Rattle.std.proofs.Common.{◌≡◌, ℕ, zero, suc, ◌+◌, ◌≤◌, List, [], ◌∷◌, ◌++◌, length, arith, ◌∙◌, ap, sym, append_assoc}
 use Rattle.std.specs.Prelude.{All}
 use Rattle.std.proofs.lemmas.List.Elements.{All-append}
 use Rattle.block_keys.specs.Blocks.{IsSegmentOf, IsBlock}
-use Rattle.block_keys.specs.declared.key.Key.TheVariants.{Meta, Index}
+use Rattle.block_keys.specs.declared.key.Key.TheVariants.{Meta, Index, Segment}
+use Rattle.block_files.specs.Built.{segment_objects}
 use Rattle.block_keys.specs.declared.object.Object.{Object}
 
 all_single : {X : Type 0} (P : X → Type 0) (x : X) → P x → All P (x ∷ [])
@@ -27,3 +28,11 @@ block_of ulid segments one both index meta keys few first second index_key meta_
   meta_key = meta_key;
   few = few;
 }
+
+-- one more segment takes the next number
+pub segments_pushed : (ulid number : ℕ) (segments : List (List ℕ)) (bytes : List ℕ) (next : ℕ) → next ≡ number + length segments
+    → segment_objects ulid number (segments ++ bytes ∷ []) ≡ segment_objects ulid number segments ++ record { key = Segment ulid next; bytes = bytes } ∷ []
+unfolding segment_objects
+segments_pushed ulid number [] bytes next e = let f : next ≡ number = omega arith in ap (λ n. record { key = Segment ulid n; bytes = bytes } ∷ []) (sym f)
+segments_pushed ulid number (b ∷ bs) bytes next e =
+    ap (λ (l : List Object). record { key = Segment ulid number; bytes = b } ∷ l) (segments_pushed ulid (number + 1) bs bytes next (omega arith))

@@ -1,1 +1,4 @@
+pub mod Ascending
 pub mod Blocks
+pub mod Unbroken
+pub mod Lines

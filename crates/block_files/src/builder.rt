@@ -1,4 +1,8 @@
-ghost use Rattle.std.specs.Prelude.{◌≡◌, ◌≤◌, length, IfOk};
+ghost use Rattle.std.specs.Prelude.{◌≡◌, ◌≤◌, ◌^◌, ◌-◌, min, length, sum_by, IfOk};
+ghost use lib.Chars.{codes};
+ghost use Rattle.block_meta.specs.MetaFields.{fields_of};
+ghost use Rattle.block_files.specs.PlainForm.{plain_index};
+ghost use Rattle.block_files.specs.Built.{IsBuilt, built_meta, segment_text, segments_of, sample_count, sizes_of, names_of_segments};
 
 use crate::{BlobList, BlockFiles, BuildRefusal};
 use block_meta::{BlockPlan, FileSize, FileSizeList, Meta};
@@ -15,7 +19,9 @@ pub fn build(
     alloc: Global,
     plan: &BlockPlan,
     series: &SeriesList,
-) -> Result<BlockFiles, BuildRefusal> {
+) -> Result<BlockFiles, BuildRefusal>
+    ensures { IfOk result (IsBuilt plan.now series.now) }
+{
     let index = Blob::from_bytes(alloc, PLAIN_INDEX)?;
     let segments = build_segments(alloc, series)?;
     let meta = build_meta(alloc, plan, series, segments.members(), &index)?;
@@ -27,8 +33,10 @@ pub fn build(
 }
 
 /// One segment of all series, and none where there is no series.
+#[tactic(auto, unfolding(crate::specs::Built::segments_of))]
 fn build_segments(alloc: Global, series: &SeriesList) -> Result<BlobList, NoMemory>
-    ensures { IfOk result (λ made. length made ≤ 1) }
+    ensures value { IfOk result (λ made. made ≡ segments_of series.now) }
+    ensures few { IfOk result (λ made. length made ≤ 1) }
 {
     let mut segments = BlobList::new(alloc);
     if !series.is_empty() {
@@ -37,7 +45,10 @@ fn build_segments(alloc: Global, series: &SeriesList) -> Result<BlobList, NoMemo
     Ok(segments)
 }
 
-fn segment_text(alloc: Global, series: &[Series]) -> Result<Vec<u8>, NoMemory> {
+#[tactic(auto, unfolding(crate::specs::Built::segment_text))]
+fn segment_text(alloc: Global, series: &[Series]) -> Result<Vec<u8>, NoMemory>
+    ensures { IfOk result (λ text. text.items ≡ segment_text series.now) }
+{
     let mut out = Vec::new(alloc);
     for one in series {
         one.write(&mut out)?;
@@ -46,13 +57,18 @@ fn segment_text(alloc: Global, series: &[Series]) -> Result<Vec<u8>, NoMemory> {
     Ok(out)
 }
 
+#[tactic(auto, unfolding(crate::specs::Built::built_meta))]
 fn build_meta(
     alloc: Global,
     plan: &BlockPlan,
     series: &SeriesList,
     segments: &[Blob],
     index: &Blob,
-) -> Result<Meta, NoMemory> {
+) -> Result<Meta, NoMemory>
+    requires index { index.now ≡ plain_index }
+    requires segments { segments.now ≡ segments_of series.now }
+    ensures { IfOk result (λ meta. fields_of meta ≡ built_meta plan.now series.now) }
+{
     Ok(Meta {
         ulid: plan.ulid,
         min_time: plan.min_time,
@@ -71,7 +87,10 @@ fn build_meta(
     })
 }
 
-fn count_samples(series: &[Series]) -> u64 {
+#[tactic(auto, unfolding(crate::specs::Built::sample_count))]
+fn count_samples(series: &[Series]) -> u64
+    ensures { result ≡ sample_count series.now }
+{
     let mut count = 0u64;
     for one in series {
         count = count.saturating_add(one.samples.len() as u64);
@@ -79,7 +98,11 @@ fn count_samples(series: &[Series]) -> u64 {
     count
 }
 
-fn file_sizes(alloc: Global, segments: &[Blob], index: &Blob) -> Result<FileSizeList, NoMemory> {
+#[tactic(auto, unfolding(crate::specs::Built::sizes_of))]
+fn file_sizes(alloc: Global, segments: &[Blob], index: &Blob) -> Result<FileSizeList, NoMemory>
+    requires { index.now ≡ plain_index }
+    ensures { IfOk result (λ sizes. sizes ≡ sizes_of segments.now) }
+{
     let mut sizes = FileSizeList::new(alloc);
     if let Some(segment) = segments.first() {
         sizes.push(file_size(alloc, "chunks/000001", segment)?)?;
@@ -88,14 +111,19 @@ fn file_sizes(alloc: Global, segments: &[Blob], index: &Blob) -> Result<FileSize
     Ok(sizes)
 }
 
-fn file_size(alloc: Global, path: &str, file: &Blob) -> Result<FileSize, NoMemory> {
+fn file_size(alloc: Global, path: &str, file: &Blob) -> Result<FileSize, NoMemory>
+    ensures { IfOk result (λ size. size ≡ record { path = path.now; bytes = length file.now }) }
+{
     Ok(FileSize {
         path: Text::from_str(alloc, path)?,
         bytes: file.bytes().len() as u64,
     })
 }
 
-fn segment_files(alloc: Global, segments: &[Blob]) -> Result<TextList, NoMemory> {
+#[tactic(auto, unfolding(crate::specs::Built::names_of_segments))]
+fn segment_files(alloc: Global, segments: &[Blob]) -> Result<TextList, NoMemory>
+    ensures { IfOk result (λ names. names ≡ names_of_segments segments.now) }
+{
     let mut names = TextList::new(alloc);
     if !segments.is_empty() {
         names.push(Text::from_str(alloc, "000001")?)?;

@@ -1,4 +1,7 @@
-ghost use Rattle.std.specs.Prelude.{◌≡◌, ◌+◌, ◌≤◌, All, length, vec_len, IfOk, OnOk};
+ghost use Rattle.std.specs.Prelude.{◌≡◌, ◌+◌, ◌≤◌, [], ◌∷◌, ◌++◌, All, length, vec_len, IfOk, OnOk};
+ghost use Rattle.block_meta.specs.MetaFields.{fields_of};
+ghost use Rattle.block_meta.specs.MetaValue.{meta_text};
+ghost use Rattle.block_files.specs.Built.{objects_of, segment_objects};
 ghost use Rattle.block_keys.specs.Blocks.{IsSegmentOf, IsBlock};
 
 use crate::BlockFiles;
@@ -9,9 +12,10 @@ use ulid_core::Ulid;
 use wire_bytes::Blob;
 
 /// The objects of a block in the order in which they are uploaded: segments ascending, index, meta.
-#[tactic(auto, using(crate::proofs::Blocks::block_of))]
+#[tactic(auto, using(crate::proofs::Blocks::block_of), unfolding(crate::specs::Built::objects_of))]
 pub fn files_objects(alloc: Global, files: BlockFiles) -> Result<ObjectList, NoMemory>
-    ensures { IfOk result (IsBlock files.meta.ulid) }
+    ensures block { IfOk result (IsBlock files.meta.ulid) }
+    ensures objects { IfOk result (λ objects. objects ≡ objects_of files.meta.ulid files.segments files.index (meta_text (fields_of files.meta))) }
 {
     let BlockFiles {
         meta,
@@ -31,10 +35,12 @@ pub fn files_objects(alloc: Global, files: BlockFiles) -> Result<ObjectList, NoM
     Ok(objects)
 }
 
+#[tactic(auto, using(crate::proofs::Blocks::segments_pushed), unfolding(crate::specs::Built::segment_objects))]
 fn segment_objects(alloc: Global, ulid: Ulid, segments: Vec<Blob>) -> Result<ObjectList, NoMemory>
     requires { vec_len segments ≤ 999_999 }
     ensures keys { IfOk result (λ objects. All (λ object. IsSegmentOf ulid object.key) objects) }
     ensures count { IfOk result (λ objects. length objects ≡ vec_len segments) }
+    ensures value { IfOk result (λ objects. objects ≡ segment_objects ulid 1 segments.items) }
 {
     let mut objects = ObjectList::new(alloc);
     let mut number = 0u32;
@@ -57,6 +63,7 @@ fn push_segment(
     requires before { All (λ object. IsSegmentOf ulid object.key) objects.old }
     ensures keys { OnOk result (All (λ object. IsSegmentOf ulid object.key) objects.new) }
     ensures count { OnOk result (length objects.new ≡ length objects.old + 1) }
+    ensures value { OnOk result (objects.new ≡ objects.old ++ record { key = Key.Segment ulid number; bytes = bytes } ∷ []) }
 {
     objects.push(Object {
         key: Key::Segment(ulid, number),
