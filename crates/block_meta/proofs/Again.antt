@@ -58,9 +58,25 @@ pub stats_again : (series samples chunks : ℕ) → stats_members_of (stats_valu
 unfolding stats_members_of stats_value count_of member_of of_kind unsigned_of
 stats_again series samples chunks = refl
 
-pub thanos_again : (m : MetaFields) → FitsSigned w64 m.resolution → labels_from [] (label_members m.labels) ≡ Ok m.labels → each (text_of (codes "segment_files")) (items_value string m.segment_files) ≡ Ok m.segment_files → each (file_of (codes "files")) (items_value file_value m.files) ≡ Ok m.files → thanos_members_of (thanos_value m) ≡ Ok (thanos_part m)
+thanos_again : (m : MetaFields) → FitsSigned w64 m.resolution → labels_from [] (label_members m.labels) ≡ Ok m.labels → each (text_of (codes "segment_files")) (items_value string m.segment_files) ≡ Ok m.segment_files → each (file_of (codes "files")) (items_value file_value m.files) ≡ Ok m.files → thanos_members_of (thanos_value m) ≡ Ok (thanos_part m)
 unfolding thanos_members_of thanos_value labels_of resolution_of text_or_empty list_of section_of member_of of_kind version_of text_of
 thanos_again m fits labels segments files = rw (labels, signed_again (codes "resolution") m.resolution fits, segments, files) refl
+
+module _ {A : Type 0} (read : Data → Read A) (one : A → Data) (again : (x : A) → read (one x) ≡ Ok x) where
+  all_again : (xs : List A) → each read (items_value one xs) ≡ Ok xs
+  unfolding each items_value
+  all_again [] = refl
+  all_again (x ∷ xs) = rw (again x, all_again xs) refl
+
+text_again : (list text : List ℕ) → text_of list (string text) ≡ Ok text
+unfolding text_of of_kind
+text_again list text = refl
+
+pub thanos_written : (m : MetaFields) → FitsSigned w64 m.resolution → labels_from [] (label_members m.labels) ≡ Ok m.labels → thanos_members_of (thanos_value m) ≡ Ok (thanos_part m)
+thanos_written m fits labels =
+    thanos_again m fits labels
+    (all_again (text_of (codes "segment_files")) string (text_again (codes "segment_files")) m.segment_files)
+    (all_again (file_of (codes "files")) file_value (file_again (codes "files")) m.files)
 
 as_integer-of_integer : (z : ℤ) → as_integer (of_integer z) ≡ Some z
 as_integer-of_integer (pos n) = refl

@@ -45,14 +45,15 @@ pub struct Meta {
 }
 
 impl Meta {
-    ghost use Rattle.std.specs.Prelude.{Ok, IfOk, OnOk};
+    ghost use Rattle.std.specs.Prelude.{[], Ok, IfOk, OnOk, FitsSigned};
+    ghost use Rattle.std.specs.Int.{w64};
     ghost use Rattle.reading_core.specs.Reading.{Gives};
     ghost use Rattle.serde_json.specs.View.{view};
     ghost use Rattle.block_meta.specs.declared.refusal.MetaRefusal.TheVariants.{NoMemory as WithoutMemory};
-    ghost use Rattle.block_meta.specs.MetaFields.{MetaFields, fields_of, thanos_part};
-    ghost use Rattle.block_meta.specs.MetaReading.{meta_of, meta_of_text, thanos_members_of};
+    ghost use Rattle.block_meta.specs.MetaFields.{MetaFields, fields_of};
+    ghost use Rattle.block_meta.specs.MetaReading.{meta_of, meta_of_text, labels_from};
     ghost use Rattle.block_meta.specs.MetaText.{IsMetaText};
-    ghost use Rattle.block_meta.specs.MetaValue.{meta_text, meta_value, thanos_value};
+    ghost use Rattle.block_meta.specs.MetaValue.{meta_text, meta_value, thanos_value, label_members};
 
     /// Reads a `meta.json` of Prometheus or of Thanos.
     pub fn read(alloc: Global, bytes: &[u8]) -> Result<Meta, MetaRefusal>
@@ -134,8 +135,9 @@ impl Meta {
     #[tactic(auto, unfolding(crate::specs::MetaValue::thanos_value))]
     fn write_thanos(&self, alloc: Global) -> Result<Value, AllocError>
         ensures value { IfOk result (λ v. view v ≡ thanos_value (fields_of self.now)) }
-        ensures again { OnOk result (thanos_members_of (thanos_value (fields_of self.now))
-            ≡ Ok (thanos_part (fields_of self.now))) }
+        ensures labels_again { OnOk result
+            (labels_from [] (label_members self.now.labels) ≡ Ok self.now.labels) }
+        ensures fits { OnOk result (FitsSigned w64 self.now.resolution) }
     {
         let files = write_list(alloc, &self.files)?;
         let labels = write_labels(alloc, &self.labels)?;

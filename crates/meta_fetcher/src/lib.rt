@@ -14,3 +14,6 @@ pub use rules::SyncRules;
 pub use sync::Sync;
 pub use sync_end::SyncEnd;
 pub use view::View;
+
+#[cfg(test)]
+mod tests;

@@ -128,10 +128,7 @@ impl Sync {
         }
         self.after = last_name(names.members())?;
         self.stage = Stage::Listing;
-        Ok(Act::Do(Op::RootPage(
-            self.after.copy()?,
-            self.rules.page_limit,
-        )))
+        Ok(Act::Do(Op::RootPage(self.after.copy()?, self.rules.page_limit)))
     }
 
     /// Asks for the mark of the next block, or ends where there is none.

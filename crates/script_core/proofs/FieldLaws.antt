@@ -30,8 +30,8 @@ spaceless field free k d below = not_true _ (AllPass-from_list_all (λ byte. not
 no_space-before : (text : List ℕ) → no_space (before_first is_space text) ≡ true
 no_space-before text =
     list_all-from_AllPass (λ byte. not (is_space byte)) (before_first is_space text) (λ k d below.
-        let inside : k < position_or_len is_space text = omega (arith, length-take (position_or_len is_space text) text) in
-        not_false _ (ap is_space (get_or-take (position_or_len is_space text) text k d inside) ∙ fails_before_first is_space text k d inside))
+    let inside : k < position_or_len is_space text = omega (arith, length-take (position_or_len is_space text) text) in
+    not_false _ (ap is_space (get_or-take (position_or_len is_space text) text k d inside) ∙ fails_before_first is_space text k d inside))
 
 no_space-whole : (text : List ℕ) → length text ≤ position_or_len is_space text → no_space text ≡ true
 no_space-whole text none =

@@ -129,17 +129,19 @@ module _ (st after : State) (number : ℕ) (line : List ℕ) (left : Option (Lis
       let c = then_ok (may_begin st.rules st.phase b.0) _ _ b.2 in
       let same = ok_is _ _ c.2 in
       let may : may_begin st.rules st.phase b.0 ≡ Ok tt = c.1 ∙ unit_is c.0 in
-      let text = only_found left a.0 (refused_as_ok _ _ _ a.1) in
-      (record {
-        text = a.0;
-        moment = b.0.ms;
-        spelled = starts a.0 text.0;
-        field = text.1;
-        is_moment = moment_found a.0 b.0 (refused_as_ok _ _ _ b.1);
-        first = first_agrees st.rules st.phases st.phase b.0 may;
-        later = λ others last is. let p = last_phase st.phases st.phase others last kept.tasks.no_phase is in not_sooner st.rules last b.0 (ap (λ o. may_begin st.rules o b.0) (sym p.0) ∙ may);
-        adds = ap so_far_of (sym same);
-      }, subst Kept same (record { blocks = kept.blocks; tasks = phase_kept st.gateways st.phases st.phase st.synced st.hands st.activities kept.tasks number b.0 }))
+      let text = only_found left a.0 (refused_as_ok _ _ _ a.1) in (
+        record {
+          text = a.0;
+          moment = b.0.ms;
+          spelled = starts a.0 text.0;
+          field = text.1;
+          is_moment = moment_found a.0 b.0 (refused_as_ok _ _ _ b.1);
+          first = first_agrees st.rules st.phases st.phase b.0 may;
+          later = λ others last is. let p = last_phase st.phases st.phase others last kept.tasks.no_phase is in not_sooner st.rules last b.0 (ap (λ o. may_begin st.rules o b.0) (sym p.0) ∙ may);
+          adds = ap so_far_of (sym same);
+        },
+        subst Kept same (record { blocks = kept.blocks; tasks = phase_kept st.gateways st.phases st.phase st.synced st.hands st.activities kept.tasks number b.0 }),
+      )
 
   pub upload_line_found : Starts line (codes "upload") left → upload_line (closed st) number left ≡ Ok after → UploadLine (so_far_of st) number line (so_far_of after) × Kept after
   unfolding upload_line
@@ -155,17 +157,19 @@ module _ (st after : State) (number : ℕ) (line : List ℕ) (left : Option (Lis
       let tests = both (not (is_empty text)) (is_none rest) b.0 in
       let end = cut_end left text rest (cut_found left) (is_none_is rest tests.1) tests.0 in
       let task = added (closed st) after number (works.Upload c.0 None) f.1 in
-      let declared : is_declared st c.0 ≡ true = f.0 in
-      (record {
-        text = text;
-        ulid = c.0;
-        spelled = starts text end.0;
-        is_ulid = record { field = is_field text tests.0 end.1; written = ulid_found text c.0 (refused_as_ok _ _ _ c.1); not_reserved = not_is _ e.0 };
-        declared = sym (kept.blocks.declared c.0) ∙ declared;
-        script = script_of_state after;
-        task = adds_task (closed st) after number (works.Upload c.0 None) kept_closed task;
-        adds = ap (λ (s : State). at (script_of_state after) s.continues) (sym task.is);
-      }, same_kept (closed st) after number (works.Upload c.0 None) kept_closed task (λ gateway. refl))
+      let declared : is_declared st c.0 ≡ true = f.0 in (
+        record {
+          text = text;
+          ulid = c.0;
+          spelled = starts text end.0;
+          is_ulid = record { field = is_field text tests.0 end.1; written = ulid_found text c.0 (refused_as_ok _ _ _ c.1); not_reserved = not_is _ e.0 };
+          declared = sym (kept.blocks.declared c.0) ∙ declared;
+          script = script_of_state after;
+          task = adds_task (closed st) after number (works.Upload c.0 None) kept_closed task;
+          adds = ap (λ (s : State). at (script_of_state after) s.continues) (sym task.is);
+        },
+        same_kept (closed st) after number (works.Upload c.0 None) kept_closed task (λ gateway. refl),
+      )
 
   pub sync_line_found : Starts line (codes "sync") left → sync_line (closed st) number left ≡ Ok after → SyncLine (so_far_of st) number line (so_far_of after) × Kept after
   unfolding sync_line note_sync
@@ -179,18 +183,20 @@ module _ (st after : State) (number : ℕ) (line : List ℕ) (left : Option (Lis
       let name = only_found left a.0 (refused_as_ok _ _ _ a.1) in
       let task = added (closed st) e.0 number (works.Sync d.0) e.1 in
       let synced : e.0.synced ≡ st.synced = ap (λ (s : State). s.synced) (sym task.is) in
-      let noted = more_kept (closed st) e.0 number (works.Sync d.0) kept_closed task (cond (is_synced e.0.synced d.0) e.0.synced (e.0.synced ++ d.0 ∷ [])) (λ gateway. sync_noted e.0.synced d.0 gateway ∙ ap (λ s. is_synced s gateway || (d.0 == gateway)) synced) in
-      (record {
-        name = a.0;
-        gateway = d.0;
-        spelled = starts a.0 name.0;
-        field = name.1;
-        is_name = b.0;
-        declared = ok_or_ok _ _ _ d.1;
-        script = script_of_state e.0;
-        task = adds_task (closed st) e.0 number (works.Sync d.0) kept_closed task;
-        adds = ap so_far_of (sym same) ∙ ap (λ (s : State). at (script_of_state e.0) s.continues) (sym task.is);
-      }, subst Kept same noted)
+      let noted = more_kept (closed st) e.0 number (works.Sync d.0) kept_closed task (cond (is_synced e.0.synced d.0) e.0.synced (e.0.synced ++ d.0 ∷ [])) (λ gateway. sync_noted e.0.synced d.0 gateway ∙ ap (λ s. is_synced s gateway || (d.0 == gateway)) synced) in (
+        record {
+          name = a.0;
+          gateway = d.0;
+          spelled = starts a.0 name.0;
+          field = name.1;
+          is_name = b.0;
+          declared = ok_or_ok _ _ _ d.1;
+          script = script_of_state e.0;
+          task = adds_task (closed st) e.0 number (works.Sync d.0) kept_closed task;
+          adds = ap so_far_of (sym same) ∙ ap (λ (s : State). at (script_of_state e.0) s.continues) (sym task.is);
+        },
+        subst Kept same noted,
+      )
 
   pub query_line_found : Starts line (codes "query") left → query_line (closed st) number left ≡ Ok after → QueryLine (so_far_of st) number line (so_far_of after) × Kept after
   unfolding query_line add_query
@@ -217,21 +223,23 @@ module _ (st after : State) (number : ℕ) (line : List ℕ) (left : Option (Lis
       let low_is = time_found low_text d.0 (refused_as_ok _ _ _ d.1) in
       let high_is = time_found high_text e.0 (refused_as_ok _ _ _ e.1) in
       let task = added (closed st) j.0 number work j.1 in
-      let k = same_kept (closed st) j.0 number work kept_closed task (λ gateway. refl) in
-      (record {
-        low_text = low_text;
-        high_text = high_text;
-        selector_text = selector.0;
-        low = d.0;
-        high = e.0;
-        selector = c.0;
-        spelled = starts (low_text ++ 32 ∷ (high_text ++ 32 ∷ selector.0)) first.0;
-        is_low = record { field = is_field low_text fields.0 first.1; written = low_is.0; near = low_is.1 };
-        is_high = record { field = is_field high_text fields.1 second.1; written = high_is.0; near = high_is.1 };
-        is_selector = selector.2;
-        times = not_below d.0 e.0 g.0;
-        synced = λ gateway below. sym (kept.tasks.are_synced gateway) ∙ all_in_range (is_synced st.synced) 0 (length st.gateways) i.0 gateway (omega arith) (omega arith);
-        script = script_of_state j.0;
-        task = adds_task (closed st) j.0 number work kept_closed task;
-        adds = ap so_far_of (sym same) ∙ ap (λ (s : State). at (record (script_of_state j.0) { selectors = j.0.selectors ++ c.0 ∷ [] }) s.continues) (sym task.is);
-      }, subst Kept same (record { blocks = k.blocks; tasks = k.tasks }))
+      let k = same_kept (closed st) j.0 number work kept_closed task (λ gateway. refl) in (
+        record {
+          low_text = low_text;
+          high_text = high_text;
+          selector_text = selector.0;
+          low = d.0;
+          high = e.0;
+          selector = c.0;
+          spelled = starts (low_text ++ 32 ∷ (high_text ++ 32 ∷ selector.0)) first.0;
+          is_low = record { field = is_field low_text fields.0 first.1; written = low_is.0; near = low_is.1 };
+          is_high = record { field = is_field high_text fields.1 second.1; written = high_is.0; near = high_is.1 };
+          is_selector = selector.2;
+          times = not_below d.0 e.0 g.0;
+          synced = λ gateway below. sym (kept.tasks.are_synced gateway) ∙ all_in_range (is_synced st.synced) 0 (length st.gateways) i.0 gateway (omega arith) (omega arith);
+          script = script_of_state j.0;
+          task = adds_task (closed st) j.0 number work kept_closed task;
+          adds = ap so_far_of (sym same) ∙ ap (λ (s : State). at (record (script_of_state j.0) { selectors = j.0.selectors ++ c.0 ∷ [] }) s.continues) (sym task.is);
+        },
+        subst Kept same (record { blocks = k.blocks; tasks = k.tasks }),
+      )

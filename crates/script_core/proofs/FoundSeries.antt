@@ -171,26 +171,28 @@ series_line_found st after line left kept starts h =
     let set = found.2 in
     let texts = texts_of a.0.1 in
     let joined : spaced texts ≡ a.0.1 = join_with_byte-slice_split 32 a.0.1 in
-    let rest : set.front ++ 32 ∷ a.0.1 ≡ set.front ++ 32 ∷ spaced texts = ap (λ t. set.front ++ 32 ∷ t) (sym joined) in
-    (record {
-      labels_text = set.front;
-      texts = texts;
-      labels = a.0.0;
-      samples = d.0;
-      spelled = starts found.0 found.1 ∙ ap (λ t. codes "series" ++ 32 ∷ t) (set.whole ∙ rest);
-      are_labels = ap read_set (sym (set.whole ∙ rest)) ∙ set.are_labels;
-      some = some_pieces a.0.1;
-      are_samples = samples_found texts d.0 (pieces_free a.0.1) b.0 c.0 (refused_as_ok _ _ _ d.1);
-      rising = e.0;
-      in_block = last.follows;
-      others = st.blocks;
-      ulid = last.block.ulid;
-      block_labels = last.block.labels;
-      min_time = last.block.min_time;
-      max_time = last.block.max_time;
-      series = last.block.series;
-      last = ap (all_blocks st.blocks) last.is;
-      within = last.within;
-      new = last.new;
-      adds = ap so_far_of (sym same) ∙ added st series last.block last.is last.follows;
-    }, subst Kept same (record { blocks = series_kept st.blocks st.last st.ulids series kept.blocks; tasks = kept.tasks }))
+    let rest : set.front ++ 32 ∷ a.0.1 ≡ set.front ++ 32 ∷ spaced texts = ap (λ t. set.front ++ 32 ∷ t) (sym joined) in (
+      record {
+        labels_text = set.front;
+        texts = texts;
+        labels = a.0.0;
+        samples = d.0;
+        spelled = starts found.0 found.1 ∙ ap (λ t. codes "series" ++ 32 ∷ t) (set.whole ∙ rest);
+        are_labels = ap read_set (sym (set.whole ∙ rest)) ∙ set.are_labels;
+        some = some_pieces a.0.1;
+        are_samples = samples_found texts d.0 (pieces_free a.0.1) b.0 c.0 (refused_as_ok _ _ _ d.1);
+        rising = e.0;
+        in_block = last.follows;
+        others = st.blocks;
+        ulid = last.block.ulid;
+        block_labels = last.block.labels;
+        min_time = last.block.min_time;
+        max_time = last.block.max_time;
+        series = last.block.series;
+        last = ap (all_blocks st.blocks) last.is;
+        within = last.within;
+        new = last.new;
+        adds = ap so_far_of (sym same) ∙ added st series last.block last.is last.follows;
+      },
+      subst Kept same (record { blocks = series_kept st.blocks st.last st.ulids series kept.blocks; tasks = kept.tasks }),
+    )

@@ -64,17 +64,19 @@ module _ (st after : State) (line : List ℕ) (left : Option (List ℕ)) (kept :
       let name = (next_field (Some a.0)).0 in
       let value = only_found (next_field (Some a.0)).1 c.0 (refused_as_ok _ _ _ c.1) in
       let cut = cut_rest (Some a.0) name (next_field (Some a.0)).1 c.0 (cut_found (Some a.0)) value.0 in
-      let word : name ≡ rule_word b.0 = name_found name b.0 (ok_or_ok _ _ _ b.1) in
-      (record {
-        name = name;
-        value = c.0;
-        rule = d.0;
-        spelled = starts a.0 (ok_or_ok _ _ _ a.1) ∙ ap (λ rest. codes "rule" ++ 32 ∷ rest) (some_is a.0 (name ++ 32 ∷ c.0) cut.0);
-        field = value.1;
-        is_rule = subst (λ w. IsRuleText w c.0 d.0) (sym word) (rule_found b.0 c.0 d.0 (refused_as_ok _ _ _ d.1));
-        early = early_found st.phases st.phase kept.tasks.no_phase e.0;
-        adds = ap so_far_of (sym same);
-      }, subst Kept same (record { blocks = kept.blocks; tasks = kept.tasks }))
+      let word : name ≡ rule_word b.0 = name_found name b.0 (ok_or_ok _ _ _ b.1) in (
+        record {
+          name = name;
+          value = c.0;
+          rule = d.0;
+          spelled = starts a.0 (ok_or_ok _ _ _ a.1) ∙ ap (λ rest. codes "rule" ++ 32 ∷ rest) (some_is a.0 (name ++ 32 ∷ c.0) cut.0);
+          field = value.1;
+          is_rule = subst (λ w. IsRuleText w c.0 d.0) (sym word) (rule_found b.0 c.0 d.0 (refused_as_ok _ _ _ d.1));
+          early = early_found st.phases st.phase kept.tasks.no_phase e.0;
+          adds = ap so_far_of (sym same);
+        },
+        subst Kept same (record { blocks = kept.blocks; tasks = kept.tasks }),
+      )
 
   pub gateway_line_found : Starts line (codes "gateway") left → gateway_line (closed st) left ≡ Ok after → GatewayLine (so_far_of st) line (so_far_of after) × Kept after
   unfolding gateway_line add_gateway
@@ -85,17 +87,19 @@ module _ (st after : State) (line : List ℕ) (left : Option (List ℕ)) (kept :
       let d = unless_ok _ _ _ _ c.1 in
       let e = unless_ok _ _ _ _ d.1 in
       let same = ok_is _ _ e.1 in
-      let name = only_found left a.0 (refused_as_ok _ _ _ a.1) in
-      (record {
-        name = a.0;
-        spelled = starts a.0 name.0;
-        field = name.1;
-        is_name = b.0;
-        early = early_found st.phases st.phase kept.tasks.no_phase c.0;
-        new = is_none_is _ d.0;
-        few = ltb-true _ _ e.0;
-        adds = ap so_far_of (sym same);
-      }, subst Kept same (record { blocks = kept.blocks; tasks = gateway_kept st.gateways st.phases st.phase st.synced st.hands st.activities kept.tasks a.0 (is_none_is st.phase c.0) }))
+      let name = only_found left a.0 (refused_as_ok _ _ _ a.1) in (
+        record {
+          name = a.0;
+          spelled = starts a.0 name.0;
+          field = name.1;
+          is_name = b.0;
+          early = early_found st.phases st.phase kept.tasks.no_phase c.0;
+          new = is_none_is _ d.0;
+          few = ltb-true _ _ e.0;
+          adds = ap so_far_of (sym same);
+        },
+        subst Kept same (record { blocks = kept.blocks; tasks = gateway_kept st.gateways st.phases st.phase st.synced st.hands st.activities kept.tasks a.0 (is_none_is st.phase c.0) }),
+      )
 
   pub block_line_found : (number : ℕ) → Starts line (codes "block") left → block_line (closed st) number left ≡ Ok after → BlockLine (so_far_of st) line (so_far_of after) × Kept after
   unfolding block_line begin_block
@@ -127,24 +131,26 @@ module _ (st after : State) (line : List ℕ) (left : Option (List ℕ)) (kept :
       let min_is = time_found min_text c.0 (refused_as_ok _ _ _ c.1) in
       let max_is = time_found max_text d.0 (refused_as_ok _ _ _ d.1) in
       let fresh : is_declared st e.0 ≡ false = not_is _ k.0 in
-      let few : length st.ulids < 4_096 = ltb-true _ _ l.0 in
-      (record {
-        ulid_text = ulid_text;
-        min_text = min_text;
-        max_text = max_text;
-        labels_text = set.0;
-        ulid = e.0;
-        min_time = c.0;
-        max_time = d.0;
-        labels = f.0;
-        spelled = starts (ulid_text ++ 32 ∷ (min_text ++ 32 ∷ (max_text ++ 32 ∷ set.0))) first.0;
-        is_ulid = record { field = is_field ulid_text fields.0 first.1; written = ulid_found ulid_text e.0 (refused_as_ok _ _ _ e.1); not_reserved = not_is _ j.0 };
-        is_min = record { field = is_field min_text fields.1 second.1; written = min_is.0; near = min_is.1 };
-        is_max = record { field = is_field max_text front.1 third.1; written = max_is.0; near = max_is.1 };
-        are_labels = set.2;
-        early = early_found st.phases st.phase kept.tasks.no_phase g.0;
-        times = below_is c.0 d.0 i.0;
-        new = sym (kept.blocks.declared e.0) ∙ fresh;
-        few = omega (arith, kept.blocks.count, few);
-        adds = ap so_far_of (sym same);
-      }, subst Kept same (record { blocks = block_kept st.blocks st.last st.ulids kept.blocks (record { line = number; ulid = e.0; labels = f.0; min_time = c.0; max_time = d.0; series = [] }) fresh; tasks = kept.tasks }))
+      let few : length st.ulids < 4_096 = ltb-true _ _ l.0 in (
+        record {
+          ulid_text = ulid_text;
+          min_text = min_text;
+          max_text = max_text;
+          labels_text = set.0;
+          ulid = e.0;
+          min_time = c.0;
+          max_time = d.0;
+          labels = f.0;
+          spelled = starts (ulid_text ++ 32 ∷ (min_text ++ 32 ∷ (max_text ++ 32 ∷ set.0))) first.0;
+          is_ulid = record { field = is_field ulid_text fields.0 first.1; written = ulid_found ulid_text e.0 (refused_as_ok _ _ _ e.1); not_reserved = not_is _ j.0 };
+          is_min = record { field = is_field min_text fields.1 second.1; written = min_is.0; near = min_is.1 };
+          is_max = record { field = is_field max_text front.1 third.1; written = max_is.0; near = max_is.1 };
+          are_labels = set.2;
+          early = early_found st.phases st.phase kept.tasks.no_phase g.0;
+          times = below_is c.0 d.0 i.0;
+          new = sym (kept.blocks.declared e.0) ∙ fresh;
+          few = omega (arith, kept.blocks.count, few);
+          adds = ap so_far_of (sym same);
+        },
+        subst Kept same (record { blocks = block_kept st.blocks st.last st.ulids kept.blocks (record { line = number; ulid = e.0; labels = f.0; min_time = c.0; max_time = d.0; series = [] }) fresh; tasks = kept.tasks }),
+      )

@@ -19,7 +19,6 @@ empty_line st number = refl
 
 -- what is read of lines that are left
 module _ (st : State) (number : ℕ) (text : List ℕ) where
-
   more_lines : position_or_len is_newline text < length text → lines_at st number (lines_of text) ≡ (line_at st number (before_first is_newline text) >>= λ after. lines_at after (number + 1) (lines_of (after_first is_newline text)))
   unfolding lines_at
   more_lines inside = ap (lines_at st number) (slice_split_first is_newline text 0 inside)

@@ -186,8 +186,8 @@ ended_found blocks None first h = λ others block is. absurd (not_empty others b
 ended_found blocks (Some last) first h =
     let test = unless_is (not (length last.series == 0)) _ h in
     λ others block is.
-        let same : block_of last ≡ block = (snoc_is blocks others (block_of last) block is).1 in
-        subst (λ (b : Block). HasSeries b.body) same (λ e. no_series (length last.series) test (ap length e))
+    let same : block_of last ≡ block = (snoc_is blocks others (block_of last) block is).1 in
+    subst (λ (b : Block). HasSeries b.body) same (λ e. no_series (length last.series) test (ap length e))
 
 pub ended_again : (blocks : List Block) (last : Option Last) → HasEnded (all_blocks blocks last) → has_ended last ≡ Ok tt
 ended_again blocks None ended = refl

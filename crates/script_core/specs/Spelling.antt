@@ -148,6 +148,7 @@ pub record BlockLine (before : SoFar) (line : List ℕ) (after : SoFar) : Type 0
   pub is_ulid : IsUlidField ulid_text ulid
   pub is_min : IsTimeText min_text min_time
   pub is_max : IsTimeText max_text max_time
+  -- the label set takes all that is left
   pub are_labels : read_set labels_text ≡ Ok (labels, length labels_text)
   pub early : IsEarly before
   pub times : min_time <ℤ max_time
@@ -162,6 +163,7 @@ pub record SeriesLine (before : SoFar) (line : List ℕ) (after : SoFar) : Type 
   pub labels : List Label
   pub samples : List Sample
   pub spelled : line ≡ spaced (codes "series" ∷ labels_text ∷ spaced texts ∷ [])
+  -- the label set at the front of what is left
   pub are_labels : read_set (spaced (labels_text ∷ spaced texts ∷ [])) ≡ Ok (labels, length labels_text)
   pub some : texts ≢ []
   pub are_samples : AreSampleFields texts samples
@@ -261,8 +263,8 @@ abbrev pub Say : SoFar → ℕ → List (List ℕ) → SoFar → Type 0
 Say before number [] after = before ≡ after
 Say before number (line ∷ lines) after =
     MatchBool (is_silent line)
-        (Say before (number + 1) lines after)
-        ((next : SoFar) × IsTrue (is_utf8 line) × Says before number line next × Say next (number + 1) lines after)
+    (Say before (number + 1) lines after)
+    ((next : SoFar) × IsTrue (is_utf8 line) × Says before number line next × Say next (number + 1) lines after)
 
 -- The text spells the script.
 pub record Spells (text : List ℕ) (script : Script) : Type 0 where

@@ -50,7 +50,11 @@ impl InlineBlock {
     }
 
     #[tactic(auto, using(crate::proofs::SeriesLists::insert_series_entries))]
-    pub(crate) fn insert_series(&mut self, labels: LabelSet, samples: SampleList) -> Result<(), NoMemory>
+    pub(crate) fn insert_series(
+        &mut self,
+        labels: LabelSet,
+        samples: SampleList,
+    ) -> Result<(), NoMemory>
         ensures { OnOk result (last_of self.new ≡ record (last_of self.old) { series = insert_series (last_of self.old).series (series_of (labels, samples)) }) }
     {
         self.series.insert(labels, samples)?;

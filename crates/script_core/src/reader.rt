@@ -84,12 +84,7 @@ fn text_of(line: &[u8]) -> Option<&str>
 }
 
 #[tactic(auto, unfolding(crate::specs::Reading::text_line))]
-fn read_text(
-    draft: &mut Draft,
-    alloc: Global,
-    number: u32,
-    text: &str,
-) -> Result<(), ScriptRefusal>
+fn read_text(draft: &mut Draft, alloc: Global, number: u32, text: &str) -> Result<(), ScriptRefusal>
     ensures { Gives script_refusals.NoMemory (λ _. state_of draft.new) result (text_line (state_of draft.old) number text.now) }
 {
     let (word, fields) = next_field(Some(text));

@@ -77,9 +77,7 @@ fn covered_places(alloc: Global, listed: &[Found]) -> Result<Vec<bool>, NoMemory
 fn is_covered(listed: &[Found], block: &Found) -> bool
     ensures { result ≡ is_covered_by listed.now block.now }
 {
-    listed
-        .iter()
-        .any(|other| better(&other.meta, &block.meta))
+    listed.iter().any(|other| better(&other.meta, &block.meta))
 }
 
 fn split(

@@ -16,9 +16,9 @@ fn block(
     let mut listed = String::new(alloc);
     for source in sources.chars() {
         let comma = if listed.is_empty() { "" } else { "," };
-        listed.push_str(
-            format!(in alloc; "{comma}\"0000000000000000000000000{source}\"")?.as_str(),
-        )?;
+        listed.push_str(format!(in alloc;
+            "{comma}\"0000000000000000000000000{source}\""
+        )?.as_str())?;
     }
     let listed = listed.as_str();
     let text = format!(in alloc;
@@ -91,7 +91,10 @@ fn a_block_that_another_one_holds_is_covered(rt: HostRuntime) -> Result<(), Fail
     let cases = [
         ([('B', "AB", 0), ('C', "AB", 0), ('D', "D", 0)], "BD C"),
         ([('D', "AB", 0), ('C', "ABE", 0), ('B', "B", 0)], "C BD"),
-        ([('A', "A", 0), ('B', "AB", 300_000), ('C', "AC", 0)], "BC A"),
+        (
+            [('A', "A", 0), ('B', "AB", 300_000), ('C', "AC", 0)],
+            "BC A",
+        ),
         ([('A', "AB", 0), ('B', "AC", 0), ('C', "BC", 0)], "ABC "),
     ];
     for (blocks, split) in cases {

@@ -8,7 +8,7 @@ use Rattle.meta_fetcher.proofs.sync.Sync.marked.Goals.{in-Found, in-Failed, in-A
 pub returns-clause-leads : goal.returns-clause-leads
 returns-clause-leads c =
     elim c.match-reply.branch [
-      in-Found w ↦ leads_joined _ _ _ _ _ w.result-is w.self-is (mark_found c.args.self.now c.args.ulid c.args.seen.seq c.args.seen.moment _ c.args.seen.reply w.in-Found.is)
-    | in-Failed w ↦ leads_joined _ _ _ _ _ w.result-is w.self-is (mark_failed c.args.self.now c.args.ulid c.args.seen.seq c.args.seen.moment _ c.args.seen.reply w.in-Failed.is)
-    | in-Absent w ↦ leads_joined _ _ _ _ _ w.result-is w.self-is (leads_by_reply (Marking c.args.ulid) c.args.self.now c.args.seen.seq c.args.seen.moment Absent c.args.seen.reply _ _ w.in-Absent.is w.ask_meta.ensures.leads)
+      | in-Found w ↦ leads_joined _ _ _ _ _ w.result-is w.self-is (mark_found c.args.self.now c.args.ulid c.args.seen.seq c.args.seen.moment _ c.args.seen.reply w.in-Found.is)
+      | in-Failed w ↦ leads_joined _ _ _ _ _ w.result-is w.self-is (mark_failed c.args.self.now c.args.ulid c.args.seen.seq c.args.seen.moment _ c.args.seen.reply w.in-Failed.is)
+      | in-Absent w ↦ leads_joined _ _ _ _ _ w.result-is w.self-is (leads_by_reply (Marking c.args.ulid) c.args.self.now c.args.seen.seq c.args.seen.moment Absent c.args.seen.reply _ _ w.in-Absent.is w.ask_meta.ensures.leads)
     ]
