@@ -1,28 +1,32 @@
-ghost use Rattle.std.specs.Prelude.{◌≡◌, ◌+◌, ◌-◌, ◌*◌, ◌≤◌, length, map, Ok, IfOk};
-ghost use Rattle.store_gateway.specs.Call.{start_of, asked_of, measure_of, AsksNext, IsReplyToGet};
+ghost use Rattle.std.specs.Prelude.{◌≡◌, ◌<◌, ◌+◌, ◌*◌, ℕ, List, [], ◌∷◌, length, Option, Some, IfSome, IfOk, IsSomeAnd};
+ghost use Rattle.std.specs.List.{position};
+ghost use Rattle.world_core.specs.Machines.{GoesOn, Falls};
+ghost use Rattle.world_core.specs.Operations.{IsAnswer, entry_of};
+ghost use Rattle.world_core.specs.declared.op.Op.{Op};
+ghost use Rattle.world_core.specs.declared.entry.Entry.{Entry};
+ghost use Rattle.store_gateway.specs.declared.series_end.SeriesEnd.{SeriesEnd};
 ghost use Rattle.store_gateway.specs.declared.stage.Stage.TheVariants as stage;
-ghost use Rattle.world_core.specs.Machines.{Falls};
+ghost use Rattle.store_gateway.specs.SeriesRuns.{asking, meets, to_read, Answers, AfterIndex, Reads, SeriesRun};
+ghost use Rattle.store_gateway.specs.Calls.{Calling, StartsMeeting, IsFresh, asked_call, may_call, may_at, after_at, after_bytes, after_series, left_at, left_call, Leads};
 
-use crate::select::{Wanted, add_selected};
+use crate::select::{Wanted, add_wanted, all_sources, meets};
 use crate::{SeriesCall, SeriesEnd, Stage};
 use block_files::{PlainRefusal, read_plain_index, read_plain_segment};
 use block_keys::Key;
-use block_meta::Meta;
-use label_sets::TextList;
+use label_sets::{SeriesList, TextList};
 use list_core::NoMemory;
 use matchers::Selector;
 use meta_fetcher::View;
 use std::alloc::Global;
 use std::mem;
 use sync_filters::Found;
-use ulid_core::{Ulid, UlidList};
 use vertical_merge::Merger;
 use wire_bytes::Blob;
 use world_core::{Act, Machine, Op, Reply, Seen};
 
 impl<'a> SeriesCall<'a> {
     /// Begins a call over a view for the series that the selector matches, with their samples from `low` to `high`,
-    /// both included.
+    /// both included. It takes no memory today.
     pub fn start(
         alloc: Global,
         view: &'a View,
@@ -31,11 +35,14 @@ impl<'a> SeriesCall<'a> {
         low: i64,
         high: i64,
     ) -> Result<SeriesCall<'a>, NoMemory>
-        ensures { IfOk result (λ call. call ≡ start_of (map (λ found. found.ulid) view.now.kept)) }
+        ensures begun { IfOk result IsFresh }
+        ensures run { IfOk result (λ call. (entries : List Entry) (end : Option SeriesEnd) (last : Calling) → may_call call entries end last
+            → SeriesRun view.now (asking selector.now replicas.now low high) entries end) }
     {
+        let kept = view.kept.members();
         Ok(SeriesCall {
             alloc,
-            view,
+            kept,
             wanted: Wanted {
                 selector,
                 replicas,
@@ -43,51 +50,45 @@ impl<'a> SeriesCall<'a> {
                 high,
             },
             stage: Stage::Fresh,
-            place: 0,
+            left: kept,
             merger: Merger::new(alloc),
         })
     }
 
-    fn end(&mut self, end: SeriesEnd) -> Result<Act<SeriesEnd>, NoMemory>
-        ensures { result ≡ Ok (Act.Done end) }
+    /// Asks for the index of the first of these blocks that meets the range, or answers where there is none.
+    fn read_from(&mut self, blocks: &'a [Found]) -> Result<Act<SeriesEnd>, NoMemory>
+        ensures leads { Leads (Reads self.old.query self.old.sources self.old.taken (to_read self.old.query blocks.now)) result self.new }
+        ensures falls { Falls (2 * length (to_read self.old.query blocks.now) + 1) result (left_call self.new) }
     {
-        self.stage = Stage::Over;
-        Ok(Act::Done(end))
-    }
-
-    /// Asks for the index of the next block, from the given place on, that meets the range, or answers where there is none.
-    fn read_from(&mut self, place: usize) -> Result<Act<SeriesEnd>, NoMemory>
-        ensures asks { AsksNext result self.new }
-        ensures falls { Falls (2 * (length self.old.ulids - place) + 1) result (measure_of self.new) }
-    {
-        let blocks = self.view.kept.members();
-        let next = next_meeting(blocks, place, self.wanted.low, self.wanted.high);
-        if next >= blocks.len() {
-            return self.answer();
+        let blocks = from_first_meeting(blocks, self.wanted);
+        match blocks {
+            [block, ..] => {
+                self.left = blocks;
+                self.stage = Stage::Indexing;
+                Ok(Act::Do(Op::Get(Key::Index(block.ulid))))
+            }
+            [] => self.answer(),
         }
-        let ulid = blocks[next].ulid;
-        self.place = next;
-        self.stage = Stage::Indexing;
-        Ok(Act::Do(Op::Get(Key::Index(ulid))))
     }
 
+    /// Merges what was taken.
     fn answer(&mut self) -> Result<Act<SeriesEnd>, NoMemory>
-        ensures asks { AsksNext result self.new }
-        ensures falls { Falls 0 result (measure_of self.new) }
+        ensures leads { Leads (Answers self.old.taken self.old.sources) result self.new }
+        ensures falls { Falls 0 result (left_call self.new) }
     {
-        let sources = sources_of(self.alloc, self.view.kept.members())?;
+        let sources = all_sources(self.alloc, self.kept)?;
         let merger = mem::replace(&mut self.merger, Merger::new(self.alloc));
-        let series = merger.finish()?;
         self.stage = Stage::Over;
+        let series = merger.finish()?;
         Ok(Act::Done(SeriesEnd::Answer { series, sources }))
     }
 
     /// Goes on after the read of an index.
     fn indexed(&mut self, seen: Seen) -> Result<Act<SeriesEnd>, NoMemory>
         requires stage { self.old.stage ≡ stage.Indexing }
-        requires answer { IsReplyToGet seen.reply }
-        ensures asks { AsksNext result self.new }
-        ensures falls { Falls (measure_of self.old) result (measure_of self.new) }
+        requires answer { IsSomeAnd (asked_call self.old) (λ op. IsAnswer op seen) }
+        ensures leads { Leads (after_at stage.Indexing self.old.left self.old seen.seq seen.reply) result self.new }
+        ensures falls { Falls (left_at stage.Indexing self.old.left) result (left_call self.new) }
     {
         let Seen {
             seq,
@@ -95,35 +96,45 @@ impl<'a> SeriesCall<'a> {
             reply,
         } = seen;
         match reply {
-            Reply::Found(bytes) => self.take_index(seq, bytes),
-            Reply::Absent => self.end(SeriesEnd::Missing(seq)),
-            Reply::Failed(_) => self.end(SeriesEnd::Fault(seq)),
+            Reply::Found(bytes) => self.take_index(seq, &bytes),
+            Reply::Absent => Ok(Act::Done(SeriesEnd::Missing(seq))),
+            Reply::Failed(_) => Ok(Act::Done(SeriesEnd::Fault(seq))),
             _ => unreachable!(),
         }
     }
 
-    fn take_index(&mut self, seq: u64, bytes: Blob) -> Result<Act<SeriesEnd>, NoMemory>
+    fn take_index(&mut self, seq: u64, bytes: &Blob) -> Result<Act<SeriesEnd>, NoMemory>
         requires { self.old.stage ≡ stage.Indexing }
-        ensures asks { AsksNext result self.new }
-        ensures falls { Falls (measure_of self.old) result (measure_of self.new) }
+        ensures leads { Leads (AfterIndex seq bytes.now (may_at stage.Reading self.old.left self.old)) result self.new }
+        ensures falls { Falls (left_at stage.Indexing self.old.left) result (left_call self.new) }
     {
         match read_plain_index(bytes.bytes()) {
-            Ok(()) => {}
-            Err(PlainRefusal::NoMemory) => return Err(NoMemory),
-            Err(PlainRefusal::Damaged) => return self.end(SeriesEnd::Damaged(seq)),
+            Ok(()) => self.ask_segment(),
+            Err(PlainRefusal::Damaged) => Ok(Act::Done(SeriesEnd::Damaged(seq))),
+            Err(PlainRefusal::NoMemory) => Err(NoMemory),
         }
-        let _stage = self.stage;
-        let ulid = self.view.kept.members()[self.place].ulid;
-        self.stage = Stage::Reading;
-        Ok(Act::Do(Op::Get(Key::Segment(ulid, 1))))
+    }
+
+    fn ask_segment(&mut self) -> Result<Act<SeriesEnd>, NoMemory>
+        requires { self.old.stage ≡ stage.Indexing }
+        ensures leads { Leads (may_at stage.Reading self.old.left self.old) result self.new }
+        ensures falls { Falls (left_at stage.Indexing self.old.left) result (left_call self.new) }
+    {
+        match self.left {
+            [block, ..] => {
+                self.stage = Stage::Reading;
+                Ok(Act::Do(Op::Get(Key::Segment(block.ulid, 1))))
+            }
+            [] => unreachable!(),
+        }
     }
 
     /// Goes on after the read of a segment.
     fn read(&mut self, seen: Seen) -> Result<Act<SeriesEnd>, NoMemory>
         requires stage { self.old.stage ≡ stage.Reading }
-        requires answer { IsReplyToGet seen.reply }
-        ensures asks { AsksNext result self.new }
-        ensures falls { Falls (measure_of self.old) result (measure_of self.new) }
+        requires answer { IsSomeAnd (asked_call self.old) (λ op. IsAnswer op seen) }
+        ensures leads { Leads (after_at stage.Reading self.old.left self.old seen.seq seen.reply) result self.new }
+        ensures falls { Falls (left_at stage.Reading self.old.left) result (left_call self.new) }
     {
         let Seen {
             seq,
@@ -131,78 +142,74 @@ impl<'a> SeriesCall<'a> {
             reply,
         } = seen;
         match reply {
-            Reply::Found(bytes) => self.take_segment(seq, bytes),
-            Reply::Absent => self.end(SeriesEnd::Missing(seq)),
-            Reply::Failed(_) => self.end(SeriesEnd::Fault(seq)),
+            Reply::Found(bytes) => self.take_segment(seq, &bytes),
+            Reply::Absent => Ok(Act::Done(SeriesEnd::Missing(seq))),
+            Reply::Failed(_) => Ok(Act::Done(SeriesEnd::Fault(seq))),
             _ => unreachable!(),
         }
     }
 
-    fn take_segment(&mut self, seq: u64, bytes: Blob) -> Result<Act<SeriesEnd>, NoMemory>
+    fn take_segment(&mut self, seq: u64, bytes: &Blob) -> Result<Act<SeriesEnd>, NoMemory>
         requires { self.old.stage ≡ stage.Reading }
-        ensures asks { AsksNext result self.new }
-        ensures falls { Falls (measure_of self.old) result (measure_of self.new) }
+        ensures leads { Leads (after_bytes self.old.left self.old seq bytes.now) result self.new }
+        ensures falls { Falls (left_at stage.Reading self.old.left) result (left_call self.new) }
     {
-        let series = match read_plain_segment(self.alloc, bytes.bytes()) {
-            Ok(series) => series,
-            Err(PlainRefusal::NoMemory) => return Err(NoMemory),
-            Err(PlainRefusal::Damaged) => return self.end(SeriesEnd::Damaged(seq)),
-        };
-        let _stage = self.stage;
-        let place = self.place;
-        let meta = &self.view.kept.members()[place].meta;
-        add_selected(
-            self.alloc,
-            self.wanted,
-            &meta.labels,
-            series.members(),
-            &mut self.merger,
-        )?;
-        self.read_from(place + 1)
+        match read_plain_segment(self.alloc, bytes.bytes()) {
+            Ok(series) => self.take_series(series),
+            Err(PlainRefusal::Damaged) => Ok(Act::Done(SeriesEnd::Damaged(seq))),
+            Err(PlainRefusal::NoMemory) => Err(NoMemory),
+        }
+    }
+
+    /// Takes the wanted samples of the block that was read, and goes on with the blocks after it.
+    fn take_series(&mut self, series: SeriesList) -> Result<Act<SeriesEnd>, NoMemory>
+        requires { self.old.stage ≡ stage.Reading }
+        ensures leads { Leads (after_series self.old.left self.old series) result self.new }
+        ensures falls { Falls (left_at stage.Reading self.old.left) result (left_call self.new) }
+    {
+        match self.left {
+            [block, rest @ ..] => {
+                let external = &block.meta.labels;
+                add_wanted(self.alloc, self.wanted, external, series, &mut self.merger)?;
+                self.read_from(rest)
+            }
+            [] => unreachable!(),
+        }
     }
 }
 
-/// The first place from a given one on whose block meets the range, or the number of blocks.
-fn next_meeting(blocks: &[Found], from: usize, low: i64, high: i64) -> usize
-    ensures { from ≤ result }
+/// The blocks from the first one on that meets the range.
+fn from_first_meeting<'a>(blocks: &'a [Found], asked: Wanted<'_>) -> &'a [Found]
+    ensures same { let query = asking asked.entry.selector.now asked.entry.replicas.now asked.entry.low asked.entry.high in to_read query result.now ≡ to_read query blocks.now }
+    ensures first { StartsMeeting (asking asked.entry.selector.now asked.entry.replicas.now asked.entry.low asked.entry.high) result.now }
 {
-    let mut place = from;
-    while place < blocks.len() && !meets(&blocks[place].meta, low, high) {
-        place += 1;
+    match place_meeting(blocks, asked) {
+        Some(place) => &blocks[place..],
+        None => &blocks[blocks.len()..],
     }
-    place
 }
 
-/// Whether a block may have samples from `low` to `high`.
-fn meets(meta: &Meta, low: i64, high: i64) -> bool {
-    meta.min_time <= high && meta.max_time > low
-}
-
-/// The sources of all blocks, ascending, each once.
-fn sources_of(alloc: Global, blocks: &[Found]) -> Result<UlidList, NoMemory> {
-    let mut sources: Vec<Ulid> = Vec::new(alloc);
-    for block in blocks {
-        sources.extend_from_slice(block.meta.sources.members())?;
-    }
-    sources.sort()?;
-    sources.dedup();
-    Ok(UlidList::from_vec(sources))
+fn place_meeting(blocks: &[Found], asked: Wanted<'_>) -> Option<usize>
+    ensures place { result ≡ position (meets (asking asked.entry.selector.now asked.entry.replicas.now asked.entry.low asked.entry.high)) blocks.now }
+    ensures within { IfSome result (λ place. place < length blocks.now) }
+{
+    blocks.iter().position(|block| meets(block, asked))
 }
 
 impl<'a> Machine for SeriesCall<'a> {
     type End = SeriesEnd;
 
-    // what a call's entries and its answer are is not stated yet
-    ghost may = { λ call entries end last. Unit {0} };
+    ghost may = { may_call };
 
-    ghost asked = { asked_of };
+    ghost asked = { asked_call };
 
-    ghost measure = { measure_of };
+    ghost measure = { left_call };
 
-    ghost fresh = { λ call. call.stage ≡ stage.Fresh };
+    ghost fresh = { IsFresh };
 
     fn first(&mut self) -> Result<Act<SeriesEnd>, NoMemory> {
-        self.read_from(0)
+        let blocks = self.left;
+        self.read_from(blocks)
     }
 
     fn step(&mut self, seen: Seen) -> Result<Act<SeriesEnd>, NoMemory> {

@@ -1,7 +1,14 @@
-use label_sets::{LabelSet, Sample, SampleList, Series, TextList, final_labels};
+ghost use Rattle.std.specs.Prelude.{◌≡◌, [], ◌∷◌, ◌++◌, IfOk, OnOk};
+ghost use Rattle.std.specs.List.{filter};
+ghost use Rattle.matchers.specs.Selected.{is_within};
+ghost use Rattle.store_gateway.specs.SeriesRuns.{asking, wanted, IsSetOf, sources_of, meets};
+
+use label_sets::{LabelSet, Sample, SampleList, Series, SeriesList, TextList, final_labels};
 use list_core::NoMemory;
 use matchers::Selector;
 use std::alloc::Global;
+use sync_filters::Found;
+use ulid_core::{Ulid, UlidList};
 use vertical_merge::Merger;
 
 /// What a call asks for: the series that the selector matches, with their samples from `low` to `high`, both included.
@@ -14,36 +21,64 @@ pub(crate) struct Wanted<'a> {
 }
 
 /// Adds the wanted samples of a block's series under their final labels.
-pub(crate) fn add_selected(
+pub(crate) fn add_wanted(
     alloc: Global,
-    wanted: Wanted<'_>,
+    asked: Wanted<'_>,
     external: &LabelSet,
-    series: &[Series],
+    series: SeriesList,
     merger: &mut Merger,
-) -> Result<(), NoMemory> {
-    for one in series {
-        let labels = final_labels(alloc, &one.labels, external, wanted.replicas)?;
-        if wanted.selector.matches(&labels)? {
-            let samples = samples_between(alloc, one.samples.members(), wanted.low, wanted.high)?;
-            if !samples.is_empty() {
-                merger.add(&labels, &samples)?;
-            }
-        }
+) -> Result<(), NoMemory>
+    ensures { OnOk result (merger.new ≡ merger.old ++ wanted (asking asked.entry.selector.now asked.entry.replicas.now asked.entry.low asked.entry.high) external.now series) }
+{
+    for one in series.into_vec() {
+        add_series(alloc, asked, external, one, merger)?;
     }
     Ok(())
 }
 
-fn samples_between(
+fn add_series(
     alloc: Global,
-    samples: &[Sample],
-    low: i64,
-    high: i64,
-) -> Result<SampleList, NoMemory> {
-    let mut between = SampleList::new(alloc);
-    for sample in samples {
-        if low <= sample.time && sample.time <= high {
-            between.push(*sample)?;
-        }
+    asked: Wanted<'_>,
+    external: &LabelSet,
+    series: Series,
+    merger: &mut Merger,
+) -> Result<(), NoMemory>
+    ensures { OnOk result (merger.new ≡ merger.old ++ wanted (asking asked.entry.selector.now asked.entry.replicas.now asked.entry.low asked.entry.high) external.now (series ∷ [])) }
+{
+    let labels = final_labels(alloc, &series.labels, external, asked.replicas)?;
+    if asked.selector.matches(&labels)? {
+        let Series { labels: _, samples } = series;
+        let samples = samples_between(samples, asked);
+        merger.take(Series { labels, samples })?;
     }
-    Ok(between)
+    Ok(())
+}
+
+/// The samples in the range.
+fn samples_between(samples: SampleList, asked: Wanted<'_>) -> SampleList
+    ensures { result ≡ filter (λ s. is_within asked.entry.low asked.entry.high s.time) samples }
+{
+    let mut samples = samples.into_vec();
+    samples.retain(|sample| asked.low <= sample.time && sample.time <= asked.high);
+    SampleList::from_vec(samples)
+}
+
+/// Whether a block may have samples from `low` to `high`.
+pub(crate) fn meets(block: &Found, asked: Wanted<'_>) -> bool
+    ensures { result ≡ meets (asking asked.entry.selector.now asked.entry.replicas.now asked.entry.low asked.entry.high) block.now }
+{
+    block.meta.min_time <= asked.high && asked.low < block.meta.max_time
+}
+
+/// The sources of all blocks, ascending, each once.
+pub(crate) fn all_sources(alloc: Global, blocks: &[Found]) -> Result<UlidList, NoMemory>
+    ensures { IfOk result (IsSetOf (sources_of blocks.now)) }
+{
+    let mut sources: Vec<Ulid> = Vec::new(alloc);
+    for block in blocks {
+        sources.extend_from_slice(block.meta.sources.members())?;
+    }
+    sources.sort()?;
+    sources.dedup();
+    Ok(UlidList::from_vec(sources))
 }

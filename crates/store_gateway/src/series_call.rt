@@ -1,8 +1,8 @@
 use crate::Stage;
 use crate::select::Wanted;
-use meta_fetcher::View;
 use std::alloc::Global;
 use std::marker::Model;
+use sync_filters::Found;
 use vertical_merge::Merger;
 
 /// The call of one gateway for a query: it reads index and segment of each kept block that meets the range, and answers
@@ -10,21 +10,22 @@ use vertical_merge::Merger;
 #[derive(Drop)]
 pub struct SeriesCall<'a> {
     pub(crate) alloc: Global,
-    pub(crate) view: &'a View,
+    /// The blocks of the view.
+    pub(crate) kept: &'a [Found],
     pub(crate) wanted: Wanted<'a>,
     pub(crate) stage: Stage,
-    /// The place of the block that is read.
-    pub(crate) place: usize,
+    /// The blocks from the one that is read on.
+    pub(crate) left: &'a [Found],
     pub(crate) merger: Merger,
 }
 
 impl<'a> Model for SeriesCall<'a> {
-    ghost use Rattle.std.specs.Prelude.{map};
-    ghost use Rattle.store_gateway.specs.Call.{Calling, IsAt};
+    ghost use Rattle.store_gateway.specs.SeriesRuns.{asking, to_read, sources_of};
+    ghost use Rattle.store_gateway.specs.Calls.{Calling, IsAt};
 
     ghost Value = { Calling };
 
-    ghost view = { λ s. record { stage = s.stage; ulids = map (λ found. found.ulid) s.view.now.kept; place = s.place } };
+    ghost view = { λ s. record { stage = s.stage; query = asking s.wanted.selector.now s.wanted.replicas.now s.wanted.low s.wanted.high; sources = sources_of s.kept.now; left = to_read (asking s.wanted.selector.now s.wanted.replicas.now s.wanted.low s.wanted.high) s.left.now; taken = s.merger } };
 
-    ghost invariant = { λ s. IsAt (record { stage = s.stage; ulids = map (λ found. found.ulid) s.view.now.kept; place = s.place }) };
+    ghost invariant = { λ s. IsAt s.stage (asking s.wanted.selector.now s.wanted.replicas.now s.wanted.low s.wanted.high) s.left.now };
 }

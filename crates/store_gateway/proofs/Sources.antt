@@ -1,0 +1,20 @@
+-- The sources of several blocks, sorted and each once.
+use Rattle.std.proofs.Common.{◌≡◌, ℕ, List, eqb, sym, subst, refl}
+use Rattle.std.specs.Prelude.{Contains, ◌↔◌}
+use Rattle.std.specs.Ordering.{nat_cmp}
+use Rattle.std.specs.List.{dedup}
+use Rattle.std.specs.List.Sorted.{IsSorted, IsPermutation, IsStrictlyIncreasing}
+use Rattle.std.proofs.lemmas.Cmp.{nat_cmp_total}
+use Rattle.std.proofs.lemmas.List.Sorted.{Contains-permutation, IsPermutation-sym}
+use Rattle.std.proofs.lemmas.List.Kept.{Contains-dedup_nat, Contains-from_dedup}
+use Rattle.std.proofs.lemmas.Map.Keys.{IsStrictlyIncreasing-dedup}
+use Rattle.store_gateway.specs.SeriesRuns.{IsSetOf}
+
+pub set_of : (list sorted set : List ℕ) → IsSorted nat_cmp sorted → IsPermutation list sorted → set ≡ dedup eqb sorted → IsSetOf list set
+set_of list sorted set up same is = subst (IsSetOf list) (sym is) (record {
+  increasing = IsStrictlyIncreasing-dedup sorted up;
+  members = λ x. (
+    λ within. Contains-permutation sorted list x (IsPermutation-sym list sorted same) (Contains-from_dedup eqb sorted x within),
+    λ within. Contains-dedup_nat sorted x (Contains-permutation list sorted x same within),
+  );
+})
