@@ -1,6 +1,8 @@
 pub mod Kept
 pub mod Output
+pub mod Reports
 pub mod Statuses
+pub mod Verdicts
 pub mod Words
 pub use Rattle.world_core.specs.Worlds
 pub use Rattle.world_core.specs.Standing

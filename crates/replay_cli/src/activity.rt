@@ -1,5 +1,6 @@
-ghost use Rattle.std.specs.Prelude.{◌≡◌};
+ghost use Rattle.std.specs.Prelude.{◌≡◌, ◌≤◌};
 ghost use Rattle.world_core.specs.Keeping.{IsFull};
+ghost use Rattle.script_core.specs.Lawful.{IsLawfulBlock};
 
 use crate::came::Came;
 use crate::outcome::{NoAnswer, Outcome, QueryOutcome, SyncOutcome, UploadOutcome};
@@ -9,21 +10,21 @@ use label_sets::SeriesList;
 use matchers::Selector;
 use meta_fetcher::{Sync, SyncEnd, SyncRules};
 use moment_core::{Partition, Rules};
-use script_core::{Block, LineCause, ScriptRefusal};
+use script_core::Block;
 use shipper::{Upload, UploadEnd};
 use std::alloc::Global;
 use store_gateway::{Gateway, SeriesCall, SeriesEnd};
 use ulid_core::UlidList;
 use world_core::{Driven, World, WorldHand, drive};
 
-/// Ships the block that an upload line of this number names.
+/// Ships a declared block.
 pub(crate) fn upload<B: Bucket>(
     alloc: Global,
-    line: u32,
     block: &Block,
     world: World<B>,
     seat: u32,
 ) -> (Came, World<B>)
+    requires { IsLawfulBlock block.now }
     ensures { result.0 ≡ Came.Full → IsFull result.1.journal }
 {
     let objects = match objects_of(alloc, block) {
@@ -32,10 +33,6 @@ pub(crate) fn upload<B: Bucket>(
             Came::To(Outcome::Upload(UploadOutcome::TooLarge)),
             world,
         ),
-        Err(Unbuilt::BadTimes) => {
-            let refusal = ScriptRefusal::BadLine(line, LineCause::BadTimes);
-            return (Came::Refused(refusal), world);
-        }
         Err(Unbuilt::NoMemory) => return (Came::NoMemory, world),
     };
     let mut machine = match Upload::start(objects) {
@@ -67,12 +64,13 @@ pub(crate) fn sync<B: Bucket>(
     world: World<B>,
     seat: u32,
 ) -> (Came, World<B>)
+    requires { 1 ≤ rules.now.page_limit }
     ensures { result.0 ≡ Came.Full → IsFull result.1.journal }
 {
     let asked = SyncRules {
         consistency: rules.consistency,
         mark_delay: rules.ignore,
-        page_limit: rules.page_limit.max(1),
+        page_limit: rules.page_limit,
         partition: Partition {
             low: i64::MIN,
             high: i64::MAX,

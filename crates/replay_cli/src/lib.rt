@@ -3,6 +3,7 @@
 
 mod activity;
 mod came;
+mod declared;
 mod input;
 mod input_refusal;
 mod outcome;
@@ -16,13 +17,16 @@ mod standard;
 mod status;
 mod status_number;
 mod tool;
+mod verdict;
 mod words;
 
 pub use input::read_all;
 pub use input_refusal::InputRefusal;
+pub use outcome::{NoAnswer, Outcome, OutcomeList, QueryOutcome, SyncOutcome, UploadOutcome};
 pub use output::{SinkFault, write_all};
 pub use run::Run;
 pub use standard::{ReaderSource, WriterSink};
 pub use status::Status;
 pub use tool::run_tool;
+pub use verdict::Verdict;
 pub use words::is_serial_over_memory;

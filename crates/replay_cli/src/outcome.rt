@@ -1,3 +1,5 @@
+ghost use Rattle.std.specs.Prelude.{◌≡◌};
+
 use label_sets::SeriesList;
 use list_core::List;
 use ulid_core::UlidList;
@@ -48,8 +50,12 @@ pub enum NoAnswer {
 }
 
 impl Outcome {
+    ghost use Rattle.replay_cli.specs.Reports.{is_as_asked};
+
     /// Whether the activity ended as asked.
-    pub fn is_as_asked(&self) -> bool {
+    pub fn is_as_asked(&self) -> bool
+        ensures { result ≡ is_as_asked self.now }
+    {
         match self {
             Outcome::Upload(UploadOutcome::Done(_) | UploadOutcome::Already) => true,
             Outcome::Upload(_) => false,

@@ -1,36 +1,48 @@
-ghost use Rattle.std.specs.Prelude.{◌≡◌, ◌≢◌, Some};
+ghost use Rattle.std.specs.Prelude.{◌≡◌, ◌≢◌, ◌++◌, ◌&&◌, [], true, length, List, Ok, Err, IfOk, OnOk};
+ghost use Rattle.std.specs.List.{All};
 ghost use Rattle.world_core.specs.Keeping.{IsFull};
+ghost use Rattle.script_core.specs.Lawful.{IsLawfulScript, IsLawfulPhase, IsLawfulWork};
+ghost use Rattle.script_core.specs.declared.task.Task.{Task};
+ghost use Rattle.replay_cli.specs.Reports.{activity_text, is_as_asked};
+ghost use Rattle.replay_cli.specs.Verdicts.{IsReport, IsReportOfSome, tasks_of};
 
 use crate::activity::{Question, query, sync, upload};
 use crate::came::{Broken, Came};
+use crate::declared::{Places, declared_block};
 use crate::outcome::Outcome;
 use crate::report::put_activity;
 use crate::seats::Seats;
 use bucket_core::Bucket;
 use list_core::{NoMemory, TryCopy};
-use script_core::{LineCause, Phase, Script, ScriptRefusal, Task, Work};
+use script_core::{Phase, Script, Task, Work};
 use std::alloc::Global;
-use std::collections::BTreeMap;
 use store_gateway::Gateway;
-use ulid_core::Ulid;
 use world_core::{Acted, Op, World};
+
+/// The lines of some tasks, and whether all of them ended as asked.
+#[derive(Drop)]
+pub(crate) struct Lines {
+    pub text: Vec<u8>,
+    pub as_asked: bool,
+}
 
 /// What stays from one phase to the next.
 #[derive(Drop)]
 pub(crate) struct Progress {
     gateways: Vec<Gateway>,
-    /// The places of the declared blocks.
-    blocks: BTreeMap<Ulid, usize>,
+    places: Places,
     /// How many workers the phases so far have had.
     workers: u32,
-    /// The report's lines of the finished phases.
-    pub lines: Vec<u8>,
-    /// Every activity so far ended as asked.
-    pub as_asked: bool,
+    /// The report of the finished phases.
+    pub report: Lines,
 }
 
 impl Progress {
-    pub(crate) fn new(alloc: Global, script: &Script) -> Result<Progress, NoMemory> {
+    pub(crate) fn new(alloc: Global, script: &Script) -> Result<Progress, NoMemory>
+        ensures ready { IfOk result (λ progress. length progress.gateways.items ≡ length script.now.gateways) }
+        ensures empty { IfOk result (λ progress. progress.report.text.items ≡ []) }
+        ensures asked { IfOk result (λ progress. progress.report.as_asked ≡ true) }
+    {
         let mut gateways = Vec::new(alloc);
         for name in script.gateways.members() {
             gateways.push(Gateway {
@@ -38,17 +50,23 @@ impl Progress {
                 view: None,
             })?;
         }
-        let mut blocks = BTreeMap::new(alloc);
-        for (place, block) in script.blocks.members().iter().enumerate() {
-            blocks.insert(block.ulid, place)?;
-        }
         Ok(Progress {
             gateways,
-            blocks,
+            places: Places::new(alloc, script.blocks.members())?,
             workers: 0,
-            lines: Vec::new(alloc),
-            as_asked: true,
+            report: Lines {
+                text: Vec::new(alloc),
+                as_asked: true,
+            },
         })
+    }
+}
+
+impl Progress {
+    pub(crate) fn into_report(self) -> Lines
+        ensures { result ≡ self.report }
+    {
+        self.report
     }
 }
 
@@ -58,24 +76,28 @@ pub(crate) fn run_phases<B: Bucket>(
     script: &Script,
     progress: &mut Progress,
     world: World<B>,
-) -> (Option<Broken>, World<B>)
-    ensures { result.0 ≡ Some Broken.Full → IsFull result.1.journal }
+) -> (Result<(), Broken>, World<B>)
+    requires lawful { IsLawfulScript script.now }
+    requires ready { length progress.old.gateways.items ≡ length script.now.gateways }
+    requires empty { progress.old.report.text.items ≡ [] }
+    requires asked { progress.old.report.as_asked ≡ true }
+    ensures full { result.0 ≡ Err Broken.Full → IsFull result.1.journal }
+    ensures whole { result.0 ≡ Ok tt → IsReport script.now (tasks_of script.now.phases) progress.new.report.as_asked progress.new.report.text.items }
+    ensures some { result.0 ≡ Err Broken.Full → IsReportOfSome script.now progress.new.report.text.items }
 {
     let mut world = world;
     for (place, phase) in script.phases.members().iter().enumerate() {
-        let (broken, next) = run_phase(alloc, script, place, phase, progress, world);
+        let (came, next) = run_phase(alloc, script, place, phase, progress, world);
         world = next;
-        if broken.is_some() {
-            return (broken, world);
+        if let Err(broken) = came {
+            return (Err(broken), world);
         }
     }
-    (None, world)
+    (Ok(()), world)
 }
 
-/// The least moment that the clock cannot be set to.
-const LATEST: u64 = 1 << 47;
-
 /// Sets the clock, and then runs the tasks in the order of their lines.
+#[tactic(auto, using(crate::proofs::ReportLists::report_joined))]
 fn run_phase<B: Bucket>(
     alloc: Global,
     script: &Script,
@@ -83,33 +105,70 @@ fn run_phase<B: Bucket>(
     phase: &Phase,
     progress: &mut Progress,
     world: World<B>,
-) -> (Option<Broken>, World<B>)
-    ensures { result.0 ≡ Some Broken.Full → IsFull result.1.journal }
+) -> (Result<(), Broken>, World<B>)
+    requires lawful { IsLawfulScript script.now }
+    requires phase { IsLawfulPhase script.now.gateways script.now.blocks (length script.now.selectors) phase.now }
+    requires ready { length progress.old.gateways.items ≡ length script.now.gateways }
+    ensures full { result.0 ≡ Err Broken.Full → IsFull result.1.journal }
+    ensures kept { result.0 ≡ Err Broken.Full → progress.new.report ≡ progress.old.report }
+    ensures more { (done : List Task) → result.0 ≡ Ok tt → IsReport script.now done progress.old.report.as_asked progress.old.report.text.items →
+        IsReport script.now (done ++ phase.now.tasks) progress.new.report.as_asked progress.new.report.text.items }
+    ensures ready { length progress.new.gateways.items ≡ length script.now.gateways }
 {
     let seats = match Seats::new(alloc, script, place, phase, progress.workers) {
         Ok(seats) => seats,
-        Err(_) => return (Some(Broken::NoMemory), world),
+        Err(_) => return (Err(Broken::NoMemory), world),
     };
     progress.workers = progress.workers.saturating_add(seats.count());
-    if phase.moment.ms >= LATEST {
-        let refusal = ScriptRefusal::BadLine(phase.line, LineCause::BadMomentText);
-        return (Some(Broken::Refused(refusal)), world);
-    }
     let mut world = world;
     match world.act(0, Op::Clock(phase.moment)) {
-        Acted::Done(_) => run_tasks(
-            alloc,
-            script,
-            phase.tasks.members(),
-            &seats,
-            progress,
-            world,
-        ),
-        Acted::Full => (Some(Broken::Full), world),
-        Acted::NoMemory => (Some(Broken::NoMemory), world),
+        Acted::Done(_) => {}
+        Acted::Full => return (Err(Broken::Full), world),
+        Acted::NoMemory => return (Err(Broken::NoMemory), world),
+    }
+    let (came, world) = run_tasks(
+        alloc,
+        script,
+        phase.tasks.members(),
+        &seats,
+        progress,
+        world,
+    );
+    match came {
+        Ok(lines) => (progress.report.take(lines), world),
+        Err(broken) => (Err(broken), world),
     }
 }
 
+impl Lines {
+    /// Adds the lines of a phase that is finished.
+    fn take(&mut self, more: Lines) -> Result<(), Broken>
+        ensures text { OnOk result (self.new.text.items ≡ self.old.text.items ++ more.text.items) }
+        ensures asked { OnOk result (self.new.as_asked ≡ self.old.as_asked && more.as_asked) }
+        ensures refusal { result ≢ Err Broken.Full }
+    {
+        match self.text.extend_from_slice(&more.text) {
+            Ok(()) => {
+                self.as_asked = self.as_asked && more.as_asked;
+                Ok(())
+            }
+            Err(_) => Err(Broken::NoMemory),
+        }
+    }
+
+    /// Adds the lines of one activity.
+    fn tell(&mut self, script: &Script, task: &Task, outcome: &Outcome) -> Result<(), NoMemory>
+        ensures text { OnOk result (self.new.text.items ≡ self.old.text.items ++ activity_text script.now task.now.work outcome.now) }
+        ensures asked { OnOk result (self.new.as_asked ≡ self.old.as_asked && is_as_asked outcome.now) }
+    {
+        put_activity(&mut self.text, script, task, outcome)?;
+        self.as_asked = self.as_asked && outcome.is_as_asked();
+        Ok(())
+    }
+}
+
+/// Runs tasks, and tells how they came out.
+#[tactic(auto, using(crate::proofs::ReportLists::report_none))]
 fn run_tasks<B: Bucket>(
     alloc: Global,
     script: &Script,
@@ -117,38 +176,33 @@ fn run_tasks<B: Bucket>(
     seats: &Seats,
     progress: &mut Progress,
     world: World<B>,
-) -> (Option<Broken>, World<B>)
-    ensures { result.0 ≡ Some Broken.Full → IsFull result.1.journal }
+) -> (Result<Lines, Broken>, World<B>)
+    requires lawful { IsLawfulScript script.now }
+    requires tasks { All (λ task. IsLawfulWork script.now.gateways script.now.blocks (length script.now.selectors) task.work) tasks.now }
+    requires ready { length progress.old.gateways.items ≡ length script.now.gateways }
+    ensures full { result.0 ≡ Err Broken.Full → IsFull result.1.journal }
+    ensures told { IfOk result.0 (λ lines. IsReport script.now tasks.now lines.as_asked lines.text.items) }
+    ensures kept { progress.new.report ≡ progress.old.report }
+    ensures ready { length progress.new.gateways.items ≡ length script.now.gateways }
 {
     let mut world = world;
-    let finished = progress.lines.len();
+    let mut lines = Lines {
+        text: Vec::new(alloc),
+        as_asked: true,
+    };
     for (place, task) in tasks.iter().enumerate() {
         let (came, next) = run_task(alloc, script, task, place, seats, progress, world);
         world = next;
-        let broken = tell(script, task, came, progress);
-        if broken.is_some() {
-            progress.lines.truncate(finished);
-            return (broken, world);
+        let outcome = match came {
+            Came::To(outcome) => outcome,
+            Came::Full => return (Err(Broken::Full), world),
+            Came::NoMemory => return (Err(Broken::NoMemory), world),
+        };
+        if lines.tell(script, task, &outcome).is_err() {
+            return (Err(Broken::NoMemory), world);
         }
     }
-    (None, world)
-}
-
-/// Adds the lines of one activity to the report.
-fn tell(script: &Script, task: &Task, came: Came, progress: &mut Progress) -> Option<Broken>
-    ensures { result ≡ Some Broken.Full → came ≡ Came.Full }
-{
-    let outcome = match came {
-        Came::To(outcome) => outcome,
-        Came::Refused(refusal) => return Some(Broken::Refused(refusal)),
-        Came::Full => return Some(Broken::Full),
-        Came::NoMemory => return Some(Broken::NoMemory),
-    };
-    progress.as_asked = progress.as_asked && outcome.is_as_asked();
-    match put_activity(&mut progress.lines, script, task, &outcome) {
-        Ok(()) => None,
-        Err(_) => Some(Broken::NoMemory),
-    }
+    (Ok(lines), world)
 }
 
 /// Runs one task.
@@ -161,46 +215,36 @@ fn run_task<B: Bucket>(
     progress: &mut Progress,
     world: World<B>,
 ) -> (Came, World<B>)
-    ensures { result.0 ≡ Came.Full → IsFull result.1.journal }
+    requires lawful { IsLawfulScript script.now }
+    requires work { IsLawfulWork script.now.gateways script.now.blocks (length script.now.selectors) task.now.work }
+    requires ready { length progress.old.gateways.items ≡ length script.now.gateways }
+    ensures full { result.0 ≡ Came.Full → IsFull result.1.journal }
+    ensures kept { progress.new.report ≡ progress.old.report }
+    ensures ready { length progress.new.gateways.items ≡ length script.now.gateways }
 {
-    let line = task.line;
-    match task.work {
+    match &task.work {
         Work::Upload(ulid, _) => {
-            let declared = progress.blocks.get(&ulid).copied().unwrap_or(usize::MAX);
-            match script.blocks.get(declared) {
-                Some(block) => upload(alloc, line, block, world, seats.of_task(place)),
-                None => (Came::Refused(ScriptRefusal::UnknownBlock(line)), world),
-            }
+            let block = declared_block(script, &progress.places, *ulid);
+            upload(alloc, block, world, seats.of_task(place))
         }
         Work::Sync(number) => {
-            let seat = seats.of_gateway(number);
-            match progress.gateways.get_mut(number as usize) {
-                Some(gateway) => sync(alloc, &script.rules, gateway, world, seat),
-                None => (refused(line, LineCause::UnknownGateway), world),
-            }
+            let seat = seats.of_gateway(*number);
+            let gateway = &mut progress.gateways[*number as usize];
+            sync(alloc, &script.rules, gateway, world, seat)
         }
         Work::Query {
             low,
             high,
             selector,
-        } => match script.selectors.get(selector as usize) {
-            Some(selector) => {
-                let question = Question {
-                    selector,
-                    low,
-                    high,
-                };
-                let gateway = progress.gateways.first();
-                let seat = seats.of_gateway(0);
-                query(alloc, &script.rules, gateway, question, world, seat)
-            }
-            None => (refused(line, LineCause::BadSelectorText), world),
-        },
+        } => {
+            let question = Question {
+                selector: &script.selectors.members()[*selector as usize],
+                low: *low,
+                high: *high,
+            };
+            let gateway = progress.gateways.first();
+            let seat = seats.of_gateway(0);
+            query(alloc, &script.rules, gateway, question, world, seat)
+        }
     }
-}
-
-fn refused(line: u32, cause: LineCause) -> Came
-    ensures { result ≢ Came.Full }
-{
-    Came::Refused(ScriptRefusal::BadLine(line, cause))
 }

@@ -1,6 +1,7 @@
 ghost use Rattle.std.specs.Prelude.{ℕ, IfOk};
 ghost use Rattle.block_keys.specs.Blocks.{IsBlock};
 ghost use Rattle.block_meta.specs.Lawful.{AreLawfulTimes};
+ghost use Rattle.script_core.specs.Lawful.{IsLawfulBlock};
 
 use block_files::{BuildRefusal, build, files_objects};
 use block_keys::ObjectList;
@@ -15,16 +16,12 @@ use ulid_core::{Ulid, UlidList};
 #[derive(Clone, Copy, Debug, PartialEq, Eq)]
 pub(crate) enum Unbuilt {
     TooLarge,
-    /// Its times are none that a block may have. No script that was read declares such a block.
-    BadTimes,
     NoMemory,
 }
 
-/// The greatest distance of a block's times from zero.
-const FARTHEST: i64 = 1 << 62;
-
 /// The objects of a declared block, in the order of their upload.
 pub(crate) fn objects_of(alloc: Global, block: &Block) -> Result<ObjectList, Unbuilt>
+    requires { IsLawfulBlock block.now }
     ensures { IfOk result (λ objects. (ulid : ℕ) × IsBlock ulid objects) }
 {
     let Body::Inline {
@@ -32,11 +29,7 @@ pub(crate) fn objects_of(alloc: Global, block: &Block) -> Result<ObjectList, Unb
         max_time,
         series,
     } = &block.body;
-    let (min_time, max_time) = (*min_time, *max_time);
-    if min_time < -FARTHEST || min_time >= max_time || max_time > FARTHEST {
-        return Err(Unbuilt::BadTimes);
-    }
-    let plan = match plan_of(alloc, block.ulid, min_time, max_time, &block.labels) {
+    let plan = match plan_of(alloc, block.ulid, *min_time, *max_time, &block.labels) {
         Ok(plan) => plan,
         Err(_) => return Err(Unbuilt::NoMemory),
     };

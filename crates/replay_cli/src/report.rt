@@ -1,3 +1,9 @@
+ghost use Rattle.std.specs.Prelude.{◌≡◌, ◌++◌, ◌∷◌, [], codes, length, OnOk};
+ghost use Rattle.std.specs.List.{flat_map};
+ghost use Rattle.reading_core.specs.Decimal.{decimal_text, signed_text};
+ghost use Rattle.ulid_core.specs.UlidText.{text_of};
+ghost use Rattle.replay_cli.specs.Reports.{activity_text, gateway_name, upload_words, sync_words, query_text, no_answer_words, answer_text, counts_text, source_line, series_line, sample_count, newline};
+
 use crate::outcome::{NoAnswer, Outcome, QueryOutcome, SyncOutcome, UploadOutcome};
 use label_sets::{Series, SeriesList};
 use list_core::NoMemory;
@@ -5,13 +11,16 @@ use reading_core::{put_signed, put_unsigned};
 use script_core::{Script, Task, Work};
 use ulid_core::{Ulid, UlidList};
 
-/// Appends the lines of one activity.
-pub fn put_activity(
+/// Appends the lines of one activity, or a part of them where memory runs out.
+#[tactic(auto, unfolding(crate::specs::Reports::activity_text))]
+pub(crate) fn put_activity(
     out: &mut Vec<u8>,
     script: &Script,
     task: &Task,
     outcome: &Outcome,
-) -> Result<(), NoMemory> {
+) -> Result<(), NoMemory>
+    ensures { OnOk result (out.new.items ≡ out.old.items ++ activity_text script.now task.now.work outcome.now) }
+{
     match (&task.work, outcome) {
         (Work::Upload(ulid, _), Outcome::Upload(end)) => put_upload(out, *ulid, end),
         (Work::Sync(gateway), Outcome::Sync(end)) => {
@@ -25,49 +34,67 @@ pub fn put_activity(
 }
 
 /// The name of a gateway; nothing where there is no such gateway.
-fn gateway_name(script: &Script, gateway: u32) -> &str {
+fn gateway_name(script: &Script, gateway: u32) -> &str
+    ensures { result.now ≡ gateway_name script.now gateway }
+{
     script
         .gateways
         .get(gateway as usize)
         .map_or("", |name| name.as_str())
 }
 
-fn put_text(out: &mut Vec<u8>, text: &str) -> Result<(), NoMemory> {
+fn put_text(out: &mut Vec<u8>, text: &str) -> Result<(), NoMemory>
+    ensures { OnOk result (out.new.items ≡ out.old.items ++ text.now) }
+{
     out.extend_from_slice(text.as_bytes())?;
     Ok(())
 }
 
-fn put_numbered(out: &mut Vec<u8>, before: &str, number: u64, after: &str) -> Result<(), NoMemory> {
+fn put_numbered(out: &mut Vec<u8>, before: &str, number: u64, after: &str) -> Result<(), NoMemory>
+    ensures { OnOk result (out.new.items ≡ out.old.items ++ before.now ++ decimal_text number ++ after.now) }
+{
     put_text(out, before)?;
     put_unsigned(out, number)?;
     put_text(out, after)
 }
 
-fn put_upload(out: &mut Vec<u8>, ulid: Ulid, end: &UploadOutcome) -> Result<(), NoMemory> {
+#[tactic(auto, unfolding(crate::specs::Reports::upload_words))]
+fn put_upload(out: &mut Vec<u8>, ulid: Ulid, end: &UploadOutcome) -> Result<(), NoMemory>
+    ensures { OnOk result (out.new.items ≡ out.old.items ++ codes "upload " ++ text_of ulid ++ codes ": " ++ upload_words end.now ++ newline) }
+{
     put_text(out, "upload ")?;
     put_text_of_ulid(out, ulid)?;
+    put_text(out, ": ")?;
     match end {
-        UploadOutcome::Done(count) => put_numbered(out, ": ok ", u64::from(*count), " objects\n"),
-        UploadOutcome::Already => put_text(out, ": already\n"),
-        UploadOutcome::Fault(entry) => put_numbered(out, ": fault ", *entry, "\n"),
-        UploadOutcome::TooLarge => put_text(out, ": refused 7\n"),
+        UploadOutcome::Done(count) => put_numbered(out, "ok ", u64::from(*count), " objects")?,
+        UploadOutcome::Already => put_text(out, "already")?,
+        UploadOutcome::Fault(entry) => put_numbered(out, "fault ", *entry, "")?,
+        UploadOutcome::TooLarge => put_text(out, "refused 7")?,
     }
+    put_text(out, "\n")
 }
 
-fn put_text_of_ulid(out: &mut Vec<u8>, ulid: Ulid) -> Result<(), NoMemory> {
+fn put_text_of_ulid(out: &mut Vec<u8>, ulid: Ulid) -> Result<(), NoMemory>
+    ensures { OnOk result (out.new.items ≡ out.old.items ++ text_of ulid) }
+{
     out.extend_from_slice(&ulid.text())?;
     Ok(())
 }
 
-fn put_sync(out: &mut Vec<u8>, name: &str, end: &SyncOutcome) -> Result<(), NoMemory> {
+#[tactic(auto, unfolding(crate::specs::Reports::sync_words))]
+fn put_sync(out: &mut Vec<u8>, name: &str, end: &SyncOutcome) -> Result<(), NoMemory>
+    ensures { OnOk result (out.new.items ≡ out.old.items ++ codes "sync " ++ name.now ++ codes ": " ++ sync_words end.now ++ newline) }
+{
     put_text(out, "sync ")?;
     put_text(out, name)?;
+    put_text(out, ": ")?;
     match end {
-        SyncOutcome::Blocks(count) => put_numbered(out, ": ", *count, " blocks\n"),
-        SyncOutcome::Fault(entry) => put_numbered(out, ": fault ", *entry, "\n"),
-        SyncOutcome::Damaged(entry) => put_numbered(out, ": damaged ", *entry, "\n"),
-        SyncOutcome::TooMany => put_text(out, ": too many\n"),
+        SyncOutcome::Blocks(count) => put_numbered(out, "", *count, " blocks")?,
+        SyncOutcome::Fault(entry) => put_numbered(out, "fault ", *entry, "")?,
+        SyncOutcome::Damaged(entry) => put_numbered(out, "damaged ", *entry, "")?,
+        SyncOutcome::TooMany => put_text(out, "too many")?,
     }
+    put_text(out, "\n")
 }
 
 fn put_query(
@@ -76,48 +103,110 @@ fn put_query(
     low: i64,
     high: i64,
     end: &QueryOutcome,
-) -> Result<(), NoMemory> {
+) -> Result<(), NoMemory>
+    ensures { OnOk result (out.new.items ≡ out.old.items ++ codes "query " ++ signed_text low ++ codes " " ++ signed_text high ++ codes ": " ++ query_text script.now end.now) }
+{
     put_text(out, "query ")?;
     put_signed(out, low)?;
     put_text(out, " ")?;
     put_signed(out, high)?;
     put_text(out, ": ")?;
+    put_query_end(out, script, end)
+}
+
+#[tactic(auto, unfolding(crate::specs::Reports::query_text))]
+fn put_query_end(out: &mut Vec<u8>, script: &Script, end: &QueryOutcome) -> Result<(), NoMemory>
+    ensures { OnOk result (out.new.items ≡ out.old.items ++ query_text script.now end.now) }
+{
     match end {
         QueryOutcome::Answer(series, sources) => put_answer(out, series, sources),
         QueryOutcome::NoAnswer(gateway, why) => {
             put_text(out, gateway_name(script, *gateway))?;
-            put_no_answer(out, why)
+            put_text(out, " ")?;
+            put_no_answer(out, why)?;
+            put_text(out, "\n")
         }
     }
 }
 
-fn put_no_answer(out: &mut Vec<u8>, why: &NoAnswer) -> Result<(), NoMemory> {
+#[tactic(auto, unfolding(crate::specs::Reports::no_answer_words))]
+fn put_no_answer(out: &mut Vec<u8>, why: &NoAnswer) -> Result<(), NoMemory>
+    ensures { OnOk result (out.new.items ≡ out.old.items ++ no_answer_words why.now) }
+{
     match why {
-        NoAnswer::NoView => put_text(out, " no view\n"),
-        NoAnswer::Missing(entry) => put_numbered(out, " missing ", *entry, "\n"),
-        NoAnswer::Damaged(entry) => put_numbered(out, " damaged ", *entry, "\n"),
-        NoAnswer::Fault(entry) => put_numbered(out, " fault ", *entry, "\n"),
+        NoAnswer::NoView => put_text(out, "no view"),
+        NoAnswer::Missing(entry) => put_numbered(out, "missing ", *entry, ""),
+        NoAnswer::Damaged(entry) => put_numbered(out, "damaged ", *entry, ""),
+        NoAnswer::Fault(entry) => put_numbered(out, "fault ", *entry, ""),
     }
 }
 
-fn put_answer(out: &mut Vec<u8>, series: &SeriesList, sources: &UlidList) -> Result<(), NoMemory> {
-    put_numbered(out, "", series.len() as u64, " series ")?;
-    put_numbered(out, "", count_samples(series.members()), " samples ")?;
-    put_numbered(out, "", sources.len() as u64, " sources\n")?;
-    for source in sources.members() {
-        put_text(out, "source ")?;
-        put_text_of_ulid(out, *source)?;
-        put_text(out, "\n")?;
-    }
-    for one in series.members() {
-        put_text(out, "series ")?;
-        one.write(out)?;
-        put_text(out, "\n")?;
+#[tactic(auto, unfolding(crate::specs::Reports::answer_text))]
+fn put_answer(out: &mut Vec<u8>, series: &SeriesList, sources: &UlidList) -> Result<(), NoMemory>
+    ensures { OnOk result (out.new.items ≡ out.old.items ++ answer_text series.now sources.now) }
+{
+    put_counts(out, series, sources)?;
+    put_sources(out, sources.members())?;
+    put_all_series(out, series.members())
+}
+
+#[tactic(auto, unfolding(crate::specs::Reports::counts_text))]
+fn put_counts(out: &mut Vec<u8>, series: &SeriesList, sources: &UlidList) -> Result<(), NoMemory>
+    ensures { OnOk result (out.new.items ≡ out.old.items ++ counts_text series.now sources.now) }
+{
+    put_count(out, series.len() as u64, " series ")?;
+    put_count(out, count_samples(series.members()), " samples ")?;
+    put_count(out, sources.len() as u64, " sources")?;
+    put_text(out, "\n")
+}
+
+fn put_count(out: &mut Vec<u8>, count: u64, words: &str) -> Result<(), NoMemory>
+    ensures { OnOk result (out.new.items ≡ out.old.items ++ (decimal_text count ++ words.now)) }
+{
+    put_unsigned(out, count)?;
+    put_text(out, words)
+}
+
+fn put_sources(out: &mut Vec<u8>, sources: &[Ulid]) -> Result<(), NoMemory>
+    ensures { OnOk result (out.new.items ≡ out.old.items ++ flat_map source_line sources.now) }
+{
+    for source in sources {
+        put_source(out, *source)?;
     }
     Ok(())
 }
 
-fn count_samples(series: &[Series]) -> u64 {
+#[tactic(auto, unfolding(crate::specs::Reports::source_line))]
+fn put_source(out: &mut Vec<u8>, source: Ulid) -> Result<(), NoMemory>
+    ensures { OnOk result (out.new.items ≡ out.old.items ++ source_line source) }
+{
+    put_text(out, "source ")?;
+    put_text_of_ulid(out, source)?;
+    put_text(out, "\n")
+}
+
+fn put_all_series(out: &mut Vec<u8>, series: &[Series]) -> Result<(), NoMemory>
+    ensures { OnOk result (out.new.items ≡ out.old.items ++ flat_map series_line series.now) }
+{
+    for one in series {
+        put_series(out, one)?;
+    }
+    Ok(())
+}
+
+#[tactic(auto, unfolding(crate::specs::Reports::series_line))]
+fn put_series(out: &mut Vec<u8>, series: &Series) -> Result<(), NoMemory>
+    ensures { OnOk result (out.new.items ≡ out.old.items ++ series_line series.now) }
+{
+    put_text(out, "series ")?;
+    series.write(out)?;
+    put_text(out, "\n")
+}
+
+/// How many samples the series have, or the greatest number of 64 bits.
+fn count_samples(series: &[Series]) -> u64
+    ensures { result ≡ sample_count series.now }
+{
     let mut count = 0u64;
     for one in series {
         count = count.saturating_add(one.samples.len() as u64);

@@ -1,23 +1,22 @@
-ghost use Rattle.std.specs.Prelude.{◌≡◌, ◌≢◌, ◌↔◌, ◌⊎◌, ◌≤◌, ◌<◌, ◌+◌, IfSome, IsSome, IsSomeAnd, is_some, if◌then◌else◌};
+ghost use Rattle.std.specs.Prelude.{◌≡◌, ◌⊎◌, ◌<◌, ◌+◌, Ok, Err, Some, None, IfOk, IfErr, IfSome, IsSome, IsSomeAnd, is_some, if◌then◌else◌};
 ghost use Rattle.bucket_core.specs.Causes.{Rose};
 ghost use Rattle.bucket_core.specs.Contents.{nothing};
-ghost use Rattle.world_core.specs.Keeping.{IsFull};
-ghost use Rattle.replay_cli.specs.Kept.{IsHandedBack, IsUntouched, HoldsNothing, HoldsSome, IsWithoutEntry};
+ghost use Rattle.script_core.specs.Reading.{script_of};
+ghost use Rattle.script_core.specs.Lawful.{IsLawfulScript};
+ghost use Rattle.replay_cli.specs.Kept.{IsHandedBack, IsUntouched};
+ghost use Rattle.replay_cli.specs.Statuses.{number_of};
+ghost use Rattle.replay_cli.specs.Verdicts.{IsCaused, IsWorked, IsUnread, IsRun, IsSaid};
 ghost use Rattle.replay_cli.specs.Words.{IsSerialOverMemory};
-ghost use Rattle.replay_cli.specs.Statuses.{IsSaid, IsRefusal, IsClosed, IsUnopened, IsReported, HasWorked};
 
 use crate::came::Broken;
 use crate::input::read_all;
 use crate::output::write_all;
-use crate::phases::{Progress, run_phases};
+use crate::phases::{Lines, Progress, run_phases};
 use crate::words::is_serial_over_memory;
-use crate::{InputRefusal, Run, Status};
+use crate::{InputRefusal, Run, Status, Verdict};
 use bucket_core::{Bucket, Sink, Site, SiteRefusal, Source};
-use label_sets::Text;
-use list_core::NoMemory;
-use moment_core::Span;
 use script_core::{Script, ScriptRefusal};
-use std::alloc::{AllocError, Global};
+use std::alloc::Global;
 use world_core::{Journal, OpenRefusal, World};
 
 /// Does all that the program does: it reads the script to its end, runs it over the bucket that the site hands out, and
@@ -29,236 +28,234 @@ pub fn run_tool<S: Site, R: Source, K: Sink>(
     script: &mut R,
     out: &mut K,
 ) -> Run<S::Store>
-    ensures accepted { IsSerialOverMemory words.now → result.status ≢ 1 }
-    ensures refused { ¬ IsSerialOverMemory words.now → (result.status ≡ 1) ⊎ ((result.status ≡ 4) × Rose (K.faults out.old) (K.faults out.new)) }
-    ensures source { result.status ≡ 3 → Rose (R.faults script.old) (R.faults script.new) }
-    ensures sink { result.status ≡ 4 → Rose (K.faults out.old) (K.faults out.new) }
+    // The call comes to a verdict that has its cause, and says it: its status and its text, or that the sink failed or
+    // memory ran out as it was said.
+    ensures verdict { (verdict : Verdict) × (status : Status)
+        × IsCaused (IsSerialOverMemory words.now) (record {
+          text = R.left script.old;
+          source_failed = Rose (R.faults script.old) (R.faults script.new);
+          before = S.next site.old;
+          site_failed = Rose (S.faults site.old) (S.faults site.new) ⊎ IsSomeAnd result.store (λ store. 0 < S.Store.faults store);
+          journal = result.journal;
+        }) verdict
+        × IsSaid verdict (record {
+          faults_before = K.faults out.old;
+          faults_after = K.faults out.new;
+          written_before = K.written out.old;
+          written_after = K.written out.new;
+        }) status
+        × (result.status ≡ number_of status) }
+
     ensures handed { S.opened site.new ≡ (if is_some result.store then S.opened site.old + 1 else S.opened site.old) }
     ensures kept { is_some result.journal ≡ is_some result.store }
 
     // The journal is true of the bucket that is handed back, and without an entry that is as the site opened it.
     ensures back { IsHandedBack S.Store.contents S.Store.faults result.journal result.store }
     ensures untouched { IfSome (S.next site.old) (λ c. IsUntouched S.Store.contents c result.journal result.store) }
-
-    // Why the bucket was not worked on: it could not be opened or listed, or an object stood in it before.
-    ensures site { result.status ≡ 9 → Rose (S.faults site.old) (S.faults site.new) ⊎ IsSomeAnd result.store (λ store. 0 < S.Store.faults store) }
-    ensures not_empty { result.status ≡ 7 → IfSome (S.next site.old) HoldsSome }
-    ensures nothing_done { (result.status ≡ 9) ⊎ (result.status ≡ 7) → IsWithoutEntry result.journal }
-    ensures empty { HasWorked result.status → IfSome (S.next site.old) HoldsNothing }
-
-    // Where the journal took no more entries.
-    ensures full { result.status ≡ 8 → IsSomeAnd result.journal IsFull }
 {
-    if !is_serial_over_memory(words) {
-        return Run::without_bucket(say(out, Status::WordsRefused, b"words refused\n"));
+    let came = come_to(alloc, words, site, script);
+    let status = say(alloc, came.verdict, out);
+    Run {
+        status: status.number(),
+        journal: came.journal,
+        store: came.store,
     }
-    let text = match read_all(alloc, script) {
+}
+
+/// Does all but the writing.
+#[tactic(auto, using(crate::proofs::Verdicts::caused))]
+fn come_to<S: Site, R: Source>(
+    alloc: Global,
+    words: &[String],
+    site: &mut S,
+    script: &mut R,
+) -> Conclusion<S::Store>
+    ensures cause { IsCaused (IsSerialOverMemory words.now) (record {
+      text = R.left script.old;
+      source_failed = Rose (R.faults script.old) (R.faults script.new);
+      before = S.next site.old;
+      site_failed = Rose (S.faults site.old) (S.faults site.new) ⊎ IsSomeAnd result.store (λ store. 0 < S.Store.faults store);
+      journal = result.journal;
+    }) result.verdict }
+    ensures handed { S.opened site.new ≡ (if is_some result.store then S.opened site.old + 1 else S.opened site.old) }
+    ensures kept { is_some result.journal ≡ is_some result.store }
+    ensures back { IsHandedBack S.Store.contents S.Store.faults result.journal result.store }
+    ensures untouched { IfSome (S.next site.old) (λ c. IsUntouched S.Store.contents c result.journal result.store) }
+{
+    if is_serial_over_memory(words) {
+        read_and_run(alloc, site, script)
+    } else {
+        Conclusion::without_bucket(Verdict::WordsRefused)
+    }
+}
+
+/// A verdict, with the bucket that the site handed out and the journal over it.
+#[derive(Drop)]
+struct Conclusion<B> {
+    verdict: Verdict,
+    journal: Option<Journal>,
+    store: Option<B>,
+}
+
+impl<B> Conclusion<B> {
+    fn without_bucket(verdict: Verdict) -> Conclusion<B>
+        ensures verdict { result.verdict ≡ verdict }
+        ensures journal { result.journal ≡ None }
+        ensures store { result.store ≡ None }
+    {
+        Conclusion {
+            verdict,
+            journal: None,
+            store: None,
+        }
+    }
+
+    fn with_bucket(verdict: Verdict, journal: Journal, store: B) -> Conclusion<B>
+        ensures verdict { result.verdict ≡ verdict }
+        ensures journal { result.journal ≡ Some journal }
+        ensures store { result.store ≡ Some store }
+    {
+        Conclusion {
+            verdict,
+            journal: Some(journal),
+            store: Some(store),
+        }
+    }
+}
+
+/// Reads the script and runs it.
+#[tactic(auto, using(crate::proofs::Verdicts::worked, crate::proofs::Verdicts::unread))]
+fn read_and_run<S: Site, R: Source>(
+    alloc: Global,
+    site: &mut S,
+    script: &mut R,
+) -> Conclusion<S::Store>
+    ensures cause { IsWorked (record {
+      text = R.left script.old;
+      source_failed = Rose (R.faults script.old) (R.faults script.new);
+      before = S.next site.old;
+      site_failed = Rose (S.faults site.old) (S.faults site.new) ⊎ IsSomeAnd result.store (λ store. 0 < S.Store.faults store);
+      journal = result.journal;
+    }) result.verdict }
+    ensures handed { S.opened site.new ≡ (if is_some result.store then S.opened site.old + 1 else S.opened site.old) }
+    ensures kept { is_some result.journal ≡ is_some result.store }
+    ensures back { IsHandedBack S.Store.contents S.Store.faults result.journal result.store }
+    ensures untouched { IfSome (S.next site.old) (λ c. IsUntouched S.Store.contents c result.journal result.store) }
+{
+    match read_script(alloc, script) {
+        Ok(script) => over_site(alloc, &script, site),
+        Err(verdict) => Conclusion::without_bucket(verdict),
+    }
+}
+
+/// Reads the source to its end, and the script that its bytes spell.
+#[tactic(auto, using(crate::proofs::Verdicts::told_too_long))]
+fn read_script<R: Source>(alloc: Global, source: &mut R) -> Result<Script, Verdict>
+    ensures read { IfOk result (λ script. IfSome (R.left source.old) (λ text. script_of text ≡ Ok script)) }
+    ensures lawful { IfOk result IsLawfulScript }
+    ensures refused { IfErr result (λ verdict. IsUnread (R.left source.old) (Rose (R.faults source.old) (R.faults source.new)) verdict) }
+{
+    let text = match read_all(alloc, source) {
         Ok(text) => text,
-        Err(InputRefusal::Fault) => {
-            return Run::without_bucket(say(out, Status::SourceFault, b"script read fault\n"));
-        }
-        Err(InputRefusal::TooLong) => {
-            return Run::without_bucket(say(
-                out,
-                Status::ScriptRefused,
-                b"script refused: too long\n",
-            ));
-        }
-        Err(InputRefusal::NoMemory) => return Run::without_bucket(Status::NoMemory),
+        Err(InputRefusal::Fault) => return Err(Verdict::SourceFault),
+        Err(InputRefusal::TooLong) => return Err(Verdict::ScriptRefused(ScriptRefusal::TooLong)),
+        Err(InputRefusal::NoMemory) => return Err(Verdict::NoMemory),
     };
-    run_text(alloc, &text, site, out)
-}
-
-/// Runs a script's text.
-fn run_text<S: Site, K: Sink>(
-    alloc: Global,
-    text: &[u8],
-    site: &mut S,
-    out: &mut K,
-) -> Run<S::Store>
-    ensures sink { result.status ≡ 4 → Rose (K.faults out.old) (K.faults out.new) }
-    ensures others { (result.status ≢ 1) × (result.status ≢ 3) }
-    ensures handed { S.opened site.new ≡ (if is_some result.store then S.opened site.old + 1 else S.opened site.old) }
-    ensures kept { is_some result.journal ≡ is_some result.store }
-    ensures back { IsHandedBack S.Store.contents S.Store.faults result.journal result.store }
-    ensures untouched { IfSome (S.next site.old) (λ c. IsUntouched S.Store.contents c result.journal result.store) }
-    ensures site { result.status ≡ 9 → Rose (S.faults site.old) (S.faults site.new) ⊎ IsSomeAnd result.store (λ store. 0 < S.Store.faults store) }
-    ensures not_empty { result.status ≡ 7 → IfSome (S.next site.old) HoldsSome }
-    ensures nothing_done { (result.status ≡ 9) ⊎ (result.status ≡ 7) → IsWithoutEntry result.journal }
-    ensures empty { HasWorked result.status → IfSome (S.next site.old) HoldsNothing }
-    ensures full { result.status ≡ 8 → IsSomeAnd result.journal IsFull }
-{
-    match Script::read(alloc, text) {
-        Ok(script) => over_site(alloc, &script, site, out),
-        Err(refusal) => Run::without_bucket(say_refusal(alloc, refusal, out)),
+    match Script::read(alloc, &text) {
+        Ok(script) => Ok(script),
+        Err(ScriptRefusal::NoMemory) => Err(Verdict::NoMemory),
+        Err(refusal) => Err(Verdict::ScriptRefused(refusal)),
     }
 }
 
-fn over_site<S: Site, K: Sink>(
-    alloc: Global,
-    script: &Script,
-    site: &mut S,
-    out: &mut K,
-) -> Run<S::Store>
-    ensures sink { result.status ≡ 4 → Rose (K.faults out.old) (K.faults out.new) }
-    ensures others { (result.status ≢ 1) × (result.status ≢ 3) }
+#[tactic(auto, using(crate::proofs::Verdicts::run_told, crate::proofs::Verdicts::above_none))]
+fn over_site<S: Site>(alloc: Global, script: &Script, site: &mut S) -> Conclusion<S::Store>
+    requires { IsLawfulScript script.now }
+    ensures cause { IsRun script.now (S.next site.old)
+        (Rose (S.faults site.old) (S.faults site.new) ⊎ IsSomeAnd result.store (λ store. 0 < S.Store.faults store)) result.journal result.verdict }
     ensures handed { S.opened site.new ≡ (if is_some result.store then S.opened site.old + 1 else S.opened site.old) }
     ensures kept { is_some result.journal ≡ is_some result.store }
     ensures back { IsHandedBack S.Store.contents S.Store.faults result.journal result.store }
     ensures untouched { IfSome (S.next site.old) (λ c. IsUntouched S.Store.contents c result.journal result.store) }
-    ensures site { result.status ≡ 9 → Rose (S.faults site.old) (S.faults site.new) ⊎ IsSomeAnd result.store (λ store. 0 < S.Store.faults store) }
-    ensures not_empty { result.status ≡ 7 → IfSome (S.next site.old) HoldsSome }
-    ensures nothing_done { (result.status ≡ 9) ⊎ (result.status ≡ 7) → IsWithoutEntry result.journal }
-    ensures empty { HasWorked result.status → IfSome (S.next site.old) HoldsNothing }
-    ensures full { result.status ≡ 8 → IsSomeAnd result.journal IsFull }
 {
     match site.open_bucket("memory") {
-        Ok(bucket) => over_bucket(alloc, script, bucket, out),
-        Err(refusal) => Run::without_bucket(say_closed(refusal, out)),
+        Ok(bucket) => over_bucket(alloc, script, bucket),
+        Err(SiteRefusal::Failed) => Conclusion::without_bucket(Verdict::SiteFault),
+        Err(SiteRefusal::NoMemory) => Conclusion::without_bucket(Verdict::NoMemory),
     }
 }
 
-/// The longest time that an operation may take.
-const DAY: u64 = 86_400_000;
-
-fn over_bucket<B: Bucket, K: Sink>(alloc: Global, script: &Script, bucket: B, out: &mut K) -> Run<B>
-    ensures sink { result.status ≡ 4 → Rose (K.faults out.old) (K.faults out.new) }
-    ensures others { (result.status ≢ 1) × (result.status ≢ 3) }
+#[tactic(auto, using(crate::proofs::Verdicts::run_empty))]
+fn over_bucket<B: Bucket>(alloc: Global, script: &Script, bucket: B) -> Conclusion<B>
+    requires { IsLawfulScript script.now }
+    ensures cause { IsRun script.now (B.contents bucket) (IsSomeAnd result.store (λ store. Rose (B.faults bucket) (B.faults store))) result.journal result.verdict }
     ensures store { IsSome result.store }
     ensures journal { IsSome result.journal }
     ensures back { IsHandedBack B.contents B.faults result.journal result.store }
     ensures untouched { IfSome (B.contents bucket) (λ c. IsUntouched B.contents c result.journal result.store) }
-    ensures site { result.status ≡ 9 → IsSomeAnd result.store (λ store. Rose (B.faults bucket) (B.faults store)) }
-    ensures not_empty { result.status ≡ 7 → IfSome (B.contents bucket) HoldsSome }
-    ensures nothing_done { (result.status ≡ 9) ⊎ (result.status ≡ 7) → IsWithoutEntry result.journal }
-    ensures empty { HasWorked result.status → IfSome (B.contents bucket) HoldsNothing }
-    ensures full { result.status ≡ 8 → IsSomeAnd result.journal IsFull }
 {
-    let tick = Span {
-        ms: script.rules.tick.ms.min(DAY),
-    };
-    match World::open(alloc, bucket, tick) {
-        Ok(world) => over_world(alloc, script, world, out),
+    match World::open(alloc, bucket, script.rules.tick) {
+        Ok(world) => over_world(alloc, script, world),
         Err((refusal, store)) => {
-            let status = say_unopened(alloc, refusal, out);
-            Run::with_bucket(status, Journal::empty(alloc), store)
+            let verdict = match refusal {
+                OpenRefusal::Failed => Verdict::SiteFault,
+                OpenRefusal::NotEmpty(name) => Verdict::NotEmpty(name),
+                OpenRefusal::NoMemory => Verdict::NoMemory,
+            };
+            Conclusion::with_bucket(verdict, Journal::empty(alloc), store)
         }
     }
 }
 
-fn over_world<B: Bucket, K: Sink>(
-    alloc: Global,
-    script: &Script,
-    world: World<B>,
-    out: &mut K,
-) -> Run<B>
-    ensures sink { result.status ≡ 4 → Rose (K.faults out.old) (K.faults out.new) }
-    ensures others { (result.status ≢ 1) × (result.status ≢ 3) × (result.status ≢ 7) × (result.status ≢ 9) }
+fn over_world<B: Bucket>(alloc: Global, script: &Script, world: World<B>) -> Conclusion<B>
+    requires { IsLawfulScript script.now }
+    ensures cause { IsRun script.now (Some nothing) ⊥ result.journal result.verdict }
     ensures store { IsSome result.store }
     ensures journal { IsSome result.journal }
     ensures back { IsHandedBack B.contents B.faults result.journal result.store }
     ensures untouched { IsUntouched B.contents nothing result.journal result.store }
-    ensures full { result.status ≡ 8 → IsSomeAnd result.journal IsFull }
 {
     let mut progress = match Progress::new(alloc, script) {
         Ok(progress) => progress,
         Err(_) => {
             let (journal, store) = world.into_parts();
-            return Run::with_bucket(Status::NoMemory, journal, store);
+            return Conclusion::with_bucket(Verdict::NoMemory, journal, store);
         }
     };
-    let (broken, world) = run_phases(alloc, script, &mut progress, world);
-    let status = say_report(alloc, progress, broken, out);
+    let (came, world) = run_phases(alloc, script, &mut progress, world);
+    let verdict = verdict_of(came, progress.into_report());
     let (journal, store) = world.into_parts();
-    Run::with_bucket(status, journal, store)
+    Conclusion::with_bucket(verdict, journal, store)
 }
 
-/// Writes the report, or what broke the run off.
-fn say_report<K: Sink>(
-    alloc: Global,
-    progress: Progress,
-    broken: Option<Broken>,
-    out: &mut K,
-) -> Status
-    ensures { IsReported (K.faults out.old) (K.faults out.new) broken result }
+/// What a run comes to, by what broke it off.
+fn verdict_of(came: Result<(), Broken>, report: Lines) -> Verdict
+    ensures whole { came ≡ Ok tt → result ≡ Verdict.Report report.text report.as_asked }
+    ensures full { came ≡ Err Broken.Full → result ≡ Verdict.Full report.text }
+    ensures none { came ≡ Err Broken.NoMemory → result ≡ Verdict.NoMemory }
 {
-    match broken {
-        None => {
-            let status = if progress.as_asked {
-                Status::Done
-            } else {
-                Status::ActivityFailed
-            };
-            say(out, status, &progress.lines)
-        }
-        Some(Broken::Full) => match with_end(progress.lines, b"journal full\n") {
-            Ok(text) => say(out, Status::JournalFull, &text),
-            Err(_) => Status::NoMemory,
-        },
-        Some(Broken::Refused(refusal)) => say_refusal(alloc, refusal, out),
-        Some(Broken::NoMemory) => Status::NoMemory,
+    let Lines { text, as_asked } = report;
+    match came {
+        Ok(()) => Verdict::Report(text, as_asked),
+        Err(Broken::Full) => Verdict::Full(text),
+        Err(Broken::NoMemory) => Verdict::NoMemory,
     }
 }
 
-fn with_end(lines: Vec<u8>, end: &[u8]) -> Result<Vec<u8>, AllocError> {
-    let mut text = lines;
-    text.extend_from_slice(end)?;
-    Ok(text)
-}
-
-fn say_refusal<K: Sink>(alloc: Global, refusal: ScriptRefusal, out: &mut K) -> Status
-    ensures { IsRefusal (K.faults out.old) (K.faults out.new) result }
+/// Writes a verdict's text. Its status is that of the call, unless the sink failed or there was no memory for the text.
+fn say<K: Sink>(alloc: Global, verdict: Verdict, out: &mut K) -> Status
+    ensures { IsSaid verdict (record {
+      faults_before = K.faults out.old;
+      faults_after = K.faults out.new;
+      written_before = K.written out.old;
+      written_after = K.written out.new;
+    }) result }
 {
-    if refusal == ScriptRefusal::NoMemory {
+    let status = verdict.status();
+    let Ok(text) = verdict.into_text(alloc) else {
         return Status::NoMemory;
-    }
-    match refusal_text(alloc, refusal) {
-        Ok(text) => say(out, Status::ScriptRefused, &text),
-        Err(_) => Status::NoMemory,
-    }
-}
-
-fn refusal_text(alloc: Global, refusal: ScriptRefusal) -> Result<Vec<u8>, NoMemory> {
-    let mut text = Vec::from_slice(alloc, b"script refused: ")?;
-    refusal.write(&mut text)?;
-    text.push(b'\n')?;
-    Ok(text)
-}
-
-fn say_closed<K: Sink>(refusal: SiteRefusal, out: &mut K) -> Status
-    ensures { IsClosed (K.faults out.old) (K.faults out.new) refusal result }
-{
-    match refusal {
-        SiteRefusal::Failed => say(out, Status::SiteFault, b"site fault\n"),
-        SiteRefusal::NoMemory => Status::NoMemory,
-    }
-}
-
-fn say_unopened<K: Sink>(alloc: Global, refusal: OpenRefusal, out: &mut K) -> Status
-    ensures { IsUnopened (K.faults out.old) (K.faults out.new) refusal result }
-{
-    match refusal {
-        OpenRefusal::Failed => say(out, Status::SiteFault, b"site fault\n"),
-        OpenRefusal::NotEmpty(name) => match not_empty_text(alloc, &name) {
-            Ok(text) => say(out, Status::BucketNotEmpty, &text),
-            Err(_) => Status::NoMemory,
-        },
-        OpenRefusal::NoMemory => Status::NoMemory,
-    }
-}
-
-fn not_empty_text(alloc: Global, name: &Text) -> Result<Vec<u8>, AllocError> {
-    let mut text = Vec::from_slice(alloc, b"bucket not empty: ")?;
-    text.extend_from_slice(name.as_str().as_bytes())?;
-    text.push(b'\n')?;
-    Ok(text)
-}
-
-/// Writes a text. The status is the given one, unless the sink failed.
-fn say<K: Sink>(out: &mut K, status: Status, text: &[u8]) -> Status
-    ensures { IsSaid (K.faults out.old) (K.faults out.new) status result }
-{
-    match write_all(out, text) {
+    };
+    match write_all(out, &text) {
         Ok(()) => status,
         Err(_) => Status::SinkFault,
     }

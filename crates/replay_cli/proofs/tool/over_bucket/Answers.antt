@@ -1,6 +1,6 @@
-use Rattle.replay_cli.proofs.Unopened.{unopened_holds}
+use Rattle.replay_cli.proofs.HandedBack.{back_of_none}
 use Rattle.replay_cli.proofs.tool.over_bucket.Goals as goal
 
-pub returns-in-Err-clause-not_empty : goal.returns-in-Err-clause-not_empty
-returns-in-Err-clause-not_empty g c =
-    unopened_holds _ _ _ c.in-Err.refusal _ _ c.say_unopened-status.ensures c.with_bucket.ensures.status (λ name is. c.in-Err.ensures.not_empty name is)
+pub returns-after-refusal-clause-back : goal.returns-after-refusal-clause-back
+returns-after-refusal-clause-back g c =
+    back_of_none g.B.Bucket.contents g.B.Bucket.faults c.in-Err.store _ _ _ c.empty.ensures c.with_bucket.ensures.journal c.with_bucket.ensures.store

@@ -1,0 +1,145 @@
+-- What a call of the program comes to, why, and what it then writes.
+use Rattle.std.specs.Prelude.{◌≡◌, ◌≢◌, ◌⊎◌, ℕ, List, [], ◌∷◌, ◌++◌, length, Bool, true, false, Option, option_map, IfSome, IsSomeAnd, Ok, Err, codes}
+use Rattle.std.specs.List.{flat_map, list_all}
+use Rattle.bucket_core.specs.Causes.{Rose}
+use Rattle.bucket_core.specs.Contents.{Contents}
+use Rattle.bucket_core.specs.Pages.{IsPage}
+use Rattle.world_core.specs.Keeping.{IsFull}
+use Rattle.world_core.specs.declared.entry.Entry.{Entry}
+use Rattle.script_core.specs.Reading.{script_of}
+use Rattle.script_core.specs.Wording.{refusal_text}
+use Rattle.script_core.specs.declared.phase.Phase.{Phase}
+use Rattle.script_core.specs.declared.script.Script.{Script}
+use Rattle.script_core.specs.declared.task.Task.{Task}
+use Rattle.replay_cli.specs.Kept.{HoldsNothing}
+use Rattle.replay_cli.specs.Output.{IsWrittenInPart}
+use Rattle.replay_cli.specs.Reports.{activity_text, is_as_asked, newline}
+use Rattle.replay_cli.specs.declared.outcome.Outcome.{Outcome}
+use Rattle.replay_cli.specs.declared.status.Status.{Status}
+use Rattle.replay_cli.specs.declared.status.Status.TheVariants as status
+use Rattle.replay_cli.specs.declared.verdict.Verdict.{Verdict}
+use Rattle.replay_cli.specs.declared.verdict.Verdict.TheVariants.{WordsRefused, SourceFault, ScriptRefused, SiteFault, NotEmpty, Full, Report, NoMemory}
+
+abbrev pub status_of : Verdict → Status
+status_of WordsRefused = status.WordsRefused
+status_of SourceFault = status.SourceFault
+status_of (ScriptRefused refusal) = status.ScriptRefused
+status_of SiteFault = status.SiteFault
+status_of (NotEmpty name) = status.BucketNotEmpty
+status_of (Full lines) = status.JournalFull
+status_of (Report lines true) = status.Done
+status_of (Report lines false) = status.ActivityFailed
+status_of NoMemory = status.NoMemory
+
+abbrev pub text_of : Verdict → List ℕ
+text_of WordsRefused = codes "words refused" ++ newline
+text_of SourceFault = codes "script read fault" ++ newline
+text_of (ScriptRefused refusal) = codes "script refused: " ++ refusal_text refusal ++ newline
+text_of SiteFault = codes "site fault" ++ newline
+text_of (NotEmpty name) = codes "bucket not empty: " ++ name ++ newline
+text_of (Full lines) = lines.items ++ codes "journal full" ++ newline
+text_of (Report lines as_asked) = lines.items
+text_of NoMemory = []
+
+-- ---- reports
+
+-- the tasks of phases, one after another
+abbrev pub tasks_of : List Phase → List Task
+tasks_of phases = flat_map (λ phase. phase.tasks) phases
+
+-- the lines of tasks that came out so, one after another
+unfoldable pub report_of : Script → List Task → List Outcome → List ℕ
+report_of script [] outcomes = []
+report_of script (task ∷ tasks) [] = []
+report_of script (task ∷ tasks) (outcome ∷ outcomes) = activity_text script task.work outcome ++ report_of script tasks outcomes
+
+-- The text is the report of these tasks, each of which came out in some way; the flag tells whether all ended as asked.
+pub record IsReport (script : Script) (tasks : List Task) (as_asked : Bool) (text : List ℕ) : Type 0 where
+  pub outcomes : List Outcome
+  pub each : length outcomes ≡ length tasks
+  pub lines : text ≡ report_of script tasks outcomes
+  pub flag : as_asked ≡ list_all is_as_asked outcomes
+
+-- the text is the report of some first phases of the script, which are not all
+pub record IsReportOfSome (script : Script) (text : List ℕ) : Type 0 where
+  pub done : List Phase
+  pub left : List Phase
+  pub phases : script.phases ≡ done ++ left
+  pub more : left ≢ []
+  pub as_asked : Bool
+  pub report : IsReport script (tasks_of done) as_asked text
+
+-- ---- causes
+
+-- Why a script's run comes to a verdict: by what the bucket held before, where that is told; by whether the bucket could not
+-- be opened or listed; and by the journal that is handed back.
+abbrev pub IsRun : Script → Option Contents → Type 0 → Option (List Entry) → Verdict → Type 0
+IsRun script before site_failed journal SiteFault = site_failed
+IsRun script before site_failed journal (NotEmpty name) = IfSome before (λ contents. IsPage contents [] [] 1 (name ∷ []))
+IsRun script before site_failed journal (Full lines) = IfSome before HoldsNothing × IsSomeAnd journal IsFull × IsReportOfSome script lines.items
+IsRun script before site_failed journal (Report lines as_asked) = IfSome before HoldsNothing × IsReport script (tasks_of script.phases) as_asked lines.items
+IsRun script before site_failed journal NoMemory = Unit {0}
+IsRun script before site_failed journal other = ⊥
+
+-- what is told of the world around a call
+pub record Around : Type 1 where
+  -- the text of the script, where the source tells it
+  pub text : Option (List ℕ)
+  -- the source failed in this call
+  pub source_failed : Type 0
+  -- what the bucket held before, where the site tells it
+  pub before : Option Contents
+  -- the bucket could not be opened or listed
+  pub site_failed : Type 0
+  -- the journal that is handed back
+  pub journal : Option (List Entry)
+
+-- the text spells a script, whose run comes to the verdict
+pub record IsRunOfText (around : Around) (verdict : Verdict) : Type 0 where
+  pub script : Script
+  pub spelled : IfSome around.text (λ bytes. script_of bytes ≡ Ok script)
+  pub run : IsRun script around.before around.site_failed around.journal verdict
+
+-- why no script was read
+abbrev pub IsUnread : Option (List ℕ) → Type 0 → Verdict → Type 0
+IsUnread text source_failed SourceFault = source_failed
+IsUnread text source_failed (ScriptRefused refusal) = IfSome text (λ bytes. script_of bytes ≡ Err refusal)
+IsUnread text source_failed NoMemory = Unit {0}
+IsUnread text source_failed other = ⊥
+
+-- why a call whose words are a form of one comes to a verdict
+abbrev pub IsWorked : Around → Verdict → Type 0
+IsWorked around WordsRefused = ⊥
+IsWorked around SourceFault = around.source_failed
+IsWorked around (ScriptRefused refusal) = IfSome around.text (λ bytes. script_of bytes ≡ Err refusal)
+IsWorked around SiteFault = IsRunOfText around SiteFault
+IsWorked around (NotEmpty name) = IsRunOfText around (NotEmpty name)
+IsWorked around (Full lines) = IsRunOfText around (Full lines)
+IsWorked around (Report lines as_asked) = IsRunOfText around (Report lines as_asked)
+IsWorked around NoMemory = Unit {0}
+
+-- why a call comes to a verdict, by whether its words are a form of one
+abbrev pub IsCaused : Type 0 → Around → Verdict → Type 0
+IsCaused accepted around WordsRefused = ¬ accepted
+IsCaused accepted around other = accepted × IsWorked around other
+
+-- ---- what is said
+
+-- A sink: how often it failed and what was written, before a call and after it.
+pub record Saying : Type 0 where
+  pub faults_before : ℕ
+  pub faults_after : ℕ
+  pub written_before : Option (List ℕ)
+  pub written_after : Option (List ℕ)
+
+-- the text was added to what was written
+abbrev pub IsAdded : List ℕ → Saying → Type 0
+IsAdded text saying = saying.written_after ≡ option_map (λ bytes. bytes ++ text) saying.written_before
+
+-- The verdict's text was written and its status is the call's; or the sink failed as it was written; or there was no memory for
+-- it, and nothing was written.
+abbrev pub IsSaid : Verdict → Saying → Status → Type 0
+IsSaid verdict saying result =
+    ((result ≡ status_of verdict) × IsAdded (text_of verdict) saying)
+    ⊎ ((result ≡ status.SinkFault) × Rose saying.faults_before saying.faults_after × IsWrittenInPart (text_of verdict) saying.written_before saying.written_after)
+    ⊎ ((result ≡ status.NoMemory) × (saying.written_after ≡ saying.written_before))

@@ -1,0 +1,64 @@
+ghost use Rattle.std.specs.Prelude.{◌≡◌, IsTrue};
+ghost use Rattle.std.specs.List.{All};
+ghost use Rattle.script_core.specs.Lawful.{IsLawfulScript, IsLawfulBlock};
+ghost use Rattle.script_core.specs.Works.{declares};
+
+use list_core::NoMemory;
+use script_core::{Block, Script};
+use std::alloc::Global;
+use std::collections::BTreeMap;
+use ulid_core::Ulid;
+
+/// Where the declared blocks stand in a script's list.
+#[derive(Drop)]
+pub(crate) struct Places {
+    by_ulid: BTreeMap<Ulid, usize>,
+}
+
+impl Places {
+    pub(crate) fn new(alloc: Global, blocks: &[Block]) -> Result<Places, NoMemory> {
+        let mut by_ulid = BTreeMap::new(alloc);
+        for (place, block) in blocks.iter().enumerate() {
+            by_ulid.insert(block.ulid, place)?;
+        }
+        Ok(Places { by_ulid })
+    }
+
+    /// The place of a block, where it is known.
+    fn of(&self, ulid: Ulid) -> usize {
+        self.by_ulid.get(&ulid).copied().unwrap_or(0)
+    }
+}
+
+/// The declared block of a ULID. A place that is not the block's only costs a walk over all blocks.
+pub(crate) fn declared_block<'a>(script: &'a Script, places: &Places, ulid: Ulid) -> &'a Block
+    requires lawful { IsLawfulScript script.now }
+    requires declared { IsTrue (declares script.now.blocks ulid) }
+    ensures ulid { result.now.ulid ≡ ulid }
+    ensures lawful { IsLawfulBlock result.now }
+{
+    let blocks = script.blocks.members();
+    let place = places.of(ulid);
+    if place < blocks.len() && blocks[place].ulid == ulid {
+        return &blocks[place];
+    }
+    find_block(blocks, ulid)
+}
+
+fn find_block(blocks: &[Block], ulid: Ulid) -> &Block
+    requires lawful { All IsLawfulBlock blocks.now }
+    requires declared { IsTrue (declares blocks.now ulid) }
+    ensures ulid { result.now.ulid ≡ ulid }
+    ensures lawful { IsLawfulBlock result.now }
+{
+    match blocks {
+        [first, others @ ..] => {
+            if first.ulid == ulid {
+                first
+            } else {
+                find_block(others, ulid)
+            }
+        }
+        [] => unreachable!(),
+    }
+}

@@ -1,0 +1,99 @@
+ghost use Rattle.std.specs.Prelude.{◌≡◌, ◌++◌, ◌∷◌, [], codes, IfOk};
+ghost use Rattle.replay_cli.specs.Reports.{newline};
+ghost use Rattle.script_core.specs.Wording.{refusal_text};
+ghost use Rattle.replay_cli.specs.Verdicts.{status_of, text_of};
+
+use crate::Status;
+use label_sets::Text;
+use list_core::NoMemory;
+use script_core::ScriptRefusal;
+use std::alloc::Global;
+
+/// What a call of the program comes to, before a word of it is written.
+#[derive(Drop)]
+pub enum Verdict {
+    /// The words are no form of a call.
+    WordsRefused,
+    /// The script could not be read.
+    SourceFault,
+    /// The text is no script, or too long.
+    ScriptRefused(ScriptRefusal),
+    /// The bucket could not be opened or listed.
+    SiteFault,
+    /// An object stood in the bucket before; this is the bucket's least name.
+    NotEmpty(Text),
+    /// The journal took no more entries. The lines are those of the finished phases.
+    Full(Vec<u8>),
+    /// The script was run to its end. The flag tells whether every activity ended as asked.
+    Report(Vec<u8>, bool),
+    NoMemory,
+}
+
+impl Verdict {
+    /// The status that the verdict asks for.
+    pub(crate) fn status(&self) -> Status
+        ensures { result ≡ status_of self.now }
+    {
+        match self {
+            Verdict::WordsRefused => Status::WordsRefused,
+            Verdict::SourceFault => Status::SourceFault,
+            Verdict::ScriptRefused(_) => Status::ScriptRefused,
+            Verdict::SiteFault => Status::SiteFault,
+            Verdict::NotEmpty(_) => Status::BucketNotEmpty,
+            Verdict::Full(_) => Status::JournalFull,
+            Verdict::Report(_, true) => Status::Done,
+            Verdict::Report(_, false) => Status::ActivityFailed,
+            Verdict::NoMemory => Status::NoMemory,
+        }
+    }
+
+    /// What is to be written. Want of memory has no words.
+    pub(crate) fn into_text(self, alloc: Global) -> Result<Vec<u8>, NoMemory>
+        ensures { IfOk result (λ text. text.items ≡ text_of self) }
+    {
+        match self {
+            Verdict::WordsRefused => line(alloc, "words refused"),
+            Verdict::SourceFault => line(alloc, "script read fault"),
+            Verdict::ScriptRefused(refusal) => refusal_line(alloc, refusal),
+            Verdict::SiteFault => line(alloc, "site fault"),
+            Verdict::NotEmpty(name) => name_line(alloc, &name),
+            Verdict::Full(lines) => with_full(lines),
+            Verdict::Report(lines, _) => Ok(lines),
+            Verdict::NoMemory => Err(NoMemory),
+        }
+    }
+}
+
+fn line(alloc: Global, words: &str) -> Result<Vec<u8>, NoMemory>
+    ensures { IfOk result (λ text. text.items ≡ words.now ++ newline) }
+{
+    let mut text = Vec::from_slice(alloc, words.as_bytes())?;
+    text.push(b'\n')?;
+    Ok(text)
+}
+
+fn refusal_line(alloc: Global, refusal: ScriptRefusal) -> Result<Vec<u8>, NoMemory>
+    ensures { IfOk result (λ text. text.items ≡ codes "script refused: " ++ refusal_text refusal ++ newline) }
+{
+    let mut text = Vec::from_slice(alloc, b"script refused: ")?;
+    refusal.write(&mut text)?;
+    text.push(b'\n')?;
+    Ok(text)
+}
+
+fn name_line(alloc: Global, name: &Text) -> Result<Vec<u8>, NoMemory>
+    ensures { IfOk result (λ text. text.items ≡ codes "bucket not empty: " ++ name.now ++ newline) }
+{
+    let mut text = Vec::from_slice(alloc, b"bucket not empty: ")?;
+    text.extend_from_slice(name.as_str().as_bytes())?;
+    text.push(b'\n')?;
+    Ok(text)
+}
+
+fn with_full(lines: Vec<u8>) -> Result<Vec<u8>, NoMemory>
+    ensures { IfOk result (λ text. text.items ≡ lines.items ++ codes "journal full" ++ newline) }
+{
+    let mut text = lines;
+    text.extend_from_slice(b"journal full\n")?;
+    Ok(text)
+}
