@@ -1,2 +1,6 @@
-//! Definitions and laws over whole journals of a script. It holds none yet.
+//! Definitions over whole journals of a script: its runs, its complete uploads, and what an answer is worth.
 #![tactic(auto)]
+
+mod laws;
+
+pub use laws::{journals_begin_with_the_first_phase, no_entry_is_lawful};

@@ -1,0 +1,36 @@
+-- Which uploads a journal shows to be complete, and which of them a sync has to see.
+use Rattle.std.specs.Prelude.{◌≡◌, ◌<◌, ◌≤◌, ◌+◌, ℕ, List, ◌∷◌, ◌++◌, All, IsTrue, IsSome}
+use Rattle.block_keys.specs.declared.key.Key.TheVariants.{Meta}
+use Rattle.world_core.specs.Standing.{has_landed}
+use Rattle.world_core.specs.declared.op.Op.TheVariants.{Put}
+use Rattle.world_core.specs.declared.entry.Entry.{Entry}
+use Rattle.sync_filters.specs.Filters.{time_of}
+use Rattle.script_core.specs.declared.script.Script.{Script}
+use Rattle.lifecycle_core.specs.Held.{declared}
+use Rattle.lifecycle_core.specs.Views.{Use}
+
+-- the entry puts the meta of the block, and the put has landed
+abbrev pub PutsMeta : ℕ → Entry → Type 0
+PutsMeta ulid e = (bytes : List ℕ) × (e.op ≡ Put (Meta ulid) bytes) × IsTrue (has_landed e.reply)
+
+-- The block was complete from the entry of this number on: its meta, which is put last, landed there for the first time.
+pub record IsCompletedAt (journal : List Entry) (ulid seq : ℕ) : Type 0 where
+  pub before : List Entry
+  pub entry : Entry
+  pub after : List Entry
+  pub is : journal ≡ before ++ entry ∷ after
+  pub number : entry.seq ≡ seq
+  pub put : PutsMeta ulid entry
+  pub first : All (λ e. ¬ PutsMeta ulid e) before
+
+-- a block that the script declares, complete before the entry of this number
+pub record IsUploadedBefore (script : Script) (journal : List Entry) (ulid last : ℕ) : Type 0 where
+  pub is_declared : IsSome (declared script ulid)
+  pub seq : ℕ
+  pub completed : IsCompletedAt journal ulid seq
+  pub earlier : seq < last
+
+-- The block was complete before the sync of a view began, and the consistency delay was over by then.
+pub record IsSettled (script : Script) (journal : List Entry) (used : Use) (ulid : ℕ) : Type 0 where
+  pub uploaded : IsUploadedBefore script journal ulid used.view.first
+  pub old : time_of ulid + script.rules.consistency.ms ≤ used.view.begin.ms

@@ -1,0 +1,92 @@
+-- What a query's answer is worth: the statement about each answered query of a lawful journal.
+use Rattle.std.specs.Prelude.{◌≡◌, ◌==◌, ◌&&◌, nat_le, ℕ, ℤ, List, [], ◌∷◌, All, Contains, Some, slice_get, filter}
+use Rattle.label_sets.specs.Triples.{triples_of}
+use Rattle.label_sets.specs.declared.series.Series.{Series}
+use Rattle.world_core.specs.Standing.{IsHonest}
+use Rattle.store_gateway.specs.declared.series_end.SeriesEnd.TheVariants as ended
+use Rattle.script_core.specs.Hands.{workers_of}
+use Rattle.script_core.specs.declared.phase.Phase.{Phase}
+use Rattle.script_core.specs.declared.task.Task.{Task}
+use Rattle.script_core.specs.declared.worker.Worker.{Worker}
+use Rattle.script_core.specs.declared.work.Work.TheVariants as work
+use Rattle.lifecycle_core.specs.Phases.{IsRunOf}
+use Rattle.lifecycle_core.specs.Tasks.{End, answered}
+use Rattle.lifecycle_core.specs.TimeRules.{IsUploadedInTime, IsSyncedInTime}
+use Rattle.label_sets.specs.Triples.{Triple}
+use Rattle.matchers.specs.Selected.{IsAnswer}
+use Rattle.matchers.specs.declared.matcher.Matcher.{Matcher}
+use Rattle.world_core.specs.declared.entry.Entry.{Entry}
+use Rattle.script_core.specs.declared.script.Script.{Script}
+use Rattle.lifecycle_core.specs.Completed.{IsUploadedBefore, IsSettled}
+use Rattle.lifecycle_core.specs.Held.{held}
+use Rattle.lifecycle_core.specs.Views.{Use}
+
+-- an answered query: what it asked, which views it used, and what it answered
+pub record Answered : Type 0 where
+  pub low : ℤ
+  pub high : ℤ
+  pub selector : List Matcher
+  pub uses : List Use
+  pub samples : List Triple
+  pub sources : List ℕ
+
+-- The answer has each matching sample of the blocks that it names once, and nothing else.
+abbrev pub IsExact : Script → Answered → Type 0
+IsExact script query = IsAnswer query.selector query.low query.high query.samples (held script query.sources)
+
+-- Each block that it names is declared, and was complete before the sync of a view that the query used had ended.
+abbrev pub NamesUploads : Script → List Entry → Answered → Type 0
+NamesUploads script journal query =
+    All (λ ulid. (used : Use) × Contains query.uses used × IsUploadedBefore script journal ulid used.last) query.sources
+
+-- It names each block that was complete, and old enough, before the sync of such a view began.
+abbrev pub LeavesNoneOut : Script → List Entry → Answered → Type 0
+LeavesNoneOut script journal query =
+    (used : Use) (ulid : ℕ) → Contains query.uses used → IsSettled script journal used ulid → Contains query.sources ulid
+
+-- Some gateway's worker gave this answer, to the query at some place of some phase. Where a script has one gateway, it is the
+-- query's answer.
+pub record IsGiven (script : Script) (ends : List (List (List End))) (query : Answered) : Type 0 where
+  pub phase_number : ℕ
+  pub worker_number : ℕ
+  pub place : ℕ
+  pub phase : Phase
+  pub worker : Worker
+  pub task_place : ℕ
+  pub task : Task
+  pub phase_ends : List (List End)
+  pub worker_ends : List End
+  pub used : Use
+  pub series : List Series
+  pub selector_number : ℕ
+  pub in_phase : slice_get script.phases phase_number ≡ Some phase
+  pub in_workers : slice_get (workers_of script phase_number) worker_number ≡ Some worker
+  pub in_tasks : slice_get worker.tasks place ≡ Some task_place
+  pub at_place : slice_get phase.tasks task_place ≡ Some task
+  pub asks : task.work ≡ work.Query query.low query.high selector_number
+  pub selects : slice_get script.selectors selector_number ≡ Some query.selector
+  pub phase_came : slice_get ends phase_number ≡ Some phase_ends
+  pub worker_came : slice_get phase_ends worker_number ≡ Some worker_ends
+  pub answer : slice_get worker_ends place ≡ Some (answered used (ended.Answer series query.sources))
+  pub samples : query.samples ≡ triples_of series
+  pub uses : query.uses ≡ used ∷ []
+
+-- the entries of the sync that gave a view
+pub record IsSyncOf (journal : List Entry) (used : Use) (entries : List Entry) : Type 0 where
+  pub first : Entry
+  pub others : List Entry
+  pub begins : entries ≡ first ∷ others
+  pub number : first.seq ≡ used.view.first
+  pub seat : All (λ e. e.seat ≡ first.seat) entries
+  pub within : entries ≡ filter (λ e. (e.seat == first.seat) && (nat_le used.view.first e.seq && nat_le e.seq used.last)) journal
+
+-- The statement about every query that a lawful and honest journal shows to be answered: it is exact, it names complete
+-- uploads, and where blocks were uploaded in time and the sync did not last too long, it leaves none out.
+abbrev pub IsGuaranteed : Script → List Entry → Type 0
+IsGuaranteed script journal =
+    (ends : List (List (List End))) (query : Answered) → IsRunOf script journal ends → IsHonest journal → IsGiven script ends query
+    → IsExact script query
+    × NamesUploads script journal query
+    × (((ulid : ℕ) → IsUploadedInTime script.rules ulid journal)
+    → ((used : Use) (entries : List Entry) → Contains query.uses used → IsSyncOf journal used entries → IsSyncedInTime script.rules entries)
+    → LeavesNoneOut script journal query)

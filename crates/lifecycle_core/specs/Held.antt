@@ -1,0 +1,30 @@
+-- What the blocks that a script declares hold.
+use Rattle.std.specs.Prelude.{ℕ, ◌==◌, List, [], find, Option}
+use Rattle.std.specs.List.{flat_map}
+use Rattle.std.specs.Option.{option_map_or}
+use Rattle.label_sets.specs.declared.series.Series.{Series}
+use Rattle.label_sets.specs.Finals.{final_of}
+use Rattle.label_sets.specs.Triples.{Triple, triples_under}
+use Rattle.script_core.specs.declared.block.Block.{Block}
+use Rattle.script_core.specs.declared.body.Body.{Body}
+use Rattle.script_core.specs.declared.body.Body.TheVariants.{Inline}
+use Rattle.script_core.specs.declared.script.Script.{Script}
+
+-- the series of a declared block, ascending by their labels
+abbrev pub given_by : Body → List Series
+given_by (Inline min_time max_time series) = series
+
+abbrev pub given : Block → List Series
+given block = given_by block.body
+
+-- the samples of a declared block under their final labels
+unfoldable pub held_by : List (List ℕ) → Block → List Triple
+held_by replicas block = flat_map (λ s. triples_under (final_of s.labels block.labels replicas) s.samples) (given block)
+
+-- the block that the script declares under this ULID
+abbrev pub declared : Script → ℕ → Option Block
+declared script ulid = find (λ block. block.ulid == ulid) script.blocks
+
+-- What these blocks hold, one after another. A sample that two of them hold stands twice.
+unfoldable pub held : Script → List ℕ → List Triple
+held script ulids = flat_map (λ ulid. option_map_or (held_by script.rules.replicas) (declared script ulid) []) ulids

@@ -1,0 +1,77 @@
+-- The lawful journals of a script: which runs stand in them, and in which order.
+use Rattle.std.specs.Prelude.{◌≡◌, ◌⊎◌, ◌+◌, ◌==◌, ℕ, Bool, List, [], ◌∷◌, ◌++◌, length, map, filter, All, Contains, Option, Some, None, slice_get}
+use Rattle.world_core.specs.Worlds.{IsJournal}
+use Rattle.world_core.specs.declared.entry.Entry.{Entry}
+use Rattle.world_core.specs.declared.op.Op.TheVariants.{Clock}
+use Rattle.script_core.specs.Hands.{workers_of}
+use Rattle.script_core.specs.declared.phase.Phase.{Phase}
+use Rattle.script_core.specs.declared.script.Script.{Script}
+use Rattle.script_core.specs.declared.task.Task.{Task}
+use Rattle.script_core.specs.declared.worker.Worker.{Worker}
+use Rattle.lifecycle_core.specs.Tasks.{End, TaskRun, view_after}
+use Rattle.lifecycle_core.specs.Views.{Use, Views, no_views, view_of, with_view}
+
+-- A worker's entries are the runs of its tasks, one after another, in the order of their lines. These tasks have come to
+-- these ends; the first one that has not may have broken off, and then nothing follows it. Last comes the view after them.
+abbrev pub TasksRun : Script → Option Use → List Task → List Entry → List End → Option Use → Type 0
+TasksRun script view [] entries ends last = (entries ≡ []) × (ends ≡ []) × (last ≡ view)
+TasksRun script view (task ∷ tasks) entries ends last =
+    ((made : List Entry) × (others : List Entry) × (end : End) × (later : List End)
+    × (entries ≡ made ++ others) × TaskRun script view task.work made (Some end) × (ends ≡ end ∷ later)
+    × TasksRun script (view_after view made end) tasks others later last)
+    ⊎ (TaskRun script view task.work entries None × (ends ≡ []) × (last ≡ view))
+
+-- the entries of a seat
+abbrev pub of_seat : ℕ → List Entry → List Entry
+of_seat seat entries = filter (λ e. e.seat == seat) entries
+
+-- the tasks at these places of a phase
+abbrev pub TasksAt : List Task → List ℕ → List Task → Type 0
+TasksAt tasks [] found = found ≡ []
+TasksAt tasks (place ∷ places) [] = ⊥
+TasksAt tasks (place ∷ places) (task ∷ found) = (slice_get tasks place ≡ Some task) × TasksAt tasks places found
+
+-- The entries of each worker's seat are the runs of its tasks. The ends are listed by worker and then by task.
+abbrev pub WorkersRun : Script → List Task → Views → List Worker → List Entry → List (List End) → Views → Type 0
+WorkersRun script tasks views [] entries ends after = (ends ≡ []) × (after ≡ views)
+WorkersRun script tasks views (worker ∷ workers) entries ends after =
+    (own : List Task) × (first : List End) × (others : List (List End)) × (last : Option Use)
+    × TasksAt tasks worker.tasks own
+    × TasksRun script (view_of views worker.gateway) own (of_seat worker.seat entries) first last
+    × (ends ≡ first ∷ others)
+    × WorkersRun script tasks (with_view views worker.gateway last) workers entries others after
+
+-- a phase's entries are its workers' alone
+pub record PhaseRun (script : Script) (tasks : List Task) (workers : List Worker) (views : Views) (entries : List Entry) (ends : List (List End)) (after : Views) : Type 0 where
+  pub seats : All (λ e. Contains (map (λ (w : Worker). w.seat) workers) e.seat) entries
+  pub runs : WorkersRun script tasks views workers entries ends after
+
+-- each task of each worker has come to its end
+abbrev pub AreDone : List Worker → List (List End) → Type 0
+AreDone workers ends = map (λ (w : Worker). length w.tasks) workers ≡ map length ends
+
+-- the entry that begins a phase
+pub record BeginsPhase (phase : Phase) (clock : Entry) : Type 0 where
+  pub seat : clock.seat ≡ 0
+  pub sets : clock.op ≡ Clock phase.moment
+
+-- The phases from a number on: some first ones of them were begun, each with the clock's setting and then its workers' entries.
+-- A phase begins only when all tasks of the one before have come to their ends.
+abbrev pub PhasesRun : Script → ℕ → Views → List Phase → List Entry → List (List (List End)) → Type 0
+PhasesRun script number views [] entries ends = (entries ≡ []) × (ends ≡ [])
+PhasesRun script number views (phase ∷ phases) entries ends =
+    ((entries ≡ []) × (ends ≡ []))
+    ⊎ ((clock : Entry) × (made : List Entry) × (others : List Entry) × (first : List (List End)) × (later : List (List (List End))) × (after : Views)
+    × (entries ≡ clock ∷ made ++ others) × BeginsPhase phase clock
+    × PhaseRun script phase.tasks (workers_of script number) views made first after
+    × (ends ≡ first ∷ later)
+    × (((others ≡ []) × (later ≡ [])) ⊎ (AreDone (workers_of script number) first × PhasesRun script (number + 1) after phases others later)))
+
+-- A journal of a script: its entries are the runs of the phases that were begun, with these ends.
+pub record IsRunOf (script : Script) (journal : List Entry) (ends : List (List (List End))) : Type 0 where
+  pub kept : IsJournal script.rules.tick.ms journal
+  pub phases : PhasesRun script 0 no_views script.phases journal ends
+
+-- a lawful journal of the script
+abbrev pub IsLawfulJournal : Script → List Entry → Type 0
+IsLawfulJournal script journal = (ends : List (List (List End))) × IsRunOf script journal ends

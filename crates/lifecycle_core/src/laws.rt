@@ -1,0 +1,16 @@
+ghost use Rattle.std.specs.Prelude.{◌≡◌, List, [], ◌∷◌};
+ghost use Rattle.world_core.specs.declared.entry.Entry.{Entry};
+ghost use Rattle.script_core.specs.declared.phase.Phase.{Phase};
+ghost use Rattle.script_core.specs.declared.script.Script.{Script};
+ghost use Rattle.lifecycle_core.specs.Phases.{IsLawfulJournal, BeginsPhase};
+
+/// A law: a run that was broken off before its first entry is a run of every script.
+pub fn no_entry_is_lawful()
+    ensures { (script : Script) → IsLawfulJournal script [] }
+{}
+
+/// A law: the first entry of a lawful journal sets the clock to the script's first moment.
+pub fn journals_begin_with_the_first_phase()
+    ensures { (script : Script) (first : Entry) (others : List Entry) → IsLawfulJournal script (first ∷ others)
+        → (phase : Phase) × (later : List Phase) × (script.phases ≡ phase ∷ later) × BeginsPhase phase first }
+{}
