@@ -5,6 +5,7 @@ use Rattle.label_sets.specs.declared.series.Series.{Series}
 use Rattle.world_core.specs.Standing.{IsHonest}
 use Rattle.store_gateway.specs.declared.series_end.SeriesEnd.TheVariants as ended
 use Rattle.script_core.specs.Hands.{workers_of}
+use Rattle.script_core.specs.Lawful.{IsLawfulScript}
 use Rattle.script_core.specs.declared.phase.Phase.{Phase}
 use Rattle.script_core.specs.declared.task.Task.{Task}
 use Rattle.script_core.specs.declared.worker.Worker.{Worker}
@@ -84,7 +85,7 @@ pub record IsSyncOf (journal : List Entry) (used : Use) (entries : List Entry) :
 -- uploads, and where blocks were uploaded in time and the sync did not last too long, it leaves none out.
 abbrev pub IsGuaranteed : Script → List Entry → Type 0
 IsGuaranteed script journal =
-    (ends : List (List (List End))) (query : Answered) → IsRunOf script journal ends → IsHonest journal → IsGiven script ends query
+    (ends : List (List (List End))) (query : Answered) → IsLawfulScript script → IsRunOf script journal ends → IsHonest journal → IsGiven script ends query
     → IsExact script query
     × NamesUploads script journal query
     × (((ulid : ℕ) → IsUploadedInTime script.rules ulid journal)

@@ -1,5 +1,5 @@
 -- The runs of a script's tasks: which entries a worker makes for a task, and how the task ends.
-use Rattle.std.specs.Prelude.{◌≡◌, ◌≢◌, ◌⊎◌, ◌-◌, ◌^◌, ℕ, ℤ, pos, negsuc, List, [], length, fold, Option, Some, None, option_map, slice_get}
+use Rattle.std.specs.Prelude.{◌≡◌, ◌⊎◌, ◌<◌, ◌-◌, ◌^◌, ℕ, ℤ, pos, negsuc, List, [], length, fold, Option, Some, None, option_map, slice_get}
 use Rattle.moment_core.specs.declared.rules.Rules.{Rules}
 use Rattle.moment_core.specs.declared.partition.Partition.{Partition}
 use Rattle.world_core.specs.declared.entry.Entry.{Entry}
@@ -48,13 +48,17 @@ asked_by script selector low high =
 abbrev pub IsStop : Option ℕ → List Entry → Option End → Type 0
 IsStop stop entries end = (n : ℕ) × (stop ≡ Some n) × (length entries ≡ n) × (end ≡ Some (stopped n))
 
+-- a run that made fewer entries than its stop says, if there is one
+abbrev pub IsBefore : Option ℕ → List Entry → Type 0
+IsBefore stop entries = (n : ℕ) → stop ≡ Some n → length entries < n
+
 -- An upload ships the objects of its declared block, unless it is stopped.
 abbrev pub UploadTask : Script → ℕ → Option ℕ → List Entry → Option End → Type 0
 UploadTask script ulid stop entries end =
     (block : Block) × (objects : List Object) × (own : Option UploadEnd)
     × (declared script ulid ≡ Some block) × IsShipped block objects
     × UploadRun ulid objects entries own
-    × (((end ≡ option_map uploaded own) × (stop ≢ Some (length entries))) ⊎ IsStop stop entries end)
+    × (((end ≡ option_map uploaded own) × IsBefore stop entries) ⊎ IsStop stop entries end)
 
 abbrev pub SyncTask : Script → List Entry → Option End → Type 0
 SyncTask script entries end =
