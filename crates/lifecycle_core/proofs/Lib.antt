@@ -1,1 +1,12 @@
 pub mod FirstPhases
+pub mod Lists
+pub mod Seats
+pub mod Duties
+pub mod TaskRuns
+pub mod HandLists
+pub mod Places
+pub mod Workers
+pub mod WorkerRuns
+pub mod PhaseRuns
+pub mod RunsInLine
+pub mod Joined

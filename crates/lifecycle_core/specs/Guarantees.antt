@@ -8,9 +8,8 @@ use Rattle.script_core.specs.Hands.{workers_of}
 use Rattle.script_core.specs.Lawful.{IsLawfulScript}
 use Rattle.script_core.specs.declared.phase.Phase.{Phase}
 use Rattle.script_core.specs.declared.task.Task.{Task}
-use Rattle.script_core.specs.declared.worker.Worker.{Worker}
 use Rattle.script_core.specs.declared.work.Work.TheVariants as work
-use Rattle.lifecycle_core.specs.Phases.{IsRunOf}
+use Rattle.lifecycle_core.specs.Phases.{IsRunOf, CameTo}
 use Rattle.lifecycle_core.specs.Tasks.{End, answered}
 use Rattle.lifecycle_core.specs.TimeRules.{IsUploadedInTime, IsSyncedInTime}
 use Rattle.label_sets.specs.Triples.{Triple}
@@ -49,26 +48,20 @@ LeavesNoneOut script journal query =
 -- query's answer.
 pub record IsGiven (script : Script) (ends : List (List (List End))) (query : Answered) : Type 0 where
   pub phase_number : ℕ
-  pub worker_number : ℕ
-  pub place : ℕ
   pub phase : Phase
-  pub worker : Worker
-  pub task_place : ℕ
+  pub place : ℕ
   pub task : Task
-  pub phase_ends : List (List End)
-  pub worker_ends : List End
-  pub used : Use
-  pub series : List Series
   pub selector_number : ℕ
-  pub in_phase : slice_get script.phases phase_number ≡ Some phase
-  pub in_workers : slice_get (workers_of script phase_number) worker_number ≡ Some worker
-  pub in_tasks : slice_get worker.tasks place ≡ Some task_place
-  pub at_place : slice_get phase.tasks task_place ≡ Some task
+  pub in_phases : slice_get script.phases phase_number ≡ Some phase
+  pub in_tasks : slice_get phase.tasks place ≡ Some task
   pub asks : task.work ≡ work.Query query.low query.high selector_number
   pub selects : slice_get script.selectors selector_number ≡ Some query.selector
+  pub phase_ends : List (List End)
+  pub gateway : ℕ
+  pub used : Use
+  pub series : List Series
   pub phase_came : slice_get ends phase_number ≡ Some phase_ends
-  pub worker_came : slice_get phase_ends worker_number ≡ Some worker_ends
-  pub answer : slice_get worker_ends place ≡ Some (answered used (ended.Answer series query.sources))
+  pub answer : CameTo (workers_of script phase_number) phase_ends (Some gateway) place (answered used (ended.Answer series query.sources))
   pub samples : query.samples ≡ triples_of series
   pub uses : query.uses ≡ used ∷ []
 

@@ -4,5 +4,6 @@ pub mod Completed
 pub mod Shipped
 pub mod Tasks
 pub mod Phases
+pub mod InLine
 pub mod TimeRules
 pub mod Guarantees

@@ -1,5 +1,6 @@
 -- The lawful journals of a script: which runs stand in them, and in which order.
-use Rattle.std.specs.Prelude.{◌≡◌, ◌⊎◌, ◌+◌, ◌==◌, ℕ, Bool, List, [], ◌∷◌, ◌++◌, length, map, filter, All, Contains, Option, Some, None, slice_get}
+use Rattle.std.specs.Prelude.{◌≡◌, ◌≢◌, ◌⊎◌, ◌+◌, ◌==◌, ℕ, List, [], ◌∷◌, ◌++◌, length, map, filter, All, Contains, Option, Some, None, slice_get}
+use Rattle.std.specs.List.{AllZip, zip}
 use Rattle.world_core.specs.Worlds.{IsJournal}
 use Rattle.world_core.specs.declared.entry.Entry.{Entry}
 use Rattle.world_core.specs.declared.op.Op.TheVariants.{Clock}
@@ -9,7 +10,7 @@ use Rattle.script_core.specs.declared.script.Script.{Script}
 use Rattle.script_core.specs.declared.task.Task.{Task}
 use Rattle.script_core.specs.declared.worker.Worker.{Worker}
 use Rattle.lifecycle_core.specs.Tasks.{End, TaskRun, view_after}
-use Rattle.lifecycle_core.specs.Views.{Use, Views, no_views, view_of, with_view}
+use Rattle.lifecycle_core.specs.Views.{Use, Views, no_views, view_of}
 
 -- A worker's entries are the runs of its tasks, one after another, in the order of their lines. These tasks have come to
 -- these ends; the first one that has not may have broken off, and then nothing follows it. Last comes the view after them.
@@ -31,24 +32,32 @@ TasksAt tasks [] found = found ≡ []
 TasksAt tasks (place ∷ places) [] = ⊥
 TasksAt tasks (place ∷ places) (task ∷ found) = (slice_get tasks place ≡ Some task) × TasksAt tasks places found
 
--- The entries of each worker's seat are the runs of its tasks. The ends are listed by worker and then by task.
-abbrev pub WorkersRun : Script → List Task → Views → List Worker → List Entry → List (List End) → Views → Type 0
-WorkersRun script tasks views [] entries ends after = (ends ≡ []) × (after ≡ views)
-WorkersRun script tasks views (worker ∷ workers) entries ends after =
-    (own : List Task) × (first : List End) × (others : List (List End)) × (last : Option Use)
-    × TasksAt tasks worker.tasks own
-    × TasksRun script (view_of views worker.gateway) own (of_seat worker.seat entries) first last
-    × (ends ≡ first ∷ others)
-    × WorkersRun script tasks (with_view views worker.gateway last) workers entries others after
+-- The entries of a worker's seat are the runs of its tasks, which came to these ends. A gateway's worker leaves its view.
+pub record WorkerRun (script : Script) (tasks : List Task) (views : Views) (entries : List Entry) (after : Views) (worker : Worker) (ends : List End) : Type 0 where
+  pub own : List Task
+  pub are : TasksAt tasks worker.tasks own
+  pub last : Option Use
+  pub runs : TasksRun script (view_of views worker.gateway) own (of_seat worker.seat entries) ends last
+  pub leaves : (gateway : ℕ) → worker.gateway ≡ Some gateway → after gateway ≡ last
 
--- a phase's entries are its workers' alone
+-- A phase's entries are its workers' alone. The ends are listed by worker and then by task.
 pub record PhaseRun (script : Script) (tasks : List Task) (workers : List Worker) (views : Views) (entries : List Entry) (ends : List (List End)) (after : Views) : Type 0 where
   pub seats : All (λ e. Contains (map (λ (w : Worker). w.seat) workers) e.seat) entries
-  pub runs : WorkersRun script tasks views workers entries ends after
+  pub runs : AllZip (WorkerRun script tasks views entries after) workers ends
+  -- a gateway that does nothing keeps its view
+  pub kept : (gateway : ℕ) → All (λ (w : Worker). w.gateway ≢ Some gateway) workers → after gateway ≡ views gateway
 
 -- each task of each worker has come to its end
 abbrev pub AreDone : List Worker → List (List End) → Type 0
 AreDone workers ends = map (λ (w : Worker). length w.tasks) workers ≡ map length ends
+
+-- the worker of a gateway, or of an upload where none is named, came to this end in the task at a place of its phase
+pub record CameTo (workers : List Worker) (ends : List (List End)) (gateway : Option ℕ) (place : ℕ) (end : End) : Type 0 where
+  pub worker : Worker
+  pub own : List End
+  pub among : Contains (zip workers ends) (worker, own)
+  pub is : worker.gateway ≡ gateway
+  pub came : Contains (zip worker.tasks own) (place, end)
 
 -- the entry that begins a phase
 pub record BeginsPhase (phase : Phase) (clock : Entry) : Type 0 where
@@ -75,3 +84,9 @@ pub record IsRunOf (script : Script) (journal : List Entry) (ends : List (List (
 -- a lawful journal of the script
 abbrev pub IsLawfulJournal : Script → List Entry → Type 0
 IsLawfulJournal script journal = (ends : List (List (List End))) × IsRunOf script journal ends
+
+-- every phase of the script, from a number on, was begun, and all its tasks have come to their ends
+abbrev pub AreFinished : Script → ℕ → List Phase → List (List (List End)) → Type 0
+AreFinished script number [] ends = ends ≡ []
+AreFinished script number (phase ∷ phases) [] = ⊥
+AreFinished script number (phase ∷ phases) (first ∷ later) = AreDone (workers_of script number) first × AreFinished script (number + 1) phases later

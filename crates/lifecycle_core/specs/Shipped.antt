@@ -1,6 +1,5 @@
 -- The objects that an upload ships for a declared block.
-use Rattle.std.specs.Prelude.{◌≡◌, ℕ, ℤ, List, [], ◌∷◌, codes}
-use Rattle.label_sets.specs.declared.series.Series.{Series}
+use Rattle.std.specs.Prelude.{◌≡◌, ℤ, List, [], ◌∷◌, codes}
 use Rattle.block_keys.specs.declared.object.Object.{Object}
 use Rattle.block_meta.specs.declared.block_plan.BlockPlan.{BlockPlan}
 use Rattle.block_meta.specs.MetaValue.{meta_text}

@@ -44,21 +44,22 @@ abbrev pub asked_by : Script → ℕ → ℤ → ℤ → Option Question
 asked_by script selector low high =
     option_map (λ matchers. record { selector = matchers; replicas = script.rules.replicas; low = low; high = high }) (slice_get script.selectors selector)
 
--- a run that the script stops: it made as many entries as the stop says
+-- a run that the script stops: it made as many entries as the stop says; a stop at 0 stops nothing
 abbrev pub IsStop : Option ℕ → List Entry → Option End → Type 0
-IsStop stop entries end = (n : ℕ) × (stop ≡ Some n) × (length entries ≡ n) × (end ≡ Some (stopped n))
+IsStop stop entries end = (n : ℕ) × (stop ≡ Some n) × (0 < n) × (length entries ≡ n) × (end ≡ Some (stopped n))
 
 -- a run that made fewer entries than its stop says, if there is one
 abbrev pub IsBefore : Option ℕ → List Entry → Type 0
-IsBefore stop entries = (n : ℕ) → stop ≡ Some n → length entries < n
+IsBefore stop entries = (n : ℕ) → stop ≡ Some n → 0 < n → length entries < n
 
--- An upload ships the objects of its declared block, unless it is stopped.
-abbrev pub UploadTask : Script → ℕ → Option ℕ → List Entry → Option End → Type 0
-UploadTask script ulid stop entries end =
-    (block : Block) × (objects : List Object) × (own : Option UploadEnd)
-    × (declared script ulid ≡ Some block) × IsShipped block objects
-    × UploadRun ulid objects entries own
+-- An upload ships the objects of a block, unless it is stopped.
+abbrev pub BlockUpload : Block → Option ℕ → List Entry → Option End → Type 0
+BlockUpload block stop entries end =
+    (objects : List Object) × (own : Option UploadEnd) × IsShipped block objects × UploadRun block.ulid objects entries own
     × (((end ≡ option_map uploaded own) × IsBefore stop entries) ⊎ IsStop stop entries end)
+
+abbrev pub UploadTask : Script → ℕ → Option ℕ → List Entry → Option End → Type 0
+UploadTask script ulid stop entries end = (block : Block) × (declared script ulid ≡ Some block) × BlockUpload block stop entries end
 
 abbrev pub SyncTask : Script → List Entry → Option End → Type 0
 SyncTask script entries end =

@@ -2,7 +2,10 @@ ghost use Rattle.std.specs.Prelude.{◌≡◌, List, [], ◌∷◌};
 ghost use Rattle.world_core.specs.declared.entry.Entry.{Entry};
 ghost use Rattle.script_core.specs.declared.phase.Phase.{Phase};
 ghost use Rattle.script_core.specs.declared.script.Script.{Script};
+ghost use Rattle.script_core.specs.Lawful.{IsLawfulScript};
+ghost use Rattle.lifecycle_core.specs.InLine.{IsRunInLine};
 ghost use Rattle.lifecycle_core.specs.Phases.{IsLawfulJournal, BeginsPhase};
+ghost use Rattle.lifecycle_core.specs.Tasks.{End};
 
 /// A law: a run that was broken off before its first entry is a run of every script.
 pub fn no_entry_is_lawful()
@@ -13,4 +16,9 @@ pub fn no_entry_is_lawful()
 pub fn journals_begin_with_the_first_phase()
     ensures { (script : Script) (first : Entry) (others : List Entry) → IsLawfulJournal script (first ∷ others)
         → (phase : Phase) × (later : List Phase) × (script.phases ≡ phase ∷ later) × BeginsPhase phase first }
+{}
+
+/// A law: a run that does a lawful script's tasks one after another, in the order of their lines, leaves a lawful journal.
+pub fn runs_in_line_are_lawful()
+    ensures { (script : Script) (journal : List Entry) (ends : List (List End)) → IsLawfulScript script → IsRunInLine script journal ends → IsLawfulJournal script journal }
 {}

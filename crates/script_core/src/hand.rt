@@ -1,6 +1,6 @@
 /// Who does a task: a worker for that upload alone, or the worker of a gateway.
 #[derive(Clone, Copy, Debug, PartialEq, Eq)]
-pub(crate) enum Hand {
+pub enum Hand {
     /// The upload at this place of the phase.
     Upload(u64),
     /// The gateway at this place.

@@ -31,6 +31,7 @@ mod workers;
 pub use block::{Block, BlockList};
 pub use body::Body;
 pub use cause::LineCause;
+pub use hand::Hand;
 pub use phase::{Phase, PhaseList};
 pub use script::Script;
 pub use script_refusal::ScriptRefusal;

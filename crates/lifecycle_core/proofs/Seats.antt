@@ -1,0 +1,26 @@
+-- The entries of a seat, among entries that were all made by one.
+use Rattle.std.proofs.Common.{◌≡◌, ◌≢◌, ℕ, true, false, List, ◌++◌, get_or, sym, ◌∙◌, arith}
+use Rattle.std.specs.Prelude.{◌==◌}
+use Rattle.std.specs.List.{All}
+use Rattle.std.proofs.lemmas.Bool.Decides.{nat_tests}
+use Rattle.world_core.specs.declared.entry.Entry.{Entry}
+use Rattle.lifecycle_core.specs.Phases.{of_seat}
+use Rattle.lifecycle_core.proofs.Lists.{filter_front, filter_back}
+
+is_own : (a s : ℕ) → a ≡ s → (a == s) ≡ true
+is_own a s e = grind (arith, nat_tests)
+
+is_other : (a s : ℕ) → a ≢ s → (a == s) ≡ false
+is_other a s e = grind (arith, nat_tests)
+
+made_own : (s t : ℕ) (made : List Entry) → All (λ e. e.seat ≡ t) made → t ≡ s → All (λ e. (e.seat == s) ≡ true) made
+made_own s t made all e = λ k d below. is_own (get_or made k d).seat s (all k d below ∙ e)
+
+made_other : (s t : ℕ) (made : List Entry) → All (λ e. e.seat ≡ t) made → t ≢ s → All (λ e. (e.seat == s) ≡ false) made
+made_other s t made all e = λ k d below. is_other (get_or made k d).seat s (λ q. e (sym (all k d below) ∙ q))
+
+pub own_first : (s t : ℕ) (made others : List Entry) → All (λ e. e.seat ≡ t) made → t ≡ s → of_seat s (made ++ others) ≡ made ++ of_seat s others
+own_first s t made others all e = filter_front (λ x. x.seat == s) made others (made_own s t made all e)
+
+pub others_first : (s t : ℕ) (made others : List Entry) → All (λ e. e.seat ≡ t) made → t ≢ s → of_seat s (made ++ others) ≡ of_seat s others
+others_first s t made others all e = filter_back (λ x. x.seat == s) made others (made_other s t made all e)

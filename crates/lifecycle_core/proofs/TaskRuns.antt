@@ -1,0 +1,98 @@
+-- What every task may do: nothing yet; and what an upload leaves of a view.
+use Rattle.std.proofs.Common.{◌≡◌, ℕ, ℤ, zero, suc, ◌<◌, Bool, true, false, List, [], ◌∷◌, length, refl, ap, inl, inr, arith}
+use Rattle.std.specs.Prelude.{◌==◌, Option, Some, None, option_map, slice_get, codes, find}
+use Rattle.std.specs.List.{All, list_any}
+use Rattle.std.specs.List.Sorted.{IsStrictlyIncreasing}
+use Rattle.std.proofs.lemmas.List.Elements.{All-tail}
+use Rattle.lifecycle_core.proofs.Lists.{all_first}
+use Rattle.world_core.specs.declared.entry.Entry.{Entry}
+use Rattle.block_keys.specs.declared.object.Object.{Object}
+use Rattle.block_meta.specs.declared.block_plan.BlockPlan.{BlockPlan}
+use Rattle.block_meta.specs.MetaValue.{meta_text}
+use Rattle.block_files.specs.Built.{built_meta, segments_of, objects_of}
+use Rattle.block_files.specs.PlainForm.{plain_index}
+use Rattle.shipper.specs.declared.upload_end.UploadEnd.{UploadEnd}
+use Rattle.store_gateway.specs.SeriesRuns.{Query as Question, ToRead, Reads, to_read, sources_of}
+use Rattle.label_sets.specs.Triples.{Triple}
+use Rattle.matchers.specs.declared.matcher.Matcher.{Matcher}
+use Rattle.script_core.specs.Lawful.{IsLawfulBlock, IsLawfulBody, IsLawfulWork}
+use Rattle.script_core.specs.declared.block.Block.{Block}
+use Rattle.script_core.specs.declared.body.Body.{Body}
+use Rattle.script_core.specs.declared.body.Body.TheVariants.{Inline}
+use Rattle.script_core.specs.declared.script.Script.{Script}
+use Rattle.script_core.specs.declared.work.Work.{Work}
+use Rattle.script_core.specs.declared.work.Work.TheVariants.{Upload, Sync, Query}
+use Rattle.lifecycle_core.specs.Shipped.{AreBuilt}
+use Rattle.lifecycle_core.specs.Tasks.{End, uploaded, stopped, TaskRun, QueryTask, asked_by, view_after}
+use Rattle.lifecycle_core.specs.Views.{Use}
+
+found_first : {X : Type 0} (P : X → Type 0) (p : X → Bool) (x : X) (xs : List X) (b : Bool) → p x ≡ b → P x → (list_any p xs ≡ true → (y : X) × (find p xs ≡ Some y) × P y) → list_any p (x ∷ xs) ≡ true
+    → (y : X) × (find p (x ∷ xs) ≡ Some y) × P y
+found_first P p x xs true is own later e = (x, rw is refl, own)
+found_first P p x xs false is own later e =
+    let f = later (rw is at e) in (f.0, rw is f.1, f.2)
+
+found_by : {X : Type 0} (P : X → Type 0) (p : X → Bool) (xs : List X) → All P xs → list_any p xs ≡ true → (x : X) × (find p xs ≡ Some x) × P x
+found_by P p [] all e = absurd (cc (e))
+found_by P p (x ∷ xs) all e = found_first P p x xs (p x) refl (all_first P x xs all) (found_by P p xs (All-tail P x xs all)) e
+
+one_rises : (n : ℕ) → IsStrictlyIncreasing (n ∷ [])
+one_rises n = λ k below. absurd (omega (arith, below))
+
+pub built_by : (block : Block) (body : Body) → IsLawfulBody body → (objects : List Object) × AreBuilt block body objects
+built_by block (Inline min_time max_time series) lawful =
+    let plan : BlockPlan = record {
+      ulid = block.ulid;
+      min_time = min_time;
+      max_time = max_time;
+      level = 1;
+      sources = block.ulid ∷ [];
+      parents = [];
+      labels = block.labels;
+      source = codes "sidecar";
+      times = record { early = lawful.early; ascend = lawful.ascend; late = lawful.late };
+      distinct = one_rises block.ulid;
+    } in (
+      objects_of block.ulid (segments_of series) plain_index (meta_text (built_meta plan series)),
+      (plan, record { ulid = refl; early = refl; late = refl; level = refl; sources = refl; parents = refl; labels = refl; source = refl }, refl),
+    )
+
+pub reads_none : (query : Question) (sources : List ℕ) (taken : List Triple) (blocks : List ToRead) → Reads query sources taken blocks [] None
+reads_none query sources taken [] = (refl, inl refl)
+reads_none query sources taken (block ∷ blocks) = refl
+
+got : {X : Type 0} (xs : List X) (i : ℕ) → i < length xs → (x : X) × (slice_get xs i ≡ Some x)
+got [] i below = absurd (omega (arith, below))
+got (x ∷ xs) zero below = (x, refl)
+got (x ∷ xs) (suc i) below = got xs i (omega (arith, below))
+
+query_none : (script : Script) (view : Option Use) (asked : Option Question) → ((q : Question) × (asked ≡ Some q)) → QueryTask script view asked [] None
+query_none script None asked is = (refl, inl refl)
+query_none script (Some used) None is = absurd (cc (is.1))
+query_none script (Some used) (Some q) is = (None, reads_none q (sources_of used.view.kept) [] (to_read q used.view.kept), refl)
+
+asked_some : (script : Script) (selector : ℕ) (low high : ℤ) → selector < length script.selectors → (q : Question) × (asked_by script selector low high ≡ Some q)
+asked_some script selector low high below =
+    let g = got script.selectors selector below in
+    (record { selector = g.0; replicas = script.rules.replicas; low = low; high = high }, ap (λ o. option_map (λ (m : List Matcher). record { selector = m; replicas = script.rules.replicas; low = low; high = high }) o) g.1)
+
+-- a run of the work may be broken off before its first entry
+abbrev pub MayBegin : Script → Work → Type 0
+MayBegin script w = (view : Option Use) → TaskRun script view w [] None
+
+pub none_yet : (script : Script) (w : Work) → All IsLawfulBlock script.blocks → IsLawfulWork script.gateways script.blocks (length script.selectors) w → MayBegin script w
+none_yet script (Upload ulid stop) blocks lawful = λ view.
+    let f = found_by IsLawfulBlock (λ (block : Block). block.ulid == ulid) script.blocks blocks lawful in
+    let b = built_by f.0 (f.0).body (f.2).body in
+    (f.0, f.1, (b.0, None, b.1, refl, inl (refl, λ n e above. above)))
+none_yet script (Sync gateway) blocks lawful = λ view. (None, refl, refl)
+none_yet script (Query low high selector) blocks lawful = λ view. query_none script view (asked_by script selector low high) (asked_some script selector low high lawful.3)
+
+keeps_uploaded : (view : Option Use) (made : List Entry) (end : End) (own : Option UploadEnd) → Some end ≡ option_map uploaded own → view_after view made end ≡ view
+keeps_uploaded view made end None e = absurd (cc (e))
+keeps_uploaded view made end (Some own) e = let is : end ≡ uploaded own = cc (e) in ap (view_after view made) is
+
+-- no upload changes a view
+pub upload_keeps : (script : Script) (view old : Option Use) (ulid : ℕ) (stop : Option ℕ) (made : List Entry) (end : End) → TaskRun script view (Upload ulid stop) made (Some end) → view_after old made end ≡ old
+upload_keeps script view old ulid stop made end run =
+    elim (run.2).4 [ inl went ↦ keeps_uploaded old made end (run.2).1 went.0 | inr went ↦ let is : end ≡ stopped went.0 = cc (went.4) in ap (view_after old made) is ]
