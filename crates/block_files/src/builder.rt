@@ -1,4 +1,4 @@
-ghost use Rattle.std.specs.Prelude.{◌≡◌, ◌≤◌, ◌^◌, ◌-◌, min, length, sum_by, IfOk};
+ghost use Rattle.std.specs.Prelude.{◌≡◌, ◌≢◌, ◌≤◌, ◌^◌, ◌-◌, min, length, sum_by, Err, IfOk};
 ghost use lib.Chars.{codes};
 ghost use Rattle.block_meta.specs.MetaFields.{fields_of};
 ghost use Rattle.block_files.specs.PlainForm.{plain_index};
@@ -20,7 +20,9 @@ pub fn build(
     plan: &BlockPlan,
     series: &SeriesList,
 ) -> Result<BlockFiles, BuildRefusal>
-    ensures { IfOk result (IsBuilt plan.now series.now) }
+    ensures built { IfOk result (IsBuilt plan.now series.now) }
+    // the plain form has no limit of its own
+    ensures fits { result ≢ Err BuildRefusal.TooLarge }
 {
     let index = Blob::from_bytes(alloc, PLAIN_INDEX)?;
     let segments = build_segments(alloc, series)?;

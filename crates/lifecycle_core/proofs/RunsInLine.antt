@@ -1,11 +1,11 @@
 -- Runs in the order of the lines are lawful journals.
-use Rattle.std.proofs.Common.{◌≡◌, ℕ, zero, suc, ◌+◌, ◌≤◌, List, [], ◌∷◌, length, take, get_or, refl, sym, ◌∙◌, ap, subst, inl, inr, arith}
+use Rattle.std.proofs.Common.{◌≡◌, ℕ, zero, suc, ◌+◌, ◌≤◌, List, [], ◌∷◌, ◌++◌, length, take, get_or, refl, sym, ◌∙◌, ap, subst, inl, inr, arith}
 use Rattle.std.specs.Prelude.{Some, slice_get}
 use Rattle.std.specs.List.{All, AllZip}
 use Rattle.std.proofs.lemmas.List.{length-append, length-map}
 use Rattle.std.proofs.lemmas.Option.{slice_get_within, get_or_from_slice_get}
 use Rattle.world_core.specs.declared.entry.Entry.{Entry}
-use Rattle.script_core.specs.Hands.{gateway_count, hands_of, seats_after, seats_before, seats_from, workers_after, workers_from, workers_of, greatest}
+use Rattle.script_core.specs.Hands.{gateway_count, gateway_of, hands_of, seats_after, seats_before, seats_from, workers_after, workers_from, workers_of, greatest}
 use Rattle.script_core.specs.Lawful.{IsLawfulPhase, IsLawfulScript, IsLawfulWork}
 use Rattle.script_core.specs.Works.{works_in, works_of}
 use Rattle.script_core.specs.declared.hand.Hand.{Hand}
@@ -14,11 +14,11 @@ use Rattle.script_core.specs.declared.script.Script.{Script}
 use Rattle.script_core.specs.declared.task.Task.{Task}
 use Rattle.script_core.specs.declared.worker.Worker.{Worker}
 use Rattle.lifecycle_core.specs.InLine.{duties_from, seat_of, InLine, PhasesInLine, IsRunInLine}
-use Rattle.lifecycle_core.specs.Phases.{AreDone, AreFinished, IsRunOf, PhaseRun, PhasesRun}
+use Rattle.lifecycle_core.specs.Phases.{AreDone, AreFinished, CameTo, IsRunOf, PhaseRun, PhasesRun}
 use Rattle.lifecycle_core.specs.Tasks.{End}
 use Rattle.lifecycle_core.specs.Views.{Views, no_views}
 use Rattle.lifecycle_core.proofs.HandLists.{few_duties, joins_from}
-use Rattle.lifecycle_core.proofs.PhaseRuns.{ends_of, phase_run, phase_done}
+use Rattle.lifecycle_core.proofs.PhaseRuns.{ends_of, phase_came, phase_run, phase_done}
 use Rattle.lifecycle_core.proofs.TaskRuns.{MayBegin, none_yet}
 
 pub few_hands : (gateways : ℕ) (tasks : List Task) → gateways ≤ 1 → length (hands_of gateways tasks) ≤ length tasks
@@ -79,6 +79,22 @@ unfolding by_workers
 by_none gateways [] = refl
 by_none gateways (phase ∷ phases) = refl
 
+-- the ends of the first phases, and those of the others
+pub by_parts : (gateways : ℕ) (done left : List Phase) (ends more : List (List End)) → length ends ≡ length done → by_workers gateways (done ++ left) (ends ++ more) ≡ by_workers gateways done ends ++ by_workers gateways left more
+unfolding by_workers
+by_parts gateways [] left [] more same = refl
+by_parts gateways [] left (first ∷ ends) more same = absurd (omega (arith, same))
+by_parts gateways (phase ∷ done) left [] more same = absurd (omega (arith, same))
+by_parts gateways (phase ∷ done) left (first ∷ ends) more same =
+    ap (λ l. ends_of (duties_from gateways 0 phase.tasks) first (hands_of gateways phase.tasks) ∷ l) (by_parts gateways done left ends more (omega (arith, same)))
+
+-- no more phases than ends
+pub by_few : (gateways : ℕ) (phases : List Phase) (ends : List (List End)) → length (by_workers gateways phases ends) ≤ length ends
+unfolding by_workers
+by_few gateways [] ends = omega arith
+by_few gateways (phase ∷ phases) [] = omega arith
+by_few gateways (phase ∷ phases) (first ∷ ends) = omega (arith, by_few gateways phases ends)
+
 -- every phase was begun, and all its duties have come to their ends
 abbrev pub AreWhole : ℕ → List Phase → List (List End) → Type 0
 AreWhole gateways phases ends = AllZip (λ phase own. length own ≡ length (duties_from gateways 0 phase.tasks)) phases ends
@@ -101,15 +117,24 @@ module _ (script : Script) (lawful : IsLawfulScript script) where
       subst (λ (ws : List Worker). AreDone ws (ends_of (duties_from gateways 0 phase.tasks) first (hands_of gateways phase.tasks))) (sym (workers_at script number phase at))
       (phase_done script gateways (seats_before script number) phase.tasks no_views no_views [] first (few_gateways script lawful) (room script number phase lawful at) same)
 
-  runs : (number : ℕ) (views : Views) (phases : List Phase) (entries : List Entry) (ends : List (List End)) → ((k : ℕ) → slice_get phases k ≡ slice_get script.phases (number + k))
+  pub own_came : (number : ℕ) (phase : Phase) (first : List End) → slice_get script.phases number ≡ Some phase → length first ≡ length (duties_from (gateway_count script.gateways) 0 phase.tasks)
+      → AllZip (λ d e. CameTo (workers_of script number) (ends_of (duties_from (gateway_count script.gateways) 0 phase.tasks) first (hands_of (gateway_count script.gateways) phase.tasks)) (gateway_of d.hand) d.place e)
+      (duties_from (gateway_count script.gateways) 0 phase.tasks) first
+  own_came number phase first at same =
+      let gateways = gateway_count script.gateways in
+      subst (λ (ws : List Worker). AllZip (λ d e. CameTo ws (ends_of (duties_from gateways 0 phase.tasks) first (hands_of gateways phase.tasks)) (gateway_of d.hand) d.place e) (duties_from gateways 0 phase.tasks) first)
+      (sym (workers_at script number phase at))
+      (phase_came script gateways (seats_before script number) phase.tasks no_views no_views [] first (few_gateways script lawful) (room script number phase lawful at) same)
+
+  runs : (number : ℕ) (views : Views) (phases : List Phase) (entries : List Entry) (ends : List (List End)) → ((k : ℕ) (p : Phase) → slice_get phases k ≡ Some p → slice_get script.phases (number + k) ≡ Some p)
       → PhasesInLine script number views phases entries ends → PhasesRun script number views phases entries (by_workers (gateway_count script.gateways) phases ends)
   unfolding by_workers
   runs number views [] entries ends same run = (run.0, refl)
   runs number views (phase ∷ phases) entries ends same (inl r) = inl (r.0, ap (by_workers (gateway_count script.gateways) (phase ∷ phases)) r.1)
   runs number views (phase ∷ phases) entries ends same (inr r) =
       let gateways = gateway_count script.gateways in
-      let at : slice_get script.phases number ≡ Some phase = ap (slice_get script.phases) (omega arith) ∙ sym (same 0) in
-      let later : (k : ℕ) → slice_get phases k ≡ slice_get script.phases (number + 1 + k) = λ k. same (suc k) ∙ ap (slice_get script.phases) (omega arith) in
+      let at : slice_get script.phases number ≡ Some phase = ap (slice_get script.phases) (omega arith) ∙ same 0 phase refl in
+      let later : (k : ℕ) (p : Phase) → slice_get phases k ≡ Some p → slice_get script.phases (number + 1 + k) ≡ Some p = λ k p own. ap (slice_get script.phases) (omega arith) ∙ same (suc k) p own in
       inr (
         r.0,
         r.1,
@@ -127,19 +152,19 @@ module _ (script : Script) (lawful : IsLawfulScript script) where
         ],
       )
 
-  pub finished : (number : ℕ) (phases : List Phase) (ends : List (List End)) → ((k : ℕ) → slice_get phases k ≡ slice_get script.phases (number + k)) → AreWhole (gateway_count script.gateways) phases ends
+  pub finished : (number : ℕ) (phases : List Phase) (ends : List (List End)) → ((k : ℕ) (p : Phase) → slice_get phases k ≡ Some p → slice_get script.phases (number + k) ≡ Some p) → AreWhole (gateway_count script.gateways) phases ends
       → AreFinished script number phases (by_workers (gateway_count script.gateways) phases ends)
   unfolding by_workers
   finished number [] [] same whole = refl
   finished number [] (first ∷ ends) same whole = absurd whole
   finished number (phase ∷ phases) [] same whole = absurd whole
   finished number (phase ∷ phases) (first ∷ ends) same whole =
-      let at : slice_get script.phases number ≡ Some phase = ap (slice_get script.phases) (omega arith) ∙ sym (same 0) in
-      let later : (k : ℕ) → slice_get phases k ≡ slice_get script.phases (number + 1 + k) = λ k. same (suc k) ∙ ap (slice_get script.phases) (omega arith) in
+      let at : slice_get script.phases number ≡ Some phase = ap (slice_get script.phases) (omega arith) ∙ same 0 phase refl in
+      let later : (k : ℕ) (p : Phase) → slice_get phases k ≡ Some p → slice_get script.phases (number + 1 + k) ≡ Some p = λ k p own. ap (slice_get script.phases) (omega arith) ∙ same (suc k) p own in
       (own_done number phase first at whole.0, finished (number + 1) phases ends later whole.1)
 
 -- A run that does the tasks in the order of their lines is a run of the script.
 pub run_of : (script : Script) (journal : List Entry) (ends : List (List End)) → IsLawfulScript script → IsRunInLine script journal ends
     → IsRunOf script journal (by_workers (gateway_count script.gateways) script.phases ends)
 run_of script journal ends lawful run =
-    record { kept = run.kept; phases = runs script lawful 0 no_views script.phases journal ends (λ k. ap (slice_get script.phases) (omega arith)) run.phases }
+    record { kept = run.kept; phases = runs script lawful 0 no_views script.phases journal ends (λ k p own. ap (slice_get script.phases) (omega arith) ∙ own) run.phases }

@@ -1,21 +1,23 @@
 -- Verdicts and their causes, from a run outwards to the whole call.
-use Rattle.std.proofs.Common.{◌≡◌, ℕ, ◌+◌, ◌-◌, ◌^◌, ◌≤◌, ◌<◌, min, List, [], ◌∷◌, length, refl, sym, ◌∙◌, subst, arith}
+use Rattle.std.proofs.Common.{◌≡◌, inl, inr, ℕ, ◌+◌, ◌-◌, ◌^◌, ◌≤◌, ◌<◌, min, List, [], ◌∷◌, length, refl, sym, ◌∙◌, subst, arith}
 use Rattle.std.specs.Prelude.{Option, Some, None, IfSome, IsSomeAnd, Ok, Err}
 use Rattle.std.proofs.lemmas.Bool.{lt-ltb}
 use Rattle.bucket_core.specs.Causes.{Rose}
 use Rattle.bucket_core.specs.Contents.{Contents, nothing}
 use Rattle.bucket_core.specs.Pages.{IsPage}
 use Rattle.world_core.specs.declared.entry.Entry.{Entry}
+use Rattle.script_core.specs.Lawful.{IsLawfulScript}
 use Rattle.script_core.specs.Reading.{script_of}
 use Rattle.script_core.specs.declared.script.Script.{Script}
 use Rattle.script_core.specs.declared.script_refusal.ScriptRefusal.TheVariants.{TooLong}
 use Rattle.replay_cli.specs.Kept.{HoldsNothing}
-use Rattle.replay_cli.specs.Verdicts.{Around, IsRun, IsRunOfText, IsUnread, IsWorked, IsCaused}
+use Rattle.replay_cli.specs.Verdicts.{Around, IsRun, IsUnread, IsWorked, IsCaused}
 use Rattle.replay_cli.specs.declared.verdict.Verdict.{Verdict}
 use Rattle.replay_cli.specs.declared.verdict.Verdict.TheVariants.{WordsRefused, SourceFault, ScriptRefused, SiteFault, NotEmpty, Full, Report, NoMemory}
 
 pub caused : (accepted : Type 0) (around : Around) (v : Verdict) → accepted → IsWorked around v → IsCaused accepted around v
-caused accepted around WordsRefused a w = absurd w
+caused accepted around WordsRefused a (inl w) = absurd w.0
+caused accepted around WordsRefused a (inr w) = absurd w.run
 caused accepted around SourceFault a w = (a, w)
 caused accepted around (ScriptRefused refusal) a w = (a, w)
 caused accepted around SiteFault a w = (a, w)
@@ -24,26 +26,12 @@ caused accepted around (Full lines) a w = (a, w)
 caused accepted around (Report lines as_asked) a w = (a, w)
 caused accepted around NoMemory a w = (a, w)
 
-pub worked : (around : Around) (script : Script) (v : Verdict) → IfSome around.text (λ bytes. script_of bytes ≡ Ok script)
+pub worked : (around : Around) (script : Script) (v : Verdict) → IfSome around.text (λ bytes. script_of bytes ≡ Ok script) → IsLawfulScript script
     → IsRun script around.before around.site_failed around.journal v → IsWorked around v
-worked around script WordsRefused spelled run = absurd run
-worked around script SourceFault spelled run = absurd run
-worked around script (ScriptRefused refusal) spelled run = absurd run
-worked around script SiteFault spelled run = record { script = script; spelled = spelled; run = run }
-worked around script (NotEmpty name) spelled run = record { script = script; spelled = spelled; run = run }
-worked around script (Full lines) spelled run = record { script = script; spelled = spelled; run = run }
-worked around script (Report lines as_asked) spelled run = record { script = script; spelled = spelled; run = run }
-worked around script NoMemory spelled run = tt
+worked around script v spelled lawful run = inr (record { script = script; spelled = spelled; lawful = lawful; run = run })
 
-pub unread : (around : Around) (v : Verdict) → IsUnread around.text around.source_failed v → IsWorked around v
-unread around WordsRefused u = absurd u
-unread around SourceFault u = u
-unread around (ScriptRefused refusal) u = u
-unread around SiteFault u = absurd u
-unread around (NotEmpty name) u = absurd u
-unread around (Full lines) u = absurd u
-unread around (Report lines as_asked) u = absurd u
-unread around NoMemory u = tt
+pub unread : (around : Around) (v : Verdict) → IsUnread around.text around.source_failed v → around.journal ≡ None → IsWorked around v
+unread around v why none = inl (why, none)
 
 -- what holds of what is told holds of what was told before, where that is the same
 if_told : (P : Contents → Type 0) (before told : Option Contents) → IfSome before (λ c. told ≡ Some c) → IfSome told P → IfSome before P
@@ -55,11 +43,11 @@ pub run_told : (script : Script) (before told : Option Contents) (failed other :
 run_told script before told failed other journal WordsRefused same weaker run = absurd run
 run_told script before told failed other journal SourceFault same weaker run = absurd run
 run_told script before told failed other journal (ScriptRefused refusal) same weaker run = absurd run
-run_told script before told failed other journal SiteFault same weaker run = weaker run
-run_told script before told failed other journal (NotEmpty name) same weaker run = if_told (λ c. IsPage c [] [] 1 (name ∷ [])) before told same run
-run_told script before told failed other journal (Full lines) same weaker run = (if_told HoldsNothing before told same run.0, run.1, run.2)
+run_told script before told failed other journal SiteFault same weaker run = (weaker run.0, run.1)
+run_told script before told failed other journal (NotEmpty name) same weaker run = (if_told (λ c. IsPage c [] [] 1 (name ∷ [])) before told same run.0, run.1)
+run_told script before told failed other journal (Full lines) same weaker run = (if_told HoldsNothing before told same run.0, run.1)
 run_told script before told failed other journal (Report lines as_asked) same weaker run = (if_told HoldsNothing before told same run.0, run.1)
-run_told script before told failed other journal NoMemory same weaker run = tt
+run_told script before told failed other journal NoMemory same weaker run = run
 
 if_nothing : (P : Contents → Type 0) (told : Option Contents) → IfSome told (λ c. c ≡ nothing) → P nothing → IfSome told P
 if_nothing P None is holds = tt
@@ -71,11 +59,11 @@ pub run_empty : (script : Script) (told : Option Contents) (failed : Type 0) (jo
 run_empty script told failed journal WordsRefused is run = absurd run
 run_empty script told failed journal SourceFault is run = absurd run
 run_empty script told failed journal (ScriptRefused refusal) is run = absurd run
-run_empty script told failed journal SiteFault is run = absurd run
-run_empty script told failed journal (NotEmpty name) is run = if_nothing (λ c. IsPage c [] [] 1 (name ∷ [])) told is run
-run_empty script told failed journal (Full lines) is run = (is, run.1, run.2)
+run_empty script told failed journal SiteFault is run = absurd run.0
+run_empty script told failed journal (NotEmpty name) is run = (if_nothing (λ c. IsPage c [] [] 1 (name ∷ [])) told is run.0, run.1)
+run_empty script told failed journal (Full lines) is run = (is, run.1)
 run_empty script told failed journal (Report lines as_asked) is run = (is, run.1)
-run_empty script told failed journal NoMemory is run = tt
+run_empty script told failed journal NoMemory is run = run
 
 -- a count that was 0 and rose is above 0
 pub above_none : {B : Type 0} (faults : B → ℕ) (before : ℕ) (store : Option B) → before ≡ 0 → IsSomeAnd store (λ b. Rose before (faults b)) → IsSomeAnd store (λ b. 0 < faults b)

@@ -1,5 +1,8 @@
+pub mod Drives
 pub mod Kept
+pub mod Outcomes
 pub mod Output
+pub mod Progress
 pub mod Reports
 pub mod Statuses
 pub mod Verdicts

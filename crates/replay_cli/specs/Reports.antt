@@ -28,7 +28,7 @@ unfoldable pub upload_words : UploadOutcome → List ℕ
 upload_words (upload.Done count) = codes "ok " ++ decimal_text count ++ codes " objects"
 upload_words upload.Already = codes "already"
 upload_words (upload.Fault entry) = codes "fault " ++ decimal_text entry
-upload_words upload.TooLarge = codes "refused 7"
+upload_words (upload.Stopped count) = codes "stopped " ++ decimal_text count
 
 unfoldable pub sync_words : SyncOutcome → List ℕ
 sync_words (sync.Blocks count) = decimal_text count ++ codes " blocks"
@@ -75,7 +75,7 @@ abbrev pub is_as_asked : Outcome → Bool
 is_as_asked (outcome.Upload (upload.Done count)) = true
 is_as_asked (outcome.Upload upload.Already) = true
 is_as_asked (outcome.Upload (upload.Fault entry)) = false
-is_as_asked (outcome.Upload upload.TooLarge) = false
+is_as_asked (outcome.Upload (upload.Stopped count)) = true
 is_as_asked (outcome.Sync (sync.Blocks count)) = true
 is_as_asked (outcome.Sync (sync.Fault entry)) = false
 is_as_asked (outcome.Sync (sync.Damaged entry)) = false

@@ -1,17 +1,21 @@
 -- What a call of the program comes to, why, and what it then writes.
-use Rattle.std.specs.Prelude.{◌≡◌, ◌≢◌, ◌⊎◌, ℕ, List, [], ◌∷◌, ◌++◌, length, Bool, true, false, Option, option_map, IfSome, IsSomeAnd, Ok, Err, codes}
+use Rattle.std.specs.Prelude.{◌≡◌, ◌≢◌, ◌≤◌, ◌⊎◌, ℕ, List, [], ◌∷◌, ◌++◌, length, Bool, true, false, Option, None, option_map, IfSome, IsSomeAnd, Ok, Err, codes}
 use Rattle.std.specs.List.{flat_map, list_all}
 use Rattle.bucket_core.specs.Causes.{Rose}
 use Rattle.bucket_core.specs.Contents.{Contents}
 use Rattle.bucket_core.specs.Pages.{IsPage}
 use Rattle.world_core.specs.Keeping.{IsFull}
 use Rattle.world_core.specs.declared.entry.Entry.{Entry}
+use Rattle.script_core.specs.Lawful.{IsLawfulScript}
 use Rattle.script_core.specs.Reading.{script_of}
 use Rattle.script_core.specs.Wording.{refusal_text}
 use Rattle.script_core.specs.declared.phase.Phase.{Phase}
 use Rattle.script_core.specs.declared.script.Script.{Script}
 use Rattle.script_core.specs.declared.task.Task.{Task}
+use Rattle.lifecycle_core.specs.Phases.{AreFinished, IsLawfulJournal, IsRunOf}
+use Rattle.lifecycle_core.specs.Tasks.{End}
 use Rattle.replay_cli.specs.Kept.{HoldsNothing}
+use Rattle.replay_cli.specs.Outcomes.{PhasesCame}
 use Rattle.replay_cli.specs.Output.{IsWrittenInPart}
 use Rattle.replay_cli.specs.Reports.{activity_text, is_as_asked, newline}
 use Rattle.replay_cli.specs.declared.outcome.Outcome.{Outcome}
@@ -53,33 +57,41 @@ report_of script [] outcomes = []
 report_of script (task ∷ tasks) [] = []
 report_of script (task ∷ tasks) (outcome ∷ outcomes) = activity_text script task.work outcome ++ report_of script tasks outcomes
 
--- The text is the report of these tasks, each of which came out in some way; the flag tells whether all ended as asked.
-pub record IsReport (script : Script) (tasks : List Task) (as_asked : Bool) (text : List ℕ) : Type 0 where
+-- The text is the report of these phases, by the ends to which their workers came; the flag tells whether all tasks ended as
+-- asked.
+pub record IsReport (script : Script) (phases : List Phase) (ends : List (List (List End))) (as_asked : Bool) (text : List ℕ) : Type 0 where
   pub outcomes : List Outcome
-  pub each : length outcomes ≡ length tasks
-  pub lines : text ≡ report_of script tasks outcomes
+  pub came : PhasesCame script 0 phases ends outcomes
+  pub lines : text ≡ report_of script (tasks_of phases) outcomes
   pub flag : as_asked ≡ list_all is_as_asked outcomes
 
--- the text is the report of some first phases of the script, which are not all
-pub record IsReportOfSome (script : Script) (text : List ℕ) : Type 0 where
+-- The journal is that of the whole script: each of its phases was begun, all its tasks have come to their ends, and the text
+-- is their report.
+pub record IsWholeRun (script : Script) (as_asked : Bool) (text : List ℕ) (journal : List Entry) : Type 0 where
+  pub ends : List (List (List End))
+  pub run : IsRunOf script journal ends
+  pub finished : AreFinished script 0 script.phases ends
+  pub report : IsReport script script.phases ends as_asked text
+
+-- The journal is that of a run which the full journal broke off: some first phases are finished, and the text is their
+-- report; of the phases left, at most the first one was begun.
+pub record IsFullRun (script : Script) (text : List ℕ) (journal : List Entry) : Type 0 where
+  pub ends : List (List (List End))
+  pub run : IsRunOf script journal ends
+  pub full : IsFull journal
   pub done : List Phase
   pub left : List Phase
   pub phases : script.phases ≡ done ++ left
   pub more : left ≢ []
+  pub told : List (List (List End))
+  pub untold : List (List (List End))
+  pub parts : ends ≡ told ++ untold
+  pub few : length untold ≤ 1
+  pub finished : AreFinished script 0 done told
   pub as_asked : Bool
-  pub report : IsReport script (tasks_of done) as_asked text
+  pub report : IsReport script done told as_asked text
 
 -- ---- causes
-
--- Why a script's run comes to a verdict: by what the bucket held before, where that is told; by whether the bucket could not
--- be opened or listed; and by the journal that is handed back.
-abbrev pub IsRun : Script → Option Contents → Type 0 → Option (List Entry) → Verdict → Type 0
-IsRun script before site_failed journal SiteFault = site_failed
-IsRun script before site_failed journal (NotEmpty name) = IfSome before (λ contents. IsPage contents [] [] 1 (name ∷ []))
-IsRun script before site_failed journal (Full lines) = IfSome before HoldsNothing × IsSomeAnd journal IsFull × IsReportOfSome script lines.items
-IsRun script before site_failed journal (Report lines as_asked) = IfSome before HoldsNothing × IsReport script (tasks_of script.phases) as_asked lines.items
-IsRun script before site_failed journal NoMemory = Unit {0}
-IsRun script before site_failed journal other = ⊥
 
 -- what is told of the world around a call
 pub record Around : Type 1 where
@@ -94,13 +106,24 @@ pub record Around : Type 1 where
   -- the journal that is handed back
   pub journal : Option (List Entry)
 
--- the text spells a script, whose run comes to the verdict
+-- Why a script's run comes to a verdict: by what the bucket held before, where that is told; by whether the bucket could not
+-- be opened or listed; and by the journal that is handed back. Whatever it comes to, the journal is lawful for the script.
+abbrev pub IsRun : Script → Option Contents → Type 0 → Option (List Entry) → Verdict → Type 0
+IsRun script before site_failed journal SiteFault = site_failed × IfSome journal (λ entries. entries ≡ [])
+IsRun script before site_failed journal (NotEmpty name) = IfSome before (λ contents. IsPage contents [] [] 1 (name ∷ [])) × IfSome journal (λ entries. entries ≡ [])
+IsRun script before site_failed journal (Full lines) = IfSome before HoldsNothing × IsSomeAnd journal (IsFullRun script lines.items)
+IsRun script before site_failed journal (Report lines as_asked) = IfSome before HoldsNothing × IsSomeAnd journal (IsWholeRun script as_asked lines.items)
+IsRun script before site_failed journal NoMemory = IfSome journal (IsLawfulJournal script)
+IsRun script before site_failed journal other = ⊥
+
+-- the text spells a lawful script, whose run comes to the verdict
 pub record IsRunOfText (around : Around) (verdict : Verdict) : Type 0 where
   pub script : Script
   pub spelled : IfSome around.text (λ bytes. script_of bytes ≡ Ok script)
+  pub lawful : IsLawfulScript script
   pub run : IsRun script around.before around.site_failed around.journal verdict
 
--- why no script was read
+-- Why no script was read: by the source, or by its text. The bucket was not opened then.
 abbrev pub IsUnread : Option (List ℕ) → Type 0 → Verdict → Type 0
 IsUnread text source_failed SourceFault = source_failed
 IsUnread text source_failed (ScriptRefused refusal) = IfSome text (λ bytes. script_of bytes ≡ Err refusal)
@@ -109,18 +132,11 @@ IsUnread text source_failed other = ⊥
 
 -- why a call whose words are a form of one comes to a verdict
 abbrev pub IsWorked : Around → Verdict → Type 0
-IsWorked around WordsRefused = ⊥
-IsWorked around SourceFault = around.source_failed
-IsWorked around (ScriptRefused refusal) = IfSome around.text (λ bytes. script_of bytes ≡ Err refusal)
-IsWorked around SiteFault = IsRunOfText around SiteFault
-IsWorked around (NotEmpty name) = IsRunOfText around (NotEmpty name)
-IsWorked around (Full lines) = IsRunOfText around (Full lines)
-IsWorked around (Report lines as_asked) = IsRunOfText around (Report lines as_asked)
-IsWorked around NoMemory = Unit {0}
+IsWorked around verdict = (IsUnread around.text around.source_failed verdict × (around.journal ≡ None)) ⊎ IsRunOfText around verdict
 
 -- why a call comes to a verdict, by whether its words are a form of one
 abbrev pub IsCaused : Type 0 → Around → Verdict → Type 0
-IsCaused accepted around WordsRefused = ¬ accepted
+IsCaused accepted around WordsRefused = (¬ accepted) × (around.journal ≡ None)
 IsCaused accepted around other = accepted × IsWorked around other
 
 -- ---- what is said
@@ -141,5 +157,5 @@ IsAdded text saying = saying.written_after ≡ option_map (λ bytes. bytes ++ te
 abbrev pub IsSaid : Verdict → Saying → Status → Type 0
 IsSaid verdict saying result =
     ((result ≡ status_of verdict) × IsAdded (text_of verdict) saying)
-    ⊎ ((result ≡ status.SinkFault) × Rose saying.faults_before saying.faults_after × IsWrittenInPart (text_of verdict) saying.written_before saying.written_after)
+    ⊎ ((result ≡ status.SinkFault) × (verdict ≢ NoMemory) × Rose saying.faults_before saying.faults_after × IsWrittenInPart (text_of verdict) saying.written_before saying.written_after)
     ⊎ ((result ≡ status.NoMemory) × (saying.written_after ≡ saying.written_before))

@@ -1,54 +1,71 @@
-ghost use Rattle.std.specs.Prelude.{◌≡◌, ◌≤◌};
+ghost use Rattle.std.specs.Prelude.{◌≡◌, ◌≤◌, ℕ, ℤ, Option, Some, option_map};
+ghost use Rattle.world_core.specs.Machines.{end_of};
 ghost use Rattle.world_core.specs.Keeping.{IsFull};
+ghost use Rattle.meta_fetcher.specs.declared.sync_end.SyncEnd.{SyncEnd};
+ghost use Rattle.meta_fetcher.specs.Syncs.{SyncRun};
+ghost use Rattle.store_gateway.specs.declared.series_end.SeriesEnd.{SeriesEnd};
+ghost use Rattle.store_gateway.specs.SeriesRuns.{SeriesRun, asking};
 ghost use Rattle.script_core.specs.Lawful.{IsLawfulBlock};
+ghost use Rattle.script_core.specs.declared.work.Work.TheVariants as works;
+ghost use Rattle.lifecycle_core.specs.Tasks.{End, BlockUpload, answered, sync_rules, synced};
+ghost use Rattle.lifecycle_core.specs.Views.{Use};
+ghost use Rattle.replay_cli.specs.Outcomes.{call_outcome, sync_outcome, upload_outcome};
+ghost use Rattle.replay_cli.specs.Drives.{call_came, sync_came, upload_came};
+ghost use Rattle.replay_cli.specs.Progress.{Adds, CameBy, view_by};
 
 use crate::came::Came;
 use crate::outcome::{NoAnswer, Outcome, QueryOutcome, SyncOutcome, UploadOutcome};
-use crate::plan::{Unbuilt, objects_of};
+use crate::plan::objects_of;
 use bucket_core::Bucket;
-use label_sets::SeriesList;
 use matchers::Selector;
-use meta_fetcher::{Sync, SyncEnd, SyncRules};
+use meta_fetcher::{Sync, SyncEnd, SyncRules, View};
 use moment_core::{Partition, Rules};
 use script_core::Block;
 use shipper::{Upload, UploadEnd};
 use std::alloc::Global;
 use store_gateway::{Gateway, SeriesCall, SeriesEnd};
-use ulid_core::UlidList;
 use world_core::{Driven, World, WorldHand, drive};
 
-/// Ships a declared block.
+/// Ships a declared block, and stops after so many operations where the script says so.
+#[tactic(auto, using(crate::proofs::Uploads::nothing_shipped))]
 pub(crate) fn upload<B: Bucket>(
     alloc: Global,
     block: &Block,
+    stop: Option<u32>,
     world: World<B>,
     seat: u32,
 ) -> (Came, World<B>)
     requires { IsLawfulBlock block.now }
-    ensures { result.0 ≡ Came.Full → IsFull result.1.journal }
+    ensures full { result.0 ≡ Came.Full → IsFull result.1.journal }
+    ensures ran { (ulid : ℕ) → (end : Option End) × Adds (BlockUpload block.now stop) seat world.journal result.1.journal end × CameBy (works.Upload ulid stop) end result.0 }
+    ensures tick { result.1.tick ≡ world.tick }
 {
-    let objects = match objects_of(alloc, block) {
-        Ok(objects) => objects,
-        Err(Unbuilt::TooLarge) => return (
-            Came::To(Outcome::Upload(UploadOutcome::TooLarge)),
-            world,
-        ),
-        Err(Unbuilt::NoMemory) => return (Came::NoMemory, world),
+    let Ok(objects) = objects_of(alloc, block) else {
+        return (Came::NoMemory, world);
     };
-    let mut machine = match Upload::start(objects) {
-        Ok(machine) => machine,
-        Err(_) => return (Came::NoMemory, world),
+    let Ok(mut machine) = Upload::start(objects) else {
+        return (Came::NoMemory, world);
     };
     let mut hand = WorldHand::new(world, seat);
-    let came = match drive(&mut machine, &mut hand, None) {
-        Driven::Ended(end) => Came::To(Outcome::Upload(upload_outcome(end))),
-        Driven::Full => Came::Full,
-        Driven::Stopped(_) | Driven::NoMemory => Came::NoMemory,
-    };
+    let came = upload_came(drive(&mut machine, &mut hand, stop));
     (came, hand.into_world())
 }
 
-fn upload_outcome(end: UploadEnd) -> UploadOutcome {
+/// What a drive of an upload came to.
+fn upload_came(driven: Driven<UploadEnd>) -> Came
+    ensures { result ≡ upload_came driven }
+{
+    match driven {
+        Driven::Ended(end) => Came::To(Outcome::Upload(upload_outcome(end))),
+        Driven::Stopped(count) => Came::To(Outcome::Upload(UploadOutcome::Stopped(count))),
+        Driven::Full => Came::Full,
+        Driven::NoMemory => Came::NoMemory,
+    }
+}
+
+fn upload_outcome(end: UploadEnd) -> UploadOutcome
+    ensures { result ≡ upload_outcome end }
+{
     match end {
         UploadEnd::Done(count) => UploadOutcome::Done(count),
         UploadEnd::Already => UploadOutcome::Already,
@@ -57,6 +74,7 @@ fn upload_outcome(end: UploadEnd) -> UploadOutcome {
 }
 
 /// A sync of a gateway, whose view it sets where it ends with one.
+#[tactic(auto, using(crate::proofs::Syncs::nothing_synced))]
 pub(crate) fn sync<B: Bucket>(
     alloc: Global,
     rules: &Rules,
@@ -65,7 +83,10 @@ pub(crate) fn sync<B: Bucket>(
     seat: u32,
 ) -> (Came, World<B>)
     requires { 1 ≤ rules.now.page_limit }
-    ensures { result.0 ≡ Came.Full → IsFull result.1.journal }
+    ensures full { result.0 ≡ Came.Full → IsFull result.1.journal }
+    ensures ran { (place : ℕ) → (end : Option SyncEnd) × Adds (SyncRun (sync_rules rules.now)) seat world.journal result.1.journal end
+        × CameBy (works.Sync place) (option_map synced end) result.0 × (gateway.new.view ≡ view_by gateway.old.view end) }
+    ensures tick { result.1.tick ≡ world.tick }
 {
     let asked = SyncRules {
         consistency: rules.consistency,
@@ -76,17 +97,18 @@ pub(crate) fn sync<B: Bucket>(
             high: i64::MAX,
         },
     };
-    let mut machine = match Sync::start(alloc, asked) {
-        Ok(machine) => machine,
-        Err(_) => return (Came::NoMemory, world),
+    let Ok(mut machine) = Sync::start(alloc, asked) else {
+        return (Came::NoMemory, world);
     };
     let mut hand = WorldHand::new(world, seat);
     let driven = drive(&mut machine, &mut hand, None);
     (take_view(driven, gateway), hand.into_world())
 }
 
+/// What a drive of a sync came to. A view that it gave is the gateway's from now on.
 fn take_view(driven: Driven<SyncEnd>, gateway: &mut Gateway) -> Came
-    ensures { result ≡ Came.Full → driven ≡ Driven.Full }
+    ensures came { result ≡ sync_came driven }
+    ensures view { gateway.new.view ≡ view_by gateway.old.view (end_of driven) }
 {
     match driven {
         Driven::Ended(end) => Came::To(Outcome::Sync(sync_outcome(end, gateway))),
@@ -95,7 +117,10 @@ fn take_view(driven: Driven<SyncEnd>, gateway: &mut Gateway) -> Came
     }
 }
 
-fn sync_outcome(end: SyncEnd, gateway: &mut Gateway) -> SyncOutcome {
+fn sync_outcome(end: SyncEnd, gateway: &mut Gateway) -> SyncOutcome
+    ensures outcome { result ≡ sync_outcome end }
+    ensures view { gateway.new.view ≡ view_by gateway.old.view (Some end) }
+{
     match end {
         SyncEnd::View(view) => {
             let count = view.kept.len() as u64;
@@ -108,52 +133,46 @@ fn sync_outcome(end: SyncEnd, gateway: &mut Gateway) -> SyncOutcome {
     }
 }
 
-/// What a query asks for: the series that the selector matches, with their samples from `low` to `high`.
-#[derive(Clone, Copy)]
-pub(crate) struct Question<'a> {
-    pub selector: &'a Selector,
-    pub low: i64,
-    pub high: i64,
-}
-
-/// Asks the one gateway, where there is one.
-pub(crate) fn query<B: Bucket>(
+/// A gateway's call over a view, for the series that the selector matches, with their samples from `low` to `high`.
+pub(crate) fn call<B: Bucket>(
     alloc: Global,
     rules: &Rules,
-    gateway: Option<&Gateway>,
-    question: Question<'_>,
+    view: &View,
+    selector: &Selector,
+    low: i64,
+    high: i64,
     world: World<B>,
     seat: u32,
 ) -> (Came, World<B>)
-    ensures { result.0 ≡ Came.Full → IsFull result.1.journal }
+    ensures full { result.0 ≡ Came.Full → IsFull result.1.journal }
+    ensures ran { (used : Use) (line_low line_high : ℤ) (number : ℕ) → (end : Option SeriesEnd)
+        × Adds (SeriesRun view.now (asking selector.now rules.now.replicas low high)) seat world.journal result.1.journal end
+        × CameBy (works.Query line_low line_high number) (option_map (answered used) end) result.0 }
+    ensures tick { result.1.tick ≡ world.tick }
 {
-    let Some(gateway) = gateway else {
-        let nothing = QueryOutcome::Answer(SeriesList::new(alloc), UlidList::new(alloc));
-        return (Came::To(Outcome::Query(nothing)), world);
-    };
-    let Some(view) = &gateway.view else {
-        let outcome = QueryOutcome::NoAnswer(0, NoAnswer::NoView);
-        return (Came::To(Outcome::Query(outcome)), world);
-    };
-    let Question {
-        selector,
-        low,
-        high,
-    } = question;
-    let mut machine = match SeriesCall::start(alloc, view, selector, &rules.replicas, low, high) {
-        Ok(machine) => machine,
-        Err(_) => return (Came::NoMemory, world),
+    let Ok(mut machine) = SeriesCall::start(alloc, view, selector, &rules.replicas, low, high)
+    else {
+        return (Came::NoMemory, world);
     };
     let mut hand = WorldHand::new(world, seat);
-    let came = match drive(&mut machine, &mut hand, None) {
-        Driven::Ended(end) => Came::To(Outcome::Query(query_outcome(end))),
-        Driven::Full => Came::Full,
-        Driven::Stopped(_) | Driven::NoMemory => Came::NoMemory,
-    };
+    let came = call_came(drive(&mut machine, &mut hand, None));
     (came, hand.into_world())
 }
 
-fn query_outcome(end: SeriesEnd) -> QueryOutcome {
+/// What a drive of a gateway's call came to.
+fn call_came(driven: Driven<SeriesEnd>) -> Came
+    ensures { result ≡ call_came driven }
+{
+    match driven {
+        Driven::Ended(end) => Came::To(Outcome::Query(call_outcome(end))),
+        Driven::Full => Came::Full,
+        Driven::Stopped(_) | Driven::NoMemory => Came::NoMemory,
+    }
+}
+
+fn call_outcome(end: SeriesEnd) -> QueryOutcome
+    ensures { result ≡ call_outcome 0 end }
+{
     match end {
         SeriesEnd::Answer { series, sources } => QueryOutcome::Answer(series, sources),
         SeriesEnd::Missing(entry) => QueryOutcome::NoAnswer(0, NoAnswer::Missing(entry)),

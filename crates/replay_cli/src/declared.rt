@@ -1,7 +1,8 @@
-ghost use Rattle.std.specs.Prelude.{◌≡◌, IsTrue};
-ghost use Rattle.std.specs.List.{All};
+ghost use Rattle.std.specs.Prelude.{◌≡◌, ◌==◌, Some, IsTrue, find, slice_get, map, nat_eq};
+ghost use Rattle.std.specs.List.{All, IsDistinct};
 ghost use Rattle.script_core.specs.Lawful.{IsLawfulScript, IsLawfulBlock};
 ghost use Rattle.script_core.specs.Works.{declares};
+ghost use Rattle.lifecycle_core.specs.Held.{declared};
 
 use list_core::NoMemory;
 use script_core::{Block, Script};
@@ -31,10 +32,11 @@ impl Places {
 }
 
 /// The declared block of a ULID. A place that is not the block's only costs a walk over all blocks.
+#[tactic(auto, using(crate::proofs::Blocks::found_at))]
 pub(crate) fn declared_block<'a>(script: &'a Script, places: &Places, ulid: Ulid) -> &'a Block
     requires lawful { IsLawfulScript script.now }
     requires declared { IsTrue (declares script.now.blocks ulid) }
-    ensures ulid { result.now.ulid ≡ ulid }
+    ensures found { declared script.now ulid ≡ Some result.now }
     ensures lawful { IsLawfulBlock result.now }
 {
     let blocks = script.blocks.members();
@@ -48,7 +50,7 @@ pub(crate) fn declared_block<'a>(script: &'a Script, places: &Places, ulid: Ulid
 fn find_block(blocks: &[Block], ulid: Ulid) -> &Block
     requires lawful { All IsLawfulBlock blocks.now }
     requires declared { IsTrue (declares blocks.now ulid) }
-    ensures ulid { result.now.ulid ≡ ulid }
+    ensures found { find (λ block. block.ulid == ulid) blocks.now ≡ Some result.now }
     ensures lawful { IsLawfulBlock result.now }
 {
     match blocks {

@@ -16,6 +16,7 @@ mod seats;
 mod standard;
 mod status;
 mod status_number;
+mod tasks;
 mod tool;
 mod verdict;
 mod words;

@@ -21,8 +21,8 @@ pub enum UploadOutcome {
     /// The bucket has the block's meta already.
     Already,
     Fault(u64),
-    /// The block's files are too large.
-    TooLarge,
+    /// It was stopped after so many operations, as the script asked.
+    Stopped(u32),
 }
 
 #[derive(Clone, Copy, Debug, PartialEq, Eq)]
@@ -57,8 +57,10 @@ impl Outcome {
         ensures { result ≡ is_as_asked self.now }
     {
         match self {
-            Outcome::Upload(UploadOutcome::Done(_) | UploadOutcome::Already) => true,
-            Outcome::Upload(_) => false,
+            Outcome::Upload(
+                UploadOutcome::Done(_) | UploadOutcome::Already | UploadOutcome::Stopped(_),
+            ) => true,
+            Outcome::Upload(UploadOutcome::Fault(_)) => false,
             Outcome::Sync(SyncOutcome::Blocks(_)) => true,
             Outcome::Sync(_) => false,
             Outcome::Query(QueryOutcome::Answer(..)) => true,

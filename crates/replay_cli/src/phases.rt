@@ -1,20 +1,25 @@
-ghost use Rattle.std.specs.Prelude.{◌≡◌, ◌≢◌, ◌++◌, ◌&&◌, [], true, length, List, Ok, Err, IfOk, OnOk};
+ghost use Rattle.std.specs.Prelude.{◌≡◌, ◌≢◌, ◌++◌, ◌+◌, ◌<◌, ◌^◌, ◌&&◌, [], ◌∷◌, true, length, take, List, Ok, Err, Some, None, IfOk, OnErr, OnOk, MatchResult, slice_get};
 ghost use Rattle.std.specs.List.{All};
 ghost use Rattle.world_core.specs.Keeping.{IsFull};
-ghost use Rattle.script_core.specs.Lawful.{IsLawfulScript, IsLawfulPhase, IsLawfulWork};
-ghost use Rattle.script_core.specs.declared.task.Task.{Task};
+ghost use Rattle.world_core.specs.declared.entry.Entry.{Entry};
+ghost use Rattle.store_gateway.specs.declared.gateway.Gateway.{Gateway};
+ghost use Rattle.script_core.specs.Hands.{seats_before};
+ghost use Rattle.script_core.specs.Lawful.{IsLawfulScript, IsLawfulWork};
+ghost use Rattle.lifecycle_core.specs.InLine.{seat_of};
+ghost use Rattle.lifecycle_core.specs.Phases.{BeginsPhase};
+ghost use Rattle.lifecycle_core.specs.Views.{Views};
+ghost use Rattle.replay_cli.specs.Progress.{PhaseStep, Reached, RunCame, Shows, TasksBroken, TasksDone};
 ghost use Rattle.replay_cli.specs.Reports.{activity_text, is_as_asked};
-ghost use Rattle.replay_cli.specs.Verdicts.{IsReport, IsReportOfSome, tasks_of};
 
-use crate::activity::{Question, query, sync, upload};
 use crate::came::{Broken, Came};
-use crate::declared::{Places, declared_block};
+use crate::declared::Places;
 use crate::outcome::Outcome;
 use crate::report::put_activity;
 use crate::seats::Seats;
+use crate::tasks::run_task;
 use bucket_core::Bucket;
 use list_core::{NoMemory, TryCopy};
-use script_core::{Phase, Script, Task, Work};
+use script_core::{Phase, Script, Task};
 use std::alloc::Global;
 use store_gateway::Gateway;
 use world_core::{Acted, Op, World};
@@ -29,17 +34,20 @@ pub(crate) struct Lines {
 /// What stays from one phase to the next.
 #[derive(Drop)]
 pub(crate) struct Progress {
-    gateways: Vec<Gateway>,
-    places: Places,
+    pub gateways: Vec<Gateway>,
+    pub places: Places,
     /// How many workers the phases so far have had.
-    workers: u32,
+    pub workers: u32,
     /// The report of the finished phases.
     pub report: Lines,
 }
 
 impl Progress {
+    /// Nothing was done yet.
     pub(crate) fn new(alloc: Global, script: &Script) -> Result<Progress, NoMemory>
+        ensures unseen { IfOk result (λ progress. All (λ (gateway : Gateway). gateway.view ≡ None) progress.gateways.items) }
         ensures ready { IfOk result (λ progress. length progress.gateways.items ≡ length script.now.gateways) }
+        ensures workers { IfOk result (λ progress. progress.workers ≡ 0) }
         ensures empty { IfOk result (λ progress. progress.report.text.items ≡ []) }
         ensures asked { IfOk result (λ progress. progress.report.as_asked ≡ true) }
     {
@@ -60,9 +68,7 @@ impl Progress {
             },
         })
     }
-}
 
-impl Progress {
     pub(crate) fn into_report(self) -> Lines
         ensures { result ≡ self.report }
     {
@@ -79,11 +85,11 @@ pub(crate) fn run_phases<B: Bucket>(
 ) -> (Result<(), Broken>, World<B>)
     requires lawful { IsLawfulScript script.now }
     requires ready { length progress.old.gateways.items ≡ length script.now.gateways }
-    requires empty { progress.old.report.text.items ≡ [] }
-    requires asked { progress.old.report.as_asked ≡ true }
+    requires workers { progress.old.workers ≡ seats_before script.now 0 }
+    requires reached { Reached script.now 0 progress.old.gateways.items world.journal progress.old.report.as_asked progress.old.report.text.items }
     ensures full { result.0 ≡ Err Broken.Full → IsFull result.1.journal }
-    ensures whole { result.0 ≡ Ok tt → IsReport script.now (tasks_of script.now.phases) progress.new.report.as_asked progress.new.report.text.items }
-    ensures some { result.0 ≡ Err Broken.Full → IsReportOfSome script.now progress.new.report.text.items }
+    ensures tick { result.1.tick ≡ world.tick }
+    ensures came { RunCame script.now progress.new.gateways.items result.1.journal progress.new.report.as_asked progress.new.report.text.items result.0 }
 {
     let mut world = world;
     for (place, phase) in script.phases.members().iter().enumerate() {
@@ -97,7 +103,6 @@ pub(crate) fn run_phases<B: Bucket>(
 }
 
 /// Sets the clock, and then runs the tasks in the order of their lines.
-#[tactic(auto, using(crate::proofs::ReportLists::report_joined))]
 fn run_phase<B: Bucket>(
     alloc: Global,
     script: &Script,
@@ -107,37 +112,49 @@ fn run_phase<B: Bucket>(
     world: World<B>,
 ) -> (Result<(), Broken>, World<B>)
     requires lawful { IsLawfulScript script.now }
-    requires phase { IsLawfulPhase script.now.gateways script.now.blocks (length script.now.selectors) phase.now }
+    requires at { slice_get script.now.phases place ≡ Some phase.now }
     requires ready { length progress.old.gateways.items ≡ length script.now.gateways }
+    requires workers { progress.old.workers ≡ seats_before script.now place }
+    requires reached { Reached script.now place progress.old.gateways.items world.journal progress.old.report.as_asked progress.old.report.text.items }
     ensures full { result.0 ≡ Err Broken.Full → IsFull result.1.journal }
-    ensures kept { result.0 ≡ Err Broken.Full → progress.new.report ≡ progress.old.report }
-    ensures more { (done : List Task) → result.0 ≡ Ok tt → IsReport script.now done progress.old.report.as_asked progress.old.report.text.items →
-        IsReport script.now (done ++ phase.now.tasks) progress.new.report.as_asked progress.new.report.text.items }
+    ensures tick { result.1.tick ≡ world.tick }
     ensures ready { length progress.new.gateways.items ≡ length script.now.gateways }
+    ensures workers { result.0 ≡ Ok tt → progress.new.workers ≡ seats_before script.now (place + 1) }
+    ensures step { PhaseStep script.now place progress.new.gateways.items result.1.journal progress.new.report.as_asked progress.new.report.text.items result.0 }
 {
-    let seats = match Seats::new(alloc, script, place, phase, progress.workers) {
-        Ok(seats) => seats,
-        Err(_) => return (Err(Broken::NoMemory), world),
+    let Ok(seats) = Seats::new(alloc, script, place, progress.workers) else {
+        return (Err(Broken::NoMemory), world);
     };
-    progress.workers = progress.workers.saturating_add(seats.count());
-    let mut world = world;
-    match world.act(0, Op::Clock(phase.moment)) {
-        Acted::Done(_) => {}
-        Acted::Full => return (Err(Broken::Full), world),
-        Acted::NoMemory => return (Err(Broken::NoMemory), world),
+    let (begun, world) = begin_phase(phase, world);
+    if let Err(broken) = begun {
+        return (Err(broken), world);
     }
-    let (came, world) = run_tasks(
-        alloc,
-        script,
-        phase.tasks.members(),
-        &seats,
-        progress,
-        world,
-    );
+    let tasks = phase.tasks.members();
+    let (came, world) = run_tasks(alloc, script, tasks, &seats, progress, world);
     match came {
-        Ok(lines) => (progress.report.take(lines), world),
+        Ok(lines) => {
+            progress.workers = progress.workers.saturating_add(seats.count());
+            (progress.report.take(lines), world)
+        }
         Err(broken) => (Err(broken), world),
     }
+}
+
+/// Sets the clock to the moment of the phase.
+fn begin_phase<B: Bucket>(phase: &Phase, world: World<B>) -> (Result<(), Broken>, World<B>)
+    requires { phase.now.moment.ms < 2 ^ 47 }
+    ensures begun { OnOk result.0 ((clock : Entry) × BeginsPhase phase.now clock × (result.1.journal ≡ world.journal ++ clock ∷ [])) }
+    ensures unbegun { OnErr result.0 (result.1.journal ≡ world.journal) }
+    ensures full { result.0 ≡ Err Broken.Full → IsFull result.1.journal }
+    ensures tick { result.1.tick ≡ world.tick }
+{
+    let mut world = world;
+    let begun = match world.act(0, Op::Clock(phase.moment)) {
+        Acted::Done(_) => Ok(()),
+        Acted::Full => Err(Broken::Full),
+        Acted::NoMemory => Err(Broken::NoMemory),
+    };
+    (begun, world)
 }
 
 impl Lines {
@@ -168,7 +185,6 @@ impl Lines {
 }
 
 /// Runs tasks, and tells how they came out.
-#[tactic(auto, using(crate::proofs::ReportLists::report_none))]
 fn run_tasks<B: Bucket>(
     alloc: Global,
     script: &Script,
@@ -181,8 +197,12 @@ fn run_tasks<B: Bucket>(
     requires tasks { All (λ task. IsLawfulWork script.now.gateways script.now.blocks (length script.now.selectors) task.work) tasks.now }
     requires ready { length progress.old.gateways.items ≡ length script.now.gateways }
     ensures full { result.0 ≡ Err Broken.Full → IsFull result.1.journal }
-    ensures told { IfOk result.0 (λ lines. IsReport script.now tasks.now lines.as_asked lines.text.items) }
-    ensures kept { progress.new.report ≡ progress.old.report }
+    ensures tick { result.1.tick ≡ world.tick }
+    ensures came { (views : Views) → Shows views progress.old.gateways.items → MatchResult result.0
+        (λ lines. TasksDone script.now (seat_of seats.now.workers) tasks.now views progress.new.gateways.items world.journal result.1.journal lines.as_asked lines.text.items)
+        (λ broken. TasksBroken script.now (seat_of seats.now.workers) tasks.now views world.journal result.1.journal) }
+    ensures report { progress.new.report ≡ progress.old.report }
+    ensures workers { progress.new.workers ≡ progress.old.workers }
     ensures ready { length progress.new.gateways.items ≡ length script.now.gateways }
 {
     let mut world = world;
@@ -190,61 +210,52 @@ fn run_tasks<B: Bucket>(
         text: Vec::new(alloc),
         as_asked: true,
     };
-    for (place, task) in tasks.iter().enumerate() {
-        let (came, next) = run_task(alloc, script, task, place, seats, progress, world);
+    for place in 0..tasks.len() {
+        let (came, next) = next_task(
+            alloc, script, tasks, place, seats, progress, &mut lines, world,
+        );
         world = next;
-        let outcome = match came {
-            Came::To(outcome) => outcome,
-            Came::Full => return (Err(Broken::Full), world),
-            Came::NoMemory => return (Err(Broken::NoMemory), world),
-        };
-        if lines.tell(script, task, &outcome).is_err() {
-            return (Err(Broken::NoMemory), world);
+        if let Err(broken) = came {
+            return (Err(broken), world);
         }
     }
     (Ok(lines), world)
 }
 
-/// Runs one task.
-fn run_task<B: Bucket>(
+/// Runs the task at a place, and adds its lines to those of the tasks before it.
+fn next_task<B: Bucket>(
     alloc: Global,
     script: &Script,
-    task: &Task,
+    tasks: &[Task],
     place: usize,
     seats: &Seats,
     progress: &mut Progress,
+    lines: &mut Lines,
     world: World<B>,
-) -> (Came, World<B>)
+) -> (Result<(), Broken>, World<B>)
     requires lawful { IsLawfulScript script.now }
-    requires work { IsLawfulWork script.now.gateways script.now.blocks (length script.now.selectors) task.now.work }
+    requires tasks { All (λ task. IsLawfulWork script.now.gateways script.now.blocks (length script.now.selectors) task.work) tasks.now }
+    requires within { place < length tasks.now }
     requires ready { length progress.old.gateways.items ≡ length script.now.gateways }
-    ensures full { result.0 ≡ Came.Full → IsFull result.1.journal }
-    ensures kept { progress.new.report ≡ progress.old.report }
+    ensures full { result.0 ≡ Err Broken.Full → IsFull result.1.journal }
+    ensures tick { result.1.tick ≡ world.tick }
+    ensures came { (views : Views) (start : List Entry)
+        → TasksDone script.now (seat_of seats.now.workers) (take place tasks.now) views progress.old.gateways.items start world.journal lines.old.as_asked lines.old.text.items
+        → MatchResult result.0
+        (λ done. TasksDone script.now (seat_of seats.now.workers) (take (place + 1) tasks.now) views progress.new.gateways.items start result.1.journal lines.new.as_asked lines.new.text.items)
+        (λ broken. TasksBroken script.now (seat_of seats.now.workers) tasks.now views start result.1.journal) }
+    ensures report { progress.new.report ≡ progress.old.report }
+    ensures workers { progress.new.workers ≡ progress.old.workers }
     ensures ready { length progress.new.gateways.items ≡ length script.now.gateways }
 {
-    match &task.work {
-        Work::Upload(ulid, _) => {
-            let block = declared_block(script, &progress.places, *ulid);
-            upload(alloc, block, world, seats.of_task(place))
-        }
-        Work::Sync(number) => {
-            let seat = seats.of_gateway(*number);
-            let gateway = &mut progress.gateways[*number as usize];
-            sync(alloc, &script.rules, gateway, world, seat)
-        }
-        Work::Query {
-            low,
-            high,
-            selector,
-        } => {
-            let question = Question {
-                selector: &script.selectors.members()[*selector as usize],
-                low: *low,
-                high: *high,
-            };
-            let gateway = progress.gateways.first();
-            let seat = seats.of_gateway(0);
-            query(alloc, &script.rules, gateway, question, world, seat)
-        }
+    let task = &tasks[place];
+    let (came, world) = run_task(alloc, script, task, place, seats, progress, world);
+    match came {
+        Came::To(outcome) => match lines.tell(script, task, &outcome) {
+            Ok(()) => (Ok(()), world),
+            Err(_) => (Err(Broken::NoMemory), world),
+        },
+        Came::Full => (Err(Broken::Full), world),
+        Came::NoMemory => (Err(Broken::NoMemory), world),
     }
 }

@@ -69,7 +69,7 @@ fn put_upload(out: &mut Vec<u8>, ulid: Ulid, end: &UploadOutcome) -> Result<(), 
         UploadOutcome::Done(count) => put_numbered(out, "ok ", u64::from(*count), " objects")?,
         UploadOutcome::Already => put_text(out, "already")?,
         UploadOutcome::Fault(entry) => put_numbered(out, "fault ", *entry, "")?,
-        UploadOutcome::TooLarge => put_text(out, "refused 7")?,
+        UploadOutcome::Stopped(count) => put_numbered(out, "stopped ", u64::from(*count), "")?,
     }
     put_text(out, "\n")
 }

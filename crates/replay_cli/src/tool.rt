@@ -1,4 +1,4 @@
-ghost use Rattle.std.specs.Prelude.{◌≡◌, ◌⊎◌, ◌<◌, ◌+◌, Ok, Err, Some, None, IfOk, IfErr, IfSome, IsSome, IsSomeAnd, is_some, if◌then◌else◌};
+ghost use Rattle.std.specs.Prelude.{◌≡◌, ◌⊎◌, ◌<◌, ◌+◌, ℕ, List, [], Ok, Err, Some, None, IfOk, IfErr, IfSome, IsSome, IsSomeAnd, is_some, if◌then◌else◌};
 ghost use Rattle.bucket_core.specs.Causes.{Rose};
 ghost use Rattle.bucket_core.specs.Contents.{nothing};
 ghost use Rattle.script_core.specs.Reading.{script_of};
@@ -197,18 +197,28 @@ fn over_bucket<B: Bucket>(alloc: Global, script: &Script, bucket: B) -> Conclusi
     match World::open(alloc, bucket, script.rules.tick) {
         Ok(world) => over_world(alloc, script, world),
         Err((refusal, store)) => {
-            let verdict = match refusal {
-                OpenRefusal::Failed => Verdict::SiteFault,
-                OpenRefusal::NotEmpty(name) => Verdict::NotEmpty(name),
-                OpenRefusal::NoMemory => Verdict::NoMemory,
-            };
-            Conclusion::with_bucket(verdict, Journal::empty(alloc), store)
+            Conclusion::with_bucket(unopened(refusal), Journal::empty(alloc), store)
         }
     }
 }
 
+/// What a call comes to whose bucket is not opened.
+fn unopened(refusal: OpenRefusal) -> Verdict
+    ensures failed { refusal ≡ OpenRefusal.Failed → result ≡ Verdict.SiteFault }
+    ensures not_empty { (name : List ℕ) → refusal ≡ OpenRefusal.NotEmpty name → result ≡ Verdict.NotEmpty name }
+    ensures none { refusal ≡ OpenRefusal.NoMemory → result ≡ Verdict.NoMemory }
+{
+    match refusal {
+        OpenRefusal::Failed => Verdict::SiteFault,
+        OpenRefusal::NotEmpty(name) => Verdict::NotEmpty(name),
+        OpenRefusal::NoMemory => Verdict::NoMemory,
+    }
+}
+
 fn over_world<B: Bucket>(alloc: Global, script: &Script, world: World<B>) -> Conclusion<B>
-    requires { IsLawfulScript script.now }
+    requires lawful { IsLawfulScript script.now }
+    requires fresh { world.journal ≡ [] }
+    requires tick { world.tick ≡ script.now.rules.tick.ms }
     ensures cause { IsRun script.now (Some nothing) ⊥ result.journal result.verdict }
     ensures store { IsSome result.store }
     ensures journal { IsSome result.journal }

@@ -1,4 +1,4 @@
-ghost use Rattle.std.specs.Prelude.{◌≡◌, ◌++◌, ◌∷◌, [], codes, IfOk};
+ghost use Rattle.std.specs.Prelude.{◌≡◌, ◌≢◌, ◌++◌, ◌∷◌, [], codes, IfOk, OnOk};
 ghost use Rattle.replay_cli.specs.Reports.{newline};
 ghost use Rattle.script_core.specs.Wording.{refusal_text};
 ghost use Rattle.replay_cli.specs.Verdicts.{status_of, text_of};
@@ -49,7 +49,8 @@ impl Verdict {
 
     /// What is to be written. Want of memory has no words.
     pub(crate) fn into_text(self, alloc: Global) -> Result<Vec<u8>, NoMemory>
-        ensures { IfOk result (λ text. text.items ≡ text_of self) }
+        ensures text { IfOk result (λ text. text.items ≡ text_of self) }
+        ensures words { OnOk result (self ≢ Verdict.NoMemory) }
     {
         match self {
             Verdict::WordsRefused => line(alloc, "words refused"),

@@ -1,10 +1,13 @@
-use Rattle.std.proofs.Common.{◌≡◌, take, length}
-use Rattle.replay_cli.specs.Verdicts.{IsReport, tasks_of}
+use Rattle.std.proofs.Common.{◌≡◌, length}
+use Rattle.script_core.specs.Hands.{seats_before}
+use Rattle.replay_cli.specs.Progress.{Reached}
 use Rattle.replay_cli.proofs.phases.run_phases.Given as goal
 
--- the phases so far are told
+-- the phases so far are done and told
 abbrev pub invariant-loop-place : goal.invariant-loop-place
 invariant-loop-place g l = record {
-  told : IsReport l.script (tasks_of (take l.place l.script.phases)) l.progress.report.as_asked l.progress.report.text.items;
+  reached : Reached l.script l.place l.progress.gateways.items l.world.journal l.progress.report.as_asked l.progress.report.text.items;
+  tick : l.world.tick ≡ l.initial.world.tick;
+  workers : l.progress.workers ≡ seats_before l.script l.place;
   ready : length l.progress.gateways.items ≡ length l.script.gateways;
 }

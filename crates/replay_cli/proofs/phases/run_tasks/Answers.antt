@@ -1,15 +1,35 @@
-use Rattle.std.proofs.Common.{◌≡◌, ◌<◌, length, false, sym, ◌∙◌, arith}
-use Rattle.std.specs.Result.{is_err}
-use Rattle.replay_cli.proofs.ReportLists.{report_told, ok_fact}
+use Rattle.std.proofs.Common.{◌+◌, take, refl, ◌∙◌, subst, arith, List}
+use Rattle.lifecycle_core.specs.InLine.{seat_of}
+use Rattle.script_core.specs.declared.task.Task.{Task}
+use Rattle.replay_cli.specs.Progress.{TasksBroken, TasksDone}
+use Rattle.replay_cli.proofs.Told.{done_none, err_part, ok_part, take_whole}
 use Rattle.replay_cli.proofs.phases.run_tasks.Goals as goal
 
+pub loop-place-init : goal.loop-place-init
+loop-place-init g c = record {
+  done = λ views shows. done_none c.args.script.now (seat_of c.args.seats.now.workers) c.args.tasks.now views c.args.progress.now.gateways.items c.args.world.journal _ c.new.result.items shows refl c.new.ensures.items;
+  tick = refl;
+  report = refl;
+  workers = refl;
+  ready = c.requires.ready;
+}
+
+pub returns-in-Err-clause-came : goal.returns-in-Err-clause-came
+returns-in-Err-clause-came g c = λ views shows.
+    err_part _ (TasksBroken c.args.script.now (seat_of c.args.seats.now.workers) c.args.tasks.now views c.args.world.journal c.next_task-came.result.1.journal)
+    c.next_task-came.result.0 c.in-Err.broken c.in-Err.is (c.next_task-came.ensures.came views c.args.world.journal (c.loop-place.invariant.done views shows))
+
 pub loop-place-preserved : goal.loop-place-preserved
-loop-place-preserved g c =
-    let told : is_err c.tell.result ≡ false = sym c.is_err.ensures.value ∙ c.if-is_err.false in
-    let less : c.loop-place.place < length c.args.tasks.now = omega arith in
-    record {
-      told = report_told _ _ _ c.index-tasks-place.result _ _ _ _ c.in-To.outcome c.index-tasks-place.is less c.loop-place.invariant.told
-          (ok_fact c.tell.result _ told c.tell.ensures.asked) (ok_fact c.tell.result _ told c.tell.ensures.text);
-      kept = c.run_task-came.ensures.kept ∙ c.loop-place.invariant.kept;
-      ready = c.run_task-came.ensures.ready;
-    }
+loop-place-preserved g c = record {
+  done = λ views shows. ok_part (TasksDone c.args.script.now (seat_of c.args.seats.now.workers) (take (c.loop-place.place + 1) c.args.tasks.now) views c.next_task-came.new.progress.gateways.items c.args.world.journal c.next_task-came.result.1.journal c.next_task-came.new.lines.as_asked c.next_task-came.new.lines.text.items)
+      _ c.next_task-came.result.0 c.in_default.field-0 c.in_default.is (c.next_task-came.ensures.came views c.args.world.journal (c.loop-place.invariant.done views shows));
+  tick = c.next_task-came.ensures.tick ∙ c.loop-place.invariant.tick;
+  report = c.next_task-came.ensures.report ∙ c.loop-place.invariant.report;
+  workers = c.next_task-came.ensures.workers ∙ c.loop-place.invariant.workers;
+  ready = c.next_task-came.ensures.ready;
+}
+
+pub returns-clause-came : goal.returns-clause-came
+returns-clause-came g c = λ views shows.
+    subst (λ (ts : List Task). TasksDone c.args.script.now (seat_of c.args.seats.now.workers) ts views c.loop-place.progress.gateways.items c.args.world.journal c.loop-place.world.journal c.loop-place.lines.as_asked c.loop-place.lines.text.items)
+    (take_whole c.args.tasks.now c.loop-place.place (omega (arith, c.loop-place-test.false))) (c.loop-place.invariant.done views shows)

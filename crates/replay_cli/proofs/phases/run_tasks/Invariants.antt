@@ -1,11 +1,16 @@
 use Rattle.std.proofs.Common.{◌≡◌, take, length}
-use Rattle.replay_cli.specs.Verdicts.{IsReport}
+use Rattle.lifecycle_core.specs.InLine.{seat_of}
+use Rattle.lifecycle_core.specs.Views.{Views}
+use Rattle.replay_cli.specs.Progress.{Shows, TasksDone}
 use Rattle.replay_cli.proofs.phases.run_tasks.Given as goal
 
--- the tasks so far are told, and the report of the phases before stays
+-- the tasks so far are done and told
 abbrev pub invariant-loop-place : goal.invariant-loop-place
 invariant-loop-place g l = record {
-  told : IsReport l.script (take l.place l.tasks) l.lines.as_asked l.lines.text.items;
-  kept : l.progress.report ≡ l.initial.progress.report;
+  done : (views : Views) → Shows views l.initial.progress.gateways.items
+      → TasksDone l.script (seat_of l.seats.workers) (take l.place l.tasks) views l.progress.gateways.items l.initial.world.journal l.world.journal l.lines.as_asked l.lines.text.items;
+  tick : l.world.tick ≡ l.initial.world.tick;
+  report : l.progress.report ≡ l.initial.progress.report;
+  workers : l.progress.workers ≡ l.initial.progress.workers;
   ready : length l.progress.gateways.items ≡ length l.script.gateways;
 }

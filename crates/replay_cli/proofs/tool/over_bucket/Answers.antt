@@ -1,6 +1,14 @@
+use Rattle.std.proofs.Common.{◌∙◌}
 use Rattle.replay_cli.proofs.HandedBack.{back_of_none}
+use Rattle.replay_cli.proofs.Runs.{opened_told}
 use Rattle.replay_cli.proofs.tool.over_bucket.Goals as goal
 
-pub returns-after-refusal-clause-back : goal.returns-after-refusal-clause-back
-returns-after-refusal-clause-back g c =
+pub returns-in-Err-clause-back : goal.returns-in-Err-clause-back
+returns-in-Err-clause-back g c =
     back_of_none g.B.Bucket.contents g.B.Bucket.faults c.in-Err.store _ _ _ c.empty.ensures c.with_bucket.ensures.journal c.with_bucket.ensures.store
+
+pub returns-in-Err-clause-cause : goal.returns-in-Err-clause-cause
+returns-in-Err-clause-cause g c =
+    opened_told c.args.script.now (g.B.Bucket.contents c.args.bucket) g.B.Bucket.faults c.args.bucket c.in-Err.store c.in-Err.refusal c.with_bucket.result.verdict c.empty.result c.with_bucket.result.journal c.with_bucket.result.store
+    c.with_bucket.ensures.journal c.empty.ensures c.with_bucket.ensures.store c.in-Err.ensures.failed c.in-Err.ensures.not_empty
+    (λ is. c.with_bucket.ensures.verdict ∙ c.unopened.ensures.failed is) (λ name is. c.with_bucket.ensures.verdict ∙ c.unopened.ensures.not_empty name is) (λ is. c.with_bucket.ensures.verdict ∙ c.unopened.ensures.none is)

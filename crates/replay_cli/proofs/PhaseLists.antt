@@ -1,0 +1,324 @@
+-- Phases that were done one after another.
+use Rattle.std.proofs.Common.{◌≡◌, ℕ, zero, suc, ◌+◌, ◌-◌, ◌<◌, ◌≤◌, Bool, true, false, ◌&&◌, List, [], ◌∷◌, ◌++◌, length, get_or, take, drop, refl, sym, ◌∙◌, ap, subst, inl, inr, ◌⊎◌, append_assoc, take-append-drop, arith}
+use Rattle.std.specs.Prelude.{◌≢◌, ◌^◌, min, Option, Some, None, Result, Ok, Err, OnOk, slice_get}
+use Rattle.std.specs.List.{All, AllZip, list_all}
+use Rattle.std.proofs.lemmas.List.{append-nil, length-append}
+use Rattle.std.proofs.lemmas.Option.{slice_get_within, get_or_from_slice_get}
+use Rattle.world_core.specs.Keeping.{IsFull}
+use Rattle.world_core.specs.Worlds.{IsJournal}
+use Rattle.world_core.specs.declared.entry.Entry.{Entry}
+use Rattle.store_gateway.specs.declared.gateway.Gateway.{Gateway}
+use Rattle.script_core.specs.Hands.{gateway_count, hands_of, seats_after, seats_before, seats_from, workers_from, workers_of}
+use Rattle.script_core.specs.Lawful.{IsLawfulPhase, IsLawfulScript}
+use Rattle.script_core.specs.declared.hand.Hand.{Hand}
+use Rattle.script_core.specs.declared.worker.Worker.{Worker}
+use Rattle.script_core.specs.declared.phase.Phase.{Phase}
+use Rattle.script_core.specs.declared.script.Script.{Script}
+use Rattle.script_core.specs.declared.task.Task.{Task}
+use Rattle.lifecycle_core.specs.InLine.{InLine, PhasesInLine, seat_of}
+use Rattle.lifecycle_core.specs.Phases.{BeginsPhase, IsLawfulJournal}
+use Rattle.lifecycle_core.specs.Tasks.{End}
+use Rattle.lifecycle_core.specs.Views.{Use, Views, no_views}
+use Rattle.lifecycle_core.proofs.Joined.{no_phase_yet}
+use Rattle.lifecycle_core.proofs.RunsInLine.{AreWhole, by_few, by_parts, by_workers, finished, own_came, run_of, workers_at}
+use Rattle.replay_cli.specs.Outcomes.{PhasesCame}
+use Rattle.replay_cli.specs.Progress.{HasRun, IsBrokenAt, PhaseStep, PhasesTold, Reached, Shows, RunCame, TasksBroken, TasksDone, TasksTold, duties_at}
+use Rattle.replay_cli.specs.Reports.{activity_text, is_as_asked}
+use Rattle.replay_cli.specs.Verdicts.{IsFullRun, IsReport, IsWholeRun, report_of, tasks_of}
+use Rattle.replay_cli.specs.declared.came.Broken.{Broken}
+use Rattle.replay_cli.specs.declared.came.Broken.TheVariants as broken
+use Rattle.replay_cli.specs.declared.outcome.Outcome.{Outcome}
+use Rattle.replay_cli.proofs.ReportLists.{all_append, report_append, tasks_append}
+use Rattle.replay_cli.proofs.Told.{tasks_came, told_length, told_outcomes}
+
+-- ---- lists
+
+drop_at : (phases : List Phase) (place : ℕ) (phase : Phase) → slice_get phases place ≡ Some phase → drop place phases ≡ phase ∷ drop (place + 1) phases
+drop_at [] place phase at = absurd (cc (at))
+drop_at (p ∷ ps) zero phase at = let same : p ≡ phase = cc (at) in ap (λ (x : Phase). x ∷ ps) same
+drop_at (p ∷ ps) (suc place) phase at = let e : suc place + 1 ≡ suc (place + 1) = omega arith in rw e (drop_at ps place phase at)
+
+take_at : (phases : List Phase) (place : ℕ) (phase : Phase) → slice_get phases place ≡ Some phase → take (place + 1) phases ≡ take place phases ++ phase ∷ []
+take_at [] place phase at = absurd (cc (at))
+take_at (p ∷ ps) zero phase at = let same : p ≡ phase = cc (at) in ap (λ (x : Phase). x ∷ []) same
+take_at (p ∷ ps) (suc place) phase at = let e : suc place + 1 ≡ suc (place + 1) = omega arith in rw e (ap (λ l. p ∷ l) (take_at ps place phase at))
+
+front_at : (phases : List Phase) (n k : ℕ) (phase : Phase) → slice_get (take n phases) k ≡ Some phase → slice_get phases k ≡ Some phase
+front_at [] zero k phase at = absurd (cc (at))
+front_at [] (suc n) k phase at = absurd (cc (at))
+front_at (p ∷ ps) zero k phase at = absurd (cc (at))
+front_at (p ∷ ps) (suc n) zero phase at = at
+front_at (p ∷ ps) (suc n) (suc k) phase at = front_at ps n k phase at
+
+whole_front : (phases : List Phase) → take (length phases) phases ≡ phases
+whole_front [] = refl
+whole_front (p ∷ ps) = ap (λ l. p ∷ l) (whole_front ps)
+
+-- ---- what phases told
+
+told_more : (script : Script) (phases : List Phase) (phase : Phase) (ends : List (List End)) (own : List End) (outcomes first : List Outcome) → PhasesTold script phases ends outcomes → TasksTold script 0 phase.tasks own first
+    → PhasesTold script (phases ++ phase ∷ []) (ends ++ own ∷ []) (outcomes ++ first)
+told_more script [] phase [] own outcomes first told one = (first, [], ap (λ (l : List Outcome). l ++ first) told.1 ∙ sym (append-nil first), one, (refl, refl))
+told_more script [] phase (e ∷ es) own outcomes first told one = absurd (cc (told.0))
+told_more script (p ∷ ps) phase [] own outcomes first told one = absurd told
+told_more script (p ∷ ps) phase (e ∷ es) own outcomes first told one =
+    (told.0, told.1 ++ first, ap (λ (l : List Outcome). l ++ first) told.2 ∙ append_assoc told.0 told.1 first, told.3, told_more script ps phase es own told.1 first told.4 one)
+
+told_count : (script : Script) (phases : List Phase) (ends : List (List End)) (outcomes : List Outcome) → PhasesTold script phases ends outcomes → length outcomes ≡ length (tasks_of phases)
+told_count script [] ends outcomes told = ap (length {A = Outcome}) told.1
+told_count script (p ∷ ps) [] outcomes told = absurd told
+told_count script (p ∷ ps) (e ∷ es) outcomes told =
+    omega (arith, ap (length {A = Outcome}) told.2, length-append told.0 told.1, length-append p.tasks (tasks_of ps), told_outcomes script 0 p.tasks e told.0 told.3, told_count script ps es told.1 told.4)
+
+told_ends : (script : Script) (phases : List Phase) (ends : List (List End)) (outcomes : List Outcome) → PhasesTold script phases ends outcomes → length ends ≡ length phases
+told_ends script [] ends outcomes told = ap (length {A = List End}) told.0
+told_ends script (p ∷ ps) [] outcomes told = absurd told
+told_ends script (p ∷ ps) (e ∷ es) outcomes told = ap suc (told_ends script ps es told.1 told.4)
+
+told_whole : (script : Script) (phases : List Phase) (ends : List (List End)) (outcomes : List Outcome) → PhasesTold script phases ends outcomes → AreWhole (gateway_count script.gateways) phases ends
+told_whole script [] [] outcomes told = tt
+told_whole script [] (e ∷ es) outcomes told = absurd (cc (told.0))
+told_whole script (p ∷ ps) [] outcomes told = absurd told
+told_whole script (p ∷ ps) (e ∷ es) outcomes told = (told_length script 0 p.tasks e told.0 told.3, told_whole script ps es told.1 told.4)
+
+phases_came : (script : Script) → IsLawfulScript script → (number : ℕ) (phases : List Phase) (ends : List (List End)) (outcomes : List Outcome)
+    → ((k : ℕ) (p : Phase) → slice_get phases k ≡ Some p → slice_get script.phases (number + k) ≡ Some p) → PhasesTold script phases ends outcomes
+    → PhasesCame script number phases (by_workers (gateway_count script.gateways) phases ends) outcomes
+unfolding by_workers
+phases_came script lawful number [] ends outcomes same told = (refl, told.1)
+phases_came script lawful number (phase ∷ phases) [] outcomes same told = absurd told
+phases_came script lawful number (phase ∷ phases) (first ∷ later) outcomes same told =
+    let at : slice_get script.phases number ≡ Some phase = ap (slice_get script.phases) (omega arith) ∙ same 0 phase refl in
+    let next : (k : ℕ) (p : Phase) → slice_get phases k ≡ Some p → slice_get script.phases (number + 1 + k) ≡ Some p = λ k p own. ap (slice_get script.phases) (omega arith) ∙ same (suc k) p own in (
+      told.0,
+      told.1,
+      told.2,
+      tasks_came script (workers_of script number) _ 0 phase.tasks first told.0 told.3 (own_came script lawful number phase first at (told_length script 0 phase.tasks first told.0 told.3)),
+      phases_came script lawful (number + 1) phases later told.1 next told.4,
+    )
+
+-- ---- from one phase to the next
+
+module _ (script : Script) (place : ℕ) (phase : Phase) (shown : List Gateway) (journal : List Entry) (as_asked : Bool) (text : List ℕ) (at : slice_get script.phases place ≡ Some phase) where
+  -- the phase was not begun
+  pub unbegun : (gateways : List Gateway) → Reached script place shown journal as_asked text → IsBrokenAt script place journal as_asked text
+  unbegun gateways r = record {
+    ends = r.ends;
+    unfinished = [];
+    few = omega arith;
+    run = subst (λ (es : List Entry). PhasesInLine script 0 no_views script.phases es (r.ends ++ [])) (append-nil journal) (r.onward [] [] (no_phase_yet script place r.views (drop place script.phases)));
+    outcomes = r.outcomes;
+    told = r.told;
+    lines = r.lines;
+    flag = r.flag;
+  }
+
+  -- the phase with its clock's setting and its tasks, and what follows it
+  begun : (r : Reached script place shown journal as_asked text) (clock : Entry) (made rest : List Entry) (own : List End) (later : List (List End)) (after : Views) (gone : List Entry) → BeginsPhase phase clock
+      → InLine script (seat_of (workers_of script place)) r.views (duties_at script 0 phase.tasks) made own after
+      → ((rest ≡ []) × (later ≡ [])) ⊎ ((length own ≡ length (duties_at script 0 phase.tasks)) × PhasesInLine script (place + 1) after (drop (place + 1) script.phases) rest later)
+      → gone ≡ (journal ++ clock ∷ []) ++ made → PhasesInLine script 0 no_views script.phases (gone ++ rest) (r.ends ++ own ∷ later)
+  begun r clock made rest own later after gone begins run next same =
+      let here : PhasesInLine script place r.views (drop place script.phases) (clock ∷ made ++ rest) (own ∷ later) =
+      subst (λ (ps : List Phase). PhasesInLine script place r.views ps (clock ∷ made ++ rest) (own ∷ later)) (sym (drop_at script.phases place phase at))
+      (inr (clock, made, rest, own, later, after, refl, begins, run, refl, next)) in
+      let e : journal ++ (clock ∷ made ++ rest) ≡ gone ++ rest =
+      sym (append_assoc journal (clock ∷ []) (made ++ rest)) ∙ sym (append_assoc (journal ++ clock ∷ []) made rest) ∙ ap (λ (l : List Entry). l ++ rest) (sym same) in
+      subst (λ (es : List Entry). PhasesInLine script 0 no_views script.phases es (r.ends ++ own ∷ later)) e (r.onward (clock ∷ made ++ rest) (own ∷ later) here)
+
+  -- the phase was broken off
+  pub broken_off : (clock : Entry) (new : List Entry) → BeginsPhase phase clock → (r : Reached script place shown journal as_asked text)
+      → ((v : Views) → Shows v shown → TasksBroken script (seat_of (workers_of script place)) phase.tasks v (journal ++ clock ∷ []) new) → IsBrokenAt script place new as_asked text
+  broken_off clock new begins r tasks =
+      let t = tasks r.views r.shows in
+      record {
+        ends = r.ends;
+        unfinished = t.ends ∷ [];
+        few = omega arith;
+        run = subst (λ (es : List Entry). PhasesInLine script 0 no_views script.phases es (r.ends ++ t.ends ∷ [])) (append-nil new) (begun r clock t.made [] t.ends [] t.after new begins t.run (inl (refl, refl)) t.entries);
+        outcomes = r.outcomes;
+        told = r.told;
+        lines = r.lines;
+        flag = r.flag;
+      }
+
+  -- the phase was done to its end
+  pub reached_more : (clock : Entry) (new : List Entry) (gateways : List Gateway) (asked asked' : Bool) (own lines : List ℕ) → BeginsPhase phase clock → (r : Reached script place shown journal as_asked text)
+      → ((v : Views) → Shows v shown → TasksDone script (seat_of (workers_of script place)) phase.tasks v gateways (journal ++ clock ∷ []) new asked own)
+      → lines ≡ text ++ own → asked' ≡ as_asked && asked → Reached script (place + 1) gateways new asked' lines
+  reached_more clock new gateways asked asked' own lines begins r tasks lines_are flag =
+      let t = tasks r.views r.shows in
+      let length_is = told_length script 0 phase.tasks t.ends t.outcomes t.told in
+      let front = take_at script.phases place phase at in
+      record {
+        views = t.after;
+        shows = t.shows;
+        ends = r.ends ++ t.ends ∷ [];
+        onward = λ entries later next. subst (λ (l : List (List End)). PhasesInLine script 0 no_views script.phases (new ++ entries) l) (sym (append_assoc r.ends (t.ends ∷ []) later))
+            (begun r clock t.made entries t.ends later t.after new begins t.run (inr (length_is, next)) t.entries);
+        outcomes = r.outcomes ++ t.outcomes;
+        told = subst (λ (ps : List Phase). PhasesTold script ps (r.ends ++ t.ends ∷ []) (r.outcomes ++ t.outcomes)) (sym front) (told_more script (take place script.phases) phase r.ends t.ends r.outcomes t.outcomes r.told t.told);
+        lines = lines_are ∙ ap (λ (l : List ℕ). l ++ own) r.lines ∙ ap (λ (l : List ℕ). report_of script (tasks_of (take place script.phases)) r.outcomes ++ l) t.lines
+            ∙ sym (report_append script (tasks_of (take place script.phases)) phase.tasks r.outcomes t.outcomes (told_count script (take place script.phases) r.ends r.outcomes r.told))
+            ∙ ap (λ (ts : List Task). report_of script ts (r.outcomes ++ t.outcomes)) (sym (ap tasks_of front ∙ tasks_append (take place script.phases) (phase ∷ []) ∙ ap (λ (l : List Task). tasks_of (take place script.phases) ++ l) (append-nil phase.tasks)));
+        flag = flag ∙ ap (λ b. b && asked) r.flag ∙ ap (λ b. list_all is_as_asked r.outcomes && b) t.flag ∙ sym (all_append r.outcomes t.outcomes);
+      }
+
+pub run_so_far : (script : Script) (place : ℕ) (shown : List Gateway) (journal : List Entry) (as_asked : Bool) (text : List ℕ) → Reached script place shown journal as_asked text → HasRun script journal
+run_so_far script place shown journal as_asked text r =
+    (r.ends ++ [], subst (λ (es : List Entry). PhasesInLine script 0 no_views script.phases es (r.ends ++ [])) (append-nil journal) (r.onward [] [] (no_phase_yet script place r.views (drop place script.phases))))
+
+pub run_broken : (script : Script) (place : ℕ) (journal : List Entry) (as_asked : Bool) (text : List ℕ) → IsBrokenAt script place journal as_asked text → HasRun script journal
+run_broken script place journal as_asked text b = (b.ends ++ b.unfinished, b.run)
+
+blind_at : (gateways : List Gateway) (place : ℕ) (gateway : Gateway) → All (λ (g : Gateway). g.view ≡ None) gateways → slice_get gateways place ≡ Some gateway → gateway.view ≡ None
+blind_at gateways place gateway blind at =
+    subst (λ (g : Gateway). g.view ≡ None) (get_or_from_slice_get gateways place gateway gateway at) (blind place gateway (slice_get_within gateways place gateway at))
+
+take_none : (phases : List Phase) → take 0 phases ≡ []
+take_none [] = refl
+take_none (p ∷ ps) = refl
+
+drop_none : (phases : List Phase) → drop 0 phases ≡ phases
+drop_none [] = refl
+drop_none (p ∷ ps) = refl
+
+-- before the first phase
+pub reached_none : (script : Script) (gateways : List Gateway) (journal : List Entry) (asked : Bool) (text : List ℕ) → All (λ (g : Gateway). g.view ≡ None) gateways → journal ≡ [] → asked ≡ true → text ≡ []
+    → Reached script 0 gateways journal asked text
+unfolding report_of
+reached_none script gateways journal asked text blind none all empty = record {
+  views = no_views;
+  shows = λ place gateway at. sym (blind_at gateways place gateway blind at);
+  ends = [];
+  onward = λ entries later run. subst (λ (ps : List Phase). PhasesInLine script 0 no_views ps (journal ++ entries) later) (drop_none script.phases)
+      (subst (λ (es : List Entry). PhasesInLine script 0 no_views (drop 0 script.phases) (es ++ entries) later) (sym none) run);
+  outcomes = [];
+  told = subst (λ (ps : List Phase). PhasesTold script ps [] []) (sym (take_none script.phases)) (refl, refl);
+  lines = empty ∙ ap (λ (ps : List Phase). report_of script (tasks_of ps) []) (sym (take_none script.phases));
+  flag = all;
+}
+
+-- ---- whole runs
+
+pub whole_run : (script : Script) (gateways : List Gateway) (journal : List Entry) (as_asked : Bool) (text : List ℕ) → IsLawfulScript script → IsJournal script.rules.tick.ms journal
+    → Reached script (length script.phases) gateways journal as_asked text → IsWholeRun script as_asked text journal
+whole_run script gateways journal as_asked text lawful kept r =
+    let run : PhasesInLine script 0 no_views script.phases journal r.ends =
+    subst (λ (l : List (List End)). PhasesInLine script 0 no_views script.phases journal l) (append-nil r.ends)
+    (subst (λ (es : List Entry). PhasesInLine script 0 no_views script.phases es (r.ends ++ [])) (append-nil journal) (r.onward [] [] (no_phase_yet script (length script.phases) r.views (drop (length script.phases) script.phases)))) in
+    let told : PhasesTold script script.phases r.ends r.outcomes = subst (λ (ps : List Phase). PhasesTold script ps r.ends r.outcomes) (whole_front script.phases) r.told in
+    let same : (k : ℕ) (p : Phase) → slice_get script.phases k ≡ Some p → slice_get script.phases (0 + k) ≡ Some p = λ k p own. ap (slice_get script.phases) (omega arith) ∙ own in
+    record {
+      ends = by_workers (gateway_count script.gateways) script.phases r.ends;
+      run = run_of script journal r.ends lawful (record { kept = kept; phases = run });
+      finished = finished script lawful 0 script.phases r.ends same (told_whole script script.phases r.ends r.outcomes told);
+      report = record {
+        outcomes = r.outcomes;
+        came = phases_came script lawful 0 script.phases r.ends r.outcomes same told;
+        lines = r.lines ∙ ap (λ (ps : List Phase). report_of script (tasks_of ps) r.outcomes) (whole_front script.phases);
+        flag = r.flag;
+      };
+    }
+
+left_some : (phases : List Phase) (place : ℕ) → place < length phases → drop place phases ≡ [] → ⊥
+left_some [] place below none = absurd (omega (arith, below))
+left_some (p ∷ ps) zero below none = absurd (cc (none))
+left_some (p ∷ ps) (suc place) below none = left_some ps place (omega (arith, below)) none
+
+pub full_run : (script : Script) (place : ℕ) (journal : List Entry) (as_asked : Bool) (text : List ℕ) → IsLawfulScript script → IsJournal script.rules.tick.ms journal → IsFull journal → place < length script.phases
+    → IsBrokenAt script place journal as_asked text → IsFullRun script text journal
+full_run script place journal as_asked text lawful kept full below b =
+    let gateways = gateway_count script.gateways in
+    let done = take place script.phases in
+    let left = drop place script.phases in
+    let same : (k : ℕ) (p : Phase) → slice_get done k ≡ Some p → slice_get script.phases (0 + k) ≡ Some p = λ k p own. ap (slice_get script.phases) (omega arith) ∙ front_at script.phases place k p own in
+    record {
+      ends = by_workers gateways script.phases (b.ends ++ b.unfinished);
+      run = run_of script journal (b.ends ++ b.unfinished) lawful (record { kept = kept; phases = b.run });
+      full = full;
+      done = done;
+      left = left;
+      phases = sym (take-append-drop place script.phases);
+      more = λ none. left_some script.phases place below none;
+      told = by_workers gateways done b.ends;
+      untold = by_workers gateways left b.unfinished;
+      parts = ap (λ (ps : List Phase). by_workers gateways ps (b.ends ++ b.unfinished)) (sym (take-append-drop place script.phases)) ∙ by_parts gateways done left b.ends b.unfinished (told_ends script done b.ends b.outcomes b.told);
+      few = omega (arith, by_few gateways left b.unfinished, b.few);
+      finished = finished script lawful 0 done b.ends same (told_whole script done b.ends b.outcomes b.told);
+      as_asked = as_asked;
+      report = record { outcomes = b.outcomes; came = phases_came script lawful 0 done b.ends b.outcomes same b.told; lines = b.lines; flag = b.flag };
+    }
+
+pub lawful_run : (script : Script) (journal : List Entry) → IsLawfulScript script → IsJournal script.rules.tick.ms journal → HasRun script journal → IsLawfulJournal script journal
+lawful_run script journal lawful kept run =
+    (by_workers (gateway_count script.gateways) script.phases run.0, run_of script journal run.0 lawful (record { kept = kept; phases = run.1 }))
+
+-- ---- what a phase's call leaves
+
+pub lawful_phase : (script : Script) (place : ℕ) (phase : Phase) → IsLawfulScript script → slice_get script.phases place ≡ Some phase → IsLawfulPhase script.gateways script.blocks (length script.selectors) phase
+lawful_phase script place phase lawful at =
+    subst (IsLawfulPhase script.gateways script.blocks (length script.selectors)) (get_or_from_slice_get script.phases place phase phase at) ((lawful.phases).each place phase (slice_get_within script.phases place phase at))
+
+pub unbegun_step : (script : Script) (place : ℕ) (phase : Phase) (shown gateways : List Gateway) (journal new : List Entry) (as_asked : Bool) (text : List ℕ) (b : Broken) → slice_get script.phases place ≡ Some phase → new ≡ journal
+    → Reached script place shown journal as_asked text → PhaseStep script place gateways new as_asked text (Err b)
+unbegun_step script place phase shown gateways journal new as_asked text broken.Full at same r = subst (λ (es : List Entry). IsBrokenAt script place es as_asked text) (sym same) (unbegun script place phase shown journal as_asked text at gateways r)
+unbegun_step script place phase shown gateways journal new as_asked text broken.NoMemory at same r = subst (HasRun script) (sym same) (run_so_far script place shown journal as_asked text r)
+
+pub broken_step : (script : Script) (place : ℕ) (gateways : List Gateway) (journal : List Entry) (as_asked as_asked' : Bool) (text text' : List ℕ) (b : Broken) → as_asked ≡ as_asked' → text ≡ text'
+    → IsBrokenAt script place journal as_asked text → PhaseStep script place gateways journal as_asked' text' (Err b)
+broken_step script place gateways journal as_asked as_asked' text text' broken.Full one other at =
+    subst (λ (x : Bool). IsBrokenAt script place journal x text') one (subst (λ (x : List ℕ). IsBrokenAt script place journal as_asked x) other at)
+broken_step script place gateways journal as_asked as_asked' text text' broken.NoMemory one other at = run_broken script place journal as_asked text at
+
+pub taken_step : (script : Script) (place : ℕ) (gateways : List Gateway) (journal : List Entry) (as_asked asked asked' : Bool) (text own lines : List ℕ) (r : Result (Unit {0}) Broken) → r ≢ Err broken.Full
+    → ((a : Bool) (l : List ℕ) → l ≡ text ++ own → a ≡ as_asked && asked → Reached script (place + 1) gateways journal a l)
+    → OnOk r (lines ≡ text ++ own) → OnOk r (asked' ≡ as_asked && asked) → PhaseStep script place gateways journal asked' lines r
+taken_step script place gateways journal as_asked asked asked' text own lines (Ok done) never reached one other = reached asked' lines one other
+taken_step script place gateways journal as_asked asked asked' text own lines (Err broken.Full) never reached one other = absurd (never refl)
+taken_step script place gateways journal as_asked asked asked' text own lines (Err broken.NoMemory) never reached one other =
+    run_so_far script (place + 1) gateways journal (as_asked && asked) (text ++ own) (reached (as_asked && asked) (text ++ own) refl refl)
+
+workers_length : (gateways before : ℕ) (tasks : List Task) (hs : List Hand) → length (workers_from gateways before tasks hs) ≡ length hs
+unfolding workers_from
+workers_length gateways before tasks [] = refl
+workers_length gateways before tasks (h ∷ hs) = ap suc (workers_length gateways (seats_after before 1) tasks hs)
+
+seats_append : (gateways before : ℕ) (one : List Phase) (phase : Phase) → seats_from gateways before (one ++ phase ∷ []) ≡ seats_after (seats_from gateways before one) (length (hands_of gateways phase.tasks))
+unfolding seats_from
+seats_append gateways before [] phase = refl
+seats_append gateways before (p ∷ ps) phase = seats_append gateways (seats_after before (length (hands_of gateways p.tasks))) ps phase
+
+-- the seats before the next phase
+pub seats_next : (script : Script) (place : ℕ) (phase : Phase) (workers : List Worker) (before count after : ℕ) → slice_get script.phases place ≡ Some phase → workers ≡ workers_of script place → before ≡ seats_before script place
+    → count ≡ min (length workers) (2 ^ 32 - 1) → after ≡ min (before + count) (2 ^ 32 - 1) → after ≡ seats_before script (place + 1)
+seats_next script place phase workers before count after at are is counted next =
+    let gateways = gateway_count script.gateways in
+    let n : length workers ≡ length (hands_of gateways phase.tasks) = ap (length {A = Worker}) (are ∙ workers_at script place phase at) ∙ workers_length gateways (seats_before script place) phase.tasks (hands_of gateways phase.tasks) in
+    let e : seats_before script (place + 1) ≡ seats_after (seats_before script place) (length (hands_of gateways phase.tasks)) =
+    ap (seats_from gateways 0) (take_at script.phases place phase at) ∙ seats_append gateways 0 (take place script.phases) phase in
+    let f : after ≡ seats_after (seats_before script place) (length (hands_of gateways phase.tasks)) = omega (arith, n, is, counted, next) in
+    f ∙ sym e
+
+pub ended_step : (script : Script) (place : ℕ) (gateways : List Gateway) (journal : List Entry) (as_asked : Bool) (text : List ℕ) (b : Broken) → place < length script.phases → PhaseStep script place gateways journal as_asked text (Err b)
+    → RunCame script gateways journal as_asked text (Err b)
+ended_step script place gateways journal as_asked text broken.Full below step = (place, below, step)
+ended_step script place gateways journal as_asked text broken.NoMemory below step = step
+
+pub done_from : (script : Script) (place : ℕ) (phase : Phase) (shown gateways : List Gateway) (journal mid new : List Entry) (asked : Bool) (own : List ℕ) (workers : List Worker) (tasks : List Task) (clock : Entry)
+    → workers ≡ workers_of script place → tasks ≡ phase.tasks → mid ≡ journal ++ clock ∷ []
+    → ((v : Views) → Shows v shown → TasksDone script (seat_of workers) tasks v gateways mid new asked own)
+    → (v : Views) → Shows v shown → TasksDone script (seat_of (workers_of script place)) phase.tasks v gateways (journal ++ clock ∷ []) new asked own
+done_from script place phase shown gateways journal mid new asked own workers tasks clock w t m done = λ v shows.
+    subst (λ (ws : List Worker). TasksDone script (seat_of ws) phase.tasks v gateways (journal ++ clock ∷ []) new asked own) w
+    (subst (λ (ts : List Task). TasksDone script (seat_of workers) ts v gateways (journal ++ clock ∷ []) new asked own) t
+    (subst (λ (es : List Entry). TasksDone script (seat_of workers) tasks v gateways es new asked own) m (done v shows)))
+
+pub broken_from : (script : Script) (place : ℕ) (phase : Phase) (shown : List Gateway) (journal mid new : List Entry) (workers : List Worker) (tasks : List Task) (clock : Entry)
+    → workers ≡ workers_of script place → tasks ≡ phase.tasks → mid ≡ journal ++ clock ∷ []
+    → ((v : Views) → Shows v shown → TasksBroken script (seat_of workers) tasks v mid new)
+    → (v : Views) → Shows v shown → TasksBroken script (seat_of (workers_of script place)) phase.tasks v (journal ++ clock ∷ []) new
+broken_from script place phase shown journal mid new workers tasks clock w t m done = λ v shows.
+    subst (λ (ws : List Worker). TasksBroken script (seat_of ws) phase.tasks v (journal ++ clock ∷ []) new) w
+    (subst (λ (ts : List Task). TasksBroken script (seat_of workers) ts v (journal ++ clock ∷ []) new) t
+    (subst (λ (es : List Entry). TasksBroken script (seat_of workers) tasks v es new) m (done v shows)))

@@ -1,0 +1,247 @@
+-- Tasks that were done one after another, and how they came out.
+use Rattle.std.proofs.Common.{◌≡◌, ℕ, zero, suc, ◌+◌, ◌-◌, ◌<◌, ◌≤◌, Bool, true, false, ◌&&◌, List, [], ◌∷◌, ◌++◌, length, map, get_or, take, drop, refl, sym, ◌∙◌, ap, subst, append_assoc, arith}
+use Rattle.std.specs.Prelude.{Result, Ok, Err, MatchResult, OnErr, OnOk}
+use Rattle.std.specs.List.{All, AllZip, list_all}
+use Rattle.std.proofs.lemmas.List.{append-nil, length-append, length-map, take_more}
+use Rattle.world_core.specs.declared.entry.Entry.{Entry}
+use Rattle.store_gateway.specs.declared.gateway.Gateway.{Gateway}
+use Rattle.script_core.specs.Hands.{gateway_count, gateway_of, hands_of_task}
+use Rattle.script_core.specs.Lawful.{IsLawfulScript, IsLawfulWork}
+use Rattle.script_core.specs.declared.hand.Hand.{Hand}
+use Rattle.script_core.specs.declared.script.Script.{Script}
+use Rattle.script_core.specs.declared.task.Task.{Task}
+use Rattle.script_core.specs.declared.worker.Worker.{Worker}
+use Rattle.lifecycle_core.specs.InLine.{Duty, duties_from, InLine}
+use Rattle.lifecycle_core.specs.Phases.{CameTo}
+use Rattle.lifecycle_core.specs.Tasks.{End}
+use Rattle.lifecycle_core.specs.Views.{Views}
+use Rattle.lifecycle_core.proofs.Joined.{both, cut, duties_begin, duties_more, duties_parts}
+use Rattle.lifecycle_core.proofs.RunsInLine.{may_begin}
+use Rattle.lifecycle_core.proofs.TaskRuns.{MayBegin}
+use Rattle.std.proofs.lemmas.List.Elements.{All-tail}
+use Rattle.replay_cli.specs.Outcomes.{IsOutcome, TaskCame, TasksCame}
+use Rattle.replay_cli.specs.Progress.{Shows, TaskStep, TasksBroken, TasksDone, TasksTold, duties_at}
+use Rattle.replay_cli.specs.Reports.{activity_text, is_as_asked}
+use Rattle.replay_cli.specs.Verdicts.{report_of}
+use Rattle.replay_cli.specs.declared.came.Came.{Came}
+use Rattle.replay_cli.specs.declared.came.Came.TheVariants as came
+use Rattle.replay_cli.specs.declared.outcome.Outcome.{Outcome}
+use Rattle.replay_cli.proofs.ReportLists.{all_append, report_append}
+
+-- one task more
+told_more : (script : Script) (place : ℕ) (tasks : List Task) (task : Task) (ends own : List End) (outcomes : List Outcome) (o : Outcome) → TasksTold script place tasks ends outcomes
+    → length own ≡ length (duties_at script (place + length tasks) (task ∷ [])) → IsOutcome task.work own o → TasksTold script place (tasks ++ task ∷ []) (ends ++ own) (outcomes ++ o ∷ [])
+told_more script place [] task ends own outcomes o told same is =
+    let at : place + length {A = Task} [] ≡ place = omega arith in (
+      own,
+      [],
+      o,
+      [],
+      ap (λ (l : List End). l ++ own) told.0 ∙ sym (append-nil own),
+      same ∙ ap (λ n. length (duties_at script n (task ∷ []))) at,
+      is,
+      ap (λ (l : List Outcome). l ++ o ∷ []) told.1,
+      (refl, refl),
+    )
+told_more script place (t ∷ tasks) task ends own outcomes o told same is =
+    let at : place + length (t ∷ tasks) ≡ place + 1 + length tasks = omega arith in (
+      told.0,
+      told.1 ++ own,
+      told.2,
+      told.3 ++ o ∷ [],
+      ap (λ (l : List End). l ++ own) told.4 ∙ append_assoc told.0 told.1 own,
+      told.5,
+      told.6,
+      ap (λ (l : List Outcome). l ++ o ∷ []) told.7,
+      told_more script (place + 1) tasks task told.1 own told.3 o told.8 (same ∙ ap (λ n. length (duties_at script n (task ∷ []))) at) is,
+    )
+
+pub told_outcomes : (script : Script) (place : ℕ) (tasks : List Task) (ends : List End) (outcomes : List Outcome) → TasksTold script place tasks ends outcomes → length outcomes ≡ length tasks
+told_outcomes script place [] ends outcomes told = ap (length {A = Outcome}) told.1
+told_outcomes script place (t ∷ tasks) ends outcomes told = ap (length {A = Outcome}) told.7 ∙ ap suc (told_outcomes script (place + 1) tasks told.1 told.3 told.8)
+
+abbrev duties_by : ℕ → Task → List Hand → List Duty
+duties_by place task hs = map (λ hand. record { place = place; hand = hand; task = task }) hs
+
+first_length : (script : Script) (place : ℕ) (task : Task) → length (duties_at script place (task ∷ [])) ≡ length (hands_of_task (gateway_count script.gateways) place task.work)
+unfolding duties_from
+first_length script place task =
+    let hs = hands_of_task (gateway_count script.gateways) place task.work in
+    ap (length {A = Duty}) (append-nil (duties_by place task hs)) ∙ length-map hs (λ hand. record { place = place; hand = hand; task = task })
+
+pub told_length : (script : Script) (place : ℕ) (tasks : List Task) (ends : List End) (outcomes : List Outcome) → TasksTold script place tasks ends outcomes → length ends ≡ length (duties_at script place tasks)
+unfolding duties_from
+told_length script place [] ends outcomes told = ap (length {A = End}) told.0
+told_length script place (task ∷ tasks) ends outcomes told =
+    let hs = hands_of_task (gateway_count script.gateways) place task.work in
+    let rest = told_length script (place + 1) tasks told.1 told.3 told.8 in
+    let n : length (duties_by place task hs) ≡ length hs = length-map hs (λ hand. record { place = place; hand = hand; task = task }) in
+    omega (
+      arith,
+      ap (length {A = End}) told.4,
+      length-append told.0 told.1,
+      told.5,
+      first_length script place task,
+      n,
+      rest,
+      length-append (duties_by place task hs) (duties_from (gateway_count script.gateways) (place + 1) tasks),
+    )
+
+-- ---- from one task to the next
+
+module _ (script : Script) (seat : Hand → ℕ) (place : ℕ) (tasks : List Task) (task : Task) (views : Views) (shown gateways : List Gateway) (start mid new : List Entry) (as_asked : Bool) (text : List ℕ)
+    (within : place < length tasks) (is : task ≡ get_or tasks place task) where
+  front_more : take (place + 1) tasks ≡ take place tasks ++ task ∷ []
+  front_more = take_more tasks place task within ∙ ap (λ (t : Task). take place tasks ++ t ∷ []) (sym is)
+
+  -- the runs of both
+  both_run : (d : TasksDone script seat (take place tasks) views shown start mid as_asked text) (came : Came) (s : TaskStep script seat place task d.after gateways mid new came)
+      → InLine script seat views (duties_at script 0 (take (place + 1) tasks)) (d.made ++ s.made) (d.ends ++ s.ends) s.after
+  both_run d came s =
+      let whole = told_length script 0 (take place tasks) d.ends d.outcomes d.told in
+      subst (λ (ds : List Duty). InLine script seat views ds (d.made ++ s.made) (d.ends ++ s.ends) s.after) (sym (duties_more (gateway_count script.gateways) place tasks task within is))
+      (both script seat views d.after s.after (duties_at script 0 (take place tasks)) (duties_at script place (task ∷ [])) d.made s.made d.ends s.ends d.run whole s.run)
+
+  both_entries : (one other : List Entry) → mid ≡ start ++ one → new ≡ mid ++ other → new ≡ start ++ (one ++ other)
+  both_entries one other first later = later ∙ ap (λ (l : List Entry). l ++ other) first ∙ append_assoc start one other
+
+  front_length : (n : ℕ) (ts : List Task) → n < length ts → length (take n ts) ≡ n
+  front_length zero ts below = refl
+  front_length (suc n) [] below = absurd (omega (arith, below))
+  front_length (suc n) (t ∷ ts) below = ap suc (front_length n ts (omega (arith, below)))
+
+  last_flag : (b : Bool) → b && true ≡ b
+  last_flag true = refl
+  last_flag false = refl
+
+  told_lines : (outcomes : List Outcome) (o : Outcome) → length outcomes ≡ length (take place tasks) → report_of script (take (place + 1) tasks) (outcomes ++ o ∷ []) ≡ report_of script (take place tasks) outcomes ++ activity_text script task.work o
+  unfolding report_of
+  told_lines outcomes o same =
+      ap (λ (ts : List Task). report_of script ts (outcomes ++ o ∷ [])) front_more ∙ report_append script (take place tasks) (task ∷ []) outcomes (o ∷ []) same
+      ∙ ap (λ (l : List ℕ). report_of script (take place tasks) outcomes ++ l) (append-nil (activity_text script task.work o))
+
+  pub done_more : (o : Outcome) (asked : Bool) (lines : List ℕ) → (d : TasksDone script seat (take place tasks) views shown start mid as_asked text)
+      → ((v : Views) → Shows v shown → TaskStep script seat place task v gateways mid new (came.To o))
+      → lines ≡ text ++ activity_text script task.work o → asked ≡ as_asked && is_as_asked o → TasksDone script seat (take (place + 1) tasks) views gateways start new asked lines
+  done_more o asked lines d step lines_are flag =
+      let s = step d.after d.shows in
+      let at : 0 + length (take place tasks) ≡ place = omega (arith, front_length place tasks within) in
+      let told = told_more script 0 (take place tasks) task d.ends s.ends d.outcomes o d.told ((s.whole).0 ∙ ap (λ n. length (duties_at script n (task ∷ []))) (sym at)) (s.whole).1 in
+      record {
+        made = d.made ++ s.made;
+        entries = both_entries d.made s.made d.entries s.entries;
+        ends = d.ends ++ s.ends;
+        after = s.after;
+        run = both_run d (came.To o) s;
+        shows = s.shows;
+        outcomes = d.outcomes ++ o ∷ [];
+        told = subst (λ (ts : List Task). TasksTold script 0 ts (d.ends ++ s.ends) (d.outcomes ++ o ∷ [])) (sym front_more) told;
+        lines = lines_are ∙ ap (λ (l : List ℕ). l ++ activity_text script task.work o) d.lines ∙ sym (told_lines d.outcomes o (told_outcomes script 0 (take place tasks) d.ends d.outcomes d.told));
+        flag = flag ∙ ap (λ b. b && is_as_asked o) d.flag ∙ sym (all_append d.outcomes (o ∷ []) ∙ ap (λ b. list_all is_as_asked d.outcomes && b) (last_flag (is_as_asked o)));
+      }
+
+  pub done_cut : (came : Came) → All (λ t. MayBegin script t.work) (drop (place + 1) tasks) → (d : TasksDone script seat (take place tasks) views shown start mid as_asked text)
+      → ((v : Views) → Shows v shown → TaskStep script seat place task v gateways mid new came) → TasksBroken script seat tasks views start new
+  done_cut came begin d step =
+      let s = step d.after d.shows in
+      record {
+        made = d.made ++ s.made;
+        entries = both_entries d.made s.made d.entries s.entries;
+        ends = d.ends ++ s.ends;
+        after = s.after;
+        run = subst (λ (ds : List Duty). InLine script seat views ds (d.made ++ s.made) (d.ends ++ s.ends) s.after) (sym (duties_parts (gateway_count script.gateways) (place + 1) tasks))
+            (cut script seat views s.after (duties_at script 0 (take (place + 1) tasks)) (duties_from (gateway_count script.gateways) (0 + length (take (place + 1) tasks)) (drop (place + 1) tasks)) (d.made ++ s.made) (d.ends ++ s.ends)
+            (duties_begin script (gateway_count script.gateways) (0 + length (take (place + 1) tasks)) (drop (place + 1) tasks) begin) (both_run d came s));
+      }
+
+take_none : (tasks : List Task) → take 0 tasks ≡ []
+take_none [] = refl
+take_none (t ∷ ts) = refl
+
+-- before the first task
+pub done_none : (script : Script) (seat : Hand → ℕ) (tasks : List Task) (views : Views) (gateways : List Gateway) (journal : List Entry) (asked : Bool) (text : List ℕ) → Shows views gateways → asked ≡ true → text ≡ []
+    → TasksDone script seat (take 0 tasks) views gateways journal journal asked text
+unfolding duties_from report_of
+done_none script seat tasks views gateways journal asked text shows all none = record {
+  made = [];
+  entries = sym (append-nil journal);
+  ends = [];
+  after = views;
+  run = subst (λ (ts : List Task). InLine script seat views (duties_at script 0 ts) [] [] views) (sym (take_none tasks)) (refl, refl, refl);
+  shows = shows;
+  outcomes = [];
+  told = subst (λ (ts : List Task). TasksTold script 0 ts [] []) (sym (take_none tasks)) (refl, refl);
+  lines = none ∙ ap (λ (ts : List Task). report_of script ts []) (sym (take_none tasks));
+  flag = all;
+}
+
+-- ---- the ends of the workers
+
+zip_parts : {A B : Type 0} (R : A → B → Type 0) (xs ys : List A) (us vs : List B) → length us ≡ length xs → AllZip R (xs ++ ys) (us ++ vs) → AllZip R xs us × AllZip R ys vs
+zip_parts R [] ys [] vs same all = (tt, all)
+zip_parts R [] ys (u ∷ us) vs same all = absurd (omega (arith, same))
+zip_parts R (x ∷ xs) ys [] vs same all = absurd (omega (arith, same))
+zip_parts R (x ∷ xs) ys (u ∷ us) vs same all = let rest = zip_parts R xs ys us vs (omega (arith, same)) all.1 in ((all.0, rest.0), rest.1)
+
+by_hands : (workers : List Worker) (all : List (List End)) (place : ℕ) (task : Task) (hs : List Hand) (ends : List End) → AllZip (λ d e. CameTo workers all (gateway_of d.hand) d.place e) (duties_by place task hs) ends
+    → AllZip (λ hand end. CameTo workers all (gateway_of hand) place end) hs ends
+by_hands workers all place task [] [] zipped = tt
+by_hands workers all place task [] (e ∷ es) zipped = absurd zipped
+by_hands workers all place task (h ∷ hs) [] zipped = absurd zipped
+by_hands workers all place task (h ∷ hs) (e ∷ es) zipped = (zipped.0, by_hands workers all place task hs es zipped.1)
+
+pub tasks_came : (script : Script) (workers : List Worker) (all : List (List End)) (place : ℕ) (tasks : List Task) (ends : List End) (outcomes : List Outcome) → TasksTold script place tasks ends outcomes
+    → AllZip (λ d e. CameTo workers all (gateway_of d.hand) d.place e) (duties_at script place tasks) ends → TasksCame script workers all place tasks outcomes
+unfolding duties_from
+tasks_came script workers all place [] ends outcomes told zipped = told.1
+tasks_came script workers all place (task ∷ tasks) ends outcomes told zipped =
+    let hs = hands_of_task (gateway_count script.gateways) place task.work in
+    let rest = duties_from (gateway_count script.gateways) (place + 1) tasks in
+    let zipped' = subst (λ (l : List End). AllZip (λ d e. CameTo workers all (gateway_of d.hand) d.place e) (duties_by place task hs ++ rest) l) told.4 zipped in
+    let same : length told.0 ≡ length (duties_by place task hs) = told.5 ∙ first_length script place task ∙ sym (length-map hs (λ hand. record { place = place; hand = hand; task = task })) in
+    let parts = zip_parts (λ d e. CameTo workers all (gateway_of d.hand) d.place e) (duties_by place task hs) rest told.0 told.1 same zipped' in
+    subst (λ (os : List Outcome). TasksCame script workers all place (task ∷ tasks) os) (sym told.7) (
+      record { own = told.0; came = by_hands workers all place task hs told.0 parts.0; is = told.6 },
+      tasks_came script workers all (place + 1) tasks told.1 told.3 told.8 parts.1,
+    )
+
+all_drop : {X : Type 0} (P : X → Type 0) (n : ℕ) (xs : List X) → All P xs → All P (drop n xs)
+all_drop P zero [] all = all
+all_drop P (suc n) [] all = all
+all_drop P zero (x ∷ xs) all = all
+all_drop P (suc n) (x ∷ xs) all = all_drop P n xs (All-tail P x xs all)
+
+-- the tasks from a place on may begin, where the script is lawful
+pub later_begin : (script : Script) (n : ℕ) (tasks : List Task) → IsLawfulScript script → All (λ t. IsLawfulWork script.gateways script.blocks (length script.selectors) t.work) tasks → All (λ t. MayBegin script t.work) (drop n tasks)
+later_begin script n tasks lawful all = all_drop (λ t. MayBegin script t.work) n tasks (may_begin script tasks lawful all)
+
+pub take_whole : (tasks : List Task) (n : ℕ) → length tasks ≤ n → take n tasks ≡ tasks
+take_whole [] zero below = refl
+take_whole [] (suc n) below = refl
+take_whole (t ∷ ts) zero below = absurd (omega (arith, below))
+take_whole (t ∷ ts) (suc n) below = ap (λ l. t ∷ l) (take_whole ts n (omega (arith, below)))
+
+-- what is said of a call, by how it came out
+pub ok_part : {T E : Type 0} (A B : Type 0) (r : Result T E) (x : T) → r ≡ Ok x → MatchResult r (λ _. A) (λ _. B) → A
+ok_part A B (Ok y) x is m = m
+ok_part A B (Err y) x is m = absurd (cc (is))
+
+pub err_part : {T E : Type 0} (A B : Type 0) (r : Result T E) (x : E) → r ≡ Err x → MatchResult r (λ _. A) (λ _. B) → B
+err_part A B (Ok y) x is m = absurd (cc (is))
+err_part A B (Err y) x is m = m
+
+pub ok_told : {T E : Type 0} (P : T → Type 0) (Q : E → Type 0) (r : Result T E) (x : T) → r ≡ Ok x → MatchResult r P Q → P x
+ok_told P Q (Ok y) x is m = let same : y ≡ x = cc (is) in subst P same m
+ok_told P Q (Err y) x is m = absurd (cc (is))
+
+pub err_told : {T E : Type 0} (P : T → Type 0) (Q : E → Type 0) (r : Result T E) (x : E) → r ≡ Err x → MatchResult r P Q → Q x
+err_told P Q (Ok y) x is m = absurd (cc (is))
+err_told P Q (Err y) x is m = let same : y ≡ x = cc (is) in subst Q same m
+
+pub on_ok : {T E : Type 0} (P : Type 0) (r : Result T E) (x : T) → r ≡ Ok x → OnOk r P → P
+on_ok P (Ok y) x is m = m
+on_ok P (Err y) x is m = absurd (cc (is))
+
+pub on_err : {T E : Type 0} (P : Type 0) (r : Result T E) (x : E) → r ≡ Err x → OnErr r P → P
+on_err P (Ok y) x is m = absurd (cc (is))
+on_err P (Err y) x is m = m

@@ -1,0 +1,76 @@
+-- What a drive of an upload leaves.
+use Rattle.std.proofs.Common.{◌≡◌, ◌≢◌, ◌⊎◌, ℕ, ◌<◌, ◌≤◌, List, [], ◌∷◌, ◌++◌, length, refl, sym, subst, inl, inr, arith}
+use Rattle.std.specs.Prelude.{◌↔◌, Option, Some, None, option_map}
+use Rattle.std.proofs.lemmas.List.{append-nil}
+use Rattle.std.proofs.lemmas.List.Elements.{All-nil}
+use Rattle.world_core.specs.Machines.{Drives, end_of}
+use Rattle.world_core.specs.declared.driven.Driven.{Driven}
+use Rattle.world_core.specs.declared.driven.Driven.TheVariants.{Ended, Stopped, Full, NoMemory}
+use Rattle.world_core.specs.declared.entry.Entry.{Entry}
+use Rattle.block_keys.specs.declared.object.Object.{Object}
+use Rattle.shipper.specs.declared.upload_end.UploadEnd.{UploadEnd}
+use Rattle.shipper.specs.Uploads.{UploadRun}
+use Rattle.script_core.specs.Lawful.{IsLawfulBlock}
+use Rattle.script_core.specs.declared.block.Block.{Block}
+use Rattle.script_core.specs.declared.work.Work.TheVariants as works
+use Rattle.lifecycle_core.specs.Shipped.{IsShipped}
+use Rattle.lifecycle_core.specs.Tasks.{End, BlockUpload, IsBefore, IsStop, stopped, uploaded}
+use Rattle.lifecycle_core.proofs.TaskRuns.{built_by}
+use Rattle.replay_cli.specs.Drives.{upload_came}
+use Rattle.replay_cli.specs.Progress.{Adds, CameBy}
+use Rattle.replay_cli.specs.declared.came.Came.{Came}
+use Rattle.replay_cli.specs.declared.came.Came.TheVariants as came
+
+abbrev upload_end : Driven UploadEnd → Option End
+upload_end (Ended end) = Some (uploaded end)
+upload_end (Stopped count) = Some (stopped count)
+upload_end Full = None
+upload_end NoMemory = None
+
+before_stop : (stop : Option ℕ) (driven : Driven UploadEnd) (made : List Entry) → ((n : ℕ) → driven ≢ Stopped n)
+    → ((n : ℕ) → (driven ≡ Stopped n) ↔ ((stop ≡ Some n) × (0 < n) × (length made ≡ n))) → ((n : ℕ) → stop ≡ Some n → 0 < n → length made ≤ n) → IsBefore stop made
+before_stop stop driven made never stops within = λ n s above.
+    let differ : length made ≢ n = λ e. never n ((stops n).1 (s, above, e)) in
+    let most : length made ≤ n = within n s above in
+    omega (arith, most, differ)
+
+stops_at : (stop : Option ℕ) (driven : Driven UploadEnd) (made : List Entry)
+    → ((n : ℕ) → (driven ≡ Stopped n) ↔ ((stop ≡ Some n) × (0 < n) × (length made ≡ n))) → ((n : ℕ) → stop ≡ Some n → 0 < n → length made ≤ n)
+    → ((upload_end driven ≡ option_map uploaded (end_of driven)) × IsBefore stop made) ⊎ IsStop stop made (upload_end driven)
+stops_at stop (Ended end) made stops within = inl (refl, before_stop stop (Ended end) made (λ n e. absurd (cc (e))) stops within)
+stops_at stop (Stopped n) made stops within = let s = (stops n).0 refl in inr (n, s.0, s.1, s.2, refl)
+stops_at stop Full made stops within = inl (refl, before_stop stop Full made (λ n e. absurd (cc (e))) stops within)
+stops_at stop NoMemory made stops within = inl (refl, before_stop stop NoMemory made (λ n e. absurd (cc (e))) stops within)
+
+came_by : (ulid : ℕ) (stop : Option ℕ) (driven : Driven UploadEnd) → CameBy (works.Upload ulid stop) (upload_end driven) (upload_came driven)
+came_by ulid stop (Ended end) = refl
+came_by ulid stop (Stopped n) = refl
+came_by ulid stop Full = tt
+came_by ulid stop NoMemory = tt
+
+-- An upload of a block's objects that was driven is a run of the block's upload.
+pub upload_driven : (is_run : List Entry → Option UploadEnd → Type 0) (block : Block) (objects : List Object) (stop : Option ℕ) (seat : ℕ) (driven : Driven UploadEnd) (old new : List Entry) (ulid : ℕ)
+    → IsShipped block objects → ((made : List Entry) (end : Option UploadEnd) → is_run made end → UploadRun block.ulid objects made end) → Drives is_run seat stop driven old new
+    → (end : Option End) × Adds (BlockUpload block stop) seat old new end × CameBy (works.Upload ulid stop) end (upload_came driven)
+upload_driven is_run block objects stop seat driven old new ulid shipped runs d = (
+  upload_end driven,
+  record { made = d.made; entries = d.entries; seats = d.seats; run = (objects, end_of driven, shipped, runs d.made (end_of driven) d.run, stops_at stop driven d.made d.stopped d.within) },
+  came_by ulid stop driven,
+)
+
+-- where nothing was done
+pub nothing_shipped : (block : Block) (stop : Option ℕ) (seat : ℕ) (journal : List Entry) (ulid : ℕ) → IsLawfulBlock block
+    → (end : Option End) × Adds (BlockUpload block stop) seat journal journal end × CameBy (works.Upload ulid stop) end came.NoMemory
+nothing_shipped block stop seat journal ulid lawful =
+    let b = built_by block block.body lawful.body in
+    (None, record { made = []; entries = sym (append-nil journal); seats = All-nil (λ e. e.seat ≡ seat); run = (b.0, None, b.1, refl, inl (refl, λ n s above. above)) }, tt)
+
+-- the same, as a call's values tell it
+pub upload_told : (is_run : List Entry → Option UploadEnd → Type 0) (block : Block) (objects : List Object) (stop : Option ℕ) (seat seat' : ℕ) (driven : Driven UploadEnd) (old old' new new' : List Entry) (came : Came) (ulid : ℕ)
+    → seat' ≡ seat → old' ≡ old → new ≡ new' → came ≡ upload_came driven
+    → IsShipped block objects → ((made : List Entry) (end : Option UploadEnd) → is_run made end → UploadRun block.ulid objects made end) → Drives is_run seat' stop driven old' new'
+    → (end : Option End) × Adds (BlockUpload block stop) seat old new end × CameBy (works.Upload ulid stop) end came
+upload_told is_run block objects stop seat seat' driven old old' new new' came ulid s o n c shipped runs d =
+    subst (λ (x : Came). (end : Option End) × Adds (BlockUpload block stop) seat old new end × CameBy (works.Upload ulid stop) end x) (sym c)
+    (upload_driven is_run block objects stop seat driven old new ulid shipped runs
+    (subst (λ (x : ℕ). Drives is_run x stop driven old new) s (subst (λ (x : List Entry). Drives is_run seat' stop driven x new) o (subst (λ (x : List Entry). Drives is_run seat' stop driven old' x) (sym n) d))))

@@ -1,0 +1,158 @@
+-- How far a run in the order of the lines has come, as the contracts of its parts say it.
+use Rattle.std.specs.Prelude.{◌≡◌, ℕ, ◌+◌, ◌<◌, ◌≤◌, Bool, List, [], ◌∷◌, ◌++◌, length, take, drop, All, Option, Some, None, option_map, slice_get, Result, Ok, Err}
+use Rattle.std.specs.List.{AllZip, list_all}
+use Rattle.world_core.specs.declared.entry.Entry.{Entry}
+use Rattle.meta_fetcher.specs.declared.sync_end.SyncEnd.{SyncEnd}
+use Rattle.meta_fetcher.specs.declared.sync_end.SyncEnd.TheVariants as fetched
+use Rattle.meta_fetcher.specs.declared.view.View.{View}
+use Rattle.store_gateway.specs.declared.gateway.Gateway.{Gateway}
+use Rattle.script_core.specs.Hands.{gateway_count}
+use Rattle.script_core.specs.declared.hand.Hand.{Hand}
+use Rattle.script_core.specs.declared.phase.Phase.{Phase}
+use Rattle.script_core.specs.declared.script.Script.{Script}
+use Rattle.script_core.specs.declared.task.Task.{Task}
+use Rattle.script_core.specs.declared.work.Work.{Work}
+use Rattle.lifecycle_core.specs.InLine.{Duty, duties_from, InLine, PhasesInLine}
+use Rattle.lifecycle_core.specs.Phases.{BeginsPhase}
+use Rattle.lifecycle_core.specs.Tasks.{End}
+use Rattle.lifecycle_core.specs.Views.{Use, Views, no_views}
+use Rattle.replay_cli.specs.Outcomes.{IsOutcome}
+use Rattle.replay_cli.specs.Reports.{is_as_asked}
+use Rattle.replay_cli.specs.Verdicts.{report_of, tasks_of}
+use Rattle.replay_cli.specs.declared.came.Broken.{Broken}
+use Rattle.replay_cli.specs.declared.came.Broken.TheVariants as broken
+use Rattle.replay_cli.specs.declared.came.Came.{Came}
+use Rattle.replay_cli.specs.declared.came.Came.TheVariants as came
+use Rattle.replay_cli.specs.declared.outcome.Outcome.{Outcome}
+
+-- ---- one task
+
+-- entries that one seat added, which with this end are such a run
+pub record Adds {E : Type 0} (is_run : List Entry → E → Type 0) (seat : ℕ) (old new : List Entry) (end : E) : Type 0 where
+  pub made : List Entry
+  pub entries : new ≡ old ++ made
+  pub seats : All (λ e. e.seat ≡ seat) made
+  pub run : is_run made end
+
+-- what a task with these ends came to
+abbrev pub IsToldBy : Work → List End → Came → Type 0
+IsToldBy work ends (came.To o) = IsOutcome work ends o
+IsToldBy work ends came.Full = Unit {0}
+IsToldBy work ends came.NoMemory = Unit {0}
+
+-- A task that one worker does comes to its end, or breaks off without one.
+abbrev pub CameBy : Work → Option End → Came → Type 0
+CameBy work (Some end) (came.To o) = IsOutcome work (end ∷ []) o
+CameBy work (Some end) came.Full = ⊥
+CameBy work (Some end) came.NoMemory = ⊥
+CameBy work None (came.To o) = ⊥
+CameBy work None came.Full = Unit {0}
+CameBy work None came.NoMemory = Unit {0}
+
+-- the view that a sync leaves
+abbrev pub view_by : Option View → Option SyncEnd → Option View
+view_by before (Some (fetched.View view)) = Some view
+view_by before other = before
+
+-- gateways that have these views
+abbrev pub Shows : Views → List Gateway → Type 0
+Shows views gateways = (place : ℕ) (gateway : Gateway) → slice_get gateways place ≡ Some gateway → option_map (λ (used : Use). used.view) (views place) ≡ gateway.view
+
+-- the duties of the task at a place
+abbrev pub duties_at : Script → ℕ → List Task → List Duty
+duties_at script place tasks = duties_from (gateway_count script.gateways) place tasks
+
+-- the task has come to all its ends
+abbrev pub IsWhole : Script → ℕ → Task → List End → Came → Type 0
+IsWhole script place task ends (came.To o) = (length ends ≡ length (duties_at script place (task ∷ []))) × IsOutcome task.work ends o
+IsWhole script place task ends came.Full = Unit {0}
+IsWhole script place task ends came.NoMemory = Unit {0}
+
+-- a task's entries and what it came to
+pub record TaskStep (script : Script) (seat : Hand → ℕ) (place : ℕ) (task : Task) (views : Views) (gateways : List Gateway) (old new : List Entry) (came : Came) : Type 0 where
+  pub made : List Entry
+  pub entries : new ≡ old ++ made
+  pub ends : List End
+  pub after : Views
+  pub run : InLine script seat views (duties_at script place (task ∷ [])) made ends after
+  pub shows : Shows after gateways
+  pub whole : IsWhole script place task ends came
+
+-- ---- the tasks of a phase
+
+-- how tasks from a place on came out, by the ends of their duties
+abbrev pub TasksTold : Script → ℕ → List Task → List End → List Outcome → Type 0
+TasksTold script place [] ends outcomes = (ends ≡ []) × (outcomes ≡ [])
+TasksTold script place (task ∷ tasks) ends outcomes =
+    (own : List End) × (others : List End) × (o : Outcome) × (later : List Outcome)
+    × (ends ≡ own ++ others) × (length own ≡ length (duties_at script place (task ∷ []))) × IsOutcome task.work own o
+    × (outcomes ≡ o ∷ later) × TasksTold script (place + 1) tasks others later
+
+-- tasks that were done to their ends, and their lines
+pub record TasksDone (script : Script) (seat : Hand → ℕ) (tasks : List Task) (views : Views) (gateways : List Gateway) (old new : List Entry) (as_asked : Bool) (text : List ℕ) : Type 0 where
+  pub made : List Entry
+  pub entries : new ≡ old ++ made
+  pub ends : List End
+  pub after : Views
+  pub run : InLine script seat views (duties_at script 0 tasks) made ends after
+  pub shows : Shows after gateways
+  pub outcomes : List Outcome
+  pub told : TasksTold script 0 tasks ends outcomes
+  pub lines : text ≡ report_of script tasks outcomes
+  pub flag : as_asked ≡ list_all is_as_asked outcomes
+
+-- tasks that were broken off
+pub record TasksBroken (script : Script) (seat : Hand → ℕ) (tasks : List Task) (views : Views) (old new : List Entry) : Type 0 where
+  pub made : List Entry
+  pub entries : new ≡ old ++ made
+  pub ends : List End
+  pub after : Views
+  pub run : InLine script seat views (duties_at script 0 tasks) made ends after
+
+-- ---- phases
+
+-- how phases came out, by the ends of their duties
+abbrev pub PhasesTold : Script → List Phase → List (List End) → List Outcome → Type 0
+PhasesTold script [] ends outcomes = (ends ≡ []) × (outcomes ≡ [])
+PhasesTold script (phase ∷ phases) [] outcomes = ⊥
+PhasesTold script (phase ∷ phases) (own ∷ ends) outcomes =
+    (first : List Outcome) × (later : List Outcome) × (outcomes ≡ first ++ later) × TasksTold script 0 phase.tasks own first × PhasesTold script phases ends later
+
+-- The phases before a place were done to their ends, and these are their lines. What completes the rest completes the run.
+pub record Reached (script : Script) (place : ℕ) (gateways : List Gateway) (journal : List Entry) (as_asked : Bool) (text : List ℕ) : Type 0 where
+  pub views : Views
+  pub shows : Shows views gateways
+  pub ends : List (List End)
+  pub onward : (entries : List Entry) (later : List (List End)) → PhasesInLine script place views (drop place script.phases) entries later
+      → PhasesInLine script 0 no_views script.phases (journal ++ entries) (ends ++ later)
+  pub outcomes : List Outcome
+  pub told : PhasesTold script (take place script.phases) ends outcomes
+  pub lines : text ≡ report_of script (tasks_of (take place script.phases)) outcomes
+  pub flag : as_asked ≡ list_all is_as_asked outcomes
+
+-- a run that was broken off in the phase at a place, or before that phase was begun
+pub record IsBrokenAt (script : Script) (place : ℕ) (journal : List Entry) (as_asked : Bool) (text : List ℕ) : Type 0 where
+  pub ends : List (List End)
+  pub unfinished : List (List End)
+  pub few : length unfinished ≤ 1
+  pub run : PhasesInLine script 0 no_views script.phases journal (ends ++ unfinished)
+  pub outcomes : List Outcome
+  pub told : PhasesTold script (take place script.phases) ends outcomes
+  pub lines : text ≡ report_of script (tasks_of (take place script.phases)) outcomes
+  pub flag : as_asked ≡ list_all is_as_asked outcomes
+
+-- a run so far
+abbrev pub HasRun : Script → List Entry → Type 0
+HasRun script journal = (ends : List (List End)) × PhasesInLine script 0 no_views script.phases journal ends
+
+-- what a phase leaves
+abbrev pub PhaseStep : Script → ℕ → List Gateway → List Entry → Bool → List ℕ → Result (Unit {0}) Broken → Type 0
+PhaseStep script place gateways journal as_asked text (Ok done) = Reached script (place + 1) gateways journal as_asked text
+PhaseStep script place gateways journal as_asked text (Err broken.Full) = IsBrokenAt script place journal as_asked text
+PhaseStep script place gateways journal as_asked text (Err broken.NoMemory) = HasRun script journal
+
+-- what all phases leave
+abbrev pub RunCame : Script → List Gateway → List Entry → Bool → List ℕ → Result (Unit {0}) Broken → Type 0
+RunCame script gateways journal as_asked text (Ok done) = Reached script (length script.phases) gateways journal as_asked text
+RunCame script gateways journal as_asked text (Err broken.Full) = (place : ℕ) × (place < length script.phases) × IsBrokenAt script place journal as_asked text
+RunCame script gateways journal as_asked text (Err broken.NoMemory) = HasRun script journal

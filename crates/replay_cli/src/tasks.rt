@@ -1,0 +1,97 @@
+//! One task of a script, done by its worker.
+
+ghost use Rattle.std.specs.Prelude.{◌≡◌, ℕ, Some, length, slice_get};
+ghost use Rattle.world_core.specs.Keeping.{IsFull};
+ghost use Rattle.script_core.specs.Lawful.{IsLawfulScript, IsLawfulWork};
+ghost use Rattle.script_core.specs.declared.work.Work.TheVariants as works;
+ghost use Rattle.lifecycle_core.specs.InLine.{seat_of};
+ghost use Rattle.lifecycle_core.specs.Views.{Views};
+ghost use Rattle.replay_cli.specs.Progress.{Shows, TaskStep};
+
+use crate::activity::{call, sync, upload};
+use crate::came::Came;
+use crate::declared::declared_block;
+use crate::outcome::{NoAnswer, Outcome, QueryOutcome};
+use crate::phases::Progress;
+use crate::seats::Seats;
+use bucket_core::Bucket;
+use label_sets::SeriesList;
+use matchers::Selector;
+use script_core::{Script, Task, Work};
+use std::alloc::Global;
+use store_gateway::Gateway;
+use ulid_core::UlidList;
+use world_core::World;
+
+/// Runs one task.
+pub(crate) fn run_task<B: Bucket>(
+    alloc: Global,
+    script: &Script,
+    task: &Task,
+    place: usize,
+    seats: &Seats,
+    progress: &mut Progress,
+    world: World<B>,
+) -> (Came, World<B>)
+    requires lawful { IsLawfulScript script.now }
+    requires work { IsLawfulWork script.now.gateways script.now.blocks (length script.now.selectors) task.now.work }
+    requires ready { length progress.old.gateways.items ≡ length script.now.gateways }
+    ensures full { result.0 ≡ Came.Full → IsFull result.1.journal }
+    ensures tick { result.1.tick ≡ world.tick }
+    ensures step { (views : Views) → Shows views progress.old.gateways.items
+        → TaskStep script.now (seat_of seats.now.workers) place task.now views progress.new.gateways.items world.journal result.1.journal result.0 }
+    ensures report { progress.new.report ≡ progress.old.report }
+    ensures workers { progress.new.workers ≡ progress.old.workers }
+    ensures ready { length progress.new.gateways.items ≡ length script.now.gateways }
+{
+    match &task.work {
+        Work::Upload(ulid, stop) => {
+            let block = declared_block(script, &progress.places, *ulid);
+            upload(alloc, block, *stop, world, seats.of_task(place))
+        }
+        Work::Sync(number) => {
+            let seat = seats.of_gateway(*number);
+            let gateway = &mut progress.gateways[*number as usize];
+            sync(alloc, &script.rules, gateway, world, seat)
+        }
+        Work::Query {
+            low,
+            high,
+            selector,
+        } => {
+            let selector = &script.selectors.members()[*selector as usize];
+            let gateways = progress.gateways.as_slice();
+            run_query(alloc, script, gateways, selector, *low, *high, seats, world)
+        }
+    }
+}
+
+/// Asks the one gateway, where there is one.
+fn run_query<B: Bucket>(
+    alloc: Global,
+    script: &Script,
+    gateways: &[Gateway],
+    selector: &Selector,
+    low: i64,
+    high: i64,
+    seats: &Seats,
+    world: World<B>,
+) -> (Came, World<B>)
+    requires lawful { IsLawfulScript script.now }
+    requires ready { length gateways.now ≡ length script.now.gateways }
+    ensures full { result.0 ≡ Came.Full → IsFull result.1.journal }
+    ensures tick { result.1.tick ≡ world.tick }
+    ensures step { (views : Views) (place line number : ℕ) → Shows views gateways.now → slice_get script.now.selectors number ≡ Some selector.now
+        → TaskStep script.now (seat_of seats.now.workers) place (record { line = line; work = works.Query low high number }) views gateways.now world.journal result.1.journal result.0 }
+{
+    let Some(gateway) = gateways.first() else {
+        let nothing = QueryOutcome::Answer(SeriesList::new(alloc), UlidList::new(alloc));
+        return (Came::To(Outcome::Query(nothing)), world);
+    };
+    let Some(view) = &gateway.view else {
+        let outcome = QueryOutcome::NoAnswer(0, NoAnswer::NoView);
+        return (Came::To(Outcome::Query(outcome)), world);
+    };
+    let seat = seats.of_gateway(0);
+    call(alloc, &script.rules, view, selector, low, high, world, seat)
+}
