@@ -17,3 +17,6 @@ pub use sample::{Sample, SampleList};
 pub use sample_refusal::SampleRefusal;
 pub use series::{Series, SeriesList};
 pub use text::{Text, TextList};
+
+#[cfg(test)]
+mod tests;
