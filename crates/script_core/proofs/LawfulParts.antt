@@ -59,7 +59,7 @@ near_high (negsuc n) near = omega (arith, ints)
 abbrev pub labels_of : List Series → List (List Label)
 labels_of series = map (λ (one : Series). one.labels) series
 
-sets_total : IsTotalOrder compare_sets
+pub sets_total : IsTotalOrder compare_sets
 sets_total = lists_total (then_total (on_total (λ (l : Label). l.name) nat_list_cmp_total) (on_total (λ (l : Label). l.value) nat_list_cmp_total))
 
 above_all : (labels : List (List Label)) (one other : List Label) → compare_sets one other ≡ Less → AllByRecursion (λ y. compare_sets other y ≡ Less) labels → AllByRecursion (λ y. compare_sets one y ≡ Less) labels
@@ -92,7 +92,7 @@ sorted_insert [] new sorted = (tt, tt)
 sorted_insert (first ∷ series) new sorted =
     sorted_by series new first (compare_sets new.labels first.labels) refl sorted (sorted_insert series new sorted.1)
 
-neither : (a b : Bool) → (a || b) ≡ false → (a ≡ false) × (b ≡ false)
+pub neither : (a b : Bool) → (a || b) ≡ false → (a ≡ false) × (b ≡ false)
 neither true b h = absurd cc
 neither false b h = (refl, h)
 

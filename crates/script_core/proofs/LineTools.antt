@@ -93,7 +93,7 @@ line_word kinds.Upload = codes "upload"
 line_word kinds.Sync = codes "sync"
 line_word kinds.Query = codes "query"
 
-same_bytes : (xs ys : List ℕ) → bytes_eq xs ys ≡ true → xs ≡ ys
+pub same_bytes : (xs ys : List ℕ) → bytes_eq xs ys ≡ true → xs ≡ ys
 same_bytes xs ys e = grind (arith, nat_tests, bytes_eq-Decides)
 
 chosen_by : {K : Type 0} (word text : List ℕ) (kind found : K) (later : Option K) (b : Bool) → bytes_eq word text ≡ b → cond b (Some kind) later ≡ Some found → ((word ≡ text) × (kind ≡ found)) ⊎ (later ≡ Some found)
