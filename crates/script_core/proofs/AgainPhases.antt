@@ -1,10 +1,8 @@
 -- What a line of a phase spells is read of it.
-use Rattle.std.proofs.Common.{◌≡◌, ◌≢◌, ℕ, zero, suc, ◌+◌, ◌%◌, ◌^◌, ◌<◌, ◌≤◌, ℤ, ◌≤ℤ◌, Bool, true, false, not, ◌==◌, ◌&&◌, cond, nat_lt, nat_le, int_lt, List, [], ◌∷◌, ◌++◌, length, Option, Some, None, is_none, is_some, Result, Ok, Err, refl, sym, ap, ◌∙◌, subst, arith, codes}
+use Rattle.std.proofs.Common.{◌≡◌, ℕ, zero, suc, ◌+◌, ◌%◌, ◌^◌, ◌<◌, ◌≤◌, ℤ, ◌≤ℤ◌, Bool, true, false, nat_lt, nat_le, int_lt, List, [], ◌∷◌, ◌++◌, length, Option, Some, None, is_some, Ok, refl, sym, ap, ◌∙◌, subst, arith}
 use Rattle.std.specs.List.{list_all, range_with_len}
-use Rattle.std.specs.Str.{bytes_eq}
 use Rattle.std.proofs.lemmas.Bool.Decides.{nat_tests}
 use Rattle.std.proofs.lemmas.Int.{ints}
-use Rattle.reading_core.specs.Reading.{◌>>=◌, ◌>>◌, unless, refused_as}
 use Rattle.matchers.specs.Selectors.{read_selector, is_metric_name}
 use Rattle.matchers.specs.declared.matcher.Matcher.{Matcher}
 use Rattle.moment_core.specs.declared.moment.Moment.{Moment}
@@ -14,14 +12,13 @@ use Rattle.script_core.specs.declared.phase.Phase.{Phase}
 use Rattle.script_core.specs.declared.script.Script.{Script}
 use Rattle.script_core.specs.declared.work.Work.{Work}
 use Rattle.script_core.specs.declared.work.Work.TheVariants as works
-use Rattle.script_core.specs.Fields.{is_empty, next_field, only_field, is_name}
+use Rattle.script_core.specs.Fields.{is_empty, next_field}
 use Rattle.script_core.specs.Hands.{gateway_count, with_hands, hands_of}
 use Rattle.script_core.specs.Values.{is_reserved, agree, moment_from}
 use Rattle.script_core.specs.Lines.{fields_line, may_begin, at_line, upload_line, sync_line, last_selector, query_line}
 use Rattle.script_core.specs.State.{State, all_phases, begin_phase, add_task, add_query, note_sync, is_declared, is_synced, script_of_state, are_all_synced}
-use Rattle.script_core.specs.Works.{works_of}
-use Rattle.script_core.specs.Spelling.{SoFar, outside, AtLine, AddsTask, UploadLine, SyncLine, QueryLine}
-use Rattle.script_core.proofs.FieldLaws.{no_space, cut_again, cut_last}
+use Rattle.script_core.specs.Spelling.{SoFar, AtLine, AddsTask, UploadLine, SyncLine, QueryLine}
+use Rattle.script_core.proofs.FieldLaws.{cut_again, cut_last}
 use Rattle.script_core.proofs.ValueLaws.{time_again, ulid_again, moment_again}
 use Rattle.script_core.proofs.Kept.{Kept, at, so_far_of, hands_of-append}
 use Rattle.script_core.proofs.LineTools.{is_some_field, only_again, last_phase}

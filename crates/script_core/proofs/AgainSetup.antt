@@ -1,28 +1,23 @@
 -- What a rule line, a gateway line or a block line spells is read of it.
-use Rattle.std.proofs.Common.{◌≡◌, ◌≢◌, ℕ, ◌+◌, ◌%◌, ◌^◌, ◌<◌, ◌≤◌, ℤ, ◌<ℤ◌, Bool, true, false, not, ◌==◌, ◌&&◌, cond, nat_lt, int_lt, List, [], ◌∷◌, ◌++◌, length, Option, Some, None, is_none, unwrap_or, ok_or, Result, Ok, Err, refl, sym, ap, ◌∙◌, subst, arith, codes, append-nil}
+use Rattle.std.proofs.Common.{◌≡◌, ℕ, ◌%◌, ◌^◌, ℤ, ◌<ℤ◌, Bool, true, false, not, ◌==◌, nat_lt, int_lt, List, [], ◌∷◌, ◌++◌, length, Option, Some, is_none, Ok, refl, sym, ap, ◌∙◌, subst, arith, append-nil}
 use Rattle.std.proofs.lemmas.Bool.Decides.{nat_tests}
 use Rattle.std.proofs.lemmas.Int.{ints}
-use Rattle.std.proofs.lemmas.List.{length-append}
-use Rattle.reading_core.specs.Reading.{◌>>=◌, ◌>>◌, unless, refused_as}
 use Rattle.std.specs.BTreeSet.{insert_key}
 use Rattle.std.specs.Ordering.{nat_cmp}
 use Rattle.label_sets.proofs.SetLaws.{set_text_again}
 use Rattle.label_sets.specs.Notation.{read_set, set_text}
 use Rattle.label_sets.specs.SetText.{IsSetText}
 use Rattle.label_sets.specs.declared.label.Label.{Label}
-use Rattle.script_core.specs.declared.cause.LineCause.TheVariants as causes
 use Rattle.script_core.specs.declared.line_kind.LineKind.{LineKind}
 use Rattle.script_core.specs.declared.line_kind.LineKind.TheVariants as kinds
-use Rattle.script_core.specs.declared.line_refusal.LineRefusal.{LineRefusal}
-use Rattle.script_core.specs.declared.line_refusal.LineRefusal.TheVariants.{Bad}
-use Rattle.script_core.specs.Fields.{is_empty, next_field, only_field, rule_name, is_name}
-use Rattle.script_core.specs.Values.{is_reserved, is_time, with_rule, time_field, ulid_field, rule_of}
-use Rattle.script_core.specs.Lines.{fields_line, rule_line, gateway_line, block_line, whole_labels, last_labels}
-use Rattle.script_core.specs.State.{State, Last, add_gateway, begin_block, gateway_named, is_declared, all_blocks, script_of_state}
-use Rattle.script_core.specs.Spelling.{SoFar, outside, IsField, IsTimeText, IsUlidField, RuleLine, GatewayLine, BlockLine}
-use Rattle.script_core.proofs.FieldLaws.{no_space, cut_again, cut_last}
-use Rattle.script_core.proofs.ValueLaws.{time_again, ulid_again, rule_word, rule_with, rule_again}
-use Rattle.script_core.proofs.Kept.{Kept, so_far_of, among}
+use Rattle.script_core.specs.Fields.{is_empty, next_field, only_field, rule_name}
+use Rattle.script_core.specs.Values.{is_reserved, with_rule}
+use Rattle.script_core.specs.Lines.{fields_line, rule_line, gateway_line, block_line, last_labels}
+use Rattle.script_core.specs.State.{State, Last, add_gateway, begin_block, is_declared, all_blocks, script_of_state}
+use Rattle.script_core.specs.Spelling.{SoFar, outside, RuleLine, GatewayLine, BlockLine}
+use Rattle.script_core.proofs.FieldLaws.{no_space, cut_again}
+use Rattle.script_core.proofs.ValueLaws.{time_again, ulid_again, rule_with, rule_again}
+use Rattle.script_core.proofs.Kept.{Kept, so_far_of}
 use Rattle.script_core.proofs.LineTools.{is_some_field, only_again, line_word, word_free, name_again, name_free, early_again}
 use Rattle.script_core.proofs.FoundSetup.{closed}
 use Rattle.moment_core.specs.declared.rules.Rules.{Rules}

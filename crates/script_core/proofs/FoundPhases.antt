@@ -1,10 +1,10 @@
 -- What is read of a line of a phase is what the line spells.
-use Rattle.std.proofs.Common.{◌≡◌, ◌≢◌, ℕ, zero, suc, ◌+◌, ◌-◌, ◌%◌, ◌^◌, ◌<◌, ◌≤◌, ℤ, ◌≤ℤ◌, Bool, true, false, not, ◌==◌, ◌&&◌, ◌||◌, cond, nat_lt, nat_le, ltb-true, leb-true, int_lt, List, [], ◌∷◌, ◌++◌, length, Option, Some, None, is_none, is_some, unwrap_or, ok_or, Result, Ok, Err, refl, sym, ap, ◌∙◌, subst, arith, codes, inl, inr}
+use Rattle.std.proofs.Common.{◌≡◌, ℕ, zero, suc, ◌+◌, ◌%◌, ◌^◌, ◌<◌, ◌≤◌, ℤ, ◌≤ℤ◌, Bool, true, false, not, ◌==◌, ◌&&◌, ◌||◌, cond, nat_le, ltb-true, leb-true, int_lt, List, [], ◌∷◌, ◌++◌, length, Option, Some, None, is_none, ok_or, Result, Ok, refl, sym, ap, ◌∙◌, subst, arith, codes, inl, inr}
 use Rattle.std.specs.List.{list_all, range_with_len}
 use Rattle.std.specs.Str.{bytes_eq}
 use Rattle.std.proofs.lemmas.Bool.Decides.{nat_tests}
 use Rattle.std.proofs.lemmas.Int.{ints}
-use Rattle.reading_core.specs.Reading.{◌>>=◌, ◌>>◌, unless, refused_as}
+use Rattle.reading_core.specs.Reading.{◌>>=◌, refused_as}
 use Rattle.reading_core.proofs.Binds.{bind_ok, unless_ok, ok_is, refused_as_ok}
 use Rattle.reading_core.proofs.Decimals.{both}
 use Rattle.reading_core.proofs.Parsed.{true_or_false}
@@ -16,20 +16,18 @@ use Rattle.script_core.specs.declared.cause.LineCause.TheVariants as causes
 use Rattle.script_core.specs.declared.line_refusal.LineRefusal.{LineRefusal}
 use Rattle.script_core.specs.declared.line_refusal.LineRefusal.TheVariants.{Bad, BadRules, FallingMoment}
 use Rattle.script_core.specs.declared.phase.Phase.{Phase}
-use Rattle.script_core.specs.declared.script.Script.{Script}
-use Rattle.script_core.specs.declared.task.Task.{Task}
 use Rattle.script_core.specs.declared.work.Work.{Work}
 use Rattle.script_core.specs.declared.work.Work.TheVariants as works
-use Rattle.script_core.specs.Fields.{is_empty, next_field, only_field, is_name}
-use Rattle.script_core.specs.Hands.{gateway_count, with_hands, hands_of}
-use Rattle.script_core.specs.Values.{is_reserved, is_time, agree}
+use Rattle.script_core.specs.Fields.{is_empty, next_field}
+use Rattle.script_core.specs.Hands.{gateway_count, with_hands}
+use Rattle.script_core.specs.Values.{agree}
 use Rattle.script_core.specs.Lines.{may_begin, at_line, upload_line, sync_line, last_selector, query_line}
-use Rattle.script_core.specs.State.{State, all_phases, begin_phase, add_task, add_query, note_sync, is_declared, is_synced, gateway_named, script_of_state, are_all_synced}
-use Rattle.script_core.specs.Works.{works_of, has_sync, is_sync_of, declares}
-use Rattle.script_core.specs.Spelling.{IsEarly, IsField, AtLine, AddsTask, UploadLine, SyncLine, QueryLine}
-use Rattle.script_core.proofs.FieldLaws.{no_space, Cut, cut_found}
+use Rattle.script_core.specs.State.{State, all_phases, begin_phase, add_task, add_query, note_sync, is_declared, is_synced, script_of_state, are_all_synced}
+use Rattle.script_core.specs.Works.{is_sync_of}
+use Rattle.script_core.specs.Spelling.{AtLine, AddsTask, UploadLine, SyncLine, QueryLine}
+use Rattle.script_core.proofs.FieldLaws.{cut_found}
 use Rattle.script_core.proofs.ValueLaws.{ok_or_ok, is_none_is, not_is, time_found, ulid_found, moment_found}
-use Rattle.script_core.proofs.Kept.{Kept, KeepsTasks, at, so_far_of, among, phase_kept, task_kept, sync_noted, hands_of-append, or_same}
+use Rattle.script_core.proofs.Kept.{Kept, KeepsTasks, at, so_far_of, phase_kept, task_kept, sync_noted, hands_of-append, or_same}
 use Rattle.script_core.proofs.LineTools.{is_field, cut_rest, cut_end, only_found, last_phase, no_end, then_ok, unless_is, unit_is}
 use Rattle.script_core.proofs.FoundSetup.{Starts, closed, some_is}
 use Rattle.script_core.proofs.SpelledValues.{near_spelled, free_spelled, agree_spelled, selector_spelled}

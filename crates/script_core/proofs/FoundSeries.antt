@@ -1,11 +1,10 @@
 -- What is read of a series line is what the line spells.
-use Rattle.std.proofs.Common.{◌≡◌, ◌≢◌, ℕ, ◌+◌, ◌<◌, ◌≤◌, suc, ℤ, Bool, true, false, not, ◌==◌, ◌&&◌, cond, nat_lt, ltb-true, List, [], ◌∷◌, ◌++◌, length, take, drop, Option, Some, None, option_map, is_none, unwrap_or, ok_or, Result, Ok, Err, refl, sym, ap, ◌∙◌, subst, arith, codes}
-use Rattle.std.specs.List.{list_all, slice_split, onto_first, join_with_byte, position_or_len, before_first, after_first}
+use Rattle.std.proofs.Common.{◌≡◌, ◌≢◌, ℕ, ◌≤◌, ℤ, Bool, true, false, not, cond, nat_lt, List, [], ◌∷◌, ◌++◌, length, take, drop, Option, Some, None, option_map, Result, Ok, Err, refl, sym, ap, ◌∙◌, subst, arith, codes}
+use Rattle.std.specs.List.{list_all, slice_split, onto_first, position_or_len, before_first, after_first}
 use Rattle.std.proofs.lemmas.Bool.Decides.{nat_tests}
-use Rattle.std.proofs.lemmas.List.{length-append, length-drop, length-take-le, take-append-drop}
+use Rattle.std.proofs.lemmas.List.{take-append-drop}
 use Rattle.std.proofs.lemmas.List.Sums.{prefix_len-le-length}
 use Rattle.std.proofs.lemmas.List.Splits.{length-slice_split, join_with_byte-slice_split}
-use Rattle.reading_core.specs.Reading.{◌>>=◌, ◌>>◌, unless, refused_as}
 use Rattle.reading_core.specs.Decimal.{signed_of}
 use Rattle.reading_core.specs.declared.refusal.NumberRefusal.{NumberRefusal}
 use Rattle.reading_core.specs.declared.refusal.NumberRefusal.TheVariants.{NotANumber, TooLarge}
@@ -15,28 +14,26 @@ use Rattle.label_sets.proofs.SampleTexts.{sample_of-found, sample_of-fits, uncut
 use Rattle.label_sets.proofs.SetLaws.{set_text_found}
 use Rattle.label_sets.specs.Notation.{read_set}
 use Rattle.label_sets.specs.SetText.{IsSetText}
-use Rattle.label_sets.specs.SampleText.{sample_of, sample_with, pattern_of, is_colon as label_colon}
+use Rattle.label_sets.specs.SampleText.{sample_of, sample_with, pattern_of}
 use Rattle.label_sets.specs.declared.label.Label.{Label}
 use Rattle.label_sets.specs.declared.sample.Sample.{Sample}
-use Rattle.label_sets.specs.declared.sample_refusal.SampleRefusal.{SampleRefusal}
 use Rattle.label_sets.specs.declared.series.Series.{Series}
 use Rattle.script_core.specs.declared.block.Block.{Block}
 use Rattle.script_core.specs.declared.body.Body.TheVariants.{Inline}
 use Rattle.script_core.specs.declared.cause.LineCause.{LineCause}
 use Rattle.script_core.specs.declared.cause.LineCause.TheVariants as causes
-use Rattle.script_core.specs.declared.line_refusal.LineRefusal.{LineRefusal}
 use Rattle.script_core.specs.declared.line_refusal.LineRefusal.TheVariants.{Bad}
 use Rattle.script_core.specs.Fields.{is_empty, is_space, after_space}
 use Rattle.script_core.specs.Values.{is_time}
-use Rattle.script_core.specs.Samples.{is_colon, texts_of, are_whole, is_small_number, has_small_number, have_small_numbers, samples_from, samples_of, are_within}
+use Rattle.script_core.specs.Samples.{is_colon, texts_of, are_whole, is_small_number, has_small_number, have_small_numbers, samples_from, are_within}
 use Rattle.script_core.specs.Lines.{first_labels, series_line}
-use Rattle.script_core.specs.State.{State, Last, block_of, all_blocks, add_series, test_block, with_series, has_series, insert_series, script_of_state}
+use Rattle.script_core.specs.State.{State, Last, block_of, all_blocks, add_series, test_block, with_series, has_series, script_of_state}
 use Rattle.script_core.specs.Spelling.{spaced, inside, IsSampleField, AreSampleFields, SeriesLine}
 use Rattle.script_core.proofs.FieldLaws.{no_space, space_is}
 use Rattle.script_core.proofs.ValueLaws.{not_is}
 use Rattle.script_core.proofs.Kept.{Kept, at, so_far_of, series_kept}
 use Rattle.script_core.proofs.LineTools.{is_field, then_ok, unless_is, unit_is}
-use Rattle.script_core.proofs.FoundSetup.{Starts, some_is}
+use Rattle.script_core.proofs.FoundSetup.{Starts}
 use Rattle.std.specs.List.Sorted.{IsStrictlySortedBy}
 use Rattle.label_sets.specs.Labels.{compare_sets}
 use Rattle.script_core.proofs.LawfulParts.{labels_of, sorted_insert}

@@ -1,8 +1,7 @@
 -- What is read of a rule line, a gateway line or a block line is what the line spells.
-use Rattle.std.proofs.Common.{◌≡◌, ◌≢◌, ℕ, ◌+◌, ◌%◌, ◌^◌, ◌<◌, ◌≤◌, ℤ, ◌<ℤ◌, Bool, true, false, not, ◌==◌, ◌&&◌, nat_lt, ltb-true, int_lt, List, [], ◌∷◌, ◌++◌, length, Option, Some, None, is_none, unwrap_or, ok_or, Result, Ok, Err, refl, sym, ap, ◌∙◌, subst, arith, codes}
+use Rattle.std.proofs.Common.{◌≡◌, ℕ, ◌%◌, ◌^◌, ◌<◌, ℤ, ◌<ℤ◌, true, false, not, ◌==◌, ◌&&◌, ltb-true, int_lt, List, [], ◌∷◌, ◌++◌, length, Option, Some, None, Result, Ok, Err, refl, sym, ap, ◌∙◌, subst, arith, codes}
 use Rattle.std.proofs.lemmas.Bool.Decides.{nat_tests}
 use Rattle.std.proofs.lemmas.Int.{ints}
-use Rattle.reading_core.specs.Reading.{◌>>=◌, ◌>>◌, unless, refused_as}
 use Rattle.reading_core.proofs.Binds.{bind_ok, unless_ok, ok_is, refused_as_ok}
 use Rattle.reading_core.proofs.Decimals.{both}
 use Rattle.std.proofs.lemmas.List.{take_all}
@@ -12,17 +11,16 @@ use Rattle.label_sets.specs.SetText.{IsSetText}
 use Rattle.label_sets.specs.declared.label.Label.{Label}
 use Rattle.label_sets.specs.declared.label_refusal.LabelRefusal.{LabelRefusal}
 use Rattle.script_core.specs.declared.cause.LineCause.TheVariants as causes
-use Rattle.script_core.specs.declared.line_refusal.LineRefusal.{LineRefusal}
 use Rattle.script_core.specs.declared.line_refusal.LineRefusal.TheVariants.{Bad}
-use Rattle.script_core.specs.Fields.{is_empty, next_field, only_field, rule_name, is_name}
-use Rattle.script_core.specs.Values.{is_reserved, is_time, with_rule}
+use Rattle.script_core.specs.Fields.{is_empty, next_field}
+use Rattle.script_core.specs.Values.{with_rule}
 use Rattle.script_core.specs.Lines.{rule_line, gateway_line, block_line, whole_labels, last_labels}
-use Rattle.script_core.specs.State.{State, add_gateway, begin_block, gateway_named, is_declared}
-use Rattle.script_core.specs.Spelling.{IsField, IsTimeText, IsUlidField, IsRuleText, Sets, RuleLine, GatewayLine, BlockLine}
-use Rattle.script_core.proofs.FieldLaws.{no_space, Cut, cut_found}
+use Rattle.script_core.specs.State.{State, add_gateway, begin_block, is_declared}
+use Rattle.script_core.specs.Spelling.{IsRuleText, Sets, RuleLine, GatewayLine, BlockLine}
+use Rattle.script_core.proofs.FieldLaws.{cut_found}
 use Rattle.script_core.proofs.ValueLaws.{ok_or_ok, is_none_is, not_is, time_found, ulid_found, rule_word, rule_found, amount_of}
-use Rattle.script_core.proofs.Kept.{Kept, so_far_of, among, gateway_kept, block_kept}
-use Rattle.script_core.proofs.LineTools.{is_field, cut_rest, cut_end, only_found, name_found, early_found}
+use Rattle.script_core.proofs.Kept.{Kept, so_far_of, gateway_kept, block_kept}
+use Rattle.script_core.proofs.LineTools.{is_field, cut_rest, only_found, name_found, early_found}
 use Rattle.script_core.proofs.SpelledValues.{near_spelled, free_spelled}
 use Rattle.script_core.proofs.SpelledRules.{rule_sets}
 

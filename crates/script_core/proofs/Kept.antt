@@ -1,6 +1,6 @@
 -- What the state of the lines so far keeps beside the script so far.
-use Rattle.std.proofs.Common.{◌≡◌, ◌≢◌, ℕ, ◌+◌, ◌<◌, ◌≤◌, zero, suc, Bool, true, false, not, ◌==◌, ◌||◌, cond, nat_lt, List, [], ◌∷◌, ◌++◌, length, map, Option, Some, None, option_map, is_none, is_some, refl, sym, ap, ◌∙◌, subst, arith, append-nil, append_assoc}
-use Rattle.std.specs.List.{list_any, flat_map, fold}
+use Rattle.std.proofs.Common.{◌≡◌, ℕ, ◌+◌, suc, Bool, true, false, ◌==◌, ◌||◌, cond, List, [], ◌∷◌, ◌++◌, length, Option, Some, None, option_map, refl, sym, ap, ◌∙◌, subst, arith, append-nil, append_assoc}
+use Rattle.std.specs.List.{list_any}
 use Rattle.std.specs.Ordering.{is_eq, match_ordering, nat_cmp}
 use Rattle.std.specs.declared.cmp.Ordering.{Ordering}
 use Rattle.std.specs.declared.cmp.Ordering.TheVariants.{Less, Equal, Greater}
@@ -21,7 +21,7 @@ use Rattle.script_core.specs.declared.script.Script.{Script}
 use Rattle.script_core.specs.declared.task.Task.{Task}
 use Rattle.script_core.specs.declared.work.Work.{Work}
 use Rattle.script_core.specs.Hands.{gateway_count, with_hands, hands_of, hands_from}
-use Rattle.script_core.specs.State.{State, Last, start, block_of, all_blocks, all_phases, is_declared, is_synced, with_series, script_of_state}
+use Rattle.script_core.specs.State.{State, Last, start, block_of, all_blocks, all_phases, is_synced, with_series, script_of_state}
 use Rattle.script_core.specs.Spelling.{SoFar, nothing}
 use Rattle.script_core.specs.Works.{works_in, works_of, is_sync_of, has_sync, declares}
 use Rattle.moment_core.specs.StandardRules.{standard_rules}

@@ -1,5 +1,5 @@
 -- So many hands are enough for a phase exactly where its workers are no more.
-use Rattle.std.proofs.Common.{◌≡◌, ℕ, ◌+◌, ◌<◌, ◌≤◌, Bool, true, false, ◌||◌, ◌==◌, cond, List, [], ◌∷◌, ◌++◌, length, fold, refl, sym, ap, ◌∙◌, subst, arith, ◌⊎◌, inl, inr}
+use Rattle.std.proofs.Common.{◌≡◌, ℕ, ◌+◌, ◌≤◌, Bool, true, false, ◌||◌, cond, List, [], ◌∷◌, ◌++◌, length, fold, refl, sym, ap, ◌∙◌, arith, ◌⊎◌, inl, inr}
 use Rattle.std.specs.Cmp.{IsEquivalence}
 use Rattle.std.specs.List.{list_any, IsDistinct}
 use Rattle.std.proofs.lemmas.Bool.Decides.{nat_tests}
@@ -9,7 +9,6 @@ use Rattle.std.proofs.lemmas.Map.Made.{length-le_from_is_member}
 use Rattle.script_core.specs.declared.hand.Hand.{Hand}
 use Rattle.script_core.specs.declared.hand.Hand.TheVariants.{Upload, Gateway}
 use Rattle.script_core.specs.declared.task.Task.{Task}
-use Rattle.script_core.specs.declared.work.Work.{Work}
 use Rattle.script_core.specs.Hands.{same_hand, hands_of_task, with_hand, with_hands, hands_from, hands_of}
 use Rattle.script_core.specs.Spelling.{AreEnough, FewWorkers}
 

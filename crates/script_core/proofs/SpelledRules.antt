@@ -1,7 +1,6 @@
 -- A rule line sets its rule and leaves the others.
-use Rattle.std.proofs.Common.{◌≡◌, ◌≢◌, ℕ, ◌≤◌, ◌^◌, refl, sym, ap, ◌∙◌, subst}
+use Rattle.std.proofs.Common.{◌≡◌, ◌≢◌, ℕ, refl, ◌∙◌}
 use Rattle.moment_core.specs.declared.rules.Rules.{Rules}
-use Rattle.moment_core.specs.declared.span.Span.{Span}
 use Rattle.script_core.specs.declared.rule.Rule.{Rule}
 use Rattle.script_core.specs.declared.rule.Rule.TheVariants as rules
 use Rattle.script_core.specs.declared.rule_name.RuleName.{RuleName}

@@ -1,10 +1,9 @@
 -- The reader's tests, in the words of the grammar.
-use Rattle.std.proofs.Common.{◌≡◌, ◌≢◌, ℕ, ◌+◌, ◌-◌, ◌%◌, ◌^◌, ◌<◌, ◌≤◌, ℤ, pos, negsuc, neg_ℤ, ◌<ℤ◌, ◌≤ℤ◌, Bool, true, false, not, ◌&&◌, cond, nat_le, leb-true, int_lt, List, [], ◌∷◌, map, Result, Ok, Err, refl, sym, ap, ◌∙◌, subst, arith, ◌⊎◌, inl, inr, codes}
-use Rattle.std.specs.Cmp.{IsTotalOrder, int_cmp_total}
+use Rattle.std.proofs.Common.{◌≡◌, ℕ, ◌+◌, ◌-◌, ◌^◌, ◌<◌, ◌≤◌, ℤ, pos, negsuc, ◌≤ℤ◌, Bool, true, false, not, ◌&&◌, cond, nat_le, leb-true, int_lt, List, [], ◌∷◌, map, Result, Ok, Err, refl, sym, ap, ◌∙◌, arith, inl, inr, codes}
+use Rattle.std.specs.Cmp.{int_cmp_total}
 use Rattle.std.specs.List.{All, AllByRecursion}
 use Rattle.std.specs.List.Sorted.{IsStrictlySortedBy}
 use Rattle.std.specs.Ordering.{int_cmp}
-use Rattle.std.specs.declared.cmp.Ordering.{Ordering}
 use Rattle.std.specs.declared.cmp.Ordering.TheVariants.{Less, Equal, Greater}
 use Rattle.std.specs.Str.{bytes_eq}
 use Rattle.std.proofs.lemmas.Bool.Decides.{nat_tests}
@@ -19,7 +18,7 @@ use Rattle.matchers.specs.declared.selector_refusal.SelectorRefusal.{SelectorRef
 use Rattle.matchers.specs.declared.selector_refusal.SelectorRefusal.TheVariants.{NotBuilt}
 use Rattle.moment_core.specs.declared.rules.Rules.{Rules}
 use Rattle.script_core.specs.Samples.{is_within, are_within, rise_after, are_rising}
-use Rattle.script_core.specs.Values.{is_time, is_reserved, agree}
+use Rattle.script_core.specs.Values.{is_time, agree}
 use Rattle.script_core.specs.Spelling.{IsNear, TimesRise, IsWithin, IsSelectorText, DoAgree}
 use Rattle.script_core.proofs.LawfulParts.{near_low, near_high}
 use Rattle.script_core.proofs.LineTools.{same_bytes}

@@ -1,10 +1,8 @@
 -- The values of fields are read from their texts, and from no others.
-use Rattle.std.proofs.Common.{◌≡◌, ◌≢◌, ℕ, ◌+◌, ◌^◌, ◌<◌, ◌≤◌, ℤ, pos, negsuc, leb-true, Bool, true, false, not, ◌&&◌, nat_lt, nat_le, List, [], ◌∷◌, Option, Some, None, is_none, is_some, option_map, ok_or, Result, Ok, Err, refl, sym, ap, ◌∙◌, subst, arith, codes}
-use Rattle.std.specs.Bool.{IsTrue, IsFalse}
+use Rattle.std.proofs.Common.{◌≡◌, ℕ, ◌^◌, ◌<◌, ◌≤◌, ℤ, pos, negsuc, leb-true, Bool, true, false, not, ◌&&◌, nat_le, List, Option, Some, None, is_none, option_map, ok_or, Ok, refl, sym, ap, ◌∙◌, subst, arith, codes}
 use Rattle.std.specs.Int.{w64}
 use Rattle.std.specs.Int.RustNames.{FitsSigned}
 use Rattle.std.proofs.lemmas.Bool.Decides.{nat_tests}
-use Rattle.reading_core.specs.Reading.{◌>>=◌, ◌>>◌, unless, refused_as}
 use Rattle.reading_core.specs.Decimal.{decimal_text, signed_text, unsigned_of, signed_of}
 use Rattle.reading_core.proofs.Binds.{bind_ok, unless_ok, ok_is, refused_as_ok}
 use Rattle.reading_core.proofs.Decimals.{both}
@@ -17,8 +15,7 @@ use Rattle.moment_core.specs.SpanText.{IsSpanText, span_of}
 use Rattle.moment_core.specs.declared.moment.Moment.{Moment}
 use Rattle.moment_core.specs.declared.span.Span.{Span}
 use Rattle.ulid_core.proofs.UlidLaws.{ulid_of-found, ulid_of-only}
-use Rattle.ulid_core.specs.UlidText.{IsUlidText, ulid_of}
-use Rattle.script_core.specs.declared.cause.LineCause.{LineCause}
+use Rattle.ulid_core.specs.UlidText.{IsUlidText}
 use Rattle.script_core.specs.declared.cause.LineCause.TheVariants.{BadNumber}
 use Rattle.script_core.specs.declared.rule.Rule.{Rule}
 use Rattle.script_core.specs.declared.rule.Rule.TheVariants as rules

@@ -2,7 +2,7 @@
 -- record for each kind of line: how the line is written, what has to hold of the script so far, and what the line adds. Here
 -- is nothing of causes and of their order: a text that is read is one that spells its script, and each text that spells a
 -- script is read.
-use Rattle.std.specs.Prelude.{◌≡◌, ◌≢◌, ◌⊎◌, ℕ, ◌+◌, ◌-◌, ◌%◌, ◌^◌, ◌<◌, ◌≤◌, ℤ, pos, neg_ℤ, ◌<ℤ◌, ◌≤ℤ◌, List, [], ◌∷◌, ◌++◌, length, map, Bool, true, false, not, IsTrue, IsFalse, Option, None, Some, All, position, slice_get, codes}
+use Rattle.std.specs.Prelude.{◌≡◌, ◌≢◌, ◌⊎◌, ℕ, ◌+◌, ◌-◌, ◌%◌, ◌^◌, ◌<◌, ◌≤◌, ℤ, pos, neg_ℤ, ◌<ℤ◌, ◌≤ℤ◌, List, [], ◌∷◌, ◌++◌, length, map, Bool, true, false, not, IsTrue, IsFalse, None, Some, All, position, codes}
 use Rattle.std.specs.Bool.{MatchBool}
 use Rattle.std.specs.List.{list_all, list_any, join_with_byte}
 use Rattle.std.specs.List.Sorted.{IsStrictlySortedBy}
@@ -21,7 +21,6 @@ use Rattle.matchers.specs.declared.operator.Operator.TheVariants.{Equal}
 use Rattle.moment_core.specs.MomentText.{IsMomentText}
 use Rattle.moment_core.specs.SpanText.{IsSpanText}
 use Rattle.moment_core.specs.StandardRules.{standard_rules}
-use Rattle.moment_core.specs.declared.moment.Moment.{Moment}
 use Rattle.moment_core.specs.declared.rules.Rules.{Rules}
 use Rattle.ulid_core.specs.UlidText.{IsUlidText}
 use Rattle.script_core.specs.declared.block.Block.{Block}

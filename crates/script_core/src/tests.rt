@@ -324,6 +324,10 @@ fn the_first_cause_is_given(rt: HostRuntime) {
     for (text, refusal) in REFUSED {
         assert_eq!(rt; refusal_of(&rt, text.as_bytes()), Some(refusal), "{text}");
     }
+}
+
+#[test]
+fn the_first_of_two_causes_is_given(rt: HostRuntime) {
     for (text, refusal) in TWO_CAUSES {
         assert_eq!(rt; refusal_of(&rt, text.as_bytes()), Some(refusal), "{text}");
     }
