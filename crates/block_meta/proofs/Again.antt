@@ -1,11 +1,10 @@
 -- What is written of a part reads as that part again.
-use Rattle.std.proofs.Common.{◌≡◌, ℕ, ℤ, pos, negsuc, ◌<◌, ◌≤ℤ◌, ◌<ℤ◌, ◌^◌, List, [], ◌∷◌, ◌++◌, All, length, get_or, take, Bool, true, false, cond, ltb, Some, None, is_some, ◌⊎◌, inl, inr, Ok, Err, FitsSigned, w64, refl, sym, ap, ◌∙◌, arith, rules, tests, codes}
+use Rattle.std.proofs.Common.{◌≡◌, ℕ, ℤ, pos, negsuc, ◌<◌, ◌^◌, List, [], ◌∷◌, true, false, ltb, Some, is_some, ◌⊎◌, inl, inr, Ok, Err, FitsSigned, w64, refl, arith, codes}
 use Rattle.std.proofs.lemmas.Int.{ints}
 use Rattle.std.proofs.lemmas.Bool.Decides.{nat_tests}
-use Rattle.reading_core.specs.Reading.{◌>>=◌, ◌>>◌, refused_as, unless}
 use Rattle.ulid_core.specs.UlidText as ulid
 use Rattle.ulid_core.proofs.UlidLaws.{ulid_of-only}
-use Rattle.serde_json.specs.Data.{Data, string, number, object, member, no_members}
+use Rattle.serde_json.specs.Data.{Data, string}
 use Rattle.serde_json.specs.Find.{as_null, as_object, as_i64, as_integer, of_integer}
 use Rattle.block_meta.specs.declared.parent.Parent.{Parent}
 use Rattle.block_meta.specs.declared.file_size.FileSize.{FileSize}

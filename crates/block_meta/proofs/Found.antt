@@ -1,16 +1,16 @@
 -- What is read stands in the text: members and kinds.
-use Rattle.std.proofs.Common.{◌≡◌, ◌≢◌, ℕ, ℤ, zero, suc, ◌<◌, List, [], ◌∷◌, Bool, true, false, ◌==◌, cond, Option, Some, None, is_some, option_and_then, Ok, Err, ◌⊎◌, inl, inr, refl, sym, ap, subst, ◌∙◌, arith}
+use Rattle.std.proofs.Common.{◌≡◌, ◌≢◌, ℕ, ℤ, List, Bool, true, false, ◌==◌, cond, Option, Some, None, is_some, option_and_then, Ok, ◌⊎◌, inl, inr, refl, sym, ap, ◌∙◌, arith}
 use Rattle.std.specs.Option.{ok_or}
 use Rattle.std.proofs.lemmas.Bool.Decides.{nat_tests}
-use Rattle.reading_core.specs.Reading.{◌>>=◌, ◌>>◌, unless, refused_as}
-use Rattle.reading_core.proofs.Binds.{bind_ok, ok_is, unless_ok, refused_as_ok}
+use Rattle.reading_core.specs.Reading.{◌>>=◌, unless}
+use Rattle.reading_core.proofs.Binds.{bind_ok, ok_is, refused_as_ok}
 use Rattle.ulid_core.specs.UlidText as ulid
 use Rattle.ulid_core.proofs.UlidLaws.{ulid_of-found, ulid_of-only}
-use Rattle.serde_json.specs.Data.{Data, Num, null, boolean, number, unsigned, negative, float, string, array, object, Items, no_items, item, Members}
+use Rattle.serde_json.specs.Data.{Data, Num, null, boolean, number, unsigned, negative, float, string, array, object, Items, Members}
 use Rattle.serde_json.specs.Find.{get, as_null, as_number, as_str, as_array, as_object, as_u64, as_i64, as_integer}
 use Rattle.block_meta.specs.declared.refusal.MetaRefusal.{MetaRefusal}
-use Rattle.block_meta.specs.Members.{Read, member_of, needed_of, section_from, section_of, of_kind, unsigned_of, signed_of, whole_of, text_of, ulid_of, version_from, version_of, or_absent, count_of, each, list_of}
-use Rattle.block_meta.specs.MetaText.{IsMember, Lacks, Has, HasOr, IsText, IsUlid, IsUnsigned, IsSigned, IsWhole, IsVersion, IsObject, AreItems, IsList}
+use Rattle.block_meta.specs.Members.{Read, member_of, needed_of, of_kind, unsigned_of, signed_of, whole_of, text_of, ulid_of, version_from, version_of, or_absent}
+use Rattle.block_meta.specs.MetaText.{IsMember, Lacks, Has, HasOr, IsText, IsUlid, IsUnsigned, IsSigned, IsWhole, IsVersion, IsObject}
 
 -- ---- members
 

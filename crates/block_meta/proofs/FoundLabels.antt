@@ -1,11 +1,10 @@
 -- The labels of an object: what is read of its members is the set that they make, and such a set is read.
-use Rattle.std.proofs.Common.{◌≡◌, ◌≢◌, ℕ, List, [], ◌∷◌, length, Bool, true, false, ◌==◌, Option, Some, None, is_some, option_map, Ok, Err, ◌⊎◌, inl, inr, refl, sym, ap, subst, ◌∙◌, arith, codes}
+use Rattle.std.proofs.Common.{◌≡◌, ◌≢◌, ℕ, List, [], ◌∷◌, length, false, ◌==◌, Option, Some, None, is_some, option_map, Ok, ◌⊎◌, inl, inr, refl, sym, ap, subst, ◌∙◌, arith, codes}
 use Rattle.std.specs.declared.cmp.Ordering.{Ordering}
 use Rattle.std.specs.declared.cmp.Ordering.TheVariants.{Less, Equal, Greater}
-use Rattle.std.specs.Ordering.{nat_cmp, match_ordering}
-use Rattle.std.specs.Cmp.Lexicographic.{slice_cmp}
+use Rattle.std.specs.Ordering.{match_ordering}
 use Rattle.std.proofs.lemmas.Bool.Decides.{nat_tests}
-use Rattle.reading_core.specs.Reading.{◌>>=◌, ◌>>◌, refused_as}
+use Rattle.reading_core.specs.Reading.{◌>>=◌}
 use Rattle.reading_core.proofs.Binds.{bind_ok, ok_is, refused_as_ok, cond_ok}
 use Rattle.label_sets.specs.declared.label.Label.{Label}
 use Rattle.label_sets.specs.declared.label_refusal.LabelRefusal.{LabelRefusal}
@@ -13,11 +12,10 @@ use Rattle.label_sets.specs.Labels.{compare_texts, IsLabelSet, has_lesser_name, 
 use Rattle.label_sets.specs.Ordered.{placed}
 use Rattle.label_sets.proofs.LabelValues.{compare_self, before_differs, by_ordering, same_text, value_hit, value_miss, value_nil, same_sets}
 use Rattle.label_sets.proofs.OrderedLabels.{value_of-placed, IsLabelSet-placed}
-use Rattle.serde_json.specs.Data.{Data, string, object, Members, no_members, member}
+use Rattle.serde_json.specs.Data.{Data, string, Members, no_members, member}
 use Rattle.serde_json.specs.Find.{get_member, as_object}
 use Rattle.block_meta.specs.declared.refusal.MetaRefusal.{MetaRefusal}
-use Rattle.block_meta.specs.declared.refusal.MetaRefusal.TheVariants.{BadLabels}
-use Rattle.block_meta.specs.Members.{Read, of_kind, text_of}
+use Rattle.block_meta.specs.Members.{of_kind, text_of}
 use Rattle.block_meta.specs.MetaReading.{label_added, labels_from}
 use Rattle.block_meta.specs.MetaText.{NamesDiffer, AreLabels}
 use Rattle.block_meta.proofs.Found.{object_found, kind_found, text_found, text_only}

@@ -1,35 +1,13 @@
 -- What is read of a list stands in it, and what stands in it is read.
-use Rattle.std.proofs.Common.{◌≡◌, ◌≢◌, ◌↔◌, ℕ, ℤ, pos, neg_ℤ, zero, suc, ◌<◌, ◌<ℤ◌, ◌≤ℤ◌, ◌^◌, List, [], ◌∷◌, Bool, true, false, ◌&&◌, ltb, cond, Option, Some, None, is_some, option_map, Result, Ok, Err, ◌⊎◌, inl, inr, Contains, refl, sym, ap, ap₂, subst, ◌∙◌, arith, codes}
-use Rattle.std.specs.Prelude.{IfOk, int_lt, int_le}
-use Rattle.std.specs.Option.{ok_or}
-use Rattle.std.specs.Str.{IsUtf8, is_utf8}
-use Rattle.std.specs.List.Sorted.{IsStrictlyIncreasing}
-use Rattle.std.proofs.Math.Dec.{T}
-use Rattle.std.proofs.lemmas.Bool.Decides.{nat_tests}
-use Rattle.std.proofs.lemmas.Str.{IsUtf8-from_is_utf8, is_utf8-from_IsUtf8}
-use Rattle.reading_core.specs.Reading.{◌>>=◌, ◌>>◌, unless, refused_as, Gives}
-use Rattle.reading_core.proofs.Binds.{bind_ok, ok_is, unless_ok, refused_as_ok, cond_ok_second}
-use Rattle.serde_json.specs.Data.{Data, null, number, unsigned, string, array, object, Items, no_items, item, Members}
-use Rattle.serde_json.specs.Read.{read}
-use Rattle.serde_json.specs.Find.{as_array, as_object}
+use Rattle.std.proofs.Common.{◌≡◌, ℕ, List, [], ◌∷◌, Ok, refl, subst}
+use Rattle.reading_core.specs.Reading.{◌>>=◌}
+use Rattle.reading_core.proofs.Binds.{bind_ok, ok_is}
+use Rattle.serde_json.specs.Data.{Data, Items, no_items, item}
+use Rattle.serde_json.specs.Find.{as_array}
 use Rattle.block_meta.specs.declared.refusal.MetaRefusal.{MetaRefusal}
-use Rattle.block_meta.specs.declared.refusal.MetaRefusal.TheVariants.{NotJson, MissingField, WrongKind}
-use Rattle.block_meta.specs.declared.parent.Parent.{Parent}
-use Rattle.block_meta.specs.declared.file_size.FileSize.{FileSize}
-use Rattle.block_meta.specs.declared.times.Times.{Times}
-use Rattle.block_meta.specs.declared.stats.Stats.{Stats}
-use Rattle.block_meta.specs.declared.compaction.Compaction.{Compaction}
-use Rattle.block_meta.specs.declared.thanos.Thanos.{Thanos}
-use Rattle.label_sets.specs.declared.label.Label.{Label}
-use Rattle.block_meta.specs.Lawful.{AreLawfulTimes, are_lawful_times, ascending}
-use Rattle.block_meta.specs.Members.{Read, json_of, object_of, member_of, needed_of, section_from, section_of, of_kind, unsigned_of, signed_of, whole_of, text_of, ulid_of, version_of, or_absent, count_of, each, list_of}
-use Rattle.block_meta.specs.MetaFields.{MetaFields, MarkFields, stats_part, compaction_part, thanos_part, no_thanos}
-use Rattle.block_meta.specs.MetaReading.{times_of, stats_members_of, stats_of, level_of, sources_of, parent_of, compaction_members_of, compaction_of, labels_of, labels_from, resolution_of, text_or_empty, file_of, thanos_members_of, thanos_of, meta_of, meta_of_text, deletion_time_of, mark_of, mark_of_text}
-use Rattle.block_meta.specs.MetaText.{IsMember, Lacks, Has, HasOr, IsText, IsUlid, IsUnsigned, IsSigned, IsWhole, IsVersion, IsObject, AreItems, IsList, AreSources, IsParent, IsFile, AreLabels, AreStats, IsCompaction, IsDownsample, IsThanos, IsMeta, IsMetaText, IsMark, IsMarkText}
-use Rattle.block_meta.proofs.AscendingOnce.{ascending_rises, ascending_same, ascending_only}
-use Rattle.block_meta.proofs.Rising.{lawful_passes}
-use Rattle.block_meta.proofs.Found.{member_found, member_lacks, member_only, lacks_only, needed_found, needed_only, optional_found, optional_only, kind_found, array_found, is_object_found, is_object_only, text_found, text_only, ulid_found, ulid_only, unsigned_found, unsigned_only, signed_found, signed_only, whole_found, whole_only, version_found, version_only}
-use Rattle.block_meta.proofs.FoundLabels.{labels_found, labels_only}
+use Rattle.block_meta.specs.Members.{Read, of_kind, each, list_of}
+use Rattle.block_meta.specs.MetaText.{HasOr, AreItems, IsList}
+use Rattle.block_meta.proofs.Found.{optional_found, optional_only, kind_found, array_found}
 
 -- ---- lists
 

@@ -1,5 +1,5 @@
 -- Labels as members of a JSON object: reading adds them one after another, and what is written of a set reads as that set.
-use Rattle.std.proofs.Common.{◌≡◌, ◌≢◌, ℕ, zero, suc, ◌+◌, ◌<◌, List, [], ◌∷◌, ◌++◌, length, take, get_or, Bool, true, false, ◌==◌, cond, None, Ok, Err, ◌⊎◌, inl, inr, String, Global, string_bytes, Less, Equal, Greater, nat_cmp, refl, sym, ap, ap₂, subst, ◌∙◌, arith, rules, append_assoc, append-nil}
+use Rattle.std.proofs.Common.{◌≡◌, ◌≢◌, ℕ, zero, suc, ◌+◌, ◌<◌, List, [], ◌∷◌, ◌++◌, length, take, get_or, false, ◌==◌, None, Ok, Err, ◌⊎◌, inl, inr, String, Global, string_bytes, Greater, nat_cmp, refl, sym, ap, ap₂, subst, ◌∙◌, arith, append_assoc, append-nil}
 use Rattle.std.specs.Cmp.Lexicographic.{slice_cmp}
 use Rattle.std.specs.Ordering.{ordering_reverse}
 use Rattle.std.proofs.lemmas.Cmp.{nat_list_cmp_total}
@@ -9,7 +9,7 @@ use Rattle.label_sets.specs.declared.label.Label.{Label}
 use Rattle.label_sets.specs.Labels.{IsLabelSet, StandsBefore, ComesBefore, has_lesser_name, value_of, added}
 use Rattle.label_sets.specs.Ordered.{placed}
 use Rattle.label_sets.proofs.LabelValues.{before_differs, value_miss, value_nil}
-use Rattle.serde_json.specs.Data.{Data, string, put, Members, no_members, member}
+use Rattle.serde_json.specs.Data.{string, put, member}
 use Rattle.serde_json.specs.View.{view, members_view}
 use Rattle.serde_json.specs.declared.value.Value.{Value}
 use Rattle.block_meta.specs.declared.refusal.MetaRefusal.{MetaRefusal}

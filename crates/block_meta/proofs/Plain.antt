@@ -1,13 +1,13 @@
 -- What is written has no float and nests a few levels deep.
-use Rattle.std.proofs.Common.{◌≡◌, ℕ, ℤ, zero, suc, max, pos, negsuc, ◌≤◌, List, [], ◌∷◌, Bool, true, false, is_some, ◌||◌, refl, ap, ap₂, ◌∙◌, arith}
-use Rattle.serde_json.specs.Data.{Data, string, object, array, number, depth, items_depth, members_depth, Items, Members}
+use Rattle.std.proofs.Common.{◌≡◌, ℕ, ℤ, pos, negsuc, ◌≤◌, List, [], ◌∷◌, true, false, is_some, refl, arith}
+use Rattle.serde_json.specs.Data.{Data, string, depth, items_depth, members_depth}
 use Rattle.serde_json.specs.Find.{of_integer, is_float, as_object}
 use Rattle.serde_json.specs.Written.{has_float, items_have_float, members_have_float}
 use Rattle.label_sets.specs.declared.label.Label.{Label}
 use Rattle.block_meta.specs.declared.parent.Parent.{Parent}
 use Rattle.block_meta.specs.declared.file_size.FileSize.{FileSize}
 use Rattle.block_meta.specs.MetaFields.{MetaFields, MarkFields}
-use Rattle.block_meta.specs.MetaValue.{ulid_value, signed_value, parent_value, file_value, items_value, compaction_value, stats_value, thanos_value, meta_value, mark_value, label_members}
+use Rattle.block_meta.specs.MetaValue.{ulid_value, parent_value, file_value, items_value, compaction_value, stats_value, thanos_value, meta_value, mark_value, label_members}
 
 no_float : (z : ℤ) → is_float (of_integer z) ≡ false
 no_float (pos n) = refl

@@ -1,5 +1,5 @@
 -- The text of a ULID is ASCII, so it is UTF-8.
-use Rattle.std.proofs.Common.{◌≡◌, ℕ, ◌<◌, List, [], ◌∷◌, map, arith}
+use Rattle.std.proofs.Common.{ℕ, List, [], ◌∷◌, map, arith}
 use Rattle.std.specs.Int.Digits.{AllBelowBase}
 use Rattle.std.specs.Str.{IsUtf8, IsAscii}
 use Rattle.std.proofs.lemmas.Str.{IsUtf8-from_ascii}

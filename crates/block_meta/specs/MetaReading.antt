@@ -1,13 +1,12 @@
 -- How a meta and a deletion mark are read: their fields in the order in which they are tested, so that the first refused
 -- one decides. Members that have no field here are passed over.
-use Rattle.std.specs.Prelude.{ℕ, ℤ, ◌^◌, ◌+◌, nat_lt, nat_le, length, pos, List, [], ◌∷◌, Bool, not, ◌&&◌, Option, Some, None, Result, Ok, Err, codes}
+use Rattle.std.specs.Prelude.{ℕ, ℤ, ◌^◌, nat_lt, pos, List, [], Ok, codes}
 use Rattle.std.specs.Option.{ok_or}
 use Rattle.reading_core.specs.Reading.{◌>>=◌, ◌>>◌, unless, refused_as}
 use Rattle.serde_json.specs.Data.{Data, Members, no_members, member}
-use Rattle.serde_json.specs.Find.{as_object, as_str}
+use Rattle.serde_json.specs.Find.{as_object}
 use Rattle.label_sets.specs.declared.label.Label.{Label}
 use Rattle.label_sets.specs.Labels.{added}
-use Rattle.block_meta.specs.declared.refusal.MetaRefusal.{MetaRefusal}
 use Rattle.block_meta.specs.declared.refusal.MetaRefusal.TheVariants.{MissingField, WrongKind, BadTimes, BadLabels}
 use Rattle.block_meta.specs.declared.parent.Parent.{Parent}
 use Rattle.block_meta.specs.declared.file_size.FileSize.{FileSize}

@@ -1,6 +1,6 @@
 -- Which texts are texts of a meta or of a deletion mark, apart from how they are read and written. A text is one JSON object.
 -- A member that is not named here may stand in it too, and a member that is null counts as absent.
-use Rattle.std.specs.Prelude.{◌≡◌, ◌≢◌, ◌⊎◌, ◌↔◌, ◌<◌, ◌^◌, ℕ, ℤ, pos, List, [], ◌∷◌, Option, Some, None, option_map, Contains, codes}
+use Rattle.std.specs.Prelude.{◌≡◌, ◌≢◌, ◌⊎◌, ◌↔◌, ◌<◌, ◌^◌, ℕ, ℤ, pos, List, [], ◌∷◌, Some, None, option_map, Contains, codes}
 use Rattle.std.specs.Str.{IsUtf8}
 use Rattle.std.specs.List.Sorted.{IsStrictlyIncreasing}
 use Rattle.ulid_core.specs.UlidText.{IsUlidText}

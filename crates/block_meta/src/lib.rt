@@ -23,4 +23,6 @@ pub use parent::{Parent, ParentList};
 pub use refusal::MetaRefusal;
 
 #[cfg(test)]
+mod server_metas;
+#[cfg(test)]
 mod tests;

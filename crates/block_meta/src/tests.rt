@@ -1,7 +1,9 @@
-use crate::{DeletionMark, Meta, MetaRefusal};
+use crate::{BlockPlan, DeletionMark, Meta, MetaRefusal, ParentList, own_sources};
+use label_sets::{LabelSet, Text};
 use list_core::TryCopy;
 use std::alloc::{AllocError, Global};
 use std::test::Fail;
+use ulid_core::Ulid;
 
 // The meta of a block of one sample, as the system writes it.
 static ONE_SAMPLE: &str =
@@ -163,6 +165,14 @@ fn is_read_meta(alloc: Global, members: &str) -> Result<bool, Fail> {
     Ok(Meta::read(alloc, text.as_bytes()).is_ok())
 }
 
+// A member that is passed over, with so many lists in one another.
+fn nested(alloc: Global, depth: usize) -> Result<String, AllocError> {
+    let mut text = String::from_str(alloc, "\"hints\":")?;
+    text.push_str("[".repeat(alloc, depth)?.as_str())?;
+    text.push_str("]".repeat(alloc, depth)?.as_str())?;
+    Ok(text)
+}
+
 fn is_no_object(alloc: Global, bytes: &[u8]) -> bool {
     Meta::read(alloc, bytes).err() == Some(MetaRefusal::NotJson)
 }
@@ -176,6 +186,7 @@ fn texts_that_are_read(rt: HostRuntime) -> Result<(), Fail> {
     for line in READ_METAS.lines() {
         assert!(rt; is_read_meta(rt.alloc(), line)?, "{line}");
     }
+    assert!(rt; is_read_meta(rt.alloc(), nested(rt.alloc(), 100)?.as_str())?);
     let meta = Meta::read(rt.alloc(), SERVER.as_bytes())?;
     assert_eq!(rt;
         (meta.min_time, meta.max_time),
@@ -200,10 +211,31 @@ fn texts_that_are_refused(rt: HostRuntime) -> Result<(), Fail> {
     for line in NO_OBJECTS.lines() {
         assert!(rt; is_no_object(rt.alloc(), line.as_bytes()), "{line}");
     }
-    let deep = "[".repeat(rt.alloc(), 200)?;
+    let open = "[".repeat(rt.alloc(), 200)?;
+    assert!(rt; is_no_object(rt.alloc(), open.as_bytes()));
+    let deep = with_members(rt.alloc(), LAWFUL, nested(rt.alloc(), 200)?.as_str())?;
     assert!(rt; is_no_object(rt.alloc(), deep.as_bytes()));
     assert!(rt; is_no_object(rt.alloc(), b"{\"version\":\"\xff\"}"));
     let empty = Meta::read(rt.alloc(), b"{}").err().ok_or("read")?;
     assert!(rt; is_named(&empty, "MissingField version"));
+    Ok(())
+}
+
+#[test]
+fn a_plan_is_copied(rt: HostRuntime) -> Result<(), Fail> {
+    let ulid = Ulid::from_parts(0, 10);
+    let plan = BlockPlan {
+        ulid,
+        min_time: 1_000,
+        max_time: 2_000,
+        level: 1,
+        sources: own_sources(rt.alloc(), ulid)?,
+        parents: ParentList::new(rt.alloc()),
+        labels: LabelSet::empty(rt.alloc()),
+        source: Text::from_str(rt.alloc(), "sidecar")?,
+    };
+    let copied = plan.copy()?;
+    assert_eq!(rt; copied.sources.members(), [ulid].as_slice());
+    assert_eq!(rt; copied.source, plan.source);
     Ok(())
 }

@@ -1,19 +1,17 @@
 -- What lines spell is read of them, and what a text spells is read of it.
-use Rattle.std.proofs.Common.{◌≡◌, ◌≢◌, ℕ, ◌+◌, ◌<◌, ◌≤◌, Bool, true, false, not, cond, nat_lt, List, [], ◌∷◌, ◌++◌, length, Option, Some, None, Result, Ok, Err, refl, sym, ap, ◌∙◌, subst, arith}
+use Rattle.std.proofs.Common.{◌≡◌, ℕ, ◌+◌, Bool, true, false, cond, nat_lt, List, [], ◌∷◌, length, Option, Some, Result, Ok, refl, sym, ap, ◌∙◌, subst, arith}
 use Rattle.std.specs.Bool.{MatchBool}
 use Rattle.std.specs.Str.{is_utf8}
 use Rattle.std.proofs.lemmas.Bool.Decides.{nat_tests}
-use Rattle.reading_core.specs.Reading.{◌>>=◌, ◌>>◌, unless, refused_as}
+use Rattle.reading_core.specs.Reading.{◌>>=◌, refused_as}
 use Rattle.moment_core.specs.StandardRules.{standard_rules}
-use Rattle.script_core.specs.declared.cause.LineCause.TheVariants as causes
 use Rattle.script_core.specs.declared.line_kind.LineKind.{LineKind}
 use Rattle.script_core.specs.declared.line_kind.LineKind.TheVariants as kinds
 use Rattle.script_core.specs.declared.script.Script.{Script}
 use Rattle.script_core.specs.declared.script_refusal.ScriptRefusal.{ScriptRefusal}
-use Rattle.script_core.specs.declared.script_refusal.ScriptRefusal.TheVariants.{BadLine, TooLong}
 use Rattle.script_core.specs.Fields.{lines_of, is_silent, next_field, line_kind}
 use Rattle.script_core.specs.Lines.{fields_line}
-use Rattle.script_core.specs.State.{State, start, all_blocks, has_ended, end_block, finish, script_of_state}
+use Rattle.script_core.specs.State.{State, start, all_blocks, end_block, finish, script_of_state}
 use Rattle.script_core.specs.Reading.{of_line, is_series, kind_line, text_line, spoken_line, line_at, lines_at, script_of}
 use Rattle.script_core.specs.Spelling as spelling
 use Rattle.script_core.specs.Spelling.{SoFar, HasEnded, Says, Say, Spells}

@@ -1,10 +1,8 @@
 -- What a line of a phase spells is read of it.
-use Rattle.std.proofs.Common.{◌≡◌, ◌≢◌, ℕ, zero, suc, ◌+◌, ◌<◌, ◌≤◌, ℤ, ◌≤ℤ◌, Bool, true, false, not, ◌==◌, ◌&&◌, cond, nat_lt, nat_le, int_lt, List, [], ◌∷◌, ◌++◌, length, Option, Some, None, is_none, is_some, Result, Ok, Err, refl, sym, ap, ◌∙◌, subst, arith, codes}
+use Rattle.std.proofs.Common.{◌≡◌, ℕ, zero, suc, ◌+◌, ◌%◌, ◌^◌, ◌<◌, ◌≤◌, ℤ, ◌≤ℤ◌, Bool, true, false, nat_lt, nat_le, int_lt, List, [], ◌∷◌, ◌++◌, length, Option, Some, None, is_some, Ok, refl, sym, ap, ◌∙◌, subst, arith}
 use Rattle.std.specs.List.{list_all, range_with_len}
-use Rattle.std.specs.Str.{bytes_eq}
 use Rattle.std.proofs.lemmas.Bool.Decides.{nat_tests}
 use Rattle.std.proofs.lemmas.Int.{ints}
-use Rattle.reading_core.specs.Reading.{◌>>=◌, ◌>>◌, unless, refused_as}
 use Rattle.matchers.specs.Selectors.{read_selector, is_metric_name}
 use Rattle.matchers.specs.declared.matcher.Matcher.{Matcher}
 use Rattle.moment_core.specs.declared.moment.Moment.{Moment}
@@ -14,19 +12,20 @@ use Rattle.script_core.specs.declared.phase.Phase.{Phase}
 use Rattle.script_core.specs.declared.script.Script.{Script}
 use Rattle.script_core.specs.declared.work.Work.{Work}
 use Rattle.script_core.specs.declared.work.Work.TheVariants as works
-use Rattle.script_core.specs.Fields.{is_empty, next_field, only_field, is_name}
+use Rattle.script_core.specs.Fields.{is_empty, next_field}
 use Rattle.script_core.specs.Hands.{gateway_count, with_hands, hands_of}
 use Rattle.script_core.specs.Values.{is_reserved, agree, moment_from}
 use Rattle.script_core.specs.Lines.{fields_line, may_begin, at_line, upload_line, sync_line, last_selector, query_line}
 use Rattle.script_core.specs.State.{State, all_phases, begin_phase, add_task, add_query, note_sync, is_declared, is_synced, script_of_state, are_all_synced}
-use Rattle.script_core.specs.Works.{works_of}
-use Rattle.script_core.specs.Spelling.{SoFar, outside, AtLine, AddsTask, UploadLine, SyncLine, QueryLine}
-use Rattle.script_core.proofs.FieldLaws.{no_space, cut_again, cut_last}
+use Rattle.script_core.specs.Spelling.{SoFar, AtLine, AddsTask, UploadLine, SyncLine, QueryLine}
+use Rattle.script_core.proofs.FieldLaws.{cut_again, cut_last}
 use Rattle.script_core.proofs.ValueLaws.{time_again, ulid_again, moment_again}
 use Rattle.script_core.proofs.Kept.{Kept, at, so_far_of, hands_of-append}
 use Rattle.script_core.proofs.LineTools.{is_some_field, only_again, last_phase}
 use Rattle.script_core.proofs.FoundSetup.{closed}
 use Rattle.script_core.proofs.AgainSetup.{IsRead, starts_again}
+use Rattle.script_core.proofs.SpelledValues.{near_tested, free_tested, agree_tested, selector_read}
+use Rattle.script_core.proofs.SpelledHands.{few_counted}
 
 may_again : (rules : Rules) (phases : List Phase) (phase : Option Phase) (moment : Moment) → (phase ≡ None → phases ≡ []) → (all_phases phases phase ≡ [] → agree rules ≡ true) → ((others : List Phase) (last : Phase) → all_phases phases phase ≡ others ++ last ∷ [] → last.moment.ms ≤ moment.ms) → may_begin rules phase moment ≡ Ok tt
 may_again rules phases None moment first agreed later = let agrees = agreed (first refl) in rw agrees refl
@@ -60,7 +59,8 @@ task_again st number work script kept adds =
     let below = adds.few in
     let few : nat_lt st.activities 65536 ≡ true = grind (arith, nat_tests) in
     let hands : hands_of (gateway_count st.gateways) (adds.phase.tasks ++ record { line = number; work = work } ∷ []) ≡ with_hands (gateway_count st.gateways) st.hands (length adds.phase.tasks) work = hands_of-append (gateway_count st.gateways) adds.phase.tasks (record { line = number; work = work }) ∙ ap (λ hs. with_hands (gateway_count st.gateways) hs (length adds.phase.tasks) work) (sym (kept.tasks.are_hands adds.phase last.0)) in
-    let fits : length (with_hands (gateway_count st.gateways) st.hands (length adds.phase.tasks) work) ≤ 64 = subst (λ hs. length hs ≤ 64) hands adds.few_workers in
+    let counted = few_counted (gateway_count st.gateways) (adds.phase.tasks ++ record { line = number; work = work } ∷ []) adds.few_workers in
+    let fits : length (with_hands (gateway_count st.gateways) st.hands (length adds.phase.tasks) work) ≤ 64 = subst (λ hs. length hs ≤ 64) hands counted in
     let few_workers : nat_le (length (with_hands (gateway_count st.gateways) st.hands (length adds.phase.tasks) work)) 64 ≡ true = grind (arith, nat_tests) in
     record {
       after = record st { phase = Some (record adds.phase { tasks = adds.phase.tasks ++ record { line = number; work = work } ∷ [] }); hands = with_hands (gateway_count st.gateways) st.hands (length adds.phase.tasks) work; activities = st.activities + 1 };
@@ -104,7 +104,7 @@ module _ (st : State) (number : ℕ) (line : List ℕ) (next : SoFar) (kept : Ke
   at_line_again says =
       let only = only_again says.text says.field in
       let read = moment_again says.text says.moment says.is_moment in
-      let may = may_again st.rules st.phases st.phase (moment_from says.moment) kept.tasks.no_phase says.first says.later in
+      let may = may_again st.rules st.phases st.phase (moment_from says.moment) kept.tasks.no_phase (λ early. agree_tested st.rules (says.first early)) says.later in
       record {
         left = Some says.text;
         after = begin_phase (closed st) (record { line = number; moment = moment_from says.moment; tasks = [] });
@@ -120,7 +120,7 @@ module _ (st : State) (number : ℕ) (line : List ℕ) (next : SoFar) (kept : Ke
       let cut = cut_last says.text ulid.field.no_space in
       let some = is_some_field says.text ulid.field in
       let read_ulid = ulid_again says.text says.ulid ulid.written in
-      let free : is_reserved says.ulid ≡ false = ulid.not_reserved in
+      let free : is_reserved says.ulid ≡ false = free_tested (says.ulid % 2 ^ 80) ulid.not_reserved in
       let declared : is_declared st says.ulid ≡ true = kept.blocks.declared says.ulid ∙ says.declared in
       let task = task_again (closed st) number (works.Upload says.ulid None) says.script kept_closed says.task in
       let begun : is_some st.phase ≡ true = task.begun in
@@ -160,9 +160,9 @@ module _ (st : State) (number : ℕ) (line : List ℕ) (next : SoFar) (kept : Ke
       let second = cut_again says.high_text says.selector_text high.field.no_space in
       let some_low = is_some_field says.low_text low.field in
       let some_high = is_some_field says.high_text high.field in
-      let selector = selector_again says.selector_text says.selector says.is_selector in
-      let read_low = time_again says.low_text says.low low.written low.near in
-      let read_high = time_again says.high_text says.high high.written high.near in
+      let selector = selector_again says.selector_text says.selector (selector_read says.selector_text says.selector says.is_selector) in
+      let read_low = time_again says.low_text says.low low.written (near_tested says.low low.near) in
+      let read_high = time_again says.high_text says.high high.written (near_tested says.high high.near) in
       let times : int_lt says.high says.low ≡ false = in_order says.low says.high says.times in
       let synced : are_all_synced (closed st) ≡ true = range_passes (is_synced st.synced) 0 (length st.gateways) (λ gateway from below. kept.tasks.are_synced gateway ∙ says.synced gateway (omega arith)) in
       let task = task_again (closed st) number (works.Query says.low says.high (length st.selectors)) says.script kept_closed says.task in

@@ -1,15 +1,12 @@
 -- What a series line spells is read of it.
-use Rattle.std.proofs.Common.{◌≡◌, ◌≢◌, ℕ, ◌+◌, ◌^◌, ◌<◌, ◌≤◌, ℤ, pos, negsuc, Bool, true, false, not, ◌==◌, ◌&&◌, cond, nat_lt, List, [], ◌∷◌, ◌++◌, length, drop, get_or, Option, Some, None, option_map, Result, Ok, Err, refl, sym, ap, ◌∙◌, subst, arith, codes}
-use Rattle.std.specs.Int.{w64}
-use Rattle.std.specs.Int.RustNames.{FitsSigned}
+use Rattle.std.proofs.Common.{◌≡◌, ◌≢◌, ℕ, ℤ, Bool, true, false, not, cond, nat_lt, List, [], ◌∷◌, ◌++◌, length, drop, Option, Some, None, option_map, Ok, refl, sym, ap, ◌∙◌, arith}
 use Rattle.std.specs.List.{list_all, slice_split, join_with_byte, position_or_len, before_first, after_first}
 use Rattle.std.proofs.lemmas.Bool.Decides.{nat_tests}
 use Rattle.std.proofs.lemmas.List.{length-append, drop_at}
 use Rattle.std.proofs.lemmas.List.Splits.{slice_split_at, slice_split_none}
-use Rattle.std.proofs.lemmas.List.Sums.{AllPass-from_list_all}
-use Rattle.reading_core.specs.Reading.{◌>>=◌, ◌>>◌, unless, refused_as}
 use Rattle.reading_core.specs.Decimal.{signed_of}
 use Rattle.label_sets.proofs.SampleTexts.{sample_of-only}
+use Rattle.label_sets.proofs.SetLaws.{set_text_again}
 use Rattle.label_sets.specs.Notation.{read_set}
 use Rattle.label_sets.specs.SampleText.{sample_of, pattern_of}
 use Rattle.label_sets.specs.declared.label.Label.{Label}
@@ -31,7 +28,9 @@ use Rattle.script_core.proofs.ValueLaws.{time_fits}
 use Rattle.script_core.proofs.Kept.{Kept, so_far_of}
 use Rattle.script_core.proofs.LineTools.{is_some_field, snoc_is, no_end}
 use Rattle.script_core.proofs.FoundSeries.{sample_time, added}
-use Rattle.script_core.proofs.AgainSetup.{IsRead, starts_again, not_false}
+use Rattle.script_core.proofs.AgainSetup.{IsRead, starts_again}
+use Rattle.script_core.proofs.SpelledValues.{near_tested, rise_tested, within_tested}
+use Rattle.script_core.proofs.SpelledSeries.{place_fresh, place_inserted}
 
 -- ---- texts that are joined and cut again
 
@@ -60,7 +59,7 @@ each_whole (text ∷ texts) (sample ∷ samples) are =
     let some = is_some_field text are.0.field in rw some (each_whole texts samples are.1)
 
 sample_again : (text : List ℕ) (sample : Sample) → IsSampleField text sample → sample_of text ≡ Ok sample
-sample_again text sample is = sample_of-only text sample (time_fits sample.time is.near) is.pattern is.written
+sample_again text sample is = sample_of-only text sample (time_fits sample.time (near_tested sample.time is.near)) is.pattern is.written
 
 small_by : (text : List ℕ) (sample : Sample) (b : Bool) → is_time sample.time ≡ true → sample_of text ≡ Ok sample → cond b (is_small_number (signed_of (before_first is_colon text))) true ≡ true
 unfolding sample_of
@@ -71,7 +70,7 @@ small_by text sample false near read = refl
 small_again : (text : List ℕ) (sample : Sample) → IsSampleField text sample → has_small_number text ≡ true
 unfolding has_small_number
 small_again text sample is =
-    small_by text sample (nat_lt (position_or_len is_colon text) (length text)) is.near (sample_again text sample is)
+    small_by text sample (nat_lt (position_or_len is_colon text) (length text)) (near_tested sample.time is.near) (sample_again text sample is)
 
 each_small : (texts : List (List ℕ)) (samples : List Sample) → AreSampleFields texts samples → list_all has_small_number texts ≡ true
 each_small [] [] are = refl
@@ -158,19 +157,21 @@ unfolding fields_line
 series_line_again st number line next kept says =
     let series : Series = record { labels = says.labels; samples = says.samples } in
     let texts = spaced says.texts in
-    let last = last_by st st.last says.others says.ulid says.block_labels says.min_time says.max_time says.series kept refl says.last in
+    let last = last_by st st.last says.others says.ulid says.block_labels says.min_time says.max_time (says.lesser ++ says.greater) kept refl says.last in
     let cut : texts_of texts ≡ says.texts = cut_joined says.texts says.some (each_free says.texts says.samples says.are_samples) in
     let whole : are_whole texts ≡ true = ap (list_all (λ text. not (is_empty text))) cut ∙ each_whole says.texts says.samples says.are_samples in
     let small : have_small_numbers texts ≡ true = ap (list_all has_small_number) cut ∙ each_small says.texts says.samples says.are_samples in
     let read : samples_from (texts_of texts) ≡ Ok says.samples = ap samples_from cut ∙ samples_again says.texts says.samples says.are_samples in
-    let within : are_within last.block.min_time last.block.max_time says.samples ≡ true = (λ i. are_within (last.min_is i) (last.max_is i) says.samples) ∙ says.within in
-    let new : has_series last.block.series says.labels ≡ false = ap (λ s. has_series s says.labels) last.series_is ∙ says.new in
+    let within : are_within last.block.min_time last.block.max_time says.samples ≡ true = (λ i. are_within (last.min_is i) (last.max_is i) says.samples) ∙ within_tested says.min_time says.max_time says.samples says.within in
+    let new : has_series last.block.series says.labels ≡ false = ap (λ s. has_series s says.labels) last.series_is ∙ place_fresh says.lesser says.greater series says.ascend in
     let after : State = record st { last = option_map (with_series series) st.last } in
     let test = test_again last.block st.continues says.labels says.samples within new says.in_block in
     record {
       left = Some (says.labels_text ++ 32 ∷ texts);
       after = after;
       cut = starts_again line kinds.Series (says.labels_text ++ 32 ∷ texts) says.spelled;
-      read = read_series st (says.labels_text ++ 32 ∷ texts) says.labels texts says.samples after (first_labels_again says.labels_text texts says.labels says.are_labels) whole small read says.rising (add_again st series last.block last.is test);
-      next_is = added st series last.block last.is says.in_block ∙ (λ i. inside (record (script_of_state st) { blocks = last.others_is i ++ record { ulid = last.ulid_is i; labels = last.labels_is i; body = Inline (last.min_is i) (last.max_is i) (insert_series (last.series_is i) series) } ∷ [] })) ∙ sym says.adds;
+      read = read_series st (says.labels_text ++ 32 ∷ texts) says.labels texts says.samples after (first_labels_again says.labels_text texts says.labels (set_text_again says.labels_text (32 ∷ texts) says.labels says.are_labels)) whole small read (rise_tested says.samples says.rising) (add_again st series last.block last.is test);
+      next_is = added st series last.block last.is says.in_block ∙ (λ i. inside (record (script_of_state st) { blocks = last.others_is i ++ record { ulid = last.ulid_is i; labels = last.labels_is i; body = Inline (last.min_is i) (last.max_is i) (insert_series (last.series_is i) series) } ∷ [] }))
+          ∙ ap (λ s. inside (record (script_of_state st) { blocks = says.others ++ record { ulid = says.ulid; labels = says.block_labels; body = Inline says.min_time says.max_time s } ∷ [] })) (place_inserted says.lesser says.greater series says.ascend)
+          ∙ sym says.adds;
     }

@@ -1,29 +1,28 @@
 -- What a rule line, a gateway line or a block line spells is read of it.
-use Rattle.std.proofs.Common.{◌≡◌, ◌≢◌, ℕ, ◌+◌, ◌<◌, ◌≤◌, ℤ, ◌<ℤ◌, Bool, true, false, not, ◌==◌, ◌&&◌, cond, nat_lt, int_lt, List, [], ◌∷◌, ◌++◌, length, Option, Some, None, is_none, unwrap_or, ok_or, Result, Ok, Err, refl, sym, ap, ◌∙◌, subst, arith, codes}
+use Rattle.std.proofs.Common.{◌≡◌, ℕ, ◌%◌, ◌^◌, ℤ, ◌<ℤ◌, Bool, true, false, not, ◌==◌, nat_lt, int_lt, List, [], ◌∷◌, ◌++◌, length, Option, Some, is_none, Ok, refl, sym, ap, ◌∙◌, subst, arith, append-nil}
 use Rattle.std.proofs.lemmas.Bool.Decides.{nat_tests}
 use Rattle.std.proofs.lemmas.Int.{ints}
-use Rattle.std.proofs.lemmas.List.{length-append}
-use Rattle.reading_core.specs.Reading.{◌>>=◌, ◌>>◌, unless, refused_as}
 use Rattle.std.specs.BTreeSet.{insert_key}
 use Rattle.std.specs.Ordering.{nat_cmp}
+use Rattle.label_sets.proofs.SetLaws.{set_text_again}
 use Rattle.label_sets.specs.Notation.{read_set, set_text}
-use Rattle.label_sets.proofs.SetsFound.{set_found}
+use Rattle.label_sets.specs.SetText.{IsSetText}
 use Rattle.label_sets.specs.declared.label.Label.{Label}
-use Rattle.script_core.specs.declared.cause.LineCause.TheVariants as causes
 use Rattle.script_core.specs.declared.line_kind.LineKind.{LineKind}
 use Rattle.script_core.specs.declared.line_kind.LineKind.TheVariants as kinds
-use Rattle.script_core.specs.declared.line_refusal.LineRefusal.{LineRefusal}
-use Rattle.script_core.specs.declared.line_refusal.LineRefusal.TheVariants.{Bad}
-use Rattle.script_core.specs.Fields.{is_empty, next_field, only_field, rule_name, is_name}
-use Rattle.script_core.specs.Values.{is_reserved, is_time, with_rule, time_field, ulid_field, rule_of}
-use Rattle.script_core.specs.Lines.{fields_line, rule_line, gateway_line, block_line, whole_labels, last_labels}
-use Rattle.script_core.specs.State.{State, Last, add_gateway, begin_block, gateway_named, is_declared, all_blocks}
-use Rattle.script_core.specs.Spelling.{SoFar, IsField, IsTimeText, IsUlidField, RuleLine, GatewayLine, BlockLine}
-use Rattle.script_core.proofs.FieldLaws.{no_space, cut_again, cut_last}
-use Rattle.script_core.proofs.ValueLaws.{time_again, ulid_again, rule_word, rule_again}
-use Rattle.script_core.proofs.Kept.{Kept, so_far_of, among}
+use Rattle.script_core.specs.Fields.{is_empty, next_field, only_field, rule_name}
+use Rattle.script_core.specs.Values.{is_reserved, with_rule}
+use Rattle.script_core.specs.Lines.{fields_line, rule_line, gateway_line, block_line, last_labels}
+use Rattle.script_core.specs.State.{State, Last, add_gateway, begin_block, is_declared, all_blocks, script_of_state}
+use Rattle.script_core.specs.Spelling.{SoFar, outside, RuleLine, GatewayLine, BlockLine}
+use Rattle.script_core.proofs.FieldLaws.{no_space, cut_again}
+use Rattle.script_core.proofs.ValueLaws.{time_again, ulid_again, rule_with, rule_again}
+use Rattle.script_core.proofs.Kept.{Kept, so_far_of}
 use Rattle.script_core.proofs.LineTools.{is_some_field, only_again, line_word, word_free, name_again, name_free, early_again}
 use Rattle.script_core.proofs.FoundSetup.{closed}
+use Rattle.moment_core.specs.declared.rules.Rules.{Rules}
+use Rattle.script_core.proofs.SpelledValues.{near_tested, free_tested}
+use Rattle.script_core.proofs.SpelledRules.{rule_set}
 
 -- A line that is read in this state as one of a kind, and leads to what is so far.
 pub record IsRead (st : State) (number : ℕ) (line : List ℕ) (kind : LineKind) (next : SoFar) : Type 0 where
@@ -44,36 +43,37 @@ below_again a b below = grind (arith, ints)
 pub not_false : (b : Bool) → b ≡ false → not b ≡ true
 not_false b e = ap not e
 
-nothing_read : (labels : List Label) → read_set [] ≡ Ok (labels, 0) → ⊥
-unfolding set_text
-nothing_read labels read =
-    let set = set_found [] labels 0 read in omega (arith, ap length set.whole, length-append (set_text set.labels) set.after)
-
-labels_again : (text : List ℕ) (labels : List Label) → read_set text ≡ Ok (labels, length text) → last_labels (Some text) ≡ Ok (Some labels)
+labels_by : (text : List ℕ) (labels : List Label) → not (is_empty text) ≡ true → read_set text ≡ Ok (labels, length text) → last_labels (Some text) ≡ Ok (Some labels)
 unfolding last_labels
-labels_again [] labels read = absurd (nothing_read labels read)
-labels_again (byte ∷ text) labels read =
-    let some : is_empty (byte ∷ text) ≡ false = grind (arith, nat_tests) in
-    let whole : (length (byte ∷ text) == length (byte ∷ text)) ≡ true = grind (arith, nat_tests) in
-    rw (some, read, whole) refl
+labels_by text labels some read =
+    let whole : (length text == length text) ≡ true = grind (arith, nat_tests) in rw (some, read, whole) refl
+
+-- a text of a label set is not empty
+set_some : (text : List ℕ) (labels : List Label) → IsSetText text labels → not (is_empty text) ≡ true
+unfolding set_text
+set_some text labels is = subst (λ t. not (is_empty t) ≡ true) (sym is.written) (grind (arith, nat_tests))
+
+labels_again : (text : List ℕ) (labels : List Label) → IsSetText text labels → last_labels (Some text) ≡ Ok (Some labels)
+labels_again text labels is =
+    labels_by text labels (set_some text labels is) (ap read_set (sym (append-nil text)) ∙ set_text_again text [] labels is)
 
 module _ (st : State) (number : ℕ) (line : List ℕ) (next : SoFar) (kept : Kept st) where
   pub rule_line_again : RuleLine (so_far_of st) line next → IsRead (closed st) number line kinds.Rule next
   unfolding fields_line rule_line
   rule_line_again says =
-      let rule = rule_again says.name says.value says.rule says.is_rule in
-      let text : List ℕ = says.name ++ 32 ∷ says.value in
-      let cut : next_field (Some text) ≡ (says.name, Some says.value) = cut_again says.name says.value (subst (λ w. no_space w ≡ true) (sym rule.word) (name_free rule.kind)) in
-      let named : rule_name says.name ≡ Some rule.kind = ap rule_name rule.word ∙ name_again rule.kind in
-      let only : only_field (Some says.value) ≡ Ok says.value = only_again says.value says.field in
+      let rule = rule_again says.word says.text says.name says.value says.is_rule in
+      let text : List ℕ = says.word ++ 32 ∷ says.text in
+      let cut : next_field (Some text) ≡ (says.word, Some says.text) = cut_again says.word says.text (subst (λ w. no_space w ≡ true) (sym rule.word_is) (name_free says.name)) in
+      let named : rule_name says.word ≡ Some says.name = ap rule_name rule.word_is ∙ name_again says.name in
+      let only : only_field (Some says.text) ≡ Ok says.text = only_again says.text says.field in
       let early : is_none st.phase ≡ true = early_again st.phases st.phase says.early in
       let valued = rule.read in
       record {
         left = Some text;
-        after = record (closed st) { rules = with_rule st.rules says.rule };
+        after = record (closed st) { rules = with_rule st.rules (rule_with says.name says.value) };
         cut = starts_again line kinds.Rule text says.spelled;
         read = rw (cut, named, only, valued, early) refl;
-        next_is = sym says.adds;
+        next_is = ap (λ (set : Rules). outside (record (script_of_state st) { rules = set })) (sym (rule_set says.name says.value st.rules says.set says.sets)) ∙ sym says.adds;
       }
 
   pub gateway_line_again : GatewayLine (so_far_of st) line next → IsRead (closed st) number line kinds.Gateway next
@@ -107,12 +107,12 @@ module _ (st : State) (number : ℕ) (line : List ℕ) (next : SoFar) (kept : Ke
       let some_min = is_some_field says.min_text low.field in
       let some_max = is_some_field says.max_text high.field in
       let set = labels_again says.labels_text says.labels says.are_labels in
-      let read_min = time_again says.min_text says.min_time low.written low.near in
-      let read_max = time_again says.max_text says.max_time high.written high.near in
+      let read_min = time_again says.min_text says.min_time low.written (near_tested says.min_time low.near) in
+      let read_max = time_again says.max_text says.max_time high.written (near_tested says.max_time high.near) in
       let read_ulid = ulid_again says.ulid_text says.ulid ulid.written in
       let early : is_none st.phase ≡ true = early_again st.phases st.phase says.early in
       let times : int_lt says.min_time says.max_time ≡ true = below_again says.min_time says.max_time says.times in
-      let free : is_reserved says.ulid ≡ false = ulid.not_reserved in
+      let free : is_reserved says.ulid ≡ false = free_tested (says.ulid % 2 ^ 80) ulid.not_reserved in
       let fresh : is_declared st says.ulid ≡ false = kept.blocks.declared says.ulid ∙ says.new in
       let few : nat_lt (length st.ulids) 4_096 ≡ true = let l = says.few in let n = kept.blocks.count in grind (arith, nat_tests) in
       record {

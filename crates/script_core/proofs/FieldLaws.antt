@@ -1,15 +1,10 @@
 -- Fields that are cut off a line, and fields that are joined to one.
-use Rattle.std.proofs.Common.{◌≡◌, ◌≢◌, ℕ, ◌+◌, ◌<◌, ◌≤◌, Bool, true, false, not, ◌==◌, ◌&&◌, cond, nat_lt, List, [], ◌∷◌, ◌++◌, length, get_or, take, drop, Option, Some, None, is_none, Result, Ok, Err, refl, sym, ap, ◌∙◌, subst, arith, append_assoc}
-use Rattle.std.specs.Bool.{IsTrue}
+use Rattle.std.proofs.Common.{◌≡◌, ℕ, ◌+◌, ◌<◌, ◌≤◌, Bool, true, false, not, cond, nat_lt, List, [], ◌∷◌, ◌++◌, length, get_or, take, drop, Option, Some, None, refl, sym, ap, ◌∙◌, arith, append_assoc}
 use Rattle.std.specs.List.{list_all, position_or_len, before_first, after_first}
 use Rattle.std.proofs.lemmas.Bool.Decides.{nat_tests}
-use Rattle.std.proofs.lemmas.List.{length-append, length-take, take_all, take_at, drop_at, get_or_at, get_or-take, get_or_append_left}
+use Rattle.std.proofs.lemmas.List.{length-append, length-take, take_at, drop_at, get_or_at, get_or-take, get_or_append_left}
 use Rattle.std.proofs.lemmas.List.Sums.{split_at_first, passes_at_first, position_or_len_is, fails_before_first, AllPass-from_list_all, list_all-from_AllPass}
-use Rattle.reading_core.proofs.Binds.{unless_ok, ok_is}
-use Rattle.script_core.specs.declared.cause.LineCause.{LineCause}
-use Rattle.script_core.specs.declared.cause.LineCause.TheVariants.{BadShape}
-use Rattle.script_core.specs.Fields.{is_space, is_empty, next_field, only_field}
-use Rattle.script_core.specs.Spelling.{IsField}
+use Rattle.script_core.specs.Fields.{is_space, next_field}
 
 -- no byte of the field is a space
 abbrev pub no_space : List ℕ → Bool

@@ -1,16 +1,14 @@
 -- What is read of lines is what the lines spell, and what is read of a text is the script that it spells.
-use Rattle.std.proofs.Common.{◌≡◌, ◌≢◌, ℕ, ◌+◌, ◌<◌, ◌≤◌, Bool, true, false, not, cond, nat_lt, List, [], ◌∷◌, ◌++◌, length, Option, Some, None, ok_or, Result, Ok, Err, refl, sym, ap, ◌∙◌, subst, arith, codes}
+use Rattle.std.proofs.Common.{◌≡◌, ℕ, ◌+◌, Bool, true, false, cond, nat_lt, List, [], ◌∷◌, ◌++◌, length, Option, Some, None, Result, Ok, Err, refl, sym, ap, ◌∙◌, subst, arith}
 use Rattle.std.specs.Bool.{MatchBool}
 use Rattle.std.specs.Str.{is_utf8}
 use Rattle.std.proofs.lemmas.Bool.Decides.{nat_tests}
-use Rattle.reading_core.specs.Reading.{◌>>=◌, ◌>>◌, unless, refused_as}
-use Rattle.reading_core.proofs.Binds.{bind_ok, unless_ok, ok_is, refused_as_ok}
+use Rattle.reading_core.specs.Reading.{◌>>=◌, ◌>>◌, refused_as}
+use Rattle.reading_core.proofs.Binds.{bind_ok, ok_is, refused_as_ok}
 use Rattle.moment_core.specs.StandardRules.{standard_rules}
 use Rattle.script_core.specs.declared.cause.LineCause.TheVariants as causes
 use Rattle.script_core.specs.declared.line_kind.LineKind.{LineKind}
 use Rattle.script_core.specs.declared.line_kind.LineKind.TheVariants as kinds
-use Rattle.script_core.specs.declared.line_refusal.LineRefusal.{LineRefusal}
-use Rattle.script_core.specs.declared.line_refusal.LineRefusal.TheVariants.{Bad}
 use Rattle.script_core.specs.declared.script.Script.{Script}
 use Rattle.script_core.specs.declared.script_refusal.ScriptRefusal.{ScriptRefusal}
 use Rattle.script_core.specs.declared.script_refusal.ScriptRefusal.TheVariants.{BadLine, TooLong}
@@ -20,8 +18,7 @@ use Rattle.script_core.specs.Lines.{fields_line}
 use Rattle.script_core.specs.Reading.{of_line, is_series, kind_line, text_line, spoken_line, line_at, lines_at, script_of}
 use Rattle.script_core.specs.Spelling as spelling
 use Rattle.script_core.specs.Spelling.{SoFar, HasEnded, Says, Say, Spells}
-use Rattle.script_core.proofs.FieldLaws.{Cut, cut_found}
-use Rattle.script_core.proofs.ValueLaws.{ok_or_ok}
+use Rattle.script_core.proofs.FieldLaws.{cut_found}
 use Rattle.script_core.proofs.Kept.{Kept, so_far_of, start_kept, start_is}
 use Rattle.script_core.proofs.LineTools.{cut_rest, line_word, kind_found, ended_found, then_ok, unit_is}
 use Rattle.script_core.proofs.FoundSetup.{Starts, closed, some_is, rule_line_found, gateway_line_found, block_line_found}

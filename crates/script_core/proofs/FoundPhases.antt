@@ -1,10 +1,10 @@
 -- What is read of a line of a phase is what the line spells.
-use Rattle.std.proofs.Common.{◌≡◌, ◌≢◌, ℕ, zero, suc, ◌+◌, ◌-◌, ◌<◌, ◌≤◌, ℤ, ◌≤ℤ◌, Bool, true, false, not, ◌==◌, ◌&&◌, ◌||◌, cond, nat_lt, nat_le, ltb-true, leb-true, int_lt, List, [], ◌∷◌, ◌++◌, length, Option, Some, None, is_none, is_some, unwrap_or, ok_or, Result, Ok, Err, refl, sym, ap, ◌∙◌, subst, arith, codes, inl, inr}
+use Rattle.std.proofs.Common.{◌≡◌, ℕ, zero, suc, ◌+◌, ◌%◌, ◌^◌, ◌<◌, ◌≤◌, ℤ, ◌≤ℤ◌, Bool, true, false, not, ◌==◌, ◌&&◌, ◌||◌, cond, nat_le, ltb-true, leb-true, int_lt, List, [], ◌∷◌, ◌++◌, length, Option, Some, None, is_none, ok_or, Result, Ok, refl, sym, ap, ◌∙◌, subst, arith, codes, inl, inr}
 use Rattle.std.specs.List.{list_all, range_with_len}
 use Rattle.std.specs.Str.{bytes_eq}
 use Rattle.std.proofs.lemmas.Bool.Decides.{nat_tests}
 use Rattle.std.proofs.lemmas.Int.{ints}
-use Rattle.reading_core.specs.Reading.{◌>>=◌, ◌>>◌, unless, refused_as}
+use Rattle.reading_core.specs.Reading.{◌>>=◌, refused_as}
 use Rattle.reading_core.proofs.Binds.{bind_ok, unless_ok, ok_is, refused_as_ok}
 use Rattle.reading_core.proofs.Decimals.{both}
 use Rattle.reading_core.proofs.Parsed.{true_or_false}
@@ -16,22 +16,22 @@ use Rattle.script_core.specs.declared.cause.LineCause.TheVariants as causes
 use Rattle.script_core.specs.declared.line_refusal.LineRefusal.{LineRefusal}
 use Rattle.script_core.specs.declared.line_refusal.LineRefusal.TheVariants.{Bad, BadRules, FallingMoment}
 use Rattle.script_core.specs.declared.phase.Phase.{Phase}
-use Rattle.script_core.specs.declared.script.Script.{Script}
-use Rattle.script_core.specs.declared.task.Task.{Task}
 use Rattle.script_core.specs.declared.work.Work.{Work}
 use Rattle.script_core.specs.declared.work.Work.TheVariants as works
-use Rattle.script_core.specs.Fields.{is_empty, next_field, only_field, is_name}
-use Rattle.script_core.specs.Hands.{gateway_count, with_hands, hands_of}
-use Rattle.script_core.specs.Values.{is_reserved, is_time, agree}
+use Rattle.script_core.specs.Fields.{is_empty, next_field}
+use Rattle.script_core.specs.Hands.{gateway_count, with_hands}
+use Rattle.script_core.specs.Values.{agree}
 use Rattle.script_core.specs.Lines.{may_begin, at_line, upload_line, sync_line, last_selector, query_line}
-use Rattle.script_core.specs.State.{State, all_phases, begin_phase, add_task, add_query, note_sync, is_declared, is_synced, gateway_named, script_of_state, are_all_synced}
-use Rattle.script_core.specs.Works.{works_of, has_sync, is_sync_of, declares}
-use Rattle.script_core.specs.Spelling.{IsEarly, IsField, AtLine, AddsTask, UploadLine, SyncLine, QueryLine}
-use Rattle.script_core.proofs.FieldLaws.{no_space, Cut, cut_found}
+use Rattle.script_core.specs.State.{State, all_phases, begin_phase, add_task, add_query, note_sync, is_declared, is_synced, script_of_state, are_all_synced}
+use Rattle.script_core.specs.Works.{is_sync_of}
+use Rattle.script_core.specs.Spelling.{AtLine, AddsTask, UploadLine, SyncLine, QueryLine}
+use Rattle.script_core.proofs.FieldLaws.{cut_found}
 use Rattle.script_core.proofs.ValueLaws.{ok_or_ok, is_none_is, not_is, time_found, ulid_found, moment_found}
-use Rattle.script_core.proofs.Kept.{Kept, KeepsTasks, at, so_far_of, among, phase_kept, task_kept, sync_noted, hands_of-append, or_same}
+use Rattle.script_core.proofs.Kept.{Kept, KeepsTasks, at, so_far_of, phase_kept, task_kept, sync_noted, hands_of-append, or_same}
 use Rattle.script_core.proofs.LineTools.{is_field, cut_rest, cut_end, only_found, last_phase, no_end, then_ok, unless_is, unit_is}
 use Rattle.script_core.proofs.FoundSetup.{Starts, closed, some_is}
+use Rattle.script_core.proofs.SpelledValues.{near_spelled, free_spelled, agree_spelled, selector_spelled}
+use Rattle.script_core.proofs.SpelledHands.{few_spelled}
 
 -- ---- moments
 
@@ -72,7 +72,7 @@ module _ (st after : State) (number : ℕ) (work : Work) (kept : Kept st) (task 
         phase = task.phase;
         last = ap (all_phases st.phases) task.begun;
         few = subst (λ n. n < 65_536) kept.tasks.are_counted task.few;
-        few_workers = subst (λ hs. length hs ≤ 64) (ap (λ hs. with_hands (gateway_count st.gateways) hs (length task.phase.tasks) work) hands ∙ sym (hands_of-append (gateway_count st.gateways) task.phase.tasks (record { line = number; work = work }))) task.few_workers;
+        few_workers = few_spelled (gateway_count st.gateways) (task.phase.tasks ++ record { line = number; work = work } ∷ []) (subst (λ hs. length hs ≤ 64) (ap (λ hs. with_hands (gateway_count st.gateways) hs (length task.phase.tasks) work) hands ∙ sym (hands_of-append (gateway_count st.gateways) task.phase.tasks (record { line = number; work = work }))) task.few_workers);
         adds = ap script_of_state (sym task.is);
       }
 
@@ -136,7 +136,7 @@ module _ (st after : State) (number : ℕ) (line : List ℕ) (left : Option (Lis
           spelled = starts a.0 text.0;
           field = text.1;
           is_moment = moment_found a.0 b.0 (refused_as_ok _ _ _ b.1);
-          first = first_agrees st.rules st.phases st.phase b.0 may;
+          first = λ early. agree_spelled st.rules (first_agrees st.rules st.phases st.phase b.0 may early);
           later = λ others last is. let p = last_phase st.phases st.phase others last kept.tasks.no_phase is in not_sooner st.rules last b.0 (ap (λ o. may_begin st.rules o b.0) (sym p.0) ∙ may);
           adds = ap so_far_of (sym same);
         },
@@ -162,7 +162,7 @@ module _ (st after : State) (number : ℕ) (line : List ℕ) (left : Option (Lis
           text = text;
           ulid = c.0;
           spelled = starts text end.0;
-          is_ulid = record { field = is_field text tests.0 end.1; written = ulid_found text c.0 (refused_as_ok _ _ _ c.1); not_reserved = not_is _ e.0 };
+          is_ulid = record { field = is_field text tests.0 end.1; written = ulid_found text c.0 (refused_as_ok _ _ _ c.1); not_reserved = free_spelled (c.0 % 2 ^ 80) (not_is _ e.0) };
           declared = sym (kept.blocks.declared c.0) ∙ declared;
           script = script_of_state after;
           task = adds_task (closed st) after number (works.Upload c.0 None) kept_closed task;
@@ -232,9 +232,9 @@ module _ (st after : State) (number : ℕ) (line : List ℕ) (left : Option (Lis
           high = e.0;
           selector = c.0;
           spelled = starts (low_text ++ 32 ∷ (high_text ++ 32 ∷ selector.0)) first.0;
-          is_low = record { field = is_field low_text fields.0 first.1; written = low_is.0; near = low_is.1 };
-          is_high = record { field = is_field high_text fields.1 second.1; written = high_is.0; near = high_is.1 };
-          is_selector = selector.2;
+          is_low = record { field = is_field low_text fields.0 first.1; written = low_is.0; near = near_spelled d.0 low_is.1 };
+          is_high = record { field = is_field high_text fields.1 second.1; written = high_is.0; near = near_spelled e.0 high_is.1 };
+          is_selector = selector_spelled selector.0 c.0 selector.2;
           times = not_below d.0 e.0 g.0;
           synced = λ gateway below. sym (kept.tasks.are_synced gateway) ∙ all_in_range (is_synced st.synced) 0 (length st.gateways) i.0 gateway (omega arith) (omega arith);
           script = script_of_state j.0;

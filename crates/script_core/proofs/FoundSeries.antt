@@ -1,40 +1,44 @@
 -- What is read of a series line is what the line spells.
-use Rattle.std.proofs.Common.{◌≡◌, ◌≢◌, ℕ, ◌+◌, ◌<◌, ◌≤◌, suc, ℤ, Bool, true, false, not, ◌==◌, ◌&&◌, cond, nat_lt, ltb-true, List, [], ◌∷◌, ◌++◌, length, take, drop, Option, Some, None, option_map, is_none, unwrap_or, ok_or, Result, Ok, Err, refl, sym, ap, ◌∙◌, subst, arith, codes}
-use Rattle.std.specs.List.{list_all, slice_split, onto_first, join_with_byte, position_or_len, before_first, after_first}
+use Rattle.std.proofs.Common.{◌≡◌, ◌≢◌, ℕ, ◌≤◌, ℤ, Bool, true, false, not, cond, nat_lt, List, [], ◌∷◌, ◌++◌, length, take, drop, Option, Some, None, option_map, Result, Ok, Err, refl, sym, ap, ◌∙◌, subst, arith, codes}
+use Rattle.std.specs.List.{list_all, slice_split, onto_first, position_or_len, before_first, after_first}
 use Rattle.std.proofs.lemmas.Bool.Decides.{nat_tests}
-use Rattle.std.proofs.lemmas.List.{length-append, length-drop, length-take-le, take-append-drop}
+use Rattle.std.proofs.lemmas.List.{take-append-drop}
 use Rattle.std.proofs.lemmas.List.Sums.{prefix_len-le-length}
 use Rattle.std.proofs.lemmas.List.Splits.{length-slice_split, join_with_byte-slice_split}
-use Rattle.reading_core.specs.Reading.{◌>>=◌, ◌>>◌, unless, refused_as}
 use Rattle.reading_core.specs.Decimal.{signed_of}
 use Rattle.reading_core.specs.declared.refusal.NumberRefusal.{NumberRefusal}
 use Rattle.reading_core.specs.declared.refusal.NumberRefusal.TheVariants.{NotANumber, TooLarge}
 use Rattle.reading_core.proofs.Binds.{bind_ok, unless_ok, ok_is, refused_as_ok}
 use Rattle.reading_core.proofs.Decimals.{both}
 use Rattle.label_sets.proofs.SampleTexts.{sample_of-found, sample_of-fits, uncut}
+use Rattle.label_sets.proofs.SetLaws.{set_text_found}
 use Rattle.label_sets.specs.Notation.{read_set}
-use Rattle.label_sets.specs.SampleText.{sample_of, sample_with, pattern_of, is_colon as label_colon}
+use Rattle.label_sets.specs.SetText.{IsSetText}
+use Rattle.label_sets.specs.SampleText.{sample_of, sample_with, pattern_of}
 use Rattle.label_sets.specs.declared.label.Label.{Label}
 use Rattle.label_sets.specs.declared.sample.Sample.{Sample}
-use Rattle.label_sets.specs.declared.sample_refusal.SampleRefusal.{SampleRefusal}
 use Rattle.label_sets.specs.declared.series.Series.{Series}
 use Rattle.script_core.specs.declared.block.Block.{Block}
 use Rattle.script_core.specs.declared.body.Body.TheVariants.{Inline}
 use Rattle.script_core.specs.declared.cause.LineCause.{LineCause}
 use Rattle.script_core.specs.declared.cause.LineCause.TheVariants as causes
-use Rattle.script_core.specs.declared.line_refusal.LineRefusal.{LineRefusal}
 use Rattle.script_core.specs.declared.line_refusal.LineRefusal.TheVariants.{Bad}
 use Rattle.script_core.specs.Fields.{is_empty, is_space, after_space}
 use Rattle.script_core.specs.Values.{is_time}
-use Rattle.script_core.specs.Samples.{is_colon, texts_of, are_whole, is_small_number, has_small_number, have_small_numbers, samples_from, samples_of, are_within}
+use Rattle.script_core.specs.Samples.{is_colon, texts_of, are_whole, is_small_number, has_small_number, have_small_numbers, samples_from, are_within}
 use Rattle.script_core.specs.Lines.{first_labels, series_line}
-use Rattle.script_core.specs.State.{State, Last, block_of, all_blocks, add_series, test_block, with_series, has_series, insert_series, script_of_state}
+use Rattle.script_core.specs.State.{State, Last, block_of, all_blocks, add_series, test_block, with_series, has_series, script_of_state}
 use Rattle.script_core.specs.Spelling.{spaced, inside, IsSampleField, AreSampleFields, SeriesLine}
 use Rattle.script_core.proofs.FieldLaws.{no_space, space_is}
 use Rattle.script_core.proofs.ValueLaws.{not_is}
 use Rattle.script_core.proofs.Kept.{Kept, at, so_far_of, series_kept}
 use Rattle.script_core.proofs.LineTools.{is_field, then_ok, unless_is, unit_is}
-use Rattle.script_core.proofs.FoundSetup.{Starts, some_is}
+use Rattle.script_core.proofs.FoundSetup.{Starts}
+use Rattle.std.specs.List.Sorted.{IsStrictlySortedBy}
+use Rattle.label_sets.specs.Labels.{compare_sets}
+use Rattle.script_core.proofs.LawfulParts.{labels_of, sorted_insert}
+use Rattle.script_core.proofs.SpelledValues.{near_spelled, rise_spelled, within_spelled}
+use Rattle.script_core.proofs.SpelledSeries.{place_spelled}
 
 -- ---- the label set at the front
 
@@ -54,16 +58,14 @@ space_found (byte ∷ text) rest h = space_by byte text rest (is_space byte) ref
 pub record FrontSet (text : List ℕ) (labels : List Label) (texts : List ℕ) : Type 0 where
   pub front : List ℕ
   pub whole : text ≡ front ++ 32 ∷ texts
-  pub are_labels : read_set text ≡ Ok (labels, length front)
+  pub are_labels : IsSetText front labels
 
 front_found : (text : List ℕ) (labels : List Label) (count : ℕ) (texts : List ℕ) → read_set text ≡ Ok (labels, count) → drop count text ≡ 32 ∷ texts → FrontSet text labels texts
 front_found text labels count texts read rest =
-    let inside : count ≤ length text = omega (arith, length-drop count text, ap length rest) in
-    let size : length (take count text) ≡ count = length-take-le count text inside in
     record {
       front = take count text;
       whole = sym (take-append-drop count text) ∙ ap (λ t. take count text ++ t) rest;
-      are_labels = read ∙ ap (λ n. Ok (labels, n)) (sym size);
+      are_labels = set_text_found text labels count read;
     }
 
 first_labels_found : (left : Option (List ℕ)) (found : List Label × List ℕ) → first_labels left ≡ Ok found → (text : List ℕ) × (left ≡ Some text) × FrontSet text found.0 found.1
@@ -128,7 +130,7 @@ samples_found (text ∷ texts) samples free whole small h =
     let f = both (no_space text) (list_all no_space texts) free in
     let w = both (not (is_empty text)) (list_all (λ t. not (is_empty t)) texts) whole in
     let s = both (has_small_number text) (list_all has_small_number texts) small in
-    let first : IsSampleField text a.0 = record { field = is_field text w.0 f.0; written = sample_of-found text a.0 read; near = near_found text a.0 s.0 read; pattern = (sample_of-fits text a.0 read).1 } in
+    let first : IsSampleField text a.0 = record { field = is_field text w.0 f.0; written = sample_of-found text a.0 read; near = near_spelled a.0.time (near_found text a.0 s.0 read); pattern = (sample_of-fits text a.0 read).1 } in
     let all : AreSampleFields (text ∷ texts) (a.0 ∷ b.0) = (first, samples_found texts b.0 f.1 w.1 s.1 b.1) in
     subst (AreSampleFields (text ∷ texts)) (ok_is _ _ b.2) all
 
@@ -155,6 +157,11 @@ in_last blocks continues (Some block) series h =
     let b = unless_ok (not (has_series block.series series.labels)) (Bad causes.RepeatedSeries) _ _ a.1 in
     record { block = block; is = refl; within = a.0; new = not_is _ b.0; follows = unless_is continues _ b.1 }
 
+-- the last block with these series
+abbrev block_with : Last → List Series → Block
+block_with block series =
+    record { ulid = block.ulid; labels = block.labels; body = Inline block.min_time block.max_time series }
+
 pub series_line_found : (st after : State) (line : List ℕ) (left : Option (List ℕ)) → Kept st → Starts line (codes "series") left → series_line st left ≡ Ok after → SeriesLine (so_far_of st) line (so_far_of after) × Kept after
 unfolding series_line add_series
 series_line_found st after line left kept starts h =
@@ -167,6 +174,7 @@ series_line_found st after line left kept starts h =
     let same = ok_is _ _ f.2 in
     let series : Series = record { labels = a.0.0; samples = d.0 } in
     let last = in_last st.blocks st.continues st.last series (f.1 ∙ unit_is f.0) in
+    let place = place_spelled last.block.series series last.new in
     let found = first_labels_found left a.0 a.1 in
     let set = found.2 in
     let texts = texts_of a.0.1 in
@@ -178,21 +186,22 @@ series_line_found st after line left kept starts h =
         labels = a.0.0;
         samples = d.0;
         spelled = starts found.0 found.1 ∙ ap (λ t. codes "series" ++ 32 ∷ t) (set.whole ∙ rest);
-        are_labels = ap read_set (sym (set.whole ∙ rest)) ∙ set.are_labels;
+        are_labels = set.are_labels;
         some = some_pieces a.0.1;
         are_samples = samples_found texts d.0 (pieces_free a.0.1) b.0 c.0 (refused_as_ok _ _ _ d.1);
-        rising = e.0;
+        rising = rise_spelled d.0 e.0;
         in_block = last.follows;
         others = st.blocks;
         ulid = last.block.ulid;
         block_labels = last.block.labels;
         min_time = last.block.min_time;
         max_time = last.block.max_time;
-        series = last.block.series;
-        last = ap (all_blocks st.blocks) last.is;
-        within = last.within;
-        new = last.new;
-        adds = ap so_far_of (sym same) ∙ added st series last.block last.is last.follows;
+        lesser = place.lesser;
+        greater = place.greater;
+        last = ap (all_blocks st.blocks) last.is ∙ ap (λ s. st.blocks ++ block_with last.block s ∷ []) place.parted;
+        within = within_spelled last.block.min_time last.block.max_time d.0 last.within;
+        ascend = subst (λ s. IsStrictlySortedBy compare_sets (labels_of s)) place.put (sorted_insert last.block.series series (kept.blocks.ascend last.block last.is));
+        adds = ap so_far_of (sym same) ∙ added st series last.block last.is last.follows ∙ ap (λ s. inside (record (script_of_state st) { blocks = st.blocks ++ block_with last.block s ∷ [] })) place.put;
       },
       subst Kept same (record { blocks = series_kept st.blocks st.last st.ulids series kept.blocks; tasks = kept.tasks }),
     )

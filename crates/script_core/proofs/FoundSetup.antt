@@ -1,25 +1,28 @@
 -- What is read of a rule line, a gateway line or a block line is what the line spells.
-use Rattle.std.proofs.Common.{◌≡◌, ◌≢◌, ℕ, ◌+◌, ◌<◌, ◌≤◌, ℤ, ◌<ℤ◌, Bool, true, false, not, ◌==◌, ◌&&◌, nat_lt, ltb-true, int_lt, List, [], ◌∷◌, ◌++◌, length, Option, Some, None, is_none, unwrap_or, ok_or, Result, Ok, Err, refl, sym, ap, ◌∙◌, subst, arith, codes}
+use Rattle.std.proofs.Common.{◌≡◌, ℕ, ◌%◌, ◌^◌, ◌<◌, ℤ, ◌<ℤ◌, true, false, not, ◌==◌, ◌&&◌, ltb-true, int_lt, List, [], ◌∷◌, ◌++◌, length, Option, Some, None, Result, Ok, Err, refl, sym, ap, ◌∙◌, subst, arith, codes}
 use Rattle.std.proofs.lemmas.Bool.Decides.{nat_tests}
 use Rattle.std.proofs.lemmas.Int.{ints}
-use Rattle.reading_core.specs.Reading.{◌>>=◌, ◌>>◌, unless, refused_as}
 use Rattle.reading_core.proofs.Binds.{bind_ok, unless_ok, ok_is, refused_as_ok}
 use Rattle.reading_core.proofs.Decimals.{both}
+use Rattle.std.proofs.lemmas.List.{take_all}
+use Rattle.label_sets.proofs.SetLaws.{set_text_found}
 use Rattle.label_sets.specs.Notation.{read_set}
+use Rattle.label_sets.specs.SetText.{IsSetText}
 use Rattle.label_sets.specs.declared.label.Label.{Label}
 use Rattle.label_sets.specs.declared.label_refusal.LabelRefusal.{LabelRefusal}
 use Rattle.script_core.specs.declared.cause.LineCause.TheVariants as causes
-use Rattle.script_core.specs.declared.line_refusal.LineRefusal.{LineRefusal}
 use Rattle.script_core.specs.declared.line_refusal.LineRefusal.TheVariants.{Bad}
-use Rattle.script_core.specs.Fields.{is_empty, next_field, only_field, rule_name, is_name}
-use Rattle.script_core.specs.Values.{is_reserved, is_time}
+use Rattle.script_core.specs.Fields.{is_empty, next_field}
+use Rattle.script_core.specs.Values.{with_rule}
 use Rattle.script_core.specs.Lines.{rule_line, gateway_line, block_line, whole_labels, last_labels}
-use Rattle.script_core.specs.State.{State, add_gateway, begin_block, gateway_named, is_declared}
-use Rattle.script_core.specs.Spelling.{IsField, IsTimeText, IsUlidField, IsRuleText, RuleLine, GatewayLine, BlockLine}
-use Rattle.script_core.proofs.FieldLaws.{no_space, Cut, cut_found}
-use Rattle.script_core.proofs.ValueLaws.{ok_or_ok, is_none_is, not_is, time_found, ulid_found, rule_word, rule_found}
-use Rattle.script_core.proofs.Kept.{Kept, so_far_of, among, gateway_kept, block_kept}
-use Rattle.script_core.proofs.LineTools.{is_field, cut_rest, cut_end, only_found, name_found, early_found}
+use Rattle.script_core.specs.State.{State, add_gateway, begin_block, is_declared}
+use Rattle.script_core.specs.Spelling.{IsRuleText, Sets, RuleLine, GatewayLine, BlockLine}
+use Rattle.script_core.proofs.FieldLaws.{cut_found}
+use Rattle.script_core.proofs.ValueLaws.{ok_or_ok, is_none_is, not_is, time_found, ulid_found, rule_word, rule_found, amount_of}
+use Rattle.script_core.proofs.Kept.{Kept, so_far_of, gateway_kept, block_kept}
+use Rattle.script_core.proofs.LineTools.{is_field, cut_rest, only_found, name_found, early_found}
+use Rattle.script_core.proofs.SpelledValues.{near_spelled, free_spelled}
+use Rattle.script_core.proofs.SpelledRules.{rule_sets}
 
 -- what is left stands behind the line's word and a space
 abbrev pub Starts : List ℕ → List ℕ → Option (List ℕ) → Type 0
@@ -44,12 +47,12 @@ whole_found count (Ok found) labels h =
     let set : found.0 ≡ labels = some_is _ _ (ok_is _ _ a.1) in
     λ i. Ok (set i, size i)
 
-pub labels_found : (left : Option (List ℕ)) (labels : List Label) → last_labels left ≡ Ok (Some labels) → (text : List ℕ) × (left ≡ Some text) × (read_set text ≡ Ok (labels, length text))
+pub labels_found : (left : Option (List ℕ)) (labels : List Label) → last_labels left ≡ Ok (Some labels) → (text : List ℕ) × (left ≡ Some text) × IsSetText text labels
 unfolding last_labels
 labels_found None labels h = absurd cc
 labels_found (Some text) labels h =
     let a = unless_ok (not (is_empty text)) (Bad causes.BadShape) (whole_labels (length text) (read_set text)) (Some labels) h in
-    (text, refl, whole_found (length text) (read_set text) labels a.1)
+    (text, refl, subst (λ t. IsSetText t labels) (take_all (length text) text (omega arith)) (set_text_found text labels (length text) (whole_found (length text) (read_set text) labels a.1)))
 
 module _ (st after : State) (line : List ℕ) (left : Option (List ℕ)) (kept : Kept st) where
   pub rule_line_found : Starts line (codes "rule") left → rule_line (closed st) left ≡ Ok after → RuleLine (so_far_of st) line (so_far_of after) × Kept after
@@ -64,15 +67,19 @@ module _ (st after : State) (line : List ℕ) (left : Option (List ℕ)) (kept :
       let name = (next_field (Some a.0)).0 in
       let value = only_found (next_field (Some a.0)).1 c.0 (refused_as_ok _ _ _ c.1) in
       let cut = cut_rest (Some a.0) name (next_field (Some a.0)).1 c.0 (cut_found (Some a.0)) value.0 in
-      let word : name ≡ rule_word b.0 = name_found name b.0 (ok_or_ok _ _ _ b.1) in (
+      let word : name ≡ rule_word b.0 = name_found name b.0 (ok_or_ok _ _ _ b.1) in
+      let found = rule_found b.0 c.0 d.0 (refused_as_ok _ _ _ d.1) in (
         record {
-          name = name;
-          value = c.0;
-          rule = d.0;
+          word = name;
+          text = c.0;
+          name = b.0;
+          value = amount_of d.0;
           spelled = starts a.0 (ok_or_ok _ _ _ a.1) ∙ ap (λ rest. codes "rule" ++ 32 ∷ rest) (some_is a.0 (name ++ 32 ∷ c.0) cut.0);
           field = value.1;
-          is_rule = subst (λ w. IsRuleText w c.0 d.0) (sym word) (rule_found b.0 c.0 d.0 (refused_as_ok _ _ _ d.1));
+          is_rule = subst (λ w. IsRuleText w c.0 b.0 (amount_of d.0)) (sym word) found.1;
           early = early_found st.phases st.phase kept.tasks.no_phase e.0;
+          set = with_rule st.rules d.0;
+          sets = subst (λ n. Sets n (amount_of d.0) st.rules (with_rule st.rules d.0)) found.0 (rule_sets st.rules d.0);
           adds = ap so_far_of (sym same);
         },
         subst Kept same (record { blocks = kept.blocks; tasks = kept.tasks }),
@@ -142,9 +149,9 @@ module _ (st after : State) (line : List ℕ) (left : Option (List ℕ)) (kept :
           max_time = d.0;
           labels = f.0;
           spelled = starts (ulid_text ++ 32 ∷ (min_text ++ 32 ∷ (max_text ++ 32 ∷ set.0))) first.0;
-          is_ulid = record { field = is_field ulid_text fields.0 first.1; written = ulid_found ulid_text e.0 (refused_as_ok _ _ _ e.1); not_reserved = not_is _ j.0 };
-          is_min = record { field = is_field min_text fields.1 second.1; written = min_is.0; near = min_is.1 };
-          is_max = record { field = is_field max_text front.1 third.1; written = max_is.0; near = max_is.1 };
+          is_ulid = record { field = is_field ulid_text fields.0 first.1; written = ulid_found ulid_text e.0 (refused_as_ok _ _ _ e.1); not_reserved = free_spelled (e.0 % 2 ^ 80) (not_is _ j.0) };
+          is_min = record { field = is_field min_text fields.1 second.1; written = min_is.0; near = near_spelled c.0 min_is.1 };
+          is_max = record { field = is_field max_text front.1 third.1; written = max_is.0; near = near_spelled d.0 max_is.1 };
           are_labels = set.2;
           early = early_found st.phases st.phase kept.tasks.no_phase g.0;
           times = below_is c.0 d.0 i.0;
@@ -152,5 +159,5 @@ module _ (st after : State) (line : List ℕ) (left : Option (List ℕ)) (kept :
           few = omega (arith, kept.blocks.count, few);
           adds = ap so_far_of (sym same);
         },
-        subst Kept same (record { blocks = block_kept st.blocks st.last st.ulids kept.blocks (record { line = number; ulid = e.0; labels = f.0; min_time = c.0; max_time = d.0; series = [] }) fresh; tasks = kept.tasks }),
+        subst Kept same (record { blocks = block_kept st.blocks st.last st.ulids kept.blocks (record { line = number; ulid = e.0; labels = f.0; min_time = c.0; max_time = d.0; series = [] }) refl fresh; tasks = kept.tasks }),
       )

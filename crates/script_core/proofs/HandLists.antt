@@ -1,5 +1,5 @@
 -- The hands, places, workers and seats of a list, from one place on.
-use Rattle.std.proofs.Common.{◌≡◌, ℕ, zero, suc, ◌+◌, ◌-◌, ◌<◌, ◌≤◌, Bool, true, false, ◌||◌, ◌&&◌, cond, nat_lt, nat_le, List, [], ◌∷◌, ◌++◌, length, get_or, drop, map, fold, refl, ap, sym, ◌∙◌, arith, append_assoc, min, ◌^◌}
+use Rattle.std.proofs.Common.{◌≡◌, ℕ, zero, suc, ◌+◌, ◌-◌, ◌<◌, ◌≤◌, Bool, true, false, ◌&&◌, cond, nat_lt, nat_le, List, [], ◌∷◌, ◌++◌, length, get_or, drop, map, refl, ap, sym, ◌∙◌, arith, append_assoc, min}
 use Rattle.std.specs.List.{list_any, range_with_len}
 use Rattle.std.proofs.lemmas.List.{drop_more, drop_all, append-nil}
 use Rattle.std.proofs.lemmas.Bool.Decides.{nat_tests}
@@ -8,7 +8,7 @@ use Rattle.script_core.specs.declared.hand.Hand.TheVariants.{Upload, Gateway}
 use Rattle.script_core.specs.declared.task.Task.{Task}
 use Rattle.script_core.specs.declared.phase.Phase.{Phase}
 use Rattle.script_core.specs.declared.worker.Worker.{Worker}
-use Rattle.script_core.specs.Hands.{same_hand, with_hand, with_hands, hands_from, hands_of, does, places_from, seats_after, seats_from, workers_from, worker_of, gateway_of, greatest}
+use Rattle.script_core.specs.Hands.{same_hand, with_hands, hands_from, hands_of, does, places_from, seats_after, seats_from, workers_from, worker_of, greatest}
 
 -- no upload is a gateway
 pub no_upload_among : (place : ℕ) (gateways : List ℕ) → list_any (same_hand (Upload place)) (map Gateway gateways) ≡ false

@@ -1,6 +1,6 @@
 -- What the state of the lines so far keeps beside the script so far.
-use Rattle.std.proofs.Common.{◌≡◌, ◌≢◌, ℕ, ◌+◌, ◌<◌, ◌≤◌, zero, suc, Bool, true, false, not, ◌==◌, ◌||◌, cond, nat_lt, List, [], ◌∷◌, ◌++◌, length, map, Option, Some, None, option_map, is_none, is_some, refl, sym, ap, ◌∙◌, subst, arith, append-nil, append_assoc}
-use Rattle.std.specs.List.{list_any, flat_map, fold}
+use Rattle.std.proofs.Common.{◌≡◌, ℕ, ◌+◌, suc, Bool, true, false, ◌==◌, ◌||◌, cond, List, [], ◌∷◌, ◌++◌, length, Option, Some, None, option_map, refl, sym, ap, ◌∙◌, subst, arith, append-nil, append_assoc}
+use Rattle.std.specs.List.{list_any}
 use Rattle.std.specs.Ordering.{is_eq, match_ordering, nat_cmp}
 use Rattle.std.specs.declared.cmp.Ordering.{Ordering}
 use Rattle.std.specs.declared.cmp.Ordering.TheVariants.{Less, Equal, Greater}
@@ -10,6 +10,8 @@ use Rattle.std.proofs.lemmas.Bool.Decides.{nat_tests}
 use Rattle.std.proofs.lemmas.List.{length-append, map-append}
 use Rattle.std.proofs.lemmas.List.Concat.{flat_map-append}
 use Rattle.std.proofs.lemmas.List.Folds.{list_any-append}
+use Rattle.std.specs.List.Sorted.{IsStrictlySortedBy}
+use Rattle.label_sets.specs.Labels.{compare_sets}
 use Rattle.label_sets.specs.declared.series.Series.{Series}
 use Rattle.moment_core.specs.declared.moment.Moment.{Moment}
 use Rattle.script_core.specs.declared.block.Block.{Block}
@@ -19,10 +21,11 @@ use Rattle.script_core.specs.declared.script.Script.{Script}
 use Rattle.script_core.specs.declared.task.Task.{Task}
 use Rattle.script_core.specs.declared.work.Work.{Work}
 use Rattle.script_core.specs.Hands.{gateway_count, with_hands, hands_of, hands_from}
-use Rattle.script_core.specs.State.{State, Last, start, block_of, all_blocks, all_phases, is_declared, is_synced, with_series, script_of_state}
+use Rattle.script_core.specs.State.{State, Last, start, block_of, all_blocks, all_phases, is_synced, with_series, script_of_state}
 use Rattle.script_core.specs.Spelling.{SoFar, nothing}
 use Rattle.script_core.specs.Works.{works_in, works_of, is_sync_of, has_sync, declares}
 use Rattle.moment_core.specs.StandardRules.{standard_rules}
+use Rattle.script_core.proofs.LawfulParts.{labels_of, sorted_insert}
 
 abbrev pub at : Script → Bool → SoFar
 at script in_block = record { script = script; in_block = in_block }
@@ -40,6 +43,7 @@ pub record KeepsBlocks (blocks : List Block) (last : Option Last) (ulids : List 
   pub no_last : last ≡ None → blocks ≡ []
   pub declared : (ulid : ℕ) → among ulids ulid ≡ declares (all_blocks blocks last) ulid
   pub count : length ulids ≡ length (all_blocks blocks last)
+  pub ascend : (block : Last) → last ≡ Some block → IsStrictlySortedBy compare_sets (labels_of block.series)
 
 -- what is kept of the tasks is what they give
 pub record KeepsTasks (gateways : List (List ℕ)) (phases : List Phase) (phase : Option Phase) (synced : List ℕ) (hands : List Hand) (activities : ℕ) : Type 0 where
@@ -55,7 +59,7 @@ pub record Kept (st : State) : Type 0 where
 pub start_kept : Kept (start standard_rules)
 unfolding start
 start_kept = record {
-  blocks = record { no_last = λ _. refl; declared = λ _. refl; count = refl };
+  blocks = record { no_last = λ _. refl; declared = λ _. refl; count = refl; ascend = λ block is. absurd cc };
   tasks = record { no_phase = λ _. refl; are_synced = λ _. refl; are_hands = λ last is. absurd cc; are_counted = refl };
 }
 
@@ -64,6 +68,16 @@ unfolding start
 start_is = refl
 
 -- ---- blocks
+
+some_same : {A : Type 0} (x y : A) → ◌≡◌ {A = Option A} (Some x) (Some y) → x ≡ y
+some_same x y e = cc
+
+abbrev Ascend : List Series → Type 0
+Ascend series = IsStrictlySortedBy compare_sets (labels_of series)
+
+none_ascend : Ascend []
+unfolding IsStrictlySortedBy
+none_ascend = tt
 
 same_number : (a b : ℕ) → nat_cmp a b ≡ Equal → a ≡ b
 same_number a b e = grind (arith, nat_tests)
@@ -121,12 +135,13 @@ declares-append blocks block ulid =
 
 module _ (blocks : List Block) (last : Option Last) (ulids : List ℕ) (kept : KeepsBlocks blocks last ulids) where
   -- one more block
-  pub block_kept : (new : Last) → among ulids new.ulid ≡ false → KeepsBlocks (all_blocks blocks last) (Some new) (insert_key nat_cmp ulids new.ulid)
-  block_kept new fresh =
+  pub block_kept : (new : Last) → new.series ≡ [] → among ulids new.ulid ≡ false → KeepsBlocks (all_blocks blocks last) (Some new) (insert_key nat_cmp ulids new.ulid)
+  block_kept new none fresh =
       record {
         no_last = λ none. absurd cc;
         declared = λ ulid. among-insert ulid new.ulid ulids ∙ ap (λ b. b || (new.ulid == ulid)) (kept.declared ulid) ∙ sym (declares-append (all_blocks blocks last) (block_of new) ulid);
         count = length-insert new.ulid ulids fresh ∙ ap (λ n. n + 1) kept.count ∙ sym (length-append (all_blocks blocks last) (block_of new ∷ []));
+        ascend = λ block is. subst Ascend (sym none ∙ ap (λ (l : Last). l.series) (some_same new block is)) none_ascend;
       }
 
 -- one more series of the last block
@@ -137,6 +152,7 @@ series_kept blocks (Some last) ulids series kept =
       no_last = λ none. absurd cc;
       declared = λ ulid. kept.declared ulid ∙ declares-append blocks (block_of last) ulid ∙ sym (declares-append blocks (block_of (with_series series last)) ulid);
       count = kept.count ∙ length-append blocks (block_of last ∷ []) ∙ sym (length-append blocks (block_of (with_series series last) ∷ []));
+      ascend = λ block is. subst Ascend (ap (λ (l : Last). l.series) (some_same (with_series series last) block is)) (sorted_insert last.series series (kept.ascend last refl));
     }
 
 -- ---- phases and tasks
@@ -177,9 +193,6 @@ zero_first n = omega arith
 pub hands_of-append : (gateways : ℕ) (tasks : List Task) (task : Task) → hands_of gateways (tasks ++ task ∷ []) ≡ with_hands gateways (hands_of gateways tasks) (length tasks) task.work
 hands_of-append gateways tasks task =
     hands_from-append gateways [] 0 tasks task ∙ ap (λ n. with_hands gateways (hands_of gateways tasks) n task.work) (zero_first (length tasks))
-
-some_same : {A : Type 0} (x y : A) → ◌≡◌ {A = Option A} (Some x) (Some y) → x ≡ y
-some_same x y e = cc
 
 no_hands : (gateways : ℕ) (last : Phase) (line : ℕ) (moment : Moment) → ◌≡◌ {A = Option Phase} (Some (record { line = line; moment = moment; tasks = [] })) (Some last) → [] ≡ hands_of gateways last.tasks
 unfolding hands_from

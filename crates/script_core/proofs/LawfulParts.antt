@@ -1,6 +1,6 @@
 -- The parts of a lawful script stay lawful as lines are added.
-use Rattle.std.proofs.Common.{◌≡◌, ◌≢◌, ℕ, zero, suc, ◌+◌, ◌-◌, ◌^◌, ◌<◌, ◌≤◌, ℤ, pos, negsuc, neg_ℤ, ◌<ℤ◌, ◌≤ℤ◌, Bool, true, false, not, ◌==◌, ◌||◌, cond, nat_eq, nat_lt, List, [], ◌∷◌, ◌++◌, length, map, get_or, refl, sym, ap, ◌∙◌, subst, arith, ◌⊎◌, inl, inr, append_assoc}
-use Rattle.std.specs.List.{All, AllByRecursion, IsDistinct, list_any}
+use Rattle.std.proofs.Common.{◌≡◌, ℕ, ◌+◌, ◌^◌, ◌<◌, ◌≤◌, ℤ, pos, negsuc, neg_ℤ, ◌≤ℤ◌, Bool, true, false, ◌==◌, ◌||◌, nat_eq, nat_lt, List, [], ◌∷◌, ◌++◌, length, map, get_or, refl, sym, ap, ◌∙◌, subst, arith, ◌⊎◌, inl, inr}
+use Rattle.std.specs.List.{All, AllByRecursion, IsDistinct}
 use Rattle.std.specs.List.Sorted.{IsStrictlySortedBy, IsNonDecreasingBy}
 use Rattle.std.specs.Cmp.{IsTotalOrder}
 use Rattle.std.specs.Ordering.{is_eq, match_ordering, ordering_reverse}
@@ -10,20 +10,16 @@ use Rattle.std.proofs.lemmas.Bool.Decides.{nat_tests}
 use Rattle.std.proofs.lemmas.Cmp.{lists_total, then_total, on_total, nat_list_cmp_total}
 use Rattle.std.proofs.lemmas.Int.{ints}
 use Rattle.std.proofs.lemmas.List.{length-append, get_or_at, get_or_append_left, map-append}
-use Rattle.std.proofs.lemmas.List.Elements.{All-nil, All-cons, All-tail, All-push, All-weaker}
+use Rattle.std.proofs.lemmas.List.Elements.{All-cons, All-tail}
 use Rattle.reading_core.proofs.Parsed.{true_or_false}
-use Rattle.label_sets.specs.Labels.{compare_sets, compare_labels}
+use Rattle.label_sets.specs.Labels.{compare_sets}
 use Rattle.label_sets.specs.declared.label.Label.{Label}
 use Rattle.label_sets.specs.declared.series.Series.{Series}
 use Rattle.script_core.specs.declared.block.Block.{Block}
 use Rattle.script_core.specs.declared.phase.Phase.{Phase}
-use Rattle.script_core.specs.declared.work.Work.{Work}
-use Rattle.script_core.specs.declared.work.Work.TheVariants.{Upload, Sync, Query}
 use Rattle.script_core.specs.Values.{is_time}
 use Rattle.script_core.specs.State.{has_series, insert_series}
-use Rattle.script_core.specs.Works.{works_of, has_sync, declares}
-use Rattle.script_core.specs.Lawful.{HasLawfulSamples}
-use Rattle.script_core.proofs.LineTools.{snoc_is, no_end}
+use Rattle.script_core.specs.Works.{declares}
 
 -- ---- ends of lists
 
@@ -59,7 +55,7 @@ near_high (negsuc n) near = omega (arith, ints)
 abbrev pub labels_of : List Series → List (List Label)
 labels_of series = map (λ (one : Series). one.labels) series
 
-sets_total : IsTotalOrder compare_sets
+pub sets_total : IsTotalOrder compare_sets
 sets_total = lists_total (then_total (on_total (λ (l : Label). l.name) nat_list_cmp_total) (on_total (λ (l : Label). l.value) nat_list_cmp_total))
 
 above_all : (labels : List (List Label)) (one other : List Label) → compare_sets one other ≡ Less → AllByRecursion (λ y. compare_sets other y ≡ Less) labels → AllByRecursion (λ y. compare_sets one y ≡ Less) labels
@@ -92,7 +88,7 @@ sorted_insert [] new sorted = (tt, tt)
 sorted_insert (first ∷ series) new sorted =
     sorted_by series new first (compare_sets new.labels first.labels) refl sorted (sorted_insert series new sorted.1)
 
-neither : (a b : Bool) → (a || b) ≡ false → (a ≡ false) × (b ≡ false)
+pub neither : (a b : Bool) → (a || b) ≡ false → (a ≡ false) × (b ≡ false)
 neither true b h = absurd cc
 neither false b h = (refl, h)
 

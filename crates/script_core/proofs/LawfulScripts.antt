@@ -1,38 +1,42 @@
 -- What is spelled is lawful.
-use Rattle.std.proofs.Common.{◌≡◌, ◌≢◌, ℕ, zero, suc, ◌+◌, ◌-◌, ◌^◌, ◌<◌, ◌≤◌, ℤ, pos, negsuc, ◌<ℤ◌, ◌≤ℤ◌, Bool, true, false, not, ◌==◌, ◌||◌, cond, nat_eq, nat_lt, List, [], ◌∷◌, ◌++◌, length, map, get_or, Option, Some, None, position, refl, sym, ap, ◌∙◌, subst, arith, ◌⊎◌, inl, inr, append_assoc, append-nil, add_assoc}
+use Rattle.std.proofs.Common.{◌≡◌, ◌≢◌, ℕ, ◌+◌, ◌%◌, ◌^◌, ◌<◌, ◌≤◌, ℤ, Bool, true, false, cond, nat_eq, nat_lt, List, [], ◌∷◌, ◌++◌, length, map, get_or, Some, None, refl, sym, ap, ◌∙◌, subst, arith, inl, inr, append_assoc, append-nil}
 use Rattle.std.specs.Bool.{MatchBool}
 use Rattle.std.specs.List.{All, IsDistinct, position_or_len}
 use Rattle.std.specs.List.Sorted.{IsStrictlySortedBy, IsNonDecreasingBy}
 use Rattle.std.specs.Str.{is_utf8, bytes_eq}
 use Rattle.std.proofs.lemmas.Bool.Decides.{nat_tests}
 use Rattle.std.proofs.lemmas.List.{length-append, get_or_at, get_or_append_left}
-use Rattle.std.proofs.lemmas.List.Elements.{All-nil, All-cons, All-push, All-weaker}
+use Rattle.std.proofs.lemmas.List.Elements.{All-nil, All-push, All-weaker}
 use Rattle.reading_core.proofs.Parsed.{true_or_false}
 use Rattle.label_sets.specs.Labels.{compare_sets}
 use Rattle.label_sets.specs.declared.sample.Sample.{Sample}
 use Rattle.label_sets.specs.declared.series.Series.{Series}
-use Rattle.moment_core.specs.StandardRules.{standard_rules}
 use Rattle.moment_core.specs.declared.rules.Rules.{Rules}
 use Rattle.script_core.specs.declared.block.Block.{Block}
 use Rattle.script_core.specs.declared.body.Body.TheVariants.{Inline}
 use Rattle.script_core.specs.declared.phase.Phase.{Phase}
-use Rattle.script_core.specs.declared.rule.Rule.{Rule}
-use Rattle.script_core.specs.declared.rule.Rule.TheVariants as rules
+use Rattle.script_core.specs.declared.rule_name.RuleName.{RuleName}
+use Rattle.script_core.specs.declared.rule_name.RuleName.TheVariants as names
 use Rattle.script_core.specs.declared.script.Script.{Script}
 use Rattle.script_core.specs.declared.task.Task.{Task}
 use Rattle.script_core.specs.declared.work.Work.{Work}
 use Rattle.script_core.specs.declared.work.Work.TheVariants.{Upload, Sync, Query}
 use Rattle.script_core.specs.Fields.{lines_of, is_silent, is_name}
 use Rattle.script_core.specs.Hands.{gateway_count, hands_of, hands_from}
-use Rattle.script_core.specs.State.{gateway_named, insert_series}
+use Rattle.script_core.specs.State.{gateway_named}
 use Rattle.script_core.specs.Values.{with_rule, agree}
-use Rattle.script_core.specs.Works.{works_in, works_of, has_sync, is_sync_of, declares}
+use Rattle.script_core.specs.Works.{works_in, works_of, has_sync}
 use Rattle.script_core.specs.Lawful.{AreLawfulRules, HasLawfulSamples, IsLawfulInline, HasSeries, IsLawfulBlock, AreLawfulBlocks, IsLawfulWork, IsLawfulPhase, AreLawfulPhases, IsLawfulScript}
 use Rattle.script_core.specs.Spelling as spelling
 use Rattle.script_core.specs.Spelling.{SoFar, HasEnded, IsRuleText, AreSampleFields, RuleLine, GatewayLine, BlockLine, SeriesLine, AtLine, AddsTask, UploadLine, SyncLine, QueryLine, Says, Say, Spells}
 use Rattle.script_core.proofs.Kept.{works_of-append, works_of-more}
 use Rattle.script_core.proofs.LineTools.{snoc_is, no_end}
-use Rattle.script_core.proofs.LawfulParts.{ends, All-front, All-last, near_low, near_high, sorted_insert, each_insert, once_push, same_ulids, ulids_of, moments_push}
+use Rattle.script_core.proofs.LawfulParts.{ends, All-front, All-last, once_push, same_ulids, ulids_of, moments_push}
+use Rattle.script_core.proofs.ValueLaws.{rule_with}
+use Rattle.script_core.proofs.SpelledValues.{free_tested, agree_tested, rise_tested, within_tested}
+use Rattle.script_core.proofs.SpelledSeries.{each_placed}
+use Rattle.script_core.proofs.SpelledHands.{few_counted}
+use Rattle.script_core.proofs.SpelledRules.{rule_set}
 
 -- what is lawful so far: all but the last block have series
 pub record InOrder (so_far : SoFar) : Type 0 where
@@ -62,14 +66,14 @@ early_phases gateways blocks selectors phases early =
 
 -- ---- rules, gateways and blocks
 
-lawful_rule : (set : Rules) (name value : List ℕ) (rule : Rule) → IsRuleText name value rule → AreLawfulRules set → AreLawfulRules (with_rule set rule)
-lawful_rule set name value (rules.Consistency span) is lawful = record { consistency = is.1.at_most; ignore = lawful.ignore; delete = lawful.delete; partial = lawful.partial; upload = lawful.upload; tick = lawful.tick; page_limit_low = lawful.page_limit_low; page_limit_high = lawful.page_limit_high; replicas = lawful.replicas }
-lawful_rule set name value (rules.Ignore span) is lawful = record { consistency = lawful.consistency; ignore = is.1.at_most; delete = lawful.delete; partial = lawful.partial; upload = lawful.upload; tick = lawful.tick; page_limit_low = lawful.page_limit_low; page_limit_high = lawful.page_limit_high; replicas = lawful.replicas }
-lawful_rule set name value (rules.Delete span) is lawful = record { consistency = lawful.consistency; ignore = lawful.ignore; delete = is.1.at_most; partial = lawful.partial; upload = lawful.upload; tick = lawful.tick; page_limit_low = lawful.page_limit_low; page_limit_high = lawful.page_limit_high; replicas = lawful.replicas }
-lawful_rule set name value (rules.Partial span) is lawful = record { consistency = lawful.consistency; ignore = lawful.ignore; delete = lawful.delete; partial = is.1.at_most; upload = lawful.upload; tick = lawful.tick; page_limit_low = lawful.page_limit_low; page_limit_high = lawful.page_limit_high; replicas = lawful.replicas }
-lawful_rule set name value (rules.Upload span) is lawful = record { consistency = lawful.consistency; ignore = lawful.ignore; delete = lawful.delete; partial = lawful.partial; upload = is.1.at_most; tick = lawful.tick; page_limit_low = lawful.page_limit_low; page_limit_high = lawful.page_limit_high; replicas = lawful.replicas }
-lawful_rule set name value (rules.Tick span) is lawful = record { consistency = lawful.consistency; ignore = lawful.ignore; delete = lawful.delete; partial = lawful.partial; upload = lawful.upload; tick = is.2; page_limit_low = lawful.page_limit_low; page_limit_high = lawful.page_limit_high; replicas = lawful.replicas }
-lawful_rule set name value (rules.PageLimit limit) is lawful = record { consistency = lawful.consistency; ignore = lawful.ignore; delete = lawful.delete; partial = lawful.partial; upload = lawful.upload; tick = lawful.tick; page_limit_low = is.2; page_limit_high = is.3; replicas = lawful.replicas }
+lawful_rule : (set : Rules) (word text : List ℕ) (name : RuleName) (value : ℕ) → IsRuleText word text name value → AreLawfulRules set → AreLawfulRules (with_rule set (rule_with name value))
+lawful_rule set word text names.Consistency value is lawful = record { consistency = is.1.at_most; ignore = lawful.ignore; delete = lawful.delete; partial = lawful.partial; upload = lawful.upload; tick = lawful.tick; page_limit_low = lawful.page_limit_low; page_limit_high = lawful.page_limit_high; replicas = lawful.replicas }
+lawful_rule set word text names.Ignore value is lawful = record { consistency = lawful.consistency; ignore = is.1.at_most; delete = lawful.delete; partial = lawful.partial; upload = lawful.upload; tick = lawful.tick; page_limit_low = lawful.page_limit_low; page_limit_high = lawful.page_limit_high; replicas = lawful.replicas }
+lawful_rule set word text names.Delete value is lawful = record { consistency = lawful.consistency; ignore = lawful.ignore; delete = is.1.at_most; partial = lawful.partial; upload = lawful.upload; tick = lawful.tick; page_limit_low = lawful.page_limit_low; page_limit_high = lawful.page_limit_high; replicas = lawful.replicas }
+lawful_rule set word text names.Partial value is lawful = record { consistency = lawful.consistency; ignore = lawful.ignore; delete = lawful.delete; partial = is.1.at_most; upload = lawful.upload; tick = lawful.tick; page_limit_low = lawful.page_limit_low; page_limit_high = lawful.page_limit_high; replicas = lawful.replicas }
+lawful_rule set word text names.Upload value is lawful = record { consistency = lawful.consistency; ignore = lawful.ignore; delete = lawful.delete; partial = lawful.partial; upload = is.1.at_most; tick = lawful.tick; page_limit_low = lawful.page_limit_low; page_limit_high = lawful.page_limit_high; replicas = lawful.replicas }
+lawful_rule set word text names.Tick value is lawful = record { consistency = lawful.consistency; ignore = lawful.ignore; delete = lawful.delete; partial = lawful.partial; upload = lawful.upload; tick = is.2; page_limit_low = lawful.page_limit_low; page_limit_high = lawful.page_limit_high; replicas = lawful.replicas }
+lawful_rule set word text names.PageLimit value is lawful = record { consistency = lawful.consistency; ignore = lawful.ignore; delete = lawful.delete; partial = lawful.partial; upload = lawful.upload; tick = lawful.tick; page_limit_low = is.2; page_limit_high = is.3; replicas = lawful.replicas }
 
 -- with the last block complete, all blocks are
 all_full : (blocks : List Block) → ((others : List Block) (block : Block) → blocks ≡ others ++ block ∷ [] → All (λ (b : Block). HasSeries b.body) others) → HasEnded blocks → All (λ (b : Block). HasSeries b.body) blocks
@@ -91,7 +95,7 @@ some_samples (text ∷ texts) (sample ∷ samples) some are none = cc
 module _ (before after : SoFar) (line : List ℕ) (order : InOrder before) where
   rule_in_order : RuleLine before line after → InOrder after
   rule_in_order says = subst InOrder (sym says.adds) (record {
-    rules = lawful_rule before.script.rules says.name says.value says.rule says.is_rule order.rules;
+    rules = subst AreLawfulRules (sym (rule_set says.name says.value before.script.rules says.set says.sets)) (lawful_rule before.script.rules says.word says.text says.name says.value says.is_rule order.rules);
     agreed = λ some. absurd (some says.early);
     few_gateways = order.few_gateways;
     names = order.names;
@@ -121,7 +125,7 @@ module _ (before after : SoFar) (line : List ℕ) (order : InOrder before) where
       let new : Block = record { ulid = says.ulid; labels = says.labels; body = Inline says.min_time says.max_time [] } in
       let size = length-append before.script.blocks (new ∷ []) in
       let few = says.few in
-      let inline : IsLawfulInline says.min_time says.max_time [] = record { early = near_low says.min_time says.is_min.near; ascend = says.times; late = near_high says.max_time says.is_max.near; ordered = none_sorted; samples = All-nil (HasLawfulSamples says.min_time says.max_time) } in
+      let inline : IsLawfulInline says.min_time says.max_time [] = record { early = says.is_min.near.early; ascend = says.times; late = says.is_max.near.late; ordered = none_sorted; samples = All-nil (HasLawfulSamples says.min_time says.max_time) } in
       subst InOrder (sym says.adds) (record {
         rules = order.rules;
         agreed = order.agreed;
@@ -129,7 +133,7 @@ module _ (before after : SoFar) (line : List ℕ) (order : InOrder before) where
         names = order.names;
         blocks = record {
           few = omega arith;
-          each = All-push IsLawfulBlock before.script.blocks new order.blocks.each (record { body = inline; not_reserved = says.is_ulid.not_reserved });
+          each = All-push IsLawfulBlock before.script.blocks new order.blocks.each (record { body = inline; not_reserved = free_tested (says.ulid % 2 ^ 80) says.is_ulid.not_reserved });
           once = once_push before.script.blocks new order.blocks.once says.new;
         };
         full = λ others block is. subst (All (λ (b : Block). HasSeries b.body)) (snoc_is before.script.blocks others new block is).0 (all_full before.script.blocks order.full ended);
@@ -140,20 +144,20 @@ module _ (before after : SoFar) (line : List ℕ) (order : InOrder before) where
   series_in_order : SeriesLine before line after → InOrder after
   series_in_order says =
       let new : Series = record { labels = says.labels; samples = says.samples } in
-      let last : Block = record { ulid = says.ulid; labels = says.block_labels; body = Inline says.min_time says.max_time says.series } in
-      let more : Block = record { ulid = says.ulid; labels = says.block_labels; body = Inline says.min_time says.max_time (insert_series says.series new) } in
+      let last : Block = record { ulid = says.ulid; labels = says.block_labels; body = Inline says.min_time says.max_time (says.lesser ++ says.greater) } in
+      let more : Block = record { ulid = says.ulid; labels = says.block_labels; body = Inline says.min_time says.max_time (says.lesser ++ new ∷ says.greater) } in
       let each : All IsLawfulBlock (says.others ++ last ∷ []) = subst (All IsLawfulBlock) says.last order.blocks.each in
       let old : IsLawfulBlock last = All-last IsLawfulBlock says.others last each in
       let size = ap length says.last ∙ length-append says.others (last ∷ []) in
       let size_more = length-append says.others (more ∷ []) in
       let few = order.blocks.few in
       let early = order.early says.in_block in
-      let inline : IsLawfulInline says.min_time says.max_time (insert_series says.series new) = record {
+      let inline : IsLawfulInline says.min_time says.max_time (says.lesser ++ new ∷ says.greater) = record {
         early = old.body.early;
         ascend = old.body.ascend;
         late = old.body.late;
-        ordered = sorted_insert says.series new old.body.ordered;
-        samples = each_insert (HasLawfulSamples says.min_time says.max_time) says.series new says.new old.body.samples (record { some = some_samples says.texts says.samples says.some says.are_samples; rising = says.rising; within = says.within });
+        ordered = says.ascend;
+        samples = each_placed (HasLawfulSamples says.min_time says.max_time) says.lesser says.greater new old.body.samples (record { some = some_samples says.texts says.samples says.some says.are_samples; rising = rise_tested says.samples says.rising; within = within_tested says.min_time says.max_time says.samples says.within });
       } in
       subst InOrder (sym says.adds) (record {
         rules = order.rules;
@@ -237,7 +241,7 @@ task_in_order before after selectors number work lawful adds fits syncs =
       each = All-push (IsLawfulPhase before.gateways before.blocks selectors) adds.others new (All-front (IsLawfulPhase before.gateways before.blocks selectors) adds.others old each) (record {
         moment = last.moment;
         tasks = All-push (λ (t : Task). IsLawfulWork before.gateways before.blocks selectors t.work) old.tasks task last.tasks fits;
-        few_workers = adds.few_workers;
+        few_workers = few_counted (gateway_count before.gateways) (old.tasks ++ task ∷ []) adds.few_workers;
       });
       moments = same_moments adds.others old new refl (subst (IsNonDecreasingBy (λ (p : Phase). p.moment.ms)) adds.last lawful.moments);
       few_tasks = omega arith;
@@ -286,7 +290,7 @@ module _ (before after : SoFar) (number : ℕ) (line : List ℕ) (order : InOrde
       let new : Phase = record { line = number; moment = record { ms = says.moment }; tasks = [] } in
       subst InOrder (sym says.adds) (record {
         rules = order.rules;
-        agreed = λ _. agreed_by before.script.rules before.script.phases says.first order.agreed;
+        agreed = λ _. agreed_by before.script.rules before.script.phases (λ early. agree_tested before.script.rules (says.first early)) order.agreed;
         few_gateways = order.few_gateways;
         names = order.names;
         blocks = order.blocks;
@@ -324,7 +328,7 @@ module _ (before after : SoFar) (number : ℕ) (line : List ℕ) (order : InOrde
       let work : Work = Query says.low says.high selectors in
       let adds = says.task in
       let script : Script = record before.script { phases = adds.others ++ record adds.phase { tasks = adds.phase.tasks ++ record { line = number; work = work } ∷ [] } ∷ [] } in
-      let fits : IsLawfulWork before.script.gateways before.script.blocks (selectors + 1) work = (near_low says.low says.is_low.near, says.times, near_high says.high says.is_high.near, omega arith) in
+      let fits : IsLawfulWork before.script.gateways before.script.blocks (selectors + 1) work = (says.is_low.near.early, says.times, says.is_high.near.late, omega arith) in
       let phases = task_in_order before.script says.script (selectors + 1) number work (selector_in_order before.script.gateways before.script.blocks selectors before.script.phases order.phases) adds fits (λ low high selector gateway is inside. says.synced gateway inside) in
       let moved : AreLawfulPhases before.script.gateways before.script.blocks (selectors + 1) script.phases = subst (AreLawfulPhases before.script.gateways before.script.blocks (selectors + 1)) (ap (λ (s : Script). s.phases) adds.adds) phases in
       let all : InOrder (spelling.outside (record script { selectors = before.script.selectors ++ says.selector ∷ [] })) = record {

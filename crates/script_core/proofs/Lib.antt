@@ -7,6 +7,10 @@ pub mod SampleLists
 pub mod ValueLaws
 pub mod Kept
 pub mod LineTools
+pub mod SpelledValues
+pub mod SpelledSeries
+pub mod SpelledHands
+pub mod SpelledRules
 pub mod FoundSetup
 pub mod FoundSeries
 pub mod FoundPhases

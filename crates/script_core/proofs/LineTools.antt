@@ -1,24 +1,21 @@
 -- What the laws of lines share: first words, what follows them, ends of lists, and the ends of blocks.
-use Rattle.std.proofs.Common.{◌≡◌, ◌≢◌, ℕ, ◌+◌, ◌<◌, ◌≤◌, suc, Bool, true, false, not, ◌==◌, ◌&&◌, cond, nat_lt, ltb-true, List, [], ◌∷◌, ◌++◌, length, Option, Some, None, is_none, is_some, Result, Ok, Err, refl, sym, ap, ◌∙◌, subst, arith, ◌⊎◌, inl, inr, codes}
+use Rattle.std.proofs.Common.{◌≡◌, ◌≢◌, ℕ, Bool, true, false, not, ◌==◌, ◌&&◌, cond, List, [], ◌∷◌, ◌++◌, length, Option, Some, None, is_none, Result, Ok, Err, refl, sym, ap, ◌∙◌, subst, arith, ◌⊎◌, inl, inr, codes}
 use Rattle.std.specs.Str.{bytes_eq}
 use Rattle.std.proofs.lemmas.Bool.Decides.{nat_tests}
 use Rattle.std.proofs.lemmas.List.{length-append}
 use Rattle.std.proofs.lemmas.Slice.Eq.{bytes_eq-Decides}
-use Rattle.reading_core.specs.Reading.{◌>>=◌, ◌>>◌, unless, refused_as}
-use Rattle.reading_core.proofs.Binds.{bind_ok, unless_ok, ok_is, refused_as_ok}
+use Rattle.reading_core.specs.Reading.{◌>>◌, unless}
+use Rattle.reading_core.proofs.Binds.{unless_ok, ok_is}
 use Rattle.reading_core.proofs.Decimals.{both}
 use Rattle.script_core.specs.declared.block.Block.{Block}
-use Rattle.script_core.specs.declared.body.Body.TheVariants.{Inline}
-use Rattle.script_core.specs.declared.cause.LineCause.{LineCause}
 use Rattle.script_core.specs.declared.cause.LineCause.TheVariants.{BadShape}
 use Rattle.script_core.specs.declared.line_kind.LineKind.{LineKind}
 use Rattle.script_core.specs.declared.line_kind.LineKind.TheVariants as kinds
 use Rattle.script_core.specs.declared.phase.Phase.{Phase}
 use Rattle.script_core.specs.declared.rule_name.RuleName.{RuleName}
 use Rattle.script_core.specs.declared.rule_name.RuleName.TheVariants as names
-use Rattle.script_core.specs.declared.script_refusal.ScriptRefusal.{ScriptRefusal}
 use Rattle.script_core.specs.Fields.{is_empty, next_field, only_field, line_kind, rule_name}
-use Rattle.script_core.specs.State.{State, Last, block_of, all_blocks, all_phases, has_ended}
+use Rattle.script_core.specs.State.{Last, block_of, all_blocks, all_phases, has_ended}
 use Rattle.label_sets.specs.declared.series.Series.{Series}
 use Rattle.script_core.specs.Lawful.{HasSeries}
 use Rattle.script_core.specs.Spelling.{IsField, HasEnded}
@@ -93,7 +90,7 @@ line_word kinds.Upload = codes "upload"
 line_word kinds.Sync = codes "sync"
 line_word kinds.Query = codes "query"
 
-same_bytes : (xs ys : List ℕ) → bytes_eq xs ys ≡ true → xs ≡ ys
+pub same_bytes : (xs ys : List ℕ) → bytes_eq xs ys ≡ true → xs ≡ ys
 same_bytes xs ys e = grind (arith, nat_tests, bytes_eq-Decides)
 
 chosen_by : {K : Type 0} (word text : List ℕ) (kind found : K) (later : Option K) (b : Bool) → bytes_eq word text ≡ b → cond b (Some kind) later ≡ Some found → ((word ≡ text) × (kind ≡ found)) ⊎ (later ≡ Some found)

@@ -1,9 +1,7 @@
 -- The samples of a line, one after another.
-use Rattle.std.proofs.Common.{◌≡◌, ℕ, ◌+◌, ◌<◌, Bool, true, false, not, List, [], ◌∷◌, ◌++◌, length, get_or, Option, Some, None, Result, Ok, Err, refl, sym, ap, ◌∙◌, arith, append_assoc, append-nil}
-use Rattle.std.specs.List.{slice_split, list_all}
+use Rattle.std.proofs.Common.{◌≡◌, ℕ, ◌+◌, ◌<◌, List, [], ◌∷◌, ◌++◌, length, Option, Some, None, Result, Ok, Err, refl, sym, ap, ◌∙◌, arith, append_assoc, append-nil}
 use Rattle.std.proofs.lemmas.List.{length-append}
 use Rattle.std.proofs.lemmas.List.Splits.{slice_split_at, slice_split_none}
-use Rattle.std.proofs.lemmas.List.Sums.{AllPass-from_list_all}
 use Rattle.reading_core.specs.Reading.{◌>>=◌, refused_as}
 use Rattle.label_sets.specs.SampleText.{sample_of}
 use Rattle.label_sets.specs.declared.sample.Sample.{Sample}
@@ -11,7 +9,7 @@ use Rattle.script_core.specs.declared.cause.LineCause.{LineCause}
 use Rattle.script_core.specs.declared.cause.LineCause.TheVariants.{BadSample}
 use Rattle.script_core.specs.Fields.{is_space, next_field}
 use Rattle.script_core.specs.Samples.{texts_of, samples_from}
-use Rattle.script_core.proofs.FieldLaws.{no_space, spaceless, Cut, cut_nothing, cut_whole, cut_front, cut_found}
+use Rattle.script_core.proofs.FieldLaws.{spaceless, Cut, cut_nothing, cut_whole, cut_front, cut_found}
 
 -- the texts that are left
 abbrev pub texts_left : Option (List ℕ) → List (List ℕ)

@@ -1,10 +1,8 @@
 -- The values of fields are read from their texts, and from no others.
-use Rattle.std.proofs.Common.{◌≡◌, ◌≢◌, ℕ, ◌+◌, ◌^◌, ◌<◌, ◌≤◌, ℤ, pos, negsuc, leb-true, Bool, true, false, not, ◌&&◌, nat_lt, nat_le, List, [], ◌∷◌, Option, Some, None, is_none, is_some, option_map, ok_or, Result, Ok, Err, refl, sym, ap, ◌∙◌, subst, arith, codes}
-use Rattle.std.specs.Bool.{IsTrue, IsFalse}
+use Rattle.std.proofs.Common.{◌≡◌, ℕ, ◌^◌, ◌<◌, ◌≤◌, ℤ, pos, negsuc, leb-true, Bool, true, false, not, ◌&&◌, nat_le, List, Option, Some, None, is_none, option_map, ok_or, Ok, refl, sym, ap, ◌∙◌, subst, arith, codes}
 use Rattle.std.specs.Int.{w64}
 use Rattle.std.specs.Int.RustNames.{FitsSigned}
 use Rattle.std.proofs.lemmas.Bool.Decides.{nat_tests}
-use Rattle.reading_core.specs.Reading.{◌>>=◌, ◌>>◌, unless, refused_as}
 use Rattle.reading_core.specs.Decimal.{decimal_text, signed_text, unsigned_of, signed_of}
 use Rattle.reading_core.proofs.Binds.{bind_ok, unless_ok, ok_is, refused_as_ok}
 use Rattle.reading_core.proofs.Decimals.{both}
@@ -17,8 +15,7 @@ use Rattle.moment_core.specs.SpanText.{IsSpanText, span_of}
 use Rattle.moment_core.specs.declared.moment.Moment.{Moment}
 use Rattle.moment_core.specs.declared.span.Span.{Span}
 use Rattle.ulid_core.proofs.UlidLaws.{ulid_of-found, ulid_of-only}
-use Rattle.ulid_core.specs.UlidText.{IsUlidText, ulid_of}
-use Rattle.script_core.specs.declared.cause.LineCause.{LineCause}
+use Rattle.ulid_core.specs.UlidText.{IsUlidText}
 use Rattle.script_core.specs.declared.cause.LineCause.TheVariants.{BadNumber}
 use Rattle.script_core.specs.declared.rule.Rule.{Rule}
 use Rattle.script_core.specs.declared.rule.Rule.TheVariants as rules
@@ -138,51 +135,81 @@ rule_word names.Upload = codes "upload-limit"
 rule_word names.Tick = codes "tick"
 rule_word names.PageLimit = codes "page-limit"
 
-pub rule_found : (name : RuleName) (text : List ℕ) (rule : Rule) → rule_of name text ≡ Ok rule → IsRuleText (rule_word name) text rule
+-- the name and the value of a rule that was read
+abbrev pub kind_of : Rule → RuleName
+kind_of (rules.Consistency span) = names.Consistency
+kind_of (rules.Ignore span) = names.Ignore
+kind_of (rules.Delete span) = names.Delete
+kind_of (rules.Partial span) = names.Partial
+kind_of (rules.Upload span) = names.Upload
+kind_of (rules.Tick span) = names.Tick
+kind_of (rules.PageLimit limit) = names.PageLimit
+
+abbrev pub amount_of : Rule → ℕ
+amount_of (rules.Consistency span) = span.ms
+amount_of (rules.Ignore span) = span.ms
+amount_of (rules.Delete span) = span.ms
+amount_of (rules.Partial span) = span.ms
+amount_of (rules.Upload span) = span.ms
+amount_of (rules.Tick span) = span.ms
+amount_of (rules.PageLimit limit) = limit
+
+abbrev pub rule_with : RuleName → ℕ → Rule
+rule_with names.Consistency value = rules.Consistency (span_from value)
+rule_with names.Ignore value = rules.Ignore (span_from value)
+rule_with names.Delete value = rules.Delete (span_from value)
+rule_with names.Partial value = rules.Partial (span_from value)
+rule_with names.Upload value = rules.Upload (span_from value)
+rule_with names.Tick value = rules.Tick (span_from value)
+rule_with names.PageLimit value = rules.PageLimit value
+
+abbrev pub RuleFound : RuleName → List ℕ → Rule → Type 0
+RuleFound name text rule = (kind_of rule ≡ name) × IsRuleText (rule_word name) text name (amount_of rule)
+
+pub rule_found : (name : RuleName) (text : List ℕ) (rule : Rule) → rule_of name text ≡ Ok rule → RuleFound name text rule
 unfolding rule_of
 rule_found names.Consistency text rule h =
     let a = bind_ok _ _ _ h in
-    let is : IsRuleText (codes "consistency-delay") text (rules.Consistency a.0) = (refl, span_found text a.0 a.1) in
-    subst (IsRuleText (codes "consistency-delay") text) (ok_is _ _ a.2) is
+    let is : RuleFound names.Consistency text (rules.Consistency a.0) = (refl, (refl, span_found text a.0 a.1)) in
+    subst (RuleFound names.Consistency text) (ok_is _ _ a.2) is
 rule_found names.Ignore text rule h =
     let a = bind_ok _ _ _ h in
-    let is : IsRuleText (codes "ignore-delay") text (rules.Ignore a.0) = (refl, span_found text a.0 a.1) in
-    subst (IsRuleText (codes "ignore-delay") text) (ok_is _ _ a.2) is
+    let is : RuleFound names.Ignore text (rules.Ignore a.0) = (refl, (refl, span_found text a.0 a.1)) in
+    subst (RuleFound names.Ignore text) (ok_is _ _ a.2) is
 rule_found names.Delete text rule h =
     let a = bind_ok _ _ _ h in
-    let is : IsRuleText (codes "delete-delay") text (rules.Delete a.0) = (refl, span_found text a.0 a.1) in
-    subst (IsRuleText (codes "delete-delay") text) (ok_is _ _ a.2) is
+    let is : RuleFound names.Delete text (rules.Delete a.0) = (refl, (refl, span_found text a.0 a.1)) in
+    subst (RuleFound names.Delete text) (ok_is _ _ a.2) is
 rule_found names.Partial text rule h =
     let a = bind_ok _ _ _ h in
-    let is : IsRuleText (codes "partial-delay") text (rules.Partial a.0) = (refl, span_found text a.0 a.1) in
-    subst (IsRuleText (codes "partial-delay") text) (ok_is _ _ a.2) is
+    let is : RuleFound names.Partial text (rules.Partial a.0) = (refl, (refl, span_found text a.0 a.1)) in
+    subst (RuleFound names.Partial text) (ok_is _ _ a.2) is
 rule_found names.Upload text rule h =
     let a = bind_ok _ _ _ h in
-    let is : IsRuleText (codes "upload-limit") text (rules.Upload a.0) = (refl, span_found text a.0 a.1) in
-    subst (IsRuleText (codes "upload-limit") text) (ok_is _ _ a.2) is
+    let is : RuleFound names.Upload text (rules.Upload a.0) = (refl, (refl, span_found text a.0 a.1)) in
+    subst (RuleFound names.Upload text) (ok_is _ _ a.2) is
 rule_found names.Tick text rule h =
     let a = bind_ok _ _ _ h in
     let tick = tick_found text a.0 a.1 in
-    let is : IsRuleText (codes "tick") text (rules.Tick a.0) = (refl, tick.0, tick.1) in
-    subst (IsRuleText (codes "tick") text) (ok_is _ _ a.2) is
+    let is : RuleFound names.Tick text (rules.Tick a.0) = (refl, (refl, tick.0, tick.1)) in
+    subst (RuleFound names.Tick text) (ok_is _ _ a.2) is
 rule_found names.PageLimit text rule h =
     let a = bind_ok _ _ _ h in
     let limit = page_limit_found text a.0 a.1 in
-    let is : IsRuleText (codes "page-limit") text (rules.PageLimit a.0) = (refl, limit.0, limit.1, limit.2) in
-    subst (IsRuleText (codes "page-limit") text) (ok_is _ _ a.2) is
+    let is : RuleFound names.PageLimit text (rules.PageLimit a.0) = (refl, (refl, limit.0, limit.1, limit.2)) in
+    subst (RuleFound names.PageLimit text) (ok_is _ _ a.2) is
 
--- the name of a rule that is read from its text
-pub record RuleAgain (name text : List ℕ) (rule : Rule) : Type 0 where
-  pub kind : RuleName
-  pub word : name ≡ rule_word kind
-  pub read : rule_of kind text ≡ Ok rule
+-- a rule that is read from its text
+pub record RuleAgain (word text : List ℕ) (name : RuleName) (value : ℕ) : Type 0 where
+  pub word_is : word ≡ rule_word name
+  pub read : rule_of name text ≡ Ok (rule_with name value)
 
-pub rule_again : (name text : List ℕ) (rule : Rule) → IsRuleText name text rule → RuleAgain name text rule
+pub rule_again : (word text : List ℕ) (name : RuleName) (value : ℕ) → IsRuleText word text name value → RuleAgain word text name value
 unfolding rule_of
-rule_again name text (rules.Consistency span) is = record { kind = names.Consistency; word = is.0; read = rw (span_again text span is.1) refl }
-rule_again name text (rules.Ignore span) is = record { kind = names.Ignore; word = is.0; read = rw (span_again text span is.1) refl }
-rule_again name text (rules.Delete span) is = record { kind = names.Delete; word = is.0; read = rw (span_again text span is.1) refl }
-rule_again name text (rules.Partial span) is = record { kind = names.Partial; word = is.0; read = rw (span_again text span is.1) refl }
-rule_again name text (rules.Upload span) is = record { kind = names.Upload; word = is.0; read = rw (span_again text span is.1) refl }
-rule_again name text (rules.Tick span) is = record { kind = names.Tick; word = is.0; read = rw (tick_again text span is.1 is.2) refl }
-rule_again name text (rules.PageLimit limit) is = record { kind = names.PageLimit; word = is.0; read = rw (page_limit_again text limit is.1 is.2 is.3) refl }
+rule_again word text names.Consistency value is = record { word_is = is.0; read = rw (span_again text (span_from value) is.1) refl }
+rule_again word text names.Ignore value is = record { word_is = is.0; read = rw (span_again text (span_from value) is.1) refl }
+rule_again word text names.Delete value is = record { word_is = is.0; read = rw (span_again text (span_from value) is.1) refl }
+rule_again word text names.Partial value is = record { word_is = is.0; read = rw (span_again text (span_from value) is.1) refl }
+rule_again word text names.Upload value is = record { word_is = is.0; read = rw (span_again text (span_from value) is.1) refl }
+rule_again word text names.Tick value is = record { word_is = is.0; read = rw (tick_again text (span_from value) is.1 is.2) refl }
+rule_again word text names.PageLimit value is = record { word_is = is.0; read = rw (page_limit_again text value is.1 is.2 is.3) refl }

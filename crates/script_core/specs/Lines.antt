@@ -1,6 +1,6 @@
 -- One definition for each kind of line: the causes for which it is refused, in the order in which they are tested, and
 -- what it leaves to the next line.
-use Rattle.std.specs.Prelude.{ℕ, ◌+◌, List, [], length, drop, Bool, true, false, not, ◌&&◌, ◌==◌, nat_le, int_lt, ok_or, unwrap_or, Option, None, Some, is_none, is_some, Result, Ok, Err, codes, if◌then◌else◌}
+use Rattle.std.specs.Prelude.{ℕ, List, [], length, drop, Bool, not, ◌&&◌, ◌==◌, nat_le, int_lt, ok_or, unwrap_or, Option, None, Some, is_none, is_some, Result, Ok, Err, codes, if◌then◌else◌}
 use Rattle.std.specs.Str.{bytes_eq}
 use Rattle.reading_core.specs.Reading.{◌>>=◌, ◌>>◌, unless, refused_as}
 use Rattle.label_sets.specs.declared.label.Label.{Label}

@@ -2,38 +2,39 @@
 -- record for each kind of line: how the line is written, what has to hold of the script so far, and what the line adds. Here
 -- is nothing of causes and of their order: a text that is read is one that spells its script, and each text that spells a
 -- script is read.
-use Rattle.std.specs.Prelude.{◌≡◌, ◌≢◌, ℕ, ◌+◌, ◌^◌, ◌<◌, ◌≤◌, ℤ, ◌<ℤ◌, ◌≤ℤ◌, List, [], ◌∷◌, ◌++◌, length, Bool, true, false, not, IsTrue, IsFalse, Option, None, Some, Result, Ok, codes}
+use Rattle.std.specs.Prelude.{◌≡◌, ◌≢◌, ◌⊎◌, ℕ, ◌+◌, ◌-◌, ◌%◌, ◌^◌, ◌<◌, ◌≤◌, ℤ, pos, neg_ℤ, ◌<ℤ◌, ◌≤ℤ◌, List, [], ◌∷◌, ◌++◌, length, map, Bool, true, false, not, IsTrue, IsFalse, None, Some, All, position, codes}
 use Rattle.std.specs.Bool.{MatchBool}
-use Rattle.std.specs.List.{list_all, join_with_byte, AllByRecursion}
-use Rattle.std.specs.Str.{is_utf8}
+use Rattle.std.specs.List.{list_all, list_any, join_with_byte}
+use Rattle.std.specs.List.Sorted.{IsStrictlySortedBy}
+use Rattle.std.specs.Ordering.{int_cmp}
+use Rattle.std.specs.Str.{is_utf8, bytes_eq}
 use Rattle.reading_core.specs.Decimal.{decimal_text, signed_text}
-use Rattle.label_sets.specs.Notation.{read_set}
+use Rattle.label_sets.specs.Labels.{compare_sets}
+use Rattle.label_sets.specs.SetText.{IsSetText}
 use Rattle.label_sets.specs.SampleText.{sample_text}
 use Rattle.label_sets.specs.declared.label.Label.{Label}
 use Rattle.label_sets.specs.declared.sample.Sample.{Sample}
 use Rattle.label_sets.specs.declared.series.Series.{Series}
-use Rattle.matchers.specs.Selectors.{read_selector}
+use Rattle.matchers.specs.Selectors.{is_metric_name}
 use Rattle.matchers.specs.declared.matcher.Matcher.{Matcher}
+use Rattle.matchers.specs.declared.operator.Operator.TheVariants.{Equal}
 use Rattle.moment_core.specs.MomentText.{IsMomentText}
 use Rattle.moment_core.specs.SpanText.{IsSpanText}
 use Rattle.moment_core.specs.StandardRules.{standard_rules}
-use Rattle.moment_core.specs.declared.moment.Moment.{Moment}
 use Rattle.moment_core.specs.declared.rules.Rules.{Rules}
 use Rattle.ulid_core.specs.UlidText.{IsUlidText}
 use Rattle.script_core.specs.declared.block.Block.{Block}
 use Rattle.script_core.specs.declared.body.Body.TheVariants.{Inline}
 use Rattle.script_core.specs.declared.phase.Phase.{Phase}
-use Rattle.script_core.specs.declared.rule.Rule.{Rule}
-use Rattle.script_core.specs.declared.rule.Rule.TheVariants as rules
+use Rattle.script_core.specs.declared.hand.Hand.{Hand}
+use Rattle.script_core.specs.declared.rule_name.RuleName.{RuleName}
+use Rattle.script_core.specs.declared.rule_name.RuleName.TheVariants as names
 use Rattle.script_core.specs.declared.script.Script.{Script}
 use Rattle.script_core.specs.declared.task.Task.{Task}
 use Rattle.script_core.specs.declared.work.Work.{Work}
 use Rattle.script_core.specs.declared.work.Work.TheVariants.{Upload, Sync, Query}
 use Rattle.script_core.specs.Fields.{lines_of, is_silent, is_space, is_name}
-use Rattle.script_core.specs.Values.{is_time, is_reserved, with_rule, agree}
-use Rattle.script_core.specs.Samples.{are_rising, are_within}
-use Rattle.script_core.specs.State.{gateway_named, has_series, insert_series}
-use Rattle.script_core.specs.Hands.{gateway_count, hands_of}
+use Rattle.script_core.specs.Hands.{same_hand, gateway_count, does}
 use Rattle.script_core.specs.Works.{works_of, has_sync, declares}
 use Rattle.script_core.specs.Lawful.{HasSeries}
 
@@ -48,22 +49,28 @@ pub record IsField (field : List ℕ) : Type 0 where
   pub some : field ≢ []
   pub no_space : IsTrue (list_all (λ byte. not (is_space byte)) field)
 
--- a time from -2^62 to 2^62, as a decimal number
+-- a time of the script is at most 2^62 from zero
+pub record IsNear (time : ℤ) : Type 0 where
+  pub early : neg_ℤ (pos (2 ^ 62)) ≤ℤ time
+  pub late : time ≤ℤ pos (2 ^ 62)
+
+-- a time as a decimal number
 pub record IsTimeText (text : List ℕ) (time : ℤ) : Type 0 where
   pub field : IsField text
   pub written : text ≡ signed_text time
-  pub near : IsTrue (is_time time)
+  pub near : IsNear time
 
+-- a ULID, but for the last 2^20 of its millisecond, which compacted blocks take
 pub record IsUlidField (text : List ℕ) (ulid : ℕ) : Type 0 where
   pub field : IsField text
   pub written : IsUlidText text ulid
-  pub not_reserved : IsFalse (is_reserved ulid)
+  pub not_reserved : ulid % 2 ^ 80 < 2 ^ 80 - 2 ^ 20
 
 -- TIME:PATTERN
 pub record IsSampleField (text : List ℕ) (sample : Sample) : Type 0 where
   pub field : IsField text
   pub written : text ≡ sample_text sample
-  pub near : IsTrue (is_time sample.time)
+  pub near : IsNear sample.time
   pub pattern : sample.pattern < 2 ^ 64
 
 -- each text is that of the sample at its place
@@ -73,15 +80,70 @@ AreSampleFields [] (sample ∷ samples) = ⊥
 AreSampleFields (text ∷ texts) [] = ⊥
 AreSampleFields (text ∷ texts) (sample ∷ samples) = IsSampleField text sample × AreSampleFields texts samples
 
--- the name and the value of a rule
-abbrev pub IsRuleText : List ℕ → List ℕ → Rule → Type 0
-IsRuleText name value (rules.Consistency span) = (name ≡ codes "consistency-delay") × IsSpanText value span.ms
-IsRuleText name value (rules.Ignore span) = (name ≡ codes "ignore-delay") × IsSpanText value span.ms
-IsRuleText name value (rules.Delete span) = (name ≡ codes "delete-delay") × IsSpanText value span.ms
-IsRuleText name value (rules.Partial span) = (name ≡ codes "partial-delay") × IsSpanText value span.ms
-IsRuleText name value (rules.Upload span) = (name ≡ codes "upload-limit") × IsSpanText value span.ms
-IsRuleText name value (rules.Tick span) = (name ≡ codes "tick") × IsSpanText value span.ms × (span.ms ≤ 86_400_000)
-IsRuleText name value (rules.PageLimit limit) = (name ≡ codes "page-limit") × (value ≡ decimal_text limit) × (1 ≤ limit) × (limit ≤ 10_000)
+-- each time is below those after it
+abbrev pub TimesRise : List Sample → Type 0
+TimesRise samples = IsStrictlySortedBy int_cmp (map (λ sample. sample.time) samples)
+
+-- a time from the first on and below the last
+pub record IsWithin (first last : ℤ) (sample : Sample) : Type 0 where
+  pub from : first ≤ℤ sample.time
+  pub below : sample.time <ℤ last
+
+-- A selector: `{}`, which asks nothing, or a metric name, which asks that this is the value of `__name__`.
+abbrev pub IsSelectorText : List ℕ → List Matcher → Type 0
+IsSelectorText text selector =
+    ((text ≡ codes "{}") × (selector ≡ []))
+    ⊎ (IsTrue (is_metric_name text) × (selector ≡ record { name = codes "__name__"; operator = Equal; value = text } ∷ []))
+
+-- ---- rules
+
+-- The word of a rule and the text of its value. Spans are in milliseconds.
+abbrev pub IsRuleText : List ℕ → List ℕ → RuleName → ℕ → Type 0
+IsRuleText word text names.Consistency value = (word ≡ codes "consistency-delay") × IsSpanText text value
+IsRuleText word text names.Ignore value = (word ≡ codes "ignore-delay") × IsSpanText text value
+IsRuleText word text names.Delete value = (word ≡ codes "delete-delay") × IsSpanText text value
+IsRuleText word text names.Partial value = (word ≡ codes "partial-delay") × IsSpanText text value
+IsRuleText word text names.Upload value = (word ≡ codes "upload-limit") × IsSpanText text value
+IsRuleText word text names.Tick value = (word ≡ codes "tick") × IsSpanText text value × (value ≤ 86_400_000)
+IsRuleText word text names.PageLimit value = (word ≡ codes "page-limit") × (text ≡ decimal_text value) × (1 ≤ value) × (value ≤ 10_000)
+
+-- the value of the rule with this name
+abbrev pub rule_value : RuleName → Rules → ℕ
+rule_value names.Consistency rules = rules.consistency.ms
+rule_value names.Ignore rules = rules.ignore.ms
+rule_value names.Delete rules = rules.delete.ms
+rule_value names.Partial rules = rules.partial.ms
+rule_value names.Upload rules = rules.upload.ms
+rule_value names.Tick rules = rules.tick.ms
+rule_value names.PageLimit rules = rules.page_limit
+
+-- One rule has this value, whatever it had before, and all others are as they were. So the last rule line of a name wins.
+pub record Sets (name : RuleName) (value : ℕ) (before after : Rules) : Type 0 where
+  pub sets : rule_value name after ≡ value
+  pub others : (other : RuleName) → other ≢ name → rule_value other after ≡ rule_value other before
+  pub replicas : after.replicas ≡ before.replicas
+
+-- An upload ends before a partial block is deleted, and a second before a marked one is. A mark is heeded no later than
+-- it deletes.
+pub record DoAgree (rules : Rules) : Type 0 where
+  pub partial : rules.upload.ms ≤ rules.partial.ms
+  pub delete : rules.upload.ms + 1000 ≤ rules.delete.ms
+  pub ignore : rules.ignore.ms ≤ rules.delete.ms
+
+-- ---- the workers of a phase
+
+-- These hands are enough for the tasks, the first of which has this place: whoever does one of them is among the hands.
+abbrev pub AreEnough : ℕ → List Hand → ℕ → List Task → Type 0
+AreEnough gateways hands place [] = Unit {0}
+AreEnough gateways hands place (task ∷ tasks) =
+    ((hand : Hand) → IsTrue (does gateways hand place task.work) → IsTrue (list_any (same_hand hand) hands))
+    × AreEnough gateways hands (place + 1) tasks
+
+-- Some 64 hands are enough.
+pub record FewWorkers (gateways : ℕ) (tasks : List Task) : Type 0 where
+  pub hands : List Hand
+  pub enough : AreEnough gateways hands 0 tasks
+  pub few : length hands ≤ 64
 
 -- ---- the script so far
 
@@ -114,14 +176,17 @@ HasEnded blocks = (others : List Block) (block : Block) → blocks ≡ others ++
 
 -- rule NAME VALUE
 pub record RuleLine (before : SoFar) (line : List ℕ) (after : SoFar) : Type 0 where
-  pub name : List ℕ
-  pub value : List ℕ
-  pub rule : Rule
-  pub spelled : line ≡ spaced (codes "rule" ∷ name ∷ value ∷ [])
-  pub field : IsField value
-  pub is_rule : IsRuleText name value rule
+  pub word : List ℕ
+  pub text : List ℕ
+  pub name : RuleName
+  pub value : ℕ
+  pub spelled : line ≡ spaced (codes "rule" ∷ word ∷ text ∷ [])
+  pub field : IsField text
+  pub is_rule : IsRuleText word text name value
   pub early : IsEarly before
-  pub adds : after ≡ outside (record before.script { rules = with_rule before.script.rules rule })
+  pub set : Rules
+  pub sets : Sets name value before.script.rules set
+  pub adds : after ≡ outside (record before.script { rules = set })
 
 -- gateway NAME
 pub record GatewayLine (before : SoFar) (line : List ℕ) (after : SoFar) : Type 0 where
@@ -130,7 +195,7 @@ pub record GatewayLine (before : SoFar) (line : List ℕ) (after : SoFar) : Type
   pub field : IsField name
   pub is_name : IsTrue (is_name name)
   pub early : IsEarly before
-  pub new : gateway_named before.script.gateways name ≡ None
+  pub new : position (λ gateway. bytes_eq gateway name) before.script.gateways ≡ None
   pub few : length before.script.gateways < 1
   pub adds : after ≡ outside (record before.script { gateways = before.script.gateways ++ name ∷ [] })
 
@@ -148,8 +213,7 @@ pub record BlockLine (before : SoFar) (line : List ℕ) (after : SoFar) : Type 0
   pub is_ulid : IsUlidField ulid_text ulid
   pub is_min : IsTimeText min_text min_time
   pub is_max : IsTimeText max_text max_time
-  -- the label set takes all that is left
-  pub are_labels : read_set labels_text ≡ Ok (labels, length labels_text)
+  pub are_labels : IsSetText labels_text labels
   pub early : IsEarly before
   pub times : min_time <ℤ max_time
   pub new : IsFalse (declares before.script.blocks ulid)
@@ -163,23 +227,23 @@ pub record SeriesLine (before : SoFar) (line : List ℕ) (after : SoFar) : Type 
   pub labels : List Label
   pub samples : List Sample
   pub spelled : line ≡ spaced (codes "series" ∷ labels_text ∷ spaced texts ∷ [])
-  -- the label set at the front of what is left
-  pub are_labels : read_set (spaced (labels_text ∷ spaced texts ∷ [])) ≡ Ok (labels, length labels_text)
+  pub are_labels : IsSetText labels_text labels
   pub some : texts ≢ []
   pub are_samples : AreSampleFields texts samples
-  pub rising : IsTrue (are_rising samples)
+  pub rising : TimesRise samples
   pub in_block : IsTrue before.in_block
-  -- the last block
+  -- the last block, and its series with lesser and with greater labels, none of which has these labels
   pub others : List Block
   pub ulid : ℕ
   pub block_labels : List Label
   pub min_time : ℤ
   pub max_time : ℤ
-  pub series : List Series
-  pub last : before.script.blocks ≡ others ++ record { ulid = ulid; labels = block_labels; body = Inline min_time max_time series } ∷ []
-  pub within : IsTrue (are_within min_time max_time samples)
-  pub new : IsFalse (has_series series labels)
-  pub adds : after ≡ inside (record before.script { blocks = others ++ record { ulid = ulid; labels = block_labels; body = Inline min_time max_time (insert_series series (record { labels = labels; samples = samples })) } ∷ [] })
+  pub lesser : List Series
+  pub greater : List Series
+  pub last : before.script.blocks ≡ others ++ record { ulid = ulid; labels = block_labels; body = Inline min_time max_time (lesser ++ greater) } ∷ []
+  pub within : All (IsWithin min_time max_time) samples
+  pub ascend : IsStrictlySortedBy compare_sets (map (λ one. one.labels) (lesser ++ record { labels = labels; samples = samples } ∷ greater))
+  pub adds : after ≡ inside (record before.script { blocks = others ++ record { ulid = ulid; labels = block_labels; body = Inline min_time max_time (lesser ++ record { labels = labels; samples = samples } ∷ greater) } ∷ [] })
 
 -- ---- phases and their tasks
 
@@ -191,7 +255,7 @@ pub record AtLine (before : SoFar) (number : ℕ) (line : List ℕ) (after : SoF
   pub field : IsField text
   pub is_moment : IsMomentText text moment
   -- The first phase begins with rules that agree, a later one no sooner than the one before it.
-  pub first : IsEarly before → IsTrue (agree before.script.rules)
+  pub first : IsEarly before → DoAgree before.script.rules
   pub later : (others : List Phase) (last : Phase) → before.script.phases ≡ others ++ last ∷ [] → last.moment.ms ≤ moment
   pub adds : after ≡ outside (record before.script { phases = before.script.phases ++ record { line = number; moment = record { ms = moment }; tasks = [] } ∷ [] })
 
@@ -201,7 +265,7 @@ pub record AddsTask (before : Script) (number : ℕ) (work : Work) (after : Scri
   pub phase : Phase
   pub last : before.phases ≡ others ++ phase ∷ []
   pub few : length (works_of before.phases) < 65_536
-  pub few_workers : length (hands_of (gateway_count before.gateways) (phase.tasks ++ record { line = number; work = work } ∷ [])) ≤ 64
+  pub few_workers : FewWorkers (gateway_count before.gateways) (phase.tasks ++ record { line = number; work = work } ∷ [])
   pub adds : after ≡ record before { phases = others ++ record phase { tasks = phase.tasks ++ record { line = number; work = work } ∷ [] } ∷ [] }
 
 -- upload ULID
@@ -222,7 +286,7 @@ pub record SyncLine (before : SoFar) (number : ℕ) (line : List ℕ) (after : S
   pub spelled : line ≡ spaced (codes "sync" ∷ name ∷ [])
   pub field : IsField name
   pub is_name : IsTrue (is_name name)
-  pub declared : gateway_named before.script.gateways name ≡ Some gateway
+  pub declared : position (λ one. bytes_eq one name) before.script.gateways ≡ Some gateway
   pub script : Script
   pub task : AddsTask before.script number (Sync gateway) script
   pub adds : after ≡ outside script
@@ -238,7 +302,7 @@ pub record QueryLine (before : SoFar) (number : ℕ) (line : List ℕ) (after : 
   pub spelled : line ≡ spaced (codes "query" ∷ low_text ∷ high_text ∷ selector_text ∷ [])
   pub is_low : IsTimeText low_text low
   pub is_high : IsTimeText high_text high
-  pub is_selector : read_selector selector_text ≡ Ok selector
+  pub is_selector : IsSelectorText selector_text selector
   pub times : low ≤ℤ high
   pub synced : (gateway : ℕ) → gateway < length before.script.gateways → IsTrue (has_sync (works_of before.script.phases) gateway)
   pub script : Script

@@ -1,5 +1,5 @@
 -- The numbers, times, spans and ULIDs that stand in fields.
-use Rattle.std.specs.Prelude.{ℕ, ◌+◌, ◌-◌, ◌%◌, ◌^◌, List, Bool, true, false, not, ◌&&◌, nat_le, nat_lt, option_map, ok_or, Result, Ok, Err, ℤ, pos, negsuc, if◌then◌else◌}
+use Rattle.std.specs.Prelude.{ℕ, ◌+◌, ◌-◌, ◌%◌, ◌^◌, List, Bool, ◌&&◌, nat_le, nat_lt, option_map, ok_or, Result, Ok, ℤ, pos, negsuc}
 use Rattle.reading_core.specs.Reading.{◌>>=◌, ◌>>◌, unless, refused_as}
 use Rattle.reading_core.specs.Decimal.{unsigned_of, signed_of}
 use Rattle.ulid_core.specs.UlidText.{ulid_of}

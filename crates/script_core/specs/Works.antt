@@ -1,5 +1,5 @@
 -- The tasks of a script's phases, one after another.
-use Rattle.std.specs.Prelude.{ℕ, ◌+◌, List, [], ◌∷◌, ◌++◌, length, map, Bool, true, false, ◌==◌}
+use Rattle.std.specs.Prelude.{ℕ, List, map, Bool, false, ◌==◌}
 use Rattle.std.specs.List.{list_any, flat_map}
 use Rattle.script_core.specs.declared.block.Block.{Block}
 use Rattle.script_core.specs.declared.phase.Phase.{Phase}

@@ -185,6 +185,123 @@ const REFUSED: [(&str, ScriptRefusal); 90] = [
     (" gateway g", BadLine(1, UnknownWord)),
 ];
 
+/// Lines with two causes, by the kinds of lines: of each two that one line can have, the first in their order is given.
+const TWO_CAUSES: [(&str, ScriptRefusal); 50] = [
+    ("rule speed 5s 5s", BadLine(1, UnknownWord)),
+    ("at 0\nrule speed 5s", BadLine(2, UnknownWord)),
+    ("rule page-limit 0 0", BadLine(1, BadShape)),
+    ("rule tick 1d 1d", BadLine(1, BadShape)),
+    ("at 0\nrule tick", BadLine(2, BadShape)),
+    ("gateway 1g h", BadLine(1, BadShape)),
+    ("at 0\ngateway g h", BadLine(2, BadShape)),
+    ("gateway g\ngateway g h", BadLine(2, BadShape)),
+    ("gateway g\ngateway 1g", BadLine(2, BadName)),
+    ("gateway g\nat 0\ngateway h", BadLine(3, LateLine)),
+    (
+        "at 0\nblock 0000000000000000000000000A 2 1",
+        BadLine(2, BadShape),
+    ),
+    (
+        "block 0000000000ZZZZZZZZZZZZ0000 2 1 {} ",
+        BadLine(1, BadShape),
+    ),
+    (
+        "block 0000000000000000000000000A 1000 2000 {}\nseries {a=\"x\"} 1000:0000000000000001\nblock 0000000000000000000000000A 1 2",
+        BadLine(3, BadShape),
+    ),
+    (
+        "block 0000000000000000000000000A 4611686018427387905 1 {}",
+        BadLine(1, BadNumber),
+    ),
+    (
+        "at 0\nblock 0000000000ZZZZZZZZZZZZ0000 1 4611686018427387905 {a=}",
+        BadLine(2, BadNumber),
+    ),
+    (
+        "block 0000000000000000000000000A 1000 2000 {}\nseries {a=\"x\"} 1000:0000000000000001\nblock 0000000000000000000000000A 01 2 {}",
+        BadLine(3, BadNumber),
+    ),
+    ("at 0\nblock a 2 1 {}", BadLine(2, BadUlidText)),
+    (
+        "block 0000000000ZZZZZZZZZZZZ0000 2 1 {a=}",
+        BadLine(1, BadLabelText),
+    ),
+    (
+        "block 0000000000000000000000000A 1000 2000 {}\nseries {a=\"x\"} 1000:0000000000000001\nblock 0000000000000000000000000A 1 2 {a=}",
+        BadLine(3, BadLabelText),
+    ),
+    (
+        "block 0000000000000000000000000A 1000 2000 {}\nseries {a=\"x\"} 1000:0000000000000001\nat 0\nblock 0000000000000000000000000A 1 2 {}",
+        BadLine(4, LateLine),
+    ),
+    (
+        "at 0\nblock 0000000000ZZZZZZZZZZZZ0000 1 2 {}",
+        BadLine(2, LateLine),
+    ),
+    ("series {} 1:1  4611686018427387905:1", BadLine(1, BadShape)),
+    (
+        "block 0000000000000000000000000A 1000 2000 {}\nseries {} 2001:0000000000000001  1:0000000000000001",
+        BadLine(2, BadShape),
+    ),
+    (
+        "block 0000000000000000000000000A 1000 2000 {}\nseries {a=\"x\"} 1000:0000000000000001\nseries {a=\"x\"} ",
+        BadLine(3, BadShape),
+    ),
+    ("series {a= x", BadLine(1, BadLabelText)),
+    (
+        "block 0000000000000000000000000A 1000 2000 {}\nseries {} 4611686018427387905:0000000000000001 1:0000000000000001",
+        BadLine(2, BadNumber),
+    ),
+    (
+        "block 0000000000000000000000000A 1000 2000 {}\nseries {a=\"x\"} 1000:0000000000000001\nseries {a=\"x\"} -4611686018427387905:0000000000000001",
+        BadLine(3, BadNumber),
+    ),
+    (
+        "block 0000000000000000000000000A 1000 2000 {}\nseries {a=\"x\"} 1000:0000000000000001\nseries {a=\"x\"} 1000:1",
+        BadLine(3, BadSample),
+    ),
+    ("series {} 1", BadLine(1, BadSample)),
+    (
+        "block 0000000000000000000000000A 1000 2000 {}\nseries {a=\"x\"} 1000:0000000000000001\nseries {a=\"x\"} 1001:0000000000000001 1000:0000000000000001",
+        BadLine(3, FallingTimes),
+    ),
+    (
+        "series {} 2:0000000000000001 2:0000000000000001",
+        BadLine(1, FallingTimes),
+    ),
+    ("at noon now", BadLine(1, BadShape)),
+    ("rule upload-limit 49h\nat 0 0", BadLine(2, BadShape)),
+    ("rule upload-limit 49h\nat noon", BadLine(2, BadMomentText)),
+    ("upload a stop", BadLine(1, UnknownWord)),
+    (
+        "at 0\nupload 0000000000ZZZZZZZZZZZZ0000 stop 1",
+        BadLine(2, UnknownWord),
+    ),
+    (
+        "at 0\nupload 0000000000000000000000000A stop 1",
+        BadLine(2, UnknownWord),
+    ),
+    ("upload 0000000000ZZZZZZZZZZZZ0000 ", BadLine(1, BadShape)),
+    (
+        "at 0\nupload 0000000000000000000000000A 5",
+        BadLine(2, BadShape),
+    ),
+    ("at 0\nupload a", BadLine(2, BadUlidText)),
+    ("sync 1g h", BadLine(1, BadShape)),
+    ("sync g h", BadLine(1, BadShape)),
+    ("at 0\nsync g h", BadLine(2, BadShape)),
+    ("at 0\nsync 1g", BadLine(2, BadName)),
+    ("query  b {a}", BadLine(1, UnknownWord)),
+    ("gateway g\nat 0\nquery 1 0 {a}", BadLine(3, UnknownWord)),
+    ("gateway g\nat 0\nquery 1 0", BadLine(3, BadShape)),
+    (
+        "at 0\nquery 4611686018427387905 0 {}",
+        BadLine(2, BadNumber),
+    ),
+    ("query 4611686018427387905 0 {}", BadLine(1, BadNumber)),
+    ("gateway g\nquery 0 1 {}", BadLine(2, NoPhase)),
+];
+
 const LAWFUL: [&str; 14] = [
     "",
     "\n",
@@ -210,6 +327,13 @@ fn the_first_cause_is_given(rt: HostRuntime) {
 }
 
 #[test]
+fn the_first_of_two_causes_is_given(rt: HostRuntime) {
+    for (text, refusal) in TWO_CAUSES {
+        assert_eq!(rt; refusal_of(&rt, text.as_bytes()), Some(refusal), "{text}");
+    }
+}
+
+#[test]
 fn lawful_texts_are_read(rt: HostRuntime) {
     for text in LAWFUL {
         assert_eq!(rt; refusal_of(&rt, text.as_bytes()), None, "{text}");
@@ -223,6 +347,7 @@ fn bytes_that_are_no_text(rt: HostRuntime) {
         refusal_of(&rt, b"gateway g\nat \xff"),
         Some(BadLine(2, NotText))
     );
+    assert_eq!(rt; refusal_of(&rt, b"frob  \xff"), Some(BadLine(1, NotText)));
     assert_eq!(rt;
         refusal_of(&rt, b"block 0000000000000000000000000A 1 2 {}\nseries \xff"),
         Some(BadLine(1, EmptyInline))

@@ -1,6 +1,4 @@
-use Rattle.std.proofs.Common.{rules, ◌≡◌, ◌⊎◌, ◌<◌, length, inl, inr, Ok, Err, arith, sym, ◌∙◌, ap, get_or}
-use Rattle.std.proofs.lemmas.Grind.{common_steps}
-use Rattle.serde_json.specs.View.{view}
+use Rattle.std.proofs.Common.{rules, ◌≡◌, ◌<◌, length, arith, get_or}
 use Rattle.block_meta.proofs.Lists.{each_none, each_more, each_refused}
 use Rattle.block_meta.proofs.item.read_items.Goals as goal
 

@@ -1,4 +1,4 @@
-use Rattle.std.proofs.Common.{rules, ◌≡◌, ◌∙◌, ap, string_bytes}
+use Rattle.std.proofs.Common.{rules, ◌∙◌}
 use Rattle.block_meta.proofs.LabelMembers.{labels_done, labels_step, labels_stop}
 use Rattle.block_meta.proofs.thanos.add_labels.Goals as goal
 

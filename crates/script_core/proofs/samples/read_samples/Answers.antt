@@ -1,9 +1,9 @@
-use Rattle.std.proofs.Common.{sym, ap, ◌∙◌, inl, inr, refl}
+use Rattle.std.proofs.Common.{ap, inr, refl}
 use Rattle.std.specs.Option.{option_copied}
 use Rattle.std.proofs.lemmas.Result.{err_from_is_err_and}
 use Rattle.script_core.specs.Lines.{bad}
 use Rattle.script_core.specs.Samples.{samples_from, texts_of}
-use Rattle.script_core.proofs.SampleLists.{after, after_none, less_left, sample_more, sample_refused, samples_end}
+use Rattle.script_core.proofs.SampleLists.{after_none, less_left, sample_more, sample_refused, samples_end}
 use Rattle.script_core.proofs.samples.read_samples.Goals as goal
 
 pub loop-left-init : goal.loop-left-init
