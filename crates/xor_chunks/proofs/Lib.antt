@@ -1,0 +1,15 @@
+pub mod BitLists
+pub mod Buffers
+pub mod Writers
+pub mod Times
+pub mod Takes
+pub mod Values
+pub mod Loops
+pub mod Codes
+pub mod Zeros
+pub mod PutLoops
+pub mod PutTexts
+pub mod Rising
+pub mod FieldsRead
+pub mod SamplesRead
+pub mod TextsRead
