@@ -10,6 +10,8 @@ pub mod Zeros
 pub mod PutLoops
 pub mod PutTexts
 pub mod Rising
+pub mod ValuesWritten
+pub mod SamplesWritten
 pub mod FieldsRead
 pub mod SamplesRead
 pub mod TextsRead

@@ -1,4 +1,5 @@
 ghost use Rattle.std.specs.Prelude.{◌≡◌, ◌≤◌, [], ◌++◌, OnOk, OnErr};
+ghost use Rattle.reading_core.specs.Grammar.{IsBytes};
 ghost use Rattle.xor_chunks.specs.Bits.{bits_of, bits_in, filled};
 
 use list_core::NoMemory;
@@ -76,7 +77,8 @@ impl BitWriter {
 
     /// The bytes of the bits, the last of them filled with zero bits.
     pub fn finish(self) -> Blob
-        ensures { bits_in result ≡ filled self }
+        ensures bits { bits_in result ≡ filled self }
+        ensures bytes { IsBytes result }
     {
         let BitWriter {
             mut bytes,
@@ -87,6 +89,14 @@ impl BitWriter {
         bytes
             .extend_from_slice(&last[..count.div_ceil(8) as usize])
             .unwrap();
-        Blob::from_vec(bytes)
+        blob_of(bytes)
     }
+}
+
+/// The bytes as a blob.
+fn blob_of(bytes: Vec<u8>) -> Blob
+    ensures same { result ≡ bytes.items }
+    ensures bytes { IsBytes result }
+{
+    Blob::from_vec(bytes)
 }

@@ -1,6 +1,7 @@
 ghost use Rattle.std.specs.Prelude.{◌≡◌, ◌++◌, ◌∷◌, ℕ, pos, negsuc, ◌≤ℤ◌, ◌<ℤ◌, ◌-ℤ◌, ◌^◌, ◌<◌, ◌≤◌, length, IfOk, OnOk, bit_xor};
 ghost use Rattle.xor_chunks.specs.Written.{fits_field, change_bits, reused, value_bits, window_after, CanFollow, put_after, next_bits, AreToCome, others_bits, rest_bits, put_first, written, AreOfChunk};
 ghost use Rattle.wire_bytes.specs.Written.{varint_text};
+ghost use Rattle.xor_chunks.specs.Grammar.{IsText};
 ghost use Rattle.xor_chunks.specs.Bits.{bits_of, bits_in, filled};
 
 use crate::BitWriter;
@@ -8,6 +9,7 @@ use crate::code::Code;
 use crate::put::Put;
 use crate::setting::Setting;
 use crate::window::Window;
+use crate::words::have_words;
 use label_sets::Sample;
 use list_core::NoMemory;
 use std::alloc::Global;
@@ -197,7 +199,11 @@ fn head_of(alloc: Global, count: u16, first: Sample) -> Result<Vec<u8>, NoMemory
 pub fn encode(alloc: Global, samples: &[Sample]) -> Result<Blob, NoMemory>
     requires { AreOfChunk samples.now }
     ensures exact { IfOk result (λ blob. bits_in blob ≡ filled (written samples.now)) }
+
+    // The bytes stand for the samples, so that they are decoded to them.
+    ensures text { IfOk result (λ blob. IsText 7 blob samples.now) }
 {
+    have_words(samples);
     let first = samples[0];
     let bytes = head_of(alloc, samples.len() as u16, first)?;
     let writer = put_rest(bytes, first, &samples[1..])?;

@@ -17,6 +17,7 @@ mod step;
 #[cfg(test)]
 mod tests;
 mod window;
+mod words;
 
 pub use bit_reader::BitReader;
 pub use bit_writer::BitWriter;
