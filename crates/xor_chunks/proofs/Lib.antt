@@ -1,9 +1,11 @@
 pub mod BitLists
 pub mod Buffers
+pub mod Crossings
 pub mod Writers
 pub mod Times
 pub mod Takes
 pub mod Values
+pub mod Peeks
 pub mod Loops
 pub mod Codes
 pub mod Zeros

@@ -100,7 +100,7 @@ front-lt n bits =
     let enough : n ≤ length (bits ++ replicate n false) = omega (arith, length-append bits (replicate n false), length-replicate n false) in
     subst (λ k. front n bits < 2 ^ k) (length-take-le n (bits ++ replicate n false) enough) (number_of-lt (take n (bits ++ replicate n false)))
 
-front-nil : (n : ℕ) → front n [] ≡ 0
+pub front-nil : (n : ℕ) → front n [] ≡ 0
 front-nil n = ap number_of (take_all n (replicate n false) (omega (arith, length-replicate n false))) ∙ number_of-zeros n
 
 pub front-cons : (n : ℕ) (bit : Bool) (bits : List Bool) → front (suc n) (bit ∷ bits) ≡ cond bit (2 ^ n) 0 + front n bits

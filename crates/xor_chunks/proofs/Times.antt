@@ -51,3 +51,34 @@ pub is_after_cast : (time delta after : ℤ) → FitsSigned w64 (time +ℤ delta
     → time_after time delta ≡ Ok (cast_signed w64 (cast_unsigned w64 after), unsigned_abs (cast_signed w128 (cast_unsigned w128 delta)))
 is_after_cast time delta after taken range le =
     is_after time delta taken.0 le ∙ ap (λ (p : ℤ × ℕ). Ok p) (ap (λ z. (z, unsigned_abs delta)) (sym (to_z-of_z w64 (time +ℤ delta) taken.0) ∙ ap (λ z. cast_signed w64 (cast_unsigned w64 z)) (sym taken.1)) ∙ ap (λ z. (cast_signed w64 (cast_unsigned w64 after), unsigned_abs z)) (sym (to_z-of_z w128 delta range)))
+
+-- ---- the same in 64 bits
+
+pub ok_iff : {E : Type 0} (r : Result ℤ E) (P : Type 0) (z x : ℤ) → OkIff r P z → r ≡ Ok x → P × (x ≡ z)
+ok_iff (Ok y) P z x h e = (h.0, sym (ok_value y x e) ∙ h.1)
+ok_iff (Err d) P z x h e = absurd cc
+
+-- a number in its 64 bits
+abbrev pub same_64 : ℤ → ℤ
+same_64 z = cast_signed w64 (cast_unsigned w64 z)
+
+abs_cast : (z : ℤ) → FitsSigned w64 z → pos 1 ≤ℤ z → cast_unsigned w64 z ≡ unsigned_abs z
+abs_cast (pos n) fits le = refl
+abs_cast (negsuc n) fits le = absurd (omega (arith, ints, le))
+
+pub near_is : (time change change' before sum after : ℤ) (delta out : ℕ) → FitsSigned w64 time → FitsSigned w128 change → FitsSigned w64 (cast_signed w128 (cast_unsigned w128 change)) × (change' ≡ cast_signed w128 (cast_unsigned w128 change)) → FitsSigned w64 (pos delta) × (before ≡ pos delta)
+    → FitsSigned w64 (same_64 before +ℤ same_64 change') × (sum ≡ same_64 before +ℤ same_64 change') → FitsSigned w64 (same_64 time +ℤ same_64 sum) × (after ≡ same_64 time +ℤ same_64 sum) → pos 1 ≤ℤ same_64 sum → out ≡ cast_unsigned w64 (same_64 sum)
+    → time_after time (pos delta +ℤ change) ≡ Ok (same_64 after, out)
+near_is time change change' before sum after delta out t wide a b d e le out-is =
+    let change_is : change' ≡ change = a.1 ∙ to_z-of_z w128 change wide in
+    let change_fits : FitsSigned w64 change' = subst (λ (z : ℤ). FitsSigned w64 z) (sym a.1) a.0 in
+    let before_fits : FitsSigned w64 before = subst (λ (z : ℤ). FitsSigned w64 z) (sym b.1) b.0 in
+    let sum_fits : FitsSigned w64 sum = subst (λ (z : ℤ). FitsSigned w64 z) (sym d.1) d.0 in
+    let after_fits : FitsSigned w64 after = subst (λ (z : ℤ). FitsSigned w64 z) (sym e.1) e.0 in
+    let sum_is : sum ≡ pos delta +ℤ change = d.1 ∙ ap (λ (z : ℤ). z +ℤ same_64 change') (to_z-of_z w64 before before_fits ∙ b.1) ∙ ap (λ (z : ℤ). pos delta +ℤ z) (to_z-of_z w64 change' change_fits ∙ change_is) in
+    let sum_same : same_64 sum ≡ sum = to_z-of_z w64 sum sum_fits in
+    let after_is : after ≡ time +ℤ sum = e.1 ∙ ap (λ (z : ℤ). z +ℤ same_64 sum) (to_z-of_z w64 time t) ∙ ap (λ (z : ℤ). time +ℤ z) sum_same in
+    let rises : pos 1 ≤ℤ sum = subst (λ (z : ℤ). pos 1 ≤ℤ z) sum_same le in
+    let read : time_after time sum ≡ Ok (time +ℤ sum, unsigned_abs sum) = is_after time sum (subst (λ (z : ℤ). FitsSigned w64 z) after_is after_fits) rises in
+    let out_is : out ≡ unsigned_abs sum = out-is ∙ ap (cast_unsigned w64) sum_same ∙ abs_cast sum sum_fits rises in
+    ap (λ (z : ℤ). time_after time z) (sym sum_is) ∙ read ∙ ap (λ (z : ℤ). Ok (z, unsigned_abs sum)) (sym after_is ∙ sym (to_z-of_z w64 after after_fits)) ∙ ap (λ (n : ℕ). Ok (same_64 after, n)) (sym out_is)

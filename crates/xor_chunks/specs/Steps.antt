@@ -17,6 +17,10 @@ Reads view after result read = MatchResult result (λ x. read ≡ Ok (view x, af
 unfoldable pub take_at : ℕ → List Bool → Result (ℕ × List Bool) XorRefusal
 take_at count bits = if nat_lt (length bits) count then Err Short else Ok (number_of (take count bits), drop count bits)
 
+-- what is read behind so many bits
+abbrev pub behind : {Y : Type 0} → ℕ → (List Bool → Result Y XorRefusal) → List Bool → Result Y XorRefusal
+behind count read bits = take_at count bits >>= λ passed. read passed.1
+
 -- A field of so many bits: above the middle it stands for itself less 2 ^ width.
 abbrev pub field_value : ℕ → ℕ → ℤ
 field_value width field = if nat_lt (2 ^ (width - 1)) field then pos field -ℤ pos (2 ^ width) else pos field

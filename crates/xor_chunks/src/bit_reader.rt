@@ -1,9 +1,10 @@
-ghost use Rattle.std.specs.Prelude.{◌≡◌, ◌↔◌, ◌+◌, ◌-◌, ◌*◌, ◌/◌, ◌^◌, ◌<◌, ◌≤◌, ◌++◌, ℕ, min, length, IsTrue, IsErr, IfOk, OnErr};
+ghost use Rattle.std.specs.Prelude.{◌≡◌, ◌↔◌, ◌*◌, ◌-◌, ◌^◌, ◌<◌, ◌≤◌, ◌++◌, min, length, IsErr, IfOk, OnErr};
 ghost use Rattle.xor_chunks.specs.Bits.{bits_of, bits_in};
-ghost use Rattle.xor_chunks.specs.Buffer.{front};
+ghost use Rattle.xor_chunks.specs.Buffer.{Shows};
 
 use crate::ShortBits;
 use crate::refill::refilled;
+use crate::taking::{taken, taken_peeked};
 use std::marker::Model;
 
 /// Reads bits from bytes, the most significant first.
@@ -55,37 +56,34 @@ impl<'a> BitReader<'a> {
         ensures short { IsErr result ↔ (length self.old < count) }
         ensures err { OnErr result (self.new ≡ self.old) }
     {
-        if !self.has(count) {
+        let Some((number, word, waiting, bytes)) = taken(count, self.word, self.count, self.bytes)
+        else {
             return Err(ShortBits);
-        }
-        if count <= 32 {
-            return Ok(self.take_some(count));
-        }
-        let high = self.take_some(count - 32);
-        let low = self.take_some(32);
-        Ok((high << 32) | low)
-    }
-
-    #[inline(always)]
-    fn has(&self, count: u32) -> bool
-        requires { count ≤ 64 }
-        ensures { IsTrue result ↔ (count ≤ length self.now) }
-    {
-        count <= self.count || (count - self.count).div_ceil(8) as usize <= self.bytes.len()
-    }
-
-    #[inline(always)]
-    fn take_some(&mut self, count: u32) -> u64
-        requires few { count ≤ 32 }
-        requires has { count ≤ length self.old }
-        ensures taken { self.old ≡ bits_of count result ++ self.new }
-        ensures number { result < 2 ^ count }
-    {
-        let (word, waiting, bytes) = refilled(count, self.word, self.count, self.bytes);
-        self.word = word << count;
-        self.count = waiting - count;
+        };
+        self.word = word;
+        self.count = waiting;
         self.bytes = bytes;
-        (word >> 1) >> (63 - count)
+        Ok(number)
+    }
+
+    /// The same for bits that were just peeked at; for others it is slow.
+    #[inline(always)]
+    pub(crate) fn take_peeked(&mut self, count: u32) -> Result<u64, ShortBits>
+        requires { count ≤ 64 }
+        ensures taken { IfOk result (λ number. self.old ≡ bits_of count number ++ self.new) }
+        ensures number { IfOk result (λ number. number < 2 ^ count) }
+        ensures short { IsErr result ↔ (length self.old < count) }
+        ensures err { OnErr result (self.new ≡ self.old) }
+    {
+        let Some((number, word, waiting, bytes)) =
+            taken_peeked(count, self.word, self.count, self.bytes)
+        else {
+            return Err(ShortBits);
+        };
+        self.word = word;
+        self.count = waiting;
+        self.bytes = bytes;
+        Ok(number)
     }
 
     /// A word at whose top stand the next bits, as many as are asked for, with zero bits past the end.
@@ -93,7 +91,7 @@ impl<'a> BitReader<'a> {
     pub(crate) fn peek(&mut self, count: u32) -> u64
         requires { count ≤ 56 }
         ensures same { self.new ≡ self.old }
-        ensures bits { (n : ℕ) → n ≤ count → result / 2 ^ (64 - n) ≡ front n self.old }
+        ensures bits { Shows result count self.old }
     {
         let (word, waiting, bytes) = refilled(count, self.word, self.count, self.bytes);
         self.word = word;

@@ -14,6 +14,7 @@ mod refusal;
 mod setting;
 mod short_bits;
 mod step;
+mod taking;
 #[cfg(test)]
 mod tests;
 mod window;

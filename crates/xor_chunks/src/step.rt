@@ -1,6 +1,7 @@
-ghost use Rattle.std.specs.Prelude.{◌≡◌, pos, negsuc, ◌+ℤ◌, ◌-ℤ◌, ◌≤ℤ◌, ◌<◌, ◌≤◌, ◌^◌, ℕ, ℤ, if◌then◌else◌, nat_lt, IfOk};
+ghost use Rattle.std.specs.Prelude.{◌≡◌, pos, negsuc, ◌+ℤ◌, ◌-ℤ◌, ◌≤ℤ◌, ◌<◌, ◌≤◌, ◌+◌, ◌-◌, ◌/◌, ◌%◌, ◌^◌, ℕ, ℤ, Bool, List, Ok, if◌then◌else◌, nat_lt, IfOk, IfSome, IfNone};
 ghost use Rattle.reading_core.specs.Reading.{Answers};
-ghost use Rattle.xor_chunks.specs.Steps.{Reads, take_at, field_behind, change_at, value_at, within_at, time_after, follow_at, next_at, field_value};
+ghost use Rattle.xor_chunks.specs.Buffer.{front, Shows};
+ghost use Rattle.xor_chunks.specs.Steps.{Reads, take_at, behind, change_at, value_at, within_at, time_after, follow_at, next_at, field_value};
 
 use crate::last::Last;
 use crate::window::Window;
@@ -21,9 +22,42 @@ fn field_value(width: u32, field: u64) -> i64
     }
 }
 
-/// The time that comes so long after another, with how long that is.
+/// The time that comes so long after another, with how long that is: what it was before, and how it changed.
 #[inline(always)]
-fn time_after(time: i64, delta: i128) -> Result<(i64, u64), XorRefusal>
+fn time_after(time: i64, delta: u64, change: i128) -> Result<(i64, u64), XorRefusal>
+    requires low { negsuc (2 ^ 64) ≤ℤ change }
+    requires high { change ≤ℤ pos (2 ^ 64) }
+    ensures { Answers (λ x. x) result (time_after time (pos delta +ℤ change)) }
+{
+    match near_time(time, delta, change) {
+        Some(after) => Ok(after),
+        None => far_time(time, i128::from(delta) + change),
+    }
+}
+
+/// The same in 64 bits, where these hold all sums and no refusal is due.
+#[inline(always)]
+fn near_time(time: i64, delta: u64, change: i128) -> Option<(i64, u64)>
+    ensures { IfSome result (λ x. time_after time (pos delta +ℤ change) ≡ Ok x) }
+{
+    let Ok(change) = i64::try_from(change) else {
+        return None;
+    };
+    let Ok(before) = i64::try_from(delta) else {
+        return None;
+    };
+    let delta = before.checked_add(change)?;
+    let after = time.checked_add(delta)?;
+    if delta <= 0 {
+        return None;
+    }
+    Some((after, delta.cast_unsigned()))
+}
+
+/// The time that comes so long after another, with how long that is.
+#[cold]
+#[inline(never)]
+fn far_time(time: i64, delta: i128) -> Result<(i64, u64), XorRefusal>
     requires low { negsuc (2 ^ 65) ≤ℤ delta }
     requires high { delta ≤ℤ pos (2 ^ 65) }
     ensures { Answers (λ x. x) result (time_after time delta) }
@@ -47,40 +81,14 @@ fn take(reader: &mut BitReader<'_>, count: u32) -> Result<u64, XorRefusal>
     Ok(reader.take_bits(count)?)
 }
 
-/// A field behind bits that are known.
+/// The same for bits that were peeked at.
 #[inline(always)]
-fn take_field(reader: &mut BitReader<'_>, known: u32, width: u32) -> Result<i64, XorRefusal>
-    requires width { 0 < width }
-    requires short { width < 32 }
-    requires known { known < 32 }
-    ensures { Reads (λ z. z) reader.new result (field_behind known width reader.old) }
+fn take_peeked(reader: &mut BitReader<'_>, count: u32) -> Result<u64, XorRefusal>
+    requires { count ≤ 64 }
+    ensures read { Reads (λ n. n) reader.new result (take_at count reader.old) }
+    ensures below { IfOk result (λ n. n < 2 ^ count) }
 {
-    let both = take(reader, known + width)?;
-    Ok(field_value(width, both & ((1 << width) - 1)))
-}
-
-/// By how much the next sample comes later after the last one than that one came after the one before it.
-#[inline(always)]
-fn take_change(reader: &mut BitReader<'_>) -> Result<i64, XorRefusal>
-    ensures { Reads (λ z. z) reader.new result (change_at reader.old) }
-{
-    let word = reader.peek(4);
-    if word >> 63 == 0 {
-        take(reader, 1)?;
-        return Ok(0);
-    }
-    if word >> 62 == 0b10 {
-        return take_field(reader, 2, 14);
-    }
-    if word >> 61 == 0b110 {
-        return take_field(reader, 3, 17);
-    }
-    if word >> 60 == 0b1110 {
-        return take_field(reader, 4, 20);
-    }
-    take(reader, 4)?;
-    let field = take(reader, 64)?;
-    Ok(field.cast_signed())
+    Ok(reader.take_peeked(count)?)
 }
 
 /// The pattern with the next bits put over the window's.
@@ -97,31 +105,61 @@ fn take_within(
     Ok((window.changed(pattern, field), window))
 }
 
-/// The next pattern, and the window after it.
+/// The next pattern, and the window after it, behind bits that were read from a word.
 #[inline(always)]
 fn take_value(
     reader: &mut BitReader<'_>,
+    word: u64,
+    known: u32,
     pattern: u64,
     window: Window,
 ) -> Result<(u64, Window), XorRefusal>
-    ensures { Reads (λ x. x) reader.new result (value_at pattern window reader.old) }
+    requires known { known ≤ 24 }
+    requires word { Shows word (known + 13) reader.old }
+    ensures { Reads (λ x. x) reader.new result (behind known (value_at pattern window) reader.old) }
 {
-    let word = reader.peek(2);
-    if word >> 63 == 0 {
-        take(reader, 1)?;
+    let head = word << known;
+    if head >> 63 == 0 {
+        take_peeked(reader, known + 1)?;
         return Ok((pattern, window));
     }
-    if word >> 62 == 0b10 {
-        take(reader, 2)?;
+    if head >> 62 == 0b10 {
+        take_peeked(reader, known + 2)?;
         return take_within(reader, pattern, window);
     }
-    let head = take(reader, 13)?;
-    take_within(reader, pattern, Window::told_by(head))
+    let told = take_peeked(reader, known + 13)?;
+    take_within(reader, pattern, Window::told_by(told))
+}
+
+/// The sample that comes later by a step which has changed by so much, behind bits that were read from a word.
+#[inline(always)]
+fn follow_known(
+    reader: &mut BitReader<'_>,
+    word: u64,
+    known: u32,
+    last: Last,
+    change: i128,
+) -> Result<Last, XorRefusal>
+    requires known { known ≤ 24 }
+    requires word { Shows word (known + 13) reader.old }
+    requires low { negsuc (2 ^ 64) ≤ℤ change }
+    requires high { change ≤ℤ pos (2 ^ 64) }
+    ensures { Reads (λ x. x) reader.new result (behind known (follow_at last change) reader.old) }
+{
+    let (pattern, window) = take_value(reader, word, known, last.pattern, last.window)?;
+    if !window.is_inside() {
+        return Err(XorRefusal::OutOfRange);
+    }
+    let (time, delta) = time_after(last.time, last.delta, change)?;
+    Ok(Last {
+        time,
+        delta,
+        pattern,
+        window,
+    })
 }
 
 /// The sample that comes later by a step which has changed by so much.
-#[inline(always)]
-#[tactic(auto, unfolding(crate::specs::Steps::follow_at))]
 pub(crate) fn follow(
     reader: &mut BitReader<'_>,
     last: Last,
@@ -131,25 +169,73 @@ pub(crate) fn follow(
     requires high { change ≤ℤ pos (2 ^ 64) }
     ensures { Reads (λ x. x) reader.new result (follow_at last change reader.old) }
 {
-    let (pattern, window) = take_value(reader, last.pattern, last.window)?;
-    if !window.is_inside() {
-        return Err(XorRefusal::OutOfRange);
+    let word = reader.peek(13);
+    follow_known(reader, word, 0, last, change)
+}
+
+/// A row of changes in the bits at a word's top: the change, and how many bits tell it.
+#[inline(always)]
+fn row_in(word: u64, known: u32, width: u32) -> (i64, u32)
+    requires known { known ≤ 4 }
+    requires some { 0 < width }
+    requires few { width ≤ 20 }
+    ensures change { result.0 ≡ field_value width (word / 2 ^ (64 - (known + width)) % 2 ^ width) }
+    ensures length { result.1 ≡ known + width }
+{
+    let field = (word >> (64 - (known + width))) & ((1 << width) - 1);
+    (field_value(width, field), known + width)
+}
+
+/// By how much a step has changed, and how many bits tell it, where it is not told in a field of 64 bits.
+#[inline(always)]
+fn short_change(word: u64) -> Option<(i64, u32)>
+    ensures told { IfSome result (λ x. (bits : List Bool) → Shows word 24 bits → change_at bits ≡ behind x.1 (λ after. Ok (x.0, after)) bits) }
+    ensures few { IfSome result (λ x. x.1 ≤ 24) }
+    ensures none { IfNone result (word / 2 ^ 60 ≡ 15) }
+{
+    if word >> 63 == 0 {
+        Some((0, 1))
+    } else if word >> 62 == 0b10 {
+        Some(row_in(word, 2, 14))
+    } else if word >> 61 == 0b110 {
+        Some(row_in(word, 3, 17))
+    } else if word >> 60 == 0b1110 {
+        Some(row_in(word, 4, 20))
+    } else {
+        None
     }
-    let (time, delta) = time_after(last.time, i128::from(last.delta) + change)?;
-    Ok(Last {
-        time,
-        delta,
-        pattern,
-        window,
-    })
+}
+
+/// By how much a step has changed, told in a field of 64 bits.
+fn take_long_change(reader: &mut BitReader<'_>) -> Result<i64, XorRefusal>
+    requires { front 4 reader.old ≡ 15 }
+    ensures { Reads (λ z. z) reader.new result (change_at reader.old) }
+{
+    take(reader, 4)?;
+    let field = take(reader, 64)?;
+    Ok(field.cast_signed())
+}
+
+/// The next sample, whose step's change is told in a field of 64 bits.
+#[cold]
+#[inline(never)]
+#[tactic(auto, unfolding(crate::specs::Steps::next_at))]
+fn next_by_long_change(reader: &mut BitReader<'_>, last: Last) -> Result<Last, XorRefusal>
+    requires { front 4 reader.old ≡ 15 }
+    ensures { Reads (λ x. x) reader.new result (next_at last reader.old) }
+{
+    let change = take_long_change(reader)?;
+    follow(reader, last, i128::from(change))
 }
 
 /// The next sample, after the second.
 #[inline(always)]
-#[tactic(auto, unfolding(crate::specs::Steps::next_at))]
 pub(crate) fn next(reader: &mut BitReader<'_>, last: Last) -> Result<Last, XorRefusal>
     ensures { Reads (λ x. x) reader.new result (next_at last reader.old) }
 {
-    let change = take_change(reader)?;
-    follow(reader, last, i128::from(change))
+    let word = reader.peek(37);
+    match short_change(word) {
+        Some((change, known)) => follow_known(reader, word, known, last, i128::from(change)),
+        None => next_by_long_change(reader, last),
+    }
 }
