@@ -15,7 +15,8 @@ pub fn refilled(need: u32, word: u64, count: u32, bytes: &[u8]) -> (u64, u32, &[
     } else if bytes.len() >= 8 {
         refilled_by_word(word, count, bytes)
     } else {
-        refilled_by_bytes(word, count, bytes)
+        let (word, count, bytes) = refilled_by_bytes(word, count, bytes);
+        (word, count, bytes)
     }
 }
 

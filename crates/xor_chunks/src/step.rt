@@ -31,7 +31,10 @@ fn time_after(time: i64, delta: u64, change: i128) -> Result<(i64, u64), XorRefu
 {
     match near_time(time, delta, change) {
         Some(after) => Ok(after),
-        None => far_time(time, i128::from(delta) + change),
+        None => {
+            let (after, delta) = far_time(time, i128::from(delta) + change)?;
+            Ok((after, delta))
+        }
     }
 }
 
@@ -160,6 +163,7 @@ fn follow_known(
 }
 
 /// The sample that comes later by a step which has changed by so much.
+#[inline(always)]
 pub(crate) fn follow(
     reader: &mut BitReader<'_>,
     last: Last,
@@ -207,6 +211,7 @@ fn short_change(word: u64) -> Option<(i64, u32)>
 }
 
 /// By how much a step has changed, told in a field of 64 bits.
+#[inline(always)]
 fn take_long_change(reader: &mut BitReader<'_>) -> Result<i64, XorRefusal>
     requires { front 4 reader.old ≡ 15 }
     ensures { Reads (λ z. z) reader.new result (change_at reader.old) }
@@ -217,8 +222,7 @@ fn take_long_change(reader: &mut BitReader<'_>) -> Result<i64, XorRefusal>
 }
 
 /// The next sample, whose step's change is told in a field of 64 bits.
-#[cold]
-#[inline(never)]
+#[inline(always)]
 #[tactic(auto, unfolding(crate::specs::Steps::next_at))]
 fn next_by_long_change(reader: &mut BitReader<'_>, last: Last) -> Result<Last, XorRefusal>
     requires { front 4 reader.old ≡ 15 }

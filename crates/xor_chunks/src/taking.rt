@@ -19,7 +19,8 @@ pub fn taken(need: u32, word: u64, count: u32, bytes: &[u8]) -> Option<(u64, u64
     } else if bytes.len() >= 8 {
         Some(crossing(need, word, count, bytes))
     } else {
-        taken_slowly(need, word, count, bytes)
+        let (number, word, count, bytes) = taken_slowly(need, word, count, bytes)?;
+        Some((number, word, count, bytes))
     }
 }
 
@@ -41,7 +42,8 @@ pub fn taken_peeked(
     if need <= count {
         Some(waiting(need, word, count, bytes))
     } else {
-        taken_slowly(need, word, count, bytes)
+        let (number, word, count, bytes) = taken_slowly(need, word, count, bytes)?;
+        Some((number, word, count, bytes))
     }
 }
 

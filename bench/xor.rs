@@ -1,0 +1,103 @@
+// The proved XOR chunks beside the yardstick's loops, on the same data in one run. Built by run-xor.sh, which puts the
+// yardstick's source, without its `main`, in front of this file.
+
+unsafe extern "C" {
+    fn xor_decode(bytes: *const u8, count: usize) -> u64;
+    fn xor_encode(samples: *const Pair, count: usize, rounds: u32) -> u64;
+    fn xor_crc(bytes: *const u8, count: usize) -> u32;
+}
+
+#[repr(C)]
+struct Pair {
+    time: i64,
+    pattern: u64,
+}
+
+const ROUNDS: u32 = 20;
+
+/// The least time of one run among many, in nanoseconds for each of n.
+fn least(n: usize, mut run: impl FnMut()) -> f64 {
+    let mut least = f64::INFINITY;
+    let start = Instant::now();
+    while start.elapsed().as_millis() < 1500 {
+        let begun = Instant::now();
+        run();
+        least = least.min(begun.elapsed().as_nanos() as f64 / n as f64);
+    }
+    least
+}
+
+fn row(name: &str, unit: &str, limit: f64, proved: f64, bar: f64) -> bool {
+    let ratio = proved / limit;
+    println!("| {name} | {limit:.2} | {proved:.2} | {unit} | {ratio:.2} | {bar:.1} |");
+    ratio <= bar
+}
+
+fn pairs_of(chunk: &[(i64, u64)]) -> Vec<Pair> {
+    chunk.iter().map(|&(time, pattern)| Pair { time, pattern }).collect()
+}
+
+fn main() {
+    const N: usize = 120 * 400;
+    let mut mixed = 0u64;
+    let mut met = true;
+    println!("| Work | Yardstick | Proved | Unit | Ratio | Bar |\n|---|---|---|---|---|---|");
+    for kind in ["constant", "counter", "gauge", "jitter", "random"] {
+        let samples = data(kind, N);
+        let (mut out, mut places) = (Vec::with_capacity(N * 12), vec![]);
+        for chunk in samples.chunks(120) {
+            let start = out.len();
+            encode(chunk, &mut out);
+            places.push((start, out.len()));
+        }
+        for (chunk, &(start, end)) in samples.chunks(120).zip(&places) {
+            let want = chunk.iter().fold(0u64, |a, &(t, v)| a.wrapping_add(t as u64 ^ v));
+            assert_eq!(unsafe { xor_decode(out[start..].as_ptr(), end - start) }, want);
+            let pairs = pairs_of(chunk);
+            assert_eq!(unsafe { xor_encode(pairs.as_ptr(), pairs.len(), 1) }, (end - start) as u64);
+        }
+        out.extend_from_slice(&[0; 16]);
+        let limit = least(N, || {
+            for &(start, end) in &places {
+                unsafe { decode(&out[start..end], |t, v| mixed = mixed.wrapping_add(t as u64 ^ v)) };
+            }
+        });
+        let proved = least(N, || {
+            for &(start, end) in &places {
+                mixed = mixed.wrapping_add(unsafe { xor_decode(out[start..].as_ptr(), end - start) });
+            }
+        });
+        met &= row(&format!("decode {kind}"), "ns a sample", limit, proved, 2.0);
+        let chunks: Vec<Vec<Pair>> = samples.chunks(120).map(pairs_of).collect();
+        let mut again = Vec::with_capacity(2048);
+        let limit = least(N * ROUNDS as usize, || {
+            for chunk in samples.chunks(120) {
+                for _ in 0..ROUNDS {
+                    again.clear();
+                    encode(chunk, &mut again);
+                    mixed = mixed.wrapping_add(again.len() as u64);
+                }
+            }
+        });
+        let proved = least(N * ROUNDS as usize, || {
+            for chunk in &chunks {
+                mixed = mixed.wrapping_add(unsafe { xor_encode(chunk.as_ptr(), chunk.len(), ROUNDS) });
+            }
+        });
+        met &= row(&format!("encode {kind}"), "ns a sample", limit, proved, 2.0);
+    }
+    let mut x = 1u64;
+    let bytes: Vec<u8> = (0..1 << 20)
+        .map(|_| {
+            x = x.wrapping_mul(MUL).wrapping_add(INC);
+            (x >> 56) as u8
+        })
+        .collect();
+    let tables = crc_tables();
+    assert_eq!(unsafe { xor_crc(bytes.as_ptr(), bytes.len()) }, crc_slice8(&tables, &bytes));
+    let limit = least(bytes.len(), || mixed = mixed.wrapping_add(crc_slice8(&tables, &bytes) as u64));
+    let proved = least(bytes.len(), || mixed = mixed.wrapping_add(unsafe { xor_crc(bytes.as_ptr(), bytes.len()) } as u64));
+    met &= row("CRC-32C of 1 MiB", "ns a byte", limit, proved, 1.2);
+    std::hint::black_box(mixed);
+    println!("{}", if met { "every bar is met" } else { "a bar is not met" });
+}
