@@ -20,6 +20,7 @@ use Rattle.xor_chunks.specs.Written.{CanFollow, AreToCome, AreOfChunk, put_after
 use Rattle.xor_chunks.specs.Grammar.{Follows, IsNext, AreOthers, AreFromSecond, AreRest, AreFromFirst, AreSamples, IsText}
 use Rattle.xor_chunks.proofs.BitLists.{length-bits_of, same_from_bits_of, bits_in-bytes}
 use Rattle.xor_chunks.proofs.PutTexts.{chunk_to_come}
+use Rattle.xor_chunks.proofs.Times.{fits_both}
 use Rattle.xor_chunks.proofs.ValuesWritten.{seen, IsSeen, value_written, kept_seen, step_written}
 
 -- ---- bytes from their bits
@@ -65,10 +66,6 @@ last_of put = record { time = put.time; delta = unsigned_abs put.delta; pattern 
 abs_pos : (z : ℤ) → pos 0 ≤ℤ z → pos (unsigned_abs z) ≡ z
 abs_pos (pos n) h = refl
 abs_pos (negsuc n) h = absurd (omega (arith, ints, h))
-
-pub fits_both : (z : ℤ) → negsuc (2 ^ 63 - 1) ≤ℤ z → z <ℤ pos (2 ^ 63) → FitsSigned w64 z
-fits_both (pos n) low high = record { sfits = omega (arith, ints, high) }
-fits_both (negsuc n) low high = record { sfits = omega (arith, ints, low) }
 
 record Between (a b d : ℤ) : Type 0 where
   nonneg : pos 0 ≤ℤ (b -ℤ a)

@@ -1,4 +1,4 @@
-ghost use Rattle.std.specs.Prelude.{◌≡◌, ◌≤◌, ◌*◌, ◌⊎◌, length, List, IfOk, Ok, Err};
+ghost use Rattle.std.specs.Prelude.{◌≡◌, ◌≤◌, ◌*◌, ◌⊎◌, ◌++◌, ◌∷◌, [], length, List, IfOk, MatchResult, Ok, Err};
 ghost use Rattle.label_sets.specs.declared.sample.Sample.{Sample};
 ghost use Rattle.xor_chunks.specs.Grammar.{IsText};
 ghost use Rattle.reading_core.specs.Reading.{Answers, Gives};
@@ -56,10 +56,41 @@ fn push_others<'a>(
     let mut last = second;
     for _ in 0..count {
         let after = next(&mut reader, last)?;
-        samples.push(after.sample())?;
+        samples = pushed(samples, after.sample())?;
         last = after;
     }
     Ok((samples, reader))
+}
+
+/// The samples with one more.
+#[inline(always)]
+fn pushed(mut samples: Vec<Sample>, sample: Sample) -> Result<Vec<Sample>, XorRefusal>
+    ensures { MatchResult result (λ v. v.items ≡ samples.items ++ sample ∷ []) (λ e. e ≡ XorRefusal.NoMemory) }
+{
+    if samples.len() < samples.capacity() {
+        samples.push_reserved(sample);
+        Ok(samples)
+    } else {
+        with_room(samples, sample)
+    }
+}
+
+/// The same where there may be no room. Its temporaries stand here, off the fast path.
+#[inline(always)]
+fn with_room(samples: Vec<Sample>, sample: Sample) -> Result<Vec<Sample>, XorRefusal>
+    ensures { MatchResult result (λ v. v.items ≡ samples.items ++ sample ∷ []) (λ e. e ≡ XorRefusal.NoMemory) }
+{
+    let samples = grown(samples, sample)?;
+    Ok(samples)
+}
+
+#[cold]
+#[inline(never)]
+fn grown(mut samples: Vec<Sample>, sample: Sample) -> Result<Vec<Sample>, XorRefusal>
+    ensures { MatchResult result (λ v. v.items ≡ samples.items ++ sample ∷ []) (λ e. e ≡ XorRefusal.NoMemory) }
+{
+    samples.push(sample)?;
+    Ok(samples)
 }
 
 /// Reads so many samples after the first.

@@ -15,9 +15,20 @@ pub fn refilled(need: u32, word: u64, count: u32, bytes: &[u8]) -> (u64, u32, &[
     } else if bytes.len() >= 8 {
         refilled_by_word(word, count, bytes)
     } else {
-        let (word, count, bytes) = refilled_by_bytes(word, count, bytes);
-        (word, count, bytes)
+        refilled_at_end(word, count, bytes)
     }
+}
+
+/// The last bytes, one by one. Its temporaries stand here, off the fast path.
+#[inline(always)]
+fn refilled_at_end(word: u64, count: u32, bytes: &[u8]) -> (u64, u32, &[u8])
+    requires { IsBuffer word count }
+    ensures same { buffered result.0 result.1 result.2.now ≡ buffered word count bytes.now }
+    ensures buffer { IsBuffer result.0 result.1 }
+    ensures full { (55 < result.1) ⊎ (result.2.now ≡ []) }
+{
+    let (word, count, bytes) = refilled_by_bytes(word, count, bytes);
+    (word, count, bytes)
 }
 
 #[inline(always)]

@@ -1,4 +1,4 @@
-ghost use Rattle.std.specs.Prelude.{◌≡◌, pos, negsuc, ◌+ℤ◌, ◌-ℤ◌, ◌≤ℤ◌, ◌<◌, ◌≤◌, ◌+◌, ◌-◌, ◌/◌, ◌%◌, ◌^◌, ℕ, ℤ, Bool, List, Ok, if◌then◌else◌, nat_lt, IfOk, IfSome, IfNone};
+ghost use Rattle.std.specs.Prelude.{◌≡◌, pos, negsuc, ◌+ℤ◌, ◌-ℤ◌, ◌≤ℤ◌, ◌<◌, ◌≤◌, ◌+◌, ◌-◌, ◌/◌, ◌%◌, ◌^◌, ℕ, ℤ, Bool, List, Ok, if◌then◌else◌, nat_lt, IsTrue, IfOk, IfSome, IfNone};
 ghost use Rattle.reading_core.specs.Reading.{Answers};
 ghost use Rattle.xor_chunks.specs.Buffer.{front, Shows};
 ghost use Rattle.xor_chunks.specs.Steps.{Reads, take_at, behind, change_at, value_at, within_at, time_after, follow_at, next_at, field_value};
@@ -31,11 +31,18 @@ fn time_after(time: i64, delta: u64, change: i128) -> Result<(i64, u64), XorRefu
 {
     match near_time(time, delta, change) {
         Some(after) => Ok(after),
-        None => {
-            let (after, delta) = far_time(time, i128::from(delta) + change)?;
-            Ok((after, delta))
-        }
+        None => far_time(time, i128::from(delta) + change),
     }
+}
+
+/// Times and steps below this bound have sums of 64 bits.
+const FAR: i64 = 0x2000_0000_0000_0000;
+
+#[inline(always)]
+fn is_near(number: i64) -> bool
+    ensures { IsTrue result → (negsuc (2 ^ 61) ≤ℤ number) × (number ≤ℤ pos (2 ^ 61)) }
+{
+    -FAR <= number && number < FAR
 }
 
 /// The same in 64 bits, where these hold all sums and no refusal is due.
@@ -49,18 +56,31 @@ fn near_time(time: i64, delta: u64, change: i128) -> Option<(i64, u64)>
     let Ok(before) = i64::try_from(delta) else {
         return None;
     };
-    let delta = before.checked_add(change)?;
-    let after = time.checked_add(delta)?;
+    if !is_near(change) || !is_near(before) || !is_near(time) {
+        return None;
+    }
+    let delta = before + change;
     if delta <= 0 {
         return None;
     }
-    Some((after, delta.cast_unsigned()))
+    Some((time + delta, delta.cast_unsigned()))
+}
+
+/// The same for any step. Its temporaries stand here, off the fast path.
+#[inline(always)]
+fn far_time(time: i64, delta: i128) -> Result<(i64, u64), XorRefusal>
+    requires low { negsuc (2 ^ 65) ≤ℤ delta }
+    requires high { delta ≤ℤ pos (2 ^ 65) }
+    ensures { Answers (λ x. x) result (time_after time delta) }
+{
+    let (after, delta) = wide_time(time, delta)?;
+    Ok((after, delta))
 }
 
 /// The time that comes so long after another, with how long that is.
 #[cold]
 #[inline(never)]
-fn far_time(time: i64, delta: i128) -> Result<(i64, u64), XorRefusal>
+fn wide_time(time: i64, delta: i128) -> Result<(i64, u64), XorRefusal>
     requires low { negsuc (2 ^ 65) ≤ℤ delta }
     requires high { delta ≤ℤ pos (2 ^ 65) }
     ensures { Answers (λ x. x) result (time_after time delta) }

@@ -19,8 +19,7 @@ pub fn taken(need: u32, word: u64, count: u32, bytes: &[u8]) -> Option<(u64, u64
     } else if bytes.len() >= 8 {
         Some(crossing(need, word, count, bytes))
     } else {
-        let (number, word, count, bytes) = taken_slowly(need, word, count, bytes)?;
-        Some((number, word, count, bytes))
+        taken_at_end(need, word, count, bytes)
     }
 }
 
@@ -42,8 +41,7 @@ pub fn taken_peeked(
     if need <= count {
         Some(waiting(need, word, count, bytes))
     } else {
-        let (number, word, count, bytes) = taken_slowly(need, word, count, bytes)?;
-        Some((number, word, count, bytes))
+        taken_at_end(need, word, count, bytes)
     }
 }
 
@@ -87,7 +85,25 @@ fn crossing(need: u32, word: u64, count: u32, bytes: &[u8]) -> (u64, u64, u32, &
     )
 }
 
-/// Bits that wait, or come in the last bytes.
+/// Bits that wait, or come in the last bytes. Its temporaries stand here, off the fast path.
+#[inline(always)]
+fn taken_at_end(
+    need: u32,
+    word: u64,
+    count: u32,
+    bytes: &[u8],
+) -> Option<(u64, u64, u32, &[u8])>
+    requires few { need ≤ 64 }
+    requires buffer { IsBuffer word count }
+    ensures taken { IfSome result (λ t. buffered word count bytes.now ≡ bits_of need t.0 ++ buffered t.1 t.2 t.3.now) }
+    ensures number { IfSome result (λ t. t.0 < 2 ^ need) }
+    ensures buffer { IfSome result (λ t. IsBuffer t.1 t.2) }
+    ensures short { IsNone result ↔ (length (buffered word count bytes.now) < need) }
+{
+    let (number, word, count, bytes) = taken_slowly(need, word, count, bytes)?;
+    Some((number, word, count, bytes))
+}
+
 #[cold]
 #[inline(never)]
 fn taken_slowly(need: u32, word: u64, count: u32, bytes: &[u8]) -> Option<(u64, u64, u32, &[u8])>

@@ -1,7 +1,7 @@
 use Rattle.std.proofs.Common.{arith}
 use Rattle.std.proofs.lemmas.Int.{ints}
 use Rattle.xor_chunks.proofs.Times.{sum_is, refused_out, taken_in, refused_falling, is_after_cast}
-use Rattle.xor_chunks.proofs.step.far_time.Goals as goal
+use Rattle.xor_chunks.proofs.step.wide_time.Goals as goal
 
 pub returns-in_default : goal.returns-in_default
 returns-in_default c =
