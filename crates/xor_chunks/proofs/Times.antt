@@ -1,5 +1,5 @@
 -- Times that come after others.
-use Rattle.std.proofs.Common.{◌≡◌, ℕ, zero, suc, ◌-◌, ◌^◌, true, false, Result, Ok, Err, refl, sym, ap, subst, ◌∙◌, arith, inl, inr, ℤ, pos, negsuc, ◌+ℤ◌, ◌≤ℤ◌, ◌<ℤ◌}
+use Rattle.std.proofs.Common.{◌≡◌, ℕ, zero, suc, ◌-◌, ◌^◌, ◌<◌, true, false, Result, Ok, Err, refl, sym, ap, subst, ◌∙◌, arith, inl, inr, ℤ, pos, negsuc, ◌+ℤ◌, ◌≤ℤ◌, ◌<ℤ◌}
 use Rattle.std.specs.Prelude.{FitsSigned, unsigned_abs}
 use Rattle.std.specs.Result.{OkIff}
 use Rattle.std.specs.Int.{w64, w128, cast_signed, cast_unsigned}
@@ -62,10 +62,6 @@ ok_iff (Err d) P z x h e = absurd cc
 abbrev pub same_64 : ℤ → ℤ
 same_64 z = cast_signed w64 (cast_unsigned w64 z)
 
-abs_cast : (z : ℤ) → FitsSigned w64 z → pos 1 ≤ℤ z → cast_unsigned w64 z ≡ unsigned_abs z
-abs_cast (pos n) fits le = refl
-abs_cast (negsuc n) fits le = absurd (omega (arith, ints, le))
-
 pub fits_both : (z : ℤ) → negsuc (2 ^ 63 - 1) ≤ℤ z → z <ℤ pos (2 ^ 63) → FitsSigned w64 z
 fits_both (pos n) low high = record { sfits = omega (arith, ints, high) }
 fits_both (negsuc n) low high = record { sfits = omega (arith, ints, low) }
@@ -79,24 +75,24 @@ near_sum a b p q = fits_both (a +ℤ b) (omega (arith, ints, p.0, q.0)) (omega (
 near_sums : (a b d : ℤ) → IsNear a → IsNear b → IsNear d → FitsSigned w64 (d +ℤ (a +ℤ b))
 near_sums a b d p q r = fits_both (d +ℤ (a +ℤ b)) (omega (arith, ints, p.0, q.0, r.0)) (omega (arith, ints, p.1, q.1, r.1))
 
-near_after : (time sum all done : ℤ) (out : ℕ) → FitsSigned w64 time → sum ≡ all → done ≡ sum → FitsSigned w64 sum → FitsSigned w64 (time +ℤ sum) → pos 1 ≤ℤ done → out ≡ cast_unsigned w64 done → time_after time all ≡ Ok (same_64 (same_64 time +ℤ done), out)
-near_after time sum all done out t whole same fits fits_after le out-is =
+near_after : (time sum all done : ℤ) → FitsSigned w64 time → sum ≡ all → done ≡ sum → FitsSigned w64 (time +ℤ sum) → pos 1 ≤ℤ done → time_after time all ≡ Ok (same_64 (same_64 time +ℤ done), unsigned_abs done)
+near_after time sum all done t whole same fits_after le =
     let rises : pos 1 ≤ℤ sum = subst (λ (z : ℤ). pos 1 ≤ℤ z) same le in
-    let out_is : out ≡ unsigned_abs sum = out-is ∙ ap (cast_unsigned w64) same ∙ abs_cast sum fits rises in
     let after_is : same_64 (same_64 time +ℤ done) ≡ time +ℤ sum = ap (λ (z : ℤ). same_64 (z +ℤ done)) (to_z-of_z w64 time t) ∙ ap (λ (z : ℤ). same_64 (time +ℤ z)) same ∙ to_z-of_z w64 (time +ℤ sum) fits_after in
-    ap (λ (z : ℤ). time_after time z) (sym whole) ∙ is_after time sum fits_after rises ∙ ap (λ (z : ℤ). Ok (z, unsigned_abs sum)) (sym after_is) ∙ ap (λ (n : ℕ). Ok (same_64 (same_64 time +ℤ done), n)) (sym out_is)
+    ap (λ (z : ℤ). time_after time z) (sym whole) ∙ is_after time sum fits_after rises ∙ ap (λ (z : ℤ). Ok (z, unsigned_abs sum)) (sym after_is) ∙ ap (λ (z : ℤ). Ok (same_64 (same_64 time +ℤ done), unsigned_abs z)) (sym same)
 
-pub near_is : (time change change' before : ℤ) (delta out : ℕ) → FitsSigned w64 time → FitsSigned w128 change → FitsSigned w64 (cast_signed w128 (cast_unsigned w128 change)) × (change' ≡ cast_signed w128 (cast_unsigned w128 change)) → FitsSigned w64 (pos delta) × (before ≡ pos delta)
-    → IsNear (same_64 change') → IsNear (same_64 before) → IsNear (same_64 time) → pos 1 ≤ℤ same_64 (same_64 before +ℤ same_64 change') → out ≡ cast_unsigned w64 (same_64 (same_64 before +ℤ same_64 change'))
-    → time_after time (pos delta +ℤ change) ≡ Ok (same_64 (same_64 time +ℤ same_64 (same_64 before +ℤ same_64 change')), out)
-near_is time change change' before delta out t wide a b p q r le out-is =
+cast_small : (n : ℕ) → n < 2 ^ 63 → cast_signed w64 n ≡ pos n
+cast_small n lt = omega (arith, ints, lt)
+
+pub near_is : (time change change' : ℤ) (delta : ℕ) → FitsSigned w64 time → FitsSigned w128 change → FitsSigned w64 (cast_signed w128 (cast_unsigned w128 change)) × (change' ≡ cast_signed w128 (cast_unsigned w128 change)) → delta < 2 ^ 61
+    → IsNear (same_64 change') → IsNear (same_64 time) → pos 1 ≤ℤ same_64 (cast_signed w64 delta +ℤ same_64 change')
+    → time_after time (pos delta +ℤ change) ≡ Ok (same_64 (same_64 time +ℤ same_64 (cast_signed w64 delta +ℤ same_64 change')), unsigned_abs (same_64 (cast_signed w64 delta +ℤ same_64 change')))
+near_is time change change' delta t wide a few p r le =
     let change_is : change' ≡ change = a.1 ∙ to_z-of_z w128 change wide in
     let change_fits : FitsSigned w64 change' = subst (λ (z : ℤ). FitsSigned w64 z) (sym a.1) a.0 in
-    let before_fits : FitsSigned w64 before = subst (λ (z : ℤ). FitsSigned w64 z) (sym b.1) b.0 in
     let near_change : IsNear change' = subst (λ (z : ℤ). IsNear z) (to_z-of_z w64 change' change_fits) p in
-    let near_before : IsNear before = subst (λ (z : ℤ). IsNear z) (to_z-of_z w64 before before_fits) q in
+    let near_delta : IsNear (pos delta) = (omega (arith, ints), omega (arith, ints, few)) in
     let near : IsNear time = subst (λ (z : ℤ). IsNear z) (to_z-of_z w64 time t) r in
-    let sum_is : same_64 before +ℤ same_64 change' ≡ before +ℤ change' = ap (λ (z : ℤ). z +ℤ same_64 change') (to_z-of_z w64 before before_fits) ∙ ap (λ (z : ℤ). before +ℤ z) (to_z-of_z w64 change' change_fits) in
-    let whole : before +ℤ change' ≡ pos delta +ℤ change = ap (λ (z : ℤ). z +ℤ change') b.1 ∙ ap (λ (z : ℤ). pos delta +ℤ z) change_is in
-    let sum_same : same_64 (same_64 before +ℤ same_64 change') ≡ before +ℤ change' = ap same_64 sum_is ∙ to_z-of_z w64 (before +ℤ change') (near_sum before change' near_before near_change) in
-    near_after time (before +ℤ change') (pos delta +ℤ change) (same_64 (same_64 before +ℤ same_64 change')) out t whole sum_same (near_sum before change' near_before near_change) (near_sums before change' time near_before near_change near) le out-is
+    let sum_is : cast_signed w64 delta +ℤ same_64 change' ≡ pos delta +ℤ change' = ap (λ (z : ℤ). z +ℤ same_64 change') (cast_small delta (omega (arith, few))) ∙ ap (λ (z : ℤ). pos delta +ℤ z) (to_z-of_z w64 change' change_fits) in
+    let sum_same : same_64 (cast_signed w64 delta +ℤ same_64 change') ≡ pos delta +ℤ change' = ap same_64 sum_is ∙ to_z-of_z w64 (pos delta +ℤ change') (near_sum (pos delta) change' near_delta near_change) in
+    near_after time (pos delta +ℤ change') (pos delta +ℤ change) (same_64 (cast_signed w64 delta +ℤ same_64 change')) t (ap (λ (z : ℤ). pos delta +ℤ z) change_is) sum_same (near_sums (pos delta) change' time near_delta near_change near) le

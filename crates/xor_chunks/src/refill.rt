@@ -10,7 +10,7 @@ pub fn refilled(need: u32, word: u64, count: u32, bytes: &[u8]) -> (u64, u32, &[
     ensures buffer { IsBuffer result.0 result.1 }
     ensures ready { (need ≤ result.1) ⊎ (result.2.now ≡ []) }
 {
-    if need <= count {
+    if need <= count || bytes.is_empty() {
         (word, count, bytes)
     } else if bytes.len() >= 8 {
         refilled_by_word(word, count, bytes)

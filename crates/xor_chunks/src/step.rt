@@ -38,6 +38,8 @@ fn time_after(time: i64, delta: u64, change: i128) -> Result<(i64, u64), XorRefu
 /// Times and steps below this bound have sums of 64 bits.
 const FAR: i64 = 0x2000_0000_0000_0000;
 
+const FAR_STEP: u64 = 0x2000_0000_0000_0000;
+
 #[inline(always)]
 fn is_near(number: i64) -> bool
     ensures { IsTrue result → (negsuc (2 ^ 61) ≤ℤ number) × (number ≤ℤ pos (2 ^ 61)) }
@@ -53,17 +55,14 @@ fn near_time(time: i64, delta: u64, change: i128) -> Option<(i64, u64)>
     let Ok(change) = i64::try_from(change) else {
         return None;
     };
-    let Ok(before) = i64::try_from(delta) else {
-        return None;
-    };
-    if !is_near(change) || !is_near(before) || !is_near(time) {
+    if delta >= FAR_STEP || !is_near(change) || !is_near(time) {
         return None;
     }
-    let delta = before + change;
+    let delta = delta as i64 + change;
     if delta <= 0 {
         return None;
     }
-    Some((time + delta, delta.cast_unsigned()))
+    Some((time + delta, delta as u64))
 }
 
 /// The same for any step. Its temporaries stand here, off the fast path.
@@ -210,16 +209,15 @@ fn row_in(word: u64, known: u32, width: u32) -> (i64, u32)
     (field_value(width, field), known + width)
 }
 
-/// By how much a step has changed, and how many bits tell it, where it is not told in a field of 64 bits.
+/// By how much a step has changed, and how many bits tell it, where a field of less than 64 bits does.
 #[inline(always)]
 fn short_change(word: u64) -> Option<(i64, u32)>
+    requires { word / 2 ^ 63 ≡ 1 }
     ensures told { IfSome result (λ x. (bits : List Bool) → Shows word 24 bits → change_at bits ≡ behind x.1 (λ after. Ok (x.0, after)) bits) }
     ensures few { IfSome result (λ x. x.1 ≤ 24) }
     ensures none { IfNone result (word / 2 ^ 60 ≡ 15) }
 {
-    if word >> 63 == 0 {
-        Some((0, 1))
-    } else if word >> 62 == 0b10 {
+    if word >> 62 == 0b10 {
         Some(row_in(word, 2, 14))
     } else if word >> 61 == 0b110 {
         Some(row_in(word, 3, 17))
@@ -258,6 +256,9 @@ pub(crate) fn next(reader: &mut BitReader<'_>, last: Last) -> Result<Last, XorRe
     ensures { Reads (λ x. x) reader.new result (next_at last reader.old) }
 {
     let word = reader.peek(37);
+    if word >> 63 == 0 {
+        return follow_known(reader, word, 1, last, 0);
+    }
     match short_change(word) {
         Some((change, known)) => follow_known(reader, word, known, last, i128::from(change)),
         None => next_by_long_change(reader, last),

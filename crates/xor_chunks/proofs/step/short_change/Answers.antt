@@ -1,10 +1,7 @@
 use Rattle.std.proofs.Common.{◌≡◌, ap, sym, ◌∙◌, arith, rules}
-use Rattle.xor_chunks.proofs.Takes.{no_change, row_10, row_110, row_1110}
+use Rattle.xor_chunks.proofs.Takes.{row_10, row_110, row_1110}
 use Rattle.xor_chunks.proofs.Peeks.{row_told}
 use Rattle.xor_chunks.proofs.step.short_change.Goals as goal
-
-pub returns-then-word-eq0-clause-told : goal.returns-then-word-eq0-clause-told
-returns-then-word-eq0-clause-told c = λ bits shows. no_change bits (sym (shows.first 1 (omega arith)) ∙ c.if-word-eq0.true)
 
 pub returns-then-word-eq2-clause-told : goal.returns-then-word-eq2-clause-told
 returns-then-word-eq2-clause-told c = λ bits shows.
