@@ -159,6 +159,11 @@ pub next_behind : (known : ℕ) (last : Last) (change : ℤ) (bits : List Bool) 
 unfolding next_at
 next_behind known last change bits e = ap (λ (t : Result (ℤ × List Bool) XorRefusal). t >>= λ c. follow_at last c.0 c.1) e ∙ next_over (take_at known bits) last change
 
+-- the same of a reader that was peeked at, and of a change as the code hands it on
+pub next_known : (known : ℕ) (last : Last) (change given : ℤ) (bits peeked : List Bool) → change_at bits ≡ behind known (λ after. Ok (change, after)) bits → given ≡ change → peeked ≡ bits → next_at last bits ≡ behind known (follow_at last given) peeked
+next_known known last change given bits peeked told same still =
+    next_behind known last change bits told ∙ ap (λ (z : ℤ). behind known (follow_at last z) bits) (sym same) ∙ ap (λ (b : List Bool). behind known (follow_at last given) b) (sym still)
+
 -- ---- changes
 
 field_in_word : (known width : ℕ) (bits : List Bool) → field_behind known width bits ≡ behind (known + width) (λ after. Ok (field_value width (front (known + width) bits % 2 ^ width), after)) bits

@@ -55,9 +55,10 @@ fn push_others<'a>(
 {
     let mut last = second;
     for _ in 0..count {
-        let after = next(&mut reader, last)?;
+        let (after, left) = next(reader, last)?;
         samples = pushed(samples, after.sample())?;
         last = after;
+        reader = left;
     }
     Ok((samples, reader))
 }

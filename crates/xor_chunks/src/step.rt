@@ -239,28 +239,50 @@ fn take_long_change(reader: &mut BitReader<'_>) -> Result<i64, XorRefusal>
     Ok(field.cast_signed())
 }
 
-/// The next sample, whose step's change is told in a field of 64 bits.
+/// The next sample, after the second, and the reader behind it.
 #[inline(always)]
-#[tactic(auto, unfolding(crate::specs::Steps::next_at))]
-fn next_by_long_change(reader: &mut BitReader<'_>, last: Last) -> Result<Last, XorRefusal>
-    requires { front 4 reader.old ≡ 15 }
-    ensures { Reads (λ x. x) reader.new result (next_at last reader.old) }
-{
-    let change = take_long_change(reader)?;
-    follow(reader, last, i128::from(change))
-}
-
-/// The next sample, after the second.
-#[inline(always)]
-pub(crate) fn next(reader: &mut BitReader<'_>, last: Last) -> Result<Last, XorRefusal>
-    ensures { Reads (λ x. x) reader.new result (next_at last reader.old) }
+pub(crate) fn next<'a>(
+    mut reader: BitReader<'a>,
+    last: Last,
+) -> Result<(Last, BitReader<'a>), XorRefusal>
+    ensures { Answers (λ x. x) result (next_at last reader.entry) }
 {
     let word = reader.peek(37);
     if word >> 63 == 0 {
-        return follow_known(reader, word, 1, last, 0);
+        let after = follow_known(&mut reader, word, 1, last, 0)?;
+        return Ok((after, reader));
     }
-    match short_change(word) {
-        Some((change, known)) => follow_known(reader, word, known, last, i128::from(change)),
-        None => next_by_long_change(reader, last),
-    }
+    let Some((change, known)) = short_change(word) else {
+        return next_by_long_change(reader, last);
+    };
+    let after = follow_known(&mut reader, word, known, last, i128::from(change))?;
+    Ok((after, reader))
+}
+
+/// The next sample, whose step's change is told in a field of 64 bits. Its temporaries stand here, off the fast path.
+#[inline(always)]
+fn next_by_long_change<'a>(
+    reader: BitReader<'a>,
+    last: Last,
+) -> Result<(Last, BitReader<'a>), XorRefusal>
+    requires { front 4 reader ≡ 15 }
+    ensures { Answers (λ x. x) result (next_at last reader.entry) }
+{
+    let (after, reader) = next_slowly(reader, last)?;
+    Ok((after, reader))
+}
+
+#[cold]
+#[inline(never)]
+#[tactic(auto, unfolding(crate::specs::Steps::next_at))]
+fn next_slowly<'a>(
+    mut reader: BitReader<'a>,
+    last: Last,
+) -> Result<(Last, BitReader<'a>), XorRefusal>
+    requires { front 4 reader ≡ 15 }
+    ensures { Answers (λ x. x) result (next_at last reader.entry) }
+{
+    let change = take_long_change(&mut reader)?;
+    let after = follow(&mut reader, last, i128::from(change))?;
+    Ok((after, reader))
 }

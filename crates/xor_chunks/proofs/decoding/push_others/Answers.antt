@@ -8,7 +8,7 @@ pub loop-init : goal.loop-init
 loop-init c = begins c.args.samples.items c.args.second c.args.reader
 
 pub loop-preserved : goal.loop-preserved
-loop-preserved c = goes_on c.args.samples.items c.loop.samples.items c.in_ok-samples.samples.items c.loop.counter c.args.second c.loop.last c.in_ok-after.after c.args.reader c.loop.reader c.next.new.reader c.loop.invariant c.in_ok-after.ensures (c.in_ok-samples.ensures ∙ ap (λ (s : Sample). c.loop.samples.items ++ s ∷ []) c.sample.ensures)
+loop-preserved c = goes_on c.args.samples.items c.loop.samples.items c.in_ok-samples.samples.items c.loop.counter c.args.second c.loop.last c.in_ok-after.after c.args.reader c.loop.reader c.in_ok-after.left c.loop.invariant c.in_ok-after.ensures (c.in_ok-samples.ensures ∙ ap (λ (s : Sample). c.loop.samples.items ++ s ∷ []) c.sample.ensures)
 
 pub returns-in_err-after : goal.returns-in_err-after
 returns-in_err-after c =
