@@ -1,7 +1,7 @@
 #!/usr/bin/env bash
 # Times the proved XOR chunks beside tight unverified loops over the same data, in one run, and prints one table.
 # The loops' source, limit.rs, is the first argument; without one, ../shared/bench/limit.rs beside the repository.
-# CPU names the processor that both are built for: x86-64-v3 where nothing is said.
+# CPU names the processor that the proved library is built for: x86-64-v3 where nothing is said. The loops are built for this machine.
 set -euo pipefail
 top=$(cd "$(dirname "$0")/.." && pwd)
 limit=${1:-$top/../shared/bench/limit.rs}
@@ -21,6 +21,6 @@ echo "xor_chunks_c staticlib: list_core wire_bytes label_sets xor_chunks" >>"$ma
 
 sed '/^fn main() {$/,$d' "$limit" >"$made/xor.rs"
 cat "$top/bench/xor.rs" >>"$made/xor.rs"
-rustc --edition 2021 -C opt-level=3 -C target-cpu="${LIMIT_CPU:-native}" -A warnings -o "$made/xor" "$made/xor.rs" \
+rustc --edition 2021 -C opt-level=3 -C target-cpu=native -A warnings -o "$made/xor" "$made/xor.rs" \
     -L "$made/crates/xor_chunks_c/out" -l static=xor_chunks_c -C link-arg="$kit/c/liblibc_c.a"
 "$made/xor"

@@ -13,21 +13,29 @@ struct Pair {
     pattern: u64,
 }
 
+/// How often a chunk is encoded in one call, over samples that are laid out once.
 const ROUNDS: u32 = 20;
 
-/// The least time of one run among many, in nanoseconds for each of n.
-fn least(n: usize, mut run: impl FnMut()) -> f64 {
-    let mut least = f64::INFINITY;
+/// How many chunks are encoded in one run.
+const ENCODED: usize = 20;
+
+/// The least times of one run among many, in nanoseconds for each of n: of the yardstick and of the proved body, which run in
+/// turn, so that what else the machine does falls on both.
+fn least(n: usize, mut limit: impl FnMut(), mut proved: impl FnMut()) -> (f64, f64) {
+    let mut times = (f64::INFINITY, f64::INFINITY);
     let start = Instant::now();
-    while start.elapsed().as_millis() < 1500 {
+    while start.elapsed().as_millis() < 3000 {
         let begun = Instant::now();
-        run();
-        least = least.min(begun.elapsed().as_nanos() as f64 / n as f64);
+        limit();
+        times.0 = times.0.min(begun.elapsed().as_nanos() as f64 / n as f64);
+        let begun = Instant::now();
+        proved();
+        times.1 = times.1.min(begun.elapsed().as_nanos() as f64 / n as f64);
     }
-    least
+    times
 }
 
-fn row(name: &str, unit: &str, limit: f64, proved: f64, bar: f64) -> bool {
+fn row(name: &str, unit: &str, (limit, proved): (f64, f64), bar: f64) -> bool {
     let ratio = proved / limit;
     println!("| {name} | {limit:.2} | {proved:.2} | {unit} | {ratio:.2} | {bar:.1} |");
     ratio <= bar
@@ -57,34 +65,42 @@ fn main() {
             assert_eq!(unsafe { xor_encode(pairs.as_ptr(), pairs.len(), 1) }, (end - start) as u64);
         }
         out.extend_from_slice(&[0; 16]);
-        let limit = least(N, || {
-            for &(start, end) in &places {
-                unsafe { decode(&out[start..end], |t, v| mixed = mixed.wrapping_add(t as u64 ^ v)) };
-            }
-        });
-        let proved = least(N, || {
-            for &(start, end) in &places {
-                mixed = mixed.wrapping_add(unsafe { xor_decode(out[start..].as_ptr(), end - start) });
-            }
-        });
-        met &= row(&format!("decode {kind}"), "ns a sample", limit, proved, 2.0);
-        let chunks: Vec<Vec<Pair>> = samples.chunks(120).map(pairs_of).collect();
-        let mut again = Vec::with_capacity(2048);
-        let limit = least(N * ROUNDS as usize, || {
-            for chunk in samples.chunks(120) {
-                for _ in 0..ROUNDS {
-                    again.clear();
-                    encode(chunk, &mut again);
-                    mixed = mixed.wrapping_add(again.len() as u64);
+        let mut also = 0u64;
+        let times = least(
+            N,
+            || {
+                for &(start, end) in &places {
+                    unsafe { decode(&out[start..end], |t, v| mixed = mixed.wrapping_add(t as u64 ^ v)) };
                 }
-            }
-        });
-        let proved = least(N * ROUNDS as usize, || {
-            for chunk in &chunks {
-                mixed = mixed.wrapping_add(unsafe { xor_encode(chunk.as_ptr(), chunk.len(), ROUNDS) });
-            }
-        });
-        met &= row(&format!("encode {kind}"), "ns a sample", limit, proved, 2.0);
+            },
+            || {
+                for &(start, end) in &places {
+                    also = also.wrapping_add(unsafe { xor_decode(out[start..].as_ptr(), end - start) });
+                }
+            },
+        );
+        met &= row(&format!("decode {kind}"), "ns a sample", times, 2.0);
+        let chunks: Vec<Vec<Pair>> = samples.chunks(120).take(ENCODED).map(pairs_of).collect();
+        let mut again = Vec::with_capacity(2048);
+        let times = least(
+            120 * ENCODED * ROUNDS as usize,
+            || {
+                for chunk in samples.chunks(120).take(ENCODED) {
+                    for _ in 0..ROUNDS {
+                        again.clear();
+                        encode(chunk, &mut again);
+                        mixed = mixed.wrapping_add(again.len() as u64);
+                    }
+                }
+            },
+            || {
+                for chunk in &chunks {
+                    also = also.wrapping_add(unsafe { xor_encode(chunk.as_ptr(), chunk.len(), ROUNDS) });
+                }
+            },
+        );
+        met &= row(&format!("encode {kind}"), "ns a sample", times, 2.0);
+        mixed = mixed.wrapping_add(also);
     }
     let mut x = 1u64;
     let bytes: Vec<u8> = (0..1 << 20)
@@ -95,9 +111,14 @@ fn main() {
         .collect();
     let tables = crc_tables();
     assert_eq!(unsafe { xor_crc(bytes.as_ptr(), bytes.len()) }, crc_slice8(&tables, &bytes));
-    let limit = least(bytes.len(), || mixed = mixed.wrapping_add(crc_slice8(&tables, &bytes) as u64));
-    let proved = least(bytes.len(), || mixed = mixed.wrapping_add(unsafe { xor_crc(bytes.as_ptr(), bytes.len()) } as u64));
-    met &= row("CRC-32C of 1 MiB", "ns a byte", limit, proved, 1.2);
+    let mut also = 0u64;
+    let times = least(
+        bytes.len(),
+        || mixed = mixed.wrapping_add(crc_slice8(&tables, &bytes) as u64),
+        || also = also.wrapping_add(unsafe { xor_crc(bytes.as_ptr(), bytes.len()) } as u64),
+    );
+    met &= row("CRC-32C of 1 MiB", "ns a byte", times, 1.2);
+    mixed = mixed.wrapping_add(also);
     std::hint::black_box(mixed);
     println!("{}", if met { "every bar is met" } else { "a bar is not met" });
 }

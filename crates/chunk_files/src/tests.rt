@@ -67,3 +67,19 @@ fn a_segment_as_prometheus_writes_it(rt: HostRuntime) -> Result<(), Fail> {
     assert!(rt; writer.finish().bytes() == &STORED[..]);
     Ok(())
 }
+
+/// One bit changed anywhere in a chunk's encoding, data or sum is refused by the sum.
+#[test]
+fn changed_bytes_are_refused(rt: HostRuntime) {
+    for place in 9..33 {
+        let mut changed = STORED;
+        changed[place] ^= 0x10;
+        assert!(rt;
+            matches!(
+                read_chunk(&changed, 8),
+                Err(ChunkRefusal::BadSum { .. })
+            ),
+            "at {place}"
+        );
+    }
+}

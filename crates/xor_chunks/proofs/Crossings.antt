@@ -66,8 +66,7 @@ across word count need next new bytes after b word_lt lt next-is are long more f
     let next_bits : bits_of 64 next ≡ bits_of j f ++ top new m = ap (λ (k : ℕ). bits_of k next) (sym whole) ∙ bits_of-append j m next ∙ ap (λ (a : List Bool). bits_of j f ++ a) (sym kept.1) in
     let field_bits : bits_of need (h * 2 ^ j + f) ≡ top word count ++ bits_of j f = ap (λ (k : ℕ). bits_of k (h * 2 ^ j + f)) need-is ∙ bits_of-joined count j h f f_small in
     let all : buffered word count bytes ≡ (top word count ++ bits_of j f) ++ (top new m ++ rest) =
-    ap (λ (a : List Bool). top word count ++ a) (bytes_are ∙ ap (λ (a : List Bool). a ++ rest) next_bits ∙ append_assoc (bits_of j f) (top new m) rest) ∙ sym (append_assoc (top word count) (bits_of j f) (top new m ++ rest)) in
-    (
+    ap (λ (a : List Bool). top word count ++ a) (bytes_are ∙ ap (λ (a : List Bool). a ++ rest) next_bits ∙ append_assoc (bits_of j f) (top new m) rest) ∙ sym (append_assoc (top word count) (bits_of j f) (top new m ++ rest)) in (
       record { part = omega (arith, more, few); clear = kept.0 },
       all ∙ ap (λ (a : List Bool). a ++ (top new m ++ rest)) (sym field_bits ∙ ap (bits_of need) (sym number)) ∙ ap (λ (a : List ℕ). bits_of need (bit_or word (next / 2 ^ count) / 2 ^ (64 - need)) ++ (top new m ++ bits_in a)) (sym after-is),
       subst (λ (w : ℕ). w < 2 ^ need) (sym number) below,

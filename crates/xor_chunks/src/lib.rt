@@ -14,6 +14,8 @@ mod refusal;
 mod setting;
 mod short_bits;
 mod step;
+#[cfg(test)]
+mod stored_chunks;
 mod taking;
 #[cfg(test)]
 mod tests;

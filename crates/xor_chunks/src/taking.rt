@@ -87,12 +87,7 @@ fn crossing(need: u32, word: u64, count: u32, bytes: &[u8]) -> (u64, u64, u32, &
 
 /// Bits that wait, or come in the last bytes. Its temporaries stand here, off the fast path.
 #[inline(always)]
-fn taken_at_end(
-    need: u32,
-    word: u64,
-    count: u32,
-    bytes: &[u8],
-) -> Option<(u64, u64, u32, &[u8])>
+fn taken_at_end(need: u32, word: u64, count: u32, bytes: &[u8]) -> Option<(u64, u64, u32, &[u8])>
     requires few { need ≤ 64 }
     requires buffer { IsBuffer word count }
     ensures taken { IfSome result (λ t. buffered word count bytes.now ≡ bits_of need t.0 ++ buffered t.1 t.2 t.3.now) }

@@ -144,9 +144,10 @@ fn stored_texts(rt: HostRuntime) -> Result<(), Fail> {
 /// Changes of a step at the edges of each row, with the bits that they are put in after `0` of the value.
 #[test]
 fn rows_of_changes(rt: HostRuntime) -> Result<(), Fail> {
-    let rows: [(i64, &[u8]); 10] = [
+    let rows: [(i64, &[u8]); 15] = [
         (0, &[0b0000_0000]),
         (1, &[0b0100_0000, 0b0000_0000, 0b1000_0000]),
+        (-1, &[0b0101_1111, 0b1111_1111, 0b1000_0000]),
         (8192, &[0b0101_0000, 0b0000_0000, 0b0000_0000]),
         (-8191, &[0b0101_0000, 0b0000_0000, 0b1000_0000]),
         (8193, &[0b0110_0001, 0b0000_0000, 0b0000_1000]),
@@ -155,8 +156,44 @@ fn rows_of_changes(rt: HostRuntime) -> Result<(), Fail> {
         (-65535, &[0b0110_1000, 0b0000_0000, 0b0000_1000]),
         (65537, &[0b0111_0000, 0b1000_0000, 0b0000_0000, 0b1000_0000]),
         (
+            -65536,
+            &[0b0111_0111, 0b1000_0000, 0b0000_0000, 0b0000_0000],
+        ),
+        (
             524_288,
             &[0b0111_0100, 0b0000_0000, 0b0000_0000, 0b0000_0000],
+        ),
+        (
+            -524_287,
+            &[0b0111_0100, 0b0000_0000, 0b0000_0000, 0b1000_0000],
+        ),
+        (
+            524_289,
+            &[
+                0b0111_1000,
+                0b0000_0000,
+                0b0000_0000,
+                0b0000_0000,
+                0b0000_0000,
+                0b0000_0000,
+                0b0100_0000,
+                0b0000_0000,
+                0b0000_1000,
+            ],
+        ),
+        (
+            -524_288,
+            &[
+                0b0111_1111,
+                0b1111_1111,
+                0b1111_1111,
+                0b1111_1111,
+                0b1111_1111,
+                0b1111_1111,
+                0b1100_0000,
+                0b0000_0000,
+                0b0000_0000,
+            ],
         ),
     ];
     for (change, bits) in rows {
@@ -211,5 +248,127 @@ fn windows_round_changes(rt: HostRuntime) -> Result<(), Fail> {
         reader.take_bits(32)?;
         assert!(rt; reader.take_bits(13)? == head, "at {change}");
     }
+    Ok(())
+}
+
+/// Values as they may be written in other windows than this writer chooses.
+#[test]
+fn windows_that_are_read(rt: HostRuntime) -> Result<(), Fail> {
+    let read: [(&[u8], u64); 7] = [
+        // a window of 64 bits before any was told
+        (
+            &[
+                0x00, 0x02, 0x00, 0x3f, 0xf0, 0x00, 0x00, 0x00, 0x00, 0x00, 0x00, 0xe8, 0x07, 0x80,
+                0x48, 0xd1, 0x59, 0xe2, 0x6a, 0xf3, 0x7b, 0xc0,
+            ],
+            0x3ed3456789abcdef,
+        ),
+        // a width of 0 stands for 64
+        (
+            &[
+                0x00, 0x02, 0x00, 0x3f, 0xf0, 0x00, 0x00, 0x00, 0x00, 0x00, 0x00, 0xe8, 0x07, 0xc0,
+                0x00, 0x09, 0x1a, 0x2b, 0x3c, 0x4d, 0x5e, 0x6f, 0x78,
+            ],
+            0x3ed3456789abcdef,
+        ),
+        // the last bit
+        (
+            &[
+                0x00, 0x02, 0x00, 0x3f, 0xf0, 0x00, 0x00, 0x00, 0x00, 0x00, 0x00, 0xe8, 0x07, 0xff,
+                0x08, 0x00, 0x00, 0x00, 0x04,
+            ],
+            0x3ff0000000000001,
+        ),
+        // 31 bits of lead, and one more in the field
+        (
+            &[
+                0x00, 0x02, 0x00, 0x3f, 0xf0, 0x00, 0x00, 0x00, 0x00, 0x00, 0x00, 0xe8, 0x07, 0xff,
+                0x0b, 0xff, 0xff, 0xff, 0xfc,
+            ],
+            0x3ff00000ffffffff,
+        ),
+        // the first bit
+        (
+            &[
+                0x00, 0x02, 0x00, 0x3f, 0xf0, 0x00, 0x00, 0x00, 0x00, 0x00, 0x00, 0xe8, 0x07, 0xc0,
+                0x0c,
+            ],
+            0xbff0000000000000,
+        ),
+        // one bit in the middle
+        (
+            &[
+                0x00, 0x02, 0x00, 0x3f, 0xf0, 0x00, 0x00, 0x00, 0x00, 0x00, 0x00, 0xe8, 0x07, 0xfe,
+                0x0c,
+            ],
+            0x3ff0000100000000,
+        ),
+        // a field of zeros
+        (
+            &[
+                0x00, 0x02, 0x00, 0x3f, 0xf0, 0x00, 0x00, 0x00, 0x00, 0x00, 0x00, 0xe8, 0x07, 0xca,
+                0x38, 0x00,
+            ],
+            0x3ff0000000000000,
+        ),
+    ];
+    for (bytes, pattern) in read {
+        let want = [sample(0, ONE), sample(1000, pattern)];
+        assert!(rt; decode(rt.alloc(), bytes)?.members() == &want[..]);
+    }
+    let refused: [&[u8]; 3] = [
+        // 1 + 64 bits
+        &[
+            0x00, 0x02, 0x00, 0x3f, 0xf0, 0x00, 0x00, 0x00, 0x00, 0x00, 0x00, 0xe8, 0x07, 0xc2,
+            0x00, 0x09, 0x1a, 0x2b, 0x3c, 0x4d, 0x5e, 0x6f, 0x78,
+        ],
+        // 31 + 34 bits
+        &[
+            0x00, 0x02, 0x00, 0x3f, 0xf0, 0x00, 0x00, 0x00, 0x00, 0x00, 0x00, 0xe8, 0x07, 0xff,
+            0x10, 0x00, 0x00, 0x00, 0x0a,
+        ],
+        // 2 + 63 bits
+        &[
+            0x00, 0x02, 0x00, 0x3f, 0xf0, 0x00, 0x00, 0x00, 0x00, 0x00, 0x00, 0xe8, 0x07, 0xc5,
+            0xf8, 0x00, 0x00, 0x00, 0x00, 0x00, 0x00, 0x00, 0x50,
+        ],
+    ];
+    for bytes in refused {
+        assert!(rt; matches!(decode(rt.alloc(), bytes), Err(XorRefusal::OutOfRange)));
+    }
+    Ok(())
+}
+
+/// A change of each width, behind each lead that has room, is read back.
+#[test]
+fn windows_of_each_width(rt: HostRuntime) -> Result<(), Fail> {
+    for width in 1u32..65 {
+        for lead in 0..65 - width {
+            let change = (u64::MAX >> (64 - width)) << (64 - width - lead);
+            let samples = [sample(0, ONE), sample(1, ONE ^ change), sample(2, change)];
+            let text = written(rt.alloc(), &samples)?;
+            assert!(rt; decode(rt.alloc(), text.bytes())?.members() == &samples[..]);
+        }
+    }
+    Ok(())
+}
+
+/// The greatest and the least times, and steps that pass 63 bits.
+#[test]
+fn times_at_the_ends(rt: HostRuntime) -> Result<(), Fail> {
+    let ends = [sample(i64::MIN, 1), sample(-1, 2), sample(i64::MAX, 3)];
+    let bytes: &[u8] = &[
+        0x00, 0x03, 0xff, 0xff, 0xff, 0xff, 0xff, 0xff, 0xff, 0xff, 0xff, 0x01, 0x00, 0x00, 0x00,
+        0x00, 0x00, 0x00, 0x00, 0x01, 0xff, 0xff, 0xff, 0xff, 0xff, 0xff, 0xff, 0xff, 0x7f, 0xff,
+        0x08, 0x00, 0x00, 0x00, 0x0e, 0x00, 0x06, 0x00, 0x00, 0x00, 0x00, 0x80,
+    ];
+    assert!(rt; decode(rt.alloc(), bytes)?.members() == &ends[..]);
+    let most = [
+        sample(-0x4000_0000_0000_0000, 0),
+        sample(0x3fff_ffff_ffff_fffe, 0),
+        sample(0x3fff_ffff_ffff_ffff, 0),
+    ];
+    let text = written(rt.alloc(), &most)?;
+    assert!(rt; decode(rt.alloc(), text.bytes())?.members() == &most[..]);
     Ok(())
 }

@@ -16,5 +16,4 @@ pub fn have_words(samples: &[Sample])
 #[inline(always)]
 fn is_word(number: u64)
     ensures { number < 2 ^ 64 }
-{
-}
+{}
