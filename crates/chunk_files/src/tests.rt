@@ -75,10 +75,7 @@ fn changed_bytes_are_refused(rt: HostRuntime) {
         let mut changed = STORED;
         changed[place] ^= 0x10;
         assert!(rt;
-            matches!(
-                read_chunk(&changed, 8),
-                Err(ChunkRefusal::BadSum { .. })
-            ),
+            matches!(read_chunk(&changed, 8), Err(ChunkRefusal::BadSum { .. })),
             "at {place}"
         );
     }

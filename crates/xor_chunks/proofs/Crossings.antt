@@ -1,8 +1,8 @@
 -- A field that takes all the bits that wait and the first of the next eight bytes.
-use Rattle.std.proofs.Common.{◌≡◌, ℕ, ◌+◌, ◌-◌, ◌*◌, ◌/◌, ◌%◌, ◌^◌, ◌<◌, ◌≤◌, Bool, List, ◌++◌, length, length-append, take, drop, [], true, false, inl, inr, ◌⊎◌, refl, sym, ap, subst, ◌∙◌, append_assoc, arith, bit_or}
+use Rattle.std.proofs.Common.{◌≡◌, ℕ, ◌+◌, ◌-◌, ◌*◌, ◌/◌, ◌%◌, ◌^◌, ◌<◌, ◌≤◌, Bool, List, ◌++◌, length, length-append, take, drop, [], true, false, inl, inr, ◌⊎◌, sym, ap, subst, ◌∙◌, append_assoc, arith, bit_or}
 use Rattle.std.specs.Int.{from_be_bytes, w64}
 use Rattle.std.proofs.lemmas.Bool.{true≢false}
-use Rattle.std.proofs.lemmas.List.{take-append-drop, take_rest}
+use Rattle.std.proofs.lemmas.List.{take-append-drop}
 use Rattle.std.proofs.lemmas.List.Concat.{flat_map-append}
 use Rattle.std.proofs.lemmas.Nat.{pow-add, shr-shr, shr_split, shr_below, shr_high, or_shifted, mod_below, pow_pos, mul-mod_first, mul-add-lt}
 use Rattle.reading_core.specs.Grammar.{IsBytes}

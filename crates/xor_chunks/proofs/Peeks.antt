@@ -1,20 +1,19 @@
 -- What the word that is peeked at tells of the bits, and what is read behind bits that were read from it.
-use Rattle.std.proofs.Common.{◌≡◌, ℕ, zero, suc, ◌+◌, ◌-◌, ◌*◌, ◌/◌, ◌%◌, ◌^◌, ◌<◌, ◌≤◌, Bool, true, false, cond, List, [], ◌∷◌, ◌++◌, length, take, drop, Result, Ok, Err, refl, sym, ap, subst, ◌∙◌, arith, inl, inr, ◌⊎◌, ℤ, pos, ◌+ℤ◌}
+use Rattle.std.proofs.Common.{◌≡◌, ℕ, zero, suc, ◌+◌, ◌-◌, ◌*◌, ◌/◌, ◌%◌, ◌^◌, ◌<◌, ◌≤◌, Bool, true, false, cond, List, [], ◌∷◌, ◌++◌, length, drop, Result, Ok, Err, refl, sym, ap, ◌∙◌, arith, inl, inr, ℤ, pos, ◌+ℤ◌}
 use Rattle.std.proofs.lemmas.Bool.{le-ltb}
 use Rattle.std.proofs.lemmas.List.{drop_at}
 use Rattle.std.proofs.lemmas.Nat.{pow-add, pow_pos, shr-shr, shl-shr, shr_high, mod-pow-add, mod_below, mod-mul-add}
-use Rattle.std.proofs.Math.Nat.{mod-eq_of_lt}
-use Rattle.reading_core.specs.Reading.{◌>>=◌, ◌>>◌, unless}
+use Rattle.reading_core.specs.Reading.{◌>>=◌}
 use Rattle.xor_chunks.specs.declared.last.Last.{Last}
 use Rattle.xor_chunks.specs.declared.refusal.XorRefusal.{XorRefusal}
 use Rattle.xor_chunks.specs.declared.refusal.XorRefusal.TheVariants.{Short, OutOfRange}
 use Rattle.xor_chunks.specs.Bits.{bits_of, number_of}
 use Rattle.xor_chunks.specs.Buffer.{front, Shows}
 use Rattle.xor_chunks.specs.Window.{Window, told_by, is_inside}
-use Rattle.xor_chunks.specs.Steps.{take_at, behind, field_at, field_behind, field_value, change_at, value_at, within_at, time_after, follow_at, next_at}
+use Rattle.xor_chunks.specs.Steps.{take_at, behind, field_behind, field_value, change_at, value_at, within_at, time_after, follow_at, next_at}
 use Rattle.xor_chunks.proofs.BitLists.{length-bits_of}
-use Rattle.xor_chunks.proofs.Buffers.{shl_cut, same_power, front-joined}
-use Rattle.xor_chunks.proofs.Takes.{take_again, take_found, take_short, take_cases, take_err, field_found, field_short, front-nil, front-cons, front-lt, row_10, row_110, row_1110, no_change}
+use Rattle.xor_chunks.proofs.Buffers.{shl_cut, front-joined}
+use Rattle.xor_chunks.proofs.Takes.{take_again, take_found, take_cases, field_found, field_short, front-nil, front-cons, front-lt}
 use Rattle.xor_chunks.proofs.Values.{take_split, take_split_short, same_found, same_short, within_found, within_short, opened_found, opened_short}
 
 -- ---- the bits behind others in the word

@@ -1,12 +1,12 @@
 -- Samples that the writer puts one after another are in the grammar, and so is their whole text.
-use Rattle.std.proofs.Common.{◌≡◌, ℕ, zero, suc, ◌+◌, ◌-◌, ◌*◌, ◌/◌, ◌%◌, ◌^◌, ◌<◌, ◌≤◌, Bool, true, false, List, [], ◌∷◌, ◌++◌, length, get_or, take, drop, refl, sym, ap, subst, ◌∙◌, append_assoc, length-append, arith, ℤ, pos, negsuc, ◌-ℤ◌, ◌+ℤ◌, ◌≤ℤ◌, ◌<ℤ◌}
+use Rattle.std.proofs.Common.{◌≡◌, ℕ, zero, suc, ◌-◌, ◌%◌, ◌^◌, ◌<◌, ◌≤◌, Bool, false, List, [], ◌∷◌, ◌++◌, length, get_or, take, drop, refl, sym, ap, ◌∙◌, append_assoc, length-append, arith, ℤ, pos, negsuc, ◌-ℤ◌, ◌+ℤ◌, ◌≤ℤ◌, ◌<ℤ◌}
 use Rattle.std.specs.Prelude.{bit_xor, unsigned_abs, replicate, FitsSigned}
 use Rattle.std.specs.List.{AllByRecursion}
-use Rattle.std.specs.Int.{w8, w16, w64, byte_at, bytes_high_first, to_be_bytes}
+use Rattle.std.specs.Int.{w16, w64, byte_at, bytes_high_first, to_be_bytes}
 use Rattle.std.proofs.lemmas.Int.{ints}
-use Rattle.std.proofs.lemmas.List.{take_at, drop_at, append-nil}
-use Rattle.reading_core.specs.Grammar.{IsBytes, HasFront}
-use Rattle.wire_bytes.specs.FieldTexts.{IsGroups, IsFixed, IsUvarint, IsVarint}
+use Rattle.std.proofs.lemmas.List.{take_at, drop_at}
+use Rattle.reading_core.specs.Grammar.{IsBytes}
+use Rattle.wire_bytes.specs.FieldTexts.{IsGroups}
 use Rattle.wire_bytes.specs.Fields.{zigzag}
 use Rattle.wire_bytes.specs.Written.{uvarint_text, varint_text}
 use Rattle.wire_bytes.proofs.GroupTexts.{uvarint_text_is, varint_text_is}
@@ -17,7 +17,7 @@ use Rattle.xor_chunks.specs.declared.put.Put.{Put}
 use Rattle.xor_chunks.specs.Bits.{bits_of, bits_in, filled}
 use Rattle.xor_chunks.specs.declared.setting.Setting.TheVariants.{Unset}
 use Rattle.xor_chunks.specs.Written.{CanFollow, AreToCome, AreOfChunk, put_after, put_first, change_bits, value_bits, window_after, next_bits, others_bits, rest_bits, written}
-use Rattle.xor_chunks.specs.Grammar.{Follows, IsNext, AreOthers, AreFromSecond, AreRest, AreFromFirst, AreSamples, IsText}
+use Rattle.xor_chunks.specs.Grammar.{Follows, IsNext, AreOthers, AreRest, AreFromFirst, IsText}
 use Rattle.xor_chunks.proofs.BitLists.{length-bits_of, same_from_bits_of, bits_in-bytes}
 use Rattle.xor_chunks.proofs.PutTexts.{chunk_to_come}
 use Rattle.xor_chunks.proofs.Times.{fits_both}

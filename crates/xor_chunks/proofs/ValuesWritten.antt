@@ -1,7 +1,7 @@
 -- What the writer puts for a step and for a value is in the grammar.
-use Rattle.std.proofs.Common.{◌≡◌, ℕ, zero, suc, ◌+◌, ◌-◌, ◌*◌, ◌/◌, ◌%◌, ◌^◌, ◌<◌, ◌≤◌, Bool, true, false, cond, ltb, leb, eqb, List, [], ◌∷◌, ◌++◌, length, refl, sym, ap, subst, ◌∙◌, append_assoc, arith, inl, inr, ◌⊎◌, ℤ, pos, negsuc, ◌-ℤ◌}
-use Rattle.std.specs.Prelude.{bit_xor, nat_le, min, FitsSigned, ◌&&◌}
-use Rattle.std.specs.Int.{cast_signed, cast_unsigned, w64, leading_zeros, trailing_zeros}
+use Rattle.std.proofs.Common.{◌≡◌, ℕ, suc, ◌+◌, ◌-◌, ◌*◌, ◌/◌, ◌%◌, ◌^◌, ◌<◌, ◌≤◌, Bool, true, false, cond, List, [], ◌∷◌, ◌++◌, refl, sym, ap, subst, ◌∙◌, arith, inl, inr, ℤ, pos, negsuc}
+use Rattle.std.specs.Prelude.{bit_xor, nat_le, FitsSigned, ◌&&◌}
+use Rattle.std.specs.Int.{cast_unsigned, w64, leading_zeros, trailing_zeros}
 use Rattle.std.specs.Int.Bits.{xor_self, xor_assoc, xor_zero_l, xor_zero_r}
 use Rattle.std.specs.Ordering.{int_eq}
 use Rattle.std.proofs.lemmas.Bool.{leb-true, ltb-true, cases_eq, eq-eqb, ne_eqb}
@@ -11,9 +11,9 @@ use Rattle.std.proofs.lemmas.Nat.{xor_lt, shr_below, shr_split, mod_below, pow_p
 use Rattle.xor_chunks.specs.declared.setting.Setting.{Setting}
 use Rattle.xor_chunks.specs.declared.setting.Setting.TheVariants.{Unset, Set}
 use Rattle.xor_chunks.specs.Bits.{bits_of}
-use Rattle.xor_chunks.specs.Window.{Window, whole, IsInside, changed}
+use Rattle.xor_chunks.specs.Window.{Window, whole, IsInside}
 use Rattle.xor_chunks.specs.Written.{fits_field, change_bits, trail, window_round, is_round, in_window, reused, coded, kept, value_bits, window_after}
-use Rattle.xor_chunks.specs.Grammar.{StandsFor, IsRow, IsLongRow, IsChange, unchanged, row_14, row_17, row_20, row_64, IsWithin, IsOpened, IsValue, same_pattern, in_window as within_window, opens}
+use Rattle.xor_chunks.specs.Grammar.{StandsFor, IsRow, IsChange, unchanged, row_14, row_17, row_20, row_64, IsWithin, IsValue, same_pattern, in_window as within_window, opens}
 use Rattle.xor_chunks.proofs.BitLists.{bits_of-mod}
 use Rattle.xor_chunks.proofs.Zeros.{trailing_low, leading_below, counts_apart}
 

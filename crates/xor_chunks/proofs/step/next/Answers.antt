@@ -1,12 +1,10 @@
-use Rattle.std.proofs.Common.{◌≡◌, ℤ, pos, List, Bool, Result, rules, ap, refl, sym, ◌∙◌, arith}
-use Rattle.std.specs.Int.{w64, w128, cast_signed, cast_unsigned}
+use Rattle.std.proofs.Common.{◌≡◌, pos, rules, ap, refl, sym, ◌∙◌, arith}
+use Rattle.std.specs.Int.{w128, cast_signed, cast_unsigned}
 use Rattle.std.proofs.lemmas.Int.{ints}
 use Rattle.std.proofs.lemmas.Result.{err_from_is_err_and}
-use Rattle.xor_chunks.specs.declared.last.Last.{Last}
-use Rattle.xor_chunks.specs.Buffer.{front, Shows}
-use Rattle.xor_chunks.specs.Steps.{behind, change_at, follow_at, next_at}
+use Rattle.xor_chunks.specs.Buffer.{front}
 use Rattle.xor_chunks.proofs.Takes.{no_change}
-use Rattle.xor_chunks.proofs.Peeks.{next_behind, next_known, shows_less}
+use Rattle.xor_chunks.proofs.Peeks.{next_known, shows_less}
 use Rattle.xor_chunks.proofs.step.next.Goals as goal
 
 pub next_by_long_change-requires : goal.next_by_long_change-requires

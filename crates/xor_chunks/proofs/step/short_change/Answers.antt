@@ -1,4 +1,4 @@
-use Rattle.std.proofs.Common.{◌≡◌, ap, sym, ◌∙◌, arith, rules}
+use Rattle.std.proofs.Common.{sym, ◌∙◌, arith}
 use Rattle.xor_chunks.proofs.Takes.{row_10, row_110, row_1110}
 use Rattle.xor_chunks.proofs.Peeks.{row_told}
 use Rattle.xor_chunks.proofs.step.short_change.Goals as goal

@@ -1,4 +1,4 @@
-use Rattle.std.proofs.Common.{◌≡◌, ◌<◌, ◌≤◌, ◌+◌, ap, sym, ◌∙◌, arith}
+use Rattle.std.proofs.Common.{◌+◌, ap, sym, ◌∙◌, arith}
 use Rattle.std.proofs.lemmas.Result.{err_from_is_err_and}
 use Rattle.xor_chunks.specs.Steps.{within_at}
 use Rattle.xor_chunks.specs.Window.{Window}

@@ -1,4 +1,4 @@
-use Rattle.std.proofs.Common.{refl, ap, sym, ◌∙◌, length}
+use Rattle.std.proofs.Common.{refl, sym, ◌∙◌}
 use Rattle.xor_chunks.proofs.Crossings.{lacks, never_short}
 use Rattle.xor_chunks.proofs.taking.half.Goals as goal
 
