@@ -1,0 +1,59 @@
+-- What is appended stands at its place.
+use Rattle.std.proofs.Common.{◌≡◌, ℕ, ◌/◌, ◌<◌, ◌≤◌, List, [], ◌∷◌, ◌++◌, length, refl, sym, ap, subst, ◌∙◌, append_assoc, arith}
+use Rattle.std.specs.Int.{w32, to_be_bytes}
+use Rattle.std.proofs.lemmas.Bool.{le-ltb, lt-ltb}
+use Rattle.std.proofs.lemmas.List.{drop_at, append-nil}
+use Rattle.wire_bytes.specs.Written.{groups_text, uvarint_text}
+use Rattle.chunk_files.specs.Chunk.{IsChunk, IsSegment, IsPlace, IsFilled, header}
+
+segment_more : (bytes more : List ℕ) → IsSegment bytes → IsSegment (bytes ++ more)
+segment_more bytes more h = record {
+  after_magic = h.after_magic ++ more;
+  after = h.after ++ more;
+  magic = (h.magic.0, h.magic.1, ap (λ (a : List ℕ). a ++ more) h.magic.2 ∙ append_assoc h.magic.0 h.after_magic more);
+  version = (h.version.0, h.version.1, ap (λ (a : List ℕ). a ++ more) h.version.2 ∙ append_assoc h.version.0 h.after more);
+}
+
+appended : (bytes frame content : List ℕ) → IsFilled bytes → IsChunk frame content → IsPlace (bytes ++ frame) (length bytes) content
+appended bytes frame content h is = record {
+  begins = segment_more bytes frame h.begins;
+  behind = h.low;
+  stands = ([], (frame, is, drop_at bytes frame (length bytes) refl ∙ sym (append-nil frame)));
+}
+
+pub begun : IsFilled header
+begun = record {
+  begins = record {
+    after_magic = 1 ∷ 0 ∷ 0 ∷ 0 ∷ [];
+    after = 0 ∷ 0 ∷ 0 ∷ [];
+    magic = (to_be_bytes w32 0x85BD40DD, record { digits = refl; fits = omega arith }, refl);
+    version = (1 ∷ [], record { digits = refl; fits = omega arith }, refl);
+  };
+  low = omega arith;
+  high = omega arith;
+}
+
+-- ---- how many bytes a length takes
+
+pub size_1 : (n : ℕ) → n < 128 → length (uvarint_text n) ≡ 1
+unfolding groups_text
+size_1 n lt = rw (lt-ltb n 128 lt) refl
+
+pub size_2 : (n : ℕ) → 128 ≤ n → n < 16384 → length (uvarint_text n) ≡ 2
+unfolding groups_text
+size_2 n le lt = rw (le-ltb n 128 le, lt-ltb (n / 128) 128 (omega arith)) refl
+
+pub size_3 : (n : ℕ) → 16384 ≤ n → n < 2097152 → length (uvarint_text n) ≡ 3
+unfolding groups_text
+size_3 n le lt = rw (le-ltb n 128 (omega arith), le-ltb (n / 128) 128 (omega arith), lt-ltb (n / 128 / 128) 128 (omega arith)) refl
+
+pub size_4 : (n : ℕ) → 2097152 ≤ n → n < 268435456 → length (uvarint_text n) ≡ 4
+unfolding groups_text
+size_4 n le lt = rw (le-ltb n 128 (omega arith), le-ltb (n / 128) 128 (omega arith), le-ltb (n / 128 / 128) 128 (omega arith), lt-ltb (n / 128 / 128 / 128) 128 (omega arith)) refl
+
+pub ruleset sizes = (size_1, size_2, size_3, size_4)
+
+pub placed : (old new frame text content : List ℕ) (offset : ℕ) → IsFilled old → IsChunk text content → frame ≡ text → new ≡ old ++ frame → offset ≡ length old → IsPlace new offset content
+placed old new frame text content offset h is e n o =
+    let here : new ≡ old ++ text = n ∙ ap (λ (a : List ℕ). old ++ a) e in
+    subst (λ (k : ℕ). IsPlace new k content) (sym o) (subst (λ (a : List ℕ). IsPlace a (length old) content) (sym here) (appended old text content h is))

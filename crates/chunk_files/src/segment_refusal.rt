@@ -1,0 +1,37 @@
+ghost use Rattle.std.specs.Prelude.{◌≡◌};
+ghost use Rattle.chunk_files.specs.declared.segment_refusal.SegmentRefusal.TheVariants.{NoMemory as IsNoMemory};
+
+use list_core::NoMemory;
+use std::alloc::{AllocError, AllocFailed};
+
+/// Why a chunk is not appended.
+#[derive(Clone, Copy, Debug, PartialEq, Eq)]
+pub enum SegmentRefusal {
+    /// The segment would pass its greatest length.
+    Full,
+    NoMemory,
+}
+
+impl From<NoMemory> for SegmentRefusal {
+    ghost from_gives = { λ _ e. e ≡ IsNoMemory };
+
+    fn from(_: NoMemory) -> Self {
+        SegmentRefusal::NoMemory
+    }
+}
+
+impl From<AllocError> for SegmentRefusal {
+    ghost from_gives = { λ _ e. e ≡ IsNoMemory };
+
+    fn from(_: AllocError) -> Self {
+        SegmentRefusal::NoMemory
+    }
+}
+
+impl<T: Drop> From<AllocFailed<T>> for SegmentRefusal {
+    ghost from_gives = { λ _ e. e ≡ IsNoMemory };
+
+    fn from(_: AllocFailed<T>) -> Self {
+        SegmentRefusal::NoMemory
+    }
+}

@@ -1,0 +1,200 @@
+-- Taking bits in one piece or in two, and what the first bits tell.
+use Rattle.std.proofs.Common.{◌≡◌, ℕ, zero, suc, ◌+◌, ◌-◌, ◌*◌, ◌/◌, ◌%◌, ◌^◌, ◌<◌, ◌≤◌, Bool, true, false, cond, ltb, List, [], ◌∷◌, ◌++◌, length, take, drop, Result, Ok, Err, refl, sym, ap, subst, ◌∙◌, append_assoc, arith, inl, inr, ◌⊎◌, length-append, ℤ, pos}
+use Rattle.std.specs.Prelude.{replicate, FitsSigned, bit_and}
+use Rattle.std.specs.Int.{cast_signed, cast_unsigned, w64}
+use Rattle.std.proofs.lemmas.Bool.{lt-ltb, le-ltb, ltb-false, cases_lt}
+use Rattle.std.proofs.lemmas.List.{take_at as take_first, drop_at, take-append-drop, take-append-le, length-take-le, replicate_more, take_all, length-replicate}
+use Rattle.std.proofs.lemmas.Nat.{shr_below, mod_below, pow_pos, one_shl, and_mask}
+use Rattle.std.proofs.lemmas.Int.{to_z-of_z}
+use Rattle.std.proofs.Math.Nat.{mod-eq_of_lt}
+use Rattle.reading_core.specs.Reading.{◌>>=◌}
+use Rattle.reading_core.proofs.Binds.{cond_ok, ok_is, err_is}
+use Rattle.xor_chunks.specs.declared.refusal.XorRefusal.{XorRefusal}
+use Rattle.xor_chunks.specs.declared.refusal.XorRefusal.TheVariants.{Short}
+use Rattle.xor_chunks.specs.Bits.{bits_of, number_of}
+use Rattle.xor_chunks.specs.Buffer.{front}
+use Rattle.xor_chunks.specs.Steps.{Reads, take_at, field_at, field_value, field_behind, whole_field_at, change_at}
+use Rattle.xor_chunks.proofs.BitLists.{length-bits_of, number_of-bits_of, number_of-lt, bits_of-number_of, bits_of-append, bits_of-mod}
+
+-- ---- taking
+
+pub take_again : (count n : ℕ) (after : List Bool) → n < 2 ^ count → take_at count (bits_of count n ++ after) ≡ Ok (n, after)
+unfolding take_at
+take_again count n after lt =
+    let len = length-bits_of count n in
+    rw (le-ltb (length (bits_of count n ++ after)) count (omega (arith, length-append (bits_of count n) after, len)), take_first (bits_of count n) after count len, drop_at (bits_of count n) after count len, number_of-bits_of count n, mod-eq_of_lt lt) refl
+
+pub take_short : (count : ℕ) (bits : List Bool) → length bits < count → take_at count bits ≡ Err Short
+unfolding take_at
+take_short count bits lt = rw (lt-ltb (length bits) count lt) refl
+
+-- what is taken stood in front
+pub take_found : (count : ℕ) (bits : List Bool) (n : ℕ) (after : List Bool) → take_at count bits ≡ Ok (n, after) → (bits ≡ bits_of count n ++ after) × (n < 2 ^ count)
+unfolding take_at
+take_found count bits n after e =
+    let all : Result (ℕ × List Bool) XorRefusal = Ok (number_of (take count bits), drop count bits) in
+    let g = cond_ok (ltb (length bits) count) Short all (n, after) e in
+    let long : count ≤ length bits = ltb-false (length bits) count g.0 in
+    let both : (number_of (take count bits), drop count bits) ≡ (n, after) = ok_is {E = XorRefusal} _ _ g.1 in
+    let number : number_of (take count bits) ≡ n = ap (λ (p : ℕ × List Bool). p.0) both in
+    let len : length (take count bits) ≡ count = length-take-le count bits long in
+    let same : bits_of count n ≡ take count bits = ap (bits_of count) (sym number) ∙ ap (λ k. bits_of k (number_of (take count bits))) (sym len) ∙ bits_of-number_of (take count bits) in
+    let below : n < 2 ^ count = subst (λ k. n < 2 ^ k) len (subst (λ m. m < 2 ^ length (take count bits)) number (number_of-lt (take count bits))) in
+    (sym (take-append-drop count bits) ∙ ap (λ (a : List Bool). a ++ drop count bits) (sym same) ∙ ap (λ (a : List Bool). bits_of count n ++ a) (ap (λ (p : ℕ × List Bool). p.1) both), below)
+
+-- too few bits, or enough
+pub take_cases : (count : ℕ) (bits : List Bool) → (take_at count bits ≡ Err Short) ⊎ ((n : ℕ) × (after : List Bool) × (n < 2 ^ count) × (bits ≡ bits_of count n ++ after))
+take_cases count bits = elim (cases_lt (length bits) count) [
+  | inl lt ↦ inl (take_short count bits lt)
+  | inr le ↦ inr (
+      let len : length (take count bits) ≡ count = length-take-le count bits le in
+      let same : take count bits ≡ bits_of count (number_of (take count bits)) = sym (ap (λ k. bits_of k (number_of (take count bits))) (sym len) ∙ bits_of-number_of (take count bits)) in
+      (number_of (take count bits), drop count bits, subst (λ k. number_of (take count bits) < 2 ^ k) len (number_of-lt (take count bits)), sym (take-append-drop count bits) ∙ ap (λ (a : List Bool). a ++ drop count bits) same))
+]
+
+enough_taken : (count : ℕ) (bits : List Bool) (e : XorRefusal) → count ≤ length bits → take_at count bits ≡ Err e → ⊥
+unfolding take_at
+enough_taken count bits e le h = let same = rw (le-ltb (length bits) count le) at h in cc
+
+pub take_err : (count : ℕ) (bits : List Bool) (e : XorRefusal) → take_at count bits ≡ Err e → (e ≡ Short) × (length bits < count)
+take_err count bits e h = elim (cases_lt (length bits) count) [
+  | inl lt ↦ (sym (err_is {A = ℕ × List Bool} Short e (sym (take_short count bits lt) ∙ h)), lt)
+  | inr le ↦ absurd (enough_taken count bits e le h)
+]
+
+-- a field behind known bits, from both in one piece
+pub field_found : (known width both : ℕ) (bits after : List Bool) → take_at (known + width) bits ≡ Ok (both, after) → field_behind known width bits ≡ Ok (field_value width (both % 2 ^ width), after)
+unfolding field_behind field_at
+field_found known width both bits after e =
+    let found = take_found (known + width) bits both after e in
+    let parts : bits ≡ bits_of known (both / 2 ^ width) ++ (bits_of width (both % 2 ^ width) ++ after) =
+    found.0 ∙ ap (λ (a : List Bool). a ++ after) (bits_of-append known width both ∙ ap (λ (a : List Bool). bits_of known (both / 2 ^ width) ++ a) (sym (bits_of-mod width both))) ∙ append_assoc (bits_of known (both / 2 ^ width)) (bits_of width (both % 2 ^ width)) after in
+    let first : take_at known bits ≡ Ok (both / 2 ^ width, bits_of width (both % 2 ^ width) ++ after) = ap (take_at known) parts ∙ take_again known (both / 2 ^ width) (bits_of width (both % 2 ^ width) ++ after) (shr_below both known width found.1) in
+    rw (first, take_again width (both % 2 ^ width) after (mod_below both (2 ^ width) (pow_pos width))) refl
+
+pub field_short : (known width : ℕ) (bits : List Bool) (e : XorRefusal) → take_at (known + width) bits ≡ Err e → field_behind known width bits ≡ Err e
+unfolding field_behind field_at
+field_short known width bits e h =
+    let short = take_err (known + width) bits e h in
+    elim (take_cases known bits) [
+      | inl no_known ↦ rw (no_known, short.0) refl
+      | inr parts ↦
+          let first : take_at known bits ≡ Ok (parts.0, parts.1) = ap (take_at known) parts.3 ∙ take_again known parts.0 parts.1 parts.2 in
+          let lacks : length parts.1 < width = omega (arith, short.1, ap length parts.3, length-append (bits_of known parts.0) parts.1, length-bits_of known parts.0) in
+          rw (first, take_short width parts.1 lacks, short.0) refl
+    ]
+
+-- ---- the first bits
+
+number_of-cons : (bit : Bool) (bits : List Bool) → number_of (bit ∷ bits) ≡ cond bit (2 ^ length bits) 0 + number_of bits
+unfolding number_of
+number_of-cons bit bits = refl
+
+pub number_of-zeros : (n : ℕ) → number_of (replicate n false) ≡ 0
+unfolding number_of
+number_of-zeros zero = refl
+number_of-zeros (suc n) = omega (arith, number_of-zeros n)
+
+pub front-lt : (n : ℕ) (bits : List Bool) → front n bits < 2 ^ n
+front-lt n bits =
+    let enough : n ≤ length (bits ++ replicate n false) = omega (arith, length-append bits (replicate n false), length-replicate n false) in
+    subst (λ k. front n bits < 2 ^ k) (length-take-le n (bits ++ replicate n false) enough) (number_of-lt (take n (bits ++ replicate n false)))
+
+pub front-nil : (n : ℕ) → front n [] ≡ 0
+front-nil n = ap number_of (take_all n (replicate n false) (omega (arith, length-replicate n false))) ∙ number_of-zeros n
+
+pub front-cons : (n : ℕ) (bit : Bool) (bits : List Bool) → front (suc n) (bit ∷ bits) ≡ cond bit (2 ^ n) 0 + front n bits
+front-cons n bit bits =
+    let next : n + 1 ≡ suc n = omega arith in
+    let zeros : replicate (suc n) false ≡ replicate n false ++ false ∷ [] = sym (replicate_more n false ∙ ap (λ k. replicate k false) next) in
+    let enough : n ≤ length (bits ++ replicate n false) = omega (arith, length-append bits (replicate n false), length-replicate n false) in
+    let same : take n (bits ++ replicate (suc n) false) ≡ take n (bits ++ replicate n false) =
+    ap (λ (a : List Bool). take n a) (ap (λ (a : List Bool). bits ++ a) zeros ∙ sym (append_assoc bits (replicate n false) (false ∷ []))) ∙ take-append-le n (bits ++ replicate n false) (false ∷ []) enough in
+    number_of-cons bit (take n (bits ++ replicate (suc n) false)) ∙ ap (λ (a : List Bool). cond bit (2 ^ length a) 0 + number_of a) same ∙ ap (λ k. cond bit (2 ^ k) 0 + front n bits) (length-take-le n (bits ++ replicate n false) enough)
+
+-- ---- which row a change stands in
+
+pub no_change : (bits : List Bool) → front 1 bits ≡ 0 → change_at bits ≡ (take_at 1 bits >>= λ p. Ok (pos 0, p.1))
+unfolding change_at take_at
+no_change [] e = refl
+no_change (false ∷ bits) e = rw (le-ltb (length (false ∷ bits)) 1 (omega arith)) refl
+no_change (true ∷ bits) e = absurd (omega (arith, e, front-cons 0 true bits))
+
+pub row_10 : (bits : List Bool) → front 2 bits ≡ 2 → change_at bits ≡ field_behind 2 14 bits
+unfolding change_at take_at field_behind
+row_10 [] e = refl
+row_10 (true ∷ []) e = refl
+row_10 (true ∷ false ∷ bits) e = rw (le-ltb (length (true ∷ false ∷ bits)) 2 (omega arith)) refl
+row_10 (true ∷ true ∷ bits) e = absurd (omega (arith, e, front-cons 1 true (true ∷ bits), front-cons 0 true bits))
+row_10 (false ∷ bits) e = absurd (omega (arith, e, front-cons 1 false bits, front-lt 1 bits))
+
+pub row_110 : (bits : List Bool) → front 3 bits ≡ 6 → change_at bits ≡ field_behind 3 17 bits
+unfolding change_at take_at field_behind
+row_110 [] e = refl
+row_110 (true ∷ []) e = refl
+row_110 (true ∷ true ∷ []) e = refl
+row_110 (true ∷ true ∷ false ∷ bits) e = rw (le-ltb (length (true ∷ true ∷ false ∷ bits)) 3 (omega arith)) refl
+row_110 (true ∷ true ∷ true ∷ bits) e = absurd (omega (arith, e, front-cons 2 true (true ∷ true ∷ bits), front-cons 1 true (true ∷ bits), front-cons 0 true bits))
+row_110 (true ∷ false ∷ bits) e = absurd (omega (arith, e, front-cons 2 true (false ∷ bits), front-cons 1 false bits, front-lt 1 bits))
+row_110 (false ∷ bits) e = absurd (omega (arith, e, front-cons 2 false bits, front-lt 2 bits))
+
+pub row_1110 : (bits : List Bool) → front 4 bits ≡ 14 → change_at bits ≡ field_behind 4 20 bits
+unfolding change_at take_at field_behind
+row_1110 [] e = refl
+row_1110 (true ∷ []) e = refl
+row_1110 (true ∷ true ∷ []) e = refl
+row_1110 (true ∷ true ∷ true ∷ []) e = refl
+row_1110 (true ∷ true ∷ true ∷ false ∷ bits) e = rw (le-ltb (length (true ∷ true ∷ true ∷ false ∷ bits)) 4 (omega arith)) refl
+row_1110 (true ∷ true ∷ true ∷ true ∷ bits) e = absurd (omega (arith, e, front-cons 3 true (true ∷ true ∷ true ∷ bits), front-cons 2 true (true ∷ true ∷ bits), front-cons 1 true (true ∷ bits), front-cons 0 true bits))
+row_1110 (true ∷ true ∷ false ∷ bits) e = absurd (omega (arith, e, front-cons 3 true (true ∷ false ∷ bits), front-cons 2 true (false ∷ bits), front-cons 1 false bits, front-lt 1 bits))
+row_1110 (true ∷ false ∷ bits) e = absurd (omega (arith, e, front-cons 3 true (false ∷ bits), front-cons 2 false bits, front-lt 2 bits))
+row_1110 (false ∷ bits) e = absurd (omega (arith, e, front-cons 3 false bits, front-lt 3 bits))
+
+pub row_1111 : (bits : List Bool) → front 4 bits ≡ 15 → change_at bits ≡ (take_at 4 bits >>= λ p. whole_field_at p.1)
+unfolding change_at take_at
+row_1111 [] e = refl
+row_1111 (true ∷ []) e = refl
+row_1111 (true ∷ true ∷ []) e = refl
+row_1111 (true ∷ true ∷ true ∷ []) e = refl
+row_1111 (true ∷ true ∷ true ∷ true ∷ bits) e = rw (le-ltb (length (true ∷ true ∷ true ∷ true ∷ bits)) 4 (omega arith)) refl
+row_1111 (true ∷ true ∷ true ∷ false ∷ bits) e = absurd (omega (arith, e, front-cons 3 true (true ∷ true ∷ false ∷ bits), front-cons 2 true (true ∷ false ∷ bits), front-cons 1 true (false ∷ bits), front-cons 0 false bits, front-lt 0 bits))
+row_1111 (true ∷ true ∷ false ∷ bits) e = absurd (omega (arith, e, front-cons 3 true (true ∷ false ∷ bits), front-cons 2 true (false ∷ bits), front-cons 1 false bits, front-lt 1 bits))
+row_1111 (true ∷ false ∷ bits) e = absurd (omega (arith, e, front-cons 3 true (false ∷ bits), front-cons 2 false bits, front-lt 2 bits))
+row_1111 (false ∷ bits) e = absurd (omega (arith, e, front-cons 3 false bits, front-lt 3 bits))
+
+-- the low bits, as the code masks them
+pub masked : (n width : ℕ) → width < 64 → bit_and n (1 * 2 ^ width % 2 ^ 64 - 1) ≡ n % 2 ^ width
+masked n width lt = ap (λ m. bit_and n (m - 1)) (one_shl width 64 lt) ∙ and_mask n width
+
+-- a signed number as the code gives it
+pub cast_is : (z v : ℤ) (after : List Bool) → FitsSigned w64 z → z ≡ v → ◌≡◌ {A = Result (ℤ × List Bool) XorRefusal} (Ok (v, after)) (Ok (cast_signed w64 (cast_unsigned w64 z), after))
+cast_is z v after fits e = ap (λ (w : ℤ). Ok (w, after)) (sym e ∙ sym (to_z-of_z w64 z fits))
+
+-- where no other row fits, the last does
+pub last_row : (word : ℕ) (bits : List Bool) → word < 2 ^ 64 → ((n : ℕ) → n ≤ 4 → word / 2 ^ (64 - n) ≡ front n bits) → (word / 2 ^ 63 ≡ 0 → ⊥) → (word / 2 ^ 62 ≡ 2 → ⊥) → (word / 2 ^ 61 ≡ 6 → ⊥) → (word / 2 ^ 60 ≡ 14 → ⊥) → front 4 bits ≡ 15
+last_row word bits lt fronts a b c d =
+    let fifteen : word / 2 ^ 60 ≡ 15 = omega arith in
+    sym (fronts 4 (omega arith)) ∙ fifteen
+
+-- ---- the same, for bits that were taken
+
+pub no_change_found : (old bits after : List Bool) (n : ℕ) → bits ≡ old → front 1 old ≡ 0 → take_at 1 bits ≡ Ok (n, after) → change_at old ≡ Ok (pos 0, after)
+no_change_found old bits after n same e h = no_change old e ∙ rw (← same, h) refl
+
+pub no_change_short : (old bits : List Bool) (e : XorRefusal) → bits ≡ old → front 1 old ≡ 0 → take_at 1 bits ≡ Err e → change_at old ≡ Err e
+no_change_short old bits refusal same e h = no_change old e ∙ rw (← same, h) refl
+
+pub row_1111_found : (old bits middle after : List Bool) (n field : ℕ) → bits ≡ old → front 4 old ≡ 15 → take_at 4 bits ≡ Ok (n, middle) → take_at 64 middle ≡ Ok (field, after) → change_at old ≡ Ok (cast_signed w64 field, after)
+unfolding whole_field_at
+row_1111_found old bits middle after n field same e h k = row_1111 old e ∙ rw (← same, h, k) refl
+
+pub row_1111_known_short : (old bits : List Bool) (e : XorRefusal) → bits ≡ old → front 4 old ≡ 15 → take_at 4 bits ≡ Err e → change_at old ≡ Err e
+row_1111_known_short old bits refusal same e h = row_1111 old e ∙ rw (← same, h) refl
+
+pub row_1111_short : (old bits middle : List Bool) (n : ℕ) (e : XorRefusal) → bits ≡ old → front 4 old ≡ 15 → take_at 4 bits ≡ Ok (n, middle) → take_at 64 middle ≡ Err e → change_at old ≡ Err e
+unfolding whole_field_at
+row_1111_short old bits middle n refusal same e h k = row_1111 old e ∙ rw (← same, h, k) refl
+
+-- what a call read is what was to be read
+pub reads_same : {Y : Type 0} (after : List Bool) (result : Result Y XorRefusal) (read wanted : Result (Y × List Bool) XorRefusal) → Reads (λ y. y) after result read → read ≡ wanted → Reads (λ y. y) after result wanted
+reads_same {Y = Y} after result read wanted h e = subst (λ (r : Result (Y × List Bool) XorRefusal). Reads (λ y. y) after result r) e h

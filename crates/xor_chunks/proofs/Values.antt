@@ -1,0 +1,102 @@
+-- The bits of a value: the same again, a field in the window that is set, or a field in a new one.
+use Rattle.std.proofs.Common.{◌≡◌, ℕ, ◌+◌, ◌-◌, ◌/◌, ◌%◌, ◌^◌, ◌<◌, ◌≤◌, Bool, true, false, List, [], ◌∷◌, ◌++◌, length, Ok, Err, refl, sym, ap, ◌∙◌, append_assoc, arith, inl, inr, ◌⊎◌, length-append}
+use Rattle.std.proofs.lemmas.Bool.{le-ltb}
+use Rattle.std.proofs.lemmas.Nat.{shr_below, mod_below, pow_pos}
+use Rattle.reading_core.specs.Reading.{◌>>=◌}
+use Rattle.xor_chunks.specs.declared.refusal.XorRefusal.{XorRefusal}
+use Rattle.xor_chunks.specs.Bits.{bits_of}
+use Rattle.xor_chunks.specs.Buffer.{front}
+use Rattle.xor_chunks.specs.Steps.{take_at, value_at, within_at, opened_at}
+use Rattle.xor_chunks.specs.Window.{Window, told_by}
+use Rattle.xor_chunks.proofs.BitLists.{length-bits_of, bits_of-append, bits_of-mod}
+use Rattle.xor_chunks.proofs.Takes.{take_again, take_found, take_short, take_cases, take_err, front-cons, front-lt}
+
+-- two pieces that are taken at once
+pub take_split : (j k n : ℕ) (bits after : List Bool) → take_at (j + k) bits ≡ Ok (n, after) → (take_at j bits ≡ Ok (n / 2 ^ k, bits_of k n ++ after)) × (take_at k (bits_of k n ++ after) ≡ Ok (n % 2 ^ k, after))
+take_split j k n bits after e =
+    let found = take_found (j + k) bits n after e in
+    let parts : bits ≡ bits_of j (n / 2 ^ k) ++ (bits_of k n ++ after) = found.0 ∙ ap (λ (a : List Bool). a ++ after) (bits_of-append j k n) ∙ append_assoc (bits_of j (n / 2 ^ k)) (bits_of k n) after in (
+      ap (take_at j) parts ∙ take_again j (n / 2 ^ k) (bits_of k n ++ after) (shr_below n j k found.1),
+      ap (λ (a : List Bool). take_at k (a ++ after)) (sym (bits_of-mod k n)) ∙ take_again k (n % 2 ^ k) after (mod_below n (2 ^ k) (pow_pos k)),
+    )
+
+pub take_split_short : (j k : ℕ) (bits : List Bool) (e : XorRefusal) → take_at (j + k) bits ≡ Err e → (take_at j bits ≡ Err e) ⊎ ((n : ℕ) × (middle : List Bool) × (take_at j bits ≡ Ok (n, middle)) × (take_at k middle ≡ Err e))
+take_split_short j k bits e h =
+    let short = take_err (j + k) bits e h in
+    elim (take_cases j bits) [
+      | inl lacks ↦ inl (lacks ∙ ap (λ (d : XorRefusal). Err d) (sym short.0))
+      | inr parts ↦
+          let lacks : length parts.1 < k = omega (arith, short.1, ap length parts.3, length-append (bits_of j parts.0) parts.1, length-bits_of j parts.0) in
+          inr (parts.0, parts.1, ap (take_at j) parts.3 ∙ take_again j parts.0 parts.1 parts.2, take_short k parts.1 lacks ∙ ap (λ (d : XorRefusal). Err d) (sym short.0))
+    ]
+
+-- ---- by the first bits
+
+value_same : (pattern : ℕ) (window : Window) (bits : List Bool) → front 1 bits ≡ 0 → value_at pattern window bits ≡ (take_at 1 bits >>= λ b. Ok ((pattern, window), b.1))
+unfolding value_at take_at
+value_same pattern window [] e = refl
+value_same pattern window (false ∷ bits) e = rw (le-ltb (length (false ∷ bits)) 1 (omega arith)) refl
+value_same pattern window (true ∷ bits) e = absurd (omega (arith, e, front-cons 0 true bits))
+
+value_10 : (pattern : ℕ) (window : Window) (bits : List Bool) → front 2 bits ≡ 2 → value_at pattern window bits ≡ (take_at 2 bits >>= λ b. within_at pattern window b.1)
+unfolding value_at take_at
+value_10 pattern window [] e = refl
+value_10 pattern window (true ∷ []) e = refl
+value_10 pattern window (true ∷ false ∷ bits) e = rw (le-ltb (length (true ∷ false ∷ bits)) 2 (omega arith)) refl
+value_10 pattern window (true ∷ true ∷ bits) e = absurd (omega (arith, e, front-cons 1 true (true ∷ bits), front-cons 0 true bits))
+value_10 pattern window (false ∷ bits) e = absurd (omega (arith, e, front-cons 1 false bits, front-lt 1 bits))
+
+value_11 : (pattern : ℕ) (window : Window) (bits : List Bool) → front 2 bits ≡ 3 → value_at pattern window bits ≡ (take_at 2 bits >>= λ b. opened_at pattern b.1)
+unfolding value_at take_at
+value_11 pattern window [] e = refl
+value_11 pattern window (true ∷ []) e = refl
+value_11 pattern window (true ∷ true ∷ bits) e = rw (le-ltb (length (true ∷ true ∷ bits)) 2 (omega arith)) refl
+value_11 pattern window (true ∷ false ∷ bits) e = absurd (omega (arith, e, front-cons 1 true (false ∷ bits), front-cons 0 false bits, front-lt 0 bits))
+value_11 pattern window (false ∷ bits) e = absurd (omega (arith, e, front-cons 1 false bits, front-lt 1 bits))
+
+pub same_found : (pattern n : ℕ) (window : Window) (old bits after : List Bool) → bits ≡ old → front 1 old ≡ 0 → take_at 1 bits ≡ Ok (n, after) → value_at pattern window old ≡ Ok ((pattern, window), after)
+same_found pattern n window old bits after same e h = value_same pattern window old e ∙ rw (← same, h) refl
+
+pub same_short : (pattern : ℕ) (window : Window) (old bits : List Bool) (e : XorRefusal) → bits ≡ old → front 1 old ≡ 0 → take_at 1 bits ≡ Err e → value_at pattern window old ≡ Err e
+same_short pattern window old bits refusal same e h = value_same pattern window old e ∙ rw (← same, h) refl
+
+pub within_found : (pattern n : ℕ) (window : Window) (old bits after : List Bool) → bits ≡ old → front 2 old ≡ 2 → take_at 2 bits ≡ Ok (n, after) → value_at pattern window old ≡ within_at pattern window after
+within_found pattern n window old bits after same e h = value_10 pattern window old e ∙ rw (← same, h) refl
+
+pub within_short : (pattern : ℕ) (window : Window) (old bits : List Bool) (e : XorRefusal) → bits ≡ old → front 2 old ≡ 2 → take_at 2 bits ≡ Err e → value_at pattern window old ≡ Err e
+within_short pattern window old bits refusal same e h = value_10 pattern window old e ∙ rw (← same, h) refl
+
+-- a window that is told at once with the bits that say so
+opened_is : (pattern head : ℕ) (bits after : List Bool) → take_at 11 bits ≡ Ok (head % 2 ^ 11, after) → opened_at pattern bits ≡ within_at pattern (told_by head) after
+unfolding opened_at within_at
+opened_is pattern head bits after e =
+    let parts = take_split 5 6 (head % 2 ^ 11) bits after e in
+    let lead : head % 2 ^ 11 / 2 ^ 6 ≡ head / 64 % 32 = omega arith in
+    let width : head % 2 ^ 11 % 2 ^ 6 ≡ head % 64 = omega arith in
+    rw (parts.0, parts.1, lead, width) refl
+
+pub opened_found : (pattern head : ℕ) (window : Window) (old bits after : List Bool) → bits ≡ old → front 2 old ≡ 3 → take_at 13 bits ≡ Ok (head, after) → value_at pattern window old ≡ within_at pattern (told_by head) after
+opened_found pattern head window old bits after same e h =
+    let parts = take_split 2 11 head bits after h in
+    value_11 pattern window old e ∙ rw (← same, parts.0) (opened_is pattern head (bits_of 11 head ++ after) after parts.1)
+
+opened_lacks : (pattern : ℕ) (bits : List Bool) (e : XorRefusal) → take_at 11 bits ≡ Err e → opened_at pattern bits ≡ Err e
+unfolding opened_at
+opened_lacks pattern bits e h =
+    elim (take_split_short 5 6 bits e h) [
+      | inl lacks ↦ rw lacks refl
+      | inr parts ↦ rw (parts.2, parts.3) refl
+    ]
+
+pub opened_short : (pattern : ℕ) (window : Window) (old bits : List Bool) (e : XorRefusal) → bits ≡ old → front 2 old ≡ 3 → take_at 13 bits ≡ Err e → value_at pattern window old ≡ Err e
+opened_short pattern window old bits refusal same e h =
+    value_11 pattern window old e ∙ elim (take_split_short 2 11 bits refusal h) [
+      | inl lacks ↦ rw (← same, lacks) refl
+      | inr parts ↦ rw (← same, parts.2) (opened_lacks pattern parts.1 refusal parts.3)
+    ]
+
+-- where no other word fits, the bits tell a window
+pub eleven : (word : ℕ) (bits : List Bool) → word < 2 ^ 64 → ((n : ℕ) → n ≤ 2 → word / 2 ^ (64 - n) ≡ front n bits) → (word / 2 ^ 63 ≡ 0 → ⊥) → (word / 2 ^ 62 ≡ 2 → ⊥) → front 2 bits ≡ 3
+eleven word bits lt fronts a b =
+    let three : word / 2 ^ 62 ≡ 3 = omega arith in
+    sym (fronts 2 (omega arith)) ∙ three

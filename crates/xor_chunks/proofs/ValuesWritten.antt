@@ -1,0 +1,150 @@
+-- What the writer puts for a step and for a value is in the grammar.
+use Rattle.std.proofs.Common.{◌≡◌, ℕ, suc, ◌+◌, ◌-◌, ◌*◌, ◌/◌, ◌%◌, ◌^◌, ◌<◌, ◌≤◌, Bool, true, false, cond, List, [], ◌∷◌, ◌++◌, refl, sym, ap, subst, ◌∙◌, arith, inl, inr, ℤ, pos, negsuc}
+use Rattle.std.specs.Prelude.{bit_xor, nat_le, FitsSigned, ◌&&◌}
+use Rattle.std.specs.Int.{cast_unsigned, w64, leading_zeros, trailing_zeros}
+use Rattle.std.specs.Int.Bits.{xor_self, xor_assoc, xor_zero_l, xor_zero_r}
+use Rattle.std.specs.Ordering.{int_eq}
+use Rattle.std.proofs.lemmas.Bool.{leb-true, ltb-true, cases_eq, eq-eqb, ne_eqb}
+use Rattle.std.proofs.lemmas.Bool.Decides.{Decides-int_eq}
+use Rattle.std.proofs.lemmas.Int.{ints, to_z-of_z}
+use Rattle.std.proofs.lemmas.Nat.{xor_lt, shr_below, shr_split, mod_below, pow_pos}
+use Rattle.xor_chunks.specs.declared.setting.Setting.{Setting}
+use Rattle.xor_chunks.specs.declared.setting.Setting.TheVariants.{Unset, Set}
+use Rattle.xor_chunks.specs.Bits.{bits_of}
+use Rattle.xor_chunks.specs.Window.{Window, whole, IsInside}
+use Rattle.xor_chunks.specs.Written.{fits_field, change_bits, trail, window_round, is_round, in_window, reused, coded, kept, value_bits, window_after}
+use Rattle.xor_chunks.specs.Grammar.{StandsFor, IsRow, IsChange, unchanged, row_14, row_17, row_20, row_64, IsWithin, IsValue, same_pattern, in_window as within_window, opens}
+use Rattle.xor_chunks.proofs.BitLists.{bits_of-mod}
+use Rattle.xor_chunks.proofs.Zeros.{trailing_low, leading_below, counts_apart}
+
+both_true : (a b : Bool) → (a && b) ≡ true → (a ≡ true) × (b ≡ true)
+both_true true b e = (refl, e)
+both_true false b e = absurd cc
+
+-- the window that a reader has where the writer has set this one or none
+abbrev pub seen : Setting → Window
+seen Unset = whole
+seen (Set w) = w
+
+xor_back : (a b : ℕ) → bit_xor a (bit_xor a b) ≡ b
+xor_back a b = sym (xor_assoc a a b) ∙ ap (λ (x : ℕ). bit_xor x b) (xor_self a) ∙ xor_zero_l b
+
+no_change : (a b : ℕ) → bit_xor a b ≡ 0 → b ≡ a
+no_change a b e = sym (xor_back a b) ∙ ap (bit_xor a) e ∙ xor_zero_r a
+
+-- ---- values
+
+-- a window that leaves no bit of the change out
+record IsRound (w : Window) (change : ℕ) : Type 0 where
+  inside : IsInside w
+  lead : w.lead ≤ leading_zeros w64 change
+  trail : trail w ≤ trailing_zeros w64 change
+
+within_written : (w : Window) (before pattern : ℕ) → before < 2 ^ 64 → pattern < 2 ^ 64 → (bit_xor before pattern ≡ 0 → ⊥) → IsRound w (bit_xor before pattern) → IsWithin w before (in_window w (bit_xor before pattern)) pattern
+within_written w before pattern b p some h =
+    let change = bit_xor before pattern in
+    let below : change < 2 ^ 64 = xor_lt 64 before pattern b p in
+    let inside : w.lead + w.width ≤ 64 = h.inside in
+    let shifted : 64 - w.lead ≡ w.width + trail w = omega arith in
+    let short : change < 2 ^ (w.width + trail w) = subst (λ (k : ℕ). change < 2 ^ k) shifted (leading_below change w.lead below h.lead) in
+    let low : change % 2 ^ trail w ≡ 0 = trailing_low change (trail w) (omega (arith, some)) below h.trail in
+    let back : change / 2 ^ trail w * 2 ^ trail w ≡ change = omega (arith, shr_split change (trail w), low) in
+    record {
+      field = change / 2 ^ trail w;
+      fits = shr_below change w.width (trail w) short;
+      text = refl;
+      value = sym (ap (bit_xor before) back ∙ xor_back before pattern);
+      inside = h.inside;
+    }
+
+round_is : (change : ℕ) → change < 2 ^ 64 → (change ≡ 0 → ⊥) → IsRound (window_round change) change × ((window_round change).lead < 32) × (0 < (window_round change).width)
+round_is change below some =
+    let apart = counts_apart change (omega (arith, some)) below in
+    (record { inside = omega (arith, apart); lead = omega arith; trail = omega (arith, apart) }, omega arith, omega (arith, apart))
+
+opens_written : (window : Window) (before pattern : ℕ) → before < 2 ^ 64 → pattern < 2 ^ 64 → (bit_xor before pattern ≡ 0 → ⊥) → IsValue window before (coded Unset (bit_xor before pattern)) pattern (window_round (bit_xor before pattern))
+opens_written window before pattern b p some =
+    let change = bit_xor before pattern in
+    let round = round_is change (xor_lt 64 before pattern b p) some in
+    opens _ refl (record {
+      lead = round.1;
+      some = round.2;
+      few = omega arith;
+      within = in_window (window_round change) change;
+      text = refl;
+      field = within_written (window_round change) before pattern b p some round.0;
+    })
+
+-- a window that was set lies within a pattern
+abbrev pub IsSeen : Setting → Type 0
+IsSeen Unset = Unit {0}
+IsSeen (Set w) = IsInside w
+
+set_written : (w : Window) (before pattern : ℕ) (round : Bool) → is_round w (bit_xor before pattern) ≡ round → IsInside w → before < 2 ^ 64 → pattern < 2 ^ 64 → (bit_xor before pattern ≡ 0 → ⊥)
+    → IsValue w before (coded (cond round (Set w) Unset) (bit_xor before pattern)) pattern (seen (kept (cond round (Set w) Unset) (bit_xor before pattern)))
+set_written w before pattern true e inside b p some =
+    let change = bit_xor before pattern in
+    let both = both_true (nat_le w.lead (leading_zeros w64 change)) (nat_le (trail w) (trailing_zeros w64 change)) e in
+    within_window (in_window w change) refl refl (within_written w before pattern b p some (record { inside = inside; lead = leb-true _ _ both.0; trail = leb-true _ _ both.1 }))
+set_written w before pattern false e inside b p some = opens_written w before pattern b p some
+
+change_written : (set : Setting) (before pattern : ℕ) → IsSeen set → before < 2 ^ 64 → pattern < 2 ^ 64 → (bit_xor before pattern ≡ 0 → ⊥) → IsValue (seen set) before (coded (reused set (bit_xor before pattern)) (bit_xor before pattern)) pattern (seen (kept (reused set (bit_xor before pattern)) (bit_xor before pattern)))
+change_written Unset before pattern h b p some = opens_written whole before pattern b p some
+change_written (Set w) before pattern h b p some = set_written w before pattern (is_round w (bit_xor before pattern)) refl h b p some
+
+pub value_written : (set : Setting) (before pattern : ℕ) → IsSeen set → before < 2 ^ 64 → pattern < 2 ^ 64 → IsValue (seen set) before (value_bits set (bit_xor before pattern)) pattern (seen (window_after set (bit_xor before pattern)))
+unfolding value_bits window_after
+value_written set before pattern h b p =
+    elim (cases_eq (bit_xor before pattern) 0) [
+      | inl none ↦ rw (eq-eqb (bit_xor before pattern) 0 none) (same_pattern refl (no_change before pattern none) refl)
+      | inr some ↦ rw (ne_eqb (bit_xor before pattern) 0 some) (change_written set before pattern h b p some)
+    ]
+
+kept_of : (w : Window) (before pattern : ℕ) (round : Bool) → IsInside w → before < 2 ^ 64 → pattern < 2 ^ 64 → (bit_xor before pattern ≡ 0 → ⊥) → IsSeen (kept (cond round (Set w) Unset) (bit_xor before pattern))
+kept_of w before pattern true h b p some = h
+kept_of w before pattern false h b p some = (round_is (bit_xor before pattern) (xor_lt 64 before pattern b p) some).0.inside
+
+kept_after : (set : Setting) (before pattern : ℕ) → IsSeen set → before < 2 ^ 64 → pattern < 2 ^ 64 → (bit_xor before pattern ≡ 0 → ⊥) → IsSeen (kept (reused set (bit_xor before pattern)) (bit_xor before pattern))
+kept_after Unset before pattern h b p some = (round_is (bit_xor before pattern) (xor_lt 64 before pattern b p) some).0.inside
+kept_after (Set w) before pattern h b p some = kept_of w before pattern (is_round w (bit_xor before pattern)) h b p some
+
+pub kept_seen : (set : Setting) (before pattern : ℕ) → IsSeen set → before < 2 ^ 64 → pattern < 2 ^ 64 → IsSeen (window_after set (bit_xor before pattern))
+unfolding window_after
+kept_seen set before pattern h b p =
+    elim (cases_eq (bit_xor before pattern) 0) [
+      | inl none ↦ rw (eq-eqb (bit_xor before pattern) 0 none) h
+      | inr some ↦ rw (ne_eqb (bit_xor before pattern) 0 some) (kept_after set before pattern h b p some)
+    ]
+
+-- ---- steps
+
+row_is : (width : ℕ) (front : List Bool) (n : ℕ) (z : ℤ) → StandsFor width (n % 2 ^ width) z → IsRow front width (front ++ bits_of width n) z
+row_is width front n z h = record { field = n % 2 ^ width; fits = mod_below n (2 ^ width) (pow_pos width); text = ap (λ (a : List Bool). front ++ a) (sym (bits_of-mod width n)); value = h }
+
+fits_14 : (z : ℤ) → fits_field 14 z ≡ true → StandsFor 14 (cast_unsigned w64 z % 2 ^ 14) z
+fits_14 (pos n) e = let le = leb-true n 8192 e in inl (omega (arith, ints, le), omega (arith, ints, le))
+fits_14 (negsuc n) e = let lt = ltb-true (suc n) 8192 e in inr (omega (arith, ints, lt), omega (arith, ints, lt))
+
+fits_17 : (z : ℤ) → fits_field 17 z ≡ true → StandsFor 17 (cast_unsigned w64 z % 2 ^ 17) z
+fits_17 (pos n) e = let le = leb-true n 65536 e in inl (omega (arith, ints, le), omega (arith, ints, le))
+fits_17 (negsuc n) e = let lt = ltb-true (suc n) 65536 e in inr (omega (arith, ints, lt), omega (arith, ints, lt))
+
+fits_20 : (z : ℤ) → fits_field 20 z ≡ true → StandsFor 20 (cast_unsigned w64 z % 2 ^ 20) z
+fits_20 (pos n) e = let le = leb-true n 524288 e in inl (omega (arith, ints, le), omega (arith, ints, le))
+fits_20 (negsuc n) e = let lt = ltb-true (suc n) 524288 e in inr (omega (arith, ints, lt), omega (arith, ints, lt))
+
+cast_below : (z : ℤ) → FitsSigned w64 z → cast_unsigned w64 z < 2 ^ 64
+cast_below (pos n) fits = omega (arith, ints, fits.sfits)
+cast_below (negsuc n) fits = omega (arith, ints, fits.sfits)
+
+rows : (z : ℤ) (none a b d : Bool) → FitsSigned w64 z → int_eq z (pos 0) ≡ none → fits_field 14 z ≡ a → fits_field 17 z ≡ b → fits_field 20 z ≡ d
+    → IsChange (cond none (false ∷ []) (cond a (true ∷ false ∷ bits_of 14 (cast_unsigned w64 z)) (cond b (true ∷ true ∷ false ∷ bits_of 17 (cast_unsigned w64 z)) (cond d (true ∷ true ∷ true ∷ false ∷ bits_of 20 (cast_unsigned w64 z)) (true ∷ true ∷ true ∷ true ∷ bits_of 64 (cast_unsigned w64 z)))))) z
+rows z true a b d fits e f g h = unchanged refl ((Decides-int_eq z (pos 0)).0 e)
+rows z false true b d fits e f g h = row_14 (row_is 14 (true ∷ false ∷ []) (cast_unsigned w64 z) z (fits_14 z f))
+rows z false false true d fits e f g h = row_17 (row_is 17 (true ∷ true ∷ false ∷ []) (cast_unsigned w64 z) z (fits_17 z g))
+rows z false false false true fits e f g h = row_20 (row_is 20 (true ∷ true ∷ true ∷ false ∷ []) (cast_unsigned w64 z) z (fits_20 z h))
+rows z false false false false fits e f g h = row_64 (record { field = cast_unsigned w64 z; fits = cast_below z fits; text = refl; value = sym (to_z-of_z w64 z fits) })
+
+pub step_written : (z : ℤ) → FitsSigned w64 z → IsChange (change_bits z) z
+unfolding change_bits
+step_written z fits = rows z (int_eq z (pos 0)) (fits_field 14 z) (fits_field 17 z) (fits_field 20 z) fits refl refl refl refl

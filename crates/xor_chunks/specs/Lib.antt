@@ -1,0 +1,10 @@
+pub mod Bits
+pub mod Buffer
+pub mod Writing
+pub mod Window
+pub mod Refusals
+pub mod Samples
+pub mod Steps
+pub mod Data
+pub mod Grammar
+pub mod Written

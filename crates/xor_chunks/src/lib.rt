@@ -1,0 +1,31 @@
+//! Samples as XOR data: chunks of times and values as bits, read and written exactly.
+#![tactic(auto)]
+
+mod bit_reader;
+mod bit_writer;
+mod code;
+mod decoding;
+mod encoding;
+mod fitting;
+mod last;
+mod put;
+mod refill;
+mod refusal;
+mod setting;
+mod short_bits;
+mod step;
+#[cfg(test)]
+mod stored_chunks;
+mod taking;
+#[cfg(test)]
+mod tests;
+mod window;
+mod words;
+
+pub use bit_reader::BitReader;
+pub use bit_writer::BitWriter;
+pub use decoding::{decode, decode_stored};
+pub use encoding::encode;
+pub use fitting::fit_a_chunk;
+pub use refusal::XorRefusal;
+pub use short_bits::ShortBits;
