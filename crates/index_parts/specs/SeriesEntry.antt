@@ -1,0 +1,65 @@
+-- A series as it stands in an index: its labels as symbol numbers, and the places of its chunks, each told from the one
+-- before it.
+use Rattle.std.specs.Prelude.{◌≡◌, ℕ, ◌+◌, ◌*◌, ◌^◌, ◌<◌, List, ◌++◌, length, zip, Option, Some, None, ℤ, pos, ◌+ℤ◌, ◌<ℤ◌}
+use Rattle.std.specs.Int.{w32}
+use Rattle.std.specs.List.{flat_map}
+use Rattle.reading_core.specs.Grammar.{AreTexts}
+use Rattle.wire_bytes.specs.FieldTexts.{IsUvarint, IsVarint}
+use Rattle.index_parts.specs.declared.chunk_place.ChunkPlace.{ChunkPlace}
+use Rattle.index_parts.specs.declared.raw_series.RawSeries.{RawSeries}
+use Rattle.index_parts.specs.Turns.{AreInTurn}
+use Rattle.index_parts.specs.Framed.{IsEntry}
+
+-- a chunk's reference: the number of its segment file, and below it the place in the file
+abbrev pub reference_of : ChunkPlace → ℕ
+reference_of chunk = chunk.segment * 2 ^ 32 + chunk.offset
+
+-- the symbol numbers of a name and of its value
+pub record IsLabel (text : List ℕ) (label : ℕ × ℕ) : Type 0 where
+  pub name : List ℕ
+  pub value : List ℕ
+  pub name_is : IsUvarint name label.0
+  pub value_is : IsUvarint value label.1
+  pub text_is : text ≡ name ++ value
+
+-- The first chunk's begin is told itself, that of a later one by how long it comes after the end of the one before it.
+abbrev pub Begins : Option ChunkPlace → List ℕ → ℤ → Type 0
+Begins None text min = IsVarint text min
+Begins (Some before) text min = (gap : ℕ) × IsUvarint text gap × (min ≡ before.max +ℤ pos gap)
+
+-- The first chunk's reference is told itself, that of a later one by how far it is from the one before it.
+abbrev pub Refers : Option ChunkPlace → List ℕ → ℕ → Type 0
+Refers None text reference = IsUvarint text reference
+Refers (Some before) text reference = (step : ℤ) × IsVarint text step × (pos reference ≡ pos (reference_of before) +ℤ step)
+
+-- a chunk: its begin, how long it lasts, and its reference
+pub record IsNextChunk (before : Option ChunkPlace) (text : List ℕ) (chunk : ChunkPlace) : Type 0 where
+  pub begin : List ℕ
+  pub span : List ℕ
+  pub reference : List ℕ
+  pub lasts : ℕ
+  pub begins : Begins before begin chunk.min
+  pub span_is : IsUvarint span lasts
+  pub max_is : chunk.max ≡ chunk.min +ℤ pos lasts
+  pub within : chunk.max <ℤ pos (2 ^ 63)
+  pub refers : Refers before reference (reference_of chunk)
+  pub segment_fits : chunk.segment < 2 ^ 32
+  pub offset_fits : chunk.offset < 2 ^ 32
+  pub text_is : text ≡ begin ++ span ++ reference
+
+-- At a place of the index stands a series: the labels' count, the labels, the chunks' count and the chunks; bytes may be
+-- left over.
+pub record IsSeries (index : List ℕ) (at : ℕ) (series : RawSeries) : Type 0 where
+  pub content : List ℕ
+  pub label_count : List ℕ
+  pub labels : List ℕ
+  pub chunk_count : List ℕ
+  pub chunks : List ℕ
+  pub left_over : List ℕ
+  pub entry : IsEntry index at content
+  pub content_is : content ≡ label_count ++ labels ++ chunk_count ++ chunks ++ left_over
+  pub as_many : length series.names ≡ length series.values
+  pub label_count_is : IsUvarint label_count (length series.names)
+  pub labels_are : AreTexts IsLabel labels (zip series.names series.values)
+  pub chunk_count_is : IsUvarint chunk_count (length series.chunks)
+  pub chunks_are : AreInTurn IsNextChunk None chunks series.chunks

@@ -1,0 +1,22 @@
+//! The sections of a Prometheus index of version 2, each both ways.
+#![tactic(auto)]
+
+mod chunk_place;
+mod fields;
+mod postings_reading;
+mod postings_row;
+mod raw_series;
+mod refusal;
+mod sections;
+mod symbol_table;
+mod toc;
+mod toc_reading;
+
+pub use chunk_place::{ChunkList, ChunkPlace};
+pub use postings_reading::read_postings;
+pub use postings_row::{PostingsRow, PostingsRowList};
+pub use raw_series::RawSeries;
+pub use refusal::PartRefusal;
+pub use symbol_table::{SymbolTable, read_symbols};
+pub use toc::Toc;
+pub use toc_reading::read_toc;
