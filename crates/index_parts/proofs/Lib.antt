@@ -6,3 +6,6 @@ pub mod TurnLaws
 pub mod Loops
 pub mod ListLaws
 pub mod PostingsLaws
+pub mod SymbolLaws
+pub mod RowLaws
+pub mod TocLaws

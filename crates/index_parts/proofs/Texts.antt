@@ -26,3 +26,5 @@ is_text bytes is = is_utf8-from_IsUtf8 bytes is
 
 pub is_no_text : (bytes : List ℕ) → (IsUtf8 bytes → ⊥) → is_utf8 bytes ≡ false
 is_no_text bytes not = false_from_ne_true (is_utf8 bytes) (λ e. not (IsUtf8-from_is_utf8 bytes e))
+
+pub ruleset utf8_tests = (is_text, is_no_text)

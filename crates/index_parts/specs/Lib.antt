@@ -20,5 +20,6 @@ pub mod Postings
 pub mod PostingsReading
 pub mod Rows
 pub mod RowsReading
+pub mod Lent
 pub mod SeriesEntry
 pub mod SeriesReading

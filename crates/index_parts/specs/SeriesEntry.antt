@@ -1,8 +1,8 @@
 -- A series as it stands in an index: its labels as symbol numbers, and the places of its chunks, each told from the one
 -- before it.
-use Rattle.std.specs.Prelude.{◌≡◌, ℕ, ◌+◌, ◌*◌, ◌^◌, ◌<◌, List, ◌++◌, length, zip, Option, Some, None, ℤ, pos, ◌+ℤ◌, ◌<ℤ◌}
-use Rattle.std.specs.Int.{w32}
-use Rattle.std.specs.List.{flat_map}
+use Rattle.std.specs.Prelude.{◌≡◌, ℕ, ◌+◌, ◌*◌, ◌^◌, ◌<◌, List, ◌++◌, length, zip, Option, Some, None, ℤ, pos, ◌+ℤ◌}
+use Rattle.std.specs.Int.{w64}
+use Rattle.std.specs.Int.RustNames.{FitsSigned}
 use Rattle.reading_core.specs.Grammar.{AreTexts}
 use Rattle.wire_bytes.specs.FieldTexts.{IsUvarint, IsVarint}
 use Rattle.index_parts.specs.declared.chunk_place.ChunkPlace.{ChunkPlace}
@@ -41,7 +41,8 @@ pub record IsNextChunk (before : Option ChunkPlace) (text : List ℕ) (chunk : C
   pub begins : Begins before begin chunk.min
   pub span_is : IsUvarint span lasts
   pub max_is : chunk.max ≡ chunk.min +ℤ pos lasts
-  pub within : chunk.max <ℤ pos (2 ^ 63)
+  pub min_fits : FitsSigned w64 chunk.min
+  pub max_fits : FitsSigned w64 chunk.max
   pub refers : Refers before reference (reference_of chunk)
   pub segment_fits : chunk.segment < 2 ^ 32
   pub offset_fits : chunk.offset < 2 ^ 32

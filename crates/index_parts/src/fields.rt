@@ -1,4 +1,5 @@
-ghost use Rattle.std.specs.Prelude.{◌≡◌, Ok, Err, MatchResult};
+ghost use Rattle.std.specs.Prelude.{◌≡◌, ◌-◌, ◌≤◌, Ok, Err, MatchResult, length, true, false};
+ghost use Rattle.std.specs.Str.{is_utf8};
 ghost use Rattle.std.specs.Int.{w8, w32, w64};
 ghost use Rattle.reading_core.specs.Reading.{Steps};
 ghost use Rattle.wire_bytes.specs.Fields.{bytes_at, number_at, uvarint_at, varint_at};
@@ -92,4 +93,17 @@ pub(crate) fn next_text<'a>(cursor: &mut Cursor<'a>) -> Result<&'a [u8], PartRef
 {
     let size = next_uvarint(cursor)?;
     next_bytes(cursor, size)
+}
+
+/// The bytes that end at a place, as a text.
+#[inline(always)]
+#[tactic(auto, using(crate::proofs::Texts::utf8_tests))]
+pub(crate) fn text_of(bytes: &[u8], end: usize) -> Result<&str, PartRefusal>
+    requires { length bytes.now ≤ end }
+    ensures { MatchResult result (λ text. (is_utf8 bytes.now ≡ true) × (text.now ≡ bytes.now)) (λ e. (is_utf8 bytes.now ≡ false) × (e ≡ PartRefusal.NotText (end - length bytes.now))) }
+{
+    match str::from_utf8(bytes) {
+        Ok(text) => Ok(text),
+        Err(_) => Err(PartRefusal::NotText((end - bytes.len()) as u64)),
+    }
 }

@@ -3,8 +3,10 @@
 
 mod chunk_place;
 mod fields;
+mod lent_row;
 mod postings_reading;
 mod postings_row;
+mod postings_table;
 mod raw_series;
 mod refusal;
 mod sections;
@@ -15,6 +17,7 @@ mod toc_reading;
 pub use chunk_place::{ChunkList, ChunkPlace};
 pub use postings_reading::read_postings;
 pub use postings_row::{PostingsRow, PostingsRowList};
+pub use postings_table::{PostingsTable, read_postings_table};
 pub use raw_series::RawSeries;
 pub use refusal::PartRefusal;
 pub use symbol_table::{SymbolTable, read_symbols};

@@ -8,7 +8,7 @@ ghost use Rattle.index_parts.specs.SymbolsReading.{may_follow, symbol_at, symbol
 ghost use Rattle.index_parts.specs.ListReading.{turns_at};
 
 use crate::PartRefusal;
-use crate::fields::{next_text, next_u32};
+use crate::fields::{next_text, next_u32, text_of};
 use crate::sections::section_of;
 use std::alloc::Global;
 use std::marker::Model;
@@ -63,10 +63,7 @@ fn next_symbol<'a>(cursor: &mut Cursor<'a>, before: Option<&str>) -> Result<&'a 
     if !may_follow(before, bytes) {
         return Err(PartRefusal::Unordered(place));
     }
-    match str::from_utf8(bytes) {
-        Ok(symbol) => Ok(symbol),
-        Err(_) => Err(PartRefusal::NotText((cursor.place() - bytes.len()) as u64)),
-    }
+    text_of(bytes, cursor.place())
 }
 
 /// Reads so many symbols.
