@@ -1,4 +1,5 @@
 pub mod Moves
+pub mod Ranges
 pub mod FieldLaws
 pub mod Texts
 pub mod FrameLaws
@@ -9,3 +10,5 @@ pub mod PostingsLaws
 pub mod SymbolLaws
 pub mod RowLaws
 pub mod TocLaws
+pub mod ChunkLaws
+pub mod SeriesLaws

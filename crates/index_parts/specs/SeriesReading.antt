@@ -12,6 +12,7 @@ use Rattle.index_parts.specs.declared.chunk_place.ChunkPlace.{ChunkPlace}
 use Rattle.index_parts.specs.declared.raw_series.RawSeries.{RawSeries}
 use Rattle.index_parts.specs.Placed.{field}
 use Rattle.index_parts.specs.Framing.{entry_at}
+use Rattle.index_parts.specs.ListReading.{turns_at}
 use Rattle.index_parts.specs.SeriesEntry.{reference_of}
 
 -- the unsigned numbers of 64 bits
@@ -27,11 +28,10 @@ label_at p = do
   value ← field uvarint_at name.1
   Ok ((name.0, value.0), value.1)
 
--- the numbers of the names and those of the values
-unfoldable pub labels_at : Position → Result ((List ℕ × List ℕ) × Position) PartRefusal
-labels_at p = do
-  count ← field uvarint_at p
-  labels ← members_at label_at count.0 count.1
+-- so many labels: the numbers of the names and those of the values
+unfoldable pub labels_at : ℕ → Position → Result ((List ℕ × List ℕ) × Position) PartRefusal
+labels_at count p = do
+  labels ← members_at label_at count p
   Ok ((map (λ label. label.0) labels.0, map (λ label. label.1) labels.0), labels.1)
 
 -- ---- chunks
@@ -68,19 +68,15 @@ chunk_at s = do
   reference ← reference_at s.0 max.1
   Ok (chunk_of min.0 max.0 reference.0, (Some (chunk_of min.0 max.0 reference.0), reference.1))
 
-unfoldable pub chunks_at : Position → Result (List ChunkPlace) PartRefusal
-chunks_at p = do
-  count ← field uvarint_at p
-  chunks ← members_at chunk_at count.0 (None, count.1)
-  Ok chunks.0
-
 -- ---- the series
 
 unfoldable pub series_at : List ℕ → ℕ → Result RawSeries PartRefusal
 series_at index at = do
   content ← entry_at index at
-  labels ← labels_at content
-  chunks ← chunks_at labels.1
+  label_count ← field uvarint_at content
+  labels ← labels_at label_count.0 label_count.1
+  chunk_count ← field uvarint_at labels.1
+  chunks ← turns_at chunk_at chunk_count.0 chunk_count.1
   Ok (record { names = labels.0.0; values = labels.0.1; chunks = chunks })
 
 -- where the symbol numbers of a label stand, that of its name and that of its value
