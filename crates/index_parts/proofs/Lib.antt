@@ -12,3 +12,5 @@ pub mod RowLaws
 pub mod TocLaws
 pub mod ChunkLaws
 pub mod SeriesLaws
+pub mod LabelPlaces
+pub mod Stands

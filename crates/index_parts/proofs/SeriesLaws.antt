@@ -83,7 +83,7 @@ labels_few text (label ∷ labels) are =
 
 -- ---- the series
 
-abbrev series_with : (List ℕ × List ℕ) × Position → List ChunkPlace → RawSeries
+abbrev pub series_with : (List ℕ × List ℕ) × Position → List ChunkPlace → RawSeries
 series_with labels chunks = record { names = labels.0.0; values = labels.0.1; chunks = chunks }
 
 regroup : (a b c d after : List ℕ) → a ++ b ++ c ++ d ++ after ≡ a ++ (b ++ (c ++ (d ++ after)))
@@ -142,7 +142,7 @@ chunks_again : (p : Position) (text after : List ℕ) (chunks : List ChunkPlace)
 unfolding turns_at
 chunks_again p text after chunks are e = let r = turns_again chunk_at IsNextChunk chunk_turn.again None p text chunks after are e in rw r.1 refl
 
-abbrev after_labels : (List ℕ × List ℕ) × Position → Result RawSeries PartRefusal
+abbrev pub after_labels : (List ℕ × List ℕ) × Position → Result RawSeries PartRefusal
 after_labels labels = field uvarint_at labels.1 >>= λ chunk_count. turns_at chunk_at chunk_count.0 chunk_count.1 >>= λ chunks. Ok (series_with labels chunks)
 
 pub series_found : (index : List ℕ) (at : ℕ) (series : RawSeries) → IsBytes index → series_at index at ≡ Ok series → IsSeries index at series

@@ -21,5 +21,6 @@ pub mod PostingsReading
 pub mod Rows
 pub mod RowsReading
 pub mod Lent
+pub mod LabelIndices
 pub mod SeriesEntry
 pub mod SeriesReading

@@ -3,12 +3,14 @@
 
 mod chunk_place;
 mod fields;
+mod label_places;
 mod lent_row;
 mod postings_reading;
 mod postings_row;
 mod postings_table;
 mod raw_series;
 mod refusal;
+mod section_writing;
 mod sections;
 mod series_reading;
 mod symbol_table;
@@ -16,6 +18,7 @@ mod toc;
 mod toc_reading;
 
 pub use chunk_place::{ChunkList, ChunkPlace};
+pub use label_places::label_place;
 pub use postings_reading::read_postings;
 pub use postings_row::{PostingsRow, PostingsRowList};
 pub use postings_table::{PostingsTable, read_postings_table};
