@@ -14,3 +14,5 @@ pub mod ChunkLaws
 pub mod SeriesLaws
 pub mod LabelPlaces
 pub mod Stands
+pub mod Writing
+pub mod Offsets
