@@ -15,4 +15,6 @@ pub mod SeriesLaws
 pub mod LabelPlaces
 pub mod Stands
 pub mod Writing
+pub mod PairLists
 pub mod Offsets
+pub mod ChunksWritten

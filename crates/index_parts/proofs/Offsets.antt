@@ -13,30 +13,8 @@ use Rattle.index_parts.specs.Turns.{AreInTurn, InOrderAfter}
 use Rattle.index_parts.specs.Framed.{IsSection, text_field}
 use Rattle.index_parts.specs.Lists.{IsList, list_content}
 use Rattle.index_parts.specs.LabelIndices.{IsOffset, IsLabelOffsets, offset_text}
+use Rattle.index_parts.proofs.PairLists.{zip_size}
 use Rattle.index_parts.proofs.Writing.{each_fits, both_each, turns_written, list_stands, count_fits, text_written}
-
-pub zip_size : (xs : List (List ℕ)) (ys : List ℕ) → length xs ≡ length ys → length (zip xs ys) ≡ length xs
-zip_size xs ys e = omega (arith, length-zip xs ys)
-
-pub all_more : {A : Type 0} (P : A → Type 0) (xs : List A) (x : A) → AllByRecursion P xs → P x → AllByRecursion P (xs ++ x ∷ [])
-all_more P [] x all p = (p, tt)
-all_more P (y ∷ xs) x all p = (all.0, all_more P xs x all.1 p)
-
-pub offsets_more : (names : List (List ℕ)) (offsets start old new : List ℕ) (i : ℕ) (name : List ℕ) (offset : ℕ) → old ≡ start ++ flat_map offset_text (take i (zip names offsets)) → new ≡ old ++ offset_text (name, offset) → i < length names → length names ≡ length offsets → name ≡ get_or names i name → offset ≡ get_or offsets i 0
-    → new ≡ start ++ flat_map offset_text (take (i + 1) (zip names offsets))
-offsets_more names offsets start old new i name offset before put lt many a b =
-    let z = zip names offsets in
-    let at : get_or z i (name, 0) ≡ (name, offset) = get_or-zip names offsets i (name, 0) lt (omega arith) ∙ ap (λ (n : List ℕ). (n, get_or offsets i 0)) (sym a) ∙ ap (λ (o : ℕ). (name, o)) (sym b) in
-    let more : take (i + 1) z ≡ take i z ++ (name, offset) ∷ [] = take_more z i (name, 0) (omega (arith, zip_size names offsets many)) ∙ ap (λ (r : List ℕ × ℕ). take i z ++ r ∷ []) at in
-    let texts : flat_map offset_text (take (i + 1) z) ≡ flat_map offset_text (take i z) ++ offset_text (name, offset) =
-      ap (λ (l : List (List ℕ × ℕ)). flat_map offset_text l) more ∙ flat_map-append offset_text (take i z) ((name, offset) ∷ []) ∙ ap (λ (l : List ℕ). flat_map offset_text (take i z) ++ l) (append-nil (offset_text (name, offset))) in
-    put ∙ ap (λ (l : List ℕ). l ++ offset_text (name, offset)) before ∙ append_assoc start (flat_map offset_text (take i z)) (offset_text (name, offset)) ∙ ap (λ (l : List ℕ). start ++ l) (sym texts)
-
-pub utf8_more : (names : List (List ℕ)) (i : ℕ) (name : List ℕ) → AllByRecursion IsUtf8 (take i names) → IsUtf8 name → name ≡ get_or names i name → i < length names → AllByRecursion IsUtf8 (take (i + 1) names)
-utf8_more names i name all one at lt = subst (λ (l : List (List ℕ)). AllByRecursion IsUtf8 l) (sym (take_more names i name lt ∙ ap (λ (n : List ℕ). take i names ++ n ∷ []) (sym at))) (all_more IsUtf8 (take i names) name all one)
-
-pub offsets_all : (names : List (List ℕ)) (offsets start new : List ℕ) (i : ℕ) → new ≡ start ++ flat_map offset_text (take i (zip names offsets)) → length names ≤ i → length names ≡ length offsets → new ≡ start ++ flat_map offset_text (zip names offsets)
-offsets_all names offsets start new i e past many = e ∙ ap (λ (l : List (List ℕ × ℕ)). start ++ flat_map offset_text l) (take_all i (zip names offsets) (omega (arith, zip_size names offsets many)))
 
 -- ---- where it stands
 

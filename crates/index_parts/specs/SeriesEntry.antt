@@ -104,4 +104,8 @@ series_text series = entry_text (series_content series)
 -- file has 31 bits, so that the step from one reference to the next is a number of 64.
 abbrev pub StartsAfter : Option ChunkPlace → ChunkPlace → Type 0
 StartsAfter None chunk = (chunk.min ≤ℤ chunk.max) × (chunk.segment < 2 ^ 31)
-StartsAfter (Some before) chunk = (before.max ≤ℤ chunk.min) × (chunk.min ≤ℤ chunk.max) × (chunk.segment < 2 ^ 31)
+StartsAfter (Some before) chunk = (before.max ≤ℤ chunk.min) × (chunk.min ≤ℤ chunk.max) × (chunk.segment < 2 ^ 31) × (before.segment < 2 ^ 31)
+
+-- what the types of a chunk's fields say
+abbrev pub FitsTypes : ChunkPlace → Type 0
+FitsTypes chunk = FitsSigned w64 chunk.min × FitsSigned w64 chunk.max × (chunk.segment < 2 ^ 32) × (chunk.offset < 2 ^ 32)
