@@ -88,7 +88,6 @@ entry_within index at size place q e here within =
 
 -- ---- past the end
 
-
 number_past : (index : List ℕ) (at : ℕ) → drop at index ≡ [] → number_at w32 (at_place index at) ≡ Err wire.Short
 unfolding number_at
 number_past index at e = rw e refl

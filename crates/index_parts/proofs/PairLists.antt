@@ -16,7 +16,7 @@ module _ {A B : Type 0} where
       let at : get_or z i (d, e) ≡ (x, y) = get_or-zip xs ys i (d, e) lt (omega arith) ∙ ap (λ (n : A). (n, get_or ys i e)) (sym a) ∙ ap (λ (o : B). (x, o)) (sym b) in
       let more : take (i + 1) z ≡ take i z ++ (x, y) ∷ [] = take_more z i (d, e) (omega (arith, zip_size xs ys many)) ∙ ap (λ (r : A × B). take i z ++ r ∷ []) at in
       let texts : flat_map text_of (take (i + 1) z) ≡ flat_map text_of (take i z) ++ text_of (x, y) =
-        ap (λ (l : List (A × B)). flat_map text_of l) more ∙ flat_map-append text_of (take i z) ((x, y) ∷ []) ∙ ap (λ (l : List ℕ). flat_map text_of (take i z) ++ l) (append-nil (text_of (x, y))) in
+      ap (λ (l : List (A × B)). flat_map text_of l) more ∙ flat_map-append text_of (take i z) ((x, y) ∷ []) ∙ ap (λ (l : List ℕ). flat_map text_of (take i z) ++ l) (append-nil (text_of (x, y))) in
       put ∙ ap (λ (l : List ℕ). l ++ text_of (x, y)) before ∙ append_assoc start (flat_map text_of (take i z)) (text_of (x, y)) ∙ ap (λ (l : List ℕ). start ++ l) (sym texts)
 
   pub pairs_all : (text_of : A × B → List ℕ) (xs : List A) (ys : List B) (start new : List ℕ) (i : ℕ) → new ≡ start ++ flat_map text_of (take i (zip xs ys)) → length xs ≤ i → length xs ≡ length ys → new ≡ start ++ flat_map text_of (zip xs ys)

@@ -22,7 +22,9 @@ mod toc_writing;
 
 pub use chunk_place::{ChunkList, ChunkPlace};
 pub use label_places::label_place;
-pub use list_writing::{write_label_index, write_label_offsets, write_postings, write_postings_table, write_symbols};
+pub use list_writing::{
+    write_label_index, write_label_offsets, write_postings, write_postings_table, write_symbols,
+};
 pub use postings_reading::read_postings;
 pub use postings_row::{PostingsRow, PostingsRowList};
 pub use postings_table::{PostingsTable, read_postings_table};
@@ -34,3 +36,6 @@ pub use symbol_table::{SymbolTable, read_symbols};
 pub use toc::Toc;
 pub use toc_reading::read_toc;
 pub use toc_writing::write_toc;
+
+#[cfg(test)]
+mod tests;

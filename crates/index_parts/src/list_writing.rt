@@ -1,4 +1,4 @@
-ghost use Rattle.std.specs.Prelude.{◌≡◌, ◌++◌, ◌<◌, ◌^◌, length, zip, List, ℕ, slice_index, IfOk, OnOk, OnErr};
+ghost use Rattle.std.specs.Prelude.{◌≡◌, ◌++◌, ◌-◌, ◌<◌, ◌^◌, length, zip, List, ℕ, slice_index, IfOk, OnOk, OnErr};
 ghost use Rattle.std.specs.Int.{w32, to_be_bytes};
 ghost use Rattle.std.specs.List.{All, AllByRecursion, flat_map};
 ghost use Rattle.std.specs.Str.{IsUtf8};
@@ -74,7 +74,7 @@ fn postings_content(alloc: Global, numbers: &[u64]) -> Result<Vec<u8>, NoMemory>
 
 /// Appends a postings list.
 pub fn write_postings(out: &mut Vec<u8>, numbers: &NumberList) -> Result<(), NoMemory>
-    requires size { length (list_content (to_be_bytes w32) numbers.now) < 2 ^ 32 }
+    requires count { length numbers.now < 2 ^ 30 - 1 }
     requires numbers { All (λ number. number < 2 ^ 32) numbers.now }
     ensures ok { OnOk result (out.new.items ≡ out.old.items ++ postings_text numbers.now) }
     ensures err { OnErr result (out.new.items ≡ out.old.items) }
@@ -100,7 +100,7 @@ fn values_content(alloc: Global, values: &[u64]) -> Result<Vec<u8>, NoMemory>
 
 /// Appends a label index: the symbol numbers of one name's values.
 pub fn write_label_index(out: &mut Vec<u8>, values: &NumberList) -> Result<(), NoMemory>
-    requires size { length (label_index_content values.now) < 2 ^ 32 }
+    requires count { length values.now < 2 ^ 30 - 2 }
     requires numbers { All (λ number. number < 2 ^ 32) values.now }
     ensures ok { OnOk result (out.new.items ≡ out.old.items ++ label_index_text values.now) }
     ensures err { OnErr result (out.new.items ≡ out.old.items) }
@@ -177,11 +177,7 @@ fn put_offsets(out: &mut Vec<u8>, names: &[Text], offsets: &[u64]) -> Result<(),
     Ok(())
 }
 
-fn offsets_content(
-    alloc: Global,
-    names: &[Text],
-    offsets: &[u64],
-) -> Result<Vec<u8>, NoMemory>
+fn offsets_content(alloc: Global, names: &[Text], offsets: &[u64]) -> Result<Vec<u8>, NoMemory>
     requires count { length names.now < 2 ^ 32 }
     requires as_many { length names.now ≡ length offsets.now }
     ensures ok { IfOk result (λ content. content.items ≡ to_be_bytes w32 (length names.now) ++ flat_map offset_text (zip names.now offsets.now)) }

@@ -118,7 +118,11 @@ fn content_of(alloc: Global, series: &RawSeries) -> Result<Vec<u8>, NoMemory>
 {
     let mut content = Vec::new(alloc);
     put_uvarint(&mut content, series.names.len() as u64)?;
-    put_labels(&mut content, series.names.members(), series.values.members())?;
+    put_labels(
+        &mut content,
+        series.names.members(),
+        series.values.members(),
+    )?;
     put_uvarint(&mut content, series.chunks.len() as u64)?;
     put_chunks(&mut content, series.chunks.members())?;
     Ok(content)
