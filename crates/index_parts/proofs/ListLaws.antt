@@ -1,0 +1,88 @@
+-- Sections that hold a list: what is read is in the grammar, and what is in the grammar is read.
+use Rattle.std.proofs.Common.{◌≡◌, ℕ, ◌+◌, ◌*◌, ◌≤◌, List, ◌++◌, length, Option, Some, None, Result, Ok, Err, refl, sym, ap, subst, ◌∙◌, append_assoc, length-append, arith, ◌⊎◌, inl, inr}
+use Rattle.std.specs.Prelude.{IfOk}
+use Rattle.std.specs.Result.{IsOkAnd}
+use Rattle.std.specs.Int.{w32}
+use Rattle.reading_core.specs.Reading.{◌>>=◌, Gives}
+use Rattle.reading_core.specs.Members.{members_at}
+use Rattle.reading_core.specs.Grammar.{IsBytes, HasFront}
+use Rattle.reading_core.proofs.Binds.{bind_ok, ok_is}
+use Rattle.reading_core.proofs.Counted.{length-members}
+use Rattle.reading_core.proofs.Fronts.{IsBytes-after}
+use Rattle.wire_bytes.specs.Position.{Position, left}
+use Rattle.wire_bytes.specs.Fields.{number_at}
+use Rattle.wire_bytes.specs.FieldTexts.{IsFixed}
+use Rattle.wire_bytes.proofs.FixedLaws.{wide32}
+use Rattle.index_parts.specs.declared.refusal.PartRefusal.{PartRefusal}
+use Rattle.index_parts.specs.Placed.{field}
+use Rattle.index_parts.specs.Framing.{section_at}
+use Rattle.index_parts.specs.Lists.{IsList}
+use Rattle.index_parts.specs.ListReading.{turns_at, list_at}
+use Rattle.index_parts.proofs.FieldLaws.{fixed_field}
+use Rattle.index_parts.proofs.FrameLaws.{section_found, section_again, section_small}
+use Rattle.index_parts.proofs.TurnLaws.{turns_found, turns_again, turns_few}
+
+-- a way to read the next member, and the texts that it reads
+pub record IsTurnOf {A : Type 0} (IsNext : Option A → List ℕ → A → Type 0) (read : Option A × Position → Result (A × (Option A × Position)) PartRefusal) : Type 0 where
+  pub found : (before : Option A) (p : Position) (x : A) (t : Option A × Position) → IsBytes (left p) → read (before, p) ≡ Ok (x, t) → HasFront (IsNext before) (left p) x (left t.1) × (t.0 ≡ Some x)
+  pub again : (before : Option A) (p : Position) (text : List ℕ) (x : A) (after : List ℕ) → IsNext before text x → left p ≡ text ++ after → (q : Position) × (read (before, p) ≡ Ok (x, (Some x, q))) × (left q ≡ after)
+
+module _ {A : Type 0} (IsNext : Option A → List ℕ → A → Type 0) (read : Option A × Position → Result (A × (Option A × Position)) PartRefusal) (turn : IsTurnOf IsNext read) where
+  pub list_found : (index : List ℕ) (at : ℕ) (members : List A) → IsBytes index → list_at read index at ≡ Ok members → IsList IsNext index at members
+  unfolding list_at turns_at
+  list_found index at members are e =
+      let content = bind_ok (section_at index at) (λ content. field (number_at w32) content >>= λ count. members_at read count.0 (None, count.1) >>= λ members. Ok members.0) members e in
+      let count = bind_ok (field (number_at w32) content.0) (λ count. members_at read count.0 (None, count.1) >>= λ members. Ok members.0) members content.2 in
+      let all = bind_ok (members_at read count.0.0 (None, count.0.1)) (λ members. Ok members.0) members count.2 in
+      let same : all.0.0 ≡ members = ok_is {E = PartRefusal} _ _ all.2 in
+      let section = section_found index at content.0 are content.1 in
+      let fixed = fixed_field w32 wide32 in
+      let counted = fixed.found content.0 count.0.1 count.0.0 section.1 count.1 in
+      let texts = turns_found read IsNext turn.found count.0.0 None count.0.1 all.0.0 all.0.1 (IsBytes-after counted.0 (left count.0.1) (left content.0) counted.2 section.1) all.1 in
+      let many : count.0.0 ≡ length members = sym (length-members read count.0.0 (None, count.0.1) all.0.1 all.0.0 all.1) ∙ ap length same in
+      let is : IsList IsNext index at all.0.0 = record {
+        content = left content.0;
+        count = counted.0;
+        texts = texts.0;
+        left_over = left all.0.1.1;
+        section = section.0;
+        content_is = counted.2 ∙ ap (λ (a : List ℕ). counted.0 ++ a) texts.2 ∙ sym (append_assoc counted.0 texts.0 (left all.0.1.1));
+        count_is = subst (IsFixed w32 counted.0) (many ∙ ap length (sym same)) counted.1;
+        texts_are = texts.1;
+      } in
+      subst (λ (xs : List A). IsList IsNext index at xs) same is
+
+  pub list_again : (index : List ℕ) (at : ℕ) (members : List A) → IsList IsNext index at members → list_at read index at ≡ Ok members
+  unfolding list_at turns_at
+  list_again index at members is =
+      let section = section_again index at is.content is.section in
+      let whole : left section.0 ≡ is.count ++ (is.texts ++ is.left_over) = section.2 ∙ is.content_is ∙ append_assoc is.count is.texts is.left_over in
+      let fixed = fixed_field w32 wide32 in
+      let counted = fixed.again section.0 is.count (length members) (is.texts ++ is.left_over) is.count_is whole in
+      let texts = turns_again read IsNext turn.again None counted.0 is.texts members is.left_over is.texts_are counted.2 in
+      rw (section.1, counted.1, texts.1) refl
+
+-- members that each take some bytes are no more than the index allows
+pub list_few : {A : Type 0} (IsNext : Option A → List ℕ → A → Type 0) (least : ℕ) → ((before : Option A) (text : List ℕ) (x : A) → IsNext before text x → least ≤ length text) → (index : List ℕ) (at : ℕ) (members : List A) → IsList IsNext index at members → least * length members ≤ length index
+list_few IsNext least one index at members is =
+    let small = section_small index at is.content is.section in
+    let texts = turns_few IsNext least one None is.texts members is.texts_are in
+    let whole : length is.content ≡ length is.count + length is.texts + length is.left_over = ap length is.content_is ∙ length-append (is.count ++ is.texts) is.left_over ∙ ap (λ (n : ℕ). n + length is.left_over) (length-append is.count is.texts) in
+    omega arith
+
+-- ---- from a reading function to the call
+
+pub found_from : {X Y E : Type 0} (Is : Y → Type 0) (no_memory : E) (view : X → Y) (r : Result X E) (read : Result Y E) → ((y : Y) → read ≡ Ok y → Is y) → Gives no_memory view r read → IfOk r (λ x. Is (view x))
+found_from Is no_memory view (Ok x) read one h = one (view x) h
+found_from Is no_memory view (Err d) read one h = tt
+
+pub only_from : {X Y E : Type 0} (no_memory : E) (view : X → Y) (r : Result X E) (read : Result Y E) (y : Y) → read ≡ Ok y → Gives no_memory view r read → IsOkAnd r (λ x. view x ≡ y) ⊎ (r ≡ Err no_memory)
+only_from {X} {Y} {E} no_memory view (Ok x) read y one h = inl (ok_is {E = E} _ _ (sym h ∙ one))
+only_from no_memory view (Err d) read y one (inl out) = inr (ap Err out)
+only_from no_memory view (Err d) read y one (inr refused) = let no = sym refused ∙ one in absurd cc
+
+pub same_from : {Y E : Type 0} (no_memory : E) (r : Result Y E) (y : Y) → IsOkAnd r (λ x. x ≡ y) ⊎ (r ≡ Err no_memory) → (r ≡ Ok y) ⊎ (r ≡ Err no_memory)
+same_from no_memory (Ok x) y (inl same) = inl (ap Ok same)
+same_from no_memory (Ok x) y (inr e) = inr e
+same_from no_memory (Err d) y (inl none) = absurd none
+same_from no_memory (Err d) y (inr e) = inr e

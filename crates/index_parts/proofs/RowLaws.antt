@@ -1,0 +1,127 @@
+-- Postings tables against their grammar.
+use Rattle.std.proofs.Common.{◌≡◌, ℕ, ◌-◌, ◌<◌, ◌≤◌, Bool, true, false, List, [], ◌∷◌, ◌++◌, length, Option, Some, None, Result, Ok, Err, refl, sym, ap, subst, ◌∙◌, append_assoc, length-append, arith}
+use Rattle.std.specs.Prelude.{◌&&◌, ◌==◌}
+use Rattle.std.specs.Int.{w8, to_be_bytes}
+use Rattle.std.specs.Str.{is_utf8}
+use Rattle.std.proofs.lemmas.Bool.{eqb-true, eq-eqb}
+use Rattle.std.proofs.lemmas.List.{nil_from_length}
+use Rattle.std.proofs.lemmas.Str.{is_utf8-from_IsUtf8}
+use Rattle.reading_core.specs.Reading.{◌>>=◌, ◌>>◌, unless}
+use Rattle.reading_core.specs.Grammar.{IsBytes, HasFront}
+use Rattle.reading_core.proofs.Fronts.{IsBytes-after}
+use Rattle.reading_core.proofs.Binds.{bind_ok, unless_ok, ok_is}
+use Rattle.wire_bytes.specs.Position.{Position, left}
+use Rattle.wire_bytes.specs.Fields.{number_at, uvarint_at}
+use Rattle.wire_bytes.specs.FieldTexts.{IsFixed}
+use Rattle.wire_bytes.proofs.FixedLaws.{wide8}
+use Rattle.index_parts.specs.declared.refusal.PartRefusal.{PartRefusal}
+use Rattle.index_parts.specs.declared.refusal.PartRefusal.TheVariants.{Unordered, NotText}
+use Rattle.index_parts.specs.declared.postings_row.PostingsRow.{PostingsRow}
+use Rattle.index_parts.specs.Placed.{field, text_at}
+use Rattle.index_parts.specs.Rows.{compare_rows, MayComeAfter, IsNextRow}
+use Rattle.index_parts.specs.RowsReading.{may_come_after, row_at}
+use Rattle.index_parts.proofs.FieldLaws.{fixed_field, uvarint_field, long_field}
+use Rattle.index_parts.proofs.ListLaws.{IsTurnOf}
+use Rattle.index_parts.proofs.SymbolLaws.{less_from_test, test_from_less, text_is, long_is, text_size, uvarint_size}
+
+both : (a b : Bool) → (a && b) ≡ true → (a ≡ true) × (b ≡ true)
+both true b e = (refl, e)
+both false b e = absurd cc
+
+after_found : (before : Option PostingsRow) (row : PostingsRow) → may_come_after before row ≡ true → MayComeAfter before row
+after_found None row e =
+    let p = both (length row.name == 0) (length row.value == 0) e in
+    (nil_from_length row.name (eqb-true (length row.name) 0 p.0), nil_from_length row.value (eqb-true (length row.value) 0 p.1))
+after_found (Some b) row e = less_from_test (compare_rows b row) e
+
+after_again : (before : Option PostingsRow) (row : PostingsRow) → MayComeAfter before row → may_come_after before row ≡ true
+after_again None row h = rw (h.0, h.1) refl
+after_again (Some b) row h = test_from_less (compare_rows b row) h
+
+abbrev Read : Type 0
+Read = Result (PostingsRow × (Option PostingsRow × Position)) PartRefusal
+
+abbrev row_with : List ℕ × Position → List ℕ × Position → ℕ × Position → PostingsRow
+row_with name value offset = record { name = name.0; value = value.0; offset = offset.0 }
+
+abbrev done : List ℕ × Position → List ℕ × Position → ℕ × Position → Read
+done name value offset = Ok (row_with name value offset, (Some (row_with name value offset), offset.1))
+
+abbrev value_tested : List ℕ × Position → List ℕ × Position → ℕ × Position → Read
+value_tested name value offset = unless (is_utf8 value.0) (NotText (value.1.place - length value.0)) >> done name value offset
+
+abbrev name_tested : List ℕ × Position → List ℕ × Position → ℕ × Position → Read
+name_tested name value offset = unless (is_utf8 name.0) (NotText (name.1.place - length name.0)) >> value_tested name value offset
+
+abbrev order_tested : Option PostingsRow → Position → List ℕ × Position → List ℕ × Position → ℕ × Position → Read
+order_tested before p name value offset = unless (may_come_after before (row_with name value offset)) (Unordered p.place) >> name_tested name value offset
+
+abbrev after_value : Option PostingsRow → Position → List ℕ × Position → List ℕ × Position → Read
+after_value before p name value = field uvarint_at value.1 >>= λ offset. order_tested before p name value offset
+
+abbrev after_name : Option PostingsRow → Position → List ℕ × Position → Read
+after_name before p name = text_at name.1 >>= λ value. after_value before p name value
+
+abbrev after_kind : Option PostingsRow → Position → ℕ × Position → Read
+after_kind before p kind = unless (kind.0 == 2) (Unordered p.place) >> (text_at kind.1 >>= λ name. after_name before p name)
+
+regroup : (name value offset after : List ℕ) → (name ++ value ++ offset) ++ after ≡ name ++ (value ++ (offset ++ after))
+regroup name value offset after = append_assoc (name ++ value) offset after ∙ append_assoc name value (offset ++ after)
+
+found : (before : Option PostingsRow) (p : Position) (x : PostingsRow) (t : Option PostingsRow × Position) → IsBytes (left p) → row_at (before, p) ≡ Ok (x, t) → HasFront (IsNextRow before) (left p) x (left t.1) × (t.0 ≡ Some x)
+unfolding row_at
+found before p x t are e =
+    let kind = bind_ok (field (number_at w8) p) (λ kind. after_kind before p kind) (x, t) e in
+    let is_two = unless_ok (kind.0.0 == 2) (Unordered p.place) (text_at kind.0.1 >>= λ name. after_name before p name) (x, t) kind.2 in
+    let name = bind_ok (text_at kind.0.1) (λ name. after_name before p name) (x, t) is_two.1 in
+    let value = bind_ok (text_at name.0.1) (λ value. after_value before p name.0 value) (x, t) name.2 in
+    let offset = bind_ok (field uvarint_at value.0.1) (λ offset. order_tested before p name.0 value.0 offset) (x, t) value.2 in
+    let row = row_with name.0 value.0 offset.0 in
+    let ordered = unless_ok (may_come_after before row) (Unordered p.place) (name_tested name.0 value.0 offset.0) (x, t) offset.2 in
+    let name_utf8 = unless_ok (is_utf8 name.0.0) (NotText (name.0.1.place - length name.0.0)) (value_tested name.0 value.0 offset.0) (x, t) ordered.1 in
+    let value_utf8 = unless_ok (is_utf8 value.0.0) (NotText (value.0.1.place - length value.0.0)) (done name.0 value.0 offset.0) (x, t) name_utf8.1 in
+    let same : ◌≡◌ {A = PostingsRow × (Option PostingsRow × Position)} (row, (Some row, offset.0.1)) (x, t) = ok_is {E = PartRefusal} _ _ value_utf8.1 in
+    let fixed = fixed_field w8 wide8 in
+    let f0 = fixed.found p kind.0.1 kind.0.0 are kind.1 in
+    let are1 = IsBytes-after f0.0 (left kind.0.1) (left p) f0.2 are in
+    let f1 = long_field.found kind.0.1 name.0.1 name.0.0 are1 name.1 in
+    let are2 = IsBytes-after f1.0 (left name.0.1) (left kind.0.1) f1.2 are1 in
+    let f2 = long_field.found name.0.1 value.0.1 value.0.0 are2 value.1 in
+    let are3 = IsBytes-after f2.0 (left value.0.1) (left name.0.1) f2.2 are2 in
+    let f3 = uvarint_field.found value.0.1 offset.0.1 offset.0.0 are3 offset.1 in
+    let two : f0.0 ≡ 2 ∷ [] = f0.1.digits ∙ ap (to_be_bytes w8) (eqb-true kind.0.0 2 is_two.0) in
+    let is : IsNextRow before (2 ∷ (f1.0 ++ f2.0 ++ f3.0)) row = record {
+      name = f1.0;
+      value = f2.0;
+      offset = f3.0;
+      name_is = text_is f1.0 name.0.0 f1.1 name_utf8.0;
+      value_is = text_is f2.0 value.0.0 f2.1 value_utf8.0;
+      offset_is = f3.1;
+      text_is = refl;
+      ascends = after_found before row ordered.0;
+    } in
+    let behind : left kind.0.1 ≡ (f1.0 ++ f2.0 ++ f3.0) ++ left offset.0.1 = f1.2 ∙ ap (λ (a : List ℕ). f1.0 ++ a) (f2.2 ∙ ap (λ (a : List ℕ). f2.0 ++ a) f3.2) ∙ sym (regroup f1.0 f2.0 f3.0 (left offset.0.1)) in
+    let whole : left p ≡ (2 ∷ (f1.0 ++ f2.0 ++ f3.0)) ++ left offset.0.1 = f0.2 ∙ ap (λ (a : List ℕ). a ++ left kind.0.1) two ∙ ap (λ (a : List ℕ). 2 ∷ a) behind in
+    subst (λ (r : PostingsRow × (Option PostingsRow × Position)). HasFront (IsNextRow before) (left p) r.0 (left r.1.1) × (r.1.0 ≡ Some r.0)) same ((2 ∷ (f1.0 ++ f2.0 ++ f3.0), is, whole), refl)
+
+again : (before : Option PostingsRow) (p : Position) (text : List ℕ) (x : PostingsRow) (after : List ℕ) → IsNextRow before text x → left p ≡ text ++ after → (q : Position) × (row_at (before, p) ≡ Ok (x, (Some x, q))) × (left q ≡ after)
+unfolding row_at
+again before p text x after is e =
+    let whole : left p ≡ (2 ∷ []) ++ (is.name ++ (is.value ++ (is.offset ++ after))) = e ∙ ap (λ (a : List ℕ). a ++ after) is.text_is ∙ ap (λ (a : List ℕ). 2 ∷ a) (regroup is.name is.value is.offset after) in
+    let fixed = fixed_field w8 wide8 in
+    let two : IsFixed w8 (2 ∷ []) 2 = record { digits = refl; fits = omega arith } in
+    let kind = fixed.again p (2 ∷ []) 2 (is.name ++ (is.value ++ (is.offset ++ after))) two whole in
+    let name = long_field.again kind.0 is.name x.name (is.value ++ (is.offset ++ after)) (long_is is.name x.name is.name_is) kind.2 in
+    let value = long_field.again name.0 is.value x.value (is.offset ++ after) (long_is is.value x.value is.value_is) name.2 in
+    let offset = uvarint_field.again value.0 is.offset x.offset after is.offset_is value.2 in
+    (offset.0, rw (kind.1, name.1, value.1, offset.1, after_again before x is.ascends, is_utf8-from_IsUtf8 x.name is.name_is.utf8, is_utf8-from_IsUtf8 x.value is.value_is.utf8) refl, offset.2)
+
+pub row_turn : IsTurnOf IsNextRow row_at
+row_turn = record { found = found; again = again }
+
+pub row_size : (before : Option PostingsRow) (text : List ℕ) (x : PostingsRow) → IsNextRow before text x → 4 ≤ length text
+row_size before text x is =
+    let a = text_size is.name x.name is.name_is in
+    let b = text_size is.value x.value is.value_is in
+    let c = uvarint_size is.offset x.offset is.offset_is in
+    omega (arith, ap length is.text_is, length-append (is.name ++ is.value) is.offset, length-append is.name is.value)

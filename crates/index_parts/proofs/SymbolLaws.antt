@@ -1,0 +1,84 @@
+-- Symbol tables against their grammar.
+use Rattle.std.proofs.Common.{◌≡◌, ℕ, ◌-◌, ◌<◌, ◌≤◌, Bool, true, List, [], ◌∷◌, ◌++◌, length, Option, Some, None, Result, Ok, Err, refl, sym, ap, subst, ◌∙◌, arith}
+use Rattle.std.specs.declared.cmp.Ordering.{Ordering}
+use Rattle.std.specs.declared.cmp.Ordering.TheVariants.{Less, Equal, Greater}
+use Rattle.std.specs.Ordering.{is_lt}
+use Rattle.std.specs.Str.{is_utf8}
+use Rattle.std.proofs.lemmas.List.{length-append}
+use Rattle.std.proofs.lemmas.Str.{IsUtf8-from_is_utf8, is_utf8-from_IsUtf8}
+use Rattle.reading_core.specs.Reading.{◌>>=◌, ◌>>◌, unless}
+use Rattle.reading_core.specs.Grammar.{IsBytes, HasFront}
+use Rattle.reading_core.proofs.Binds.{bind_ok, unless_ok, ok_is}
+use Rattle.wire_bytes.specs.Position.{Position, left}
+use Rattle.wire_bytes.specs.FieldTexts.{IsUvarint, IsGroups}
+use Rattle.label_sets.specs.Labels.{compare_texts}
+use Rattle.index_parts.specs.declared.refusal.PartRefusal.{PartRefusal}
+use Rattle.index_parts.specs.declared.refusal.PartRefusal.TheVariants.{Unordered, NotText}
+use Rattle.index_parts.specs.Placed.{text_at}
+use Rattle.index_parts.specs.Framed.{IsText}
+use Rattle.index_parts.specs.Symbols.{MayFollow, IsNextSymbol}
+use Rattle.index_parts.specs.SymbolsReading.{may_follow, symbol_at}
+use Rattle.index_parts.proofs.FieldLaws.{long_field, IsLong}
+use Rattle.index_parts.proofs.ListLaws.{IsTurnOf}
+
+pub less_from_test : (o : Ordering) → is_lt o ≡ true → o ≡ Less
+less_from_test Less e = refl
+less_from_test Equal e = absurd cc
+less_from_test Greater e = absurd cc
+
+pub test_from_less : (o : Ordering) → o ≡ Less → is_lt o ≡ true
+test_from_less Less e = refl
+test_from_less Equal e = absurd cc
+test_from_less Greater e = absurd cc
+
+-- a text that is UTF-8 behind its length
+pub text_is : (bytes text : List ℕ) → IsLong bytes text → is_utf8 text ≡ true → IsText bytes text
+text_is bytes text is e = record { size = is.size; size_is = is.size_is; utf8 = IsUtf8-from_is_utf8 text e; bytes_are = is.text_is }
+
+pub long_is : (bytes text : List ℕ) → IsText bytes text → IsLong bytes text
+long_is bytes text is = record { size = is.size; size_is = is.size_is; text_is = is.bytes_are }
+
+-- a length takes a byte at least
+some_groups : (text : List ℕ) (n : ℕ) → IsGroups text n → 1 ≤ length text
+some_groups [] n is = absurd is
+some_groups (x ∷ xs) n is = omega arith
+
+pub uvarint_size : (text : List ℕ) (n : ℕ) → IsUvarint text n → 1 ≤ length text
+uvarint_size text n is = some_groups text n is.groups
+
+pub text_size : (bytes text : List ℕ) → IsText bytes text → 1 ≤ length bytes
+text_size bytes text is = let one = uvarint_size is.size (length text) is.size_is in omega (arith, ap length is.bytes_are, length-append is.size text)
+
+follows_found : (before : Option (List ℕ)) (s : List ℕ) → may_follow before s ≡ true → MayFollow before s
+follows_found None s e = tt
+follows_found (Some b) s e = less_from_test (compare_texts b s) e
+
+follows_again : (before : Option (List ℕ)) (s : List ℕ) → MayFollow before s → may_follow before s ≡ true
+follows_again None s h = refl
+follows_again (Some b) s h = test_from_less (compare_texts b s) h
+
+found : (before : Option (List ℕ)) (p : Position) (x : List ℕ) (t : Option (List ℕ) × Position) → IsBytes (left p) → symbol_at (before, p) ≡ Ok (x, t) → HasFront (IsNextSymbol before) (left p) x (left t.1) × (t.0 ≡ Some x)
+unfolding symbol_at
+found before p x t are e =
+    let symbol = bind_ok (text_at p) (λ symbol. unless (may_follow before symbol.0) (Unordered p.place) >> (unless (is_utf8 symbol.0) (NotText (symbol.1.place - length symbol.0)) >> Ok (symbol.0, (Some symbol.0, symbol.1)))) (x, t) e in
+    let s = symbol.0.0 in
+    let q = symbol.0.1 in
+    let done : Result (List ℕ × (Option (List ℕ) × Position)) PartRefusal = Ok (s, (Some s, q)) in
+    let ordered = unless_ok (may_follow before s) (Unordered p.place) (unless (is_utf8 s) (NotText (q.place - length s)) >> done) (x, t) symbol.2 in
+    let utf8 = unless_ok (is_utf8 s) (NotText (q.place - length s)) done (x, t) ordered.1 in
+    let same : ◌≡◌ {A = List ℕ × (Option (List ℕ) × Position)} (s, (Some s, q)) (x, t) = ok_is {E = PartRefusal} _ _ utf8.1 in
+    let front = long_field.found p q s are symbol.1 in
+    let is : IsNextSymbol before front.0 s = record { text_is = text_is front.0 s front.1 utf8.0; ascends = follows_found before s ordered.0 } in
+    subst (λ (r : List ℕ × (Option (List ℕ) × Position)). HasFront (IsNextSymbol before) (left p) r.0 (left r.1.1) × (r.1.0 ≡ Some r.0)) same ((front.0, is, front.2), refl)
+
+again : (before : Option (List ℕ)) (p : Position) (text x after : List ℕ) → IsNextSymbol before text x → left p ≡ text ++ after → (q : Position) × (symbol_at (before, p) ≡ Ok (x, (Some x, q))) × (left q ≡ after)
+unfolding symbol_at
+again before p text x after is e =
+    let symbol = long_field.again p text x after (long_is text x is.text_is) e in
+    (symbol.0, rw (symbol.1, follows_again before x is.ascends, is_utf8-from_IsUtf8 x is.text_is.utf8) refl, symbol.2)
+
+pub symbol_turn : IsTurnOf IsNextSymbol symbol_at
+symbol_turn = record { found = found; again = again }
+
+pub symbol_size : (before : Option (List ℕ)) (text x : List ℕ) → IsNextSymbol before text x → 1 ≤ length text
+symbol_size before text x is = text_size text x is.text_is

@@ -1,0 +1,7 @@
+use Rattle.std.proofs.Common.{rules, arith}
+use Rattle.index_parts.specs.SymbolsReading.{symbol_at}
+use Rattle.index_parts.proofs.Texts.{text_within}
+use Rattle.index_parts.proofs.symbol_table.next_symbol.Goals as goal
+
+pub text_of-requires : goal.text_of-requires
+text_of-requires c = let within = text_within _ _ _ c.in_ok-bytes.ensures in omega arith

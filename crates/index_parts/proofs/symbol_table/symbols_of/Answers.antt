@@ -1,0 +1,23 @@
+use Rattle.std.proofs.Common.{rules, None, map}
+use Rattle.std.specs.Option.{option_copied}
+use Rattle.std.proofs.lemmas.List.{map_push}
+use Rattle.reading_core.proofs.Counted.{loop_start, loop_step}
+use Rattle.index_parts.specs.SymbolsReading.{symbol_at}
+use Rattle.index_parts.specs.ListReading.{turns_at}
+use Rattle.index_parts.specs.declared.refusal.PartRefusal.TheVariants.{NoMemory}
+use Rattle.index_parts.proofs.Loops.{turns_exit, turns_end}
+use Rattle.index_parts.proofs.symbol_table.symbols_of.Goals as goal
+
+pub loop-init : goal.loop-init
+loop-init c = search (rules, loop_start)
+
+pub loop-preserved : goal.loop-preserved
+loop-preserved c = search (rules, loop_step, map_push)
+
+pub returns-in_err-symbol : goal.returns-in_err-symbol
+unfolding turns_at
+returns-in_err-symbol c = turns_exit symbol_at NoMemory _ c.from_residual.result c.loop.counter c.args.count (None, c.args.cursor) (option_copied c.loop.before, c.loop.cursor) (map (λ s. s.now) c.loop.symbols.items) c.in_err-symbol.field-0.0 c.loop.invariant c.from_residual.ensures.1 c.in_err-symbol.ensures c.loop-test.true
+
+pub returns : goal.returns
+unfolding turns_at
+returns c = turns_end symbol_at c.loop.counter c.args.count (None, c.args.cursor) (option_copied c.loop.before, c.loop.cursor) (map (λ s. s.now) c.loop.symbols.items) c.loop.invariant c.loop-test.false c.loop.auto.counter-end

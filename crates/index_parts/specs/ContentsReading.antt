@@ -1,0 +1,36 @@
+-- What reading the table of contents gives, or the first refusal.
+use Rattle.std.specs.Prelude.{ℕ, ◌-◌, List, length, Result, Ok, Err, nat_le}
+use Rattle.std.specs.Int.{w64}
+use Rattle.reading_core.specs.Reading.{◌>>=◌, ◌>>◌, unless}
+use Rattle.wire_bytes.specs.Position.{Position}
+use Rattle.wire_bytes.specs.Fields.{number_at}
+use Rattle.index_parts.specs.declared.refusal.PartRefusal.{PartRefusal}
+use Rattle.index_parts.specs.declared.refusal.PartRefusal.TheVariants.{Short}
+use Rattle.index_parts.specs.declared.toc.Toc.{Toc}
+use Rattle.index_parts.specs.Placed.{at_place, field}
+use Rattle.index_parts.specs.Framing.{summed_at}
+
+-- six references
+unfoldable pub references_at : Position → Result Toc PartRefusal
+references_at p = do
+  symbols ← field (number_at w64) p
+  series ← field (number_at w64) symbols.1
+  label_indices ← field (number_at w64) series.1
+  label_offsets ← field (number_at w64) label_indices.1
+  postings ← field (number_at w64) label_offsets.1
+  postings_table ← field (number_at w64) postings.1
+  Ok (record {
+    symbols = symbols.0;
+    series = series.0;
+    label_indices = label_indices.0;
+    label_offsets = label_offsets.0;
+    postings = postings.0;
+    postings_table = postings_table.0;
+  })
+
+-- the last 52 bytes; where there are fewer, the refusal's place is 0
+unfoldable pub toc_at : List ℕ → Result Toc PartRefusal
+toc_at index = do
+  unless (nat_le 52 (length index)) (Short 0)
+  content ← summed_at (length index - 52) 48 (at_place index (length index - 52))
+  references_at content

@@ -1,0 +1,35 @@
+-- What reading a postings table gives, or the first refusal.
+use Rattle.std.specs.Prelude.{ℕ, ◌-◌, List, [], length, Option, Some, None, Bool, ◌&&◌, Result, Ok, Err, ◌==◌}
+use Rattle.std.specs.Int.{w8}
+use Rattle.std.specs.Str.{is_utf8}
+use Rattle.std.specs.Ordering.{is_lt}
+use Rattle.reading_core.specs.Reading.{◌>>=◌, ◌>>◌, unless}
+use Rattle.wire_bytes.specs.Position.{Position}
+use Rattle.wire_bytes.specs.Fields.{number_at, uvarint_at}
+use Rattle.index_parts.specs.declared.refusal.PartRefusal.{PartRefusal}
+use Rattle.index_parts.specs.declared.refusal.PartRefusal.TheVariants.{Unordered, NotText}
+use Rattle.index_parts.specs.declared.postings_row.PostingsRow.{PostingsRow}
+use Rattle.index_parts.specs.Placed.{field, text_at}
+use Rattle.index_parts.specs.ListReading.{list_at}
+use Rattle.index_parts.specs.Rows.{compare_rows}
+
+-- whether a row may stand behind another, or first
+abbrev pub may_come_after : Option PostingsRow → PostingsRow → Bool
+may_come_after None row = (length row.name == 0) && (length row.value == 0)
+may_come_after (Some before) row = is_lt (compare_rows before row)
+
+-- a row: all its fields are read, then its order is tested, and then its texts
+unfoldable pub row_at : Option PostingsRow × Position → Result (PostingsRow × (Option PostingsRow × Position)) PartRefusal
+row_at s = do
+  kind ← field (number_at w8) s.1
+  unless (kind.0 == 2) (Unordered s.1.place)
+  name ← text_at kind.1
+  value ← text_at name.1
+  offset ← field uvarint_at value.1
+  unless (may_come_after s.0 (record { name = name.0; value = value.0; offset = offset.0 })) (Unordered s.1.place)
+  unless (is_utf8 name.0) (NotText (name.1.place - length name.0))
+  unless (is_utf8 value.0) (NotText (value.1.place - length value.0))
+  Ok (record { name = name.0; value = value.0; offset = offset.0 }, (Some (record { name = name.0; value = value.0; offset = offset.0 }), offset.1))
+
+abbrev pub postings_table_at : List ℕ → ℕ → Result (List PostingsRow) PartRefusal
+postings_table_at = list_at row_at

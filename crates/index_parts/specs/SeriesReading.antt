@@ -1,0 +1,95 @@
+-- What reading a series gives, or the first refusal.
+use Rattle.std.specs.Prelude.{ℕ, ◌/◌, ◌%◌, ◌^◌, List, map, Option, Some, None, Bool, Result, Ok, Err, nat_lt, ℤ, pos, negsuc, ◌+ℤ◌}
+use Rattle.std.specs.Int.RustNames.{unsigned_abs}
+use Rattle.reading_core.specs.Reading.{◌>>=◌, ◌>>◌, unless}
+use Rattle.reading_core.specs.Members.{members_at}
+use Rattle.reading_core.specs.Decimal.{fits_signed}
+use Rattle.wire_bytes.specs.Position.{Position}
+use Rattle.wire_bytes.specs.Fields.{uvarint_at, varint_at}
+use Rattle.index_parts.specs.declared.refusal.PartRefusal.{PartRefusal}
+use Rattle.index_parts.specs.declared.refusal.PartRefusal.TheVariants.{Overlong}
+use Rattle.index_parts.specs.declared.chunk_place.ChunkPlace.{ChunkPlace}
+use Rattle.index_parts.specs.declared.raw_series.RawSeries.{RawSeries}
+use Rattle.index_parts.specs.Placed.{field}
+use Rattle.index_parts.specs.Framing.{entry_at}
+use Rattle.index_parts.specs.ListReading.{turns_at}
+use Rattle.index_parts.specs.SeriesEntry.{reference_of}
+
+-- the unsigned numbers of 64 bits
+abbrev pub fits_unsigned : ℤ → Bool
+fits_unsigned (pos n) = nat_lt n (2 ^ 64)
+fits_unsigned (negsuc n) = nat_lt n 0
+
+-- ---- labels
+
+unfoldable pub label_at : Position → Result ((ℕ × ℕ) × Position) PartRefusal
+label_at p = do
+  name ← field uvarint_at p
+  value ← field uvarint_at name.1
+  Ok ((name.0, value.0), value.1)
+
+-- so many labels: the numbers of the names and those of the values
+unfoldable pub labels_at : ℕ → Position → Result ((List ℕ × List ℕ) × Position) PartRefusal
+labels_at count p = do
+  labels ← members_at label_at count p
+  Ok ((map (λ label. label.0) labels.0, map (λ label. label.1) labels.0), labels.1)
+
+-- ---- chunks
+
+-- a time that comes so long after another
+unfoldable pub later_at : ℤ → Position → Result (ℤ × Position) PartRefusal
+later_at time p = do
+  by ← field uvarint_at p
+  unless (fits_signed (time +ℤ pos by.0)) (Overlong p.place)
+  Ok (time +ℤ pos by.0, by.1)
+
+-- a reference that is so far from another
+unfoldable pub moved_at : ℕ → Position → Result (ℕ × Position) PartRefusal
+moved_at reference p = do
+  by ← field varint_at p
+  unless (fits_unsigned (pos reference +ℤ by.0)) (Overlong p.place)
+  Ok (unsigned_abs (pos reference +ℤ by.0), by.1)
+
+unfoldable pub begin_at : Option ChunkPlace → Position → Result (ℤ × Position) PartRefusal
+begin_at None p = field varint_at p
+begin_at (Some before) p = later_at before.max p
+
+unfoldable pub reference_at : Option ChunkPlace → Position → Result (ℕ × Position) PartRefusal
+reference_at None p = field uvarint_at p
+reference_at (Some before) p = moved_at (reference_of before) p
+
+abbrev pub chunk_of : ℤ → ℤ → ℕ → ChunkPlace
+chunk_of min max reference = record { min = min; max = max; segment = reference / 2 ^ 32; offset = reference % 2 ^ 32 }
+
+unfoldable pub chunk_at : Option ChunkPlace × Position → Result (ChunkPlace × (Option ChunkPlace × Position)) PartRefusal
+chunk_at s = do
+  min ← begin_at s.0 s.1
+  max ← later_at min.0 min.1
+  reference ← reference_at s.0 max.1
+  Ok (chunk_of min.0 max.0 reference.0, (Some (chunk_of min.0 max.0 reference.0), reference.1))
+
+-- ---- the series
+
+unfoldable pub series_at : List ℕ → ℕ → Result RawSeries PartRefusal
+series_at index at = do
+  content ← entry_at index at
+  label_count ← field uvarint_at content
+  labels ← labels_at label_count.0 label_count.1
+  chunk_count ← field uvarint_at labels.1
+  chunks ← turns_at chunk_at chunk_count.0 chunk_count.1
+  Ok (record { names = labels.0.0; values = labels.0.1; chunks = chunks })
+
+-- where the symbol numbers of a label stand, that of its name and that of its value
+unfoldable pub label_place_at : Position → Result ((ℕ × ℕ) × Position) PartRefusal
+label_place_at p = do
+  name ← field uvarint_at p
+  value ← field uvarint_at name.1
+  Ok ((p.place, name.1.place), value.1)
+
+-- those of each label of a series
+unfoldable pub label_places_at : List ℕ → ℕ → Result (List (ℕ × ℕ)) PartRefusal
+label_places_at index at = do
+  content ← entry_at index at
+  count ← field uvarint_at content
+  places ← members_at label_place_at count.0 count.1
+  Ok places.0

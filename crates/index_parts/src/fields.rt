@@ -1,0 +1,114 @@
+ghost use Rattle.std.specs.Prelude.{◌≡◌, ◌-◌, ◌≤◌, Ok, Err, MatchResult, length, true, false};
+ghost use Rattle.std.specs.Str.{is_utf8};
+ghost use Rattle.std.specs.Int.{w8, w32, w64};
+ghost use Rattle.reading_core.specs.Reading.{Steps};
+ghost use Rattle.wire_bytes.specs.Fields.{bytes_at, number_at, uvarint_at, varint_at};
+ghost use Rattle.index_parts.specs.Placed.{refused_at, field, text_at};
+
+use crate::PartRefusal;
+use wire_bytes::{Cursor, WireRefusal};
+
+/// A refusal of the field that begins at a place.
+#[inline(always)]
+fn refused_at(place: u64, refusal: WireRefusal) -> PartRefusal
+    ensures { result ≡ refused_at place refusal }
+{
+    match refusal {
+        WireRefusal::Short => PartRefusal::Short(place),
+        WireRefusal::Overlong => PartRefusal::Overlong(place),
+    }
+}
+
+#[inline(always)]
+pub(crate) fn next_u8(cursor: &mut Cursor<'_>) -> Result<u8, PartRefusal>
+    ensures { Steps (λ n. n) cursor.old cursor.new result (field (number_at w8) cursor.old) }
+{
+    let place = cursor.place() as u64;
+    match cursor.take_u8() {
+        Ok(n) => Ok(n),
+        Err(refusal) => Err(refused_at(place, refusal)),
+    }
+}
+
+#[inline(always)]
+pub(crate) fn next_u32(cursor: &mut Cursor<'_>) -> Result<u32, PartRefusal>
+    ensures { Steps (λ n. n) cursor.old cursor.new result (field (number_at w32) cursor.old) }
+{
+    let place = cursor.place() as u64;
+    match cursor.take_u32() {
+        Ok(n) => Ok(n),
+        Err(refusal) => Err(refused_at(place, refusal)),
+    }
+}
+
+#[inline(always)]
+pub(crate) fn next_u64(cursor: &mut Cursor<'_>) -> Result<u64, PartRefusal>
+    ensures { Steps (λ n. n) cursor.old cursor.new result (field (number_at w64) cursor.old) }
+{
+    let place = cursor.place() as u64;
+    match cursor.take_u64() {
+        Ok(n) => Ok(n),
+        Err(refusal) => Err(refused_at(place, refusal)),
+    }
+}
+
+/// A number of one group is taken at once.
+#[inline(always)]
+pub(crate) fn next_uvarint(cursor: &mut Cursor<'_>) -> Result<u64, PartRefusal>
+    ensures { Steps (λ n. n) cursor.old cursor.new result (field uvarint_at cursor.old) }
+{
+    let left = cursor.rest();
+    if !left.is_empty() && left[0] < 128 {
+        return Ok(u64::from(next_u8(cursor)?));
+    }
+    let place = cursor.place() as u64;
+    match cursor.take_uvarint() {
+        Ok(n) => Ok(n),
+        Err(refusal) => Err(refused_at(place, refusal)),
+    }
+}
+
+#[inline(always)]
+pub(crate) fn next_varint(cursor: &mut Cursor<'_>) -> Result<i64, PartRefusal>
+    ensures { Steps (λ n. n) cursor.old cursor.new result (field varint_at cursor.old) }
+{
+    let place = cursor.place() as u64;
+    match cursor.take_varint() {
+        Ok(n) => Ok(n),
+        Err(refusal) => Err(refused_at(place, refusal)),
+    }
+}
+
+#[inline(always)]
+fn next_bytes<'a>(cursor: &mut Cursor<'a>, count: u64) -> Result<&'a [u8], PartRefusal>
+    ensures { Steps (λ bytes. bytes.now) cursor.old cursor.new result (field (bytes_at count) cursor.old) }
+{
+    let place = cursor.place() as u64;
+    match cursor.take_bytes(count as usize) {
+        Ok(bytes) => Ok(bytes),
+        Err(refusal) => Err(refused_at(place, refusal)),
+    }
+}
+
+/// The bytes behind their length.
+#[inline(always)]
+#[tactic(auto, unfolding(crate::specs::Placed::text_at))]
+pub(crate) fn next_text<'a>(cursor: &mut Cursor<'a>) -> Result<&'a [u8], PartRefusal>
+    ensures { MatchResult result (λ bytes. text_at cursor.old ≡ Ok (bytes.now, cursor.new)) (λ e. text_at cursor.old ≡ Err e) }
+{
+    let size = next_uvarint(cursor)?;
+    next_bytes(cursor, size)
+}
+
+/// The bytes that end at a place, as a text.
+#[inline(always)]
+#[tactic(auto, using(crate::proofs::Texts::utf8_tests))]
+pub(crate) fn text_of(bytes: &[u8], end: usize) -> Result<&str, PartRefusal>
+    requires { length bytes.now ≤ end }
+    ensures { MatchResult result (λ text. (is_utf8 bytes.now ≡ true) × (text.now ≡ bytes.now)) (λ e. (is_utf8 bytes.now ≡ false) × (e ≡ PartRefusal.NotText (end - length bytes.now))) }
+{
+    match str::from_utf8(bytes) {
+        Ok(text) => Ok(text),
+        Err(_) => Err(PartRefusal::NotText((end - bytes.len()) as u64)),
+    }
+}

@@ -1,0 +1,64 @@
+ghost use Rattle.std.specs.Prelude.{◌≡◌, ◌⊎◌, ◌≤◌, ◌*◌, List, ℕ, length, IfOk, Ok, Err, Some, MatchResult};
+ghost use Rattle.reading_core.specs.Reading.{Gives};
+ghost use Rattle.reading_core.specs.Grammar.{IsBytes};
+ghost use Rattle.index_parts.specs.Postings.{IsPostings};
+ghost use Rattle.index_parts.specs.PostingsReading.{posting_at, postings_at};
+ghost use Rattle.index_parts.specs.ListReading.{turns_at};
+
+use crate::PartRefusal;
+use crate::fields::next_u32;
+use crate::sections::section_of;
+use list_core::List;
+use std::alloc::Global;
+use wire_bytes::{Cursor, NumberList};
+
+/// The next number, which is above the one before it.
+#[inline(always)]
+#[tactic(auto, unfolding(crate::specs::PostingsReading::posting_at))]
+fn next_posting(cursor: &mut Cursor<'_>, before: Option<u64>) -> Result<u64, PartRefusal>
+    ensures { MatchResult result (λ number. posting_at (before, cursor.old) ≡ Ok (number, (Some number, cursor.new))) (λ e. posting_at (before, cursor.old) ≡ Err e) }
+{
+    let place = cursor.place() as u64;
+    let number = u64::from(next_u32(cursor)?);
+    match before {
+        Some(before) if number <= before => Err(PartRefusal::Unordered(place)),
+        _ => Ok(number),
+    }
+}
+
+/// Reads so many numbers.
+fn numbers_of(alloc: Global, count: u32, mut cursor: Cursor<'_>) -> Result<Vec<u64>, PartRefusal>
+    ensures { Gives PartRefusal.NoMemory (λ numbers. numbers.items) result (turns_at posting_at count cursor.entry) }
+{
+    let mut numbers = Vec::new(alloc);
+    let mut before = None;
+    for _ in 0..count {
+        let number = next_posting(&mut cursor, before)?;
+        numbers.push(number)?;
+        before = Some(number);
+    }
+    Ok(numbers)
+}
+
+#[tactic(auto, unfolding(crate::specs::ListReading::list_at))]
+fn postings_of(alloc: Global, index: &[u8], at: u64) -> Result<NumberList, PartRefusal>
+    ensures exact { Gives PartRefusal.NoMemory (λ numbers. numbers) result (postings_at index.now at) }
+    ensures bytes { IsBytes index.now }
+{
+    let mut content = section_of(index, at)?;
+    let count = next_u32(&mut content)?;
+    Ok(List::from_vec(numbers_of(alloc, count, content)?))
+}
+
+/// Reads the postings list at a place.
+pub fn read_postings(alloc: Global, index: &[u8], at: u64) -> Result<NumberList, PartRefusal>
+    // What is read is what stands there, and what stands there is read.
+    ensures found { IfOk result (λ numbers. IsPostings index.now at numbers) }
+    ensures only { (numbers : List ℕ) → IsPostings index.now at numbers → (result ≡ Ok numbers) ⊎ (result ≡ Err PartRefusal.NoMemory) }
+
+    // The first refusal.
+    ensures exact { Gives PartRefusal.NoMemory (λ numbers. numbers) result (postings_at index.now at) }
+    ensures few { IfOk result (λ numbers. 4 * length numbers ≤ length index.now) }
+{
+    postings_of(alloc, index, at)
+}

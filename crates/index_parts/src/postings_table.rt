@@ -1,0 +1,146 @@
+ghost use Rattle.std.specs.Prelude.{◌≡◌, ◌⊎◌, ◌≤◌, ◌*◌, List, ℕ, length, map, slice_get, IfOk, Err, Ok, Some, MatchResult, option_map};
+ghost use Rattle.std.specs.Result.{IsOkAnd};
+ghost use Rattle.reading_core.specs.Reading.{Gives};
+ghost use Rattle.reading_core.specs.Grammar.{IsBytes};
+ghost use Rattle.index_parts.specs.declared.postings_row.PostingsRow.{PostingsRow};
+ghost use Rattle.index_parts.specs.Lent.{row_of, row_before};
+ghost use Rattle.index_parts.specs.Rows.{IsPostingsTable};
+ghost use Rattle.index_parts.specs.RowsReading.{may_come_after, row_at, postings_table_at};
+ghost use Rattle.index_parts.specs.ListReading.{turns_at};
+
+use crate::PartRefusal;
+use crate::fields::{next_text, next_u8, next_u32, next_uvarint, text_of};
+use crate::lent_row::LentRow;
+use crate::sections::section_of;
+use std::alloc::Global;
+use std::cmp::Ordering;
+use std::marker::Model;
+use wire_bytes::Cursor;
+
+/// What the entry of a postings list begins with.
+const KIND: u8 = 2;
+
+/// The rows of a postings table, which lend the index's bytes.
+#[derive(Drop)]
+pub struct PostingsTable<'a> {
+    rows: Vec<LentRow<'a>>,
+}
+
+impl<'a> Model for PostingsTable<'a> {
+    ghost use Rattle.std.specs.Prelude.{List, map};
+    ghost use Rattle.index_parts.specs.declared.postings_row.PostingsRow.{PostingsRow};
+    ghost use Rattle.index_parts.specs.Lent.{row_of};
+
+    ghost Value = { List PostingsRow };
+
+    ghost view = { λ t. map row_of t.rows.items };
+}
+
+impl<'a> PostingsTable<'a> {
+    pub fn len(&self) -> usize
+        ensures { result ≡ length self.now }
+    {
+        self.rows.len()
+    }
+
+    /// The name, the value and the place of a row.
+    pub fn get(&self, place: usize) -> Option<(&'a str, &'a str, u64)>
+        ensures { option_map (λ row. record { name = row.0.now; value = row.1.now; offset = row.2 }) result ≡ slice_get self.now place }
+    {
+        match self.rows.get(place) {
+            None => None,
+            Some(row) => Some((row.name, row.value, row.offset)),
+        }
+    }
+}
+
+/// Whether a row of this name and value may stand behind another, or first.
+#[inline(always)]
+fn may_come_after(before: Option<LentRow<'_>>, name: &[u8], value: &[u8]) -> bool
+    ensures { (offset : ℕ) → result ≡ may_come_after (row_before before.entry) (record { name = name.now; value = value.now; offset = offset }) }
+{
+    let Some(row) = before else {
+        return name.is_empty() && value.is_empty();
+    };
+    match row.name.as_bytes().cmp(name) {
+        Ordering::Less => true,
+        Ordering::Equal => row.value.as_bytes().cmp(value).is_lt(),
+        Ordering::Greater => false,
+    }
+}
+
+/// The next row. All its fields are read, then its order is tested, and then its texts.
+#[inline(always)]
+#[tactic(auto, unfolding(crate::specs::RowsReading::row_at))]
+fn next_row<'a>(
+    cursor: &mut Cursor<'a>,
+    before: Option<LentRow<'a>>,
+) -> Result<LentRow<'a>, PartRefusal>
+    ensures { MatchResult result (λ row. row_at (row_before before.entry, cursor.old) ≡ Ok (row_of row, (Some (row_of row), cursor.new))) (λ e. row_at (row_before before.entry, cursor.old) ≡ Err e) }
+{
+    let place = cursor.place() as u64;
+    if next_u8(cursor)? != KIND {
+        return Err(PartRefusal::Unordered(place));
+    }
+    let name = next_text(cursor)?;
+    let name_end = cursor.place();
+    let value = next_text(cursor)?;
+    let value_end = cursor.place();
+    let offset = next_uvarint(cursor)?;
+    if !may_come_after(before, name, value) {
+        return Err(PartRefusal::Unordered(place));
+    }
+    let name = text_of(name, name_end)?;
+    let value = text_of(value, value_end)?;
+    Ok(LentRow {
+        name,
+        value,
+        offset,
+    })
+}
+
+/// Reads so many rows.
+fn rows_of<'a>(
+    alloc: Global,
+    count: u32,
+    mut cursor: Cursor<'a>,
+) -> Result<Vec<LentRow<'a>>, PartRefusal>
+    ensures { Gives PartRefusal.NoMemory (λ rows. map row_of rows.items) result (turns_at row_at count cursor.entry) }
+{
+    let mut rows = Vec::new(alloc);
+    let mut before = None;
+    for _ in 0..count {
+        let row = next_row(&mut cursor, before)?;
+        rows.push(row)?;
+        before = Some(row);
+    }
+    Ok(rows)
+}
+
+#[tactic(auto, unfolding(crate::specs::ListReading::list_at))]
+fn table_of<'a>(alloc: Global, index: &'a [u8], at: u64) -> Result<PostingsTable<'a>, PartRefusal>
+    ensures exact { Gives PartRefusal.NoMemory (λ table. table) result (postings_table_at index.now at) }
+    ensures bytes { IsBytes index.now }
+{
+    let mut content = section_of(index, at)?;
+    let count = next_u32(&mut content)?;
+    let rows = rows_of(alloc, count, content)?;
+    Ok(PostingsTable { rows })
+}
+
+/// Reads the postings table at a place. Bytes that follow the last row are passed over.
+pub fn read_postings_table<'a>(
+    alloc: Global,
+    index: &'a [u8],
+    at: u64,
+) -> Result<PostingsTable<'a>, PartRefusal>
+    // What is read is what stands there, and what stands there is read.
+    ensures found { IfOk result (λ table. IsPostingsTable index.now at table) }
+    ensures only { (rows : List PostingsRow) → IsPostingsTable index.now at rows → IsOkAnd result (λ table. table ≡ rows) ⊎ (result ≡ Err PartRefusal.NoMemory) }
+
+    // The first refusal.
+    ensures exact { Gives PartRefusal.NoMemory (λ table. table) result (postings_table_at index.now at) }
+    ensures few { IfOk result (λ table. 4 * length table ≤ length index.now) }
+{
+    table_of(alloc, index, at)
+}

@@ -1,0 +1,180 @@
+ghost use Rattle.std.specs.Prelude.{◌≡◌, ◌⊎◌, ◌≤◌, ◌*◌, ◌+◌, ◌<◌, ◌^◌, List, ℕ, ℤ, length, IfOk, Ok, Err, Some, MatchResult};
+ghost use Rattle.reading_core.specs.Reading.{Gives, Steps};
+ghost use Rattle.reading_core.specs.Grammar.{IsBytes};
+ghost use Rattle.wire_bytes.specs.Position.{Position};
+ghost use Rattle.index_parts.specs.declared.raw_series.RawSeries.{RawSeries};
+ghost use Rattle.index_parts.specs.SeriesEntry.{IsSeries, reference_of};
+ghost use Rattle.index_parts.specs.SeriesReading.{label_at, labels_at, later_at, moved_at, begin_at, reference_at, chunk_of, chunk_at, series_at};
+ghost use Rattle.index_parts.specs.ListReading.{turns_at};
+
+use crate::fields::{next_uvarint, next_varint};
+use crate::sections::entry_of;
+use crate::{ChunkPlace, PartRefusal, RawSeries};
+use list_core::List;
+use std::alloc::Global;
+use wire_bytes::Cursor;
+
+/// The symbol numbers of the next label, its name's and its value's.
+#[inline(always)]
+#[tactic(auto, unfolding(crate::specs::SeriesReading::label_at))]
+fn next_label(cursor: &mut Cursor<'_>) -> Result<(u64, u64), PartRefusal>
+    ensures { MatchResult result (λ label. label_at cursor.old ≡ Ok (label, cursor.new)) (λ e. label_at cursor.old ≡ Err e) }
+{
+    let name = next_uvarint(cursor)?;
+    let value = next_uvarint(cursor)?;
+    Ok((name, value))
+}
+
+/// Reads the symbol numbers of so many labels, and what follows them.
+fn labels_of<'a>(
+    alloc: Global,
+    count: u64,
+    mut cursor: Cursor<'a>,
+) -> Result<(Vec<u64>, Vec<u64>, Cursor<'a>), PartRefusal>
+    ensures { Gives PartRefusal.NoMemory (λ x. ((x.0.items, x.1.items), x.2)) result (labels_at count cursor.entry) }
+{
+    let mut names = Vec::new(alloc);
+    let mut values = Vec::new(alloc);
+    for _ in 0..count {
+        let (name, value) = next_label(&mut cursor)?;
+        names.push(name)?;
+        values.push(value)?;
+    }
+    Ok((names, values, cursor))
+}
+
+/// A time that comes so long after another.
+#[inline(always)]
+#[tactic(auto, using(crate::proofs::Ranges::signed_tests), unfolding(crate::specs::SeriesReading::later_at))]
+fn later(cursor: &mut Cursor<'_>, time: i64) -> Result<i64, PartRefusal>
+    ensures { MatchResult result (λ t. later_at time cursor.old ≡ Ok (t, cursor.new)) (λ e. later_at time cursor.old ≡ Err e) }
+{
+    let place = cursor.place() as u64;
+    let by = next_uvarint(cursor)?;
+    match time.checked_add_unsigned(by) {
+        Some(time) => Ok(time),
+        None => Err(PartRefusal::Overlong(place)),
+    }
+}
+
+/// A reference that is so far from another.
+#[inline(always)]
+#[tactic(auto, using(crate::proofs::Ranges::unsigned_tests), unfolding(crate::specs::SeriesReading::moved_at))]
+fn moved(cursor: &mut Cursor<'_>, reference: u64) -> Result<u64, PartRefusal>
+    ensures { MatchResult result (λ r. moved_at reference cursor.old ≡ Ok (r, cursor.new)) (λ e. moved_at reference cursor.old ≡ Err e) }
+{
+    let place = cursor.place() as u64;
+    let by = next_varint(cursor)?;
+    match reference.checked_add_signed(by) {
+        Some(reference) => Ok(reference),
+        None => Err(PartRefusal::Overlong(place)),
+    }
+}
+
+/// The reference of a chunk.
+#[inline(always)]
+pub(crate) fn reference_of(chunk: ChunkPlace) -> u64
+    ensures value { result ≡ reference_of chunk }
+    ensures fits { (chunk.segment < 2 ^ 32) × (chunk.offset < 2 ^ 32) }
+{
+    u64::from(chunk.segment) * 0x1_0000_0000 + u64::from(chunk.offset)
+}
+
+#[inline(always)]
+fn chunk_of(min: i64, max: i64, reference: u64) -> ChunkPlace
+    ensures { result ≡ chunk_of min max reference }
+{
+    ChunkPlace {
+        min,
+        max,
+        segment: (reference / 0x1_0000_0000) as u32,
+        offset: (reference % 0x1_0000_0000) as u32,
+    }
+}
+
+/// When the next chunk begins.
+#[inline(always)]
+#[tactic(auto, unfolding(crate::specs::SeriesReading::begin_at))]
+fn next_begin(cursor: &mut Cursor<'_>, before: Option<ChunkPlace>) -> Result<i64, PartRefusal>
+    ensures { MatchResult result (λ t. begin_at before cursor.old ≡ Ok (t, cursor.new)) (λ e. begin_at before cursor.old ≡ Err e) }
+{
+    match before {
+        None => next_varint(cursor),
+        Some(chunk) => later(cursor, chunk.max),
+    }
+}
+
+/// Where the next chunk stands.
+#[inline(always)]
+#[tactic(auto, unfolding(crate::specs::SeriesReading::reference_at))]
+fn next_reference(cursor: &mut Cursor<'_>, before: Option<ChunkPlace>) -> Result<u64, PartRefusal>
+    ensures { MatchResult result (λ r. reference_at before cursor.old ≡ Ok (r, cursor.new)) (λ e. reference_at before cursor.old ≡ Err e) }
+{
+    match before {
+        None => next_uvarint(cursor),
+        Some(chunk) => moved(cursor, reference_of(chunk)),
+    }
+}
+
+/// The next chunk, which is told from the one before it.
+#[inline(always)]
+#[tactic(auto, unfolding(crate::specs::SeriesReading::chunk_at))]
+fn next_chunk(
+    cursor: &mut Cursor<'_>,
+    before: Option<ChunkPlace>,
+) -> Result<ChunkPlace, PartRefusal>
+    ensures { MatchResult result (λ chunk. chunk_at (before, cursor.old) ≡ Ok (chunk, (Some chunk, cursor.new))) (λ e. chunk_at (before, cursor.old) ≡ Err e) }
+{
+    let min = next_begin(cursor, before)?;
+    let max = later(cursor, min)?;
+    let reference = next_reference(cursor, before)?;
+    Ok(chunk_of(min, max, reference))
+}
+
+/// Reads the places of so many chunks.
+fn chunks_of(
+    alloc: Global,
+    count: u64,
+    mut cursor: Cursor<'_>,
+) -> Result<Vec<ChunkPlace>, PartRefusal>
+    ensures { Gives PartRefusal.NoMemory (λ chunks. chunks.items) result (turns_at chunk_at count cursor.entry) }
+{
+    let mut chunks = Vec::new(alloc);
+    let mut before = None;
+    for _ in 0..count {
+        let chunk = next_chunk(&mut cursor, before)?;
+        chunks.push(chunk)?;
+        before = Some(chunk);
+    }
+    Ok(chunks)
+}
+
+#[tactic(auto, unfolding(crate::specs::SeriesReading::series_at))]
+fn series_of(alloc: Global, index: &[u8], at: u64) -> Result<RawSeries, PartRefusal>
+    ensures exact { Gives PartRefusal.NoMemory (λ series. series) result (series_at index.now at) }
+    ensures bytes { IsBytes index.now }
+{
+    let mut content = entry_of(index, at)?;
+    let label_count = next_uvarint(&mut content)?;
+    let (names, values, mut rest) = labels_of(alloc, label_count, content)?;
+    let chunk_count = next_uvarint(&mut rest)?;
+    let chunks = chunks_of(alloc, chunk_count, rest)?;
+    Ok(RawSeries {
+        names: List::from_vec(names),
+        values: List::from_vec(values),
+        chunks: List::from_vec(chunks),
+    })
+}
+
+/// Reads the series at a place.
+pub fn read_series(alloc: Global, index: &[u8], at: u64) -> Result<RawSeries, PartRefusal>
+    // What is read is what stands there, and what stands there is read.
+    ensures found { IfOk result (λ series. IsSeries index.now at series) }
+    ensures only { (series : RawSeries) → IsSeries index.now at series → (result ≡ Ok series) ⊎ (result ≡ Err PartRefusal.NoMemory) }
+
+    // The first refusal.
+    ensures exact { Gives PartRefusal.NoMemory (λ series. series) result (series_at index.now at) }
+    ensures few { IfOk result (λ series. length series.names + length series.values + 3 * length series.chunks ≤ length index.now) }
+{
+    series_of(alloc, index, at)
+}

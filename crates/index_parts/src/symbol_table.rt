@@ -1,0 +1,113 @@
+ghost use Rattle.std.specs.Prelude.{◌≡◌, ◌⊎◌, ◌≤◌, List, ℕ, length, map, slice_get, IfOk, Ok, Err, Some, MatchResult};
+ghost use Rattle.std.specs.Result.{IsOkAnd};
+ghost use Rattle.std.specs.Option.{option_copied};
+ghost use Rattle.reading_core.specs.Reading.{Gives};
+ghost use Rattle.reading_core.specs.Grammar.{IsBytes};
+ghost use Rattle.index_parts.specs.Symbols.{IsSymbols};
+ghost use Rattle.index_parts.specs.SymbolsReading.{may_follow, symbol_at, symbols_at};
+ghost use Rattle.index_parts.specs.ListReading.{turns_at};
+
+use crate::PartRefusal;
+use crate::fields::{next_text, next_u32, text_of};
+use crate::sections::section_of;
+use std::alloc::Global;
+use std::marker::Model;
+use wire_bytes::Cursor;
+
+/// The symbols of an index, which lend the index's bytes.
+#[derive(Drop)]
+pub struct SymbolTable<'a> {
+    symbols: Vec<&'a str>,
+}
+
+impl<'a> Model for SymbolTable<'a> {
+    ghost Value = { List (List ℕ) };
+
+    ghost view = { λ t. map (λ s. s.now) t.symbols.items };
+}
+
+impl<'a> SymbolTable<'a> {
+    pub fn len(&self) -> usize
+        ensures { result ≡ length self.now }
+    {
+        self.symbols.len()
+    }
+
+    /// The symbol of a number.
+    pub fn get(&self, place: usize) -> Option<&'a str>
+        ensures { option_copied result ≡ slice_get self.now place }
+    {
+        self.symbols.get(place).copied()
+    }
+}
+
+/// Whether a symbol may stand behind another.
+#[inline(always)]
+fn may_follow(before: Option<&str>, symbol: &[u8]) -> bool
+    ensures { result ≡ may_follow (option_copied before.entry) symbol.now }
+{
+    match before {
+        None => true,
+        Some(before) => before.as_bytes().cmp(symbol).is_lt(),
+    }
+}
+
+/// The next symbol. Its order is tested before its text.
+#[inline(always)]
+#[tactic(auto, unfolding(crate::specs::SymbolsReading::symbol_at))]
+fn next_symbol<'a>(cursor: &mut Cursor<'a>, before: Option<&str>) -> Result<&'a str, PartRefusal>
+    ensures { MatchResult result (λ symbol. symbol_at (option_copied before.entry, cursor.old) ≡ Ok (symbol.now, (Some symbol.now, cursor.new))) (λ e. symbol_at (option_copied before.entry, cursor.old) ≡ Err e) }
+{
+    let place = cursor.place() as u64;
+    let bytes = next_text(cursor)?;
+    if !may_follow(before, bytes) {
+        return Err(PartRefusal::Unordered(place));
+    }
+    text_of(bytes, cursor.place())
+}
+
+/// Reads so many symbols.
+fn symbols_of<'a>(
+    alloc: Global,
+    count: u32,
+    mut cursor: Cursor<'a>,
+) -> Result<Vec<&'a str>, PartRefusal>
+    ensures { Gives PartRefusal.NoMemory (λ symbols. map (λ s. s.now) symbols.items) result (turns_at symbol_at count cursor.entry) }
+{
+    let mut symbols = Vec::new(alloc);
+    let mut before = None;
+    for _ in 0..count {
+        let symbol = next_symbol(&mut cursor, before)?;
+        symbols.push(symbol)?;
+        before = Some(symbol);
+    }
+    Ok(symbols)
+}
+
+#[tactic(auto, unfolding(crate::specs::ListReading::list_at))]
+fn table_of<'a>(alloc: Global, index: &'a [u8], at: u64) -> Result<SymbolTable<'a>, PartRefusal>
+    ensures exact { Gives PartRefusal.NoMemory (λ table. table) result (symbols_at index.now at) }
+    ensures bytes { IsBytes index.now }
+{
+    let mut content = section_of(index, at)?;
+    let count = next_u32(&mut content)?;
+    let symbols = symbols_of(alloc, count, content)?;
+    Ok(SymbolTable { symbols })
+}
+
+/// Reads the symbol table at a place. Bytes that follow the last symbol are passed over.
+pub fn read_symbols<'a>(
+    alloc: Global,
+    index: &'a [u8],
+    at: u64,
+) -> Result<SymbolTable<'a>, PartRefusal>
+    // What is read is what stands there, and what stands there is read.
+    ensures found { IfOk result (λ table. IsSymbols index.now at table) }
+    ensures only { (symbols : List (List ℕ)) → IsSymbols index.now at symbols → IsOkAnd result (λ table. table ≡ symbols) ⊎ (result ≡ Err PartRefusal.NoMemory) }
+
+    // The first refusal.
+    ensures exact { Gives PartRefusal.NoMemory (λ table. table) result (symbols_at index.now at) }
+    ensures few { IfOk result (λ table. length table ≤ length index.now) }
+{
+    table_of(alloc, index, at)
+}
