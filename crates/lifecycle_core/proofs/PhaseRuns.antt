@@ -214,6 +214,45 @@ done_by gateways before tasks all (h ∷ hs) (w ∷ ws) ds ends few are same zip
     let rest : AreDone ws (ends_of ds ends hs) = done_by gateways before tasks all hs ws ds ends few are same zipped.1 in
     ap (λ (k : ℕ). k ∷ map (λ (x : Worker). length x.tasks) ws) n ∙ ap (λ (l : List ℕ). length (ends_by h ds ends) ∷ l) rest
 
+-- where some duty has no end, some hand has fewer ends than tasks
+short_first : (hand : Hand) (d : Duty) (e : End) (ds : List Duty) (es : List End) (b : Bool) → length (ends_by hand ds es) < length (part hand ds)
+    → length (cond b (e ∷ ends_by hand ds es) (ends_by hand ds es)) < length (cond b (d ∷ part hand ds) (part hand ds))
+short_first hand d e ds es true less = omega (arith, less)
+short_first hand d e ds es false less = less
+
+short_own : (d : Duty) (ds : List Duty) (b : Bool) → same_hand d.hand d.hand ≡ b → length {A = End} [] < length (cond b (d ∷ part d.hand ds) (part d.hand ds))
+short_own d ds true is = omega arith
+short_own d ds false is = absurd (cc (is, same_self d.hand))
+
+short_hand : (hs : List Hand) (ds : List Duty) (ends : List End) → length ends < length ds → AllByRecursion (λ d. list_any (same_hand d.hand) hs ≡ true) ds
+    → (hand : Hand) × (list_any (same_hand hand) hs ≡ true) × (length (ends_by hand ds ends) < length (part hand ds))
+unfolding part ends_by
+short_hand hs [] ends less among = absurd (omega (arith, less))
+short_hand hs (d ∷ ds) [] less among = (d.hand, among.0, short_own d ds (same_hand d.hand d.hand) refl)
+short_hand hs (d ∷ ds) (e ∷ es) less among =
+    let rest = short_hand hs ds es (omega (arith, less)) among.1 in
+    (rest.0, rest.1, short_first rest.0 d e ds es (same_hand rest.0 d.hand) rest.2)
+
+undone_first : (gateways before : ℕ) (tasks : List Task) (all : List Worker) (hand h : Hand) (w : Worker) (ds : List Duty) (ends : List End) (b c : Bool) → gateways ≤ 1 → ds ≡ duties_from gateways 0 tasks
+    → length (ends_by hand ds ends) < length (part hand ds) → IsWorkerOf gateways tasks before all h w → same_hand hand h ≡ b → length w.tasks ≡ length (ends_by h ds ends) → (c ≡ true → ⊥) → (same_hand hand h || c) ≡ true → ⊥
+undone_first gateways before tasks all hand h w ds ends true c few are less worker is first later found =
+    let same : hand ≡ h = same_is hand h is in
+    let less' : length (ends_by h ds ends) < length (part h ds) = subst (λ (x : Hand). length (ends_by x ds ends) < length (part x ds)) same less in
+    let n : length w.tasks ≡ length (part h ds) =
+        ap length (worker.places ∙ places_are gateways h 0 tasks few ∙ ap (λ (l : List Duty). places_in (part h l)) (sym are)) ∙ length-map (part h ds) (λ (d : Duty). d.place) in
+    absurd (omega (arith, less', n, first))
+undone_first gateways before tasks all hand h w ds ends false c few are less worker is first later found = later (rw is at found)
+
+undone_by : (gateways before : ℕ) (tasks : List Task) (all : List Worker) (hand : Hand) (hs : List Hand) (ws : List Worker) (ds : List Duty) (ends : List End) → gateways ≤ 1 → ds ≡ duties_from gateways 0 tasks
+    → length (ends_by hand ds ends) < length (part hand ds) → AllZip (IsWorkerOf gateways tasks before all) hs ws → list_any (same_hand hand) hs ≡ true → AreDone ws (ends_of ds ends hs) → ⊥
+undone_by gateways before tasks all hand [] ws ds ends few are less zipped found done = absurd (cc (found))
+undone_by gateways before tasks all hand (h ∷ hs) [] ds ends few are less zipped found done = absurd zipped
+undone_by gateways before tasks all hand (h ∷ hs) (w ∷ ws) ds ends few are less zipped found done =
+    let first : length w.tasks ≡ length (ends_by h ds ends) = cc (done) in
+    let later : AreDone ws (ends_of ds ends hs) = cc (done) in
+    undone_first gateways before tasks all hand h w ds ends (same_hand hand h) (list_any (same_hand hand) hs) few are less zipped.0 refl first
+    (λ more. undone_by gateways before tasks all hand hs ws ds ends few are less zipped.1 more later) found
+
 -- ---- the phase
 
 module _ (script : Script) (gateways before : ℕ) (tasks : List Task) (views after : Views) (entries : List Entry) (ends : List End) where
@@ -307,3 +346,9 @@ module _ (script : Script) (gateways before : ℕ) (tasks : List Task) (views af
 
   pub phase_done : gateways ≤ 1 → before + length own_hands ≤ greatest → length ends ≡ length own_duties → AreDone own_workers (ends_of own_duties ends own_hands)
   phase_done few room same = done_by gateways before tasks own_workers own_hands own_workers own_duties ends few refl same (workers_are room)
+
+  -- where some duty has no end, the phase is not done
+  pub phase_undone : gateways ≤ 1 → before + length own_hands ≤ greatest → length ends < length own_duties → AreDone own_workers (ends_of own_duties ends own_hands) → ⊥
+  phase_undone few room less done =
+      let short = short_hand own_hands own_duties ends less hands_among in
+      undone_by gateways before tasks own_workers short.0 own_hands own_workers own_duties ends few refl short.2 (workers_are room) short.1 done

@@ -1,5 +1,5 @@
 -- Runs in the order of the lines are lawful journals.
-use Rattle.std.proofs.Common.{◌≡◌, ℕ, zero, suc, ◌+◌, ◌≤◌, List, [], ◌∷◌, ◌++◌, length, take, get_or, refl, sym, ◌∙◌, ap, subst, inl, inr, arith}
+use Rattle.std.proofs.Common.{◌≡◌, ℕ, zero, suc, ◌+◌, ◌<◌, ◌≤◌, List, [], ◌∷◌, ◌++◌, length, take, get_or, refl, sym, ◌∙◌, ap, subst, inl, inr, arith}
 use Rattle.std.specs.Prelude.{Some, slice_get}
 use Rattle.std.specs.List.{All, AllZip}
 use Rattle.std.proofs.lemmas.List.{length-append, length-map}
@@ -18,7 +18,7 @@ use Rattle.lifecycle_core.specs.Phases.{AreDone, AreFinished, CameTo, IsRunOf, P
 use Rattle.lifecycle_core.specs.Tasks.{End}
 use Rattle.lifecycle_core.specs.Views.{Views, no_views}
 use Rattle.lifecycle_core.proofs.HandLists.{few_duties, joins_from}
-use Rattle.lifecycle_core.proofs.PhaseRuns.{ends_of, phase_came, phase_run, phase_done}
+use Rattle.lifecycle_core.proofs.PhaseRuns.{ends_of, phase_came, phase_run, phase_done, phase_undone}
 use Rattle.lifecycle_core.proofs.TaskRuns.{MayBegin, none_yet}
 
 pub few_hands : (gateways : ℕ) (tasks : List Task) → gateways ≤ 1 → length (hands_of gateways tasks) ≤ length tasks
@@ -74,7 +74,7 @@ by_workers gateways (phase ∷ phases) [] = []
 by_workers gateways (phase ∷ phases) (first ∷ later) =
     ends_of (duties_from gateways 0 phase.tasks) first (hands_of gateways phase.tasks) ∷ by_workers gateways phases later
 
-by_none : (gateways : ℕ) (phases : List Phase) → by_workers gateways phases [] ≡ []
+pub by_none : (gateways : ℕ) (phases : List Phase) → by_workers gateways phases [] ≡ []
 unfolding by_workers
 by_none gateways [] = refl
 by_none gateways (phase ∷ phases) = refl
@@ -87,13 +87,6 @@ by_parts gateways [] left (first ∷ ends) more same = absurd (omega (arith, sam
 by_parts gateways (phase ∷ done) left [] more same = absurd (omega (arith, same))
 by_parts gateways (phase ∷ done) left (first ∷ ends) more same =
     ap (λ l. ends_of (duties_from gateways 0 phase.tasks) first (hands_of gateways phase.tasks) ∷ l) (by_parts gateways done left ends more (omega (arith, same)))
-
--- no more phases than ends
-pub by_few : (gateways : ℕ) (phases : List Phase) (ends : List (List End)) → length (by_workers gateways phases ends) ≤ length ends
-unfolding by_workers
-by_few gateways [] ends = omega arith
-by_few gateways (phase ∷ phases) [] = omega arith
-by_few gateways (phase ∷ phases) (first ∷ ends) = omega (arith, by_few gateways phases ends)
 
 -- every phase was begun, and all its duties have come to their ends
 abbrev pub AreWhole : ℕ → List Phase → List (List End) → Type 0
@@ -116,6 +109,13 @@ module _ (script : Script) (lawful : IsLawfulScript script) where
       let gateways = gateway_count script.gateways in
       subst (λ (ws : List Worker). AreDone ws (ends_of (duties_from gateways 0 phase.tasks) first (hands_of gateways phase.tasks))) (sym (workers_at script number phase at))
       (phase_done script gateways (seats_before script number) phase.tasks no_views no_views [] first (few_gateways script lawful) (room script number phase lawful at) same)
+
+  pub own_undone : (number : ℕ) (phase : Phase) (first : List End) → slice_get script.phases number ≡ Some phase → length first < length (duties_from (gateway_count script.gateways) 0 phase.tasks)
+      → AreDone (workers_of script number) (ends_of (duties_from (gateway_count script.gateways) 0 phase.tasks) first (hands_of (gateway_count script.gateways) phase.tasks)) → ⊥
+  own_undone number phase first at less done =
+      let gateways = gateway_count script.gateways in
+      phase_undone script gateways (seats_before script number) phase.tasks no_views no_views [] first (few_gateways script lawful) (room script number phase lawful at) less
+      (subst (λ (ws : List Worker). AreDone ws (ends_of (duties_from gateways 0 phase.tasks) first (hands_of gateways phase.tasks))) (workers_at script number phase at) done)
 
   pub own_came : (number : ℕ) (phase : Phase) (first : List End) → slice_get script.phases number ≡ Some phase → length first ≡ length (duties_from (gateway_count script.gateways) 0 phase.tasks)
       → AllZip (λ d e. CameTo (workers_of script number) (ends_of (duties_from (gateway_count script.gateways) 0 phase.tasks) first (hands_of (gateway_count script.gateways) phase.tasks)) (gateway_of d.hand) d.place e)

@@ -90,3 +90,8 @@ abbrev pub AreFinished : Script → ℕ → List Phase → List (List (List End)
 AreFinished script number [] ends = ends ≡ []
 AreFinished script number (phase ∷ phases) [] = ⊥
 AreFinished script number (phase ∷ phases) (first ∷ later) = AreDone (workers_of script number) first × AreFinished script (number + 1) phases later
+
+-- no phase from a number on was begun, or that one alone, and some task of it has not come to its end
+abbrev pub AreUnfinished : Script → ℕ → List (List (List End)) → Type 0
+AreUnfinished script number [] = Unit {0}
+AreUnfinished script number (own ∷ ends) = (¬ AreDone (workers_of script number) own) × (ends ≡ [])

@@ -16,13 +16,13 @@ use Rattle.script_core.specs.declared.phase.Phase.{Phase}
 use Rattle.script_core.specs.declared.script.Script.{Script}
 use Rattle.script_core.specs.declared.task.Task.{Task}
 use Rattle.lifecycle_core.specs.InLine.{InLine, PhasesInLine, seat_of}
-use Rattle.lifecycle_core.specs.Phases.{BeginsPhase, IsLawfulJournal}
+use Rattle.lifecycle_core.specs.Phases.{AreUnfinished, BeginsPhase, IsLawfulJournal}
 use Rattle.lifecycle_core.specs.Tasks.{End}
 use Rattle.lifecycle_core.specs.Views.{Use, Views, no_views}
 use Rattle.lifecycle_core.proofs.Joined.{no_phase_yet}
-use Rattle.lifecycle_core.proofs.RunsInLine.{AreWhole, by_few, by_parts, by_workers, finished, own_came, run_of, workers_at}
+use Rattle.lifecycle_core.proofs.RunsInLine.{AreWhole, by_none, by_parts, by_workers, finished, own_came, own_undone, run_of, workers_at}
 use Rattle.replay_cli.specs.Outcomes.{PhasesCame}
-use Rattle.replay_cli.specs.Progress.{HasRun, IsBrokenAt, PhaseStep, PhasesTold, Reached, Shows, RunCame, TasksBroken, TasksDone, TasksTold, duties_at}
+use Rattle.replay_cli.specs.Progress.{HasRun, IsBrokenAt, IsUnfinished, PhaseStep, PhasesTold, Reached, Shows, RunCame, TasksBroken, TasksDone, TasksTold, duties_at}
 use Rattle.replay_cli.specs.Reports.{activity_text, is_as_asked}
 use Rattle.replay_cli.specs.Verdicts.{IsFullRun, IsReport, IsWholeRun, report_of, tasks_of}
 use Rattle.replay_cli.specs.declared.came.Broken.{Broken}
@@ -105,7 +105,7 @@ module _ (script : Script) (place : ℕ) (phase : Phase) (shown : List Gateway) 
   unbegun gateways r = record {
     ends = r.ends;
     unfinished = [];
-    few = omega arith;
+    short = tt;
     run = subst (λ (es : List Entry). PhasesInLine script 0 no_views script.phases es (r.ends ++ [])) (append-nil journal) (r.onward [] [] (no_phase_yet script place r.views (drop place script.phases)));
     outcomes = r.outcomes;
     told = r.told;
@@ -127,20 +127,30 @@ module _ (script : Script) (place : ℕ) (phase : Phase) (shown : List Gateway) 
       subst (λ (es : List Entry). PhasesInLine script 0 no_views script.phases es (r.ends ++ own ∷ later)) e (r.onward (clock ∷ made ++ rest) (own ∷ later) here)
 
   -- the phase was broken off
+  broken_run : (clock : Entry) (new : List Entry) (why : Broken) → BeginsPhase phase clock → (r : Reached script place shown journal as_asked text)
+      → (t : TasksBroken script (seat_of (workers_of script place)) phase.tasks r.views (journal ++ clock ∷ []) new why) → PhasesInLine script 0 no_views script.phases new (r.ends ++ t.ends ∷ [])
+  broken_run clock new why begins r t =
+      subst (λ (es : List Entry). PhasesInLine script 0 no_views script.phases es (r.ends ++ t.ends ∷ [])) (append-nil new) (begun r clock t.made [] t.ends [] t.after new begins t.run (inl (refl, refl)) t.entries)
+
   pub broken_off : (clock : Entry) (new : List Entry) → BeginsPhase phase clock → (r : Reached script place shown journal as_asked text)
-      → ((v : Views) → Shows v shown → TasksBroken script (seat_of (workers_of script place)) phase.tasks v (journal ++ clock ∷ []) new) → IsBrokenAt script place new as_asked text
+      → ((v : Views) → Shows v shown → TasksBroken script (seat_of (workers_of script place)) phase.tasks v (journal ++ clock ∷ []) new broken.Full) → IsBrokenAt script place new as_asked text
   broken_off clock new begins r tasks =
       let t = tasks r.views r.shows in
       record {
         ends = r.ends;
         unfinished = t.ends ∷ [];
-        few = omega arith;
-        run = subst (λ (es : List Entry). PhasesInLine script 0 no_views script.phases es (r.ends ++ t.ends ∷ [])) (append-nil new) (begun r clock t.made [] t.ends [] t.after new begins t.run (inl (refl, refl)) t.entries);
+        short = subst (λ (ps : List Phase). IsUnfinished script ps (t.ends ∷ [])) (sym (drop_at script.phases place phase at)) (refl, t.short);
+        run = broken_run clock new broken.Full begins r t;
         outcomes = r.outcomes;
         told = r.told;
         lines = r.lines;
         flag = r.flag;
       }
+
+  pub broken_short : (clock : Entry) (new : List Entry) → BeginsPhase phase clock → (r : Reached script place shown journal as_asked text)
+      → ((v : Views) → Shows v shown → TasksBroken script (seat_of (workers_of script place)) phase.tasks v (journal ++ clock ∷ []) new broken.NoMemory) → HasRun script new
+  broken_short clock new begins r tasks =
+      let t = tasks r.views r.shows in (r.ends ++ t.ends ∷ [], broken_run clock new broken.NoMemory begins r t)
 
   -- the phase was done to its end
   pub reached_more : (clock : Entry) (new : List Entry) (gateways : List Gateway) (asked asked' : Bool) (own lines : List ℕ) → BeginsPhase phase clock → (r : Reached script place shown journal as_asked text)
@@ -167,9 +177,6 @@ module _ (script : Script) (place : ℕ) (phase : Phase) (shown : List Gateway) 
 pub run_so_far : (script : Script) (place : ℕ) (shown : List Gateway) (journal : List Entry) (as_asked : Bool) (text : List ℕ) → Reached script place shown journal as_asked text → HasRun script journal
 run_so_far script place shown journal as_asked text r =
     (r.ends ++ [], subst (λ (es : List Entry). PhasesInLine script 0 no_views script.phases es (r.ends ++ [])) (append-nil journal) (r.onward [] [] (no_phase_yet script place r.views (drop place script.phases))))
-
-pub run_broken : (script : Script) (place : ℕ) (journal : List Entry) (as_asked : Bool) (text : List ℕ) → IsBrokenAt script place journal as_asked text → HasRun script journal
-run_broken script place journal as_asked text b = (b.ends ++ b.unfinished, b.run)
 
 blind_at : (gateways : List Gateway) (place : ℕ) (gateway : Gateway) → All (λ (g : Gateway). g.view ≡ None) gateways → slice_get gateways place ≡ Some gateway → gateway.view ≡ None
 blind_at gateways place gateway blind at =
@@ -226,6 +233,27 @@ left_some [] place below none = absurd (omega (arith, below))
 left_some (p ∷ ps) zero below none = absurd (cc (none))
 left_some (p ∷ ps) (suc place) below none = left_some ps place (omega (arith, below)) none
 
+drop_front : (phases : List Phase) (n k : ℕ) (phase : Phase) → slice_get (drop n phases) k ≡ Some phase → slice_get phases (n + k) ≡ Some phase
+drop_front [] zero k phase at = absurd (cc (at))
+drop_front [] (suc n) k phase at = absurd (cc (at))
+drop_front (p ∷ ps) zero k phase at = ap (slice_get (p ∷ ps)) (omega arith) ∙ at
+drop_front (p ∷ ps) (suc n) k phase at = ap (slice_get (p ∷ ps)) (omega arith) ∙ drop_front ps n k phase at
+
+front_length : (phases : List Phase) (n : ℕ) → n < length phases → length (take n phases) ≡ n
+front_length phases zero below = refl
+front_length [] (suc n) below = absurd (omega (arith, below))
+front_length (p ∷ ps) (suc n) below = ap suc (front_length ps n (omega (arith, below)))
+
+unfinished_left : (script : Script) → IsLawfulScript script → (place : ℕ) (left : List Phase) (ends : List (List End)) → ((k : ℕ) (p : Phase) → slice_get left k ≡ Some p → slice_get script.phases (place + k) ≡ Some p) → place < length script.phases
+    → IsUnfinished script left ends → AreUnfinished script (length (take place script.phases)) (by_workers (gateway_count script.gateways) left ends)
+unfolding by_workers
+unfinished_left script lawful place [] [] same below short = tt
+unfinished_left script lawful place [] (own ∷ ends) same below short = absurd short
+unfinished_left script lawful place (phase ∷ left) [] same below short = tt
+unfinished_left script lawful place (phase ∷ left) (own ∷ ends) same below short =
+    let at : slice_get script.phases (length (take place script.phases)) ≡ Some phase = ap (slice_get script.phases) (omega (arith, front_length script.phases place below)) ∙ same 0 phase refl in
+    (λ done. own_undone script lawful (length (take place script.phases)) phase own at short.1 done, ap (by_workers (gateway_count script.gateways) left) short.0 ∙ by_none (gateway_count script.gateways) left)
+
 pub full_run : (script : Script) (place : ℕ) (journal : List Entry) (as_asked : Bool) (text : List ℕ) → IsLawfulScript script → IsJournal script.rules.tick.ms journal → IsFull journal → place < length script.phases
     → IsBrokenAt script place journal as_asked text → IsFullRun script text journal
 full_run script place journal as_asked text lawful kept full below b =
@@ -244,7 +272,7 @@ full_run script place journal as_asked text lawful kept full below b =
       told = by_workers gateways done b.ends;
       untold = by_workers gateways left b.unfinished;
       parts = ap (λ (ps : List Phase). by_workers gateways ps (b.ends ++ b.unfinished)) (sym (take-append-drop place script.phases)) ∙ by_parts gateways done left b.ends b.unfinished (told_ends script done b.ends b.outcomes b.told);
-      few = omega (arith, by_few gateways left b.unfinished, b.few);
+      unfinished = unfinished_left script lawful place left b.unfinished (drop_front script.phases place) below b.short;
       finished = finished script lawful 0 done b.ends same (told_whole script done b.ends b.outcomes b.told);
       as_asked = as_asked;
       report = record { outcomes = b.outcomes; came = phases_came script lawful 0 done b.ends b.outcomes same b.told; lines = b.lines; flag = b.flag };
@@ -265,11 +293,13 @@ pub unbegun_step : (script : Script) (place : ℕ) (phase : Phase) (shown gatewa
 unbegun_step script place phase shown gateways journal new as_asked text broken.Full at same r = subst (λ (es : List Entry). IsBrokenAt script place es as_asked text) (sym same) (unbegun script place phase shown journal as_asked text at gateways r)
 unbegun_step script place phase shown gateways journal new as_asked text broken.NoMemory at same r = subst (HasRun script) (sym same) (run_so_far script place shown journal as_asked text r)
 
-pub broken_step : (script : Script) (place : ℕ) (gateways : List Gateway) (journal : List Entry) (as_asked as_asked' : Bool) (text text' : List ℕ) (b : Broken) → as_asked ≡ as_asked' → text ≡ text'
-    → IsBrokenAt script place journal as_asked text → PhaseStep script place gateways journal as_asked' text' (Err b)
-broken_step script place gateways journal as_asked as_asked' text text' broken.Full one other at =
-    subst (λ (x : Bool). IsBrokenAt script place journal x text') one (subst (λ (x : List ℕ). IsBrokenAt script place journal as_asked x) other at)
-broken_step script place gateways journal as_asked as_asked' text text' broken.NoMemory one other at = run_broken script place journal as_asked text at
+pub broken_step : (script : Script) (place : ℕ) (phase : Phase) (shown gateways : List Gateway) (journal new : List Entry) (as_asked as_asked' : Bool) (text text' : List ℕ) (b : Broken) (clock : Entry) → slice_get script.phases place ≡ Some phase
+    → as_asked ≡ as_asked' → text ≡ text' → BeginsPhase phase clock → (r : Reached script place shown journal as_asked text)
+    → ((v : Views) → Shows v shown → TasksBroken script (seat_of (workers_of script place)) phase.tasks v (journal ++ clock ∷ []) new b) → PhaseStep script place gateways new as_asked' text' (Err b)
+broken_step script place phase shown gateways journal new as_asked as_asked' text text' broken.Full clock at one other begins r tasks =
+    subst (λ (x : Bool). IsBrokenAt script place new x text') one (subst (λ (x : List ℕ). IsBrokenAt script place new as_asked x) other (broken_off script place phase shown journal as_asked text at clock new begins r tasks))
+broken_step script place phase shown gateways journal new as_asked as_asked' text text' broken.NoMemory clock at one other begins r tasks =
+    broken_short script place phase shown journal as_asked text at clock new begins r tasks
 
 pub taken_step : (script : Script) (place : ℕ) (gateways : List Gateway) (journal : List Entry) (as_asked asked asked' : Bool) (text own lines : List ℕ) (r : Result (Unit {0}) Broken) → r ≢ Err broken.Full
     → ((a : Bool) (l : List ℕ) → l ≡ text ++ own → a ≡ as_asked && asked → Reached script (place + 1) gateways journal a l)
@@ -314,11 +344,11 @@ done_from script place phase shown gateways journal mid new asked own workers ta
     (subst (λ (ts : List Task). TasksDone script (seat_of workers) ts v gateways (journal ++ clock ∷ []) new asked own) t
     (subst (λ (es : List Entry). TasksDone script (seat_of workers) tasks v gateways es new asked own) m (done v shows)))
 
-pub broken_from : (script : Script) (place : ℕ) (phase : Phase) (shown : List Gateway) (journal mid new : List Entry) (workers : List Worker) (tasks : List Task) (clock : Entry)
+pub broken_from : (script : Script) (place : ℕ) (phase : Phase) (shown : List Gateway) (journal mid new : List Entry) (why : Broken) (workers : List Worker) (tasks : List Task) (clock : Entry)
     → workers ≡ workers_of script place → tasks ≡ phase.tasks → mid ≡ journal ++ clock ∷ []
-    → ((v : Views) → Shows v shown → TasksBroken script (seat_of workers) tasks v mid new)
-    → (v : Views) → Shows v shown → TasksBroken script (seat_of (workers_of script place)) phase.tasks v (journal ++ clock ∷ []) new
-broken_from script place phase shown journal mid new workers tasks clock w t m done = λ v shows.
-    subst (λ (ws : List Worker). TasksBroken script (seat_of ws) phase.tasks v (journal ++ clock ∷ []) new) w
-    (subst (λ (ts : List Task). TasksBroken script (seat_of workers) ts v (journal ++ clock ∷ []) new) t
-    (subst (λ (es : List Entry). TasksBroken script (seat_of workers) tasks v es new) m (done v shows)))
+    → ((v : Views) → Shows v shown → TasksBroken script (seat_of workers) tasks v mid new why)
+    → (v : Views) → Shows v shown → TasksBroken script (seat_of (workers_of script place)) phase.tasks v (journal ++ clock ∷ []) new why
+broken_from script place phase shown journal mid new why workers tasks clock w t m done = λ v shows.
+    subst (λ (ws : List Worker). TasksBroken script (seat_of ws) phase.tasks v (journal ++ clock ∷ []) new why) w
+    (subst (λ (ts : List Task). TasksBroken script (seat_of workers) ts v (journal ++ clock ∷ []) new why) t
+    (subst (λ (es : List Entry). TasksBroken script (seat_of workers) tasks v es new why) m (done v shows)))

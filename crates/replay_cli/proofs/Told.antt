@@ -23,6 +23,7 @@ use Rattle.replay_cli.specs.Outcomes.{IsOutcome, TaskCame, TasksCame}
 use Rattle.replay_cli.specs.Progress.{Shows, TaskStep, TasksBroken, TasksDone, TasksTold, duties_at}
 use Rattle.replay_cli.specs.Reports.{activity_text, is_as_asked}
 use Rattle.replay_cli.specs.Verdicts.{report_of}
+use Rattle.replay_cli.specs.declared.came.Broken.TheVariants as broken
 use Rattle.replay_cli.specs.declared.came.Came.{Came}
 use Rattle.replay_cli.specs.declared.came.Came.TheVariants as came
 use Rattle.replay_cli.specs.declared.outcome.Outcome.{Outcome}
@@ -140,19 +141,33 @@ module _ (script : Script) (seat : Hand → ℕ) (place : ℕ) (tasks : List Tas
         flag = flag ∙ ap (λ b. b && is_as_asked o) d.flag ∙ sym (all_append d.outcomes (o ∷ []) ∙ ap (λ b. list_all is_as_asked d.outcomes && b) (last_flag (is_as_asked o)));
       }
 
-  pub done_cut : (came : Came) → All (λ t. MayBegin script t.work) (drop (place + 1) tasks) → (d : TasksDone script seat (take place tasks) views shown start mid as_asked text)
-      → ((v : Views) → Shows v shown → TaskStep script seat place task v gateways mid new came) → TasksBroken script seat tasks views start new
-  done_cut came begin d step =
+  cut_run : (came : Came) → All (λ t. MayBegin script t.work) (drop (place + 1) tasks) → (d : TasksDone script seat (take place tasks) views shown start mid as_asked text) (s : TaskStep script seat place task d.after gateways mid new came)
+      → InLine script seat views (duties_at script 0 tasks) (d.made ++ s.made) (d.ends ++ s.ends) s.after
+  cut_run came begin d s =
+      subst (λ (ds : List Duty). InLine script seat views ds (d.made ++ s.made) (d.ends ++ s.ends) s.after) (sym (duties_parts (gateway_count script.gateways) (place + 1) tasks))
+      (cut script seat views s.after (duties_at script 0 (take (place + 1) tasks)) (duties_from (gateway_count script.gateways) (0 + length (take (place + 1) tasks)) (drop (place + 1) tasks)) (d.made ++ s.made) (d.ends ++ s.ends)
+      (duties_begin script (gateway_count script.gateways) (0 + length (take (place + 1) tasks)) (drop (place + 1) tasks) begin) (both_run d came s))
+
+  -- broken off for want of memory
+  pub cut_short : (came : Came) → All (λ t. MayBegin script t.work) (drop (place + 1) tasks) → (d : TasksDone script seat (take place tasks) views shown start mid as_asked text)
+      → ((v : Views) → Shows v shown → TaskStep script seat place task v gateways mid new came) → TasksBroken script seat tasks views start new broken.NoMemory
+  cut_short came begin d step =
       let s = step d.after d.shows in
-      record {
-        made = d.made ++ s.made;
-        entries = both_entries d.made s.made d.entries s.entries;
-        ends = d.ends ++ s.ends;
-        after = s.after;
-        run = subst (λ (ds : List Duty). InLine script seat views ds (d.made ++ s.made) (d.ends ++ s.ends) s.after) (sym (duties_parts (gateway_count script.gateways) (place + 1) tasks))
-            (cut script seat views s.after (duties_at script 0 (take (place + 1) tasks)) (duties_from (gateway_count script.gateways) (0 + length (take (place + 1) tasks)) (drop (place + 1) tasks)) (d.made ++ s.made) (d.ends ++ s.ends)
-            (duties_begin script (gateway_count script.gateways) (0 + length (take (place + 1) tasks)) (drop (place + 1) tasks) begin) (both_run d came s));
-      }
+      record { made = d.made ++ s.made; entries = both_entries d.made s.made d.entries s.entries; ends = d.ends ++ s.ends; after = s.after; run = cut_run came begin d s; short = tt }
+
+  too_few : (d : TasksDone script seat (take place tasks) views shown start mid as_asked text) (own : List End) → length own < length (duties_at script place (task ∷ [])) → length (d.ends ++ own) < length (duties_at script 0 tasks)
+  too_few d own less =
+      let gateways = gateway_count script.gateways in
+      omega (arith, less, length-append d.ends own, told_length script 0 (take place tasks) d.ends d.outcomes d.told,
+      ap (length {A = Duty}) (duties_more gateways place tasks task within is), length-append (duties_at script 0 (take place tasks)) (duties_at script place (task ∷ [])),
+      ap (length {A = Duty}) (duties_parts gateways (place + 1) tasks), length-append (duties_at script 0 (take (place + 1) tasks)) (duties_from gateways (0 + length (take (place + 1) tasks)) (drop (place + 1) tasks)))
+
+  -- broken off by the full journal
+  pub cut_full : All (λ t. MayBegin script t.work) (drop (place + 1) tasks) → (d : TasksDone script seat (take place tasks) views shown start mid as_asked text)
+      → ((v : Views) → Shows v shown → TaskStep script seat place task v gateways mid new came.Full) → TasksBroken script seat tasks views start new broken.Full
+  cut_full begin d step =
+      let s = step d.after d.shows in
+      record { made = d.made ++ s.made; entries = both_entries d.made s.made d.entries s.entries; ends = d.ends ++ s.ends; after = s.after; run = cut_run came.Full begin d s; short = too_few d s.ends s.whole }
 
 take_none : (tasks : List Task) → take 0 tasks ≡ []
 take_none [] = refl
@@ -222,14 +237,6 @@ take_whole (t ∷ ts) zero below = absurd (omega (arith, below))
 take_whole (t ∷ ts) (suc n) below = ap (λ l. t ∷ l) (take_whole ts n (omega (arith, below)))
 
 -- what is said of a call, by how it came out
-pub ok_part : {T E : Type 0} (A B : Type 0) (r : Result T E) (x : T) → r ≡ Ok x → MatchResult r (λ _. A) (λ _. B) → A
-ok_part A B (Ok y) x is m = m
-ok_part A B (Err y) x is m = absurd (cc (is))
-
-pub err_part : {T E : Type 0} (A B : Type 0) (r : Result T E) (x : E) → r ≡ Err x → MatchResult r (λ _. A) (λ _. B) → B
-err_part A B (Ok y) x is m = absurd (cc (is))
-err_part A B (Err y) x is m = m
-
 pub ok_told : {T E : Type 0} (P : T → Type 0) (Q : E → Type 0) (r : Result T E) (x : T) → r ≡ Ok x → MatchResult r P Q → P x
 ok_told P Q (Ok y) x is m = let same : y ≡ x = cc (is) in subst P same m
 ok_told P Q (Err y) x is m = absurd (cc (is))

@@ -62,10 +62,10 @@ Shows views gateways = (place : ℕ) (gateway : Gateway) → slice_get gateways 
 abbrev pub duties_at : Script → ℕ → List Task → List Duty
 duties_at script place tasks = duties_from (gateway_count script.gateways) place tasks
 
--- the task has come to all its ends
+-- the task has come to all its ends, or the full journal left one out
 abbrev pub IsWhole : Script → ℕ → Task → List End → Came → Type 0
 IsWhole script place task ends (came.To o) = (length ends ≡ length (duties_at script place (task ∷ []))) × IsOutcome task.work ends o
-IsWhole script place task ends came.Full = Unit {0}
+IsWhole script place task ends came.Full = length ends < length (duties_at script place (task ∷ []))
 IsWhole script place task ends came.NoMemory = Unit {0}
 
 -- a task's entries and what it came to
@@ -101,13 +101,19 @@ pub record TasksDone (script : Script) (seat : Hand → ℕ) (tasks : List Task)
   pub lines : text ≡ report_of script tasks outcomes
   pub flag : as_asked ≡ list_all is_as_asked outcomes
 
+-- where the journal is full, some duty has no end
+abbrev pub IsShort : Broken → List End → List Duty → Type 0
+IsShort broken.Full ends duties = length ends < length duties
+IsShort broken.NoMemory ends duties = Unit {0}
+
 -- tasks that were broken off
-pub record TasksBroken (script : Script) (seat : Hand → ℕ) (tasks : List Task) (views : Views) (old new : List Entry) : Type 0 where
+pub record TasksBroken (script : Script) (seat : Hand → ℕ) (tasks : List Task) (views : Views) (old new : List Entry) (why : Broken) : Type 0 where
   pub made : List Entry
   pub entries : new ≡ old ++ made
   pub ends : List End
   pub after : Views
   pub run : InLine script seat views (duties_at script 0 tasks) made ends after
+  pub short : IsShort why ends (duties_at script 0 tasks)
 
 -- ---- phases
 
@@ -130,11 +136,17 @@ pub record Reached (script : Script) (place : ℕ) (gateways : List Gateway) (jo
   pub lines : text ≡ report_of script (tasks_of (take place script.phases)) outcomes
   pub flag : as_asked ≡ list_all is_as_asked outcomes
 
+-- of the phases left, none was begun, or the first one alone, and not to its end
+abbrev pub IsUnfinished : Script → List Phase → List (List End) → Type 0
+IsUnfinished script left [] = Unit {0}
+IsUnfinished script [] (own ∷ ends) = ⊥
+IsUnfinished script (phase ∷ left) (own ∷ ends) = (ends ≡ []) × (length own < length (duties_at script 0 phase.tasks))
+
 -- a run that was broken off in the phase at a place, or before that phase was begun
 pub record IsBrokenAt (script : Script) (place : ℕ) (journal : List Entry) (as_asked : Bool) (text : List ℕ) : Type 0 where
   pub ends : List (List End)
   pub unfinished : List (List End)
-  pub few : length unfinished ≤ 1
+  pub short : IsUnfinished script (drop place script.phases) unfinished
   pub run : PhasesInLine script 0 no_views script.phases journal (ends ++ unfinished)
   pub outcomes : List Outcome
   pub told : PhasesTold script (take place script.phases) ends outcomes

@@ -1,5 +1,5 @@
 -- What a call of the program comes to, why, and what it then writes.
-use Rattle.std.specs.Prelude.{◌≡◌, ◌≢◌, ◌≤◌, ◌⊎◌, ℕ, List, [], ◌∷◌, ◌++◌, length, Bool, true, false, Option, None, option_map, IfSome, IsSomeAnd, Ok, Err, codes}
+use Rattle.std.specs.Prelude.{◌≡◌, ◌≢◌, ◌⊎◌, ℕ, List, [], ◌∷◌, ◌++◌, length, Bool, true, false, Option, None, option_map, IfSome, IsSomeAnd, Ok, Err, codes}
 use Rattle.std.specs.List.{flat_map, list_all}
 use Rattle.bucket_core.specs.Causes.{Rose}
 use Rattle.bucket_core.specs.Contents.{Contents}
@@ -12,7 +12,7 @@ use Rattle.script_core.specs.Wording.{refusal_text}
 use Rattle.script_core.specs.declared.phase.Phase.{Phase}
 use Rattle.script_core.specs.declared.script.Script.{Script}
 use Rattle.script_core.specs.declared.task.Task.{Task}
-use Rattle.lifecycle_core.specs.Phases.{AreFinished, IsLawfulJournal, IsRunOf}
+use Rattle.lifecycle_core.specs.Phases.{AreFinished, AreUnfinished, IsLawfulJournal, IsRunOf}
 use Rattle.lifecycle_core.specs.Tasks.{End}
 use Rattle.replay_cli.specs.Kept.{HoldsNothing}
 use Rattle.replay_cli.specs.Outcomes.{PhasesCame}
@@ -74,7 +74,7 @@ pub record IsWholeRun (script : Script) (as_asked : Bool) (text : List ℕ) (jou
   pub report : IsReport script script.phases ends as_asked text
 
 -- The journal is that of a run which the full journal broke off: some first phases are finished, and the text is their
--- report; of the phases left, at most the first one was begun.
+-- report; of the phases left, at most the first one was begun, and some task of it has not come to its end.
 pub record IsFullRun (script : Script) (text : List ℕ) (journal : List Entry) : Type 0 where
   pub ends : List (List (List End))
   pub run : IsRunOf script journal ends
@@ -86,7 +86,7 @@ pub record IsFullRun (script : Script) (text : List ℕ) (journal : List Entry) 
   pub told : List (List (List End))
   pub untold : List (List (List End))
   pub parts : ends ≡ told ++ untold
-  pub few : length untold ≤ 1
+  pub unfinished : AreUnfinished script (length done) untold
   pub finished : AreFinished script 0 done told
   pub as_asked : Bool
   pub report : IsReport script done told as_asked text

@@ -200,7 +200,7 @@ fn run_tasks<B: Bucket>(
     ensures tick { result.1.tick ≡ world.tick }
     ensures came { (views : Views) → Shows views progress.old.gateways.items → MatchResult result.0
         (λ lines. TasksDone script.now (seat_of seats.now.workers) tasks.now views progress.new.gateways.items world.journal result.1.journal lines.as_asked lines.text.items)
-        (λ broken. TasksBroken script.now (seat_of seats.now.workers) tasks.now views world.journal result.1.journal) }
+        (λ broken. TasksBroken script.now (seat_of seats.now.workers) tasks.now views world.journal result.1.journal broken) }
     ensures report { progress.new.report ≡ progress.old.report }
     ensures workers { progress.new.workers ≡ progress.old.workers }
     ensures ready { length progress.new.gateways.items ≡ length script.now.gateways }
@@ -243,7 +243,7 @@ fn next_task<B: Bucket>(
         → TasksDone script.now (seat_of seats.now.workers) (take place tasks.now) views progress.old.gateways.items start world.journal lines.old.as_asked lines.old.text.items
         → MatchResult result.0
         (λ done. TasksDone script.now (seat_of seats.now.workers) (take (place + 1) tasks.now) views progress.new.gateways.items start result.1.journal lines.new.as_asked lines.new.text.items)
-        (λ broken. TasksBroken script.now (seat_of seats.now.workers) tasks.now views start result.1.journal) }
+        (λ broken. TasksBroken script.now (seat_of seats.now.workers) tasks.now views start result.1.journal broken) }
     ensures report { progress.new.report ≡ progress.old.report }
     ensures workers { progress.new.workers ≡ progress.old.workers }
     ensures ready { length progress.new.gateways.items ≡ length script.now.gateways }

@@ -8,7 +8,7 @@ use Rattle.script_core.specs.declared.task.Task.{Task}
 use Rattle.lifecycle_core.specs.InLine.{seat_of}
 use Rattle.lifecycle_core.specs.Phases.{BeginsPhase}
 use Rattle.replay_cli.specs.Progress.{TasksBroken, TasksDone}
-use Rattle.replay_cli.proofs.PhaseLists.{broken_from, broken_off, broken_step, done_from, lawful_phase, reached_more, run_so_far, seats_next, taken_step, unbegun_step}
+use Rattle.replay_cli.proofs.PhaseLists.{broken_from, broken_step, done_from, lawful_phase, reached_more, run_so_far, seats_next, taken_step, unbegun_step}
 use Rattle.replay_cli.proofs.Told.{err_told, ok_told, on_err, on_ok}
 use Rattle.replay_cli.proofs.phases.run_phase.Goals as goal
 
@@ -48,10 +48,9 @@ returns-in-Ok-came-clause-step g c =
 pub returns-clause-step : goal.returns-clause-step
 returns-clause-step g c =
     let begun = on_ok ((clock : Entry) × BeginsPhase c.args.phase.now clock × (c.begin_phase-begun.result.1.journal ≡ c.args.world.journal ++ clock ∷ [])) c.begin_phase-begun.result.0 c.in_default-begun.field-0 c.in_default-begun.is c.begin_phase-begun.ensures.begun in
-    let tasks = broken_from c.args.script.now c.args.place c.args.phase.now c.args.progress.now.gateways.items c.args.world.journal c.begin_phase-begun.result.1.journal c.run_tasks-came.result.1.journal
+    let tasks = broken_from c.args.script.now c.args.place c.args.phase.now c.args.progress.now.gateways.items c.args.world.journal c.begin_phase-begun.result.1.journal c.run_tasks-came.result.1.journal c.in-Err-came.broken
     c.in-Ok.seats.workers c.members-tasks.result.now begun.0 c.in-Ok.ensures c.members-tasks.ensures begun.2
-    (λ v shows. err_told _ (λ broken. TasksBroken c.args.script.now (seat_of c.in-Ok.seats.workers) c.members-tasks.result.now v c.begin_phase-begun.result.1.journal c.run_tasks-came.result.1.journal) c.run_tasks-came.result.0 c.in-Err-came.broken c.in-Err-came.is (c.run_tasks-came.ensures.came v shows)) in
-    broken_step c.args.script.now c.args.place c.run_tasks-came.new.progress.gateways.items c.run_tasks-came.result.1.journal c.args.progress.now.report.as_asked c.run_tasks-came.new.progress.report.as_asked
-    c.args.progress.now.report.text.items c.run_tasks-came.new.progress.report.text.items c.in-Err-came.broken (ap (λ r. r.as_asked) (sym c.run_tasks-came.ensures.report)) (ap (λ r. r.text.items) (sym c.run_tasks-came.ensures.report))
-    (broken_off c.args.script.now c.args.place c.args.phase.now c.args.progress.now.gateways.items c.args.world.journal c.args.progress.now.report.as_asked c.args.progress.now.report.text.items c.requires.at
-    begun.0 c.run_tasks-came.result.1.journal begun.1 c.requires.reached tasks)
+    (λ v shows. err_told _ (λ broken. TasksBroken c.args.script.now (seat_of c.in-Ok.seats.workers) c.members-tasks.result.now v c.begin_phase-begun.result.1.journal c.run_tasks-came.result.1.journal broken) c.run_tasks-came.result.0 c.in-Err-came.broken c.in-Err-came.is (c.run_tasks-came.ensures.came v shows)) in
+    broken_step c.args.script.now c.args.place c.args.phase.now c.args.progress.now.gateways.items c.run_tasks-came.new.progress.gateways.items c.args.world.journal c.run_tasks-came.result.1.journal c.args.progress.now.report.as_asked c.run_tasks-came.new.progress.report.as_asked
+    c.args.progress.now.report.text.items c.run_tasks-came.new.progress.report.text.items c.in-Err-came.broken begun.0 c.requires.at (ap (λ r. r.as_asked) (sym c.run_tasks-came.ensures.report)) (ap (λ r. r.text.items) (sym c.run_tasks-came.ensures.report))
+    begun.1 c.requires.reached tasks
