@@ -3,14 +3,13 @@ use Rattle.std.proofs.Common.{◌≡◌, ℕ, ◌+◌, ◌^◌, ◌<◌, ◌≤�
 use Rattle.std.specs.List.{All, AllByRecursion, IsDistinct}
 use Rattle.std.specs.List.Sorted.{IsStrictlySortedBy, IsNonDecreasingBy}
 use Rattle.std.specs.Cmp.{IsTotalOrder}
-use Rattle.std.specs.Ordering.{is_eq, match_ordering, ordering_reverse}
+use Rattle.std.specs.Ordering.{match_ordering, ordering_reverse}
 use Rattle.std.specs.declared.cmp.Ordering.{Ordering}
 use Rattle.std.specs.declared.cmp.Ordering.TheVariants.{Less, Equal, Greater}
 use Rattle.std.proofs.lemmas.Bool.Decides.{nat_tests}
 use Rattle.std.proofs.lemmas.Cmp.{lists_total, then_total, on_total, nat_list_cmp_total}
 use Rattle.std.proofs.lemmas.Int.{ints}
 use Rattle.std.proofs.lemmas.List.{length-append, get_or_at, get_or_append_left, map-append}
-use Rattle.std.proofs.lemmas.List.Elements.{All-cons, All-tail}
 use Rattle.reading_core.proofs.Parsed.{true_or_false}
 use Rattle.label_sets.specs.Labels.{compare_sets}
 use Rattle.label_sets.specs.declared.label.Label.{Label}
@@ -18,7 +17,7 @@ use Rattle.label_sets.specs.declared.series.Series.{Series}
 use Rattle.script_core.specs.declared.block.Block.{Block}
 use Rattle.script_core.specs.declared.phase.Phase.{Phase}
 use Rattle.script_core.specs.Values.{is_time}
-use Rattle.script_core.specs.State.{has_series, insert_series}
+use Rattle.script_core.specs.State.{insert_series}
 use Rattle.script_core.specs.Works.{declares}
 
 -- ---- ends of lists
@@ -91,18 +90,6 @@ sorted_insert (first ∷ series) new sorted =
 pub neither : (a b : Bool) → (a || b) ≡ false → (a ≡ false) × (b ≡ false)
 neither true b h = absurd cc
 neither false b h = (refl, h)
-
--- a fact on each series, also on the new one
-each_by : (P : Series → Type 0) (series : List Series) (new first : Series) (o : Ordering) → is_eq o ≡ false → All P (first ∷ series) → P new → All P (insert_series series new) → All P (match_ordering o (new ∷ first ∷ series) (record first { samples = new.samples } ∷ series) (first ∷ insert_series series new))
-each_by P series new first Less other all one later = All-cons P new (first ∷ series) one all
-each_by P series new first Equal other all one later = absurd cc
-each_by P series new first Greater other all one later = All-cons P first (insert_series series new) (all 0 first (omega arith)) later
-
-pub each_insert : (P : Series → Type 0) (series : List Series) (new : Series) → has_series series new.labels ≡ false → All P series → P new → All P (insert_series series new)
-each_insert P [] new fresh all one = All-cons P new [] one all
-each_insert P (first ∷ series) new fresh all one =
-    let parts = neither (is_eq (compare_sets new.labels first.labels)) (has_series series new.labels) fresh in
-    each_by P series new first (compare_sets new.labels first.labels) parts.0 all one (each_insert P series new parts.1 (All-tail P first series all) one)
 
 -- ---- ULIDs
 

@@ -1,5 +1,5 @@
 -- So many hands are enough for a phase exactly where its workers are no more.
-use Rattle.std.proofs.Common.{◌≡◌, ℕ, ◌+◌, ◌≤◌, Bool, true, false, ◌||◌, cond, List, [], ◌∷◌, ◌++◌, length, fold, refl, sym, ap, ◌∙◌, arith, ◌⊎◌, inl, inr}
+use Rattle.std.proofs.Common.{◌≡◌, ◌≢◌, ℕ, ◌+◌, ◌≤◌, Bool, true, false, ◌||◌, cond, List, [], ◌∷◌, ◌++◌, length, fold, refl, sym, ap, ◌∙◌, arith, ◌⊎◌, inl, inr}
 use Rattle.std.specs.Cmp.{IsEquivalence}
 use Rattle.std.specs.List.{list_any, IsDistinct}
 use Rattle.std.proofs.lemmas.Bool.Decides.{nat_tests}
@@ -9,8 +9,9 @@ use Rattle.std.proofs.lemmas.Map.Made.{length-le_from_is_member}
 use Rattle.script_core.specs.declared.hand.Hand.{Hand}
 use Rattle.script_core.specs.declared.hand.Hand.TheVariants.{Upload, Gateway}
 use Rattle.script_core.specs.declared.task.Task.{Task}
-use Rattle.script_core.specs.Hands.{same_hand, hands_of_task, with_hand, with_hands, hands_from, hands_of}
+use Rattle.script_core.specs.Hands.{same_hand, hands_of_task, with_hand, with_hands, hands_from, hands_of, does, places_from}
 use Rattle.script_core.specs.Spelling.{AreEnough, FewWorkers}
+use Rattle.script_core.specs.Staff.{IsStaff}
 
 -- ---- equal hands
 
@@ -145,6 +146,69 @@ from_distinct gateways others place (task ∷ tasks) once =
 none_twice : IsDistinct same_hand []
 unfolding IsDistinct
 none_twice = tt
+
+-- ---- no hand without a task
+
+push_only : (others : List Hand) (new hand : Hand) (b : Bool) → has (cond b others (others ++ new ∷ [])) hand ≡ true → (has others hand ≡ true) ⊎ (same_hand hand new ≡ true)
+push_only others new hand true h = inl h
+push_only others new hand false h =
+    elim (either (has others hand) (same_hand hand new || false) (sym (has-push others new hand) ∙ h)) [
+      | inl old ↦ inl old
+      | inr same ↦
+          elim (either (same_hand hand new) false same) [
+            | inl e ↦ inr e
+            | inr none ↦ absurd cc
+          ]
+    ]
+
+fold_only : (others more : List Hand) (hand : Hand) → has (fold with_hand others more) hand ≡ true → (has others hand ≡ true) ⊎ (has more hand ≡ true)
+fold_only others [] hand h = inl h
+fold_only others (new ∷ more) hand h =
+    elim (fold_only (with_hand others new) more hand h) [
+      | inl before ↦
+          elim (push_only others new hand (has others new) before) [
+            | inl old ↦ inl old
+            | inr same ↦ inr (or_left (same_hand hand new) (has more hand) same)
+          ]
+      | inr later ↦ inr (or_right (same_hand hand new) (has more hand) later)
+    ]
+
+some_here : (place : ℕ) (places : List ℕ) (b : Bool) → b ≡ true → cond b (place ∷ places) places ≢ []
+some_here place places true is none = cc
+some_here place places false is none = cc
+
+some_later : (place : ℕ) (places : List ℕ) (b : Bool) → places ≢ [] → cond b (place ∷ places) places ≢ []
+some_later place places true some none = cc
+some_later place places false some none = some none
+
+needed_from : (gateways : ℕ) (others : List Hand) (place : ℕ) (tasks : List Task) (hand : Hand) → has (hands_from gateways others place tasks) hand ≡ true → (has others hand ≡ true) ⊎ (places_from gateways hand place tasks ≢ [])
+unfolding hands_from with_hands places_from
+needed_from gateways others place [] hand h = inl h
+needed_from gateways others place (task ∷ tasks) hand h =
+    elim (needed_from gateways (with_hands gateways others place task.work) (place + 1) tasks hand h) [
+      | inl before ↦
+          elim (fold_only others (hands_of_task gateways place task.work) hand before) [
+            | inl old ↦ inl old
+            | inr does_it ↦ inr (some_here place (places_from gateways hand (place + 1) tasks) (does gateways hand place task.work) does_it)
+          ]
+      | inr later ↦ inr (some_later place (places_from gateways hand (place + 1) tasks) (does gateways hand place task.work) later)
+    ]
+
+needed_by : (gateways : ℕ) (tasks : List Task) (hand : Hand) → has (hands_of gateways tasks) hand ≡ true → places_from gateways hand 0 tasks ≢ []
+needed_by gateways tasks hand h =
+    elim (needed_from gateways [] 0 tasks hand h) [
+      | inl none ↦ absurd cc
+      | inr some ↦ some
+    ]
+
+pub is_staff : (gateways : ℕ) (tasks : List Task) → IsStaff gateways tasks (hands_of gateways tasks)
+is_staff gateways tasks = record {
+  enough = from_enough gateways [] 0 tasks;
+  needed = needed_by gateways tasks;
+  once = from_distinct gateways [] 0 tasks none_twice;
+}
+
+-- ---- how many are enough
 
 pub few_spelled : (gateways : ℕ) (tasks : List Task) → length (hands_of gateways tasks) ≤ 64 → FewWorkers gateways tasks
 few_spelled gateways tasks few =

@@ -9,4 +9,5 @@ pub mod Reading
 pub mod Works
 pub mod Lawful
 pub mod Spelling
+pub mod Staff
 pub mod Wording

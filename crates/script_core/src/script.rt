@@ -22,14 +22,16 @@ pub struct Script {
 }
 
 impl Script {
-    ghost use Rattle.std.specs.Prelude.{◌≡◌, IfOk, slice_get};
+    ghost use Rattle.std.specs.Prelude.{◌≡◌, Some, IfOk, slice_get};
     ghost use Rattle.reading_core.specs.Reading.{Gives};
     ghost use Rattle.script_core.specs.declared.script.Script.{Script};
     ghost use Rattle.script_core.specs.declared.script_refusal.ScriptRefusal.TheVariants as script_refusals;
-    ghost use Rattle.script_core.specs.Hands.{workers_of, workers_after};
+    ghost use Rattle.script_core.specs.declared.phase.Phase.{Phase};
+    ghost use Rattle.script_core.specs.Hands.{gateway_count, hands_of, workers_of, workers_after};
     ghost use Rattle.script_core.specs.Lawful.{IsLawfulScript};
     ghost use Rattle.script_core.specs.Reading.{script_of};
     ghost use Rattle.script_core.specs.Spelling.{Spells};
+    ghost use Rattle.script_core.specs.Staff.{IsStaff};
 
     /// Reads a script.
     pub fn read(alloc: Global, text: &[u8]) -> Result<Script, ScriptRefusal>
@@ -56,6 +58,14 @@ impl Script {
         let earlier = &self.phases.members()[..phase.min(self.phases.len())];
         let before = seats_of(alloc, gateways, earlier)?;
         self.workers_after(alloc, phase, before)
+    }
+
+    /// A law: whoever does a task of a phase is among its workers, each of them does one, and nobody is there twice.
+    pub fn workers_are_staff(&self, phase: usize)
+        ensures { (one : Phase) → slice_get self.now.phases phase ≡ Some one
+            → IsStaff (gateway_count self.now.gateways) one.tasks (hands_of (gateway_count self.now.gateways) one.tasks) }
+    {
+        let _phase = phase;
     }
 
     /// The same where the phases before need so many workers, which are then not counted again.

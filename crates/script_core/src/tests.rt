@@ -8,7 +8,7 @@ fn refusal_of(rt: &HostRuntime, text: &[u8]) -> Option<ScriptRefusal> {
 }
 
 /// Texts, and what is the first thing wrong with them.
-const REFUSED: [(&str, ScriptRefusal); 90] = [
+static REFUSED: [(&str, ScriptRefusal); 90] = [
     ("frob", BadLine(1, UnknownWord)),
     ("rule speed 5s", BadLine(1, UnknownWord)),
     ("gateway g h", BadLine(1, BadShape)),
@@ -186,7 +186,7 @@ const REFUSED: [(&str, ScriptRefusal); 90] = [
 ];
 
 /// Lines with two causes, by the kinds of lines: of each two that one line can have, the first in their order is given.
-const TWO_CAUSES: [(&str, ScriptRefusal); 50] = [
+static TWO_CAUSES: [(&str, ScriptRefusal); 50] = [
     ("rule speed 5s 5s", BadLine(1, UnknownWord)),
     ("at 0\nrule speed 5s", BadLine(2, UnknownWord)),
     ("rule page-limit 0 0", BadLine(1, BadShape)),
@@ -302,7 +302,7 @@ const TWO_CAUSES: [(&str, ScriptRefusal); 50] = [
     ("gateway g\nquery 0 1 {}", BadLine(2, NoPhase)),
 ];
 
-const LAWFUL: [&str; 14] = [
+static LAWFUL: [&str; 14] = [
     "",
     "\n",
     "#",
@@ -321,21 +321,21 @@ const LAWFUL: [&str; 14] = [
 
 #[test]
 fn the_first_cause_is_given(rt: HostRuntime) {
-    for (text, refusal) in REFUSED {
-        assert_eq!(rt; refusal_of(&rt, text.as_bytes()), Some(refusal), "{text}");
+    for (text, refusal) in REFUSED.iter() {
+        assert_eq!(rt; refusal_of(&rt, text.as_bytes()), Some(*refusal), "{text}");
     }
 }
 
 #[test]
 fn the_first_of_two_causes_is_given(rt: HostRuntime) {
-    for (text, refusal) in TWO_CAUSES {
-        assert_eq!(rt; refusal_of(&rt, text.as_bytes()), Some(refusal), "{text}");
+    for (text, refusal) in TWO_CAUSES.iter() {
+        assert_eq!(rt; refusal_of(&rt, text.as_bytes()), Some(*refusal), "{text}");
     }
 }
 
 #[test]
 fn lawful_texts_are_read(rt: HostRuntime) {
-    for text in LAWFUL {
+    for text in LAWFUL.iter() {
         assert_eq!(rt; refusal_of(&rt, text.as_bytes()), None, "{text}");
     }
 }
