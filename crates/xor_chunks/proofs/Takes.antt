@@ -170,19 +170,7 @@ masked n width lt = ap (λ m. bit_and n (m - 1)) (one_shl width 64 lt) ∙ and_m
 pub cast_is : (z v : ℤ) (after : List Bool) → FitsSigned w64 z → z ≡ v → ◌≡◌ {A = Result (ℤ × List Bool) XorRefusal} (Ok (v, after)) (Ok (cast_signed w64 (cast_unsigned w64 z), after))
 cast_is z v after fits e = ap (λ (w : ℤ). Ok (w, after)) (sym e ∙ sym (to_z-of_z w64 z fits))
 
--- where no other row fits, the last does
-pub last_row : (word : ℕ) (bits : List Bool) → word < 2 ^ 64 → ((n : ℕ) → n ≤ 4 → word / 2 ^ (64 - n) ≡ front n bits) → (word / 2 ^ 63 ≡ 0 → ⊥) → (word / 2 ^ 62 ≡ 2 → ⊥) → (word / 2 ^ 61 ≡ 6 → ⊥) → (word / 2 ^ 60 ≡ 14 → ⊥) → front 4 bits ≡ 15
-last_row word bits lt fronts a b c d =
-    let fifteen : word / 2 ^ 60 ≡ 15 = omega arith in
-    sym (fronts 4 (omega arith)) ∙ fifteen
-
 -- ---- the same, for bits that were taken
-
-pub no_change_found : (old bits after : List Bool) (n : ℕ) → bits ≡ old → front 1 old ≡ 0 → take_at 1 bits ≡ Ok (n, after) → change_at old ≡ Ok (pos 0, after)
-no_change_found old bits after n same e h = no_change old e ∙ rw (← same, h) refl
-
-pub no_change_short : (old bits : List Bool) (e : XorRefusal) → bits ≡ old → front 1 old ≡ 0 → take_at 1 bits ≡ Err e → change_at old ≡ Err e
-no_change_short old bits refusal same e h = no_change old e ∙ rw (← same, h) refl
 
 pub row_1111_found : (old bits middle after : List Bool) (n field : ℕ) → bits ≡ old → front 4 old ≡ 15 → take_at 4 bits ≡ Ok (n, middle) → take_at 64 middle ≡ Ok (field, after) → change_at old ≡ Ok (cast_signed w64 field, after)
 unfolding whole_field_at
