@@ -1,8 +1,7 @@
 -- The chunks of a series against their grammar.
-use Rattle.std.proofs.Common.{◌≡◌, ℕ, ◌+◌, ◌*◌, ◌/◌, ◌%◌, ◌^◌, ◌<◌, ◌≤◌, Bool, true, false, List, ◌++◌, length, Option, Some, None, Result, Ok, Err, refl, sym, ap, subst, ◌∙◌, append_assoc, length-append, arith, ℤ, pos, negsuc, ◌+ℤ◌}
-use Rattle.std.specs.Int.{w64, FitsUnsigned}
+use Rattle.std.proofs.Common.{◌≡◌, ℕ, ◌+◌, ◌*◌, ◌/◌, ◌%◌, ◌^◌, ◌<◌, ◌≤◌, true, List, ◌++◌, length, Option, Some, None, Ok, refl, sym, ap, subst, ◌∙◌, append_assoc, length-append, arith, ℤ, pos, negsuc, ◌+ℤ◌}
+use Rattle.std.specs.Int.{w64}
 use Rattle.std.specs.Int.RustNames.{FitsSigned, unsigned_abs}
-use Rattle.std.proofs.lemmas.Int.{ints}
 use Rattle.std.proofs.lemmas.Bool.{ltb-true, lt-ltb}
 use Rattle.reading_core.specs.Decimal.{fits_signed}
 use Rattle.reading_core.specs.Reading.{◌>>=◌, ◌>>◌, unless}

@@ -1,5 +1,5 @@
 -- Chunks that are written, and the series that they stand in.
-use Rattle.std.proofs.Common.{◌≡◌, ℕ, zero, suc, ◌+◌, ◌-◌, ◌*◌, ◌^◌, ◌<◌, ◌≤◌, List, [], ◌∷◌, ◌++◌, length, get_or, take, drop, zip, Option, Some, None, refl, sym, ap, subst, ◌∙◌, append_assoc, length-append, add-one, arith, ℤ, pos, negsuc, ◌+ℤ◌, ◌-ℤ◌, ◌≤ℤ◌, ◌<ℤ◌}
+use Rattle.std.proofs.Common.{◌≡◌, ℕ, suc, ◌+◌, ◌-◌, ◌^◌, ◌<◌, ◌≤◌, List, [], ◌∷◌, ◌++◌, length, get_or, drop, zip, Option, Some, None, refl, sym, ap, subst, ◌∙◌, append_assoc, add-one, arith, ℤ, pos, negsuc, ◌+ℤ◌, ◌-ℤ◌, ◌≤ℤ◌, ◌<ℤ◌}
 use Rattle.std.specs.Int.{w64}
 use Rattle.std.specs.Int.RustNames.{FitsSigned, unsigned_abs}
 use Rattle.std.specs.List.{AllByRecursion, flat_map}
@@ -8,8 +8,7 @@ use Rattle.std.proofs.lemmas.Int.{ints}
 use Rattle.std.proofs.lemmas.List.{append-nil, drop_all}
 use Rattle.std.proofs.lemmas.List.Concat.{flat_map-cons}
 use Rattle.reading_core.specs.Grammar.{AreTexts}
-use Rattle.wire_bytes.specs.FieldTexts.{IsUvarint, IsVarint}
-use Rattle.wire_bytes.specs.Written.{uvarint_text, varint_text}
+use Rattle.wire_bytes.specs.Written.{uvarint_text}
 use Rattle.wire_bytes.proofs.GroupTexts.{uvarint_text_is, varint_text_is}
 use Rattle.index_parts.specs.declared.chunk_place.ChunkPlace.{ChunkPlace}
 use Rattle.index_parts.specs.declared.raw_series.RawSeries.{RawSeries}

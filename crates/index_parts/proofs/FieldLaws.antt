@@ -1,12 +1,10 @@
 -- Fields against their texts: what is read is a text of the value, and each text is read, whatever follows.
-use Rattle.std.proofs.Common.{◌≡◌, ℕ, ◌+◌, ◌<◌, ◌≤◌, List, [], ◌∷◌, ◌++◌, length, take, drop, Result, Ok, Err, refl, sym, ap, subst, ◌∙◌, append_assoc, arith}
-use Rattle.std.specs.Int.{Width, w8, w32, w64}
+use Rattle.std.proofs.Common.{◌≡◌, ℕ, List, ◌++◌, length, take, drop, Result, Ok, refl, sym, ap, subst, ◌∙◌, append_assoc, arith}
+use Rattle.std.specs.Int.{Width}
 use Rattle.std.proofs.lemmas.Bool.{le-ltb}
 use Rattle.std.proofs.lemmas.List.{take-append-drop, take_at, drop_at, length-append, length-take}
-use Rattle.reading_core.specs.Reading.{◌>>=◌, ◌>>◌, unless, refused_as}
 use Rattle.reading_core.specs.Grammar.{IsBytes, HasFront}
-use Rattle.reading_core.proofs.Fronts.{IsBytes-after}
-use Rattle.reading_core.proofs.Binds.{bind_ok, refused_as_ok, ok_is}
+use Rattle.reading_core.proofs.Binds.{bind_ok, refused_as_ok}
 use Rattle.wire_bytes.specs.Position.{Position, left, further}
 use Rattle.wire_bytes.specs.Fields.{bytes_at, number_at, uvarint_at, varint_at}
 use Rattle.wire_bytes.specs.FieldTexts.{IsFixed, IsUvarint, IsVarint}
@@ -16,7 +14,6 @@ use Rattle.wire_bytes.proofs.FixedLaws.{IsWide, number_found, number_again}
 use Rattle.index_parts.specs.declared.refusal.PartRefusal.{PartRefusal}
 use Rattle.index_parts.specs.Placed.{field, refused_at, text_at}
 use Rattle.index_parts.proofs.Moves.{bytes_parts}
-use Rattle.std.specs.Int.{byte_len}
 
 -- a way to read, and the texts that it reads
 pub record IsFieldOf {A : Type 0} (IsText : List ℕ → A → Type 0) (read : Position → Result (A × Position) PartRefusal) : Type 0 where

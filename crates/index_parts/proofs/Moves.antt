@@ -3,7 +3,7 @@ use Rattle.std.proofs.Common.{◌≡◌, ℕ, ◌+◌, ◌<◌, ◌≤◌, ltb, 
 use Rattle.std.specs.Int.{Width, w8, w32, byte_len, from_be_bytes}
 use Rattle.std.proofs.lemmas.Bool.{ltb-false, lt-ltb, le-ltb}
 use Rattle.std.proofs.lemmas.List.{drop_all, length-drop, length-take}
-use Rattle.reading_core.specs.Reading.{◌>>=◌, refused_as, Answers}
+use Rattle.reading_core.specs.Reading.{Answers}
 use Rattle.reading_core.proofs.Binds.{bind_ok, cond_ok, refused_as_ok, refused_as_err, ok_is}
 use Rattle.wire_bytes.specs.Position.{Position, left, further}
 use Rattle.wire_bytes.specs.Fields.{bytes_at, number_at, uvarint_at, groups_of}
@@ -156,4 +156,3 @@ no_byte_refused p d e some =
     let x = refused_as_err (refused_at p.place) (number_at w8 p) d e in
     let long : number_at w8 p ≡ Ok (from_be_bytes w8 (take 1 (left p)), further 1 p) = enough_byte p some in
     cc
-

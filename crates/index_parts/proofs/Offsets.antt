@@ -1,17 +1,13 @@
 -- The table of label indices as it is written.
-use Rattle.std.proofs.Common.{◌≡◌, ℕ, zero, suc, ◌+◌, ◌^◌, ◌<◌, ◌≤◌, List, [], ◌∷◌, ◌++◌, length, get_or, take, zip, Option, Some, None, Result, Ok, Err, refl, sym, ap, subst, ◌∙◌, append_assoc, length-append, arith}
-use Rattle.std.specs.Prelude.{OnOk}
+use Rattle.std.proofs.Common.{◌≡◌, ℕ, suc, ◌^◌, ◌<◌, ◌≤◌, List, [], ◌∷◌, ◌++◌, length, get_or, zip, Option, Some, None, refl, sym, ap, ◌∙◌, length-append, arith}
 use Rattle.std.specs.Int.{w32, to_be_bytes}
 use Rattle.std.specs.List.{AllByRecursion, flat_map}
 use Rattle.std.specs.Str.{IsUtf8}
-use Rattle.std.proofs.lemmas.List.{append-nil, take_all, take_more}
-use Rattle.std.proofs.lemmas.Slice.Zip.{get_or-zip, length-zip}
-use Rattle.std.proofs.lemmas.Grind.{flat_map-append}
 use Rattle.wire_bytes.specs.Written.{uvarint_text}
 use Rattle.wire_bytes.proofs.GroupTexts.{uvarint_text_is}
-use Rattle.index_parts.specs.Turns.{AreInTurn, InOrderAfter}
+use Rattle.index_parts.specs.Turns.{InOrderAfter}
 use Rattle.index_parts.specs.Framed.{IsSection, text_field}
-use Rattle.index_parts.specs.Lists.{IsList, list_content}
+use Rattle.index_parts.specs.Lists.{list_content}
 use Rattle.index_parts.specs.LabelIndices.{IsOffset, IsLabelOffsets, offset_text}
 use Rattle.index_parts.proofs.PairLists.{zip_size}
 use Rattle.index_parts.proofs.Writing.{each_fits, both_each, turns_written, list_stands, count_fits, text_written}

@@ -1,5 +1,5 @@
 -- Tests of ranges.
-use Rattle.std.proofs.Common.{◌≡◌, ℕ, ◌^◌, ◌<◌, Bool, true, false, ltb, refl, arith, rules, ℤ, pos, negsuc}
+use Rattle.std.proofs.Common.{◌≡◌, ◌^◌, ◌<◌, true, false, arith, rules, ℤ, pos, negsuc}
 use Rattle.std.specs.Int.{w64, FitsUnsigned}
 use Rattle.std.proofs.lemmas.Int.{ints}
 use Rattle.std.specs.Int.RustNames.{FitsSigned}

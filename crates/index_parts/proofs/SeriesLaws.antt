@@ -1,5 +1,5 @@
 -- Series against their grammar.
-use Rattle.std.proofs.Common.{◌≡◌, ℕ, zero, suc, ◌+◌, ◌*◌, ◌≤◌, List, [], ◌∷◌, ◌++◌, length, map, zip, Option, None, Result, Ok, Err, refl, sym, ap, subst, ◌∙◌, append_assoc, length-append, arith}
+use Rattle.std.proofs.Common.{◌≡◌, ℕ, suc, ◌+◌, ◌*◌, ◌≤◌, List, [], ◌∷◌, ◌++◌, length, map, zip, None, Result, Ok, refl, sym, ap, subst, ◌∙◌, append_assoc, length-append, arith}
 use Rattle.reading_core.specs.Reading.{◌>>=◌}
 use Rattle.reading_core.specs.Members.{members_at}
 use Rattle.reading_core.specs.Grammar.{IsBytes, HasFront, AreTexts}
@@ -18,7 +18,7 @@ use Rattle.index_parts.specs.Turns.{AreInTurn}
 use Rattle.index_parts.specs.ListReading.{turns_at}
 use Rattle.index_parts.specs.SeriesEntry.{IsLabel, IsNextChunk, IsSeries}
 use Rattle.index_parts.specs.SeriesReading.{label_at, labels_at, chunk_at, series_at}
-use Rattle.index_parts.proofs.FieldLaws.{uvarint_field, IsFieldOf}
+use Rattle.index_parts.proofs.FieldLaws.{uvarint_field}
 use Rattle.index_parts.proofs.FrameLaws.{entry_found, entry_again, entry_small}
 use Rattle.index_parts.proofs.TurnLaws.{turns_found, turns_again, turns_few}
 use Rattle.index_parts.proofs.SymbolLaws.{uvarint_size}

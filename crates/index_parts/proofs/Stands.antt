@@ -1,9 +1,8 @@
 -- What is written stands where it was written.
-use Rattle.std.proofs.Common.{◌≡◌, ℕ, ◌+◌, ◌^◌, ◌<◌, ◌≤◌, List, [], ◌∷◌, ◌++◌, length, drop, Result, Ok, Err, refl, sym, ap, subst, ◌∙◌, append_assoc, length-append, arith}
+use Rattle.std.proofs.Common.{◌≡◌, ℕ, ◌^◌, ◌<◌, List, ◌++◌, length, drop, Result, Ok, Err, refl, sym, ap, subst, ◌∙◌, append_assoc, arith}
 use Rattle.std.specs.Prelude.{OnOk}
 use Rattle.std.specs.Int.{w32, to_be_bytes}
 use Rattle.std.proofs.lemmas.List.{drop_at}
-use Rattle.wire_bytes.specs.FieldTexts.{IsFixed, IsUvarint}
 use Rattle.wire_bytes.specs.Written.{uvarint_text}
 use Rattle.wire_bytes.specs.Crc.{crc}
 use Rattle.wire_bytes.proofs.GroupTexts.{uvarint_text_is}

@@ -1,12 +1,12 @@
 -- Symbol tables against their grammar.
-use Rattle.std.proofs.Common.{◌≡◌, ℕ, ◌-◌, ◌<◌, ◌≤◌, Bool, true, List, [], ◌∷◌, ◌++◌, length, Option, Some, None, Result, Ok, Err, refl, sym, ap, subst, ◌∙◌, arith}
+use Rattle.std.proofs.Common.{◌≡◌, ℕ, ◌-◌, ◌≤◌, true, List, [], ◌∷◌, ◌++◌, length, Option, Some, None, Result, Ok, refl, ap, subst, arith}
 use Rattle.std.specs.declared.cmp.Ordering.{Ordering}
 use Rattle.std.specs.declared.cmp.Ordering.TheVariants.{Less, Equal, Greater}
 use Rattle.std.specs.Ordering.{is_lt}
 use Rattle.std.specs.Str.{is_utf8}
 use Rattle.std.proofs.lemmas.List.{length-append}
 use Rattle.std.proofs.lemmas.Str.{IsUtf8-from_is_utf8, is_utf8-from_IsUtf8}
-use Rattle.reading_core.specs.Reading.{◌>>=◌, ◌>>◌, unless}
+use Rattle.reading_core.specs.Reading.{◌>>◌, unless}
 use Rattle.reading_core.specs.Grammar.{IsBytes, HasFront}
 use Rattle.reading_core.proofs.Binds.{bind_ok, unless_ok, ok_is}
 use Rattle.wire_bytes.specs.Position.{Position, left}

@@ -1,11 +1,11 @@
 -- The table of contents against its grammar.
-use Rattle.std.proofs.Common.{◌≡◌, ℕ, ◌+◌, ◌-◌, ◌*◌, ◌≤◌, Bool, true, List, [], ◌∷◌, ◌++◌, length, take, drop, Result, Ok, Err, refl, sym, ap, subst, ◌∙◌, append_assoc, arith}
+use Rattle.std.proofs.Common.{◌≡◌, ℕ, ◌+◌, ◌-◌, ◌*◌, ◌≤◌, List, [], ◌∷◌, ◌++◌, length, take, drop, Result, Ok, Err, refl, sym, ap, subst, ◌∙◌, append_assoc, arith}
 use Rattle.std.specs.Prelude.{nat_le, IfOk}
 use Rattle.std.specs.Int.{w32, w64}
 use Rattle.std.proofs.lemmas.Bool.{leb-true, le-leb}
 use Rattle.std.proofs.lemmas.List.{take-append-drop, drop_at, length-append, length-drop, append-nil, nil_from_length}
-use Rattle.reading_core.specs.Reading.{◌>>=◌, ◌>>◌, unless, Answers}
-use Rattle.reading_core.specs.Grammar.{IsBytes, HasFront, AreTexts}
+use Rattle.reading_core.specs.Reading.{◌>>=◌, Answers}
+use Rattle.reading_core.specs.Grammar.{IsBytes, AreTexts}
 use Rattle.reading_core.proofs.Binds.{bind_ok, unless_ok, ok_is}
 use Rattle.reading_core.proofs.Fronts.{IsBytes-after, IsBytes-drop}
 use Rattle.wire_bytes.specs.Position.{Position, left}

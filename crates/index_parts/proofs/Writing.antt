@@ -1,5 +1,5 @@
 -- Lists that are written stand where they were written.
-use Rattle.std.proofs.Common.{◌≡◌, ℕ, zero, suc, ◌+◌, ◌*◌, ◌^◌, ◌<◌, ◌≤◌, List, [], ◌∷◌, ◌++◌, length, get_or, Option, Some, None, Result, Ok, Err, refl, sym, ap, subst, ◌∙◌, append_assoc, length-append, arith, inl, inr}
+use Rattle.std.proofs.Common.{◌≡◌, ℕ, suc, ◌+◌, ◌^◌, ◌<◌, ◌≤◌, List, [], ◌∷◌, ◌++◌, length, Option, Some, None, Result, Ok, Err, refl, sym, ap, subst, ◌∙◌, append_assoc, length-append, arith, inl, inr}
 use Rattle.std.proofs.lemmas.Bool.{cases_lt, le-ltb, lt-ltb}
 use Rattle.std.specs.Prelude.{OnOk}
 use Rattle.std.specs.Int.{w32, w64, to_be_bytes}
@@ -8,7 +8,7 @@ use Rattle.std.specs.Str.{IsUtf8}
 use Rattle.std.proofs.lemmas.List.{append-nil}
 use Rattle.std.proofs.lemmas.List.Concat.{flat_map-cons}
 use Rattle.reading_core.specs.Grammar.{AreTexts}
-use Rattle.wire_bytes.specs.FieldTexts.{IsFixed, IsUvarint}
+use Rattle.wire_bytes.specs.FieldTexts.{IsFixed}
 use Rattle.wire_bytes.specs.Written.{uvarint_text, groups_text}
 use Rattle.wire_bytes.proofs.FixedLaws.{wide32}
 use Rattle.wire_bytes.proofs.GroupTexts.{uvarint_text_is}
@@ -23,7 +23,6 @@ use Rattle.index_parts.specs.declared.postings_row.PostingsRow.{PostingsRow}
 use Rattle.index_parts.specs.Contents.{references_of, IsToc, references_text}
 use Rattle.index_parts.specs.Rows.{MayComeAfter, IsNextRow, IsPostingsTable, IsWritable, row_text}
 use Rattle.index_parts.specs.LabelIndices.{IsLabelIndex, label_index_content}
-use Rattle.index_parts.proofs.SymbolLaws.{uvarint_size}
 
 pub on_ok : {E P Q : Type 0} (r : Result (Unit {0}) E) → (P → Q) → OnOk r P → OnOk r Q
 on_ok (Ok x) f p = f p

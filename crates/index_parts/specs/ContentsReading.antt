@@ -1,5 +1,5 @@
 -- What reading the table of contents gives, or the first refusal.
-use Rattle.std.specs.Prelude.{ℕ, ◌-◌, List, length, Result, Ok, Err, nat_le}
+use Rattle.std.specs.Prelude.{ℕ, ◌-◌, List, length, Result, Ok, nat_le}
 use Rattle.std.specs.Int.{w64}
 use Rattle.reading_core.specs.Reading.{◌>>=◌, ◌>>◌, unless}
 use Rattle.wire_bytes.specs.Position.{Position}

@@ -1,6 +1,6 @@
 -- What reading a section's frame gives: a position before its content, among the bytes up to the content's end, or the first
 -- refusal. The sum is tested before anything of the content is read.
-use Rattle.std.specs.Prelude.{ℕ, List, take, Result, Ok, Err, ◌==◌}
+use Rattle.std.specs.Prelude.{ℕ, List, take, Result, Ok, ◌==◌}
 use Rattle.std.specs.Int.{w32}
 use Rattle.reading_core.specs.Reading.{◌>>=◌, ◌>>◌, unless, refused_as}
 use Rattle.wire_bytes.specs.Position.{Position}

@@ -1,7 +1,6 @@
 -- Label indices and their table, which are written and never read.
-use Rattle.std.specs.Prelude.{◌≡◌, ℕ, List, [], ◌∷◌, ◌++◌, length, zip}
+use Rattle.std.specs.Prelude.{◌≡◌, ℕ, List, ◌∷◌, ◌++◌, length}
 use Rattle.std.specs.Int.{w32, to_be_bytes}
-use Rattle.std.specs.List.{flat_map}
 use Rattle.reading_core.specs.Grammar.{AreTexts}
 use Rattle.wire_bytes.specs.FieldTexts.{IsFixed, IsUvarint}
 use Rattle.wire_bytes.specs.Written.{uvarint_text}

@@ -1,5 +1,5 @@
 -- Sections that hold a list: symbols, series numbers, rows of a table.
-use Rattle.std.specs.Prelude.{◌≡◌, ℕ, List, ◌++◌, length, Option, Some, None}
+use Rattle.std.specs.Prelude.{◌≡◌, ℕ, List, ◌++◌, length, Option, None}
 use Rattle.std.specs.Int.{w32, to_be_bytes}
 use Rattle.std.specs.List.{flat_map}
 use Rattle.wire_bytes.specs.FieldTexts.{IsFixed}

@@ -1,5 +1,5 @@
 -- Fields of an index, each refused with the place where it begins.
-use Rattle.std.specs.Prelude.{ℕ, List, Result, Ok, Err}
+use Rattle.std.specs.Prelude.{ℕ, List, Result}
 use Rattle.reading_core.specs.Reading.{◌>>=◌, refused_as}
 use Rattle.wire_bytes.specs.Position.{Position}
 use Rattle.wire_bytes.specs.Fields.{bytes_at, uvarint_at}

@@ -1,5 +1,5 @@
 -- What reading a postings list gives, or the first refusal.
-use Rattle.std.specs.Prelude.{ℕ, List, Option, Some, None, Bool, true, Result, Ok, Err, nat_lt}
+use Rattle.std.specs.Prelude.{ℕ, List, Option, Some, None, Bool, true, Result, Ok, nat_lt}
 use Rattle.std.specs.Int.{w32}
 use Rattle.reading_core.specs.Reading.{◌>>=◌, ◌>>◌, unless}
 use Rattle.wire_bytes.specs.Position.{Position}

@@ -1,5 +1,5 @@
 -- What reading a postings table gives, or the first refusal.
-use Rattle.std.specs.Prelude.{ℕ, ◌-◌, List, [], length, Option, Some, None, Bool, ◌&&◌, Result, Ok, Err, ◌==◌}
+use Rattle.std.specs.Prelude.{ℕ, ◌-◌, List, length, Option, Some, None, Bool, ◌&&◌, Result, Ok, ◌==◌}
 use Rattle.std.specs.Int.{w8}
 use Rattle.std.specs.Str.{is_utf8}
 use Rattle.std.specs.Ordering.{is_lt}

@@ -1,5 +1,5 @@
 -- What reading a symbol table gives, or the first refusal.
-use Rattle.std.specs.Prelude.{ℕ, ◌-◌, List, length, Option, Some, None, Bool, true, Result, Ok, Err}
+use Rattle.std.specs.Prelude.{ℕ, ◌-◌, List, length, Option, Some, None, Bool, true, Result, Ok}
 use Rattle.std.specs.Str.{is_utf8}
 use Rattle.std.specs.Ordering.{is_lt}
 use Rattle.reading_core.specs.Reading.{◌>>=◌, ◌>>◌, unless}

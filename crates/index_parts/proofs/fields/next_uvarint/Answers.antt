@@ -1,6 +1,5 @@
-use Rattle.std.proofs.Common.{◌<◌, ◌≡◌, length, get_or, arith, rules, ap, ◌∙◌, sym, subst}
+use Rattle.std.proofs.Common.{◌<◌, length, get_or, arith}
 use Rattle.std.proofs.lemmas.Bool.Decides.{nat_tests}
-use Rattle.wire_bytes.specs.Position.{left}
 use Rattle.index_parts.proofs.Moves.{one_group, no_byte_refused}
 use Rattle.index_parts.proofs.fields.next_uvarint.Goals as goal
 

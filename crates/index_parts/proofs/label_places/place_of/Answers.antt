@@ -1,4 +1,4 @@
-use Rattle.std.proofs.Common.{refl, arith, List, ℕ, [], ◌∷◌, ◌++◌}
+use Rattle.std.proofs.Common.{arith, [], ◌∷◌, ◌++◌}
 use Rattle.reading_core.proofs.Counted.{loop_start, members_more}
 use Rattle.index_parts.specs.SeriesReading.{label_place_at}
 use Rattle.index_parts.proofs.LabelPlaces.{none_past, last_is, next_fails}

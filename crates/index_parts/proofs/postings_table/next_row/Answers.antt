@@ -1,4 +1,4 @@
-use Rattle.std.proofs.Common.{rules, arith}
+use Rattle.std.proofs.Common.{arith}
 use Rattle.index_parts.proofs.Texts.{text_within}
 use Rattle.index_parts.proofs.postings_table.next_row.Goals as goal
 

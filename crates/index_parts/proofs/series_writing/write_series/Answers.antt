@@ -1,4 +1,4 @@
-use Rattle.std.proofs.Common.{◌++◌, List, ℕ, length, subst, ◌∙◌}
+use Rattle.std.proofs.Common.{◌++◌, length, subst, ◌∙◌}
 use Rattle.index_parts.specs.Framed.{IsEntry}
 use Rattle.index_parts.proofs.Writing.{on_ok}
 use Rattle.index_parts.proofs.ChunksWritten.{series_stands}

@@ -1,5 +1,4 @@
-use Rattle.std.proofs.Common.{rules, arith}
-use Rattle.index_parts.specs.SymbolsReading.{symbol_at}
+use Rattle.std.proofs.Common.{arith}
 use Rattle.index_parts.proofs.Texts.{text_within}
 use Rattle.index_parts.proofs.symbol_table.next_symbol.Goals as goal
 

@@ -1,4 +1,4 @@
-use Rattle.std.proofs.Common.{List, ℕ, ◌≤◌, ◌*◌, length, arith}
+use Rattle.std.proofs.Common.{List, ℕ, ◌≤◌, length, arith}
 use Rattle.index_parts.specs.declared.refusal.PartRefusal.TheVariants.{NoMemory}
 use Rattle.index_parts.specs.Symbols.{IsNextSymbol, IsSymbols}
 use Rattle.index_parts.specs.SymbolsReading.{symbol_at, symbols_at}
