@@ -1,5 +1,5 @@
 -- A phase whose tasks are done in line is a run of the phase.
-use Rattle.std.proofs.Common.{◌≡◌, ◌≢◌, ℕ, suc, ◌+◌, ◌≤◌, Bool, true, false, ◌||◌, cond, List, [], ◌∷◌, length, map, refl, sym, ◌∙◌, ap, subst, inl, inr, arith}
+use Rattle.std.proofs.Common.{◌≡◌, ◌≢◌, ℕ, suc, ◌+◌, ◌<◌, ◌≤◌, Bool, true, false, ◌||◌, cond, List, [], ◌∷◌, length, map, refl, sym, ◌∙◌, ap, subst, inl, inr, arith}
 use Rattle.std.specs.Prelude.{◌==◌, Option, Some, slice_get}
 use Rattle.std.specs.List.{All, AllByRecursion, AllZip, Contains, zip, list_any}
 use Rattle.std.proofs.lemmas.Bool.Decides.{nat_tests}
@@ -239,7 +239,7 @@ undone_first gateways before tasks all hand h w ds ends true c few are less work
     let same : hand ≡ h = same_is hand h is in
     let less' : length (ends_by h ds ends) < length (part h ds) = subst (λ (x : Hand). length (ends_by x ds ends) < length (part x ds)) same less in
     let n : length w.tasks ≡ length (part h ds) =
-        ap length (worker.places ∙ places_are gateways h 0 tasks few ∙ ap (λ (l : List Duty). places_in (part h l)) (sym are)) ∙ length-map (part h ds) (λ (d : Duty). d.place) in
+    ap length (worker.places ∙ places_are gateways h 0 tasks few ∙ ap (λ (l : List Duty). places_in (part h l)) (sym are)) ∙ length-map (part h ds) (λ (d : Duty). d.place) in
     absurd (omega (arith, less', n, first))
 undone_first gateways before tasks all hand h w ds ends false c few are less worker is first later found = later (rw is at found)
 

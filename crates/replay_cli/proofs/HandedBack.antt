@@ -1,12 +1,12 @@
 -- What a world tells of the journal and the bucket that are handed back.
-use Rattle.std.proofs.Common.{◌≡◌, ◌≢◌, ℕ, ◌+◌, ◌≤◌, ◌<◌, ◌^◌, List, [], ◌∷◌, length, refl, sym, ◌∙◌, ap, subst, arith}
+use Rattle.std.proofs.Common.{◌≡◌, ℕ, ◌+◌, ◌<◌, ◌^◌, List, [], length, refl, sym, ◌∙◌, ap, subst, arith}
 use Rattle.std.specs.Prelude.{Option, Some, None, IfSome}
 use Rattle.bucket_core.specs.Contents.{Contents, nothing}
 use Rattle.world_core.specs.declared.entry.Entry.{Entry}
 use Rattle.world_core.specs.Operations.{IsLawful, IsReplyTo}
 use Rattle.world_core.specs.Moments.{moment_after, last_moment}
 use Rattle.world_core.specs.Standing.{stands, Tells, IsHonest}
-use Rattle.world_core.specs.Worlds.{WorldView, IsWorld, IsJournal, IsTrueOf, failed_count}
+use Rattle.world_core.specs.Worlds.{WorldView, IsWorld, IsJournal, IsTrueOf}
 use Rattle.world_core.proofs.Growing.{Each-none}
 use Rattle.replay_cli.specs.Kept.{IsTrueOfStore, IsHandedBack, IsUntouched}
 

@@ -1,7 +1,7 @@
 -- Phases that were done one after another.
-use Rattle.std.proofs.Common.{◌≡◌, ℕ, zero, suc, ◌+◌, ◌-◌, ◌<◌, ◌≤◌, Bool, true, false, ◌&&◌, List, [], ◌∷◌, ◌++◌, length, get_or, take, drop, refl, sym, ◌∙◌, ap, subst, inl, inr, ◌⊎◌, append_assoc, take-append-drop, arith}
-use Rattle.std.specs.Prelude.{◌≢◌, ◌^◌, min, Option, Some, None, Result, Ok, Err, OnOk, slice_get}
-use Rattle.std.specs.List.{All, AllZip, list_all}
+use Rattle.std.proofs.Common.{◌≡◌, ℕ, zero, suc, ◌+◌, ◌-◌, ◌<◌, Bool, true, ◌&&◌, List, [], ◌∷◌, ◌++◌, length, take, drop, refl, sym, ◌∙◌, ap, subst, inl, inr, ◌⊎◌, append_assoc, take-append-drop, arith}
+use Rattle.std.specs.Prelude.{◌≢◌, ◌^◌, min, Some, None, Result, Ok, Err, OnOk, slice_get}
+use Rattle.std.specs.List.{All, list_all}
 use Rattle.std.proofs.lemmas.List.{append-nil, length-append}
 use Rattle.std.proofs.lemmas.Option.{slice_get_within, get_or_from_slice_get}
 use Rattle.world_core.specs.Keeping.{IsFull}
@@ -18,13 +18,13 @@ use Rattle.script_core.specs.declared.task.Task.{Task}
 use Rattle.lifecycle_core.specs.InLine.{InLine, PhasesInLine, seat_of}
 use Rattle.lifecycle_core.specs.Phases.{AreUnfinished, BeginsPhase, IsLawfulJournal}
 use Rattle.lifecycle_core.specs.Tasks.{End}
-use Rattle.lifecycle_core.specs.Views.{Use, Views, no_views}
+use Rattle.lifecycle_core.specs.Views.{Views, no_views}
 use Rattle.lifecycle_core.proofs.Joined.{no_phase_yet}
 use Rattle.lifecycle_core.proofs.RunsInLine.{AreWhole, by_none, by_parts, by_workers, finished, own_came, own_undone, run_of, workers_at}
 use Rattle.replay_cli.specs.Outcomes.{PhasesCame}
 use Rattle.replay_cli.specs.Progress.{HasRun, IsBrokenAt, IsUnfinished, PhaseStep, PhasesTold, Reached, Shows, RunCame, TasksBroken, TasksDone, TasksTold, duties_at}
-use Rattle.replay_cli.specs.Reports.{activity_text, is_as_asked}
-use Rattle.replay_cli.specs.Verdicts.{IsFullRun, IsReport, IsWholeRun, report_of, tasks_of}
+use Rattle.replay_cli.specs.Reports.{is_as_asked}
+use Rattle.replay_cli.specs.Verdicts.{IsFullRun, IsWholeRun, report_of, tasks_of}
 use Rattle.replay_cli.specs.declared.came.Broken.{Broken}
 use Rattle.replay_cli.specs.declared.came.Broken.TheVariants as broken
 use Rattle.replay_cli.specs.declared.outcome.Outcome.{Outcome}
@@ -236,8 +236,8 @@ left_some (p ∷ ps) (suc place) below none = left_some ps place (omega (arith, 
 drop_front : (phases : List Phase) (n k : ℕ) (phase : Phase) → slice_get (drop n phases) k ≡ Some phase → slice_get phases (n + k) ≡ Some phase
 drop_front [] zero k phase at = absurd (cc (at))
 drop_front [] (suc n) k phase at = absurd (cc (at))
-drop_front (p ∷ ps) zero k phase at = ap (slice_get (p ∷ ps)) (omega arith) ∙ at
-drop_front (p ∷ ps) (suc n) k phase at = ap (slice_get (p ∷ ps)) (omega arith) ∙ drop_front ps n k phase at
+drop_front (p ∷ ps) zero k phase at = let e : 0 + k ≡ k = omega arith in rw e at
+drop_front (p ∷ ps) (suc n) k phase at = let e : suc n + k ≡ suc (n + k) = omega arith in rw e (drop_front ps n k phase at)
 
 front_length : (phases : List Phase) (n : ℕ) → n < length phases → length (take n phases) ≡ n
 front_length phases zero below = refl

@@ -1,6 +1,6 @@
 -- What a run of all phases comes to.
-use Rattle.std.proofs.Common.{◌≡◌, ℕ, Bool, true, false, List, [], ◌∷◌, refl, sym, ◌∙◌, ap, subst, take}
-use Rattle.std.specs.Prelude.{Option, Some, None, Result, Ok, Err, IfSome, IsSomeAnd}
+use Rattle.std.proofs.Common.{◌≡◌, ℕ, List, [], ◌∷◌, refl, sym, ◌∙◌, ap, subst, take}
+use Rattle.std.specs.Prelude.{Option, Some, Result, Ok, Err, IfSome, IsSomeAnd}
 use Rattle.bucket_core.specs.Causes.{Rose}
 use Rattle.bucket_core.specs.Contents.{Contents, nothing}
 use Rattle.bucket_core.specs.Pages.{IsPage}
@@ -17,7 +17,7 @@ use Rattle.script_core.specs.declared.script.Script.{Script}
 use Rattle.lifecycle_core.specs.Phases.{IsLawfulJournal}
 use Rattle.lifecycle_core.proofs.FirstPhases.{none_lawful}
 use Rattle.replay_cli.specs.Progress.{RunCame}
-use Rattle.replay_cli.specs.Verdicts.{IsFullRun, IsRun, IsWholeRun}
+use Rattle.replay_cli.specs.Verdicts.{IsRun}
 use Rattle.replay_cli.specs.declared.came.Broken.{Broken}
 use Rattle.replay_cli.specs.declared.came.Broken.TheVariants as broken
 use Rattle.replay_cli.specs.declared.phases.Lines.{Lines}

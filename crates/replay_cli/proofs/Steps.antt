@@ -1,5 +1,5 @@
 -- One task of a script: its run in line, and what it came to.
-use Rattle.std.proofs.Common.{◌≡◌, ◌≢◌, ℕ, ℤ, zero, suc, ◌+◌, ◌<◌, ◌≤◌, Bool, true, false, List, [], ◌∷◌, ◌++◌, length, map, get_or, refl, sym, ◌∙◌, ap, subst, inl, inr, arith, min, pos, ◌≤ℤ◌, ◌^◌}
+use Rattle.std.proofs.Common.{◌≡◌, ◌≢◌, ℕ, ℤ, zero, suc, ◌≤◌, Bool, true, false, List, [], ◌∷◌, ◌++◌, length, map, refl, sym, ◌∙◌, ap, subst, inl, inr, arith, pos, ◌≤ℤ◌, ◌^◌}
 use Rattle.std.specs.Prelude.{neg_ℤ}
 use Rattle.std.specs.Int.{w64}
 use Rattle.std.proofs.lemmas.Int.{ints}
@@ -32,7 +32,6 @@ use Rattle.lifecycle_core.specs.Held.{declared}
 use Rattle.lifecycle_core.specs.InLine.{Duty, duties_from, InLine}
 use Rattle.lifecycle_core.specs.Tasks.{End, BlockUpload, QueryTask, TaskRun, answered, asked_by, sync_rules, synced, view_after, without_view}
 use Rattle.lifecycle_core.specs.Views.{Use, Views, view_of, with_view}
-use Rattle.lifecycle_core.proofs.TaskRuns.{upload_keeps}
 use Rattle.replay_cli.specs.Outcomes.{IsOutcome}
 use Rattle.replay_cli.specs.Progress.{Adds, CameBy, IsWhole, Shows, TaskStep, duties_at, view_by}
 use Rattle.replay_cli.specs.declared.came.Came.{Came}
@@ -58,10 +57,10 @@ one_run script seat views duty made None seats run = inr (seats, run, refl, refl
 whole_by : (script : Script) (place : ℕ) (task : Task) (duty : Duty) (end : Option End) (came : Came) → duties_at script place (task ∷ []) ≡ duty ∷ [] → CameBy task.work end came
     → IsWhole script place task (one_end end) came
 whole_by script place task duty (Some end) (came.To o) are by = (sym (ap (length {A = Duty}) are), by)
-whole_by script place task duty (Some end) came.Full are by = tt
+whole_by script place task duty (Some end) came.Full are by = absurd by
 whole_by script place task duty (Some end) came.NoMemory are by = tt
 whole_by script place task duty None (came.To o) are by = absurd by
-whole_by script place task duty None came.Full are by = tt
+whole_by script place task duty None came.Full are by = omega (arith, ap (length {A = Duty}) are)
 whole_by script place task duty None came.NoMemory are by = tt
 
 -- a task that one worker does

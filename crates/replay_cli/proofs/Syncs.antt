@@ -1,6 +1,6 @@
 -- What drives of a sync and of a gateway's call leave.
-use Rattle.std.proofs.Common.{◌≡◌, ℕ, ℤ, List, [], ◌∷◌, ◌++◌, refl, sym, subst}
-use Rattle.std.specs.Prelude.{Option, Some, None, option_map}
+use Rattle.std.proofs.Common.{◌≡◌, ℕ, ℤ, List, [], refl, sym, subst}
+use Rattle.std.specs.Prelude.{Option, None, option_map}
 use Rattle.std.proofs.lemmas.List.{append-nil}
 use Rattle.std.proofs.lemmas.List.Elements.{All-nil}
 use Rattle.moment_core.specs.declared.rules.Rules.{Rules}
@@ -15,7 +15,7 @@ use Rattle.matchers.specs.declared.matcher.Matcher.{Matcher}
 use Rattle.store_gateway.specs.SeriesRuns.{Query as Question, SeriesRun, asking, sources_of, to_read}
 use Rattle.store_gateway.specs.declared.series_end.SeriesEnd.{SeriesEnd}
 use Rattle.script_core.specs.declared.work.Work.TheVariants as works
-use Rattle.lifecycle_core.specs.Tasks.{End, answered, sync_rules, synced}
+use Rattle.lifecycle_core.specs.Tasks.{answered, sync_rules, synced}
 use Rattle.lifecycle_core.specs.Views.{Use}
 use Rattle.lifecycle_core.proofs.TaskRuns.{reads_none}
 use Rattle.replay_cli.specs.Drives.{call_came, sync_came}

@@ -1,5 +1,5 @@
 -- Tasks that were done one after another, and how they came out.
-use Rattle.std.proofs.Common.{◌≡◌, ℕ, zero, suc, ◌+◌, ◌-◌, ◌<◌, ◌≤◌, Bool, true, false, ◌&&◌, List, [], ◌∷◌, ◌++◌, length, map, get_or, take, drop, refl, sym, ◌∙◌, ap, subst, append_assoc, arith}
+use Rattle.std.proofs.Common.{◌≡◌, ℕ, zero, suc, ◌+◌, ◌<◌, ◌≤◌, Bool, true, false, ◌&&◌, List, [], ◌∷◌, ◌++◌, length, map, get_or, take, drop, refl, sym, ◌∙◌, ap, subst, append_assoc, arith}
 use Rattle.std.specs.Prelude.{Result, Ok, Err, MatchResult, OnErr, OnOk}
 use Rattle.std.specs.List.{All, AllZip, list_all}
 use Rattle.std.proofs.lemmas.List.{append-nil, length-append, length-map, take_more}
@@ -19,7 +19,7 @@ use Rattle.lifecycle_core.proofs.Joined.{both, cut, duties_begin, duties_more, d
 use Rattle.lifecycle_core.proofs.RunsInLine.{may_begin}
 use Rattle.lifecycle_core.proofs.TaskRuns.{MayBegin}
 use Rattle.std.proofs.lemmas.List.Elements.{All-tail}
-use Rattle.replay_cli.specs.Outcomes.{IsOutcome, TaskCame, TasksCame}
+use Rattle.replay_cli.specs.Outcomes.{IsOutcome, TasksCame}
 use Rattle.replay_cli.specs.Progress.{Shows, TaskStep, TasksBroken, TasksDone, TasksTold, duties_at}
 use Rattle.replay_cli.specs.Reports.{activity_text, is_as_asked}
 use Rattle.replay_cli.specs.Verdicts.{report_of}
@@ -158,9 +158,16 @@ module _ (script : Script) (seat : Hand → ℕ) (place : ℕ) (tasks : List Tas
   too_few : (d : TasksDone script seat (take place tasks) views shown start mid as_asked text) (own : List End) → length own < length (duties_at script place (task ∷ [])) → length (d.ends ++ own) < length (duties_at script 0 tasks)
   too_few d own less =
       let gateways = gateway_count script.gateways in
-      omega (arith, less, length-append d.ends own, told_length script 0 (take place tasks) d.ends d.outcomes d.told,
-      ap (length {A = Duty}) (duties_more gateways place tasks task within is), length-append (duties_at script 0 (take place tasks)) (duties_at script place (task ∷ [])),
-      ap (length {A = Duty}) (duties_parts gateways (place + 1) tasks), length-append (duties_at script 0 (take (place + 1) tasks)) (duties_from gateways (0 + length (take (place + 1) tasks)) (drop (place + 1) tasks)))
+      omega (
+        arith,
+        less,
+        length-append d.ends own,
+        told_length script 0 (take place tasks) d.ends d.outcomes d.told,
+        ap (length {A = Duty}) (duties_more gateways place tasks task within is),
+        length-append (duties_at script 0 (take place tasks)) (duties_at script place (task ∷ [])),
+        ap (length {A = Duty}) (duties_parts gateways (place + 1) tasks),
+        length-append (duties_at script 0 (take (place + 1) tasks)) (duties_from gateways (0 + length (take (place + 1) tasks)) (drop (place + 1) tasks)),
+      )
 
   -- broken off by the full journal
   pub cut_full : All (λ t. MayBegin script t.work) (drop (place + 1) tasks) → (d : TasksDone script seat (take place tasks) views shown start mid as_asked text)

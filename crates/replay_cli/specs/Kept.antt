@@ -1,5 +1,5 @@
 -- What a call of the program leaves of a bucket that the site handed out, and of the journal over it.
-use Rattle.std.specs.Prelude.{◌≡◌, ◌≢◌, ◌≤◌, ℕ, List, [], ◌∷◌, Option, Some, None, IfSome, IsSome}
+use Rattle.std.specs.Prelude.{◌≡◌, ◌≢◌, ◌≤◌, ℕ, List, [], Option, Some, None, IfSome, IsSome}
 use Rattle.bucket_core.specs.Contents.{Contents, nothing}
 use Rattle.world_core.specs.declared.entry.Entry.{Entry}
 use Rattle.world_core.specs.Standing.{stands, IsHonest}

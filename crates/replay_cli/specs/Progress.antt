@@ -1,6 +1,6 @@
 -- How far a run in the order of the lines has come, as the contracts of its parts say it.
-use Rattle.std.specs.Prelude.{◌≡◌, ℕ, ◌+◌, ◌<◌, ◌≤◌, Bool, List, [], ◌∷◌, ◌++◌, length, take, drop, All, Option, Some, None, option_map, slice_get, Result, Ok, Err}
-use Rattle.std.specs.List.{AllZip, list_all}
+use Rattle.std.specs.Prelude.{◌≡◌, ℕ, ◌+◌, ◌<◌, Bool, List, [], ◌∷◌, ◌++◌, length, take, drop, All, Option, Some, None, option_map, slice_get, Result, Ok, Err}
+use Rattle.std.specs.List.{list_all}
 use Rattle.world_core.specs.declared.entry.Entry.{Entry}
 use Rattle.meta_fetcher.specs.declared.sync_end.SyncEnd.{SyncEnd}
 use Rattle.meta_fetcher.specs.declared.sync_end.SyncEnd.TheVariants as fetched
@@ -13,7 +13,6 @@ use Rattle.script_core.specs.declared.script.Script.{Script}
 use Rattle.script_core.specs.declared.task.Task.{Task}
 use Rattle.script_core.specs.declared.work.Work.{Work}
 use Rattle.lifecycle_core.specs.InLine.{Duty, duties_from, InLine, PhasesInLine}
-use Rattle.lifecycle_core.specs.Phases.{BeginsPhase}
 use Rattle.lifecycle_core.specs.Tasks.{End}
 use Rattle.lifecycle_core.specs.Views.{Use, Views, no_views}
 use Rattle.replay_cli.specs.Outcomes.{IsOutcome}

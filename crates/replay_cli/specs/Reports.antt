@@ -1,5 +1,5 @@
 -- The lines of a report: one for each activity, and more for an answered query.
-use Rattle.std.specs.Prelude.{ℕ, ℤ, Bool, true, false, List, [], ◌∷◌, ◌++◌, ◌-◌, ◌^◌, min, length, codes, slice_get, sum_by}
+use Rattle.std.specs.Prelude.{ℕ, Bool, true, false, List, [], ◌∷◌, ◌++◌, ◌-◌, ◌^◌, min, length, codes, slice_get, sum_by}
 use Rattle.std.specs.List.{flat_map}
 use Rattle.std.specs.Option.{option_map_or}
 use Rattle.reading_core.specs.Decimal.{decimal_text, signed_text}

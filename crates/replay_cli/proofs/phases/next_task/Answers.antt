@@ -26,7 +26,7 @@ returns-in-Full-clause-came g c = λ views start d.
     start c.args.world.journal c.run_task-came.result.1.journal c.args.lines.now.as_asked c.args.lines.now.text.items c.requires.within c.index-tasks-place.is
     (later_begin c.args.script.now (c.args.place + 1) c.args.tasks.now c.requires.lawful c.requires.tasks) d
     (λ v shows. subst (λ (x : Came). TaskStep c.args.script.now (seat_of c.args.seats.now.workers) c.args.place c.index-tasks-place.result v c.run_task-came.new.progress.gateways.items c.args.world.journal c.run_task-came.result.1.journal x)
-        c.in-Full.is (c.run_task-came.ensures.step v shows))
+    c.in-Full.is (c.run_task-came.ensures.step v shows))
 
 pub returns-clause-came : goal.returns-clause-came
 returns-clause-came g c = λ views start d.

@@ -1,6 +1,4 @@
-use Rattle.std.proofs.Common.{◌≡◌, ◌<◌, length, refl, ◌∙◌, ap, subst, arith}
-use Rattle.std.specs.Prelude.{Result, Ok, Err}
-use Rattle.replay_cli.specs.Progress.{PhaseStep, Reached, RunCame}
+use Rattle.std.proofs.Common.{refl}
 use Rattle.replay_cli.proofs.phases.run_phases.Goals as goal
 
 pub loop-place-init : goal.loop-place-init

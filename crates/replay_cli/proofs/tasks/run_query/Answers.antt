@@ -1,15 +1,9 @@
-use Rattle.std.proofs.Common.{◌≡◌, ℕ, ℤ, List, refl, ap, sym, ◌∙◌}
-use Rattle.std.specs.Prelude.{Option, Some, None, option_map, slice_get}
+use Rattle.std.proofs.Common.{◌≡◌, refl, ap, sym, ◌∙◌}
+use Rattle.std.specs.Prelude.{Some, None, slice_get}
 use Rattle.std.specs.Option.{option_copied}
-use Rattle.store_gateway.specs.SeriesRuns.{SeriesRun, asking}
-use Rattle.store_gateway.specs.declared.gateway.Gateway.{Gateway}
-use Rattle.store_gateway.specs.declared.series_end.SeriesEnd.{SeriesEnd}
 use Rattle.script_core.specs.declared.hand.Hand.TheVariants as hands
 use Rattle.script_core.specs.declared.work.Work.TheVariants as works
 use Rattle.lifecycle_core.specs.InLine.{seat_of}
-use Rattle.lifecycle_core.specs.Tasks.{answered}
-use Rattle.lifecycle_core.specs.Views.{Use}
-use Rattle.replay_cli.specs.Progress.{Adds, CameBy}
 use Rattle.std.specs.Int.{w64}
 use Rattle.std.proofs.lemmas.Int.{to_z-of_z}
 use Rattle.replay_cli.proofs.Steps.{answered_nothing, asked_told, blind_step, call_step, first_of_none, no_count, one_count, unasked_step}
