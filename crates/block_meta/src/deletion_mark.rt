@@ -87,6 +87,7 @@ impl DeletionMark {
         ensures text { IfOk result (λ blob. blob ≡ mark_text (mark_fields_of self.now)) }
         ensures again { OnOk result (mark_of_text (mark_text (mark_fields_of self.now))
             ≡ Ok (mark_fields_of self.now)) }
+        ensures lawful { OnOk result (IsMarkText (mark_text (mark_fields_of self.now)) (mark_fields_of self.now)) }
     {
         let value = self.to_value(alloc)?;
         Ok(Blob::from_vec(value.to_vec(alloc)?))

@@ -1,5 +1,6 @@
 use Rattle.std.proofs.Common.{◌∙◌}
 use Rattle.block_meta.specs.MetaFields.{mark_fields_of}
+use Rattle.block_meta.proofs.FoundTexts.{mark_text_found}
 use Rattle.block_meta.proofs.Texts.{mark_written, mark_reads}
 use Rattle.block_meta.proofs.deletion_mark.DeletionMark.write.Goals as goal
 
@@ -11,3 +12,9 @@ returns-clause-again c =
     let m = mark_fields_of c.args.self.now in
     let text = mark_written _ _ m c.in_ok-value.ensures.value c.in_ok-to_vec.ensures.text in
     mark_reads c.in_ok-to_vec.field-0.items _ m c.in_ok-value.ensures.value text c.in_ok-to_vec.ensures.utf8 c.in_ok-to_vec.ensures.reads_back c.in_ok-value.ensures.again
+
+pub returns-clause-lawful : goal.returns-clause-lawful
+returns-clause-lawful c =
+    let m = mark_fields_of c.args.self.now in
+    let text = mark_written _ _ m c.in_ok-value.ensures.value c.in_ok-to_vec.ensures.text in
+    mark_text_found _ m (mark_reads c.in_ok-to_vec.field-0.items _ m c.in_ok-value.ensures.value text c.in_ok-to_vec.ensures.utf8 c.in_ok-to_vec.ensures.reads_back c.in_ok-value.ensures.again)

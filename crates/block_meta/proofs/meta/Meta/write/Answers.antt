@@ -1,5 +1,6 @@
 use Rattle.std.proofs.Common.{◌∙◌}
 use Rattle.block_meta.specs.MetaFields.{fields_of}
+use Rattle.block_meta.proofs.FoundTexts.{meta_text_found}
 use Rattle.block_meta.proofs.Texts.{meta_written, meta_reads}
 use Rattle.block_meta.proofs.meta.Meta.write.Goals as goal
 
@@ -11,3 +12,9 @@ returns-clause-again c =
     let m = fields_of c.args.self.now in
     let text = meta_written _ _ m c.in_ok-value.ensures.value c.in_ok-to_vec.ensures.text in
     meta_reads c.in_ok-to_vec.field-0.items _ m c.in_ok-value.ensures.value text c.in_ok-to_vec.ensures.utf8 c.in_ok-to_vec.ensures.reads_back c.in_ok-value.ensures.again
+
+pub returns-clause-lawful : goal.returns-clause-lawful
+returns-clause-lawful c =
+    let m = fields_of c.args.self.now in
+    let text = meta_written _ _ m c.in_ok-value.ensures.value c.in_ok-to_vec.ensures.text in
+    meta_text_found _ m (meta_reads c.in_ok-to_vec.field-0.items _ m c.in_ok-value.ensures.value text c.in_ok-to_vec.ensures.utf8 c.in_ok-to_vec.ensures.reads_back c.in_ok-value.ensures.again)
