@@ -1,0 +1,4 @@
+pub mod RowPlaces
+pub mod LabelReading
+pub mod LabelPlaces
+pub mod RowsFound

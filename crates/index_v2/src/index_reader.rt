@@ -1,0 +1,80 @@
+ghost use Rattle.std.specs.Prelude.{◌≡◌, slice_get};
+ghost use Rattle.std.specs.Option.{option_copied};
+ghost use Rattle.reading_core.specs.Reading.{Gives};
+ghost use Rattle.index_v2.specs.Opening.{opened_at};
+ghost use Rattle.index_v2.specs.SeriesLabels.{numbered_at};
+ghost use Rattle.index_v2.specs.PostingsLists.{postings_of, values_of};
+
+use crate::opening::{contents_of, refused_of};
+use crate::postings::list_of;
+use crate::rows::Rows;
+use crate::series_labels::labelled;
+use crate::symbols::Symbols;
+use crate::{IndexRefusal, IndexSeries};
+use index_parts::Toc;
+use std::alloc::Global;
+use std::marker::Model;
+use wire_bytes::NumberList;
+
+/// An opened index, which lends its bytes.
+#[derive(Drop)]
+pub struct IndexReader<'a> {
+    bytes: &'a [u8],
+    toc: Toc,
+    symbols: Symbols<'a>,
+    rows: Rows<'a>,
+}
+
+impl<'a> Model for IndexReader<'a> {
+    ghost use Rattle.std.specs.Prelude.{◌≡◌, Ok};
+    ghost use Rattle.index_v2.specs.Opened.{Opened};
+    ghost use Rattle.index_v2.specs.Opening.{opened_at};
+
+    ghost Value = { Opened };
+
+    ghost view = { λ r. record { bytes = r.bytes.now; toc = r.toc; symbols = r.symbols; rows = r.rows } };
+
+    ghost invariant = { λ r. opened_at r.bytes.now ≡ Ok (record { bytes = r.bytes.now; toc = r.toc; symbols = r.symbols; rows = r.rows }) };
+}
+
+impl<'a> IndexReader<'a> {
+    /// Reads what an index begins and ends with, its symbols and its postings table.
+    #[tactic(auto, unfolding(crate::specs::Opening::opened_at))]
+    pub fn open(alloc: Global, bytes: &'a [u8]) -> Result<IndexReader<'a>, IndexRefusal>
+        ensures exact { Gives IndexRefusal.NoMemory (λ reader. reader) result (opened_at bytes.now) }
+    {
+        let toc = contents_of(bytes)?;
+        let symbols = Symbols::read(alloc, bytes, toc.symbols)?;
+        let rows = Rows::read(alloc, bytes, toc.postings_table)?;
+        Ok(IndexReader {
+            bytes,
+            toc,
+            symbols,
+            rows,
+        })
+    }
+
+    /// The text of a symbol number.
+    pub fn symbol(&self, number: u32) -> Option<&'a str>
+        ensures { option_copied result ≡ slice_get self.now.symbols number }
+    {
+        self.symbols.get(u64::from(number))
+    }
+
+    /// Reads the series of a number, which need not be listed.
+    pub fn series(&self, alloc: Global, number: u32) -> Result<IndexSeries, IndexRefusal>
+        ensures exact { Gives IndexRefusal.NoMemory (λ series. series) result (numbered_at self.now number) }
+    {
+        match labelled(alloc, self.bytes, &self.symbols, 16 * u64::from(number)) {
+            Ok(series) => Ok(series),
+            Err(refusal) => Err(refused_of(number, refusal)),
+        }
+    }
+
+    /// The numbers of the series that are listed under a name and a value; two empty texts ask for all series.
+    pub fn postings(&self, alloc: Global, name: &str, value: &str) -> Result<NumberList, IndexRefusal>
+        ensures exact { Gives IndexRefusal.NoMemory (λ numbers. numbers) result (postings_of self.now name.now value.now) }
+    {
+        list_of(alloc, self.bytes, &self.rows, name, value)
+    }
+}
