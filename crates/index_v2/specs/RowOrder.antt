@@ -1,7 +1,8 @@
 -- Where rows stand in a postings table.
-use Rattle.std.specs.Prelude.{◌≡◌, ℕ, ◌<◌, ◌≤◌, List, length, slice_get, Option, Some}
+use Rattle.std.specs.Prelude.{◌≡◌, ◌≢◌, ℕ, ◌<◌, ◌≤◌, List, length, slice_get, Option, Some}
 use Rattle.std.specs.declared.cmp.Ordering.{Ordering}
 use Rattle.std.specs.declared.cmp.Ordering.TheVariants.{Less, Greater}
+use Rattle.label_sets.specs.Labels.{compare_texts}
 use Rattle.index_parts.specs.declared.postings_row.PostingsRow.{PostingsRow}
 use Rattle.index_parts.specs.Rows.{compare_rows}
 
@@ -25,3 +26,8 @@ pub record StandsAt (rows : List PostingsRow) (name value : List ℕ) (place : �
   pub within : place ≤ length rows
   pub below : (k : ℕ) (row : PostingsRow) → k < place → slice_get rows k ≡ Some row → compare_row row name value ≡ Less
   pub above : (k : ℕ) (row : PostingsRow) → place ≤ k → slice_get rows k ≡ Some row → compare_row row name value ≡ Greater
+
+-- The rows of this name begin at a place: those before it have a lesser name, and those from there on have none.
+pub record BeginsAt (rows : List PostingsRow) (name : List ℕ) (place : ℕ) : Type 0 where
+  pub below : (k : ℕ) (row : PostingsRow) → k < place → slice_get rows k ≡ Some row → compare_texts row.name name ≡ Less
+  pub above : (k : ℕ) (row : PostingsRow) → place ≤ k → slice_get rows k ≡ Some row → compare_texts row.name name ≢ Less

@@ -1,4 +1,4 @@
-ghost use Rattle.std.specs.Prelude.{◌≡◌, slice_get};
+ghost use Rattle.std.specs.Prelude.{◌≡◌, slice_get, MatchResult};
 ghost use Rattle.std.specs.Option.{option_copied};
 ghost use Rattle.reading_core.specs.Reading.{Gives};
 ghost use Rattle.index_v2.specs.Opening.{opened_at};
@@ -6,12 +6,13 @@ ghost use Rattle.index_v2.specs.SeriesLabels.{numbered_at};
 ghost use Rattle.index_v2.specs.PostingsLists.{postings_of, values_of};
 
 use crate::opening::{contents_of, refused_of};
-use crate::postings::list_of;
+use crate::postings::{list_of, values_of};
 use crate::rows::Rows;
 use crate::series_labels::labelled;
 use crate::symbols::Symbols;
 use crate::{IndexRefusal, IndexSeries};
 use index_parts::Toc;
+use label_sets::TextList;
 use std::alloc::Global;
 use std::marker::Model;
 use wire_bytes::NumberList;
@@ -76,5 +77,12 @@ impl<'a> IndexReader<'a> {
         ensures exact { Gives IndexRefusal.NoMemory (λ numbers. numbers) result (postings_of self.now name.now value.now) }
     {
         list_of(alloc, self.bytes, &self.rows, name, value)
+    }
+
+    /// The values that the table lists under a name, ascending.
+    pub fn label_values(&self, alloc: Global, name: &str) -> Result<TextList, IndexRefusal>
+        ensures exact { MatchResult result (λ values. values ≡ values_of self.now.rows name.now) (λ e. e ≡ IndexRefusal.NoMemory) }
+    {
+        Ok(values_of(alloc, &self.rows, name)?)
     }
 }

@@ -44,3 +44,23 @@ pub(crate) fn list_of(
         Err(_) => Ok(NumberList::new(alloc)),
     }
 }
+
+/// The values of the rows under a name.
+pub(crate) fn values_of(alloc: Global, rows: &Rows<'_>, name: &str) -> Result<TextList, NoMemory>
+    ensures { IfOk result (λ values. values ≡ values_of rows.now name.now) }
+{
+    let mut values = TextList::new(alloc);
+    if name.is_empty() {
+        return Ok(values);
+    }
+    for place in rows.first_of(name)..rows.len() {
+        let Some(row) = rows.get(place) else {
+            return Ok(values);
+        };
+        if row.0 != name {
+            return Ok(values);
+        }
+        values.push(Text::from_str(alloc, row.1)?)?;
+    }
+    Ok(values)
+}

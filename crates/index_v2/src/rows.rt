@@ -2,7 +2,7 @@ ghost use Rattle.std.specs.Prelude.{◌≡◌, ◌≤◌, ◌<◌, length, optio
 ghost use Rattle.reading_core.specs.Reading.{Gives};
 ghost use Rattle.index_parts.specs.RowsReading.{postings_table_at};
 ghost use Rattle.index_v2.specs.Opening.{held_at};
-ghost use Rattle.index_v2.specs.RowOrder.{AreAscending, compare_row, IsRowAt, StandsAt};
+ghost use Rattle.index_v2.specs.RowOrder.{AreAscending, compare_row, IsRowAt, StandsAt, BeginsAt};
 
 use crate::IndexRefusal;
 use crate::opening::refused_in;
@@ -62,6 +62,17 @@ impl<'a> Rows<'a> {
         match &self.table {
             None => Err(0),
             Some(table) => place_of(table, name, value),
+        }
+    }
+
+    /// The place at which the rows of a name begin, or would begin.
+    pub(crate) fn first_of(&self, name: &str) -> usize
+        ensures begins { BeginsAt self.now name.now result }
+        ensures ascending { AreAscending self.now }
+    {
+        match self.place_of(name, "") {
+            Ok(place) => place,
+            Err(place) => place,
         }
     }
 
