@@ -98,14 +98,14 @@ pub record AreSoFar (symbols : List (List ℕ)) (names values : List ℕ) (befor
   pub whole : labels_of symbols [] 0 names values ≡ (labels_of symbols before place (drop place names) (drop place values) >>= λ others. Ok (labels ++ others))
   pub behind : (name : List ℕ) → ComesBefore before name → AllBefore name labels
 
-again : {A E : Type 0} (r : Result (List A) E) → r ≡ (r >>= λ others. Ok ([] ++ others))
+pub again : {A E : Type 0} (r : Result (List A) E) → r ≡ (r >>= λ others. Ok ([] ++ others))
 again (Ok xs) = refl
 again (Err e) = refl
 
 pub labels_start : (symbols : List (List ℕ)) (names values : List ℕ) → AreSoFar symbols names values [] 0 []
 labels_start symbols names values = record { whole = again (labels_of symbols [] 0 names values); behind = λ name h. tt }
 
-moved : {A E : Type 0} (r : Result (List A) E) (x : A) (front : List A) → ((r >>= λ others. Ok (x ∷ others)) >>= λ others. Ok (front ++ others)) ≡ (r >>= λ others. Ok ((front ++ x ∷ []) ++ others))
+pub moved : {A E : Type 0} (r : Result (List A) E) (x : A) (front : List A) → ((r >>= λ others. Ok (x ∷ others)) >>= λ others. Ok (front ++ others)) ≡ (r >>= λ others. Ok ((front ++ x ∷ []) ++ others))
 moved (Ok xs) x front = ap Ok (sym (append_assoc front (x ∷ []) xs))
 moved (Err e) x front = refl
 

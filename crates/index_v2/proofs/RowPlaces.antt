@@ -1,5 +1,5 @@
 -- The search for a row in a postings table whose rows ascend.
-use Rattle.std.proofs.Common.{◌≡◌, ℕ, zero, suc, ◌+◌, ◌<◌, ◌≤◌, List, [], ◌∷◌, length, Option, Some, None, refl, sym, ap, ◌∙◌, arith, ◌⊎◌, inl, inr}
+use Rattle.std.proofs.Common.{◌≡◌, ℕ, zero, suc, ◌+◌, ◌^◌, ◌<◌, ◌≤◌, List, [], ◌∷◌, length, Option, Some, None, refl, sym, ap, ◌∙◌, arith, ◌⊎◌, inl, inr}
 use Rattle.std.specs.Prelude.{slice_get}
 use Rattle.std.specs.declared.cmp.Ordering.{Ordering}
 use Rattle.std.specs.declared.cmp.Ordering.TheVariants.{Less, Equal, Greater}
@@ -135,3 +135,6 @@ no_rows_ascend = record { ascend = λ j k one other lt a b. absurd cc }
 
 pub no_row_stands : (name value : List ℕ) → StandsAt [] name value 0
 no_row_stands name value = record { within = omega arith; below = λ k row lt at. absurd cc; above = λ k row le at. absurd cc }
+
+pub table_small : (index : List ℕ) (at : ℕ) (rows : List PostingsRow) → IsPostingsTable index at rows → length rows < 2 ^ 32
+table_small index at rows is = is.count_is.fits

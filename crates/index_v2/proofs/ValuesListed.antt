@@ -57,7 +57,7 @@ not_less one other name less not_here lesser =
 equal_not_less : (name : List ℕ) → compare_texts name name ≢ Less
 equal_not_less name e = let same = compare_self name in cc
 
-same_compare : (row other : PostingsRow) (name value : List ℕ) → other.name ≡ name → other.value ≡ value → compare_row row name value ≡ compare_rows row other
+pub same_compare : (row other : PostingsRow) (name value : List ℕ) → other.name ≡ name → other.value ≡ value → compare_row row name value ≡ compare_rows row other
 same_compare row other name value n v = rw (← n, ← v) refl
 
 here : (rows : List PostingsRow) (place k : ℕ) (one other : PostingsRow) → k ≡ place → slice_get rows k ≡ Some one → slice_get rows place ≡ Some other → one ≡ other

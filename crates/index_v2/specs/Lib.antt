@@ -4,3 +4,4 @@ pub mod Opening
 pub mod SeriesLabels
 pub mod RowOrder
 pub mod PostingsLists
+pub mod WholeReading

@@ -13,7 +13,6 @@ use Rattle.index_v2.specs.declared.index_series.IndexSeries.{IndexSeries}
 use Rattle.index_v2.specs.declared.label_fault.LabelFault.{LabelFault}
 use Rattle.index_v2.specs.declared.label_fault.LabelFault.TheVariants.{Name, Value, NoMemory}
 use Rattle.index_v2.specs.declared.refusal.IndexRefusal.{IndexRefusal}
-use Rattle.index_v2.specs.Opened.{Opened}
 use Rattle.index_v2.specs.Opening.{refused_of}
 
 -- the label of this place in the series: the name's number stands for a text above the name before it, and the value's for
@@ -50,5 +49,5 @@ labelled_at index symbols at = do
   Ok (record { labels = labels; chunks = series.chunks })
 
 -- the series of a number, which stands at sixteen times the number
-abbrev pub numbered_at : Opened → ℕ → Result IndexSeries IndexRefusal
-numbered_at opened number = refused_as (refused_of number) (labelled_at opened.bytes opened.symbols (16 * number))
+abbrev pub numbered_at : List ℕ → List (List ℕ) → ℕ → Result IndexSeries IndexRefusal
+numbered_at index symbols number = refused_as (refused_of number) (labelled_at index symbols (16 * number))

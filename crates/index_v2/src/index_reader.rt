@@ -3,6 +3,7 @@ ghost use Rattle.std.specs.Option.{option_copied};
 ghost use Rattle.reading_core.specs.Reading.{Gives};
 ghost use Rattle.index_v2.specs.Opening.{opened_at};
 ghost use Rattle.index_v2.specs.SeriesLabels.{numbered_at};
+ghost use Rattle.index_v2.specs.WholeReading.{whole_at};
 ghost use Rattle.index_v2.specs.PostingsLists.{postings_of, values_of};
 
 use crate::opening::{contents_of, refused_of};
@@ -10,7 +11,8 @@ use crate::postings::{list_of, values_of};
 use crate::rows::Rows;
 use crate::series_labels::labelled;
 use crate::symbols::Symbols;
-use crate::{IndexRefusal, IndexSeries};
+use crate::whole::whole;
+use crate::{IndexRefusal, IndexSeries, IndexSeriesList};
 use index_parts::Toc;
 use label_sets::TextList;
 use std::alloc::Global;
@@ -64,7 +66,7 @@ impl<'a> IndexReader<'a> {
 
     /// Reads the series of a number, which need not be listed.
     pub fn series(&self, alloc: Global, number: u32) -> Result<IndexSeries, IndexRefusal>
-        ensures exact { Gives IndexRefusal.NoMemory (λ series. series) result (numbered_at self.now number) }
+        ensures exact { Gives IndexRefusal.NoMemory (λ series. series) result (numbered_at self.now.bytes self.now.symbols number) }
     {
         match labelled(alloc, self.bytes, &self.symbols, 16 * u64::from(number)) {
             Ok(series) => Ok(series),
@@ -84,5 +86,13 @@ impl<'a> IndexReader<'a> {
         ensures exact { MatchResult result (λ values. values ≡ values_of self.now.rows name.now) (λ e. e ≡ IndexRefusal.NoMemory) }
     {
         Ok(values_of(alloc, &self.rows, name)?)
+    }
+
+    /// Reads every series, ascending by labels, and tests that the postings table and its lists are exactly those of the
+    /// series.
+    pub fn whole(&self, alloc: Global) -> Result<IndexSeriesList, IndexRefusal>
+        ensures exact { Gives IndexRefusal.NoMemory (λ list. list) result (whole_at self.now) }
+    {
+        whole(alloc, self.bytes, &self.toc, &self.symbols, &self.rows)
     }
 }

@@ -1,6 +1,7 @@
 //! A Prometheus index of version 2 as a whole: its bytes are a list of series, each with its labels and its chunks.
 #![tactic(auto)]
 
+mod difference;
 mod index_reader;
 mod index_series;
 mod label_fault;
@@ -10,6 +11,7 @@ mod refusal;
 mod rows;
 mod series_labels;
 mod symbols;
+mod whole;
 
 pub use index_reader::IndexReader;
 pub use index_series::{IndexSeries, IndexSeriesList};

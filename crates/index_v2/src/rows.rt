@@ -1,4 +1,4 @@
-ghost use Rattle.std.specs.Prelude.{◌≡◌, ◌≤◌, ◌<◌, length, option_map, slice_get, IfOk, IfErr};
+ghost use Rattle.std.specs.Prelude.{◌≡◌, ◌≤◌, ◌<◌, ◌^◌, length, option_map, slice_get, IfOk, IfErr};
 ghost use Rattle.reading_core.specs.Reading.{Gives};
 ghost use Rattle.index_parts.specs.RowsReading.{postings_table_at};
 ghost use Rattle.index_v2.specs.Opening.{held_at};
@@ -21,7 +21,7 @@ pub(crate) struct Rows<'a> {
 }
 
 impl<'a> Model for Rows<'a> {
-    ghost use Rattle.std.specs.Prelude.{List, [], unwrap_or};
+    ghost use Rattle.std.specs.Prelude.{List, [], unwrap_or, length, ◌<◌, ◌^◌};
     ghost use Rattle.index_parts.specs.declared.postings_row.PostingsRow.{PostingsRow};
     ghost use Rattle.index_v2.specs.RowOrder.{AreAscending};
 
@@ -29,12 +29,13 @@ impl<'a> Model for Rows<'a> {
 
     ghost view = { λ r. unwrap_or r.table [] };
 
-    ghost invariant = { λ r. AreAscending (unwrap_or r.table []) };
+    ghost invariant = { λ r. AreAscending (unwrap_or r.table []) × (length (unwrap_or r.table []) < 2 ^ 32) };
 }
 
 impl<'a> Rows<'a> {
     pub(crate) fn len(&self) -> usize
-        ensures { result ≡ length self.now }
+        ensures value { result ≡ length self.now }
+        ensures small { length self.now < 2 ^ 32 }
     {
         match &self.table {
             None => 0,

@@ -11,7 +11,7 @@ use std::alloc::Global;
 use std::marker::Model;
 
 /// The number of the section of symbols.
-const SYMBOLS: u8 = 1;
+pub(crate) const SYMBOLS: u8 = 1;
 
 /// The symbols of an index, which has none where their section is absent.
 #[derive(Drop)]
