@@ -32,7 +32,7 @@ all_before_push : (a : List ℕ) (ls : List Label) (l : Label) → AllBefore a l
 all_before_push a [] l all h = (h, tt)
 all_before_push a (m ∷ ls) l all h = (all.0, all_before_push a ls l all.1 h)
 
-lt_from_less : (o : Ordering) → o ≡ Less → is_lt o ≡ true
+pub lt_from_less : (o : Ordering) → o ≡ Less → is_lt o ≡ true
 lt_from_less Less e = refl
 lt_from_less Equal e = absurd cc
 lt_from_less Greater e = absurd cc

@@ -6,3 +6,5 @@ pub mod ValuesListed
 pub mod WholeLoops
 pub mod Differences
 pub mod ListNumbers
+pub mod OpeningLaws
+pub mod LabelLaws

@@ -5,3 +5,4 @@ pub mod SeriesLabels
 pub mod RowOrder
 pub mod PostingsLists
 pub mod WholeReading
+pub mod IndexFile

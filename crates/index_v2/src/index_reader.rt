@@ -1,15 +1,17 @@
-ghost use Rattle.std.specs.Prelude.{◌≡◌, slice_get, MatchResult};
+ghost use Rattle.std.specs.Prelude.{◌≡◌, ◌⊎◌, slice_get, MatchResult, IfOk, Ok, Err};
+ghost use Rattle.std.specs.Result.{IsOkAnd};
 ghost use Rattle.std.specs.Option.{option_copied};
 ghost use Rattle.reading_core.specs.Reading.{Gives};
+ghost use Rattle.reading_core.specs.Grammar.{IsBytes};
 ghost use Rattle.index_v2.specs.Opening.{opened_at};
 ghost use Rattle.index_v2.specs.SeriesLabels.{numbered_at};
 ghost use Rattle.index_v2.specs.WholeReading.{whole_at};
 ghost use Rattle.index_v2.specs.PostingsLists.{postings_of, values_of};
 
-use crate::opening::{contents_of, refused_of};
+use crate::opening::contents_of;
 use crate::postings::{list_of, values_of};
 use crate::rows::Rows;
-use crate::series_labels::labelled;
+use crate::series_labels::series_of;
 use crate::symbols::Symbols;
 use crate::whole::whole;
 use crate::{IndexRefusal, IndexSeries, IndexSeriesList};
@@ -41,9 +43,25 @@ impl<'a> Model for IndexReader<'a> {
 }
 
 impl<'a> IndexReader<'a> {
+    ghost use Rattle.index_v2.specs.Opened.{Opened};
+    ghost use Rattle.index_v2.specs.IndexFile.{IsOpened, IsSeriesOf};
+    ghost use Rattle.index_v2.specs.declared.index_series.IndexSeries.{IndexSeries};
+
     /// Reads what an index begins and ends with, its symbols and its postings table.
-    #[tactic(auto, unfolding(crate::specs::Opening::opened_at))]
     pub fn open(alloc: Global, bytes: &'a [u8]) -> Result<IndexReader<'a>, IndexRefusal>
+        // What is opened begins and ends as an index, and what does so is opened.
+        ensures found { IfOk result (λ reader. (reader.bytes ≡ bytes.now) × IsOpened reader) }
+        ensures only { (opened : Opened) → opened.bytes ≡ bytes.now → IsOpened opened → IsOkAnd result (λ reader. reader ≡ opened) ⊎ (result ≡ Err IndexRefusal.NoMemory) }
+
+        // The first refusal.
+        ensures exact { Gives IndexRefusal.NoMemory (λ reader. reader) result (opened_at bytes.now) }
+    {
+        IndexReader::read(alloc, bytes)
+    }
+
+    #[tactic(auto, unfolding(crate::specs::Opening::opened_at))]
+    fn read(alloc: Global, bytes: &'a [u8]) -> Result<IndexReader<'a>, IndexRefusal>
+        ensures bytes { IsBytes bytes.now }
         ensures exact { Gives IndexRefusal.NoMemory (λ reader. reader) result (opened_at bytes.now) }
     {
         let toc = contents_of(bytes)?;
@@ -66,12 +84,14 @@ impl<'a> IndexReader<'a> {
 
     /// Reads the series of a number, which need not be listed.
     pub fn series(&self, alloc: Global, number: u32) -> Result<IndexSeries, IndexRefusal>
+        // What is read is what stands there, and what stands there is read.
+        ensures found { IfOk result (λ series. IsSeriesOf self.now.bytes self.now.symbols number series) }
+        ensures only { (series : IndexSeries) → IsSeriesOf self.now.bytes self.now.symbols number series → (result ≡ Ok series) ⊎ (result ≡ Err IndexRefusal.NoMemory) }
+
+        // The first refusal.
         ensures exact { Gives IndexRefusal.NoMemory (λ series. series) result (numbered_at self.now.bytes self.now.symbols number) }
     {
-        match labelled(alloc, self.bytes, &self.symbols, 16 * u64::from(number)) {
-            Ok(series) => Ok(series),
-            Err(refusal) => Err(refused_of(number, refusal)),
-        }
+        series_of(alloc, self.bytes, &self.symbols, number)
     }
 
     /// The numbers of the series that are listed under a name and a value; two empty texts ask for all series.

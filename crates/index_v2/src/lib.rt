@@ -16,3 +16,6 @@ mod whole;
 pub use index_reader::IndexReader;
 pub use index_series::{IndexSeries, IndexSeriesList};
 pub use refusal::IndexRefusal;
+
+#[cfg(test)]
+mod tests;

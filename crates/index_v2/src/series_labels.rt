@@ -1,12 +1,16 @@
-ghost use Rattle.std.specs.Prelude.{◌≡◌, ◌*◌, ◌<◌, ℕ, List, [], length, Ok, Err, MatchResult, slice_get};
+ghost use Rattle.std.specs.Prelude.{◌≡◌, ◌⊎◌, IfOk, ◌*◌, ◌<◌, ℕ, List, [], length, Ok, Err, MatchResult, slice_get};
 ghost use Rattle.std.specs.Option.{option_copied};
 ghost use Rattle.reading_core.specs.Reading.{Answers, Gives};
+ghost use Rattle.reading_core.specs.Grammar.{IsBytes};
 ghost use Rattle.index_parts.specs.SeriesReading.{label_places_at};
-ghost use Rattle.index_v2.specs.SeriesLabels.{label_of, labels_of, fault_at, labelled_at};
+ghost use Rattle.index_v2.specs.declared.index_series.IndexSeries.{IndexSeries};
+ghost use Rattle.index_v2.specs.IndexFile.{IsSeriesOf};
+ghost use Rattle.index_v2.specs.SeriesLabels.{label_of, labels_of, fault_at, labelled_at, numbered_at};
 
-use crate::IndexSeries;
+use crate::opening::refused_of;
 use crate::label_fault::LabelFault;
 use crate::symbols::Symbols;
+use crate::{IndexRefusal, IndexSeries};
 use index_parts::{PartRefusal, label_place, read_series};
 use label_sets::LabelSet;
 use std::alloc::Global;
@@ -90,4 +94,33 @@ pub(crate) fn labelled(
         }),
         Err(fault) => Err(fault_at(index, at, fault)),
     }
+}
+
+fn numbered(
+    alloc: Global,
+    index: &[u8],
+    symbols: &Symbols<'_>,
+    number: u32,
+) -> Result<IndexSeries, IndexRefusal>
+    ensures bytes { IsBytes index.now }
+    ensures exact { Gives IndexRefusal.NoMemory (λ series. series) result (numbered_at index.now symbols.now number) }
+{
+    match labelled(alloc, index, symbols, 16 * u64::from(number)) {
+        Ok(series) => Ok(series),
+        Err(refusal) => Err(refused_of(number, refusal)),
+    }
+}
+
+/// Reads the series of a number.
+pub(crate) fn series_of(
+    alloc: Global,
+    index: &[u8],
+    symbols: &Symbols<'_>,
+    number: u32,
+) -> Result<IndexSeries, IndexRefusal>
+    ensures found { IfOk result (λ series. IsSeriesOf index.now symbols.now number series) }
+    ensures only { (series : IndexSeries) → IsSeriesOf index.now symbols.now number series → (result ≡ Ok series) ⊎ (result ≡ Err IndexRefusal.NoMemory) }
+    ensures exact { Gives IndexRefusal.NoMemory (λ series. series) result (numbered_at index.now symbols.now number) }
+{
+    numbered(alloc, index, symbols, number)
 }
