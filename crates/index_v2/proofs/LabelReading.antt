@@ -37,7 +37,7 @@ lt_from_less Less e = refl
 lt_from_less Equal e = absurd cc
 lt_from_less Greater e = absurd cc
 
-less_from_lt : (o : Ordering) → is_lt o ≡ true → o ≡ Less
+pub less_from_lt : (o : Ordering) → is_lt o ≡ true → o ≡ Less
 less_from_lt Less e = refl
 less_from_lt Equal e = absurd cc
 less_from_lt Greater e = absurd cc

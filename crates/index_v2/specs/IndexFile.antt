@@ -1,6 +1,5 @@
 -- An index of version 2, apart from reading and writing: which bytes hold which series.
-use Rattle.std.specs.Prelude.{◌≡◌, ◌≢◌, ◌⊎◌, ℕ, ◌*◌, ◌≤◌, ◌==◌, List, [], ◌∷◌, length, map, take, slice_get, Option, Some, None, MatchBool, IsTrue}
-use Rattle.std.specs.List.{Contains}
+use Rattle.std.specs.Prelude.{◌≡◌, ◌≢◌, ◌⊎◌, ℕ, ◌*◌, ◌≤◌, ◌==◌, List, [], ◌∷◌, length, map, take, slice_get, Option, Some, None, MatchBool}
 use Rattle.std.specs.declared.cmp.Ordering.TheVariants.{Less}
 use Rattle.label_sets.specs.declared.label.Label.{Label}
 use Rattle.label_sets.specs.Labels.{IsLabelSet, compare_sets}
@@ -13,7 +12,6 @@ use Rattle.index_parts.specs.Postings.{IsPostings}
 use Rattle.index_parts.specs.Rows.{IsPostingsTable}
 use Rattle.index_v2.specs.declared.index_series.IndexSeries.{IndexSeries}
 use Rattle.index_v2.specs.Opened.{Opened}
-use Rattle.index_v2.specs.WholeReading.{belongs}
 
 -- ---- what an index begins and ends with, and its tables
 
@@ -58,30 +56,44 @@ Ascend (Some before) (one ∷ list) = (compare_sets before.labels one.labels ≡
 
 -- ---- postings
 
+-- a member of a list
+abbrev pub Has : {A : Type 0} → List A → A → Type 0
+Has xs x = (place : ℕ) × (slice_get xs place ≡ Some x)
+
+-- A series belongs to the row of each of its labels; all series belong to the row of the empty pair.
+abbrev pub BelongsTo : PostingsRow → IndexSeries → Type 0
+BelongsTo row series = ((row.name ≡ []) × (row.value ≡ [])) ⊎ Has series.labels (record { name = row.name; value = row.value })
+
 -- At a row's place stands a list of exactly the numbers of the listed series that belong to the row.
 pub record IsListOf (index : List ℕ) (listed : List (ℕ × IndexSeries)) (row : PostingsRow) : Type 0 where
   pub numbers : List ℕ
   pub stands : IsPostings index row.offset numbers
-  pub only : (number : ℕ) → Contains numbers number → (one : ℕ × IndexSeries) × Contains listed one × (one.0 ≡ number) × IsTrue (belongs row.name row.value one.1)
-  pub all : (one : ℕ × IndexSeries) → Contains listed one → IsTrue (belongs row.name row.value one.1) → Contains numbers one.0
+  pub only : (number : ℕ) → Has numbers number → (series : IndexSeries) × Has listed (number, series) × BelongsTo row series
+  pub all : (number : ℕ) (series : IndexSeries) → Has listed (number, series) → BelongsTo row series → Has numbers number
+
+-- the list of the table's first row; where there is no row there is no series
+abbrev pub AreListed : List ℕ → List PostingsRow → List ℕ → Type 0
+AreListed index [] numbers = numbers ≡ []
+AreListed index (row ∷ rows) numbers = IsPostings index row.offset numbers
 
 -- a row of this name and value stands in the table
 abbrev pub HasRow : List PostingsRow → Label → Type 0
-HasRow rows label = (row : PostingsRow) × Contains rows row × (row.name ≡ label.name) × (row.value ≡ label.value)
+HasRow rows label = (row : PostingsRow) × Has rows row × (row.name ≡ label.name) × (row.value ≡ label.value)
 
 -- ---- the whole
 
--- The bytes are an index of these series: those that the table's first row lists, in ascending order. Each row lists
--- exactly its series, and each label of a series has its row. An index with series has symbols, series and postings lists.
+-- The bytes are an index of these series: those that the table's first row lists by their numbers, ascending by their
+-- labels. Each row lists exactly its series, and each label of a series has its row. An index with series has symbols,
+-- series and postings lists.
 pub record IsIndex (index : List ℕ) (list : List IndexSeries) : Type 0 where
   pub opened : Opened
   pub bytes_are : opened.bytes ≡ index
   pub is_opened : IsOpened opened
   pub listed : List (ℕ × IndexSeries)
   pub list_is : map (λ one. one.1) listed ≡ list
-  pub series_are : (one : ℕ × IndexSeries) → Contains listed one → IsSeriesOf index opened.symbols one.0 one.1
-  pub ascend : Ascend None list
-  pub rows_are : (row : PostingsRow) → Contains opened.rows row → IsListOf index listed row
-  pub complete : (one : ℕ × IndexSeries) → Contains listed one → (label : Label) → Contains one.1.labels label → HasRow opened.rows label
-  pub none : opened.rows ≡ [] → listed ≡ []
+  pub numbers_are : AreListed index opened.rows (map (λ one. one.0) listed)
   pub present : (listed ≡ []) ⊎ ((opened.toc.symbols ≢ 0) × (opened.toc.series ≢ 0) × (opened.toc.postings ≢ 0))
+  pub series_are : (number : ℕ) (series : IndexSeries) → Has listed (number, series) → IsSeriesOf index opened.symbols number series
+  pub ascend : Ascend None list
+  pub rows_are : (row : PostingsRow) → Has opened.rows row → IsListOf index listed row
+  pub complete : (number : ℕ) (series : IndexSeries) → Has listed (number, series) → (label : Label) → Has series.labels label → HasRow opened.rows label

@@ -43,8 +43,9 @@ impl<'a> Model for IndexReader<'a> {
 }
 
 impl<'a> IndexReader<'a> {
+    ghost use Rattle.std.specs.Prelude.{List};
     ghost use Rattle.index_v2.specs.Opened.{Opened};
-    ghost use Rattle.index_v2.specs.IndexFile.{IsOpened, IsSeriesOf};
+    ghost use Rattle.index_v2.specs.IndexFile.{IsOpened, IsSeriesOf, IsIndex};
     ghost use Rattle.index_v2.specs.declared.index_series.IndexSeries.{IndexSeries};
 
     /// Reads what an index begins and ends with, its symbols and its postings table.
@@ -111,6 +112,11 @@ impl<'a> IndexReader<'a> {
     /// Reads every series, ascending by labels, and tests that the postings table and its lists are exactly those of the
     /// series.
     pub fn whole(&self, alloc: Global) -> Result<IndexSeriesList, IndexRefusal>
+        // It is read exactly where the bytes are an index of the list.
+        ensures found { IfOk result (λ list. IsIndex self.now.bytes list) }
+        ensures only { (list : List IndexSeries) → IsIndex self.now.bytes list → IsOkAnd result (λ found. found ≡ list) ⊎ (result ≡ Err IndexRefusal.NoMemory) }
+
+        // The first refusal.
         ensures exact { Gives IndexRefusal.NoMemory (λ list. list) result (whole_at self.now) }
     {
         whole(alloc, self.bytes, &self.toc, &self.symbols, &self.rows)

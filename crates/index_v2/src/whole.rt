@@ -1,8 +1,13 @@
-ghost use Rattle.std.specs.Prelude.{◌≡◌, ◌*◌, ◌-◌, ◌^◌, ◌<◌, ℕ, List, [], length, slice_get, slice_index, map, zip, Option, Some, None, Ok, Err, MatchResult, IfOk, IfSome};
+ghost use Rattle.std.specs.Prelude.{◌≡◌, ◌⊎◌, ◌*◌, ◌-◌, ◌^◌, ◌<◌, ℕ, List, [], length, slice_get, slice_index, map, zip, Option, Some, None, Ok, Err, MatchResult, IfOk, IfSome};
 ghost use Rattle.std.specs.Option.{option_copied};
 ghost use Rattle.reading_core.specs.Reading.{Gives, Answers};
 ghost use Rattle.index_parts.specs.declared.toc.Toc.{Toc};
 ghost use Rattle.index_v2.specs.RowOrder.{AreSmall, AllRise};
+ghost use Rattle.std.specs.Result.{IsOkAnd};
+ghost use Rattle.reading_core.specs.Grammar.{IsBytes};
+ghost use Rattle.index_v2.specs.declared.index_series.IndexSeries.{IndexSeries};
+ghost use Rattle.index_v2.specs.Opening.{opened_at};
+ghost use Rattle.index_v2.specs.IndexFile.{IsIndex};
 ghost use Rattle.index_v2.specs.WholeReading.{present_at, may_stand_behind, behind_at, all_at, lists_at, whole_at};
 
 use crate::difference::difference;
@@ -111,14 +116,15 @@ pub(crate) fn all_lists(
 
 /// Reads every series, and tests that the postings lists are exactly those of the series.
 #[tactic(auto, unfolding(crate::specs::WholeReading::whole_at))]
-pub(crate) fn whole(
+fn read_whole(
     alloc: Global,
     index: &[u8],
     toc: &Toc,
     symbols: &Symbols<'_>,
     rows: &Rows<'_>,
 ) -> Result<IndexSeriesList, IndexRefusal>
-    ensures { Gives IndexRefusal.NoMemory (λ list. list) result (whole_at (record { bytes = index.now; toc = toc.now; symbols = symbols.now; rows = rows.now })) }
+    ensures bytes { IsBytes index.now }
+    ensures exact { Gives IndexRefusal.NoMemory (λ list. list) result (whole_at (record { bytes = index.now; toc = toc.now; symbols = symbols.now; rows = rows.now })) }
 {
     let numbers = list_of(alloc, index, rows, "", "")?;
     test_present(toc, numbers.members())?;
@@ -128,4 +134,20 @@ pub(crate) fn whole(
         None => Ok(List::from_vec(series)),
         Some(place) => Err(IndexRefusal::PostingsDiffer(place as u32)),
     }
+}
+
+/// The series of an opened index, and nothing but an index.
+pub(crate) fn whole(
+    alloc: Global,
+    index: &[u8],
+    toc: &Toc,
+    symbols: &Symbols<'_>,
+    rows: &Rows<'_>,
+) -> Result<IndexSeriesList, IndexRefusal>
+    requires { opened_at index.now ≡ Ok (record { bytes = index.now; toc = toc.now; symbols = symbols.now; rows = rows.now }) }
+    ensures found { IfOk result (λ list. IsIndex index.now list) }
+    ensures only { (list : List IndexSeries) → IsIndex index.now list → IsOkAnd result (λ found. found ≡ list) ⊎ (result ≡ Err IndexRefusal.NoMemory) }
+    ensures exact { Gives IndexRefusal.NoMemory (λ list. list) result (whole_at (record { bytes = index.now; toc = toc.now; symbols = symbols.now; rows = rows.now })) }
+{
+    read_whole(alloc, index, toc, symbols, rows)
 }
