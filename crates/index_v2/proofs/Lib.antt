@@ -12,3 +12,4 @@ pub mod Members
 pub mod WholeParts
 pub mod WholeLaws
 pub mod WholeAgain
+pub mod PostingsLaws

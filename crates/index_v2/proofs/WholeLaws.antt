@@ -122,7 +122,7 @@ rows_ascend index reference rows holds = by_zero {P = AreAscending rows} (refere
 first_in_turn : (text : List ℕ) (row : PostingsRow) (rows : List PostingsRow) → AreInTurn IsNextRow None text (row ∷ rows) → (row.name ≡ []) × (row.value ≡ [])
 first_in_turn text row rows are = are.2.ascends
 
-first_is_empty : (index : List ℕ) (reference : ℕ) (row : PostingsRow) (rows : List PostingsRow) → Holds IsPostingsTable index reference (row ∷ rows) → (row.name ≡ []) × (row.value ≡ [])
+pub first_is_empty : (index : List ℕ) (reference : ℕ) (row : PostingsRow) (rows : List PostingsRow) → Holds IsPostingsTable index reference (row ∷ rows) → (row.name ≡ []) × (row.value ≡ [])
 first_is_empty index reference row rows holds = by_zero {P = (row.name ≡ []) × (row.value ≡ [])} (reference == 0)
     (λ zero_is. let none : row ∷ rows ≡ [] = rw zero_is at holds in absurd cc)
     (λ some. let table : IsPostingsTable index reference (row ∷ rows) = rw some at holds in first_in_turn table.texts row rows table.texts_are)

@@ -97,3 +97,9 @@ pub record IsIndex (index : List ℕ) (list : List IndexSeries) : Type 0 where
   pub ascend : Ascend None list
   pub rows_are : (row : PostingsRow) → Has opened.rows row → IsListOf index listed row
   pub complete : (number : ℕ) (series : IndexSeries) → Has listed (number, series) → (label : Label) → Has series.labels label → HasRow opened.rows label
+
+-- In an index of a list, these are exactly the numbers of the listed series with a name and a value; two empty texts stand
+-- for all series.
+pub record AreNumbersOf (listed : List (ℕ × IndexSeries)) (name value numbers : List ℕ) : Type 0 where
+  pub only : (number : ℕ) → Has numbers number → (series : IndexSeries) × Has listed (number, series) × BelongsTo (record { name = name; value = value; offset = 0 }) series
+  pub all : (number : ℕ) (series : IndexSeries) → Has listed (number, series) → BelongsTo (record { name = name; value = value; offset = 0 }) series → Has numbers number

@@ -45,7 +45,7 @@ impl<'a> Model for IndexReader<'a> {
 impl<'a> IndexReader<'a> {
     ghost use Rattle.std.specs.Prelude.{List};
     ghost use Rattle.index_v2.specs.Opened.{Opened};
-    ghost use Rattle.index_v2.specs.IndexFile.{IsOpened, IsSeriesOf, IsIndex};
+    ghost use Rattle.index_v2.specs.IndexFile.{IsOpened, IsSeriesOf, IsIndex, AreNumbersOf};
     ghost use Rattle.index_v2.specs.declared.index_series.IndexSeries.{IndexSeries};
 
     /// Reads what an index begins and ends with, its symbols and its postings table.
@@ -97,6 +97,10 @@ impl<'a> IndexReader<'a> {
 
     /// The numbers of the series that are listed under a name and a value; two empty texts ask for all series.
     pub fn postings(&self, alloc: Global, name: &str, value: &str) -> Result<NumberList, IndexRefusal>
+        // In an index of a list these are exactly the numbers of its series with this label.
+        ensures agrees { (list : List IndexSeries) (is : IsIndex self.now.bytes list) → IfOk result (λ numbers. AreNumbersOf is.listed name.now value.now numbers) }
+
+        // The first refusal.
         ensures exact { Gives IndexRefusal.NoMemory (λ numbers. numbers) result (postings_of self.now name.now value.now) }
     {
         list_of(alloc, self.bytes, &self.rows, name, value)
