@@ -138,5 +138,5 @@ label_places_are index at series e =
     let names : labels.0.0.0 ≡ series.names = ap (λ (s : RawSeries). s.names) (ok_is {E = PartRefusal} (series_with labels.0 chunks.0) series chunks.2) in
     let places = others_read label_at label_place_at place_read count.0.0 count.0.1 all.0.1 all.0.0 all.1 in
     let many : length places.0 ≡ length series.names =
-      length-members label_place_at count.0.0 count.0.1 all.0.1 places.0 places.1 ∙ sym (length-members label_at count.0.0 count.0.1 all.0.1 all.0.0 all.1) ∙ sym (length-firsts all.0.0) ∙ ap (λ (r : (List ℕ × List ℕ) × Position). length r.0.0) same ∙ ap length names in
+    length-members label_place_at count.0.0 count.0.1 all.0.1 places.0 places.1 ∙ sym (length-members label_at count.0.0 count.0.1 all.0.1 all.0.0 all.1) ∙ sym (length-firsts all.0.0) ∙ ap (λ (r : (List ℕ × List ℕ) × Position). length r.0.0) same ∙ ap length names in
     (places.0, places_steps index at content.0 count.0 places.0 all.0.1 content.1 count.1 places.1, many)

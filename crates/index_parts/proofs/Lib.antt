@@ -14,3 +14,8 @@ pub mod ChunkLaws
 pub mod SeriesLaws
 pub mod LabelPlaces
 pub mod Stands
+pub mod Writing
+pub mod Sizes
+pub mod PairLists
+pub mod Offsets
+pub mod ChunksWritten

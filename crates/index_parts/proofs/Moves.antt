@@ -1,10 +1,10 @@
 -- Fields move a position within the same bytes, and no field begins past their end.
-use Rattle.std.proofs.Common.{◌≡◌, ℕ, ◌+◌, ◌<◌, ◌≤◌, ltb, List, [], length, take, drop, Result, Ok, Err, refl, sym, ap, ◌∙◌, arith}
-use Rattle.std.specs.Int.{Width, w32, byte_len, from_be_bytes}
-use Rattle.std.proofs.lemmas.Bool.{ltb-false}
+use Rattle.std.proofs.Common.{◌≡◌, ℕ, ◌+◌, ◌<◌, ◌≤◌, ltb, List, [], ◌∷◌, length, get_or, take, drop, Result, Ok, Err, refl, sym, ap, ◌∙◌, arith}
+use Rattle.std.specs.Int.{Width, w8, w32, byte_len, from_be_bytes}
+use Rattle.std.proofs.lemmas.Bool.{ltb-false, lt-ltb, le-ltb}
 use Rattle.std.proofs.lemmas.List.{drop_all, length-drop, length-take}
 use Rattle.reading_core.specs.Reading.{◌>>=◌, refused_as, Answers}
-use Rattle.reading_core.proofs.Binds.{bind_ok, cond_ok, refused_as_ok, ok_is}
+use Rattle.reading_core.proofs.Binds.{bind_ok, cond_ok, refused_as_ok, refused_as_err, ok_is}
 use Rattle.wire_bytes.specs.Position.{Position, left, further}
 use Rattle.wire_bytes.specs.Fields.{bytes_at, number_at, uvarint_at, groups_of}
 use Rattle.wire_bytes.specs.declared.refusal.WireRefusal.{WireRefusal}
@@ -88,7 +88,6 @@ entry_within index at size place q e here within =
 
 -- ---- past the end
 
-
 number_past : (index : List ℕ) (at : ℕ) → drop at index ≡ [] → number_at w32 (at_place index at) ≡ Err wire.Short
 unfolding number_at
 number_past index at e = rw e refl
@@ -116,3 +115,45 @@ pub entry_answers : (index : List ℕ) (at size counted place : ℕ) (q : Positi
 entry_answers index at size counted place q r h e same here =
     let whole : entry_at index at ≡ summed_at at counted (at_place index place) = entry_steps index at size q e ∙ ap (λ (n : ℕ). summed_at at n (at_place index q.place)) (sym same) ∙ ap (λ (n : ℕ). summed_at at counted (at_place index n)) (sym here) in
     rw whole h
+
+-- ---- a number of one group
+
+one_byte : (bytes : List ℕ) → 0 < length bytes → from_be_bytes w8 (take 1 bytes) ≡ get_or bytes 0 0
+one_byte [] some = absurd (omega arith)
+one_byte (b ∷ bytes) some = omega arith
+
+one_group_of : (bytes : List ℕ) → 0 < length bytes → get_or bytes 0 0 < 128 → groups_of 9 bytes ≡ Ok (get_or bytes 0 0, 1)
+unfolding groups_of
+one_group_of [] some low = absurd (omega arith)
+one_group_of (b ∷ bytes) some low = rw (lt-ltb b 128 low) refl
+
+number_value : (w : Width) (p q : Position) (n : ℕ) → number_at w p ≡ Ok (n, q) → (from_be_bytes w (take (byte_len w) (left p)) ≡ n) × (further (byte_len w) p ≡ q)
+unfolding number_at
+number_value w p q n e =
+    let g = cond_ok (ltb (length (left p)) (byte_len w)) wire.Short (Ok (from_be_bytes w (take (byte_len w) (left p)), further (byte_len w) p)) (n, q) e in
+    let same : ◌≡◌ {A = ℕ × Position} (from_be_bytes w (take (byte_len w) (left p)), further (byte_len w) p) (n, q) = ok_is {E = WireRefusal} _ _ g.1 in
+    (ap (λ (y : ℕ × Position). y.0) same, ap (λ (y : ℕ × Position). y.1) same)
+
+uvarint_one : (p : Position) → groups_of 9 (left p) ≡ Ok (get_or (left p) 0 0, 1) → uvarint_at p ≡ Ok (get_or (left p) 0 0, further 1 p)
+unfolding uvarint_at
+uvarint_one p e = rw e refl
+
+placed : {A : Type 0} (read : Position → Result (A × Position) WireRefusal) (p q : Position) (x : A) → read p ≡ Ok (x, q) → field read p ≡ Ok (x, q)
+placed read p q x e = rw e refl
+
+pub one_group : (p q : Position) (n : ℕ) → field (number_at w8) p ≡ Ok (n, q) → 0 < length (left p) → get_or (left p) 0 0 < 128 → field uvarint_at p ≡ Ok (n, q)
+one_group p q n e some low =
+    let v = number_value w8 p q n (refused_as_ok (refused_at p.place) (number_at w8 p) (n, q) e) in
+    let value : get_or (left p) 0 0 ≡ n = sym (one_byte (left p) some) ∙ v.0 in
+    placed uvarint_at p q n (uvarint_one p (one_group_of (left p) some low) ∙ ap (λ (k : ℕ). Ok (k, further 1 p)) value ∙ ap (λ (r : Position). Ok (n, r)) v.1)
+
+enough_byte : (p : Position) → 0 < length (left p) → number_at w8 p ≡ Ok (from_be_bytes w8 (take 1 (left p)), further 1 p)
+unfolding number_at
+enough_byte p some = rw (le-ltb (length (left p)) 1 (omega arith)) refl
+
+pub no_byte_refused : (p : Position) (d : PartRefusal) → field (number_at w8) p ≡ Err d → 0 < length (left p) → ⊥
+no_byte_refused p d e some =
+    let x = refused_as_err (refused_at p.place) (number_at w8 p) d e in
+    let long : number_at w8 p ≡ Ok (from_be_bytes w8 (take 1 (left p)), further 1 p) = enough_byte p some in
+    cc
+

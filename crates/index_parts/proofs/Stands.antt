@@ -13,6 +13,7 @@ behind : (before size content sum after : List ℕ) → drop (length before) ((b
 behind before size content sum after = ap (drop (length before)) (append_assoc before (size ++ content ++ sum) after) ∙ drop_at before ((size ++ content ++ sum) ++ after) (length before) refl
 
 pub section_stands : (before content after : List ℕ) → length content < 2 ^ 32 → crc content < 2 ^ 32 → IsSection ((before ++ section_text content) ++ after) (length before) content
+unfolding section_text
 section_stands before content after fits sum = record {
   size = to_be_bytes w32 (length content);
   sum = to_be_bytes w32 (crc content);
@@ -23,6 +24,7 @@ section_stands before content after fits sum = record {
 }
 
 pub entry_stands : (before content after : List ℕ) → length content < 2 ^ 64 → crc content < 2 ^ 32 → IsEntry ((before ++ entry_text content) ++ after) (length before) content
+unfolding entry_text
 entry_stands before content after fits sum = record {
   size = uvarint_text (length content);
   sum = to_be_bytes w32 (crc content);
@@ -31,6 +33,10 @@ entry_stands before content after fits sum = record {
   sum_is = record { digits = refl; fits = sum };
   stands = behind before (uvarint_text (length content)) content (to_be_bytes w32 (crc content)) after;
 }
+
+pub section_written : {E : Type 0} (r : Result (Unit {0}) E) (old new content after : List ℕ) (sum : ℕ) → OnOk r (new ≡ old ++ section_text content) → length content < 2 ^ 32 → sum ≡ crc content → sum < 2 ^ 32 → OnOk r (IsSection (new ++ after) (length old) content)
+section_written (Ok x) old new content after sum is fits e small = subst (λ (a : List ℕ). IsSection (a ++ after) (length old) content) (sym is) (section_stands old content after fits (omega arith))
+section_written (Err d) old new content after sum is fits e small = tt
 
 pub entry_written : {E : Type 0} (r : Result (Unit {0}) E) (old new content after : List ℕ) (sum : ℕ) → OnOk r (new ≡ old ++ entry_text content) → length content < 2 ^ 64 → sum ≡ crc content → sum < 2 ^ 32 → OnOk r (IsEntry (new ++ after) (length old) content)
 entry_written (Ok x) old new content after sum is fits e small = subst (λ (a : List ℕ). IsEntry (a ++ after) (length old) content) (sym is) (entry_stands old content after fits (omega arith))

@@ -65,7 +65,7 @@ references_found p toc are h =
     let f = bind_ok (word e.0.1) (λ f. Ok (toc_of a.0.0 b.0.0 c.0.0 d.0.0 e.0.0 f.0)) toc e.2 in
     let same : toc_of a.0.0 b.0.0 c.0.0 d.0.0 e.0.0 f.0.0 ≡ toc = ok_is {E = PartRefusal} _ _ f.2 in
     let words : HasWords (left p) (a.0.0 ∷ b.0.0 ∷ c.0.0 ∷ d.0.0 ∷ e.0.0 ∷ f.0.0 ∷ []) (left f.0.1) =
-      word_more p a.0.1 a.0.0 _ _ are a.1 (λ are1. word_more a.0.1 b.0.1 b.0.0 _ _ are1 b.1 (λ are2. word_more b.0.1 c.0.1 c.0.0 _ _ are2 c.1 (λ are3. word_more c.0.1 d.0.1 d.0.0 _ _ are3 d.1 (λ are4. word_more d.0.1 e.0.1 e.0.0 _ _ are4 e.1 (λ are5. word_more e.0.1 f.0.1 f.0.0 _ _ are5 f.1 (λ are6. no_words f.0.1)))))) in
+    word_more p a.0.1 a.0.0 _ _ are a.1 (λ are1. word_more a.0.1 b.0.1 b.0.0 _ _ are1 b.1 (λ are2. word_more b.0.1 c.0.1 c.0.0 _ _ are2 c.1 (λ are3. word_more c.0.1 d.0.1 d.0.0 _ _ are3 d.1 (λ are4. word_more d.0.1 e.0.1 e.0.0 _ _ are4 e.1 (λ are5. word_more e.0.1 f.0.1 f.0.0 _ _ are5 f.1 (λ are6. no_words f.0.1)))))) in
     (f.0.1, subst (λ (t : Toc). HasWords (left p) (references_of t) (left f.0.1)) same words)
 
 word_again : (p : Position) (text : List ℕ) (n : ℕ) (words others after : List ℕ) → IsFixed w64 text n → left p ≡ (text ++ others) ++ after → (q : Position) × (word p ≡ Ok (n, q)) × (left q ≡ others ++ after)

@@ -20,9 +20,9 @@ pub record IsToc (index : List ℕ) (toc : Toc) : Type 0 where
   pub sum_is : IsFixed w32 sum (crc references)
   pub stands : index ≡ before ++ references ++ sum
 
-abbrev pub references_text : Toc → List ℕ
+unfoldable pub references_text : Toc → List ℕ
 references_text toc = flat_map (to_be_bytes w64) (references_of toc)
 
 -- what a writer puts
-abbrev pub toc_text : Toc → List ℕ
+unfoldable pub toc_text : Toc → List ℕ
 toc_text toc = references_text toc ++ to_be_bytes w32 (crc (references_text toc))

@@ -33,10 +33,10 @@ pub record IsText (bytes text : List ℕ) : Type 0 where
 
 -- ---- what a writer puts
 
-abbrev pub section_text : List ℕ → List ℕ
+unfoldable pub section_text : List ℕ → List ℕ
 section_text content = to_be_bytes w32 (length content) ++ content ++ to_be_bytes w32 (crc content)
 
-abbrev pub entry_text : List ℕ → List ℕ
+unfoldable pub entry_text : List ℕ → List ℕ
 entry_text content = uvarint_text (length content) ++ content ++ to_be_bytes w32 (crc content)
 
 abbrev pub text_field : List ℕ → List ℕ

@@ -1,6 +1,7 @@
 -- The postings table (postings offset table): for each label the place of its postings list, ascending by name and then by
 -- value. Its first row has an empty name and an empty value, and stands for all series.
-use Rattle.std.specs.Prelude.{◌≡◌, ℕ, List, [], ◌∷◌, ◌++◌, Option, Some, None}
+use Rattle.std.specs.Prelude.{◌≡◌, ◌^◌, ◌<◌, ℕ, List, [], ◌∷◌, ◌++◌, Option, Some, None}
+use Rattle.std.specs.Str.{IsUtf8}
 use Rattle.std.specs.declared.cmp.Ordering.{Ordering}
 use Rattle.std.specs.declared.cmp.Ordering.TheVariants.{Less}
 use Rattle.std.specs.Ordering.{ordering_then}
@@ -35,6 +36,10 @@ abbrev pub IsPostingsTable : List ℕ → ℕ → List PostingsRow → Type 0
 IsPostingsTable = IsList IsNextRow
 
 -- ---- what a writer puts
+
+-- what the types of a row's fields say
+abbrev pub IsWritable : PostingsRow → Type 0
+IsWritable row = IsUtf8 row.name × IsUtf8 row.value × (row.offset < 2 ^ 64)
 
 abbrev pub row_text : PostingsRow → List ℕ
 row_text row = 2 ∷ (text_field row.name ++ text_field row.value ++ uvarint_text row.offset)

@@ -1,14 +1,16 @@
 -- A series as it stands in an index: its labels as symbol numbers, and the places of its chunks, each told from the one
 -- before it.
-use Rattle.std.specs.Prelude.{◌≡◌, ℕ, ◌+◌, ◌*◌, ◌^◌, ◌<◌, List, ◌++◌, length, zip, Option, Some, None, ℤ, pos, ◌+ℤ◌}
+use Rattle.std.specs.Prelude.{◌≡◌, ℕ, ◌+◌, ◌*◌, ◌^◌, ◌<◌, List, ◌++◌, length, zip, Option, Some, None, ℤ, pos, ◌+ℤ◌, ◌-ℤ◌, ◌≤ℤ◌, [], ◌∷◌}
+use Rattle.std.specs.List.{flat_map}
 use Rattle.std.specs.Int.{w64}
-use Rattle.std.specs.Int.RustNames.{FitsSigned}
+use Rattle.std.specs.Int.RustNames.{FitsSigned, unsigned_abs}
 use Rattle.reading_core.specs.Grammar.{AreTexts}
 use Rattle.wire_bytes.specs.FieldTexts.{IsUvarint, IsVarint}
+use Rattle.wire_bytes.specs.Written.{uvarint_text, varint_text}
 use Rattle.index_parts.specs.declared.chunk_place.ChunkPlace.{ChunkPlace}
 use Rattle.index_parts.specs.declared.raw_series.RawSeries.{RawSeries}
 use Rattle.index_parts.specs.Turns.{AreInTurn}
-use Rattle.index_parts.specs.Framed.{IsEntry}
+use Rattle.index_parts.specs.Framed.{IsEntry, entry_text}
 
 -- a chunk's reference: the number of its segment file, and below it the place in the file
 abbrev pub reference_of : ChunkPlace → ℕ
@@ -64,3 +66,46 @@ pub record IsSeries (index : List ℕ) (at : ℕ) (series : RawSeries) : Type 0 
   pub labels_are : AreTexts IsLabel labels (zip series.names series.values)
   pub chunk_count_is : IsUvarint chunk_count (length series.chunks)
   pub chunks_are : AreInTurn IsNextChunk None chunks series.chunks
+
+-- ---- what a writer puts
+
+abbrev pub label_text : ℕ × ℕ → List ℕ
+label_text label = uvarint_text label.0 ++ uvarint_text label.1
+
+-- how long one time comes after another
+abbrev pub span : ℤ → ℤ → ℕ
+span begin end = unsigned_abs (end -ℤ begin)
+
+abbrev pub begin_text : Option ChunkPlace → ChunkPlace → List ℕ
+begin_text None chunk = varint_text chunk.min
+begin_text (Some before) chunk = uvarint_text (span before.max chunk.min)
+
+abbrev pub refer_text : Option ChunkPlace → ChunkPlace → List ℕ
+refer_text None chunk = uvarint_text (reference_of chunk)
+refer_text (Some before) chunk = varint_text (pos (reference_of chunk) -ℤ pos (reference_of before))
+
+abbrev pub chunk_text : Option ChunkPlace → ChunkPlace → List ℕ
+chunk_text before chunk = begin_text before chunk ++ uvarint_text (span chunk.min chunk.max) ++ refer_text before chunk
+
+unfoldable pub chunks_text : Option ChunkPlace → List ChunkPlace → List ℕ
+chunks_text before [] = []
+chunks_text before (chunk ∷ chunks) = chunk_text before chunk ++ chunks_text (Some chunk) chunks
+
+unfoldable pub labels_text : RawSeries → List ℕ
+labels_text series = uvarint_text (length series.names) ++ flat_map label_text (zip series.names series.values)
+
+abbrev pub series_content : RawSeries → List ℕ
+series_content series = labels_text series ++ (uvarint_text (length series.chunks) ++ chunks_text None series.chunks)
+
+abbrev pub series_text : RawSeries → List ℕ
+series_text series = entry_text (series_content series)
+
+-- A chunk may stand behind another where it does not begin before that one ends, nor ends before it begins; the number of its
+-- file has 31 bits, so that the step from one reference to the next is a number of 64.
+abbrev pub StartsAfter : Option ChunkPlace → ChunkPlace → Type 0
+StartsAfter None chunk = (chunk.min ≤ℤ chunk.max) × (chunk.segment < 2 ^ 31)
+StartsAfter (Some before) chunk = (before.max ≤ℤ chunk.min) × (chunk.min ≤ℤ chunk.max) × (chunk.segment < 2 ^ 31) × (before.segment < 2 ^ 31)
+
+-- what the types of a chunk's fields say
+abbrev pub FitsTypes : ChunkPlace → Type 0
+FitsTypes chunk = FitsSigned w64 chunk.min × FitsSigned w64 chunk.max × (chunk.segment < 2 ^ 32) × (chunk.offset < 2 ^ 32)

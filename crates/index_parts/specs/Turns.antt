@@ -6,3 +6,12 @@ abbrev pub AreInTurn : {A : Type 0} → (Option A → List ℕ → A → Type 0)
 AreInTurn IsNext before text [] = text ≡ []
 AreInTurn IsNext before text (member ∷ members) =
     (first : List ℕ) × (others : List ℕ) × IsNext before first member × AreInTurn IsNext (Some member) others members × (text ≡ first ++ others)
+
+-- Each member may stand behind the one before it.
+abbrev pub InOrderAfter : {A : Type 0} → (Option A → A → Type 0) → Option A → List A → Type 0
+InOrderAfter MayFollow before [] = Unit {0}
+InOrderAfter MayFollow before (member ∷ members) = MayFollow before member × InOrderAfter MayFollow (Some member) members
+
+-- the same of the first one too, which stands behind none
+abbrev pub InOrder : {A : Type 0} → (Option A → A → Type 0) → List A → Type 0
+InOrder MayFollow members = InOrderAfter MayFollow None members

@@ -52,10 +52,15 @@ pub(crate) fn next_u64(cursor: &mut Cursor<'_>) -> Result<u64, PartRefusal>
     }
 }
 
+/// A number of one group is taken at once.
 #[inline(always)]
 pub(crate) fn next_uvarint(cursor: &mut Cursor<'_>) -> Result<u64, PartRefusal>
     ensures { Steps (λ n. n) cursor.old cursor.new result (field uvarint_at cursor.old) }
 {
+    let left = cursor.rest();
+    if !left.is_empty() && left[0] < 128 {
+        return Ok(u64::from(next_u8(cursor)?));
+    }
     let place = cursor.place() as u64;
     match cursor.take_uvarint() {
         Ok(n) => Ok(n),

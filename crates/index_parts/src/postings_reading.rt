@@ -27,11 +27,7 @@ fn next_posting(cursor: &mut Cursor<'_>, before: Option<u64>) -> Result<u64, Par
 }
 
 /// Reads so many numbers.
-fn numbers_of(
-    alloc: Global,
-    count: u32,
-    mut cursor: Cursor<'_>,
-) -> Result<Vec<u64>, PartRefusal>
+fn numbers_of(alloc: Global, count: u32, mut cursor: Cursor<'_>) -> Result<Vec<u64>, PartRefusal>
     ensures { Gives PartRefusal.NoMemory (λ numbers. numbers.items) result (turns_at posting_at count cursor.entry) }
 {
     let mut numbers = Vec::new(alloc);

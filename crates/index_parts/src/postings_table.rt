@@ -54,7 +54,6 @@ impl<'a> PostingsTable<'a> {
     }
 }
 
-
 /// Whether a row of this name and value may stand behind another, or first.
 #[inline(always)]
 fn may_come_after(before: Option<LentRow<'_>>, name: &[u8], value: &[u8]) -> bool

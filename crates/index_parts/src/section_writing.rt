@@ -29,6 +29,7 @@ fn put_summed(out: &mut Vec<u8>, content: &[u8], sum: u32) -> Result<(), NoMemor
 }
 
 /// Appends a section, or a part of it where memory runs out.
+#[tactic(auto, unfolding(crate::specs::Framed::section_text))]
 fn put_section(out: &mut Vec<u8>, content: &[u8], sum: u32) -> Result<(), NoMemory>
     requires size { length content.now < 2 ^ 32 }
     requires sum { sum ≡ crc content.now }
@@ -40,6 +41,7 @@ fn put_section(out: &mut Vec<u8>, content: &[u8], sum: u32) -> Result<(), NoMemo
 }
 
 /// Appends an entry, or a part of it where memory runs out.
+#[tactic(auto, unfolding(crate::specs::Framed::entry_text))]
 fn put_entry(out: &mut Vec<u8>, content: &[u8], sum: u32) -> Result<(), NoMemory>
     requires { sum ≡ crc content.now }
     ensures ok { OnOk result (out.new.items ≡ out.old.items ++ entry_text content.now) }
@@ -48,6 +50,20 @@ fn put_entry(out: &mut Vec<u8>, content: &[u8], sum: u32) -> Result<(), NoMemory
 {
     put_uvarint(out, content.len() as u64)?;
     put_summed(out, content, sum)
+}
+
+/// Appends content and its sum.
+pub(crate) fn append_summed(out: &mut Vec<u8>, content: &[u8]) -> Result<(), NoMemory>
+    ensures ok { OnOk result (out.new.items ≡ out.old.items ++ content.now ++ to_be_bytes w32 (crc content.now)) }
+    ensures err { OnErr result (out.new.items ≡ out.old.items) }
+    ensures sum { OnOk result (crc content.now < 2 ^ 32) }
+{
+    let start = out.len();
+    let put = put_summed(out, content, crc_of(content));
+    if put.is_err() {
+        out.truncate(start);
+    }
+    put
 }
 
 /// Appends a section, with the length of its content in four bytes.

@@ -9,7 +9,12 @@ use wire_bytes::{Cursor, crc_of};
 
 /// Tests the sum behind so many bytes, of a section that begins at a place, and stands before those bytes.
 #[tactic(auto, unfolding(crate::specs::Framing::summed_at))]
-pub(crate) fn summed(index: &[u8], place: usize, at: u64, size: u64) -> Result<Cursor<'_>, PartRefusal>
+pub(crate) fn summed(
+    index: &[u8],
+    place: usize,
+    at: u64,
+    size: u64,
+) -> Result<Cursor<'_>, PartRefusal>
     requires { place ≤ length index.now }
     ensures { Answers (λ content. content) result (summed_at at size (at_place index.now place)) }
 {

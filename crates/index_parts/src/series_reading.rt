@@ -1,4 +1,4 @@
-ghost use Rattle.std.specs.Prelude.{◌≡◌, ◌⊎◌, ◌≤◌, ◌*◌, ◌+◌, List, ℕ, ℤ, length, IfOk, Ok, Err, Some, MatchResult};
+ghost use Rattle.std.specs.Prelude.{◌≡◌, ◌⊎◌, ◌≤◌, ◌*◌, ◌+◌, ◌<◌, ◌^◌, List, ℕ, ℤ, length, IfOk, Ok, Err, Some, MatchResult};
 ghost use Rattle.reading_core.specs.Reading.{Gives, Steps};
 ghost use Rattle.reading_core.specs.Grammar.{IsBytes};
 ghost use Rattle.wire_bytes.specs.Position.{Position};
@@ -73,8 +73,9 @@ fn moved(cursor: &mut Cursor<'_>, reference: u64) -> Result<u64, PartRefusal>
 
 /// The reference of a chunk.
 #[inline(always)]
-fn reference_of(chunk: ChunkPlace) -> u64
-    ensures { result ≡ reference_of chunk }
+pub(crate) fn reference_of(chunk: ChunkPlace) -> u64
+    ensures value { result ≡ reference_of chunk }
+    ensures fits { (chunk.segment < 2 ^ 32) × (chunk.offset < 2 ^ 32) }
 {
     u64::from(chunk.segment) * 0x1_0000_0000 + u64::from(chunk.offset)
 }

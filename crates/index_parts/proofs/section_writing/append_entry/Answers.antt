@@ -1,4 +1,3 @@
-use Rattle.std.proofs.Common.{rules}
 use Rattle.index_parts.proofs.Stands.{entry_written}
 use Rattle.index_parts.proofs.section_writing.append_entry.Goals as goal
 
