@@ -25,9 +25,9 @@ use Rattle.index_v2.proofs.WholeLoops.{drop_at}
 
 rise_le : (numbers : List ℕ) → DoRise numbers → (i j : ℕ) → i ≤ j → j < length numbers → get_or numbers i 0 ≤ get_or numbers j 0
 rise_le numbers r i j le lt = elim (cases_lt i j) [
-    | inl less ↦ let h = r.rise i j less lt in omega arith
-    | inr ge ↦ let same : i ≡ j = omega arith in let e = ap (λ (k : ℕ). get_or numbers k 0) same in omega arith
-  ]
+  | inl less ↦ let h = r.rise i j less lt in omega arith
+  | inr ge ↦ let same : i ≡ j = omega arith in let e = ap (λ (k : ℕ). get_or numbers k 0) same in omega arith
+]
 
 -- where the search finds a number, no other place has it; where it does not, no place has it
 abbrev pub Among : List ℕ → ℕ → Result ℕ ℕ → Type 0
@@ -36,11 +36,14 @@ Among numbers number (Err place) = (k : ℕ) → k < length numbers → get_or n
 
 pub among : (numbers : List ℕ) (number : ℕ) (r : Result ℕ ℕ) → DoRise numbers → IsBinarySearchResult (λ y. nat_cmp y number) numbers r → Among numbers number r
 among numbers number (Ok place) rising is =
-    let h : (place < length numbers) × (get_or numbers place 0 ≡ number) = searched numbers number (Ok place) is (rise_le numbers rising) in
-    (h.0, h.1, λ k lt other e. elim (cases_lt k place) [
-      | inl less ↦ let x = rising.rise k place less h.0 in let same = h.1 in omega arith
-      | inr ge ↦ let x = rising.rise place k (omega arith) lt in let same = h.1 in omega arith
-    ])
+    let h : (place < length numbers) × (get_or numbers place 0 ≡ number) = searched numbers number (Ok place) is (rise_le numbers rising) in (
+      h.0,
+      h.1,
+      λ k lt other e. elim (cases_lt k place) [
+        | inl less ↦ let x = rising.rise k place less h.0 in let same = h.1 in omega arith
+        | inr ge ↦ let x = rising.rise place k (omega arith) lt in let same = h.1 in omega arith
+      ],
+    )
 among numbers number (Err place) rising is =
     let h : (place ≤ length numbers) × ((k : ℕ) → k < place → get_or numbers k 0 < number) × ((k : ℕ) → place ≤ k → k < length numbers → number < get_or numbers k 0) = searched numbers number (Err place) is (rise_le numbers rising) in
     λ k lt e. elim (cases_lt k place) [

@@ -127,7 +127,7 @@ labels_step symbols names values before place next name value labels new label f
     let is = label_parts symbols before place name value label read in
     let last = added_last symbols before name value labels new label is (far.behind label.name is.ascends) add in
     let front : labels_of symbols before place (drop place names) (drop place values) ≡ (labels_of symbols label.name (place + 1) (drop (place + 1) names) (drop (place + 1) values) >>= λ others. Ok (label ∷ others)) =
-        rw (at_front names place name lt n, at_front values place value (omega arith) v) (one_more symbols before place name value (drop (place + 1) names) (drop (place + 1) values) label read) in
+    rw (at_front names place name lt n, at_front values place value (omega arith) v) (one_more symbols before place name value (drop (place + 1) names) (drop (place + 1) values) label read) in
     rw (e, last) (record {
       whole = far.whole ∙ ap (λ (r : Result (List Label) LabelFault). r >>= λ others. Ok (labels ++ others)) front ∙ moved (labels_of symbols label.name (place + 1) (drop (place + 1) names) (drop (place + 1) values)) label labels;
       behind = λ name h. all_before_push name labels label (all_before_trans label.name name labels (far.behind label.name is.ascends) h) h;
@@ -138,7 +138,7 @@ pub labels_stop : (symbols : List (List ℕ)) (names values before : List ℕ) (
     → label_of symbols before place name value ≡ Err fault → labels_of symbols [] 0 names values ≡ Err fault
 labels_stop symbols names values before place name value labels fault far many lt n v read =
     let front : labels_of symbols before place (drop place names) (drop place values) ≡ Err fault =
-        rw (at_front names place name lt n, at_front values place value (omega arith) v) (none_more symbols before place name value (drop (place + 1) names) (drop (place + 1) values) fault read) in
+    rw (at_front names place name lt n, at_front values place value (omega arith) v) (none_more symbols before place name value (drop (place + 1) names) (drop (place + 1) values) fault read) in
     far.whole ∙ ap (λ (r : Result (List Label) LabelFault). r >>= λ others. Ok (labels ++ others)) front
 
 nothing_left : (symbols : List (List ℕ)) (before : List ℕ) (place : ℕ) (values : List ℕ) → labels_of symbols before place [] values ≡ Ok []

@@ -109,12 +109,12 @@ no_numbers listed name value numbers none no_series = subst (AreNumbersOf listed
 listed_exactly : (index : List ℕ) (list : List IndexSeries) (is : IsIndex index list) (name value numbers : List ℕ) → list_of index (row_of is.opened.rows name value) ≡ Ok numbers → AreNumbersOf is.listed name value numbers
 listed_exactly index list is name value numbers e = option_cases (row_of is.opened.rows name value)
     (λ none.
-      let e' : ◌≡◌ {A = Result (List ℕ) IndexRefusal} (Ok []) (Ok numbers) = ap (list_of index) (sym none) ∙ e in
-      no_numbers is.listed name value numbers (ok_is {E = IndexRefusal} [] numbers e') (missing_row index list is name value (first_empty index list is) none))
+    let e' : ◌≡◌ {A = Result (List ℕ) IndexRefusal} (Ok []) (Ok numbers) = ap (list_of index) (sym none) ∙ e in
+    no_numbers is.listed name value numbers (ok_is {E = IndexRefusal} [] numbers e') (missing_row index list is name value (first_empty index list is) none))
     (λ row some.
-      let e' : refused_as (refused_in 5) (postings_at index row.offset) ≡ Ok numbers = ap (list_of index) (sym some) ∙ e in
-      let found = row_found is.opened.rows name value row some in
-      exact_row index list is name value numbers row found.0 found.1 found.2 (refused_as_ok (refused_in 5) (postings_at index row.offset) numbers e'))
+    let e' : refused_as (refused_in 5) (postings_at index row.offset) ≡ Ok numbers = ap (list_of index) (sym some) ∙ e in
+    let found = row_found is.opened.rows name value row some in
+    exact_row index list is name value numbers row found.0 found.1 found.2 (refused_as_ok (refused_in 5) (postings_at index row.offset) numbers e'))
 
 pub postings_agree : (opened : Opened) (name value : List ℕ) (numbers : List ℕ) → opened_at opened.bytes ≡ Ok opened → (list : List IndexSeries) (is : IsIndex opened.bytes list) → postings_of opened name value ≡ Ok numbers → AreNumbersOf is.listed name value numbers
 postings_agree opened name value numbers read list is e =

@@ -40,8 +40,8 @@ no_stray index list is lists are = stray_again 0 is.opened.rows lists is.listed 
     let same_list : lists_each.0 ≡ found = same_some lists_each.0 found (sym lists_each.1 ∙ here) in
     let numbers_are : (is.rows_are row (place, at)).numbers ≡ found = ok_same (postings_at index row.offset) (is.rows_are row (place, at)).numbers found (read_row index list is row (place, at)) (lists_each.2 ∙ ap Ok same_list) in
     has_all (is_of_row is.listed row) found (λ k number stands.
-      let o = (is.rows_are row (place, at)).only number (k, ap (λ (xs : List ℕ). slice_get xs k) numbers_are ∙ stands) in
-      of_row_again is.listed row number o.0 o.1 (belongs_again row o.0 (is.series_are number o.0 o.1).lawful o.2)))
+    let o = (is.rows_are row (place, at)).only number (k, ap (λ (xs : List ℕ). slice_get xs k) numbers_are ∙ stands) in
+    of_row_again is.listed row number o.0 o.1 (belongs_again row o.0 (is.series_are number o.0 o.1).lawful o.2)))
 
 less_before : (rows : List PostingsRow) (name value : List ℕ) → AreAscending rows → (k : ℕ) (other : PostingsRow) (place : ℕ) → k < place → slice_get rows k ≡ Some other → (row : PostingsRow) → slice_get rows place ≡ Some row → compare_row row name value ≡ Equal → compare_row other name value ≡ Less
 less_before rows name value ascend k other place lt at row stands equal = sym (alike_right rows_total row (record { name = name; value = value; offset = 0 }) other equal) ∙ ascend.ascend k place other row lt at stands
@@ -84,8 +84,8 @@ series_read : (index : List ℕ) (list : List IndexSeries) (is : IsIndex index l
 series_read index list is = record {
   many = length_firsts is.listed ∙ ap length is.list_is;
   each = λ number one has.
-    let pairs : zip (map (λ (p : ℕ × IndexSeries). p.0) is.listed) list ≡ is.listed = ap (λ (xs : List IndexSeries). zip (map (λ (p : ℕ × IndexSeries). p.0) is.listed) xs) (sym is.list_is) ∙ zipped is.listed in
-    numbered_again index is.opened.symbols number one (is.series_are number one (has.0, ap (λ (ps : List (ℕ × IndexSeries)). slice_get ps has.0) (sym pairs) ∙ has.1));
+      let pairs : zip (map (λ (p : ℕ × IndexSeries). p.0) is.listed) list ≡ is.listed = ap (λ (xs : List IndexSeries). zip (map (λ (p : ℕ × IndexSeries). p.0) is.listed) xs) (sym is.list_is) ∙ zipped is.listed in
+      numbered_again index is.opened.symbols number one (is.series_are number one (has.0, ap (λ (ps : List (ℕ × IndexSeries)). slice_get ps has.0) (sym pairs) ∙ has.1));
   ascend = is.ascend;
 }
 

@@ -48,14 +48,14 @@ unfolding value_of
 value_has [] name value e = absurd cc
 value_has (l ∷ ls) name value e = by_bool (bytes_eq l.name name)
     (λ here.
-      let v : ◌≡◌ {A = Option (List ℕ)} (Some l.value) (Some value) = rw here at e in
-      let name_is : l.name ≡ name = (bytes_decides l.name name).0 here in
-      let value_is : l.value ≡ value = same_some l.value value v in
-      (0, rw (← name_is, ← value_is) refl))
+    let v : ◌≡◌ {A = Option (List ℕ)} (Some l.value) (Some value) = rw here at e in
+    let name_is : l.name ≡ name = (bytes_decides l.name name).0 here in
+    let value_is : l.value ≡ value = same_some l.value value v in
+    (0, rw (← name_is, ← value_is) refl))
     (λ other.
-      let e' : value_of ls name ≡ Some value = rw other at e in
-      let m = value_has ls name value e' in
-      (suc m.0, m.1))
+    let e' : value_of ls name ≡ Some value = rw other at e in
+    let m = value_has ls name value e' in
+    (suc m.0, m.1))
 
 has_value_is : (value : List ℕ) (o : Option (List ℕ)) → has_value value o ≡ true → o ≡ Some value
 has_value_is value None e = absurd cc
@@ -69,8 +69,8 @@ unfolding belongs
 belongs_found row one e = by_bool ((length row.name == 0) && (length row.value == 0))
     (λ empty. let b = and_both (length row.name == 0) (length row.value == 0) empty in inl (empty_text row.name b.0, empty_text row.value b.1))
     (λ some.
-      let e' : has_value row.value (value_of one.labels row.name) ≡ true = rw some at e in
-      inr (value_has one.labels row.name row.value (has_value_is row.value (value_of one.labels row.name) e')))
+    let e' : has_value row.value (value_of one.labels row.name) ≡ true = rw some at e in
+    inr (value_has one.labels row.name row.value (has_value_is row.value (value_of one.labels row.name) e')))
 
 stands_at : (name : List ℕ) (ls : List Label) (place : ℕ) (l : Label) → StandsBefore name ls → slice_get ls place ≡ Some l → ComesBefore name l.name
 stands_at name [] place l stands at = absurd cc

@@ -8,7 +8,6 @@ use crate::rows::Rows;
 use label_sets::Label;
 use wire_bytes::NumberList;
 
-
 /// The lesser of two places, if there is one.
 fn earlier(one: Option<usize>, other: Option<usize>) -> Option<usize>
     ensures { result ≡ earlier one other }
@@ -35,12 +34,7 @@ fn belongs(name: &str, value: &str, series: &IndexSeries) -> bool
 }
 
 /// Whether this is the number of a listed series that stands in the row.
-fn is_of_row(
-    numbers: &[u64],
-    series: &[IndexSeries],
-    row: (&str, &str, u64),
-    number: u64,
-) -> bool
+fn is_of_row(numbers: &[u64], series: &[IndexSeries], row: (&str, &str, u64), number: u64) -> bool
     requires rise { DoRise numbers.now }
     requires as_many { length numbers.now ≡ length series.now }
     ensures { result ≡ is_of_row (zip numbers.now series.now) (record { name = row.entry.0.now; value = row.entry.1.now; offset = row.entry.2 }) number }
@@ -52,12 +46,7 @@ fn is_of_row(
 }
 
 /// Whether all numbers of a list are of series that stand in the row.
-fn are_of_row(
-    numbers: &[u64],
-    series: &[IndexSeries],
-    row: (&str, &str, u64),
-    list: &[u64],
-) -> bool
+fn are_of_row(numbers: &[u64], series: &[IndexSeries], row: (&str, &str, u64), list: &[u64]) -> bool
     requires rise { DoRise numbers.now }
     requires as_many { length numbers.now ≡ length series.now }
     ensures { result ≡ list_all (is_of_row (zip numbers.now series.now) (record { name = row.entry.0.now; value = row.entry.1.now; offset = row.entry.2 })) list.now }

@@ -96,7 +96,12 @@ impl<'a> IndexReader<'a> {
     }
 
     /// The numbers of the series that are listed under a name and a value; two empty texts ask for all series.
-    pub fn postings(&self, alloc: Global, name: &str, value: &str) -> Result<NumberList, IndexRefusal>
+    pub fn postings(
+        &self,
+        alloc: Global,
+        name: &str,
+        value: &str,
+    ) -> Result<NumberList, IndexRefusal>
         // In an index of a list these are exactly the numbers of its series with this label.
         ensures agrees { (list : List IndexSeries) (is : IsIndex self.now.bytes list) → IfOk result (λ numbers. AreNumbersOf is.listed name.now value.now numbers) }
 

@@ -7,8 +7,8 @@ ghost use Rattle.index_v2.specs.declared.index_series.IndexSeries.{IndexSeries};
 ghost use Rattle.index_v2.specs.IndexFile.{IsSeriesOf};
 ghost use Rattle.index_v2.specs.SeriesLabels.{label_of, labels_of, fault_at, labelled_at, numbered_at};
 
-use crate::opening::refused_of;
 use crate::label_fault::LabelFault;
+use crate::opening::refused_of;
 use crate::symbols::Symbols;
 use crate::{IndexRefusal, IndexSeries};
 use index_parts::{PartRefusal, label_place, read_series};

@@ -2,6 +2,7 @@
 use super::*;
 use index_parts::PartRefusal;
 use list_core::NoMemory;
+use reading_core::{put_signed, put_unsigned};
 use std::alloc::Global;
 use std::test::Fail;
 use wire_bytes::crc_of;
@@ -41,32 +42,6 @@ static SERVER_ONE: [u8; 209] = [
     0x48,
 ];
 
-/// And this one: two series, `{__name__="up",n="2"}` and `{__name__="up",n="3"}`.
-static SERVER_TWO: [u8; 345] = [
-    0xBA, 0xAA, 0xD7, 0x00, 0x02, 0x00, 0x00, 0x00, 0x17, 0x00, 0x00, 0x00, 0x06, 0x00, 0x01, 0x32,
-    0x01, 0x33, 0x08, 0x5F, 0x5F, 0x6E, 0x61, 0x6D, 0x65, 0x5F, 0x5F, 0x01, 0x6E, 0x02, 0x75, 0x70,
-    0x42, 0xCF, 0x66, 0x21, 0x00, 0x00, 0x00, 0x00, 0x00, 0x00, 0x00, 0x00, 0x00, 0x00, 0x00, 0x00,
-    0x0F, 0x02, 0x03, 0x05, 0x04, 0x01, 0x01, 0x80, 0x80, 0x9C, 0xCD, 0xCA, 0x64, 0x98, 0x75, 0x08,
-    0x75, 0x55, 0x73, 0xD5, 0x00, 0x00, 0x00, 0x00, 0x00, 0x00, 0x00, 0x00, 0x00, 0x00, 0x00, 0x00,
-    0x10, 0x02, 0x03, 0x05, 0x04, 0x02, 0x01, 0x80, 0x80, 0x9C, 0xCD, 0xCA, 0x64, 0xB0, 0xEA, 0x01,
-    0x21, 0x2D, 0x9D, 0xFE, 0xDF, 0x00, 0x00, 0x00, 0x00, 0x00, 0x00, 0x0C, 0x00, 0x00, 0x00, 0x01,
-    0x00, 0x00, 0x00, 0x01, 0x00, 0x00, 0x00, 0x05, 0xD2, 0xBE, 0x18, 0xA5, 0x00, 0x00, 0x00, 0x10,
-    0x00, 0x00, 0x00, 0x01, 0x00, 0x00, 0x00, 0x02, 0x00, 0x00, 0x00, 0x01, 0x00, 0x00, 0x00, 0x02,
-    0x46, 0x19, 0x67, 0xB5, 0x00, 0x00, 0x00, 0x0C, 0x00, 0x00, 0x00, 0x02, 0x00, 0x00, 0x00, 0x03,
-    0x00, 0x00, 0x00, 0x05, 0xBB, 0x33, 0xCB, 0xD4, 0x00, 0x00, 0x00, 0x0C, 0x00, 0x00, 0x00, 0x02,
-    0x00, 0x00, 0x00, 0x03, 0x00, 0x00, 0x00, 0x05, 0xBB, 0x33, 0xCB, 0xD4, 0x00, 0x00, 0x00, 0x08,
-    0x00, 0x00, 0x00, 0x01, 0x00, 0x00, 0x00, 0x03, 0xA7, 0x69, 0x2E, 0xD2, 0x00, 0x00, 0x00, 0x08,
-    0x00, 0x00, 0x00, 0x01, 0x00, 0x00, 0x00, 0x05, 0x81, 0xC8, 0xC9, 0x3A, 0x00, 0x00, 0x00, 0x13,
-    0x00, 0x00, 0x00, 0x02, 0x01, 0x08, 0x5F, 0x5F, 0x6E, 0x61, 0x6D, 0x65, 0x5F, 0x5F, 0x68, 0x01,
-    0x01, 0x6E, 0x7C, 0x80, 0xD6, 0xFA, 0x10, 0x00, 0x00, 0x00, 0x26, 0x00, 0x00, 0x00, 0x04, 0x02,
-    0x00, 0x00, 0x94, 0x01, 0x02, 0x08, 0x5F, 0x5F, 0x6E, 0x61, 0x6D, 0x65, 0x5F, 0x5F, 0x02, 0x75,
-    0x70, 0xA8, 0x01, 0x02, 0x01, 0x6E, 0x01, 0x32, 0xBC, 0x01, 0x02, 0x01, 0x6E, 0x01, 0x33, 0xCC,
-    0x01, 0x44, 0xFB, 0x53, 0x38, 0x00, 0x00, 0x00, 0x00, 0x00, 0x00, 0x00, 0x05, 0x00, 0x00, 0x00,
-    0x00, 0x00, 0x00, 0x00, 0x24, 0x00, 0x00, 0x00, 0x00, 0x00, 0x00, 0x00, 0x65, 0x00, 0x00, 0x00,
-    0x00, 0x00, 0x00, 0x00, 0xDC, 0x00, 0x00, 0x00, 0x00, 0x00, 0x00, 0x00, 0x94, 0x00, 0x00, 0x00,
-    0x00, 0x00, 0x00, 0x00, 0xF7, 0x17, 0xCC, 0xC7, 0xC9,
-];
-
 /// And this one: one series of 300 samples from the first millisecond of 1970 on.
 static SERVER_EPOCH: [u8; 218] = [
     0xBA, 0xAA, 0xD7, 0x00, 0x02, 0x00, 0x00, 0x00, 0x12, 0x00, 0x00, 0x00, 0x03, 0x00, 0x08, 0x5F,
@@ -85,32 +60,59 @@ static SERVER_EPOCH: [u8; 218] = [
     0x00, 0x00, 0x00, 0x00, 0x00, 0x87, 0x18, 0x12, 0x25, 0xBA,
 ];
 
-/// The worked index with bytes put at places, and with the sum of a section and that of the table of contents made right.
+/// Each series of an index on a line: its labels, and of each chunk its times, its segment and its place.
+fn shown(alloc: Global, bytes: &[u8]) -> Result<Vec<u8>, IndexRefusal> {
+    let list = IndexReader::open(alloc, bytes)?.whole(alloc)?;
+    let mut out = Vec::new(alloc);
+    for series in list.members() {
+        show_series(&mut out, series)?;
+    }
+    Ok(out)
+}
+
+fn show_series(out: &mut Vec<u8>, series: &IndexSeries) -> Result<(), NoMemory> {
+    series.labels.write(out)?;
+    for chunk in series.chunks.members() {
+        out.push(b' ')?;
+        put_signed(out, chunk.min)?;
+        out.push(b'-')?;
+        put_signed(out, chunk.max)?;
+        out.push(b'@')?;
+        put_unsigned(out, u64::from(chunk.segment))?;
+        out.push(b':')?;
+        put_unsigned(out, u64::from(chunk.offset))?;
+    }
+    out.push(b'\n')?;
+    Ok(())
+}
+
+/// The worked index with a byte put at a place, and with the sum of a section and that of the table of contents made right.
 fn changed(
     alloc: Global,
-    changes: &[(usize, u8)],
+    change: (usize, u8),
     section: (usize, usize),
 ) -> Result<Vec<u8>, NoMemory> {
     let mut bytes = Vec::from_slice(alloc, &WORKED)?;
-    for (place, value) in changes {
-        if let Some(byte) = bytes.get_mut(*place) {
-            *byte = *value;
-        }
-    }
+    put_byte(&mut bytes, change.0, change.1);
     put_sum(&mut bytes, section);
     put_sum(&mut bytes, TOC);
     Ok(bytes)
 }
 
+fn put_byte(bytes: &mut [u8], place: usize, value: u8) {
+    if let Some(byte) = bytes.get_mut(place) {
+        *byte = value;
+    }
+}
+
 /// Puts the sum of the bytes in a range behind them.
 fn put_sum(bytes: &mut [u8], range: (usize, usize)) {
-    let sum = bytes
-        .get(range.0..range.1)
-        .map_or(0, |content| crc_of(content));
+    let sum = match bytes.get(range.0..range.1) {
+        Some(content) => crc_of(content),
+        None => 0,
+    };
     for (place, byte) in sum.to_be_bytes().iter().enumerate() {
-        if let Some(kept) = bytes.get_mut(range.1.saturating_add(place)) {
-            *kept = *byte;
-        }
+        put_byte(bytes, range.1.saturating_add(place), *byte);
     }
 }
 
@@ -126,53 +128,70 @@ const UP_SERIES: (usize, usize) = (88, 96);
 const TOC: (usize, usize) = (153, 201);
 
 #[test]
-fn the_worked_index(rt: HostRuntime) -> Result<(), Fail> {
+fn worked_series(rt: HostRuntime) -> Result<(), Fail> {
+    let text = shown(rt.alloc(), &WORKED)?;
+    assert_eq!(rt;
+        text.as_slice(),
+        b"{__name__=\"up\"} 1000-1000@0:8\n".as_slice()
+    );
+    Ok(())
+}
+
+#[test]
+fn worked_symbols(rt: HostRuntime) -> Result<(), Fail> {
     let reader = IndexReader::open(rt.alloc(), &WORKED)?;
-    assert_eq!(rt; reader.symbol(0), Some("__name__"));
     assert_eq!(rt; reader.symbol(1), Some("up"));
     assert_eq!(rt; reader.symbol(2), None);
-    let series = reader.series(rt.alloc(), 2)?;
-    assert_eq!(rt; series.labels.value("__name__"), Some("up"));
+    Ok(())
+}
+
+#[test]
+fn worked_postings(rt: HostRuntime) -> Result<(), Fail> {
+    let reader = IndexReader::open(rt.alloc(), &WORKED)?;
     let up = reader.postings(rt.alloc(), "__name__", "up")?;
     assert_eq!(rt; up.members(), [2].as_slice());
     let all = reader.postings(rt.alloc(), "", "")?;
     assert_eq!(rt; all.members(), [2].as_slice());
     assert!(rt; reader.postings(rt.alloc(), "a", "b")?.is_empty());
-    let values = reader.label_values(rt.alloc(), "__name__")?;
-    assert_eq!(rt; values.len(), 1);
-    assert_eq!(rt; values.get(0).map(|value| value.as_str()), Some("up"));
-    assert!(rt; reader.label_values(rt.alloc(), "")?.is_empty());
-    let whole = reader.whole(rt.alloc())?;
-    assert_eq!(rt; whole.len(), 1);
-    let chunks = whole.get(0).ok_or("one series")?.chunks.members();
-    assert_eq!(rt; chunks.len(), 1);
-    assert_eq!(rt; (chunks[0].min, chunks[0].max), (1000, 1000));
-    assert_eq!(rt; (chunks[0].segment, chunks[0].offset), (0, 8));
     Ok(())
 }
 
 #[test]
+fn worked_values(rt: HostRuntime) -> Result<(), Fail> {
+    let reader = IndexReader::open(rt.alloc(), &WORKED)?;
+    let values = reader.label_values(rt.alloc(), "__name__")?;
+    assert_eq!(rt; values.len(), 1);
+    assert_eq!(rt; values.get(0).ok_or("a value")?.as_str(), "up");
+    assert!(rt; reader.label_values(rt.alloc(), "")?.is_empty());
+    Ok(())
+}
+
+#[test]
+fn cut_short(rt: HostRuntime) {
+    let found = IndexReader::open(rt.alloc(), &WORKED[..56]).err();
+    assert_eq!(rt;
+        found,
+        Some(IndexRefusal::BadSection(0, PartRefusal::Short(0)))
+    );
+}
+
+#[test]
 fn refused_when_opened(rt: HostRuntime) -> Result<(), Fail> {
-    let short = IndexReader::open(rt.alloc(), &WORKED[..56]).err();
-    assert_eq!(rt; short, Some(IndexRefusal::BadSection(0, PartRefusal::Short(0))));
-    let table: [(&[(usize, u8)], IndexRefusal); 5] = [
-        (&[(0, 0xBB)], IndexRefusal::BadMagic),
-        (&[(4, 1)], IndexRefusal::BadVersion),
+    let table = [
+        ((0, 0xBB), IndexRefusal::BadMagic),
+        ((4, 1), IndexRefusal::BadVersion),
         (
-            &[(9, 255), (10, 255), (11, 255), (12, 255)],
+            (12, 255),
             IndexRefusal::BadSection(1, PartRefusal::Short(25)),
         ),
+        ((5, 255), IndexRefusal::BadSection(1, PartRefusal::Short(5))),
         (
-            &[(5, 255), (6, 255), (7, 255), (8, 255)],
-            IndexRefusal::BadSection(1, PartRefusal::Short(5)),
-        ),
-        (
-            &[(155, 1), (160, 0)],
-            IndexRefusal::BadSection(1, PartRefusal::Short(1 << 40)),
+            (155, 1),
+            IndexRefusal::BadSection(1, PartRefusal::Short((1 << 40) + 5)),
         ),
     ];
-    for (changes, refusal) in table {
-        let bytes = changed(rt.alloc(), changes, SYMBOLS)?;
+    for (change, refusal) in table {
+        let bytes = changed(rt.alloc(), change, SYMBOLS)?;
         let found = IndexReader::open(rt.alloc(), bytes.as_slice()).err();
         assert_eq!(rt; found, Some(refusal));
     }
@@ -180,15 +199,15 @@ fn refused_when_opened(rt: HostRuntime) -> Result<(), Fail> {
 }
 
 #[test]
-fn a_changed_table_of_contents(rt: HostRuntime) -> Result<(), Fail> {
+fn a_changed_sum(rt: HostRuntime) -> Result<(), Fail> {
     let mut bytes = Vec::from_slice(rt.alloc(), &WORKED)?;
-    if let Some(byte) = bytes.get_mut(201) {
-        *byte ^= 1;
-    }
-    let computed = crc_of(&WORKED[153..201]);
-    let kept = computed ^ 0x0100_0000;
+    put_byte(&mut bytes, 201, 0);
     let found = IndexReader::open(rt.alloc(), bytes.as_slice()).err();
-    assert_eq!(rt; found, Some(IndexRefusal::BadTocSum { kept, computed }));
+    let refusal = IndexRefusal::BadTocSum {
+        kept: 0x00E2_FACE,
+        computed: 0xD9E2_FACE,
+    };
+    assert_eq!(rt; found, Some(refusal));
     Ok(())
 }
 
@@ -200,14 +219,11 @@ fn refused_series(rt: HostRuntime) -> Result<(), Fail> {
         ((36, 127), PartRefusal::Short(41)),
     ];
     for (change, refusal) in table {
-        let bytes = changed(rt.alloc(), &[change], SERIES)?;
+        let bytes = changed(rt.alloc(), change, SERIES)?;
         let reader = IndexReader::open(rt.alloc(), bytes.as_slice())?;
         let found = reader.series(rt.alloc(), 2).err();
         assert_eq!(rt; found, Some(IndexRefusal::BadSeries(2, refusal)));
     }
-    let reader = IndexReader::open(rt.alloc(), &WORKED)?;
-    let past = reader.series(rt.alloc(), 13).err();
-    assert_eq!(rt; past, Some(IndexRefusal::BadSeries(13, PartRefusal::Short(208))));
     Ok(())
 }
 
@@ -237,30 +253,23 @@ fn refused_as_a_whole(rt: HostRuntime) -> Result<(), Fail> {
         ),
     ];
     for (change, section, refusal) in table {
-        let bytes = changed(rt.alloc(), &[change], section)?;
-        let reader = IndexReader::open(rt.alloc(), bytes.as_slice())?;
-        assert_eq!(rt; reader.whole(rt.alloc()).err(), Some(refusal));
+        let bytes = changed(rt.alloc(), change, section)?;
+        assert_eq!(rt; shown(rt.alloc(), bytes.as_slice()).err(), Some(refusal));
     }
     Ok(())
 }
 
 #[test]
 fn indexes_of_a_server(rt: HostRuntime) -> Result<(), Fail> {
-    let one = IndexReader::open(rt.alloc(), &SERVER_ONE)?.whole(rt.alloc())?;
-    assert_eq!(rt; one.len(), 1);
-    let up = one.get(0).ok_or("one series")?;
-    assert_eq!(rt; up.labels.value("__name__"), Some("up"));
-    assert_eq!(rt; up.chunks.get(0).map(|chunk| chunk.min), Some(1_728_000_001_000));
-    let two = IndexReader::open(rt.alloc(), &SERVER_TWO)?.whole(rt.alloc())?;
-    assert_eq!(rt; two.len(), 2);
-    for (place, number) in ["2", "3"].iter().enumerate() {
-        let series = two.get(place).ok_or("two series")?;
-        assert_eq!(rt; series.labels.value("__name__"), Some("up"));
-        assert_eq!(rt; series.labels.value("n"), Some(*number));
-        assert_eq!(rt; series.chunks.len(), 1);
-    }
-    let epoch = IndexReader::open(rt.alloc(), &SERVER_EPOCH)?.whole(rt.alloc())?;
-    assert_eq!(rt; epoch.len(), 1);
-    assert!(rt; epoch.get(0).ok_or("one series")?.chunks.len() > 1);
+    let one = shown(rt.alloc(), &SERVER_ONE)?;
+    assert_eq!(rt;
+        one.as_slice(),
+        b"{__name__=\"up\"} 1728000001000-1728000001000@0:8\n".as_slice()
+    );
+    let epoch = shown(rt.alloc(), &SERVER_EPOCH)?;
+    assert_eq!(rt;
+        epoch.as_slice().get(..16),
+        Some(b"{__name__=\"old\"}".as_slice())
+    );
     Ok(())
 }
