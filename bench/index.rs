@@ -7,7 +7,7 @@ unsafe extern "C" {
     fn index_whole(bytes: *const u8, count: usize) -> u64;
 }
 
-fn put_uvarint(out: &mut Vec<u8>, mut n: u64) {
+fn put_number(out: &mut Vec<u8>, mut n: u64) {
     while n > 127 {
         out.push((n & 127 | 128) as u8);
         n >>= 7;
@@ -16,7 +16,7 @@ fn put_uvarint(out: &mut Vec<u8>, mut n: u64) {
 }
 
 fn put_text(out: &mut Vec<u8>, text: &str) {
-    put_uvarint(out, text.len() as u64);
+    put_number(out, text.len() as u64);
     out.extend_from_slice(text.as_bytes());
 }
 
@@ -70,20 +70,20 @@ fn index_of(count: usize) -> Vec<u8> {
         let number = (out.len() / 16) as u32;
         rows.entry(("", "")).or_default().push(number);
         let mut content = vec![];
-        put_uvarint(&mut content, labels.len() as u64);
+        put_number(&mut content, labels.len() as u64);
         for (name, value) in labels {
-            put_uvarint(&mut content, symbols[name.as_str()]);
-            put_uvarint(&mut content, symbols[value.as_str()]);
+            put_number(&mut content, symbols[name.as_str()]);
+            put_number(&mut content, symbols[value.as_str()]);
             rows.entry((name, value)).or_default().push(number);
         }
-        put_uvarint(&mut content, 4);
+        put_number(&mut content, 4);
         for chunk in 0..4u64 {
-            put_uvarint(&mut content, if chunk == 0 { 2 * 1_728_000_000_000 } else { 15_000 });
-            put_uvarint(&mut content, 1_785_000);
+            put_number(&mut content, if chunk == 0 { 2 * 1_728_000_000_000 } else { 15_000 });
+            put_number(&mut content, 1_785_000);
             let place = 8 + i as u64 * 400;
-            put_uvarint(&mut content, if chunk == 0 { place } else { 200 });
+            put_number(&mut content, if chunk == 0 { place } else { 200 });
         }
-        put_uvarint(&mut out, content.len() as u64);
+        put_number(&mut out, content.len() as u64);
         out.extend_from_slice(&content);
         out.extend_from_slice(&crc_slice8(&crc_tables(), &content).to_be_bytes());
     }
@@ -106,7 +106,7 @@ fn index_of(count: usize) -> Vec<u8> {
         content.push(2);
         put_text(&mut content, name);
         put_text(&mut content, value);
-        put_uvarint(&mut content, *place);
+        put_number(&mut content, *place);
     }
     put_section(&mut out, &content);
     let mut content = vec![];
