@@ -1,7 +1,6 @@
 -- Series with their labels: what is read is in the grammar, and what is in the grammar is read.
-use Rattle.std.proofs.Common.{◌≡◌, ◌≢◌, ℕ, zero, suc, ◌+◌, ◌*◌, ◌<◌, ◌≤◌, Bool, true, false, List, [], ◌∷◌, length, map, Option, Some, None, Result, Ok, Err, refl, sym, ap, subst, ◌∙◌, arith}
-use Rattle.std.specs.Prelude.{slice_get, nat_lt}
-use Rattle.std.specs.declared.cmp.Ordering.TheVariants.{Less}
+use Rattle.std.proofs.Common.{◌≡◌, ◌≢◌, ℕ, ◌+◌, ◌*◌, ◌<◌, List, [], ◌∷◌, length, map, Some, Ok, refl, subst, arith}
+use Rattle.std.specs.Prelude.{slice_get}
 use Rattle.std.proofs.lemmas.Bool.{lt-ltb}
 use Rattle.reading_core.specs.Reading.{◌>>=◌, refused_as}
 use Rattle.reading_core.specs.Grammar.{IsBytes}
@@ -11,17 +10,15 @@ use Rattle.label_sets.specs.Labels.{compare_texts, ComesBefore, StandsBefore, Is
 use Rattle.label_sets.proofs.LabelValues.{StandsBefore-trans}
 use Rattle.index_parts.specs.declared.refusal.PartRefusal.{PartRefusal}
 use Rattle.index_parts.specs.declared.raw_series.RawSeries.{RawSeries}
-use Rattle.index_parts.specs.SeriesEntry.{IsSeries}
 use Rattle.index_parts.specs.SeriesReading.{series_at, label_places_at}
 use Rattle.index_parts.proofs.SeriesLaws.{series_found, series_again}
 use Rattle.index_v2.specs.declared.index_series.IndexSeries.{IndexSeries}
 use Rattle.index_v2.specs.declared.label_fault.LabelFault.{LabelFault}
-use Rattle.index_v2.specs.declared.refusal.IndexRefusal.{IndexRefusal}
 use Rattle.index_v2.specs.Opening.{refused_of}
 use Rattle.index_v2.specs.SeriesLabels.{label_of, labels_of, fault_at, labelled_at, numbered_at}
 use Rattle.index_v2.specs.IndexFile.{StandFor, IsSeriesOf}
-use Rattle.index_v2.proofs.LabelReading.{IsLabelOf, label_parts, lt_from_less}
-use Rattle.index_v2.proofs.LabelPlaces.{places_known, labelled_found}
+use Rattle.index_v2.proofs.LabelReading.{label_parts, lt_from_less}
+use Rattle.index_v2.proofs.LabelPlaces.{labelled_found}
 
 -- ---- label sets as chains
 

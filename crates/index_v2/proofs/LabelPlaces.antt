@@ -1,5 +1,5 @@
 -- Where a series' symbol numbers stand, in a series that can be read.
-use Rattle.std.proofs.Common.{◌≡◌, ℕ, zero, suc, List, [], ◌∷◌, map, Result, Ok, Err, refl, sym, ap, ◌∙◌, ◌⊎◌, inl, inr}
+use Rattle.std.proofs.Common.{◌≡◌, ℕ, zero, suc, List, [], ◌∷◌, map, Ok, Err, refl, sym, ap, ◌∙◌, ◌⊎◌, inl, inr}
 use Rattle.reading_core.specs.Reading.{◌>>=◌}
 use Rattle.reading_core.specs.Members.{members_at}
 use Rattle.reading_core.proofs.Binds.{bind_ok, ok_is}

@@ -1,5 +1,5 @@
 -- The numbers of a postings list.
-use Rattle.std.proofs.Common.{◌≡◌, ℕ, zero, suc, ◌+◌, ◌^◌, ◌<◌, ◌≤◌, List, [], ◌∷◌, length, get_or, Option, Some, None, arith, lit<}
+use Rattle.std.proofs.Common.{ℕ, zero, suc, ◌^◌, ◌<◌, List, [], ◌∷◌, length, get_or, Option, Some, None, arith, lit<}
 use Rattle.index_parts.specs.Turns.{AreInTurn}
 use Rattle.index_parts.specs.Postings.{IsNextPosting, IsPostings}
 use Rattle.index_v2.specs.RowOrder.{DoRise, AreSmall}

@@ -1,6 +1,6 @@
 -- What is opened is in the grammar, and what is in the grammar is opened.
-use Rattle.std.proofs.Common.{◌≡◌, ℕ, zero, suc, ◌<◌, ◌≤◌, Bool, true, false, cond, leb, eqb, List, [], ◌∷◌, length, take, get_or, Result, Ok, Err, refl, sym, ap, subst, ◌∙◌, arith}
-use Rattle.std.specs.Prelude.{◌==◌, nat_le, nat_eq, slice_index, MatchBool}
+use Rattle.std.proofs.Common.{◌≡◌, ℕ, ◌≤◌, Bool, true, false, List, [], ◌∷◌, length, take, Result, Ok, refl, sym, ap, subst, ◌∙◌, arith}
+use Rattle.std.specs.Prelude.{◌==◌, nat_le, nat_eq, slice_index}
 use Rattle.std.specs.List.{starts_with}
 use Rattle.std.proofs.lemmas.Bool.{eqb-true, eq-eqb, leb-true, le-leb}
 use Rattle.std.specs.Cmp.Lexicographic.{bytes_decides}
@@ -10,7 +10,6 @@ use Rattle.reading_core.proofs.Binds.{bind_ok, unless_ok, refused_as_ok, ok_is}
 use Rattle.index_parts.specs.declared.toc.Toc.{Toc}
 use Rattle.index_parts.specs.declared.refusal.PartRefusal.{PartRefusal}
 use Rattle.index_parts.specs.declared.refusal.PartRefusal.TheVariants as part
-use Rattle.index_parts.specs.declared.postings_row.PostingsRow.{PostingsRow}
 use Rattle.index_parts.specs.Contents.{IsToc}
 use Rattle.index_parts.specs.ContentsReading.{toc_at}
 use Rattle.index_parts.specs.Symbols.{IsSymbols, IsNextSymbol}

@@ -1,9 +1,9 @@
 -- A postings list that is asked for, in an index of a list of series.
-use Rattle.std.proofs.Common.{◌≡◌, ◌≢◌, ℕ, zero, suc, Bool, true, false, cond, List, [], ◌∷◌, map, Option, Some, None, Result, Ok, Err, refl, sym, ap, subst, ◌∙◌, ◌⊎◌, inl, inr}
-use Rattle.std.specs.Prelude.{slice_get, find, ◌&&◌, IfOk}
+use Rattle.std.proofs.Common.{◌≡◌, ℕ, zero, suc, Bool, true, false, List, [], ◌∷◌, map, Option, Some, None, Result, Ok, refl, sym, ap, subst, ◌∙◌, inl, inr}
+use Rattle.std.specs.Prelude.{slice_get, find}
 use Rattle.std.specs.Str.{bytes_eq}
 use Rattle.std.specs.Cmp.Lexicographic.{bytes_decides}
-use Rattle.reading_core.specs.Reading.{refused_as, Gives}
+use Rattle.reading_core.specs.Reading.{refused_as}
 use Rattle.reading_core.proofs.Binds.{refused_as_ok, ok_is}
 use Rattle.label_sets.specs.declared.label.Label.{Label}
 use Rattle.label_sets.proofs.LabelValues.{bytes_eq_self}
@@ -15,11 +15,10 @@ use Rattle.index_parts.proofs.ListLaws.{list_again}
 use Rattle.index_parts.proofs.PostingsLaws.{posting_turn}
 use Rattle.index_v2.specs.declared.index_series.IndexSeries.{IndexSeries}
 use Rattle.index_v2.specs.declared.refusal.IndexRefusal.{IndexRefusal}
-use Rattle.index_v2.specs.declared.refusal.IndexRefusal.TheVariants.{NoMemory}
 use Rattle.index_v2.specs.Opened.{Opened}
 use Rattle.index_v2.specs.Opening.{refused_in, opened_at}
 use Rattle.index_v2.specs.PostingsLists.{is_row_of, row_of, list_of, postings_of}
-use Rattle.index_v2.specs.IndexFile.{Has, BelongsTo, IsListOf, AreListed, HasRow, IsIndex, AreNumbersOf, Holds}
+use Rattle.index_v2.specs.IndexFile.{Has, BelongsTo, AreListed, HasRow, IsIndex, AreNumbersOf, Holds}
 use Rattle.index_v2.proofs.OpeningLaws.{opened_again}
 use Rattle.index_v2.proofs.Members.{same_some, and_both}
 use Rattle.index_v2.proofs.WholeLaws.{ok_same, first_is_empty}

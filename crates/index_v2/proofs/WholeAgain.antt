@@ -1,34 +1,29 @@
 -- The list of an index's bytes is read as a whole.
-use Rattle.std.proofs.Common.{◌≡◌, ◌≢◌, ℕ, zero, suc, ◌+◌, ◌*◌, ◌<◌, ◌≤◌, Bool, true, false, eqb, List, [], ◌∷◌, length, map, zip, Option, Some, None, Result, Ok, Err, refl, sym, ap, subst, ◌∙◌, arith, ◌⊎◌, inl, inr}
+use Rattle.std.proofs.Common.{◌≡◌, ℕ, ◌<◌, List, [], ◌∷◌, length, map, zip, Some, None, Ok, refl, sym, ap, subst, ◌∙◌, ◌⊎◌, inl, inr}
 use Rattle.std.specs.Prelude.{slice_get}
-use Rattle.std.specs.List.{list_any, list_all}
-use Rattle.std.specs.declared.cmp.Ordering.{Ordering}
-use Rattle.std.specs.declared.cmp.Ordering.TheVariants.{Less, Equal, Greater}
+use Rattle.std.specs.declared.cmp.Ordering.TheVariants.{Less, Equal}
 use Rattle.std.proofs.lemmas.Cmp.{tied_itself, alike_right}
-use Rattle.reading_core.specs.Reading.{◌>>=◌, ◌>>◌}
 use Rattle.label_sets.specs.declared.label.Label.{Label}
 use Rattle.index_parts.specs.declared.toc.Toc.{Toc}
 use Rattle.index_parts.specs.declared.postings_row.PostingsRow.{PostingsRow}
-use Rattle.index_parts.specs.Rows.{compare_rows, IsPostingsTable}
+use Rattle.index_parts.specs.Rows.{IsPostingsTable}
 use Rattle.index_parts.specs.Postings.{IsNextPosting}
 use Rattle.index_parts.specs.PostingsReading.{posting_at, postings_at}
 use Rattle.index_parts.proofs.ListLaws.{list_again}
 use Rattle.index_parts.proofs.PostingsLaws.{posting_turn}
 use Rattle.index_v2.specs.declared.index_series.IndexSeries.{IndexSeries}
-use Rattle.index_v2.specs.declared.refusal.IndexRefusal.{IndexRefusal}
 use Rattle.index_v2.specs.Opened.{Opened}
 use Rattle.index_v2.specs.Opening.{opened_at}
 use Rattle.index_v2.specs.RowOrder.{compare_row, AreAscending}
 use Rattle.index_v2.specs.PostingsLists.{row_of, list_of, postings_of}
-use Rattle.index_v2.specs.SeriesLabels.{numbered_at}
-use Rattle.index_v2.specs.WholeReading.{present_at, all_at, lists_at, is_of_row, stray_from, gap_from, gap_among, difference, whole_at}
-use Rattle.index_v2.specs.IndexFile.{Has, BelongsTo, IsListOf, IsSeriesOf, IsIndex, Holds}
+use Rattle.index_v2.specs.WholeReading.{present_at, all_at, lists_at, is_of_row, stray_from, gap_among, difference, whole_at}
+use Rattle.index_v2.specs.IndexFile.{Has, BelongsTo, IsIndex, Holds}
 use Rattle.index_v2.proofs.RowPlaces.{rows_total}
 use Rattle.index_v2.proofs.ValuesListed.{same_compare}
 use Rattle.index_v2.proofs.OpeningLaws.{opened_again}
 use Rattle.index_v2.proofs.LabelLaws.{numbered_again}
 use Rattle.index_v2.proofs.Members.{same_some, has_all, zipped, length_firsts}
-use Rattle.index_v2.proofs.WholeParts.{AreRead, all_again, AreLists, lists_found, lists_again, stray_again, HasPlace, gaps_again, gap_from_again}
+use Rattle.index_v2.proofs.WholeParts.{AreRead, all_again, AreLists, lists_found, lists_again, stray_again, gaps_again, gap_from_again}
 use Rattle.index_v2.proofs.WholeLaws.{rows_ascend, numbers_again, present_again, ArePresent, of_row_again, belongs_again, number_has, ok_same}
 
 read_row : (index : List ℕ) (list : List IndexSeries) (is : IsIndex index list) (row : PostingsRow) (has : Has is.opened.rows row) → postings_at index row.offset ≡ Ok (is.rows_are row has).numbers

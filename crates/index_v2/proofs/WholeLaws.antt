@@ -1,13 +1,12 @@
 -- What is read as a whole is the list of the bytes, and the list of the bytes is read.
-use Rattle.std.proofs.Common.{◌≡◌, ◌≢◌, ℕ, zero, suc, ◌+◌, ◌*◌, ◌<◌, ◌≤◌, Bool, true, false, cond, eqb, ltb, List, [], ◌∷◌, length, map, zip, Option, Some, None, Result, Ok, Err, refl, sym, ap, subst, ◌∙◌, arith, ◌⊎◌, inl, inr}
-use Rattle.std.specs.Prelude.{slice_get, find, ◌&&◌, ◌==◌, nat_lt}
-use Rattle.std.specs.List.{list_any, list_all}
+use Rattle.std.proofs.Common.{◌≡◌, ◌≢◌, ℕ, zero, suc, Bool, true, false, cond, eqb, List, [], ◌∷◌, length, zip, Option, Some, None, Result, Ok, Err, refl, sym, ap, subst, ◌∙◌, arith, ◌⊎◌, inl, inr}
+use Rattle.std.specs.Prelude.{slice_get, ◌&&◌, ◌==◌, nat_lt}
+use Rattle.std.specs.List.{list_any}
 use Rattle.std.specs.Str.{bytes_eq}
-use Rattle.std.specs.declared.cmp.Ordering.{Ordering}
-use Rattle.std.specs.declared.cmp.Ordering.TheVariants.{Less, Equal, Greater}
+use Rattle.std.specs.declared.cmp.Ordering.TheVariants.{Equal}
 use Rattle.std.specs.Cmp.Lexicographic.{bytes_decides}
-use Rattle.std.proofs.lemmas.Bool.{cases_order, lt-ltb, ltb-true, eq-eqb, eqb-true, ne_eqb}
-use Rattle.std.proofs.lemmas.Cmp.{tied_itself, tied_back, alike_right}
+use Rattle.std.proofs.lemmas.Bool.{cases_order, lt-ltb, ltb-true, eq-eqb, eqb-true}
+use Rattle.std.proofs.lemmas.Cmp.{tied_itself, tied_back}
 use Rattle.std.proofs.lemmas.List.{nil_from_length}
 use Rattle.reading_core.specs.Reading.{◌>>=◌, ◌>>◌, unless, refused_as}
 use Rattle.reading_core.specs.Grammar.{IsBytes}
@@ -20,7 +19,7 @@ use Rattle.index_parts.specs.declared.toc.Toc.{Toc}
 use Rattle.index_parts.specs.declared.postings_row.PostingsRow.{PostingsRow}
 use Rattle.index_parts.specs.Turns.{AreInTurn}
 use Rattle.index_parts.specs.Rows.{compare_rows, IsNextRow, IsPostingsTable}
-use Rattle.index_parts.specs.Postings.{IsPostings, IsNextPosting}
+use Rattle.index_parts.specs.Postings.{IsNextPosting}
 use Rattle.index_parts.specs.PostingsReading.{posting_at, postings_at}
 use Rattle.index_parts.proofs.ListLaws.{list_found, list_again}
 use Rattle.index_parts.proofs.PostingsLaws.{posting_turn}
@@ -28,18 +27,16 @@ use Rattle.index_v2.specs.declared.index_series.IndexSeries.{IndexSeries}
 use Rattle.index_v2.specs.declared.refusal.IndexRefusal.{IndexRefusal}
 use Rattle.index_v2.specs.declared.refusal.IndexRefusal.TheVariants.{BadSection}
 use Rattle.index_v2.specs.Opened.{Opened}
-use Rattle.index_v2.specs.Opening.{refused_in, opened_at}
-use Rattle.index_v2.specs.SeriesLabels.{numbered_at}
-use Rattle.index_v2.specs.RowOrder.{compare_row, AreAscending}
-use Rattle.index_v2.specs.PostingsLists.{is_row_of, row_of, list_of, postings_of}
-use Rattle.index_v2.specs.WholeReading.{present_at, all_at, lists_at, belongs, has_value, is_of_row, stray_from, gap_from, gap_among, earlier, difference, unless_differ, whole_at}
-use Rattle.index_v2.specs.IndexFile.{Has, BelongsTo, IsListOf, AreListed, HasRow, Holds, IsOpened, IsSeriesOf, IsIndex}
+use Rattle.index_v2.specs.Opening.{refused_in}
+use Rattle.index_v2.specs.RowOrder.{AreAscending}
+use Rattle.index_v2.specs.PostingsLists.{row_of, list_of, postings_of}
+use Rattle.index_v2.specs.WholeReading.{present_at, all_at, lists_at, belongs, has_value, is_of_row, stray_from, gap_among, earlier, difference, unless_differ, whole_at}
+use Rattle.index_v2.specs.IndexFile.{Has, BelongsTo, IsListOf, AreListed, HasRow, Holds, IsOpened, IsIndex}
 use Rattle.index_v2.proofs.RowPlaces.{rows_total, table_ascends, no_rows_ascend, equal_row}
 use Rattle.index_v2.proofs.ValuesListed.{same_compare}
-use Rattle.index_v2.proofs.OpeningLaws.{opened_found, opened_again}
-use Rattle.index_v2.proofs.LabelLaws.{numbered_found, numbered_again}
-use Rattle.index_v2.proofs.Members.{same_some, and_both, any_has, has_any, all_has, has_all, firsts, seconds, zipped, length_firsts}
-use Rattle.index_v2.proofs.WholeParts.{AreRead, all_found, all_again, AreLists, lists_found, lists_again, stray_found, stray_again, HasPlace, gaps_found, gaps_again, gap_from_again}
+use Rattle.index_v2.proofs.LabelLaws.{numbered_found}
+use Rattle.index_v2.proofs.Members.{same_some, and_both, any_has, has_any, all_has, firsts, seconds}
+use Rattle.index_v2.proofs.WholeParts.{all_found, AreLists, lists_found, stray_found, gaps_found}
 
 -- ---- which row a series belongs to
 

@@ -1,34 +1,26 @@
 -- The parts of reading a whole index, each against what it says of its members.
-use Rattle.std.proofs.Common.{◌≡◌, ◌≢◌, ℕ, zero, suc, ◌+◌, ◌*◌, ◌<◌, ◌≤◌, Bool, true, false, cond, eqb, ltb, List, [], ◌∷◌, length, map, zip, Option, Some, None, Result, Ok, Err, refl, sym, ap, subst, ◌∙◌, arith, ◌⊎◌, inl, inr}
-use Rattle.std.specs.Prelude.{slice_get, find, ◌&&◌, ◌==◌, nat_lt}
+use Rattle.std.proofs.Common.{◌≡◌, ℕ, zero, suc, ◌+◌, ◌*◌, ◌<◌, Bool, true, false, cond, eqb, List, [], ◌∷◌, length, zip, Option, Some, None, Ok, refl, sym, ap, subst, ◌∙◌, arith}
+use Rattle.std.specs.Prelude.{slice_get}
 use Rattle.std.specs.List.{list_any, list_all}
-use Rattle.std.specs.Str.{bytes_eq}
-use Rattle.std.specs.Ordering.{is_lt}
 use Rattle.std.specs.declared.cmp.Ordering.{Ordering}
 use Rattle.std.specs.declared.cmp.Ordering.TheVariants.{Less, Equal, Greater}
-use Rattle.std.proofs.lemmas.Bool.{cases_order, lt-ltb, ltb-true, eq-eqb, eqb-true}
-use Rattle.std.proofs.lemmas.Cmp.{tied_itself}
 use Rattle.reading_core.specs.Reading.{◌>>=◌, ◌>>◌, unless, refused_as}
-use Rattle.reading_core.specs.Grammar.{IsBytes}
 use Rattle.reading_core.proofs.Binds.{bind_ok, unless_ok, refused_as_ok, ok_is}
 use Rattle.label_sets.specs.declared.label.Label.{Label}
-use Rattle.label_sets.specs.Labels.{compare_sets, value_of, IsLabelSet}
+use Rattle.label_sets.specs.Labels.{compare_sets}
 use Rattle.index_parts.specs.declared.refusal.PartRefusal.TheVariants as part
-use Rattle.index_parts.specs.declared.toc.Toc.{Toc}
 use Rattle.index_parts.specs.declared.postings_row.PostingsRow.{PostingsRow}
-use Rattle.index_parts.specs.Rows.{compare_rows}
 use Rattle.index_parts.specs.PostingsReading.{postings_at}
 use Rattle.index_v2.specs.declared.index_series.IndexSeries.{IndexSeries}
 use Rattle.index_v2.specs.declared.refusal.IndexRefusal.{IndexRefusal}
-use Rattle.index_v2.specs.declared.refusal.IndexRefusal.TheVariants.{BadSection, BadSeries}
+use Rattle.index_v2.specs.declared.refusal.IndexRefusal.TheVariants.{BadSeries}
 use Rattle.index_v2.specs.Opening.{refused_in}
 use Rattle.index_v2.specs.SeriesLabels.{numbered_at}
-use Rattle.index_v2.specs.RowOrder.{compare_row, AreAscending}
-use Rattle.index_v2.specs.WholeReading.{present_at, may_stand_behind, behind_at, all_at, lists_at, is_of_row, stray_from, gap_from, gap_of, gap_among, earlier, by_order}
+use Rattle.index_v2.specs.RowOrder.{compare_row}
+use Rattle.index_v2.specs.WholeReading.{may_stand_behind, behind_at, all_at, lists_at, is_of_row, stray_from, gap_from, gap_of, gap_among, earlier, by_order}
 use Rattle.index_v2.specs.IndexFile.{Has, Ascend}
-use Rattle.index_v2.proofs.RowPlaces.{rows_total}
 use Rattle.index_v2.proofs.LabelReading.{lt_from_less, less_from_lt}
-use Rattle.index_v2.proofs.Members.{same_some, any_has}
+use Rattle.index_v2.proofs.Members.{same_some}
 
 -- ---- the series in order
 

@@ -1,5 +1,5 @@
 -- What opening an index gives, or the first refusal.
-use Rattle.std.specs.Prelude.{ℕ, List, [], ◌∷◌, length, nat_eq, slice_index, Result, Ok, Err, ◌==◌, nat_le, if◌then◌else◌}
+use Rattle.std.specs.Prelude.{ℕ, List, [], ◌∷◌, length, nat_eq, slice_index, Result, Ok, ◌==◌, nat_le, if◌then◌else◌}
 use Rattle.std.specs.List.{starts_with}
 use Rattle.reading_core.specs.Reading.{◌>>=◌, ◌>>◌, unless, refused_as}
 use Rattle.index_parts.specs.declared.refusal.PartRefusal.{PartRefusal}

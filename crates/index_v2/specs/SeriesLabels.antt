@@ -1,6 +1,6 @@
 -- What reading a series gives, or the first refusal: first the series' own bytes, and then its symbol numbers from left to
 -- right.
-use Rattle.std.specs.Prelude.{ℕ, ◌+◌, ◌*◌, List, [], ◌∷◌, length, slice_get, Option, Some, None, option_map, unwrap_or, Result, Ok, Err, nat_lt}
+use Rattle.std.specs.Prelude.{ℕ, ◌+◌, ◌*◌, List, [], ◌∷◌, length, slice_get, option_map, unwrap_or, Result, Ok, nat_lt}
 use Rattle.std.specs.Ordering.{is_lt}
 use Rattle.std.specs.Option.{ok_or}
 use Rattle.reading_core.specs.Reading.{◌>>=◌, ◌>>◌, unless, refused_as}

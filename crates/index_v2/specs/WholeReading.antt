@@ -1,5 +1,5 @@
 -- What reading a whole index gives, or the first refusal.
-use Rattle.std.specs.Prelude.{◌≡◌, ℕ, ◌+◌, ◌*◌, ◌-◌, List, [], ◌∷◌, length, map, zip, slice_get, Option, Some, None, option_map, Bool, true, false, ◌&&◌, Result, Ok, Err, ◌==◌, nat_lt, min, if◌then◌else◌}
+use Rattle.std.specs.Prelude.{ℕ, ◌+◌, ◌*◌, List, [], ◌∷◌, length, zip, Option, Some, None, Bool, true, false, ◌&&◌, Result, Ok, Err, ◌==◌, nat_lt, min, if◌then◌else◌}
 use Rattle.std.specs.List.{list_any, list_all}
 use Rattle.std.specs.Str.{bytes_eq}
 use Rattle.std.specs.declared.cmp.Ordering.{Ordering}

@@ -1,4 +1,4 @@
-use Rattle.std.proofs.Common.{sym, ap, ◌∙◌, Bool, cond, Option, Some, None, ℕ}
+use Rattle.std.proofs.Common.{sym, ap, ◌∙◌, Bool, cond, Some, None}
 use Rattle.index_v2.proofs.Differences.{gap_found, gap_missing}
 use Rattle.index_v2.proofs.difference.gap_at.Goals as goal
 
