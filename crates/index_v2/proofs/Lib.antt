@@ -1,0 +1,15 @@
+pub mod RowPlaces
+pub mod LabelReading
+pub mod LabelPlaces
+pub mod RowsFound
+pub mod ValuesListed
+pub mod WholeLoops
+pub mod Differences
+pub mod ListNumbers
+pub mod OpeningLaws
+pub mod LabelLaws
+pub mod Members
+pub mod WholeParts
+pub mod WholeLaws
+pub mod WholeAgain
+pub mod PostingsLaws

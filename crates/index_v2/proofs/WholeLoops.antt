@@ -1,0 +1,139 @@
+-- The loops over listed series and over rows: what was read of the front, and what is left, is the whole.
+use Rattle.std.proofs.Common.{◌≡◌, ℕ, zero, suc, ◌+◌, ◌-◌, ◌<◌, ◌≤◌, List, [], ◌∷◌, ◌++◌, length, drop, get_or, Option, Some, None, Result, Ok, Err, refl, sym, ap, subst, ◌∙◌, arith, add-one, drop-cons, ◌⊎◌, inl, inr}
+use Rattle.std.specs.Prelude.{slice_get, IsErrAnd}
+use Rattle.std.proofs.lemmas.List.{append-nil, drop_all, length-append}
+use Rattle.std.proofs.lemmas.Option.{slice_get_within, get_or_from_slice_get, slice_get_cases}
+use Rattle.reading_core.specs.Reading.{◌>>=◌, refused_as, Gives}
+use Rattle.index_parts.specs.declared.postings_row.PostingsRow.{PostingsRow}
+use Rattle.index_parts.specs.PostingsReading.{postings_at}
+use Rattle.index_v2.specs.declared.index_series.IndexSeries.{IndexSeries}
+use Rattle.index_v2.specs.declared.refusal.IndexRefusal.{IndexRefusal}
+use Rattle.index_v2.specs.Opening.{refused_in}
+use Rattle.index_v2.specs.RowOrder.{DoRise, AllRise}
+use Rattle.index_v2.specs.WholeReading.{behind_at, all_at, lists_at}
+use Rattle.index_v2.proofs.LabelReading.{again, moved}
+
+-- ---- series
+
+abbrev pub last_of : List IndexSeries → Option IndexSeries
+last_of made = slice_get made (length made - 1)
+
+pub record SeriesSoFar (index : List ℕ) (symbols : List (List ℕ)) (numbers : List ℕ) (place : ℕ) (made : List IndexSeries) : Type 0 where
+  pub many : length made ≡ place
+  pub whole : all_at index symbols None numbers ≡ (all_at index symbols (last_of made) (drop place numbers) >>= λ others. Ok (made ++ others))
+
+pub series_start : (index : List ℕ) (symbols : List (List ℕ)) (numbers : List ℕ) → SeriesSoFar index symbols numbers 0 []
+series_start index symbols numbers = record { many = refl; whole = again (all_at index symbols None numbers) }
+
+slice_get_last : (made : List IndexSeries) (one : IndexSeries) (n : ℕ) → n ≡ length made → slice_get (made ++ one ∷ []) n ≡ Some one
+slice_get_last [] one zero e = refl
+slice_get_last [] one (suc n) e = absurd (omega arith)
+slice_get_last (m ∷ made) one zero e = absurd (omega arith)
+slice_get_last (m ∷ made) one (suc n) e = slice_get_last made one n (omega arith)
+
+last_pushed : (made : List IndexSeries) (one : IndexSeries) → last_of (made ++ one ∷ []) ≡ Some one
+last_pushed made one = slice_get_last made one (length (made ++ one ∷ []) - 1) (omega (arith, length-append made (one ∷ [])))
+
+at_front : (xs : List ℕ) (i x : ℕ) → i < length xs → x ≡ get_or xs i 0 → drop i xs ≡ x ∷ drop (i + 1) xs
+at_front xs i x lt e = rw (add-one, e) (drop-cons xs i 0 lt)
+
+one_more : (index : List ℕ) (symbols : List (List ℕ)) (before : Option IndexSeries) (number : ℕ) (numbers : List ℕ) (one : IndexSeries) → behind_at index symbols before number ≡ Ok one → all_at index symbols before (number ∷ numbers) ≡ (all_at index symbols (Some one) numbers >>= λ others. Ok (one ∷ others))
+unfolding all_at
+one_more index symbols before number numbers one e = rw e refl
+
+none_more : (index : List ℕ) (symbols : List (List ℕ)) (before : Option IndexSeries) (number : ℕ) (numbers : List ℕ) (refusal : IndexRefusal) → behind_at index symbols before number ≡ Err refusal → all_at index symbols before (number ∷ numbers) ≡ Err refusal
+unfolding all_at
+none_more index symbols before number numbers refusal e = rw e refl
+
+nothing_left : (index : List ℕ) (symbols : List (List ℕ)) (before : Option IndexSeries) → all_at index symbols before [] ≡ Ok []
+unfolding all_at
+nothing_left index symbols before = refl
+
+pub series_step : (index : List ℕ) (symbols : List (List ℕ)) (numbers : List ℕ) (place next number : ℕ) (made seen new : List IndexSeries) (one : IndexSeries)
+    → SeriesSoFar index symbols numbers place made → place < length numbers → next ≡ place + 1 → number ≡ get_or numbers place 0 → seen ≡ made → behind_at index symbols (last_of seen) number ≡ Ok one → new ≡ made ++ one ∷ [] → SeriesSoFar index symbols numbers next new
+series_step index symbols numbers place next number made seen new one far lt e n s behind pushed =
+    let read : behind_at index symbols (last_of made) number ≡ Ok one = ap (λ (xs : List IndexSeries). behind_at index symbols (last_of xs) number) (sym s) ∙ behind in
+    let front : all_at index symbols (last_of made) (drop place numbers) ≡ (all_at index symbols (Some one) (drop (place + 1) numbers) >>= λ others. Ok (one ∷ others)) = rw (at_front numbers place number lt n) (one_more index symbols (last_of made) number (drop (place + 1) numbers) one read) in
+    let last : all_at index symbols (last_of (made ++ one ∷ [])) (drop (place + 1) numbers) ≡ all_at index symbols (Some one) (drop (place + 1) numbers) = ap (λ (o : Option IndexSeries). all_at index symbols o (drop (place + 1) numbers)) (last_pushed made one) in
+    rw (e, pushed) (record {
+      many = let m = far.many in omega (arith, length-append made (one ∷ []));
+      whole = far.whole ∙ ap (λ (r : Result (List IndexSeries) IndexRefusal). r >>= λ others. Ok (made ++ others)) front ∙ moved (all_at index symbols (Some one) (drop (place + 1) numbers)) one made
+          ∙ ap (λ (r : Result (List IndexSeries) IndexRefusal). r >>= λ others. Ok ((made ++ one ∷ []) ++ others)) (sym last);
+    })
+
+pub series_stop : (index : List ℕ) (symbols : List (List ℕ)) (numbers : List ℕ) (place number : ℕ) (made seen : List IndexSeries) (refusal : IndexRefusal)
+    → SeriesSoFar index symbols numbers place made → place < length numbers → number ≡ get_or numbers place 0 → seen ≡ made → behind_at index symbols (last_of seen) number ≡ Err refusal → all_at index symbols None numbers ≡ Err refusal
+series_stop index symbols numbers place number made seen refusal far lt n s behind =
+    let read : behind_at index symbols (last_of made) number ≡ Err refusal = ap (λ (xs : List IndexSeries). behind_at index symbols (last_of xs) number) (sym s) ∙ behind in
+    let front : all_at index symbols (last_of made) (drop place numbers) ≡ Err refusal = rw (at_front numbers place number lt n) (none_more index symbols (last_of made) number (drop (place + 1) numbers) refusal read) in
+    far.whole ∙ ap (λ (r : Result (List IndexSeries) IndexRefusal). r >>= λ others. Ok (made ++ others)) front
+
+pub series_end : (index : List ℕ) (symbols : List (List ℕ)) (numbers : List ℕ) (place : ℕ) (made : List IndexSeries) → SeriesSoFar index symbols numbers place made → length numbers ≤ place → all_at index symbols None numbers ≡ Ok made
+series_end index symbols numbers place made far le =
+    let front : all_at index symbols (last_of made) (drop place numbers) ≡ Ok [] = rw (drop_all place numbers le) (nothing_left index symbols (last_of made)) in
+    far.whole ∙ ap (λ (r : Result (List IndexSeries) IndexRefusal). r >>= λ others. Ok (made ++ others)) front ∙ ap Ok (append-nil made)
+
+-- ---- lists of rows
+
+pub record ListsSoFar (index : List ℕ) (rows : List PostingsRow) (place : ℕ) (lists : List (List ℕ)) : Type 0 where
+  pub many : length lists ≡ place
+  pub rise : AllRise lists
+  pub whole : lists_at index rows ≡ (lists_at index (drop place rows) >>= λ others. Ok (lists ++ others))
+
+pub lists_start : (index : List ℕ) (rows : List PostingsRow) → ListsSoFar index rows 0 []
+lists_start index rows = record { many = refl; rise = record { each = λ k list at. absurd cc }; whole = again (lists_at index rows) }
+
+pub drop_at : (rows : List PostingsRow) (place : ℕ) (row : PostingsRow) → slice_get rows place ≡ Some row → drop place rows ≡ row ∷ drop (place + 1) rows
+drop_at rows place row at = rw (add-one, ← get_or_from_slice_get rows place row row at) (drop-cons rows place row (slice_get_within rows place row at))
+
+one_list : (index : List ℕ) (row : PostingsRow) (rows : List PostingsRow) (list : List ℕ) → refused_as (refused_in 5) (postings_at index row.offset) ≡ Ok list → lists_at index (row ∷ rows) ≡ (lists_at index rows >>= λ others. Ok (list ∷ others))
+unfolding lists_at
+one_list index row rows list e = rw e refl
+
+no_list : (index : List ℕ) (row : PostingsRow) (rows : List PostingsRow) (refusal : IndexRefusal) → refused_as (refused_in 5) (postings_at index row.offset) ≡ Err refusal → lists_at index (row ∷ rows) ≡ Err refusal
+unfolding lists_at
+no_list index row rows refusal e = rw e refl
+
+no_lists : (index : List ℕ) → lists_at index [] ≡ Ok []
+unfolding lists_at
+no_lists index = refl
+
+slice_get_pushed : (lists : List (List ℕ)) (list one : List ℕ) (k : ℕ) → slice_get (lists ++ list ∷ []) k ≡ Some one → (slice_get lists k ≡ Some one) ⊎ (list ≡ one)
+slice_get_pushed [] list one zero e = inr cc
+slice_get_pushed [] list one (suc k) e = absurd cc
+slice_get_pushed (l ∷ lists) list one zero e = inl e
+slice_get_pushed (l ∷ lists) list one (suc k) e = slice_get_pushed lists list one k e
+
+rise_pushed : (lists : List (List ℕ)) (list : List ℕ) → AllRise lists → DoRise list → AllRise (lists ++ list ∷ [])
+rise_pushed lists list all one = record { each = λ k l at. elim (slice_get_pushed lists list l k at) [ inl before ↦ all.each k l before | inr same ↦ subst DoRise same one ] }
+
+pub lists_step : (index : List ℕ) (rows : List PostingsRow) (place : ℕ) (row : PostingsRow) (lists new : List (List ℕ)) (list : List ℕ)
+    → ListsSoFar index rows place lists → slice_get rows place ≡ Some row → refused_as (refused_in 5) (postings_at index row.offset) ≡ Ok list → DoRise list → new ≡ lists ++ list ∷ [] → ListsSoFar index rows (place + 1) new
+lists_step index rows place row lists new list far at read rises pushed =
+    let front : lists_at index (drop place rows) ≡ (lists_at index (drop (place + 1) rows) >>= λ others. Ok (list ∷ others)) = rw (drop_at rows place row at) (one_list index row (drop (place + 1) rows) list read) in
+    rw pushed (record { many = (let m = far.many in omega (arith, length-append lists (list ∷ []))); rise = rise_pushed lists list far.rise rises; whole = far.whole ∙ ap (λ (r : Result (List (List ℕ)) IndexRefusal). r >>= λ others. Ok (lists ++ others)) front ∙ moved (lists_at index (drop (place + 1) rows)) list lists })
+
+pub lists_stop : (index : List ℕ) (rows : List PostingsRow) (place : ℕ) (row : PostingsRow) (lists : List (List ℕ)) (refusal : IndexRefusal)
+    → ListsSoFar index rows place lists → slice_get rows place ≡ Some row → refused_as (refused_in 5) (postings_at index row.offset) ≡ Err refusal → lists_at index rows ≡ Err refusal
+lists_stop index rows place row lists refusal far at read =
+    let front : lists_at index (drop place rows) ≡ Err refusal = rw (drop_at rows place row at) (no_list index row (drop (place + 1) rows) refusal read) in
+    far.whole ∙ ap (λ (r : Result (List (List ℕ)) IndexRefusal). r >>= λ others. Ok (lists ++ others)) front
+
+pub lists_end : (index : List ℕ) (rows : List PostingsRow) (place : ℕ) (lists : List (List ℕ)) → ListsSoFar index rows place lists → length rows ≤ place → lists_at index rows ≡ Ok lists
+lists_end index rows place lists far le =
+    let front : lists_at index (drop place rows) ≡ Ok [] = rw (drop_all place rows le) (no_lists index) in
+    far.whole ∙ ap (λ (r : Result (List (List ℕ)) IndexRefusal). r >>= λ others. Ok (lists ++ others)) front ∙ ap Ok (append-nil lists)
+
+pub row_within : (rows : List PostingsRow) (place : ℕ) {P : Type 0} → place < length rows → slice_get rows place ≡ None → P
+row_within rows place lt none =
+    elim (slice_get_cases rows place).1 [
+      | inl p ↦ let some = p.2 in absurd cc
+      | inr p ↦ let past = p.0 in absurd (omega arith)
+    ]
+
+-- ---- an exit by `?`
+
+pub gives_stop : {X Y Z E : Type 0} (no_memory : E) (view : X → Y) (r : Result X E) (e : E) (one : Result Z E) (all : Result Y E) → IsErrAnd r (λ d. d ≡ e) → (e ≡ no_memory) ⊎ (one ≡ Err e) → (one ≡ Err e → all ≡ Err e) → Gives no_memory view r all
+gives_stop no_memory view (Ok x) e one all is why then = absurd is
+gives_stop no_memory view (Err d) e one all is (inl out) then = inl (is ∙ out)
+gives_stop no_memory view (Err d) e one all is (inr refused) then = inr (then refused ∙ ap Err (sym is))

@@ -1,0 +1,5 @@
+use Rattle.index_v2.proofs.WholeLoops.{SeriesSoFar}
+use Rattle.index_v2.proofs.whole.all_series.Given as goal
+
+abbrev pub invariant-loop-number : goal.invariant-loop-number
+invariant-loop-number l = SeriesSoFar l.index l.symbols l.numbers l.number-index l.made.items

@@ -1,0 +1,22 @@
+use Rattle.std.proofs.Common.{List}
+use Rattle.index_parts.proofs.ListLaws.{found_from, only_from}
+use Rattle.index_v2.specs.declared.refusal.IndexRefusal.TheVariants.{NoMemory}
+use Rattle.index_v2.specs.declared.index_series.IndexSeries.{IndexSeries}
+use Rattle.index_v2.specs.WholeReading.{whole_at}
+use Rattle.index_v2.specs.Opened.{Opened}
+use Rattle.index_v2.specs.IndexFile.{IsIndex}
+use Rattle.index_v2.proofs.OpeningLaws.{opened_found}
+use Rattle.index_v2.proofs.WholeLaws.{whole_found}
+use Rattle.index_v2.proofs.WholeAgain.{whole_again}
+use Rattle.index_v2.proofs.whole.whole.Goals as goal
+
+pub returns-clause-found : goal.returns-clause-found
+returns-clause-found c =
+    let o : Opened = record { bytes = c.args.index.now; toc = c.args.toc.now; symbols = c.args.symbols.now; rows = c.args.rows.now } in
+    found_from (IsIndex c.args.index.now) NoMemory (λ (xs : List IndexSeries). xs) c.read_whole.result (whole_at o) (λ list e. whole_found o list c.read_whole.ensures.bytes (opened_found c.args.index.now o c.read_whole.ensures.bytes c.requires).1 e)
+    c.read_whole.ensures.exact
+
+pub returns-clause-only : goal.returns-clause-only
+returns-clause-only c =
+    let o : Opened = record { bytes = c.args.index.now; toc = c.args.toc.now; symbols = c.args.symbols.now; rows = c.args.rows.now } in
+    λ list is. only_from NoMemory (λ (xs : List IndexSeries). xs) c.read_whole.result (whole_at o) list (whole_again o list c.requires is) c.read_whole.ensures.exact

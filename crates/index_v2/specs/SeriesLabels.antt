@@ -1,0 +1,53 @@
+-- What reading a series gives, or the first refusal: first the series' own bytes, and then its symbol numbers from left to
+-- right.
+use Rattle.std.specs.Prelude.{ℕ, ◌+◌, ◌*◌, List, [], ◌∷◌, length, slice_get, option_map, unwrap_or, Result, Ok, nat_lt}
+use Rattle.std.specs.Ordering.{is_lt}
+use Rattle.std.specs.Option.{ok_or}
+use Rattle.reading_core.specs.Reading.{◌>>=◌, ◌>>◌, unless, refused_as}
+use Rattle.label_sets.specs.declared.label.Label.{Label}
+use Rattle.label_sets.specs.Labels.{compare_texts}
+use Rattle.index_parts.specs.declared.refusal.PartRefusal.{PartRefusal}
+use Rattle.index_parts.specs.declared.refusal.PartRefusal.TheVariants as part
+use Rattle.index_parts.specs.SeriesReading.{series_at, label_places_at}
+use Rattle.index_v2.specs.declared.index_series.IndexSeries.{IndexSeries}
+use Rattle.index_v2.specs.declared.label_fault.LabelFault.{LabelFault}
+use Rattle.index_v2.specs.declared.label_fault.LabelFault.TheVariants.{Name, Value, NoMemory}
+use Rattle.index_v2.specs.declared.refusal.IndexRefusal.{IndexRefusal}
+use Rattle.index_v2.specs.Opening.{refused_of}
+
+-- the label of this place in the series: the name's number stands for a text above the name before it, and the value's for
+-- one that is not empty
+unfoldable pub label_of : List (List ℕ) → List ℕ → ℕ → ℕ → ℕ → Result Label LabelFault
+label_of symbols before place name value = do
+  name ← ok_or (slice_get symbols name) (Name place)
+  unless (is_lt (compare_texts before name)) (Name place)
+  value ← ok_or (slice_get symbols value) (Value place)
+  unless (nat_lt 0 (length value)) (Value place)
+  Ok (record { name = name; value = value })
+
+-- the labels from this place on
+unfoldable pub labels_of : List (List ℕ) → List ℕ → ℕ → List ℕ → List ℕ → Result (List Label) LabelFault
+labels_of symbols before place [] values = Ok []
+labels_of symbols before place (name ∷ names) [] = Ok []
+labels_of symbols before place (name ∷ names) (value ∷ values) = do
+  label ← label_of symbols before place name value
+  others ← labels_of symbols label.name (place + 1) names values
+  Ok (label ∷ others)
+
+-- where a refused symbol number stands, of the places of each label's two
+abbrev pub fault_at : List (ℕ × ℕ) → LabelFault → PartRefusal
+fault_at places (Name label) = part.Unordered (unwrap_or (option_map (λ (p : ℕ × ℕ). p.0) (slice_get places label)) 0)
+fault_at places (Value label) = part.Unordered (unwrap_or (option_map (λ (p : ℕ × ℕ). p.1) (slice_get places label)) 0)
+fault_at places NoMemory = part.NoMemory
+
+-- the series at a place of the index
+unfoldable pub labelled_at : List ℕ → List (List ℕ) → ℕ → Result IndexSeries PartRefusal
+labelled_at index symbols at = do
+  series ← series_at index at
+  places ← label_places_at index at
+  labels ← refused_as (fault_at places) (labels_of symbols [] 0 series.names series.values)
+  Ok (record { labels = labels; chunks = series.chunks })
+
+-- the series of a number, which stands at sixteen times the number
+abbrev pub numbered_at : List ℕ → List (List ℕ) → ℕ → Result IndexSeries IndexRefusal
+numbered_at index symbols number = refused_as (refused_of number) (labelled_at index symbols (16 * number))

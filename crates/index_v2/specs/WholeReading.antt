@@ -1,0 +1,131 @@
+-- What reading a whole index gives, or the first refusal.
+use Rattle.std.specs.Prelude.{ℕ, ◌+◌, ◌*◌, List, [], ◌∷◌, length, zip, Option, Some, None, Bool, true, false, ◌&&◌, Result, Ok, Err, ◌==◌, nat_lt, min, if◌then◌else◌}
+use Rattle.std.specs.List.{list_any, list_all}
+use Rattle.std.specs.Str.{bytes_eq}
+use Rattle.std.specs.declared.cmp.Ordering.{Ordering}
+use Rattle.std.specs.declared.cmp.Ordering.TheVariants.{Less, Equal, Greater}
+use Rattle.std.specs.Ordering.{is_lt}
+use Rattle.reading_core.specs.Reading.{◌>>=◌, ◌>>◌, unless, refused_as}
+use Rattle.label_sets.specs.declared.label.Label.{Label}
+use Rattle.label_sets.specs.Labels.{compare_sets, value_of}
+use Rattle.index_parts.specs.declared.refusal.PartRefusal.TheVariants as part
+use Rattle.index_parts.specs.declared.toc.Toc.{Toc}
+use Rattle.index_parts.specs.declared.postings_row.PostingsRow.{PostingsRow}
+use Rattle.index_parts.specs.PostingsReading.{postings_at}
+use Rattle.index_v2.specs.declared.index_series.IndexSeries.{IndexSeries}
+use Rattle.index_v2.specs.declared.refusal.IndexRefusal.{IndexRefusal}
+use Rattle.index_v2.specs.declared.refusal.IndexRefusal.TheVariants.{BadSection, BadSeries, PostingsDiffer}
+use Rattle.index_v2.specs.Opened.{Opened}
+use Rattle.index_v2.specs.Opening.{refused_in}
+use Rattle.index_v2.specs.SeriesLabels.{numbered_at}
+use Rattle.index_v2.specs.RowOrder.{compare_row}
+use Rattle.index_v2.specs.PostingsLists.{postings_of}
+
+-- An index that lists a series has symbols, series and postings lists.
+unfoldable pub present_at : Toc → List ℕ → Result (Unit {0}) IndexRefusal
+present_at toc [] = Ok tt
+present_at toc (number ∷ numbers) = do
+  unless (nat_lt 0 toc.symbols) (BadSection 1 (part.Short 0))
+  unless (nat_lt 0 toc.series) (BadSection 2 (part.Short 0))
+  unless (nat_lt 0 toc.postings) (BadSection 5 (part.Short 0))
+  Ok tt
+
+-- ---- the listed series, ascending by their labels
+
+-- whether a series may stand behind another, or first
+abbrev pub may_stand_behind : Option IndexSeries → IndexSeries → Bool
+may_stand_behind None series = true
+may_stand_behind (Some before) series = is_lt (compare_sets before.labels series.labels)
+
+unfoldable pub behind_at : List ℕ → List (List ℕ) → Option IndexSeries → ℕ → Result IndexSeries IndexRefusal
+behind_at index symbols before number = do
+  series ← numbered_at index symbols number
+  unless (may_stand_behind before series) (BadSeries number (part.Unordered (16 * number)))
+  Ok series
+
+unfoldable pub all_at : List ℕ → List (List ℕ) → Option IndexSeries → List ℕ → Result (List IndexSeries) IndexRefusal
+all_at index symbols before [] = Ok []
+all_at index symbols before (number ∷ numbers) = do
+  series ← behind_at index symbols before number
+  others ← all_at index symbols (Some series) numbers
+  Ok (series ∷ others)
+
+-- ---- the postings lists, in the table's order
+
+unfoldable pub lists_at : List ℕ → List PostingsRow → Result (List (List ℕ)) IndexRefusal
+lists_at index [] = Ok []
+lists_at index (row ∷ rows) = do
+  list ← refused_as (refused_in 5) (postings_at index row.offset)
+  others ← lists_at index rows
+  Ok (list ∷ others)
+
+-- ---- where they differ from the series
+
+abbrev pub has_value : List ℕ → Option (List ℕ) → Bool
+has_value value None = false
+has_value value (Some found) = bytes_eq found value
+
+-- whether a series stands in the row of a name and a value: all do in that of the empty pair
+unfoldable pub belongs : List ℕ → List ℕ → IndexSeries → Bool
+belongs name value series =
+    if (length name == 0) && (length value == 0) then true else has_value value (value_of series.labels name)
+
+-- a number of a listed series that stands in the row
+abbrev pub is_of_row : List (ℕ × IndexSeries) → PostingsRow → ℕ → Bool
+is_of_row listed row number = list_any (λ (one : ℕ × IndexSeries). (one.0 == number) && belongs row.name row.value one.1) listed
+
+-- the place of the first row, from this one on, whose list has another number
+unfoldable pub stray_from : ℕ → List PostingsRow → List (List ℕ) → List (ℕ × IndexSeries) → Option ℕ
+stray_from place [] lists listed = None
+stray_from place (row ∷ rows) [] listed = None
+stray_from place (row ∷ rows) (list ∷ lists) listed =
+    if list_all (is_of_row listed row) list then stray_from (place + 1) rows lists listed else Some place
+
+abbrev pub by_order : Ordering → Option ℕ → Option ℕ → Option ℕ → Option ℕ
+by_order Less further here missing = further
+by_order Equal further here missing = here
+by_order Greater further here missing = missing
+
+-- the place of a label's row where its list lacks a number, or where the row is missing the place where it would stand
+unfoldable pub gap_from : ℕ → List PostingsRow → List (List ℕ) → ℕ → Label → Option ℕ
+gap_from place [] lists number label = Some place
+gap_from place (row ∷ rows) [] number label = Some place
+gap_from place (row ∷ rows) (list ∷ lists) number label =
+    by_order (compare_row row label.name label.value) (gap_from (place + 1) rows lists number label) (if list_any (λ n. n == number) list then None else Some place) (Some place)
+
+-- the lesser of two places, if there is one
+abbrev pub earlier : Option ℕ → Option ℕ → Option ℕ
+earlier None other = other
+earlier (Some one) None = Some one
+earlier (Some one) (Some other) = Some (min one other)
+
+-- the least place of these for a series' labels
+unfoldable pub gap_of : List PostingsRow → List (List ℕ) → ℕ → List Label → Option ℕ
+gap_of rows lists number [] = None
+gap_of rows lists number (label ∷ labels) = earlier (gap_from 0 rows lists number label) (gap_of rows lists number labels)
+
+-- for all series
+unfoldable pub gap_among : List PostingsRow → List (List ℕ) → List (ℕ × IndexSeries) → Option ℕ
+gap_among rows lists [] = None
+gap_among rows lists (one ∷ listed) = earlier (gap_of rows lists one.0 one.1.labels) (gap_among rows lists listed)
+
+-- the least place at which the lists are not exactly those of the series
+abbrev pub difference : List PostingsRow → List (List ℕ) → List (ℕ × IndexSeries) → Option ℕ
+difference rows lists listed = earlier (stray_from 0 rows lists listed) (gap_among rows lists listed)
+
+abbrev pub unless_differ : Option ℕ → Result (Unit {0}) IndexRefusal
+unless_differ None = Ok tt
+unless_differ (Some place) = Err (PostingsDiffer place)
+
+-- ---- the whole
+
+-- the list of all series, absent sections, the series in order, the postings lists in the table's order, and last whether
+-- these are exactly those of the series
+unfoldable pub whole_at : Opened → Result (List IndexSeries) IndexRefusal
+whole_at opened = do
+  numbers ← postings_of opened [] []
+  present_at opened.toc numbers
+  series ← all_at opened.bytes opened.symbols None numbers
+  lists ← lists_at opened.bytes opened.rows
+  unless_differ (difference opened.rows lists (zip numbers series))
+  Ok series

@@ -1,0 +1,133 @@
+ghost use Rattle.std.specs.Prelude.{◌≡◌, ◌⊎◌, slice_get, MatchResult, IfOk, Ok, Err};
+ghost use Rattle.std.specs.Result.{IsOkAnd};
+ghost use Rattle.std.specs.Option.{option_copied};
+ghost use Rattle.reading_core.specs.Reading.{Gives};
+ghost use Rattle.reading_core.specs.Grammar.{IsBytes};
+ghost use Rattle.index_v2.specs.Opening.{opened_at};
+ghost use Rattle.index_v2.specs.SeriesLabels.{numbered_at};
+ghost use Rattle.index_v2.specs.WholeReading.{whole_at};
+ghost use Rattle.index_v2.specs.PostingsLists.{postings_of, values_of};
+
+use crate::opening::contents_of;
+use crate::postings::{list_of, values_of};
+use crate::rows::Rows;
+use crate::series_labels::series_of;
+use crate::symbols::Symbols;
+use crate::whole::whole;
+use crate::{IndexRefusal, IndexSeries, IndexSeriesList};
+use index_parts::Toc;
+use label_sets::TextList;
+use std::alloc::Global;
+use std::marker::Model;
+use wire_bytes::NumberList;
+
+/// An opened index, which lends its bytes.
+#[derive(Drop)]
+pub struct IndexReader<'a> {
+    bytes: &'a [u8],
+    toc: Toc,
+    symbols: Symbols<'a>,
+    rows: Rows<'a>,
+}
+
+impl<'a> Model for IndexReader<'a> {
+    ghost use Rattle.std.specs.Prelude.{◌≡◌, Ok};
+    ghost use Rattle.index_v2.specs.Opened.{Opened};
+    ghost use Rattle.index_v2.specs.Opening.{opened_at};
+
+    ghost Value = { Opened };
+
+    ghost view = { λ r. record { bytes = r.bytes.now; toc = r.toc; symbols = r.symbols; rows = r.rows } };
+
+    ghost invariant = { λ r. opened_at r.bytes.now ≡ Ok (record { bytes = r.bytes.now; toc = r.toc; symbols = r.symbols; rows = r.rows }) };
+}
+
+impl<'a> IndexReader<'a> {
+    ghost use Rattle.std.specs.Prelude.{List};
+    ghost use Rattle.index_v2.specs.Opened.{Opened};
+    ghost use Rattle.index_v2.specs.IndexFile.{IsOpened, IsSeriesOf, IsIndex, AreNumbersOf};
+    ghost use Rattle.index_v2.specs.declared.index_series.IndexSeries.{IndexSeries};
+
+    /// Reads what an index begins and ends with, its symbols and its postings table.
+    pub fn open(alloc: Global, bytes: &'a [u8]) -> Result<IndexReader<'a>, IndexRefusal>
+        // What is opened begins and ends as an index, and what does so is opened.
+        ensures found { IfOk result (λ reader. (reader.bytes ≡ bytes.now) × IsOpened reader) }
+        ensures only { (opened : Opened) → opened.bytes ≡ bytes.now → IsOpened opened → IsOkAnd result (λ reader. reader ≡ opened) ⊎ (result ≡ Err IndexRefusal.NoMemory) }
+
+        // The first refusal.
+        ensures exact { Gives IndexRefusal.NoMemory (λ reader. reader) result (opened_at bytes.now) }
+    {
+        IndexReader::read(alloc, bytes)
+    }
+
+    #[tactic(auto, unfolding(crate::specs::Opening::opened_at))]
+    fn read(alloc: Global, bytes: &'a [u8]) -> Result<IndexReader<'a>, IndexRefusal>
+        ensures bytes { IsBytes bytes.now }
+        ensures exact { Gives IndexRefusal.NoMemory (λ reader. reader) result (opened_at bytes.now) }
+    {
+        let toc = contents_of(bytes)?;
+        let symbols = Symbols::read(alloc, bytes, toc.symbols)?;
+        let rows = Rows::read(alloc, bytes, toc.postings_table)?;
+        Ok(IndexReader {
+            bytes,
+            toc,
+            symbols,
+            rows,
+        })
+    }
+
+    /// The text of a symbol number.
+    pub fn symbol(&self, number: u32) -> Option<&'a str>
+        ensures { option_copied result ≡ slice_get self.now.symbols number }
+    {
+        self.symbols.get(u64::from(number))
+    }
+
+    /// Reads the series of a number, which need not be listed.
+    pub fn series(&self, alloc: Global, number: u32) -> Result<IndexSeries, IndexRefusal>
+        // What is read is what stands there, and what stands there is read.
+        ensures found { IfOk result (λ series. IsSeriesOf self.now.bytes self.now.symbols number series) }
+        ensures only { (series : IndexSeries) → IsSeriesOf self.now.bytes self.now.symbols number series → (result ≡ Ok series) ⊎ (result ≡ Err IndexRefusal.NoMemory) }
+
+        // The first refusal.
+        ensures exact { Gives IndexRefusal.NoMemory (λ series. series) result (numbered_at self.now.bytes self.now.symbols number) }
+    {
+        series_of(alloc, self.bytes, &self.symbols, number)
+    }
+
+    /// The numbers of the series that are listed under a name and a value; two empty texts ask for all series.
+    pub fn postings(
+        &self,
+        alloc: Global,
+        name: &str,
+        value: &str,
+    ) -> Result<NumberList, IndexRefusal>
+        // In an index of a list these are exactly the numbers of its series with this label.
+        ensures agrees { (list : List IndexSeries) (is : IsIndex self.now.bytes list) → IfOk result (λ numbers. AreNumbersOf is.listed name.now value.now numbers) }
+
+        // The first refusal.
+        ensures exact { Gives IndexRefusal.NoMemory (λ numbers. numbers) result (postings_of self.now name.now value.now) }
+    {
+        list_of(alloc, self.bytes, &self.rows, name, value)
+    }
+
+    /// The values that the table lists under a name, ascending.
+    pub fn label_values(&self, alloc: Global, name: &str) -> Result<TextList, IndexRefusal>
+        ensures exact { MatchResult result (λ values. values ≡ values_of self.now.rows name.now) (λ e. e ≡ IndexRefusal.NoMemory) }
+    {
+        Ok(values_of(alloc, &self.rows, name)?)
+    }
+
+    /// Reads every series, ascending by labels, and tests that the postings table and its lists are exactly those of the
+    /// series.
+    pub fn whole(&self, alloc: Global) -> Result<IndexSeriesList, IndexRefusal>
+        // It is read exactly where the bytes are an index of the list.
+        ensures found { IfOk result (λ list. IsIndex self.now.bytes list) }
+        ensures only { (list : List IndexSeries) → IsIndex self.now.bytes list → IsOkAnd result (λ found. found ≡ list) ⊎ (result ≡ Err IndexRefusal.NoMemory) }
+
+        // The first refusal.
+        ensures exact { Gives IndexRefusal.NoMemory (λ list. list) result (whole_at self.now) }
+    {
+        whole(alloc, self.bytes, &self.toc, &self.symbols, &self.rows)
+    }
+}

@@ -1,0 +1,60 @@
+ghost use Rattle.std.specs.Prelude.{◌≡◌, Ok, Err};
+ghost use Rattle.reading_core.specs.Reading.{Answers};
+ghost use Rattle.index_v2.specs.Opening.{refused_in, refused_of, refused_contents, contents_at};
+
+use crate::IndexRefusal;
+use index_parts::{PartRefusal, Toc, read_toc};
+
+/// What an index begins with.
+pub(crate) const MAGIC: [u8; 4] = [0xBA, 0xAA, 0xD7, 0];
+
+pub(crate) const VERSION: u8 = 2;
+
+/// The least length of an index: magic, version and table of contents.
+const LEAST: usize = 57;
+
+/// A refusal of a part, as that of its section.
+pub(crate) fn refused_in(section: u8, refusal: PartRefusal) -> IndexRefusal
+    ensures { result ≡ refused_in section refusal }
+{
+    match refusal {
+        PartRefusal::NoMemory => IndexRefusal::NoMemory,
+        refusal => IndexRefusal::BadSection(section, refusal),
+    }
+}
+
+/// A refusal of a part, as that of a series.
+pub(crate) fn refused_of(number: u32, refusal: PartRefusal) -> IndexRefusal
+    ensures { result ≡ refused_of number refusal }
+{
+    match refusal {
+        PartRefusal::NoMemory => IndexRefusal::NoMemory,
+        refusal => IndexRefusal::BadSeries(number, refusal),
+    }
+}
+
+fn refused_contents(refusal: PartRefusal) -> IndexRefusal
+    ensures { result ≡ refused_contents refusal }
+{
+    match refusal {
+        PartRefusal::BadSum { kept, computed } => IndexRefusal::BadTocSum { kept, computed },
+        refusal => refused_in(0, refusal),
+    }
+}
+
+#[tactic(auto, unfolding(crate::specs::Opening::contents_at))]
+/// The table of contents of an index whose length, magic number and version are right.
+pub(crate) fn contents_of(index: &[u8]) -> Result<Toc, IndexRefusal>
+    ensures { Answers (λ toc. toc) result (contents_at index.now) }
+{
+    if index.len() < LEAST {
+        return Err(IndexRefusal::BadSection(0, PartRefusal::Short(0)));
+    }
+    if !index.starts_with(&MAGIC) {
+        return Err(IndexRefusal::BadMagic);
+    }
+    if index[4] != VERSION {
+        return Err(IndexRefusal::BadVersion);
+    }
+    read_toc(index).map_err(refused_contents)
+}

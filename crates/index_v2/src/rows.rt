@@ -1,0 +1,129 @@
+ghost use Rattle.std.specs.Prelude.{◌≡◌, ◌≤◌, ◌<◌, ◌^◌, length, option_map, slice_get, IfOk, IfErr};
+ghost use Rattle.reading_core.specs.Reading.{Gives};
+ghost use Rattle.index_parts.specs.RowsReading.{postings_table_at};
+ghost use Rattle.index_v2.specs.Opening.{held_at};
+ghost use Rattle.index_v2.specs.RowOrder.{AreAscending, compare_row, IsRowAt, StandsAt, BeginsAt};
+
+use crate::IndexRefusal;
+use crate::opening::refused_in;
+use index_parts::{PostingsTable, read_postings_table};
+use std::alloc::Global;
+use std::cmp::Ordering;
+use std::marker::Model;
+
+/// The number of the section of the postings table.
+const POSTINGS_TABLE: u8 = 6;
+
+/// The rows of an index's postings table, of which there are none where the table is absent.
+#[derive(Drop)]
+pub(crate) struct Rows<'a> {
+    table: Option<PostingsTable<'a>>,
+}
+
+impl<'a> Model for Rows<'a> {
+    ghost use Rattle.std.specs.Prelude.{List, [], unwrap_or, length, ◌<◌, ◌^◌};
+    ghost use Rattle.index_parts.specs.declared.postings_row.PostingsRow.{PostingsRow};
+    ghost use Rattle.index_v2.specs.RowOrder.{AreAscending};
+
+    ghost Value = { List PostingsRow };
+
+    ghost view = { λ r. unwrap_or r.table [] };
+
+    ghost invariant = { λ r. AreAscending (unwrap_or r.table []) × (length (unwrap_or r.table []) < 2 ^ 32) };
+}
+
+impl<'a> Rows<'a> {
+    pub(crate) fn len(&self) -> usize
+        ensures value { result ≡ length self.now }
+        ensures small { length self.now < 2 ^ 32 }
+    {
+        match &self.table {
+            None => 0,
+            Some(table) => table.len(),
+        }
+    }
+
+    /// The name, the value and the place of a row.
+    #[inline(always)]
+    pub(crate) fn get(&self, place: usize) -> Option<(&'a str, &'a str, u64)>
+        ensures { option_map (λ row. record { name = row.0.now; value = row.1.now; offset = row.2 }) result ≡ slice_get self.now place }
+    {
+        match &self.table {
+            None => None,
+            Some(table) => table.get(place),
+        }
+    }
+
+    /// The place of the row of a name and a value, or the place where it would stand.
+    pub(crate) fn place_of(&self, name: &str, value: &str) -> Result<usize, usize>
+        ensures found { IfOk result (λ place. IsRowAt self.now name.now value.now place) }
+        ensures absent { IfErr result (λ place. StandsAt self.now name.now value.now place) }
+        ensures ascending { AreAscending self.now }
+    {
+        match &self.table {
+            None => Err(0),
+            Some(table) => place_of(table, name, value),
+        }
+    }
+
+    /// The place at which the rows of a name begin, or would begin.
+    pub(crate) fn first_of(&self, name: &str) -> usize
+        ensures begins { BeginsAt self.now name.now result }
+        ensures ascending { AreAscending self.now }
+    {
+        match self.place_of(name, "") {
+            Ok(place) => place,
+            Err(place) => place,
+        }
+    }
+
+    /// Reads the rows at a reference.
+    pub(crate) fn read(
+        alloc: Global,
+        index: &'a [u8],
+        reference: u64,
+    ) -> Result<Rows<'a>, IndexRefusal>
+        ensures { Gives IndexRefusal.NoMemory (λ rows. rows) result (held_at 6 postings_table_at index.now reference) }
+    {
+        if reference == 0 {
+            return Ok(Rows { table: None });
+        }
+        match read_postings_table(alloc, index, reference) {
+            Ok(table) => Ok(Rows { table: Some(table) }),
+            Err(refusal) => Err(refused_in(POSTINGS_TABLE, refusal)),
+        }
+    }
+}
+
+/// The order of rows: by name and then by value.
+#[inline(always)]
+fn compare_row(row: (&str, &str, u64), name: &str, value: &str) -> Ordering
+    ensures { result ≡ compare_row (record { name = row.entry.0.now; value = row.entry.1.now; offset = row.entry.2 }) name.now value.now }
+{
+    match row.0.cmp(name) {
+        Ordering::Equal => row.1.cmp(value),
+        order => order,
+    }
+}
+
+/// The place of the row of a name and a value, or the place where it would stand.
+fn place_of(rows: &PostingsTable<'_>, name: &str, value: &str) -> Result<usize, usize>
+    requires { AreAscending rows.now }
+    ensures found { IfOk result (λ place. IsRowAt rows.now name.now value.now place) }
+    ensures absent { IfErr result (λ place. StandsAt rows.now name.now value.now place) }
+{
+    let mut low = 0;
+    let mut high = rows.len();
+    while low < high {
+        let middle = low + (high - low) / 2;
+        let Some(row) = rows.get(middle) else {
+            return Err(low);
+        };
+        match compare_row(row, name, value) {
+            Ordering::Less => low = middle + 1,
+            Ordering::Equal => return Ok(middle),
+            Ordering::Greater => high = middle,
+        }
+    }
+    Err(low)
+}

@@ -1,0 +1,153 @@
+ghost use Rattle.std.specs.Prelude.{◌≡◌, ◌⊎◌, ◌*◌, ◌-◌, ◌^◌, ◌<◌, ℕ, List, [], length, slice_get, slice_index, map, zip, Option, Some, None, Ok, Err, MatchResult, IfOk, IfSome};
+ghost use Rattle.std.specs.Option.{option_copied};
+ghost use Rattle.reading_core.specs.Reading.{Gives, Answers};
+ghost use Rattle.index_parts.specs.declared.toc.Toc.{Toc};
+ghost use Rattle.index_v2.specs.RowOrder.{AreSmall, AllRise};
+ghost use Rattle.std.specs.Result.{IsOkAnd};
+ghost use Rattle.reading_core.specs.Grammar.{IsBytes};
+ghost use Rattle.index_v2.specs.declared.index_series.IndexSeries.{IndexSeries};
+ghost use Rattle.index_v2.specs.Opening.{opened_at};
+ghost use Rattle.index_v2.specs.IndexFile.{IsIndex};
+ghost use Rattle.index_v2.specs.WholeReading.{present_at, may_stand_behind, behind_at, all_at, lists_at, whole_at};
+
+use crate::difference::difference;
+use crate::opening::refused_of;
+use crate::postings::{POSTINGS, list_at, list_of};
+use crate::rows::Rows;
+use crate::series_labels::labelled;
+use crate::symbols::{SYMBOLS, Symbols};
+use crate::{IndexRefusal, IndexSeries, IndexSeriesList};
+use index_parts::{PartRefusal, Toc};
+use list_core::List;
+use std::alloc::Global;
+use std::cmp::Ordering;
+use wire_bytes::NumberList;
+
+/// The number of the section of series.
+const SERIES: u8 = 2;
+
+/// Tests that an index which lists a series has the sections that this needs.
+#[tactic(auto, unfolding(crate::specs::WholeReading::present_at))]
+fn test_present(toc: &Toc, numbers: &[u64]) -> Result<(), IndexRefusal>
+    ensures { Answers (λ x. x) result (present_at toc.now numbers.now) }
+{
+    match numbers {
+        [] => Ok(()),
+        _ if toc.symbols == 0 => Err(absent(SYMBOLS)),
+        _ if toc.series == 0 => Err(absent(SERIES)),
+        _ if toc.postings == 0 => Err(absent(POSTINGS)),
+        _ => Ok(()),
+    }
+}
+
+fn absent(section: u8) -> IndexRefusal
+    ensures { result ≡ IndexRefusal.BadSection section (PartRefusal.Short 0) }
+{
+    IndexRefusal::BadSection(section, PartRefusal::Short(0))
+}
+
+/// Whether a series may stand behind the last of those before it.
+fn may_stand_behind(before: &[IndexSeries], series: &IndexSeries) -> bool
+    ensures { result ≡ may_stand_behind (slice_get before.now (length before.now - 1)) series.now }
+{
+    match before.last() {
+        None => true,
+        Some(last) => last.labels.compare(&series.labels) == Ordering::Less,
+    }
+}
+
+/// Reads the series of a number that stands behind others.
+#[tactic(auto, unfolding(crate::specs::WholeReading::behind_at))]
+fn series_behind(
+    alloc: Global,
+    index: &[u8],
+    symbols: &Symbols<'_>,
+    before: &[IndexSeries],
+    number: u64,
+) -> Result<IndexSeries, IndexRefusal>
+    requires { number < 2 ^ 32 }
+    ensures { Gives IndexRefusal.NoMemory (λ series. series) result (behind_at index.now symbols.now (slice_get before.now (length before.now - 1)) number) }
+{
+    match labelled(alloc, index, symbols, 16 * number) {
+        Ok(series) if may_stand_behind(before, &series) => Ok(series),
+        Ok(_) => Err(IndexRefusal::BadSeries(number as u32, PartRefusal::Unordered(16 * number))),
+        Err(refusal) => Err(refused_of(number as u32, refusal)),
+    }
+}
+
+/// Reads the series of these numbers, which ascend by their labels.
+pub(crate) fn all_series(
+    alloc: Global,
+    index: &[u8],
+    symbols: &Symbols<'_>,
+    numbers: &[u64],
+) -> Result<Vec<IndexSeries>, IndexRefusal>
+    requires { AreSmall numbers.now }
+    ensures as_many { IfOk result (λ series. length series.items ≡ length numbers.now) }
+    ensures exact { Gives IndexRefusal.NoMemory (λ series. series.items) result (all_at index.now symbols.now None numbers.now) }
+{
+    let mut made = Vec::new(alloc);
+    for number in numbers {
+        let series = series_behind(alloc, index, symbols, made.as_slice(), *number)?;
+        made.push(series)?;
+    }
+    Ok(made)
+}
+
+/// Reads the postings lists of all rows.
+pub(crate) fn all_lists(
+    alloc: Global,
+    index: &[u8],
+    rows: &Rows<'_>,
+) -> Result<Vec<NumberList>, IndexRefusal>
+    ensures rise { IfOk result (λ lists. AllRise lists.items) }
+    ensures one_each { IfOk result (λ lists. length lists.items ≡ length rows.now) }
+    ensures exact { Gives IndexRefusal.NoMemory (λ lists. lists.items) result (lists_at index.now rows.now) }
+{
+    let mut lists = Vec::new(alloc);
+    for place in 0..rows.len() {
+        let Some(row) = rows.get(place) else {
+            return Ok(lists);
+        };
+        lists.push(list_at(alloc, index, row.2)?)?;
+    }
+    Ok(lists)
+}
+
+/// Reads every series, and tests that the postings lists are exactly those of the series.
+#[tactic(auto, unfolding(crate::specs::WholeReading::whole_at))]
+fn read_whole(
+    alloc: Global,
+    index: &[u8],
+    toc: &Toc,
+    symbols: &Symbols<'_>,
+    rows: &Rows<'_>,
+) -> Result<IndexSeriesList, IndexRefusal>
+    ensures bytes { IsBytes index.now }
+    ensures exact { Gives IndexRefusal.NoMemory (λ list. list) result (whole_at (record { bytes = index.now; toc = toc.now; symbols = symbols.now; rows = rows.now })) }
+{
+    let numbers = list_of(alloc, index, rows, "", "")?;
+    test_present(toc, numbers.members())?;
+    let series = all_series(alloc, index, symbols, numbers.members())?;
+    let lists = all_lists(alloc, index, rows)?;
+    match difference(rows, lists.as_slice(), numbers.members(), series.as_slice()) {
+        None => Ok(List::from_vec(series)),
+        Some(place) => Err(IndexRefusal::PostingsDiffer(place as u32)),
+    }
+}
+
+/// The series of an opened index, and nothing but an index.
+pub(crate) fn whole(
+    alloc: Global,
+    index: &[u8],
+    toc: &Toc,
+    symbols: &Symbols<'_>,
+    rows: &Rows<'_>,
+) -> Result<IndexSeriesList, IndexRefusal>
+    requires { opened_at index.now ≡ Ok (record { bytes = index.now; toc = toc.now; symbols = symbols.now; rows = rows.now }) }
+    ensures found { IfOk result (λ list. IsIndex index.now list) }
+    ensures only { (list : List IndexSeries) → IsIndex index.now list → IsOkAnd result (λ found. found ≡ list) ⊎ (result ≡ Err IndexRefusal.NoMemory) }
+    ensures exact { Gives IndexRefusal.NoMemory (λ list. list) result (whole_at (record { bytes = index.now; toc = toc.now; symbols = symbols.now; rows = rows.now })) }
+{
+    read_whole(alloc, index, toc, symbols, rows)
+}
