@@ -27,7 +27,7 @@ pub struct Meta {
     pub series: u64,
     pub samples: u64,
     pub chunks: u64,
-    /// How often the block's samples were compacted, from 1.
+    /// How often the block's samples were compacted; a shipped block has 1.
     pub level: u32,
     /// The blocks whose samples it holds.
     pub sources: UlidList,
