@@ -2,15 +2,21 @@
 #![tactic(auto)]
 
 use bucket_core::{FailList, MemoryBucket, MemorySite};
-use replay_cli::{ReaderSource, WriterSink, run_tool};
+use replay_cli::{ReaderSource, Status, WriterSink, run_tool};
 use std::alloc::Global;
 use std::process::ExitCode;
 use std::{env, io};
 
 fn main(rt: HostRuntime) -> ExitCode {
     let alloc = rt.alloc();
-    // words that are no text are no form of a call
-    let words = words_of(alloc, &rt).unwrap_or(Vec::new(alloc));
+    let words = match words_of(alloc, &rt) {
+        Ok(words) => words,
+        Err(error) if error.kind() == io::ErrorKind::OutOfMemory => {
+            return ExitCode::from(Status::NoMemory.number());
+        }
+        // words that are no text are no form of a call
+        Err(_) => Vec::new(alloc),
+    };
     let mut site = MemorySite::new(MemoryBucket::new(alloc, FailList::new(alloc)), false);
     let mut script = ReaderSource::new(rt.reader());
     let mut out = WriterSink::new(io::writer(&rt));
