@@ -1,0 +1,6 @@
+pub mod Bytes
+pub mod Each
+pub mod SmallTasks
+pub mod Bucket
+pub mod OneBlock
+pub mod OneReport

@@ -1,0 +1,5 @@
+pub mod SmallBlock
+pub mod Entries
+pub mod SmallRuns
+pub mod OneBlock
+pub mod YoungBlock

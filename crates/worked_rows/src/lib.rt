@@ -1,0 +1,6 @@
+//! Whole runs that are written out: that the definitions of `lifecycle_core` and `replay_cli` say of them what they should.
+#![tactic(auto)]
+
+mod one_block;
+
+pub use one_block::{one_block_is_honest, one_block_is_reported, one_block_runs};

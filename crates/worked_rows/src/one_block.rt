@@ -1,0 +1,21 @@
+ghost use Rattle.std.specs.Prelude.{true};
+ghost use Rattle.world_core.specs.Standing.{IsHonest};
+ghost use Rattle.lifecycle_core.specs.Phases.{IsRunOf, AreFinished};
+ghost use Rattle.replay_cli.specs.Verdicts.{IsReport};
+ghost use Rattle.worked_rows.specs.OneBlock.{script, journal, ends, report};
+
+/// A law: the journal is that of a run of the script that comes to these ends.
+pub fn one_block_runs()
+    ensures { IsRunOf script journal ends }
+{}
+
+/// A law: the bucket gave back what was put.
+pub fn one_block_is_honest()
+    ensures { IsHonest journal }
+{}
+
+/// A law: all is done, and what is printed says so.
+pub fn one_block_is_reported()
+    ensures finished { AreFinished script 0 script.phases ends }
+    ensures report { IsReport script script.phases ends true report }
+{}
