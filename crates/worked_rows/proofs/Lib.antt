@@ -4,3 +4,5 @@ pub mod SmallTasks
 pub mod Bucket
 pub mod OneBlock
 pub mod OneReport
+pub mod OneAnswer
+pub mod YoungBlock

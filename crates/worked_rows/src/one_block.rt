@@ -1,8 +1,11 @@
 ghost use Rattle.std.specs.Prelude.{true};
 ghost use Rattle.world_core.specs.Standing.{IsHonest};
+ghost use Rattle.lifecycle_core.specs.Completed.{IsSettled};
+ghost use Rattle.lifecycle_core.specs.Guarantees.{IsExact, IsGiven, NamesUploads};
 ghost use Rattle.lifecycle_core.specs.Phases.{IsRunOf, AreFinished};
 ghost use Rattle.replay_cli.specs.Verdicts.{IsReport};
-ghost use Rattle.worked_rows.specs.OneBlock.{script, journal, ends, report};
+ghost use Rattle.worked_rows.specs.OneBlock.{script, journal, ends, report, used, asked};
+ghost use Rattle.worked_rows.specs.SmallBlock.{a};
 
 /// A law: the journal is that of a run of the script that comes to these ends.
 pub fn one_block_runs()
@@ -18,4 +21,12 @@ pub fn one_block_is_honest()
 pub fn one_block_is_reported()
     ensures finished { AreFinished script 0 script.phases ends }
     ensures report { IsReport script script.phases ends true report }
+{}
+
+/// A law: the query's answer is the run's, it is exact, and it names a complete upload, as it has to.
+pub fn one_block_is_answered()
+    ensures given { IsGiven script ends asked }
+    ensures exact { IsExact script asked }
+    ensures named { NamesUploads script journal asked }
+    ensures settled { IsSettled script journal used a }
 {}
