@@ -6,3 +6,5 @@ pub mod OneBlock
 pub mod OneReport
 pub mod OneAnswer
 pub mod YoungBlock
+pub mod YoungReport
+pub mod YoungAnswers

@@ -5,4 +5,4 @@ mod one_block;
 mod young_block;
 
 pub use one_block::{one_block_is_answered, one_block_is_honest, one_block_is_reported, one_block_runs};
-pub use young_block::{young_block_is_not_kept, young_block_runs};
+pub use young_block::{young_block_is_not_answered, young_block_is_not_kept, young_block_is_reported, young_block_runs};

@@ -1,6 +1,11 @@
+ghost use Rattle.std.specs.Prelude.{ℕ, true};
 ghost use Rattle.world_core.specs.Standing.{IsHonest};
-ghost use Rattle.lifecycle_core.specs.Phases.{IsRunOf};
-ghost use Rattle.worked_rows.specs.YoungBlock.{script, journal, ends, journal_turned, ends_turned};
+ghost use Rattle.lifecycle_core.specs.Completed.{IsSettled};
+ghost use Rattle.lifecycle_core.specs.Guarantees.{IsExact, IsGiven};
+ghost use Rattle.lifecycle_core.specs.Phases.{IsRunOf, AreFinished};
+ghost use Rattle.replay_cli.specs.Verdicts.{IsReport};
+ghost use Rattle.worked_rows.specs.YoungBlock.{script, report, first_asked};
+ghost use Rattle.worked_rows.specs.YoungBlock.{journal, ends, early, journal_turned, ends_turned, early_turned};
 
 /// A law: so it runs in the order of the lines, where the first sync finds nothing.
 pub fn young_block_runs()
@@ -12,4 +17,23 @@ pub fn young_block_runs()
 pub fn young_block_is_not_kept()
     ensures run { IsRunOf script journal_turned ends_turned }
     ensures honest { IsHonest journal_turned }
+{}
+
+/// A law: all is done, and what is printed says so. It is the same after both.
+pub fn young_block_is_reported()
+    ensures finished { AreFinished script 0 script.phases ends }
+    ensures report { IsReport script script.phases ends true report }
+    ensures turned_finished { AreFinished script 0 script.phases ends_turned }
+    ensures turned_report { IsReport script script.phases ends_turned true report }
+{}
+
+/// A law: the first query answers nothing in both, which is exact for the sources that it names, none. It does not have to
+/// name the block, which is not old enough.
+pub fn young_block_is_not_answered()
+    ensures given { IsGiven script ends (first_asked early) }
+    ensures exact { IsExact script (first_asked early) }
+    ensures unsettled { (ulid : ℕ) → ¬ IsSettled script journal early ulid }
+    ensures turned_given { IsGiven script ends_turned (first_asked early_turned) }
+    ensures turned_exact { IsExact script (first_asked early_turned) }
+    ensures turned_unsettled { (ulid : ℕ) → ¬ IsSettled script journal_turned early_turned ulid }
 {}
