@@ -8,3 +8,7 @@ pub mod OneAnswer
 pub mod YoungBlock
 pub mod YoungReport
 pub mod YoungAnswers
+pub mod OneUpload
+pub mod OneRefused
+pub mod OneOutcomes
+pub mod Texts
