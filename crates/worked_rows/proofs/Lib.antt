@@ -9,6 +9,7 @@ pub mod YoungBlock
 pub mod YoungReport
 pub mod YoungAnswers
 pub mod OneUpload
-pub mod OneRefused
 pub mod OneOutcomes
 pub mod Texts
+pub mod OneLater
+pub mod OneRefused

@@ -28,7 +28,7 @@ use Rattle.worked_rows.proofs.OneReport.{outcomes, lines}
 
 -- ---- lists of one and of two
 
-only_one : {X : Type 0} (x y : X) → Contains (x ∷ []) y → x ≡ y
+pub only_one : {X : Type 0} (x y : X) → Contains (x ∷ []) y → x ≡ y
 only_one x y (zero, below, is) = is
 only_one x y (suc k, below, is) = absurd (omega (arith, below))
 

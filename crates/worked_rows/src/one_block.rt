@@ -1,11 +1,19 @@
 ghost use Rattle.std.specs.Prelude.{true};
 ghost use Rattle.world_core.specs.Standing.{IsHonest};
+ghost use Rattle.script_core.specs.Lawful.{IsLawfulScript};
+ghost use Rattle.script_core.specs.Spelling.{Spells};
 ghost use Rattle.lifecycle_core.specs.Completed.{IsSettled};
 ghost use Rattle.lifecycle_core.specs.Guarantees.{IsExact, IsGiven, NamesUploads};
 ghost use Rattle.lifecycle_core.specs.Phases.{IsRunOf, AreFinished};
 ghost use Rattle.replay_cli.specs.Verdicts.{IsReport};
-ghost use Rattle.worked_rows.specs.OneBlock.{script, journal, ends, report, used, asked};
+ghost use Rattle.worked_rows.specs.OneBlock.{text, script, journal, ends, report, used, asked};
 ghost use Rattle.worked_rows.specs.SmallBlock.{a};
+
+/// A law: the script is what its text spells, and lawful.
+pub fn one_block_is_spelled()
+    ensures spelled { Spells text script }
+    ensures lawful { IsLawfulScript script }
+{}
 
 /// A law: the journal is that of a run of the script that comes to these ends.
 pub fn one_block_runs()

@@ -1,11 +1,19 @@
 ghost use Rattle.std.specs.Prelude.{ℕ, true};
 ghost use Rattle.world_core.specs.Standing.{IsHonest};
+ghost use Rattle.script_core.specs.Lawful.{IsLawfulScript};
+ghost use Rattle.script_core.specs.Spelling.{Spells};
 ghost use Rattle.lifecycle_core.specs.Completed.{IsSettled};
 ghost use Rattle.lifecycle_core.specs.Guarantees.{IsExact, IsGiven};
 ghost use Rattle.lifecycle_core.specs.Phases.{IsRunOf, AreFinished};
 ghost use Rattle.replay_cli.specs.Verdicts.{IsReport};
-ghost use Rattle.worked_rows.specs.YoungBlock.{script, report, first_asked};
+ghost use Rattle.worked_rows.specs.YoungBlock.{text, script, report, first_asked};
 ghost use Rattle.worked_rows.specs.YoungBlock.{journal, ends, early, journal_turned, ends_turned, early_turned};
+
+/// A law: the script is what its text spells, and lawful.
+pub fn young_block_is_spelled()
+    ensures spelled { Spells text script }
+    ensures lawful { IsLawfulScript script }
+{}
 
 /// A law: so it runs in the order of the lines, where the first sync finds nothing.
 pub fn young_block_runs()
