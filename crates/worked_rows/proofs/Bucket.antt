@@ -1,5 +1,5 @@
 -- What a bucket that holds the small block shows.
-use Rattle.std.proofs.Common.{◌≡◌, ◌⊎◌, inl, inr, ℕ, Bool, true, false, cond, List, [], ◌∷◌, ◌++◌, Option, Some, None, is_some, bytes_eq, codes, refl, sym, ap, ◌∙◌, All, Contains, ◌==◌, lit<, lit≤}
+use Rattle.std.proofs.Common.{◌≡◌, ◌⊎◌, inl, inr, ℕ, Bool, true, false, cond, List, [], ◌∷◌, Some, None, is_some, bytes_eq, codes, refl, sym, ap, ◌∙◌, ◌==◌, lit<, lit≤}
 use Rattle.std.specs.List.{before_first}
 use Rattle.std.proofs.lemmas.List.Elements.{All-nil, All-cons}
 use Rattle.std.proofs.lemmas.Slice.Eq.{bytes_eq-Decides}
@@ -8,7 +8,7 @@ use Rattle.ulid_core.specs.UlidText.{text_of, character, alphabet}
 use Rattle.block_keys.specs.KeyText.{key_text, name_of, six_digits}
 use Rattle.block_keys.specs.declared.key.Key.TheVariants as key
 use Rattle.bucket_core.specs.Contents.{Contents, nothing, with_object}
-use Rattle.bucket_core.specs.Pages.{IsPage, IsName, Before}
+use Rattle.bucket_core.specs.Pages.{IsPage, IsName}
 use Rattle.worked_rows.specs.SmallBlock as small
 
 -- ---- the texts of its keys

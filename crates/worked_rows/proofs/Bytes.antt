@@ -1,24 +1,22 @@
 -- The bytes of the small block's objects are those of its series, and are read as them again.
-use Rattle.std.proofs.Common.{◌≡◌, ℕ, pos, List, [], ◌∷◌, ◌++◌, length, true, Some, Ok, codes, refl, sym, ap, ◌∙◌, arith, All, bytes_eq, flat_map, option_map}
+use Rattle.std.proofs.Common.{◌≡◌, ℕ, pos, List, [], ◌∷◌, ◌++◌, true, Ok, codes, refl, sym, ap, ◌∙◌, arith}
 use Rattle.std.proofs.lemmas.Int.{ints}
 use lib.Utf8.{encode}
 use Rattle.std.specs.Fmt.{digits}
-use Rattle.std.specs.Str.{IsUtf8, is_utf8, chars}
+use Rattle.std.specs.Str.{is_utf8, chars}
 use Rattle.std.proofs.lemmas.Str.{IsUtf8-from_is_utf8}
 use Rattle.std.proofs.lemmas.List.Elements.{All-nil, All-cons}
 use Rattle.std.specs.List.Sorted.{IsStrictlySortedBy}
 use Rattle.std.proofs.lemmas.List.Sorted.{IsPermutation-refl}
-use Rattle.label_sets.specs.Labels.{compare_sets, IsLabelSet}
 use Rattle.block_meta.proofs.Plain.{meta_is_object}
 use Rattle.block_meta.specs.declared.block_plan.BlockPlan.{BlockPlan}
 use Rattle.serde_json.proofs.OnLiterals.{serde_json_on_literals}
-use Rattle.serde_json.specs.Read.{read}
 use Rattle.reading_core.specs.Decimal.{decimal_text, signed_text}
 use Rattle.ulid_core.specs.FixedDigits.{fixed_digits}
 use Rattle.ulid_core.specs.UlidText.{alphabet, character, digit_of, text_of, number_of, bad_place, ulid_of}
 use Rattle.label_sets.specs.SampleText.{hex_sign, hex_text, pattern_text, timed_text, sample_text, spaced_sample_text, series_text}
 use Rattle.label_sets.specs.Notation.{is_name, quoted_byte, quoted, pair_text, comma_pair_text, pairs_text, set_text}
-use Rattle.label_sets.specs.SetText.{IsSetText, AreNamed}
+use Rattle.label_sets.specs.SetText.{IsSetText}
 use Rattle.block_meta.specs.MetaFields.{fields_of}
 use Rattle.block_meta.specs.Members.{json_of, object_of, member_of, needed_of, of_kind, unsigned_of, signed_of, whole_of, version_of, section_of, count_of, each, list_of}
 use Rattle.block_meta.specs.Members as members
@@ -26,7 +24,7 @@ use Rattle.block_meta.specs.Lawful.{are_lawful_times}
 use Rattle.block_meta.specs.MetaReading.{meta_of_text, meta_of, times_of, stats_of, stats_members_of, compaction_of, compaction_members_of, level_of, sources_of, thanos_of, thanos_members_of, labels_of, labels_from, resolution_of, text_or_empty, file_of, parent_of}
 use Rattle.block_meta.specs.MetaValue.{ulid_value, items_value, file_value, label_members, stats_value, compaction_value, thanos_value, meta_value, meta_text}
 use Rattle.block_files.specs.Built.{segment_text, segments_of, sample_count, sizes_of, names_of_segments, built_meta, segment_objects, objects_of}
-use Rattle.block_files.specs.PlainForm.{plain_index, IsPlainSegment, IsSeriesLine, AreLines, AreSamples}
+use Rattle.block_files.specs.PlainForm.{plain_index, IsPlainSegment, AreLines, AreSamples}
 use Rattle.worked_rows.specs.SmallBlock as small
 
 a_text_is : text_of small.a ≡ small.a_text

@@ -13,3 +13,4 @@ pub mod OneOutcomes
 pub mod Texts
 pub mod OneLater
 pub mod OneRefused
+pub mod OneInTime

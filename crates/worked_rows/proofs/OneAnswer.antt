@@ -1,5 +1,5 @@
 -- The answered query of the script of one block.
-use Rattle.std.proofs.Common.{◌≡◌, ◌<◌, ◌≤◌, ℕ, pos, true, List, [], ◌∷◌, ◌++◌, All, Contains, Some, None, IsTrue, refl, sym, subst, arith, lit<, lit≤}
+use Rattle.std.proofs.Common.{◌≡◌, ◌<◌, ℕ, pos, true, List, [], ◌∷◌, ◌++◌, Contains, Some, refl, sym, subst, lit<, lit≤}
 use Rattle.std.proofs.lemmas.List.Elements.{All-nil, All-cons, All-from_recursion}
 use Rattle.std.specs.List.{IsDistinct, list_any}
 use Rattle.std.specs.List.Sorted.{IsStrictlySortedBy}
@@ -12,7 +12,6 @@ use Rattle.matchers.specs.Selectors.{is_match, accepts, is_accepted, value_or_em
 use Rattle.block_keys.specs.declared.key.Key.TheVariants as key
 use Rattle.world_core.specs.declared.entry.Entry.{Entry}
 use Rattle.store_gateway.specs.declared.series_end.SeriesEnd.TheVariants as called
-use Rattle.script_core.specs.Hands.{workers_of}
 use Rattle.script_core.specs.declared.worker.Worker.{Worker}
 use Rattle.script_core.specs.declared.work.Work.TheVariants as works
 use Rattle.lifecycle_core.specs.Completed.{PutsMeta, IsCompletedAt, IsUploadedBefore, IsSettled}

@@ -1,6 +1,6 @@
 -- The run of the script of one block.
-use Rattle.std.proofs.Common.{◌≡◌, ◌≢◌, ◌⊎◌, inl, inr, ℕ, zero, suc, ◌+◌, ◌^◌, ◌<◌, ◌==◌, pos, List, [], ◌∷◌, ◌++◌, length, map, All, Contains, Option, Some, None, refl, sym, ap, subst, cond, arith, lit<, lit≤}
-use Rattle.std.proofs.lemmas.List.Elements.{All-nil, All-cons, All-head, All-from_recursion}
+use Rattle.std.proofs.Common.{◌≡◌, ◌≢◌, inl, inr, ℕ, zero, suc, ◌+◌, ◌^◌, ◌<◌, pos, List, [], ◌∷◌, ◌++◌, length, map, Contains, Some, None, refl, sym, ap, subst, lit<, lit≤}
+use Rattle.std.proofs.lemmas.List.Elements.{All-head, All-from_recursion}
 use Rattle.world_core.specs.Operations.{IsLawful, IsReplyTo}
 use Rattle.world_core.specs.Moments.{moment_after, last_moment}
 use Rattle.world_core.specs.Standing.{stands, Tells, IsHonest}
@@ -14,8 +14,8 @@ use Rattle.shipper.specs.declared.upload_end.UploadEnd.TheVariants as shipped
 use Rattle.meta_fetcher.specs.declared.sync_end.SyncEnd.TheVariants as fetched
 use Rattle.script_core.specs.declared.work.Work.TheVariants as works
 use Rattle.store_gateway.specs.declared.series_end.SeriesEnd.TheVariants as called
-use Rattle.lifecycle_core.specs.Tasks.{End, TaskRun, UploadTask, SyncTask, QueryTask, sync_rules, uploaded, synced, answered}
-use Rattle.lifecycle_core.specs.Views.{Use, Views, no_views}
+use Rattle.lifecycle_core.specs.Tasks.{End, UploadTask, SyncTask, QueryTask, uploaded, synced, answered}
+use Rattle.lifecycle_core.specs.Views.{Views, no_views}
 use Rattle.worked_rows.specs.SmallBlock as small
 use Rattle.worked_rows.specs.OneBlock as one
 use Rattle.worked_rows.specs.Entries.{clock}
@@ -75,35 +75,41 @@ kept_else (suc other) differ = refl
 first_phase : PhaseRun one.script first_tasks (uploader ∷ []) no_views one.upload first_ends no_views
 first_phase = record {
   seats = All-from_recursion (λ (e : Entry). Contains (1 ∷ []) e.seat) one.upload ((0, lit< tt, refl), ((0, lit< tt, refl), ((0, lit< tt, refl), ((0, lit< tt, refl), tt))));
-  runs = (record {
-    own = first_tasks;
-    are = (refl, refl);
-    last = None;
-    runs = inl (one.upload, [], uploaded (shipped.Done 3), [], refl, upload_end, refl, (refl, refl, refl));
-    leaves = λ gateway is. absurd (cc);
-  }, tt);
+  runs = (
+    record {
+      own = first_tasks;
+      are = (refl, refl);
+      last = None;
+      runs = inl (one.upload, [], uploaded (shipped.Done 3), [], refl, upload_end, refl, (refl, refl, refl));
+      leaves = λ gateway is. absurd (cc);
+    },
+    tt,
+  );
   kept = λ gateway none. refl;
 }
 
 second_phase : PhaseRun one.script second_tasks (gateway ∷ []) no_views (one.sync ++ one.query) second_ends views
 second_phase = record {
   seats = All-from_recursion (λ (e : Entry). Contains (2 ∷ []) e.seat) (one.sync ++ one.query) ((0, lit< tt, refl), ((0, lit< tt, refl), ((0, lit< tt, refl), ((0, lit< tt, refl), ((0, lit< tt, refl), tt)))));
-  runs = (record {
-    own = second_tasks;
-    are = (refl, (refl, refl));
-    last = Some one.used;
-    runs = inl (
-      one.sync,
-      one.query,
-      synced (fetched.View one.view),
-      answered one.used (called.Answer (small.up ∷ []) (small.a ∷ [])) ∷ [],
-      refl,
-      sync_end,
-      refl,
-      inl (one.query, [], answered one.used (called.Answer (small.up ∷ []) (small.a ∷ [])), [], refl, query_end, refl, (refl, refl, refl)),
-    );
-    leaves = λ other is. let same : 0 ≡ other = cc in subst (λ (x : ℕ). views x ≡ Some one.used) same refl;
-  }, tt);
+  runs = (
+    record {
+      own = second_tasks;
+      are = (refl, (refl, refl));
+      last = Some one.used;
+      runs = inl (
+        one.sync,
+        one.query,
+        synced (fetched.View one.view),
+        answered one.used (called.Answer (small.up ∷ []) (small.a ∷ [])) ∷ [],
+        refl,
+        sync_end,
+        refl,
+        inl (one.query, [], answered one.used (called.Answer (small.up ∷ []) (small.a ∷ [])), [], refl, query_end, refl, (refl, refl, refl)),
+      );
+      leaves = λ other is. let same : 0 ≡ other = cc in subst (λ (x : ℕ). views x ≡ Some one.used) same refl;
+    },
+    tt,
+  );
   kept = λ other differ. kept_else other (All-head (λ (w : Worker). w.gateway ≢ Some other) gateway [] differ);
 }
 
@@ -115,17 +121,19 @@ second_done = ap (map (λ (w : Worker). length w.tasks)) second_workers
 
 phases : PhasesRun one.script 0 no_views one.script.phases one.journal one.ends
 phases = inr (
-    clock 1 0,
-    one.upload,
-    clock 6 1_800_000 ∷ one.sync ++ one.query,
-    first_ends,
-    second_ends ∷ [],
-    no_views,
-    refl,
-    record { seat = refl; sets = refl },
-    subst (λ (ws : List Worker). PhaseRun one.script first_tasks ws no_views one.upload first_ends no_views) (sym first_workers) first_phase,
-    refl,
-    inr (first_done, inr (
+  clock 1 0,
+  one.upload,
+  clock 6 1_800_000 ∷ one.sync ++ one.query,
+  first_ends,
+  second_ends ∷ [],
+  no_views,
+  refl,
+  record { seat = refl; sets = refl },
+  subst (λ (ws : List Worker). PhaseRun one.script first_tasks ws no_views one.upload first_ends no_views) (sym first_workers) first_phase,
+  refl,
+  inr (
+    first_done,
+    inr (
       clock 6 1_800_000,
       one.sync ++ one.query,
       [],
@@ -137,7 +145,8 @@ phases = inr (
       subst (λ (ws : List Worker). PhaseRun one.script second_tasks ws no_views (one.sync ++ one.query) second_ends views) (sym second_workers) second_phase,
       refl,
       inl (refl, refl),
-    )),
+    ),
+  ),
 )
 
 -- ---- the journal

@@ -1,7 +1,6 @@
 -- What the second phase of every lawful journal of the script of one block is.
-use Rattle.std.proofs.Common.{◌≡◌, ◌≢◌, ◌⊎◌, inl, inr, ℕ, ◌+◌, pos, List, [], ◌∷◌, ◌++◌, All, Contains, Option, Some, None, option_map, map, refl, sym, ap, subst, ◌∙◌, append-nil}
+use Rattle.std.proofs.Common.{◌≡◌, ◌⊎◌, inl, inr, pos, List, [], ◌∷◌, ◌++◌, Option, Some, None, option_map, map, refl, sym, ap, subst, ◌∙◌, append-nil}
 use Rattle.std.specs.List.{AllZip}
-use Rattle.std.proofs.lemmas.List.Elements.{All-nil, All-cons, All-head}
 use Rattle.ulid_core.specs.UlidText.{alphabet, digit_of, number_of, bad_place, ulid_of}
 use Rattle.block_keys.specs.declared.key.Key.TheVariants as key
 use Rattle.world_core.specs.declared.entry.Entry.{Entry}
@@ -13,19 +12,17 @@ use Rattle.meta_fetcher.specs.declared.sync_end.SyncEnd.{SyncEnd}
 use Rattle.meta_fetcher.specs.declared.sync_end.SyncEnd.TheVariants as fetched
 use Rattle.store_gateway.specs.SeriesRuns.{Query, SeriesRun, Reads, sources_of, to_read}
 use Rattle.store_gateway.specs.declared.series_end.SeriesEnd.{SeriesEnd}
-use Rattle.script_core.specs.Hands.{workers_of}
 use Rattle.script_core.specs.declared.task.Task.{Task}
 use Rattle.script_core.specs.declared.work.Work.TheVariants as works
 use Rattle.script_core.specs.declared.worker.Worker.{Worker}
 use Rattle.lifecycle_core.specs.Phases.{PhasesRun, PhaseRun, WorkerRun, TasksRun, TasksAt, of_seat}
-use Rattle.lifecycle_core.specs.Tasks.{End, TaskRun, SyncTask, QueryTask, synced, view_after, last_number}
-use Rattle.lifecycle_core.specs.Views.{Use, Views, no_views}
+use Rattle.lifecycle_core.specs.Tasks.{End, synced, view_after, last_number}
+use Rattle.lifecycle_core.specs.Views.{Use, Views}
 use Rattle.worked_rows.specs.SmallBlock as small
-use Rattle.worked_rows.specs.Entries.{clock, absent, found, listed}
+use Rattle.worked_rows.specs.Entries.{absent, found, listed}
 use Rattle.worked_rows.specs.OneBlock as one
-use Rattle.worked_rows.proofs.Bytes.{a_reads}
 use Rattle.worked_rows.proofs.SmallTasks.{rules, question}
-use Rattle.worked_rows.proofs.OneBlock.{uploader, gateway, first_tasks, second_tasks, second_workers}
+use Rattle.worked_rows.proofs.OneBlock.{gateway, second_tasks, second_workers}
 use Rattle.worked_rows.proofs.OneUpload.{second}
 
 -- ---- a sync that finds no meta

@@ -1,5 +1,5 @@
 -- Journals that are no run of the script of one block.
-use Rattle.std.proofs.Common.{◌≡◌, ◌≢◌, ◌⊎◌, inl, inr, ℕ, List, [], ◌∷◌, ◌++◌, All, Contains, Some, None, refl, sym, ap, subst, ◌∙◌, arith}
+use Rattle.std.proofs.Common.{◌≡◌, ◌≢◌, inl, inr, List, [], ◌∷◌, ◌++◌, All, Contains, Some, None, refl, sym, ap, subst, ◌∙◌, arith}
 use Rattle.std.proofs.lemmas.List.Elements.{All-nil, All-cons, All-head, All-tail}
 use Rattle.block_keys.specs.declared.key.Key.TheVariants as key
 use Rattle.world_core.specs.declared.entry.Entry.{Entry}
@@ -71,7 +71,7 @@ after_upload : (made others tail : List Entry) → one.upload ++ clock 6 1_800_0
 after_upload made others tail is anew seats =
     let rest = all_stay (λ (e : Entry). Contains (1 ∷ []) e.seat) one.upload (clock 6 1_800_000 ∷ tail) made others is anew (λ m h. cc (h), (λ m h. cc (h), (λ m h. cc (h), (λ m h. cc (h), tt)))) seats in
     let none = no_clock rest.0 others tail rest.1 rest.2 in
-    sym (rest.1 ∙ ap (λ es. es ++ others) none)
+    cc (rest.1, ap (λ es. es ++ others) none)
 
 second_begins : (entries others made : List Entry) (after : Views) (tail : List Entry) → FirstPhase entries others made after → entries ≡ one.upload ++ clock 6 1_800_000 ∷ tail
     → (ends : List (List (List End))) × PhasesRun one.script 1 after (second ∷ []) (clock 6 1_800_000 ∷ tail) ends × (after 0 ≡ None)

@@ -1,5 +1,5 @@
 -- The report of the script of one block.
-use Rattle.std.proofs.Common.{◌≡◌, true, pos, List, [], ◌∷◌, ◌++◌, Some, None, refl, sym, subst, lit<}
+use Rattle.std.proofs.Common.{◌≡◌, true, List, [], ◌∷◌, ◌++◌, refl, sym, subst, lit<}
 use Rattle.reading_core.specs.Decimal.{decimal_text, signed_text}
 use Rattle.ulid_core.specs.FixedDigits.{fixed_digits}
 use Rattle.ulid_core.specs.UlidText.{text_of, character, alphabet}
@@ -8,9 +8,8 @@ use Rattle.label_sets.specs.SampleText.{hex_sign, hex_text, pattern_text, timed_
 use Rattle.shipper.specs.declared.upload_end.UploadEnd.TheVariants as shipped
 use Rattle.meta_fetcher.specs.declared.sync_end.SyncEnd.TheVariants as fetched
 use Rattle.store_gateway.specs.declared.series_end.SeriesEnd.TheVariants as called
-use Rattle.script_core.specs.Hands.{hands_of_task, workers_of}
+use Rattle.script_core.specs.Hands.{hands_of_task}
 use Rattle.script_core.specs.declared.worker.Worker.{Worker}
-use Rattle.script_core.specs.declared.work.Work.TheVariants as works
 use Rattle.lifecycle_core.specs.Tasks.{uploaded, synced, answered}
 use Rattle.replay_cli.specs.Outcomes.{TasksCame, PhasesCame}
 use Rattle.replay_cli.specs.Reports.{upload_words, sync_words, source_line, series_line, counts_text, answer_text, query_text, activity_text}
@@ -30,42 +29,45 @@ outcomes = outcome.Upload (uploads.Done 3) ∷ outcome.Sync (syncs.Blocks 1) ∷
 first_came : TasksCame one.script (uploader ∷ []) first_ends 0 first_tasks (outcome.Upload (uploads.Done 3) ∷ [])
 unfolding hands_of_task
 first_came = (
-    record {
-      own = uploaded (shipped.Done 3) ∷ [];
-      came = (record { worker = uploader; own = uploaded (shipped.Done 3) ∷ []; among = (0, lit< tt, refl); is = refl; came = (0, lit< tt, refl) }, tt);
-      is = refl;
-    },
-    refl,
+  record {
+    own = uploaded (shipped.Done 3) ∷ [];
+    came = (record { worker = uploader; own = uploaded (shipped.Done 3) ∷ []; among = (0, lit< tt, refl); is = refl; came = (0, lit< tt, refl) }, tt);
+    is = refl;
+  },
+  refl,
 )
 
 second_came : TasksCame one.script (gateway ∷ []) second_ends 0 second_tasks (outcome.Sync (syncs.Blocks 1) ∷ outcome.Query (queries.Answer (small.up ∷ []) (small.a ∷ [])) ∷ [])
 unfolding hands_of_task
 second_came = (
+  record {
+    own = synced (fetched.View one.view) ∷ [];
+    came = (record { worker = gateway; own = synced (fetched.View one.view) ∷ answered one.used (called.Answer (small.up ∷ []) (small.a ∷ [])) ∷ []; among = (0, lit< tt, refl); is = refl; came = (0, lit< tt, refl) }, tt);
+    is = refl;
+  },
+  (
     record {
-      own = synced (fetched.View one.view) ∷ [];
-      came = (record { worker = gateway; own = synced (fetched.View one.view) ∷ answered one.used (called.Answer (small.up ∷ []) (small.a ∷ [])) ∷ []; among = (0, lit< tt, refl); is = refl; came = (0, lit< tt, refl) }, tt);
-      is = refl;
-    },
-    (record {
       own = answered one.used (called.Answer (small.up ∷ []) (small.a ∷ [])) ∷ [];
       came = (record { worker = gateway; own = synced (fetched.View one.view) ∷ answered one.used (called.Answer (small.up ∷ []) (small.a ∷ [])) ∷ []; among = (0, lit< tt, refl); is = refl; came = (1, lit< tt, refl) }, tt);
       is = refl;
-    }, refl),
+    },
+    refl,
+  ),
 )
 
 came : PhasesCame one.script 0 one.script.phases one.ends outcomes
 came = (
-    outcome.Upload (uploads.Done 3) ∷ [],
+  outcome.Upload (uploads.Done 3) ∷ [],
+  outcome.Sync (syncs.Blocks 1) ∷ outcome.Query (queries.Answer (small.up ∷ []) (small.a ∷ [])) ∷ [],
+  refl,
+  subst (λ (ws : List Worker). TasksCame one.script ws first_ends 0 first_tasks (outcome.Upload (uploads.Done 3) ∷ [])) (sym first_workers) first_came,
+  (
     outcome.Sync (syncs.Blocks 1) ∷ outcome.Query (queries.Answer (small.up ∷ []) (small.a ∷ [])) ∷ [],
+    [],
     refl,
-    subst (λ (ws : List Worker). TasksCame one.script ws first_ends 0 first_tasks (outcome.Upload (uploads.Done 3) ∷ [])) (sym first_workers) first_came,
-    (
-      outcome.Sync (syncs.Blocks 1) ∷ outcome.Query (queries.Answer (small.up ∷ []) (small.a ∷ [])) ∷ [],
-      [],
-      refl,
-      subst (λ (ws : List Worker). TasksCame one.script ws second_ends 0 second_tasks (outcome.Sync (syncs.Blocks 1) ∷ outcome.Query (queries.Answer (small.up ∷ []) (small.a ∷ [])) ∷ [])) (sym second_workers) second_came,
-      (refl, refl),
-    ),
+    subst (λ (ws : List Worker). TasksCame one.script ws second_ends 0 second_tasks (outcome.Sync (syncs.Blocks 1) ∷ outcome.Query (queries.Answer (small.up ∷ []) (small.a ∷ [])) ∷ [])) (sym second_workers) second_came,
+    (refl, refl),
+  ),
 )
 
 pub lines : one.report ≡ report_of one.script (first_tasks ++ second_tasks) outcomes

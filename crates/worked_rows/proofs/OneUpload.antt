@@ -1,26 +1,23 @@
 -- What the first phase of every lawful journal of the script of one block is.
-use Rattle.std.proofs.Common.{◌≡◌, ◌⊎◌, inl, inr, ℕ, ◌+◌, List, [], ◌∷◌, ◌++◌, length, Option, Some, None, slice_get, refl, sym, ap, subst, ◌∙◌, append-nil}
+use Rattle.std.proofs.Common.{◌≡◌, ◌⊎◌, inl, inr, ℕ, List, [], ◌∷◌, ◌++◌, length, Option, Some, None, sym, ap, subst, ◌∙◌, append-nil}
 use Rattle.std.specs.List.{AllZip}
 use Rattle.moment_core.specs.declared.moment.Moment.{Moment}
 use Rattle.block_keys.specs.declared.key.Key.TheVariants as key
 use Rattle.block_keys.specs.declared.object.Object.{Object}
-use Rattle.block_meta.specs.MetaValue.{meta_text}
 use Rattle.block_files.specs.Built.{segment_text, segments_of, segment_objects, objects_of}
 use Rattle.world_core.specs.declared.entry.Entry.{Entry}
 use Rattle.world_core.specs.declared.op.Op.TheVariants as op
 use Rattle.world_core.specs.declared.reply.Reply.TheVariants as reply
 use Rattle.shipper.specs.Uploads.{UploadRun, PutsRun, AfterLook}
 use Rattle.shipper.specs.declared.upload_end.UploadEnd.{UploadEnd}
-use Rattle.script_core.specs.Hands.{workers_of}
 use Rattle.script_core.specs.declared.block.Block.{Block}
 use Rattle.script_core.specs.declared.phase.Phase.{Phase}
 use Rattle.script_core.specs.declared.script.Script.{Script}
 use Rattle.script_core.specs.declared.task.Task.{Task}
 use Rattle.script_core.specs.declared.work.Work.TheVariants as works
 use Rattle.script_core.specs.declared.worker.Worker.{Worker}
-use Rattle.lifecycle_core.specs.Held.{declared}
 use Rattle.lifecycle_core.specs.Shipped.{IsShipped}
-use Rattle.lifecycle_core.specs.Phases.{IsLawfulJournal, PhasesRun, PhaseRun, WorkerRun, TasksRun, TasksAt, of_seat, BeginsPhase}
+use Rattle.lifecycle_core.specs.Phases.{IsLawfulJournal, PhasesRun, PhaseRun, WorkerRun, TasksRun, TasksAt, of_seat}
 use Rattle.lifecycle_core.specs.Tasks.{End, TaskRun, UploadTask}
 use Rattle.lifecycle_core.specs.Views.{Use, Views, no_views}
 use Rattle.worked_rows.specs.SmallBlock as small
@@ -63,16 +60,21 @@ first_phase_of clock entries lawful = go lawful.0 lawful.1.phases
   where
     go : (ends : List (List (List End))) → PhasesRun one.script 0 no_views one.script.phases (clock ∷ entries) ends → (others : List Entry) × (made : List Entry) × (after : Views) × FirstPhase entries others made after
     go ends (inl none) = absurd (cc (none.0))
-    go ends (inr r) = (r.2, r.1, r.5, record {
-      ends = r.3;
-      parts = cc (r.6);
-      run = subst (λ (ws : List Worker). PhaseRun one.script first_tasks ws no_views r.1 r.3 r.5) first_workers r.8;
-      anew = elim r.10 [
-        | inl none ↦ λ e more is. absurd (cc (none.0))
-        | inr more ↦ phases_begin one.script 1 r.5 (second ∷ []) r.2 r.4 more.1
-      ];
-      later = elim r.10 [ inl none ↦ inl none.0 | inr more ↦ inr (r.4, more.1) ];
-    })
+    go ends (inr r) = (
+      r.2,
+      r.1,
+      r.5,
+      record {
+        ends = r.3;
+        parts = cc (r.6);
+        run = subst (λ (ws : List Worker). PhaseRun one.script first_tasks ws no_views r.1 r.3 r.5) first_workers r.8;
+        anew = elim r.10 [
+          | inl none ↦ λ e more is. absurd (cc (none.0))
+          | inr more ↦ phases_begin one.script 1 r.5 (second ∷ []) r.2 r.4 more.1
+        ];
+        later = elim r.10 [ inl none ↦ inl none.0 | inr more ↦ inr (r.4, more.1) ];
+      },
+    )
 
 -- ---- the upload in it
 
@@ -133,6 +135,8 @@ second_is_segment e more objects end s i m are total run =
     (subst (λ (os : List Object). PutsRun total os (e ∷ more) end) are run).0
 
 pub second_is_put : (look e : Entry) (more : List Entry) → look.reply ≡ reply.Absent → Uploads (look ∷ e ∷ more) → (bytes : List ℕ) × (e.op ≡ op.Put (key.Segment small.a 1) bytes)
-second_is_put look e more is uploads =
-    (uploads.segment, second_is_segment e more uploads.objects uploads.end uploads.segment uploads.index uploads.meta uploads.are (length uploads.objects)
-    (subst (λ r. AfterLook uploads.objects look.seq r (e ∷ more) uploads.end) is uploads.run.1))
+second_is_put look e more is uploads = (
+  uploads.segment,
+  second_is_segment e more uploads.objects uploads.end uploads.segment uploads.index uploads.meta uploads.are (length uploads.objects)
+      (subst (λ r. AfterLook uploads.objects look.seq r (e ∷ more) uploads.end) is uploads.run.1),
+)

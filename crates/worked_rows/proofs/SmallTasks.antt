@@ -1,8 +1,7 @@
 -- The tasks over the small block are done as the definitions say.
-use Rattle.std.proofs.Common.{◌≡◌, ◌≢◌, ◌⊎◌, inl, inr, ℕ, ◌+◌, pos, List, [], ◌∷◌, Option, Some, None, refl, arith}
+use Rattle.std.proofs.Common.{◌≡◌, ◌≢◌, inl, inr, ℕ, pos, List, [], ◌∷◌, Some, None, refl, arith}
 use Rattle.std.proofs.lemmas.List.Elements.{All-nil, All-cons}
 use Rattle.std.specs.List.Sorted.{IsStrictlySortedBy}
-use Rattle.ulid_core.specs.UlidText.{ulid_of}
 use Rattle.label_sets.specs.declared.series.Series.{Series}
 use Rattle.label_sets.specs.Finals.{is_among, without, final_of}
 use Rattle.label_sets.specs.Labels.{value_of}
@@ -59,9 +58,17 @@ block_meta_reads = rw meta_reads refl
 
 pub sync_run : (seq seat moment : ℕ) (kept : List Found) → kept ≡ kept_by rules (runs.seen moment ∷ [])
     → SyncRun rules (runs.sync seq seat moment) (Some (fetched.View (runs.view seq moment kept)))
-sync_run seq seat moment kept is =
-    (refl, rw a_reads (refl, (refl, rw block_meta_reads
-    (refl, inr (runs.view seq moment kept, refl, record { first = refl; begin = refl; end = refl; found = runs.seen moment ∷ []; sighted = refl; kept = is; covered = refl })))))
+sync_run seq seat moment kept is = (
+  refl,
+  rw a_reads (
+    refl,
+    (
+      refl,
+      rw block_meta_reads
+          (refl, inr (runs.view seq moment kept, refl, record { first = refl; begin = refl; end = refl; found = runs.seen moment ∷ []; sighted = refl; kept = is; covered = refl })),
+    ),
+  ),
+)
 
 pub empty_sync_run : (seq seat moment : ℕ)
     → SyncRun rules (listed seq seat moment [] ∷ []) (Some (fetched.View (record { first = seq; begin = record { ms = moment }; end = record { ms = moment }; kept = []; covered = [] })))

@@ -1,5 +1,5 @@
 -- The scripts are what their texts spell.
-use Rattle.std.proofs.Common.{◌≡◌, ℕ, List, Result, Ok, refl}
+use Rattle.std.proofs.Common.{◌≡◌, Ok, refl}
 use Rattle.std.specs.Str.{is_utf8, chars}
 use lib.Utf8.{encode}
 use Rattle.reading_core.specs.Decimal.{is_decimal, is_signed_decimal, unsigned_of, signed_of}

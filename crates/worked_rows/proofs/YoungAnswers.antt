@@ -1,13 +1,11 @@
 -- The answered queries of the script of a young block.
-use Rattle.std.proofs.Common.{◌≡◌, ◌<◌, ◌≤◌, ℕ, pos, true, List, [], ◌∷◌, ◌++◌, All, Contains, Some, None, refl, sym, subst, arith, lit<}
+use Rattle.std.proofs.Common.{◌≡◌, ◌<◌, ℕ, pos, true, List, [], ◌∷◌, Contains, Some, refl, sym, subst, arith, lit<}
 use Rattle.std.proofs.lemmas.List.Elements.{All-nil}
 use Rattle.std.specs.List.{IsDistinct, list_any}
 use Rattle.std.specs.List.Sorted.{IsStrictlySortedBy}
 use Rattle.label_sets.specs.Triples.{Triple, triples_of, has_same_key}
 use Rattle.matchers.specs.Selected.{selected}
-use Rattle.store_gateway.specs.declared.series_end.SeriesEnd.TheVariants as called
 use Rattle.meta_fetcher.specs.declared.sync_end.SyncEnd.TheVariants as fetched
-use Rattle.script_core.specs.Hands.{workers_of}
 use Rattle.script_core.specs.declared.worker.Worker.{Worker}
 use Rattle.script_core.specs.declared.work.Work.TheVariants as works
 use Rattle.world_core.specs.declared.entry.Entry.{Entry}
@@ -17,7 +15,6 @@ use Rattle.lifecycle_core.specs.Held.{held}
 use Rattle.lifecycle_core.specs.Phases.{CameTo}
 use Rattle.lifecycle_core.specs.Tasks.{synced}
 use Rattle.lifecycle_core.specs.Views.{Use}
-use Rattle.worked_rows.specs.SmallBlock as small
 use Rattle.worked_rows.specs.YoungBlock as young
 use Rattle.worked_rows.proofs.YoungBlock.{first_gateway, uploader, first_workers, first_tasks, first_ends}
 

@@ -1,5 +1,5 @@
 -- Both runs of the script of a young block.
-use Rattle.std.proofs.Common.{◌≡◌, ◌≢◌, ◌⊎◌, inl, inr, ℕ, zero, suc, ◌+◌, ◌^◌, ◌<◌, pos, List, [], ◌∷◌, ◌++◌, length, map, All, Contains, Option, Some, None, refl, sym, ap, subst, arith, lit<, lit≤, append-nil}
+use Rattle.std.proofs.Common.{◌≡◌, ◌≢◌, inl, inr, ℕ, zero, suc, ◌+◌, ◌^◌, ◌<◌, pos, List, [], ◌∷◌, ◌++◌, length, map, All, Contains, Some, None, refl, sym, ap, subst, lit<, lit≤, append-nil}
 use Rattle.std.proofs.lemmas.List.Elements.{All-head, All-from_recursion}
 use Rattle.world_core.specs.Operations.{IsLawful, IsReplyTo}
 use Rattle.world_core.specs.Moments.{moment_after, last_moment}
@@ -92,14 +92,17 @@ first_phase : (made uploads : List Entry) (used : Use) → All (IsSeat (1 ∷ 2 
 first_phase made uploads used seats run is own = record {
   seats = seats;
   runs = (
-      record { own = sync ∷ query ∷ []; are = (refl, (refl, refl)); last = Some used; runs = run; leaves = λ other is. let same : 0 ≡ other = cc in subst (λ (x : ℕ). with used x ≡ Some used) same refl },
-      (record {
+    record { own = sync ∷ query ∷ []; are = (refl, (refl, refl)); last = Some used; runs = run; leaves = λ other is. let same : 0 ≡ other = cc in subst (λ (x : ℕ). with used x ≡ Some used) same refl },
+    (
+      record {
         own = upload ∷ [];
         are = (refl, refl);
         last = None;
         runs = subst (λ (es : List Entry). TasksRun young.script None (upload ∷ []) es (uploaded (shipped.Done 3) ∷ []) None) (sym is) (inl (uploads, [], uploaded (shipped.Done 3), [], sym (append-nil uploads), own, refl, (refl, refl, refl)));
         leaves = λ gateway is. absurd (cc);
-      }, tt),
+      },
+      tt,
+    ),
   );
   kept = λ other differ. kept_else used no_views (λ o. refl) other (All-head (λ (w : Worker). w.gateway ≢ Some other) first_gateway (uploader ∷ []) differ);
 }
@@ -124,17 +127,19 @@ both_phases : (seq : ℕ) (first second : List Entry) (early late : Use)
     → PhaseRun young.script second_tasks (second_gateway ∷ []) (with early) second (second_ends late) (with late)
     → PhasesRun young.script 0 no_views young.script.phases (clock 1 0 ∷ first ++ clock seq 1_800_000 ∷ second) (young.ends_by early late)
 both_phases seq first second early late one other = inr (
-    clock 1 0,
-    first,
-    clock seq 1_800_000 ∷ second,
-    first_ends early,
-    second_ends late ∷ [],
-    with early,
-    refl,
-    record { seat = refl; sets = refl },
-    subst (λ (ws : List Worker). PhaseRun young.script first_tasks ws no_views first (first_ends early) (with early)) (sym first_workers) one,
-    refl,
-    inr (first_done early, inr (
+  clock 1 0,
+  first,
+  clock seq 1_800_000 ∷ second,
+  first_ends early,
+  second_ends late ∷ [],
+  with early,
+  refl,
+  record { seat = refl; sets = refl },
+  subst (λ (ws : List Worker). PhaseRun young.script first_tasks ws no_views first (first_ends early) (with early)) (sym first_workers) one,
+  refl,
+  inr (
+    first_done early,
+    inr (
       clock seq 1_800_000,
       second,
       [],
@@ -146,7 +151,8 @@ both_phases seq first second early late one other = inr (
       subst (λ (ws : List Worker). PhaseRun young.script second_tasks ws (with early) second (second_ends late) (with late)) (sym second_workers) other,
       refl,
       inl (refl, refl),
-    )),
+    ),
+  ),
 )
 
 pub finished : (early late : Use) → AreFinished young.script 0 young.script.phases (young.ends_by early late)
@@ -157,16 +163,32 @@ finished early late = (first_done early, (second_done late, refl))
 first_lines : PhaseRun young.script first_tasks (first_gateway ∷ uploader ∷ []) no_views young.first_journal (first_ends young.early) (with young.early)
 first_lines = first_phase young.first_journal (runs.upload 3 2 2) young.early
     (All-from_recursion (IsSeat (1 ∷ 2 ∷ [])) young.first_journal ((0, lit< tt, refl), ((1, lit< tt, refl), ((1, lit< tt, refl), ((1, lit< tt, refl), ((1, lit< tt, refl), tt))))))
-    (inl (listed 2 1 1 [] ∷ [], [], synced (fetched.View young.early.view), young.no_answer young.early ∷ [], refl, (Some (fetched.View young.early.view), empty_sync_run 2 1 1, refl), refl,
-    inl ([], [], young.no_answer young.early, [], refl, (Some (called.Answer [] []), empty_query_run young.early.view refl (question []), refl), refl, (refl, refl, refl))))
+    (inl (
+      listed 2 1 1 [] ∷ [],
+      [],
+      synced (fetched.View young.early.view),
+      young.no_answer young.early ∷ [],
+      refl,
+      (Some (fetched.View young.early.view), empty_sync_run 2 1 1, refl),
+      refl,
+      inl ([], [], young.no_answer young.early, [], refl, (Some (called.Answer [] []), empty_query_run young.early.view refl (question []), refl), refl, (refl, refl, refl)),
+    ))
     refl
     (upload_task young.script refl 3 2 2)
 
 second_lines : PhaseRun young.script second_tasks (second_gateway ∷ []) (with young.early) young.second_journal (second_ends young.late) (with young.late)
 second_lines = second_phase young.second_journal young.early young.late
     (All-from_recursion (IsSeat (3 ∷ [])) young.second_journal ((0, lit< tt, refl), ((0, lit< tt, refl), ((0, lit< tt, refl), ((0, lit< tt, refl), ((0, lit< tt, refl), tt))))))
-    (inl (runs.sync 8 3 1_800_001, runs.query 11 3 1_800_004, synced (fetched.View young.late.view), young.block_answer young.late ∷ [], refl, (Some (fetched.View young.late.view), sync_run 8 3 1_800_001 (runs.seen 1_800_001 ∷ []) refl, refl), refl,
-    inl (runs.query 11 3 1_800_004, [], young.block_answer young.late, [], refl, (Some (called.Answer (small.up ∷ []) (small.a ∷ [])), query_run [] merge_all 8 1_800_001 1_800_001 11 3 1_800_004, refl), refl, (refl, refl, refl))))
+    (inl (
+      runs.sync 8 3 1_800_001,
+      runs.query 11 3 1_800_004,
+      synced (fetched.View young.late.view),
+      young.block_answer young.late ∷ [],
+      refl,
+      (Some (fetched.View young.late.view), sync_run 8 3 1_800_001 (runs.seen 1_800_001 ∷ []) refl, refl),
+      refl,
+      inl (runs.query 11 3 1_800_004, [], young.block_answer young.late, [], refl, (Some (called.Answer (small.up ∷ []) (small.a ∷ [])), query_run [] merge_all 8 1_800_001 1_800_001 11 3 1_800_004, refl), refl, (refl, refl, refl)),
+    ))
 
 kept : IsJournal 1 young.journal
 kept = record {
@@ -189,16 +211,32 @@ honest = each_of (λ before e. Tells (stands before) e.op e.reply) young.journal
 first_turned : PhaseRun young.script first_tasks (first_gateway ∷ uploader ∷ []) no_views young.first_journal_turned (first_ends young.early_turned) (with young.early_turned)
 first_turned = first_phase young.first_journal_turned (runs.upload 2 2 1) young.early_turned
     (All-from_recursion (IsSeat (1 ∷ 2 ∷ [])) young.first_journal_turned ((1, lit< tt, refl), ((1, lit< tt, refl), ((1, lit< tt, refl), ((1, lit< tt, refl), ((0, lit< tt, refl), ((0, lit< tt, refl), ((0, lit< tt, refl), tt))))))))
-    (inl (runs.sync 6 1 5, [], synced (fetched.View young.early_turned.view), young.no_answer young.early_turned ∷ [], refl, (Some (fetched.View young.early_turned.view), sync_run 6 1 5 [] refl, refl), refl,
-    inl ([], [], young.no_answer young.early_turned, [], refl, (Some (called.Answer [] []), empty_query_run young.early_turned.view refl (question []), refl), refl, (refl, refl, refl))))
+    (inl (
+      runs.sync 6 1 5,
+      [],
+      synced (fetched.View young.early_turned.view),
+      young.no_answer young.early_turned ∷ [],
+      refl,
+      (Some (fetched.View young.early_turned.view), sync_run 6 1 5 [] refl, refl),
+      refl,
+      inl ([], [], young.no_answer young.early_turned, [], refl, (Some (called.Answer [] []), empty_query_run young.early_turned.view refl (question []), refl), refl, (refl, refl, refl)),
+    ))
     refl
     (upload_task young.script refl 2 2 1)
 
 second_turned : PhaseRun young.script second_tasks (second_gateway ∷ []) (with young.early_turned) young.second_journal_turned (second_ends young.late_turned) (with young.late_turned)
 second_turned = second_phase young.second_journal_turned young.early_turned young.late_turned
     (All-from_recursion (IsSeat (3 ∷ [])) young.second_journal_turned ((0, lit< tt, refl), ((0, lit< tt, refl), ((0, lit< tt, refl), ((0, lit< tt, refl), ((0, lit< tt, refl), tt))))))
-    (inl (runs.sync 10 3 1_800_001, runs.query 13 3 1_800_004, synced (fetched.View young.late_turned.view), young.block_answer young.late_turned ∷ [], refl, (Some (fetched.View young.late_turned.view), sync_run 10 3 1_800_001 (runs.seen 1_800_001 ∷ []) refl, refl), refl,
-    inl (runs.query 13 3 1_800_004, [], young.block_answer young.late_turned, [], refl, (Some (called.Answer (small.up ∷ []) (small.a ∷ [])), query_run [] merge_all 10 1_800_001 1_800_001 13 3 1_800_004, refl), refl, (refl, refl, refl))))
+    (inl (
+      runs.sync 10 3 1_800_001,
+      runs.query 13 3 1_800_004,
+      synced (fetched.View young.late_turned.view),
+      young.block_answer young.late_turned ∷ [],
+      refl,
+      (Some (fetched.View young.late_turned.view), sync_run 10 3 1_800_001 (runs.seen 1_800_001 ∷ []) refl, refl),
+      refl,
+      inl (runs.query 13 3 1_800_004, [], young.block_answer young.late_turned, [], refl, (Some (called.Answer (small.up ∷ []) (small.a ∷ [])), query_run [] merge_all 10 1_800_001 1_800_001 13 3 1_800_004, refl), refl, (refl, refl, refl)),
+    ))
 
 kept_turned : IsJournal 1 young.journal_turned
 kept_turned = record {

@@ -7,12 +7,11 @@ use Rattle.label_sets.specs.Notation.{quoted_byte, quoted, pair_text, comma_pair
 use Rattle.label_sets.specs.SampleText.{hex_sign, hex_text, pattern_text, timed_text, sample_text, spaced_sample_text, series_text}
 use Rattle.shipper.specs.declared.upload_end.UploadEnd.TheVariants as shipped
 use Rattle.meta_fetcher.specs.declared.sync_end.SyncEnd.TheVariants as fetched
-use Rattle.store_gateway.specs.declared.series_end.SeriesEnd.TheVariants as called
-use Rattle.script_core.specs.Hands.{hands_of_task, workers_of}
+use Rattle.script_core.specs.Hands.{hands_of_task}
 use Rattle.script_core.specs.declared.worker.Worker.{Worker}
 use Rattle.lifecycle_core.specs.Tasks.{End, uploaded, synced}
 use Rattle.lifecycle_core.specs.Views.{Use}
-use Rattle.replay_cli.specs.Outcomes.{TasksCame, PhasesCame}
+use Rattle.replay_cli.specs.Outcomes.{TasksCame}
 use Rattle.replay_cli.specs.Reports.{upload_words, sync_words, source_line, series_line, counts_text, answer_text, query_text, activity_text}
 use Rattle.replay_cli.specs.Verdicts.{IsReport, report_of}
 use Rattle.replay_cli.specs.declared.outcome.Outcome.{Outcome}
@@ -36,36 +35,44 @@ gateway_ends used = synced (fetched.View used.view) ∷ young.no_answer used ∷
 first_came : (used : Use) → length used.view.kept ≡ 0 → TasksCame young.script (first_gateway ∷ uploader ∷ []) (first_ends used) 0 first_tasks first_outcomes
 unfolding hands_of_task
 first_came used none = (
+  record {
+    own = synced (fetched.View used.view) ∷ [];
+    came = (record { worker = first_gateway; own = gateway_ends used; among = (0, lit< tt, refl); is = refl; came = (0, lit< tt, refl) }, tt);
+    is = ap (λ (n : ℕ). outcome.Sync (syncs.Blocks n)) (sym none);
+  },
+  (
     record {
-      own = synced (fetched.View used.view) ∷ [];
-      came = (record { worker = first_gateway; own = gateway_ends used; among = (0, lit< tt, refl); is = refl; came = (0, lit< tt, refl) }, tt);
-      is = ap (λ (n : ℕ). outcome.Sync (syncs.Blocks n)) (sym none);
-    },
-    (record {
       own = uploaded (shipped.Done 3) ∷ [];
       came = (record { worker = uploader; own = uploaded (shipped.Done 3) ∷ []; among = (1, lit< tt, refl); is = refl; came = (0, lit< tt, refl) }, tt);
       is = refl;
     },
-    (record {
-      own = young.no_answer used ∷ [];
-      came = (record { worker = first_gateway; own = gateway_ends used; among = (0, lit< tt, refl); is = refl; came = (1, lit< tt, refl) }, tt);
-      is = refl;
-    }, refl)),
+    (
+      record {
+        own = young.no_answer used ∷ [];
+        came = (record { worker = first_gateway; own = gateway_ends used; among = (0, lit< tt, refl); is = refl; came = (1, lit< tt, refl) }, tt);
+        is = refl;
+      },
+      refl,
+    ),
+  ),
 )
 
 second_came : (used : Use) → length used.view.kept ≡ 1 → TasksCame young.script (second_gateway ∷ []) (second_ends used) 0 second_tasks second_outcomes
 unfolding hands_of_task
 second_came used one = (
+  record {
+    own = synced (fetched.View used.view) ∷ [];
+    came = (record { worker = second_gateway; own = synced (fetched.View used.view) ∷ young.block_answer used ∷ []; among = (0, lit< tt, refl); is = refl; came = (0, lit< tt, refl) }, tt);
+    is = ap (λ (n : ℕ). outcome.Sync (syncs.Blocks n)) (sym one);
+  },
+  (
     record {
-      own = synced (fetched.View used.view) ∷ [];
-      came = (record { worker = second_gateway; own = synced (fetched.View used.view) ∷ young.block_answer used ∷ []; among = (0, lit< tt, refl); is = refl; came = (0, lit< tt, refl) }, tt);
-      is = ap (λ (n : ℕ). outcome.Sync (syncs.Blocks n)) (sym one);
-    },
-    (record {
       own = young.block_answer used ∷ [];
       came = (record { worker = second_gateway; own = synced (fetched.View used.view) ∷ young.block_answer used ∷ []; among = (0, lit< tt, refl); is = refl; came = (1, lit< tt, refl) }, tt);
       is = refl;
-    }, refl),
+    },
+    refl,
+  ),
 )
 
 lines : young.report ≡ report_of young.script (first_tasks ++ second_tasks) (first_outcomes ++ second_outcomes)
@@ -76,11 +83,11 @@ pub reports : (early late : Use) → length early.view.kept ≡ 0 → length lat
 reports early late none one = record {
   outcomes = first_outcomes ++ second_outcomes;
   came = (
-      first_outcomes,
-      second_outcomes,
-      refl,
-      subst (λ (ws : List Worker). TasksCame young.script ws (first_ends early) 0 first_tasks first_outcomes) (sym first_workers) (first_came early none),
-      (second_outcomes, [], refl, subst (λ (ws : List Worker). TasksCame young.script ws (second_ends late) 0 second_tasks second_outcomes) (sym second_workers) (second_came late one), (refl, refl)),
+    first_outcomes,
+    second_outcomes,
+    refl,
+    subst (λ (ws : List Worker). TasksCame young.script ws (first_ends early) 0 first_tasks first_outcomes) (sym first_workers) (first_came early none),
+    (second_outcomes, [], refl, subst (λ (ws : List Worker). TasksCame young.script ws (second_ends late) 0 second_tasks second_outcomes) (sym second_workers) (second_came late one), (refl, refl)),
   );
   lines = lines;
   flag = refl;

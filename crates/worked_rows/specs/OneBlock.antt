@@ -31,7 +31,7 @@ text = join_with_byte 10 (
     ∷ codes "sync g"
     ∷ codes "query 0 5000 up"
     ∷ [] ∷ []
-)
+    )
 
 -- the metric `up`
 abbrev pub selector : List Matcher
@@ -44,9 +44,9 @@ script = record {
   blocks = small.block ∷ [];
   selectors = selector ∷ [];
   phases =
-    record { line = 5; moment = record { ms = 0 }; tasks = record { line = 6; work = Upload small.a None } ∷ [] }
-    ∷ record { line = 7; moment = record { ms = 1_800_000 }; tasks = record { line = 8; work = Sync 0 } ∷ record { line = 9; work = Query (pos 0) (pos 5000) 0 } ∷ [] }
-    ∷ [];
+      record { line = 5; moment = record { ms = 0 }; tasks = record { line = 6; work = Upload small.a None } ∷ [] }
+      ∷ record { line = 7; moment = record { ms = 1_800_000 }; tasks = record { line = 8; work = Sync 0 } ∷ record { line = 9; work = Query (pos 0) (pos 5000) 0 } ∷ [] }
+      ∷ [];
 }
 
 -- ---- the run
@@ -87,7 +87,7 @@ report = join_with_byte 10 (
     ∷ codes "source 0000000000000000000000000A"
     ∷ codes "series {__name__=\"up\"} 1000:3ff0000000000000"
     ∷ [] ∷ []
-)
+    )
 
 -- the answered query
 abbrev pub asked : Answered

@@ -34,4 +34,4 @@ report_without_source = join_with_byte 10 (
     ∷ codes "query 0 5000: 1 series 1 samples 1 sources"
     ∷ codes "series {__name__=\"up\"} 1000:3ff0000000000000"
     ∷ [] ∷ []
-)
+    )

@@ -5,7 +5,6 @@ use Rattle.std.specs.List.{join_with_byte}
 use Rattle.moment_core.specs.StandardRules.{standard_rules}
 use Rattle.world_core.specs.declared.entry.Entry.{Entry}
 use Rattle.shipper.specs.declared.upload_end.UploadEnd.TheVariants as shipped
-use Rattle.meta_fetcher.specs.declared.view.View.{View}
 use Rattle.meta_fetcher.specs.declared.sync_end.SyncEnd.TheVariants as fetched
 use Rattle.store_gateway.specs.declared.series_end.SeriesEnd.TheVariants as called
 use Rattle.script_core.specs.declared.script.Script.{Script}
@@ -32,7 +31,7 @@ text = join_with_byte 10 (
     ∷ codes "sync g"
     ∷ codes "query 0 5000 {}"
     ∷ [] ∷ []
-)
+    )
 
 abbrev pub script : Script
 script = record {
@@ -41,9 +40,9 @@ script = record {
   blocks = small.block ∷ [];
   selectors = [] ∷ [] ∷ [];
   phases =
-    record { line = 5; moment = record { ms = 0 }; tasks = record { line = 6; work = Sync 0 } ∷ record { line = 7; work = Upload small.a None } ∷ record { line = 8; work = Query (pos 0) (pos 5000) 0 } ∷ [] }
-    ∷ record { line = 9; moment = record { ms = 1_800_000 }; tasks = record { line = 10; work = Sync 0 } ∷ record { line = 11; work = Query (pos 0) (pos 5000) 1 } ∷ [] }
-    ∷ [];
+      record { line = 5; moment = record { ms = 0 }; tasks = record { line = 6; work = Sync 0 } ∷ record { line = 7; work = Upload small.a None } ∷ record { line = 8; work = Query (pos 0) (pos 5000) 0 } ∷ [] }
+      ∷ record { line = 9; moment = record { ms = 1_800_000 }; tasks = record { line = 10; work = Sync 0 } ∷ record { line = 11; work = Query (pos 0) (pos 5000) 1 } ∷ [] }
+      ∷ [];
 }
 
 -- how a query's line ends that answers nothing, and one that answers the block
@@ -112,7 +111,7 @@ report = join_with_byte 10 (
     ∷ codes "source 0000000000000000000000000A"
     ∷ codes "series {__name__=\"up\"} 1000:3ff0000000000000"
     ∷ [] ∷ []
-)
+    )
 
 -- the two answered queries
 abbrev pub first_asked : Use → Answered
