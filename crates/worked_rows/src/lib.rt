@@ -14,6 +14,6 @@ pub use one_block_changed::{
     read_of_absent_block_is_refused, report_without_source_is_refused,
 };
 pub use young_block::{
-    young_block_is_not_answered, young_block_is_not_kept, young_block_is_reported,
-    young_block_is_spelled, young_block_runs,
+    young_block_is_answered_later, young_block_is_not_answered, young_block_is_not_kept,
+    young_block_is_reported, young_block_is_spelled, young_block_runs,
 };

@@ -5,9 +5,10 @@ ghost use Rattle.script_core.specs.Spelling.{Spells};
 ghost use Rattle.lifecycle_core.specs.Completed.{IsSettled};
 ghost use Rattle.lifecycle_core.specs.Guarantees.{IsExact, IsGiven};
 ghost use Rattle.lifecycle_core.specs.Phases.{IsRunOf, AreFinished};
+ghost use Rattle.lifecycle_core.specs.Views.{Use};
 ghost use Rattle.replay_cli.specs.Verdicts.{IsReport};
-ghost use Rattle.worked_rows.specs.YoungBlock.{text, script, report, first_asked};
-ghost use Rattle.worked_rows.specs.YoungBlock.{journal, ends, early, journal_turned, ends_turned, early_turned};
+ghost use Rattle.worked_rows.specs.YoungBlock.{text, script, report, first_asked, second_asked};
+ghost use Rattle.worked_rows.specs.YoungBlock.{journal, ends, early, late, journal_turned, ends_turned, early_turned, late_turned};
 
 /// A law: the script is what its text spells, and lawful.
 pub fn young_block_is_spelled()
@@ -44,4 +45,11 @@ pub fn young_block_is_not_answered()
     ensures turned_given { IsGiven script ends_turned (first_asked early_turned) }
     ensures turned_exact { IsExact script (first_asked early_turned) }
     ensures turned_unsettled { (ulid : ℕ) → ¬ IsSettled script journal_turned early_turned ulid }
+{}
+
+/// A law: the second query answers the block in both, exactly.
+pub fn young_block_is_answered_later()
+    ensures given { IsGiven script ends (second_asked late) }
+    ensures turned_given { IsGiven script ends_turned (second_asked late_turned) }
+    ensures exact { (used : Use) → IsExact script (second_asked used) }
 {}
