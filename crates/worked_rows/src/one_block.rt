@@ -1,4 +1,4 @@
-ghost use Rattle.std.specs.Prelude.{ℕ, true};
+ghost use Rattle.std.specs.Prelude.{◌≡◌, ℕ, List, Bool, true};
 ghost use Rattle.world_core.specs.Standing.{IsHonest};
 ghost use Rattle.script_core.specs.Lawful.{IsLawfulScript};
 ghost use Rattle.script_core.specs.Spelling.{Spells};
@@ -26,10 +26,11 @@ pub fn one_block_is_honest()
     ensures { IsHonest journal }
 {}
 
-/// A law: all is done, and what is printed says so.
+/// A law: all is done, and what is printed says so. Nothing else may be printed.
 pub fn one_block_is_reported()
     ensures finished { AreFinished script 0 script.phases ends }
     ensures report { IsReport script script.phases ends true report }
+    ensures only { (as_asked : Bool) (other : List ℕ) → IsReport script script.phases ends as_asked other → other ≡ report }
     ensures whole { IsWholeRun script true report journal }
 {}
 
