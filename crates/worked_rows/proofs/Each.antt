@@ -1,0 +1,18 @@
+-- What holds of each entry of a list that is written out.
+use Rattle.std.proofs.Common.{List, [], ◌∷◌, ◌++◌, sym, subst, append-nil, append_assoc}
+use Rattle.world_core.specs.Journals.{Each}
+use Rattle.world_core.specs.declared.entry.Entry.{Entry}
+use Rattle.world_core.proofs.Growing.{Each-none, Each-push}
+
+-- it holds of each of these entries, where others stand before them
+abbrev pub EachAfter : (List Entry → Entry → Type 0) → List Entry → List Entry → Type 0
+EachAfter P before [] = Unit {0}
+EachAfter P before (e ∷ entries) = P before e × EachAfter P (before ++ e ∷ []) entries
+
+each_on : (P : List Entry → Entry → Type 0) (front entries : List Entry) → Each P front → EachAfter P front entries → Each P (front ++ entries)
+each_on P front [] each on = subst (Each P) (sym (append-nil front)) each
+each_on P front (e ∷ entries) each on =
+    subst (Each P) (append_assoc front (e ∷ []) entries) (each_on P (front ++ e ∷ []) entries (Each-push P front e each on.0) on.1)
+
+pub each_of : (P : List Entry → Entry → Type 0) (entries : List Entry) → EachAfter P [] entries → Each P entries
+each_of P entries on = each_on P [] entries (Each-none P) on

@@ -1,0 +1,16 @@
+pub mod Bytes
+pub mod Each
+pub mod SmallTasks
+pub mod Bucket
+pub mod OneBlock
+pub mod OneReport
+pub mod OneAnswer
+pub mod YoungBlock
+pub mod YoungReport
+pub mod YoungAnswers
+pub mod OneUpload
+pub mod OneOutcomes
+pub mod Texts
+pub mod OneLater
+pub mod OneRefused
+pub mod OneInTime

@@ -1,0 +1,6 @@
+pub mod SmallBlock
+pub mod Entries
+pub mod SmallRuns
+pub mod OneBlock
+pub mod OneBlockChanged
+pub mod YoungBlock

@@ -1,0 +1,19 @@
+//! Whole runs that are written out: that the definitions of `lifecycle_core` and `replay_cli` say of them what they should.
+#![tactic(auto)]
+
+mod one_block;
+mod one_block_changed;
+mod young_block;
+
+pub use one_block::{
+    one_block_is_answered, one_block_is_honest, one_block_is_in_time, one_block_is_reported,
+    one_block_is_spelled, one_block_runs,
+};
+pub use one_block_changed::{
+    absent_meta_is_a_lie, index_before_segment_is_refused, put_without_look_is_refused,
+    read_of_absent_block_is_refused, report_without_source_is_refused,
+};
+pub use young_block::{
+    young_block_is_answered_later, young_block_is_not_answered, young_block_is_not_kept,
+    young_block_is_reported, young_block_is_spelled, young_block_runs,
+};

@@ -1,0 +1,32 @@
+ghost use Rattle.std.specs.Prelude.{List, ◌++◌, Bool};
+ghost use Rattle.world_core.specs.declared.entry.Entry.{Entry};
+ghost use Rattle.world_core.specs.Standing.{IsHonest};
+ghost use Rattle.lifecycle_core.specs.Phases.{IsLawfulJournal};
+ghost use Rattle.replay_cli.specs.Verdicts.{IsReport};
+ghost use Rattle.worked_rows.specs.OneBlock.{script, ends};
+ghost use Rattle.worked_rows.specs.OneBlockChanged.{index_first, meta_absent, no_look, report_without_source};
+
+/// A law: no lawful journal puts the index before the segment, whatever follows.
+pub fn index_before_segment_is_refused()
+    ensures { (rest : List Entry) → ¬ IsLawfulJournal script (index_first ++ rest) }
+{}
+
+/// A law: no lawful journal puts an object of the block before the look at its meta.
+pub fn put_without_look_is_refused()
+    ensures { (rest : List Entry) → ¬ IsLawfulJournal script (no_look ++ rest) }
+{}
+
+/// A law: no lawful journal has a query that reads a block whose meta its sync found absent, whatever the views are said to be.
+pub fn read_of_absent_block_is_refused()
+    ensures { (rest : List Entry) → ¬ IsLawfulJournal script (meta_absent ++ rest) }
+{}
+
+/// A law: nor is a journal honest where the meta is absent after it was put.
+pub fn absent_meta_is_a_lie()
+    ensures { (rest : List Entry) → ¬ IsHonest (meta_absent ++ rest) }
+{}
+
+/// A law: without its source an answer is not reported.
+pub fn report_without_source_is_refused()
+    ensures { (as_asked : Bool) → ¬ IsReport script script.phases ends as_asked report_without_source }
+{}
