@@ -7,9 +7,11 @@ use Rattle.world_core.specs.declared.entry.Entry.{Entry}
 use Rattle.world_core.proofs.Growing.{Each-none}
 use Rattle.script_core.specs.declared.phase.Phase.{Phase}
 use Rattle.script_core.specs.declared.script.Script.{Script}
+use Rattle.lifecycle_core.specs.InLine.{IsInLine}
 use Rattle.lifecycle_core.specs.Phases.{IsLawfulJournal, PhasesRun, BeginsPhase}
 use Rattle.lifecycle_core.specs.Tasks.{End}
 use Rattle.lifecycle_core.specs.Views.{Views, no_views}
+use Rattle.lifecycle_core.proofs.Joined.{no_phase_yet}
 
 no_phase : (script : Script) (phases : List Phase) → PhasesRun script 0 no_views phases [] []
 no_phase script [] = (refl, refl)
@@ -27,6 +29,9 @@ no_journal tick = record {
 
 pub none_lawful : (script : Script) → IsLawfulJournal script []
 none_lawful script = ([], record { kept = no_journal script.rules.tick.ms; phases = no_phase script script.phases })
+
+pub none_in_line : (script : Script) → IsInLine script []
+none_in_line script = ([], record { kept = no_journal script.rules.tick.ms; phases = no_phase_yet script 0 no_views script.phases })
 
 first_phase : (script : Script) (number : ℕ) (views : Views) (phases : List Phase) (first : Entry) (others : List Entry) (ends : List (List (List End)))
     → PhasesRun script number views phases (first ∷ others) ends → (phase : Phase) × (later : List Phase) × (phases ≡ phase ∷ later) × BeginsPhase phase first

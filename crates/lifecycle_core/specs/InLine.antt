@@ -68,3 +68,7 @@ PhasesInLine script number views (phase ∷ phases) entries ends =
 pub record IsRunInLine (script : Script) (journal : List Entry) (ends : List (List End)) : Type 0 where
   pub kept : IsJournal script.rules.tick.ms journal
   pub phases : PhasesInLine script 0 no_views script.phases journal ends
+
+-- a journal of tasks that were done in the order of their lines
+abbrev pub IsInLine : Script → List Entry → Type 0
+IsInLine script journal = (ends : List (List End)) × IsRunInLine script journal ends

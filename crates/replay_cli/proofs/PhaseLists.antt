@@ -15,7 +15,7 @@ use Rattle.script_core.specs.declared.worker.Worker.{Worker}
 use Rattle.script_core.specs.declared.phase.Phase.{Phase}
 use Rattle.script_core.specs.declared.script.Script.{Script}
 use Rattle.script_core.specs.declared.task.Task.{Task}
-use Rattle.lifecycle_core.specs.InLine.{InLine, PhasesInLine, seat_of}
+use Rattle.lifecycle_core.specs.InLine.{InLine, IsInLine, PhasesInLine, seat_of}
 use Rattle.lifecycle_core.specs.Phases.{AreUnfinished, BeginsPhase, IsLawfulJournal}
 use Rattle.lifecycle_core.specs.Tasks.{End}
 use Rattle.lifecycle_core.specs.Views.{Views, no_views}
@@ -277,6 +277,14 @@ full_run script place journal as_asked text lawful kept full below b =
       as_asked = as_asked;
       report = record { outcomes = b.outcomes; came = phases_came script lawful 0 done b.ends b.outcomes same b.told; lines = b.lines; flag = b.flag };
     }
+
+-- what a run came to is a run in line
+pub run_in_line : (script : Script) (gateways : List Gateway) (journal : List Entry) (as_asked : Bool) (text : List ℕ) (r : Result (Unit {0}) Broken) → IsJournal script.rules.tick.ms journal → RunCame script gateways journal as_asked text r → IsInLine script journal
+run_in_line script gateways journal as_asked text (Ok done) kept came =
+    let run = run_so_far script (length script.phases) gateways journal as_asked text came in
+    (run.0, record { kept = kept; phases = run.1 })
+run_in_line script gateways journal as_asked text (Err broken.Full) kept came = (came.2.ends ++ came.2.unfinished, record { kept = kept; phases = came.2.run })
+run_in_line script gateways journal as_asked text (Err broken.NoMemory) kept came = (came.0, record { kept = kept; phases = came.1 })
 
 pub lawful_run : (script : Script) (journal : List Entry) → IsLawfulScript script → IsJournal script.rules.tick.ms journal → HasRun script journal → IsLawfulJournal script journal
 lawful_run script journal lawful kept run =

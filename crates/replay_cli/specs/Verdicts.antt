@@ -12,6 +12,7 @@ use Rattle.script_core.specs.Wording.{refusal_text}
 use Rattle.script_core.specs.declared.phase.Phase.{Phase}
 use Rattle.script_core.specs.declared.script.Script.{Script}
 use Rattle.script_core.specs.declared.task.Task.{Task}
+use Rattle.lifecycle_core.specs.InLine.{IsInLine}
 use Rattle.lifecycle_core.specs.Phases.{AreFinished, AreUnfinished, IsLawfulJournal, IsRunOf}
 use Rattle.lifecycle_core.specs.Tasks.{End}
 use Rattle.replay_cli.specs.Kept.{HoldsNothing}
@@ -107,13 +108,14 @@ pub record Around : Type 1 where
   pub journal : Option (List Entry)
 
 -- Why a script's run comes to a verdict: by what the bucket held before, where that is told; by whether the bucket could not
--- be opened or listed; and by the journal that is handed back. Whatever it comes to, the journal is lawful for the script.
+-- be opened or listed; and by the journal that is handed back. Whatever it comes to, the journal is lawful
+-- for the script, and its tasks were done in the order of their lines.
 abbrev pub IsRun : Script → Option Contents → Type 0 → Option (List Entry) → Verdict → Type 0
 IsRun script before site_failed journal SiteFault = site_failed × IfSome journal (λ entries. entries ≡ [])
-IsRun script before site_failed journal (NotEmpty name) = IfSome before (λ contents. IsPage contents [] [] 1 (name ∷ [])) × IfSome journal (λ entries. entries ≡ [])
-IsRun script before site_failed journal (Full lines) = IfSome before HoldsNothing × IsSomeAnd journal (IsFullRun script lines.items)
-IsRun script before site_failed journal (Report lines as_asked) = IfSome before HoldsNothing × IsSomeAnd journal (IsWholeRun script as_asked lines.items)
-IsRun script before site_failed journal NoMemory = IfSome journal (IsLawfulJournal script)
+IsRun script before site_failed journal (NotEmpty name) = IfSome before (λ contents. IsPage contents [] [] 1 (name ∷ [])) × IsSomeAnd journal (λ entries. entries ≡ [])
+IsRun script before site_failed journal (Full lines) = IfSome before HoldsNothing × IsSomeAnd journal (λ entries. IsInLine script entries × IsFullRun script lines.items entries)
+IsRun script before site_failed journal (Report lines as_asked) = IfSome before HoldsNothing × IsSomeAnd journal (λ entries. IsInLine script entries × IsWholeRun script as_asked lines.items entries)
+IsRun script before site_failed journal NoMemory = IfSome journal (λ entries. IsInLine script entries × IsLawfulJournal script entries)
 IsRun script before site_failed journal other = ⊥
 
 -- the text spells a lawful script, whose run comes to the verdict
