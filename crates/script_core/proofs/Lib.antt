@@ -10,6 +10,8 @@ pub mod LineTools
 pub mod SpelledValues
 pub mod SpelledSeries
 pub mod SpelledHands
+pub mod StaffLaws
+pub mod SeatLaws
 pub mod SpelledRules
 pub mod FoundSetup
 pub mod FoundSeries

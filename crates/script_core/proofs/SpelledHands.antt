@@ -11,17 +11,16 @@ use Rattle.script_core.specs.declared.hand.Hand.TheVariants.{Upload, Gateway}
 use Rattle.script_core.specs.declared.task.Task.{Task}
 use Rattle.script_core.specs.Hands.{same_hand, hands_of_task, with_hand, with_hands, hands_from, hands_of, does, places_from}
 use Rattle.script_core.specs.Spelling.{AreEnough, FewWorkers}
-use Rattle.script_core.specs.Staff.{IsStaff}
 
 -- ---- equal hands
 
-hands_equal : (one other : Hand) → same_hand one other ≡ true → one ≡ other
+pub hands_equal : (one other : Hand) → same_hand one other ≡ true → one ≡ other
 hands_equal (Upload one) (Upload other) e = let same : one ≡ other = grind (arith, nat_tests) in ap Upload same
 hands_equal (Upload one) (Gateway other) e = absurd cc
 hands_equal (Gateway one) (Upload other) e = absurd cc
 hands_equal (Gateway one) (Gateway other) e = let same : one ≡ other = grind (arith, nat_tests) in ap Gateway same
 
-itself : (hand : Hand) → same_hand hand hand ≡ true
+pub itself : (hand : Hand) → same_hand hand hand ≡ true
 itself (Upload place) = grind (arith, nat_tests)
 itself (Gateway gateway) = grind (arith, nat_tests)
 
@@ -40,15 +39,15 @@ hands_laws =
 abbrev pub has : List Hand → Hand → Bool
 has hands hand = list_any (same_hand hand) hands
 
-either : (a b : Bool) → (a || b) ≡ true → (a ≡ true) ⊎ (b ≡ true)
+pub either : (a b : Bool) → (a || b) ≡ true → (a ≡ true) ⊎ (b ≡ true)
 either true b h = inl refl
 either false b h = inr h
 
-or_left : (a b : Bool) → a ≡ true → (a || b) ≡ true
+pub or_left : (a b : Bool) → a ≡ true → (a || b) ≡ true
 or_left true b h = refl
 or_left false b h = absurd cc
 
-or_right : (a b : Bool) → b ≡ true → (a || b) ≡ true
+pub or_right : (a b : Bool) → b ≡ true → (a || b) ≡ true
 or_right true b h = refl
 or_right false b h = h
 
@@ -59,7 +58,7 @@ has-push others new hand = list_any-append (same_hand hand) others (new ∷ [])
 abbrev pub Within : List Hand → List Hand → Type 0
 Within some all = (hand : Hand) → has some hand ≡ true → has all hand ≡ true
 
-kept_by : (others : List Hand) (new hand : Hand) (b : Bool) → has others hand ≡ true → has (cond b others (others ++ new ∷ [])) hand ≡ true
+pub kept_by : (others : List Hand) (new hand : Hand) (b : Bool) → has others hand ≡ true → has (cond b others (others ++ new ∷ [])) hand ≡ true
 kept_by others new hand true h = h
 kept_by others new hand false h = has-push others new hand ∙ or_left (has others hand) (same_hand hand new || false) h
 
@@ -89,12 +88,12 @@ distinct_by others new false is once = IsDistinct-push hands_laws others new onc
 
 -- ---- the hands of a task
 
-fold_keeps : (others more : List Hand) → Within others (fold with_hand others more)
+pub fold_keeps : (others more : List Hand) → Within others (fold with_hand others more)
 fold_keeps others [] hand h = h
 fold_keeps others (new ∷ more) hand h =
     fold_keeps (with_hand others new) more hand (kept_by others new hand (has others new) h)
 
-fold_has : (others more : List Hand) → Within more (fold with_hand others more)
+pub fold_has : (others more : List Hand) → Within more (fold with_hand others more)
 fold_has others [] hand h = absurd cc
 fold_has others (new ∷ more) hand h =
     elim (either (same_hand hand new) (has more hand) h) [
@@ -122,7 +121,7 @@ from_keeps gateways others place [] hand h = h
 from_keeps gateways others place (task ∷ tasks) hand h =
     from_keeps gateways (with_hands gateways others place task.work) (place + 1) tasks hand (fold_keeps others (hands_of_task gateways place task.work) hand h)
 
-from_enough : (gateways : ℕ) (others : List Hand) (place : ℕ) (tasks : List Task) → AreEnough gateways (hands_from gateways others place tasks) place tasks
+pub from_enough : (gateways : ℕ) (others : List Hand) (place : ℕ) (tasks : List Task) → AreEnough gateways (hands_from gateways others place tasks) place tasks
 unfolding hands_from with_hands
 from_enough gateways others place [] = tt
 from_enough gateways others place (task ∷ tasks) = (
@@ -137,13 +136,13 @@ from_within gateways others all place (task ∷ tasks) old enough =
     from_within gateways (with_hands gateways others place task.work) all (place + 1) tasks
     (fold_within others (hands_of_task gateways place task.work) all old enough.0) enough.1
 
-from_distinct : (gateways : ℕ) (others : List Hand) (place : ℕ) (tasks : List Task) → IsDistinct same_hand others → IsDistinct same_hand (hands_from gateways others place tasks)
+pub from_distinct : (gateways : ℕ) (others : List Hand) (place : ℕ) (tasks : List Task) → IsDistinct same_hand others → IsDistinct same_hand (hands_from gateways others place tasks)
 unfolding hands_from with_hands
 from_distinct gateways others place [] once = once
 from_distinct gateways others place (task ∷ tasks) once =
     from_distinct gateways (with_hands gateways others place task.work) (place + 1) tasks (fold_distinct others (hands_of_task gateways place task.work) once)
 
-none_twice : IsDistinct same_hand []
+pub none_twice : IsDistinct same_hand []
 unfolding IsDistinct
 none_twice = tt
 
@@ -161,7 +160,7 @@ push_only others new hand false h =
           ]
     ]
 
-fold_only : (others more : List Hand) (hand : Hand) → has (fold with_hand others more) hand ≡ true → (has others hand ≡ true) ⊎ (has more hand ≡ true)
+pub fold_only : (others more : List Hand) (hand : Hand) → has (fold with_hand others more) hand ≡ true → (has others hand ≡ true) ⊎ (has more hand ≡ true)
 fold_only others [] hand h = inl h
 fold_only others (new ∷ more) hand h =
     elim (fold_only (with_hand others new) more hand h) [
@@ -194,19 +193,12 @@ needed_from gateways others place (task ∷ tasks) hand h =
       | inr later ↦ inr (some_later place (places_from gateways hand (place + 1) tasks) (does gateways hand place task.work) later)
     ]
 
-needed_by : (gateways : ℕ) (tasks : List Task) (hand : Hand) → has (hands_of gateways tasks) hand ≡ true → places_from gateways hand 0 tasks ≢ []
+pub needed_by : (gateways : ℕ) (tasks : List Task) (hand : Hand) → has (hands_of gateways tasks) hand ≡ true → places_from gateways hand 0 tasks ≢ []
 needed_by gateways tasks hand h =
     elim (needed_from gateways [] 0 tasks hand h) [
       | inl none ↦ absurd cc
       | inr some ↦ some
     ]
-
-pub is_staff : (gateways : ℕ) (tasks : List Task) → IsStaff gateways tasks (hands_of gateways tasks)
-is_staff gateways tasks = record {
-  enough = from_enough gateways [] 0 tasks;
-  needed = needed_by gateways tasks;
-  once = from_distinct gateways [] 0 tasks none_twice;
-}
 
 -- ---- how many are enough
 

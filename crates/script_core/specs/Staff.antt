@@ -1,13 +1,63 @@
--- Who works in a phase, apart from how it is counted.
-use Rattle.std.specs.Prelude.{◌≢◌, ℕ, List, [], IsTrue}
-use Rattle.std.specs.List.{list_any, IsDistinct}
+-- Who works in a phase and at which seat, apart from how it is counted.
+use Rattle.std.specs.Prelude.{◌≡◌, ◌≢◌, ◌⊎◌, ℕ, ◌+◌, ◌<◌, ◌==◌, List, [], ◌∷◌, length, IsTrue, slice_get, Some}
+use Rattle.std.specs.List.{list_any, IsDistinct, flat_map, range_with_len}
+use Rattle.std.specs.List.Sorted.{IsStrictlySortedBy}
+use Rattle.std.specs.Ordering.{nat_cmp}
 use Rattle.script_core.specs.declared.hand.Hand.{Hand}
+use Rattle.script_core.specs.declared.hand.Hand.TheVariants.{Upload, Gateway}
 use Rattle.script_core.specs.declared.task.Task.{Task}
-use Rattle.script_core.specs.Hands.{same_hand, places_from}
+use Rattle.script_core.specs.declared.script.Script.{Script}
+use Rattle.script_core.specs.declared.worker.Worker.{Worker}
+use Rattle.script_core.specs.Hands.{same_hand, does, places_from, gateway_of, workers_of}
 use Rattle.script_core.specs.Spelling.{AreEnough}
 
--- Whoever does a task of the phase is among the hands, each of them does one, and nobody is there twice.
+-- The task at a place is one that a hand does.
+pub record IsTaskOf (gateways : ℕ) (tasks : List Task) (hand : Hand) (place : ℕ) : Type 0 where
+  pub task : Task
+  pub is : slice_get tasks place ≡ Some task
+  pub does_it : IsTrue (does gateways hand place task.work)
+
+-- These are the places of a hand's tasks: of no other tasks, of all of its own, in order and none twice.
+pub record ArePlacesOf (gateways : ℕ) (tasks : List Task) (hand : Hand) (places : List ℕ) : Type 0 where
+  pub only : (place : ℕ) → IsTrue (list_any (λ own. own == place) places) → IsTaskOf gateways tasks hand place
+  pub each : (place : ℕ) → IsTaskOf gateways tasks hand place → IsTrue (list_any (λ own. own == place) places)
+  pub ascend : IsStrictlySortedBy nat_cmp places
+
+-- both are gateways, and the line of the first is before that of the second
+abbrev pub IsGatewayBefore : Hand → Hand → Type 0
+IsGatewayBefore (Upload one) other = ⊥
+IsGatewayBefore (Gateway one) (Upload other) = ⊥
+IsGatewayBefore (Gateway one) (Gateway other) = one < other
+
+-- One hand's first task is before another's. Gateways that begin with one query follow the order of their lines.
+abbrev pub BeginsBefore : ℕ → List Task → Hand → Hand → Type 0
+BeginsBefore gateways tasks one other =
+    (first second : ℕ) (more later : List ℕ) → places_from gateways one 0 tasks ≡ first ∷ more
+    → places_from gateways other 0 tasks ≡ second ∷ later
+    → (first < second) ⊎ ((first ≡ second) × IsGatewayBefore one other)
+
+-- Whoever does a task of the phase is among the hands, each of them does one, and nobody is there twice. They stand in
+-- the order of their first tasks, and what counts as a hand's tasks are its tasks.
 pub record IsStaff (gateways : ℕ) (tasks : List Task) (hands : List Hand) : Type 0 where
   pub enough : AreEnough gateways hands 0 tasks
   pub needed : (hand : Hand) → IsTrue (list_any (same_hand hand) hands) → places_from gateways hand 0 tasks ≢ []
   pub once : IsDistinct same_hand hands
+  pub ordered : (before after : ℕ) (one other : Hand) → before < after → slice_get hands before ≡ Some one
+      → slice_get hands after ≡ Some other → BeginsBefore gateways tasks one other
+  pub places : (hand : Hand) → ArePlacesOf gateways tasks hand (places_from gateways hand 0 tasks)
+
+-- the workers of the phases before one
+abbrev pub workers_before : Script → ℕ → List Worker
+workers_before script phase = flat_map (workers_of script) (range_with_len 0 phase)
+
+-- the worker of a hand, at a seat
+pub record IsWorkerOf (gateways : ℕ) (tasks : List Task) (hand : Hand) (number : ℕ) (worker : Worker) : Type 0 where
+  pub seat : worker.seat ≡ number
+  pub gateway : worker.gateway ≡ gateway_of hand
+  pub places : ArePlacesOf gateways tasks hand worker.tasks
+
+-- Each hand has one worker, in the order of the hands, and their seats are the next after those that are taken.
+pub record AreSeated (gateways : ℕ) (tasks : List Task) (hands : List Hand) (taken : ℕ) (workers : List Worker) : Type 0 where
+  pub count : length workers ≡ length hands
+  pub each : (place : ℕ) (hand : Hand) (worker : Worker) → slice_get hands place ≡ Some hand
+      → slice_get workers place ≡ Some worker → IsWorkerOf gateways tasks hand (taken + place + 1) worker

@@ -22,7 +22,7 @@ pub struct Script {
 }
 
 impl Script {
-    ghost use Rattle.std.specs.Prelude.{◌≡◌, Some, IfOk, slice_get};
+    ghost use Rattle.std.specs.Prelude.{◌≡◌, Some, IfOk, length, slice_get};
     ghost use Rattle.reading_core.specs.Reading.{Gives};
     ghost use Rattle.script_core.specs.declared.script.Script.{Script};
     ghost use Rattle.script_core.specs.declared.script_refusal.ScriptRefusal.TheVariants as script_refusals;
@@ -31,7 +31,7 @@ impl Script {
     ghost use Rattle.script_core.specs.Lawful.{IsLawfulScript};
     ghost use Rattle.script_core.specs.Reading.{script_of};
     ghost use Rattle.script_core.specs.Spelling.{Spells};
-    ghost use Rattle.script_core.specs.Staff.{IsStaff};
+    ghost use Rattle.script_core.specs.Staff.{IsStaff, AreSeated, workers_before};
 
     /// Reads a script.
     pub fn read(alloc: Global, text: &[u8]) -> Result<Script, ScriptRefusal>
@@ -60,10 +60,20 @@ impl Script {
         self.workers_after(alloc, phase, before)
     }
 
-    /// A law: whoever does a task of a phase is among its workers, each of them does one, and nobody is there twice.
+    /// A law: whoever does a task of a phase is among its workers, each of them does one, and nobody is there twice. They
+    /// stand in the order of their first tasks, and the places in `Worker::tasks` are those of all the worker's tasks.
     pub fn workers_are_staff(&self, phase: usize)
         ensures { (one : Phase) → slice_get self.now.phases phase ≡ Some one
             → IsStaff (gateway_count self.now.gateways) one.tasks (hands_of (gateway_count self.now.gateways) one.tasks) }
+    {
+        let _phase = phase;
+    }
+
+    /// A law: seats count from 1 over the whole script, and no two workers share one. A worker's seat is the number of
+    /// workers of the phases before, its place in its own phase, and one.
+    pub fn workers_are_seated(&self, phase: usize)
+        ensures { IsLawfulScript self.now → (one : Phase) → slice_get self.now.phases phase ≡ Some one
+            → AreSeated (gateway_count self.now.gateways) one.tasks (hands_of (gateway_count self.now.gateways) one.tasks) (length (workers_before self.now phase)) (workers_of self.now phase) }
     {
         let _phase = phase;
     }
