@@ -26,9 +26,9 @@ caused accepted around (Full lines) a w = (a, w)
 caused accepted around (Report lines as_asked) a w = (a, w)
 caused accepted around NoMemory a w = (a, w)
 
-pub worked : (around : Around) (script : Script) (v : Verdict) → IfSome around.text (λ bytes. script_of bytes ≡ Ok script) → IsLawfulScript script
+pub worked : (around : Around) (script : Script) (v : Verdict) → IfSome around.text (λ bytes. script_of bytes ≡ Ok script) → IfSome around.text (λ bytes. around.left ≡ Some []) → IsLawfulScript script
     → IsRun script around.before around.site_failed around.journal v → IsWorked around v
-worked around script v spelled lawful run = inr (record { script = script; spelled = spelled; lawful = lawful; run = run })
+worked around script v spelled taken lawful run = inr (record { script = script; spelled = spelled; taken = taken; lawful = lawful; run = run })
 
 pub unread : (around : Around) (v : Verdict) → IsUnread around.text around.source_failed v → around.journal ≡ None → IsWorked around v
 unread around v why none = inl (why, none)

@@ -1,5 +1,5 @@
 -- What a call of the program leaves of a bucket that the site handed out, and of the journal over it.
-use Rattle.std.specs.Prelude.{◌≡◌, ◌≢◌, ◌≤◌, ℕ, List, [], Option, Some, None, IfSome, IsSome}
+use Rattle.std.specs.Prelude.{◌≡◌, ◌≢◌, ◌≤◌, ℕ, List, [], Option, Some, None, IfSome}
 use Rattle.bucket_core.specs.Contents.{Contents, nothing}
 use Rattle.world_core.specs.declared.entry.Entry.{Entry}
 use Rattle.world_core.specs.Standing.{stands, IsHonest}
@@ -24,13 +24,5 @@ abbrev pub IsUntouched : {B : Type 0} → (B → Option Contents) → Contents �
 IsUntouched contents before (Some journal) (Some store) = journal ≡ [] → IfSome (contents store) (λ c. c ≡ before)
 IsUntouched contents before journal store = Unit {0}
 
--- no operation was done
-abbrev pub IsWithoutEntry : Option (List Entry) → Type 0
-IsWithoutEntry journal = IfSome journal (λ entries. entries ≡ [])
-
 abbrev pub HoldsNothing : Contents → Type 0
 HoldsNothing contents = contents ≡ nothing
-
--- some object stands
-abbrev pub HoldsSome : Contents → Type 0
-HoldsSome contents = (key : List ℕ) × IsSome (contents key)

@@ -33,12 +33,6 @@ pub record Adds {E : Type 0} (is_run : List Entry → E → Type 0) (seat : ℕ)
   pub seats : All (λ e. e.seat ≡ seat) made
   pub run : is_run made end
 
--- what a task with these ends came to
-abbrev pub IsToldBy : Work → List End → Came → Type 0
-IsToldBy work ends (came.To o) = IsOutcome work ends o
-IsToldBy work ends came.Full = Unit {0}
-IsToldBy work ends came.NoMemory = Unit {0}
-
 -- A task that one worker does comes to its end, or breaks off without one.
 abbrev pub CameBy : Work → Option End → Came → Type 0
 CameBy work (Some end) (came.To o) = IsOutcome work (end ∷ []) o

@@ -1,5 +1,5 @@
 -- What a call of the program comes to, why, and what it then writes.
-use Rattle.std.specs.Prelude.{◌≡◌, ◌≢◌, ◌⊎◌, ℕ, List, [], ◌∷◌, ◌++◌, length, Bool, true, false, Option, None, option_map, IfSome, IsSomeAnd, Ok, Err, codes}
+use Rattle.std.specs.Prelude.{◌≡◌, ◌≢◌, ◌⊎◌, ℕ, List, [], ◌∷◌, ◌++◌, length, Bool, true, false, Option, Some, None, option_map, IfSome, IsSomeAnd, Ok, Err, codes}
 use Rattle.std.specs.List.{flat_map, list_all}
 use Rattle.bucket_core.specs.Causes.{Rose}
 use Rattle.bucket_core.specs.Contents.{Contents}
@@ -98,6 +98,8 @@ pub record IsFullRun (script : Script) (text : List ℕ) (journal : List Entry) 
 pub record Around : Type 1 where
   -- the text of the script, where the source tells it
   pub text : Option (List ℕ)
+  -- what the source then holds still, where it tells
+  pub left : Option (List ℕ)
   -- the source failed in this call
   pub source_failed : Type 0
   -- what the bucket held before, where the site tells it
@@ -118,10 +120,11 @@ IsRun script before site_failed journal (Report lines as_asked) = IfSome before 
 IsRun script before site_failed journal NoMemory = IfSome journal (λ entries. IsInLine script entries × IsLawfulJournal script entries)
 IsRun script before site_failed journal other = ⊥
 
--- the text spells a lawful script, whose run comes to the verdict
+-- the text was read to its end and spells a lawful script, whose run comes to the verdict
 pub record IsRunOfText (around : Around) (verdict : Verdict) : Type 0 where
   pub script : Script
   pub spelled : IfSome around.text (λ bytes. script_of bytes ≡ Ok script)
+  pub taken : IfSome around.text (λ bytes. around.left ≡ Some [])
   pub lawful : IsLawfulScript script
   pub run : IsRun script around.before around.site_failed around.journal verdict
 

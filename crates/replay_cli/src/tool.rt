@@ -33,6 +33,7 @@ pub fn run_tool<S: Site, R: Source, K: Sink>(
     ensures verdict { (verdict : Verdict) × (status : Status)
         × IsCaused (IsSerialOverMemory words.now) (record {
           text = R.left script.old;
+          left = R.left script.new;
           source_failed = Rose (R.faults script.old) (R.faults script.new);
           before = S.next site.old;
           site_failed = Rose (S.faults site.old) (S.faults site.new) ⊎ IsSomeAnd result.store (λ store. 0 < S.Store.faults store);
@@ -72,6 +73,7 @@ fn come_to<S: Site, R: Source>(
 ) -> Conclusion<S::Store>
     ensures cause { IsCaused (IsSerialOverMemory words.now) (record {
       text = R.left script.old;
+      left = R.left script.new;
       source_failed = Rose (R.faults script.old) (R.faults script.new);
       before = S.next site.old;
       site_failed = Rose (S.faults site.old) (S.faults site.new) ⊎ IsSomeAnd result.store (λ store. 0 < S.Store.faults store);
@@ -132,6 +134,7 @@ fn read_and_run<S: Site, R: Source>(
 ) -> Conclusion<S::Store>
     ensures cause { IsWorked (record {
       text = R.left script.old;
+      left = R.left script.new;
       source_failed = Rose (R.faults script.old) (R.faults script.new);
       before = S.next site.old;
       site_failed = Rose (S.faults site.old) (S.faults site.new) ⊎ IsSomeAnd result.store (λ store. 0 < S.Store.faults store);
@@ -152,6 +155,7 @@ fn read_and_run<S: Site, R: Source>(
 #[tactic(auto, using(crate::proofs::Verdicts::told_too_long))]
 fn read_script<R: Source>(alloc: Global, source: &mut R) -> Result<Script, Verdict>
     ensures read { IfOk result (λ script. IfSome (R.left source.old) (λ text. script_of text ≡ Ok script)) }
+    ensures taken { IfOk result (λ _. IfSome (R.left source.old) (λ text. R.left source.new ≡ Some [])) }
     ensures lawful { IfOk result IsLawfulScript }
     ensures refused { IfErr result (λ verdict. IsUnread (R.left source.old) (Rose (R.faults source.old) (R.faults source.new)) verdict) }
 {
