@@ -1,8 +1,8 @@
 -- What is appended stands at its place.
-use Rattle.std.proofs.Common.{◌≡◌, ℕ, ◌/◌, ◌<◌, ◌≤◌, List, [], ◌∷◌, ◌++◌, length, refl, sym, ap, subst, ◌∙◌, append_assoc, arith}
+use Rattle.std.proofs.Common.{◌≡◌, ℕ, ◌/◌, ◌<◌, ◌≤◌, List, [], ◌∷◌, ◌++◌, length, drop, refl, sym, ap, subst, ◌∙◌, append_assoc, length-append, arith}
 use Rattle.std.specs.Int.{w32, to_be_bytes}
 use Rattle.std.proofs.lemmas.Bool.{le-ltb, lt-ltb}
-use Rattle.std.proofs.lemmas.List.{drop_at, append-nil}
+use Rattle.std.proofs.lemmas.List.{drop_at, append-nil, length-drop, drop-append-le}
 use Rattle.wire_bytes.specs.Written.{groups_text, uvarint_text}
 use Rattle.chunk_files.specs.Chunk.{IsChunk, IsSegment, IsPlace, IsFilled, header}
 
@@ -57,3 +57,21 @@ pub placed : (old new frame text content : List ℕ) (offset : ℕ) → IsFilled
 placed old new frame text content offset h is e n o =
     let here : new ≡ old ++ text = n ∙ ap (λ (a : List ℕ). old ++ a) e in
     subst (λ (k : ℕ). IsPlace new k content) (sym o) (subst (λ (a : List ℕ). IsPlace a (length old) content) (sym here) (appended old text content h is))
+
+-- What stood at a place stands there when more is appended.
+
+earlier : (bytes more content : List ℕ) (place : ℕ) → IsPlace bytes place content → IsPlace (bytes ++ more) place content
+earlier bytes more content place h =
+    let after = h.stands.0 in
+    let text = h.stands.1.0 in
+    let is = h.stands.1.1 in
+    let here : drop place bytes ≡ text ++ after = h.stands.1.2 in
+    let within : place ≤ length bytes = omega (arith, length-drop place bytes, ap length here, length-append text after, ap length is.text_is, length-append (is.size ++ (1 ∷ content)) is.sum, length-append is.size (1 ∷ content)) in
+    record {
+      begins = segment_more bytes more h.begins;
+      behind = h.behind;
+      stands = (after ++ more, (text, is, drop-append-le place bytes more within ∙ ap (λ (a : List ℕ). a ++ more) here ∙ append_assoc text after more));
+    }
+
+pub still : (old new frame content : List ℕ) (place : ℕ) → new ≡ old ++ frame → IsPlace old place content → IsPlace new place content
+still old new frame content place n h = subst (λ (a : List ℕ). IsPlace a place content) (sym n) (earlier old frame content place h)

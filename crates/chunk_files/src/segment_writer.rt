@@ -1,4 +1,4 @@
-ghost use Rattle.std.specs.Prelude.{◌≡◌, ◌↔◌, ◌+◌, ◌<◌, ◌∷◌, ◌++◌, length, IsTrue, IfOk, OnOk, OnErr, Err, ◌≤◌, ◌^◌};
+ghost use Rattle.std.specs.Prelude.{◌≡◌, ◌↔◌, ◌+◌, ◌<◌, ◌∷◌, ◌++◌, ℕ, List, length, IsTrue, IfOk, OnOk, OnErr, Err, ◌≤◌, ◌^◌};
 ghost use Rattle.wire_bytes.specs.Written.{uvarint_text};
 ghost use Rattle.wire_bytes.specs.Crc.{crc};
 ghost use Rattle.chunk_files.specs.Chunk.{IsChunk, IsPlace, header, frame_text, greatest};
@@ -88,6 +88,8 @@ impl SegmentWriter {
         ensures offset { IfOk result (λ offset. offset ≡ length self.old) }
         ensures ok { OnOk result (self.new ≡ self.old ++ frame_text bytes.now) }
         ensures placed { IfOk result (λ offset. IsPlace self.new offset bytes.now) }
+        // chunks that were appended before still stand
+        ensures kept { OnOk result ((place : ℕ) (content : List ℕ) → IsPlace self.old place content → IsPlace self.new place content) }
         ensures full { (result ≡ Err SegmentRefusal.Full) ↔ (greatest < length self.old + length (frame_text bytes.now)) }
         ensures err { OnErr result (self.new ≡ self.old) }
     {

@@ -2,6 +2,7 @@ ghost use Rattle.std.specs.Prelude.{◌≡◌, ◌++◌, ◌∷◌, ℕ, pos, ne
 ghost use Rattle.xor_chunks.specs.Written.{fits_field, change_bits, reused, value_bits, window_after, CanFollow, put_after, next_bits, AreToCome, others_bits, rest_bits, put_first, written, AreOfChunk};
 ghost use Rattle.wire_bytes.specs.Written.{varint_text};
 ghost use Rattle.xor_chunks.specs.Grammar.{IsText};
+ghost use Rattle.reading_core.specs.Grammar.{IsBytes};
 ghost use Rattle.xor_chunks.specs.Bits.{bits_of, bits_in, filled};
 
 use crate::BitWriter;
@@ -202,6 +203,7 @@ pub fn encode(alloc: Global, samples: &[Sample]) -> Result<Blob, NoMemory>
 
     // The bytes stand for the samples, so that they are decoded to them.
     ensures text { IfOk result (λ blob. IsText 7 blob samples.now) }
+    ensures bytes { IfOk result (λ blob. IsBytes blob) }
 {
     have_words(samples);
     let first = samples[0];

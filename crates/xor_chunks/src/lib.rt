@@ -8,6 +8,8 @@ mod decoding;
 mod encoding;
 mod fitting;
 mod last;
+#[cfg(test)]
+mod long_chunks;
 mod put;
 mod refill;
 mod refusal;

@@ -1,4 +1,5 @@
-//! Chunks of blocks that Prometheus 2.42 wrote, with all samples as its own reader gives them.
+//! Chunks of blocks that Prometheus 2.42 wrote, with all samples as its own reader gives them: 31 of the 65 different
+//! chunks of those blocks. long_chunks.rt has the others.
 use crate::decode_stored;
 use label_sets::Sample;
 use list_core::NoMemory;
@@ -129,9 +130,10 @@ const STORED: [u8; 1893] = [
     0x00, 0x00, 0x00, 0x00, 0x00,
 ];
 
-/// Where a chunk's data begins, how long it is, how many samples it has, and the CRC-32C of their times and patterns, as 64 bits
-/// each, highest byte first: of one sample; constant values; irregular steps through every row of changes; values on a byte's edge; steps from the epoch on; and
-/// chunks that went on after a restart, with a field in a window that was never set.
+/// Where a chunk's data begins, how long it is, how many samples it has, and the CRC-32C of their times and patterns,
+/// as 64 bits each, highest byte first: of one sample; constant values; irregular steps through every row of changes;
+/// values on a byte's edge; steps from the epoch on; and chunks that went on after a restart, with a field in a
+/// window that was never set.
 const CHUNKS: [(usize, usize, usize, u32); 31] = [
     (0, 17, 1, 0xb9229395),
     (17, 48, 120, 0x69963afb),
@@ -166,7 +168,7 @@ const CHUNKS: [(usize, usize, usize, u32); 31] = [
     (1715, 178, 20, 0x3139fcea),
 ];
 
-fn sum_of(alloc: Global, samples: &[Sample]) -> Result<u32, NoMemory> {
+pub fn sum_of(alloc: Global, samples: &[Sample]) -> Result<u32, NoMemory> {
     let mut bytes = Vec::new(alloc);
     for sample in samples {
         put_u64(&mut bytes, sample.time.cast_unsigned())?;

@@ -48,12 +48,20 @@ fn texts_from_outside(rt: HostRuntime) -> Result<(), Fail> {
             &steps
         )?
     );
+    // a longer row than the change of 0 needs
+    let long_row = [
+        0x00, 0x03, 0x00, 0x3f, 0xf0, 0, 0, 0, 0, 0, 0, 0xe8, 0x07, 0x40, 0x00, 0x00,
+    ];
+    assert!(rt;
+        decode(rt.alloc(), &long_row)?.members()
+            == &[sample(0, ONE), sample(1000, ONE), sample(2000, ONE)][..]
+    );
     Ok(())
 }
 
 #[test]
 fn refusals_from_outside(rt: HostRuntime) -> Result<(), Fail> {
-    let cases: [(&[u8], XorRefusal); 9] = [
+    let cases: [(&[u8], XorRefusal); 12] = [
         (&[], XorRefusal::Short),
         (&[0x00, 0x01, 0xd0], XorRefusal::Short),
         (&[0x00, 0x00, 0x00], XorRefusal::Trailing),
@@ -94,6 +102,30 @@ fn refusals_from_outside(rt: HostRuntime) -> Result<(), Fail> {
         (
             &[
                 0x00, 0x01, 0xff, 0xff, 0xff, 0xff, 0xff, 0xff, 0xff, 0xff, 0xff, 0x02,
+            ],
+            XorRefusal::OutOfRange,
+        ),
+        // a step of 65 bits, before bits that are missing
+        (
+            &[
+                0x00, 0x02, 0xd0, 0x0f, 0x3f, 0xf0, 0, 0, 0, 0, 0, 0, 0xff, 0xff, 0xff, 0xff, 0xff,
+                0xff, 0xff, 0xff, 0xff, 0x02,
+            ],
+            XorRefusal::OutOfRange,
+        ),
+        // a time past 63 bits, whose value is missing
+        (
+            &[
+                0x00, 0x02, 0xfe, 0xff, 0xff, 0xff, 0xff, 0xff, 0xff, 0xff, 0xff, 0x01, 0x3f, 0xf0,
+                0, 0, 0, 0, 0, 0, 0x01,
+            ],
+            XorRefusal::Short,
+        ),
+        // the same with its value
+        (
+            &[
+                0x00, 0x02, 0xfe, 0xff, 0xff, 0xff, 0xff, 0xff, 0xff, 0xff, 0xff, 0x01, 0x3f, 0xf0,
+                0, 0, 0, 0, 0, 0, 0x01, 0x00,
             ],
             XorRefusal::OutOfRange,
         ),
@@ -138,6 +170,20 @@ fn stored_texts(rt: HostRuntime) -> Result<(), Fail> {
         decode_stored(rt.alloc(), &one)?.members() == &[sample(1_728_000_001_000, ONE)][..]
     );
     assert!(rt; matches!(decode(rt.alloc(), &one), Err(XorRefusal::Trailing)));
+    let refused: [&[u8]; 2] = [
+        // a byte more that is not zero
+        &[
+            0x00, 0x01, 0xd0, 0x8f, 0x9c, 0xcd, 0xca, 0x64, 0x3f, 0xf0, 0, 0, 0, 0, 0, 0, 0x01,
+        ],
+        // two bytes more
+        &[
+            0x00, 0x01, 0xd0, 0x8f, 0x9c, 0xcd, 0xca, 0x64, 0x3f, 0xf0, 0, 0, 0, 0, 0, 0, 0x00,
+            0x00,
+        ],
+    ];
+    for bytes in refused {
+        assert!(rt; matches!(decode_stored(rt.alloc(), bytes), Err(XorRefusal::Trailing)));
+    }
     Ok(())
 }
 
@@ -348,6 +394,26 @@ fn windows_of_each_width(rt: HostRuntime) -> Result<(), Fail> {
             let samples = [sample(0, ONE), sample(1, ONE ^ change), sample(2, change)];
             let text = written(rt.alloc(), &samples)?;
             assert!(rt; decode(rt.alloc(), text.bytes())?.members() == &samples[..]);
+        }
+    }
+    Ok(())
+}
+
+/// A change of a step in 24 bits and a window that is told, behind so many bits of a word, are read back.
+#[test]
+fn rows_of_24_bits_at_each_place(rt: HostRuntime) -> Result<(), Fail> {
+    for low in [0b10, 0b11] {
+        let mut samples = Vec::new(rt.alloc());
+        samples.push(sample(0, ONE))?;
+        for time in 1..40 {
+            samples.push(sample(time, ONE ^ low))?;
+            let mut all = Vec::from_slice(rt.alloc(), samples.as_slice())?;
+            all.push(sample(time + 500_000, TWO))?;
+            let text = written(rt.alloc(), all.as_slice())?;
+            assert!(rt;
+                decode(rt.alloc(), text.bytes())?.members() == all.as_slice(),
+                "at {low}, {time}"
+            );
         }
     }
     Ok(())
