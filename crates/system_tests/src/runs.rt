@@ -151,7 +151,9 @@ fn faults_outside_have_statuses(rt: HostRuntime) -> Result<(), Failed> {
     assert_eq!(rt; ended.status, 3);
     let mut sink = calm(alloc);
     sink.sink_fails = Some(1);
-    let script = format!(in alloc; "{FIRST_LINES}at 0\nupload 0000000000000000000000000A\nat 1800000\nsync g\nquery 0 5000 up\n")?;
+    let script = format!(in alloc;
+        "{FIRST_LINES}at 0\nupload 0000000000000000000000000A\nat 1800000\nsync g\nquery 0 5000 up\n"
+    )?;
     let ended = run(alloc, &SERIAL, script.as_bytes(), sink)?;
     assert_eq!(rt; ended.text.as_str(), "");
     assert_eq!(rt; ended.status, 4);
