@@ -69,8 +69,8 @@ impl Script {
         let _phase = phase;
     }
 
-    /// A law: seats count from 1 over the whole script, and no two workers share one. A worker's seat is the number of
-    /// workers of the phases before, its place in its own phase, and one.
+    /// A law: in a lawful script a worker's seat is the number of workers of the phases before, its place in its own phase,
+    /// and one. So seats count from 1 over the whole script, and no two workers share one.
     pub fn workers_are_seated(&self, phase: usize)
         ensures { IsLawfulScript self.now → (one : Phase) → slice_get self.now.phases phase ≡ Some one
             → AreSeated (gateway_count self.now.gateways) one.tasks (hands_of (gateway_count self.now.gateways) one.tasks) (length (workers_before self.now phase)) (workers_of self.now phase) }

@@ -168,7 +168,7 @@ const CHUNKS: [(usize, usize, usize, u32); 31] = [
     (1715, 178, 20, 0x3139fcea),
 ];
 
-pub fn sum_of(alloc: Global, samples: &[Sample]) -> Result<u32, NoMemory> {
+pub(crate) fn sum_of(alloc: Global, samples: &[Sample]) -> Result<u32, NoMemory> {
     let mut bytes = Vec::new(alloc);
     for sample in samples {
         put_u64(&mut bytes, sample.time.cast_unsigned())?;
