@@ -4,23 +4,25 @@ use crate::{
 use list_core::{List, TryCopy};
 use std::test::Fail;
 
+/// Texts, and why each is no label set.
+static NO_SETS: [(&str, LabelRefusal); 12] = [
+    ("", LabelRefusal::BadText(0)),
+    ("{", LabelRefusal::BadText(1)),
+    ("{1=\"x\"}", LabelRefusal::BadText(1)),
+    ("{=\"x\"}", LabelRefusal::EmptyName),
+    ("{a\"x\"}", LabelRefusal::BadText(2)),
+    ("{a=\"\"}", LabelRefusal::EmptyValue),
+    ("{a=\"\\t\"}", LabelRefusal::BadText(5)),
+    ("{a=\"x\n\"}", LabelRefusal::BadText(5)),
+    ("{a=\"x\"", LabelRefusal::BadText(6)),
+    ("{a=\"x\",}", LabelRefusal::BadText(7)),
+    ("{a=\"x\",a", LabelRefusal::Repeated),
+    ("{a=\"x\",b=\"y\",a=\"\"}", LabelRefusal::Repeated),
+];
+
 #[test]
 fn texts_that_are_no_label_set(rt: HostRuntime) -> Result<(), Fail> {
-    let table = [
-        ("", LabelRefusal::BadText(0)),
-        ("{", LabelRefusal::BadText(1)),
-        ("{1=\"x\"}", LabelRefusal::BadText(1)),
-        ("{=\"x\"}", LabelRefusal::EmptyName),
-        ("{a\"x\"}", LabelRefusal::BadText(2)),
-        ("{a=\"\"}", LabelRefusal::EmptyValue),
-        ("{a=\"\\t\"}", LabelRefusal::BadText(5)),
-        ("{a=\"x\n\"}", LabelRefusal::BadText(5)),
-        ("{a=\"x\"", LabelRefusal::BadText(6)),
-        ("{a=\"x\",}", LabelRefusal::BadText(7)),
-        ("{a=\"x\",a", LabelRefusal::Repeated),
-        ("{a=\"x\",b=\"y\",a=\"\"}", LabelRefusal::Repeated),
-    ];
-    for (text, refusal) in table {
+    for (text, refusal) in NO_SETS {
         match LabelSet::read(rt.alloc(), text) {
             Ok(_) => return Err("a label set")?,
             Err(found) => assert_eq!(rt; found, refusal, "{text}"),
@@ -54,25 +56,31 @@ fn sets_of_labels(rt: HostRuntime) -> Result<(), Fail> {
     Ok(())
 }
 
+/// Texts, and why each is no sample.
+static NO_SAMPLES: [(&str, SampleRefusal); 6] = [
+    (
+        "9223372036854775808:0000000000000000",
+        SampleRefusal::OutOfRange,
+    ),
+    (
+        "9223372036854775808:000000000000000g",
+        SampleRefusal::NotASample,
+    ),
+    ("1:0000000000000FF0", SampleRefusal::NotASample),
+    ("1:000000000000000", SampleRefusal::NotASample),
+    ("-0:0000000000000000", SampleRefusal::NotASample),
+    ("10000000000000000", SampleRefusal::NotASample),
+];
+
 #[test]
-fn samples_both_ways(rt: HostRuntime) -> Result<(), Fail> {
-    let table = [
-        (
-            "9223372036854775808:0000000000000000",
-            SampleRefusal::OutOfRange,
-        ),
-        (
-            "9223372036854775808:000000000000000g",
-            SampleRefusal::NotASample,
-        ),
-        ("1:0000000000000FF0", SampleRefusal::NotASample),
-        ("1:000000000000000", SampleRefusal::NotASample),
-        ("-0:0000000000000000", SampleRefusal::NotASample),
-        ("10000000000000000", SampleRefusal::NotASample),
-    ];
-    for (text, refusal) in table {
+fn texts_that_are_no_sample(rt: HostRuntime) {
+    for (text, refusal) in NO_SAMPLES {
         assert_eq!(rt; Sample::read(text), Err(refusal), "{text}");
     }
+}
+
+#[test]
+fn samples_both_ways(rt: HostRuntime) -> Result<(), Fail> {
     let mut samples = List::new(rt.alloc());
     for text in ["-5:00000000000000ff", "0:8000000000000000"] {
         samples.push(Sample::read(text).ok().ok_or("no sample")?)?;
