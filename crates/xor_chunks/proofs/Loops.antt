@@ -9,23 +9,23 @@ use Rattle.label_sets.specs.declared.sample.Sample.{Sample}
 use Rattle.reading_core.specs.Reading.{◌>>=◌}
 use Rattle.reading_core.specs.Members.{members_at}
 use Rattle.reading_core.proofs.Counted.{members_more, members_stop}
-use Rattle.xor_chunks.specs.declared.last.Last.{Last}
+use Rattle.xor_chunks.specs.State.{State}
 use Rattle.xor_chunks.specs.declared.refusal.XorRefusal.{XorRefusal}
 use Rattle.xor_chunks.specs.Samples.{sample_of}
 use Rattle.xor_chunks.specs.Steps.{next_at, follow_at}
 use Rattle.xor_chunks.specs.Data.{gap_at, sample_at, others_at, rest_at, is_filling, with_front}
 
 -- what a loop has read so far: so many samples, behind those before it
-pub record HasRead (front samples : List Sample) (count : ℕ) (second : Last) (bits : List Bool) (last : Last) (rest : List Bool) : Type 0 where
+pub record HasRead (front samples : List Sample) (count : ℕ) (second : State) (bits : List Bool) (last : State) (rest : List Bool) : Type 0 where
   pub found : List Sample
   pub so_far : samples ≡ front ++ found
   pub read : members_at sample_at count (second, bits) ≡ Ok (found, (last, rest))
 
-pub begins : (front : List Sample) (second : Last) (bits : List Bool) → HasRead front front 0 second bits second bits
+pub begins : (front : List Sample) (second : State) (bits : List Bool) → HasRead front front 0 second bits second bits
 unfolding members_at
 begins front second bits = record { found = []; so_far = sym (append-nil front); read = refl }
 
-pub goes_on : (front samples more : List Sample) (count : ℕ) (second last after : Last) (bits rest left : List Bool) → HasRead front samples count second bits last rest → next_at last rest ≡ Ok (after, left) → more ≡ samples ++ sample_of after ∷ []
+pub goes_on : (front samples more : List Sample) (count : ℕ) (second last after : State) (bits rest left : List Bool) → HasRead front samples count second bits last rest → next_at last rest ≡ Ok (after, left) → more ≡ samples ++ sample_of after ∷ []
     → HasRead front more (count + 1) second bits after left
 unfolding sample_at
 goes_on front samples more count second last after bits rest left h next pushed =
@@ -36,13 +36,13 @@ goes_on front samples more count second last after bits rest left h next pushed 
       read = members_more sample_at count (second, bits) (last, rest) (after, left) h.found (sample_of after) h.read one;
     }
 
-pub stops : (front samples : List Sample) (i count : ℕ) (second last : Last) (bits rest : List Bool) (e : XorRefusal) → HasRead front samples i second bits last rest → i < count → next_at last rest ≡ Err e → with_front front (others_at count second bits) ≡ Err e
+pub stops : (front samples : List Sample) (i count : ℕ) (second last : State) (bits rest : List Bool) (e : XorRefusal) → HasRead front samples i second bits last rest → i < count → next_at last rest ≡ Err e → with_front front (others_at count second bits) ≡ Err e
 unfolding sample_at others_at
 stops front samples i count second last bits rest e h more refused =
     let one : sample_at (last, rest) ≡ Err e = rw refused refl in
     rw (members_stop sample_at i count (second, bits) (last, rest) h.found e more h.read one) refl
 
-pub ends : (front samples : List Sample) (i count : ℕ) (second last : Last) (bits rest : List Bool) → HasRead front samples i second bits last rest → i ≡ count → with_front front (others_at count second bits) ≡ Ok (samples, rest)
+pub ends : (front samples : List Sample) (i count : ℕ) (second last : State) (bits rest : List Bool) → HasRead front samples i second bits last rest → i ≡ count → with_front front (others_at count second bits) ≡ Ok (samples, rest)
 unfolding others_at
 ends front samples i count second last bits rest h all = rw (← all, h.read, h.so_far) refl
 
@@ -51,7 +51,7 @@ regroup front s (Ok x) = ap (λ (ss : List Sample). Ok (ss, x.1)) (append_assoc 
 regroup front s (Err e) = refl
 
 -- the second sample, and those after it
-pub rest_steps : (front more : List Sample) (count gap : ℕ) (change : ℤ) (first second : Last) (bytes after : List ℕ) (reader bits : List Bool) → (count ≡ 0 → ⊥) → gap_at bytes ≡ Ok (gap, after) → reader ≡ bits_in after → change ≡ pos gap → follow_at first change reader ≡ Ok (second, bits)
+pub rest_steps : (front more : List Sample) (count gap : ℕ) (change : ℤ) (first second : State) (bytes after : List ℕ) (reader bits : List Bool) → (count ≡ 0 → ⊥) → gap_at bytes ≡ Ok (gap, after) → reader ≡ bits_in after → change ≡ pos gap → follow_at first change reader ≡ Ok (second, bits)
     → more ≡ front ++ sample_of second ∷ [] → with_front more (others_at (count - 1) second bits) ≡ with_front front (rest_at count first bytes)
 unfolding rest_at
 rest_steps front more zero gap change first second bytes after reader bits some e r z f pushed = absurd (some refl)

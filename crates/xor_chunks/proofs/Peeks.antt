@@ -4,7 +4,7 @@ use Rattle.std.proofs.lemmas.Bool.{le-ltb}
 use Rattle.std.proofs.lemmas.List.{drop_at}
 use Rattle.std.proofs.lemmas.Nat.{pow-add, pow_pos, shr-shr, shl-shr, shr_high, mod-pow-add, mod_below, mod-mul-add}
 use Rattle.reading_core.specs.Reading.{◌>>=◌}
-use Rattle.xor_chunks.specs.declared.last.Last.{Last}
+use Rattle.xor_chunks.specs.State.{State}
 use Rattle.xor_chunks.specs.declared.refusal.XorRefusal.{XorRefusal}
 use Rattle.xor_chunks.specs.declared.refusal.XorRefusal.TheVariants.{Short, OutOfRange}
 use Rattle.xor_chunks.specs.Bits.{bits_of, number_of}
@@ -121,45 +121,45 @@ eleven head bits lt two a b =
 
 -- ---- samples
 
-follow_over : (r : Result (ℕ × List Bool) XorRefusal) (last : Last) (change : ℤ) (e : XorRefusal) → (r >>= λ p. value_at last.pattern last.window p.1) ≡ Err e → (r >>= λ p. follow_at last change p.1) ≡ Err e
+follow_over : (r : Result (ℕ × List Bool) XorRefusal) (last : State) (change : ℤ) (e : XorRefusal) → (r >>= λ p. value_at last.pattern last.window p.1) ≡ Err e → (r >>= λ p. follow_at last change p.1) ≡ Err e
 unfolding follow_at
 follow_over (Ok x) last change e h = rw h refl
 follow_over (Err d) last change e h = cc
 
-pub follow_lacks : (known : ℕ) (last : Last) (change : ℤ) (bits : List Bool) (e : XorRefusal) → behind known (value_at last.pattern last.window) bits ≡ Err e → behind known (follow_at last change) bits ≡ Err e
+pub follow_lacks : (known : ℕ) (last : State) (change : ℤ) (bits : List Bool) (e : XorRefusal) → behind known (value_at last.pattern last.window) bits ≡ Err e → behind known (follow_at last change) bits ≡ Err e
 follow_lacks known last change bits e h = follow_over (take_at known bits) last change e h
 
-outside_over : (r : Result (ℕ × List Bool) XorRefusal) (last : Last) (change : ℤ) (pattern : ℕ) (window : Window) (after : List Bool) → (r >>= λ p. value_at last.pattern last.window p.1) ≡ Ok ((pattern, window), after) → is_inside window ≡ false
+outside_over : (r : Result (ℕ × List Bool) XorRefusal) (last : State) (change : ℤ) (pattern : ℕ) (window : Window) (after : List Bool) → (r >>= λ p. value_at last.pattern last.window p.1) ≡ Ok ((pattern, window), after) → is_inside window ≡ false
     → (r >>= λ p. follow_at last change p.1) ≡ Err OutOfRange
 unfolding follow_at
 outside_over (Ok x) last change pattern window after h outside = rw (h, outside) refl
 outside_over (Err d) last change pattern window after h outside = absurd cc
 
-pub follow_outside : (known : ℕ) (last : Last) (change : ℤ) (bits : List Bool) (pattern : ℕ) (window : Window) (after : List Bool) → behind known (value_at last.pattern last.window) bits ≡ Ok ((pattern, window), after) → is_inside window ≡ false
+pub follow_outside : (known : ℕ) (last : State) (change : ℤ) (bits : List Bool) (pattern : ℕ) (window : Window) (after : List Bool) → behind known (value_at last.pattern last.window) bits ≡ Ok ((pattern, window), after) → is_inside window ≡ false
     → behind known (follow_at last change) bits ≡ Err OutOfRange
 follow_outside known last change bits pattern window after h outside = outside_over (take_at known bits) last change pattern window after h outside
 
-time_over : (r : Result (ℕ × List Bool) XorRefusal) (last : Last) (change : ℤ) (pattern : ℕ) (window : Window) (after : List Bool) → (r >>= λ p. value_at last.pattern last.window p.1) ≡ Ok ((pattern, window), after) → is_inside window ≡ true
+time_over : (r : Result (ℕ × List Bool) XorRefusal) (last : State) (change : ℤ) (pattern : ℕ) (window : Window) (after : List Bool) → (r >>= λ p. value_at last.pattern last.window p.1) ≡ Ok ((pattern, window), after) → is_inside window ≡ true
     → (r >>= λ p. follow_at last change p.1) ≡ (time_after last.time (pos last.delta +ℤ change) >>= λ t. Ok (record { time = t.0; delta = t.1; pattern = pattern; window = window }, after))
 unfolding follow_at
 time_over (Ok x) last change pattern window after h inside = rw (h, inside) refl
 time_over (Err d) last change pattern window after h inside = absurd cc
 
-pub follow_time : (known : ℕ) (last : Last) (change : ℤ) (bits : List Bool) (pattern : ℕ) (window : Window) (after : List Bool) → behind known (value_at last.pattern last.window) bits ≡ Ok ((pattern, window), after) → is_inside window ≡ true
+pub follow_time : (known : ℕ) (last : State) (change : ℤ) (bits : List Bool) (pattern : ℕ) (window : Window) (after : List Bool) → behind known (value_at last.pattern last.window) bits ≡ Ok ((pattern, window), after) → is_inside window ≡ true
     → behind known (follow_at last change) bits ≡ (time_after last.time (pos last.delta +ℤ change) >>= λ t. Ok (record { time = t.0; delta = t.1; pattern = pattern; window = window }, after))
 follow_time known last change bits pattern window after h inside = time_over (take_at known bits) last change pattern window after h inside
 
-next_over : (r : Result (ℕ × List Bool) XorRefusal) (last : Last) (change : ℤ) → ◌>>=◌ {A = ℤ × List Bool} (r >>= λ p. Ok (change, p.1)) (λ c. follow_at last c.0 c.1) ≡ (r >>= λ p. follow_at last change p.1)
+next_over : (r : Result (ℕ × List Bool) XorRefusal) (last : State) (change : ℤ) → ◌>>=◌ {A = ℤ × List Bool} (r >>= λ p. Ok (change, p.1)) (λ c. follow_at last c.0 c.1) ≡ (r >>= λ p. follow_at last change p.1)
 next_over (Ok x) last change = refl
 next_over (Err d) last change = refl
 
 -- a change that was read from the word, and the sample behind it
-pub next_behind : (known : ℕ) (last : Last) (change : ℤ) (bits : List Bool) → change_at bits ≡ behind known (λ after. Ok (change, after)) bits → next_at last bits ≡ behind known (follow_at last change) bits
+pub next_behind : (known : ℕ) (last : State) (change : ℤ) (bits : List Bool) → change_at bits ≡ behind known (λ after. Ok (change, after)) bits → next_at last bits ≡ behind known (follow_at last change) bits
 unfolding next_at
 next_behind known last change bits e = ap (λ (t : Result (ℤ × List Bool) XorRefusal). t >>= λ c. follow_at last c.0 c.1) e ∙ next_over (take_at known bits) last change
 
 -- the same of a reader that was peeked at, and of a change as the code hands it on
-pub next_known : (known : ℕ) (last : Last) (change given : ℤ) (bits peeked : List Bool) → change_at bits ≡ behind known (λ after. Ok (change, after)) bits → given ≡ change → peeked ≡ bits → next_at last bits ≡ behind known (follow_at last given) peeked
+pub next_known : (known : ℕ) (last : State) (change given : ℤ) (bits peeked : List Bool) → change_at bits ≡ behind known (λ after. Ok (change, after)) bits → given ≡ change → peeked ≡ bits → next_at last bits ≡ behind known (follow_at last given) peeked
 next_known known last change given bits peeked told same still =
     next_behind known last change bits told ∙ ap (λ (z : ℤ). behind known (follow_at last z) bits) (sym same) ∙ ap (λ (b : List Bool). behind known (follow_at last given) b) (sym still)
 

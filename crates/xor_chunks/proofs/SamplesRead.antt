@@ -13,7 +13,7 @@ use Rattle.reading_core.specs.Decimal.{fits_signed}
 use Rattle.reading_core.specs.Members.{members_at}
 use Rattle.reading_core.proofs.Binds.{bind_ok, unless_ok, cond_ok_second, refused_as_ok, ok_is}
 use Rattle.label_sets.specs.declared.sample.Sample.{Sample}
-use Rattle.xor_chunks.specs.declared.last.Last.{Last}
+use Rattle.xor_chunks.specs.State.{State}
 use Rattle.xor_chunks.specs.declared.refusal.XorRefusal.{XorRefusal}
 use Rattle.xor_chunks.specs.declared.refusal.XorRefusal.TheVariants.{OutOfRange}
 use Rattle.xor_chunks.specs.Steps.{value_at, change_at, time_after, risen, follow_at, next_at}
@@ -65,29 +65,29 @@ le-nat_le a b h = search (arith)
 pub nat_le-le : (a b : ℕ) → nat_le a b ≡ true → a ≤ b
 nat_le-le a b h = leb-true a b h
 
-pub follow_found : (last : Last) (change : ℤ) (bits : List Bool) (next : Last) (after : List Bool) → follow_at last change bits ≡ Ok (next, after)
+pub follow_found : (last : State) (change : ℤ) (bits : List Bool) (next : State) (after : List Bool) → follow_at last change bits ≡ Ok (next, after)
     → HasText (λ text n. (pos n.delta ≡ pos last.delta +ℤ change) × Follows last.time n.time n.delta × IsValue last.window last.pattern text n.pattern n.window) bits next after
 unfolding follow_at
 follow_found last change bits next after e =
     let x = bind_ok (value_at last.pattern last.window bits) (λ value. unless (is_inside value.0.1) OutOfRange >> (time_after last.time (pos last.delta +ℤ change) >>= λ t. Ok (record { time = t.0; delta = t.1; pattern = value.0.0; window = value.0.1 }, value.1))) (next, after) e in
     let tested = unless_ok (is_inside x.0.0.1) OutOfRange (time_after last.time (pos last.delta +ℤ change) >>= λ t. Ok (record { time = t.0; delta = t.1; pattern = x.0.0.0; window = x.0.0.1 }, x.0.1)) (next, after) x.2 in
     let y = bind_ok (time_after last.time (pos last.delta +ℤ change)) (λ t. Ok (record { time = t.0; delta = t.1; pattern = x.0.0.0; window = x.0.0.1 }, x.0.1)) (next, after) tested.1 in
-    let read : Last = record { time = y.0.0; delta = y.0.1; pattern = x.0.0.0; window = x.0.0.1 } in
-    let same : ◌≡◌ {A = Last × List Bool} (read, x.0.1) (next, after) = ok_is {E = XorRefusal} _ _ y.2 in
+    let read : State = record { time = y.0.0; delta = y.0.1; pattern = x.0.0.0; window = x.0.0.1 } in
+    let same : ◌≡◌ {A = State × List Bool} (read, x.0.1) (next, after) = ok_is {E = XorRefusal} _ _ y.2 in
     let time = after_found last.time (pos last.delta +ℤ change) y.0.0 y.0.1 y.1 in
     let value = value_found last.window last.pattern bits x.0.0.0 x.0.0.1 x.0.1 (nat_le-le (x.0.0.1.lead + x.0.0.1.width) 64 tested.0) x.1 in
     let found : HasText (λ text n. (pos n.delta ≡ pos last.delta +ℤ change) × Follows last.time n.time n.delta × IsValue last.window last.pattern text n.pattern n.window) bits read x.0.1 =
     record { text = value.text; is = (sym time.0, time.1, value.is); whole = value.whole } in
-    subst (λ (y : Last × List Bool). HasText (λ text n. (pos n.delta ≡ pos last.delta +ℤ change) × Follows last.time n.time n.delta × IsValue last.window last.pattern text n.pattern n.window) bits y.0 y.1) same found
+    subst (λ (y : State × List Bool). HasText (λ text n. (pos n.delta ≡ pos last.delta +ℤ change) × Follows last.time n.time n.delta × IsValue last.window last.pattern text n.pattern n.window) bits y.0 y.1) same found
 
-pub follow_again : (last : Last) (change : ℤ) (text : List Bool) (next : Last) (after : List Bool) → IsInside last.window → pos next.delta ≡ pos last.delta +ℤ change → Follows last.time next.time next.delta → IsValue last.window last.pattern text next.pattern next.window
+pub follow_again : (last : State) (change : ℤ) (text : List Bool) (next : State) (after : List Bool) → IsInside last.window → pos next.delta ≡ pos last.delta +ℤ change → Follows last.time next.time next.delta → IsValue last.window last.pattern text next.pattern next.window
     → follow_at last change (text ++ after) ≡ Ok (next, after)
 unfolding follow_at
 follow_again last change text next after inside longer follows shows =
     let within = le-nat_le (next.window.lead + next.window.width) 64 (value_inside last.window last.pattern text next.pattern next.window inside shows) in
     rw (value_again last.window last.pattern text next.pattern next.window after shows, within, sym longer, after_again last.time next.time next.delta follows) refl
 
-pub next_found : (last : Last) (bits : List Bool) (next : Last) (after : List Bool) → next_at last bits ≡ Ok (next, after) → HasText (IsNext last) bits next after
+pub next_found : (last : State) (bits : List Bool) (next : State) (after : List Bool) → next_at last bits ≡ Ok (next, after) → HasText (IsNext last) bits next after
 unfolding next_at
 next_found last bits next after e =
     let x = bind_ok (change_at bits) (λ c. follow_at last c.0 c.1) (next, after) e in
@@ -99,7 +99,7 @@ next_found last bits next after e =
       whole = step.whole ∙ ap (λ (a : List Bool). step.text ++ a) value.whole ∙ sym (append_assoc step.text value.text after);
     }
 
-pub next_again : (last : Last) (text : List Bool) (next : Last) (after : List Bool) → IsInside last.window → IsNext last text next → next_at last (text ++ after) ≡ Ok (next, after)
+pub next_again : (last : State) (text : List Bool) (next : State) (after : List Bool) → IsInside last.window → IsNext last text next → next_at last (text ++ after) ≡ Ok (next, after)
 unfolding next_at
 next_again last text next after inside h =
     let parts : text ++ after ≡ h.step ++ (h.value ++ after) = ap (λ (x : List Bool). x ++ after) h.text ∙ append_assoc h.step h.value after in
@@ -107,27 +107,27 @@ next_again last text next after inside h =
 
 -- ---- samples after the second
 
-pub sample_found : (last : Last) (bits : List Bool) (s : Sample) (next : Last) (after : List Bool) → sample_at (last, bits) ≡ Ok (s, (next, after)) → (s ≡ sample_of next) × (next_at last bits ≡ Ok (next, after))
+pub sample_found : (last : State) (bits : List Bool) (s : Sample) (next : State) (after : List Bool) → sample_at (last, bits) ≡ Ok (s, (next, after)) → (s ≡ sample_of next) × (next_at last bits ≡ Ok (next, after))
 unfolding sample_at
 sample_found last bits s next after e =
     let x = bind_ok (next_at last bits) (λ n. Ok (sample_of n.0, n)) (s, (next, after)) e in
-    let same : ◌≡◌ {A = Sample × (Last × List Bool)} (sample_of x.0.0, x.0) (s, (next, after)) = ok_is {E = XorRefusal} _ _ x.2 in (
-      sym (ap (λ (y : Sample × (Last × List Bool)). y.0) same) ∙ ap (λ (y : Sample × (Last × List Bool)). sample_of y.1.0) same,
-      x.1 ∙ ap (λ (y : Sample × (Last × List Bool)). Ok y.1) same,
+    let same : ◌≡◌ {A = Sample × (State × List Bool)} (sample_of x.0.0, x.0) (s, (next, after)) = ok_is {E = XorRefusal} _ _ x.2 in (
+      sym (ap (λ (y : Sample × (State × List Bool)). y.0) same) ∙ ap (λ (y : Sample × (State × List Bool)). sample_of y.1.0) same,
+      x.1 ∙ ap (λ (y : Sample × (State × List Bool)). Ok y.1) same,
     )
 
-pub others_found : (count : ℕ) (last : Last) (bits : List Bool) (samples : List Sample) (end : Last) (after : List Bool) → members_at sample_at count (last, bits) ≡ Ok (samples, (end, after)) → (length samples ≡ count) × HasText (λ text ss. AreOthers last text ss) bits samples after
+pub others_found : (count : ℕ) (last : State) (bits : List Bool) (samples : List Sample) (end : State) (after : List Bool) → members_at sample_at count (last, bits) ≡ Ok (samples, (end, after)) → (length samples ≡ count) × HasText (λ text ss. AreOthers last text ss) bits samples after
 unfolding members_at
 others_found zero last bits samples end after e =
-    let both : ◌≡◌ {A = List Sample × (Last × List Bool)} ([], (last, bits)) (samples, (end, after)) = ok_is {E = XorRefusal} _ _ e in
+    let both : ◌≡◌ {A = List Sample × (State × List Bool)} ([], (last, bits)) (samples, (end, after)) = ok_is {E = XorRefusal} _ _ e in
     let found : (length {A = Sample} [] ≡ 0) × HasText (λ text ss. AreOthers last text ss) bits [] bits = (refl, record { text = []; is = refl; whole = refl }) in
-    subst (λ (y : List Sample × (Last × List Bool)). (length y.0 ≡ 0) × HasText (λ text ss. AreOthers last text ss) bits y.0 y.1.1) both found
+    subst (λ (y : List Sample × (State × List Bool)). (length y.0 ≡ 0) × HasText (λ text ss. AreOthers last text ss) bits y.0 y.1.1) both found
 others_found (suc count) last bits samples end after e =
     let x = bind_ok (sample_at (last, bits)) (λ first. members_at sample_at count first.1 >>= λ others. Ok (first.0 ∷ others.0, others.1)) (samples, (end, after)) e in
     let first = sample_found last bits x.0.0 x.0.1.0 x.0.1.1 x.1 in
     let one = next_found last bits x.0.1.0 x.0.1.1 first.1 in
     let y = bind_ok (members_at sample_at count x.0.1) (λ others. Ok (x.0.0 ∷ others.0, others.1)) (samples, (end, after)) x.2 in
-    let same : ◌≡◌ {A = List Sample × (Last × List Bool)} (x.0.0 ∷ y.0.0, y.0.1) (samples, (end, after)) = ok_is {E = XorRefusal} _ _ y.2 in
+    let same : ◌≡◌ {A = List Sample × (State × List Bool)} (x.0.0 ∷ y.0.0, y.0.1) (samples, (end, after)) = ok_is {E = XorRefusal} _ _ y.2 in
     let more = others_found count x.0.1.0 x.0.1.1 y.0.0 y.0.1.0 y.0.1.1 y.1 in
     let found : (length (x.0.0 ∷ y.0.0) ≡ suc count) × HasText (λ text ss. AreOthers last text ss) bits (x.0.0 ∷ y.0.0) y.0.1.1 = (
       ap suc more.0,
@@ -137,13 +137,13 @@ others_found (suc count) last bits samples end after e =
         whole = one.whole ∙ ap (λ (a : List Bool). one.text ++ a) more.1.whole ∙ sym (append_assoc one.text more.1.text y.0.1.1);
       },
     ) in
-    subst (λ (y : List Sample × (Last × List Bool)). (length y.0 ≡ suc count) × HasText (λ text ss. AreOthers last text ss) bits y.0 y.1.1) same found
+    subst (λ (y : List Sample × (State × List Bool)). (length y.0 ≡ suc count) × HasText (λ text ss. AreOthers last text ss) bits y.0 y.1.1) same found
 
-sample_again : (last : Last) (text : List Bool) (next : Last) (after : List Bool) → IsInside last.window → IsNext last text next → sample_at (last, text ++ after) ≡ Ok (sample_of next, (next, after))
+sample_again : (last : State) (text : List Bool) (next : State) (after : List Bool) → IsInside last.window → IsNext last text next → sample_at (last, text ++ after) ≡ Ok (sample_of next, (next, after))
 unfolding sample_at
 sample_again last text next after inside h = rw (next_again last text next after inside h) refl
 
-pub others_again : (samples : List Sample) (last : Last) (text after : List Bool) → IsInside last.window → AreOthers last text samples → (end : Last) × (members_at sample_at (length samples) (last, text ++ after) ≡ Ok (samples, (end, after)))
+pub others_again : (samples : List Sample) (last : State) (text after : List Bool) → IsInside last.window → AreOthers last text samples → (end : State) × (members_at sample_at (length samples) (last, text ++ after) ≡ Ok (samples, (end, after)))
 unfolding members_at
 others_again [] last text after inside h = (last, ap (λ (a : List Bool). Ok ([], (last, a ++ after))) h)
 others_again (s ∷ ss) last text after inside h =
@@ -165,7 +165,7 @@ value_some window before text pattern next (same_pattern e p w) = omega (arith, 
 value_some window before text pattern next (in_window within e w h) = omega (arith, ap length e)
 value_some window before text pattern next (opens opened e h) = omega (arith, ap length e)
 
-pub others_few : (samples : List Sample) (last : Last) (text : List Bool) → AreOthers last text samples → length samples ≤ length text
+pub others_few : (samples : List Sample) (last : State) (text : List Bool) → AreOthers last text samples → length samples ≤ length text
 others_few [] last text h = omega arith
 others_few (s ∷ ss) last text h =
     omega (arith, ap length h.3, length-append h.1 h.2, ap length h.4.text, length-append h.4.step h.4.value, change_some h.4.step h.4.change h.4.changes, others_few ss h.0 h.2 h.6)

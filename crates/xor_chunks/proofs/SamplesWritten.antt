@@ -12,7 +12,7 @@ use Rattle.wire_bytes.specs.Written.{uvarint_text, varint_text}
 use Rattle.wire_bytes.proofs.GroupTexts.{uvarint_text_is, varint_text_is}
 use Rattle.reading_core.proofs.Fronts.{IsBytes-after}
 use Rattle.label_sets.specs.declared.sample.Sample.{Sample}
-use Rattle.xor_chunks.specs.declared.last.Last.{Last}
+use Rattle.xor_chunks.specs.State.{State}
 use Rattle.xor_chunks.specs.declared.put.Put.{Put}
 use Rattle.xor_chunks.specs.Bits.{bits_of, bits_in, filled}
 use Rattle.xor_chunks.specs.declared.setting.Setting.TheVariants.{Unset}
@@ -59,8 +59,8 @@ bits_split (b ∷ front) (c ∷ bytes) more are front_are e =
 
 -- ---- samples
 
--- what a reader knows where the writer knows this
-abbrev pub last_of : Put → Last
+-- the state where the writer knows this
+abbrev pub last_of : Put → State
 last_of put = record { time = put.time; delta = unsigned_abs put.delta; pattern = put.pattern; window = seen put.window }
 
 abs_pos : (z : ℤ) → pos 0 ≤ℤ z → pos (unsigned_abs z) ≡ z

@@ -184,5 +184,5 @@ unfolding whole_field_at
 row_1111_short old bits middle n refusal same e h k = row_1111 old e ∙ rw (← same, h, k) refl
 
 -- what a call read is what was to be read
-pub reads_same : {Y : Type 0} (after : List Bool) (result : Result Y XorRefusal) (read wanted : Result (Y × List Bool) XorRefusal) → Reads (λ y. y) after result read → read ≡ wanted → Reads (λ y. y) after result wanted
-reads_same {Y = Y} after result read wanted h e = subst (λ (r : Result (Y × List Bool) XorRefusal). Reads (λ y. y) after result r) e h
+pub reads_same : {X Y : Type 0} (view : X → Y) (after : List Bool) (result : Result X XorRefusal) (read wanted : Result (Y × List Bool) XorRefusal) → Reads view after result read → read ≡ wanted → Reads view after result wanted
+reads_same {Y = Y} view after result read wanted h e = subst (λ (r : Result (Y × List Bool) XorRefusal). Reads view after result r) e h

@@ -16,7 +16,7 @@ use Rattle.wire_bytes.specs.FieldTexts.{IsFixed, IsUvarint, IsVarint}
 use Rattle.wire_bytes.proofs.FieldLaws.{varint_found, varint_again, left_after}
 use Rattle.wire_bytes.proofs.FixedLaws.{wide16, wide64, number_found, number_again}
 use Rattle.label_sets.specs.declared.sample.Sample.{Sample}
-use Rattle.xor_chunks.specs.declared.last.Last.{Last}
+use Rattle.xor_chunks.specs.State.{State}
 use Rattle.xor_chunks.specs.declared.refusal.XorRefusal.{XorRefusal}
 use Rattle.xor_chunks.specs.declared.refusal.XorRefusal.TheVariants.{Trailing, NoMemory}
 use Rattle.xor_chunks.specs.Bits.{bits_of, bits_in, number_of}
@@ -31,14 +31,14 @@ use Rattle.xor_chunks.proofs.BitLists.{bits_of-number_of, bits_of-zero, length-b
 use Rattle.xor_chunks.proofs.Takes.{number_of-zeros}
 use Rattle.xor_chunks.proofs.SamplesRead.{le-nat_le, nat_le-le, follow_found, follow_again, others_found, others_again, value_some, others_few, gap_found, gap_again}
 
-others_at_found : (count : ℕ) (last : Last) (bits : List Bool) (samples : List Sample) (after : List Bool) → others_at count last bits ≡ Ok (samples, after) → (end : Last) × (members_at sample_at count (last, bits) ≡ Ok (samples, (end, after)))
+others_at_found : (count : ℕ) (last : State) (bits : List Bool) (samples : List Sample) (after : List Bool) → others_at count last bits ≡ Ok (samples, after) → (end : State) × (members_at sample_at count (last, bits) ≡ Ok (samples, (end, after)))
 unfolding others_at
 others_at_found count last bits samples after e =
     let x = bind_ok (members_at sample_at count (last, bits)) (λ others. Ok (others.0, others.1.1)) (samples, after) e in
     let same : ◌≡◌ {A = List Sample × List Bool} (x.0.0, x.0.1.1) (samples, after) = ok_is {E = XorRefusal} _ _ x.2 in
     (x.0.1.0, x.1 ∙ ap (λ (y : List Sample × List Bool). Ok (y.0, (x.0.1.0, y.1))) same)
 
-others_at_again : (count : ℕ) (last end : Last) (bits : List Bool) (samples : List Sample) (after : List Bool) → members_at sample_at count (last, bits) ≡ Ok (samples, (end, after)) → others_at count last bits ≡ Ok (samples, after)
+others_at_again : (count : ℕ) (last end : State) (bits : List Bool) (samples : List Sample) (after : List Bool) → members_at sample_at count (last, bits) ≡ Ok (samples, (end, after)) → others_at count last bits ≡ Ok (samples, after)
 unfolding others_at
 others_at_again count last end bits samples after e = rw e refl
 
@@ -79,7 +79,7 @@ unfolding rest_at
 rest_again first bytes [] after h = ap (λ (a : List Bool). Ok ([], a)) h
 rest_again first bytes (s ∷ ss) after h =
     let inside : IsInside whole = omega arith in
-    let second : Last = record { time = s.time; delta = h.gap; pattern = s.pattern; window = h.window } in
+    let second : State = record { time = s.time; delta = h.gap; pattern = s.pattern; window = h.window } in
     let read = follow_again (begun first) (pos h.gap) h.value second (h.rest ++ after) inside (omega (arith, ints)) h.follows h.shows in
     let others = others_again ss second h.rest after (value_inside whole first.pattern h.value s.pattern h.window inside h.shows) h.others_are in
     rw (gap_again bytes h.gap h.after h.gap_is, h.bits_are, read, others_at_again (length ss) second others.0 (h.rest ++ after) ss after others.1) refl

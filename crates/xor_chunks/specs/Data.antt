@@ -1,4 +1,11 @@
--- What reading XOR data gives: its samples, or the first refusal.
+-- What reading XOR data gives: its samples, or the refusal of the first sample that cannot be read.
+--
+-- Each sample is read where the one before it ends, and what is left after the last one is tested at the end (Trailing). A
+-- sample is refused by the first of these cases:
+-- 1. its bits end before it does (Short), or one of its varints is longer than its number may be (OutOfRange);
+-- 2. a window that it is told in lies outside the 64 bits of a pattern (OutOfRange);
+-- 3. its time is none of 64 bits (OutOfRange);
+-- 4. its time does not come after the one before it (Falling).
 use Rattle.std.specs.Prelude.{ℕ, zero, suc, Bool, List, [], ◌∷◌, ◌++◌, length, Result, Ok, nat_le, ◌==◌, ◌&&◌, pos}
 use Rattle.std.specs.Int.{w16, w64}
 use Rattle.reading_core.specs.Reading.{◌>>=◌, ◌>>◌, unless, refused_as}
@@ -6,7 +13,7 @@ use Rattle.reading_core.specs.Members.{members_at}
 use Rattle.wire_bytes.specs.Position.{Position, left}
 use Rattle.wire_bytes.specs.Fields.{number_at, uvarint_at, varint_at}
 use Rattle.label_sets.specs.declared.sample.Sample.{Sample}
-use Rattle.xor_chunks.specs.declared.last.Last.{Last}
+use Rattle.xor_chunks.specs.State.{State}
 use Rattle.xor_chunks.specs.declared.refusal.XorRefusal.{XorRefusal}
 use Rattle.xor_chunks.specs.declared.refusal.XorRefusal.TheVariants.{Trailing}
 use Rattle.xor_chunks.specs.Refusals.{xor_refusal}
@@ -36,19 +43,19 @@ gap_at bytes = do
   Ok (gap.0, left gap.1)
 
 -- one sample, and what the next is told from with the bits that it stands in
-unfoldable pub sample_at : Last × List Bool → Result (Sample × (Last × List Bool)) XorRefusal
+unfoldable pub sample_at : State × List Bool → Result (Sample × (State × List Bool)) XorRefusal
 sample_at s = do
   next ← next_at s.0 s.1
   Ok (sample_of next.0, next)
 
 -- so many samples after the second, and the bits after them
-unfoldable pub others_at : ℕ → Last → List Bool → Result (List Sample × List Bool) XorRefusal
+unfoldable pub others_at : ℕ → State → List Bool → Result (List Sample × List Bool) XorRefusal
 others_at count second bits = do
   others ← members_at sample_at count (second, bits)
   Ok (others.0, others.1.1)
 
 -- so many samples after the first
-unfoldable pub rest_at : ℕ → Last → List ℕ → Result (List Sample × List Bool) XorRefusal
+unfoldable pub rest_at : ℕ → State → List ℕ → Result (List Sample × List Bool) XorRefusal
 rest_at zero first bytes = Ok ([], bits_in bytes)
 rest_at (suc count) first bytes = do
   gap ← gap_at bytes

@@ -4,8 +4,9 @@ use Rattle.std.specs.Int.{w16, w64, cast_signed}
 use Rattle.reading_core.specs.Grammar.{HasFront}
 use Rattle.wire_bytes.specs.FieldTexts.{IsFixed, IsUvarint, IsVarint}
 use Rattle.label_sets.specs.declared.sample.Sample.{Sample}
-use Rattle.xor_chunks.specs.declared.last.Last.{Last}
+use Rattle.xor_chunks.specs.State.{State}
 use Rattle.xor_chunks.specs.Bits.{bits_of, bits_in}
+use Rattle.xor_chunks.specs.Samples.{sample_of}
 use Rattle.xor_chunks.specs.Window.{Window, whole, IsInside, changed}
 
 -- A field of so many bits stands for itself; above the middle, for itself less 2 to its width.
@@ -65,7 +66,7 @@ pub record Follows (before time : ℤ) (delta : ℕ) : Type 0 where
   pub high : time <ℤ pos (2 ^ 63)
 
 -- a sample after the second: by how much its step is longer, and its value
-pub record IsNext (before : Last) (bits : List Bool) (next : Last) : Type 0 where
+pub record IsNext (before : State) (bits : List Bool) (next : State) : Type 0 where
   pub change : ℤ
   pub step : List Bool
   pub value : List Bool
@@ -76,9 +77,9 @@ pub record IsNext (before : Last) (bits : List Bool) (next : Last) : Type 0 wher
   pub shows : IsValue before.window before.pattern value next.pattern next.window
 
 -- samples after the second
-abbrev pub AreOthers : Last → List Bool → List Sample → Type 0
+abbrev pub AreOthers : State → List Bool → List Sample → Type 0
 AreOthers last bits [] = bits ≡ []
-AreOthers last bits (s ∷ ss) = (next : Last) × (first : List Bool) × (others : List Bool) × (bits ≡ first ++ others) × IsNext last first next × (s ≡ record { time = next.time; pattern = next.pattern }) × AreOthers next others ss
+AreOthers last bits (s ∷ ss) = (next : State) × (first : List Bool) × (others : List Bool) × (bits ≡ first ++ others) × IsNext last first next × (s ≡ sample_of next) × AreOthers next others ss
 
 -- the second sample: how long it comes after the first as bytes, and its value and the samples after it as bits, up to those that are left
 pub record AreFromSecond (first : Sample) (bytes : List ℕ) (second : Sample) (others : List Sample) (left : List Bool) : Type 0 where

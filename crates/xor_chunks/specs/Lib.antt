@@ -3,6 +3,8 @@ pub mod Buffer
 pub mod Writing
 pub mod Window
 pub mod Refusals
+pub mod State
+pub mod Known
 pub mod Samples
 pub mod Steps
 pub mod Data

@@ -1,11 +1,11 @@
 -- Samples, and what the next one is told from.
 use Rattle.label_sets.specs.declared.sample.Sample.{Sample}
-use Rattle.xor_chunks.specs.declared.last.Last.{Last}
+use Rattle.xor_chunks.specs.State.{State}
 use Rattle.xor_chunks.specs.Window.{whole}
 
 -- after the first sample
-abbrev pub begun : Sample → Last
+abbrev pub begun : Sample → State
 begun first = record { time = first.time; delta = 0; pattern = first.pattern; window = whole }
 
-abbrev pub sample_of : Last → Sample
+abbrev pub sample_of : State → Sample
 sample_of last = record { time = last.time; pattern = last.pattern }

@@ -1,9 +1,9 @@
--- What reading bits gives: a value and the bits after it, or the first refusal.
+-- What reading the bits of one sample gives: it and the bits after it, or the first of the cases that refuse it.
 use Rattle.std.specs.Prelude.{◌≡◌, ℕ, zero, suc, ◌-◌, ◌^◌, Bool, true, false, List, ◌∷◌, length, take, drop, Result, Ok, Err, MatchResult, nat_lt, if◌then◌else◌, ℤ, pos, negsuc, ◌+ℤ◌, ◌-ℤ◌}
 use Rattle.std.specs.Int.{cast_signed, w64}
 use Rattle.reading_core.specs.Reading.{◌>>=◌, ◌>>◌, unless}
 use Rattle.reading_core.specs.Decimal.{fits_signed}
-use Rattle.xor_chunks.specs.declared.last.Last.{Last}
+use Rattle.xor_chunks.specs.State.{State}
 use Rattle.xor_chunks.specs.declared.refusal.XorRefusal.{XorRefusal}
 use Rattle.xor_chunks.specs.declared.refusal.XorRefusal.TheVariants.{Short, Falling, OutOfRange}
 use Rattle.xor_chunks.specs.Bits.{number_of}
@@ -80,8 +80,9 @@ risen time (negsuc n) = Err Falling
 unfoldable pub time_after : ℤ → ℤ → Result (ℤ × ℕ) XorRefusal
 time_after time delta = if fits_signed (time +ℤ delta) then risen (time +ℤ delta) delta else Err OutOfRange
 
--- The sample that comes later by a step which has changed by so much: its bits first, and then what they say is tested.
-unfoldable pub follow_at : Last → ℤ → List Bool → Result (Last × List Bool) XorRefusal
+-- The sample that comes later by a step which has changed by so much. All its bits are read first. Then its window is tested,
+-- then whether its time is one of 64 bits, and last whether it comes later.
+unfoldable pub follow_at : State → ℤ → List Bool → Result (State × List Bool) XorRefusal
 follow_at last change bits = do
   value ← value_at last.pattern last.window bits
   unless (is_inside value.0.1) OutOfRange
@@ -89,7 +90,7 @@ follow_at last change bits = do
   Ok (record { time = after.0; delta = after.1; pattern = value.0.0; window = value.0.1 }, value.1)
 
 -- the next sample, after the second
-unfoldable pub next_at : Last → List Bool → Result (Last × List Bool) XorRefusal
+unfoldable pub next_at : State → List Bool → Result (State × List Bool) XorRefusal
 next_at last bits = do
   change ← change_at bits
   follow_at last change.0 change.1

@@ -1,6 +1,7 @@
 ghost use Rattle.std.specs.Prelude.{◌≡◌, ◌≤◌, ◌*◌, ◌⊎◌, ◌++◌, ◌∷◌, [], length, List, IfOk, MatchResult, Ok, Err};
 ghost use Rattle.label_sets.specs.declared.sample.Sample.{Sample};
 ghost use Rattle.xor_chunks.specs.Grammar.{IsText};
+ghost use Rattle.xor_chunks.specs.Known.{state_of};
 ghost use Rattle.reading_core.specs.Reading.{Answers, Gives};
 ghost use Rattle.reading_core.specs.Grammar.{IsBytes};
 ghost use Rattle.xor_chunks.specs.Data.{count_at, first_at, gap_at, others_at, rest_at, samples_at, data_at, is_filling, with_front};
@@ -51,7 +52,7 @@ fn push_others<'a>(
     second: Last,
     mut reader: BitReader<'a>,
 ) -> Result<(Vec<Sample>, BitReader<'a>), XorRefusal>
-    ensures { Gives XorRefusal.NoMemory (λ x. (x.0.items, x.1)) result (with_front samples.items (others_at count second reader.entry)) }
+    ensures { Gives XorRefusal.NoMemory (λ x. (x.0.items, x.1)) result (with_front samples.items (others_at count (state_of second) reader.entry)) }
 {
     let mut last = second;
     for _ in 0..count {
@@ -102,7 +103,7 @@ fn push_rest<'a>(
     first: Last,
     bytes: &'a [u8],
 ) -> Result<(Vec<Sample>, BitReader<'a>), XorRefusal>
-    ensures { Gives XorRefusal.NoMemory (λ x. (x.0.items, x.1)) result (with_front samples.items (rest_at count first bytes.now)) }
+    ensures { Gives XorRefusal.NoMemory (λ x. (x.0.items, x.1)) result (with_front samples.items (rest_at count (state_of first) bytes.now)) }
 {
     if count == 0 {
         return Ok((samples, BitReader::new(bytes)));
@@ -173,7 +174,7 @@ pub fn decode(alloc: Global, bytes: &[u8]) -> Result<SampleList, XorRefusal>
     ensures found { IfOk result (λ samples. IsText 7 bytes.now samples) }
     ensures only { (samples : List Sample) → IsText 7 bytes.now samples → (result ≡ Ok samples) ⊎ (result ≡ Err XorRefusal.NoMemory) }
 
-    // The first refusal from left to right.
+    // A refusal is that of the first sample that cannot be read, by its first case.
     ensures exact { Gives XorRefusal.NoMemory (λ samples. samples) result (data_at 7 bytes.now) }
     ensures few { IfOk result (λ samples. length samples ≤ 8 * length bytes.now) }
 {
@@ -186,7 +187,7 @@ pub fn decode_stored(alloc: Global, bytes: &[u8]) -> Result<SampleList, XorRefus
     ensures found { IfOk result (λ samples. IsText 8 bytes.now samples) }
     ensures only { (samples : List Sample) → IsText 8 bytes.now samples → (result ≡ Ok samples) ⊎ (result ≡ Err XorRefusal.NoMemory) }
 
-    // The first refusal from left to right.
+    // A refusal is that of the first sample that cannot be read, by its first case.
     ensures exact { Gives XorRefusal.NoMemory (λ samples. samples) result (data_at 8 bytes.now) }
     ensures few { IfOk result (λ samples. length samples ≤ 8 * length bytes.now) }
 {

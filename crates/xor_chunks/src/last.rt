@@ -12,11 +12,12 @@ pub(crate) struct Last {
 
 impl Last {
     ghost use Rattle.std.specs.Prelude.{◌≡◌};
+    ghost use Rattle.xor_chunks.specs.Known.{state_of};
     ghost use Rattle.xor_chunks.specs.Samples.{begun, sample_of};
 
     /// The first sample, which comes after none.
     pub(crate) fn begun(first: Sample) -> Last
-        ensures { result ≡ begun first }
+        ensures { state_of result ≡ begun first }
     {
         Last {
             time: first.time,
@@ -29,7 +30,7 @@ impl Last {
     /// The last sample.
     #[inline(always)]
     pub(crate) fn sample(&self) -> Sample
-        ensures { result ≡ sample_of self.now }
+        ensures { result ≡ sample_of (state_of self.now) }
     {
         Sample {
             time: self.time,

@@ -18,6 +18,8 @@ mod short_bits;
 mod step;
 #[cfg(test)]
 mod stored_chunks;
+#[cfg(test)]
+mod stored_sums;
 mod taking;
 #[cfg(test)]
 mod tests;

@@ -1,6 +1,7 @@
 ghost use Rattle.std.specs.Prelude.{◌≡◌, pos, negsuc, ◌+ℤ◌, ◌-ℤ◌, ◌≤ℤ◌, ◌<◌, ◌≤◌, ◌+◌, ◌-◌, ◌/◌, ◌%◌, ◌^◌, ℕ, ℤ, Bool, List, Ok, if◌then◌else◌, nat_lt, IsTrue, IfOk, IfSome, IfNone};
 ghost use Rattle.reading_core.specs.Reading.{Answers};
 ghost use Rattle.xor_chunks.specs.Buffer.{front, Shows};
+ghost use Rattle.xor_chunks.specs.Known.{state_of};
 ghost use Rattle.xor_chunks.specs.Steps.{Reads, take_at, behind, change_at, value_at, within_at, time_after, follow_at, next_at, field_value};
 
 use crate::last::Last;
@@ -166,7 +167,7 @@ fn follow_known(
     requires word { Shows word (known + 13) reader.old }
     requires low { negsuc (2 ^ 64) ≤ℤ change }
     requires high { change ≤ℤ pos (2 ^ 64) }
-    ensures { Reads (λ x. x) reader.new result (behind known (follow_at last change) reader.old) }
+    ensures { Reads state_of reader.new result (behind known (follow_at (state_of last) change) reader.old) }
 {
     let (pattern, window) = take_value(reader, word, known, last.pattern, last.window)?;
     if !window.is_inside() {
@@ -190,7 +191,7 @@ pub(crate) fn follow(
 ) -> Result<Last, XorRefusal>
     requires low { negsuc (2 ^ 64) ≤ℤ change }
     requires high { change ≤ℤ pos (2 ^ 64) }
-    ensures { Reads (λ x. x) reader.new result (follow_at last change reader.old) }
+    ensures { Reads state_of reader.new result (follow_at (state_of last) change reader.old) }
 {
     let word = reader.peek(13);
     follow_known(reader, word, 0, last, change)
@@ -245,7 +246,7 @@ pub(crate) fn next<'a>(
     mut reader: BitReader<'a>,
     last: Last,
 ) -> Result<(Last, BitReader<'a>), XorRefusal>
-    ensures { Answers (λ x. x) result (next_at last reader.entry) }
+    ensures { Answers (λ x. (state_of x.0, x.1)) result (next_at (state_of last) reader.entry) }
 {
     let word = reader.peek(37);
     if word >> 63 == 0 {
@@ -266,7 +267,7 @@ fn next_by_long_change<'a>(
     last: Last,
 ) -> Result<(Last, BitReader<'a>), XorRefusal>
     requires { front 4 reader ≡ 15 }
-    ensures { Answers (λ x. x) result (next_at last reader.entry) }
+    ensures { Answers (λ x. (state_of x.0, x.1)) result (next_at (state_of last) reader.entry) }
 {
     let (after, reader) = next_slowly(reader, last)?;
     Ok((after, reader))
@@ -280,7 +281,7 @@ fn next_slowly<'a>(
     last: Last,
 ) -> Result<(Last, BitReader<'a>), XorRefusal>
     requires { front 4 reader ≡ 15 }
-    ensures { Answers (λ x. x) result (next_at last reader.entry) }
+    ensures { Answers (λ x. (state_of x.0, x.1)) result (next_at (state_of last) reader.entry) }
 {
     let change = take_long_change(&mut reader)?;
     let after = follow(&mut reader, last, i128::from(change))?;

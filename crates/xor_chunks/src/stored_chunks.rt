@@ -1,6 +1,7 @@
 //! Chunks of blocks that Prometheus 2.42 wrote, with all samples as its own reader gives them: 31 of the 65 different
 //! chunks of those blocks. long_chunks.rt has the others.
 use crate::decode_stored;
+use crate::stored_sums::is_guarded;
 use label_sets::Sample;
 use list_core::NoMemory;
 use std::alloc::Global;
@@ -8,7 +9,7 @@ use std::test::Fail;
 use wire_bytes::{crc_of, put_u64};
 
 /// The XOR data of the chunks, one after another.
-const STORED: [u8; 1893] = [
+static STORED: [u8; 1893] = [
     0x00, 0x01, 0xd0, 0x8f, 0x9c, 0xcd, 0xca, 0x64, 0x3f, 0xf0, 0x00, 0x00, 0x00, 0x00, 0x00, 0x00,
     0x00, 0x00, 0x78, 0x80, 0x80, 0x9c, 0xcd, 0xca, 0x64, 0x3f, 0xf0, 0x00, 0x00, 0x00, 0x00, 0x00,
     0x00, 0x98, 0x75, 0x00, 0x00, 0x00, 0x00, 0x00, 0x00, 0x00, 0x00, 0x00, 0x00, 0x00, 0x00, 0x00,
@@ -130,42 +131,42 @@ const STORED: [u8; 1893] = [
     0x00, 0x00, 0x00, 0x00, 0x00,
 ];
 
-/// Where a chunk's data begins, how long it is, how many samples it has, and the CRC-32C of their times and patterns,
-/// as 64 bits each, highest byte first: of one sample; constant values; irregular steps through every row of changes;
-/// values on a byte's edge; steps from the epoch on; and chunks that went on after a restart, with a field in a
-/// window that was never set.
-const CHUNKS: [(usize, usize, usize, u32); 31] = [
-    (0, 17, 1, 0xb9229395),
-    (17, 48, 120, 0x69963afb),
-    (65, 49, 9, 0x63c4a5e0),
-    (114, 56, 9, 0xe605854c),
-    (170, 73, 9, 0x9a90e67d),
-    (243, 95, 9, 0xc556b05b),
-    (338, 53, 9, 0x079f91b9),
-    (391, 54, 9, 0x7b0af288),
-    (445, 56, 9, 0x24cca4ae),
-    (501, 49, 9, 0x6ce81f23),
-    (550, 49, 9, 0xe957ba70),
-    (599, 51, 9, 0x95c2d941),
-    (650, 53, 9, 0xca048f67),
-    (703, 36, 9, 0x3c02f3c6),
-    (739, 49, 9, 0x409790f7),
-    (788, 56, 9, 0xe448ca88),
-    (844, 78, 9, 0xbb8e9cae),
-    (922, 95, 9, 0xc71bff9f),
-    (1017, 53, 9, 0x2045092d),
-    (1070, 55, 9, 0x7f835f0b),
-    (1125, 56, 9, 0x03163c3a),
-    (1181, 49, 9, 0xbf423d88),
-    (1230, 51, 9, 0xe0846bae),
-    (1281, 53, 9, 0x9c11089f),
-    (1334, 20, 2, 0xc54e4d5a),
-    (1354, 21, 2, 0x55ac723a),
-    (1375, 91, 66, 0x95e3a0f5),
-    (1466, 19, 5, 0xc4405142),
-    (1485, 94, 10, 0x6a4f9fac),
-    (1579, 136, 15, 0xeba93dd9),
-    (1715, 178, 20, 0x3139fcea),
+/// Where a chunk's data begins, how long it is, how many samples it has, the CRC-32C of their times and patterns,
+/// as 64 bits each, highest byte first, and the sum that stands behind it in its segment: of one sample; constant
+/// values; irregular steps through every row of changes; values on a byte's edge; steps from the epoch on; and chunks
+/// that went on after a restart, with a field in a window that was never set.
+static CHUNKS: [(usize, usize, usize, u32, u32); 31] = [
+    (0, 17, 1, 0xb9229395, 0xad4f56be),
+    (17, 48, 120, 0x69963afb, 0xb1c9a466),
+    (65, 49, 9, 0x63c4a5e0, 0x80218d97),
+    (114, 56, 9, 0xe605854c, 0xde3e92ec),
+    (170, 73, 9, 0x9a90e67d, 0x1cdf21be),
+    (243, 95, 9, 0xc556b05b, 0xf122eb44),
+    (338, 53, 9, 0x079f91b9, 0xc932ee08),
+    (391, 54, 9, 0x7b0af288, 0xedb70909),
+    (445, 56, 9, 0x24cca4ae, 0x34feedd8),
+    (501, 49, 9, 0x6ce81f23, 0x1585c2d2),
+    (550, 49, 9, 0xe957ba70, 0x17682a01),
+    (599, 51, 9, 0x95c2d941, 0x661d0c67),
+    (650, 53, 9, 0xca048f67, 0x3da5a1d2),
+    (703, 36, 9, 0x3c02f3c6, 0x786f3f82),
+    (739, 49, 9, 0x409790f7, 0xbcb7acbd),
+    (788, 56, 9, 0xe448ca88, 0xc3045096),
+    (844, 78, 9, 0xbb8e9cae, 0xd35079fa),
+    (922, 95, 9, 0xc71bff9f, 0x497b64a7),
+    (1017, 53, 9, 0x2045092d, 0x0900a85a),
+    (1070, 55, 9, 0x7f835f0b, 0xbc9e82c1),
+    (1125, 56, 9, 0x03163c3a, 0x834ea450),
+    (1181, 49, 9, 0xbf423d88, 0x53596ba6),
+    (1230, 51, 9, 0xe0846bae, 0xbac4f875),
+    (1281, 53, 9, 0x9c11089f, 0xd789b64a),
+    (1334, 20, 2, 0xc54e4d5a, 0xf367403c),
+    (1354, 21, 2, 0x55ac723a, 0xe42a8fe3),
+    (1375, 91, 66, 0x95e3a0f5, 0x958d79dc),
+    (1466, 19, 5, 0xc4405142, 0xaf021367),
+    (1485, 94, 10, 0x6a4f9fac, 0x9202ee2d),
+    (1579, 136, 15, 0xeba93dd9, 0x5e7f5a64),
+    (1715, 178, 20, 0x3139fcea, 0xc51e571b),
 ];
 
 pub(crate) fn sum_of(alloc: Global, samples: &[Sample]) -> Result<u32, NoMemory> {
@@ -179,7 +180,7 @@ pub(crate) fn sum_of(alloc: Global, samples: &[Sample]) -> Result<u32, NoMemory>
 
 #[test]
 fn stored_chunks_have_their_samples(rt: HostRuntime) -> Result<(), Fail> {
-    for (start, length, count, sum) in CHUNKS {
+    for (start, length, count, sum, kept) in CHUNKS {
         let data = STORED
             .get(start..)
             .and_then(|rest| rest.get(..length))
@@ -187,6 +188,7 @@ fn stored_chunks_have_their_samples(rt: HostRuntime) -> Result<(), Fail> {
         let read = decode_stored(rt.alloc(), data)?;
         assert!(rt; read.len() == count, "at {start}");
         assert!(rt; sum_of(rt.alloc(), read.members())? == sum, "at {start}");
+        assert!(rt; is_guarded(rt.alloc(), data, kept)?, "at {start}");
     }
     Ok(())
 }

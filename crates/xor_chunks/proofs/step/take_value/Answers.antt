@@ -26,7 +26,7 @@ returns-in_err-take_peeked-2 c =
 pub returns-then-head-eq2 : goal.returns-then-head-eq2
 returns-then-head-eq2 c =
     let head = head_is c.args.word c.args.known 2 c.args.reader.now (omega (arith, c.requires.known)) (c.requires.word.first (c.args.known + 2) (omega arith)) in
-    reads_same c.take_within.new.reader c.take_within.result _ _ c.take_within.ensures (sym (within_behind c.args.pattern c.in_ok-take_peeked-2.field-0 c.args.window c.args.known c.args.reader.now c.take_peeked-then-head-eq2.new.reader (sym head ∙ c.if-head-eq2.true) c.in_ok-take_peeked-2.ensures.read))
+    reads_same (λ y. y) c.take_within.new.reader c.take_within.result _ _ c.take_within.ensures (sym (within_behind c.args.pattern c.in_ok-take_peeked-2.field-0 c.args.window c.args.known c.args.reader.now c.take_peeked-then-head-eq2.new.reader (sym head ∙ c.if-head-eq2.true) c.in_ok-take_peeked-2.ensures.read))
 
 pub returns-in_err-told : goal.returns-in_err-told
 returns-in_err-told c =
@@ -37,6 +37,6 @@ returns-in_err-told c =
 pub returns : goal.returns
 returns c =
     let head = head_is c.args.word c.args.known 2 c.args.reader.now (omega (arith, c.requires.known)) (c.requires.word.first (c.args.known + 2) (omega arith)) in
-    reads_same c.take_within-2.new.reader c.take_within-2.result _ _ c.take_within-2.ensures
+    reads_same (λ y. y) c.take_within-2.new.reader c.take_within-2.result _ _ c.take_within-2.ensures
     (ap (λ (w : Window). within_at c.args.pattern w c.take_peeked-2.new.reader) c.told_by.ensures
     ∙ sym (opened_behind c.args.pattern c.in_ok-told.told c.args.window c.args.known c.args.reader.now c.take_peeked-2.new.reader (eleven _ _ (omega arith) head c.if-head-eq0.false c.if-head-eq2.false) c.in_ok-told.ensures.read))
