@@ -25,16 +25,17 @@ fn next_label(cursor: &mut Cursor<'_>) -> Result<(u64, u64), PartRefusal>
     Ok((name, value))
 }
 
-/// Reads the symbol numbers of so many labels, and what follows them.
+/// Reads the symbol numbers of so many labels in place of those that the lists have, and what follows them.
 fn labels_of<'a>(
-    alloc: Global,
     count: u64,
     mut cursor: Cursor<'a>,
+    mut names: Vec<u64>,
+    mut values: Vec<u64>,
 ) -> Result<(Vec<u64>, Vec<u64>, Cursor<'a>), PartRefusal>
     ensures { Gives PartRefusal.NoMemory (λ x. ((x.0.items, x.1.items), x.2)) result (labels_at count cursor.entry) }
 {
-    let mut names = Vec::new(alloc);
-    let mut values = Vec::new(alloc);
+    names.clear();
+    values.clear();
     for _ in 0..count {
         let (name, value) = next_label(&mut cursor)?;
         names.push(name)?;
@@ -131,15 +132,15 @@ fn next_chunk(
     Ok(chunk_of(min, max, reference))
 }
 
-/// Reads the places of so many chunks.
+/// Reads the places of so many chunks in place of those that the list has.
 fn chunks_of(
-    alloc: Global,
     count: u64,
     mut cursor: Cursor<'_>,
+    mut chunks: Vec<ChunkPlace>,
 ) -> Result<Vec<ChunkPlace>, PartRefusal>
     ensures { Gives PartRefusal.NoMemory (λ chunks. chunks.items) result (turns_at chunk_at count cursor.entry) }
 {
-    let mut chunks = Vec::new(alloc);
+    chunks.clear();
     let mut before = None;
     for _ in 0..count {
         let chunk = next_chunk(&mut cursor, before)?;
@@ -150,20 +151,39 @@ fn chunks_of(
 }
 
 #[tactic(auto, unfolding(crate::specs::SeriesReading::series_at))]
-fn series_of(alloc: Global, index: &[u8], at: u64) -> Result<RawSeries, PartRefusal>
+fn series_of(index: &[u8], at: u64, room: RawSeries) -> Result<RawSeries, PartRefusal>
     ensures exact { Gives PartRefusal.NoMemory (λ series. series) result (series_at index.now at) }
     ensures bytes { IsBytes index.now }
 {
     let mut content = entry_of(index, at)?;
     let label_count = next_uvarint(&mut content)?;
-    let (names, values, mut rest) = labels_of(alloc, label_count, content)?;
+    let (names, values, mut rest) = labels_of(
+        label_count,
+        content,
+        room.names.into_vec(),
+        room.values.into_vec(),
+    )?;
     let chunk_count = next_uvarint(&mut rest)?;
-    let chunks = chunks_of(alloc, chunk_count, rest)?;
+    let chunks = chunks_of(chunk_count, rest, room.chunks.into_vec())?;
     Ok(RawSeries {
         names: List::from_vec(names),
         values: List::from_vec(values),
         chunks: List::from_vec(chunks),
     })
+}
+
+/// Reads the series at a place into the room of another, of which nothing is kept but the memory of its lists: where these
+/// have room enough, none is taken. Where nothing is read the room is given up.
+pub fn read_series_into(index: &[u8], at: u64, room: RawSeries) -> Result<RawSeries, PartRefusal>
+    // What is read is what stands there, and what stands there is read.
+    ensures found { IfOk result (λ series. IsSeries index.now at series) }
+    ensures only { (series : RawSeries) → IsSeries index.now at series → (result ≡ Ok series) ⊎ (result ≡ Err PartRefusal.NoMemory) }
+
+    // The first refusal.
+    ensures exact { Gives PartRefusal.NoMemory (λ series. series) result (series_at index.now at) }
+    ensures few { IfOk result (λ series. length series.names + length series.values + 3 * length series.chunks ≤ length index.now) }
+{
+    series_of(index, at, room)
 }
 
 /// Reads the series at a place.
@@ -176,5 +196,5 @@ pub fn read_series(alloc: Global, index: &[u8], at: u64) -> Result<RawSeries, Pa
     ensures exact { Gives PartRefusal.NoMemory (λ series. series) result (series_at index.now at) }
     ensures few { IfOk result (λ series. length series.names + length series.values + 3 * length series.chunks ≤ length index.now) }
 {
-    series_of(alloc, index, at)
+    read_series_into(index, at, RawSeries::new(alloc))
 }

@@ -87,6 +87,10 @@ labels_found symbols before place (name ∷ names) (value ∷ values) labels man
     subst (λ (ls : List Label). StandFor symbols (name ∷ names) (map (λ (l : Label). l.name) ls) × StandFor symbols (value ∷ values) (map (λ (l : Label). l.value) ls) × AreChained before ls) p.4
     (cons_same _ _ _ _ is.name_is others.0, cons_same _ _ _ _ is.value_is others.1, (is.ascends, is.some, others.2))
 
+-- labels that were read are a set
+pub labels_lawful : (symbols : List (List ℕ)) (names values : List ℕ) (labels : List Label) → length names ≡ length values → labels_of symbols [] 0 names values ≡ Ok labels → IsLabelSet labels
+labels_lawful symbols names values labels many e = (set_from_chain [] labels (labels_found symbols [] 0 names values labels many e).2).0
+
 one_label : (symbols : List (List ℕ)) (before : List ℕ) (place name value : ℕ) (label : Label) → slice_get symbols name ≡ Some label.name → slice_get symbols value ≡ Some label.value → ComesBefore before label.name → 0 < length label.value → label_of symbols before place name value ≡ Ok label
 unfolding label_of
 one_label symbols before place name value label n v ascends some = rw (n, lt_from_less (compare_texts before label.name) ascends, v, lt-ltb 0 (length label.value) some) refl

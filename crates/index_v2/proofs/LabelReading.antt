@@ -1,5 +1,5 @@
 -- A series' labels, read one after another.
-use Rattle.std.proofs.Common.{◌≡◌, ℕ, suc, ◌+◌, ◌<◌, ◌≤◌, true, false, List, [], ◌∷◌, ◌++◌, length, drop, get_or, Option, Some, None, Result, Ok, Err, refl, sym, ap, ◌∙◌, append_assoc, arith, add-one, drop-cons, inr}
+use Rattle.std.proofs.Common.{◌≡◌, ℕ, suc, ◌+◌, ◌<◌, ◌≤◌, true, false, List, [], ◌∷◌, ◌++◌, length, map, drop, get_or, Option, Some, None, Result, Ok, Err, refl, sym, ap, ◌∙◌, append_assoc, arith, add-one, drop-cons, inr}
 use Rattle.std.specs.Prelude.{slice_get, nat_lt, ◌==◌}
 use Rattle.std.specs.Option.{ok_or}
 use Rattle.std.specs.declared.cmp.Ordering.{Ordering}
@@ -17,20 +17,9 @@ use Rattle.label_sets.specs.Labels.{compare_texts, ComesBefore, value_of, has_le
 use Rattle.label_sets.proofs.LabelValues.{before_trans, before_differs, value_miss, value_nil}
 use Rattle.index_v2.specs.declared.label_fault.LabelFault.{LabelFault}
 use Rattle.index_v2.specs.declared.label_fault.LabelFault.TheVariants.{Name, Value}
+use Rattle.index_v2.specs.declared.lent_label.LentLabel.{LentLabel}
+use Rattle.index_v2.specs.LentLabels.{as_label}
 use Rattle.index_v2.specs.SeriesLabels.{label_of, labels_of}
-
--- each of the labels has a name before this one
-abbrev pub AllBefore : List ℕ → List Label → Type 0
-AllBefore name [] = Unit {0}
-AllBefore name (l ∷ ls) = ComesBefore l.name name × AllBefore name ls
-
-all_before_trans : (a b : List ℕ) (ls : List Label) → AllBefore a ls → ComesBefore a b → AllBefore b ls
-all_before_trans a b [] all h = tt
-all_before_trans a b (l ∷ ls) all h = (before_trans l.name a b all.0 h, all_before_trans a b ls all.1 h)
-
-all_before_push : (a : List ℕ) (ls : List Label) (l : Label) → AllBefore a ls → ComesBefore l.name a → AllBefore a (ls ++ l ∷ [])
-all_before_push a [] l all h = (h, tt)
-all_before_push a (m ∷ ls) l all h = (all.0, all_before_push a ls l all.1 h)
 
 pub lt_from_less : (o : Ordering) → o ≡ Less → is_lt o ≡ true
 lt_from_less Less e = refl
@@ -41,24 +30,6 @@ pub less_from_lt : (o : Ordering) → is_lt o ≡ true → o ≡ Less
 less_from_lt Less e = refl
 less_from_lt Equal e = absurd cc
 less_from_lt Greater e = absurd cc
-
-no_value : (ls : List Label) (name : List ℕ) → AllBefore name ls → value_of ls name ≡ None
-no_value [] name all = value_nil name
-no_value (l ∷ ls) name all = value_miss l ls name (before_differs l.name name all.0) ∙ no_value ls name all.1
-
-placed_last : (ls : List Label) (l : Label) → AllBefore l.name ls → placed has_lesser_name l ls ≡ ls ++ l ∷ []
-unfolding placed
-placed_last [] l all = refl
-placed_last (m ∷ ls) l all = rw (lt_from_less (compare_texts m.name l.name) all.0, placed_last ls l all.1) refl
-
-some_name : (before name : List ℕ) → ComesBefore before name → (length name == 0) ≡ false
-some_name [] [] h = absurd cc
-some_name (b ∷ before) [] h = absurd cc
-some_name before (n ∷ name) h = ne_eqb (suc (length name)) 0 (omega arith)
-
-some_value : (value : List ℕ) → 0 < length value → (length value == 0) ≡ false
-some_value [] h = absurd (omega arith)
-some_value (v ∷ value) h = ne_eqb (suc (length value)) 0 (omega arith)
 
 -- what a label that is read is
 pub record IsLabelOf (symbols : List (List ℕ)) (before : List ℕ) (name value : ℕ) (label : Label) : Type 0 where
@@ -86,24 +57,19 @@ label_parts symbols before place name value label e =
       some = rw (← same) (ltb-true 0 (length v.0) long.0);
     }
 
--- a label behind all others is added at the end
-pub added_last : (symbols : List (List ℕ)) (before : List ℕ) (name value : ℕ) (ls new : List Label) (label : Label) → IsLabelOf symbols before name value label → AllBefore label.name ls → added ls label.name label.value ≡ Ok new → new ≡ ls ++ label ∷ []
-unfolding added
-added_last symbols before name value ls new label is all e =
-    let whole : added ls label.name label.value ≡ Ok (ls ++ label ∷ []) = rw (some_name before label.name is.ascends, some_value label.value is.some, no_value ls label.name all, placed_last ls label all) refl in
-    ok_is {E = LabelRefusal} _ _ (sym e ∙ whole)
-
 -- what was read of the front, and what is left, is the whole
 pub record AreSoFar (symbols : List (List ℕ)) (names values : List ℕ) (before : List ℕ) (place : ℕ) (labels : List Label) : Type 0 where
   pub whole : labels_of symbols [] 0 names values ≡ (labels_of symbols before place (drop place names) (drop place values) >>= λ others. Ok (labels ++ others))
-  pub behind : (name : List ℕ) → ComesBefore before name → AllBefore name labels
 
 pub again : {A E : Type 0} (r : Result (List A) E) → r ≡ (r >>= λ others. Ok ([] ++ others))
 again (Ok xs) = refl
 again (Err e) = refl
 
-pub labels_start : (symbols : List (List ℕ)) (names values : List ℕ) → AreSoFar symbols names values [] 0 []
-labels_start symbols names values = record { whole = again (labels_of symbols [] 0 names values); behind = λ name h. tt }
+labels_start : (symbols : List (List ℕ)) (names values : List ℕ) → AreSoFar symbols names values [] 0 []
+labels_start symbols names values = record { whole = again (labels_of symbols [] 0 names values) }
+
+pub labels_begin : (symbols : List (List ℕ)) (names values : List ℕ) (labels : List LentLabel) → labels ≡ [] → AreSoFar symbols names values [] 0 (map as_label labels)
+labels_begin symbols names values labels e = rw e (labels_start symbols names values)
 
 pub moved : {A E : Type 0} (r : Result (List A) E) (x : A) (front : List A) → ((r >>= λ others. Ok (x ∷ others)) >>= λ others. Ok (front ++ others)) ≡ (r >>= λ others. Ok ((front ++ x ∷ []) ++ others))
 moved (Ok xs) x front = ap Ok (sym (append_assoc front (x ∷ []) xs))
@@ -122,15 +88,12 @@ at_front xs i x lt e = rw (add-one, e) (drop-cons xs i 0 lt)
 
 pub labels_step : (symbols : List (List ℕ)) (names values before : List ℕ) (place next name value : ℕ) (labels new : List Label) (label : Label)
     → AreSoFar symbols names values before place labels → length names ≡ length values → place < length names → next ≡ place + 1 → name ≡ get_or names place 0 → value ≡ get_or values place 0
-    → label_of symbols before place name value ≡ Ok label → added labels label.name label.value ≡ Ok new → AreSoFar symbols names values label.name next new
-labels_step symbols names values before place next name value labels new label far many lt e n v read add =
-    let is = label_parts symbols before place name value label read in
-    let last = added_last symbols before name value labels new label is (far.behind label.name is.ascends) add in
+    → label_of symbols before place name value ≡ Ok label → new ≡ labels ++ label ∷ [] → AreSoFar symbols names values label.name next new
+labels_step symbols names values before place next name value labels new label far many lt e n v read last =
     let front : labels_of symbols before place (drop place names) (drop place values) ≡ (labels_of symbols label.name (place + 1) (drop (place + 1) names) (drop (place + 1) values) >>= λ others. Ok (label ∷ others)) =
     rw (at_front names place name lt n, at_front values place value (omega arith) v) (one_more symbols before place name value (drop (place + 1) names) (drop (place + 1) values) label read) in
     rw (e, last) (record {
       whole = far.whole ∙ ap (λ (r : Result (List Label) LabelFault). r >>= λ others. Ok (labels ++ others)) front ∙ moved (labels_of symbols label.name (place + 1) (drop (place + 1) names) (drop (place + 1) values)) label labels;
-      behind = λ name h. all_before_push name labels label (all_before_trans label.name name labels (far.behind label.name is.ascends) h) h;
     })
 
 pub labels_stop : (symbols : List (List ℕ)) (names values before : List ℕ) (place name value : ℕ) (labels : List Label) (fault : LabelFault)
@@ -155,7 +118,3 @@ labels_end symbols names values before place labels far le =
 pub gives_err : {X Y E : Type 0} (no_memory : E) (view : X → Y) (r : Result X E) (e : E) (read : Result Y E) → IsErrAnd r (λ d. d ≡ e) → read ≡ Err e → Gives no_memory view r read
 gives_err no_memory view (Ok x) e read is h = absurd is
 gives_err no_memory view (Err d) e read is h = inr (h ∙ ap Err (sym is))
-
-pub gives_ok : {X Y E : Type 0} (no_memory : E) (new : Y) (r : Result X E) (read : Result Y E) → is_err r ≡ false → Gives no_memory (λ _. new) r read → read ≡ Ok new
-gives_ok no_memory new (Ok x) read e g = g
-gives_ok no_memory new (Err d) read e g = absurd cc

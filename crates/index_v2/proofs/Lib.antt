@@ -8,6 +8,7 @@ pub mod Differences
 pub mod ListNumbers
 pub mod OpeningLaws
 pub mod LabelLaws
+pub mod LabelsOwned
 pub mod Members
 pub mod WholeParts
 pub mod WholeLaws

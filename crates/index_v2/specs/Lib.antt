@@ -1,6 +1,7 @@
 pub use Rattle.index_parts.specs
 pub mod Opened
 pub mod Opening
+pub mod LentLabels
 pub mod SeriesLabels
 pub mod RowOrder
 pub mod PostingsLists

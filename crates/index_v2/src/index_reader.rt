@@ -8,13 +8,13 @@ ghost use Rattle.index_v2.specs.SeriesLabels.{numbered_at};
 ghost use Rattle.index_v2.specs.WholeReading.{whole_at};
 ghost use Rattle.index_v2.specs.PostingsLists.{postings_of, values_of};
 
+use crate::numbered::{lent_series_of, series_of};
 use crate::opening::contents_of;
 use crate::postings::{list_of, values_of};
 use crate::rows::Rows;
-use crate::series_labels::series_of;
 use crate::symbols::Symbols;
 use crate::whole::whole;
-use crate::{IndexRefusal, IndexSeries, IndexSeriesList};
+use crate::{IndexRefusal, IndexSeries, IndexSeriesList, LentSeries};
 use index_parts::Toc;
 use label_sets::TextList;
 use std::alloc::Global;
@@ -93,6 +93,23 @@ impl<'a> IndexReader<'a> {
         ensures exact { Gives IndexRefusal.NoMemory (λ series. series) result (numbered_at self.now.bytes self.now.symbols number) }
     {
         series_of(alloc, self.bytes, &self.symbols, number)
+    }
+
+    /// Reads the series of a number into the room of another, of which nothing is kept but the memory of its lists: where these
+    /// have room enough, none is taken. The labels' texts are lent from the index. Where nothing is read the room is given up.
+    pub fn lent_series(
+        &self,
+        number: u32,
+        room: LentSeries<'a>,
+    ) -> Result<LentSeries<'a>, IndexRefusal>
+        // What is read is what stands there, and what stands there is read.
+        ensures found { IfOk result (λ series. IsSeriesOf self.now.bytes self.now.symbols number series) }
+        ensures only { (series : IndexSeries) → IsSeriesOf self.now.bytes self.now.symbols number series → IsOkAnd result (λ found. found ≡ series) ⊎ (result ≡ Err IndexRefusal.NoMemory) }
+
+        // The first refusal.
+        ensures exact { Gives IndexRefusal.NoMemory (λ series. series) result (numbered_at self.now.bytes self.now.symbols number) }
+    {
+        lent_series_of(self.bytes, &self.symbols, number, room)
     }
 
     /// The numbers of the series that are listed under a name and a value; two empty texts ask for all series.

@@ -5,6 +5,9 @@ mod difference;
 mod index_reader;
 mod index_series;
 mod label_fault;
+mod lent_label;
+mod lent_series;
+mod numbered;
 mod opening;
 mod postings;
 mod refusal;
@@ -15,6 +18,8 @@ mod whole;
 
 pub use index_reader::IndexReader;
 pub use index_series::{IndexSeries, IndexSeriesList};
+pub use lent_label::LentLabel;
+pub use lent_series::LentSeries;
 pub use refusal::IndexRefusal;
 
 #[cfg(test)]

@@ -11,10 +11,10 @@ ghost use Rattle.index_v2.specs.IndexFile.{IsIndex};
 ghost use Rattle.index_v2.specs.WholeReading.{present_at, may_stand_behind, behind_at, all_at, lists_at, whole_at};
 
 use crate::difference::difference;
+use crate::numbered::labelled;
 use crate::opening::refused_of;
 use crate::postings::{POSTINGS, list_at, list_of};
 use crate::rows::Rows;
-use crate::series_labels::labelled;
 use crate::symbols::{SYMBOLS, Symbols};
 use crate::{IndexRefusal, IndexSeries, IndexSeriesList};
 use index_parts::{PartRefusal, Toc};

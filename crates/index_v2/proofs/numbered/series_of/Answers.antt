@@ -4,7 +4,7 @@ use Rattle.index_v2.specs.declared.index_series.IndexSeries.{IndexSeries}
 use Rattle.index_v2.specs.SeriesLabels.{numbered_at}
 use Rattle.index_v2.specs.IndexFile.{IsSeriesOf}
 use Rattle.index_v2.proofs.LabelLaws.{numbered_found, numbered_again}
-use Rattle.index_v2.proofs.series_labels.series_of.Goals as goal
+use Rattle.index_v2.proofs.numbered.series_of.Goals as goal
 
 pub returns-clause-found : goal.returns-clause-found
 returns-clause-found c =

@@ -1,0 +1,104 @@
+ghost use Rattle.std.specs.Prelude.{◌≡◌, [], map, Ok, Err, IfOk, MatchResult};
+ghost use Rattle.reading_core.specs.Reading.{Gives};
+ghost use Rattle.label_sets.specs.Labels.{IsLabelSet};
+ghost use Rattle.index_v2.specs.LentLabels.{as_label};
+ghost use Rattle.index_v2.specs.SeriesLabels.{labelled_at};
+
+use crate::series_labels::{fault_at, labels_of};
+use crate::symbols::Symbols;
+use crate::{IndexSeries, LentLabel};
+use index_parts::{ChunkPlace, PartRefusal, RawSeries, read_series_into};
+use label_sets::LabelSet;
+use list_core::{NoMemory, TryCopy};
+use std::alloc::Global;
+use std::marker::Model;
+
+/// A series whose labels' texts the index lends. Handed back to the reader it is room for another one: the memory of its
+/// lists is used again.
+#[derive(Drop)]
+pub struct LentSeries<'a> {
+    labels: Vec<LentLabel<'a>>,
+    raw: RawSeries,
+}
+
+impl<'a> Model for LentSeries<'a> {
+    ghost use Rattle.std.specs.Prelude.{map};
+    ghost use Rattle.label_sets.specs.Labels.{IsLabelSet};
+    ghost use Rattle.index_v2.specs.declared.index_series.IndexSeries.{IndexSeries};
+    ghost use Rattle.index_v2.specs.LentLabels.{as_label};
+
+    ghost Value = { IndexSeries };
+
+    ghost view = { λ s. record { labels = map as_label s.labels.items; chunks = s.raw.chunks } };
+
+    ghost invariant = { λ s. IsLabelSet (map as_label s.labels.items) };
+}
+
+impl<'a> LentSeries<'a> {
+    /// A series without labels and chunks, as room for others. It takes no memory.
+    pub fn new(alloc: Global) -> Self
+        ensures { result ≡ record { labels = []; chunks = [] } }
+    {
+        LentSeries {
+            labels: Vec::new(alloc),
+            raw: RawSeries::new(alloc),
+        }
+    }
+
+    /// The labels in ascending order of their names.
+    pub fn labels(&self) -> &[LentLabel<'a>]
+        ensures value { map as_label result.now ≡ self.now.labels }
+        ensures lawful { IsLabelSet self.now.labels }
+    {
+        self.labels.as_slice()
+    }
+
+    /// Where the chunks stand.
+    pub fn chunks(&self) -> &[ChunkPlace]
+        ensures { result.now ≡ self.now.chunks }
+    {
+        self.raw.chunks.members()
+    }
+
+    /// A copy that lends nothing.
+    pub fn to_series(&self, alloc: Global) -> Result<IndexSeries, NoMemory>
+        ensures { IfOk result (λ series. series ≡ self.now) }
+    {
+        Ok(IndexSeries {
+            labels: set_of(alloc, self.labels.as_slice())?,
+            chunks: self.raw.chunks.copy()?,
+        })
+    }
+
+    /// Reads the series at a place of the index.
+    #[tactic(auto, unfolding(crate::specs::SeriesLabels::labelled_at))]
+    pub(crate) fn read(
+        index: &[u8],
+        symbols: &Symbols<'a>,
+        at: u64,
+        room: LentSeries<'a>,
+    ) -> Result<LentSeries<'a>, PartRefusal>
+        ensures { Gives PartRefusal.NoMemory (λ series. series) result (labelled_at index.now symbols.now at) }
+    {
+        let LentSeries { labels, raw } = room;
+        let raw = read_series_into(index, at, raw)?;
+        match labels_of(symbols, raw.names.members(), raw.values.members(), labels) {
+            Ok(labels) => Ok(LentSeries { labels, raw }),
+            Err(fault) => Err(fault_at(index, at, fault)),
+        }
+    }
+}
+
+/// The label set of these labels.
+fn set_of(alloc: Global, labels: &[LentLabel<'_>]) -> Result<LabelSet, NoMemory>
+    requires { IsLabelSet (map as_label labels.now) }
+    ensures { IfOk result (λ set. set ≡ map as_label labels.now) }
+{
+    let mut set = LabelSet::empty(alloc);
+    for label in labels {
+        if set.add(label.name, label.value).is_err() {
+            return Err(NoMemory);
+        }
+    }
+    Ok(set)
+}

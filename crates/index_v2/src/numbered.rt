@@ -1,0 +1,86 @@
+ghost use Rattle.std.specs.Prelude.{◌≡◌, ◌⊎◌, ◌*◌, IfOk, Ok, Err};
+ghost use Rattle.std.specs.Result.{IsOkAnd};
+ghost use Rattle.reading_core.specs.Reading.{Gives};
+ghost use Rattle.reading_core.specs.Grammar.{IsBytes};
+ghost use Rattle.index_v2.specs.declared.index_series.IndexSeries.{IndexSeries};
+ghost use Rattle.index_v2.specs.IndexFile.{IsSeriesOf};
+ghost use Rattle.index_v2.specs.SeriesLabels.{labelled_at, numbered_at};
+
+use crate::opening::refused_of;
+use crate::symbols::Symbols;
+use crate::{IndexRefusal, IndexSeries, LentSeries};
+use index_parts::PartRefusal;
+use std::alloc::Global;
+
+fn lent<'a>(
+    index: &[u8],
+    symbols: &Symbols<'a>,
+    number: u32,
+    room: LentSeries<'a>,
+) -> Result<LentSeries<'a>, IndexRefusal>
+    ensures bytes { IsBytes index.now }
+    ensures exact { Gives IndexRefusal.NoMemory (λ series. series) result (numbered_at index.now symbols.now number) }
+{
+    match LentSeries::read(index, symbols, 16 * u64::from(number), room) {
+        Ok(series) => Ok(series),
+        Err(refusal) => Err(refused_of(number, refusal)),
+    }
+}
+
+/// Reads the series of a number into the room of another.
+pub(crate) fn lent_series_of<'a>(
+    index: &[u8],
+    symbols: &Symbols<'a>,
+    number: u32,
+    room: LentSeries<'a>,
+) -> Result<LentSeries<'a>, IndexRefusal>
+    ensures found { IfOk result (λ series. IsSeriesOf index.now symbols.now number series) }
+    ensures only { (series : IndexSeries) → IsSeriesOf index.now symbols.now number series → IsOkAnd result (λ found. found ≡ series) ⊎ (result ≡ Err IndexRefusal.NoMemory) }
+    ensures exact { Gives IndexRefusal.NoMemory (λ series. series) result (numbered_at index.now symbols.now number) }
+{
+    lent(index, symbols, number, room)
+}
+
+/// Reads the series at a place of the index.
+pub(crate) fn labelled(
+    alloc: Global,
+    index: &[u8],
+    symbols: &Symbols<'_>,
+    at: u64,
+) -> Result<IndexSeries, PartRefusal>
+    ensures { Gives PartRefusal.NoMemory (λ series. series) result (labelled_at index.now symbols.now at) }
+{
+    match LentSeries::read(index, symbols, at, LentSeries::new(alloc)) {
+        Ok(series) => Ok(series.to_series(alloc)?),
+        Err(refusal) => Err(refusal),
+    }
+}
+
+fn numbered(
+    alloc: Global,
+    index: &[u8],
+    symbols: &Symbols<'_>,
+    number: u32,
+) -> Result<IndexSeries, IndexRefusal>
+    ensures bytes { IsBytes index.now }
+    ensures exact { Gives IndexRefusal.NoMemory (λ series. series) result (numbered_at index.now symbols.now number) }
+{
+    match labelled(alloc, index, symbols, 16 * u64::from(number)) {
+        Ok(series) => Ok(series),
+        Err(refusal) => Err(refused_of(number, refusal)),
+    }
+}
+
+/// Reads the series of a number.
+pub(crate) fn series_of(
+    alloc: Global,
+    index: &[u8],
+    symbols: &Symbols<'_>,
+    number: u32,
+) -> Result<IndexSeries, IndexRefusal>
+    ensures found { IfOk result (λ series. IsSeriesOf index.now symbols.now number series) }
+    ensures only { (series : IndexSeries) → IsSeriesOf index.now symbols.now number series → (result ≡ Ok series) ⊎ (result ≡ Err IndexRefusal.NoMemory) }
+    ensures exact { Gives IndexRefusal.NoMemory (λ series. series) result (numbered_at index.now symbols.now number) }
+{
+    numbered(alloc, index, symbols, number)
+}
