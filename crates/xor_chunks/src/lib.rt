@@ -8,18 +8,12 @@ mod decoding;
 mod encoding;
 mod fitting;
 mod last;
-#[cfg(test)]
-mod long_chunks;
 mod put;
 mod refill;
 mod refusal;
 mod setting;
 mod short_bits;
 mod step;
-#[cfg(test)]
-mod stored_chunks;
-#[cfg(test)]
-mod stored_sums;
 mod taking;
 #[cfg(test)]
 mod tests;

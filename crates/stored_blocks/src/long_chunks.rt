@@ -1,11 +1,11 @@
 //! The chunks of the blocks that stored_chunks.rt leaves out, with all samples as Prometheus' own reader gives them:
 //! the two files hold together each of the 65 different chunks of those blocks, 31 and 34 of them.
-use crate::decode_stored;
 use crate::stored_chunks::sum_of;
 use crate::stored_sums::is_guarded;
 use list_core::NoMemory;
 use std::alloc::Global;
 use std::test::Fail;
+use xor_chunks::decode_stored;
 
 // How many samples a chunk has, the CRC-32C of their times and patterns, as 64 bits each, highest byte first, the
 // sum that stands behind it in its segment, and its XOR data in hexadecimal digits: of chunks that went on after a

@@ -1,12 +1,12 @@
 //! Chunks of blocks that Prometheus 2.42 wrote, with all samples as its own reader gives them: 31 of the 65 different
 //! chunks of those blocks. long_chunks.rt has the others.
-use crate::decode_stored;
 use crate::stored_sums::is_guarded;
 use label_sets::Sample;
 use list_core::NoMemory;
 use std::alloc::Global;
 use std::test::Fail;
 use wire_bytes::{crc_of, put_u64};
+use xor_chunks::decode_stored;
 
 /// The XOR data of the chunks, one after another.
 static STORED: [u8; 1893] = [
