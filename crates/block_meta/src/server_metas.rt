@@ -7,7 +7,7 @@ use ulid_core::Ulid;
 /// A text with four spaces for each tab, its ULID, its times, and how many samples, series and chunks it counts.
 type Written = (&'static str, &'static str, (i64, i64), (u64, u64, u64));
 
-const METAS: [Written; 7] = [
+static METAS: [Written; 7] = [
     (
         r#"{
     "ulid": "01J9AD7000000000000000000K",
