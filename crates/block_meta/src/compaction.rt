@@ -78,11 +78,13 @@ pub(crate) fn write_compaction(
         (compaction_members_of (compaction_value level sources.now parents.now)
         ≡ Ok (record { level = level; sources = ascending sources.now; parents = parents.now })) }
 {
-    let listed = write_list(alloc, sources)?;
     if parents.is_empty() {
-        json!(in alloc; {"level": level, "sources": listed})
+        json!(in alloc; {"level": level, "sources": write_list(alloc, sources)?})
     } else {
-        let before = write_list(alloc, parents)?;
-        json!(in alloc; {"level": level, "parents": before, "sources": listed})
+        json!(in alloc; {
+            "level": level,
+            "parents": write_list(alloc, parents)?,
+            "sources": write_list(alloc, sources)?
+        })
     }
 }

@@ -99,11 +99,10 @@ impl DeletionMark {
         ensures again { OnOk result (mark_of (mark_value (mark_fields_of self.now))
             ≡ Ok (mark_fields_of self.now)) }
     {
-        let name = write_ulid(alloc, self.id)?;
         json!(in alloc; {
             "deletion_time": self.deletion_time,
             "details": self.details.as_str(),
-            "id": name,
+            "id": write_ulid(alloc, self.id)?,
             "version": 1u64
         })
     }

@@ -118,17 +118,13 @@ impl Meta {
         ensures again { OnOk result (meta_of (meta_value (fields_of self.now))
             ≡ Ok (fields_of self.now)) }
     {
-        let counts = write_stats(alloc, self.series, self.samples, self.chunks)?;
-        let compaction = write_compaction(alloc, self.level, &self.sources, &self.parents)?;
-        let thanos = self.write_thanos(alloc)?;
-        let name = write_ulid(alloc, self.ulid)?;
         json!(in alloc; {
-            "compaction": compaction,
+            "compaction": write_compaction(alloc, self.level, &self.sources, &self.parents)?,
             "maxTime": self.max_time,
             "minTime": self.min_time,
-            "stats": counts,
-            "thanos": thanos,
-            "ulid": name,
+            "stats": write_stats(alloc, self.series, self.samples, self.chunks)?,
+            "thanos": self.write_thanos(alloc)?,
+            "ulid": write_ulid(alloc, self.ulid)?,
             "version": 1u64
         })
     }
@@ -140,13 +136,11 @@ impl Meta {
             (labels_from [] (label_members self.now.labels) ≡ Ok self.now.labels) }
         ensures fits { OnOk result (FitsSigned w64 self.now.resolution) }
     {
-        let files = write_list(alloc, &self.files)?;
-        let labels = write_labels(alloc, &self.labels)?;
         let segments = write_list(alloc, &self.segment_files)?;
         json!(in alloc; {
             "downsample": {"resolution": self.resolution},
-            "files": files,
-            "labels": labels,
+            "files": write_list(alloc, &self.files)?,
+            "labels": write_labels(alloc, &self.labels)?,
             "segment_files": segments,
             "source": self.source.as_str(),
             "version": 1u64

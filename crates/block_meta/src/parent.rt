@@ -47,7 +47,10 @@ impl Item for Parent {
 
     #[tactic(auto, unfolding(crate::specs::MetaValue::parent_value), using(crate::proofs::Again::parent_again))]
     fn write(&self, alloc: Global) -> Result<Value, AllocError> {
-        let name = write_ulid(alloc, self.ulid)?;
-        json!(in alloc; {"maxTime": self.max_time, "minTime": self.min_time, "ulid": name})
+        json!(in alloc; {
+            "maxTime": self.max_time,
+            "minTime": self.min_time,
+            "ulid": write_ulid(alloc, self.ulid)?
+        })
     }
 }

@@ -1,13 +1,14 @@
 //! Metas that a Prometheus server (2.42) wrote, byte for byte but for the tabs of their margins.
 
 use crate::Meta;
+use std::alloc::Global;
 use std::test::Fail;
 use ulid_core::Ulid;
 
 /// A text with four spaces for each tab, its ULID, its times, and how many samples, series and chunks it counts.
 type Written = (&'static str, &'static str, (i64, i64), (u64, u64, u64));
 
-const METAS: [Written; 7] = [
+static METAS: [Written; 7] = [
     (
         r#"{
     "ulid": "01J9AD7000000000000000000K",
@@ -164,17 +165,35 @@ const METAS: [Written; 7] = [
     ),
 ];
 
+/// Whether a block is its own one source, of level 1 and full resolution.
+fn is_of_one_source(meta: &Meta) -> bool {
+    meta.level == 1 && meta.resolution == 0 && meta.sources.members() == [meta.ulid].as_slice()
+}
+
+fn has_times(meta: &Meta, times: (i64, i64)) -> bool {
+    meta.min_time == times.0 && meta.max_time == times.1
+}
+
+fn has_counts(meta: &Meta, counts: (u64, u64, u64)) -> bool {
+    meta.samples == counts.0 && meta.series == counts.1 && meta.chunks == counts.2
+}
+
+fn is_read(alloc: Global, written: &Written) -> Result<bool, Fail> {
+    let text = written.0.replace(alloc, "    ", "\t")?;
+    let meta = Meta::read(alloc, text.as_bytes())?;
+    let named = Ulid::read(written.1) == Ok(meta.ulid);
+    Ok(
+        named
+            && has_times(&meta, written.2)
+            && has_counts(&meta, written.3)
+            && is_of_one_source(&meta),
+    )
+}
+
 #[test]
 fn metas_of_a_server_are_read(rt: HostRuntime) -> Result<(), Fail> {
-    for (text, ulid, times, counts) in METAS {
-        let written = text.replace(rt.alloc(), "    ", "\t")?;
-        let meta = Meta::read(rt.alloc(), written.as_bytes())?;
-        assert_eq!(rt; (meta.min_time, meta.max_time), times);
-        assert_eq!(rt; (meta.samples, meta.series, meta.chunks), counts);
-        assert_eq!(rt; (meta.level, meta.resolution), (1, 0));
-        assert_eq!(rt; meta.sources.len(), 1);
-        assert_eq!(rt; meta.sources.get(0).copied(), Some(meta.ulid));
-        assert_eq!(rt; Ulid::read(ulid), Ok(meta.ulid));
+    for written in METAS.iter() {
+        assert!(rt; is_read(rt.alloc(), written)?, "{}", written.1);
     }
     Ok(())
 }

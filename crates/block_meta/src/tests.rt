@@ -177,65 +177,94 @@ fn is_no_object(alloc: Global, bytes: &[u8]) -> bool {
     Meta::read(alloc, bytes).err() == Some(MetaRefusal::NotJson)
 }
 
+/// Whether the meta of a server has what it says, with each source once and in order, and no labels.
+fn is_the_servers(meta: &Meta) -> bool {
+    let times = meta.min_time == 1_728_000_000_000 && meta.max_time == 1_728_000_030_001;
+    let counts = meta.samples == 5 && meta.series == 2 && meta.chunks == 3;
+    let whole = meta.level == 1 && meta.resolution == 0;
+    let sources = meta.sources.members() == [Ulid::from_parts(0, 10), meta.ulid].as_slice();
+    let bare = meta.labels.labels().is_empty() && meta.source.as_str().is_empty();
+    times && counts && whole && sources && bare
+}
+
 #[test]
-fn texts_that_are_read(rt: HostRuntime) -> Result<(), Fail> {
-    assert!(rt; meta_again(rt.alloc(), ONE_SAMPLE)?);
-    assert!(rt; meta_again(rt.alloc(), COMPACTED)?);
-    assert!(rt; mark_again(rt.alloc(), MARK)?);
-    assert!(rt; mark_again(rt.alloc(), OTHER_MARK)?);
-    for line in READ_METAS.lines() {
-        assert!(rt; is_read_meta(rt.alloc(), line)?, "{line}");
-    }
-    assert!(rt; is_read_meta(rt.alloc(), nested(rt.alloc(), 100)?.as_str())?);
+fn a_servers_meta_is_read(rt: HostRuntime) -> Result<(), Fail> {
     let meta = Meta::read(rt.alloc(), SERVER.as_bytes())?;
-    assert_eq!(rt;
-        (meta.min_time, meta.max_time),
-        (1_728_000_000_000, 1_728_000_030_001)
-    );
-    assert_eq!(rt; (meta.samples, meta.series, meta.chunks), (5, 2, 3));
-    assert_eq!(rt; (meta.level, meta.resolution), (1, 0));
-    assert_eq!(rt; meta.sources.len(), 2);
-    assert_eq!(rt; meta.sources.get(1).copied(), Some(meta.ulid));
-    assert!(rt; meta.labels.labels().is_empty() && meta.source.as_str().is_empty());
+    assert!(rt; is_the_servers(&meta));
     Ok(())
 }
 
 #[test]
-fn texts_that_are_refused(rt: HostRuntime) -> Result<(), Fail> {
+fn texts_are_written_again(rt: HostRuntime) -> Result<(), Fail> {
+    assert!(rt; meta_again(rt.alloc(), ONE_SAMPLE)?);
+    assert!(rt; meta_again(rt.alloc(), COMPACTED)?);
+    assert!(rt; mark_again(rt.alloc(), MARK)?);
+    assert!(rt; mark_again(rt.alloc(), OTHER_MARK)?);
+    Ok(())
+}
+
+#[test]
+fn members_that_are_read(rt: HostRuntime) -> Result<(), Fail> {
+    for line in READ_METAS.lines() {
+        assert!(rt; is_read_meta(rt.alloc(), line)?, "{line}");
+    }
+    assert!(rt; is_read_meta(rt.alloc(), nested(rt.alloc(), 100)?.as_str())?);
+    Ok(())
+}
+
+#[test]
+fn members_that_are_refused(rt: HostRuntime) -> Result<(), Fail> {
     for line in REFUSED_METAS.lines() {
         assert!(rt; is_refused_meta(rt.alloc(), line)?, "{line}");
     }
     for line in REFUSED_MARKS.lines() {
         assert!(rt; is_refused_mark(rt.alloc(), line)?, "{line}");
     }
+    Ok(())
+}
+
+fn is_refused_as_empty(alloc: Global) -> Result<bool, Fail> {
+    let empty = Meta::read(alloc, b"{}").err().ok_or("read")?;
+    Ok(is_named(&empty, "MissingField version"))
+}
+
+#[test]
+fn texts_that_are_no_objects(rt: HostRuntime) -> Result<(), Fail> {
     for line in NO_OBJECTS.lines() {
         assert!(rt; is_no_object(rt.alloc(), line.as_bytes()), "{line}");
     }
+    assert!(rt; is_no_object(rt.alloc(), b"{\"version\":\"\xff\"}"));
+    assert!(rt; is_refused_as_empty(rt.alloc())?);
+    Ok(())
+}
+
+#[test]
+fn texts_that_are_too_deep(rt: HostRuntime) -> Result<(), Fail> {
     let open = "[".repeat(rt.alloc(), 200)?;
     assert!(rt; is_no_object(rt.alloc(), open.as_bytes()));
     let deep = with_members(rt.alloc(), LAWFUL, nested(rt.alloc(), 200)?.as_str())?;
     assert!(rt; is_no_object(rt.alloc(), deep.as_bytes()));
-    assert!(rt; is_no_object(rt.alloc(), b"{\"version\":\"\xff\"}"));
-    let empty = Meta::read(rt.alloc(), b"{}").err().ok_or("read")?;
-    assert!(rt; is_named(&empty, "MissingField version"));
     Ok(())
+}
+
+fn plan_of(alloc: Global, ulid: Ulid) -> Result<BlockPlan, Fail> {
+    Ok(BlockPlan {
+        ulid,
+        min_time: 1_000,
+        max_time: 2_000,
+        level: 1,
+        sources: own_sources(alloc, ulid)?,
+        parents: ParentList::new(alloc),
+        labels: LabelSet::empty(alloc),
+        source: Text::from_str(alloc, "sidecar")?,
+    })
 }
 
 #[test]
 fn a_plan_is_copied(rt: HostRuntime) -> Result<(), Fail> {
     let ulid = Ulid::from_parts(0, 10);
-    let plan = BlockPlan {
-        ulid,
-        min_time: 1_000,
-        max_time: 2_000,
-        level: 1,
-        sources: own_sources(rt.alloc(), ulid)?,
-        parents: ParentList::new(rt.alloc()),
-        labels: LabelSet::empty(rt.alloc()),
-        source: Text::from_str(rt.alloc(), "sidecar")?,
-    };
-    let copied = plan.copy()?;
-    assert_eq!(rt; copied.sources.members(), [ulid].as_slice());
-    assert_eq!(rt; copied.source, plan.source);
+    let copied = plan_of(rt.alloc(), ulid)?.copy()?;
+    assert!(rt; copied.sources.members() == [ulid].as_slice());
+    assert!(rt; copied.source.as_str() == "sidecar");
     Ok(())
 }

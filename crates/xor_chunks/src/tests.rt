@@ -59,78 +59,80 @@ fn texts_from_outside(rt: HostRuntime) -> Result<(), Fail> {
     Ok(())
 }
 
+/// Bytes that are no XOR data, and why.
+static REFUSED: [(&[u8], XorRefusal); 12] = [
+    (&[], XorRefusal::Short),
+    (&[0x00, 0x01, 0xd0], XorRefusal::Short),
+    (&[0x00, 0x00, 0x00], XorRefusal::Trailing),
+    (
+        &[0x00, 0x01, 0xd0, 0x0f, 0x3f, 0xf0, 0, 0, 0, 0, 0, 0, 0x00],
+        XorRefusal::Trailing,
+    ),
+    // a second sample at the first one's time
+    (
+        &[
+            0x00, 0x02, 0xd0, 0x0f, 0x3f, 0xf0, 0, 0, 0, 0, 0, 0, 0x00, 0x00,
+        ],
+        XorRefusal::Falling,
+    ),
+    // a filling bit that is not zero
+    (
+        &[
+            0x00, 0x02, 0xd0, 0x0f, 0x3f, 0xf0, 0, 0, 0, 0, 0, 0, 0xe8, 0x07, 0x01,
+        ],
+        XorRefusal::Trailing,
+    ),
+    // a window of 31 + 34 bits
+    (
+        &[
+            0x00, 0x02, 0xd0, 0x0f, 0x3f, 0xf0, 0, 0, 0, 0, 0, 0, 0xe8, 0x07, 0xff, 0x10, 0, 0, 0,
+            0, 0, 0,
+        ],
+        XorRefusal::OutOfRange,
+    ),
+    // the same, whose bits end first
+    (
+        &[
+            0x00, 0x02, 0xd0, 0x0f, 0x3f, 0xf0, 0, 0, 0, 0, 0, 0, 0xe8, 0x07, 0xff, 0x10,
+        ],
+        XorRefusal::Short,
+    ),
+    // a time in eleven groups
+    (
+        &[
+            0x00, 0x01, 0xff, 0xff, 0xff, 0xff, 0xff, 0xff, 0xff, 0xff, 0xff, 0x02,
+        ],
+        XorRefusal::OutOfRange,
+    ),
+    // a step of 65 bits, before bits that are missing
+    (
+        &[
+            0x00, 0x02, 0xd0, 0x0f, 0x3f, 0xf0, 0, 0, 0, 0, 0, 0, 0xff, 0xff, 0xff, 0xff, 0xff,
+            0xff, 0xff, 0xff, 0xff, 0x02,
+        ],
+        XorRefusal::OutOfRange,
+    ),
+    // a time past 63 bits, whose value is missing
+    (
+        &[
+            0x00, 0x02, 0xfe, 0xff, 0xff, 0xff, 0xff, 0xff, 0xff, 0xff, 0xff, 0x01, 0x3f, 0xf0, 0,
+            0, 0, 0, 0, 0, 0x01,
+        ],
+        XorRefusal::Short,
+    ),
+    // the same with its value
+    (
+        &[
+            0x00, 0x02, 0xfe, 0xff, 0xff, 0xff, 0xff, 0xff, 0xff, 0xff, 0xff, 0x01, 0x3f, 0xf0, 0,
+            0, 0, 0, 0, 0, 0x01, 0x00,
+        ],
+        XorRefusal::OutOfRange,
+    ),
+];
+
 #[test]
 fn refusals_from_outside(rt: HostRuntime) -> Result<(), Fail> {
-    let cases: [(&[u8], XorRefusal); 12] = [
-        (&[], XorRefusal::Short),
-        (&[0x00, 0x01, 0xd0], XorRefusal::Short),
-        (&[0x00, 0x00, 0x00], XorRefusal::Trailing),
-        (
-            &[0x00, 0x01, 0xd0, 0x0f, 0x3f, 0xf0, 0, 0, 0, 0, 0, 0, 0x00],
-            XorRefusal::Trailing,
-        ),
-        // a second sample at the first one's time
-        (
-            &[
-                0x00, 0x02, 0xd0, 0x0f, 0x3f, 0xf0, 0, 0, 0, 0, 0, 0, 0x00, 0x00,
-            ],
-            XorRefusal::Falling,
-        ),
-        // a filling bit that is not zero
-        (
-            &[
-                0x00, 0x02, 0xd0, 0x0f, 0x3f, 0xf0, 0, 0, 0, 0, 0, 0, 0xe8, 0x07, 0x01,
-            ],
-            XorRefusal::Trailing,
-        ),
-        // a window of 31 + 34 bits
-        (
-            &[
-                0x00, 0x02, 0xd0, 0x0f, 0x3f, 0xf0, 0, 0, 0, 0, 0, 0, 0xe8, 0x07, 0xff, 0x10, 0, 0,
-                0, 0, 0, 0,
-            ],
-            XorRefusal::OutOfRange,
-        ),
-        // the same, whose bits end first
-        (
-            &[
-                0x00, 0x02, 0xd0, 0x0f, 0x3f, 0xf0, 0, 0, 0, 0, 0, 0, 0xe8, 0x07, 0xff, 0x10,
-            ],
-            XorRefusal::Short,
-        ),
-        // a time in eleven groups
-        (
-            &[
-                0x00, 0x01, 0xff, 0xff, 0xff, 0xff, 0xff, 0xff, 0xff, 0xff, 0xff, 0x02,
-            ],
-            XorRefusal::OutOfRange,
-        ),
-        // a step of 65 bits, before bits that are missing
-        (
-            &[
-                0x00, 0x02, 0xd0, 0x0f, 0x3f, 0xf0, 0, 0, 0, 0, 0, 0, 0xff, 0xff, 0xff, 0xff, 0xff,
-                0xff, 0xff, 0xff, 0xff, 0x02,
-            ],
-            XorRefusal::OutOfRange,
-        ),
-        // a time past 63 bits, whose value is missing
-        (
-            &[
-                0x00, 0x02, 0xfe, 0xff, 0xff, 0xff, 0xff, 0xff, 0xff, 0xff, 0xff, 0x01, 0x3f, 0xf0,
-                0, 0, 0, 0, 0, 0, 0x01,
-            ],
-            XorRefusal::Short,
-        ),
-        // the same with its value
-        (
-            &[
-                0x00, 0x02, 0xfe, 0xff, 0xff, 0xff, 0xff, 0xff, 0xff, 0xff, 0xff, 0x01, 0x3f, 0xf0,
-                0, 0, 0, 0, 0, 0, 0x01, 0x00,
-            ],
-            XorRefusal::OutOfRange,
-        ),
-    ];
-    for (bytes, want) in cases {
+    for (bytes, want) in REFUSED {
         assert!(rt; matches!(decode(rt.alloc(), bytes), Err(cause) if cause == want));
     }
     assert!(rt; decode(rt.alloc(), &[0x00, 0x00])?.is_empty());
@@ -188,61 +190,62 @@ fn stored_texts(rt: HostRuntime) -> Result<(), Fail> {
 }
 
 /// Changes of a step at the edges of each row, with the bits that they are put in after `0` of the value.
+static ROWS: [(i64, &[u8]); 15] = [
+    (0, &[0b0000_0000]),
+    (1, &[0b0100_0000, 0b0000_0000, 0b1000_0000]),
+    (-1, &[0b0101_1111, 0b1111_1111, 0b1000_0000]),
+    (8192, &[0b0101_0000, 0b0000_0000, 0b0000_0000]),
+    (-8191, &[0b0101_0000, 0b0000_0000, 0b1000_0000]),
+    (8193, &[0b0110_0001, 0b0000_0000, 0b0000_1000]),
+    (-8192, &[0b0110_1111, 0b0000_0000, 0b0000_0000]),
+    (65536, &[0b0110_1000, 0b0000_0000, 0b0000_0000]),
+    (-65535, &[0b0110_1000, 0b0000_0000, 0b0000_1000]),
+    (65537, &[0b0111_0000, 0b1000_0000, 0b0000_0000, 0b1000_0000]),
+    (
+        -65536,
+        &[0b0111_0111, 0b1000_0000, 0b0000_0000, 0b0000_0000],
+    ),
+    (
+        524_288,
+        &[0b0111_0100, 0b0000_0000, 0b0000_0000, 0b0000_0000],
+    ),
+    (
+        -524_287,
+        &[0b0111_0100, 0b0000_0000, 0b0000_0000, 0b1000_0000],
+    ),
+    (
+        524_289,
+        &[
+            0b0111_1000,
+            0b0000_0000,
+            0b0000_0000,
+            0b0000_0000,
+            0b0000_0000,
+            0b0000_0000,
+            0b0100_0000,
+            0b0000_0000,
+            0b0000_1000,
+        ],
+    ),
+    (
+        -524_288,
+        &[
+            0b0111_1111,
+            0b1111_1111,
+            0b1111_1111,
+            0b1111_1111,
+            0b1111_1111,
+            0b1111_1111,
+            0b1100_0000,
+            0b0000_0000,
+            0b0000_0000,
+        ],
+    ),
+];
+
 #[test]
 fn rows_of_changes(rt: HostRuntime) -> Result<(), Fail> {
-    let rows: [(i64, &[u8]); 15] = [
-        (0, &[0b0000_0000]),
-        (1, &[0b0100_0000, 0b0000_0000, 0b1000_0000]),
-        (-1, &[0b0101_1111, 0b1111_1111, 0b1000_0000]),
-        (8192, &[0b0101_0000, 0b0000_0000, 0b0000_0000]),
-        (-8191, &[0b0101_0000, 0b0000_0000, 0b1000_0000]),
-        (8193, &[0b0110_0001, 0b0000_0000, 0b0000_1000]),
-        (-8192, &[0b0110_1111, 0b0000_0000, 0b0000_0000]),
-        (65536, &[0b0110_1000, 0b0000_0000, 0b0000_0000]),
-        (-65535, &[0b0110_1000, 0b0000_0000, 0b0000_1000]),
-        (65537, &[0b0111_0000, 0b1000_0000, 0b0000_0000, 0b1000_0000]),
-        (
-            -65536,
-            &[0b0111_0111, 0b1000_0000, 0b0000_0000, 0b0000_0000],
-        ),
-        (
-            524_288,
-            &[0b0111_0100, 0b0000_0000, 0b0000_0000, 0b0000_0000],
-        ),
-        (
-            -524_287,
-            &[0b0111_0100, 0b0000_0000, 0b0000_0000, 0b1000_0000],
-        ),
-        (
-            524_289,
-            &[
-                0b0111_1000,
-                0b0000_0000,
-                0b0000_0000,
-                0b0000_0000,
-                0b0000_0000,
-                0b0000_0000,
-                0b0100_0000,
-                0b0000_0000,
-                0b0000_1000,
-            ],
-        ),
-        (
-            -524_288,
-            &[
-                0b0111_1111,
-                0b1111_1111,
-                0b1111_1111,
-                0b1111_1111,
-                0b1111_1111,
-                0b1111_1111,
-                0b1100_0000,
-                0b0000_0000,
-                0b0000_0000,
-            ],
-        ),
-    ];
-    for (change, bits) in rows {
+    for (change, bits) in ROWS {
         let first = [sample(0, ONE), sample(1_000_000, ONE)];
         let third = sample(change.saturating_add(2_000_000), ONE);
         let text = written(rt.alloc(), &[first[0], first[1], third])?;
@@ -274,19 +277,21 @@ fn bits_are_the_most_significant_first(rt: HostRuntime) -> Result<(), Fail> {
     Ok(())
 }
 
-/// The lead and the width of the smallest window round a change, as they are written after `11`.
+/// Changes, and the lead and the width of the smallest window round each, as they are written after `11`.
+static WINDOWS: [(u64, u64, u64); 8] = [
+    (0x8000_0000_0000_0000, 0, 1),
+    (0x8000_0000_0000_0001, 0, 0),
+    (0x0000_0001_ffff_ffff, 31, 33),
+    (0x0000_0000_ffff_ffff, 31, 33),
+    (0x0000_0000_8000_0000, 31, 2),
+    (0x0000_0000_0000_0001, 31, 33),
+    (0x0001_0000_0000_0000, 15, 1),
+    (0x7fff_ffff_ffff_ffff, 1, 63),
+];
+
 #[test]
 fn windows_round_changes(rt: HostRuntime) -> Result<(), Fail> {
-    for (change, lead, width) in [
-        (0x8000_0000_0000_0000, 0, 1),
-        (0x8000_0000_0000_0001, 0, 0),
-        (0x0000_0001_ffff_ffff, 31, 33),
-        (0x0000_0000_ffff_ffff, 31, 33),
-        (0x0000_0000_8000_0000, 31, 2),
-        (0x0000_0000_0000_0001, 31, 33),
-        (0x0001_0000_0000_0000, 15, 1),
-        (0x7fff_ffff_ffff_ffff, 1, 63),
-    ] {
+    for (change, lead, width) in WINDOWS {
         let head = 0b11 << 11 | lead << 6 | width;
         let text = written(rt.alloc(), &[sample(0, 0), sample(1, change)])?;
         let mut reader = BitReader::new(text.bytes());
@@ -297,89 +302,93 @@ fn windows_round_changes(rt: HostRuntime) -> Result<(), Fail> {
     Ok(())
 }
 
+/// Bytes of two samples, and the pattern of the second.
+static READ_WINDOWS: [(&[u8], u64); 7] = [
+    // a window of 64 bits before any was told
+    (
+        &[
+            0x00, 0x02, 0x00, 0x3f, 0xf0, 0x00, 0x00, 0x00, 0x00, 0x00, 0x00, 0xe8, 0x07, 0x80,
+            0x48, 0xd1, 0x59, 0xe2, 0x6a, 0xf3, 0x7b, 0xc0,
+        ],
+        0x3ed3456789abcdef,
+    ),
+    // a width of 0 stands for 64
+    (
+        &[
+            0x00, 0x02, 0x00, 0x3f, 0xf0, 0x00, 0x00, 0x00, 0x00, 0x00, 0x00, 0xe8, 0x07, 0xc0,
+            0x00, 0x09, 0x1a, 0x2b, 0x3c, 0x4d, 0x5e, 0x6f, 0x78,
+        ],
+        0x3ed3456789abcdef,
+    ),
+    // the last bit
+    (
+        &[
+            0x00, 0x02, 0x00, 0x3f, 0xf0, 0x00, 0x00, 0x00, 0x00, 0x00, 0x00, 0xe8, 0x07, 0xff,
+            0x08, 0x00, 0x00, 0x00, 0x04,
+        ],
+        0x3ff0000000000001,
+    ),
+    // 31 bits of lead, and one more in the field
+    (
+        &[
+            0x00, 0x02, 0x00, 0x3f, 0xf0, 0x00, 0x00, 0x00, 0x00, 0x00, 0x00, 0xe8, 0x07, 0xff,
+            0x0b, 0xff, 0xff, 0xff, 0xfc,
+        ],
+        0x3ff00000ffffffff,
+    ),
+    // the first bit
+    (
+        &[
+            0x00, 0x02, 0x00, 0x3f, 0xf0, 0x00, 0x00, 0x00, 0x00, 0x00, 0x00, 0xe8, 0x07, 0xc0,
+            0x0c,
+        ],
+        0xbff0000000000000,
+    ),
+    // one bit in the middle
+    (
+        &[
+            0x00, 0x02, 0x00, 0x3f, 0xf0, 0x00, 0x00, 0x00, 0x00, 0x00, 0x00, 0xe8, 0x07, 0xfe,
+            0x0c,
+        ],
+        0x3ff0000100000000,
+    ),
+    // a field of zeros
+    (
+        &[
+            0x00, 0x02, 0x00, 0x3f, 0xf0, 0x00, 0x00, 0x00, 0x00, 0x00, 0x00, 0xe8, 0x07, 0xca,
+            0x38, 0x00,
+        ],
+        0x3ff0000000000000,
+    ),
+];
+
+/// Windows that pass the end of a pattern.
+static OUTSIDE: [&[u8]; 3] = [
+    // 1 + 64 bits
+    &[
+        0x00, 0x02, 0x00, 0x3f, 0xf0, 0x00, 0x00, 0x00, 0x00, 0x00, 0x00, 0xe8, 0x07, 0xc2, 0x00,
+        0x09, 0x1a, 0x2b, 0x3c, 0x4d, 0x5e, 0x6f, 0x78,
+    ],
+    // 31 + 34 bits
+    &[
+        0x00, 0x02, 0x00, 0x3f, 0xf0, 0x00, 0x00, 0x00, 0x00, 0x00, 0x00, 0xe8, 0x07, 0xff, 0x10,
+        0x00, 0x00, 0x00, 0x0a,
+    ],
+    // 2 + 63 bits
+    &[
+        0x00, 0x02, 0x00, 0x3f, 0xf0, 0x00, 0x00, 0x00, 0x00, 0x00, 0x00, 0xe8, 0x07, 0xc5, 0xf8,
+        0x00, 0x00, 0x00, 0x00, 0x00, 0x00, 0x00, 0x50,
+    ],
+];
+
 /// Values as they may be written in other windows than this writer chooses.
 #[test]
 fn windows_that_are_read(rt: HostRuntime) -> Result<(), Fail> {
-    let read: [(&[u8], u64); 7] = [
-        // a window of 64 bits before any was told
-        (
-            &[
-                0x00, 0x02, 0x00, 0x3f, 0xf0, 0x00, 0x00, 0x00, 0x00, 0x00, 0x00, 0xe8, 0x07, 0x80,
-                0x48, 0xd1, 0x59, 0xe2, 0x6a, 0xf3, 0x7b, 0xc0,
-            ],
-            0x3ed3456789abcdef,
-        ),
-        // a width of 0 stands for 64
-        (
-            &[
-                0x00, 0x02, 0x00, 0x3f, 0xf0, 0x00, 0x00, 0x00, 0x00, 0x00, 0x00, 0xe8, 0x07, 0xc0,
-                0x00, 0x09, 0x1a, 0x2b, 0x3c, 0x4d, 0x5e, 0x6f, 0x78,
-            ],
-            0x3ed3456789abcdef,
-        ),
-        // the last bit
-        (
-            &[
-                0x00, 0x02, 0x00, 0x3f, 0xf0, 0x00, 0x00, 0x00, 0x00, 0x00, 0x00, 0xe8, 0x07, 0xff,
-                0x08, 0x00, 0x00, 0x00, 0x04,
-            ],
-            0x3ff0000000000001,
-        ),
-        // 31 bits of lead, and one more in the field
-        (
-            &[
-                0x00, 0x02, 0x00, 0x3f, 0xf0, 0x00, 0x00, 0x00, 0x00, 0x00, 0x00, 0xe8, 0x07, 0xff,
-                0x0b, 0xff, 0xff, 0xff, 0xfc,
-            ],
-            0x3ff00000ffffffff,
-        ),
-        // the first bit
-        (
-            &[
-                0x00, 0x02, 0x00, 0x3f, 0xf0, 0x00, 0x00, 0x00, 0x00, 0x00, 0x00, 0xe8, 0x07, 0xc0,
-                0x0c,
-            ],
-            0xbff0000000000000,
-        ),
-        // one bit in the middle
-        (
-            &[
-                0x00, 0x02, 0x00, 0x3f, 0xf0, 0x00, 0x00, 0x00, 0x00, 0x00, 0x00, 0xe8, 0x07, 0xfe,
-                0x0c,
-            ],
-            0x3ff0000100000000,
-        ),
-        // a field of zeros
-        (
-            &[
-                0x00, 0x02, 0x00, 0x3f, 0xf0, 0x00, 0x00, 0x00, 0x00, 0x00, 0x00, 0xe8, 0x07, 0xca,
-                0x38, 0x00,
-            ],
-            0x3ff0000000000000,
-        ),
-    ];
-    for (bytes, pattern) in read {
+    for (bytes, pattern) in READ_WINDOWS {
         let want = [sample(0, ONE), sample(1000, pattern)];
         assert!(rt; decode(rt.alloc(), bytes)?.members() == &want[..]);
     }
-    let refused: [&[u8]; 3] = [
-        // 1 + 64 bits
-        &[
-            0x00, 0x02, 0x00, 0x3f, 0xf0, 0x00, 0x00, 0x00, 0x00, 0x00, 0x00, 0xe8, 0x07, 0xc2,
-            0x00, 0x09, 0x1a, 0x2b, 0x3c, 0x4d, 0x5e, 0x6f, 0x78,
-        ],
-        // 31 + 34 bits
-        &[
-            0x00, 0x02, 0x00, 0x3f, 0xf0, 0x00, 0x00, 0x00, 0x00, 0x00, 0x00, 0xe8, 0x07, 0xff,
-            0x10, 0x00, 0x00, 0x00, 0x0a,
-        ],
-        // 2 + 63 bits
-        &[
-            0x00, 0x02, 0x00, 0x3f, 0xf0, 0x00, 0x00, 0x00, 0x00, 0x00, 0x00, 0xe8, 0x07, 0xc5,
-            0xf8, 0x00, 0x00, 0x00, 0x00, 0x00, 0x00, 0x00, 0x50,
-        ],
-    ];
-    for bytes in refused {
+    for bytes in OUTSIDE {
         assert!(rt; matches!(decode(rt.alloc(), bytes), Err(XorRefusal::OutOfRange)));
     }
     Ok(())
