@@ -1,8 +1,9 @@
-ghost use Rattle.std.specs.Prelude.{◌≡◌, ◌-◌, ◌≤◌, Ok, Err, MatchResult, length, true, false};
+ghost use Rattle.std.specs.Prelude.{◌≡◌, ◌-◌, ◌*◌, ◌≤◌, ◌<◌, Ok, Err, MatchResult, length, true, false};
 ghost use Rattle.std.specs.Str.{is_utf8};
 ghost use Rattle.std.specs.Int.{w8, w32, w64};
 ghost use Rattle.reading_core.specs.Reading.{Steps};
 ghost use Rattle.wire_bytes.specs.Fields.{bytes_at, number_at, uvarint_at, varint_at};
+ghost use Rattle.wire_bytes.specs.Position.{left};
 ghost use Rattle.index_parts.specs.Placed.{refused_at, field, text_at};
 
 use crate::PartRefusal;
@@ -111,4 +112,13 @@ pub(crate) fn text_of(bytes: &[u8], end: usize) -> Result<&str, PartRefusal>
         Ok(text) => Ok(text),
         Err(_) => Err(PartRefusal::NotText((end - bytes.len()) as u64)),
     }
+}
+
+/// How many of so many members to make room for at once: no more than the bytes that are left hold, where each takes so many.
+#[inline(always)]
+pub(crate) fn room_for(count: u32, cursor: &Cursor<'_>, size: usize) -> usize
+    requires { 0 < size }
+    ensures { (result ≤ count) × (size * result ≤ length (left cursor.now)) }
+{
+    (count as usize).min(cursor.rest().len() / size)
 }
