@@ -1,5 +1,5 @@
 -- Fields move a position within the same bytes, and no field begins past their end.
-use Rattle.std.proofs.Common.{◌≡◌, ℕ, ◌+◌, ◌<◌, ◌≤◌, ltb, List, [], ◌∷◌, length, get_or, take, drop, Result, Ok, Err, refl, sym, ap, ◌∙◌, arith}
+use Rattle.std.proofs.Common.{◌≡◌, ℕ, ◌+◌, ◌-◌, ◌*◌, ◌<◌, ◌≤◌, ltb, List, [], ◌∷◌, length, get_or, take, drop, Result, Ok, Err, refl, sym, ap, ◌∙◌, arith}
 use Rattle.std.specs.Int.{Width, w8, w32, byte_len, from_be_bytes}
 use Rattle.std.proofs.lemmas.Bool.{ltb-false, lt-ltb, le-ltb}
 use Rattle.std.proofs.lemmas.List.{drop_all, length-drop, length-take}
@@ -116,43 +116,45 @@ entry_answers index at size counted place q r h e same here =
     let whole : entry_at index at ≡ summed_at at counted (at_place index place) = entry_steps index at size q e ∙ ap (λ (n : ℕ). summed_at at n (at_place index q.place)) (sym same) ∙ ap (λ (n : ℕ). summed_at at counted (at_place index n)) (sym here) in
     rw whole h
 
--- ---- a number of one group
+-- ---- a number of few groups
 
-one_byte : (bytes : List ℕ) → 0 < length bytes → from_be_bytes w8 (take 1 bytes) ≡ get_or bytes 0 0
-one_byte [] some = absurd (omega arith)
-one_byte (b ∷ bytes) some = omega arith
-
-one_group_of : (bytes : List ℕ) → 0 < length bytes → get_or bytes 0 0 < 128 → groups_of 9 bytes ≡ Ok (get_or bytes 0 0, 1)
+pub one_group : (bytes : List ℕ) (first : ℕ) → 0 < length bytes → first ≡ get_or bytes 0 0 → first < 128 → groups_of 9 bytes ≡ Ok (first, 1)
 unfolding groups_of
-one_group_of [] some low = absurd (omega arith)
-one_group_of (b ∷ bytes) some low = rw (lt-ltb b 128 low) refl
+one_group [] first some at low = absurd (omega arith)
+one_group (a ∷ bytes) first some at low = rw (at, lt-ltb a 128 (rw at at low)) refl
 
-number_value : (w : Width) (p q : Position) (n : ℕ) → number_at w p ≡ Ok (n, q) → (from_be_bytes w (take (byte_len w) (left p)) ≡ n) × (further (byte_len w) p ≡ q)
-unfolding number_at
-number_value w p q n e =
-    let g = cond_ok (ltb (length (left p)) (byte_len w)) wire.Short (Ok (from_be_bytes w (take (byte_len w) (left p)), further (byte_len w) p)) (n, q) e in
-    let same : ◌≡◌ {A = ℕ × Position} (from_be_bytes w (take (byte_len w) (left p)), further (byte_len w) p) (n, q) = ok_is {E = WireRefusal} _ _ g.1 in
-    (ap (λ (y : ℕ × Position). y.0) same, ap (λ (y : ℕ × Position). y.1) same)
+pub two_groups : (bytes : List ℕ) (first second : ℕ) → 2 ≤ length bytes → first ≡ get_or bytes 0 0 → second ≡ get_or bytes 1 0 → 128 ≤ first → second < 128 → groups_of 9 bytes ≡ Ok (first - 128 + 128 * second, 2)
+unfolding groups_of
+two_groups [] first second some a b high low = absurd (omega arith)
+two_groups (x ∷ []) first second some a b high low = absurd (omega arith)
+two_groups (x ∷ y ∷ bytes) first second some a b high low = rw (a, b, le-ltb x 128 (rw a at high), lt-ltb y 128 (rw b at low)) refl
 
-uvarint_one : (p : Position) → groups_of 9 (left p) ≡ Ok (get_or (left p) 0 0, 1) → uvarint_at p ≡ Ok (get_or (left p) 0 0, further 1 p)
+pub three_groups : (bytes : List ℕ) (first second third : ℕ) → 3 ≤ length bytes → first ≡ get_or bytes 0 0 → second ≡ get_or bytes 1 0 → third ≡ get_or bytes 2 0 → 128 ≤ first → 128 ≤ second → third < 128 → groups_of 9 bytes ≡ Ok (first - 128 + 128 * (second - 128 + 128 * third), 3)
+unfolding groups_of
+three_groups [] first second third some a b c high next low = absurd (omega arith)
+three_groups (x ∷ []) first second third some a b c high next low = absurd (omega arith)
+three_groups (x ∷ y ∷ []) first second third some a b c high next low = absurd (omega arith)
+three_groups (x ∷ y ∷ z ∷ bytes) first second third some a b c high next low = rw (a, b, c, le-ltb x 128 (rw a at high), le-ltb y 128 (rw b at next), lt-ltb z 128 (rw c at low)) refl
+
+uvarint_from : (p : Position) (x : ℕ × ℕ) → groups_of 9 (left p) ≡ Ok x → uvarint_at p ≡ Ok (x.0, further x.1 p)
 unfolding uvarint_at
-uvarint_one p e = rw e refl
+uvarint_from p x e = rw e refl
 
 placed : {A : Type 0} (read : Position → Result (A × Position) WireRefusal) (p q : Position) (x : A) → read p ≡ Ok (x, q) → field read p ≡ Ok (x, q)
 placed read p q x e = rw e refl
 
-pub one_group : (p q : Position) (n : ℕ) → field (number_at w8) p ≡ Ok (n, q) → 0 < length (left p) → get_or (left p) 0 0 < 128 → field uvarint_at p ≡ Ok (n, q)
-one_group p q n e some low =
-    let v = number_value w8 p q n (refused_as_ok (refused_at p.place) (number_at w8 p) (n, q) e) in
-    let value : get_or (left p) 0 0 ≡ n = sym (one_byte (left p) some) ∙ v.0 in
-    placed uvarint_at p q n (uvarint_one p (one_group_of (left p) some low) ∙ ap (λ (k : ℕ). Ok (k, further 1 p)) value ∙ ap (λ (r : Position). Ok (n, r)) v.1)
+-- the groups of a number are passed as bytes
+pub groups_passed : (p q : Position) (bytes : List ℕ) (x : ℕ × ℕ) → groups_of 9 (left p) ≡ Ok x → field (bytes_at x.1) p ≡ Ok (bytes, q) → field uvarint_at p ≡ Ok (x.0, q)
+groups_passed p q bytes x e f =
+    let parts = bytes_parts x.1 p q bytes (refused_as_ok (refused_at p.place) (bytes_at x.1 p) (bytes, q) f) in
+    placed uvarint_at p q x.0 (uvarint_from p x e ∙ ap (λ (r : Position). Ok (x.0, r)) parts.2)
 
-enough_byte : (p : Position) → 0 < length (left p) → number_at w8 p ≡ Ok (from_be_bytes w8 (take 1 (left p)), further 1 p)
-unfolding number_at
-enough_byte p some = rw (le-ltb (length (left p)) 1 (omega arith)) refl
+enough_bytes : (count : ℕ) (p : Position) → count ≤ length (left p) → bytes_at count p ≡ Ok (take count (left p), further count p)
+unfolding bytes_at
+enough_bytes count p some = rw (le-ltb (length (left p)) count some) refl
 
-pub no_byte_refused : (p : Position) (d : PartRefusal) → field (number_at w8) p ≡ Err d → 0 < length (left p) → ⊥
-no_byte_refused p d e some =
-    let x = refused_as_err (refused_at p.place) (number_at w8 p) d e in
-    let long : number_at w8 p ≡ Ok (from_be_bytes w8 (take 1 (left p)), further 1 p) = enough_byte p some in
+pub bytes_not_refused : (count : ℕ) (p : Position) (d : PartRefusal) → field (bytes_at count) p ≡ Err d → count ≤ length (left p) → ⊥
+bytes_not_refused count p d e some =
+    let x = refused_as_err (refused_at p.place) (bytes_at count p) d e in
+    let long : bytes_at count p ≡ Ok (take count (left p), further count p) = enough_bytes count p some in
     cc

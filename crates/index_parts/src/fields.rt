@@ -1,8 +1,9 @@
-ghost use Rattle.std.specs.Prelude.{◌≡◌, ◌-◌, ◌≤◌, Ok, Err, MatchResult, length, true, false};
+ghost use Rattle.std.specs.Prelude.{◌≡◌, ◌-◌, ◌*◌, ◌≤◌, ◌<◌, Ok, Err, MatchResult, IfSome, length, true, false};
 ghost use Rattle.std.specs.Str.{is_utf8};
 ghost use Rattle.std.specs.Int.{w8, w32, w64};
 ghost use Rattle.reading_core.specs.Reading.{Steps};
-ghost use Rattle.wire_bytes.specs.Fields.{bytes_at, number_at, uvarint_at, varint_at};
+ghost use Rattle.wire_bytes.specs.Fields.{bytes_at, groups_of, number_at, uvarint_at, varint_at};
+ghost use Rattle.wire_bytes.specs.Position.{left};
 ghost use Rattle.index_parts.specs.Placed.{refused_at, field, text_at};
 
 use crate::PartRefusal;
@@ -52,15 +53,51 @@ pub(crate) fn next_u64(cursor: &mut Cursor<'_>) -> Result<u64, PartRefusal>
     }
 }
 
-/// A number of one group is taken at once.
+/// A number of at most three groups at the front of the bytes, and how many groups it has.
+#[inline(always)]
+fn short_number(bytes: &[u8]) -> Option<(u64, u64)>
+    ensures read { IfSome result (λ x. groups_of 9 bytes.now ≡ Ok x) }
+    ensures within { IfSome result (λ x. x.1 ≤ length bytes.now) }
+{
+    if bytes.is_empty() {
+        return None;
+    }
+    let first = bytes[0];
+    if first < 128 {
+        return Some((u64::from(first), 1));
+    }
+    if bytes.len() < 2 {
+        return None;
+    }
+    let second = bytes[1];
+    if second < 128 {
+        return Some((u64::from(first - 128) + 128 * u64::from(second), 2));
+    }
+    if bytes.len() < 3 || bytes[2] >= 128 {
+        return None;
+    }
+    let high = u64::from(second - 128) + 128 * u64::from(bytes[2]);
+    Some((u64::from(first - 128) + 128 * high, 3))
+}
+
+/// A short number is taken at once.
 #[inline(always)]
 pub(crate) fn next_uvarint(cursor: &mut Cursor<'_>) -> Result<u64, PartRefusal>
     ensures { Steps (λ n. n) cursor.old cursor.new result (field uvarint_at cursor.old) }
 {
-    let left = cursor.rest();
-    if !left.is_empty() && left[0] < 128 {
-        return Ok(u64::from(next_u8(cursor)?));
+    match short_number(cursor.rest()) {
+        Some((number, size)) => {
+            next_bytes(cursor, size)?;
+            Ok(number)
+        }
+        None => next_long_uvarint(cursor),
     }
+}
+
+#[inline(always)]
+fn next_long_uvarint(cursor: &mut Cursor<'_>) -> Result<u64, PartRefusal>
+    ensures { Steps (λ n. n) cursor.old cursor.new result (field uvarint_at cursor.old) }
+{
     let place = cursor.place() as u64;
     match cursor.take_uvarint() {
         Ok(n) => Ok(n),
@@ -111,4 +148,13 @@ pub(crate) fn text_of(bytes: &[u8], end: usize) -> Result<&str, PartRefusal>
         Ok(text) => Ok(text),
         Err(_) => Err(PartRefusal::NotText((end - bytes.len()) as u64)),
     }
+}
+
+/// How many of so many members to make room for at once: no more than the bytes that are left hold, where each takes so many.
+#[inline(always)]
+pub(crate) fn room_for(count: u32, cursor: &Cursor<'_>, size: usize) -> usize
+    requires { 0 < size }
+    ensures { (result ≤ count) × (size * result ≤ length (left cursor.now)) }
+{
+    (count as usize).min(cursor.rest().len() / size)
 }

@@ -6,7 +6,7 @@ ghost use Rattle.index_parts.specs.PostingsReading.{posting_at, postings_at};
 ghost use Rattle.index_parts.specs.ListReading.{turns_at};
 
 use crate::PartRefusal;
-use crate::fields::next_u32;
+use crate::fields::{next_u32, room_for};
 use crate::sections::section_of;
 use list_core::List;
 use std::alloc::Global;
@@ -30,7 +30,7 @@ fn next_posting(cursor: &mut Cursor<'_>, before: Option<u64>) -> Result<u64, Par
 fn numbers_of(alloc: Global, count: u32, mut cursor: Cursor<'_>) -> Result<Vec<u64>, PartRefusal>
     ensures { Gives PartRefusal.NoMemory (λ numbers. numbers.items) result (turns_at posting_at count cursor.entry) }
 {
-    let mut numbers = Vec::new(alloc);
+    let mut numbers = Vec::with_capacity(alloc, room_for(count, &cursor, 4))?;
     let mut before = None;
     for _ in 0..count {
         let number = next_posting(&mut cursor, before)?;

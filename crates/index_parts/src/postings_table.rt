@@ -9,7 +9,7 @@ ghost use Rattle.index_parts.specs.RowsReading.{may_come_after, row_at, postings
 ghost use Rattle.index_parts.specs.ListReading.{turns_at};
 
 use crate::PartRefusal;
-use crate::fields::{next_text, next_u8, next_u32, next_uvarint, text_of};
+use crate::fields::{next_text, next_u8, next_u32, next_uvarint, room_for, text_of};
 use crate::lent_row::LentRow;
 use crate::sections::section_of;
 use std::alloc::Global;
@@ -19,6 +19,9 @@ use wire_bytes::Cursor;
 
 /// What the entry of a postings list begins with.
 const KIND: u8 = 2;
+
+/// How many bytes a row takes, as a guess at how many there are.
+const USUAL_SIZE: usize = 16;
 
 /// The rows of a postings table, which lend the index's bytes.
 #[derive(Drop)]
@@ -56,7 +59,21 @@ impl<'a> PostingsTable<'a> {
 
 /// Whether a row of this name and value may stand behind another, or first.
 #[inline(always)]
-fn may_come_after(before: Option<LentRow<'_>>, name: &[u8], value: &[u8]) -> bool
+fn may_come_after(before: Option<LentRow<'_>>, name: &str, value: &str) -> bool
+    ensures { (offset : ℕ) → result ≡ may_come_after (row_before before.entry) (record { name = name.now; value = value.now; offset = offset }) }
+{
+    let Some(row) = before else {
+        return name.is_empty() && value.is_empty();
+    };
+    match row.name.cmp(name) {
+        Ordering::Less => true,
+        Ordering::Equal => row.value < value,
+        Ordering::Greater => false,
+    }
+}
+
+/// The same of bytes, of which some are no text.
+fn may_bytes_come_after(before: Option<LentRow<'_>>, name: &[u8], value: &[u8]) -> bool
     ensures { (offset : ℕ) → result ≡ may_come_after (row_before before.entry) (record { name = name.now; value = value.now; offset = offset }) }
 {
     let Some(row) = before else {
@@ -82,21 +99,21 @@ fn next_row<'a>(
     if next_u8(cursor)? != KIND {
         return Err(PartRefusal::Unordered(place));
     }
-    let name = next_text(cursor)?;
-    let name_end = cursor.place();
-    let value = next_text(cursor)?;
-    let value_end = cursor.place();
+    let name_bytes = next_text(cursor)?;
+    let name = text_of(name_bytes, cursor.place());
+    let value_bytes = next_text(cursor)?;
+    let value = text_of(value_bytes, cursor.place());
     let offset = next_uvarint(cursor)?;
-    if !may_come_after(before, name, value) {
-        return Err(PartRefusal::Unordered(place));
+    match (name, value) {
+        (Ok(name), Ok(value)) if may_come_after(before, name, value) => Ok(LentRow {
+            name,
+            value,
+            offset,
+        }),
+        (Err(refusal), _) | (Ok(_), Err(refusal))
+            if may_bytes_come_after(before, name_bytes, value_bytes) => { Err(refusal) }
+        _ => Err(PartRefusal::Unordered(place)),
     }
-    let name = text_of(name, name_end)?;
-    let value = text_of(value, value_end)?;
-    Ok(LentRow {
-        name,
-        value,
-        offset,
-    })
 }
 
 /// Reads so many rows.
@@ -107,7 +124,7 @@ fn rows_of<'a>(
 ) -> Result<Vec<LentRow<'a>>, PartRefusal>
     ensures { Gives PartRefusal.NoMemory (λ rows. map row_of rows.items) result (turns_at row_at count cursor.entry) }
 {
-    let mut rows = Vec::new(alloc);
+    let mut rows = Vec::with_capacity(alloc, room_for(count, &cursor, USUAL_SIZE))?;
     let mut before = None;
     for _ in 0..count {
         let row = next_row(&mut cursor, before)?;

@@ -8,11 +8,14 @@ ghost use Rattle.index_parts.specs.SymbolsReading.{may_follow, symbol_at, symbol
 ghost use Rattle.index_parts.specs.ListReading.{turns_at};
 
 use crate::PartRefusal;
-use crate::fields::{next_text, next_u32, text_of};
+use crate::fields::{next_text, next_u32, room_for, text_of};
 use crate::sections::section_of;
 use std::alloc::Global;
 use std::marker::Model;
 use wire_bytes::Cursor;
+
+/// How many bytes a symbol takes, as a guess at how many there are.
+const USUAL_SIZE: usize = 8;
 
 /// The symbols of an index, which lend the index's bytes.
 #[derive(Drop)]
@@ -43,7 +46,17 @@ impl<'a> SymbolTable<'a> {
 
 /// Whether a symbol may stand behind another.
 #[inline(always)]
-fn may_follow(before: Option<&str>, symbol: &[u8]) -> bool
+fn may_follow(before: Option<&str>, symbol: &str) -> bool
+    ensures { result ≡ may_follow (option_copied before.entry) symbol.now }
+{
+    match before {
+        None => true,
+        Some(before) => before < symbol,
+    }
+}
+
+/// The same of bytes that are no text.
+fn may_bytes_follow(before: Option<&str>, symbol: &[u8]) -> bool
     ensures { result ≡ may_follow (option_copied before.entry) symbol.now }
 {
     match before {
@@ -60,10 +73,11 @@ fn next_symbol<'a>(cursor: &mut Cursor<'a>, before: Option<&str>) -> Result<&'a 
 {
     let place = cursor.place() as u64;
     let bytes = next_text(cursor)?;
-    if !may_follow(before, bytes) {
-        return Err(PartRefusal::Unordered(place));
+    match text_of(bytes, cursor.place()) {
+        Ok(symbol) if may_follow(before, symbol) => Ok(symbol),
+        Err(refusal) if may_bytes_follow(before, bytes) => Err(refusal),
+        _ => Err(PartRefusal::Unordered(place)),
     }
-    text_of(bytes, cursor.place())
 }
 
 /// Reads so many symbols.
@@ -74,7 +88,7 @@ fn symbols_of<'a>(
 ) -> Result<Vec<&'a str>, PartRefusal>
     ensures { Gives PartRefusal.NoMemory (λ symbols. map (λ s. s.now) symbols.items) result (turns_at symbol_at count cursor.entry) }
 {
-    let mut symbols = Vec::new(alloc);
+    let mut symbols = Vec::with_capacity(alloc, room_for(count, &cursor, USUAL_SIZE))?;
     let mut before = None;
     for _ in 0..count {
         let symbol = next_symbol(&mut cursor, before)?;

@@ -14,3 +14,4 @@ pub mod WholeParts
 pub mod WholeLaws
 pub mod WholeAgain
 pub mod PostingsLaws
+pub mod FewLaws

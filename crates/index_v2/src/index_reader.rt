@@ -1,4 +1,4 @@
-ghost use Rattle.std.specs.Prelude.{◌≡◌, ◌⊎◌, slice_get, MatchResult, IfOk, Ok, Err};
+ghost use Rattle.std.specs.Prelude.{◌≡◌, ◌⊎◌, ◌+◌, ◌*◌, ◌≤◌, length, All, slice_get, MatchResult, IfOk, Ok, Err};
 ghost use Rattle.std.specs.Result.{IsOkAnd};
 ghost use Rattle.std.specs.Option.{option_copied};
 ghost use Rattle.reading_core.specs.Reading.{Gives};
@@ -33,13 +33,14 @@ pub struct IndexReader<'a> {
 impl<'a> Model for IndexReader<'a> {
     ghost use Rattle.std.specs.Prelude.{◌≡◌, Ok};
     ghost use Rattle.index_v2.specs.Opened.{Opened};
+    ghost use Rattle.reading_core.specs.Grammar.{IsBytes};
     ghost use Rattle.index_v2.specs.Opening.{opened_at};
 
     ghost Value = { Opened };
 
     ghost view = { λ r. record { bytes = r.bytes.now; toc = r.toc; symbols = r.symbols; rows = r.rows } };
 
-    ghost invariant = { λ r. opened_at r.bytes.now ≡ Ok (record { bytes = r.bytes.now; toc = r.toc; symbols = r.symbols; rows = r.rows }) };
+    ghost invariant = { λ r. (opened_at r.bytes.now ≡ Ok (record { bytes = r.bytes.now; toc = r.toc; symbols = r.symbols; rows = r.rows })) × IsBytes r.bytes.now };
 }
 
 impl<'a> IndexReader<'a> {
@@ -56,6 +57,7 @@ impl<'a> IndexReader<'a> {
 
         // The first refusal.
         ensures exact { Gives IndexRefusal.NoMemory (λ reader. reader) result (opened_at bytes.now) }
+        ensures few { IfOk result (λ reader. (length reader.symbols ≤ length bytes.now) × (4 * length reader.rows ≤ length bytes.now)) }
     {
         IndexReader::read(alloc, bytes)
     }
@@ -91,6 +93,7 @@ impl<'a> IndexReader<'a> {
 
         // The first refusal.
         ensures exact { Gives IndexRefusal.NoMemory (λ series. series) result (numbered_at self.now.bytes self.now.symbols number) }
+        ensures few { IfOk result (λ series. 2 * length series.labels + 3 * length series.chunks ≤ length self.now.bytes) }
     {
         series_of(alloc, self.bytes, &self.symbols, number)
     }
@@ -108,6 +111,7 @@ impl<'a> IndexReader<'a> {
 
         // The first refusal.
         ensures exact { Gives IndexRefusal.NoMemory (λ series. series) result (numbered_at self.now.bytes self.now.symbols number) }
+        ensures few { IfOk result (λ series. 2 * length series.labels + 3 * length series.chunks ≤ length self.now.bytes) }
     {
         lent_series_of(self.bytes, &self.symbols, number, room)
     }
@@ -124,6 +128,7 @@ impl<'a> IndexReader<'a> {
 
         // The first refusal.
         ensures exact { Gives IndexRefusal.NoMemory (λ numbers. numbers) result (postings_of self.now name.now value.now) }
+        ensures few { IfOk result (λ numbers. 4 * length numbers ≤ length self.now.bytes) }
     {
         list_of(alloc, self.bytes, &self.rows, name, value)
     }
@@ -131,6 +136,7 @@ impl<'a> IndexReader<'a> {
     /// The values that the table lists under a name, ascending.
     pub fn label_values(&self, alloc: Global, name: &str) -> Result<TextList, IndexRefusal>
         ensures exact { MatchResult result (λ values. values ≡ values_of self.now.rows name.now) (λ e. e ≡ IndexRefusal.NoMemory) }
+        ensures few { IfOk result (λ values. 4 * length values ≤ length self.now.bytes) }
     {
         Ok(values_of(alloc, &self.rows, name)?)
     }
@@ -144,6 +150,8 @@ impl<'a> IndexReader<'a> {
 
         // The first refusal.
         ensures exact { Gives IndexRefusal.NoMemory (λ list. list) result (whole_at self.now) }
+        ensures few { IfOk result (λ list. (4 * length list ≤ length self.now.bytes)
+            × All (λ series. 2 * length series.labels + 3 * length series.chunks ≤ length self.now.bytes) list) }
     {
         whole(alloc, self.bytes, &self.toc, &self.symbols, &self.rows)
     }

@@ -1,4 +1,4 @@
-ghost use Rattle.std.specs.Prelude.{◌≡◌, ℕ, List, length, Some, None, Ok, Err, MatchResult, IfOk};
+ghost use Rattle.std.specs.Prelude.{◌≡◌, ◌*◌, ◌≤◌, ℕ, List, length, Some, None, Ok, Err, MatchResult, IfOk};
 ghost use Rattle.reading_core.specs.Reading.{Gives, refused_as};
 ghost use Rattle.index_parts.specs.PostingsReading.{postings_at};
 ghost use Rattle.index_v2.specs.Opening.{refused_in};
@@ -21,6 +21,7 @@ pub(crate) const POSTINGS: u8 = 5;
 pub(crate) fn list_at(alloc: Global, index: &[u8], at: u64) -> Result<NumberList, IndexRefusal>
     ensures rise { IfOk result (λ numbers. DoRise numbers) }
     ensures small { IfOk result (λ numbers. AreSmall numbers) }
+    ensures few { IfOk result (λ numbers. 4 * length numbers ≤ length index.now) }
     ensures exact { Gives IndexRefusal.NoMemory (λ numbers. numbers) result (refused_as (refused_in 5) (postings_at index.now at)) }
 {
     match read_postings(alloc, index, at) {
@@ -39,6 +40,7 @@ pub(crate) fn list_of(
 ) -> Result<NumberList, IndexRefusal>
     ensures rise { IfOk result (λ numbers. DoRise numbers) }
     ensures small { IfOk result (λ numbers. AreSmall numbers) }
+    ensures few { IfOk result (λ numbers. 4 * length numbers ≤ length index.now) }
     ensures exact { Gives IndexRefusal.NoMemory (λ numbers. numbers) result (list_of index.now (row_of rows.now name.now value.now)) }
 {
     match rows.place_of(name, value) {

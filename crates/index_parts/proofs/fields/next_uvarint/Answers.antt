@@ -1,15 +1,12 @@
-use Rattle.std.proofs.Common.{◌<◌, length, get_or, arith}
-use Rattle.std.proofs.lemmas.Bool.Decides.{nat_tests}
-use Rattle.index_parts.proofs.Moves.{one_group, no_byte_refused}
+use Rattle.std.proofs.Common.{◌≤◌, List, ℕ, length, ap, sym, subst, ◌∙◌}
+use Rattle.wire_bytes.specs.Fields.{groups_of}
+use Rattle.index_parts.proofs.Moves.{groups_passed, bytes_not_refused}
 use Rattle.index_parts.proofs.fields.next_uvarint.Goals as goal
 
-pub returns-in_err-next_u8 : goal.returns-in_err-next_u8
-returns-in_err-next_u8 c =
-    let some : 0 < length c.rest-left.result.now = grind (arith, nat_tests) in
-    absurd (no_byte_refused c.args.cursor.now c.in_err-next_u8.field-0.0 c.in_err-next_u8.ensures.0 (rw c.rest-left.ensures at some))
+pub returns-in_err-next_bytes-in-Some : goal.returns-in_err-next_bytes-in-Some
+returns-in_err-next_bytes-in-Some c =
+    absurd (bytes_not_refused c.in-Some.size c.args.cursor.now c.in_err-next_bytes-in-Some.field-0.0 c.in_err-next_bytes-in-Some.ensures.0 (subst (λ (bytes : List ℕ). c.in-Some.size ≤ length bytes) c.rest.ensures c.in-Some.ensures.within))
 
-pub returns-then-left-lt128 : goal.returns-then-left-lt128
-returns-then-left-lt128 c =
-    let some : 0 < length c.rest-left.result.now = grind (arith, nat_tests) in
-    let low : get_or c.rest-left.result.now 0 0 < 128 = c.if-left-lt128.true in
-    rw c.from.ensures (one_group c.args.cursor.now c.next_u8.new.cursor c.in_ok-next_u8.field-0 c.in_ok-next_u8.ensures (rw c.rest-left.ensures at some) (rw c.rest-left.ensures at low))
+pub returns-in_ok-next_bytes-in-Some : goal.returns-in_ok-next_bytes-in-Some
+returns-in_ok-next_bytes-in-Some c =
+    groups_passed c.args.cursor.now c.next_bytes.new.cursor c.in_ok-next_bytes-in-Some.field-0.now (c.in-Some.number, c.in-Some.size) (ap (groups_of 9) (sym c.rest.ensures) ∙ c.in-Some.ensures.read) c.in_ok-next_bytes-in-Some.ensures

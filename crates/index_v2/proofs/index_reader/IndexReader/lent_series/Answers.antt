@@ -1,4 +1,8 @@
+use Rattle.index_v2.proofs.FewLaws.{if_ok, series_few}
 use Rattle.index_v2.proofs.index_reader.IndexReader.lent_series.Goals as goal
 
 pub returns-clause-only : goal.returns-clause-only
 returns-clause-only c = rw (← c.self.view_is) c.lent_series_of.ensures.only
+
+pub returns-clause-few : goal.returns-clause-few
+returns-clause-few c = rw (← c.self.view_is) (if_ok _ _ c.lent_series_of.result (λ series is. series_few _ _ c.args.number series is) c.lent_series_of.ensures.found)
