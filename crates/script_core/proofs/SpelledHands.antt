@@ -1,7 +1,7 @@
 -- So many hands are enough for a phase exactly where its workers are no more.
-use Rattle.std.proofs.Common.{◌≡◌, ◌≢◌, ℕ, ◌+◌, ◌≤◌, Bool, true, false, ◌||◌, cond, List, [], ◌∷◌, ◌++◌, length, fold, refl, sym, ap, ◌∙◌, arith, ◌⊎◌, inl, inr}
+use Rattle.std.proofs.Common.{◌≡◌, ◌≢◌, ℕ, ◌+◌, ◌≤◌, Bool, true, false, ◌||◌, nat_lt, cond, List, [], ◌∷◌, ◌++◌, length, fold, refl, sym, ap, ◌∙◌, arith, ◌⊎◌, inl, inr}
 use Rattle.std.specs.Cmp.{IsEquivalence}
-use Rattle.std.specs.List.{list_any, IsDistinct}
+use Rattle.std.specs.List.{list_any, range_with_len, IsDistinct}
 use Rattle.std.proofs.lemmas.Bool.Decides.{nat_tests}
 use Rattle.std.proofs.lemmas.List.Folds.{list_any-append}
 use Rattle.std.proofs.lemmas.Map.Keys.{IsDistinct-push}
@@ -10,7 +10,11 @@ use Rattle.script_core.specs.declared.hand.Hand.{Hand}
 use Rattle.script_core.specs.declared.hand.Hand.TheVariants.{Upload, Gateway}
 use Rattle.script_core.specs.declared.task.Task.{Task}
 use Rattle.script_core.specs.Hands.{same_hand, hands_of_task, with_hand, with_hands, hands_from, hands_of, does, places_from}
+use Rattle.script_core.specs.declared.work.Work.{Work}
+use Rattle.script_core.specs.declared.work.Work.TheVariants as works
+use Rattle.script_core.specs.Whose.{IsFor, ships, syncs, asks}
 use Rattle.script_core.specs.Spelling.{AreEnough, FewWorkers}
+use Rattle.script_core.proofs.HandLists.{no_upload_among, gateway_among}
 
 -- ---- equal hands
 
@@ -53,6 +57,36 @@ or_right false b h = h
 
 has-push : (others : List Hand) (new hand : Hand) → has (others ++ new ∷ []) hand ≡ (has others hand || (same_hand hand new || false))
 has-push others new hand = list_any-append (same_hand hand) others (new ∷ [])
+
+-- ---- whose a task is
+
+pub does_for : (gateways : ℕ) (hand : Hand) (place : ℕ) (work : Work) → does gateways hand place work ≡ true → IsFor gateways hand place work
+unfolding hands_of_task
+does_for gateways hand place (works.Upload ulid stop) h =
+    elim (either (same_hand hand (Upload place)) false h) [
+      | inl same ↦ ships ulid stop refl (hands_equal hand (Upload place) same)
+      | inr none ↦ absurd cc
+    ]
+does_for gateways hand place (works.Sync gateway) h =
+    elim (either (same_hand hand (Gateway gateway)) false h) [
+      | inl same ↦ syncs gateway refl (hands_equal hand (Gateway gateway) same)
+      | inr none ↦ absurd cc
+    ]
+does_for gateways (Upload own) place (works.Query low high selector) h =
+    let clash : false ≡ true = sym (no_upload_among own (range_with_len 0 gateways)) ∙ h in absurd cc
+does_for gateways (Gateway gateway) place (works.Query low high selector) h =
+    let below : nat_lt gateway gateways ≡ true = sym (gateway_among gateway gateways) ∙ h in
+    asks low high selector gateway refl refl (grind (arith, nat_tests))
+
+pub for_does : (gateways : ℕ) (hand : Hand) (place : ℕ) (work : Work) → IsFor gateways hand place work → does gateways hand place work ≡ true
+unfolding hands_of_task
+for_does gateways hand place work (ships ulid stop is who) =
+    rw (is, who) (or_left (same_hand (Upload place) (Upload place)) false (itself (Upload place)))
+for_does gateways hand place work (syncs gateway is who) =
+    rw (is, who) (or_left (same_hand (Gateway gateway) (Gateway gateway)) false (itself (Gateway gateway)))
+for_does gateways hand place work (asks low high selector gateway is who below) =
+    let inside : nat_lt gateway gateways ≡ true = grind (arith, nat_tests) in
+    rw (is, who) (gateway_among gateway gateways ∙ inside)
 
 -- all of these are among those
 abbrev pub Within : List Hand → List Hand → Type 0
@@ -125,7 +159,7 @@ pub from_enough : (gateways : ℕ) (others : List Hand) (place : ℕ) (tasks : L
 unfolding hands_from with_hands
 from_enough gateways others place [] = tt
 from_enough gateways others place (task ∷ tasks) = (
-  λ hand is. from_keeps gateways (with_hands gateways others place task.work) (place + 1) tasks hand (fold_has others (hands_of_task gateways place task.work) hand is),
+  λ hand is. from_keeps gateways (with_hands gateways others place task.work) (place + 1) tasks hand (fold_has others (hands_of_task gateways place task.work) hand (for_does gateways hand place task.work is)),
   from_enough gateways (with_hands gateways others place task.work) (place + 1) tasks,
 )
 
@@ -134,7 +168,7 @@ unfolding hands_from with_hands
 from_within gateways others all place [] old enough = old
 from_within gateways others all place (task ∷ tasks) old enough =
     from_within gateways (with_hands gateways others place task.work) all (place + 1) tasks
-    (fold_within others (hands_of_task gateways place task.work) all old enough.0) enough.1
+    (fold_within others (hands_of_task gateways place task.work) all old (λ hand h. enough.0 hand (does_for gateways hand place task.work h))) enough.1
 
 pub from_distinct : (gateways : ℕ) (others : List Hand) (place : ℕ) (tasks : List Task) → IsDistinct same_hand others → IsDistinct same_hand (hands_from gateways others place tasks)
 unfolding hands_from with_hands

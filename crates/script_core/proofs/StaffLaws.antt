@@ -13,7 +13,7 @@ use Rattle.script_core.specs.declared.work.Work.{Work}
 use Rattle.script_core.specs.declared.work.Work.TheVariants as works
 use Rattle.script_core.specs.Hands.{same_hand, hands_of_task, with_hand, with_hands, hands_from, hands_of, does, places_from}
 use Rattle.script_core.specs.Staff.{IsTaskOf, ArePlacesOf, IsGatewayBefore, BeginsBefore, IsStaff}
-use Rattle.script_core.proofs.SpelledHands.{has, itself, either, or_left, or_right, kept_by, fold_keeps, fold_has, fold_only, from_enough, needed_by, from_distinct, none_twice}
+use Rattle.script_core.proofs.SpelledHands.{has, does_for, for_does, itself, either, or_left, or_right, kept_by, fold_keeps, fold_has, fold_only, from_enough, needed_by, from_distinct, none_twice}
 
 pub some_same : {A : Type 0} (x y : A) → ◌≡◌ {A = Option A} (Some x) (Some y) → x ≡ y
 some_same x y e = cc
@@ -59,7 +59,7 @@ only_from gateways hand whole base (task ∷ tasks) place tails h =
       | inl it ↦
           let at : base + 0 ≡ base = omega arith in
           let is : slice_get whole base ≡ Some task = ap (slice_get whole) (sym at) ∙ sym (tails 0) in
-          subst (IsTaskOf gateways whole hand) it.1 (record { task = task; is = is; does_it = it.0 })
+          subst (IsTaskOf gateways whole hand) it.1 (record { task = task; is = is; whose = does_for gateways hand base task.work it.0 })
       | inr later ↦
           only_from gateways hand whole (base + 1) tasks place
           (λ k. tails (suc k) ∙ ap (slice_get whole) (next_place base k)) later
@@ -110,7 +110,7 @@ from_zero k = omega arith
 pub are_places : (gateways : ℕ) (tasks : List Task) (hand : Hand) → ArePlacesOf gateways tasks hand (places_from gateways hand 0 tasks)
 are_places gateways tasks hand = record {
   only = λ place h. only_from gateways hand tasks 0 tasks place (λ k. ap (slice_get tasks) (from_zero k)) h;
-  each = λ place is. each_from gateways hand 0 tasks place place is.task is.is (sym (from_zero place)) is.does_it;
+  each = λ place is. each_from gateways hand 0 tasks place place is.task is.is (sym (from_zero place)) (for_does gateways hand place is.task.work is.whose);
   ascend = ascend_from gateways hand 0 tasks;
 }
 

@@ -2,6 +2,7 @@ pub mod Fields
 pub mod Values
 pub mod Samples
 pub mod Hands
+pub mod Whose
 pub mod State
 pub mod View
 pub mod Lines

@@ -34,7 +34,8 @@ use Rattle.script_core.specs.declared.task.Task.{Task}
 use Rattle.script_core.specs.declared.work.Work.{Work}
 use Rattle.script_core.specs.declared.work.Work.TheVariants.{Upload, Sync, Query}
 use Rattle.script_core.specs.Fields.{lines_of, is_silent, is_space, is_name}
-use Rattle.script_core.specs.Hands.{same_hand, gateway_count, does}
+use Rattle.script_core.specs.Hands.{same_hand, gateway_count}
+use Rattle.script_core.specs.Whose.{IsFor}
 use Rattle.script_core.specs.Works.{works_of, has_sync, declares}
 use Rattle.script_core.specs.Lawful.{HasSeries}
 
@@ -132,11 +133,11 @@ pub record DoAgree (rules : Rules) : Type 0 where
 
 -- ---- the workers of a phase
 
--- These hands are enough for the tasks, the first of which has this place: whoever does one of them is among the hands.
+-- These hands are enough for the tasks, the first of which has this place: whoever has to do one of them is among the hands.
 abbrev pub AreEnough : ℕ → List Hand → ℕ → List Task → Type 0
 AreEnough gateways hands place [] = Unit {0}
 AreEnough gateways hands place (task ∷ tasks) =
-    ((hand : Hand) → IsTrue (does gateways hand place task.work) → IsTrue (list_any (same_hand hand) hands))
+    ((hand : Hand) → IsFor gateways hand place task.work → IsTrue (list_any (same_hand hand) hands))
     × AreEnough gateways hands (place + 1) tasks
 
 -- Some 64 hands are enough.

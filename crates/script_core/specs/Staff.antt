@@ -8,14 +8,15 @@ use Rattle.script_core.specs.declared.hand.Hand.TheVariants.{Upload, Gateway}
 use Rattle.script_core.specs.declared.task.Task.{Task}
 use Rattle.script_core.specs.declared.script.Script.{Script}
 use Rattle.script_core.specs.declared.worker.Worker.{Worker}
-use Rattle.script_core.specs.Hands.{same_hand, does, places_from, gateway_of, workers_of}
+use Rattle.script_core.specs.Hands.{same_hand, places_from, gateway_of, workers_of}
+use Rattle.script_core.specs.Whose.{IsFor}
 use Rattle.script_core.specs.Spelling.{AreEnough}
 
 -- The task at a place is one that a hand does.
 pub record IsTaskOf (gateways : ℕ) (tasks : List Task) (hand : Hand) (place : ℕ) : Type 0 where
   pub task : Task
   pub is : slice_get tasks place ≡ Some task
-  pub does_it : IsTrue (does gateways hand place task.work)
+  pub whose : IsFor gateways hand place task.work
 
 -- These are the places of a hand's tasks: of no other tasks, of all of its own, in order and none twice.
 pub record ArePlacesOf (gateways : ℕ) (tasks : List Task) (hand : Hand) (places : List ℕ) : Type 0 where

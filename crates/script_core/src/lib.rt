@@ -41,3 +41,5 @@ pub use worker::{Worker, WorkerList};
 
 #[cfg(test)]
 mod tests;
+#[cfg(test)]
+mod tests_at_limits;

@@ -3,7 +3,7 @@ use LineCause::*;
 use ScriptRefusal::*;
 use std::test::Fail;
 
-fn refusal_of(rt: &HostRuntime, text: &[u8]) -> Option<ScriptRefusal> {
+pub(crate) fn refusal_of(rt: &HostRuntime, text: &[u8]) -> Option<ScriptRefusal> {
     Script::read(rt.alloc(), text).err()
 }
 
@@ -354,34 +354,42 @@ fn bytes_that_are_no_text(rt: HostRuntime) {
     );
 }
 
-const TWO_PHASES: &str =
+static TWO_PHASES: &str =
     "rule tick 5ms\ngateway g\nblock 0000000000000000000000000A 1000 2000 {}\nseries {b=\"1\"} 1000:3ff0000000000000\nseries {a=\"1\"} 1000:0000000000000001 1001:0000000000000002\nat 0\nupload 0000000000000000000000000A\nsync g\nupload 0000000000000000000000000A\nat 1800000\nquery 0 5000 up\nsync g";
 
-#[test]
-fn a_script_has_what_its_lines_say(rt: HostRuntime) -> Result<(), Fail> {
-    let script = Script::read(rt.alloc(), TWO_PHASES.as_bytes())?;
-    assert_eq!(rt; script.rules.tick.ms, 5);
-    assert_eq!(rt; script.rules.page_limit, 1000);
-    assert_eq!(rt; script.gateways.get(0).ok_or("a gateway")?.as_str(), "g");
-    assert_eq!(rt; script.selectors.len(), 1);
-    let block = script.blocks.get(0).ok_or("a block")?;
-    assert_eq!(rt; block.ulid.entropy(), 10);
+fn has_rules_and_gateway(script: &Script) -> bool {
+    script.rules.tick.ms == 5
+        && script.rules.page_limit == 1000
+        && script.gateways.len() == 1
+        && script
+            .gateways
+            .get(0)
+            .is_some_and(|name| name.as_str() == "g")
+        && script.selectors.len() == 1
+}
+
+/// Whether a block's body is the one that the lines give: two series, of which the first in order has two samples.
+fn is_the_body(body: &Body) -> bool {
     let Body::Inline {
         min_time,
         max_time,
         series,
-    } = &block.body;
-    assert_eq!(rt; *min_time, 1000);
-    assert_eq!(rt; *max_time, 2000);
-    assert_eq!(rt; series.len(), 2);
-    let first = series.get(0).ok_or("a series")?;
-    assert_eq!(rt; first.labels.value("a"), Some("1"));
-    assert_eq!(rt; first.samples.len(), 2);
-    let phase = script.phases.get(1).ok_or("a phase")?;
-    assert_eq!(rt; phase.line, 10);
-    assert_eq!(rt; phase.moment.ms, 1_800_000);
-    let task = phase.tasks.get(0).ok_or("a task")?;
-    assert_eq!(rt; task.line, 11);
+    } = body;
+    *min_time == 1000
+        && *max_time == 2000
+        && series.len() == 2
+        && series.get(0).is_some_and(|first| {
+            first.labels.value("a") == Some("1") && first.samples.len() == 2
+        })
+}
+
+fn has_block(script: &Script) -> bool {
+    script.blocks.len() == 1
+        && script.blocks.get(0).is_some_and(|block| block.ulid.entropy() == 10
+            && is_the_body(&block.body))
+}
+
+fn is_the_query(task: &Task) -> bool {
     let asks = matches!(
         &task.work,
         Work::Query {
@@ -390,90 +398,77 @@ fn a_script_has_what_its_lines_say(rt: HostRuntime) -> Result<(), Fail> {
             selector: 0
         }
     );
-    assert!(rt; asks);
-    Ok(())
+    task.line == 11 && asks
+}
+
+fn has_phase(script: &Script) -> bool {
+    script.phases.get(1).is_some_and(|phase| {
+        phase.line == 10
+            && phase.moment.ms == 1_800_000
+            && phase.tasks.get(0).is_some_and(|task| is_the_query(task))
+    })
 }
 
 #[test]
-fn workers_have_seats_over_the_whole_script(rt: HostRuntime) -> Result<(), Fail> {
+fn a_script_has_what_its_lines_say(rt: HostRuntime) -> Result<(), Fail> {
     let script = Script::read(rt.alloc(), TWO_PHASES.as_bytes())?;
-    let first = script.workers(rt.alloc(), 0)?;
-    assert_eq!(rt; first.len(), 3);
-    let gateway = first.get(1).ok_or("a gateway")?;
-    assert_eq!(rt; gateway.seat, 2);
-    assert_eq!(rt; gateway.gateway, Some(0));
-    assert_eq!(rt; gateway.tasks.members(), [1].as_slice());
-    let upload = first.get(2).ok_or("an upload")?;
-    assert_eq!(rt; upload.seat, 3);
-    assert_eq!(rt; upload.gateway, None);
-    assert_eq!(rt; upload.tasks.members(), [2].as_slice());
-    let second = script.workers_after(rt.alloc(), 1, 3)?;
-    assert_eq!(rt; second.len(), 1);
-    let gateway = second.get(0).ok_or("a gateway")?;
-    assert_eq!(rt; gateway.seat, 4);
-    assert_eq!(rt; gateway.tasks.members(), [0, 1].as_slice());
+    assert!(rt; has_rules_and_gateway(&script));
+    assert!(rt; has_block(&script));
+    assert!(rt; has_phase(&script));
     Ok(())
 }
 
-/// A text of so many equal parts behind a front.
-fn repeated(rt: &HostRuntime, front: &str, part: &str, count: u32) -> Result<String, Fail> {
-    let mut text = String::from_str(rt.alloc(), front)?;
-    for _ in 0..count {
-        text.push_str(part)?;
-    }
-    Ok(text)
+/// Whether the worker at a place has this seat, and is this gateway's, and has these tasks.
+fn is_worker(
+    workers: &WorkerList,
+    place: usize,
+    seat: u32,
+    gateway: Option<u32>,
+    tasks: &[u64],
+) -> bool {
+    workers.get(place).is_some_and(|worker| {
+        worker.seat == seat && worker.gateway == gateway && worker.tasks.members() == tasks
+    })
 }
 
 #[test]
-fn limits_are_met_and_not_passed(rt: HostRuntime) -> Result<(), Fail> {
-    let begun =
-        "gateway g\nblock 0000000000000000000000000A 1 2 {}\nseries {} 1:0000000000000001\nat 0\n";
-    let upload = "upload 0000000000000000000000000A\n";
-    let text = repeated(&rt, begun, upload, 64)?;
-    assert_eq!(rt; refusal_of(&rt, text.as_bytes()), None);
-    let text = repeated(&rt, begun, upload, 65)?;
-    assert_eq!(rt; refusal_of(&rt, text.as_bytes()), Some(TooMany(69)));
-    let text = repeated(&rt, begun, "sync g\n", 65_536)?;
-    assert_eq!(rt; refusal_of(&rt, text.as_bytes()), None);
-    let text = repeated(&rt, begun, "sync g\n", 65_537)?;
-    assert_eq!(rt; refusal_of(&rt, text.as_bytes()), Some(TooMany(65_541)));
+fn workers_of_the_first_phase(rt: HostRuntime) -> Result<(), Fail> {
+    let script = Script::read(rt.alloc(), TWO_PHASES.as_bytes())?;
+    let workers = script.workers(rt.alloc(), 0)?;
+    assert!(rt; workers.len() == 3);
+    assert!(rt; is_worker(&workers, 0, 1, None, &[0]));
+    assert!(rt; is_worker(&workers, 1, 2, Some(0), &[1]));
+    assert!(rt; is_worker(&workers, 2, 3, None, &[2]));
     Ok(())
 }
 
 #[test]
-fn a_block_too_many(rt: HostRuntime) -> Result<(), Fail> {
-    let mut text = String::new(rt.alloc());
-    for number in 0..4_097u32 {
-        let line = format!(in rt.alloc();
-            "block 000000000000000000000A{number:04} 1 2 {{}}\nseries {{}} 1:0000000000000001\n"
-        )?;
-        text.push_str(line.as_str())?;
-    }
-    assert_eq!(rt; refusal_of(&rt, text.as_bytes()), Some(TooMany(8_193)));
+fn workers_sit_behind_those_of_the_phases_before(rt: HostRuntime) -> Result<(), Fail> {
+    let script = Script::read(rt.alloc(), TWO_PHASES.as_bytes())?;
+    let workers = script.workers_after(rt.alloc(), 1, 3)?;
+    assert!(rt; workers.len() == 1 && is_worker(&workers, 0, 4, Some(0), &[0, 1]));
+    let workers = script.workers(rt.alloc(), 1)?;
+    assert!(rt; workers.len() == 1 && is_worker(&workers, 0, 4, Some(0), &[0, 1]));
     Ok(())
 }
 
-#[test]
-fn a_text_too_long(rt: HostRuntime) -> Result<(), Fail> {
-    let text = vec![in rt.alloc(); b'\n'; 67_108_865]?;
-    assert_eq!(rt; refusal_of(&rt, text.as_slice()), Some(TooLong));
-    Ok(())
-}
+/// Refusals, and what is printed of them.
+static WORDS: [(ScriptRefusal, &str); 10] = [
+    (TooLong, "too long"),
+    (BadLine(1, UnknownWord), "line 1: bad line 2"),
+    (BadLine(4, PatternSizeText), "line 4: bad line 25"),
+    (FallingMoment(2), "line 2: falling moment"),
+    (TwoCompactors(3), "line 3: two compactors"),
+    (UnknownBlock(2), "line 2: unknown block"),
+    (BlockChanged(2), "line 2: block changed"),
+    (BadRules(2), "line 2: bad rules"),
+    (NeverSynced(3), "line 3: never synced"),
+    (TooMany(17), "line 17: too many"),
+];
 
 #[test]
 fn refusals_have_words(rt: HostRuntime) -> Result<(), Fail> {
-    for (refusal, words) in [
-        (TooLong, "too long"),
-        (BadLine(1, UnknownWord), "line 1: bad line 2"),
-        (BadLine(4, PatternSizeText), "line 4: bad line 25"),
-        (FallingMoment(2), "line 2: falling moment"),
-        (TwoCompactors(3), "line 3: two compactors"),
-        (UnknownBlock(2), "line 2: unknown block"),
-        (BlockChanged(2), "line 2: block changed"),
-        (BadRules(2), "line 2: bad rules"),
-        (NeverSynced(3), "line 3: never synced"),
-        (TooMany(17), "line 17: too many"),
-    ] {
+    for (refusal, words) in WORDS {
         let mut text = Vec::new(rt.alloc());
         refusal.write(&mut text)?;
         assert_eq!(rt; text.as_slice(), words.as_bytes());

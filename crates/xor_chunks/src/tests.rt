@@ -172,21 +172,26 @@ fn stored_texts(rt: HostRuntime) -> Result<(), Fail> {
         decode_stored(rt.alloc(), &one)?.members() == &[sample(1_728_000_001_000, ONE)][..]
     );
     assert!(rt; matches!(decode(rt.alloc(), &one), Err(XorRefusal::Trailing)));
-    let refused: [&[u8]; 2] = [
-        // a byte more that is not zero
-        &[
-            0x00, 0x01, 0xd0, 0x8f, 0x9c, 0xcd, 0xca, 0x64, 0x3f, 0xf0, 0, 0, 0, 0, 0, 0, 0x01,
-        ],
-        // two bytes more
-        &[
-            0x00, 0x01, 0xd0, 0x8f, 0x9c, 0xcd, 0xca, 0x64, 0x3f, 0xf0, 0, 0, 0, 0, 0, 0, 0x00,
-            0x00,
-        ],
-    ];
-    for bytes in refused {
+    Ok(())
+}
+
+/// Stored data that ends with more than a byte of zeros.
+static TOO_MUCH: [&[u8]; 2] = [
+    // a byte more that is not zero
+    &[
+        0x00, 0x01, 0xd0, 0x8f, 0x9c, 0xcd, 0xca, 0x64, 0x3f, 0xf0, 0, 0, 0, 0, 0, 0, 0x01,
+    ],
+    // two bytes more
+    &[
+        0x00, 0x01, 0xd0, 0x8f, 0x9c, 0xcd, 0xca, 0x64, 0x3f, 0xf0, 0, 0, 0, 0, 0, 0, 0x00, 0x00,
+    ],
+];
+
+#[test]
+fn more_than_a_byte_of_zeros(rt: HostRuntime) {
+    for bytes in TOO_MUCH {
         assert!(rt; matches!(decode_stored(rt.alloc(), bytes), Err(XorRefusal::Trailing)));
     }
-    Ok(())
 }
 
 /// Changes of a step at the edges of each row, with the bits that they are put in after `0` of the value.
