@@ -79,11 +79,12 @@ IsFew index series = 2 * length series.labels + 3 * length series.chunks ≤ len
 pub whole_few : (index : List ℕ) (list : List IndexSeries) → IsIndex index list → (4 * length list ≤ length index) × All (IsFew index) list
 whole_few index list is =
     let numbers = listed_few index is.opened.rows (map (λ (one : ℕ × IndexSeries). one.0) is.listed) is.numbers_are in
-    let same = ap length is.list_is in
-    (omega (arith, length-map is.listed (λ (one : ℕ × IndexSeries). one.0), length-map is.listed (λ (one : ℕ × IndexSeries). one.1)),
-    subst (All (IsFew index)) is.list_is (λ k d lt.
-    let at = listed_at is.listed k d lt in
-    subst (IsFew index) (sym at.2) (series_few index is.opened.symbols at.0.0 at.0.1 (is.series_are at.0.0 at.0.1 (k, at.1)))))
+    let same = ap length is.list_is in (
+      omega (arith, length-map is.listed (λ (one : ℕ × IndexSeries). one.0), length-map is.listed (λ (one : ℕ × IndexSeries). one.1)),
+      subst (All (IsFew index)) is.list_is (λ k d lt.
+          let at = listed_at is.listed k d lt in
+          subst (IsFew index) (sym at.2) (series_few index is.opened.symbols at.0.0 at.0.1 (is.series_are at.0.0 at.0.1 (k, at.1)))),
+    )
 
 -- ---- from a call's clauses
 

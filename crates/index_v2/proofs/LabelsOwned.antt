@@ -29,7 +29,7 @@ unfolding placed
 placed_last [] l all = refl
 placed_last (m ∷ ls) l all = rw (lt_from_less (compare_texts m.name l.name) all.0, placed_last ls l all.1) refl
 
-some_bytes : (text : List ℕ) → text ≢ [] → (length text == 0) ≡ false
+pub some_bytes : (text : List ℕ) → text ≢ [] → (length text == 0) ≡ false
 some_bytes [] h = absurd (h refl)
 some_bytes (b ∷ text) h = ne_eqb (suc (length text)) 0 (omega arith)
 

@@ -15,3 +15,4 @@ pub mod WholeLaws
 pub mod WholeAgain
 pub mod PostingsLaws
 pub mod FewLaws
+pub mod ValuesAgree

@@ -18,7 +18,7 @@ use Rattle.index_v2.specs.RowOrder.{compare_row, AreAscending, IsRowAt, StandsAt
 use Rattle.index_v2.specs.PostingsLists.{values_of}
 
 -- a row before another of two has no greater name
-name_le : (a b : Ordering) → ordering_then a b ≡ Less → (a ≡ Less) ⊎ ((a ≡ Equal) × (b ≡ Less))
+pub name_le : (a b : Ordering) → ordering_then a b ≡ Less → (a ≡ Less) ⊎ ((a ≡ Equal) × (b ≡ Less))
 name_le Less b e = inl refl
 name_le Equal b e = inr (refl, e)
 name_le Greater b e = absurd cc
@@ -54,7 +54,7 @@ not_less one other name less not_here lesser =
       | inr p ↦ let same : one.name ≡ other.name = same_text one.name other.name p.0 in not_here (ap (λ (n : List ℕ). compare_texts n name) same ∙ lesser)
     ]
 
-equal_not_less : (name : List ℕ) → compare_texts name name ≢ Less
+pub equal_not_less : (name : List ℕ) → compare_texts name name ≢ Less
 equal_not_less name e = let same = compare_self name in cc
 
 pub same_compare : (row other : PostingsRow) (name value : List ℕ) → other.name ≡ name → other.value ≡ value → compare_row row name value ≡ compare_rows row other

@@ -1,8 +1,8 @@
 -- An index of version 2, apart from reading and writing: which bytes hold which series.
-use Rattle.std.specs.Prelude.{◌≡◌, ◌≢◌, ◌⊎◌, ℕ, ◌*◌, ◌≤◌, ◌==◌, List, [], ◌∷◌, length, map, take, slice_get, Option, Some, None, MatchBool}
+use Rattle.std.specs.Prelude.{◌≡◌, ◌≢◌, ◌⊎◌, ℕ, ◌*◌, ◌<◌, ◌≤◌, ◌==◌, List, [], ◌∷◌, length, map, take, slice_get, Option, Some, None, MatchBool}
 use Rattle.std.specs.declared.cmp.Ordering.TheVariants.{Less}
 use Rattle.label_sets.specs.declared.label.Label.{Label}
-use Rattle.label_sets.specs.Labels.{IsLabelSet, compare_sets}
+use Rattle.label_sets.specs.Labels.{IsLabelSet, ComesBefore, compare_sets}
 use Rattle.index_parts.specs.declared.postings_row.PostingsRow.{PostingsRow}
 use Rattle.index_parts.specs.Contents.{IsToc}
 use Rattle.index_parts.specs.Symbols.{IsSymbols}
@@ -102,3 +102,11 @@ pub record IsIndex (index : List ℕ) (list : List IndexSeries) : Type 0 where
 pub record AreNumbersOf (listed : List (ℕ × IndexSeries)) (name value numbers : List ℕ) : Type 0 where
   pub only : (number : ℕ) → Has numbers number → (series : IndexSeries) × Has listed (number, series) × BelongsTo (record { name = name; value = value; offset = 0 }) series
   pub all : (number : ℕ) (series : IndexSeries) → Has listed (number, series) → BelongsTo (record { name = name; value = value; offset = 0 }) series → Has numbers number
+
+-- In an index of a list, these are the values under a name, ascending: exactly those for which the table has a row, and so
+-- each value that a listed series has under the name. A row may list no series. There is no value under an empty name.
+pub record AreValuesOf (rows : List PostingsRow) (list : List IndexSeries) (name : List ℕ) (values : List (List ℕ)) : Type 0 where
+  pub only : (value : List ℕ) → Has values value → (name ≢ []) × HasRow rows (record { name = name; value = value })
+  pub each : (value : List ℕ) → name ≢ [] → HasRow rows (record { name = name; value = value }) → Has values value
+  pub all : (series : IndexSeries) (value : List ℕ) → Has list series → Has series.labels (record { name = name; value = value }) → Has values value
+  pub ascend : (j k : ℕ) (one other : List ℕ) → j < k → slice_get values j ≡ Some one → slice_get values k ≡ Some other → ComesBefore one other

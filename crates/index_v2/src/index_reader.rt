@@ -46,7 +46,7 @@ impl<'a> Model for IndexReader<'a> {
 impl<'a> IndexReader<'a> {
     ghost use Rattle.std.specs.Prelude.{List};
     ghost use Rattle.index_v2.specs.Opened.{Opened};
-    ghost use Rattle.index_v2.specs.IndexFile.{IsOpened, IsSeriesOf, IsIndex, AreNumbersOf};
+    ghost use Rattle.index_v2.specs.IndexFile.{IsOpened, IsSeriesOf, IsIndex, AreNumbersOf, AreValuesOf};
     ghost use Rattle.index_v2.specs.declared.index_series.IndexSeries.{IndexSeries};
 
     /// Reads what an index begins and ends with, its symbols and its postings table.
@@ -135,6 +135,9 @@ impl<'a> IndexReader<'a> {
 
     /// The values that the table lists under a name, ascending.
     pub fn label_values(&self, alloc: Global, name: &str) -> Result<TextList, IndexRefusal>
+        // In an index of a list each value that a series has under the name is among them.
+        ensures agrees { (list : List IndexSeries) → IsIndex self.now.bytes list → IfOk result (λ values. AreValuesOf self.now.rows list name.now values) }
+
         ensures exact { MatchResult result (λ values. values ≡ values_of self.now.rows name.now) (λ e. e ≡ IndexRefusal.NoMemory) }
         ensures few { IfOk result (λ values. 4 * length values ≤ length self.now.bytes) }
     {

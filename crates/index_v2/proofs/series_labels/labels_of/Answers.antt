@@ -13,9 +13,11 @@ returns-in_err-label c =
     (labels_stop _ _ _ c.loop-place.before.now c.loop-place.place _ _ (map as_label c.loop-place.labels.items) _ c.loop-place.invariant.0 c.requires c.loop-place-test.true refl refl c.in_err-label.ensures)
 
 pub loop-place-preserved : goal.loop-place-preserved
-loop-place-preserved c =
-    (labels_step _ _ _ c.loop-place.before.now c.loop-place.place _ _ _ (map as_label c.loop-place.labels.items) _ _ c.loop-place.invariant.0 c.requires c.loop-place-test.true refl refl refl c.in_ok-label.ensures
-    (ap (map as_label) c.in_ok-push.ensures.items ∙ map_push as_label c.loop-place.labels.items c.in_ok-label.label), search rules)
+loop-place-preserved c = (
+  labels_step _ _ _ c.loop-place.before.now c.loop-place.place _ _ _ (map as_label c.loop-place.labels.items) _ _ c.loop-place.invariant.0 c.requires c.loop-place-test.true refl refl refl c.in_ok-label.ensures
+      (ap (map as_label) c.in_ok-push.ensures.items ∙ map_push as_label c.loop-place.labels.items c.in_ok-label.label),
+  search rules,
+)
 
 pub returns : goal.returns
 returns c = labels_end _ _ _ _ _ _ c.loop-place.invariant.0 c.loop-place-test.false
