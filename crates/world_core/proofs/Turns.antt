@@ -7,7 +7,7 @@ use Rattle.world_core.specs.declared.op.Op.{Op}
 use Rattle.world_core.specs.declared.seen.Seen.{Seen}
 use Rattle.world_core.specs.declared.entry.Entry.{Entry}
 use Rattle.world_core.specs.declared.driven.Driven.{Driven}
-use Rattle.world_core.specs.declared.driven.Driven.TheVariants.{Stopped}
+use Rattle.world_core.specs.declared.driven.Driven.TheVariants.{Stopped, Full}
 
 -- the machine has asked for an operation after these entries, and its stop was not reached yet
 pub record Waiting {M E : Type 0} (may : M → List Entry → Option E → M → Type 0) (asked : M → Option Op) (seat last : ℕ) (first : M) (old : List Entry) (op : Op) (answered : ℕ) (now : M) (new : List Entry) : Type 0 where
@@ -31,8 +31,8 @@ count_before made last answered before missed small above = let b = before above
 
 module _ {M E : Type 0} (may : M → List Entry → Option E → M → Type 0) (asked : M → Option Op) (seat last : ℕ) (first : M) (old : List Entry) (op : Op) (answered : ℕ) (now : M) (new : List Entry) (w : Waiting may asked seat last first old op answered now new) where
   -- a drive that was not stopped, after one more entry
-  pub ends : (stop : Option ℕ) (driven : Driven E) (seen : Seen) (later : List Entry) → last ≡ unwrap_or stop 0 → later ≡ new ++ entry_of seat op seen ∷ [] → (min (answered + 1) 4294967295 ≡ last → ⊥) → last < 4294967296 → (then : M) → may now (entry_of seat op seen ∷ []) (end_of driven) then → ((n : ℕ) → driven ≡ Stopped n → ⊥) → Drives (λ made end. may first made end then) seat stop driven old later
-  ends stop driven seen later is_last added missed small then run other =
+  pub ends : (stop : Option ℕ) (driven : Driven E) (seen : Seen) (later : List Entry) → last ≡ unwrap_or stop 0 → later ≡ new ++ entry_of seat op seen ∷ [] → (min (answered + 1) 4294967295 ≡ last → ⊥) → last < 4294967296 → (then : M) → may now (entry_of seat op seen ∷ []) (end_of driven) then → ((n : ℕ) → driven ≡ Stopped n → ⊥) → (driven ≡ Full → ⊥) → Drives (λ made end. may first made end then) seat stop driven old later
+  ends stop driven seen later is_last added missed small then run other room =
       let e = entry_of seat op seen in
       let longer = length-append w.made (e ∷ []) in
       record {
@@ -42,6 +42,7 @@ module _ {M E : Type 0} (may : M → List Entry → Option E → M → Type 0) (
         seats = All-push (λ x. x.seat ≡ seat) w.made e w.seats refl;
         stopped = λ n. (λ is. absurd (other n is), λ h. let l = number_of stop last n is_last h.0 in let k = count_before (length w.made) last answered w.before missed small (omega (arith, h.1)) in absurd (omega (arith, h.2, k.1)));
         within = λ n is above. let l = number_of stop last n is_last is in let k = count_before (length w.made) last answered w.before missed small (omega arith) in omega (arith, k.1);
+        waits = λ is. absurd (room is);
       }
 
   -- a drive that was stopped
@@ -59,6 +60,7 @@ module _ {M E : Type 0} (may : M → List Entry → Option E → M → Type 0) (
         seats = All-push (λ x. x.seat ≡ seat) w.made e w.seats refl;
         stopped = λ n. (λ other. let same : last ≡ n = cc (is, other) in (stop_of stop last is_last above ∙ ap Some same, omega (arith, same), reaches ∙ same), λ h. is ∙ ap (λ m. Stopped m) (number_of stop last n is_last h.0));
         within = λ n is_n above_n. let l = number_of stop last n is_last is_n in omega (arith, reaches);
+        waits = λ full. absurd (cc (is, full));
       }
 
   -- a drive that goes on

@@ -64,6 +64,12 @@ abbrev pub is_driven_full : {E : Type 0} → Driven E → Bool
 is_driven_full outcome.Full = true
 is_driven_full other = false
 
+-- A run of a seat waits for an operation: with an entry of it, however it is answered, the run goes on.
+pub record Awaits {E : Type 0} (is_run : List Entry → Option E → Type 0) (seat : ℕ) (made : List Entry) : Type 0 where
+  pub op : Op
+  pub lawful : IsLawful op
+  pub more : (seen : Seen) → IsAnswer op seen → is_run (made ++ entry_of seat op seen ∷ []) None
+
 -- A drive took a hand's entries from `old` to `new`: what was made is, with the drive's end, a run.
 pub record Drives {E : Type 0} (is_run : List Entry → Option E → Type 0) (seat : ℕ) (stop : Option ℕ) (driven : Driven E) (old new : List Entry) : Type 0 where
   pub made : List Entry
@@ -73,3 +79,5 @@ pub record Drives {E : Type 0} (is_run : List Entry → Option E → Type 0) (se
   -- it stops as soon as the operation of that number is answered, and never else
   pub stopped : (n : ℕ) → (driven ≡ outcome.Stopped n) ↔ ((stop ≡ Some n) × (0 < n) × (length made ≡ n))
   pub within : (n : ℕ) → stop ≡ Some n → 0 < n → length made ≤ n
+  -- where the journal took no more entries, the run had not come to its end
+  pub waits : driven ≡ outcome.Full → Awaits is_run seat made

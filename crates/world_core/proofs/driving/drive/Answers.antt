@@ -15,7 +15,7 @@ returns-in-Ok-Done-step-clause-run g c =
     (c.in-Done.ensures.entries ∙ ap (λ s. g.H.Hand.entries c.turns.hand ++ entry_of s c.turns.op c.in-Done.seen ∷ []) c.turns.invariant.seat)
     (λ e. omega arith) (omega arith) _
     (rw c.in-Ok-Done-step.field-0-is at (c.in-Ok-Done-step.ensures.goes_on (g.H.Hand.seat c.args.hand.now) c.turns.op c.turns.invariant.waiting.asks.waits))
-    (λ n e. cc)
+    (λ n e. cc) (λ e. cc)
 
 pub returns-in-Err-step-clause-run : goal.returns-in-Err-step-clause-run
 returns-in-Err-step-clause-run g c =
@@ -23,7 +23,7 @@ returns-in-Err-step-clause-run g c =
     (c.in-Done.ensures.entries ∙ ap (λ s. g.H.Hand.entries c.turns.hand ++ entry_of s c.turns.op c.in-Done.seen ∷ []) c.turns.invariant.seat)
     (λ e. omega arith) (omega arith) _
     (c.in-Err-step.ensures.goes_on (g.H.Hand.seat c.args.hand.now) c.turns.op c.turns.invariant.waiting.asks.waits)
-    (λ n e. cc)
+    (λ n e. cc) (λ e. cc)
 
 pub turns-preserved : goal.turns-preserved
 turns-preserved g c = record {
