@@ -126,7 +126,7 @@ module _ (script : Script) (lawful : IsLawfulScript script) where
       (sym (workers_at script number phase at))
       (phase_came script gateways (seats_before script number) phase.tasks no_views no_views [] first (few_gateways script lawful) (room script number phase lawful at) same)
 
-  runs : (number : ℕ) (views : Views) (phases : List Phase) (entries : List Entry) (ends : List (List End)) → ((k : ℕ) (p : Phase) → slice_get phases k ≡ Some p → slice_get script.phases (number + k) ≡ Some p)
+  pub runs : (number : ℕ) (views : Views) (phases : List Phase) (entries : List Entry) (ends : List (List End)) → ((k : ℕ) (p : Phase) → slice_get phases k ≡ Some p → slice_get script.phases (number + k) ≡ Some p)
       → PhasesInLine script number views phases entries ends → PhasesRun script number views phases entries (by_workers (gateway_count script.gateways) phases ends)
   unfolding by_workers
   runs number views [] entries ends same run = (run.0, refl)

@@ -5,11 +5,11 @@ use Rattle.label_sets.specs.declared.series.Series.{Series}
 use Rattle.world_core.specs.Standing.{IsHonest}
 use Rattle.store_gateway.specs.declared.series_end.SeriesEnd.TheVariants as ended
 use Rattle.script_core.specs.Hands.{workers_of}
-use Rattle.script_core.specs.Lawful.{IsLawfulScript}
 use Rattle.script_core.specs.declared.phase.Phase.{Phase}
 use Rattle.script_core.specs.declared.task.Task.{Task}
 use Rattle.script_core.specs.declared.work.Work.TheVariants as work
-use Rattle.lifecycle_core.specs.Phases.{IsRunOf, CameTo}
+use Rattle.lifecycle_core.specs.Causes.{AreMissesExplained, AreUndamaged}
+use Rattle.lifecycle_core.specs.Phases.{CameTo}
 use Rattle.lifecycle_core.specs.Tasks.{End, answered}
 use Rattle.lifecycle_core.specs.TimeRules.{IsUploadedInTime, IsSyncedInTime}
 use Rattle.label_sets.specs.Triples.{Triple}
@@ -74,13 +74,18 @@ pub record IsSyncOf (journal : List Entry) (used : Use) (entries : List Entry) :
   pub seat : All (λ e. e.seat ≡ first.seat) entries
   pub within : entries ≡ filter (λ e. (e.seat == first.seat) && (nat_le used.view.first e.seq && nat_le e.seq used.last)) journal
 
--- The statement about every query that a lawful and honest journal shows to be answered: it is exact, it names complete
--- uploads, and where blocks were uploaded in time and the sync did not last too long, it leaves none out.
-abbrev pub IsGuaranteed : Script → List Entry → Type 0
-IsGuaranteed script journal =
-    (ends : List (List (List End))) (query : Answered) → IsLawfulScript script → IsRunOf script journal ends → IsHonest journal → IsGiven script ends query
-    → IsExact script query
-    × NamesUploads script journal query
-    × (((ulid : ℕ) → IsUploadedInTime script.rules ulid journal)
-    → ((used : Use) (entries : List Entry) → Contains query.uses used → IsSyncOf journal used entries → IsSyncedInTime script.rules entries)
-    → LeavesNoneOut script journal query)
+-- What an answered query is worth: it is exact, it names complete uploads, and where blocks were uploaded in time and the syncs
+-- of its views did not last too long, it leaves none out.
+pub record IsSound (script : Script) (journal : List Entry) (query : Answered) : Type 0 where
+  pub exact : IsExact script query
+  pub named : NamesUploads script journal query
+  pub covered : ((ulid : ℕ) → IsUploadedInTime script.rules ulid journal)
+      → ((used : Use) (entries : List Entry) → Contains query.uses used → IsSyncOf journal used entries → IsSyncedInTime script.rules entries)
+      → LeavesNoneOut script journal query
+
+-- The statement about a run that came to these ends. A missing object is explained by the journal, whatever the bucket does. Where
+-- the bucket is honest, nothing is found damaged, and each answered query is sound.
+pub record IsGuaranteed (script : Script) (journal : List Entry) (ends : List (List (List End))) : Type 0 where
+  pub explained : AreMissesExplained script journal ends
+  pub undamaged : IsHonest journal → AreUndamaged ends
+  pub sound : IsHonest journal → (query : Answered) → IsGiven script ends query → IsSound script journal query

@@ -6,4 +6,6 @@ pub mod Tasks
 pub mod Phases
 pub mod InLine
 pub mod TimeRules
+pub mod Breaches
+pub mod Causes
 pub mod Guarantees

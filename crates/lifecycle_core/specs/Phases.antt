@@ -1,9 +1,12 @@
 -- The lawful journals of a script: which runs stand in them, and in which order.
 use Rattle.std.specs.Prelude.{◌≡◌, ◌≢◌, ◌⊎◌, ◌+◌, ◌==◌, ℕ, List, [], ◌∷◌, ◌++◌, length, map, filter, All, Contains, Option, Some, None, slice_get}
 use Rattle.std.specs.List.{AllZip, zip}
+use Rattle.world_core.specs.Operations.{IsAnswer, IsLawful, entry_of}
 use Rattle.world_core.specs.Worlds.{IsJournal}
 use Rattle.world_core.specs.declared.entry.Entry.{Entry}
+use Rattle.world_core.specs.declared.op.Op.{Op}
 use Rattle.world_core.specs.declared.op.Op.TheVariants.{Clock}
+use Rattle.world_core.specs.declared.seen.Seen.{Seen}
 use Rattle.script_core.specs.Hands.{workers_of}
 use Rattle.script_core.specs.declared.phase.Phase.{Phase}
 use Rattle.script_core.specs.declared.script.Script.{Script}
@@ -95,3 +98,10 @@ AreFinished script number (phase ∷ phases) (first ∷ later) = AreDone (worker
 abbrev pub AreUnfinished : Script → ℕ → List (List (List End)) → Type 0
 AreUnfinished script number [] = Unit {0}
 AreUnfinished script number (own ∷ ends) = (¬ AreDone (workers_of script number) own) × (ends ≡ [])
+
+-- An operation is due in the phase after those that came to these ends: whatever the reply to it, the journal with its entry is
+-- that of runs of the script, which have begun no further phase.
+abbrev pub IsOperationDue : Script → List Entry → List (List (List End)) → Type 0
+IsOperationDue script journal told =
+    (seat : ℕ) × (op : Op) × IsLawful op
+    × ((seen : Seen) → IsAnswer op seen → (own : List (List End)) × PhasesRun script 0 no_views script.phases (journal ++ entry_of seat op seen ∷ []) (told ++ own ∷ []))

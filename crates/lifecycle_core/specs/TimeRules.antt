@@ -1,11 +1,15 @@
 -- The rules of time under which a run has to stay, so that no block is deleted while somebody still reads it. A script's
 -- rules say how long each delay is; a journal shows whether they were kept.
-use Rattle.std.specs.Prelude.{◌≡◌, ◌+◌, ◌≤◌, ℕ, List, ◌∷◌, All, Contains}
+use Rattle.std.specs.Prelude.{◌≡◌, ◌+◌, ◌*◌, ◌≤◌, ℕ, List, ◌∷◌, All, Contains, IsTrue}
 use Rattle.block_keys.specs.Keys.{key_ulid}
 use Rattle.block_keys.specs.declared.key.Key.{Key}
 use Rattle.block_keys.specs.declared.key.Key.TheVariants.{Mark}
+use Rattle.block_meta.specs.MetaFields.{MarkFields}
+use Rattle.block_meta.specs.MetaText.{IsMarkText}
 use Rattle.moment_core.specs.declared.rules.Rules.{Rules}
+use Rattle.meta_fetcher.specs.declared.view.View.{View}
 use Rattle.sync_filters.specs.Filters.{time_of}
+use Rattle.world_core.specs.Standing.{has_landed}
 use Rattle.world_core.specs.declared.op.Op.TheVariants.{Put}
 use Rattle.world_core.specs.declared.entry.Entry.{Entry}
 
@@ -23,7 +27,21 @@ abbrev pub IsUploadedInTime : Rules → ℕ → List Entry → Type 0
 IsUploadedInTime rules ulid journal =
     All (λ e. PutsObject ulid e → (time_of ulid ≤ e.moment.ms) × (e.moment.ms ≤ time_of ulid + rules.upload.ms)) journal
 
+-- the entry puts a deletion mark of the block that tells this second, and the put has landed
+abbrev pub PutsMark : ℕ → ℕ → Entry → Type 0
+PutsMark ulid second e =
+    (bytes : List ℕ) × (mark : MarkFields) × (e.op ≡ Put (Mark ulid) bytes) × IsTrue (has_landed e.reply) × IsMarkText bytes mark × (mark.deletion_time ≡ second)
+
+-- A block's mark lands within the ignore delay from the second on that it tells.
+abbrev pub IsMarkedInTime : Rules → ℕ → List Entry → Type 0
+IsMarkedInTime rules ulid journal = All (λ e. (second : ℕ) → PutsMark ulid second e → e.moment.ms ≤ 1000 * second + rules.ignore.ms) journal
+
 -- A sync reads no longer than the ignore delay, less the second to which marks are rounded.
 abbrev pub IsSyncedInTime : Rules → List Entry → Type 0
 IsSyncedInTime rules entries =
     (first last : Entry) (others : List Entry) → entries ≡ first ∷ others → Contains entries last → last.moment.ms + 1000 ≤ first.moment.ms + rules.ignore.ms
+
+-- A series call reads the blocks of a view while the view is young: no mark that its sync passed over can have led to a deletion
+-- before the delete delay, less the ignore delay, has gone by from the sync's beginning.
+abbrev pub IsReadInTime : Rules → View → Entry → Type 0
+IsReadInTime rules view e = e.moment.ms + rules.ignore.ms ≤ view.begin.ms + rules.delete.ms

@@ -5,6 +5,7 @@ use Rattle.std.specs.List.{All, list_all}
 use Rattle.std.proofs.lemmas.List.{append-nil, length-append}
 use Rattle.std.proofs.lemmas.Option.{slice_get_within, get_or_from_slice_get}
 use Rattle.world_core.specs.Keeping.{IsFull}
+use Rattle.world_core.specs.Operations.{entry_of}
 use Rattle.world_core.specs.Worlds.{IsJournal}
 use Rattle.world_core.specs.declared.entry.Entry.{Entry}
 use Rattle.store_gateway.specs.declared.gateway.Gateway.{Gateway}
@@ -15,16 +16,17 @@ use Rattle.script_core.specs.declared.worker.Worker.{Worker}
 use Rattle.script_core.specs.declared.phase.Phase.{Phase}
 use Rattle.script_core.specs.declared.script.Script.{Script}
 use Rattle.script_core.specs.declared.task.Task.{Task}
-use Rattle.lifecycle_core.specs.InLine.{InLine, IsInLine, PhasesInLine, seat_of}
-use Rattle.lifecycle_core.specs.Phases.{AreUnfinished, BeginsPhase, IsLawfulJournal}
+use Rattle.lifecycle_core.specs.InLine.{InLine, IsInLine, PhasesInLine, duties_from, seat_of}
+use Rattle.lifecycle_core.specs.Phases.{AreUnfinished, BeginsPhase, IsLawfulJournal, IsOperationDue, PhasesRun}
 use Rattle.lifecycle_core.specs.Tasks.{End}
 use Rattle.lifecycle_core.specs.Views.{Views, no_views}
 use Rattle.lifecycle_core.proofs.Joined.{no_phase_yet}
-use Rattle.lifecycle_core.proofs.RunsInLine.{AreWhole, by_none, by_parts, by_workers, finished, own_came, own_undone, run_of, workers_at}
+use Rattle.lifecycle_core.proofs.PhaseRuns.{ends_of}
+use Rattle.lifecycle_core.proofs.RunsInLine.{AreWhole, by_none, by_parts, by_workers, finished, own_came, own_undone, run_of, runs, workers_at}
 use Rattle.replay_cli.specs.Outcomes.{PhasesCame}
-use Rattle.replay_cli.specs.Progress.{HasRun, IsBrokenAt, IsUnfinished, PhaseStep, PhasesTold, Reached, Shows, RunCame, TasksBroken, TasksDone, TasksTold, duties_at}
+use Rattle.replay_cli.specs.Progress.{HasRun, IsBrokenAt, IsDueAt, IsDueInLine, IsUnfinished, PhaseStep, PhasesTold, Reached, Shows, RunCame, TasksBroken, TasksDone, TasksTold, duties_at}
 use Rattle.replay_cli.specs.Reports.{is_as_asked}
-use Rattle.replay_cli.specs.Verdicts.{IsFullRun, IsWholeRun, report_of, tasks_of}
+use Rattle.replay_cli.specs.Verdicts.{IsFullRun, IsWholeRun, WhereBegun, report_of, tasks_of}
 use Rattle.replay_cli.specs.declared.came.Broken.{Broken}
 use Rattle.replay_cli.specs.declared.came.Broken.TheVariants as broken
 use Rattle.replay_cli.specs.declared.outcome.Outcome.{Outcome}
@@ -49,6 +51,10 @@ front_at [] (suc n) k phase at = absurd (cc (at))
 front_at (p ∷ ps) zero k phase at = absurd (cc (at))
 front_at (p ∷ ps) (suc n) zero phase at = at
 front_at (p ∷ ps) (suc n) (suc k) phase at = front_at ps n k phase at
+
+-- the ends of one phase by worker, from those by duty
+abbrev last_by : ℕ → Phase → List End → List (List End)
+last_by gateways phase own = ends_of (duties_from gateways 0 phase.tasks) own (hands_of gateways phase.tasks)
 
 whole_front : (phases : List Phase) → take (length phases) phases ≡ phases
 whole_front [] = refl
@@ -127,10 +133,23 @@ module _ (script : Script) (place : ℕ) (phase : Phase) (shown : List Gateway) 
       subst (λ (es : List Entry). PhasesInLine script 0 no_views script.phases es (r.ends ++ own ∷ later)) e (r.onward (clock ∷ made ++ rest) (own ∷ later) here)
 
   -- the phase was broken off
-  broken_run : (clock : Entry) (new : List Entry) (why : Broken) → BeginsPhase phase clock → (r : Reached script place shown journal as_asked text)
-      → (t : TasksBroken script (seat_of (workers_of script place)) phase.tasks r.views (journal ++ clock ∷ []) new why) → PhasesInLine script 0 no_views script.phases new (r.ends ++ t.ends ∷ [])
-  broken_run clock new why begins r t =
-      subst (λ (es : List Entry). PhasesInLine script 0 no_views script.phases es (r.ends ++ t.ends ∷ [])) (append-nil new) (begun r clock t.made [] t.ends [] t.after new begins t.run (inl (refl, refl)) t.entries)
+  broken_run : (clock : Entry) (new made : List Entry) (ends : List End) (after : Views) → BeginsPhase phase clock → (r : Reached script place shown journal as_asked text)
+      → InLine script (seat_of (workers_of script place)) r.views (duties_at script 0 phase.tasks) made ends after → new ≡ (journal ++ clock ∷ []) ++ made → PhasesInLine script 0 no_views script.phases new (r.ends ++ ends ∷ [])
+  broken_run clock new made ends after begins r run same =
+      subst (λ (es : List Entry). PhasesInLine script 0 no_views script.phases es (r.ends ++ ends ∷ [])) (append-nil new) (begun r clock made [] ends [] after new begins run (inl (refl, refl)) same)
+
+  -- an operation that is due in its tasks is due in the run
+  broken_due : (clock : Entry) (new made : List Entry) → BeginsPhase phase clock → (r : Reached script place shown journal as_asked text)
+      → IsDueInLine script (seat_of (workers_of script place)) r.views (duties_at script 0 phase.tasks) made → new ≡ (journal ++ clock ∷ []) ++ made → IsDueAt script new r.ends
+  broken_due clock new made begins r due same = (
+    due.0,
+    due.1,
+    due.2,
+    λ seen answer.
+        let e = entry_of due.0 due.1 seen in
+        let next = due.3 seen answer in
+        (next.0, broken_run clock (new ++ e ∷ []) (made ++ e ∷ []) next.0 next.1 begins r next.2 (ap (λ (es : List Entry). es ++ e ∷ []) same ∙ append_assoc (journal ++ clock ∷ []) made (e ∷ []))),
+  )
 
   pub broken_off : (clock : Entry) (new : List Entry) → BeginsPhase phase clock → (r : Reached script place shown journal as_asked text)
       → ((v : Views) → Shows v shown → TasksBroken script (seat_of (workers_of script place)) phase.tasks v (journal ++ clock ∷ []) new broken.Full) → IsBrokenAt script place new as_asked text
@@ -139,8 +158,8 @@ module _ (script : Script) (place : ℕ) (phase : Phase) (shown : List Gateway) 
       record {
         ends = r.ends;
         unfinished = t.ends ∷ [];
-        short = subst (λ (ps : List Phase). IsUnfinished script ps (t.ends ∷ [])) (sym (drop_at script.phases place phase at)) (refl, t.short);
-        run = broken_run clock new broken.Full begins r t;
+        short = subst (λ (ps : List Phase). IsUnfinished script ps (t.ends ∷ []) (IsDueAt script new r.ends)) (sym (drop_at script.phases place phase at)) (refl, t.short.0, broken_due clock new t.made begins r t.short.1 t.entries);
+        run = broken_run clock new t.made t.ends t.after begins r t.run t.entries;
         outcomes = r.outcomes;
         told = r.told;
         lines = r.lines;
@@ -150,7 +169,7 @@ module _ (script : Script) (place : ℕ) (phase : Phase) (shown : List Gateway) 
   pub broken_short : (clock : Entry) (new : List Entry) → BeginsPhase phase clock → (r : Reached script place shown journal as_asked text)
       → ((v : Views) → Shows v shown → TasksBroken script (seat_of (workers_of script place)) phase.tasks v (journal ++ clock ∷ []) new broken.NoMemory) → HasRun script new
   broken_short clock new begins r tasks =
-      let t = tasks r.views r.shows in (r.ends ++ t.ends ∷ [], broken_run clock new broken.NoMemory begins r t)
+      let t = tasks r.views r.shows in (r.ends ++ t.ends ∷ [], broken_run clock new t.made t.ends t.after begins r t.run t.entries)
 
   -- the phase was done to its end
   pub reached_more : (clock : Entry) (new : List Entry) (gateways : List Gateway) (asked asked' : Bool) (own lines : List ℕ) → BeginsPhase phase clock → (r : Reached script place shown journal as_asked text)
@@ -244,15 +263,41 @@ front_length phases zero below = refl
 front_length [] (suc n) below = absurd (omega (arith, below))
 front_length (p ∷ ps) (suc n) below = ap suc (front_length ps n (omega (arith, below)))
 
-unfinished_left : (script : Script) → IsLawfulScript script → (place : ℕ) (left : List Phase) (ends : List (List End)) → ((k : ℕ) (p : Phase) → slice_get left k ≡ Some p → slice_get script.phases (place + k) ≡ Some p) → place < length script.phases
-    → IsUnfinished script left ends → AreUnfinished script (length (take place script.phases)) (by_workers (gateway_count script.gateways) left ends)
+unfinished_left : (script : Script) → IsLawfulScript script → (place : ℕ) (left : List Phase) (ends : List (List End)) (is_due : Type 0) → ((k : ℕ) (p : Phase) → slice_get left k ≡ Some p → slice_get script.phases (place + k) ≡ Some p) → place < length script.phases
+    → IsUnfinished script left ends is_due → AreUnfinished script (length (take place script.phases)) (by_workers (gateway_count script.gateways) left ends)
 unfolding by_workers
-unfinished_left script lawful place [] [] same below short = tt
-unfinished_left script lawful place [] (own ∷ ends) same below short = absurd short
-unfinished_left script lawful place (phase ∷ left) [] same below short = tt
-unfinished_left script lawful place (phase ∷ left) (own ∷ ends) same below short =
+unfinished_left script lawful place [] [] is_due same below short = tt
+unfinished_left script lawful place [] (own ∷ ends) is_due same below short = absurd short
+unfinished_left script lawful place (phase ∷ left) [] is_due same below short = tt
+unfinished_left script lawful place (phase ∷ left) (own ∷ ends) is_due same below short =
     let at : slice_get script.phases (length (take place script.phases)) ≡ Some phase = ap (slice_get script.phases) (omega (arith, front_length script.phases place below)) ∙ same 0 phase refl in
     (λ done. own_undone script lawful (length (take place script.phases)) phase own at short.1 done, ap (by_workers (gateway_count script.gateways) left) short.0 ∙ by_none (gateway_count script.gateways) left)
+
+-- what is due in line is due in the run, whose finished phases came to the ends that are told
+due_run : (script : Script) → IsLawfulScript script → (place : ℕ) (journal : List Entry) (ends : List (List End)) (phase : Phase) (left : List Phase) → drop place script.phases ≡ phase ∷ left → length ends ≡ length (take place script.phases)
+    → IsDueAt script journal ends → IsOperationDue script journal (by_workers (gateway_count script.gateways) (take place script.phases) ends)
+unfolding by_workers
+due_run script lawful place journal ends phase left are same due =
+    let gateways = gateway_count script.gateways in
+    let done = take place script.phases in
+    let parts : script.phases ≡ done ++ phase ∷ left = sym (take-append-drop place script.phases) ∙ ap (λ (ps : List Phase). done ++ ps) are in (
+      due.0,
+      due.1,
+      due.2,
+      λ seen answer.
+          let next = due.3 seen answer in
+          let run = runs script lawful 0 no_views script.phases (journal ++ entry_of due.0 due.1 seen ∷ []) (ends ++ next.0 ∷ []) (λ k p own. ap (slice_get script.phases) (omega arith) ∙ own) next.1 in
+          let told = ap (λ (ps : List Phase). by_workers gateways ps (ends ++ next.0 ∷ [])) parts ∙ by_parts gateways done (phase ∷ left) ends (next.0 ∷ []) same ∙ ap (λ l. by_workers gateways done ends ++ last_by gateways phase next.0 ∷ l) (by_none gateways left) in
+          (last_by gateways phase next.0, subst (PhasesRun script 0 no_views script.phases (journal ++ entry_of due.0 due.1 seen ∷ [])) told run),
+    )
+
+due_left : (script : Script) → IsLawfulScript script → (place : ℕ) (journal : List Entry) (ends : List (List End)) (left : List Phase) (unfinished : List (List End)) → drop place script.phases ≡ left → length ends ≡ length (take place script.phases)
+    → IsUnfinished script left unfinished (IsDueAt script journal ends) → WhereBegun (by_workers (gateway_count script.gateways) left unfinished) (IsOperationDue script journal (by_workers (gateway_count script.gateways) (take place script.phases) ends))
+unfolding by_workers
+due_left script lawful place journal ends [] [] are same short = tt
+due_left script lawful place journal ends [] (own ∷ more) are same short = absurd short
+due_left script lawful place journal ends (phase ∷ left) [] are same short = tt
+due_left script lawful place journal ends (phase ∷ left) (own ∷ more) are same short = due_run script lawful place journal ends phase left are same short.2
 
 pub full_run : (script : Script) (place : ℕ) (journal : List Entry) (as_asked : Bool) (text : List ℕ) → IsLawfulScript script → IsJournal script.rules.tick.ms journal → IsFull journal → place < length script.phases
     → IsBrokenAt script place journal as_asked text → IsFullRun script text journal
@@ -272,7 +317,8 @@ full_run script place journal as_asked text lawful kept full below b =
       told = by_workers gateways done b.ends;
       untold = by_workers gateways left b.unfinished;
       parts = ap (λ (ps : List Phase). by_workers gateways ps (b.ends ++ b.unfinished)) (sym (take-append-drop place script.phases)) ∙ by_parts gateways done left b.ends b.unfinished (told_ends script done b.ends b.outcomes b.told);
-      unfinished = unfinished_left script lawful place left b.unfinished (drop_front script.phases place) below b.short;
+      unfinished = unfinished_left script lawful place left b.unfinished (IsDueAt script journal b.ends) (drop_front script.phases place) below b.short;
+      due = due_left script lawful place journal b.ends left b.unfinished refl (told_ends script done b.ends b.outcomes b.told) b.short;
       finished = finished script lawful 0 done b.ends same (told_whole script done b.ends b.outcomes b.told);
       as_asked = as_asked;
       report = record { outcomes = b.outcomes; came = phases_came script lawful 0 done b.ends b.outcomes same b.told; lines = b.lines; flag = b.flag };

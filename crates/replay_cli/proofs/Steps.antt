@@ -7,7 +7,7 @@ use mir.Val.{SFits}
 use Rattle.std.specs.Prelude.{◌==◌, Option, Some, None, option_map, slice_get}
 use Rattle.std.specs.List.{All, range_with_len}
 use Rattle.std.proofs.Math.ListN.{set}
-use Rattle.std.proofs.lemmas.List.Elements.{All-nil}
+use Rattle.std.proofs.lemmas.List.Elements.{All-nil, All-push}
 use Rattle.std.proofs.lemmas.Bool.Decides.{nat_tests}
 use Rattle.std.proofs.lemmas.List.{append-nil}
 use Rattle.world_core.specs.declared.entry.Entry.{Entry}
@@ -30,10 +30,11 @@ use Rattle.script_core.specs.declared.work.Work.{Work}
 use Rattle.script_core.specs.declared.work.Work.TheVariants as works
 use Rattle.lifecycle_core.specs.Held.{declared}
 use Rattle.lifecycle_core.specs.InLine.{Duty, duties_from, InLine}
-use Rattle.lifecycle_core.specs.Tasks.{End, BlockUpload, QueryTask, TaskRun, answered, asked_by, sync_rules, synced, view_after, without_view}
+use Rattle.lifecycle_core.specs.Tasks.{End, BlockUpload, QueryTask, SyncTask, TaskRun, answered, asked_by, sync_rules, synced, view_after, without_view}
 use Rattle.lifecycle_core.specs.Views.{Use, Views, view_of, with_view}
 use Rattle.replay_cli.specs.Outcomes.{IsOutcome}
-use Rattle.replay_cli.specs.Progress.{Adds, CameBy, IsWhole, Shows, TaskStep, duties_at, view_by}
+use Rattle.world_core.specs.Operations.{entry_of}
+use Rattle.replay_cli.specs.Progress.{Adds, CameBy, IsDueAfter, IsDueInLine, IsWhole, Shows, TaskStep, WhenFull, duties_at, view_by}
 use Rattle.replay_cli.specs.declared.came.Came.{Came}
 use Rattle.replay_cli.specs.declared.came.Came.TheVariants as came
 use Rattle.replay_cli.specs.declared.outcome.Outcome.TheVariants as outcome
@@ -63,10 +64,37 @@ whole_by script place task duty None (came.To o) are by = absurd by
 whole_by script place task duty None came.Full are by = omega (arith, ap (length {A = Duty}) are)
 whole_by script place task duty None came.NoMemory are by = tt
 
+-- ---- what is due where the journal was full
+
+when_full : (came : Came) (P Q : Type 0) → (P → Q) → WhenFull came P → WhenFull came Q
+when_full (came.To o) P Q f holds = tt
+when_full came.Full P Q f holds = f holds
+when_full came.NoMemory P Q f holds = tt
+
+due_by : {E F : Type 0} (one : List Entry → E → Type 0) (other : List Entry → F → Type 0) (seat : ℕ) (made : List Entry) → ((es : List Entry) (e : E) → one es e → (f : F) × other es f)
+    → IsDueAfter one seat made → IsDueAfter other seat made
+due_by one other seat made runs d = (d.0, d.1, λ seen answer. let next = d.2 seen answer in runs (made ++ entry_of seat d.0 seen ∷ []) next.0 next.1)
+
+one_more : (seat : ℕ) (made : List Entry) (e : Entry) → All (λ (x : Entry). x.seat ≡ seat) made → e.seat ≡ seat → All (λ (x : Entry). x.seat ≡ seat) (made ++ e ∷ [])
+one_more seat made e seats own = All-push (λ (x : Entry). x.seat ≡ seat) made e seats own
+
+due_in_line : (script : Script) (seat : Hand → ℕ) (views : Views) (duty : Duty) (duties : List Duty) (made : List Entry) → duties ≡ duty ∷ [] → All (λ e. e.seat ≡ seat duty.hand) made
+    → IsDueAfter (TaskRun script (view_of views (gateway_of duty.hand)) duty.task.work) (seat duty.hand) made → IsDueInLine script seat views duties made
+due_in_line script seat views duty duties made are seats d =
+    subst (λ (ds : List Duty). IsDueInLine script seat views ds made) (sym are) (
+      seat duty.hand,
+      d.0,
+      d.1,
+      λ seen answer.
+          let e = entry_of (seat duty.hand) d.0 seen in
+          let next = d.2 seen answer in
+          (one_end next.0, after_end views duty.hand (made ++ e ∷ []) next.0, one_run script seat views duty (made ++ e ∷ []) next.0 (one_more (seat duty.hand) made e seats refl) next.1),
+    )
+
 -- a task that one worker does
 one_step : (script : Script) (seat : Hand → ℕ) (place : ℕ) (task : Task) (hand : Hand) (views : Views) (gateways : List Gateway) (old new : List Entry) (is_run : List Entry → Option End → Type 0) (end : Option End) (came : Came)
-    → duties_at script place (task ∷ []) ≡ record { place = place; hand = hand; task = task } ∷ [] → (a : Adds is_run (seat hand) old new end)
-    → ((made : List Entry) → is_run made end → TaskRun script (view_of views (gateway_of hand)) task.work made end) → Shows (after_end views hand a.made end) gateways → CameBy task.work end came
+    → duties_at script place (task ∷ []) ≡ record { place = place; hand = hand; task = task } ∷ [] → (a : Adds is_run (seat hand) old new end came)
+    → ((made : List Entry) (e : Option End) → is_run made e → TaskRun script (view_of views (gateway_of hand)) task.work made e) → Shows (after_end views hand a.made end) gateways → CameBy task.work end came
     → TaskStep script seat place task views gateways old new came
 one_step script seat place task hand views gateways old new is_run end came are a runs shows by =
     let duty : Duty = record { place = place; hand = hand; task = task } in
@@ -75,9 +103,12 @@ one_step script seat place task hand views gateways old new is_run end came are 
       entries = a.entries;
       ends = one_end end;
       after = after_end views hand a.made end;
-      run = subst (λ (ds : List Duty). InLine script seat views ds a.made (one_end end) (after_end views hand a.made end)) (sym are) (one_run script seat views duty a.made end a.seats (runs a.made a.run));
+      run = subst (λ (ds : List Duty). InLine script seat views ds a.made (one_end end) (after_end views hand a.made end)) (sym are) (one_run script seat views duty a.made end a.seats (runs a.made end a.run));
       shows = shows;
       whole = whole_by script place task duty end came are by;
+      due = when_full came (IsDueAfter is_run (seat hand) a.made) (IsDueInLine script seat views (duties_at script place (task ∷ [])) a.made)
+          (λ d. due_in_line script seat views duty (duties_at script place (task ∷ [])) a.made are a.seats
+          (due_by is_run (TaskRun script (view_of views (gateway_of hand)) task.work) (seat hand) a.made (λ es e run. (e, runs es e run)) d)) a.due;
     }
 
 one_duty : (script : Script) (place : ℕ) (task : Task) (hand : Hand) → hands_of_task (gateway_count script.gateways) place task.work ≡ hand ∷ []
@@ -93,13 +124,13 @@ upload_shows script views ulid place stop gateways made None shows = shows
 
 pub upload_step : (script : Script) (seat : Hand → ℕ) (place : ℕ) (task : Task) (views : Views) (gateways : List Gateway) (old new : List Entry) (came : Came) (ulid : ℕ) (stop : Option ℕ) (block : Block)
     → task.work ≡ works.Upload ulid stop → declared script ulid ≡ Some block
-    → (end : Option End) × Adds (BlockUpload block stop) (seat (hands.Upload place)) old new end × CameBy (works.Upload ulid stop) end came → Shows views gateways
+    → (end : Option End) × Adds (BlockUpload block stop) (seat (hands.Upload place)) old new end came × CameBy (works.Upload ulid stop) end came → Shows views gateways
     → TaskStep script seat place task views gateways old new came
 unfolding hands_of_task
 upload_step script seat place task views gateways old new came ulid stop block w is ran shows =
     one_step script seat place task (hands.Upload place) views gateways old new (BlockUpload block stop) ran.0 came
     (one_duty script place task (hands.Upload place) (ap (hands_of_task (gateway_count script.gateways) place) w)) ran.1
-    (λ made run. subst (λ (x : Work). TaskRun script None x made ran.0) (sym w) (block, is, run))
+    (λ made e run. subst (λ (x : Work). TaskRun script None x made e) (sym w) (block, is, run))
     (upload_shows script views ulid place stop gateways (ran.1).made ran.0 shows) (subst (λ (x : Work). CameBy x ran.0 came) (sym w) ran.2)
 
 -- ---- a sync
@@ -160,15 +191,22 @@ sync_shows views number made None gateways old gateway shows at is = kept_shows 
 
 pub sync_step : (script : Script) (seat : Hand → ℕ) (place : ℕ) (task : Task) (views : Views) (gateways : List Gateway) (old new : List Entry) (came : Came) (number : ℕ) (before gateway : Gateway)
     → task.work ≡ works.Sync number → slice_get gateways number ≡ Some before
-    → (end : Option SyncEnd) × Adds (SyncRun (sync_rules script.rules)) (seat (hands.Gateway number)) old new end × CameBy (works.Sync number) (option_map synced end) came × (gateway.view ≡ view_by before.view end)
+    → (end : Option SyncEnd) × Adds (SyncRun (sync_rules script.rules)) (seat (hands.Gateway number)) old new end came × CameBy (works.Sync number) (option_map synced end) came × (gateway.view ≡ view_by before.view end)
     → Shows views gateways → TaskStep script seat place task views (set gateways number gateway) old new came
 unfolding hands_of_task
 sync_step script seat place task views gateways old new came number before gateway w at ran shows =
     let a = ran.1 in
     one_step script seat place task (hands.Gateway number) views (set gateways number gateway) old new (λ made end. (own : Option SyncEnd) × SyncRun (sync_rules script.rules) made own × (end ≡ option_map synced own)) (option_map synced ran.0) came
     (one_duty script place task (hands.Gateway number) (ap (hands_of_task (gateway_count script.gateways) place) w))
-    (record { made = a.made; entries = a.entries; seats = a.seats; run = (ran.0, a.run, refl) })
-    (λ made run. subst (λ (x : Work). TaskRun script (views number) x made (option_map synced ran.0)) (sym w) run)
+    (record {
+      made = a.made;
+      entries = a.entries;
+      seats = a.seats;
+      run = (ran.0, a.run, refl);
+      due = when_full came (IsDueAfter (SyncRun (sync_rules script.rules)) (seat (hands.Gateway number)) a.made) (IsDueAfter (SyncTask script) (seat (hands.Gateway number)) a.made)
+          (due_by (SyncRun (sync_rules script.rules)) (SyncTask script) (seat (hands.Gateway number)) a.made (λ es end run. (option_map synced end, (end, run, refl)))) a.due;
+    })
+    (λ made e run. subst (λ (x : Work). TaskRun script (views number) x made e) (sym w) run)
     (sync_shows views number a.made ran.0 gateways before gateway shows at ran.3) (subst (λ (x : Work). CameBy x (option_map synced ran.0) came) (sym w) ran.2)
 
 -- ---- a query
@@ -196,6 +234,7 @@ unasked_step script seat place task views gateways journal low high selector w n
       run = subst (λ (ds : List Duty). InLine script seat views ds [] [] views) (sym are) (refl, refl, refl);
       shows = shows;
       whole = (sym (ap (length {A = Duty}) are), subst (λ (x : Work). IsOutcome x [] (outcome.Query (query.Answer [] []))) (sym w) refl);
+      due = tt;
     }
 
 one_asked : (script : Script) (place : ℕ) (task : Task) (low high : ℤ) (selector : ℕ) → task.work ≡ works.Query low high selector → gateway_count script.gateways ≡ 1
@@ -230,11 +269,11 @@ pub blind_step : (script : Script) (seat : Hand → ℕ) (place : ℕ) (task : T
     → TaskStep script seat place task views gateways journal journal (came.To (outcome.Query (query.NoAnswer 0 none.NoView)))
 blind_step script seat place task views gateways journal low high selector gateway w one at blind shows =
     let unseen : views 0 ≡ None = no_view (views 0) (shows 0 gateway at ∙ blind) in
-    let a : Adds (λ made end. (made ≡ []) × (end ≡ Some without_view)) (seat (hands.Gateway 0)) journal journal (Some without_view) =
-    record { made = []; entries = sym (append-nil journal); seats = All-nil (λ e. e.seat ≡ seat (hands.Gateway 0)); run = (refl, refl) } in
+    let a : Adds (λ made end. (made ≡ []) × (end ≡ Some without_view)) (seat (hands.Gateway 0)) journal journal (Some without_view) (came.To (outcome.Query (query.NoAnswer 0 none.NoView))) =
+    record { made = []; entries = sym (append-nil journal); seats = All-nil (λ e. e.seat ≡ seat (hands.Gateway 0)); run = (refl, refl); due = tt } in
     one_step script seat place task (hands.Gateway 0) views gateways journal journal (λ made end. (made ≡ []) × (end ≡ Some without_view)) (Some without_view) (came.To (outcome.Query (query.NoAnswer 0 none.NoView)))
     (one_asked script place task low high selector w one) a
-    (λ made run. subst (λ (x : Work). TaskRun script (views 0) x made (Some without_view)) (sym w) (subst (λ (v : Option Use). TaskRun script v (works.Query low high selector) made (Some without_view)) (sym unseen) (run.0, inr refl)))
+    (λ made e run. subst (λ (x : Work). TaskRun script (views 0) x made e) (sym w) (subst (λ (v : Option Use). TaskRun script v (works.Query low high selector) made e) (sym unseen) (run.0, inr run.1)))
     (kept_after script views [] (Some without_view) (λ e is. let q : without_view ≡ e = cc (is) in ap (view_after (views 0) []) (sym q)) gateways shows)
     (subst (λ (x : Work). CameBy x (Some without_view) (came.To (outcome.Query (query.NoAnswer 0 none.NoView)))) (sym w) refl)
 
@@ -253,18 +292,27 @@ call_run script used seen view low high selector matchers made end is same asked
 
 pub call_step : (script : Script) (seat : Hand → ℕ) (place : ℕ) (task : Task) (views : Views) (gateways : List Gateway) (old new : List Entry) (came : Came) (low high : ℤ) (selector : ℕ) (matchers : List Matcher) (gateway : Gateway) (view : View)
     → task.work ≡ works.Query low high selector → gateway_count script.gateways ≡ 1 → slice_get gateways 0 ≡ Some gateway → gateway.view ≡ Some view → slice_get script.selectors selector ≡ Some matchers
-    → ((used : Use) (low' high' : ℤ) (selector' : ℕ) → (end : Option SeriesEnd) × Adds (SeriesRun view (asking matchers script.rules.replicas low high)) (seat (hands.Gateway 0)) old new end
+    → ((used : Use) (low' high' : ℤ) (selector' : ℕ) → (end : Option SeriesEnd) × Adds (SeriesRun view (asking matchers script.rules.replicas low high)) (seat (hands.Gateway 0)) old new end came
     × CameBy (works.Query low' high' selector') (option_map (answered used) end) came)
     → Shows views gateways → TaskStep script seat place task views gateways old new came
 call_step script seat place task views gateways old new came low high selector matchers gateway view w one at sees asked ran shows =
     let seen = a_view (views 0) view (shows 0 gateway at ∙ sees) in
     let r = ran seen.0 low high selector in
     let a = r.1 in
-    one_step script seat place task (hands.Gateway 0) views gateways old new (λ made end. (own : Option SeriesEnd) × SeriesRun view (asking matchers script.rules.replicas low high) made own × (end ≡ option_map (answered seen.0) own)) (option_map (answered seen.0) r.0) came
+    let Calls : List Entry → Option SeriesEnd → Type 0 = SeriesRun view (asking matchers script.rules.replicas low high) in
+    let Asks : List Entry → Option End → Type 0 = λ made end. (own : Option SeriesEnd) × Calls made own × (end ≡ option_map (answered seen.0) own) in
+    one_step script seat place task (hands.Gateway 0) views gateways old new Asks (option_map (answered seen.0) r.0) came
     (one_asked script place task low high selector w one)
-    (record { made = a.made; entries = a.entries; seats = a.seats; run = (r.0, a.run, refl) })
-    (λ made run. subst (λ (x : Work). TaskRun script (views 0) x made (option_map (answered seen.0) r.0)) (sym w)
-    (call_run script seen.0 (views 0) view low high selector matchers made (option_map (answered seen.0) r.0) seen.1 seen.2 asked run))
+    (record {
+      made = a.made;
+      entries = a.entries;
+      seats = a.seats;
+      run = (r.0, a.run, refl);
+      due = when_full came (IsDueAfter Calls (seat (hands.Gateway 0)) a.made) (IsDueAfter Asks (seat (hands.Gateway 0)) a.made)
+          (due_by Calls Asks (seat (hands.Gateway 0)) a.made (λ es end run. (option_map (answered seen.0) end, (end, run, refl)))) a.due;
+    })
+    (λ made e run. subst (λ (x : Work). TaskRun script (views 0) x made e) (sym w)
+    (call_run script seen.0 (views 0) view low high selector matchers made e seen.1 seen.2 asked run))
     (kept_after script views a.made (option_map (answered seen.0) r.0) (λ e is. answered_keeps (views 0) a.made seen.0 r.0 e is) gateways shows)
     (subst (λ (x : Work). CameBy x (option_map (answered seen.0) r.0) came) (sym w) r.2)
 
@@ -290,12 +338,12 @@ answered_nothing script seat place task views gateways journal series sources on
 
 -- numbers that were passed on are the same
 pub asked_told : (view : View) (matchers : List Matcher) (replicas : List (List ℕ)) (low low' high high' : ℤ) (seat seat' : ℕ) (old new : List Entry) (used : Use) (line_low line_high : ℤ) (number : ℕ) (came : Came) → low ≡ low' → high ≡ high' → seat ≡ seat'
-    → (end : Option SeriesEnd) × Adds (SeriesRun view (asking matchers replicas low high)) seat old new end × CameBy (works.Query line_low line_high number) (option_map (answered used) end) came
-    → (end : Option SeriesEnd) × Adds (SeriesRun view (asking matchers replicas low' high')) seat' old new end × CameBy (works.Query line_low line_high number) (option_map (answered used) end) came
+    → (end : Option SeriesEnd) × Adds (SeriesRun view (asking matchers replicas low high)) seat old new end came × CameBy (works.Query line_low line_high number) (option_map (answered used) end) came
+    → (end : Option SeriesEnd) × Adds (SeriesRun view (asking matchers replicas low' high')) seat' old new end came × CameBy (works.Query line_low line_high number) (option_map (answered used) end) came
 asked_told view matchers replicas low low' high high' seat seat' old new used line_low line_high number came l h s ran =
-    subst (λ (x : ℤ). (end : Option SeriesEnd) × Adds (SeriesRun view (asking matchers replicas x high')) seat' old new end × CameBy (works.Query line_low line_high number) (option_map (answered used) end) came) l
-    (subst (λ (x : ℤ). (end : Option SeriesEnd) × Adds (SeriesRun view (asking matchers replicas low x)) seat' old new end × CameBy (works.Query line_low line_high number) (option_map (answered used) end) came) h
-    (subst (λ (x : ℕ). (end : Option SeriesEnd) × Adds (SeriesRun view (asking matchers replicas low high)) x old new end × CameBy (works.Query line_low line_high number) (option_map (answered used) end) came) s ran))
+    subst (λ (x : ℤ). (end : Option SeriesEnd) × Adds (SeriesRun view (asking matchers replicas x high')) seat' old new end came × CameBy (works.Query line_low line_high number) (option_map (answered used) end) came) l
+    (subst (λ (x : ℤ). (end : Option SeriesEnd) × Adds (SeriesRun view (asking matchers replicas low x)) seat' old new end came × CameBy (works.Query line_low line_high number) (option_map (answered used) end) came) h
+    (subst (λ (x : ℕ). (end : Option SeriesEnd) × Adds (SeriesRun view (asking matchers replicas low high)) x old new end came × CameBy (works.Query line_low line_high number) (option_map (answered used) end) came) s ran))
 
 -- the range of a lawful query fits its numbers
 pub fits_range : (z : ℤ) → neg_ℤ (pos (2 ^ 62)) ≤ℤ z → z ≤ℤ pos (2 ^ 62) → SFits w64 z

@@ -3,6 +3,7 @@ use Rattle.std.proofs.Common.{◌≡◌, ℕ, zero, suc, ◌+◌, ◌<◌, ◌�
 use Rattle.std.specs.Prelude.{Result, Ok, Err, MatchResult, OnErr, OnOk}
 use Rattle.std.specs.List.{All, AllZip, list_all}
 use Rattle.std.proofs.lemmas.List.{append-nil, length-append, length-map, take_more}
+use Rattle.world_core.specs.Operations.{entry_of}
 use Rattle.world_core.specs.declared.entry.Entry.{Entry}
 use Rattle.store_gateway.specs.declared.gateway.Gateway.{Gateway}
 use Rattle.script_core.specs.Hands.{gateway_count, gateway_of, hands_of_task}
@@ -20,7 +21,7 @@ use Rattle.lifecycle_core.proofs.RunsInLine.{may_begin}
 use Rattle.lifecycle_core.proofs.TaskRuns.{MayBegin}
 use Rattle.std.proofs.lemmas.List.Elements.{All-tail}
 use Rattle.replay_cli.specs.Outcomes.{IsOutcome, TasksCame}
-use Rattle.replay_cli.specs.Progress.{Shows, TaskStep, TasksBroken, TasksDone, TasksTold, duties_at}
+use Rattle.replay_cli.specs.Progress.{IsDueInLine, Shows, TaskStep, TasksBroken, TasksDone, TasksTold, duties_at}
 use Rattle.replay_cli.specs.Reports.{activity_text, is_as_asked}
 use Rattle.replay_cli.specs.Verdicts.{report_of}
 use Rattle.replay_cli.specs.declared.came.Broken.TheVariants as broken
@@ -96,12 +97,12 @@ module _ (script : Script) (seat : Hand → ℕ) (place : ℕ) (tasks : List Tas
   front_more = take_more tasks place task within ∙ ap (λ (t : Task). take place tasks ++ t ∷ []) (sym is)
 
   -- the runs of both
-  both_run : (d : TasksDone script seat (take place tasks) views shown start mid as_asked text) (came : Came) (s : TaskStep script seat place task d.after gateways mid new came)
-      → InLine script seat views (duties_at script 0 (take (place + 1) tasks)) (d.made ++ s.made) (d.ends ++ s.ends) s.after
-  both_run d came s =
+  both_run : (d : TasksDone script seat (take place tasks) views shown start mid as_asked text) (made : List Entry) (ends : List End) (after : Views)
+      → InLine script seat d.after (duties_at script place (task ∷ [])) made ends after → InLine script seat views (duties_at script 0 (take (place + 1) tasks)) (d.made ++ made) (d.ends ++ ends) after
+  both_run d made ends after run =
       let whole = told_length script 0 (take place tasks) d.ends d.outcomes d.told in
-      subst (λ (ds : List Duty). InLine script seat views ds (d.made ++ s.made) (d.ends ++ s.ends) s.after) (sym (duties_more (gateway_count script.gateways) place tasks task within is))
-      (both script seat views d.after s.after (duties_at script 0 (take place tasks)) (duties_at script place (task ∷ [])) d.made s.made d.ends s.ends d.run whole s.run)
+      subst (λ (ds : List Duty). InLine script seat views ds (d.made ++ made) (d.ends ++ ends) after) (sym (duties_more (gateway_count script.gateways) place tasks task within is))
+      (both script seat views d.after after (duties_at script 0 (take place tasks)) (duties_at script place (task ∷ [])) d.made made d.ends ends d.run whole run)
 
   both_entries : (one other : List Entry) → mid ≡ start ++ one → new ≡ mid ++ other → new ≡ start ++ (one ++ other)
   both_entries one other first later = later ∙ ap (λ (l : List Entry). l ++ other) first ∙ append_assoc start one other
@@ -133,7 +134,7 @@ module _ (script : Script) (seat : Hand → ℕ) (place : ℕ) (tasks : List Tas
         entries = both_entries d.made s.made d.entries s.entries;
         ends = d.ends ++ s.ends;
         after = s.after;
-        run = both_run d (came.To o) s;
+        run = both_run d s.made s.ends s.after s.run;
         shows = s.shows;
         outcomes = d.outcomes ++ o ∷ [];
         told = subst (λ (ts : List Task). TasksTold script 0 ts (d.ends ++ s.ends) (d.outcomes ++ o ∷ [])) (sym front_more) told;
@@ -141,19 +142,36 @@ module _ (script : Script) (seat : Hand → ℕ) (place : ℕ) (tasks : List Tas
         flag = flag ∙ ap (λ b. b && is_as_asked o) d.flag ∙ sym (all_append d.outcomes (o ∷ []) ∙ ap (λ b. list_all is_as_asked d.outcomes && b) (last_flag (is_as_asked o)));
       }
 
-  cut_run : (came : Came) → All (λ t. MayBegin script t.work) (drop (place + 1) tasks) → (d : TasksDone script seat (take place tasks) views shown start mid as_asked text) (s : TaskStep script seat place task d.after gateways mid new came)
-      → InLine script seat views (duties_at script 0 tasks) (d.made ++ s.made) (d.ends ++ s.ends) s.after
-  cut_run came begin d s =
-      subst (λ (ds : List Duty). InLine script seat views ds (d.made ++ s.made) (d.ends ++ s.ends) s.after) (sym (duties_parts (gateway_count script.gateways) (place + 1) tasks))
-      (cut script seat views s.after (duties_at script 0 (take (place + 1) tasks)) (duties_from (gateway_count script.gateways) (0 + length (take (place + 1) tasks)) (drop (place + 1) tasks)) (d.made ++ s.made) (d.ends ++ s.ends)
-      (duties_begin script (gateway_count script.gateways) (0 + length (take (place + 1) tasks)) (drop (place + 1) tasks) begin) (both_run d came s))
+  cut_run : All (λ t. MayBegin script t.work) (drop (place + 1) tasks) → (d : TasksDone script seat (take place tasks) views shown start mid as_asked text) (made : List Entry) (ends : List End) (after : Views)
+      → InLine script seat d.after (duties_at script place (task ∷ [])) made ends after → InLine script seat views (duties_at script 0 tasks) (d.made ++ made) (d.ends ++ ends) after
+  cut_run begin d made ends after run =
+      subst (λ (ds : List Duty). InLine script seat views ds (d.made ++ made) (d.ends ++ ends) after) (sym (duties_parts (gateway_count script.gateways) (place + 1) tasks))
+      (cut script seat views after (duties_at script 0 (take (place + 1) tasks)) (duties_from (gateway_count script.gateways) (0 + length (take (place + 1) tasks)) (drop (place + 1) tasks)) (d.made ++ made) (d.ends ++ ends)
+      (duties_begin script (gateway_count script.gateways) (0 + length (take (place + 1) tasks)) (drop (place + 1) tasks) begin) (both_run d made ends after run))
+
+  -- an operation that is due in the task is due in all of them
+  cut_due : All (λ t. MayBegin script t.work) (drop (place + 1) tasks) → (d : TasksDone script seat (take place tasks) views shown start mid as_asked text) (made : List Entry)
+      → IsDueInLine script seat d.after (duties_at script place (task ∷ [])) made → IsDueInLine script seat views (duties_at script 0 tasks) (d.made ++ made)
+  cut_due begin d made due = (
+    due.0,
+    due.1,
+    due.2,
+    λ seen answer.
+        let e = entry_of due.0 due.1 seen in
+        let next = due.3 seen answer in (
+          d.ends ++ next.0,
+          next.1,
+          subst (λ (es : List Entry). InLine script seat views (duties_at script 0 tasks) es (d.ends ++ next.0) next.1) (sym (append_assoc d.made made (e ∷ [])))
+              (cut_run begin d (made ++ e ∷ []) next.0 next.1 next.2),
+        ),
+  )
 
   -- broken off for want of memory
   pub cut_short : (came : Came) → All (λ t. MayBegin script t.work) (drop (place + 1) tasks) → (d : TasksDone script seat (take place tasks) views shown start mid as_asked text)
       → ((v : Views) → Shows v shown → TaskStep script seat place task v gateways mid new came) → TasksBroken script seat tasks views start new broken.NoMemory
   cut_short came begin d step =
       let s = step d.after d.shows in
-      record { made = d.made ++ s.made; entries = both_entries d.made s.made d.entries s.entries; ends = d.ends ++ s.ends; after = s.after; run = cut_run came begin d s; short = tt }
+      record { made = d.made ++ s.made; entries = both_entries d.made s.made d.entries s.entries; ends = d.ends ++ s.ends; after = s.after; run = cut_run begin d s.made s.ends s.after s.run; short = tt }
 
   too_few : (d : TasksDone script seat (take place tasks) views shown start mid as_asked text) (own : List End) → length own < length (duties_at script place (task ∷ [])) → length (d.ends ++ own) < length (duties_at script 0 tasks)
   too_few d own less =
@@ -174,7 +192,7 @@ module _ (script : Script) (seat : Hand → ℕ) (place : ℕ) (tasks : List Tas
       → ((v : Views) → Shows v shown → TaskStep script seat place task v gateways mid new came.Full) → TasksBroken script seat tasks views start new broken.Full
   cut_full begin d step =
       let s = step d.after d.shows in
-      record { made = d.made ++ s.made; entries = both_entries d.made s.made d.entries s.entries; ends = d.ends ++ s.ends; after = s.after; run = cut_run came.Full begin d s; short = too_few d s.ends s.whole }
+      record { made = d.made ++ s.made; entries = both_entries d.made s.made d.entries s.entries; ends = d.ends ++ s.ends; after = s.after; run = cut_run begin d s.made s.ends s.after s.run; short = (too_few d s.ends s.whole, cut_due begin d s.made s.due) }
 
 take_none : (tasks : List Task) → take 0 tasks ≡ []
 take_none [] = refl

@@ -1,9 +1,11 @@
 -- What a drive of an upload leaves.
-use Rattle.std.proofs.Common.{◌≡◌, ◌≢◌, ◌⊎◌, ℕ, ◌<◌, ◌≤◌, List, [], length, refl, sym, subst, inl, inr, arith}
-use Rattle.std.specs.Prelude.{◌↔◌, Option, Some, None, option_map}
+use Rattle.std.proofs.Common.{◌≡◌, ◌≢◌, ◌⊎◌, ℕ, ◌+◌, ◌<◌, ◌≤◌, Bool, true, false, List, [], ◌∷◌, ◌++◌, length, length-append, refl, sym, subst, inl, inr, arith}
+use Rattle.std.specs.Prelude.{◌↔◌, ◌==◌, Option, Some, None, option_map}
+use Rattle.std.proofs.lemmas.Bool.Decides.{nat_tests}
 use Rattle.std.proofs.lemmas.List.{append-nil}
 use Rattle.std.proofs.lemmas.List.Elements.{All-nil}
-use Rattle.world_core.specs.Machines.{Drives, end_of}
+use Rattle.world_core.specs.Machines.{Awaits, Drives, end_of}
+use Rattle.world_core.specs.Operations.{entry_of}
 use Rattle.world_core.specs.declared.driven.Driven.{Driven}
 use Rattle.world_core.specs.declared.driven.Driven.TheVariants.{Ended, Stopped, Full, NoMemory}
 use Rattle.world_core.specs.declared.entry.Entry.{Entry}
@@ -17,7 +19,7 @@ use Rattle.lifecycle_core.specs.Shipped.{IsShipped}
 use Rattle.lifecycle_core.specs.Tasks.{End, BlockUpload, IsBefore, IsStop, stopped, uploaded}
 use Rattle.lifecycle_core.proofs.TaskRuns.{built_by}
 use Rattle.replay_cli.specs.Drives.{upload_came}
-use Rattle.replay_cli.specs.Progress.{Adds, CameBy}
+use Rattle.replay_cli.specs.Progress.{Adds, CameBy, IsDueAfter, WhenFull}
 use Rattle.replay_cli.specs.declared.came.Came.{Came}
 use Rattle.replay_cli.specs.declared.came.Came.TheVariants as came
 
@@ -48,29 +50,73 @@ came_by ulid stop (Stopped n) = refl
 came_by ulid stop Full = tt
 came_by ulid stop NoMemory = tt
 
+-- ---- where the journal was full
+
+-- how an upload that its stop has not stopped goes on with an entry: it is stopped now, or it is not
+abbrev GoesOn : Option ℕ → List Entry → Type 0
+GoesOn stop made = (end : Option End) × (((end ≡ option_map uploaded None) × IsBefore stop made) ⊎ IsStop stop made end)
+
+goes_to : (n : ℕ) (made : List Entry) (e : Entry) (b : Bool) → (length made + 1 == n) ≡ b → (0 < n → length made < n) → GoesOn (Some n) (made ++ e ∷ [])
+goes_to n made e true is below =
+    let m = length-append made (e ∷ []) in
+    let same : length made + 1 ≡ n = grind (arith, nat_tests) in
+    (Some (stopped n), inr (n, refl, omega (arith, same), omega (arith, m, same), refl))
+goes_to n made e false is below =
+    let m = length-append made (e ∷ []) in
+    let differ : length made + 1 ≢ n = λ q. absurd (grind (arith, nat_tests, q, is)) in
+    (None, inl (refl, λ k same above. let l : n ≡ k = cc (same) in let b = below (omega (arith, l, above)) in omega (arith, m, differ, b, l)))
+
+goes_on : (stop : Option ℕ) (made : List Entry) (e : Entry) → IsBefore stop made → GoesOn stop (made ++ e ∷ [])
+goes_on None made e before = (None, inl (refl, λ n same. absurd (cc (same))))
+goes_on (Some n) made e before = goes_to n made e (length made + 1 == n) refl (before n refl)
+
+upload_due : (is_run : List Entry → Option UploadEnd → Type 0) (block : Block) (objects : List Object) (stop : Option ℕ) (seat : ℕ) (driven : Driven UploadEnd) (made : List Entry)
+    → IsShipped block objects → ((es : List Entry) (end : Option UploadEnd) → is_run es end → UploadRun block.ulid objects es end) → (driven ≡ Full → Awaits is_run seat made) → (driven ≡ Full → IsBefore stop made)
+    → WhenFull (upload_came driven) (IsDueAfter (BlockUpload block stop) seat made)
+upload_due is_run block objects stop seat (Ended end) made shipped runs due before = tt
+upload_due is_run block objects stop seat (Stopped n) made shipped runs due before = tt
+upload_due is_run block objects stop seat Full made shipped runs due before =
+    let d = due refl in (
+      d.op,
+      d.lawful,
+      λ seen answer. let on = goes_on stop made (entry_of seat d.op seen) (before refl) in
+          (on.0, (objects, None, shipped, runs (made ++ entry_of seat d.op seen ∷ []) None (d.more seen answer), on.1)),
+    )
+upload_due is_run block objects stop seat NoMemory made shipped runs due before = tt
+
+full_before : (stop : Option ℕ) (driven : Driven UploadEnd) (made : List Entry)
+    → ((n : ℕ) → (driven ≡ Stopped n) ↔ ((stop ≡ Some n) × (0 < n) × (length made ≡ n))) → ((n : ℕ) → stop ≡ Some n → 0 < n → length made ≤ n) → driven ≡ Full → IsBefore stop made
+full_before stop driven made stops within full = before_stop stop driven made (λ n e. absurd (cc (e, full))) stops within
+
 -- An upload of a block's objects that was driven is a run of the block's upload.
 pub upload_driven : (is_run : List Entry → Option UploadEnd → Type 0) (block : Block) (objects : List Object) (stop : Option ℕ) (seat : ℕ) (driven : Driven UploadEnd) (old new : List Entry) (ulid : ℕ)
     → IsShipped block objects → ((made : List Entry) (end : Option UploadEnd) → is_run made end → UploadRun block.ulid objects made end) → Drives is_run seat stop driven old new
-    → (end : Option End) × Adds (BlockUpload block stop) seat old new end × CameBy (works.Upload ulid stop) end (upload_came driven)
+    → (end : Option End) × Adds (BlockUpload block stop) seat old new end (upload_came driven) × CameBy (works.Upload ulid stop) end (upload_came driven)
 upload_driven is_run block objects stop seat driven old new ulid shipped runs d = (
   upload_end driven,
-  record { made = d.made; entries = d.entries; seats = d.seats; run = (objects, end_of driven, shipped, runs d.made (end_of driven) d.run, stops_at stop driven d.made d.stopped d.within) },
+  record {
+    made = d.made;
+    entries = d.entries;
+    seats = d.seats;
+    run = (objects, end_of driven, shipped, runs d.made (end_of driven) d.run, stops_at stop driven d.made d.stopped d.within);
+    due = upload_due is_run block objects stop seat driven d.made shipped runs d.waits (full_before stop driven d.made d.stopped d.within);
+  },
   came_by ulid stop driven,
 )
 
 -- where nothing was done
 pub nothing_shipped : (block : Block) (stop : Option ℕ) (seat : ℕ) (journal : List Entry) (ulid : ℕ) → IsLawfulBlock block
-    → (end : Option End) × Adds (BlockUpload block stop) seat journal journal end × CameBy (works.Upload ulid stop) end came.NoMemory
+    → (end : Option End) × Adds (BlockUpload block stop) seat journal journal end came.NoMemory × CameBy (works.Upload ulid stop) end came.NoMemory
 nothing_shipped block stop seat journal ulid lawful =
     let b = built_by block block.body lawful.body in
-    (None, record { made = []; entries = sym (append-nil journal); seats = All-nil (λ e. e.seat ≡ seat); run = (b.0, None, b.1, refl, inl (refl, λ n s above. above)) }, tt)
+    (None, record { made = []; entries = sym (append-nil journal); seats = All-nil (λ e. e.seat ≡ seat); run = (b.0, None, b.1, refl, inl (refl, λ n s above. above)); due = tt }, tt)
 
 -- the same, as a call's values tell it
 pub upload_told : (is_run : List Entry → Option UploadEnd → Type 0) (block : Block) (objects : List Object) (stop : Option ℕ) (seat seat' : ℕ) (driven : Driven UploadEnd) (old old' new new' : List Entry) (came : Came) (ulid : ℕ)
     → seat' ≡ seat → old' ≡ old → new ≡ new' → came ≡ upload_came driven
     → IsShipped block objects → ((made : List Entry) (end : Option UploadEnd) → is_run made end → UploadRun block.ulid objects made end) → Drives is_run seat' stop driven old' new'
-    → (end : Option End) × Adds (BlockUpload block stop) seat old new end × CameBy (works.Upload ulid stop) end came
+    → (end : Option End) × Adds (BlockUpload block stop) seat old new end came × CameBy (works.Upload ulid stop) end came
 upload_told is_run block objects stop seat seat' driven old old' new new' came ulid s o n c shipped runs d =
-    subst (λ (x : Came). (end : Option End) × Adds (BlockUpload block stop) seat old new end × CameBy (works.Upload ulid stop) end x) (sym c)
+    subst (λ (x : Came). (end : Option End) × Adds (BlockUpload block stop) seat old new end x × CameBy (works.Upload ulid stop) end x) (sym c)
     (upload_driven is_run block objects stop seat driven old new ulid shipped runs
     (subst (λ (x : ℕ). Drives is_run x stop driven old new) s (subst (λ (x : List Entry). Drives is_run seat' stop driven x new) o (subst (λ (x : List Entry). Drives is_run seat' stop driven old' x) (sym n) d))))

@@ -1,7 +1,10 @@
 -- How far a run in the order of the lines has come, as the contracts of its parts say it.
 use Rattle.std.specs.Prelude.{◌≡◌, ℕ, ◌+◌, ◌<◌, Bool, List, [], ◌∷◌, ◌++◌, length, take, drop, All, Option, Some, None, option_map, slice_get, Result, Ok, Err}
 use Rattle.std.specs.List.{list_all}
+use Rattle.world_core.specs.Operations.{IsAnswer, IsLawful, entry_of}
 use Rattle.world_core.specs.declared.entry.Entry.{Entry}
+use Rattle.world_core.specs.declared.op.Op.{Op}
+use Rattle.world_core.specs.declared.seen.Seen.{Seen}
 use Rattle.meta_fetcher.specs.declared.sync_end.SyncEnd.{SyncEnd}
 use Rattle.meta_fetcher.specs.declared.sync_end.SyncEnd.TheVariants as fetched
 use Rattle.meta_fetcher.specs.declared.view.View.{View}
@@ -26,12 +29,23 @@ use Rattle.replay_cli.specs.declared.outcome.Outcome.{Outcome}
 
 -- ---- one task
 
+-- what holds where an operation was answered that the journal is full
+abbrev pub WhenFull : Came → Type 0 → Type 0
+WhenFull (came.To o) P = Unit {0}
+WhenFull came.Full P = P
+WhenFull came.NoMemory P = Unit {0}
+
+-- An operation of the seat is due in a run that made these entries: whatever the reply to it, its entry goes on with the run.
+abbrev pub IsDueAfter : {E : Type 0} → (List Entry → E → Type 0) → ℕ → List Entry → Type 0
+IsDueAfter {E} is_run seat made = (op : Op) × IsLawful op × ((seen : Seen) → IsAnswer op seen → (end : E) × is_run (made ++ entry_of seat op seen ∷ []) end)
+
 -- entries that one seat added, which with this end are such a run
-pub record Adds {E : Type 0} (is_run : List Entry → E → Type 0) (seat : ℕ) (old new : List Entry) (end : E) : Type 0 where
+pub record Adds {E : Type 0} (is_run : List Entry → E → Type 0) (seat : ℕ) (old new : List Entry) (end : E) (came : Came) : Type 0 where
   pub made : List Entry
   pub entries : new ≡ old ++ made
   pub seats : All (λ e. e.seat ≡ seat) made
   pub run : is_run made end
+  pub due : WhenFull came (IsDueAfter is_run seat made)
 
 -- A task that one worker does comes to its end, or breaks off without one.
 abbrev pub CameBy : Work → Option End → Came → Type 0
@@ -61,6 +75,12 @@ IsWhole script place task ends (came.To o) = (length ends ≡ length (duties_at 
 IsWhole script place task ends came.Full = length ends < length (duties_at script place (task ∷ []))
 IsWhole script place task ends came.NoMemory = Unit {0}
 
+-- An operation is due after these entries of duties: whatever the reply to it, its entry goes on with them.
+abbrev pub IsDueInLine : Script → (Hand → ℕ) → Views → List Duty → List Entry → Type 0
+IsDueInLine script seat views duties made =
+    (at : ℕ) × (op : Op) × IsLawful op
+    × ((seen : Seen) → IsAnswer op seen → (ends : List End) × (after : Views) × InLine script seat views duties (made ++ entry_of at op seen ∷ []) ends after)
+
 -- a task's entries and what it came to
 pub record TaskStep (script : Script) (seat : Hand → ℕ) (place : ℕ) (task : Task) (views : Views) (gateways : List Gateway) (old new : List Entry) (came : Came) : Type 0 where
   pub made : List Entry
@@ -70,6 +90,7 @@ pub record TaskStep (script : Script) (seat : Hand → ℕ) (place : ℕ) (task 
   pub run : InLine script seat views (duties_at script place (task ∷ [])) made ends after
   pub shows : Shows after gateways
   pub whole : IsWhole script place task ends came
+  pub due : WhenFull came (IsDueInLine script seat views (duties_at script place (task ∷ [])) made)
 
 -- ---- the tasks of a phase
 
@@ -94,10 +115,10 @@ pub record TasksDone (script : Script) (seat : Hand → ℕ) (tasks : List Task)
   pub lines : text ≡ report_of script tasks outcomes
   pub flag : as_asked ≡ list_all is_as_asked outcomes
 
--- where the journal is full, some duty has no end
-abbrev pub IsShort : Broken → List End → List Duty → Type 0
-IsShort broken.Full ends duties = length ends < length duties
-IsShort broken.NoMemory ends duties = Unit {0}
+-- where the journal is full, some duty has no end, and an operation is due
+abbrev pub IsShort : Broken → List End → List Duty → Type 0 → Type 0
+IsShort broken.Full ends duties is_due = (length ends < length duties) × is_due
+IsShort broken.NoMemory ends duties is_due = Unit {0}
 
 -- tasks that were broken off
 pub record TasksBroken (script : Script) (seat : Hand → ℕ) (tasks : List Task) (views : Views) (old new : List Entry) (why : Broken) : Type 0 where
@@ -106,7 +127,7 @@ pub record TasksBroken (script : Script) (seat : Hand → ℕ) (tasks : List Tas
   pub ends : List End
   pub after : Views
   pub run : InLine script seat views (duties_at script 0 tasks) made ends after
-  pub short : IsShort why ends (duties_at script 0 tasks)
+  pub short : IsShort why ends (duties_at script 0 tasks) (IsDueInLine script seat views (duties_at script 0 tasks) made)
 
 -- ---- phases
 
@@ -129,17 +150,23 @@ pub record Reached (script : Script) (place : ℕ) (gateways : List Gateway) (jo
   pub lines : text ≡ report_of script (tasks_of (take place script.phases)) outcomes
   pub flag : as_asked ≡ list_all is_as_asked outcomes
 
--- of the phases left, none was begun, or the first one alone, and not to its end
-abbrev pub IsUnfinished : Script → List Phase → List (List End) → Type 0
-IsUnfinished script left [] = Unit {0}
-IsUnfinished script [] (own ∷ ends) = ⊥
-IsUnfinished script (phase ∷ left) (own ∷ ends) = (ends ≡ []) × (length own < length (duties_at script 0 phase.tasks))
+-- An operation is due in the phase after those of these ends.
+abbrev pub IsDueAt : Script → List Entry → List (List End) → Type 0
+IsDueAt script journal ends =
+    (at : ℕ) × (op : Op) × IsLawful op
+    × ((seen : Seen) → IsAnswer op seen → (own : List End) × PhasesInLine script 0 no_views script.phases (journal ++ entry_of at op seen ∷ []) (ends ++ own ∷ []))
+
+-- Of the phases left, none was begun, or the first one alone, and not to its end: an operation is due in it.
+abbrev pub IsUnfinished : Script → List Phase → List (List End) → Type 0 → Type 0
+IsUnfinished script left [] is_due = Unit {0}
+IsUnfinished script [] (own ∷ ends) is_due = ⊥
+IsUnfinished script (phase ∷ left) (own ∷ ends) is_due = (ends ≡ []) × (length own < length (duties_at script 0 phase.tasks)) × is_due
 
 -- a run that was broken off in the phase at a place, or before that phase was begun
 pub record IsBrokenAt (script : Script) (place : ℕ) (journal : List Entry) (as_asked : Bool) (text : List ℕ) : Type 0 where
   pub ends : List (List End)
   pub unfinished : List (List End)
-  pub short : IsUnfinished script (drop place script.phases) unfinished
+  pub short : IsUnfinished script (drop place script.phases) unfinished (IsDueAt script journal ends)
   pub run : PhasesInLine script 0 no_views script.phases journal (ends ++ unfinished)
   pub outcomes : List Outcome
   pub told : PhasesTold script (take place script.phases) ends outcomes

@@ -13,7 +13,7 @@ use Rattle.script_core.specs.declared.phase.Phase.{Phase}
 use Rattle.script_core.specs.declared.script.Script.{Script}
 use Rattle.script_core.specs.declared.task.Task.{Task}
 use Rattle.lifecycle_core.specs.InLine.{IsInLine}
-use Rattle.lifecycle_core.specs.Phases.{AreFinished, AreUnfinished, IsLawfulJournal, IsRunOf}
+use Rattle.lifecycle_core.specs.Phases.{AreFinished, AreUnfinished, IsLawfulJournal, IsOperationDue, IsRunOf}
 use Rattle.lifecycle_core.specs.Tasks.{End}
 use Rattle.replay_cli.specs.Kept.{HoldsNothing}
 use Rattle.replay_cli.specs.Outcomes.{PhasesCame}
@@ -74,8 +74,13 @@ pub record IsWholeRun (script : Script) (as_asked : Bool) (text : List ℕ) (jou
   pub finished : AreFinished script 0 script.phases ends
   pub report : IsReport script script.phases ends as_asked text
 
+-- what holds where a phase was begun after those that are told
+abbrev pub WhereBegun : List (List (List End)) → Type 0 → Type 0
+WhereBegun [] P = Unit {0}
+WhereBegun (own ∷ ends) P = P
+
 -- The journal is that of a run which the full journal broke off: some first phases are finished, and the text is their
--- report; of the phases left, at most the first one was begun, and some task of it has not come to its end.
+-- report; of the phases left, none was begun, or the first one alone, and an operation of it is due.
 pub record IsFullRun (script : Script) (text : List ℕ) (journal : List Entry) : Type 0 where
   pub ends : List (List (List End))
   pub run : IsRunOf script journal ends
@@ -88,6 +93,7 @@ pub record IsFullRun (script : Script) (text : List ℕ) (journal : List Entry) 
   pub untold : List (List (List End))
   pub parts : ends ≡ told ++ untold
   pub unfinished : AreUnfinished script (length done) untold
+  pub due : WhereBegun untold (IsOperationDue script journal told)
   pub finished : AreFinished script 0 done told
   pub as_asked : Bool
   pub report : IsReport script done told as_asked text

@@ -37,7 +37,7 @@ pub(crate) fn upload<B: Bucket>(
 ) -> (Came, World<B>)
     requires { IsLawfulBlock block.now }
     ensures full { result.0 ≡ Came.Full → IsFull result.1.journal }
-    ensures ran { (ulid : ℕ) → (end : Option End) × Adds (BlockUpload block.now stop) seat world.journal result.1.journal end × CameBy (works.Upload ulid stop) end result.0 }
+    ensures ran { (ulid : ℕ) → (end : Option End) × Adds (BlockUpload block.now stop) seat world.journal result.1.journal end result.0 × CameBy (works.Upload ulid stop) end result.0 }
     ensures tick { result.1.tick ≡ world.tick }
 {
     let Ok(objects) = objects_of(alloc, block) else {
@@ -84,7 +84,7 @@ pub(crate) fn sync<B: Bucket>(
 ) -> (Came, World<B>)
     requires { 1 ≤ rules.now.page_limit }
     ensures full { result.0 ≡ Came.Full → IsFull result.1.journal }
-    ensures ran { (place : ℕ) → (end : Option SyncEnd) × Adds (SyncRun (sync_rules rules.now)) seat world.journal result.1.journal end
+    ensures ran { (place : ℕ) → (end : Option SyncEnd) × Adds (SyncRun (sync_rules rules.now)) seat world.journal result.1.journal end result.0
         × CameBy (works.Sync place) (option_map synced end) result.0 × (gateway.new.view ≡ view_by gateway.old.view end) }
     ensures tick { result.1.tick ≡ world.tick }
 {
@@ -146,7 +146,7 @@ pub(crate) fn call<B: Bucket>(
 ) -> (Came, World<B>)
     ensures full { result.0 ≡ Came.Full → IsFull result.1.journal }
     ensures ran { (used : Use) (line_low line_high : ℤ) (number : ℕ) → (end : Option SeriesEnd)
-        × Adds (SeriesRun view.now (asking selector.now rules.now.replicas low high)) seat world.journal result.1.journal end
+        × Adds (SeriesRun view.now (asking selector.now rules.now.replicas low high)) seat world.journal result.1.journal end result.0
         × CameBy (works.Query line_low line_high number) (option_map (answered used) end) result.0 }
     ensures tick { result.1.tick ≡ world.tick }
 {

@@ -16,3 +16,8 @@ each_on P front (e ∷ entries) each on =
 
 pub each_of : (P : List Entry → Entry → Type 0) (entries : List Entry) → EachAfter P [] entries → Each P entries
 each_of P entries on = each_on P [] entries (Each-none P) on
+
+pub each_after : (P : List Entry → Entry → Type 0) (before one other : List Entry) → EachAfter P before one → EachAfter P (before ++ one) other → EachAfter P before (one ++ other)
+each_after P before [] other first rest = subst (λ es. EachAfter P es other) (append-nil before) rest
+each_after P before (e ∷ one) other first rest =
+    (first.0, each_after P (before ++ e ∷ []) one other first.1 (subst (λ es. EachAfter P es other) (sym (append_assoc before (e ∷ []) one)) rest))

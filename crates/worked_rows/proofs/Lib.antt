@@ -14,3 +14,7 @@ pub mod Texts
 pub mod OneLater
 pub mod OneRefused
 pub mod OneInTime
+pub mod Ends
+pub mod Lies
+pub mod OneUnbroken
+pub mod OneGuaranteed

@@ -1,22 +1,22 @@
 -- The run of the script of one block keeps the rules of time, and its query leaves no block out.
-use Rattle.std.proofs.Common.{◌≡◌, ◌+◌, ◌≤◌, ◌==◌, ℕ, Bool, true, false, cond, [], ◌∷◌, Some, None, is_some, refl, ap, subst, arith, lit<, lit≤}
+use Rattle.std.proofs.Common.{◌≡◌, ◌+◌, ◌*◌, ◌≤◌, ◌==◌, ℕ, All, Bool, true, false, cond, [], ◌∷◌, Some, None, is_some, refl, ap, subst, arith, lit<, lit≤}
 use Rattle.std.proofs.lemmas.Bool.Decides.{nat_tests}
 use Rattle.std.proofs.lemmas.List.Elements.{All-contains, All-from_recursion}
 use Rattle.block_keys.specs.declared.key.Key.TheVariants as key
 use Rattle.sync_filters.specs.Filters.{time_of}
 use Rattle.world_core.specs.declared.entry.Entry.{Entry}
 use Rattle.lifecycle_core.specs.Guarantees.{IsSyncOf, LeavesNoneOut}
-use Rattle.lifecycle_core.specs.TimeRules.{PutsObject, IsUploadedInTime, IsSyncedInTime}
+use Rattle.lifecycle_core.specs.TimeRules.{PutsMark, PutsObject, IsMarkedInTime, IsReadInTime, IsUploadedInTime, IsSyncedInTime}
 use Rattle.worked_rows.specs.SmallBlock as small
 use Rattle.worked_rows.specs.Entries.{absent, found, listed}
 use Rattle.worked_rows.specs.OneBlock as one
 
 -- ---- uploads
 
-abbrev InTime : ℕ → Entry → Type 0
+abbrev pub InTime : ℕ → Entry → Type 0
 InTime ulid e = PutsObject ulid e → (time_of ulid ≤ e.moment.ms) × (e.moment.ms ≤ time_of ulid + 1_800_000)
 
-in_time : (ulid moment : ℕ) → moment ≤ 1_800_000 → small.a ≡ ulid → (time_of ulid ≤ moment) × (moment ≤ time_of ulid + 1_800_000)
+pub in_time : (ulid moment : ℕ) → moment ≤ 1_800_000 → small.a ≡ ulid → (time_of ulid ≤ moment) × (moment ≤ time_of ulid + 1_800_000)
 in_time ulid moment early same = subst (λ u. (time_of u ≤ moment) × (moment ≤ time_of u + 1_800_000)) same (omega arith, omega (arith, early))
 
 pub uploaded_in_time : (ulid : ℕ) → IsUploadedInTime one.script.rules ulid one.journal
@@ -58,6 +58,26 @@ synced_in_time first last others is among =
     let from : 1_800_001 ≡ first.moment.ms = ap (λ (e : Entry). e.moment.ms) begins in
     let until : last.moment.ms ≤ 1_800_003 = All-contains (λ (e : Entry). e.moment.ms ≤ 1_800_003) one.sync last (All-from_recursion (λ (e : Entry). e.moment.ms ≤ 1_800_003) one.sync (lit≤ tt, (lit≤ tt, (lit≤ tt, tt)))) among in
     omega (arith, from, until)
+
+-- ---- marks and reads
+
+pub marked_in_time : (ulid : ℕ) → IsMarkedInTime one.script.rules ulid one.journal
+marked_in_time ulid = All-from_recursion (λ (e : Entry). (second : ℕ) → PutsMark ulid second e → e.moment.ms ≤ 1000 * second + 86_400_000) one.journal (
+  λ second p. cc (p.2),
+  (
+    λ second p. cc (p.2),
+    (
+      λ second p. cc (p.2),
+      (
+        λ second p. cc (p.2),
+        (λ second p. cc (p.2), (λ second p. cc (p.2), (λ second p. cc (p.2), (λ second p. cc (p.2), (λ second p. cc (p.2), (λ second p. cc (p.2), (λ second p. cc (p.2), tt))))))),
+      ),
+    ),
+  ),
+)
+
+pub read_in_time : All (IsReadInTime one.script.rules one.used.view) one.query
+read_in_time = All-from_recursion (IsReadInTime one.script.rules one.used.view) one.query (lit≤ tt, (lit≤ tt, tt))
 
 -- ---- what has to be named
 

@@ -31,14 +31,14 @@ pub only_one : {X : Type 0} (x y : X) → Contains (x ∷ []) y → x ≡ y
 only_one x y (zero, below, is) = is
 only_one x y (suc k, below, is) = absurd (omega (arith, below))
 
-one_of_two : {X : Type 0} (x z y : X) → Contains (x ∷ z ∷ []) y → (x ≡ y) ⊎ (z ≡ y)
+pub one_of_two : {X : Type 0} (x z y : X) → Contains (x ∷ z ∷ []) y → (x ≡ y) ⊎ (z ≡ y)
 one_of_two x z y (zero, below, is) = inl is
 one_of_two x z y (suc zero, below, is) = inr is
 one_of_two x z y (suc (suc k), below, is) = absurd (omega (arith, below))
 
 -- ---- the ends of tasks
 
-came_among : (worker : Worker) (own : List End) (hand : Option ℕ) (place : ℕ) (end : End) → CameTo (worker ∷ []) (own ∷ []) hand place end → Contains (zip worker.tasks own) (place, end)
+pub came_among : (worker : Worker) (own : List End) (hand : Option ℕ) (place : ℕ) (end : End) → CameTo (worker ∷ []) (own ∷ []) hand place end → Contains (zip worker.tasks own) (place, end)
 came_among worker own hand place end came =
     let same : (worker, own) ≡ (came.worker, came.own) = only_one (worker, own) (came.worker, came.own) came.among in
     subst (λ (p : Worker × List End). Contains (zip p.0.tasks p.1) (place, end)) (sym same) came.came

@@ -3,4 +3,5 @@ pub mod Entries
 pub mod SmallRuns
 pub mod OneBlock
 pub mod OneBlockChanged
+pub mod LostIndex
 pub mod YoungBlock

@@ -1,13 +1,15 @@
 //! Whole runs that are written out: that the definitions of `lifecycle_core` and `replay_cli` say of them what they should.
 #![tactic(auto)]
 
+mod lost_index;
 mod one_block;
 mod one_block_changed;
 mod young_block;
 
+pub use lost_index::{lost_index_is_explained, lost_index_is_the_breach, lost_index_runs};
 pub use one_block::{
-    one_block_is_answered, one_block_is_honest, one_block_is_in_time, one_block_is_reported,
-    one_block_is_spelled, one_block_runs,
+    one_block_breaks_no_rule, one_block_is_answered, one_block_is_guaranteed, one_block_is_honest,
+    one_block_is_in_time, one_block_is_reported, one_block_is_spelled, one_block_runs,
 };
 pub use one_block_changed::{
     absent_meta_is_a_lie, index_before_segment_is_refused, put_without_look_is_refused,

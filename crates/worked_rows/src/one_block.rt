@@ -1,13 +1,14 @@
-ghost use Rattle.std.specs.Prelude.{◌≡◌, ℕ, List, Bool, true};
+ghost use Rattle.std.specs.Prelude.{◌≡◌, ℕ, List, All, Bool, true};
 ghost use Rattle.world_core.specs.Standing.{IsHonest};
 ghost use Rattle.script_core.specs.Lawful.{IsLawfulScript};
 ghost use Rattle.script_core.specs.Spelling.{Spells};
+ghost use Rattle.lifecycle_core.specs.Breaches.{IsUnbroken};
 ghost use Rattle.lifecycle_core.specs.Completed.{IsSettled};
-ghost use Rattle.lifecycle_core.specs.Guarantees.{IsExact, IsGiven, IsSyncOf, LeavesNoneOut, NamesUploads};
+ghost use Rattle.lifecycle_core.specs.Guarantees.{IsExact, IsGiven, IsGuaranteed, IsSyncOf, LeavesNoneOut, NamesUploads};
 ghost use Rattle.lifecycle_core.specs.Phases.{IsRunOf, AreFinished};
-ghost use Rattle.lifecycle_core.specs.TimeRules.{IsSyncedInTime, IsUploadedInTime};
+ghost use Rattle.lifecycle_core.specs.TimeRules.{IsMarkedInTime, IsReadInTime, IsSyncedInTime, IsUploadedInTime};
 ghost use Rattle.replay_cli.specs.Verdicts.{IsReport, IsWholeRun};
-ghost use Rattle.worked_rows.specs.OneBlock.{text, script, journal, ends, report, sync, used, asked};
+ghost use Rattle.worked_rows.specs.OneBlock.{text, script, journal, ends, report, sync, query, used, asked};
 ghost use Rattle.worked_rows.specs.SmallBlock.{a};
 
 /// A law: the script is what its text spells, and lawful.
@@ -45,6 +46,18 @@ pub fn one_block_is_answered()
 /// A law: the run keeps the rules of time, so that its query may leave no block out, and it leaves none out.
 pub fn one_block_is_in_time()
     ensures uploaded { (ulid : ℕ) → IsUploadedInTime script.rules ulid journal }
+    ensures marked { (ulid : ℕ) → IsMarkedInTime script.rules ulid journal }
     ensures synced { IsSyncOf journal used sync × IsSyncedInTime script.rules sync }
+    ensures read { All (IsReadInTime script.rules used.view) query }
     ensures covered { LeavesNoneOut script journal asked }
+{}
+
+/// A law: so no entry of it breaks a rule.
+pub fn one_block_breaks_no_rule()
+    ensures { IsUnbroken script journal }
+{}
+
+/// A law: all that is guaranteed of a run holds of it.
+pub fn one_block_is_guaranteed()
+    ensures { IsGuaranteed script journal ends }
 {}

@@ -19,7 +19,7 @@ pub returns-in-Upload-clause-step : goal.returns-in-Upload-clause-step
 returns-in-Upload-clause-step g c = λ views shows.
     upload_step c.args.script.now (seat_of c.args.seats.now.workers) c.args.place c.args.task.now views c.args.progress.now.gateways.items c.args.world.journal c.upload.result.1.journal c.upload.result.0
     c.in-Upload.ulid c.in-Upload.stop c.declared_block-block.result.now c.in-Upload.is c.declared_block-block.ensures.found
-    (subst (λ (s : ℕ). (end : Option End) × Adds (BlockUpload c.declared_block-block.result.now c.in-Upload.stop) s c.args.world.journal c.upload.result.1.journal end × CameBy (works.Upload c.in-Upload.ulid c.in-Upload.stop) end c.upload.result.0)
+    (subst (λ (s : ℕ). (end : Option End) × Adds (BlockUpload c.declared_block-block.result.now c.in-Upload.stop) s c.args.world.journal c.upload.result.1.journal end c.upload.result.0 × CameBy (works.Upload c.in-Upload.ulid c.in-Upload.stop) end c.upload.result.0)
     c.of_task.ensures (c.upload.ensures.ran c.in-Upload.ulid))
     shows
 
@@ -31,7 +31,7 @@ returns-in-Sync-clause-step g c = λ views shows.
     sync_step c.args.script.now (seat_of c.args.seats.now.workers) c.args.place c.args.task.now views c.args.progress.now.gateways.items c.args.world.journal c.sync.result.1.journal c.sync.result.0
     c.in-Sync.number c.index_mut-gateway.result.now c.sync.new.gateway c.in-Sync.is
     (slice_get-get_or c.args.progress.now.gateways.items c.in-Sync.number c.index_mut-gateway.result.now within ∙ ap Some (sym c.index_mut-gateway.ensures.value))
-    (subst (λ (s : ℕ). (end : Option SyncEnd) × Adds (SyncRun (sync_rules c.args.script.now.rules)) s c.args.world.journal c.sync.result.1.journal end × CameBy (works.Sync c.in-Sync.number) (option_map synced end) c.sync.result.0
+    (subst (λ (s : ℕ). (end : Option SyncEnd) × Adds (SyncRun (sync_rules c.args.script.now.rules)) s c.args.world.journal c.sync.result.1.journal end c.sync.result.0 × CameBy (works.Sync c.in-Sync.number) (option_map synced end) c.sync.result.0
     × (c.sync.new.gateway.view ≡ view_by c.index_mut-gateway.result.now.view end))
     c.of_gateway-seat.ensures (c.sync.ensures.ran c.in-Sync.number))
     shows

@@ -1,0 +1,156 @@
+-- Which entry of a journal shows first that the bucket lied, or that somebody acted at another time than the rules allow.
+use Rattle.std.specs.Prelude.{◌≡◌, ◌≢◌, ◌⊎◌, ◌+◌, ◌*◌, ◌<◌, ◌≤◌, ℕ, List, [], ◌∷◌, ◌++◌, Contains, Option, Some, None, codes}
+use Rattle.std.specs.List.{flat_map}
+use Rattle.block_keys.specs.declared.key.Key.{Key}
+use Rattle.block_keys.specs.declared.key.Key.TheVariants.{Meta, Index, Segment, Mark}
+use Rattle.world_core.specs.Journals.{Each}
+use Rattle.world_core.specs.Operations.{IsReplyTo}
+use Rattle.world_core.specs.Standing.{stands, Tells}
+use Rattle.world_core.specs.declared.entry.Entry.{Entry}
+use Rattle.world_core.specs.declared.op.Op.{Op}
+use Rattle.world_core.specs.declared.op.Op.TheVariants.{Get, GetRange}
+use Rattle.world_core.specs.declared.reply.Reply.{Reply}
+use Rattle.world_core.specs.declared.reply.Reply.TheVariants.{Found, Absent, Names}
+use Rattle.sync_filters.specs.Filters.{time_of}
+use Rattle.meta_fetcher.specs.Syncs.{SyncRun}
+use Rattle.meta_fetcher.specs.declared.sync_end.SyncEnd.{SyncEnd}
+use Rattle.meta_fetcher.specs.declared.sync_end.SyncEnd.TheVariants as fetched
+use Rattle.meta_fetcher.specs.declared.view.View.{View}
+use Rattle.script_core.specs.Hands.{workers_of}
+use Rattle.script_core.specs.declared.script.Script.{Script}
+use Rattle.script_core.specs.declared.worker.Worker.{Worker}
+use Rattle.lifecycle_core.specs.Phases.{of_seat}
+use Rattle.lifecycle_core.specs.Tasks.{last_number, sync_rules}
+use Rattle.lifecycle_core.specs.TimeRules.{PutsMark, PutsObject}
+
+-- what an entry may break; at one entry they are asked in this order
+pub data Rule : Type 0 where
+  -- the bucket shows what stands
+  honesty : Rule
+  -- a block is uploaded in time
+  upload_time : Rule
+  -- a block is marked in time
+  mark_time : Rule
+  -- a sync reads in time
+  sync_time : Rule
+  -- a view is read in time
+  view_time : Rule
+
+abbrev pub rank : Rule → ℕ
+rank honesty = 0
+rank upload_time = 1
+rank mark_time = 2
+rank sync_time = 3
+rank view_time = 4
+
+-- ---- what the bucket shows
+
+-- what a reply shows of the bucket, as a text: a found object, an absent one, or names, each of which ends with a byte that no
+-- name has
+abbrev pub shown_by : Reply → Option (List ℕ)
+shown_by (Found bytes) = Some (codes "F" ++ bytes)
+shown_by Absent = Some (codes "A")
+shown_by (Names names) = Some (codes "N" ++ flat_map (λ name. name ++ 255 ∷ []) names)
+shown_by other = None
+
+-- the byte with which a text goes on, and 256 at its end
+abbrev pub next_byte : List ℕ → ℕ
+next_byte [] = 256
+next_byte (byte ∷ bytes) = byte
+
+-- these bytes are the first in which the texts differ
+abbrev pub FirstDiffer : List ℕ → List ℕ → ℕ → ℕ → Type 0
+FirstDiffer one other x y =
+    (front : List ℕ) × (left : List ℕ) × (right : List ℕ)
+    × (one ≡ front ++ left) × (other ≡ front ++ right) × (next_byte left ≡ x) × (next_byte right ≡ y) × (x ≢ y)
+
+-- The entry shows something else than what stands after those before it; the bytes are the first that differ, the one that it
+-- shows and the one that it owes.
+abbrev pub IsLie : List Entry → Entry → ℕ → ℕ → Type 0
+IsLie before e shown owed =
+    (reply : Reply) × (one : List ℕ) × (other : List ℕ) × IsReplyTo e.op reply × Tells (stands before) e.op reply
+    × (shown_by e.reply ≡ Some one) × (shown_by reply ≡ Some other) × FirstDiffer one other shown owed
+
+-- ---- what gateways do
+
+-- a worker of the gateway has this seat
+abbrev pub IsSeatOf : Script → ℕ → ℕ → Type 0
+IsSeatOf script gateway seat =
+    (number : ℕ) × (worker : Worker) × Contains (workers_of script number) worker × (worker.gateway ≡ Some gateway) × (worker.seat ≡ seat)
+
+-- The entries are one whole sync of a gateway, which came to this end. One without an end was broken off, and is its seat's last.
+pub record IsSyncIn (script : Script) (journal : List Entry) (gateway : ℕ) (entries : List Entry) (end : Option SyncEnd) : Type 0 where
+  pub seat : ℕ
+  pub sits : IsSeatOf script gateway seat
+  pub before : List Entry
+  pub after : List Entry
+  pub parts : of_seat seat journal ≡ before ++ entries ++ after
+  pub run : SyncRun (sync_rules script.rules) entries end
+  pub whole : end ≡ None → after ≡ []
+
+-- the view that a gateway has at the entry of a number: that of its last sync before it which gave one
+pub record IsViewAt (script : Script) (journal : List Entry) (gateway number : ℕ) (view : View) : Type 0 where
+  pub entries : List Entry
+  pub gave : IsSyncIn script journal gateway entries (Some (fetched.View view))
+  pub before : last_number entries < number
+  pub last : (others : List Entry) (other : View) → IsSyncIn script journal gateway others (Some (fetched.View other)) → last_number others < number → last_number others ≤ last_number entries
+
+-- the key under which an operation reads
+abbrev pub read_key : Op → Option Key
+read_key (Get key) = Some key
+read_key (GetRange key from len) = Some key
+read_key other = None
+
+-- a key that gateways read for queries, and for nothing else
+abbrev pub HoldsSamples : Key → Type 0
+HoldsSamples (Meta ulid) = ⊥
+HoldsSamples (Index ulid) = Unit {0}
+HoldsSamples (Segment ulid number) = Unit {0}
+HoldsSamples (Mark ulid) = ⊥
+
+-- the entry is a read of a gateway's series call
+abbrev pub IsCallRead : Script → ℕ → Entry → Type 0
+IsCallRead script gateway e = IsSeatOf script gateway e.seat × ((key : Key) × (read_key e.op ≡ Some key) × HoldsSamples key)
+
+-- ---- breaches
+
+-- the first number is above the second one, which is the most that is allowed
+abbrev pub IsOver : ℕ → ℕ → ℕ → ℕ → Type 0
+IsOver is most x y = (x ≡ is) × (y ≡ most) × (most < is)
+
+-- The rule refuses the entry, which follows the entries before it in the journal. Of the two numbers the first one is what it
+-- shows and the second one what it owes, or the first one is above the second one and may not be.
+abbrev pub Refuses : Script → List Entry → Rule → List Entry → Entry → ℕ → ℕ → Type 0
+Refuses script journal honesty before e x y = IsLie before e x y
+Refuses script journal upload_time before e x y =
+    (ulid : ℕ) × PutsObject ulid e
+    × (IsOver (time_of ulid) e.moment.ms x y ⊎ IsOver e.moment.ms (time_of ulid + script.rules.upload.ms) x y)
+Refuses script journal mark_time before e x y =
+    (ulid : ℕ) × (second : ℕ) × PutsMark ulid second e × IsOver e.moment.ms (1000 * second + script.rules.ignore.ms) x y
+-- the last read of a sync stands for it
+Refuses script journal sync_time before e x y =
+    (gateway : ℕ) × (entries : List Entry) × (end : Option SyncEnd) × (first : Entry) × (others : List Entry) × (front : List Entry)
+    × IsSyncIn script journal gateway entries end × (entries ≡ first ∷ others) × (entries ≡ front ++ e ∷ [])
+    × IsOver (e.moment.ms + 1000) (first.moment.ms + script.rules.ignore.ms) x y
+Refuses script journal view_time before e x y =
+    (gateway : ℕ) × (view : View) × IsCallRead script gateway e × IsViewAt script journal gateway e.seq view
+    × IsOver (e.moment.ms + script.rules.ignore.ms) (view.begin.ms + script.rules.delete.ms) x y
+
+-- no rule refuses the entry
+abbrev pub IsKept : Script → List Entry → List Entry → Entry → Type 0
+IsKept script journal before e = (rule : Rule) (x y : ℕ) → ¬ Refuses script journal rule before e x y
+
+-- no rule refuses an entry of the journal
+abbrev pub IsUnbroken : Script → List Entry → Type 0
+IsUnbroken script journal = Each (IsKept script journal) journal
+
+-- The journal's breach, if it has one: the first entry that a rule refuses, and the first rule that refuses it.
+pub record IsBreach (script : Script) (journal : List Entry) (rule : Rule) (number x y : ℕ) : Type 0 where
+  pub before : List Entry
+  pub entry : Entry
+  pub after : List Entry
+  pub parts : journal ≡ before ++ entry ∷ after
+  pub is : entry.seq ≡ number
+  pub refused : Refuses script journal rule before entry x y
+  pub first : Each (IsKept script journal) before
+  pub foremost : (other : Rule) (one two : ℕ) → rank other < rank rule → ¬ Refuses script journal other before entry one two

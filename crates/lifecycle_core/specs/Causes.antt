@@ -1,0 +1,59 @@
+-- Why a worker came to no view and to no answer: what a journal has to show.
+use Rattle.std.specs.Prelude.{◌≡◌, ◌≤◌, ℕ, List, ◌∷◌, ◌++◌, Contains, Option, Some}
+use Rattle.block_keys.specs.Keys.{key_ulid}
+use Rattle.block_keys.specs.declared.key.Key.{Key}
+use Rattle.world_core.specs.Journals.{entry_at}
+use Rattle.world_core.specs.declared.entry.Entry.{Entry}
+use Rattle.world_core.specs.declared.reply.Reply.TheVariants.{Absent}
+use Rattle.meta_fetcher.specs.declared.sync_end.SyncEnd.TheVariants as fetched
+use Rattle.store_gateway.specs.declared.series_end.SeriesEnd.TheVariants as called
+use Rattle.script_core.specs.declared.script.Script.{Script}
+use Rattle.lifecycle_core.specs.Breaches.{Rule, honesty, upload_time, mark_time, sync_time, view_time, Refuses, read_key}
+use Rattle.lifecycle_core.specs.Tasks.{End, synced, answered}
+use Rattle.lifecycle_core.specs.TimeRules.{PutsMark, PutsObject}
+use Rattle.lifecycle_core.specs.Views.{Use}
+
+-- some worker came to this end
+abbrev pub SomeCame : List (List (List End)) → End → Type 0
+SomeCame ends end = (phase : List (List End)) × (own : List End) × Contains ends phase × Contains phase own × Contains own end
+
+-- What may be blamed for an object of the block that the entry of this number did not find: any reply that is a lie, an object or
+-- a mark of this block that was put at another time than it might have been, or that this entry itself came too late.
+abbrev pub IsBlamed : ℕ → ℕ → Rule → Entry → Type 0
+IsBlamed ulid number honesty e = Unit {0}
+IsBlamed ulid number upload_time e = PutsObject ulid e
+IsBlamed ulid number mark_time e = (second : ℕ) × PutsMark ulid second e
+IsBlamed ulid number sync_time e = ⊥
+IsBlamed ulid number view_time e = e.seq ≡ number
+
+-- The entry of this number found no object, and some entry that is not after it is to be blamed for that.
+pub record IsExplained (script : Script) (journal : List Entry) (number : ℕ) : Type 0 where
+  pub missed : Entry
+  pub key : Key
+  pub at : entry_at journal number ≡ Some missed
+  pub reads : read_key missed.op ≡ Some key
+  pub absent : missed.reply ≡ Absent
+  pub rule : Rule
+  pub before : List Entry
+  pub entry : Entry
+  pub after : List Entry
+  pub x : ℕ
+  pub y : ℕ
+  pub parts : journal ≡ before ++ entry ∷ after
+  pub early : entry.seq ≤ number
+  pub refused : Refuses script journal rule before entry x y
+  pub blamed : IsBlamed (key_ulid key) number rule entry
+
+-- Where a series call says that an object was missing, the journal shows why.
+abbrev pub AreMissesExplained : Script → List Entry → List (List (List End)) → Type 0
+AreMissesExplained script journal ends = (used : Use) (number : ℕ) → SomeCame ends (answered used (called.Missing number)) → IsExplained script journal number
+
+-- bytes or names were not of the form
+abbrev pub IsDamaged : End → Type 0
+IsDamaged (synced (fetched.Damaged entry)) = Unit {0}
+IsDamaged (answered used (called.Damaged entry)) = Unit {0}
+IsDamaged other = ⊥
+
+-- no worker says that bytes or names were not of the form
+abbrev pub AreUndamaged : List (List (List End)) → Type 0
+AreUndamaged ends = (end : End) → SomeCame ends end → ¬ IsDamaged end
