@@ -13,3 +13,13 @@ pub mod WholeParts
 pub mod WholeLaws
 pub mod WholeAgain
 pub mod PostingsLaws
+pub mod SortedTexts
+pub mod AlignedTexts
+pub mod Groups
+pub mod SmallNumbers
+pub mod SectionSizes
+pub mod Walks
+pub mod Entries
+pub mod TableRows
+pub mod PartsLaws
+pub mod AddedSeries
