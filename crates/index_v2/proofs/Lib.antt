@@ -16,3 +16,13 @@ pub mod WholeAgain
 pub mod PostingsLaws
 pub mod FewLaws
 pub mod ValuesAgree
+pub mod SortedTexts
+pub mod AlignedTexts
+pub mod Groups
+pub mod SmallNumbers
+pub mod SectionSizes
+pub mod Walks
+pub mod Entries
+pub mod TableRows
+pub mod PartsLaws
+pub mod AddedSeries

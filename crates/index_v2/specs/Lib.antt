@@ -7,3 +7,8 @@ pub mod RowOrder
 pub mod PostingsLists
 pub mod WholeReading
 pub mod IndexFile
+pub mod SymbolsInUse
+pub mod LabelGroups
+pub mod Aligned
+pub mod WriteSteps
+pub mod Written
