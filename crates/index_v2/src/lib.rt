@@ -6,10 +6,10 @@ mod index_reader;
 mod index_series;
 mod index_writer;
 mod label_fault;
+mod label_groups;
 mod lent_label;
 mod lent_series;
 mod numbered;
-mod label_groups;
 mod opening;
 mod parts;
 mod postings;
@@ -25,9 +25,9 @@ mod write_refusal;
 
 pub use index_reader::IndexReader;
 pub use index_series::{IndexSeries, IndexSeriesList};
+pub use index_writer::IndexWriter;
 pub use lent_label::LentLabel;
 pub use lent_series::LentSeries;
-pub use index_writer::IndexWriter;
 pub use refusal::IndexRefusal;
 pub use write_refusal::IndexWriteRefusal;
 
