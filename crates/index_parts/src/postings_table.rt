@@ -40,6 +40,7 @@ impl<'a> Model for PostingsTable<'a> {
 }
 
 impl<'a> PostingsTable<'a> {
+    /// How many rows there are.
     pub fn len(&self) -> usize
         ensures { result ≡ length self.now }
     {

@@ -30,6 +30,7 @@ impl<'a> Model for SymbolTable<'a> {
 }
 
 impl<'a> SymbolTable<'a> {
+    /// How many symbols there are.
     pub fn len(&self) -> usize
         ensures { result ≡ length self.now }
     {

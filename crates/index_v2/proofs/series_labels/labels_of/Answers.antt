@@ -5,7 +5,7 @@ use Rattle.index_v2.proofs.LabelReading.{labels_begin, labels_step, labels_stop,
 use Rattle.index_v2.proofs.series_labels.labels_of.Goals as goal
 
 pub loop-place-init : goal.loop-place-init
-loop-place-init c = (labels_begin _ _ _ _ c.clear.ensures.items, search rules)
+loop-place-init c = (search (rules, labels_begin), search rules)
 
 pub returns-in_err-label : goal.returns-in_err-label
 returns-in_err-label c =
