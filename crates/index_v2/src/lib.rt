@@ -23,4 +23,6 @@ pub use lent_series::LentSeries;
 pub use refusal::IndexRefusal;
 
 #[cfg(test)]
+mod real_indexes;
+#[cfg(test)]
 mod tests;
