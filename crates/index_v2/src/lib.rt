@@ -32,4 +32,6 @@ pub use refusal::IndexRefusal;
 pub use write_refusal::IndexWriteRefusal;
 
 #[cfg(test)]
+mod real_indexes;
+#[cfg(test)]
 mod tests;
