@@ -26,3 +26,14 @@ pub mod Entries
 pub mod TableRows
 pub mod PartsLaws
 pub mod AddedSeries
+pub mod OrderedEntries
+pub mod GroupedRows
+pub mod EntryOrder
+pub mod SymbolNumbers
+pub mod Standing
+pub mod SeriesNumbers
+pub mod ListPlaces
+pub mod TableLaws
+pub mod WrittenIndex
+pub mod IndexWritten
+pub mod IndexLaw

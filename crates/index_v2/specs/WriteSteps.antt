@@ -1,9 +1,9 @@
 -- What a call comes to that makes a text in steps, up to the greatest length of an index.
-use Rattle.std.specs.Prelude.{◌≡◌, ℕ, ◌+◌, ◌<◌, ◌≤◌, List, length, Result, Ok, Err}
+use Rattle.std.specs.Prelude.{◌≡◌, ℕ, ◌+◌, ◌*◌, ◌<◌, ◌≤◌, List, [], ◌∷◌, ◌++◌, length, Result, Ok, Err}
 use Rattle.index_parts.specs.declared.postings_row.PostingsRow.{PostingsRow}
 use Rattle.index_parts.specs.declared.raw_series.RawSeries.{RawSeries}
 use Rattle.index_parts.specs.Turns.{InOrder}
-use Rattle.index_parts.specs.SeriesEntry.{StartsAfter}
+use Rattle.index_parts.specs.SeriesEntry.{IsSeries, StartsAfter}
 use Rattle.index_v2.specs.declared.write_refusal.IndexWriteRefusal.{IndexWriteRefusal}
 use Rattle.index_v2.specs.declared.write_refusal.IndexWriteRefusal.TheVariants.{TooLarge, NoMemory}
 
@@ -29,6 +29,13 @@ text_size text = 1 + length text
 
 abbrev pub row_size : PostingsRow → ℕ
 row_size row = 4 + length row.name + length row.value
+
+-- Each series stands at sixteen times its number, whatever follows the text.
+abbrev pub EachStands : List ℕ → List ℕ → List RawSeries → Type 0
+EachStands text [] [] = Unit {0}
+EachStands text [] (one ∷ series) = ⊥
+EachStands text (number ∷ numbers) [] = ⊥
+EachStands text (number ∷ numbers) (one ∷ series) = ((after : List ℕ) → IsSeries (text ++ after) (16 * number) one) × EachStands text numbers series
 
 -- what a writer of a series asks of it
 abbrev pub IsStorable : RawSeries → Type 0

@@ -1,7 +1,11 @@
-ghost use Rattle.std.specs.Prelude.{◌≡◌, ◌++◌, [], map, length, IfOk, OnOk};
+ghost use Rattle.std.specs.Prelude.{◌≡◌, ◌++◌, [], map, length, IfOk, OnOk, List, ℕ};
 ghost use Rattle.std.specs.List.{AllByRecursion};
 ghost use Rattle.index_v2.specs.IndexFile.{header};
-ghost use Rattle.index_v2.specs.WriteSteps.{greatest, Makes};
+ghost use Rattle.label_sets.specs.Labels.{IsLabelSet};
+ghost use Rattle.index_parts.specs.Turns.{InOrder};
+ghost use Rattle.index_parts.specs.Symbols.{MayFollow, IsSymbols};
+ghost use Rattle.index_v2.specs.SymbolsInUse.{symbols_of};
+ghost use Rattle.index_v2.specs.WriteSteps.{greatest, Makes, EachStands};
 ghost use Rattle.index_v2.specs.Written.{AreWritable, up_to_symbols, with_series, parts_of};
 
 use crate::label_groups::{LabelRow, NameValues, names_of, rows_of};
@@ -41,6 +45,7 @@ fn put_front(out: &mut Vec<u8>, symbols: &TextList) -> Result<u64, IndexWriteRef
     requires { out.old.items ≡ [] }
     ensures makes { Makes result out.new.items (up_to_symbols symbols.now) }
     ensures end { IfOk result (λ end. end ≡ length (up_to_symbols symbols.now)) }
+    ensures stands { InOrder MayFollow symbols.now → (after : List ℕ) → OnOk result (IsSymbols (out.new.items ++ after) 5 symbols.now) }
 {
     put_header(out)?;
     put_symbols(out, symbols)?;
@@ -54,6 +59,9 @@ pub(crate) fn put_parts(out: &mut Vec<u8>, list: &[IndexSeries]) -> Result<Parts
     requires lawful { AreWritable list.now }
     ensures makes { Makes result out.new.items (with_series (parts_of list.now)) }
     ensures parts { IfOk result (λ parts. parts ≡ parts_of list.now) }
+    ensures symbols { (after : List ℕ) → OnOk result (IsSymbols (out.new.items ++ after) 5 (symbols_of list.now)) }
+    ensures series { IfOk result (λ parts. EachStands out.new.items parts.numbers parts.series) }
+    ensures labels { OnOk result (AllByRecursion (λ one. IsLabelSet one.labels) list.now) }
 {
     let alloc = *out.allocator();
     let symbols = symbols_of(alloc, list)?;

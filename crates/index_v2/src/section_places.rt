@@ -3,10 +3,10 @@ ghost use Rattle.std.specs.List.{All, AllByRecursion, sum_by};
 ghost use Rattle.index_parts.specs.Turns.{InOrder};
 ghost use Rattle.index_parts.specs.LabelIndices.{label_index_text};
 ghost use Rattle.index_parts.specs.Postings.{postings_text};
-ghost use Rattle.index_parts.specs.SeriesEntry.{StartsAfter, series_text};
+ghost use Rattle.index_parts.specs.SeriesEntry.{IsSeries, StartsAfter, series_text};
 ghost use Rattle.index_v2.specs.declared.label_groups.LabelRow.{LabelRow};
 ghost use Rattle.index_v2.specs.Aligned.{gap, padded, each_at, places_at};
-ghost use Rattle.index_v2.specs.WriteSteps.{greatest, Makes, IsStorable};
+ghost use Rattle.index_v2.specs.WriteSteps.{greatest, Makes, IsStorable, EachStands};
 ghost use Rattle.index_v2.specs.Written.{up_to_series, numbers_behind, label_index_texts, list_texts};
 
 use crate::IndexWriteRefusal;
@@ -62,6 +62,7 @@ fn put_series(out: &mut Vec<u8>, series: &RawSeries) -> Result<u64, IndexWriteRe
     requires as_many { length series.now.names ≡ length series.now.values }
     requires chunks { InOrder StartsAfter series.now.chunks }
     ensures makes { Makes result out.new.items (padded 16 out.old.items ++ series_text series.now) }
+    ensures stands { (after : List ℕ) → OnOk result (IsSeries (out.new.items ++ after) (length (padded 16 out.old.items)) series.now) }
     ensures number { IfOk result (λ number. number ≡ length (padded 16 out.old.items) / 16) }
 {
     pad(out, SERIES_UNIT)?;
@@ -80,6 +81,7 @@ pub(crate) fn put_all_series(
     requires lawful { AllByRecursion IsStorable series.now }
     ensures makes { Makes result out.new.items (up_to_series out.old.items series.now) }
     ensures numbers { IfOk result (λ numbers. numbers ≡ numbers_behind out.old.items series.now) }
+    ensures stand { IfOk result (λ numbers. EachStands out.new.items numbers series.now) }
 {
     let mut numbers = NumberList::new(*out.allocator());
     for one in series {

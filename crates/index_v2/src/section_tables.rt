@@ -1,11 +1,12 @@
 ghost use Rattle.std.specs.Prelude.{◌≡◌, ◌++◌, ◌∷◌, [], ◌+◌, ◌*◌, ◌<◌, ◌≤◌, ◌^◌, map, zip, length, IfOk, OnOk, OnErr, IfErr, MatchBool, List, ℕ, MatchResult};
 ghost use Rattle.std.specs.List.{sum_by};
-ghost use Rattle.index_parts.specs.Contents.{toc_text};
+ghost use Rattle.index_parts.specs.Turns.{InOrder};
+ghost use Rattle.index_parts.specs.Contents.{IsToc, toc_text};
 ghost use Rattle.index_parts.specs.Framed.{text_field};
 ghost use Rattle.index_parts.specs.Lists.{list_content};
 ghost use Rattle.index_parts.specs.LabelIndices.{label_offsets_text};
-ghost use Rattle.index_parts.specs.Rows.{postings_table_text, row_text};
-ghost use Rattle.index_parts.specs.Symbols.{symbols_text};
+ghost use Rattle.index_parts.specs.Rows.{MayComeAfter, IsPostingsTable, postings_table_text, row_text};
+ghost use Rattle.index_parts.specs.Symbols.{MayFollow, IsSymbols, symbols_text};
 ghost use Rattle.index_v2.specs.WriteSteps.{greatest, Makes, Measures, text_size, row_size};
 ghost use Rattle.index_v2.specs.SymbolsInUse.{symbol_of};
 ghost use Rattle.index_v2.specs.Written.{name_texts, label_rows, table_rows};
@@ -47,7 +48,8 @@ fn size_of_texts(texts: &[Text]) -> Result<usize, IndexWriteRefusal>
 
 /// Appends the symbols.
 pub(crate) fn put_symbols(out: &mut Vec<u8>, symbols: &TextList) -> Result<(), IndexWriteRefusal>
-    ensures { Makes result out.new.items (out.old.items ++ symbols_text symbols.now) }
+    ensures makes { Makes result out.new.items (out.old.items ++ symbols_text symbols.now) }
+    ensures stands { InOrder MayFollow symbols.now → (after : List ℕ) → OnOk result (IsSymbols (out.new.items ++ after) (length out.old.items) symbols.now) }
 {
     size_of_texts(symbols.members())?;
     write_symbols(out, symbols)?;
@@ -147,7 +149,8 @@ pub(crate) fn put_table(
     places: &[u64],
 ) -> Result<(), IndexWriteRefusal>
     requires { length places.now ≡ length rows.now + 1 }
-    ensures { Makes result out.new.items (out.old.items ++ postings_table_text (table_rows symbols.now rows.now places.now)) }
+    ensures makes { Makes result out.new.items (out.old.items ++ postings_table_text (table_rows symbols.now rows.now places.now)) }
+    ensures stands { InOrder MayComeAfter (table_rows symbols.now rows.now places.now) → (after : List ℕ) → OnOk result (IsPostingsTable (out.new.items ++ after) (length out.old.items) (table_rows symbols.now rows.now places.now)) }
 {
     let table = table_rows(*out.allocator(), symbols, rows, places)?;
     write_postings_table(out, &table)?;
@@ -156,7 +159,8 @@ pub(crate) fn put_table(
 
 /// Appends the table of contents, with which an index ends.
 pub(crate) fn put_toc(out: &mut Vec<u8>, toc: &Toc) -> Result<(), IndexWriteRefusal>
-    ensures { Makes result out.new.items (out.old.items ++ toc_text toc.now) }
+    ensures makes { Makes result out.new.items (out.old.items ++ toc_text toc.now) }
+    ensures stands { OnOk result (IsToc out.new.items toc.now) }
 {
     write_toc(out, toc)?;
     within(out)

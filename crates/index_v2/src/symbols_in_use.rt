@@ -2,7 +2,7 @@ ghost use Rattle.std.specs.Prelude.{◌≡◌, ◌++◌, ◌∷◌, [], map, Lis
 ghost use Rattle.std.specs.List.{dedup, AllByRecursion};
 ghost use Rattle.std.specs.Str.{bytes_eq, IsUtf8};
 ghost use Rattle.std.specs.List.Sorted.{IsStrictlySortedBy};
-ghost use Rattle.label_sets.specs.Labels.{compare_texts};
+ghost use Rattle.label_sets.specs.Labels.{compare_texts, IsLabelSet};
 ghost use Rattle.label_sets.specs.Ordered.{in_order};
 ghost use Rattle.index_parts.specs.declared.raw_series.RawSeries.{RawSeries};
 ghost use Rattle.index_v2.specs.SymbolsInUse.{is_lesser_text, texts_of_labels, texts_of, symbols_of, number_of, symbol_of, raw_of};
@@ -27,7 +27,8 @@ fn add_texts(texts: &mut Vec<Text>, labels: &[Label]) -> Result<(), NoMemory>
 /// The names and values of all labels.
 #[tactic(auto, unfolding(crate::specs::SymbolsInUse::texts_of))]
 fn texts_of(alloc: Global, series: &[IndexSeries]) -> Result<Vec<Text>, NoMemory>
-    ensures { IfOk result (λ texts. texts.items ≡ texts_of series.now) }
+    ensures texts { IfOk result (λ texts. texts.items ≡ texts_of series.now) }
+    ensures lawful { OnOk result (AllByRecursion (λ one. IsLabelSet one.labels) series.now) }
 {
     let mut texts = Vec::new(alloc);
     for one in series {
@@ -52,7 +53,8 @@ fn drop_repeats(texts: &mut Vec<Text>)
 /// The symbols of series: the texts that are in use, ascending.
 #[tactic(auto, unfolding(crate::specs::SymbolsInUse::symbols_of))]
 pub(crate) fn symbols_of(alloc: Global, series: &[IndexSeries]) -> Result<TextList, NoMemory>
-    ensures { IfOk result (λ symbols. symbols ≡ symbols_of series.now) }
+    ensures symbols { IfOk result (λ symbols. symbols ≡ symbols_of series.now) }
+    ensures lawful { OnOk result (AllByRecursion (λ one. IsLabelSet one.labels) series.now) }
 {
     let mut texts = texts_of(alloc, series)?;
     sort_texts(&mut texts)?;

@@ -2,18 +2,19 @@ use Rattle.std.proofs.Common.{ℕ, List, sym, ap, ◌∙◌}
 use Rattle.index_v2.specs.declared.parts.Parts.{Parts}
 use Rattle.index_v2.specs.Written.{with_series, with_lists, parts_of, written}
 use Rattle.index_v2.proofs.AlignedTexts.{makes_longer}
+use Rattle.index_v2.proofs.IndexLaw.{fill_law}
 use Rattle.index_v2.proofs.PartsLaws.{series_written, lists_written, end_is, small_as}
 use Rattle.index_v2.proofs.index_writer.fill.Goals as goal
 
-pub returns-in_err-parts : goal.returns-in_err-parts
-returns-in_err-parts c =
+pub returns-in_err-parts-clause-makes : goal.returns-in_err-parts-clause-makes
+returns-in_err-parts-clause-makes c =
     makes_longer Parts c.from_residual.result c.in_err-parts.field-0.0 c.put_parts.new.out.items _ (with_series (parts_of c.args.list.now)) (written c.args.list.now) c.from_residual.ensures.1 c.in_err-parts.ensures.makes (series_written c.args.list.now)
 
 pub put_all_lists-requires-clause-small : goal.put_all_lists-requires-clause-small
 put_all_lists-requires-clause-small c = small_as c.args.list.now c.in_ok-parts.parts c.in_ok-parts.ensures.parts c.in_ok-parts.ensures.makes.1
 
-pub returns-in_err-label_indices : goal.returns-in_err-label_indices
-returns-in_err-label_indices c =
+pub returns-in_err-label_indices-clause-makes : goal.returns-in_err-label_indices-clause-makes
+returns-in_err-label_indices-clause-makes c =
     makes_longer (List ℕ × List ℕ) c.from_residual-in_err-label_indices.result c.in_err-label_indices.field-0.0 c.put_all_lists.new.out.items _ (with_lists c.in_ok-parts.parts) (written c.args.list.now) c.from_residual-in_err-label_indices.ensures.1 c.in_err-label_indices.ensures.makes (lists_written c.args.list.now c.in_ok-parts.parts c.in_ok-parts.ensures.parts)
 
 pub toc_of-requires-clause-small : goal.toc_of-requires-clause-small
@@ -21,3 +22,8 @@ toc_of-requires-clause-small c = (small_as c.args.list.now c.in_ok-parts.parts c
 
 pub toc_of-requires-clause-end : goal.toc_of-requires-clause-end
 toc_of-requires-clause-end c = end_is c.args.list.now c.in_ok-parts.parts c.in_ok-parts.ensures.parts
+
+pub returns-clause-index : goal.returns-clause-index
+returns-clause-index c =
+    let parts = c.in_ok-parts.ensures in
+    fill_law c.put_toc.result c.args.list.now c.in_ok-parts.parts c.put_parts.new.out.items c.put_tables.new.out.items c.put_toc.new.out.items c.toc_of.result c.requires.lawful parts.parts parts.makes.0 parts.labels parts.symbols c.put_toc.ensures.makes c.put_toc.ensures.stands parts.series c.in_ok-places.ensures.makes.0 c.in_ok-places.ensures.stands c.toc_of.ensures

@@ -5,8 +5,8 @@ use Rattle.index_v2.proofs.SectionSizes.{symbols_fit, symbols_large}
 use Rattle.index_v2.proofs.TableRows.{measured_stop}
 use Rattle.index_v2.proofs.section_tables.put_symbols.Goals as goal
 
-pub returns-in_err-size_of_texts : goal.returns-in_err-size_of_texts
-returns-in_err-size_of_texts c =
+pub returns-in_err-size_of_texts-clause-makes : goal.returns-in_err-size_of_texts-clause-makes
+returns-in_err-size_of_texts-clause-makes c =
     measured_stop c.from_residual.result c.in_err-size_of_texts.field-0.0 _ _ _ c.from_residual.ensures.1 c.in_err-size_of_texts.ensures
     (λ large. symbols_large c.args.out.now.items c.args.symbols.now (omega (arith, ap (sum_by text_size) c.members.ensures)))
 

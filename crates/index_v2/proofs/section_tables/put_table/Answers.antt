@@ -6,8 +6,8 @@ use Rattle.index_v2.proofs.SectionSizes.{rows_fit, rows_large}
 use Rattle.index_v2.proofs.TableRows.{refused_stop}
 use Rattle.index_v2.proofs.section_tables.put_table.Goals as goal
 
-pub returns-in_err-table : goal.returns-in_err-table
-returns-in_err-table c =
+pub returns-in_err-table-clause-makes : goal.returns-in_err-table-clause-makes
+returns-in_err-table-clause-makes c =
     refused_stop c.from_residual.result c.in_err-table.field-0.0 _ _ _ c.from_residual.ensures.1 c.in_err-table.ensures.large
     (λ large. rows_large c.args.out.now.items (table_rows c.args.symbols.now c.args.rows.now c.args.places.now) large)
 
