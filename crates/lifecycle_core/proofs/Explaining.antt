@@ -17,7 +17,7 @@ use Rattle.block_keys.specs.declared.key.Key.TheVariants as key
 use Rattle.bucket_core.specs.Contents.{Contents, nothing, with_object, without_object}
 use Rattle.world_core.specs.Journals.{IsNumbered, entry_at}
 use Rattle.world_core.specs.Operations.{IsReplyTo}
-use Rattle.world_core.specs.Standing.{Tells, has_landed, left_by, stands}
+use Rattle.world_core.specs.Standing.{IsHonest, Tells, has_landed, left_by, stands}
 use Rattle.world_core.specs.declared.entry.Entry.{Entry}
 use Rattle.world_core.specs.declared.op.Op.{Op}
 use Rattle.world_core.specs.declared.op.Op.TheVariants as op
@@ -31,7 +31,7 @@ use Rattle.script_core.specs.declared.script.Script.{Script}
 use Rattle.script_core.specs.declared.task.Task.{Task}
 use Rattle.script_core.specs.declared.worker.Worker.{Worker}
 use Rattle.lifecycle_core.specs.Breaches.{IsLie, honesty, read_key, shown_by}
-use Rattle.lifecycle_core.specs.Causes.{AreMissesExplained, IsExplained, SomeCame}
+use Rattle.lifecycle_core.specs.Causes.{AreFound, AreMissesExplained, IsExplained, SomeCame}
 use Rattle.lifecycle_core.specs.Phases.{IsRunOf, PhaseRun, PhasesRun, WorkerRun, of_seat}
 use Rattle.lifecycle_core.specs.Tasks.{End, answered}
 use Rattle.lifecycle_core.specs.Views.{Use, Views, no_views, view_of}
@@ -370,9 +370,10 @@ module _ (script : Script) (journal : List Entry) (numbered : IsNumbered journal
     blamed = tt;
   }
 
-  -- the meta stood when it was found
-  stood : (front back : List Entry) (e : Entry) (bytes : List ℕ) → m.front ≡ front ++ e ∷ back → stands front (key_text (key.Meta m.ulid)) ≡ Some bytes → IsExplained script journal number
-  stood front back e bytes parts is = elim (was_put front nothing (key_text (key.Meta m.ulid)) bytes is) [
+  -- where the meta stood when it was found, the object that is missed stands
+  object_stands : (front back : List Entry) (e : Entry) (bytes : List ℕ) → m.front ≡ front ++ e ∷ back → stands front (key_text (key.Meta m.ulid)) ≡ Some bytes
+      → (own : List ℕ) × (stands m.front (key_text m.key_is) ≡ Some own)
+  object_stands front back e bytes parts is = elim (was_put front nothing (key_text (key.Meta m.ulid)) bytes is) [
     | inl w ↦
         let k = meta_key w.key_is m.ulid w.same in
         let twin = other_block m.key_is m.ulid k.0 k.2 m.own in
@@ -382,9 +383,14 @@ module _ (script : Script) (journal : List Entry) (numbered : IsNumbered journal
         let front_is : m.front ≡ w.front ++ (w.entry ∷ w.back ++ e ∷ back) = parts ∙ ap (λ es. es ++ e ∷ back) w.parts ∙ append_assoc w.front (w.entry ∷ w.back) (e ∷ back) in
         let in_front : HasPut m.front twin.0 = (put.0, subst (λ es. Contains es put.0) (sym front_is) (Contains-append_left w.front (w.entry ∷ w.back ++ e ∷ back) put.0 put.1), put.2) in
         let holds = put_stays m.front nothing twin.0 nothing_deleted in_front in
-        blame m.front m.back m.entry 65 70 m.parts (omega (arith, m.is)) (absent_is_lie m.front m.entry m.key_is holds.0 m.reads m.absent (ap (stands m.front) (sym twin.2) ∙ holds.1))
+        (holds.0, ap (stands m.front) (sym twin.2) ∙ holds.1)
     | inr (old, none) ↦ absurd (cc (none))
   ]
+
+  stood : (front back : List Entry) (e : Entry) (bytes : List ℕ) → m.front ≡ front ++ e ∷ back → stands front (key_text (key.Meta m.ulid)) ≡ Some bytes → IsExplained script journal number
+  stood front back e bytes parts is =
+      let own = object_stands front back e bytes parts is in
+      blame m.front m.back m.entry 65 70 m.parts (omega (arith, m.is)) (absent_is_lie m.front m.entry m.key_is own.0 m.reads m.absent own.1)
 
   at_meta : (front back : List Entry) (e : Entry) (bytes : List ℕ) (o : Option (List ℕ)) → m.front ≡ front ++ e ∷ back → e.op ≡ op.Get (key.Meta m.ulid) → e.reply ≡ reply.Found bytes → stands front (key_text (key.Meta m.ulid)) ≡ o → IsExplained script journal number
   at_meta front back e bytes (Some standing) parts reads found is = stood front back e standing parts is
@@ -400,6 +406,19 @@ module _ (script : Script) (journal : List Entry) (numbered : IsNumbered journal
       let at = parted m.front s.0 s.1 in
       at_meta at.0 at.1 s.0 (s.2).0 (stands at.0 (key_text (key.Meta m.ulid))) at.2 (s.2).1 (s.2).2 refl
 
+  -- an honest journal has no such entry
+  pub honest_finds : IsHonest journal → ⊥
+  honest_finds honest =
+      let s = m.seen in
+      let at = parted m.front s.0 s.1 in
+      let here : journal ≡ at.0 ++ s.0 ∷ (at.1 ++ m.entry ∷ m.back) = m.parts ∙ ap (λ es. es ++ m.entry ∷ m.back) at.2 ∙ append_assoc at.0 (s.0 ∷ at.1) (m.entry ∷ m.back) in
+      let found : Tells (stands at.0) (op.Get (key.Meta m.ulid)) (reply.Found (s.2).0) =
+      subst (λ o. Tells (stands at.0) o (reply.Found (s.2).0)) (s.2).1 (subst (λ r. Tells (stands at.0) (s.0).op r) (s.2).2 (honest at.0 (at.1 ++ m.entry ∷ m.back) s.0 here)) in
+      let own = object_stands at.0 at.1 s.0 (s.2).0 at.2 found in
+      let lost : Tells (stands m.front) (op.Get m.key_is) reply.Absent =
+      subst (λ o. Tells (stands m.front) o reply.Absent) m.reads (subst (λ r. Tells (stands m.front) (m.entry).op r) m.absent (honest m.front m.back m.entry m.parts)) in
+      cc (lost, own.1)
+
 no_view_yet : (gateway : Option ℕ) → ViewSeen [] (view_of no_views gateway)
 no_view_yet None = λ used is. absurd (cc (is))
 no_view_yet (Some gateway) = λ used is. absurd (cc (is))
@@ -409,3 +428,9 @@ pub misses_explained : (script : Script) (journal : List Entry) (ends : List (Li
 misses_explained script journal ends lawful run = λ used number came.
     explained script journal run.kept.numbered (phases_in_order script lawful 0 no_views script.phases journal ends run.phases) number
     (phases_miss script lawful 0 no_views script.phases [] journal ends no_view_yet run.phases used number came)
+
+-- and in an honest one no call misses an object
+pub honest_misses_nothing : (script : Script) (journal : List Entry) (ends : List (List (List End))) → IsLawfulScript script → IsRunOf script journal ends → IsHonest journal → AreFound ends
+honest_misses_nothing script journal ends lawful run honest = λ used number came.
+    honest_finds script journal run.kept.numbered (phases_in_order script lawful 0 no_views script.phases journal ends run.phases) number
+    (phases_miss script lawful 0 no_views script.phases [] journal ends no_view_yet run.phases used number came) honest

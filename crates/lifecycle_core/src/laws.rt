@@ -1,9 +1,10 @@
 ghost use Rattle.std.specs.Prelude.{◌≡◌, List, [], ◌∷◌};
+ghost use Rattle.world_core.specs.Standing.{IsHonest};
 ghost use Rattle.world_core.specs.declared.entry.Entry.{Entry};
 ghost use Rattle.script_core.specs.declared.phase.Phase.{Phase};
 ghost use Rattle.script_core.specs.declared.script.Script.{Script};
 ghost use Rattle.script_core.specs.Lawful.{IsLawfulScript};
-ghost use Rattle.lifecycle_core.specs.Causes.{AreMissesExplained};
+ghost use Rattle.lifecycle_core.specs.Causes.{AreFound, AreMissesExplained};
 ghost use Rattle.lifecycle_core.specs.InLine.{IsRunInLine};
 ghost use Rattle.lifecycle_core.specs.Phases.{IsLawfulJournal, IsRunOf, BeginsPhase};
 ghost use Rattle.lifecycle_core.specs.Tasks.{End};
@@ -27,4 +28,9 @@ pub fn runs_in_line_are_lawful()
 /// A law: where a series call says that an object was missing, the journal shows why, whatever the bucket does.
 pub fn misses_are_explained()
     ensures { (script : Script) (journal : List Entry) (ends : List (List (List End))) → IsLawfulScript script → IsRunOf script journal ends → AreMissesExplained script journal ends }
+{}
+
+/// A law: where the bucket is honest, no series call misses an object, since no script deletes one.
+pub fn honest_buckets_miss_nothing()
+    ensures { (script : Script) (journal : List Entry) (ends : List (List (List End))) → IsLawfulScript script → IsRunOf script journal ends → IsHonest journal → AreFound ends }
 {}
