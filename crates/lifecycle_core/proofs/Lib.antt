@@ -10,3 +10,8 @@ pub mod WorkerRuns
 pub mod PhaseRuns
 pub mod RunsInLine
 pub mod Joined
+pub mod Positions
+pub mod RunEntries
+pub mod GatewayEntries
+pub mod Misses
+pub mod Explaining

@@ -48,6 +48,10 @@ pub record IsExplained (script : Script) (journal : List Entry) (number : ℕ) :
 abbrev pub AreMissesExplained : Script → List Entry → List (List (List End)) → Type 0
 AreMissesExplained script journal ends = (used : Use) (number : ℕ) → SomeCame ends (answered used (called.Missing number)) → IsExplained script journal number
 
+-- No series call says that an object was missing.
+abbrev pub AreFound : List (List (List End)) → Type 0
+AreFound ends = (used : Use) (number : ℕ) → ¬ SomeCame ends (answered used (called.Missing number))
+
 -- bytes or names were not of the form
 abbrev pub IsDamaged : End → Type 0
 IsDamaged (synced (fetched.Damaged entry)) = Unit {0}

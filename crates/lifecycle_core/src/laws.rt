@@ -1,10 +1,12 @@
 ghost use Rattle.std.specs.Prelude.{◌≡◌, List, [], ◌∷◌};
+ghost use Rattle.world_core.specs.Standing.{IsHonest};
 ghost use Rattle.world_core.specs.declared.entry.Entry.{Entry};
 ghost use Rattle.script_core.specs.declared.phase.Phase.{Phase};
 ghost use Rattle.script_core.specs.declared.script.Script.{Script};
 ghost use Rattle.script_core.specs.Lawful.{IsLawfulScript};
+ghost use Rattle.lifecycle_core.specs.Causes.{AreFound, AreMissesExplained};
 ghost use Rattle.lifecycle_core.specs.InLine.{IsRunInLine};
-ghost use Rattle.lifecycle_core.specs.Phases.{IsLawfulJournal, BeginsPhase};
+ghost use Rattle.lifecycle_core.specs.Phases.{IsLawfulJournal, IsRunOf, BeginsPhase};
 ghost use Rattle.lifecycle_core.specs.Tasks.{End};
 
 /// A law: a run that was broken off before its first entry is a run of every script.
@@ -21,4 +23,14 @@ pub fn journals_begin_with_the_first_phase()
 /// A law: a run that does a lawful script's tasks one after another, in the order of their lines, leaves a lawful journal.
 pub fn runs_in_line_are_lawful()
     ensures { (script : Script) (journal : List Entry) (ends : List (List End)) → IsLawfulScript script → IsRunInLine script journal ends → IsLawfulJournal script journal }
+{}
+
+/// A law: where a series call says that an object was missing, the journal shows why, whatever the bucket does.
+pub fn misses_are_explained()
+    ensures { (script : Script) (journal : List Entry) (ends : List (List (List End))) → IsLawfulScript script → IsRunOf script journal ends → AreMissesExplained script journal ends }
+{}
+
+/// A law: where the bucket is honest, no series call misses an object, since no script deletes one.
+pub fn honest_buckets_miss_nothing()
+    ensures { (script : Script) (journal : List Entry) (ends : List (List (List End))) → IsLawfulScript script → IsRunOf script journal ends → IsHonest journal → AreFound ends }
 {}

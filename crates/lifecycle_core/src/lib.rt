@@ -3,4 +3,7 @@
 
 mod laws;
 
-pub use laws::{journals_begin_with_the_first_phase, no_entry_is_lawful, runs_in_line_are_lawful};
+pub use laws::{
+    honest_buckets_miss_nothing, journals_begin_with_the_first_phase, misses_are_explained,
+    no_entry_is_lawful, runs_in_line_are_lawful,
+};

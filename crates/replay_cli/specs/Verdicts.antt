@@ -12,6 +12,7 @@ use Rattle.script_core.specs.Wording.{refusal_text}
 use Rattle.script_core.specs.declared.phase.Phase.{Phase}
 use Rattle.script_core.specs.declared.script.Script.{Script}
 use Rattle.script_core.specs.declared.task.Task.{Task}
+use Rattle.lifecycle_core.specs.Causes.{AreMissesExplained}
 use Rattle.lifecycle_core.specs.InLine.{IsInLine}
 use Rattle.lifecycle_core.specs.Phases.{AreFinished, AreUnfinished, IsLawfulJournal, IsOperationDue, IsRunOf}
 use Rattle.lifecycle_core.specs.Tasks.{End}
@@ -67,12 +68,13 @@ pub record IsReport (script : Script) (phases : List Phase) (ends : List (List (
   pub flag : as_asked ≡ list_all is_as_asked outcomes
 
 -- The journal is that of the whole script: each of its phases was begun, all its tasks have come to their ends, and the text
--- is their report.
+-- is their report. Where it tells of a missing object, the journal shows why.
 pub record IsWholeRun (script : Script) (as_asked : Bool) (text : List ℕ) (journal : List Entry) : Type 0 where
   pub ends : List (List (List End))
   pub run : IsRunOf script journal ends
   pub finished : AreFinished script 0 script.phases ends
   pub report : IsReport script script.phases ends as_asked text
+  pub explained : AreMissesExplained script journal ends
 
 -- what holds where a phase was begun after those that are told
 abbrev pub WhereBegun : List (List (List End)) → Type 0 → Type 0
@@ -97,6 +99,7 @@ pub record IsFullRun (script : Script) (text : List ℕ) (journal : List Entry) 
   pub finished : AreFinished script 0 done told
   pub as_asked : Bool
   pub report : IsReport script done told as_asked text
+  pub explained : AreMissesExplained script journal ends
 
 -- ---- causes
 

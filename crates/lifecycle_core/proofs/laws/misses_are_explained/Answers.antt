@@ -1,0 +1,5 @@
+use Rattle.lifecycle_core.proofs.Explaining.{misses_explained}
+use Rattle.lifecycle_core.proofs.laws.misses_are_explained.Goals as goal
+
+pub returns : goal.returns
+returns c = misses_explained
