@@ -15,6 +15,5 @@ pub mod OneLater
 pub mod OneRefused
 pub mod OneInTime
 pub mod Ends
-pub mod Lies
 pub mod OneUnbroken
 pub mod OneGuaranteed

@@ -1,25 +1,24 @@
 -- No entry of the run of the script of one block breaks a rule.
-use Rattle.std.proofs.Common.{◌≡◌, ◌≤◌, ℕ, List, [], ◌∷◌, ◌++◌, Some, codes, inl, inr, refl, ap, subst, arith, lit≤}
-use Rattle.std.proofs.lemmas.List.Elements.{All-head, All-tail}
+use Rattle.std.proofs.Common.{◌≡◌, ◌≤◌, ℕ, List, [], ◌∷◌, ◌++◌, codes, inl, inr, refl, sym, subst, arith, lit≤}
 use Rattle.block_keys.specs.declared.key.Key.{Key}
 use Rattle.block_keys.specs.declared.key.Key.TheVariants as key
-use Rattle.bucket_core.specs.Pages.{Before, IsName, IsPage}
+use Rattle.bucket_core.specs.Contents.{Contents}
+use Rattle.bucket_core.specs.Pages.{IsPage}
 use Rattle.world_core.specs.Journals.{Each}
 use Rattle.world_core.specs.Operations.{IsReplyTo}
 use Rattle.world_core.specs.Standing.{stands, Tells}
 use Rattle.world_core.specs.declared.entry.Entry.{Entry}
 use Rattle.world_core.specs.declared.op.Op.TheVariants as op
-use Rattle.world_core.specs.declared.reply.Reply.{Reply}
-use Rattle.world_core.specs.declared.reply.Reply.TheVariants.{Clocked, Stored, Found, Absent, Deleted, Names, Failed}
-use Rattle.lifecycle_core.specs.Breaches.{IsBreach, IsKept, IsLie, IsUnbroken, honesty, mark_time, sync_time, upload_time, view_time, shown_by}
+use Rattle.world_core.specs.declared.reply.Reply.TheVariants.{Found}
+use Rattle.lifecycle_core.specs.Breaches.{IsBreach, IsKept, IsLie, IsUnbroken, honesty, mark_time, sync_time, upload_time, view_time}
 use Rattle.lifecycle_core.specs.TimeRules.{PutsMark}
 use Rattle.worked_rows.specs.Entries.{clock, stored, listed}
 use Rattle.worked_rows.specs.SmallBlock as small
 use Rattle.worked_rows.specs.OneBlock as one
 use Rattle.worked_rows.specs.LostIndex as lost
-use Rattle.worked_rows.proofs.Bucket.{full, only_name, stands_there, shows_meta, shows_index, shows_segment, shows_no_mark}
+use Rattle.worked_rows.proofs.Bucket.{full, page, shows_meta, shows_index, shows_segment, shows_no_mark}
 use Rattle.worked_rows.proofs.Each.{EachAfter, each_after, each_of}
-use Rattle.worked_rows.proofs.Lies.{get_is_true, nothing_shown, same_text}
+use Rattle.lifecycle_core.proofs.Honesty.{no_lie}
 use Rattle.worked_rows.proofs.OneInTime.{InTime, in_time}
 
 -- An entry of the first half hour breaks no rule, where it is no lie, puts objects in time, and no mark.
@@ -32,54 +31,23 @@ keeps journal before e early true_is timely unmarked mark_time x y (ulid, second
 keeps journal before e early true_is timely unmarked sync_time x y (gateway, entries, end, first, others, front, sync, begins, ends, (is, most, over)) = omega (arith, early, over)
 keeps journal before e early true_is timely unmarked view_time x y (gateway, view, reads, has, (is, most, over)) = omega (arith, early, over)
 
-clock_keeps : (journal before : List Entry) (seq moment : ℕ) → moment ≤ 1_800_005 → IsKept one.script journal before (clock seq moment)
-clock_keeps journal before seq moment early =
-    keeps journal before (clock seq moment) early (λ x y. nothing_shown before (clock seq moment) x y refl) (λ ulid p. cc (p.2)) (λ ulid second p. cc (p.2))
+-- where it shows what stands
+true_keeps : (journal before : List Entry) (e : Entry) → e.moment.ms ≤ 1_800_005 → IsReplyTo e.op e.reply → Tells (stands before) e.op e.reply → ((ulid : ℕ) → InTime ulid e) → ((ulid second : ℕ) → ¬ PutsMark ulid second e) → IsKept one.script journal before e
+true_keeps journal before e early kind tells timely unmarked = keeps journal before e early (λ x y. no_lie before e x y kind tells) timely unmarked
 
-get_keeps : (journal before : List Entry) (e : Entry) (k : Key) → e.moment.ms ≤ 1_800_005 → e.op ≡ op.Get k → IsReplyTo (op.Get k) e.reply → Tells (stands before) (op.Get k) e.reply → IsKept one.script journal before e
-get_keeps journal before e k early is kind tells =
-    keeps journal before e early (λ x y. get_is_true before e k x y is kind tells) (λ ulid p. cc (is, p.2)) (λ ulid second p. cc (is, p.2))
+clock_keeps : (journal before : List Entry) (seq moment : ℕ) → moment ≤ 1_800_005 → IsKept one.script journal before (clock seq moment)
+clock_keeps journal before seq moment early = true_keeps journal before (clock seq moment) early tt tt (λ ulid p. cc (p.2)) (λ ulid second p. cc (p.2))
+
+get_keeps : (journal before : List Entry) (e : Entry) (k : Key) → e.moment.ms ≤ 1_800_005 → e.op ≡ op.Get k → IsReplyTo e.op e.reply → Tells (stands before) e.op e.reply → IsKept one.script journal before e
+get_keeps journal before e k early is kind tells = true_keeps journal before e early kind tells (λ ulid p. cc (is, p.2)) (λ ulid second p. cc (is, p.2))
 
 put_keeps : (journal before : List Entry) (seq seat moment : ℕ) (k : Key) (bytes : List ℕ) → moment ≤ 1_800_000 → ((ulid : ℕ) → InTime ulid (stored seq seat moment k bytes)) → ((ulid second : ℕ) → ¬ PutsMark ulid second (stored seq seat moment k bytes))
     → IsKept one.script journal before (stored seq seat moment k bytes)
-put_keeps journal before seq seat moment k bytes early timely unmarked =
-    keeps journal before (stored seq seat moment k bytes) (omega (arith, early)) (λ x y. nothing_shown before (stored seq seat moment k bytes) x y refl) timely unmarked
-
--- ---- the page
-
-not_before : ¬ Before small.a_text small.a_text
-not_before less = cc (less)
-
-only_a : (names : List (List ℕ)) → IsPage full [] [] 1_000 names → names ≡ small.a_text ∷ []
-only_a [] is =
-    elim (is.whole small.a_text stands_there refl) [
-      | inl (k, below, at) ↦ absurd (omega (arith, below))
-      | inr (full_is, after) ↦ absurd (omega (arith, full_is))
-    ]
-only_a (name ∷ []) is = ap (λ n. n ∷ []) (only_name name (All-head (IsName full []) name [] is.stand))
-only_a (name ∷ other ∷ names) is =
-    let one = only_name name (All-head (IsName full []) name (other ∷ names) is.stand) in
-    let two = only_name other (All-head (IsName full []) other names (All-tail (IsName full []) name (other ∷ names) is.stand)) in
-    absurd (not_before (subst (λ n. Before n small.a_text) one (subst (Before name) two is.ascend.1.0)))
-
-page_shows : (reply : Reply) (one other : List ℕ) → shown_by (Names (small.a_text ∷ [])) ≡ Some one → IsReplyTo (op.RootPage [] 1_000) reply → Tells full (op.RootPage [] 1_000) reply → shown_by reply ≡ Some other → one ≡ other
-page_shows Clocked one other is kind tells is' = absurd kind
-page_shows Stored one other is kind tells is' = absurd kind
-page_shows Deleted one other is kind tells is' = absurd kind
-page_shows (Found bytes) one other is kind tells is' = absurd kind
-page_shows Absent one other is kind tells is' = absurd kind
-page_shows (Failed landed) one other is kind tells is' = absurd (cc (is'))
-page_shows (Names names) one other is kind tells is' = cc (is, is', only_a names tells)
-
-page_is_true : (before : List Entry) (seq seat moment : ℕ) → stands before ≡ full → (x y : ℕ) → ¬ IsLie before (listed seq seat moment (small.a_text ∷ [])) x y
-page_is_true before seq seat moment stood x y (reply, one, other, kind, tells, shown, owed, differ) =
-    same_text one other x y (page_shows reply one other shown kind (subst (λ c. Tells c (op.RootPage [] 1_000) reply) stood tells) owed) differ
+put_keeps journal before seq seat moment k bytes early timely unmarked = true_keeps journal before (stored seq seat moment k bytes) (omega (arith, early)) tt tt timely unmarked
 
 page_keeps : (journal before : List Entry) (seq seat moment : ℕ) → moment ≤ 1_800_005 → stands before ≡ full → IsKept one.script journal before (listed seq seat moment (small.a_text ∷ []))
 page_keeps journal before seq seat moment early stood =
-    keeps journal before (listed seq seat moment (small.a_text ∷ [])) early
-    (page_is_true before seq seat moment stood)
-    (λ ulid p. cc (p.2)) (λ ulid second p. cc (p.2))
+    true_keeps journal before (listed seq seat moment (small.a_text ∷ [])) early tt (subst (λ (c : Contents). IsPage c [] [] 1_000 (small.a_text ∷ [])) (sym stood) page) (λ ulid p. cc (p.2)) (λ ulid second p. cc (p.2))
 
 -- ---- entry by entry
 
