@@ -6,7 +6,7 @@ ghost use Rattle.world_core.specs.declared.entry.Entry.{Entry};
 ghost use Rattle.script_core.specs.declared.phase.Phase.{Phase};
 ghost use Rattle.script_core.specs.declared.script.Script.{Script};
 ghost use Rattle.script_core.specs.Lawful.{IsLawfulScript};
-ghost use Rattle.lifecycle_core.specs.Breaches.{IsLie};
+ghost use Rattle.lifecycle_core.specs.Breaches.{IsLie, IsUnbroken};
 ghost use Rattle.lifecycle_core.specs.Causes.{AreFound, AreMissesExplained};
 ghost use Rattle.lifecycle_core.specs.InLine.{IsRunInLine};
 ghost use Rattle.lifecycle_core.specs.Phases.{IsLawfulJournal, IsRunOf, BeginsPhase};
@@ -41,4 +41,9 @@ pub fn honest_buckets_miss_nothing()
 /// A law: an honest journal shows no lie.
 pub fn honest_journals_tell_no_lie()
     ensures { (tick : ℕ) (journal : List Entry) → IsJournal tick journal → IsHonest journal → Each (λ before e. (x y : ℕ) → ¬ IsLie before e x y) journal }
+{}
+
+/// A law: where misses are explained and no entry breaks a rule, no series call misses an object.
+pub fn unbroken_journals_miss_nothing()
+    ensures { (script : Script) (journal : List Entry) (ends : List (List (List End))) → AreMissesExplained script journal ends → IsUnbroken script journal → AreFound ends }
 {}

@@ -17,3 +17,4 @@ pub mod OneInTime
 pub mod Ends
 pub mod OneUnbroken
 pub mod OneGuaranteed
+pub mod LateUpload
