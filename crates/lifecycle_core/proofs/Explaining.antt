@@ -1,12 +1,11 @@
 -- A call that misses an object reads what was put, so that the bucket lied: in every lawful journal of a script.
-use Rattle.std.proofs.Common.{◌≡◌, ◌≢◌, ◌⊎◌, inl, inr, ℕ, zero, suc, ◌+◌, ◌-◌, ◌<◌, ◌≤◌, ◌==◌, Bool, true, false, cond, IsTrue, List, [], ◌∷◌, ◌++◌, map, length, get_or, codes, Contains, Option, Some, None, refl, sym, ◌∙◌, ap, subst, append_assoc, append-nil, arith}
+use Rattle.std.proofs.Common.{◌≡◌, ◌≢◌, ◌⊎◌, inl, inr, ℕ, zero, suc, ◌+◌, ◌-◌, ◌≤◌, ◌==◌, Bool, true, false, cond, IsTrue, List, [], ◌∷◌, ◌++◌, map, length, get_or, codes, Contains, Option, Some, None, refl, sym, ◌∙◌, ap, subst, append_assoc, append-nil, arith}
 use Rattle.std.specs.Prelude.{slice_get}
-use Rattle.std.specs.List.{All, AllZip, filter, fold}
+use Rattle.std.specs.List.{All, AllZip, fold}
 use Rattle.std.specs.Str.{bytes_eq}
 use Rattle.std.proofs.lemmas.Bool.Decides.{nat_tests}
 use Rattle.std.proofs.lemmas.List.{append_cancel_right, length-append, length-map}
 use Rattle.std.proofs.lemmas.List.Elements.{All-cons, All-contains, All-nil, Contains-append_cases, Contains-append_left, Contains-append_right}
-use Rattle.std.proofs.lemmas.List.Sums.{fold-append}
 use Rattle.std.proofs.lemmas.Slice.Eq.{bytes_eq-Decides}
 use Rattle.ulid_core.proofs.Positional.{length-fixed_digits}
 use Rattle.ulid_core.specs.FixedDigits.{fixed_digits}
@@ -35,8 +34,7 @@ use Rattle.lifecycle_core.specs.Causes.{AreFound, AreMissesExplained, IsExplaine
 use Rattle.lifecycle_core.specs.Phases.{IsRunOf, PhaseRun, PhasesRun, WorkerRun, of_seat}
 use Rattle.lifecycle_core.specs.Tasks.{End, answered}
 use Rattle.lifecycle_core.specs.Views.{Use, Views, no_views, view_of}
-use Rattle.lifecycle_core.proofs.GatewayEntries.{IsSeen}
-use Rattle.lifecycle_core.proofs.Lists.{all_first, contains_first}
+use Rattle.lifecycle_core.proofs.Lists.{contains_first}
 use Rattle.lifecycle_core.proofs.Misses.{Leaves, MissesAt, ViewSeen, misses_within, seen_among, tasks_in_order, tasks_leave, view_among}
 use Rattle.lifecycle_core.proofs.Positions.{filtered, of_filter, split, stands_in, unfilter, zip_left, zip_right}
 use Rattle.lifecycle_core.proofs.RunEntries.{HasPut, PrecedesMeta, IsInOrder, in_order_at, more_before}

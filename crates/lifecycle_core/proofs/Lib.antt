@@ -15,3 +15,4 @@ pub mod RunEntries
 pub mod GatewayEntries
 pub mod Misses
 pub mod Explaining
+pub mod Honesty

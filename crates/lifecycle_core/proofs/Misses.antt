@@ -1,17 +1,14 @@
 -- What the runs of a script's phases have in common: nothing is deleted, a block's meta is put last, and a call that misses an
 -- object reads a block whose meta was found before.
-use Rattle.std.proofs.Common.{◌≡◌, ◌≢◌, ◌⊎◌, inl, inr, ℕ, zero, suc, ◌+◌, ◌==◌, Bool, true, false, List, [], ◌∷◌, ◌++◌, map, length, Contains, Option, Some, None, refl, sym, ◌∙◌, ap, subst, append_assoc, append-nil, arith}
-use Rattle.std.specs.Prelude.{option_map, slice_get, find}
-use Rattle.std.specs.List.{All, AllByRecursion, AllZip, filter}
-use Rattle.std.proofs.lemmas.Bool.Decides.{nat_tests}
-use Rattle.std.proofs.lemmas.List.Elements.{All-contains, All-from_recursion, All-tail, Contains-append_cases, Contains-append_left, Contains-append_right}
+use Rattle.std.proofs.Common.{◌≡◌, inl, inr, ℕ, zero, suc, ◌==◌, Bool, true, false, List, [], ◌∷◌, ◌++◌, Contains, Option, Some, None, refl, sym, ◌∙◌, ap, subst, append_assoc, append-nil, arith}
+use Rattle.std.specs.Prelude.{option_map, find}
+use Rattle.std.specs.List.{All}
+use Rattle.std.proofs.lemmas.List.Elements.{All-tail, Contains-append_cases, Contains-append_left, Contains-append_right}
 use Rattle.block_keys.specs.declared.key.Key.{Key}
-use Rattle.block_keys.specs.declared.key.Key.TheVariants as key
 use Rattle.block_keys.specs.declared.object.Object.{Object}
 use Rattle.block_meta.specs.MetaValue.{meta_text}
 use Rattle.block_files.specs.Built.{built_meta, objects_of, segment_objects, segment_text, segments_of}
 use Rattle.block_files.specs.PlainForm.{plain_index}
-use Rattle.label_sets.specs.declared.series.Series.{Series}
 use Rattle.world_core.specs.declared.entry.Entry.{Entry}
 use Rattle.world_core.specs.declared.op.Op.TheVariants as op
 use Rattle.world_core.specs.declared.reply.Reply.TheVariants as reply
@@ -21,8 +18,7 @@ use Rattle.sync_filters.specs.declared.found.Found.{Found}
 use Rattle.meta_fetcher.specs.declared.view.View.{View}
 use Rattle.meta_fetcher.specs.declared.sync_end.SyncEnd.{SyncEnd}
 use Rattle.meta_fetcher.specs.declared.sync_end.SyncEnd.TheVariants as fetched
-use Rattle.store_gateway.specs.SeriesRuns.{Query as Question, SeriesRun}
-use Rattle.store_gateway.specs.declared.series_end.SeriesEnd.{SeriesEnd}
+use Rattle.store_gateway.specs.SeriesRuns.{Query as Question}
 use Rattle.store_gateway.specs.declared.series_end.SeriesEnd.TheVariants as called
 use Rattle.script_core.specs.Lawful.{HasSeries, IsLawfulScript}
 use Rattle.script_core.specs.declared.block.Block.{Block}
@@ -32,14 +28,13 @@ use Rattle.script_core.specs.declared.script.Script.{Script}
 use Rattle.script_core.specs.declared.task.Task.{Task}
 use Rattle.script_core.specs.declared.work.Work.{Work}
 use Rattle.script_core.specs.declared.work.Work.TheVariants.{Upload, Sync, Query}
-use Rattle.lifecycle_core.specs.Held.{declared}
 use Rattle.lifecycle_core.specs.Phases.{TasksRun}
 use Rattle.lifecycle_core.specs.Shipped.{AreBuilt}
-use Rattle.lifecycle_core.specs.Tasks.{End, QueryTask, TaskRun, answered, asked_by, last_number, stopped, synced, sync_rules, uploaded, view_after, without_view}
+use Rattle.lifecycle_core.specs.Tasks.{End, QueryTask, TaskRun, answered, asked_by, last_number, synced, sync_rules, uploaded, view_after, without_view}
 use Rattle.lifecycle_core.specs.Views.{Use}
 use Rattle.lifecycle_core.proofs.GatewayEntries.{IsSeen, calls, seen_left, syncs}
 use Rattle.lifecycle_core.proofs.Lists.{all_first}
-use Rattle.lifecycle_core.proofs.RunEntries.{AreInOrder, PrecedesMeta, IsInOrder, all_read, in_order_both, more_before, upload_in_order}
+use Rattle.lifecycle_core.proofs.RunEntries.{AreInOrder, PrecedesMeta, all_read, in_order_both, more_before, upload_in_order}
 use Rattle.lifecycle_core.proofs.TaskRuns.{upload_keeps}
 
 -- ---- the order of one task's entries

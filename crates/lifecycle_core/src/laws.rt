@@ -1,9 +1,12 @@
-ghost use Rattle.std.specs.Prelude.{◌≡◌, List, [], ◌∷◌};
+ghost use Rattle.std.specs.Prelude.{◌≡◌, ℕ, List, [], ◌∷◌};
+ghost use Rattle.world_core.specs.Journals.{Each};
 ghost use Rattle.world_core.specs.Standing.{IsHonest};
+ghost use Rattle.world_core.specs.Worlds.{IsJournal};
 ghost use Rattle.world_core.specs.declared.entry.Entry.{Entry};
 ghost use Rattle.script_core.specs.declared.phase.Phase.{Phase};
 ghost use Rattle.script_core.specs.declared.script.Script.{Script};
 ghost use Rattle.script_core.specs.Lawful.{IsLawfulScript};
+ghost use Rattle.lifecycle_core.specs.Breaches.{IsLie, IsUnbroken};
 ghost use Rattle.lifecycle_core.specs.Causes.{AreFound, AreMissesExplained};
 ghost use Rattle.lifecycle_core.specs.InLine.{IsRunInLine};
 ghost use Rattle.lifecycle_core.specs.Phases.{IsLawfulJournal, IsRunOf, BeginsPhase};
@@ -33,4 +36,14 @@ pub fn misses_are_explained()
 /// A law: where the bucket is honest, no series call misses an object, since no script deletes one.
 pub fn honest_buckets_miss_nothing()
     ensures { (script : Script) (journal : List Entry) (ends : List (List (List End))) → IsLawfulScript script → IsRunOf script journal ends → IsHonest journal → AreFound ends }
+{}
+
+/// A law: an honest journal shows no lie.
+pub fn honest_journals_tell_no_lie()
+    ensures { (tick : ℕ) (journal : List Entry) → IsJournal tick journal → IsHonest journal → Each (λ before e. (x y : ℕ) → ¬ IsLie before e x y) journal }
+{}
+
+/// A law: where misses are explained and no entry breaks a rule, no series call misses an object.
+pub fn unbroken_journals_miss_nothing()
+    ensures { (script : Script) (journal : List Entry) (ends : List (List (List End))) → AreMissesExplained script journal ends → IsUnbroken script journal → AreFound ends }
 {}

@@ -67,12 +67,7 @@ folder_of text some =
       | inr (inr h) ↦ one_folder (key_text (key.Segment small.a 1)) text h segment_folder
     ]
 
--- no other name is listed
-pub only_name : (name : List ℕ) → IsName full [] name → name ≡ small.a_text
-unfolding first_part
-only_name name is = is.2 ∙ folder_of is.0 is.1
-
-pub stands_there : IsName full [] small.a_text
+stands_there : IsName full [] small.a_text
 unfolding key_text name_of text_of character alphabet fixed_digits
 stands_there = (key_text (key.Meta small.a), refl, refl)
 

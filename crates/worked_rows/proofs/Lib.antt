@@ -15,6 +15,6 @@ pub mod OneLater
 pub mod OneRefused
 pub mod OneInTime
 pub mod Ends
-pub mod Lies
 pub mod OneUnbroken
 pub mod OneGuaranteed
+pub mod LateUpload

@@ -4,4 +4,5 @@ pub mod SmallRuns
 pub mod OneBlock
 pub mod OneBlockChanged
 pub mod LostIndex
+pub mod LateUpload
 pub mod YoungBlock

@@ -1,11 +1,13 @@
 //! Whole runs that are written out: that the definitions of `lifecycle_core` and `replay_cli` say of them what they should.
 #![tactic(auto)]
 
+mod late_upload;
 mod lost_index;
 mod one_block;
 mod one_block_changed;
 mod young_block;
 
+pub use late_upload::{late_upload_is_the_breach, late_upload_runs};
 pub use lost_index::{lost_index_is_explained, lost_index_is_the_breach, lost_index_runs};
 pub use one_block::{
     one_block_breaks_no_rule, one_block_is_answered, one_block_is_guaranteed, one_block_is_honest,
