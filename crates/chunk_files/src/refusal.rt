@@ -9,7 +9,7 @@ pub enum ChunkRefusal {
     /// The segment does not begin as one.
     BadMagic,
     BadVersion,
-    /// The bytes end before the chunk does, or the place lies within the segment's header.
+    /// The bytes end before the chunk does, its length is no number of 64 bits, or the place lies within the segment's header.
     Short,
     /// The sum that is kept behind the chunk is not that of its encoding and data.
     BadSum { kept: u32, computed: u32 },

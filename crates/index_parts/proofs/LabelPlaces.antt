@@ -1,6 +1,7 @@
 -- The place of a member among those that are read.
 use Rattle.std.proofs.Common.{◌≡◌, ℕ, zero, suc, ◌<◌, ◌≤◌, List, [], ◌∷◌, length, map, Some, None, Result, Ok, Err, refl, sym, ap, ◌∙◌, arith}
 use Rattle.std.specs.List.{slice_get}
+use Rattle.std.proofs.lemmas.Bool.{lt-ltb, le-ltb}
 use Rattle.std.proofs.lemmas.Option.{slice_get_past}
 use Rattle.reading_core.specs.Reading.{◌>>=◌}
 use Rattle.reading_core.specs.Members.{members_at}
@@ -11,10 +12,10 @@ use Rattle.index_parts.specs.declared.refusal.PartRefusal.{PartRefusal}
 use Rattle.index_parts.specs.declared.raw_series.RawSeries.{RawSeries}
 use Rattle.index_parts.specs.Placed.{field}
 use Rattle.index_parts.specs.Framing.{entry_at}
-use Rattle.index_parts.specs.SeriesReading.{label_at, labels_at, chunk_at, label_place_at, label_places_at, series_at}
+use Rattle.index_parts.specs.SeriesReading.{label_at, labels_at, chunk_at, label_place_at, label_places_at, place_among, label_place_of, series_at}
 use Rattle.index_parts.specs.ListReading.{turns_at}
 use Rattle.index_parts.proofs.SeriesLaws.{after_labels, series_with, length-firsts}
-use Rattle.reading_core.proofs.Counted.{members_parts, members_first, length-members}
+use Rattle.reading_core.proofs.Counted.{members_parts, members_first, members_stop, length-members}
 
 module _ {A S E : Type 0} (read : S → Result (A × S) E) where
   -- the members before one, that one, and its place in the list
@@ -140,3 +141,35 @@ label_places_are index at series e =
     let many : length places.0 ≡ length series.names =
     length-members label_place_at count.0.0 count.0.1 all.0.1 places.0 places.1 ∙ sym (length-members label_at count.0.0 count.0.1 all.0.1 all.0.0 all.1) ∙ sym (length-firsts all.0.0) ∙ ap (λ (r : (List ℕ × List ℕ) × Position). length r.0.0) same ∙ ap length names in
     (places.0, places_steps index at content.0 count.0 places.0 all.0.1 content.1 count.1 places.1, many)
+
+-- ---- a label among so many
+
+pub none_among : (count label : ℕ) (p : Position) → count ≤ label → None ≡ place_among count label p
+unfolding place_among
+none_among count label p past = rw (le-ltb label count past) refl
+
+pub stopped_among : (count label i : ℕ) (p q : Position) (front : List (ℕ × ℕ)) (e : PartRefusal) → label < count → i < label → members_at label_place_at i p ≡ Ok (front, q) → label_place_at q ≡ Err e → None ≡ place_among count label p
+unfolding place_among
+stopped_among count label i p q front e lt before so_far refused = rw (lt-ltb label count lt, members_stop label_place_at i label p q front e before so_far refused) refl
+
+pub refused_among : (count label i : ℕ) (p q : Position) (front : List (ℕ × ℕ)) (e : PartRefusal) → label < count → i ≡ label → members_at label_place_at i p ≡ Ok (front, q) → label_place_at q ≡ Err e → None ≡ place_among count label p
+unfolding place_among
+refused_among count label i p q front e lt here so_far refused = rw (lt-ltb label count lt, ← here, so_far, refused) refl
+
+pub found_among : (count label i : ℕ) (p q r : Position) (front : List (ℕ × ℕ)) (place : ℕ × ℕ) → label < count → i ≡ label → members_at label_place_at i p ≡ Ok (front, q) → label_place_at q ≡ Ok (place, r) → Some place ≡ place_among count label p
+unfolding place_among
+found_among count label i p q r front place lt here so_far one = rw (lt-ltb label count lt, ← here, so_far, one) refl
+
+-- ---- a label of the series at a place
+
+pub nowhere : (index : List ℕ) (at label : ℕ) (e : PartRefusal) → entry_at index at ≡ Err e → None ≡ label_place_of index at label
+unfolding label_place_of
+nowhere index at label e refused = rw refused refl
+
+pub uncounted : (index : List ℕ) (at label : ℕ) (p : Position) (e : PartRefusal) → entry_at index at ≡ Ok p → field uvarint_at p ≡ Err e → None ≡ label_place_of index at label
+unfolding label_place_of
+uncounted index at label p e entry refused = rw (entry, refused) refl
+
+pub counted : (index : List ℕ) (at label count : ℕ) (p q : Position) → entry_at index at ≡ Ok p → field uvarint_at p ≡ Ok (count, q) → place_among count label q ≡ label_place_of index at label
+unfolding label_place_of
+counted index at label count p q entry many = rw (entry, many) refl

@@ -1,6 +1,8 @@
 -- What reading a series gives, or the first refusal.
-use Rattle.std.specs.Prelude.{ℕ, ◌/◌, ◌%◌, ◌^◌, List, map, Option, Some, None, Bool, Result, Ok, nat_lt, ℤ, pos, negsuc, ◌+ℤ◌}
+use Rattle.std.specs.Prelude.{ℕ, ◌/◌, ◌%◌, ◌^◌, List, map, Option, Some, None, option_map, Bool, if◌then◌else◌, Result, Ok, nat_lt, ℤ, pos, negsuc, ◌+ℤ◌}
 use Rattle.std.specs.Int.RustNames.{unsigned_abs}
+use Rattle.std.specs.Option.{option_and_then}
+use Rattle.std.specs.Result.{result_ok}
 use Rattle.reading_core.specs.Reading.{◌>>=◌, ◌>>◌, unless}
 use Rattle.reading_core.specs.Members.{members_at}
 use Rattle.reading_core.specs.Decimal.{fits_signed}
@@ -85,6 +87,16 @@ label_place_at p = do
   name ← field uvarint_at p
   value ← field uvarint_at name.1
   Ok ((p.place, name.1.place), value.1)
+
+-- those of one label among so many, where the labels before it and it itself can be read
+unfoldable pub place_among : ℕ → ℕ → Position → Option (ℕ × ℕ)
+place_among count label p =
+    if nat_lt label count then option_map (λ (read : (ℕ × ℕ) × Position). read.0) (result_ok (members_at label_place_at label p >>= λ before. label_place_at before.1)) else None
+
+-- those of one label of the series at a place
+unfoldable pub label_place_of : List ℕ → ℕ → ℕ → Option (ℕ × ℕ)
+label_place_of index at label =
+    option_and_then (λ (count : ℕ × Position). place_among count.0 label count.1) (result_ok (entry_at index at >>= λ content. field uvarint_at content))
 
 -- those of each label of a series
 unfoldable pub label_places_at : List ℕ → ℕ → Result (List (ℕ × ℕ)) PartRefusal

@@ -1,7 +1,7 @@
 ghost use Rattle.std.specs.Prelude.{◌≡◌, List, ℕ, Ok, Err, MatchResult, slice_get};
 ghost use Rattle.wire_bytes.specs.Position.{Position};
 ghost use Rattle.reading_core.specs.Members.{members_at};
-ghost use Rattle.index_parts.specs.SeriesReading.{label_place_at, label_places_at};
+ghost use Rattle.index_parts.specs.SeriesReading.{label_place_at, label_places_at, place_among, label_place_of};
 
 use crate::PartRefusal;
 use crate::fields::next_uvarint;
@@ -22,7 +22,8 @@ fn next_label_place(cursor: &mut Cursor<'_>) -> Result<(u64, u64), PartRefusal>
 
 /// The same of a label of so many.
 fn place_of(mut cursor: Cursor<'_>, count: u64, label: usize) -> Option<(u64, u64)>
-    ensures { (places : List (ℕ × ℕ)) (rest : Position) → members_at label_place_at count cursor.entry ≡ Ok (places, rest) → result ≡ slice_get places label }
+    ensures among { (places : List (ℕ × ℕ)) (rest : Position) → members_at label_place_at count cursor.entry ≡ Ok (places, rest) → result ≡ slice_get places label }
+    ensures exact { result ≡ place_among count label cursor.entry }
 {
     if label as u64 >= count {
         return None;
@@ -39,10 +40,12 @@ fn place_of(mut cursor: Cursor<'_>, count: u64, label: usize) -> Option<(u64, u6
     }
 }
 
-/// Where the symbol numbers of a label stand in the series at a place, its name's and its value's. Of a series that cannot be
-/// read the answer says nothing.
+/// Where the symbol numbers of a label stand in the series at a place, its name's and its value's: nowhere, if there is no such
+/// label, or if what stands before it cannot be read.
 pub fn label_place(index: &[u8], at: u64, label: usize) -> Option<(u64, u64)>
-    ensures { (places : List (ℕ × ℕ)) → label_places_at index.now at ≡ Ok places → result ≡ slice_get places label }
+    // Where all labels can be read, it is the label's among them.
+    ensures among { (places : List (ℕ × ℕ)) → label_places_at index.now at ≡ Ok places → result ≡ slice_get places label }
+    ensures exact { result ≡ label_place_of index.now at label }
 {
     let mut content = match entry_of(index, at) {
         Ok(content) => content,

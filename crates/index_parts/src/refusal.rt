@@ -11,7 +11,8 @@ pub enum PartRefusal {
     Short(u64),
     /// The sum that is kept behind the content is not the content's.
     BadSum { kept: u32, computed: u32 },
-    /// A member breaks the order, with its first byte.
+    /// A member breaks the order or is not of its table's kind, with its first byte; or a symbol number of a series stands for no
+    /// text that may stand there, with its own.
     Unordered(u64),
     /// A number passes its range, with the first byte of the varint that leads there.
     Overlong(u64),

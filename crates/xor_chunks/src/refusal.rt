@@ -16,7 +16,7 @@ pub enum XorRefusal {
     Falling,
     /// A time outside 64 bits, a varint above 64 bits, or a window outside its pattern.
     OutOfRange,
-    /// More is left after the samples than zero bits up to the end of the byte.
+    /// More is left after the samples than filling: zero bits up to the end of the byte, of stored data at most 8.
     Trailing,
     NoMemory,
 }

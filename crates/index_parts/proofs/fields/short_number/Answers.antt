@@ -1,4 +1,4 @@
-use Rattle.std.proofs.Common.{◌<◌, ◌≤◌, length, get_or, arith, refl}
+use Rattle.std.proofs.Common.{◌<◌, length, get_or, arith, refl}
 use Rattle.std.proofs.lemmas.Bool.Decides.{nat_tests}
 use Rattle.index_parts.proofs.Moves.{one_group, two_groups, three_groups}
 use Rattle.index_parts.proofs.fields.short_number.Goals as goal
