@@ -28,3 +28,5 @@ pub use write_refusal::IndexWriteRefusal;
 
 #[cfg(test)]
 mod tests;
+#[cfg(test)]
+mod writer_tests;
