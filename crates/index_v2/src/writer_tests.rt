@@ -106,52 +106,58 @@ fn the_worked_index_is_written(rt: HostRuntime) -> Result<(), Fail> {
     Ok(())
 }
 
+/// What is read of the index of series.
+fn again(alloc: Global, list: &[(&str, &[ChunkPlace])]) -> Result<Vec<u8>, Fail> {
+    Ok(shown(alloc, written(alloc, list)?.bytes())?)
+}
+
+/// No series; none of labels and chunks; no shared label, and negative times.
 #[test]
 fn what_is_written_is_read_again(rt: HostRuntime) -> Result<(), Fail> {
     let alloc = rt.alloc();
-    // No series, and one without labels and without chunks.
-    let none = written(alloc, &[])?;
-    assert_eq!(rt; shown(alloc, none.bytes())?.as_slice(), b"".as_slice());
-    let bare = written(alloc, &[("{}", &[])])?;
-    assert_eq!(rt; shown(alloc, bare.bytes())?.as_slice(), b"{}\n".as_slice());
-
-    // No label is shared, and negative times.
-    let apart = written(
-        alloc,
-        &[
-            ("{a=\"b\"}", &[chunk(-5, -3, 0, 8), chunk(-3, 7, 0, 60)]),
-            ("{c=\"d\",e=\"f\"}", &[chunk(-9, -9, 1, 8)]),
-        ],
-    )?;
+    assert!(rt; again(alloc, &[])?.is_empty());
+    let bare = again(alloc, &[("{}", &[])])?;
+    assert_eq!(rt; bare.as_slice(), b"{}\n".as_slice());
+    let apart: [(&str, &[ChunkPlace]); 2] = [
+        ("{a=\"b\"}", &[chunk(-5, -3, 0, 8), chunk(-3, 7, 0, 60)]),
+        ("{c=\"d\",e=\"f\"}", &[chunk(-9, -9, 1, 8)]),
+    ];
     assert_eq!(rt;
-        shown(alloc, apart.bytes())?.as_slice(),
+        again(alloc, &apart)?.as_slice(),
         b"{a=\"b\"} -5--3@0:8 -3-7@0:60\n{c=\"d\",e=\"f\"} -9--9@1:8\n".as_slice()
     );
+    Ok(())
+}
 
-    // All labels but one are shared, values are names too, and references fall.
-    let shared = written(
-        alloc,
-        &[
-            (
-                "{a=\"b\",b=\"a\"}",
-                &[chunk(0, 1, 2, 8), chunk(2, 3, 1, 90)],
-            ),
-            ("{a=\"b\",b=\"b\"}", &[chunk(0, 9, 0, 500)]),
-            (
-                "{a=\"b\",b=\"c\"}",
-                &[chunk(4, 5, 0, 40), chunk(6, 7, 0, 8)],
-            ),
-        ],
-    )?;
-    assert_eq!(rt;
-        shown(alloc, shared.bytes())?.as_slice(),
-        b"{a=\"b\",b=\"a\"} 0-1@2:8 2-3@1:90\n{a=\"b\",b=\"b\"} 0-9@0:500\n{a=\"b\",b=\"c\"} 4-5@0:40 6-7@0:8\n".as_slice()
-    );
-    let reader = IndexReader::open(alloc, shared.bytes())?;
-    let a = reader.postings(alloc, "a", "b")?;
-    assert_eq!(rt; a.len(), 3);
-    let values = reader.label_values(alloc, "b")?;
-    assert_eq!(rt; values.len(), 3);
+/// All labels but one are shared, names are values too, and references fall.
+#[test]
+fn shared_labels_are_read_again(rt: HostRuntime) -> Result<(), Fail> {
+    let alloc = rt.alloc();
+    let shared: [(&str, &[ChunkPlace]); 3] = [
+        (
+            "{a=\"b\",b=\"a\"}",
+            &[chunk(0, 1, 2, 8), chunk(2, 3, 1, 90)],
+        ),
+        ("{a=\"b\",b=\"b\"}", &[chunk(0, 9, 0, 500)]),
+        (
+            "{a=\"b\",b=\"c\"}",
+            &[chunk(4, 5, 0, 40), chunk(6, 7, 0, 8)],
+        ),
+    ];
+    let lines = [
+        "{a=\"b\",b=\"a\"} 0-1@2:8 2-3@1:90\n",
+        "{a=\"b\",b=\"b\"} 0-9@0:500\n",
+        "{a=\"b\",b=\"c\"} 4-5@0:40 6-7@0:8\n",
+    ];
+    let mut text = Vec::new(alloc);
+    for line in lines {
+        text.extend_from_slice(line.as_bytes())?;
+    }
+    assert_eq!(rt; again(alloc, &shared)?.as_slice(), text.as_slice());
+    let index = written(alloc, &shared)?;
+    let reader = IndexReader::open(alloc, index.bytes())?;
+    assert_eq!(rt; reader.postings(alloc, "a", "b")?.len(), 3);
+    assert_eq!(rt; reader.label_values(alloc, "b")?.len(), 3);
     Ok(())
 }
 
