@@ -1,6 +1,5 @@
 -- The entries of series stand once each, and in order they strictly ascend.
-use Rattle.std.proofs.Common.{◌≡◌, ℕ, zero, suc, ◌+◌, ◌<◌, ◌≤◌, Bool, true, false, cond, List, [], ◌∷◌, ◌++◌, length, map, zip, refl, sym, ap, ◌∙◌, subst, arith, inl, inr, ◌⊎◌}
-use Rattle.std.specs.Prelude.{◌==◌}
+use Rattle.std.proofs.Common.{◌≡◌, ℕ, ◌<◌, true, false, List, [], ◌∷◌, ◌++◌, refl, sym, ap, ◌∙◌, subst, arith, inl, inr, ◌⊎◌}
 use Rattle.std.specs.declared.cmp.Ordering.{Ordering}
 use Rattle.std.specs.declared.cmp.Ordering.TheVariants.{Less, Equal, Greater}
 use Rattle.std.specs.Ordering.{nat_cmp, ordering_then, is_lt}
@@ -9,10 +8,10 @@ use Rattle.std.proofs.lemmas.Bool.Decides.{nat_tests}
 use Rattle.std.specs.List.{AllByRecursion}
 use Rattle.index_parts.specs.declared.raw_series.RawSeries.{RawSeries}
 use Rattle.index_v2.specs.declared.label_groups.Entry.{Entry}
-use Rattle.index_v2.specs.LabelGroups.{entries_of, all_entries, compare_entries, is_lesser_entry}
-use Rattle.index_v2.proofs.OrderedEntries.{In, in_all, all_in, Rise, IsStrict, Once, in_left, in_right, in_either}
+use Rattle.index_v2.specs.LabelGroups.{entries_of, all_entries, is_lesser_entry}
+use Rattle.index_v2.proofs.OrderedEntries.{In, in_all, Rise, IsStrict, Once, in_either}
 use Rattle.index_v2.proofs.GroupedRows.{KeyBefore, Before}
-use Rattle.index_v2.proofs.Entries.{labels_with, entry_is}
+use Rattle.index_v2.proofs.Entries.{labels_with}
 
 -- ---- their order as a relation
 

@@ -1,34 +1,32 @@
 -- What is written of a list of series is an index of it.
-use Rattle.std.proofs.Common.{◌≡◌, ◌≢◌, ℕ, zero, suc, ◌+◌, ◌*◌, ◌<◌, ◌≤◌, Bool, true, false, List, [], ◌∷◌, ◌++◌, length, take, map, zip, Option, Some, None, Result, Ok, Err, refl, sym, ap, ◌∙◌, subst, arith, inl, inr, ◌⊎◌}
+use Rattle.std.proofs.Common.{◌≡◌, ◌≢◌, ℕ, ◌*◌, ◌<◌, ◌≤◌, false, List, [], ◌∷◌, ◌++◌, length, map, Result, Ok, Err, refl, sym, ap, ◌∙◌, subst, arith, inl, inr}
 use Rattle.std.specs.Prelude.{slice_get, option_map, unwrap_or, MatchBool, OnOk, ◌==◌}
 use Rattle.std.specs.List.{AllByRecursion}
 use Rattle.std.proofs.lemmas.Bool.Decides.{nat_tests}
-use Rattle.label_sets.specs.declared.label.Label.{Label}
 use Rattle.label_sets.specs.Labels.{IsLabelSet}
 use Rattle.index_parts.specs.declared.postings_row.PostingsRow.{PostingsRow}
-use Rattle.index_parts.specs.declared.raw_series.RawSeries.{RawSeries}
 use Rattle.index_parts.specs.Turns.{InOrder}
 use Rattle.index_parts.specs.Contents.{IsToc, toc_text}
-use Rattle.index_parts.specs.Postings.{IsPostings, postings_text}
+use Rattle.index_parts.specs.Postings.{IsPostings}
 use Rattle.index_parts.specs.Rows.{MayComeAfter, IsPostingsTable}
 use Rattle.index_parts.specs.Symbols.{IsSymbols}
 use Rattle.index_v2.specs.declared.index_series.IndexSeries.{IndexSeries}
 use Rattle.index_v2.specs.declared.parts.Parts.{Parts}
 use Rattle.index_v2.specs.Opened.{Opened}
-use Rattle.index_v2.specs.IndexFile.{Holds, IsOpened, Has, IsIndex}
+use Rattle.index_v2.specs.IndexFile.{Holds, IsOpened, IsIndex}
 use Rattle.index_v2.specs.SymbolsInUse.{symbols_of, raw_of}
 use Rattle.index_v2.specs.Aligned.{padded, places_at}
 use Rattle.index_v2.specs.declared.write_refusal.IndexWriteRefusal.{IndexWriteRefusal}
 use Rattle.index_parts.specs.declared.toc.Toc.{Toc}
 use Rattle.index_v2.specs.WriteSteps.{greatest, Makes, EachStands}
-use Rattle.index_v2.specs.Written.{AreWritable, first_or, up_to_symbols, list_texts, table_rows, parts_of, with_series, with_label_indices, list_places, with_label_offsets, with_table, toc_of, written}
+use Rattle.index_v2.specs.Written.{AreWritable, first_or, up_to_symbols, table_rows, parts_of, with_series, with_label_indices, list_places, with_label_offsets, with_table, toc_of, written}
 use Rattle.index_v2.proofs.OrderedEntries.{In}
 use Rattle.index_v2.proofs.SeriesNumbers.{numbers_after}
 use Rattle.index_v2.proofs.AlignedTexts.{padded_longer}
 use Rattle.index_v2.proofs.PartsLaws.{front_longer, indices_longer, lists_longer, offsets_longer}
 use Rattle.index_v2.proofs.TableLaws.{table_in_order}
 use Rattle.index_v2.proofs.WrittenIndex.{has_in, zip_firsts, zip_seconds, written_series, written_table, begins, front_size, long}
-use Rattle.index_v2.proofs.IndexWritten.{numbers, rows, all_place, row_places, table, table_is, many, numbered, listed, all_stands, rows_hold, complete, series_hold}
+use Rattle.index_v2.proofs.IndexWritten.{numbers, all_place, table, table_is, many, numbered, listed, all_stands, rows_hold, complete, series_hold}
 
 -- what the calls that wrote it have shown
 pub record IsShown (list : List IndexSeries) : Type 0 where

@@ -1,41 +1,32 @@
 -- The clauses of an index hold of what is written.
-use Rattle.std.proofs.Common.{◌≡◌, ◌≢◌, ℕ, zero, suc, ◌+◌, ◌*◌, ◌^◌, ◌<◌, ◌≤◌, Bool, true, false, List, [], ◌∷◌, ◌++◌, length, take, map, zip, Option, Some, None, refl, sym, ap, ◌∙◌, subst, arith, inl, inr, ◌⊎◌, length-append, append_assoc}
-use Rattle.std.specs.Prelude.{slice_get, option_map, unwrap_or, MatchBool, ◌==◌}
+use Rattle.std.proofs.Common.{◌≡◌, ℕ, suc, ◌*◌, ◌^◌, ◌<◌, ◌≤◌, List, [], ◌∷◌, ◌++◌, length, map, zip, Option, Some, refl, sym, ap, ◌∙◌, subst, arith, inl, inr}
+use Rattle.std.specs.Prelude.{slice_get}
 use Rattle.std.specs.List.{AllByRecursion, All}
-use Rattle.std.proofs.lemmas.Bool.Decides.{nat_tests}
 use Rattle.std.proofs.lemmas.List.{length-map}
 use Rattle.label_sets.specs.declared.label.Label.{Label}
 use Rattle.label_sets.specs.Labels.{IsLabelSet}
 use Rattle.index_parts.specs.declared.postings_row.PostingsRow.{PostingsRow}
-use Rattle.index_parts.specs.declared.raw_series.RawSeries.{RawSeries}
-use Rattle.index_parts.specs.Turns.{InOrder}
-use Rattle.index_parts.specs.Contents.{IsToc, toc_text}
 use Rattle.index_parts.specs.Postings.{IsPostings, postings_text}
-use Rattle.index_parts.specs.Rows.{MayComeAfter, IsPostingsTable}
-use Rattle.index_parts.specs.SeriesEntry.{IsSeries, series_text}
-use Rattle.index_parts.specs.Symbols.{IsSymbols}
+use Rattle.index_parts.specs.SeriesEntry.{IsSeries}
 use Rattle.index_v2.specs.declared.index_series.IndexSeries.{IndexSeries}
 use Rattle.index_v2.specs.declared.label_groups.LabelRow.{LabelRow}
-use Rattle.index_v2.specs.declared.parts.Parts.{Parts}
-use Rattle.index_v2.specs.Opened.{Opened}
-use Rattle.index_v2.specs.IndexFile.{header, Holds, IsOpened, StandFor, IsSeriesOf, Has, BelongsTo, IsListOf, AreListed, HasRow, IsIndex}
+use Rattle.index_v2.specs.IndexFile.{StandFor, IsSeriesOf, BelongsTo, IsListOf, HasRow}
 use Rattle.index_v2.specs.SymbolsInUse.{symbols_of, number_of, symbol_of, raw_of}
 use Rattle.index_v2.specs.LabelGroups.{rows_of}
-use Rattle.index_v2.specs.Aligned.{padded, each_at, places_at}
+use Rattle.index_v2.specs.Aligned.{padded, places_at}
 use Rattle.index_v2.specs.WriteSteps.{greatest, EachStands}
-use Rattle.index_v2.specs.Written.{AreWritable, AreSmall, up_to_symbols, numbers_behind, list_texts, label_rows, table_rows, parts_of, with_series, with_label_indices, with_lists, list_places, with_label_offsets, with_table, toc_of, written}
-use Rattle.index_v2.proofs.OrderedEntries.{In, in_all, Rise}
-use Rattle.index_v2.proofs.GroupedRows.{AreRowsOf}
+use Rattle.index_v2.specs.Written.{AreSmall, up_to_symbols, numbers_behind, list_texts, label_rows, table_rows, parts_of, with_series, with_label_indices, with_lists, list_places, written}
+use Rattle.index_v2.proofs.OrderedEntries.{In, in_all}
 use Rattle.index_v2.proofs.SortedTexts.{symbols_strict}
 use Rattle.index_v2.proofs.SymbolNumbers.{label_in, number_at, symbol_at}
-use Rattle.index_v2.proofs.SeriesNumbers.{numbers_rise, numbers_after}
-use Rattle.index_v2.proofs.AlignedTexts.{each_longer, padded_longer, places_many}
-use Rattle.index_v2.proofs.PartsLaws.{front_longer, indices_longer, as_many_numbers, series_written}
+use Rattle.index_v2.proofs.SeriesNumbers.{numbers_rise}
+use Rattle.index_v2.proofs.AlignedTexts.{places_many}
+use Rattle.index_v2.proofs.PartsLaws.{as_many_numbers, series_written}
 use Rattle.index_v2.proofs.SmallNumbers.{parts_small}
 use Rattle.index_v2.proofs.ListPlaces.{StandsAt, each_stands, stands_on, list_stands}
 use Rattle.index_v2.proofs.TableRows.{row_with, row_of_all}
-use Rattle.index_v2.proofs.TableLaws.{IsNumbered, HasLabel, entries, are_rows, in_zip, row_label, row_only, row_all, label_row, name_text, value_text, table_in_order}
-use Rattle.index_v2.proofs.WrittenIndex.{has_in, in_has, in_numbers, zip_number, zip_firsts, zip_seconds, written_lists, written_series, written_table, begins, front_size, long}
+use Rattle.index_v2.proofs.TableLaws.{IsNumbered, HasLabel, entries, are_rows, in_zip, row_label, row_only, row_all, label_row, name_text}
+use Rattle.index_v2.proofs.WrittenIndex.{has_in, in_has, in_numbers, zip_number, written_lists, written_series}
 
 -- ---- the parts by name
 

@@ -1,10 +1,10 @@
 -- Postings lists stand at their places in a text that is not too long.
-use Rattle.std.proofs.Common.{◌≡◌, ℕ, zero, suc, ◌+◌, ◌*◌, ◌/◌, ◌%◌, ◌^◌, ◌<◌, ◌≤◌, Bool, true, false, cond, List, [], ◌∷◌, ◌++◌, length, map, zip, fold, Option, Some, None, refl, sym, ap, ◌∙◌, subst, arith, inl, inr, ◌⊎◌, length-append, append_assoc}
+use Rattle.std.proofs.Common.{◌≡◌, ℕ, ◌/◌, ◌%◌, ◌^◌, ◌<◌, ◌≤◌, Bool, true, false, cond, List, [], ◌∷◌, ◌++◌, length, zip, fold, Option, Some, None, sym, ap, ◌∙◌, subst, arith, inl, inr, length-append, append_assoc}
 use Rattle.std.specs.Prelude.{bit_xor, ◌==◌}
-use Rattle.std.specs.Int.{w32, to_be_bytes, bit_at}
-use Rattle.std.specs.List.{All, AllByRecursion, flat_map}
+use Rattle.std.specs.Int.{w32, to_be_bytes}
+use Rattle.std.specs.List.{AllByRecursion, flat_map}
 use Rattle.std.proofs.lemmas.Nat.{xor_of_32}
-use Rattle.wire_bytes.specs.Crc.{crc, with_bit, times_x, castagnoli, coefficients, ones}
+use Rattle.wire_bytes.specs.Crc.{crc, with_bit, castagnoli, coefficients, ones}
 use Rattle.index_parts.specs.Framed.{section_text, IsSection}
 use Rattle.index_parts.specs.Lists.{list_content}
 use Rattle.index_parts.specs.Turns.{InOrderAfter, InOrder}

@@ -1,5 +1,5 @@
 -- The parts of an index: how many places there are, and that the text only grows.
-use Rattle.std.proofs.Common.{◌≡◌, ℕ, suc, ◌+◌, ◌/◌, ◌≤◌, subst, List, [], ◌∷◌, ◌++◌, length, map, zip, Err, refl, sym, ap, ◌∙◌, arith, length-append}
+use Rattle.std.proofs.Common.{◌≡◌, ℕ, suc, ◌+◌, ◌/◌, ◌≤◌, subst, List, [], ◌∷◌, length, map, zip, Err, refl, sym, ap, ◌∙◌, arith, length-append}
 use Rattle.std.proofs.lemmas.List.{length-map}
 use Rattle.index_parts.specs.Contents.{toc_text}
 use Rattle.index_parts.specs.LabelIndices.{label_index_text, label_offsets_text}

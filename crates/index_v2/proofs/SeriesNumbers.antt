@@ -1,7 +1,6 @@
 -- Series by their numbers: numbers and names rise, and which entries there are.
-use Rattle.std.proofs.Common.{◌≡◌, ℕ, zero, suc, ◌+◌, ◌*◌, ◌/◌, ◌<◌, ◌≤◌, List, [], ◌∷◌, ◌++◌, length, map, zip, refl, sym, ap, ◌∙◌, subst, arith, inl, inr, ◌⊎◌, length-append}
+use Rattle.std.proofs.Common.{◌≡◌, ℕ, ◌*◌, ◌/◌, ◌<◌, ◌≤◌, List, [], ◌∷◌, ◌++◌, length, map, zip, refl, ap, subst, arith, inl, inr, length-append}
 use Rattle.std.specs.Int.{w32, to_be_bytes}
-use Rattle.std.specs.declared.cmp.Ordering.TheVariants.{Less}
 use Rattle.std.specs.List.{AllByRecursion}
 use Rattle.std.specs.List.Sorted.{IsStrictlySortedBy}
 use Rattle.wire_bytes.specs.Crc.{crc}
@@ -18,7 +17,7 @@ use Rattle.index_v2.specs.SymbolsInUse.{symbols_of, number_of, raw_of}
 use Rattle.index_v2.specs.LabelGroups.{entries_of, all_entries}
 use Rattle.index_v2.specs.Aligned.{padded, places_at}
 use Rattle.index_v2.specs.Written.{numbers_behind}
-use Rattle.index_v2.proofs.OrderedEntries.{In, in_all, all_in, in_left, in_right, in_either, Rise}
+use Rattle.index_v2.proofs.OrderedEntries.{In, in_all, in_left, in_right, in_either, Rise}
 use Rattle.index_v2.proofs.SortedTexts.{symbols_strict}
 use Rattle.index_v2.proofs.SymbolNumbers.{label_in, number_less}
 use Rattle.index_v2.proofs.AlignedTexts.{padded_longer}

@@ -1,5 +1,5 @@
 -- In an index that is not too long, the numbers of series and of symbols have 32 bits.
-use Rattle.std.proofs.Common.{◌≡◌, ℕ, zero, suc, ◌+◌, ◌*◌, ◌/◌, ◌^◌, ◌<◌, ◌≤◌, Bool, true, false, ◌&&◌, cond, List, [], ◌∷◌, ◌++◌, length, get_or, map, zip, refl, sym, ap, ◌∙◌, subst, arith, length-append}
+use Rattle.std.proofs.Common.{ℕ, ◌+◌, ◌/◌, ◌^◌, ◌<◌, ◌≤◌, Bool, true, false, cond, List, [], ◌∷◌, ◌++◌, length, map, zip, arith, length-append}
 use Rattle.std.specs.Int.{w32, to_be_bytes}
 use Rattle.std.specs.List.{All, AllByRecursion, prefix_len, flat_map}
 use Rattle.label_sets.specs.declared.label.Label.{Label}
@@ -22,7 +22,7 @@ use Rattle.index_v2.specs.Aligned.{padded, each_at, places_at}
 use Rattle.index_v2.specs.WriteSteps.{greatest}
 use Rattle.index_v2.specs.Written.{AreSmall, up_to_symbols, numbers_behind, with_series, parts_of}
 use Rattle.index_v2.proofs.SortedTexts.{all_at}
-use Rattle.index_v2.proofs.AlignedTexts.{each_longer, behind_longer}
+use Rattle.index_v2.proofs.AlignedTexts.{each_longer}
 
 -- ---- what holds of each member
 

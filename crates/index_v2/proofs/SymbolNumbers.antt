@@ -1,8 +1,7 @@
 -- The symbols in use and their numbers, both ways.
-use Rattle.std.proofs.Common.{◌≡◌, ℕ, zero, suc, ◌+◌, ◌<◌, ◌≤◌, Bool, true, false, cond, List, [], ◌∷◌, ◌++◌, length, get_or, map, Option, Some, None, refl, sym, ap, ◌∙◌, subst, arith, inl, inr, ◌⊎◌}
+use Rattle.std.proofs.Common.{◌≡◌, ℕ, zero, suc, ◌+◌, ◌<◌, true, false, cond, List, [], ◌∷◌, length, get_or, Option, Some, None, sym, ap, ◌∙◌, subst, arith, inl, inr}
 use Rattle.std.specs.Prelude.{slice_get}
-use Rattle.std.specs.declared.cmp.Ordering.{Ordering}
-use Rattle.std.specs.declared.cmp.Ordering.TheVariants.{Less, Equal, Greater}
+use Rattle.std.specs.declared.cmp.Ordering.TheVariants.{Less}
 use Rattle.std.specs.Ordering.{is_lt}
 use Rattle.std.specs.List.{dedup, prefix_len, AllByRecursion, flat_map, Contains}
 use Rattle.std.specs.List.Sorted.{IsStrictlySortedBy}
@@ -11,14 +10,13 @@ use Rattle.std.specs.Cmp.Lexicographic.{nat_list_cmp_total, nat_list_eq_equiv, b
 use Rattle.std.proofs.lemmas.Cmp.{tied_itself}
 use Rattle.std.proofs.lemmas.List.Kept.{Contains-dedup}
 use Rattle.label_sets.specs.declared.label.Label.{Label}
-use Rattle.label_sets.specs.Labels.{compare_texts, IsLabelSet, StandsBefore}
+use Rattle.label_sets.specs.Labels.{compare_texts}
 use Rattle.label_sets.specs.Ordered.{in_order}
 use Rattle.index_parts.specs.Turns.{InOrderAfter, InOrder}
 use Rattle.index_parts.specs.Symbols.{MayFollow}
 use Rattle.index_v2.specs.declared.index_series.IndexSeries.{IndexSeries}
 use Rattle.index_v2.specs.SymbolsInUse.{is_lesser_text, texts_of_labels, texts_of, symbols_of, number_of, symbol_of}
-use Rattle.index_v2.proofs.OrderedEntries.{In, in_all, all_in, in_left, in_right, to_order, Rise}
-use Rattle.index_v2.proofs.SortedTexts.{symbols_strict}
+use Rattle.index_v2.proofs.OrderedEntries.{In, in_all, in_left, in_right, to_order}
 
 -- ---- members by places
 

@@ -1,6 +1,5 @@
 -- The rows of the postings table of a list of series: their texts, their order, and whose lists they have.
-use Rattle.std.proofs.Common.{◌≡◌, ◌≢◌, ℕ, zero, suc, ◌+◌, ◌<◌, ◌≤◌, Bool, List, [], ◌∷◌, ◌++◌, length, map, zip, Option, Some, None, refl, sym, ap, ◌∙◌, subst, arith, inl, inr, ◌⊎◌}
-use Rattle.std.specs.Prelude.{slice_get}
+use Rattle.std.proofs.Common.{◌≡◌, ◌≢◌, ℕ, ◌<◌, List, [], ◌∷◌, map, zip, Some, refl, sym, ap, ◌∙◌, subst, arith, inl, inr}
 use Rattle.std.specs.declared.cmp.Ordering.{Ordering}
 use Rattle.std.specs.declared.cmp.Ordering.TheVariants.{Less, Equal, Greater}
 use Rattle.std.specs.Ordering.{ordering_then, ordering_reverse}
@@ -19,8 +18,8 @@ use Rattle.index_v2.specs.declared.label_groups.LabelRow.{LabelRow}
 use Rattle.index_v2.specs.SymbolsInUse.{symbols_of, number_of, symbol_of, raw_of}
 use Rattle.index_v2.specs.LabelGroups.{all_entries, is_lesser_entry, rows_of}
 use Rattle.index_v2.specs.Written.{label_rows, table_rows}
-use Rattle.index_v2.proofs.OrderedEntries.{In, in_all, all_in, Rise, from_order, to_order, rise_order}
-use Rattle.index_v2.proofs.GroupedRows.{KeyBefore, Before, RowBefore, entry_in, AreRowsOf, grouped_rows}
+use Rattle.index_v2.proofs.OrderedEntries.{In, in_all, Rise, from_order, to_order, rise_order}
+use Rattle.index_v2.proofs.GroupedRows.{Before, RowBefore, entry_in, AreRowsOf, grouped_rows}
 use Rattle.index_v2.proofs.EntryOrder.{entries_strict, once_entries}
 use Rattle.index_v2.proofs.SortedTexts.{symbols_strict}
 use Rattle.index_v2.proofs.SymbolNumbers.{label_in, symbol_at, number_less}

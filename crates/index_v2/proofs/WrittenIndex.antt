@@ -1,45 +1,23 @@
 -- What is written of a list of series is an index of it.
-use Rattle.std.proofs.Common.{◌≡◌, ◌≢◌, ℕ, zero, suc, ◌+◌, ◌*◌, ◌^◌, ◌<◌, ◌≤◌, Bool, true, false, List, [], ◌∷◌, ◌++◌, length, take, map, zip, Option, Some, None, refl, sym, ap, ◌∙◌, subst, arith, inl, inr, ◌⊎◌, length-append, append_assoc}
-use Rattle.std.specs.Prelude.{slice_get, option_map, unwrap_or, MatchBool, ◌==◌}
+use Rattle.std.proofs.Common.{◌≡◌, ℕ, zero, suc, ◌*◌, ◌≤◌, List, [], ◌∷◌, ◌++◌, length, take, map, zip, Some, refl, sym, ap, ◌∙◌, arith, inl, inr, length-append, append_assoc}
+use Rattle.std.specs.Prelude.{slice_get}
 use Rattle.std.specs.Int.{w32, w64, to_be_bytes}
-use Rattle.std.specs.List.{AllByRecursion, flat_map, All}
-use Rattle.std.proofs.lemmas.Bool.Decides.{nat_tests}
-use Rattle.std.proofs.lemmas.List.{length-map}
+use Rattle.std.specs.List.{flat_map}
 use Rattle.wire_bytes.specs.Crc.{crc}
 use Rattle.wire_bytes.proofs.FixedLaws.{wide32, wide64}
-use Rattle.label_sets.specs.declared.label.Label.{Label}
-use Rattle.label_sets.specs.Labels.{IsLabelSet}
-use Rattle.index_parts.specs.declared.postings_row.PostingsRow.{PostingsRow}
-use Rattle.index_parts.specs.declared.raw_series.RawSeries.{RawSeries}
-use Rattle.index_parts.specs.Turns.{InOrder}
-use Rattle.index_parts.specs.Contents.{IsToc, toc_text, references_text, references_of}
+use Rattle.index_parts.specs.Contents.{toc_text, references_text, references_of}
 use Rattle.index_parts.specs.LabelIndices.{label_offsets_text}
-use Rattle.index_parts.specs.Postings.{IsPostings, postings_text}
-use Rattle.index_parts.specs.Rows.{MayComeAfter, IsPostingsTable, postings_table_text}
-use Rattle.index_parts.specs.SeriesEntry.{IsSeries, series_text}
-use Rattle.index_parts.specs.Symbols.{IsSymbols, symbols_text}
+use Rattle.index_parts.specs.Rows.{postings_table_text}
+use Rattle.index_parts.specs.SeriesEntry.{series_text}
+use Rattle.index_parts.specs.Symbols.{symbols_text}
 use Rattle.index_v2.specs.declared.index_series.IndexSeries.{IndexSeries}
-use Rattle.index_v2.specs.declared.label_groups.LabelRow.{LabelRow}
 use Rattle.index_v2.specs.declared.parts.Parts.{Parts}
-use Rattle.index_v2.specs.Opened.{Opened}
-use Rattle.index_v2.specs.IndexFile.{header, Holds, IsOpened, StandFor, IsSeriesOf, Has, BelongsTo, IsListOf, AreListed, HasRow, IsIndex}
-use Rattle.index_v2.specs.SymbolsInUse.{symbols_of, number_of, symbol_of, raw_of}
-use Rattle.index_v2.specs.LabelGroups.{rows_of}
-use Rattle.index_v2.specs.Aligned.{padded, each_at, places_at}
-use Rattle.index_v2.specs.WriteSteps.{greatest, EachStands}
-use Rattle.index_v2.specs.Written.{AreWritable, up_to_symbols, numbers_behind, name_texts, list_texts, label_index_texts, label_rows, table_rows, parts_of, with_series, with_label_indices, with_lists, label_index_places, list_places, with_label_offsets, with_table, toc_of, written}
-use Rattle.index_v2.proofs.OrderedEntries.{In, in_all, Rise}
-use Rattle.index_v2.proofs.GroupedRows.{AreRowsOf}
-use Rattle.index_v2.proofs.SortedTexts.{symbols_strict}
-use Rattle.index_v2.proofs.SymbolNumbers.{label_in, number_at, symbol_at}
-use Rattle.index_v2.proofs.SeriesNumbers.{numbers_rise, numbers_after}
-use Rattle.index_v2.proofs.AlignedTexts.{each_longer, padded_longer, places_many}
-use Rattle.index_v2.proofs.PartsLaws.{front_longer, indices_longer, lists_longer, offsets_longer, table_longer, written_longer, as_many_numbers, series_written}
-use Rattle.index_v2.proofs.SmallNumbers.{parts_small}
+use Rattle.index_v2.specs.IndexFile.{header, Has}
+use Rattle.index_v2.specs.SymbolsInUse.{symbols_of, raw_of}
+use Rattle.index_v2.specs.Written.{up_to_symbols, name_texts, list_texts, label_index_texts, table_rows, parts_of, with_series, with_label_indices, with_lists, label_index_places, list_places, with_label_offsets, with_table, toc_of, written}
+use Rattle.index_v2.proofs.OrderedEntries.{In}
+use Rattle.index_v2.proofs.PartsLaws.{front_longer, indices_longer, lists_longer, offsets_longer, table_longer}
 use Rattle.index_v2.proofs.Standing.{each_begins}
-use Rattle.index_v2.proofs.ListPlaces.{StandsAt, each_stands, stands_on, list_stands}
-use Rattle.index_v2.proofs.TableRows.{row_with, row_of_all}
-use Rattle.index_v2.proofs.TableLaws.{IsNumbered, entries, are_rows, in_zip, row_label, row_only, row_all, label_row, table_in_order}
 
 -- ---- members, both ways
 

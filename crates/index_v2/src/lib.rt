@@ -35,3 +35,5 @@ pub use write_refusal::IndexWriteRefusal;
 mod real_indexes;
 #[cfg(test)]
 mod tests;
+#[cfg(test)]
+mod writer_tests;

@@ -9,7 +9,7 @@ use std::test::Fail;
 use wire_bytes::crc_of;
 
 /// One series, `{__name__="up"}`, with one chunk at 8 whose only sample is at 1000. The series stands at 32.
-static WORKED: [u8; 205] = [
+pub(crate) static WORKED: [u8; 205] = [
     0xBA, 0xAA, 0xD7, 0x00, 0x02, 0x00, 0x00, 0x00, 0x10, 0x00, 0x00, 0x00, 0x02, 0x08, 0x5F, 0x5F,
     0x6E, 0x61, 0x6D, 0x65, 0x5F, 0x5F, 0x02, 0x75, 0x70, 0x10, 0x7D, 0x8B, 0x61, 0x00, 0x00, 0x00,
     0x08, 0x01, 0x00, 0x01, 0x01, 0xD0, 0x0F, 0x00, 0x08, 0xC4, 0x2F, 0xEE, 0x9E, 0x00, 0x00, 0x00,
@@ -26,7 +26,7 @@ static WORKED: [u8; 205] = [
 ];
 
 /// Each series of an index on a line: its labels, and of each chunk its times, its segment and its place.
-fn shown(alloc: Global, bytes: &[u8]) -> Result<Vec<u8>, IndexRefusal> {
+pub(crate) fn shown(alloc: Global, bytes: &[u8]) -> Result<Vec<u8>, IndexRefusal> {
     let list = IndexReader::open(alloc, bytes)?.whole(alloc)?;
     let mut out = Vec::new(alloc);
     for series in list.members() {

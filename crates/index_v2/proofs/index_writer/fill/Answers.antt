@@ -1,4 +1,4 @@
-use Rattle.std.proofs.Common.{ℕ, List, sym, ap, ◌∙◌}
+use Rattle.std.proofs.Common.{ℕ, List}
 use Rattle.index_v2.specs.declared.parts.Parts.{Parts}
 use Rattle.index_v2.specs.Written.{with_series, with_lists, parts_of, written}
 use Rattle.index_v2.proofs.AlignedTexts.{makes_longer}

@@ -1,4 +1,4 @@
-use Rattle.std.proofs.Common.{length, ◌+◌, sym, ap, ◌∙◌, arith}
+use Rattle.std.proofs.Common.{length, ◌+◌, sym, ap, ◌∙◌}
 use Rattle.index_v2.proofs.PartsLaws.{as_many_indices, as_many_lists}
 use Rattle.index_v2.proofs.index_writer.put_tables.Goals as goal
 

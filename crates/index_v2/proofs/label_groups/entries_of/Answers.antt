@@ -1,8 +1,5 @@
 use Rattle.std.proofs.Common.{refl, sym, ap, ◌∙◌, length, arith}
-use Rattle.std.specs.Prelude.{◌++◌}
 use Rattle.index_v2.specs.LabelGroups.{entries_of, all_entries}
-use Rattle.index_v2.specs.WriteSteps.{IsStorable}
-use Rattle.index_v2.proofs.SortedTexts.{all_at}
 use Rattle.index_v2.proofs.Entries.{all_law, none_law, entries_added, as_many_at}
 use Rattle.index_v2.proofs.Walks.{two_step, two_end}
 use Rattle.index_v2.proofs.label_groups.entries_of.Goals as goal

@@ -1,6 +1,4 @@
-use Rattle.std.proofs.Common.{ℕ, List, length, map, sym, ap, ◌∙◌}
-use Rattle.index_v2.specs.declared.index_series.IndexSeries.{IndexSeries}
-use Rattle.index_v2.specs.SymbolsInUse.{symbols_of, raw_of}
+use Rattle.std.proofs.Common.{ℕ, sym, ap, ◌∙◌}
 use Rattle.index_v2.specs.Written.{up_to_symbols, with_series, numbers_behind, parts_of}
 use Rattle.index_v2.proofs.AlignedTexts.{makes_longer}
 use Rattle.index_v2.proofs.PartsLaws.{front_as, storable, as_many_numbers, strict_as}

@@ -1,8 +1,7 @@
-use Rattle.std.proofs.Common.{ℕ, List, [], ◌∷◌, sym, ap, ◌∙◌}
+use Rattle.std.proofs.Common.{ℕ, List, [], ap, ◌∙◌}
 use Rattle.std.proofs.lemmas.List.{map-id}
 use Rattle.index_parts.specs.LabelIndices.{label_index_text}
 use Rattle.index_v2.specs.declared.label_groups.NameValues.{NameValues}
-use Rattle.index_v2.specs.Aligned.{places_at}
 use Rattle.index_v2.proofs.AlignedTexts.{so_far_step, so_far_stop, so_far_end, so_far_places}
 use Rattle.index_v2.proofs.section_places.put_label_indices.Goals as goal
 

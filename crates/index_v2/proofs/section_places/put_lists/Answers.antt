@@ -1,7 +1,6 @@
-use Rattle.std.proofs.Common.{ℕ, List, ◌∷◌, map, refl}
+use Rattle.std.proofs.Common.{map}
 use Rattle.index_parts.specs.Postings.{postings_text}
 use Rattle.index_v2.specs.declared.label_groups.LabelRow.{LabelRow}
-use Rattle.index_v2.specs.Aligned.{each_at, places_at}
 use Rattle.index_v2.proofs.AlignedTexts.{first_stop, first_end, first_places}
 use Rattle.index_v2.proofs.section_places.put_lists.Goals as goal
 

@@ -1,9 +1,9 @@
-use Rattle.std.proofs.Common.{sym, ap, ◌∙◌, length, map, arith}
+use Rattle.std.proofs.Common.{ap, ◌∙◌, arith}
 use Rattle.std.proofs.lemmas.List.{length-map}
 use Rattle.index_v2.specs.declared.label_groups.NameValues.{NameValues}
 use Rattle.index_v2.specs.SymbolsInUse.{symbol_of}
 use Rattle.std.specs.List.{sum_by}
-use Rattle.index_v2.specs.WriteSteps.{greatest, text_size}
+use Rattle.index_v2.specs.WriteSteps.{text_size}
 use Rattle.index_v2.specs.Written.{name_texts}
 use Rattle.index_v2.proofs.SectionSizes.{offsets_fit, offsets_large}
 use Rattle.index_v2.proofs.TableRows.{measured_stop}

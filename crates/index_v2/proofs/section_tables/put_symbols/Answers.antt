@@ -1,6 +1,6 @@
-use Rattle.std.proofs.Common.{sym, subst, List, ℕ, ◌≤◌, ap, ◌∙◌, arith}
+use Rattle.std.proofs.Common.{ap, arith}
 use Rattle.std.specs.List.{sum_by}
-use Rattle.index_v2.specs.WriteSteps.{greatest, text_size}
+use Rattle.index_v2.specs.WriteSteps.{text_size}
 use Rattle.index_v2.proofs.SectionSizes.{symbols_fit, symbols_large}
 use Rattle.index_v2.proofs.TableRows.{measured_stop}
 use Rattle.index_v2.proofs.section_tables.put_symbols.Goals as goal

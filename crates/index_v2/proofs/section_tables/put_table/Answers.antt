@@ -1,6 +1,6 @@
-use Rattle.std.proofs.Common.{sym, ap, ◌∙◌, arith}
+use Rattle.std.proofs.Common.{ap, arith}
 use Rattle.std.specs.List.{sum_by}
-use Rattle.index_v2.specs.WriteSteps.{greatest, row_size}
+use Rattle.index_v2.specs.WriteSteps.{row_size}
 use Rattle.index_v2.specs.Written.{table_rows}
 use Rattle.index_v2.proofs.SectionSizes.{rows_fit, rows_large}
 use Rattle.index_v2.proofs.TableRows.{refused_stop}

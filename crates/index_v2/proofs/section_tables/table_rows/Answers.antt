@@ -1,7 +1,7 @@
-use Rattle.std.proofs.Common.{◌≡◌, List, [], ◌∷◌, ◌++◌, refl, sym, ap, ◌∙◌, arith}
+use Rattle.std.proofs.Common.{◌≡◌, List, [], ◌∷◌, ◌++◌, refl, ap, ◌∙◌, arith}
 use Rattle.index_parts.specs.declared.postings_row.PostingsRow.{PostingsRow}
 use Rattle.std.specs.List.{sum_by}
-use Rattle.index_v2.specs.WriteSteps.{greatest, row_size}
+use Rattle.index_v2.specs.WriteSteps.{row_size}
 use Rattle.index_v2.proofs.TableRows.{table_start, table_step, table_end, size_first, size_more, table_stop}
 use Rattle.index_v2.proofs.section_tables.table_rows.Goals as goal
 
