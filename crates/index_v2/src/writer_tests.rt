@@ -161,6 +161,22 @@ fn shared_labels_are_read_again(rt: HostRuntime) -> Result<(), Fail> {
     Ok(())
 }
 
+/// A thousand chunks of one series, whose references rise and fall.
+#[test]
+fn many_chunks_are_read_again(rt: HostRuntime) -> Result<(), Fail> {
+    let alloc = rt.alloc();
+    let mut places = Vec::new(alloc);
+    for n in 0..1000u16 {
+        let time = 2 * i64::from(n);
+        places.push(chunk(time, time + 1, u32::from(n / 100), u32::from(n % 7) * 50))?;
+    }
+    let index = written(alloc, &[("{a=\"b\"}", places.as_slice())])?;
+    let list = IndexReader::open(alloc, index.bytes())?.whole(alloc)?;
+    let series = list.get(0).ok_or("no series")?;
+    assert!(rt; series.chunks.members() == places.as_slice());
+    Ok(())
+}
+
 #[test]
 fn a_value_that_fills_an_index_is_too_large(rt: HostRuntime) -> Result<(), Fail> {
     let alloc = rt.alloc();
