@@ -46,7 +46,7 @@ impl<'a> Model for IndexReader<'a> {
 impl<'a> IndexReader<'a> {
     ghost use Rattle.std.specs.Prelude.{List};
     ghost use Rattle.index_v2.specs.Opened.{Opened};
-    ghost use Rattle.index_v2.specs.IndexFile.{IsOpened, IsSeriesOf, IsIndex, AreNumbersOf, AreValuesOf};
+    ghost use Rattle.index_v2.specs.IndexFile.{Has, IsOpened, IsSeriesOf, IsIndex, AreNumbersOf, AreValuesOf};
     ghost use Rattle.index_v2.specs.declared.index_series.IndexSeries.{IndexSeries};
 
     /// Reads what an index begins and ends with, its symbols and its postings table.
@@ -80,7 +80,10 @@ impl<'a> IndexReader<'a> {
 
     /// The text of a symbol number.
     pub fn symbol(&self, number: u32) -> Option<&'a str>
-        ensures { option_copied result ≡ slice_get self.now.symbols number }
+        ensures value { option_copied result ≡ slice_get self.now.symbols number }
+
+        // In an index of a list these are the index's symbols.
+        ensures agrees { (list : List IndexSeries) (is : IsIndex self.now.bytes list) → option_copied result ≡ slice_get is.opened.symbols number }
     {
         self.symbols.get(u64::from(number))
     }
@@ -90,6 +93,9 @@ impl<'a> IndexReader<'a> {
         // What is read is what stands there, and what stands there is read.
         ensures found { IfOk result (λ series. IsSeriesOf self.now.bytes self.now.symbols number series) }
         ensures only { (series : IndexSeries) → IsSeriesOf self.now.bytes self.now.symbols number series → (result ≡ Ok series) ⊎ (result ≡ Err IndexRefusal.NoMemory) }
+
+        // In an index of a list the series that is listed under the number is read.
+        ensures agrees { (list : List IndexSeries) (is : IsIndex self.now.bytes list) (series : IndexSeries) → Has is.listed (number, series) → (result ≡ Ok series) ⊎ (result ≡ Err IndexRefusal.NoMemory) }
 
         // The first refusal.
         ensures exact { Gives IndexRefusal.NoMemory (λ series. series) result (numbered_at self.now.bytes self.now.symbols number) }
@@ -109,6 +115,9 @@ impl<'a> IndexReader<'a> {
         ensures found { IfOk result (λ series. IsSeriesOf self.now.bytes self.now.symbols number series) }
         ensures only { (series : IndexSeries) → IsSeriesOf self.now.bytes self.now.symbols number series → IsOkAnd result (λ found. found ≡ series) ⊎ (result ≡ Err IndexRefusal.NoMemory) }
 
+        // In an index of a list the series that is listed under the number is read.
+        ensures agrees { (list : List IndexSeries) (is : IsIndex self.now.bytes list) (series : IndexSeries) → Has is.listed (number, series) → IsOkAnd result (λ found. found ≡ series) ⊎ (result ≡ Err IndexRefusal.NoMemory) }
+
         // The first refusal.
         ensures exact { Gives IndexRefusal.NoMemory (λ series. series) result (numbered_at self.now.bytes self.now.symbols number) }
         ensures few { IfOk result (λ series. 2 * length series.labels + 3 * length series.chunks ≤ length self.now.bytes) }
@@ -123,8 +132,8 @@ impl<'a> IndexReader<'a> {
         name: &str,
         value: &str,
     ) -> Result<NumberList, IndexRefusal>
-        // In an index of a list these are exactly the numbers of its series with this label.
-        ensures agrees { (list : List IndexSeries) (is : IsIndex self.now.bytes list) → IfOk result (λ numbers. AreNumbersOf is.listed name.now value.now numbers) }
+        // In an index of a list these are exactly the numbers of its series with this label, and nothing but memory is wanting.
+        ensures agrees { (list : List IndexSeries) (is : IsIndex self.now.bytes list) → MatchResult result (λ numbers. AreNumbersOf is.listed name.now value.now numbers) (λ e. e ≡ IndexRefusal.NoMemory) }
 
         // The first refusal.
         ensures exact { Gives IndexRefusal.NoMemory (λ numbers. numbers) result (postings_of self.now name.now value.now) }
