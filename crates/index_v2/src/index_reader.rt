@@ -1,10 +1,11 @@
-ghost use Rattle.std.specs.Prelude.{◌≡◌, ◌⊎◌, ◌+◌, ◌*◌, ◌≤◌, length, All, slice_get, MatchResult, IfOk, Ok, Err};
+ghost use Rattle.std.specs.Prelude.{◌≡◌, ◌⊎◌, ◌+◌, ◌*◌, ◌≤◌, length, sum_by, All, slice_get, MatchResult, IfOk, Ok, Err};
 ghost use Rattle.std.specs.Result.{IsOkAnd};
 ghost use Rattle.std.specs.Option.{option_copied};
 ghost use Rattle.reading_core.specs.Reading.{Gives};
 ghost use Rattle.reading_core.specs.Grammar.{IsBytes};
 ghost use Rattle.index_v2.specs.Opening.{opened_at};
 ghost use Rattle.index_v2.specs.SeriesLabels.{numbered_at};
+ghost use Rattle.index_v2.specs.Budget.{members_of};
 ghost use Rattle.index_v2.specs.WholeReading.{whole_at};
 ghost use Rattle.index_v2.specs.PostingsLists.{postings_of, values_of};
 
@@ -155,6 +156,11 @@ impl<'a> IndexReader<'a> {
 
     /// Reads every series, ascending by labels, and tests that the postings table and its lists are exactly those of the
     /// series.
+    ///
+    /// What it keeps is bounded by the bytes: at most eight labels and chunks, and eight numbers of lists, for each of them.
+    /// Where sections do not overlap there is a label or a chunk for two bytes at most, and a number for four. A lawful index
+    /// may be made of series that lie within one another, or of many rows with one list, and its list may then be far larger
+    /// than its bytes: such an index is answered with `NoMemory`.
     pub fn whole(&self, alloc: Global) -> Result<IndexSeriesList, IndexRefusal>
         // It is read exactly where the bytes are an index of the list.
         ensures found { IfOk result (λ list. IsIndex self.now.bytes list) }
@@ -162,6 +168,7 @@ impl<'a> IndexReader<'a> {
 
         // The first refusal.
         ensures exact { Gives IndexRefusal.NoMemory (λ list. list) result (whole_at self.now) }
+        ensures bounded { IfOk result (λ list. sum_by members_of list ≤ 8 * length self.now.bytes) }
         ensures few { IfOk result (λ list. (4 * length list ≤ length self.now.bytes)
             × All (λ series. 2 * length series.labels + 3 * length series.chunks ≤ length self.now.bytes) list) }
     {
