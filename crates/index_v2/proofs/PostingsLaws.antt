@@ -1,9 +1,9 @@
 -- A postings list that is asked for, in an index of a list of series.
-use Rattle.std.proofs.Common.{◌≡◌, ℕ, zero, suc, Bool, true, false, List, [], ◌∷◌, map, Option, Some, None, Result, Ok, refl, sym, ap, subst, ◌∙◌, inl, inr}
-use Rattle.std.specs.Prelude.{slice_get, find}
+use Rattle.std.proofs.Common.{◌≡◌, ℕ, zero, suc, Bool, true, false, List, [], ◌∷◌, map, Option, Some, None, Result, Ok, Err, refl, sym, ap, subst, ◌∙◌, inl, inr}
+use Rattle.std.specs.Prelude.{slice_get, find, MatchResult}
 use Rattle.std.specs.Str.{bytes_eq}
 use Rattle.std.specs.Cmp.Lexicographic.{bytes_decides}
-use Rattle.reading_core.specs.Reading.{refused_as}
+use Rattle.reading_core.specs.Reading.{refused_as, Gives}
 use Rattle.reading_core.proofs.Binds.{refused_as_ok, ok_is}
 use Rattle.label_sets.specs.declared.label.Label.{Label}
 use Rattle.label_sets.proofs.LabelValues.{bytes_eq_self}
@@ -115,8 +115,27 @@ listed_exactly index list is name value numbers e = option_cases (row_of is.open
     let found = row_found is.opened.rows name value row some in
     exact_row index list is name value numbers row found.0 found.1 found.2 (refused_as_ok (refused_in 5) (postings_at index row.offset) numbers e'))
 
-pub postings_agree : (opened : Opened) (name value : List ℕ) (numbers : List ℕ) → opened_at opened.bytes ≡ Ok opened → (list : List IndexSeries) (is : IsIndex opened.bytes list) → postings_of opened name value ≡ Ok numbers → AreNumbersOf is.listed name value numbers
-postings_agree opened name value numbers read list is e =
-    let again : opened_at opened.bytes ≡ Ok is.opened = opened_again opened.bytes is.opened is.bytes_are is.is_opened in
-    let same : is.opened ≡ opened = ok_same (opened_at opened.bytes) is.opened opened again read in
-    listed_exactly opened.bytes list is name value numbers (ap (λ (o : Opened). list_of opened.bytes (row_of o.rows name value)) same ∙ e)
+-- an opened index is that of its list
+pub opened_is : (opened : Opened) → opened_at opened.bytes ≡ Ok opened → (list : List IndexSeries) (is : IsIndex opened.bytes list) → is.opened ≡ opened
+opened_is opened read list is = ok_same (opened_at opened.bytes) is.opened opened (opened_again opened.bytes is.opened is.bytes_are is.is_opened) read
+
+-- some list is read for each name and value
+list_read : (index : List ℕ) (list : List IndexSeries) (is : IsIndex index list) (name value : List ℕ) → (numbers : List ℕ) × (list_of index (row_of is.opened.rows name value) ≡ Ok numbers)
+list_read index list is name value = option_cases {P = (numbers : List ℕ) × (list_of index (row_of is.opened.rows name value) ≡ Ok numbers)} (row_of is.opened.rows name value)
+    (λ none. ([], ap (list_of index) none))
+    (λ row some.
+    let exact = is.rows_are row (row_found is.opened.rows name value row some).0 in
+    let read : postings_at index row.offset ≡ Ok exact.numbers = list_again IsNextPosting posting_at posting_turn index row.offset exact.numbers exact.stands in
+    (exact.numbers, ap (list_of index) some ∙ ap (refused_as (refused_in 5)) read))
+
+-- the numbers of a name and a value are read, and they are exactly those of the listed series
+pub postings_agree : (opened : Opened) (name value : List ℕ) → opened_at opened.bytes ≡ Ok opened → (list : List IndexSeries) (is : IsIndex opened.bytes list) → (numbers : List ℕ) × (postings_of opened name value ≡ Ok numbers) × AreNumbersOf is.listed name value numbers
+postings_agree opened name value read list is =
+    let found = list_read opened.bytes list is name value in
+    (found.0, ap (λ (o : Opened). list_of opened.bytes (row_of o.rows name value)) (sym (opened_is opened read list is)) ∙ found.1, listed_exactly opened.bytes list is name value found.0 found.1)
+
+-- a call that reads what stands there answers so, or memory ran out
+pub read_or_none : {Y E : Type 0} (Is : Y → Type 0) (no_memory : E) (r read : Result Y E) (y : Y) → read ≡ Ok y → Is y → Gives no_memory (λ x. x) r read → MatchResult r Is (λ e. e ≡ no_memory)
+read_or_none {Y} {E} Is no_memory (Ok x) read y one is h = subst Is (ok_is {E = E} y x (sym one ∙ h)) is
+read_or_none Is no_memory (Err d) read y one is (inl out) = out
+read_or_none Is no_memory (Err d) read y one is (inr refused) = let no = sym refused ∙ one in absurd cc

@@ -12,3 +12,4 @@ pub mod LabelGroups
 pub mod Aligned
 pub mod WriteSteps
 pub mod Written
+pub mod Budget

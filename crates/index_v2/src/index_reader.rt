@@ -1,10 +1,11 @@
-ghost use Rattle.std.specs.Prelude.{◌≡◌, ◌⊎◌, ◌+◌, ◌*◌, ◌≤◌, length, All, slice_get, MatchResult, IfOk, Ok, Err};
+ghost use Rattle.std.specs.Prelude.{◌≡◌, ◌⊎◌, ◌+◌, ◌*◌, ◌≤◌, length, sum_by, All, slice_get, MatchResult, IfOk, Ok, Err};
 ghost use Rattle.std.specs.Result.{IsOkAnd};
 ghost use Rattle.std.specs.Option.{option_copied};
 ghost use Rattle.reading_core.specs.Reading.{Gives};
 ghost use Rattle.reading_core.specs.Grammar.{IsBytes};
 ghost use Rattle.index_v2.specs.Opening.{opened_at};
 ghost use Rattle.index_v2.specs.SeriesLabels.{numbered_at};
+ghost use Rattle.index_v2.specs.Budget.{members_of};
 ghost use Rattle.index_v2.specs.WholeReading.{whole_at};
 ghost use Rattle.index_v2.specs.PostingsLists.{postings_of, values_of};
 
@@ -46,7 +47,7 @@ impl<'a> Model for IndexReader<'a> {
 impl<'a> IndexReader<'a> {
     ghost use Rattle.std.specs.Prelude.{List};
     ghost use Rattle.index_v2.specs.Opened.{Opened};
-    ghost use Rattle.index_v2.specs.IndexFile.{IsOpened, IsSeriesOf, IsIndex, AreNumbersOf, AreValuesOf};
+    ghost use Rattle.index_v2.specs.IndexFile.{Has, IsOpened, IsSeriesOf, IsIndex, AreNumbersOf, AreValuesOf};
     ghost use Rattle.index_v2.specs.declared.index_series.IndexSeries.{IndexSeries};
 
     /// Reads what an index begins and ends with, its symbols and its postings table.
@@ -80,7 +81,10 @@ impl<'a> IndexReader<'a> {
 
     /// The text of a symbol number.
     pub fn symbol(&self, number: u32) -> Option<&'a str>
-        ensures { option_copied result ≡ slice_get self.now.symbols number }
+        ensures value { option_copied result ≡ slice_get self.now.symbols number }
+
+        // In an index of a list these are the index's symbols.
+        ensures agrees { (list : List IndexSeries) (is : IsIndex self.now.bytes list) → option_copied result ≡ slice_get is.opened.symbols number }
     {
         self.symbols.get(u64::from(number))
     }
@@ -90,6 +94,9 @@ impl<'a> IndexReader<'a> {
         // What is read is what stands there, and what stands there is read.
         ensures found { IfOk result (λ series. IsSeriesOf self.now.bytes self.now.symbols number series) }
         ensures only { (series : IndexSeries) → IsSeriesOf self.now.bytes self.now.symbols number series → (result ≡ Ok series) ⊎ (result ≡ Err IndexRefusal.NoMemory) }
+
+        // In an index of a list the series that is listed under the number is read.
+        ensures agrees { (list : List IndexSeries) (is : IsIndex self.now.bytes list) (series : IndexSeries) → Has is.listed (number, series) → (result ≡ Ok series) ⊎ (result ≡ Err IndexRefusal.NoMemory) }
 
         // The first refusal.
         ensures exact { Gives IndexRefusal.NoMemory (λ series. series) result (numbered_at self.now.bytes self.now.symbols number) }
@@ -109,6 +116,9 @@ impl<'a> IndexReader<'a> {
         ensures found { IfOk result (λ series. IsSeriesOf self.now.bytes self.now.symbols number series) }
         ensures only { (series : IndexSeries) → IsSeriesOf self.now.bytes self.now.symbols number series → IsOkAnd result (λ found. found ≡ series) ⊎ (result ≡ Err IndexRefusal.NoMemory) }
 
+        // In an index of a list the series that is listed under the number is read.
+        ensures agrees { (list : List IndexSeries) (is : IsIndex self.now.bytes list) (series : IndexSeries) → Has is.listed (number, series) → IsOkAnd result (λ found. found ≡ series) ⊎ (result ≡ Err IndexRefusal.NoMemory) }
+
         // The first refusal.
         ensures exact { Gives IndexRefusal.NoMemory (λ series. series) result (numbered_at self.now.bytes self.now.symbols number) }
         ensures few { IfOk result (λ series. 2 * length series.labels + 3 * length series.chunks ≤ length self.now.bytes) }
@@ -123,8 +133,8 @@ impl<'a> IndexReader<'a> {
         name: &str,
         value: &str,
     ) -> Result<NumberList, IndexRefusal>
-        // In an index of a list these are exactly the numbers of its series with this label.
-        ensures agrees { (list : List IndexSeries) (is : IsIndex self.now.bytes list) → IfOk result (λ numbers. AreNumbersOf is.listed name.now value.now numbers) }
+        // In an index of a list these are exactly the numbers of its series with this label, and nothing but memory is wanting.
+        ensures agrees { (list : List IndexSeries) (is : IsIndex self.now.bytes list) → MatchResult result (λ numbers. AreNumbersOf is.listed name.now value.now numbers) (λ e. e ≡ IndexRefusal.NoMemory) }
 
         // The first refusal.
         ensures exact { Gives IndexRefusal.NoMemory (λ numbers. numbers) result (postings_of self.now name.now value.now) }
@@ -146,6 +156,11 @@ impl<'a> IndexReader<'a> {
 
     /// Reads every series, ascending by labels, and tests that the postings table and its lists are exactly those of the
     /// series.
+    ///
+    /// What it keeps is bounded by the bytes: at most eight labels and chunks, and eight numbers of lists, for each of them.
+    /// Where sections do not overlap there is a label or a chunk for two bytes at most, and a number for four. A lawful index
+    /// may be made of series that lie within one another, or of many rows with one list, and its list may then be far larger
+    /// than its bytes: such an index is answered with `NoMemory`.
     pub fn whole(&self, alloc: Global) -> Result<IndexSeriesList, IndexRefusal>
         // It is read exactly where the bytes are an index of the list.
         ensures found { IfOk result (λ list. IsIndex self.now.bytes list) }
@@ -153,6 +168,7 @@ impl<'a> IndexReader<'a> {
 
         // The first refusal.
         ensures exact { Gives IndexRefusal.NoMemory (λ list. list) result (whole_at self.now) }
+        ensures bounded { IfOk result (λ list. sum_by members_of list ≤ 8 * length self.now.bytes) }
         ensures few { IfOk result (λ list. (4 * length list ≤ length self.now.bytes)
             × All (λ series. 2 * length series.labels + 3 * length series.chunks ≤ length self.now.bytes) list) }
     {

@@ -1,6 +1,7 @@
 //! A Prometheus index of version 2 as a whole: its bytes are a list of series, each with its labels and its chunks.
 #![tactic(auto)]
 
+mod budget;
 mod difference;
 mod index_reader;
 mod index_series;

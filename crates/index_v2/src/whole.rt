@@ -1,4 +1,4 @@
-ghost use Rattle.std.specs.Prelude.{◌≡◌, ◌⊎◌, ◌*◌, ◌-◌, ◌^◌, ◌<◌, ℕ, List, [], length, slice_get, slice_index, map, zip, Option, Some, None, Ok, Err, MatchResult, IfOk, IfSome};
+ghost use Rattle.std.specs.Prelude.{◌≡◌, ◌⊎◌, ◌*◌, ◌-◌, ◌^◌, ◌<◌, ◌≤◌, ℕ, List, [], length, sum_by, slice_get, slice_index, map, zip, Option, Some, None, Ok, Err, MatchResult, IfOk, IfSome};
 ghost use Rattle.std.specs.Option.{option_copied};
 ghost use Rattle.reading_core.specs.Reading.{Gives, Answers};
 ghost use Rattle.index_parts.specs.declared.toc.Toc.{Toc};
@@ -7,9 +7,11 @@ ghost use Rattle.std.specs.Result.{IsOkAnd};
 ghost use Rattle.reading_core.specs.Grammar.{IsBytes};
 ghost use Rattle.index_v2.specs.declared.index_series.IndexSeries.{IndexSeries};
 ghost use Rattle.index_v2.specs.Opening.{opened_at};
+ghost use Rattle.index_v2.specs.Budget.{members_of};
 ghost use Rattle.index_v2.specs.IndexFile.{IsIndex};
 ghost use Rattle.index_v2.specs.WholeReading.{present_at, may_stand_behind, behind_at, all_at, lists_at, whole_at};
 
+use crate::budget::{budget_of, members_of, spend};
 use crate::difference::difference;
 use crate::numbered::labelled;
 use crate::opening::refused_of;
@@ -75,7 +77,7 @@ fn series_behind(
     }
 }
 
-/// Reads the series of these numbers, which ascend by their labels.
+/// Reads the series of these numbers, which ascend by their labels. Their labels and chunks are within the budget.
 pub(crate) fn all_series(
     alloc: Global,
     index: &[u8],
@@ -84,17 +86,20 @@ pub(crate) fn all_series(
 ) -> Result<Vec<IndexSeries>, IndexRefusal>
     requires { AreSmall numbers.now }
     ensures as_many { IfOk result (λ series. length series.items ≡ length numbers.now) }
+    ensures bounded { IfOk result (λ series. sum_by members_of series.items ≤ 8 * length index.now) }
     ensures exact { Gives IndexRefusal.NoMemory (λ series. series.items) result (all_at index.now symbols.now None numbers.now) }
 {
     let mut made = Vec::new(alloc);
+    let mut left = budget_of(index);
     for number in numbers {
         let series = series_behind(alloc, index, symbols, made.as_slice(), *number)?;
+        left = spend(left, members_of(&series))?;
         made.push(series)?;
     }
     Ok(made)
 }
 
-/// Reads the postings lists of all rows.
+/// Reads the postings lists of all rows. Their numbers are within the budget.
 pub(crate) fn all_lists(
     alloc: Global,
     index: &[u8],
@@ -102,14 +107,18 @@ pub(crate) fn all_lists(
 ) -> Result<Vec<NumberList>, IndexRefusal>
     ensures rise { IfOk result (λ lists. AllRise lists.items) }
     ensures one_each { IfOk result (λ lists. length lists.items ≡ length rows.now) }
+    ensures bounded { IfOk result (λ lists. sum_by length lists.items ≤ 8 * length index.now) }
     ensures exact { Gives IndexRefusal.NoMemory (λ lists. lists.items) result (lists_at index.now rows.now) }
 {
     let mut lists = Vec::new(alloc);
+    let mut left = budget_of(index);
     for place in 0..rows.len() {
         let Some(row) = rows.get(place) else {
             return Ok(lists);
         };
-        lists.push(list_at(alloc, index, row.2)?)?;
+        let list = list_at(alloc, index, row.2)?;
+        left = spend(left, list.len())?;
+        lists.push(list)?;
     }
     Ok(lists)
 }
@@ -124,6 +133,7 @@ fn read_whole(
     rows: &Rows<'_>,
 ) -> Result<IndexSeriesList, IndexRefusal>
     ensures bytes { IsBytes index.now }
+    ensures bounded { IfOk result (λ list. sum_by members_of list ≤ 8 * length index.now) }
     ensures exact { Gives IndexRefusal.NoMemory (λ list. list) result (whole_at (record { bytes = index.now; toc = toc.now; symbols = symbols.now; rows = rows.now })) }
 {
     let numbers = list_of(alloc, index, rows, "", "")?;
@@ -147,6 +157,7 @@ pub(crate) fn whole(
     requires { opened_at index.now ≡ Ok (record { bytes = index.now; toc = toc.now; symbols = symbols.now; rows = rows.now }) }
     ensures found { IfOk result (λ list. IsIndex index.now list) }
     ensures only { (list : List IndexSeries) → IsIndex index.now list → IsOkAnd result (λ found. found ≡ list) ⊎ (result ≡ Err IndexRefusal.NoMemory) }
+    ensures bounded { IfOk result (λ list. sum_by members_of list ≤ 8 * length index.now) }
     ensures exact { Gives IndexRefusal.NoMemory (λ list. list) result (whole_at (record { bytes = index.now; toc = toc.now; symbols = symbols.now; rows = rows.now })) }
 {
     read_whole(alloc, index, toc, symbols, rows)

@@ -1,20 +1,23 @@
-use Rattle.std.proofs.Common.{sym, arith}
-use Rattle.index_v2.proofs.WholeLoops.{lists_step, lists_stop, lists_end, gives_stop}
+use Rattle.std.proofs.Common.{sym, arith, length}
+use Rattle.index_v2.proofs.WholeLoops.{lists_step, lists_stop, lists_end, spent, gives_stop}
 use Rattle.index_v2.proofs.whole.all_lists.Goals as goal
 
-pub returns-in_err-list_at-clause-exact : goal.returns-in_err-list_at-clause-exact
-returns-in_err-list_at-clause-exact c =
-    gives_stop _ _ c.from_residual.result c.in_err-list_at.field-0.0 _ _ c.from_residual.ensures.1 c.in_err-list_at.ensures.exact
-    (λ refused. lists_stop _ _ c.loop-place.place _ _ _ c.loop-place.invariant (sym c.in-Some.ensures) refused)
+pub returns-in_err-list-clause-exact : goal.returns-in_err-list-clause-exact
+returns-in_err-list-clause-exact c =
+    gives_stop _ _ c.from_residual.result c.in_err-list.field-0.0 _ _ c.from_residual.ensures.1 c.in_err-list.ensures.exact
+    (λ refused. lists_stop _ _ c.loop-place.place _ _ _ c.loop-place.invariant.0 (sym c.in-Some.ensures) refused)
 
 pub loop-place-preserved : goal.loop-place-preserved
-loop-place-preserved c = lists_step _ _ c.loop-place.place _ _ _ _ c.loop-place.invariant (sym c.in-Some.ensures) c.in_ok-list_at.ensures.exact c.in_ok-list_at.ensures.rise c.in_ok-push.ensures.items
+loop-place-preserved c = (
+  lists_step _ _ c.loop-place.place _ _ _ _ c.loop-place.invariant.0 (sym c.in-Some.ensures) c.in_ok-list.ensures.exact c.in_ok-list.ensures.rise c.in_ok-push.ensures.items,
+  spent length _ _ _ _ _ _ _ c.loop-place.invariant.1 c.in_ok-push.ensures.items c.len.ensures c.in_ok-left.ensures,
+)
 
 pub returns-clause-exact : goal.returns-clause-exact
-returns-clause-exact c = lists_end _ _ _ _ c.loop-place.invariant (omega arith)
+returns-clause-exact c = lists_end _ _ _ _ c.loop-place.invariant.0 (omega arith)
 
 pub returns-clause-one_each : goal.returns-clause-one_each
-returns-clause-one_each c = let m = c.loop-place.invariant.many in omega arith
+returns-clause-one_each c = let m = c.loop-place.invariant.0.many in omega arith
 
 pub returns-clause-rise : goal.returns-clause-rise
-returns-clause-rise c = c.loop-place.invariant.rise
+returns-clause-rise c = c.loop-place.invariant.0.rise

@@ -1,5 +1,6 @@
+use Rattle.std.proofs.Common.{◌+◌, ◌*◌, ◌≤◌, length, sum_by}
 use Rattle.index_v2.proofs.WholeLoops.{ListsSoFar}
 use Rattle.index_v2.proofs.whole.all_lists.Given as goal
 
 abbrev pub invariant-loop-place : goal.invariant-loop-place
-invariant-loop-place l = ListsSoFar l.index l.rows l.place l.lists.items
+invariant-loop-place l = ListsSoFar l.index l.rows l.place l.lists.items × (sum_by length l.lists.items + l.left ≤ 8 * length l.index)

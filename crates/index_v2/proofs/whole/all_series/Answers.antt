@@ -1,17 +1,21 @@
 use Rattle.std.proofs.Common.{refl, arith}
-use Rattle.index_v2.proofs.WholeLoops.{series_step, series_stop, series_end, gives_stop}
+use Rattle.index_v2.proofs.WholeLoops.{series_step, series_stop, series_end, spent, gives_stop}
+use Rattle.index_v2.specs.Budget.{members_of}
 use Rattle.index_v2.proofs.whole.all_series.Goals as goal
 
 pub returns-in_err-series-clause-exact : goal.returns-in_err-series-clause-exact
 returns-in_err-series-clause-exact c =
     gives_stop _ _ c.from_residual.result c.in_err-series.field-0.0 _ _ c.from_residual.ensures.1 c.in_err-series.ensures
-    (λ refused. series_stop _ _ _ c.loop-number.number-index _ _ _ _ c.loop-number.invariant c.loop-number-test.true refl c.as_slice.ensures.value refused)
+    (λ refused. series_stop _ _ _ c.loop-number.number-index _ _ _ _ c.loop-number.invariant.0 c.loop-number-test.true refl c.as_slice.ensures.value refused)
 
 pub loop-number-preserved : goal.loop-number-preserved
-loop-number-preserved c = series_step _ _ _ c.loop-number.number-index _ _ _ _ _ _ c.loop-number.invariant c.loop-number-test.true refl refl c.as_slice.ensures.value c.in_ok-series.ensures c.in_ok-push.ensures.items
+loop-number-preserved c = (
+  series_step _ _ _ c.loop-number.number-index _ _ _ _ _ _ c.loop-number.invariant.0 c.loop-number-test.true refl refl c.as_slice.ensures.value c.in_ok-series.ensures c.in_ok-push.ensures.items,
+  spent members_of _ _ _ _ _ _ _ c.loop-number.invariant.1 c.in_ok-push.ensures.items c.members_of.ensures c.in_ok-left.ensures,
+)
 
 pub returns-clause-exact : goal.returns-clause-exact
-returns-clause-exact c = series_end _ _ _ _ _ c.loop-number.invariant (omega arith)
+returns-clause-exact c = series_end _ _ _ _ _ c.loop-number.invariant.0 (omega arith)
 
 pub returns-clause-as_many : goal.returns-clause-as_many
-returns-clause-as_many c = let m = c.loop-number.invariant.many in omega arith
+returns-clause-as_many c = let m = c.loop-number.invariant.0.many in omega arith

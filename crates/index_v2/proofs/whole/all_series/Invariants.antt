@@ -1,5 +1,7 @@
+use Rattle.std.proofs.Common.{◌+◌, ◌*◌, ◌≤◌, length, sum_by}
+use Rattle.index_v2.specs.Budget.{members_of}
 use Rattle.index_v2.proofs.WholeLoops.{SeriesSoFar}
 use Rattle.index_v2.proofs.whole.all_series.Given as goal
 
 abbrev pub invariant-loop-number : goal.invariant-loop-number
-invariant-loop-number l = SeriesSoFar l.index l.symbols l.numbers l.number-index l.made.items
+invariant-loop-number l = SeriesSoFar l.index l.symbols l.numbers l.number-index l.made.items × (sum_by members_of l.made.items + l.left ≤ 8 * length l.index)
