@@ -3,7 +3,8 @@ use Rattle.std.proofs.Common.{◌≡◌, ℕ, List, [], ◌∷◌, Contains, Som
 use Rattle.moment_core.specs.declared.span.Span.{Span}
 use Rattle.moment_core.specs.StandardRules.{hours}
 use Rattle.block_keys.specs.declared.key.Key.TheVariants as key
-use Rattle.block_meta.specs.MetaFields.{fields_of}
+use Rattle.block_meta.specs.MetaFields.{MarkFields, fields_of}
+use Rattle.block_meta.specs.MetaText.{IsMarkText}
 use Rattle.world_core.specs.declared.entry.Entry.{Entry}
 use Rattle.script_core.specs.Hands.{hands_of_task, with_hands, hands_from, places_from, workers_from, seats_from, workers_of}
 use Rattle.script_core.specs.declared.worker.Worker.{Worker}
@@ -11,10 +12,10 @@ use Rattle.meta_fetcher.specs.Sightings.{block_meta}
 use Rattle.meta_fetcher.specs.Syncs.{SyncRun}
 use Rattle.meta_fetcher.specs.declared.sync_end.SyncEnd.TheVariants as fetched
 use Rattle.lifecycle_core.specs.Tasks.{sync_rules}
-use Rattle.lifecycle_core.specs.Breaches.{IsSeatOf, IsSyncIn, IsViewAt, Refuses, sync_time, view_time}
+use Rattle.lifecycle_core.specs.Breaches.{IsSeatOf, IsSyncIn, IsViewAt, Refuses, mark_time, sync_time, view_time}
 use Rattle.worked_rows.specs.SmallBlock as small
 use Rattle.worked_rows.specs.SmallRuns as runs
-use Rattle.worked_rows.specs.Entries.{absent, found, listed}
+use Rattle.worked_rows.specs.Entries.{absent, found, listed, stored}
 use Rattle.worked_rows.specs.OneBlock as one
 use Rattle.worked_rows.specs.OneStrict.{rules_with, script_with, hasty, idle, last_read, first_call}
 use Rattle.worked_rows.proofs.Bytes.{meta_reads, a_reads}
@@ -65,3 +66,7 @@ slow_sync before = (
 
 pub old_view : (before : List Entry) → Refuses idle one.journal view_time before first_call 174_600_004 174_600_001
 old_view before = (0, one.view, (seat_is (hours 48), (key.Index small.a, refl, tt)), view_seen (hours 48), (refl, refl, lit< tt))
+
+pub late_mark : (entries before : List Entry) (bytes : List ℕ) (mark : MarkFields) → IsMarkText bytes mark → mark.deletion_time ≡ 0
+    → Refuses one.script entries mark_time before (stored 1 1 86_400_001 (key.Mark small.a) bytes) 86_400_001 86_400_000
+late_mark entries before bytes mark is zero = (small.a, 0, (bytes, mark, refl, refl, is, zero), (refl, refl, lit< tt))
