@@ -18,3 +18,4 @@ pub mod Ends
 pub mod OneUnbroken
 pub mod OneGuaranteed
 pub mod LateUpload
+pub mod OneStrict

@@ -6,3 +6,4 @@ pub mod OneBlockChanged
 pub mod LostIndex
 pub mod LateUpload
 pub mod YoungBlock
+pub mod OneStrict

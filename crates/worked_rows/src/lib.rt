@@ -5,6 +5,7 @@ mod late_upload;
 mod lost_index;
 mod one_block;
 mod one_block_changed;
+mod one_strict;
 mod young_block;
 
 pub use late_upload::{late_upload_is_the_breach, late_upload_runs};
@@ -17,6 +18,7 @@ pub use one_block_changed::{
     absent_meta_is_a_lie, index_before_segment_is_refused, put_without_look_is_refused,
     read_of_absent_block_is_refused, report_without_source_is_refused,
 };
+pub use one_strict::{late_mark_is_refused, strict_rules_are_broken};
 pub use young_block::{
     young_block_is_answered_later, young_block_is_not_answered, young_block_is_not_kept,
     young_block_is_reported, young_block_is_spelled, young_block_runs,
