@@ -4,6 +4,7 @@ pub mod LabelPlaces
 pub mod RowsFound
 pub mod ValuesListed
 pub mod WholeLoops
+pub mod Spending
 pub mod Differences
 pub mod ListNumbers
 pub mod OpeningLaws

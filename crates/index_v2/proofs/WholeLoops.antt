@@ -1,8 +1,7 @@
 -- The loops over listed series and over rows: what was read of the front, and what is left, is the whole.
-use Rattle.std.proofs.Common.{◌≡◌, ℕ, zero, suc, ◌+◌, ◌-◌, ◌*◌, ◌<◌, ◌≤◌, List, [], ◌∷◌, ◌++◌, length, sum_by, drop, get_or, Option, Some, None, Result, Ok, Err, refl, sym, ap, subst, ◌∙◌, arith, add-one, drop-cons, ◌⊎◌, inl, inr}
+use Rattle.std.proofs.Common.{◌≡◌, ℕ, zero, suc, ◌+◌, ◌-◌, ◌<◌, ◌≤◌, List, [], ◌∷◌, ◌++◌, length, take, drop, get_or, Option, Some, None, Result, Ok, Err, refl, sym, ap, subst, ◌∙◌, arith, add-one, drop-cons, ◌⊎◌, inl, inr}
 use Rattle.std.specs.Prelude.{slice_get, IsErrAnd}
-use Rattle.std.proofs.lemmas.List.{append-nil, drop_all, length-append}
-use Rattle.std.proofs.lemmas.List.Sums.{sum_by-append, sum_by-cons}
+use Rattle.std.proofs.lemmas.List.{append-nil, drop_all, take_more, length-append}
 use Rattle.std.proofs.lemmas.Option.{slice_get_within, get_or_from_slice_get, slice_get_cases}
 use Rattle.reading_core.specs.Reading.{◌>>=◌, refused_as, Gives}
 use Rattle.index_parts.specs.declared.postings_row.PostingsRow.{PostingsRow}
@@ -132,10 +131,9 @@ row_within rows place lt none =
       | inr p ↦ let past = p.0 in absurd (omega arith)
     ]
 
--- ---- what is spent of a budget
-
-pub spent : {A : Type 0} (size : A → ℕ) (made new : List A) (one : A) (left rest much budget : ℕ) → sum_by size made + left ≤ budget → new ≡ made ++ one ∷ [] → much ≡ size one → rest + much ≡ left → sum_by size new + rest ≤ budget
-spent size made new one left rest much budget within pushed m e = rw pushed (omega (arith, sum_by-append size made (one ∷ []), sum_by-cons size one []))
+-- the front of the rows is one longer
+pub front_more : (rows : List PostingsRow) (place : ℕ) (row : PostingsRow) → slice_get rows place ≡ Some row → take (place + 1) rows ≡ take place rows ++ row ∷ []
+front_more rows place row at = take_more rows place row (slice_get_within rows place row at) ∙ ap (λ (r : PostingsRow). take place rows ++ r ∷ []) (get_or_from_slice_get rows place row row at)
 
 -- ---- an exit by `?`
 

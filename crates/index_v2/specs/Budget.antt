@@ -1,7 +1,26 @@
--- How much reading a whole index may keep at once.
-use Rattle.std.specs.Prelude.{ℕ, ◌+◌, length}
+-- What reading a whole index costs, of which there is a budget.
+use Rattle.std.specs.Prelude.{ℕ, ◌+◌, ◌*◌, List, length, Result, Ok, Err}
+use Rattle.std.specs.Int.{w32}
+use Rattle.wire_bytes.specs.declared.refusal.WireRefusal.{WireRefusal}
+use Rattle.wire_bytes.specs.Position.{Position}
+use Rattle.wire_bytes.specs.Fields.{number_at, uvarint_at}
+use Rattle.index_parts.specs.Placed.{at_place}
+use Rattle.index_parts.specs.declared.postings_row.PostingsRow.{PostingsRow}
 use Rattle.index_v2.specs.declared.index_series.IndexSeries.{IndexSeries}
 
 -- a series' labels and chunks
 abbrev pub members_of : IndexSeries → ℕ
 members_of series = length series.labels + length series.chunks
+
+-- the length that is read, and nothing where none is
+abbrev pub told : Result (ℕ × Position) WireRefusal → ℕ
+told (Ok size) = size.0
+told (Err e) = 0
+
+-- how many bytes the series of a number is said to take
+abbrev pub series_bytes : List ℕ → ℕ → ℕ
+series_bytes index number = told (uvarint_at (at_place index (16 * number)))
+
+-- how many bytes the list of a row is said to take
+abbrev pub list_bytes : List ℕ → PostingsRow → ℕ
+list_bytes index row = told (number_at w32 (at_place index row.offset))

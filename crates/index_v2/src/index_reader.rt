@@ -157,10 +157,10 @@ impl<'a> IndexReader<'a> {
     /// Reads every series, ascending by labels, and tests that the postings table and its lists are exactly those of the
     /// series.
     ///
-    /// What it keeps is bounded by the bytes: at most eight labels and chunks, and eight numbers of lists, for each of them.
-    /// Where sections do not overlap there is a label or a chunk for two bytes at most, and a number for four. A lawful index
-    /// may be made of series that lie within one another, or of many rows with one list, and its list may then be far larger
-    /// than its bytes: such an index is answered with `NoMemory`.
+    /// A lawful index may be made of series that lie within one another, or of many rows with one list. What it holds may then
+    /// be far more than its bytes, and reading it would take as much: it is answered with `NoMemory`. The bytes of the series
+    /// read, their labels and their chunks come to eight for each byte of the index at most, and so do the bytes and the
+    /// numbers of the lists. Where sections do not overlap, as in each index that a server writes, neither comes to two.
     pub fn whole(&self, alloc: Global) -> Result<IndexSeriesList, IndexRefusal>
         // It is read exactly where the bytes are an index of the list.
         ensures found { IfOk result (λ list. IsIndex self.now.bytes list) }

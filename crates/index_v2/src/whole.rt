@@ -1,4 +1,4 @@
-ghost use Rattle.std.specs.Prelude.{◌≡◌, ◌⊎◌, ◌*◌, ◌-◌, ◌^◌, ◌<◌, ◌≤◌, ℕ, List, [], length, sum_by, slice_get, slice_index, map, zip, Option, Some, None, Ok, Err, MatchResult, IfOk, IfSome};
+ghost use Rattle.std.specs.Prelude.{◌≡◌, ◌⊎◌, ◌+◌, ◌*◌, ◌-◌, ◌^◌, ◌<◌, ◌≤◌, ℕ, List, [], length, sum_by, slice_get, slice_index, map, zip, Option, Some, None, Ok, Err, MatchResult, IfOk, IfSome};
 ghost use Rattle.std.specs.Option.{option_copied};
 ghost use Rattle.reading_core.specs.Reading.{Gives, Answers};
 ghost use Rattle.index_parts.specs.declared.toc.Toc.{Toc};
@@ -7,11 +7,11 @@ ghost use Rattle.std.specs.Result.{IsOkAnd};
 ghost use Rattle.reading_core.specs.Grammar.{IsBytes};
 ghost use Rattle.index_v2.specs.declared.index_series.IndexSeries.{IndexSeries};
 ghost use Rattle.index_v2.specs.Opening.{opened_at};
-ghost use Rattle.index_v2.specs.Budget.{members_of};
+ghost use Rattle.index_v2.specs.Budget.{members_of, series_bytes, list_bytes};
 ghost use Rattle.index_v2.specs.IndexFile.{IsIndex};
 ghost use Rattle.index_v2.specs.WholeReading.{present_at, may_stand_behind, behind_at, all_at, lists_at, whole_at};
 
-use crate::budget::{budget_of, members_of, spend};
+use crate::budget::{budget_of, members_of, section_bytes, series_bytes, spend};
 use crate::difference::difference;
 use crate::numbered::labelled;
 use crate::opening::refused_of;
@@ -77,7 +77,8 @@ fn series_behind(
     }
 }
 
-/// Reads the series of these numbers, which ascend by their labels. Their labels and chunks are within the budget.
+/// Reads the series of these numbers, which ascend by their labels. Their bytes, labels and chunks are within the
+/// budget.
 pub(crate) fn all_series(
     alloc: Global,
     index: &[u8],
@@ -86,20 +87,21 @@ pub(crate) fn all_series(
 ) -> Result<Vec<IndexSeries>, IndexRefusal>
     requires { AreSmall numbers.now }
     ensures as_many { IfOk result (λ series. length series.items ≡ length numbers.now) }
-    ensures bounded { IfOk result (λ series. sum_by members_of series.items ≤ 8 * length index.now) }
+    ensures bounded { IfOk result (λ series. sum_by members_of series.items + sum_by (series_bytes index.now) numbers.now ≤ 8 * length index.now) }
     ensures exact { Gives IndexRefusal.NoMemory (λ series. series.items) result (all_at index.now symbols.now None numbers.now) }
 {
     let mut made = Vec::new(alloc);
     let mut left = budget_of(index);
     for number in numbers {
         let series = series_behind(alloc, index, symbols, made.as_slice(), *number)?;
-        left = spend(left, members_of(&series))?;
+        let between = spend(left, series_bytes(index, *number))?;
+        left = spend(between, members_of(&series))?;
         made.push(series)?;
     }
     Ok(made)
 }
 
-/// Reads the postings lists of all rows. Their numbers are within the budget.
+/// Reads the postings lists of all rows. Their bytes and numbers are within the budget.
 pub(crate) fn all_lists(
     alloc: Global,
     index: &[u8],
@@ -107,7 +109,7 @@ pub(crate) fn all_lists(
 ) -> Result<Vec<NumberList>, IndexRefusal>
     ensures rise { IfOk result (λ lists. AllRise lists.items) }
     ensures one_each { IfOk result (λ lists. length lists.items ≡ length rows.now) }
-    ensures bounded { IfOk result (λ lists. sum_by length lists.items ≤ 8 * length index.now) }
+    ensures bounded { IfOk result (λ lists. sum_by length lists.items + sum_by (list_bytes index.now) rows.now ≤ 8 * length index.now) }
     ensures exact { Gives IndexRefusal.NoMemory (λ lists. lists.items) result (lists_at index.now rows.now) }
 {
     let mut lists = Vec::new(alloc);
@@ -117,7 +119,8 @@ pub(crate) fn all_lists(
             return Ok(lists);
         };
         let list = list_at(alloc, index, row.2)?;
-        left = spend(left, list.len())?;
+        let between = spend(left, section_bytes(index, row.2))?;
+        left = spend(between, list.len())?;
         lists.push(list)?;
     }
     Ok(lists)

@@ -1,5 +1,8 @@
-use Rattle.std.proofs.Common.{sym, arith, length}
-use Rattle.index_v2.proofs.WholeLoops.{lists_step, lists_stop, lists_end, spent, gives_stop}
+use Rattle.std.proofs.Common.{sym, ap, arith, length, sum_by}
+use Rattle.std.proofs.lemmas.List.{take_all}
+use Rattle.index_v2.proofs.WholeLoops.{lists_step, lists_stop, lists_end, front_more, gives_stop}
+use Rattle.index_v2.proofs.Spending.{spent}
+use Rattle.index_v2.specs.Budget.{list_bytes}
 use Rattle.index_v2.proofs.whole.all_lists.Goals as goal
 
 pub returns-in_err-list-clause-exact : goal.returns-in_err-list-clause-exact
@@ -10,7 +13,7 @@ returns-in_err-list-clause-exact c =
 pub loop-place-preserved : goal.loop-place-preserved
 loop-place-preserved c = (
   lists_step _ _ c.loop-place.place _ _ _ _ c.loop-place.invariant.0 (sym c.in-Some.ensures) c.in_ok-list.ensures.exact c.in_ok-list.ensures.rise c.in_ok-push.ensures.items,
-  spent length _ _ _ _ _ _ _ c.loop-place.invariant.1 c.in_ok-push.ensures.items c.len.ensures c.in_ok-left.ensures,
+  spent length (list_bytes c.args.index.now) _ _ _ _ _ _ _ _ _ _ _ _ c.loop-place.invariant.1 c.in_ok-push.ensures.items (front_more c.args.rows.now c.loop-place.place _ (sym c.in-Some.ensures)) c.section_bytes.ensures c.in_ok-between.ensures c.len.ensures c.in_ok-left.ensures,
 )
 
 pub returns-clause-exact : goal.returns-clause-exact
@@ -21,3 +24,6 @@ returns-clause-one_each c = let m = c.loop-place.invariant.0.many in omega arith
 
 pub returns-clause-rise : goal.returns-clause-rise
 returns-clause-rise c = c.loop-place.invariant.0.rise
+
+pub returns-clause-bounded : goal.returns-clause-bounded
+returns-clause-bounded c = let m = c.loop-place.invariant.1 in omega (arith, ap (sum_by (list_bytes c.args.index.now)) (take_all c.loop-place.place c.args.rows.now (omega arith)))

@@ -1,0 +1,23 @@
+-- What is spent of the budget of reading a whole index.
+use Rattle.std.proofs.Common.{◌≡◌, ℕ, ◌+◌, ◌<◌, ◌≤◌, List, [], ◌∷◌, ◌++◌, length, sum_by, refl, arith}
+use Rattle.std.proofs.lemmas.List.{drop_all}
+use Rattle.std.proofs.lemmas.List.Sums.{sum_by-append, sum_by-cons}
+use Rattle.std.specs.Int.{w32}
+use Rattle.wire_bytes.specs.Fields.{groups_of, number_at, uvarint_at}
+use Rattle.index_parts.specs.Placed.{at_place}
+use Rattle.index_v2.specs.Budget.{told}
+
+-- past the end no length is told
+pub no_entry : (index : List ℕ) (at : ℕ) → length index < at → 0 ≡ told (uvarint_at (at_place index at))
+unfolding uvarint_at groups_of
+no_entry index at past = rw (drop_all at index (omega arith)) refl
+
+pub no_section : (index : List ℕ) (at : ℕ) → length index < at → 0 ≡ told (number_at w32 (at_place index at))
+unfolding number_at
+no_section index at past = rw (drop_all at index (omega arith)) refl
+
+-- one more section is read, its bytes are spent, and the members that it gave
+pub spent : {A B : Type 0} (size : A → ℕ) (bytes : B → ℕ) (made made' : List A) (one : A) (seen seen' : List B) (key : B) (left between rest much many budget : ℕ)
+    → sum_by size made + (sum_by bytes seen + left) ≤ budget → made' ≡ made ++ one ∷ [] → seen' ≡ seen ++ key ∷ [] → many ≡ bytes key → between + many ≡ left → much ≡ size one → rest + much ≡ between → sum_by size made' + (sum_by bytes seen' + rest) ≤ budget
+spent size bytes made made' one seen seen' key left between rest much many budget within pushed further m e m' e' =
+    rw (pushed, further) (omega (arith, sum_by-append size made (one ∷ []), sum_by-cons size one [], sum_by-append bytes seen (key ∷ []), sum_by-cons bytes key []))
