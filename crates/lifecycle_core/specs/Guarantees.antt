@@ -45,7 +45,7 @@ LeavesNoneOut script journal query =
     (used : Use) (ulid : ℕ) → Contains query.uses used → IsSettled script journal used ulid → Contains query.sources ulid
 
 -- Some gateway's worker gave this answer, to the query at some place of some phase. Where a script has one gateway, it is the
--- query's answer.
+-- query's answer; where it has none, a query has no worker, and stands outside this.
 pub record IsGiven (script : Script) (ends : List (List (List End))) (query : Answered) : Type 0 where
   pub phase_number : ℕ
   pub phase : Phase
