@@ -16,3 +16,4 @@ pub mod GatewayEntries
 pub mod Misses
 pub mod Explaining
 pub mod Honesty
+pub mod Unbroken

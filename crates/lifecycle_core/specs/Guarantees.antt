@@ -45,7 +45,7 @@ LeavesNoneOut script journal query =
     (used : Use) (ulid : ℕ) → Contains query.uses used → IsSettled script journal used ulid → Contains query.sources ulid
 
 -- Some gateway's worker gave this answer, to the query at some place of some phase. Where a script has one gateway, it is the
--- query's answer.
+-- query's answer; where it has none, a query has no worker, and stands outside this.
 pub record IsGiven (script : Script) (ends : List (List (List End))) (query : Answered) : Type 0 where
   pub phase_number : ℕ
   pub phase : Phase
@@ -74,14 +74,15 @@ pub record IsSyncOf (journal : List Entry) (used : Use) (entries : List Entry) :
   pub seat : All (λ e. e.seat ≡ first.seat) entries
   pub within : entries ≡ filter (λ e. (e.seat == first.seat) && (nat_le used.view.first e.seq && nat_le e.seq used.last)) journal
 
--- What an answered query is worth: it is exact, it names complete uploads, and where blocks were uploaded in time and the syncs
--- of its views did not last too long, it leaves none out.
+-- What an answered query is worth: it is exact, it names complete uploads, and where blocks were uploaded in time, and the sync of a
+-- view that it used did not last too long, it names each block that this sync has to see.
 pub record IsSound (script : Script) (journal : List Entry) (query : Answered) : Type 0 where
   pub exact : IsExact script query
   pub named : NamesUploads script journal query
   pub covered : ((ulid : ℕ) → IsUploadedInTime script.rules ulid journal)
-      → ((used : Use) (entries : List Entry) → Contains query.uses used → IsSyncOf journal used entries → IsSyncedInTime script.rules entries)
-      → LeavesNoneOut script journal query
+      → (used : Use) → Contains query.uses used
+      → ((entries : List Entry) → IsSyncOf journal used entries → IsSyncedInTime script.rules entries)
+      → (ulid : ℕ) → IsSettled script journal used ulid → Contains query.sources ulid
 
 -- The statement about a run that came to these ends. A missing object is explained by the journal, whatever the bucket does. Where
 -- the bucket is honest, nothing is found damaged, and each answered query is sound.

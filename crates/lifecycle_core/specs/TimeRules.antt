@@ -13,7 +13,7 @@ use Rattle.world_core.specs.Standing.{has_landed}
 use Rattle.world_core.specs.declared.op.Op.TheVariants.{Put}
 use Rattle.world_core.specs.declared.entry.Entry.{Entry}
 
--- an object of a block that a gateway reads: all but its mark
+-- an object of a block, other than its mark
 abbrev pub IsBlockObject : Key → Type 0
 IsBlockObject (Mark ulid) = ⊥
 IsBlockObject key = Unit {0}

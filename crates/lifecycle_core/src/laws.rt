@@ -1,16 +1,19 @@
-ghost use Rattle.std.specs.Prelude.{◌≡◌, ℕ, List, [], ◌∷◌};
+ghost use Rattle.std.specs.Prelude.{◌≡◌, ◌≤◌, ◌+◌, ℕ, List, [], ◌∷◌, ◌++◌, Option};
 ghost use Rattle.world_core.specs.Journals.{Each};
 ghost use Rattle.world_core.specs.Standing.{IsHonest};
 ghost use Rattle.world_core.specs.Worlds.{IsJournal};
 ghost use Rattle.world_core.specs.declared.entry.Entry.{Entry};
+ghost use Rattle.meta_fetcher.specs.declared.sync_end.SyncEnd.{SyncEnd};
+ghost use Rattle.meta_fetcher.specs.declared.view.View.{View};
 ghost use Rattle.script_core.specs.declared.phase.Phase.{Phase};
 ghost use Rattle.script_core.specs.declared.script.Script.{Script};
 ghost use Rattle.script_core.specs.Lawful.{IsLawfulScript};
-ghost use Rattle.lifecycle_core.specs.Breaches.{IsLie, IsUnbroken};
-ghost use Rattle.lifecycle_core.specs.Causes.{AreFound, AreMissesExplained};
+ghost use Rattle.lifecycle_core.specs.Breaches.{IsBreach, IsCallRead, IsLie, IsSyncIn, IsUnbroken, IsViewAt, Rule};
+ghost use Rattle.lifecycle_core.specs.Causes.{AreFound, AreMissesExplained, IsExplained};
 ghost use Rattle.lifecycle_core.specs.InLine.{IsRunInLine};
 ghost use Rattle.lifecycle_core.specs.Phases.{IsLawfulJournal, IsRunOf, BeginsPhase};
 ghost use Rattle.lifecycle_core.specs.Tasks.{End};
+ghost use Rattle.lifecycle_core.specs.TimeRules.{IsMarkedInTime, IsReadInTime, IsUploadedInTime};
 
 /// A law: a run that was broken off before its first entry is a run of every script.
 pub fn no_entry_is_lawful()
@@ -46,4 +49,23 @@ pub fn honest_journals_tell_no_lie()
 /// A law: where misses are explained and no entry breaks a rule, no series call misses an object.
 pub fn unbroken_journals_miss_nothing()
     ensures { (script : Script) (journal : List Entry) (ends : List (List (List End))) → AreMissesExplained script journal ends → IsUnbroken script journal → AreFound ends }
+{}
+
+/// A law: an unbroken journal has no breach, and no entry of it is a cause.
+pub fn unbroken_journals_have_no_breach()
+    ensures unbreached { (script : Script) (journal : List Entry) (rule : Rule) (number x y : ℕ) → IsUnbroken script journal → ¬ IsBreach script journal rule number x y }
+    ensures unexplained { (script : Script) (journal : List Entry) (number : ℕ) → IsUnbroken script journal → ¬ IsExplained script journal number }
+{}
+
+/// A law: an unbroken journal keeps each rule of time: on uploads, on marks, on a sync's last read, and on the reads of a series
+/// call.
+pub fn unbroken_journals_are_in_time()
+    ensures uploaded { (script : Script) (journal : List Entry) → IsUnbroken script journal → (ulid : ℕ) → IsUploadedInTime script.rules ulid journal }
+    ensures marked { (script : Script) (journal : List Entry) → IsUnbroken script journal → (ulid : ℕ) → IsMarkedInTime script.rules ulid journal }
+    ensures synced { (script : Script) (journal : List Entry) → IsUnbroken script journal
+        → (gateway : ℕ) (entries : List Entry) (end : Option SyncEnd) (first last : Entry) (others front : List Entry)
+        → IsSyncIn script journal gateway entries end → entries ≡ first ∷ others → entries ≡ front ++ last ∷ []
+        → last.moment.ms + 1000 ≤ first.moment.ms + script.rules.ignore.ms }
+    ensures read { (script : Script) (journal : List Entry) → IsUnbroken script journal → (gateway : ℕ) (view : View)
+        → Each (λ before e. IsCallRead script gateway e → IsViewAt script journal gateway e.seq view → IsReadInTime script.rules view e) journal }
 {}

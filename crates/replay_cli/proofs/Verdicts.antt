@@ -1,5 +1,5 @@
 -- Verdicts and their causes, from a run outwards to the whole call.
-use Rattle.std.proofs.Common.{◌≡◌, inl, inr, ℕ, ◌<◌, List, [], ◌∷◌, length, refl, sym, subst, arith}
+use Rattle.std.proofs.Common.{◌≡◌, ◌≢◌, inl, inr, ℕ, ◌<◌, List, [], ◌∷◌, length, refl, sym, subst, arith}
 use Rattle.std.specs.Prelude.{Option, Some, None, IfSome, IsSomeAnd, Ok, Err}
 use Rattle.std.proofs.lemmas.Bool.{lt-ltb}
 use Rattle.bucket_core.specs.Causes.{Rose}
@@ -30,7 +30,7 @@ pub worked : (around : Around) (script : Script) (v : Verdict) → IfSome around
     → IsRun script around.before around.site_failed around.journal v → IsWorked around v
 worked around script v spelled taken lawful run = inr (record { script = script; spelled = spelled; taken = taken; lawful = lawful; run = run })
 
-pub unread : (around : Around) (v : Verdict) → IsUnread around.text around.source_failed v → around.journal ≡ None → IsWorked around v
+pub unread : (around : Around) (v : Verdict) → IsUnread around.text around.left around.source_failed v → around.journal ≡ None → IsWorked around v
 unread around v why none = inl (why, none)
 
 -- what holds of what is told holds of what was told before, where that is the same
@@ -75,6 +75,6 @@ unfolding script_of
 too_long text long = rw (lt-ltb _ _ long) refl
 
 -- a text that passes the limit is refused for that
-pub told_too_long : (told : Option (List ℕ)) → IfSome told (λ text. 67108864 < length text) → IfSome told (λ text. script_of text ≡ Err TooLong)
-told_too_long None long = tt
-told_too_long (Some text) long = too_long text long
+pub told_too_long : (told left : Option (List ℕ)) → IfSome told (λ text. 67108864 < length text) → IfSome told (λ text. (script_of text ≡ Err TooLong) × (TooLong ≢ TooLong → left ≡ Some []))
+told_too_long None left long = tt
+told_too_long (Some text) left long = (too_long text long, λ other. absurd (other refl))

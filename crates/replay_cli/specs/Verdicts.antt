@@ -11,6 +11,7 @@ use Rattle.script_core.specs.Reading.{script_of}
 use Rattle.script_core.specs.Wording.{refusal_text}
 use Rattle.script_core.specs.declared.phase.Phase.{Phase}
 use Rattle.script_core.specs.declared.script.Script.{Script}
+use Rattle.script_core.specs.declared.script_refusal.ScriptRefusal.TheVariants.{TooLong}
 use Rattle.script_core.specs.declared.task.Task.{Task}
 use Rattle.lifecycle_core.specs.Causes.{AreMissesExplained}
 use Rattle.lifecycle_core.specs.InLine.{IsInLine}
@@ -137,16 +138,17 @@ pub record IsRunOfText (around : Around) (verdict : Verdict) : Type 0 where
   pub lawful : IsLawfulScript script
   pub run : IsRun script around.before around.site_failed around.journal verdict
 
--- Why no script was read: by the source, or by its text. The bucket was not opened then.
-abbrev pub IsUnread : Option (List ℕ) → Type 0 → Verdict → Type 0
-IsUnread text source_failed SourceFault = source_failed
-IsUnread text source_failed (ScriptRefused refusal) = IfSome text (λ bytes. script_of bytes ≡ Err refusal)
-IsUnread text source_failed NoMemory = Unit {0}
-IsUnread text source_failed other = ⊥
+-- Why no script was read: by the source, or by its text, which was read to its end unless it was too long. The bucket was not
+-- opened then.
+abbrev pub IsUnread : Option (List ℕ) → Option (List ℕ) → Type 0 → Verdict → Type 0
+IsUnread text left source_failed SourceFault = source_failed
+IsUnread text left source_failed (ScriptRefused refusal) = IfSome text (λ bytes. (script_of bytes ≡ Err refusal) × (refusal ≢ TooLong → left ≡ Some []))
+IsUnread text left source_failed NoMemory = Unit {0}
+IsUnread text left source_failed other = ⊥
 
 -- why a call whose words are a form of one comes to a verdict
 abbrev pub IsWorked : Around → Verdict → Type 0
-IsWorked around verdict = (IsUnread around.text around.source_failed verdict × (around.journal ≡ None)) ⊎ IsRunOfText around verdict
+IsWorked around verdict = (IsUnread around.text around.left around.source_failed verdict × (around.journal ≡ None)) ⊎ IsRunOfText around verdict
 
 -- why a call comes to a verdict, by whether its words are a form of one
 abbrev pub IsCaused : Type 0 → Around → Verdict → Type 0

@@ -157,7 +157,7 @@ fn read_script<R: Source>(alloc: Global, source: &mut R) -> Result<Script, Verdi
     ensures read { IfOk result (λ script. IfSome (R.left source.old) (λ text. script_of text ≡ Ok script)) }
     ensures taken { IfOk result (λ _. IfSome (R.left source.old) (λ text. R.left source.new ≡ Some [])) }
     ensures lawful { IfOk result IsLawfulScript }
-    ensures refused { IfErr result (λ verdict. IsUnread (R.left source.old) (Rose (R.faults source.old) (R.faults source.new)) verdict) }
+    ensures refused { IfErr result (λ verdict. IsUnread (R.left source.old) (R.left source.new) (Rose (R.faults source.old) (R.faults source.new)) verdict) }
 {
     let text = match read_all(alloc, source) {
         Ok(text) => text,

@@ -19,3 +19,4 @@ pub mod OneUnbroken
 pub mod OneGuaranteed
 pub mod LateUpload
 pub mod OneStrict
+pub mod OneUnsound

@@ -120,7 +120,7 @@ given_is query g = elim (own_phase g.phase_number g.phase g.in_phases) [
 ]
 
 sound : IsSound one.script one.journal one.asked
-sound = record { exact = exact; named = names; covered = λ uploaded synced. leaves_none_out }
+sound = record { exact = exact; named = names; covered = λ uploaded used among synced ulid settled. leaves_none_out used ulid among settled }
 
 pub guaranteed : IsGuaranteed one.script one.journal one.ends
 guaranteed = record {

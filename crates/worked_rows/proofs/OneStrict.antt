@@ -15,7 +15,7 @@ use Rattle.lifecycle_core.specs.Tasks.{sync_rules}
 use Rattle.lifecycle_core.specs.Breaches.{IsSeatOf, IsSyncIn, IsViewAt, Refuses, mark_time, sync_time, view_time}
 use Rattle.worked_rows.specs.SmallBlock as small
 use Rattle.worked_rows.specs.SmallRuns as runs
-use Rattle.worked_rows.specs.Entries.{absent, found, listed, stored}
+use Rattle.worked_rows.specs.Entries.{absent, listed, stored}
 use Rattle.worked_rows.specs.OneBlock as one
 use Rattle.worked_rows.specs.OneStrict.{rules_with, script_with, hasty, idle, last_read, first_call}
 use Rattle.worked_rows.proofs.Bytes.{meta_reads, a_reads}

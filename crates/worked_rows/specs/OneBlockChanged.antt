@@ -2,7 +2,9 @@
 use Rattle.std.specs.Prelude.{ℕ, List, [], ◌∷◌, ◌++◌, codes}
 use Rattle.std.specs.List.{join_with_byte}
 use Rattle.block_keys.specs.declared.key.Key.TheVariants as key
+use Rattle.label_sets.specs.Triples.{Triple}
 use Rattle.world_core.specs.declared.entry.Entry.{Entry}
+use Rattle.lifecycle_core.specs.Guarantees.{Answered}
 use Rattle.worked_rows.specs.SmallBlock as small
 use Rattle.worked_rows.specs.OneBlock as one
 use Rattle.worked_rows.specs.Entries.{clock, stored, found, absent, listed}
@@ -35,3 +37,20 @@ report_without_source = join_with_byte 10 (
     ∷ codes "series {__name__=\"up\"} 1000:3ff0000000000000"
     ∷ [] ∷ []
     )
+
+-- ---- other answers to its query
+
+abbrev pub with_answer : List Triple → List ℕ → Answered
+with_answer samples sources = record { low = one.asked.low; high = one.asked.high; selector = one.selector; uses = one.used ∷ []; samples = samples; sources = sources }
+
+-- it names no block, and has no sample
+abbrev pub nothing_answered : Answered
+nothing_answered = with_answer [] []
+
+-- it names the block, and has no sample
+abbrev pub nothing_of_block : Answered
+nothing_of_block = with_answer [] (small.a ∷ [])
+
+-- it names a block that the script does not declare
+abbrev pub strange_source : Answered
+strange_source = with_answer (small.triple ∷ []) (11 ∷ [])

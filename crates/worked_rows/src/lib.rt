@@ -15,8 +15,9 @@ pub use one_block::{
     one_block_is_in_time, one_block_is_reported, one_block_is_spelled, one_block_runs,
 };
 pub use one_block_changed::{
-    absent_meta_is_a_lie, index_before_segment_is_refused, put_without_look_is_refused,
-    read_of_absent_block_is_refused, report_without_source_is_refused,
+    absent_meta_is_a_lie, answer_of_nothing_leaves_one_out, answer_without_sample_is_not_exact,
+    index_before_segment_is_refused, missing_without_cause_is_refused, put_without_look_is_refused,
+    read_of_absent_block_is_refused, report_without_source_is_refused, strange_source_is_refused,
 };
 pub use one_strict::{late_mark_is_refused, strict_rules_are_broken};
 pub use young_block::{
