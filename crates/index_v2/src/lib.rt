@@ -35,4 +35,6 @@ pub use write_refusal::IndexWriteRefusal;
 #[cfg(test)]
 mod real_indexes;
 #[cfg(test)]
+mod shared_list;
+#[cfg(test)]
 mod tests;
