@@ -35,6 +35,8 @@ pub use write_refusal::IndexWriteRefusal;
 #[cfg(test)]
 mod real_indexes;
 #[cfg(test)]
+mod shared_list;
+#[cfg(test)]
 mod tests;
 #[cfg(test)]
 mod writer_tests;
