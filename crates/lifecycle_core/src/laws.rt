@@ -1,5 +1,6 @@
-ghost use Rattle.std.specs.Prelude.{◌≡◌, ◌≤◌, ◌+◌, ℕ, List, [], ◌∷◌, ◌++◌, Option};
+ghost use Rattle.std.specs.Prelude.{◌≡◌, ℕ, List, [], ◌∷◌, Option};
 ghost use Rattle.world_core.specs.Journals.{Each};
+ghost use Rattle.world_core.specs.Moments.{HasMoments};
 ghost use Rattle.world_core.specs.Standing.{IsHonest};
 ghost use Rattle.world_core.specs.Worlds.{IsJournal};
 ghost use Rattle.world_core.specs.declared.entry.Entry.{Entry};
@@ -13,7 +14,7 @@ ghost use Rattle.lifecycle_core.specs.Causes.{AreFound, AreMissesExplained, IsEx
 ghost use Rattle.lifecycle_core.specs.InLine.{IsRunInLine};
 ghost use Rattle.lifecycle_core.specs.Phases.{IsLawfulJournal, IsRunOf, BeginsPhase};
 ghost use Rattle.lifecycle_core.specs.Tasks.{End};
-ghost use Rattle.lifecycle_core.specs.TimeRules.{IsMarkedInTime, IsReadInTime, IsUploadedInTime};
+ghost use Rattle.lifecycle_core.specs.TimeRules.{IsMarkedInTime, IsReadInTime, IsSyncedInTime, IsUploadedInTime};
 
 /// A law: a run that was broken off before its first entry is a run of every script.
 pub fn no_entry_is_lawful()
@@ -57,15 +58,12 @@ pub fn unbroken_journals_have_no_breach()
     ensures unexplained { (script : Script) (journal : List Entry) (number : ℕ) → IsUnbroken script journal → ¬ IsExplained script journal number }
 {}
 
-/// A law: an unbroken journal keeps each rule of time: on uploads, on marks, on a sync's last read, and on the reads of a series
-/// call.
+/// A law: an unbroken journal keeps each rule of time: on uploads, on marks, on syncs, and on the reads of a series call.
 pub fn unbroken_journals_are_in_time()
     ensures uploaded { (script : Script) (journal : List Entry) → IsUnbroken script journal → (ulid : ℕ) → IsUploadedInTime script.rules ulid journal }
     ensures marked { (script : Script) (journal : List Entry) → IsUnbroken script journal → (ulid : ℕ) → IsMarkedInTime script.rules ulid journal }
-    ensures synced { (script : Script) (journal : List Entry) → IsUnbroken script journal
-        → (gateway : ℕ) (entries : List Entry) (end : Option SyncEnd) (first last : Entry) (others front : List Entry)
-        → IsSyncIn script journal gateway entries end → entries ≡ first ∷ others → entries ≡ front ++ last ∷ []
-        → last.moment.ms + 1000 ≤ first.moment.ms + script.rules.ignore.ms }
+    ensures synced { (script : Script) (journal : List Entry) → IsUnbroken script journal → (tick : ℕ) → HasMoments tick journal
+        → (gateway : ℕ) (entries : List Entry) (end : Option SyncEnd) → IsSyncIn script journal gateway entries end → IsSyncedInTime script.rules entries }
     ensures read { (script : Script) (journal : List Entry) → IsUnbroken script journal → (gateway : ℕ) (view : View)
         → Each (λ before e. IsCallRead script gateway e → IsViewAt script journal gateway e.seq view → IsReadInTime script.rules view e) journal }
 {}

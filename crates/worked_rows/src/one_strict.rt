@@ -16,7 +16,7 @@ pub fn strict_rules_are_broken()
     ensures view { (before : List Entry) → Refuses idle journal view_time before first_call 174_600_004 174_600_001 }
 {}
 
-/// A law: a mark of second 0 may be put as late as marks are ignored, and no later.
+/// A law: a mark that tells second 0 breaks its rule where it is put a millisecond after the ignore delay, whatever its text.
 pub fn late_mark_is_refused()
     ensures { (entries before : List Entry) (bytes : List ℕ) (mark : MarkFields) → IsMarkText bytes mark → mark.deletion_time ≡ 0
         → Refuses script entries mark_time before (stored 1 1 86_400_001 (key.Mark a) bytes) 86_400_001 86_400_000 }
