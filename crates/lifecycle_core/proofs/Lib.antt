@@ -17,3 +17,4 @@ pub mod Misses
 pub mod Explaining
 pub mod Honesty
 pub mod Unbroken
+pub mod Told
