@@ -311,7 +311,7 @@ entry_next entries n =
     let back : n + 1 - 1 ≡ n = omega arith in
     rw (some, back) refl
 
-the_entry : (journal front back : List Entry) (e : Entry) (number : ℕ) → journal ≡ front ++ e ∷ back → number ≡ length front + 1 → entry_at journal number ≡ Some e
+pub the_entry : (journal front back : List Entry) (e : Entry) (number : ℕ) → journal ≡ front ++ e ∷ back → number ≡ length front + 1 → entry_at journal number ≡ Some e
 the_entry journal front back e number parts is = ap (entry_at journal) is ∙ entry_next journal (length front) ∙ ap (λ (es : List Entry). slice_get es (length front)) parts ∙ at_number front back e
 
 absent_is_lie : (front : List Entry) (e : Entry) (k : Key) (bytes : List ℕ) → e.op ≡ op.Get k → e.reply ≡ reply.Absent → stands front (key_text k) ≡ Some bytes → IsLie front e 65 70
@@ -338,7 +338,7 @@ found_is_lie front e k bytes reads found stood = (
   ([], codes "F" ++ bytes, codes "A", refl, refl, refl, refl, λ same. omega (arith, same)),
 )
 
-parted : (xs : List Entry) (x : Entry) → Contains xs x → (front : List Entry) × (back : List Entry) × (xs ≡ front ++ x ∷ back)
+pub parted : (xs : List Entry) (x : Entry) → Contains xs x → (front : List Entry) × (back : List Entry) × (xs ≡ front ++ x ∷ back)
 parted [] x (k, below, is) = absurd (omega (arith, below))
 parted (y ∷ xs) x (zero, below, is) = ([], xs, ap (λ z. z ∷ xs) is)
 parted (y ∷ xs) x (suc k, below, is) = let rest = parted xs x (k, omega (arith, below), is) in (y ∷ rest.0, rest.1, ap (λ es. y ∷ es) rest.2)

@@ -8,7 +8,7 @@ use Rattle.world_core.proofs.Growing.{Each-none}
 use Rattle.script_core.specs.declared.phase.Phase.{Phase}
 use Rattle.script_core.specs.declared.script.Script.{Script}
 use Rattle.lifecycle_core.specs.InLine.{IsInLine}
-use Rattle.lifecycle_core.specs.Phases.{IsLawfulJournal, PhasesRun, BeginsPhase}
+use Rattle.lifecycle_core.specs.Phases.{IsLawfulJournal, IsRunOf, PhasesRun, BeginsPhase}
 use Rattle.lifecycle_core.specs.Tasks.{End}
 use Rattle.lifecycle_core.specs.Views.{Views, no_views}
 use Rattle.lifecycle_core.proofs.Joined.{no_phase_yet}
@@ -27,8 +27,11 @@ no_journal tick = record {
   small = Each-none (λ before e. e.moment.ms < 2 ^ 48);
 }
 
+pub none_run : (script : Script) → IsRunOf script [] []
+none_run script = record { kept = no_journal script.rules.tick.ms; phases = no_phase script script.phases }
+
 pub none_lawful : (script : Script) → IsLawfulJournal script []
-none_lawful script = ([], record { kept = no_journal script.rules.tick.ms; phases = no_phase script script.phases })
+none_lawful script = ([], none_run script)
 
 pub none_in_line : (script : Script) → IsInLine script []
 none_in_line script = ([], record { kept = no_journal script.rules.tick.ms; phases = no_phase_yet script 0 no_views script.phases })

@@ -28,7 +28,7 @@ use Rattle.store_gateway.specs.declared.series_end.SeriesEnd.TheVariants as call
 use Rattle.lifecycle_core.proofs.Positions.{stands_in}
 use Rattle.lifecycle_core.proofs.RunEntries.{PrecedesMeta, IsRead}
 
-match_bool : (b : Bool) (X Y R : Type 0) → (X → R) → (Y → R) → MatchBool b X Y → R
+pub match_bool : (b : Bool) (X Y R : Type 0) → (X → R) → (Y → R) → MatchBool b X Y → R
 match_bool true X Y R f g m = f m
 match_bool false X Y R f g m = g m
 

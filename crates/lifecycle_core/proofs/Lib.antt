@@ -18,3 +18,6 @@ pub mod Explaining
 pub mod Honesty
 pub mod Unbroken
 pub mod Told
+pub mod Faults
+pub mod RunFronts
+pub mod Fronts

@@ -1,15 +1,17 @@
 -- Why a worker came to no view and to no answer: what a journal has to show.
-use Rattle.std.specs.Prelude.{◌≡◌, ◌≤◌, ℕ, List, ◌∷◌, ◌++◌, Contains, Some}
+use Rattle.std.specs.Prelude.{◌≡◌, ◌≤◌, ℕ, List, ◌∷◌, ◌++◌, Contains, Some, IsTrue}
 use Rattle.block_keys.specs.Keys.{key_ulid}
 use Rattle.block_keys.specs.declared.key.Key.{Key}
 use Rattle.world_core.specs.Journals.{entry_at}
+use Rattle.world_core.specs.Operations.{has_failed}
 use Rattle.world_core.specs.declared.entry.Entry.{Entry}
 use Rattle.world_core.specs.declared.reply.Reply.TheVariants.{Absent}
+use Rattle.shipper.specs.declared.upload_end.UploadEnd.TheVariants as shipped
 use Rattle.meta_fetcher.specs.declared.sync_end.SyncEnd.TheVariants as fetched
 use Rattle.store_gateway.specs.declared.series_end.SeriesEnd.TheVariants as called
 use Rattle.script_core.specs.declared.script.Script.{Script}
 use Rattle.lifecycle_core.specs.Breaches.{Rule, honesty, upload_time, mark_time, sync_time, view_time, Refuses, read_key}
-use Rattle.lifecycle_core.specs.Tasks.{End, synced, answered}
+use Rattle.lifecycle_core.specs.Tasks.{End, uploaded, synced, answered, without_view, stopped}
 use Rattle.lifecycle_core.specs.TimeRules.{PutsMark, PutsObject}
 use Rattle.lifecycle_core.specs.Views.{Use}
 
@@ -61,3 +63,29 @@ IsDamaged other = ⊥
 -- no worker says that bytes or names were not of the form
 abbrev pub AreUndamaged : List (List (List End)) → Type 0
 AreUndamaged ends = (end : End) → SomeCame ends end → ¬ IsDamaged end
+
+-- a call failed, at the entry of this number
+abbrev pub IsFault : End → ℕ → Type 0
+IsFault (uploaded (shipped.Fault entry)) number = entry ≡ number
+IsFault (synced (fetched.Fault entry)) number = entry ≡ number
+IsFault (answered used (called.Fault entry)) number = entry ≡ number
+IsFault other number = ⊥
+
+-- Where a worker says that a call failed, the entry that it names was answered so.
+abbrev pub AreFaultsShown : List Entry → List (List (List End)) → Type 0
+AreFaultsShown journal ends = (end : End) (number : ℕ) → SomeCame ends end → IsFault end number → (e : Entry) × (entry_at journal number ≡ Some e) × IsTrue (has_failed e.reply)
+
+-- The task came to what it is for, or to the stop of its line; or a sync found too many names, or a query's gateway had no view.
+abbrev pub IsWell : End → Type 0
+IsWell (uploaded (shipped.Done count)) = Unit {0}
+IsWell (uploaded shipped.Already) = Unit {0}
+IsWell (synced (fetched.View view)) = Unit {0}
+IsWell (synced fetched.TooMany) = Unit {0}
+IsWell (answered used (called.Answer series sources)) = Unit {0}
+IsWell without_view = Unit {0}
+IsWell (stopped count) = Unit {0}
+IsWell other = ⊥
+
+-- every task that came to its end came to such a one
+abbrev pub AreWell : List (List (List End)) → Type 0
+AreWell ends = (end : End) → SomeCame ends end → IsWell end

@@ -3,13 +3,14 @@ use Rattle.std.specs.Prelude.{◌≡◌, ◌==◌, ◌&&◌, nat_le, ℕ, ℤ, L
 use Rattle.label_sets.specs.Triples.{triples_of}
 use Rattle.label_sets.specs.declared.series.Series.{Series}
 use Rattle.world_core.specs.Standing.{IsHonest}
+use Rattle.world_core.specs.Worlds.{failed_count}
 use Rattle.store_gateway.specs.declared.series_end.SeriesEnd.TheVariants as ended
 use Rattle.script_core.specs.Hands.{workers_of}
 use Rattle.script_core.specs.declared.phase.Phase.{Phase}
 use Rattle.script_core.specs.declared.task.Task.{Task}
 use Rattle.script_core.specs.declared.work.Work.TheVariants as work
-use Rattle.lifecycle_core.specs.Causes.{AreMissesExplained, AreUndamaged}
-use Rattle.lifecycle_core.specs.Phases.{CameTo}
+use Rattle.lifecycle_core.specs.Causes.{AreFaultsShown, AreMissesExplained, AreUndamaged, AreWell}
+use Rattle.lifecycle_core.specs.Phases.{CameTo, IsRunOf}
 use Rattle.lifecycle_core.specs.Tasks.{End, answered}
 use Rattle.lifecycle_core.specs.TimeRules.{IsUploadedInTime, IsSyncedInTime}
 use Rattle.label_sets.specs.Triples.{Triple}
@@ -84,9 +85,16 @@ pub record IsSound (script : Script) (journal : List Entry) (query : Answered) :
       → ((entries : List Entry) → IsSyncOf journal used entries → IsSyncedInTime script.rules entries)
       → (ulid : ℕ) → IsSettled script journal used ulid → Contains query.sources ulid
 
--- The statement about a run that came to these ends. A missing object is explained by the journal, whatever the bucket does. Where
--- the bucket is honest, nothing is found damaged, and each answered query is sound.
+-- What is guaranteed of a run that came to these ends. A missing object is explained by the journal, and a failed call shown by it,
+-- whatever the bucket does. Where the bucket is honest, nothing is found damaged and each answered query is sound; and where, besides,
+-- no call failed, every task ends well.
 pub record IsGuaranteed (script : Script) (journal : List Entry) (ends : List (List (List End))) : Type 0 where
   pub explained : AreMissesExplained script journal ends
+  pub faults : AreFaultsShown journal ends
   pub undamaged : IsHonest journal → AreUndamaged ends
   pub sound : IsHonest journal → (query : Answered) → IsGiven script ends query → IsSound script journal query
+  pub complete : IsHonest journal → failed_count journal ≡ 0 → AreWell ends
+
+-- a journal of the script's runs, of which all this is guaranteed
+abbrev pub IsGuaranteedJournal : Script → List Entry → Type 0
+IsGuaranteedJournal script journal = (ends : List (List (List End))) × IsRunOf script journal ends × IsGuaranteed script journal ends

@@ -1,4 +1,4 @@
-ghost use Rattle.std.specs.Prelude.{◌≡◌, ℕ, List, [], ◌∷◌, Option};
+ghost use Rattle.std.specs.Prelude.{◌≡◌, ℕ, List, [], ◌∷◌, ◌++◌, Option};
 ghost use Rattle.world_core.specs.Journals.{Each};
 ghost use Rattle.world_core.specs.Moments.{HasMoments};
 ghost use Rattle.world_core.specs.Standing.{IsHonest};
@@ -11,6 +11,7 @@ ghost use Rattle.script_core.specs.declared.script.Script.{Script};
 ghost use Rattle.script_core.specs.Lawful.{IsLawfulScript};
 ghost use Rattle.lifecycle_core.specs.Breaches.{IsBreach, IsCallRead, IsLie, IsSyncIn, IsUnbroken, IsViewAt, Rule};
 ghost use Rattle.lifecycle_core.specs.Causes.{AreFound, AreMissesExplained, IsExplained};
+ghost use Rattle.lifecycle_core.specs.Guarantees.{IsGuaranteed};
 ghost use Rattle.lifecycle_core.specs.InLine.{IsRunInLine};
 ghost use Rattle.lifecycle_core.specs.Phases.{IsLawfulJournal, IsRunOf, BeginsPhase};
 ghost use Rattle.lifecycle_core.specs.Tasks.{End};
@@ -30,6 +31,11 @@ pub fn journals_begin_with_the_first_phase()
 /// A law: a run that does a lawful script's tasks one after another, in the order of their lines, leaves a lawful journal.
 pub fn runs_in_line_are_lawful()
     ensures { (script : Script) (journal : List Entry) (ends : List (List End)) → IsLawfulScript script → IsRunInLine script journal ends → IsLawfulJournal script journal }
+{}
+
+/// A law: a front of a lawful journal is one.
+pub fn fronts_are_lawful()
+    ensures { (script : Script) (front others : List Entry) → IsLawfulJournal script (front ++ others) → IsLawfulJournal script front }
 {}
 
 /// A law: where a series call says that an object was missing, the journal shows why, whatever the bucket does.
@@ -66,4 +72,10 @@ pub fn unbroken_journals_are_in_time()
         → (gateway : ℕ) (entries : List Entry) (end : Option SyncEnd) → IsSyncIn script journal gateway entries end → IsSyncedInTime script.rules entries }
     ensures read { (script : Script) (journal : List Entry) → IsUnbroken script journal → (gateway : ℕ) (view : View)
         → Each (λ before e. IsCallRead script gateway e → IsViewAt script journal gateway e.seq view → IsReadInTime script.rules view e) journal }
+{}
+
+/// A law: all is guaranteed of every run of a lawful script, in whatever order its workers' operations fell, and wherever it was
+/// broken off.
+pub fn runs_are_guaranteed()
+    ensures { (script : Script) (journal : List Entry) (ends : List (List (List End))) → IsLawfulScript script → IsRunOf script journal ends → IsGuaranteed script journal ends }
 {}

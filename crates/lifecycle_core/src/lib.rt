@@ -4,8 +4,8 @@
 mod laws;
 
 pub use laws::{
-    honest_buckets_miss_nothing, honest_journals_tell_no_lie, journals_begin_with_the_first_phase,
-    misses_are_explained, no_entry_is_lawful, runs_in_line_are_lawful,
-    unbroken_journals_are_in_time, unbroken_journals_have_no_breach,
-    unbroken_journals_miss_nothing,
+    fronts_are_lawful, honest_buckets_miss_nothing, honest_journals_tell_no_lie,
+    journals_begin_with_the_first_phase, misses_are_explained, no_entry_is_lawful,
+    runs_are_guaranteed, runs_in_line_are_lawful, unbroken_journals_are_in_time,
+    unbroken_journals_have_no_breach, unbroken_journals_miss_nothing,
 };

@@ -20,7 +20,7 @@ use Rattle.script_core.specs.declared.phase.Phase.{Phase}
 use Rattle.script_core.specs.declared.task.Task.{Task}
 use Rattle.script_core.specs.declared.work.Work.TheVariants as works
 use Rattle.lifecycle_core.specs.Breaches.{honesty}
-use Rattle.lifecycle_core.specs.Causes.{IsDamaged, IsExplained}
+use Rattle.lifecycle_core.specs.Causes.{IsDamaged, IsExplained, IsFault, IsWell}
 use Rattle.lifecycle_core.specs.Guarantees.{Answered, IsGiven, IsGuaranteed, IsSound}
 use Rattle.lifecycle_core.specs.Phases.{AreFinished, CameTo, IsRunOf}
 use Rattle.lifecycle_core.specs.Tasks.{End, QueryTask, synced, answered}
@@ -126,8 +126,10 @@ pub guaranteed : IsGuaranteed one.script one.journal one.ends
 guaranteed = record {
   explained = λ used number came. absurd (of_each (λ end. end ≡ answered used (called.Missing number) → ⊥) one.ends (answered used (called.Missing number))
       (all_ends (λ end. end ≡ answered used (called.Missing number) → ⊥) _ _ _ (λ e. cc (e)) (λ e. cc (e)) (λ e. cc (e))) came refl);
+  faults = λ end number came fault. absurd (of_each (λ end. (n : ℕ) → ¬ IsFault end n) one.ends end (all_ends (λ end. (n : ℕ) → ¬ IsFault end n) _ _ _ (λ n f. f) (λ n f. f) (λ n f. f)) came number fault);
   undamaged = λ honest end came. of_each (λ end. ¬ IsDamaged end) one.ends end (all_ends (λ end. ¬ IsDamaged end) _ _ _ (λ d. d) (λ d. d) (λ d. d)) came;
   sound = λ honest query given. subst (IsSound one.script one.journal) (given_is query given) sound;
+  complete = λ honest none end came. of_each IsWell one.ends end (all_ends IsWell _ _ _ tt tt tt) came;
 }
 
 -- ---- where the index is lost
@@ -181,6 +183,8 @@ lost_guaranteed = record {
   explained = λ used number came. of_each (λ end. end ≡ answered used (called.Missing number) → IsExplained one.script lost.journal number) lost.ends (answered used (called.Missing number))
       (all_ends (λ end. end ≡ answered used (called.Missing number) → IsExplained one.script lost.journal number) _ _ _ (λ e. absurd (cc (e))) (λ e. absurd (cc (e)))
       (λ e. let same : 10 ≡ number = cc (e) in subst (IsExplained one.script lost.journal) same lost_explained)) came refl;
+  faults = λ end number came fault. absurd (of_each (λ end. (n : ℕ) → ¬ IsFault end n) lost.ends end (all_ends (λ end. (n : ℕ) → ¬ IsFault end n) _ _ _ (λ n f. f) (λ n f. f) (λ n f. f)) came number fault);
   undamaged = λ honest end came. absurd (lost_is_dishonest honest);
   sound = λ honest query given. absurd (lost_is_dishonest honest);
+  complete = λ honest none end came. absurd (lost_is_dishonest honest);
 }
