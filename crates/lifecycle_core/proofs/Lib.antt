@@ -18,3 +18,9 @@ pub mod Explaining
 pub mod Honesty
 pub mod Unbroken
 pub mod Told
+pub mod TrueViewsWalk
+pub mod TrueViewsMetas
+pub mod TrueViewsPages
+pub mod TrueViewsPuts
+pub mod TrueViewsFinds
+pub mod TrueViews
