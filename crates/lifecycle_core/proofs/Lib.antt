@@ -21,3 +21,9 @@ pub mod Told
 pub mod Faults
 pub mod RunFronts
 pub mod Fronts
+pub mod TrueViewsWalk
+pub mod TrueViewsMetas
+pub mod TrueViewsPages
+pub mod TrueViewsPuts
+pub mod TrueViewsFinds
+pub mod TrueViews

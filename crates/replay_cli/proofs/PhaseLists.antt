@@ -20,7 +20,7 @@ use Rattle.lifecycle_core.specs.InLine.{InLine, IsInLine, PhasesInLine, duties_f
 use Rattle.lifecycle_core.specs.Phases.{AreUnfinished, BeginsPhase, IsLawfulJournal, IsOperationDue, PhasesRun}
 use Rattle.lifecycle_core.specs.Tasks.{End}
 use Rattle.lifecycle_core.specs.Views.{Views, no_views}
-use Rattle.lifecycle_core.proofs.Explaining.{misses_explained}
+use Rattle.lifecycle_core.proofs.Assembling.{all_guaranteed}
 use Rattle.lifecycle_core.proofs.Joined.{no_phase_yet}
 use Rattle.lifecycle_core.proofs.PhaseRuns.{ends_of}
 use Rattle.lifecycle_core.proofs.RunsInLine.{AreWhole, by_none, by_parts, by_workers, finished, own_came, own_undone, run_of, runs, workers_at}
@@ -239,7 +239,7 @@ whole_run script gateways journal as_asked text lawful kept r =
     record {
       ends = by_workers (gateway_count script.gateways) script.phases r.ends;
       run = run_of script journal r.ends lawful (record { kept = kept; phases = run });
-      explained = misses_explained script journal (by_workers (gateway_count script.gateways) script.phases r.ends) lawful (run_of script journal r.ends lawful (record { kept = kept; phases = run }));
+      guaranteed = all_guaranteed script journal (by_workers (gateway_count script.gateways) script.phases r.ends) lawful (run_of script journal r.ends lawful (record { kept = kept; phases = run }));
       finished = finished script lawful 0 script.phases r.ends same (told_whole script script.phases r.ends r.outcomes told);
       report = record {
         outcomes = r.outcomes;
@@ -311,7 +311,7 @@ full_run script place journal as_asked text lawful kept full below b =
     record {
       ends = by_workers gateways script.phases (b.ends ++ b.unfinished);
       run = run_of script journal (b.ends ++ b.unfinished) lawful (record { kept = kept; phases = b.run });
-      explained = misses_explained script journal (by_workers gateways script.phases (b.ends ++ b.unfinished)) lawful (run_of script journal (b.ends ++ b.unfinished) lawful (record { kept = kept; phases = b.run }));
+      guaranteed = all_guaranteed script journal (by_workers gateways script.phases (b.ends ++ b.unfinished)) lawful (run_of script journal (b.ends ++ b.unfinished) lawful (record { kept = kept; phases = b.run }));
       full = full;
       done = done;
       left = left;

@@ -13,9 +13,9 @@ use Rattle.script_core.specs.declared.phase.Phase.{Phase}
 use Rattle.script_core.specs.declared.script.Script.{Script}
 use Rattle.script_core.specs.declared.script_refusal.ScriptRefusal.TheVariants.{TooLong}
 use Rattle.script_core.specs.declared.task.Task.{Task}
-use Rattle.lifecycle_core.specs.Causes.{AreMissesExplained}
+use Rattle.lifecycle_core.specs.Guarantees.{IsGuaranteed, IsGuaranteedJournal}
 use Rattle.lifecycle_core.specs.InLine.{IsInLine}
-use Rattle.lifecycle_core.specs.Phases.{AreFinished, AreUnfinished, IsLawfulJournal, IsOperationDue, IsRunOf}
+use Rattle.lifecycle_core.specs.Phases.{AreFinished, AreUnfinished, IsOperationDue, IsRunOf}
 use Rattle.lifecycle_core.specs.Tasks.{End}
 use Rattle.replay_cli.specs.Kept.{HoldsNothing}
 use Rattle.replay_cli.specs.Outcomes.{PhasesCame}
@@ -69,13 +69,13 @@ pub record IsReport (script : Script) (phases : List Phase) (ends : List (List (
   pub flag : as_asked ≡ list_all is_as_asked outcomes
 
 -- The journal is that of the whole script: each of its phases was begun, all its tasks have come to their ends, and the text
--- is their report. Where it tells of a missing object, the journal shows why.
+-- is their report. All that is guaranteed of these ends holds.
 pub record IsWholeRun (script : Script) (as_asked : Bool) (text : List ℕ) (journal : List Entry) : Type 0 where
   pub ends : List (List (List End))
   pub run : IsRunOf script journal ends
   pub finished : AreFinished script 0 script.phases ends
   pub report : IsReport script script.phases ends as_asked text
-  pub explained : AreMissesExplained script journal ends
+  pub guaranteed : IsGuaranteed script journal ends
 
 -- what holds where a phase was begun after those that are told
 abbrev pub WhereBegun : List (List (List End)) → Type 0 → Type 0
@@ -100,7 +100,7 @@ pub record IsFullRun (script : Script) (text : List ℕ) (journal : List Entry) 
   pub finished : AreFinished script 0 done told
   pub as_asked : Bool
   pub report : IsReport script done told as_asked text
-  pub explained : AreMissesExplained script journal ends
+  pub guaranteed : IsGuaranteed script journal ends
 
 -- ---- causes
 
@@ -127,7 +127,7 @@ IsRun script before site_failed journal SiteFault = site_failed × IfSome journa
 IsRun script before site_failed journal (NotEmpty name) = IfSome before (λ contents. IsPage contents [] [] 1 (name ∷ [])) × IsSomeAnd journal (λ entries. entries ≡ [])
 IsRun script before site_failed journal (Full lines) = IfSome before HoldsNothing × IsSomeAnd journal (λ entries. IsInLine script entries × IsFullRun script lines.items entries)
 IsRun script before site_failed journal (Report lines as_asked) = IfSome before HoldsNothing × IsSomeAnd journal (λ entries. IsInLine script entries × IsWholeRun script as_asked lines.items entries)
-IsRun script before site_failed journal NoMemory = IfSome journal (λ entries. IsInLine script entries × IsLawfulJournal script entries)
+IsRun script before site_failed journal NoMemory = IfSome journal (λ entries. IsInLine script entries × IsGuaranteedJournal script entries)
 IsRun script before site_failed journal other = ⊥
 
 -- the text was read to its end and spells a lawful script, whose run comes to the verdict
