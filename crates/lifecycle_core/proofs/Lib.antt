@@ -27,3 +27,4 @@ pub mod TrueViewsPages
 pub mod TrueViewsPuts
 pub mod TrueViewsFinds
 pub mod TrueViews
+pub mod SegmentsAgain

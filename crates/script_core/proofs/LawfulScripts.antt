@@ -3,10 +3,11 @@ use Rattle.std.proofs.Common.{◌≡◌, ◌≢◌, ℕ, ◌+◌, ◌%◌, ◌^�
 use Rattle.std.specs.Bool.{MatchBool}
 use Rattle.std.specs.List.{All, IsDistinct, position_or_len}
 use Rattle.std.specs.List.Sorted.{IsStrictlySortedBy, IsNonDecreasingBy}
-use Rattle.std.specs.Str.{is_utf8, bytes_eq}
+use Rattle.std.specs.Str.{IsUtf8, is_utf8, bytes_eq}
 use Rattle.std.proofs.lemmas.Bool.Decides.{nat_tests}
 use Rattle.std.proofs.lemmas.List.{length-append, get_or_at, get_or_append_left}
 use Rattle.std.proofs.lemmas.List.Elements.{All-nil, All-push, All-weaker}
+use Rattle.std.proofs.lemmas.Str.{IsUtf8-from_is_utf8}
 use Rattle.reading_core.proofs.Parsed.{true_or_false}
 use Rattle.label_sets.specs.Labels.{compare_sets}
 use Rattle.label_sets.specs.declared.sample.Sample.{Sample}
@@ -26,11 +27,12 @@ use Rattle.script_core.specs.Hands.{gateway_count, hands_of, hands_from}
 use Rattle.script_core.specs.State.{gateway_named}
 use Rattle.script_core.specs.Values.{with_rule, agree}
 use Rattle.script_core.specs.Works.{works_in, works_of, has_sync}
-use Rattle.script_core.specs.Lawful.{AreLawfulRules, HasLawfulSamples, IsLawfulInline, HasSeries, IsLawfulBlock, AreLawfulBlocks, IsLawfulWork, IsLawfulPhase, AreLawfulPhases, IsLawfulScript}
+use Rattle.script_core.specs.Lawful.{AreLawfulRules, AreLawfulLabels, HasLawfulSamples, IsLawfulInline, HasSeries, IsLawfulBlock, AreLawfulBlocks, IsLawfulWork, IsLawfulPhase, AreLawfulPhases, IsLawfulScript}
 use Rattle.script_core.specs.Spelling as spelling
 use Rattle.script_core.specs.Spelling.{SoFar, HasEnded, IsRuleText, AreSampleFields, RuleLine, GatewayLine, BlockLine, SeriesLine, AtLine, AddsTask, UploadLine, SyncLine, QueryLine, Says, Say, Spells}
 use Rattle.script_core.proofs.Kept.{works_of-append, works_of-more}
 use Rattle.script_core.proofs.LineTools.{snoc_is, no_end}
+use Rattle.script_core.proofs.LawfulLabels.{block_labels, series_labels, small_patterns}
 use Rattle.script_core.proofs.LawfulParts.{ends, All-front, All-last, once_push, same_ulids, ulids_of, moments_push}
 use Rattle.script_core.proofs.ValueLaws.{rule_with}
 use Rattle.script_core.proofs.SpelledValues.{free_tested, agree_tested, rise_tested, within_tested}
@@ -120,12 +122,12 @@ module _ (before after : SoFar) (line : List ℕ) (order : InOrder before) where
         early = λ e. absurd cc;
       })
 
-  block_in_order : HasEnded before.script.blocks → BlockLine before line after → InOrder after
-  block_in_order ended says =
+  block_in_order : IsUtf8 line → HasEnded before.script.blocks → BlockLine before line after → InOrder after
+  block_in_order utf8 ended says =
       let new : Block = record { ulid = says.ulid; labels = says.labels; body = Inline says.min_time says.max_time [] } in
       let size = length-append before.script.blocks (new ∷ []) in
       let few = says.few in
-      let inline : IsLawfulInline says.min_time says.max_time [] = record { early = says.is_min.near.early; ascend = says.times; late = says.is_max.near.late; ordered = none_sorted; samples = All-nil (HasLawfulSamples says.min_time says.max_time) } in
+      let inline : IsLawfulInline says.min_time says.max_time [] = record { early = says.is_min.near.early; ascend = says.times; late = says.is_max.near.late; labels = All-nil (λ (one : Series). AreLawfulLabels one.labels); ordered = none_sorted; samples = All-nil (HasLawfulSamples says.min_time says.max_time) } in
       subst InOrder (sym says.adds) (record {
         rules = order.rules;
         agreed = order.agreed;
@@ -133,7 +135,12 @@ module _ (before after : SoFar) (line : List ℕ) (order : InOrder before) where
         names = order.names;
         blocks = record {
           few = omega arith;
-          each = All-push IsLawfulBlock before.script.blocks new order.blocks.each (record { body = inline; not_reserved = free_tested (says.ulid % 2 ^ 80) says.is_ulid.not_reserved });
+          each = All-push IsLawfulBlock before.script.blocks new order.blocks.each (record {
+            ulid = says.is_ulid.written.fits;
+            not_reserved = free_tested (says.ulid % 2 ^ 80) says.is_ulid.not_reserved;
+            labels = block_labels before after line utf8 says;
+            body = inline;
+          });
           once = once_push before.script.blocks new order.blocks.once says.new;
         };
         full = λ others block is. subst (All (λ (b : Block). HasSeries b.body)) (snoc_is before.script.blocks others new block is).0 (all_full before.script.blocks order.full ended);
@@ -141,8 +148,8 @@ module _ (before after : SoFar) (line : List ℕ) (order : InOrder before) where
         early = λ e. says.early;
       })
 
-  series_in_order : SeriesLine before line after → InOrder after
-  series_in_order says =
+  series_in_order : IsUtf8 line → SeriesLine before line after → InOrder after
+  series_in_order utf8 says =
       let new : Series = record { labels = says.labels; samples = says.samples } in
       let last : Block = record { ulid = says.ulid; labels = says.block_labels; body = Inline says.min_time says.max_time (says.lesser ++ says.greater) } in
       let more : Block = record { ulid = says.ulid; labels = says.block_labels; body = Inline says.min_time says.max_time (says.lesser ++ new ∷ says.greater) } in
@@ -156,8 +163,14 @@ module _ (before after : SoFar) (line : List ℕ) (order : InOrder before) where
         early = old.body.early;
         ascend = old.body.ascend;
         late = old.body.late;
+        labels = each_placed (λ (one : Series). AreLawfulLabels one.labels) says.lesser says.greater new old.body.labels (series_labels before after line utf8 says);
         ordered = says.ascend;
-        samples = each_placed (HasLawfulSamples says.min_time says.max_time) says.lesser says.greater new old.body.samples (record { some = some_samples says.texts says.samples says.some says.are_samples; rising = rise_tested says.samples says.rising; within = within_tested says.min_time says.max_time says.samples says.within });
+        samples = each_placed (HasLawfulSamples says.min_time says.max_time) says.lesser says.greater new old.body.samples (record {
+          some = some_samples says.texts says.samples says.some says.are_samples;
+          rising = rise_tested says.samples says.rising;
+          within = within_tested says.min_time says.max_time says.samples says.within;
+          patterns = small_patterns says.texts says.samples says.are_samples;
+        });
       } in
       subst InOrder (sym says.adds) (record {
         rules = order.rules;
@@ -166,7 +179,7 @@ module _ (before after : SoFar) (line : List ℕ) (order : InOrder before) where
         names = order.names;
         blocks = record {
           few = omega arith;
-          each = All-push IsLawfulBlock says.others more (All-front IsLawfulBlock says.others last each) (record { body = inline; not_reserved = old.not_reserved });
+          each = All-push IsLawfulBlock says.others more (All-front IsLawfulBlock says.others last each) (record { ulid = old.ulid; not_reserved = old.not_reserved; labels = old.labels; body = inline });
           once = subst (IsDistinct nat_eq) (ap ulids_of says.last ∙ same_ulids says.others last more refl) order.blocks.once;
         };
         full = λ others block is. subst (All (λ (b : Block). HasSeries b.body)) (snoc_is says.others others more block is).0 (order.full says.others last says.last);
@@ -343,22 +356,22 @@ module _ (before after : SoFar) (number : ℕ) (line : List ℕ) (order : InOrde
       } in
       subst InOrder (sym (says.adds ∙ ap (λ (s : Script). spelling.outside (record s { selectors = s.selectors ++ says.selector ∷ [] })) adds.adds)) all
 
-  says_in_order : Says before number line after → InOrder after
-  says_in_order (spelling.series says) = series_in_order before after line order says
-  says_in_order (spelling.rule ended says) = rule_in_order before after line order says
-  says_in_order (spelling.gateway ended says) = gateway_in_order before after line order says
-  says_in_order (spelling.block ended says) = block_in_order before after line order ended says
-  says_in_order (spelling.at ended says) = at_in_order says
-  says_in_order (spelling.upload ended says) = upload_in_order says
-  says_in_order (spelling.sync ended says) = sync_in_order says
-  says_in_order (spelling.query ended says) = query_in_order says
+  says_in_order : IsUtf8 line → Says before number line after → InOrder after
+  says_in_order utf8 (spelling.series says) = series_in_order before after line order utf8 says
+  says_in_order utf8 (spelling.rule ended says) = rule_in_order before after line order says
+  says_in_order utf8 (spelling.gateway ended says) = gateway_in_order before after line order says
+  says_in_order utf8 (spelling.block ended says) = block_in_order before after line order utf8 ended says
+  says_in_order utf8 (spelling.at ended says) = at_in_order says
+  says_in_order utf8 (spelling.upload ended says) = upload_in_order says
+  says_in_order utf8 (spelling.sync ended says) = sync_in_order says
+  says_in_order utf8 (spelling.query ended says) = query_in_order says
 
 -- ---- whole texts
 
 say_by : (before after : SoFar) (number : ℕ) (line : List ℕ) (lines : List (List ℕ)) (b : Bool) → InOrder before → ((next : SoFar) → InOrder next → Say next (number + 1) lines after → InOrder after) → MatchBool b (Say before (number + 1) lines after) ((next : SoFar) × (is_utf8 line ≡ true) × Says before number line next × Say next (number + 1) lines after) → InOrder after
 say_by before after number line lines true order later said = later before order said
 say_by before after number line lines false order later said =
-    later said.0 (says_in_order before said.0 number line order said.2) said.3
+    later said.0 (says_in_order before said.0 number line order (IsUtf8-from_is_utf8 line said.1) said.2) said.3
 
 say_in_order : (before after : SoFar) (number : ℕ) (lines : List (List ℕ)) → InOrder before → Say before number lines after → InOrder after
 say_in_order before after number [] order said = subst InOrder said order

@@ -18,6 +18,7 @@ pub mod FoundSeries
 pub mod FoundPhases
 pub mod FoundLines
 pub mod LawfulParts
+pub mod LawfulLabels
 pub mod LawfulScripts
 pub mod ReadScripts
 pub mod AgainSetup

@@ -2,7 +2,10 @@
 use Rattle.std.specs.Prelude.{◌≡◌, ◌≢◌, ℕ, ◌^◌, ◌<◌, ◌≤◌, ℤ, pos, neg_ℤ, ◌<ℤ◌, ◌≤ℤ◌, List, [], ◌∷◌, ◌++◌, length, map, IsTrue, IsFalse, nat_eq}
 use Rattle.std.specs.List.{All, IsDistinct}
 use Rattle.std.specs.List.Sorted.{IsStrictlySortedBy, IsNonDecreasingBy}
-use Rattle.label_sets.specs.Labels.{compare_sets}
+use Rattle.std.specs.Str.{IsUtf8}
+use Rattle.label_sets.specs.Labels.{IsLabelSet, compare_sets}
+use Rattle.label_sets.specs.SetText.{AreNamed}
+use Rattle.label_sets.specs.declared.label.Label.{Label}
 use Rattle.label_sets.specs.declared.series.Series.{Series}
 use Rattle.moment_core.specs.declared.rules.Rules.{Rules}
 use Rattle.script_core.specs.declared.block.Block.{Block}
@@ -30,17 +33,25 @@ pub record AreLawfulRules (rules : Rules) : Type 0 where
   pub page_limit_high : rules.page_limit ≤ 10_000
   pub replicas : rules.replicas ≡ []
 
--- a series with samples, whose times rise within a range
+-- a label set, whose names have the form of a name and whose values are texts
+pub record AreLawfulLabels (labels : List Label) : Type 0 where
+  pub set : IsLabelSet labels
+  pub named : AreNamed labels
+  pub texts : All (λ l. IsUtf8 l.value) labels
+
+-- a series with samples, whose times rise within a range, each with a pattern of 64 bits
 pub record HasLawfulSamples (min_time max_time : ℤ) (series : Series) : Type 0 where
   pub some : series.samples ≢ []
   pub rising : IsTrue (are_rising series.samples)
   pub within : IsTrue (are_within min_time max_time series.samples)
+  pub patterns : All (λ s. s.pattern < 2 ^ 64) series.samples
 
 -- times that a block may have, and series ascending by their labels
 pub record IsLawfulInline (min_time max_time : ℤ) (series : List Series) : Type 0 where
   pub early : neg_ℤ (pos (2 ^ 62)) ≤ℤ min_time
   pub ascend : min_time <ℤ max_time
   pub late : max_time ≤ℤ pos (2 ^ 62)
+  pub labels : All (λ one. AreLawfulLabels one.labels) series
   pub ordered : IsStrictlySortedBy compare_sets (map (λ one. one.labels) series)
   pub samples : All (HasLawfulSamples min_time max_time) series
 
@@ -50,9 +61,12 @@ IsLawfulBody (Inline min_time max_time series) = IsLawfulInline min_time max_tim
 abbrev pub HasSeries : Body → Type 0
 HasSeries (Inline min_time max_time series) = series ≢ []
 
+-- a block of a ULID of 128 bits
 pub record IsLawfulBlock (block : Block) : Type 0 where
-  pub body : IsLawfulBody block.body
+  pub ulid : block.ulid < 2 ^ 128
   pub not_reserved : IsFalse (is_reserved block.ulid)
+  pub labels : AreLawfulLabels block.labels
+  pub body : IsLawfulBody block.body
 
 pub record AreLawfulBlocks (blocks : List Block) : Type 0 where
   pub few : length blocks ≤ 4_096
