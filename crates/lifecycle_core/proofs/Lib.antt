@@ -18,3 +18,7 @@ pub mod Explaining
 pub mod Honesty
 pub mod Unbroken
 pub mod Told
+pub mod ExactAnswersMembers
+pub mod ExactAnswersObjects
+pub mod ExactAnswersCalls
+pub mod ExactAnswers

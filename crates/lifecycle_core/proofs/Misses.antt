@@ -43,7 +43,7 @@ find_first : {X : Type 0} (P : X → Type 0) (p : X → Bool) (x : X) (xs : List
 find_first P p x xs y true test own later is = let same : x ≡ y = cc (rw test at is) in subst P same own
 find_first P p x xs y false test own later is = later (rw test at is)
 
-find_holds : {X : Type 0} (P : X → Type 0) (p : X → Bool) (xs : List X) (y : X) → All P xs → find p xs ≡ Some y → P y
+pub find_holds : {X : Type 0} (P : X → Type 0) (p : X → Bool) (xs : List X) (y : X) → All P xs → find p xs ≡ Some y → P y
 find_holds P p [] y all is = absurd (cc (is))
 find_holds P p (x ∷ xs) y all is = find_first P p x xs y (p x) refl (all_first P x xs all) (find_holds P p xs y (All-tail P x xs all)) is
 
