@@ -1,5 +1,5 @@
 -- All that is guaranteed of a run, from what its entries tell, its views and its answers.
-use Rattle.std.proofs.Common.{◌≡◌, ◌≢◌, ◌⊎◌, inl, inr, ℕ, zero, suc, ◌+◌, ◌-◌, ◌≤◌, ℤ, Bool, true, false, IsTrue, List, [], ◌∷◌, ◌++◌, length, All, Contains, Option, Some, None, refl, sym, ◌∙◌, ap, subst, arith}
+use Rattle.std.proofs.Common.{◌≡◌, ◌≢◌, ◌⊎◌, ◌↔◌, inl, inr, ℕ, zero, suc, ◌+◌, ◌-◌, ◌≤◌, ℤ, Bool, true, false, IsTrue, List, [], ◌∷◌, ◌++◌, length, All, Contains, Option, Some, None, refl, sym, ◌∙◌, ap, subst, arith}
 use Rattle.std.specs.Prelude.{option_map, slice_get, count_by, get_or}
 use Rattle.std.specs.List.{filter}
 use Rattle.std.proofs.lemmas.List.{length-append}
@@ -37,7 +37,7 @@ use Rattle.lifecycle_core.specs.Phases.{IsRunOf}
 use Rattle.lifecycle_core.specs.Tasks.{End, IsBefore, IsStop, QueryTask, TaskRun, asked_by, sync_rules, uploaded, synced, answered, without_view, stopped}
 use Rattle.lifecycle_core.specs.Views.{Use}
 use Rattle.lifecycle_core.proofs.Explaining.{honest_misses_nothing, misses_explained, parted, the_entry}
-use Rattle.lifecycle_core.proofs.ExactAnswers.{answer_is_exact, calls_undamaged, kept_from_source, source_from_kept}
+use Rattle.lifecycle_core.proofs.ExactAnswers.{answer_is_exact, calls_undamaged, sources_are}
 use Rattle.lifecycle_core.proofs.FirstPhases.{none_run}
 use Rattle.lifecycle_core.proofs.Lists.{contains_first}
 use Rattle.lifecycle_core.proofs.Faults.{ShowsFault, call_shows, sync_shows, upload_shows}
@@ -217,7 +217,7 @@ module _ (script : Script) (journal : List Entry) (ends : List (List (List End))
       let made = ends_are_made script journal ends rising run end came in
       let m = made.1 in
       task_undamaged script m.view (made.0).work m.entries end (λ number. syncs_undamaged script journal m.entries number lawful readable told m.part)
-      (λ used is q number. calls_undamaged script journal m.entries used.view q number lawful readable told m.part (view_is_true used (m.origin used is)).kept) m.run
+      (λ used is q number. calls_undamaged script journal m.entries used.view q number readable told m.part (view_is_true used (m.origin used is)).kept) m.run
 
   module _ (query : Answered) (given : IsGiven script ends query) where
     made : IsMade script journal given.task (answered given.used (called.Answer given.series query.sources))
@@ -234,6 +234,9 @@ module _ (script : Script) (journal : List Entry) (ends : List (List (List End))
     exact = subst (λ (ts : List Triple). IsAnswer query.selector query.low query.high ts (held script query.sources)) (sym given.samples)
         (answer_is_exact script journal made.entries given.used.view query.selector query.low query.high given.series query.sources lawful readable told made.part view.kept the_call.run)
 
+    named_by : (ulid : ℕ) → Contains query.sources ulid ↔ ((found : Found) × Contains given.used.view.kept found × (found.ulid ≡ ulid))
+    named_by = sources_are script journal made.entries given.used.view (record { selector = query.selector; replicas = script.rules.replicas; low = query.low; high = query.high }) given.series query.sources readable told made.part view.kept the_call.run
+
     its_own : Contains query.uses given.used
     its_own = subst (λ (us : List Use). Contains us given.used) (sym given.uses) (contains_first given.used [])
 
@@ -243,13 +246,13 @@ module _ (script : Script) (journal : List Entry) (ends : List (List (List End))
     names : NamesUploads script journal query
     names = λ k d below.
         let ulid = get_or query.sources k d in
-        let found = kept_from_source script given.used.view query.selector query.low query.high made.entries given.series query.sources view.kept the_call.run ulid (All-contains_itself query.sources k d below) in
+        let found = (named_by ulid).0 (All-contains_itself query.sources k d below) in
         (given.used, its_own, subst (λ (u : ℕ). IsUploadedBefore script journal u given.used.last) found.2 (All-contains (λ (f : Found). IsUploadedBefore script journal f.ulid given.used.last) given.used.view.kept found.0 view.uploaded found.1))
 
     covers : (used : Use) → Contains query.uses used → (ulid : ℕ) → IsSettled script journal used ulid → Contains query.sources ulid
     covers used among ulid settled =
         let found = view.settled ulid (subst (λ (u : Use). IsSettled script journal u ulid) (sym (only_one used among)) settled) in
-        source_from_kept script given.used.view query.selector query.low query.high made.entries given.series query.sources view.kept the_call.run ulid (found.0, found.1, found.2)
+        (named_by ulid).1 found
 
     is_sound : IsSound script journal query
     is_sound = record { exact = exact; named = names; covered = λ uploaded used among synced ulid settled. covers used among ulid settled }

@@ -28,3 +28,7 @@ pub mod TrueViewsPuts
 pub mod TrueViewsFinds
 pub mod TrueViews
 pub mod SegmentsAgain
+pub mod ExactAnswersMembers
+pub mod ExactAnswersObjects
+pub mod ExactAnswersCalls
+pub mod ExactAnswers
