@@ -14,7 +14,9 @@ pub mod Positions
 pub mod RunEntries
 pub mod GatewayEntries
 pub mod Misses
+pub mod PhaseViews
 pub mod Explaining
 pub mod Honesty
 pub mod Unbroken
 pub mod Told
+pub mod TasksMade
