@@ -36,6 +36,7 @@ use Rattle.lifecycle_core.specs.Tasks.{End, answered}
 use Rattle.lifecycle_core.specs.Views.{Use, Views, no_views, view_of}
 use Rattle.lifecycle_core.proofs.Lists.{contains_first}
 use Rattle.lifecycle_core.proofs.Misses.{Leaves, MissesAt, ViewSeen, misses_within, seen_among, tasks_in_order, tasks_leave, view_among}
+use Rattle.lifecycle_core.proofs.PhaseViews.{views_left}
 use Rattle.lifecycle_core.proofs.Positions.{filtered, of_filter, split, stands_in, unfilter, zip_left, zip_right}
 use Rattle.lifecycle_core.proofs.RunEntries.{HasPut, PrecedesMeta, IsInOrder, in_order_at, more_before}
 
@@ -92,36 +93,11 @@ module _ (script : Script) (tasks : List Task) (workers : List Worker) (views : 
           seen = seen_among (before ++ m.front) (before ++ at.0) m.ulid (more_left before m.front at.0 (λ x own'. of_filter p at.0 x (subst (λ es. Contains es x) (sym at.3) own'))) m.seen;
         }
 
-    abbrev same_gateway : ℕ → Option ℕ → Bool
-    same_gateway gateway None = false
-    same_gateway gateway (Some other) = other == gateway
-
-    -- a worker of the gateway, or none
-    abbrev Searched : ℕ → List Worker → Type 0
-    Searched gateway ws = ViewSeen (before ++ made) (after gateway) ⊎ All (λ (w : Worker). w.gateway ≢ Some gateway) ws
-
-    search_first : (gateway : ℕ) (w : Worker) (ws : List Worker) (own : List End) (rest : Searched gateway ws) (o : Option ℕ) (b : Bool) → w.gateway ≡ o → same_gateway gateway o ≡ b → Own w own → Searched gateway (w ∷ ws)
-    search_first gateway w ws own (inl found) o b is test run' = inl found
-    search_first gateway w ws own (inr none) None b is test run' = inr (All-cons (λ (x : Worker). x.gateway ≢ Some gateway) w ws (λ same. cc (is, same)) none)
-    search_first gateway w ws own (inr none) (Some other) true is test run' =
-        let same : other ≡ gateway = grind (arith, nat_tests, test) in
-        let l = (leaves w own run').seen in
-        let e : after gateway ≡ run'.last = run'.leaves gateway (is ∙ ap (λ n. Some n) same) in
-        inl (subst (ViewSeen (before ++ made)) (sym e) (view_among (before ++ of_seat w.seat made) (before ++ made) run'.last (more_left before (of_seat w.seat made) made (λ x among. of_filter (λ (y : Entry). y.seat == w.seat) made x among)) l))
-    search_first gateway w ws own (inr none) (Some other) false is test run' =
-        inr (All-cons (λ (x : Worker). x.gateway ≢ Some gateway) w ws (λ same. let k : other ≡ gateway = cc (is, same) in absurd (grind (arith, nat_tests, test, k))) none)
-
-    search : (gateway : ℕ) (ws : List Worker) (es : List (List End)) → AllZip Own ws es → Searched gateway ws
-    search gateway [] es all = inr (All-nil (λ (w : Worker). w.gateway ≢ Some gateway))
-    search gateway (w ∷ ws) [] all = absurd all
-    search gateway (w ∷ ws) (own ∷ es) all = search_first gateway w ws own (search gateway ws es all.1) w.gateway (same_gateway gateway w.gateway) refl refl all.0
-
     after_seen : (gateway : Option ℕ) → ViewSeen (before ++ made) (view_of after gateway)
-    after_seen None = λ used is. absurd (cc (is))
-    after_seen (Some gateway) = elim (search gateway workers ends run.runs) [
-      | inl found ↦ found
-      | inr none ↦ subst (ViewSeen (before ++ made)) (sym (run.kept gateway none)) (view_among before (before ++ made) (views gateway) (λ x among. Contains-append_left before made x among) (seen (Some gateway)))
-    ]
+    after_seen = views_left script tasks workers views made ends after run (ViewSeen (before ++ made))
+        (λ worker own w. view_among (before ++ of_seat worker.seat made) (before ++ made) w.last (more_left before (of_seat worker.seat made) made (λ x among. of_filter (λ (y : Entry). y.seat == worker.seat) made x among)) (leaves worker own w).seen)
+        (λ used is. absurd (cc (is)))
+        (λ gateway. view_among before (before ++ made) (views gateway) (λ x among. Contains-append_left before made x among) (seen (Some gateway)))
 
 -- ---- all phases
 

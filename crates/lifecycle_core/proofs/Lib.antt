@@ -14,6 +14,7 @@ pub mod Positions
 pub mod RunEntries
 pub mod GatewayEntries
 pub mod Misses
+pub mod PhaseViews
 pub mod Explaining
 pub mod Honesty
 pub mod Unbroken
@@ -32,3 +33,4 @@ pub mod ExactAnswersMembers
 pub mod ExactAnswersObjects
 pub mod ExactAnswersCalls
 pub mod ExactAnswers
+pub mod TasksMade

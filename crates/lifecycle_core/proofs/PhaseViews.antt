@@ -1,0 +1,47 @@
+-- What a phase leaves of the views: each gateway's is its worker's last one, or that from before.
+use Rattle.std.proofs.Common.{◌≡◌, ◌≢◌, ◌⊎◌, inl, inr, ℕ, ◌==◌, Bool, true, false, List, [], ◌∷◌, Option, Some, None, refl, sym, ◌∙◌, ap, subst, arith}
+use Rattle.std.specs.List.{All, AllZip}
+use Rattle.std.proofs.lemmas.Bool.Decides.{nat_tests}
+use Rattle.std.proofs.lemmas.List.Elements.{All-cons, All-nil}
+use Rattle.world_core.specs.declared.entry.Entry.{Entry}
+use Rattle.script_core.specs.declared.script.Script.{Script}
+use Rattle.script_core.specs.declared.task.Task.{Task}
+use Rattle.script_core.specs.declared.worker.Worker.{Worker}
+use Rattle.lifecycle_core.specs.Phases.{PhaseRun, WorkerRun}
+use Rattle.lifecycle_core.specs.Tasks.{End}
+use Rattle.lifecycle_core.specs.Views.{Use, Views, view_of}
+
+module _ (script : Script) (tasks : List Task) (workers : List Worker) (views : Views) (made : List Entry) (ends : List (List End)) (after : Views) (run : PhaseRun script tasks workers views made ends after) where
+  abbrev Own : Worker → List End → Type 0
+  Own = WorkerRun script tasks views made after
+
+  module _ (Holds : Option Use → Type 0) (leaves : (worker : Worker) (own : List End) (w : Own worker own) → Holds w.last) where
+    abbrev same_gateway : ℕ → Option ℕ → Bool
+    same_gateway gateway None = false
+    same_gateway gateway (Some other) = other == gateway
+
+    -- a worker of the gateway, or none
+    abbrev Searched : ℕ → List Worker → Type 0
+    Searched gateway ws = Holds (after gateway) ⊎ All (λ (w : Worker). w.gateway ≢ Some gateway) ws
+
+    search_first : (gateway : ℕ) (w : Worker) (ws : List Worker) (own : List End) (rest : Searched gateway ws) (o : Option ℕ) (b : Bool) → w.gateway ≡ o → same_gateway gateway o ≡ b → Own w own → Searched gateway (w ∷ ws)
+    search_first gateway w ws own (inl found) o b is test one = inl found
+    search_first gateway w ws own (inr none) None b is test one = inr (All-cons (λ (x : Worker). x.gateway ≢ Some gateway) w ws (λ same. cc (is, same)) none)
+    search_first gateway w ws own (inr none) (Some other) true is test one =
+        let same : other ≡ gateway = grind (arith, nat_tests, test) in
+        inl (subst Holds (sym (one.leaves gateway (is ∙ ap (λ n. Some n) same))) (leaves w own one))
+    search_first gateway w ws own (inr none) (Some other) false is test one =
+        inr (All-cons (λ (x : Worker). x.gateway ≢ Some gateway) w ws (λ same. let k : other ≡ gateway = cc (is, same) in absurd (grind (arith, nat_tests, test, k))) none)
+
+    search : (gateway : ℕ) (ws : List Worker) (es : List (List End)) → AllZip Own ws es → Searched gateway ws
+    search gateway [] es all = inr (All-nil (λ (w : Worker). w.gateway ≢ Some gateway))
+    search gateway (w ∷ ws) [] all = absurd all
+    search gateway (w ∷ ws) (own ∷ es) all = search_first gateway w ws own (search gateway ws es all.1) w.gateway (same_gateway gateway w.gateway) refl refl all.0
+
+    -- what holds of the workers' last views and of those from before holds of all
+    pub views_left : Holds None → ((gateway : ℕ) → Holds (views gateway)) → (gateway : Option ℕ) → Holds (view_of after gateway)
+    views_left without before None = without
+    views_left without before (Some gateway) = elim (search gateway workers ends run.runs) [
+      | inl found ↦ found
+      | inr none ↦ subst Holds (sym (run.kept gateway none)) (before gateway)
+    ]
