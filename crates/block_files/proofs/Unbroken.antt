@@ -84,7 +84,7 @@ samples_without text (s ∷ t ∷ ss) is =
 name_other : (b : ℕ) → is_name_byte b ≡ true → not (b == 10) ≡ true
 name_other b is = grind (arith, nat_tests)
 
-name_bytes : (name : List ℕ) → is_name name ≡ true → list_all is_name_byte name ≡ true
+pub name_bytes : (name : List ℕ) → is_name name ≡ true → list_all is_name_byte name ≡ true
 unfolding is_name
 name_bytes [] is = refl
 name_bytes (b ∷ bs) is =

@@ -21,15 +21,19 @@ unfoldable pub segments_of : List Series → List (List ℕ)
 segments_of [] = []
 segments_of (s ∷ ss) = segment_text (s ∷ ss) ∷ []
 
--- how many samples there are, at most 2^64 - 1
+-- a count or a size, as it fits a number of a meta: at most 2^64 - 1
+abbrev pub fitted : ℕ → ℕ
+fitted count = min count (2 ^ 64 - 1)
+
+-- how many samples there are
 unfoldable pub sample_count : List Series → ℕ
-sample_count series = min (sum_by (λ s. length s.samples) series) (2 ^ 64 - 1)
+sample_count series = fitted (sum_by (λ s. length s.samples) series)
 
 abbrev pub index_size : FileSize
 index_size = record { path = codes "index"; bytes = length plain_index }
 
 abbrev pub segment_size : List ℕ → FileSize
-segment_size segment = record { path = codes "chunks/000001"; bytes = length segment }
+segment_size segment = record { path = codes "chunks/000001"; bytes = fitted (length segment) }
 
 -- the files, each with its size
 unfoldable pub sizes_of : List (List ℕ) → List FileSize
@@ -46,9 +50,9 @@ built_meta plan series = record {
   ulid = plan.ulid;
   min_time = plan.min_time;
   max_time = plan.max_time;
-  series = length series;
+  series = fitted (length series);
   samples = sample_count series;
-  chunks = length series;
+  chunks = fitted (length series);
   level = plan.level;
   sources = plan.sources;
   parents = plan.parents;
