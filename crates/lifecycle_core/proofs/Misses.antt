@@ -15,6 +15,7 @@ use Rattle.world_core.specs.declared.reply.Reply.TheVariants as reply
 use Rattle.shipper.specs.Uploads.{UploadRun}
 use Rattle.shipper.specs.declared.upload_end.UploadEnd.{UploadEnd}
 use Rattle.sync_filters.specs.declared.found.Found.{Found}
+use Rattle.meta_fetcher.specs.Syncs.{SyncRun}
 use Rattle.meta_fetcher.specs.declared.view.View.{View}
 use Rattle.meta_fetcher.specs.declared.sync_end.SyncEnd.{SyncEnd}
 use Rattle.meta_fetcher.specs.declared.sync_end.SyncEnd.TheVariants as fetched
@@ -30,12 +31,12 @@ use Rattle.script_core.specs.declared.work.Work.{Work}
 use Rattle.script_core.specs.declared.work.Work.TheVariants.{Upload, Sync, Query}
 use Rattle.lifecycle_core.specs.Phases.{TasksRun}
 use Rattle.lifecycle_core.specs.Shipped.{AreBuilt}
-use Rattle.lifecycle_core.specs.Tasks.{End, QueryTask, TaskRun, answered, asked_by, last_number, synced, sync_rules, uploaded, view_after, without_view}
+use Rattle.lifecycle_core.specs.Tasks.{End, QueryTask, TaskRun, answered, asked_by, last_number, synced, sync_rules, uploaded, view_after}
 use Rattle.lifecycle_core.specs.Views.{Use}
 use Rattle.lifecycle_core.proofs.GatewayEntries.{IsSeen, calls, seen_left, syncs}
 use Rattle.lifecycle_core.proofs.Lists.{all_first}
 use Rattle.lifecycle_core.proofs.RunEntries.{AreInOrder, PrecedesMeta, all_read, in_order_both, more_before, upload_in_order}
-use Rattle.lifecycle_core.proofs.TaskRuns.{upload_keeps}
+use Rattle.lifecycle_core.proofs.TaskRuns.{task_leaves}
 
 -- ---- the order of one task's entries
 
@@ -98,31 +99,13 @@ view_left one other view seen = view_among one (one ++ other) view (λ x among. 
 same_view : (before made : List Entry) (one other : Option Use) → one ≡ other → ViewSeen before other → ViewSeen (before ++ made) one
 same_view before made one other is seen = subst (ViewSeen (before ++ made)) (sym is) (view_left before made other seen)
 
-after_sync : (script : Script) (before made : List Entry) (view : Option Use) (end : End) (own : Option SyncEnd) → ViewSeen before view → ((v : View) → own ≡ Some (fetched.View v) → All (λ (block : Found). IsSeen (before ++ made) block.ulid) v.kept)
-    → Some end ≡ option_map synced own → ViewSeen (before ++ made) (view_after view made end)
-after_sync script before made view end None seen sees is = absurd (cc (is))
-after_sync script before made view end (Some (fetched.View v)) seen sees is =
-    let e : end ≡ synced (fetched.View v) = cc (is) in
-    subst (λ x. ViewSeen (before ++ made) (view_after view made x)) (sym e) (λ used same. let own : record { view = v; last = last_number made } ≡ used = cc (same) in let u : v ≡ used.view = ap (λ (o : Use). o.view) own in subst (λ x. All (λ (block : Found). IsSeen (before ++ made) block.ulid) x.kept) u (sees v refl))
-after_sync script before made view end (Some (fetched.Fault n)) seen sees is =
-    let e : end ≡ synced (fetched.Fault n) = cc (is) in same_view before made _ view (ap (view_after view made) e) seen
-after_sync script before made view end (Some (fetched.Damaged n)) seen sees is =
-    let e : end ≡ synced (fetched.Damaged n) = cc (is) in same_view before made _ view (ap (view_after view made) e) seen
-after_sync script before made view end (Some fetched.TooMany) seen sees is =
-    let e : end ≡ synced fetched.TooMany = cc (is) in same_view before made _ view (ap (view_after view made) e) seen
-
-after_query : (script : Script) (before made : List Entry) (view : Option Use) (asked : Option Question) (end : End) → ViewSeen before view → QueryTask script view asked made (Some end) → ViewSeen (before ++ made) (view_after view made end)
-after_query script before made None asked end seen (nil, inl none) = absurd (cc (none))
-after_query script before made None asked end seen (nil, inr is) = let e : end ≡ without_view = cc (is) in same_view before made _ None (ap (view_after None made) e) seen
-after_query script before made (Some used) None end seen run = absurd run
-after_query script before made (Some used) (Some q) end seen (None, run, is) = absurd (cc (is))
-after_query script before made (Some used) (Some q) end seen (Some own, run, is) =
-    let e : end ≡ answered used own = cc (is) in same_view before made _ (Some used) (ap (view_after (Some used) made) e) seen
+view_given : (script : Script) (before made : List Entry) (own : Option SyncEnd) → SyncRun (sync_rules script.rules) made own → (v : View) → own ≡ Some (fetched.View v) → ViewSeen (before ++ made) (Some (record { view = v; last = last_number made }))
+view_given script before made own run v is = λ used same.
+    let one : record { view = v; last = last_number made } ≡ used = cc (same) in
+    subst (λ (o : Use). All (λ (block : Found). IsSeen (before ++ made) block.ulid) o.view.kept) one ((syncs (sync_rules script.rules) before made own run).sees v is)
 
 after_task : (script : Script) (before made : List Entry) (view : Option Use) (w : Work) (end : End) → ViewSeen before view → TaskRun script view w made (Some end) → ViewSeen (before ++ made) (view_after view made end)
-after_task script before made view (Upload ulid stop) end seen run = same_view before made _ view (upload_keeps script view view ulid stop made end run) seen
-after_task script before made view (Sync gateway) end seen (own, run, is) = after_sync script before made view end own seen (λ v same. (syncs (sync_rules script.rules) before made own run).sees v same) is
-after_task script before made view (Query low high selector) end seen run = after_query script before made view (asked_by script selector low high) end seen run
+after_task script before made view w end seen run = task_leaves (ViewSeen (before ++ made)) script view (view_left before made view seen) made w end (view_given script before made) run
 
 -- ---- a missing object
 

@@ -1,6 +1,6 @@
 -- Where the entries of a list and of the lists that it is made of stand.
 use Rattle.std.proofs.Common.{◌≡◌, ◌⊎◌, inl, inr, suc, zero, Bool, true, false, List, [], ◌∷◌, ◌++◌, Contains, refl, ◌∙◌, ap, subst, arith}
-use Rattle.std.specs.List.{AllZip, filter}
+use Rattle.std.specs.List.{AllZip, filter, zip}
 use Rattle.std.proofs.lemmas.List.Elements.{filter-append, Contains-append_cases, Contains-append_left, Contains-append_right}
 use Rattle.lifecycle_core.proofs.Lists.{contains_first, contains_later}
 
@@ -74,6 +74,13 @@ zip_right R [] (z ∷ ys) x all among = absurd all
 zip_right R (w ∷ xs) [] x all among = absurd all
 zip_right R (w ∷ xs) (z ∷ ys) x all (zero, below, at) = (z, contains_first z ys, subst (λ v. R v z) at all.0)
 zip_right R (w ∷ xs) (z ∷ ys) x all (suc k, below, at) = let rest = zip_right R xs ys x all.1 (k, omega (arith, below), at) in (rest.0, contains_later z rest.0 ys rest.1, rest.2)
+
+-- what holds of two lists place by place holds of a pair of theirs
+pub zipped : {A B : Type 0} (R : A → B → Type 0) (xs : List A) (ys : List B) (x : A) (y : B) → AllZip R xs ys → Contains (zip xs ys) (x, y) → R x y
+zipped {A} {B} R [] ys x y all (k, below, is) = absurd (omega (arith, below))
+zipped {A} {B} R (a ∷ xs) [] x y all (k, below, is) = absurd all
+zipped {A} {B} R (a ∷ xs) (b ∷ ys) x y all (zero, below, is) = subst (R x) (ap (λ (p : A × B). p.1) is) (subst (λ z. R z b) (ap (λ (p : A × B). p.0) is) all.0)
+zipped {A} {B} R (a ∷ xs) (b ∷ ys) x y all (suc k, below, is) = zipped R xs ys x y all.1 (k, omega (arith, below), is)
 
 -- a member is where it stands
 pub stands_in : {X : Type 0} (before after : List X) (x : X) → Contains (before ++ x ∷ after) x

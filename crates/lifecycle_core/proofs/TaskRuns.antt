@@ -1,5 +1,5 @@
--- What every task may do: nothing yet; and what an upload leaves of a view.
-use Rattle.std.proofs.Common.{◌≡◌, ℕ, ℤ, zero, suc, ◌<◌, Bool, true, false, List, [], ◌∷◌, length, refl, ap, inl, inr, arith}
+-- What every task may do: nothing yet; and what a task leaves of a view.
+use Rattle.std.proofs.Common.{◌≡◌, ℕ, ℤ, zero, suc, ◌<◌, Bool, true, false, List, [], ◌∷◌, length, refl, sym, ap, subst, inl, inr, arith}
 use Rattle.std.specs.Prelude.{◌==◌, Option, Some, None, option_map, slice_get, codes, find}
 use Rattle.std.specs.List.{All, list_any}
 use Rattle.std.specs.List.Sorted.{IsStrictlyIncreasing}
@@ -12,6 +12,10 @@ use Rattle.block_meta.specs.MetaValue.{meta_text}
 use Rattle.block_files.specs.Built.{built_meta, segments_of, objects_of}
 use Rattle.block_files.specs.PlainForm.{plain_index}
 use Rattle.shipper.specs.declared.upload_end.UploadEnd.{UploadEnd}
+use Rattle.meta_fetcher.specs.Syncs.{SyncRun}
+use Rattle.meta_fetcher.specs.declared.view.View.{View}
+use Rattle.meta_fetcher.specs.declared.sync_end.SyncEnd.{SyncEnd}
+use Rattle.meta_fetcher.specs.declared.sync_end.SyncEnd.TheVariants as fetched
 use Rattle.store_gateway.specs.SeriesRuns.{Query as Question, ToRead, Reads, to_read, sources_of}
 use Rattle.label_sets.specs.Triples.{Triple}
 use Rattle.matchers.specs.declared.matcher.Matcher.{Matcher}
@@ -23,7 +27,7 @@ use Rattle.script_core.specs.declared.script.Script.{Script}
 use Rattle.script_core.specs.declared.work.Work.{Work}
 use Rattle.script_core.specs.declared.work.Work.TheVariants.{Upload, Sync, Query}
 use Rattle.lifecycle_core.specs.Shipped.{AreBuilt}
-use Rattle.lifecycle_core.specs.Tasks.{End, uploaded, stopped, TaskRun, QueryTask, asked_by, view_after}
+use Rattle.lifecycle_core.specs.Tasks.{End, uploaded, stopped, synced, answered, without_view, TaskRun, QueryTask, asked_by, last_number, sync_rules, view_after}
 use Rattle.lifecycle_core.specs.Views.{Use}
 
 found_first : {X : Type 0} (P : X → Type 0) (p : X → Bool) (x : X) (xs : List X) (b : Bool) → p x ≡ b → P x → (list_any p xs ≡ true → (y : X) × (find p xs ≡ Some y) × P y) → list_any p (x ∷ xs) ≡ true
@@ -96,3 +100,32 @@ keeps_uploaded view made end (Some own) e = let is : end ≡ uploaded own = cc (
 pub upload_keeps : (script : Script) (view old : Option Use) (ulid : ℕ) (stop : Option ℕ) (made : List Entry) (end : End) → TaskRun script view (Upload ulid stop) made (Some end) → view_after old made end ≡ old
 upload_keeps script view old ulid stop made end run =
     elim (run.2).4 [ inl went ↦ keeps_uploaded old made end (run.2).1 went.0 | inr went ↦ let is : end ≡ stopped went.0 = cc (went.4) in ap (view_after old made) is ]
+
+-- ---- what a task leaves of a view
+
+query_keeps : (script : Script) (view : Option Use) (asked : Option Question) (made : List Entry) (end : End) → QueryTask script view asked made (Some end) → view_after view made end ≡ view
+query_keeps script None asked made end (nil, inl none) = absurd (cc (none))
+query_keeps script None asked made end (nil, inr is) = let e : end ≡ without_view = cc (is) in ap (view_after None made) e
+query_keeps script (Some used) None made end run = absurd run
+query_keeps script (Some used) (Some q) made end (None, run, is) = absurd (cc (is))
+query_keeps script (Some used) (Some q) made end (Some own, run, is) = let e : end ≡ answered used own = cc (is) in ap (view_after (Some used) made) e
+
+-- what holds of the view before a task and of one that its sync gives holds of the view after it
+module _ (Holds : Option Use → Type 0) (script : Script) (view : Option Use) (before : Holds view) (made : List Entry) where
+  abbrev Given : Option SyncEnd → Type 0
+  Given own = (new : View) → own ≡ Some (fetched.View new) → Holds (Some (record { view = new; last = last_number made }))
+
+  leaves : (end : End) (other : Option Use) → view_after view made end ≡ other → Holds other → Holds (view_after view made end)
+  leaves end other is holds = subst Holds (sym is) holds
+
+  sync_leaves : (end : End) (own : Option SyncEnd) → Given own → Some end ≡ option_map synced own → Holds (view_after view made end)
+  sync_leaves end None given is = absurd (cc (is))
+  sync_leaves end (Some (fetched.View new)) given is = let e : end ≡ synced (fetched.View new) = cc (is) in leaves end (Some (record { view = new; last = last_number made })) (ap (view_after view made) e) (given new refl)
+  sync_leaves end (Some (fetched.Fault n)) given is = let e : end ≡ synced (fetched.Fault n) = cc (is) in leaves end view (ap (view_after view made) e) before
+  sync_leaves end (Some (fetched.Damaged n)) given is = let e : end ≡ synced (fetched.Damaged n) = cc (is) in leaves end view (ap (view_after view made) e) before
+  sync_leaves end (Some fetched.TooMany) given is = let e : end ≡ synced fetched.TooMany = cc (is) in leaves end view (ap (view_after view made) e) before
+
+  pub task_leaves : (w : Work) (end : End) → ((own : Option SyncEnd) → SyncRun (sync_rules script.rules) made own → Given own) → TaskRun script view w made (Some end) → Holds (view_after view made end)
+  task_leaves (Upload ulid stop) end gives run = leaves end view (upload_keeps script view view ulid stop made end run) before
+  task_leaves (Sync gateway) end gives (own, run, is) = sync_leaves end own (gives own run) is
+  task_leaves (Query low high selector) end gives run = leaves end view (query_keeps script view (asked_by script selector low high) made end run) before

@@ -1,6 +1,6 @@
 -- Whence the ends of a run come: each from a task's run, whose entries are part of the journal, with a view that such a run gave.
 use Rattle.std.proofs.Common.{◌≡◌, inl, inr, ℕ, zero, suc, ◌+◌, ◌<◌, ◌≤◌, ◌==◌, Bool, true, false, List, [], ◌∷◌, ◌++◌, Contains, Option, Some, None, refl, sym, ap, subst, arith}
-use Rattle.std.specs.Prelude.{option_map, slice_get}
+use Rattle.std.specs.Prelude.{slice_get}
 use Rattle.std.specs.List.{All, AllZip, filter, zip}
 use Rattle.std.proofs.lemmas.List.Elements.{All-contains, All-contains_itself, All-filter, All-weaker, Contains-append_left, Contains-append_right}
 use Rattle.world_core.specs.declared.entry.Entry.{Entry}
@@ -8,22 +8,20 @@ use Rattle.meta_fetcher.specs.Syncs.{SyncRun}
 use Rattle.meta_fetcher.specs.declared.view.View.{View}
 use Rattle.meta_fetcher.specs.declared.sync_end.SyncEnd.{SyncEnd}
 use Rattle.meta_fetcher.specs.declared.sync_end.SyncEnd.TheVariants as fetched
-use Rattle.store_gateway.specs.SeriesRuns.{Query as Question}
 use Rattle.script_core.specs.Hands.{workers_of}
 use Rattle.script_core.specs.declared.phase.Phase.{Phase}
 use Rattle.script_core.specs.declared.script.Script.{Script}
 use Rattle.script_core.specs.declared.task.Task.{Task}
 use Rattle.script_core.specs.declared.work.Work.{Work}
-use Rattle.script_core.specs.declared.work.Work.TheVariants.{Upload, Sync, Query}
 use Rattle.script_core.specs.declared.worker.Worker.{Worker}
 use Rattle.lifecycle_core.specs.Causes.{SomeCame}
 use Rattle.lifecycle_core.specs.Phases.{CameTo, IsRunOf, PhaseRun, PhasesRun, TasksAt, TasksRun, WorkerRun, of_seat}
-use Rattle.lifecycle_core.specs.Tasks.{End, QueryTask, TaskRun, answered, asked_by, last_number, synced, sync_rules, view_after, without_view}
+use Rattle.lifecycle_core.specs.Tasks.{End, TaskRun, last_number, sync_rules, view_after}
 use Rattle.lifecycle_core.specs.Views.{Use, Views, no_views, view_of}
-use Rattle.lifecycle_core.proofs.Lists.{contains_first, contains_later}
+use Rattle.lifecycle_core.proofs.PhaseRuns.{zip_weaken}
 use Rattle.lifecycle_core.proofs.PhaseViews.{views_left}
-use Rattle.lifecycle_core.proofs.Positions.{of_filter, zip_left}
-use Rattle.lifecycle_core.proofs.TaskRuns.{upload_keeps}
+use Rattle.lifecycle_core.proofs.Positions.{of_filter, zip_left, zipped}
+use Rattle.lifecycle_core.proofs.TaskRuns.{task_leaves}
 use Rattle.lifecycle_core.proofs.Told.{IsMade, IsOrigin, IsPart, Rises}
 
 -- ---- parts of a journal
@@ -67,15 +65,6 @@ part_middle journal xs ys zs part = part_left journal ys zs (part_right journal 
 pub part_filter : (journal : List Entry) (p : Entry → Bool) (es : List Entry) → IsPart journal es → IsPart journal (filter p es)
 part_filter journal p es part = record { among = λ e own. part.among e (of_filter p es e own); rises = rises_filter p es part.rises }
 
--- ---- pairs
-
--- what holds of two lists place by place holds of a pair of theirs
-zipped : {A B : Type 0} (R : A → B → Type 0) (xs : List A) (ys : List B) (x : A) (y : B) → AllZip R xs ys → Contains (zip xs ys) (x, y) → R x y
-zipped {A} {B} R [] ys x y all (k, below, is) = absurd (omega (arith, below))
-zipped {A} {B} R (a ∷ xs) [] x y all (k, below, is) = absurd all
-zipped {A} {B} R (a ∷ xs) (b ∷ ys) x y all (zero, below, is) = subst (R x) (ap (λ (p : A × B). p.1) is) (subst (λ z. R z b) (ap (λ (p : A × B). p.0) is) all.0)
-zipped {A} {B} R (a ∷ xs) (b ∷ ys) x y all (suc k, below, is) = zipped R xs ys x y all.1 (k, omega (arith, below), is)
-
 module _ (script : Script) (journal : List Entry) where
   -- ---- a worker's tasks
 
@@ -86,27 +75,13 @@ module _ (script : Script) (journal : List Entry) where
   same_view : (one other : Option Use) → one ≡ other → HasOrigin other → HasOrigin one
   same_view one other is known = subst HasOrigin (sym is) known
 
-  after_sync : (made : List Entry) (view : Option Use) (end : End) (own : Option SyncEnd) → HasOrigin view → IsPart journal made → SyncRun (sync_rules script.rules) made own → Some end ≡ option_map synced own → HasOrigin (view_after view made end)
-  after_sync made view end None known part run is = absurd (cc (is))
-  after_sync made view end (Some (fetched.View v)) known part run is =
-      let e : end ≡ synced (fetched.View v) = cc (is) in
-      same_view (view_after view made end) (Some (record { view = v; last = last_number made })) (ap (view_after view made) e)
-      (λ used same. let own : record { view = v; last = last_number made } ≡ used = cc (same) in subst (IsOrigin script journal) own (record { entries = made; run = run; last = refl; part = part }))
-  after_sync made view end (Some (fetched.Fault n)) known part run is = let e : end ≡ synced (fetched.Fault n) = cc (is) in same_view (view_after view made end) view (ap (view_after view made) e) known
-  after_sync made view end (Some (fetched.Damaged n)) known part run is = let e : end ≡ synced (fetched.Damaged n) = cc (is) in same_view (view_after view made end) view (ap (view_after view made) e) known
-  after_sync made view end (Some fetched.TooMany) known part run is = let e : end ≡ synced fetched.TooMany = cc (is) in same_view (view_after view made end) view (ap (view_after view made) e) known
-
-  query_keeps : (made : List Entry) (view : Option Use) (asked : Option Question) (end : End) → QueryTask script view asked made (Some end) → view_after view made end ≡ view
-  query_keeps made None asked end (nil, inl none) = absurd (cc (none))
-  query_keeps made None asked end (nil, inr is) = let e : end ≡ without_view = cc (is) in ap (view_after None made) e
-  query_keeps made (Some used) None end run = absurd run
-  query_keeps made (Some used) (Some q) end (None, run, is) = absurd (cc (is))
-  query_keeps made (Some used) (Some q) end (Some own, run, is) = let e : end ≡ answered used own = cc (is) in ap (view_after (Some used) made) e
+  view_given : (made : List Entry) → IsPart journal made → (own : Option SyncEnd) → SyncRun (sync_rules script.rules) made own → (v : View) → own ≡ Some (fetched.View v) → HasOrigin (Some (record { view = v; last = last_number made }))
+  view_given made part own run v is = λ used same.
+      let one : record { view = v; last = last_number made } ≡ used = cc (same) in
+      subst (IsOrigin script journal) one (record { entries = made; run = subst (SyncRun (sync_rules script.rules) made) is run; last = refl; part = part })
 
   after_task : (made : List Entry) (view : Option Use) (w : Work) (end : End) → HasOrigin view → IsPart journal made → TaskRun script view w made (Some end) → HasOrigin (view_after view made end)
-  after_task made view (Upload ulid stop) end known part run = same_view (view_after view made end) view (upload_keeps script view view ulid stop made end run) known
-  after_task made view (Sync gateway) end known part (own, run, is) = after_sync made view end own known part run is
-  after_task made view (Query low high selector) end known part run = same_view (view_after view made end) view (query_keeps made view (asked_by script selector low high) end run) known
+  after_task made view w end known part run = task_leaves HasOrigin script view known made w end (view_given made part) run
 
   -- the first tasks came to these ends, each in a run of its own
   abbrev AreMade : List Task → List End → Type 0
@@ -154,19 +129,13 @@ module _ (script : Script) (journal : List Entry) where
   abbrev PhaseMade : List Task → List Worker → List (List End) → Type 0
   PhaseMade tasks workers ends = AllZip (WorkerMade tasks) workers ends
 
-  all_made : (tasks : List Task) (R : Worker → List End → Type 0) → ((worker : Worker) (own : List End) → R worker own → WorkerMade tasks worker own) → (workers : List Worker) (ends : List (List End)) → AllZip R workers ends → PhaseMade tasks workers ends
-  all_made tasks R f [] [] all = tt
-  all_made tasks R f [] (own ∷ ends) all = absurd all
-  all_made tasks R f (worker ∷ workers) [] all = absurd all
-  all_made tasks R f (worker ∷ workers) (own ∷ ends) all = (f worker own all.0, all_made tasks R f workers ends all.1)
-
   module _ (tasks : List Task) (workers : List Worker) (views : Views) (made : List Entry) (ends : List (List End)) (after : Views) (run : PhaseRun script tasks workers views made ends after) (part : IsPart journal made) (known : (gateway : Option ℕ) → HasOrigin (view_of views gateway)) where
     worker_made : (worker : Worker) (own : List End) (w : WorkerRun script tasks views made after worker own) → AreMade w.own own × HasOrigin w.last
     worker_made worker own w =
         tasks_made (view_of views worker.gateway) w.last w.own (of_seat worker.seat made) own (known worker.gateway) (part_filter journal (λ (x : Entry). x.seat == worker.seat) made part) w.runs
 
     phase_made : PhaseMade tasks workers ends
-    phase_made = all_made tasks (WorkerRun script tasks views made after) (λ worker own w. (w.own, w.are, (worker_made worker own w).0)) workers ends run.runs
+    phase_made = zip_weaken (WorkerRun script tasks views made after) (WorkerMade tasks) (λ worker own w. (w.own, w.are, (worker_made worker own w).0)) workers ends run.runs
 
     after_phase : (gateway : Option ℕ) → HasOrigin (view_of after gateway)
     after_phase = views_left script tasks workers views made ends after run HasOrigin (λ worker own w. (worker_made worker own w).1) (known None) (λ gateway. known (Some gateway))
@@ -194,7 +163,7 @@ module _ (script : Script) (journal : List Entry) where
       let next = after_phase phase.tasks (workers_of script number) views made first after run own known in
       subst (PhasesMade number (phase ∷ phases)) (sym are) (
         one,
-        elim how [ | inl none ↦ no_phases (number + 1) phases later none.1 | inr go ↦ phases_made (number + 1) after phases others later next rest go.1 ],
+        elim how [ inl none ↦ no_phases (number + 1) phases later none.1 | inr go ↦ phases_made (number + 1) after phases others later next rest go.1 ],
       )
 
   no_view_yet : (gateway : Option ℕ) → HasOrigin (view_of no_views gateway)
