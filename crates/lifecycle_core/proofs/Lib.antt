@@ -18,3 +18,5 @@ pub mod Explaining
 pub mod Honesty
 pub mod Unbroken
 pub mod Told
+pub mod TellingPuts
+pub mod Telling
