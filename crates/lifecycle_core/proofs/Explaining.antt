@@ -42,7 +42,7 @@ use Rattle.lifecycle_core.proofs.RunEntries.{HasPut, PrecedesMeta, IsInOrder, in
 
 -- ---- a phase
 
-of_map : {X Y : Type 0} (f : X → Y) (xs : List X) (y : Y) → Contains (map f xs) y → (x : X) × Contains xs x × (f x ≡ y)
+pub of_map : {X Y : Type 0} (f : X → Y) (xs : List X) (y : Y) → Contains (map f xs) y → (x : X) × Contains xs x × (f x ≡ y)
 of_map f [] y (k, below, is) = absurd (omega (arith, below))
 of_map f (x ∷ xs) y (zero, below, is) = (x, contains_first x xs, is)
 of_map f (x ∷ xs) y (suc k, below, is) = let rest = of_map f xs y (k, omega (arith, below), is) in (rest.0, Contains-append_right (x ∷ []) xs rest.0 rest.1, rest.2)
@@ -121,7 +121,7 @@ one_in_order clock made others entries parts own one other (x ∷ front) back e 
           more_before more (x ∷ front) e (λ y among. Contains-append_right (x ∷ []) front y (subst (λ es. Contains es y) (sym here) (Contains-append_right made more y among))) (other more back e two)
     ]
 
-phases_in_order : (script : Script) → IsLawfulScript script → (number : ℕ) (views : Views) (phases : List Phase) (entries : List Entry) (ends : List (List (List End))) → PhasesRun script number views phases entries ends → AllInOrder entries
+pub phases_in_order : (script : Script) → IsLawfulScript script → (number : ℕ) (views : Views) (phases : List Phase) (entries : List Entry) (ends : List (List (List End))) → PhasesRun script number views phases entries ends → AllInOrder entries
 phases_in_order script lawful number views [] entries ends run = none_in_order entries run.0
 phases_in_order script lawful number views (phase ∷ phases) entries ends (inl none) = none_in_order entries none.0
 phases_in_order script lawful number views (phase ∷ phases) entries ends (inr (clock, made, others, first, later, after, parts, begins, run, are, inl none)) =
@@ -191,7 +191,7 @@ put_lands o r c k bytes is landed =
     ∙ ap (λ b. cond b (Some bytes) (c (key_text k))) ((bytes_eq-Decides (key_text k) (key_text k)).1 refl)
 
 -- what was put stands
-put_stays : (entries : List Entry) (c : Contents) (k : Key) → ((e : Entry) → Contains entries e → (other : Key) → e.op ≢ op.Delete other) → HasPut entries k → (bytes : List ℕ) × (fold (λ d x. left_by x.op x.reply d) c entries (key_text k) ≡ Some bytes)
+pub put_stays : (entries : List Entry) (c : Contents) (k : Key) → ((e : Entry) → Contains entries e → (other : Key) → e.op ≢ op.Delete other) → HasPut entries k → (bytes : List ℕ) × (fold (λ d x. left_by x.op x.reply d) c entries (key_text k) ≡ Some bytes)
 put_stays [] c k keeps (e, (i, below, at), put) = absurd (omega (arith, below))
 put_stays (x ∷ entries) c k keeps (e, (zero, below, at), (bytes, is, landed)) =
     stays entries (left_by x.op x.reply c) (key_text k) bytes (λ y among. keeps y (Contains-append_right (x ∷ []) entries y among))
@@ -199,45 +199,49 @@ put_stays (x ∷ entries) c k keeps (e, (zero, below, at), (bytes, is, landed)) 
 put_stays (x ∷ entries) c k keeps (e, (suc i, below, at), put) =
     put_stays entries (left_by x.op x.reply c) k (λ y among. keeps y (Contains-append_right (x ∷ []) entries y among)) (e, (i, omega (arith, below), at), put)
 
--- what stands was put, where it did not stand before
-pub record WasPut (entries : List Entry) (text : List ℕ) : Type 0 where
+-- these bytes were put under a key with this text, and the put landed
+pub record WasPut (entries : List Entry) (text bytes : List ℕ) : Type 0 where
   pub front : List Entry
   pub back : List Entry
   pub entry : Entry
   pub key_is : Key
-  pub bytes : List ℕ
   pub parts : entries ≡ front ++ entry ∷ back
   pub puts : entry.op ≡ op.Put key_is bytes
+  pub landed : IsTrue (has_landed entry.reply)
   pub same : key_text key_is ≡ text
 
-put_first : (x : Entry) (entries : List Entry) (text : List ℕ) → WasPut entries text → WasPut (x ∷ entries) text
-put_first x entries text w = record { front = x ∷ w.front; back = w.back; entry = w.entry; key_is = w.key_is; bytes = w.bytes; parts = ap (λ es. x ∷ es) w.parts; puts = w.puts; same = w.same }
+put_first : (x : Entry) (entries : List Entry) (text bytes : List ℕ) → WasPut entries text bytes → WasPut (x ∷ entries) text bytes
+put_first x entries text bytes w = record { front = x ∷ w.front; back = w.back; entry = w.entry; key_is = w.key_is; parts = ap (λ es. x ∷ es) w.parts; puts = w.puts; landed = w.landed; same = w.same }
 
-put_here : (x : Entry) (entries : List Entry) (text : List ℕ) (k : Key) (new : List ℕ) (c : Contents) (bytes : List ℕ) (landed same : Bool) → x.op ≡ op.Put k new → bytes_eq (key_text k) text ≡ same → cond landed (with_object (key_text k) new c) c text ≡ Some bytes
-    → WasPut (x ∷ entries) text ⊎ ((old : List ℕ) × (c text ≡ Some old))
-put_here x entries text k new c bytes true true is test holds = inl (record { front = []; back = entries; entry = x; key_is = k; bytes = new; parts = refl; puts = is; same = (bytes_eq-Decides (key_text k) text).0 test })
-put_here x entries text k new c bytes true false is test holds = inr (bytes, rw test at holds)
-put_here x entries text k new c bytes false same is test holds = inr (bytes, holds)
+put_here : (x : Entry) (entries : List Entry) (text : List ℕ) (k : Key) (new : List ℕ) (c : Contents) (bytes : List ℕ) (landed same : Bool) → x.op ≡ op.Put k new → has_landed x.reply ≡ landed → bytes_eq (key_text k) text ≡ same
+    → cond landed (with_object (key_text k) new c) c text ≡ Some bytes → WasPut (x ∷ entries) text bytes ⊎ (c text ≡ Some bytes)
+put_here x entries text k new c bytes true true is landed test holds =
+    let e : Some new ≡ Some bytes = rw test at holds in
+    let b : new ≡ bytes = cc (e) in
+    inl (record { front = []; back = entries; entry = x; key_is = k; parts = refl; puts = is ∙ ap (op.Put k) b; landed = landed; same = (bytes_eq-Decides (key_text k) text).0 test })
+put_here x entries text k new c bytes true false is landed test holds = inr (rw test at holds)
+put_here x entries text k new c bytes false same is landed test holds = inr holds
 
-delete_here : (text k : List ℕ) (c : Contents) (bytes : List ℕ) (landed same : Bool) → bytes_eq k text ≡ same → cond landed (without_object k c) c text ≡ Some bytes → (old : List ℕ) × (c text ≡ Some old)
+delete_here : (text k : List ℕ) (c : Contents) (bytes : List ℕ) (landed same : Bool) → bytes_eq k text ≡ same → cond landed (without_object k c) c text ≡ Some bytes → c text ≡ Some bytes
 delete_here text k c bytes true true test holds = absurd (cc (rw test at holds))
-delete_here text k c bytes true false test holds = (bytes, rw test at holds)
-delete_here text k c bytes false same test holds = (bytes, holds)
+delete_here text k c bytes true false test holds = rw test at holds
+delete_here text k c bytes false same test holds = holds
 
-left_here : (x : Entry) (entries : List Entry) (text : List ℕ) (o : Op) (c : Contents) (bytes : List ℕ) → x.op ≡ o → left_by o x.reply c text ≡ Some bytes → WasPut (x ∷ entries) text ⊎ ((old : List ℕ) × (c text ≡ Some old))
-left_here x entries text (op.Clock moment) c bytes is holds = inr (bytes, holds)
-left_here x entries text (op.Put k new) c bytes is holds = put_here x entries text k new c bytes (has_landed x.reply) (bytes_eq (key_text k) text) is refl holds
-left_here x entries text (op.Get k) c bytes is holds = inr (bytes, holds)
-left_here x entries text (op.GetRange k from len) c bytes is holds = inr (bytes, holds)
+left_here : (x : Entry) (entries : List Entry) (text : List ℕ) (o : Op) (c : Contents) (bytes : List ℕ) → x.op ≡ o → left_by o x.reply c text ≡ Some bytes → WasPut (x ∷ entries) text bytes ⊎ (c text ≡ Some bytes)
+left_here x entries text (op.Clock moment) c bytes is holds = inr holds
+left_here x entries text (op.Put k new) c bytes is holds = put_here x entries text k new c bytes (has_landed x.reply) (bytes_eq (key_text k) text) is refl refl holds
+left_here x entries text (op.Get k) c bytes is holds = inr holds
+left_here x entries text (op.GetRange k from len) c bytes is holds = inr holds
 left_here x entries text (op.Delete k) c bytes is holds = inr (delete_here text (key_text k) c bytes (has_landed x.reply) (bytes_eq (key_text k) text) refl holds)
-left_here x entries text (op.RootPage after limit) c bytes is holds = inr (bytes, holds)
-left_here x entries text (op.BlockPage ulid after limit) c bytes is holds = inr (bytes, holds)
+left_here x entries text (op.RootPage after limit) c bytes is holds = inr holds
+left_here x entries text (op.BlockPage ulid after limit) c bytes is holds = inr holds
 
-was_put : (entries : List Entry) (c : Contents) (text bytes : List ℕ) → fold (λ d x. left_by x.op x.reply d) c entries text ≡ Some bytes → WasPut entries text ⊎ ((old : List ℕ) × (c text ≡ Some old))
-was_put [] c text bytes holds = inr (bytes, holds)
+-- what stands was put, or stood before
+pub was_put : (entries : List Entry) (c : Contents) (text bytes : List ℕ) → fold (λ d x. left_by x.op x.reply d) c entries text ≡ Some bytes → WasPut entries text bytes ⊎ (c text ≡ Some bytes)
+was_put [] c text bytes holds = inr holds
 was_put (x ∷ entries) c text bytes holds = elim (was_put entries (left_by x.op x.reply c) text bytes holds) [
-  | inl put ↦ inl (put_first x entries text put)
-  | inr (old, is) ↦ left_here x entries text x.op c old refl is
+  | inl put ↦ inl (put_first x entries text bytes put)
+  | inr is ↦ left_here x entries text x.op c bytes refl is
 ]
 
 -- ---- texts of keys
@@ -353,12 +357,12 @@ module _ (script : Script) (journal : List Entry) (numbered : IsNumbered journal
         let twin = other_block m.key_is m.ulid k.0 k.2 m.own in
         let here : journal ≡ w.front ++ w.entry ∷ (w.back ++ (e ∷ (back ++ m.entry ∷ m.back))) =
         m.parts ∙ ap (λ es. es ++ m.entry ∷ m.back) (parts ∙ ap (λ es. es ++ e ∷ back) w.parts) ∙ append_assoc (w.front ++ w.entry ∷ w.back) (e ∷ back) (m.entry ∷ m.back) ∙ append_assoc w.front (w.entry ∷ w.back) (e ∷ back ++ m.entry ∷ m.back) in
-        let put : HasPut w.front twin.0 = (ordered w.front _ w.entry here).ships k.0 w.bytes (w.puts ∙ ap (λ (x : Key). op.Put x w.bytes) k.1) twin.0 twin.1 in
+        let put : HasPut w.front twin.0 = (ordered w.front _ w.entry here).ships k.0 bytes (w.puts ∙ ap (λ (x : Key). op.Put x bytes) k.1) twin.0 twin.1 in
         let front_is : m.front ≡ w.front ++ (w.entry ∷ w.back ++ e ∷ back) = parts ∙ ap (λ es. es ++ e ∷ back) w.parts ∙ append_assoc w.front (w.entry ∷ w.back) (e ∷ back) in
         let in_front : HasPut m.front twin.0 = (put.0, subst (λ es. Contains es put.0) (sym front_is) (Contains-append_left w.front (w.entry ∷ w.back ++ e ∷ back) put.0 put.1), put.2) in
         let holds = put_stays m.front nothing twin.0 nothing_deleted in_front in
         (holds.0, ap (stands m.front) (sym twin.2) ∙ holds.1)
-    | inr (old, none) ↦ absurd (cc (none))
+    | inr none ↦ absurd (cc (none))
   ]
 
   stood : (front back : List Entry) (e : Entry) (bytes : List ℕ) → m.front ≡ front ++ e ∷ back → stands front (key_text (key.Meta m.ulid)) ≡ Some bytes → IsExplained script journal number

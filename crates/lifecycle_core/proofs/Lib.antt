@@ -34,3 +34,8 @@ pub mod ExactAnswersObjects
 pub mod ExactAnswersCalls
 pub mod ExactAnswers
 pub mod TasksMade
+pub mod TellingPuts
+pub mod Telling
+pub mod MetasAgain
+pub mod Readable
+pub mod Assembling

@@ -35,7 +35,7 @@ not_over is most not = omega (arith, not)
 
 -- ---- moments
 
-after_more : (tick last : ℕ) (o : Op) → last ≤ moment_after tick last o
+pub after_more : (tick last : ℕ) (o : Op) → last ≤ moment_after tick last o
 after_more tick last (op.Clock moment) = omega arith
 after_more tick last (op.Put key bytes) = omega arith
 after_more tick last (op.Get key) = omega arith
@@ -44,7 +44,7 @@ after_more tick last (op.Delete key) = omega arith
 after_more tick last (op.RootPage after limit) = omega arith
 after_more tick last (op.BlockPage ulid after limit) = omega arith
 
-last_is : (entries : List Entry) (e : Entry) → last_moment (entries ++ e ∷ []) ≡ e.moment.ms
+pub last_is : (entries : List Entry) (e : Entry) → last_moment (entries ++ e ∷ []) ≡ e.moment.ms
 last_is entries e = fold-append (λ (last : ℕ) (x : Entry). x.moment.ms) 0 entries (e ∷ [])
 
 only : (y x : Entry) → Contains (y ∷ []) x → y ≡ x
