@@ -17,7 +17,8 @@ use Rattle.script_core.specs.declared.phase.Phase.{Phase}
 use Rattle.script_core.specs.declared.script.Script.{Script}
 use Rattle.script_core.specs.declared.task.Task.{Task}
 use Rattle.lifecycle_core.specs.InLine.{InLine, IsInLine, PhasesInLine, duties_from, seat_of}
-use Rattle.lifecycle_core.specs.Phases.{AreUnfinished, BeginsPhase, IsLawfulJournal, IsOperationDue, PhasesRun}
+use Rattle.lifecycle_core.specs.Phases.{AreUnfinished, BeginsPhase, IsOperationDue, PhasesRun}
+use Rattle.lifecycle_core.specs.Guarantees.{IsGuaranteedJournal}
 use Rattle.lifecycle_core.specs.Tasks.{End}
 use Rattle.lifecycle_core.specs.Views.{Views, no_views}
 use Rattle.lifecycle_core.proofs.Assembling.{all_guaranteed}
@@ -335,9 +336,10 @@ run_in_line script gateways journal as_asked text (Ok done) kept came =
 run_in_line script gateways journal as_asked text (Err broken.Full) kept came = (came.2.ends ++ came.2.unfinished, record { kept = kept; phases = came.2.run })
 run_in_line script gateways journal as_asked text (Err broken.NoMemory) kept came = (came.0, record { kept = kept; phases = came.1 })
 
-pub lawful_run : (script : Script) (journal : List Entry) → IsLawfulScript script → IsJournal script.rules.tick.ms journal → HasRun script journal → IsLawfulJournal script journal
-lawful_run script journal lawful kept run =
-    (by_workers (gateway_count script.gateways) script.phases run.0, run_of script journal run.0 lawful (record { kept = kept; phases = run.1 }))
+pub guaranteed_run : (script : Script) (journal : List Entry) → IsLawfulScript script → IsJournal script.rules.tick.ms journal → HasRun script journal → IsGuaranteedJournal script journal
+guaranteed_run script journal lawful kept run =
+    let ends = by_workers (gateway_count script.gateways) script.phases run.0 in
+    let whole = run_of script journal run.0 lawful (record { kept = kept; phases = run.1 }) in (ends, whole, all_guaranteed script journal ends lawful whole)
 
 -- ---- what a phase's call leaves
 

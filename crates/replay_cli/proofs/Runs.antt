@@ -15,8 +15,9 @@ use Rattle.script_core.specs.Lawful.{IsLawfulScript}
 use Rattle.script_core.specs.declared.phase.Phase.{Phase}
 use Rattle.script_core.specs.declared.script.Script.{Script}
 use Rattle.lifecycle_core.specs.InLine.{IsInLine}
-use Rattle.lifecycle_core.specs.Phases.{IsLawfulJournal}
-use Rattle.lifecycle_core.proofs.FirstPhases.{none_in_line, none_lawful}
+use Rattle.lifecycle_core.specs.Guarantees.{IsGuaranteedJournal}
+use Rattle.lifecycle_core.proofs.FirstPhases.{none_in_line}
+use Rattle.lifecycle_core.proofs.Assembling.{none_guaranteed}
 use Rattle.replay_cli.specs.Progress.{RunCame}
 use Rattle.replay_cli.specs.Verdicts.{IsRun}
 use Rattle.replay_cli.specs.declared.came.Broken.{Broken}
@@ -24,7 +25,7 @@ use Rattle.replay_cli.specs.declared.came.Broken.TheVariants as broken
 use Rattle.replay_cli.specs.declared.phases.Lines.{Lines}
 use Rattle.replay_cli.specs.declared.verdict.Verdict.{Verdict}
 use Rattle.replay_cli.specs.declared.verdict.Verdict.TheVariants as verdict
-use Rattle.replay_cli.proofs.PhaseLists.{full_run, lawful_run, run_in_line, whole_run}
+use Rattle.replay_cli.proofs.PhaseLists.{full_run, guaranteed_run, run_in_line, whole_run}
 
 take_none : (phases : List Phase) → take 0 phases ≡ []
 take_none [] = refl
@@ -47,7 +48,7 @@ run_by script gateways journal report (Ok done) v lawful kept full came whole fi
 run_by script gateways journal report (Err broken.Full) v lawful kept full came whole filled short =
     subst (IsRun script (Some nothing) ⊥ (Some journal)) (sym (filled refl)) (refl, (run_in_line script gateways journal report.as_asked report.text.items (Err broken.Full) kept came, full_run script came.0 journal report.as_asked report.text.items lawful kept (full refl) came.1 came.2))
 run_by script gateways journal report (Err broken.NoMemory) v lawful kept full came whole filled short =
-    subst (IsRun script (Some nothing) ⊥ (Some journal)) (sym (short refl)) (run_in_line script gateways journal report.as_asked report.text.items (Err broken.NoMemory) kept came, lawful_run script journal lawful kept came)
+    subst (IsRun script (Some nothing) ⊥ (Some journal)) (sym (short refl)) (run_in_line script gateways journal report.as_asked report.text.items (Err broken.NoMemory) kept came, guaranteed_run script journal lawful kept came)
 
 pub run_told : (script : Script) (gateways : List Gateway) (journal : List Entry) (report : Lines) (r : Result (Unit {0}) Broken) (v : Verdict) (handed : Option (List Entry)) → handed ≡ Some journal → IsLawfulScript script → IsJournal script.rules.tick.ms journal
     → (r ≡ Err broken.Full → IsFull journal) → RunCame script gateways journal report.as_asked report.text.items r
@@ -59,8 +60,8 @@ run_told script gateways journal report r v handed is lawful kept full came whol
 -- nothing was done, for want of memory
 pub none_told : (script : Script) (journal : List Entry) (v : Verdict) (handed : Option (List Entry)) → handed ≡ Some journal → journal ≡ [] → v ≡ verdict.NoMemory → IsRun script (Some nothing) ⊥ handed v
 none_told script journal v handed is none short =
-    let Holds : List Entry → Type 0 = λ entries. IsInLine script entries × IsLawfulJournal script entries in
-    subst (IsRun script (Some nothing) ⊥ handed) (sym short) (subst (λ (h : Option (List Entry)). IfSome h Holds) (sym is) (subst Holds (sym none) (none_in_line script, none_lawful script)))
+    let Holds : List Entry → Type 0 = λ entries. IsInLine script entries × IsGuaranteedJournal script entries in
+    subst (IsRun script (Some nothing) ⊥ handed) (sym short) (subst (λ (h : Option (List Entry)). IfSome h Holds) (sym is) (subst Holds (sym none) (none_in_line script, none_guaranteed script)))
 
 -- a bucket that was not opened
 opened_by : (script : Script) (told : Option Contents) (failed : Type 0) (refusal : OpenRefusal) (v : Verdict) → (refusal ≡ unopened.Failed → failed)
@@ -69,7 +70,7 @@ opened_by : (script : Script) (told : Option Contents) (failed : Type 0) (refusa
     → IsRun script told failed (Some []) v
 opened_by script told failed unopened.Failed v fails stands one two three = subst (IsRun script told failed (Some [])) (sym (one refl)) (fails refl, refl)
 opened_by script told failed (unopened.NotEmpty name) v fails stands one two three = subst (IsRun script told failed (Some [])) (sym (two name refl)) (stands name refl, refl)
-opened_by script told failed unopened.NoMemory v fails stands one two three = subst (IsRun script told failed (Some [])) (sym (three refl)) (none_in_line script, none_lawful script)
+opened_by script told failed unopened.NoMemory v fails stands one two three = subst (IsRun script told failed (Some [])) (sym (three refl)) (none_in_line script, none_guaranteed script)
 
 pub opened_told : {B : Type 0} (script : Script) (told : Option Contents) (faults : B → ℕ) (bucket store : B) (refusal : OpenRefusal) (v : Verdict) (empty : List Entry) (handed : Option (List Entry)) (back : Option B)
     → handed ≡ Some empty → empty ≡ [] → back ≡ Some store → (refusal ≡ unopened.Failed → Rose (faults bucket) (faults store))
