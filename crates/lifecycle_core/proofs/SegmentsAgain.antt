@@ -1,5 +1,5 @@
 -- The segment of a block that a lawful script declares is text that has the block's series, and no others.
-use Rattle.std.proofs.Common.{◌≡◌, ◌≢◌, ◌⊎◌, ℕ, zero, suc, ◌+◌, ◌/◌, ◌%◌, ◌^◌, ◌<◌, ℤ, pos, negsuc, neg_ℤ, ◌≤ℤ◌, ◌<ℤ◌, Bool, true, false, cond, ◌==◌, nat_lt, List, [], ◌∷◌, ◌++◌, length, drop, map, Option, Some, None, Result, Ok, refl, sym, ap, ◌∙◌, subst, inl, inr, arith, append_assoc, append-nil}
+use Rattle.std.proofs.Common.{◌≡◌, ◌≢◌, ◌⊎◌, ℕ, zero, suc, ◌+◌, ◌/◌, ◌%◌, ◌^◌, ◌<◌, ℤ, pos, negsuc, neg_ℤ, ◌≤ℤ◌, ◌<ℤ◌, Bool, true, false, cond, ◌==◌, nat_lt, List, [], ◌∷◌, ◌++◌, length, drop, map, Some, Result, Ok, refl, sym, ap, ◌∙◌, subst, inl, inr, arith, append_assoc, append-nil}
 use Rattle.std.specs.Prelude.{IsTrue, find}
 use Rattle.std.specs.Int.Digits.{digits_of, AllBelowBase}
 use Rattle.std.specs.List.{All, Contains, flat_map, list_all}
@@ -18,7 +18,7 @@ use Rattle.label_sets.specs.declared.sample.Sample.{Sample}
 use Rattle.label_sets.specs.declared.series.Series.{Series}
 use Rattle.label_sets.specs.Notation.{is_name, is_name_start, is_name_byte, quoted, quoted_byte, pair_text, comma_pair_text, pairs_text, set_text, read_set}
 use Rattle.label_sets.specs.SampleText.{hex_sign, hex_text, pattern_text, timed_text, sample_text, spaced_sample_text, series_text, sample_of}
-use Rattle.label_sets.specs.SetText.{AreNamed, IsSetText}
+use Rattle.label_sets.specs.SetText.{AreNamed}
 use Rattle.label_sets.proofs.SampleTexts.{sample_of-only}
 use Rattle.label_sets.proofs.SetLaws.{set_text_is, set_text_again}
 use Rattle.label_sets.proofs.Utf8Parts.{cut_front, cut_rest}
@@ -29,7 +29,7 @@ use Rattle.script_core.specs.declared.block.Block.{Block}
 use Rattle.script_core.specs.declared.body.Body.{Body}
 use Rattle.script_core.specs.declared.body.Body.TheVariants.{Inline}
 use Rattle.script_core.specs.declared.script.Script.{Script}
-use Rattle.script_core.specs.Lawful.{AreLawfulLabels, HasLawfulSamples, IsLawfulInline, IsLawfulBody, IsLawfulBlock, IsLawfulScript}
+use Rattle.script_core.specs.Lawful.{AreLawfulLabels, HasLawfulSamples, IsLawfulBody, IsLawfulBlock, IsLawfulScript}
 use Rattle.script_core.specs.Spelling.{IsNear, IsWithin, TimesRise}
 use Rattle.script_core.proofs.SpelledValues.{near_tested, rise_spelled, within_spelled}
 use Rattle.script_core.proofs.ValueLaws.{time_fits}
