@@ -18,3 +18,4 @@ pub mod Explaining
 pub mod Honesty
 pub mod Unbroken
 pub mod Told
+pub mod MetasAgain
