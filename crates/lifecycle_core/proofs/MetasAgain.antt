@@ -1,8 +1,6 @@
 -- The text of the meta with which a declared block is shipped is read as that meta.
-use Rattle.std.proofs.Common.{◌≡◌, ℕ, ℤ, ◌^◌, ◌<◌, List, [], ◌∷◌, All, Ok, IsUtf8, codes, sym, subst, refl, arith}
+use Rattle.std.proofs.Common.{◌≡◌, ℤ, ◌^◌, ◌<◌, List, [], All, Ok, IsUtf8, rules, sym, subst, arith}
 use Rattle.std.proofs.lemmas.List.Elements.{All-nil, All-cons}
-use Rattle.std.proofs.lemmas.Str.{IsUtf8-from_ascii}
-use Rattle.std.proofs.lemmas.Str.Ascii.{IsAscii-cons, IsAscii-nil}
 use Rattle.label_sets.specs.declared.label.Label.{Label}
 use Rattle.label_sets.specs.declared.series.Series.{Series}
 use Rattle.label_sets.specs.Labels.{IsLabelSet}
@@ -16,20 +14,17 @@ use Rattle.script_core.specs.declared.block.Block.{Block}
 use Rattle.script_core.specs.declared.body.Body.TheVariants.{Inline}
 use Rattle.lifecycle_core.specs.Shipped.{IsPlanOf}
 
-sidecar_utf8 : IsUtf8 (codes "sidecar")
-sidecar_utf8 = IsUtf8-from_ascii (codes "sidecar") (IsAscii-cons 115 (105 ∷ 100 ∷ 101 ∷ 99 ∷ 97 ∷ 114 ∷ []) (omega arith) (IsAscii-cons 105 (100 ∷ 101 ∷ 99 ∷ 97 ∷ 114 ∷ []) (omega arith) (IsAscii-cons 100 (101 ∷ 99 ∷ 97 ∷ 114 ∷ []) (omega arith) (IsAscii-cons 101 (99 ∷ 97 ∷ 114 ∷ []) (omega arith) (IsAscii-cons 99 (97 ∷ 114 ∷ []) (omega arith) (IsAscii-cons 97 (114 ∷ []) (omega arith) (IsAscii-cons 114 [] (omega arith) IsAscii-nil)))))))
-
 plan_fits : (block : Block) (low high : ℤ) (plan : BlockPlan) → block.ulid < 2 ^ 128 → IsLabelSet block.labels → AreNamed block.labels → All (λ (l : Label). IsUtf8 l.value) block.labels
     → IsPlanOf block low high plan → IsPlanReadAgain plan
 plan_fits block low high plan small lawful named values is = record {
   ulid = subst (λ u. u < 2 ^ 128) (sym is.ulid) small;
   level = subst (λ n. n < 2 ^ 32) (sym is.level) (omega arith);
-  sources = subst (All (λ u. u < 2 ^ 128)) (sym is.sources) (All-cons (λ (u : ℕ). u < 2 ^ 128) block.ulid [] small (All-nil (λ (u : ℕ). u < 2 ^ 128)));
+  sources = subst (All (λ u. u < 2 ^ 128)) (sym is.sources) (All-cons (λ u. u < 2 ^ 128) block.ulid [] small (All-nil (λ u. u < 2 ^ 128)));
   parents = is.parents;
   lawful = subst IsLabelSet (sym is.labels) lawful;
   named = subst AreNamed (sym is.labels) named;
   values = subst (All (λ (l : Label). IsUtf8 l.value)) (sym is.labels) values;
-  source = subst IsUtf8 (sym is.source) sidecar_utf8;
+  source = subst IsUtf8 (sym is.source) (search rules);
 }
 
 pub metas_again : (block : Block) (low high : ℤ) (series : List Series) (plan : BlockPlan) → block.ulid < 2 ^ 128 → IsLabelSet block.labels → AreNamed block.labels → All (λ (l : Label). IsUtf8 l.value) block.labels
