@@ -21,8 +21,3 @@ pub use file_size::{FileSize, FileSizeList};
 pub use meta::Meta;
 pub use parent::{Parent, ParentList};
 pub use refusal::MetaRefusal;
-
-#[cfg(test)]
-mod server_metas;
-#[cfg(test)]
-mod tests;

@@ -28,6 +28,3 @@ pub use sink::Sink;
 pub use site::Site;
 pub use site_refusal::SiteRefusal;
 pub use source::Source;
-
-#[cfg(test)]
-mod tests;

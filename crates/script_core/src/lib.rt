@@ -38,8 +38,3 @@ pub use script_refusal::ScriptRefusal;
 pub use task::{Task, TaskList};
 pub use work::Work;
 pub use worker::{Worker, WorkerList};
-
-#[cfg(test)]
-mod tests;
-#[cfg(test)]
-mod tests_at_limits;

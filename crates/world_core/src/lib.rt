@@ -34,6 +34,3 @@ pub use reply::Reply;
 pub use seen::Seen;
 pub use world::World;
 pub use world_hand::WorldHand;
-
-#[cfg(test)]
-mod tests;
