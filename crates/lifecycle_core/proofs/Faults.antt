@@ -36,21 +36,40 @@ ShowsFault entries number = (e : Entry) × Contains entries e × (e.seq ≡ numb
 shows_later : (e : Entry) (entries : List Entry) (number : ℕ) → ShowsFault entries number → ShowsFault (e ∷ entries) number
 shows_later e entries number (x, among, is, failed) = (x, contains_later e x entries among, is, failed)
 
+-- ---- runs whose ends are of one kind
+
+-- A fault is known by its number.
+abbrev IsKnown : {E : Type 0} → (ℕ → E) → Type 0
+IsKnown fault = (one other : ℕ) → fault one ≡ fault other → one ≡ other
+
+module _ {E : Type 0} (fault : ℕ → E) where
+  abbrev Shows : List Entry → Option E → Type 0
+  Shows entries end = (number : ℕ) → end ≡ Some (fault number) → ShowsFault entries number
+
+  no_end : (entries : List Entry) (end : Option E) → end ≡ None → Shows entries end
+  no_end entries end none = λ number is. absurd (cc (none, is))
+
+  goes_on : (e : Entry) (entries : List Entry) (end : Option E) → Shows entries end → Shows (e ∷ entries) end
+  goes_on e entries end own = λ number is. shows_later e entries number (own number is)
+
+  ends_else : (last : E) (entries : List Entry) (end : Option E) → ((number : ℕ) → last ≡ fault number → ⊥) → EndsWith last entries end → Shows entries end
+  ends_else last entries end other (nil, inl none) = no_end entries end none
+  ends_else last entries end other (nil, inr same) = λ number is. absurd (other number (cc (same, is)))
+
+  has_failed_here : IsKnown fault → (e : Entry) (landed : Bool) (entries : List Entry) (end : Option E) → e.reply ≡ reply.Failed landed → EndsWith (fault e.seq) entries end → Shows (e ∷ entries) end
+  has_failed_here known e landed entries end failed (nil, inl none) = no_end (e ∷ entries) end none
+  has_failed_here known e landed entries end failed (nil, inr same) = λ number is. (e, contains_first e entries, known e.seq number (cc (same, is)), ap has_failed failed)
+
 -- ---- uploads
 
 abbrev UploadShows : List Entry → Option UploadEnd → Type 0
-UploadShows entries end = (number : ℕ) → end ≡ Some (shipped.Fault number) → ShowsFault entries number
+UploadShows = Shows shipped.Fault
 
 upload_on : (e : Entry) (entries : List Entry) (end : Option UploadEnd) → UploadShows entries end → UploadShows (e ∷ entries) end
-upload_on e entries end own = λ number is. shows_later e entries number (own number is)
-
-upload_ended : (last : UploadEnd) (entries : List Entry) (end : Option UploadEnd) → ((number : ℕ) → last ≡ shipped.Fault number → ⊥) → EndsAt last entries end → UploadShows entries end
-upload_ended last entries end other (nil, inl none) = λ number is. absurd (cc (none, is))
-upload_ended last entries end other (nil, inr same) = λ number is. absurd (other number (cc (same, is)))
+upload_on = goes_on shipped.Fault
 
 upload_failed : (e : Entry) (landed : Bool) (entries : List Entry) (end : Option UploadEnd) → e.reply ≡ reply.Failed landed → EndsAt (shipped.Fault e.seq) entries end → UploadShows (e ∷ entries) end
-upload_failed e landed entries end failed (nil, inl none) = λ number is. absurd (cc (none, is))
-upload_failed e landed entries end failed (nil, inr same) = λ number is. (e, contains_first e entries, cc (same, is), ap has_failed failed)
+upload_failed = has_failed_here shipped.Fault (λ one other is. cc (is))
 
 abbrev Puts : ℕ → List Object → Type 0
 Puts total objects = (entries : List Entry) (end : Option UploadEnd) → PutsRun total objects entries end → UploadShows entries end
@@ -65,12 +84,12 @@ after_put total objects rest e reply.Deleted same entries end run = absurd run
 after_put total objects rest e (reply.Names names) same entries end run = absurd run
 
 puts : (total : ℕ) (objects : List Object) → Puts total objects
-puts total [] entries end run = upload_ended (shipped.Done total) entries end (λ number is. cc (is)) run
+puts total [] entries end run = ends_else shipped.Fault (shipped.Done total) entries end (λ number is. cc (is)) run
 puts total (object ∷ objects) [] end run = λ number is. absurd (cc (run, is))
 puts total (object ∷ objects) (e ∷ entries) end run = after_put total objects (puts total objects) e e.reply refl entries end run.1
 
 after_look : (objects : List Object) (e : Entry) (r : Reply) → e.reply ≡ r → (entries : List Entry) (end : Option UploadEnd) → AfterLook objects e.seq r entries end → UploadShows (e ∷ entries) end
-after_look objects e (reply.Found bytes) same entries end run = upload_on e entries end (upload_ended shipped.Already entries end (λ number is. cc (is)) run)
+after_look objects e (reply.Found bytes) same entries end run = upload_on e entries end (ends_else shipped.Fault shipped.Already entries end (λ number is. cc (is)) run)
 after_look objects e reply.Absent same entries end run = upload_on e entries end (puts (length objects) objects entries end run)
 after_look objects e (reply.Failed landed) same entries end run = upload_failed e landed entries end same run
 after_look objects e reply.Clocked same entries end run = absurd run
@@ -85,18 +104,13 @@ upload_shows ulid objects (e ∷ entries) end run = after_look objects e e.reply
 -- ---- syncs
 
 abbrev SyncShows : List Entry → Option SyncEnd → Type 0
-SyncShows entries end = (number : ℕ) → end ≡ Some (fetched.Fault number) → ShowsFault entries number
+SyncShows = Shows fetched.Fault
 
 sync_on : (e : Entry) (entries : List Entry) (end : Option SyncEnd) → SyncShows entries end → SyncShows (e ∷ entries) end
-sync_on e entries end own = λ number is. shows_later e entries number (own number is)
-
-sync_ended : (last : SyncEnd) (entries : List Entry) (end : Option SyncEnd) → ((number : ℕ) → last ≡ fetched.Fault number → ⊥) → EndsWith last entries end → SyncShows entries end
-sync_ended last entries end other (nil, inl none) = λ number is. absurd (cc (none, is))
-sync_ended last entries end other (nil, inr same) = λ number is. absurd (other number (cc (same, is)))
+sync_on = goes_on fetched.Fault
 
 sync_failed : (e : Entry) (landed : Bool) (entries : List Entry) (end : Option SyncEnd) → e.reply ≡ reply.Failed landed → EndsWith (fetched.Fault e.seq) entries end → SyncShows (e ∷ entries) end
-sync_failed e landed entries end failed (nil, inl none) = λ number is. absurd (cc (none, is))
-sync_failed e landed entries end failed (nil, inr same) = λ number is. (e, contains_first e entries, cc (same, is), ap has_failed failed)
+sync_failed = has_failed_here fetched.Fault (λ one other is. cc (is))
 
 abbrev Goes : Onward → Type 0
 Goes next = (entries : List Entry) (end : Option SyncEnd) → next entries end → SyncShows entries end
@@ -111,7 +125,7 @@ module _ (next : List Sighting → Onward) (ends : (sightings : List Sighting) �
 
   meta_told : (ulids : List ℕ) (rest : Rest ulids) (sightings : List Sighting) (ulid seq : ℕ) (mark_read meta_read : Moment) (o : Option MetaFields) (entries : List Entry) (end : Option SyncEnd)
       → MatchOption o (EndsWith (fetched.Damaged seq) entries end) (λ meta. Reads next (sightings ++ record { ulid = ulid; mark = None; mark_read = mark_read; meta = meta; meta_read = meta_read } ∷ []) ulids entries end) → SyncShows entries end
-  meta_told ulids rest sightings ulid seq mark_read meta_read None entries end run = sync_ended (fetched.Damaged seq) entries end (λ number is. cc (is)) run
+  meta_told ulids rest sightings ulid seq mark_read meta_read None entries end run = ends_else fetched.Fault (fetched.Damaged seq) entries end (λ number is. cc (is)) run
   meta_told ulids rest sightings ulid seq mark_read meta_read (Some meta) entries end run =
       rest (sightings ++ record { ulid = ulid; mark = None; mark_read = mark_read; meta = meta; meta_read = meta_read } ∷ []) entries end run
 
@@ -132,7 +146,7 @@ module _ (next : List Sighting → Onward) (ends : (sightings : List Sighting) �
   after_mark : (ulids : List ℕ) (rest : Rest ulids) (sightings : List Sighting) (ulid : ℕ) (mark_read : Moment) (e : Entry) (r : Reply) → e.reply ≡ r → (entries : List Entry) (end : Option SyncEnd)
       → AfterMark e.seq r (MetaRead ulid mark_read (λ block. Reads next (sightings ++ block ∷ []) ulids) (Reads next sightings ulids)) entries end → SyncShows (e ∷ entries) end
   after_mark ulids rest sightings ulid mark_read e reply.Absent same entries end run = sync_on e entries end (meta_reads ulids rest sightings ulid mark_read entries end run)
-  after_mark ulids rest sightings ulid mark_read e (reply.Found bytes) same entries end run = sync_on e entries end (sync_ended (fetched.Damaged e.seq) entries end (λ number is. cc (is)) run)
+  after_mark ulids rest sightings ulid mark_read e (reply.Found bytes) same entries end run = sync_on e entries end (ends_else fetched.Fault (fetched.Damaged e.seq) entries end (λ number is. cc (is)) run)
   after_mark ulids rest sightings ulid mark_read e (reply.Failed landed) same entries end run = sync_failed e landed entries end same run
   after_mark ulids rest sightings ulid mark_read e reply.Clocked same entries end run = absurd run
   after_mark ulids rest sightings ulid mark_read e reply.Stored same entries end run = absurd run
@@ -154,8 +168,8 @@ module _ (limit : ℕ) (next : List (List ℕ) → Onward) (goes : (names : List
       sync_on page entries end
       (match_bool _ _ _ (SyncShows entries end)
       (match_bool _ _ _ (SyncShows entries end) (goes (listed ++ names) entries end)
-      (match_bool _ _ _ (SyncShows entries end) (sync_ended fetched.TooMany entries end (λ number is. cc (is))) (more (listed ++ names))))
-      (sync_ended (fetched.Damaged page.seq) entries end (λ number is. cc (is))) run)
+      (match_bool _ _ _ (SyncShows entries end) (ends_else fetched.Fault fetched.TooMany entries end (λ number is. cc (is))) (more (listed ++ names))))
+      (ends_else fetched.Fault (fetched.Damaged page.seq) entries end (λ number is. cc (is))) run)
   after_page listed page (reply.Failed landed) same entries end more run = sync_failed page landed entries end same run
   after_page listed page reply.Clocked same entries end more run = absurd run
   after_page listed page reply.Stored same entries end more run = absurd run
@@ -177,25 +191,20 @@ sync_shows rules (first ∷ entries) end run =
 -- ---- series calls
 
 abbrev CallShows : List Entry → Option SeriesEnd → Type 0
-CallShows entries end = (number : ℕ) → end ≡ Some (called.Fault number) → ShowsFault entries number
+CallShows = Shows called.Fault
 
 call_on : (e : Entry) (entries : List Entry) (end : Option SeriesEnd) → CallShows entries end → CallShows (e ∷ entries) end
-call_on e entries end own = λ number is. shows_later e entries number (own number is)
-
-call_ended : (last : SeriesEnd) (entries : List Entry) (end : Option SeriesEnd) → ((number : ℕ) → last ≡ called.Fault number → ⊥) → EndsWith last entries end → CallShows entries end
-call_ended last entries end other (nil, inl none) = λ number is. absurd (cc (none, is))
-call_ended last entries end other (nil, inr same) = λ number is. absurd (other number (cc (same, is)))
+call_on = goes_on called.Fault
 
 call_failed : (e : Entry) (landed : Bool) (entries : List Entry) (end : Option SeriesEnd) → e.reply ≡ reply.Failed landed → EndsWith (called.Fault e.seq) entries end → CallShows (e ∷ entries) end
-call_failed e landed entries end failed (nil, inl none) = λ number is. absurd (cc (none, is))
-call_failed e landed entries end failed (nil, inr same) = λ number is. (e, contains_first e entries, cc (same, is), ap has_failed failed)
+call_failed = has_failed_here called.Fault (λ one other is. cc (is))
 
 abbrev CallGoes : CallOnward → Type 0
 CallGoes next = (entries : List Entry) (end : Option SeriesEnd) → next entries end → CallShows entries end
 
 after_get : (next : ℕ → List ℕ → CallOnward) → ((seq : ℕ) (bytes : List ℕ) → CallGoes (next seq bytes)) → (e : Entry) (r : Reply) → e.reply ≡ r → (entries : List Entry) (end : Option SeriesEnd) → AfterGet e.seq r (next e.seq) entries end → CallShows (e ∷ entries) end
 after_get next goes e (reply.Found bytes) same entries end run = call_on e entries end (goes e.seq bytes entries end run)
-after_get next goes e reply.Absent same entries end run = call_on e entries end (call_ended (called.Missing e.seq) entries end (λ number is. cc (is)) run)
+after_get next goes e reply.Absent same entries end run = call_on e entries end (ends_else called.Fault (called.Missing e.seq) entries end (λ number is. cc (is)) run)
 after_get next goes e (reply.Failed landed) same entries end run = call_failed e landed entries end same run
 after_get next goes e reply.Clocked same entries end run = absurd run
 after_get next goes e reply.Stored same entries end run = absurd run
@@ -215,7 +224,7 @@ module _ (ulid : ℕ) (next : List Series → CallOnward) (goes : (series : List
   after_index : (seq : ℕ) (bytes : List ℕ) → CallGoes (AfterIndex seq bytes (SegmentRead ulid next))
   after_index seq bytes entries end run =
       match_bool _ _ _ (CallShows entries end) (gets (key.Segment ulid 1) (λ seq' bytes'. AfterSegment seq' bytes' next) after_segment entries end)
-      (call_ended (called.Damaged seq) entries end (λ number is. cc (is))) run
+      (ends_else called.Fault (called.Damaged seq) entries end (λ number is. cc (is))) run
 
   block_read : CallGoes (BlockRead ulid next)
   block_read entries end run = gets (key.Index ulid) (λ seq bytes. AfterIndex seq bytes (SegmentRead ulid next)) after_index entries end run
