@@ -72,7 +72,7 @@ ulid_plain u fits = IsUtf8-ulid_text (text_of u) u (IsUlidText-text_of u fits)
 
 file_plain : (f : FileSize) → IsUtf8 f.path × (f.bytes < 2 ^ 64) → IsPlain (file_value f)
 unfolding file_value
-file_plain f h = (search rules, (IsUtf8-are_ascii (codes "rel_path") refl, h.0, (IsUtf8-are_ascii (codes "size_bytes") refl, h.1, tt)))
+file_plain f h = search rules
 
 none_dropped : (m : MetaFields) → IsReadAgain m → FitsSigned w64 m.resolution
 none_dropped m h = subst (FitsSigned w64) (sym h.resolution) (omega (arith, ints))
@@ -107,20 +107,13 @@ labels_plain (l ∷ ls) named values = (IsUtf8-are_ascii l.name (name_ascii l.na
 
 stats_plain : (series samples chunks : ℕ) → series < 2 ^ 64 → samples < 2 ^ 64 → chunks < 2 ^ 64 → IsPlain (stats_value series samples chunks)
 unfolding stats_value
-stats_plain series samples chunks p q r =
-    (search rules, (IsUtf8-are_ascii (codes "numChunks") refl, r, (IsUtf8-are_ascii (codes "numSamples") refl, q, (IsUtf8-are_ascii (codes "numSeries") refl, p, tt))))
+stats_plain series samples chunks p q r = search rules
 
 compaction_plain : (level : ℕ) (sources : List ℕ) (parents : List Parent) → level < 2 ^ 64 → All (λ u. u < 2 ^ 128) sources → parents ≡ [] → IsPlain (compaction_value level sources parents)
 unfolding compaction_value
 compaction_plain level sources parents fits small none =
-    subst (λ ps. IsPlain (compaction_value level sources ps)) (sym none) (
-      search rules,
-      (
-        IsUtf8-are_ascii (codes "level") refl,
-        fits,
-        (IsUtf8-are_ascii (codes "sources") refl, items_plain _ ulid_value ulid_plain sources (recursion_from_All _ sources small), tt),
-      ),
-    )
+    let listed : ArePlainItems (items_value ulid_value sources) = items_plain _ ulid_value ulid_plain sources (recursion_from_All _ sources small) in
+    subst (λ ps. IsPlain (compaction_value level sources ps)) (sym none) (search rules)
 
 thanos_plain : (m : MetaFields) → IsReadAgain m → IsPlain (thanos_value m)
 unfolding thanos_value
@@ -128,62 +121,21 @@ thanos_plain m h =
     let files : ArePlainItems (items_value file_value m.files) = items_plain _ file_value file_plain m.files (recursion_from_All _ m.files h.files) in
     let segments : ArePlainItems (items_value string m.segment_files) = items_plain _ string (λ text utf8. utf8) m.segment_files (recursion_from_All _ m.segment_files h.segment_files) in
     let labels : ArePlainMembers (label_members m.labels) = labels_plain m.labels (recursion_from_All _ m.labels h.named) (recursion_from_All _ m.labels h.values) in
-    let resolution : FitsNumber (of_integer m.resolution) = signed_fits m.resolution (none_dropped m h) in (
-      search rules,
-      (
-        IsUtf8-are_ascii (codes "downsample") refl,
-        (search rules, (IsUtf8-are_ascii (codes "resolution") refl, resolution, tt)),
-        (
-          IsUtf8-are_ascii (codes "files") refl,
-          files,
-          (
-            IsUtf8-are_ascii (codes "labels") refl,
-            (labels_ascend m.labels h.lawful, labels),
-            (
-              IsUtf8-are_ascii (codes "segment_files") refl,
-              segments,
-              (
-                IsUtf8-are_ascii (codes "source") refl,
-                h.source,
-                (IsUtf8-are_ascii (codes "version") refl, omega arith, tt),
-              ),
-            ),
-          ),
-        ),
-      ),
-    )
+    let ascend : Ascend (label_members m.labels) = labels_ascend m.labels h.lawful in
+    let resolution : FitsNumber (of_integer m.resolution) = signed_fits m.resolution (none_dropped m h) in
+    search rules
 
 meta_plain : (m : MetaFields) → IsReadAgain m → IsPlain (meta_value m)
 unfolding meta_value
 meta_plain m h =
-    let times : FitsSigned w64 m.min_time × FitsSigned w64 m.max_time = lawful_fits m.min_time m.max_time h.times in (
-      search rules,
-      (
-        IsUtf8-are_ascii (codes "compaction") refl,
-        compaction_plain m.level m.sources m.parents (omega (arith, h.level)) h.sources h.parents,
-        (
-          IsUtf8-are_ascii (codes "maxTime") refl,
-          signed_fits m.max_time times.1,
-          (
-            IsUtf8-are_ascii (codes "minTime") refl,
-            signed_fits m.min_time times.0,
-            (
-              IsUtf8-are_ascii (codes "stats") refl,
-              stats_plain m.series m.samples m.chunks h.series h.samples h.chunks,
-              (
-                IsUtf8-are_ascii (codes "thanos") refl,
-                thanos_plain m h,
-                (
-                  IsUtf8-are_ascii (codes "ulid") refl,
-                  ulid_plain m.ulid h.ulid,
-                  (IsUtf8-are_ascii (codes "version") refl, omega arith, tt),
-                ),
-              ),
-            ),
-          ),
-        ),
-      ),
-    )
+    let times : FitsSigned w64 m.min_time × FitsSigned w64 m.max_time = lawful_fits m.min_time m.max_time h.times in
+    let early : FitsNumber (of_integer m.min_time) = signed_fits m.min_time times.0 in
+    let late : FitsNumber (of_integer m.max_time) = signed_fits m.max_time times.1 in
+    let compaction : IsPlain (compaction_value m.level m.sources m.parents) = compaction_plain m.level m.sources m.parents (omega (arith, h.level)) h.sources h.parents in
+    let stats : IsPlain (stats_value m.series m.samples m.chunks) = stats_plain m.series m.samples m.chunks h.series h.samples h.chunks in
+    let thanos : IsPlain (thanos_value m) = thanos_plain m h in
+    let ulid : IsPlain (ulid_value m.ulid) = ulid_plain m.ulid h.ulid in
+    search rules
 
 -- ---- the whole
 
