@@ -5,6 +5,7 @@ pub mod Output
 pub mod Progress
 pub mod Reports
 pub mod Statuses
+pub mod ToldAnswers
 pub mod Verdicts
 pub mod Words
 pub use Rattle.world_core.specs.Worlds

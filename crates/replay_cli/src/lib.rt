@@ -6,6 +6,7 @@ mod came;
 mod declared;
 mod input;
 mod input_refusal;
+mod laws;
 mod outcome;
 mod output;
 mod phases;
@@ -23,6 +24,7 @@ mod words;
 
 pub use input::read_all;
 pub use input_refusal::InputRefusal;
+pub use laws::told_answers_are_sound;
 pub use outcome::{NoAnswer, Outcome, OutcomeList, QueryOutcome, SyncOutcome, UploadOutcome};
 pub use output::{SinkFault, write_all};
 pub use run::Run;

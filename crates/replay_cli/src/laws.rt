@@ -1,0 +1,16 @@
+ghost use Rattle.std.specs.Prelude.{ℕ, Bool, List};
+ghost use Rattle.world_core.specs.Standing.{IsHonest};
+ghost use Rattle.world_core.specs.declared.entry.Entry.{Entry};
+ghost use Rattle.script_core.specs.Lawful.{IsLawfulScript};
+ghost use Rattle.script_core.specs.declared.script.Script.{Script};
+ghost use Rattle.replay_cli.specs.ToldAnswers.{IsTold, IsWorth, ToldAnswer};
+ghost use Rattle.replay_cli.specs.Verdicts.{IsFullRun, IsWholeRun};
+
+/// A law: each answer that the report of a whole run tells was given in it and is sound, where the journal is honest; and so is
+/// each that is told of a run which the full journal broke off.
+pub fn told_answers_are_sound()
+    ensures whole { (script : Script) (as_asked : Bool) (text : List ℕ) (journal : List Entry) (run : IsWholeRun script as_asked text journal) → IsLawfulScript script → IsHonest journal
+        → (place : ℕ) (answer : ToldAnswer) → IsTold script script.phases run.report.outcomes place answer → IsWorth script journal run.ends answer }
+    ensures full { (script : Script) (text : List ℕ) (journal : List Entry) (run : IsFullRun script text journal) → IsLawfulScript script → IsHonest journal
+        → (place : ℕ) (answer : ToldAnswer) → IsTold script run.done run.report.outcomes place answer → IsWorth script journal run.ends answer }
+{}
