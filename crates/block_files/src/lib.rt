@@ -16,6 +16,3 @@ pub use builder::build;
 pub use objects::files_objects;
 pub use plain_refusal::PlainRefusal;
 pub use read::{read_plain_index, read_plain_segment};
-
-#[cfg(test)]
-mod tests;

@@ -14,6 +14,3 @@ pub use rules::SyncRules;
 pub use sync::Sync;
 pub use sync_end::SyncEnd;
 pub use view::View;
-
-#[cfg(test)]
-mod tests;

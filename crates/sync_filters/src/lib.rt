@@ -12,6 +12,3 @@ pub use coverage::{better, uncovered};
 pub use found::{Found, FoundList};
 pub use marks::unmarked;
 pub use partition::in_partition;
-
-#[cfg(test)]
-mod tests;

@@ -14,10 +14,7 @@ mod refusal;
 mod setting;
 mod short_bits;
 mod step;
-mod taking;
-#[cfg(test)]
-mod tests;
-mod window;
+mod taking;mod window;
 mod words;
 
 pub use bit_reader::BitReader;

@@ -8,7 +8,7 @@ use Rattle.world_core.specs.declared.act.Act.TheVariants.{Do, Done}
 use Rattle.meta_fetcher.specs.SyncStates.{may_sync, asked_sync}
 use Rattle.meta_fetcher.specs.declared.sync.Sync.{Sync}
 use Rattle.meta_fetcher.specs.declared.sync_end.SyncEnd.{SyncEnd}
-use Rattle.meta_fetcher.proofs.tests.turn.Goals as goal
+use Rattle.sync_rows.proofs.turns.turn.Goals as goal
 
 asks_next : (s new : Sync) (made : List Entry) (act : Act SyncEnd) (next : Op) → GoesOn may_sync asked_sync s made (Ok act) new → act ≡ Do next
     → (asked_sync new ≡ Some next) × IsLawful next

@@ -3,7 +3,7 @@ use Rattle.world_core.specs.Operations.{IsLawful}
 use Rattle.world_core.specs.declared.op.Op.{Op}
 use Rattle.world_core.specs.declared.act.Act.TheVariants.{Do}
 use Rattle.meta_fetcher.specs.SyncStates.{asked_sync}
-use Rattle.meta_fetcher.proofs.tests.finish.Given as goal
+use Rattle.sync_rows.proofs.turns.finish.Given as goal
 
 abbrev pub invariant-loop-turn : goal.invariant-loop-turn
 invariant-loop-turn l = record {

@@ -1,0 +1,119 @@
+use crate::metas::read_meta;
+use block_meta::{DeletionMark, MetaRefusal};
+use list_core::TryCopy;
+use moment_core::{Moment, Span};
+use std::alloc::Global;
+use std::io;
+use sync_filters::{Found, FoundList, consistent, uncovered, unmarked};
+
+/// How old a block has to be, half an hour.
+const DELAY: Span = Span { ms: 1_800_000 };
+
+/// How old a mark has to be, a day.
+const MARK_DELAY: Span = Span { ms: 86_400_000 };
+
+/// A mark half an hour after 1970.
+const MARK: &str = r#"{"id":"00000000000000000000000001","version":1,"deletion_time":1800}"#;
+
+/// Prints a row, and what the filter says. `young PROGRAM READ` is a block of 1970 by that program, `.` for none, whose meta was
+/// read then; `marked READ` a block whose mark was read then, and `unmarked` one without; `split` is blocks to be told apart,
+/// each by its name, its sources and its resolution.
+pub(crate) fn print_row(rt: &HostRuntime, row: &str) -> io::Result<()> {
+    if row.starts_with("= ") {
+        return println!(rt; "{row}");
+    }
+    print!(rt; "{row} -> ")?;
+    let (kind, text) = row.split_once(' ').unwrap_or((row, ""));
+    match kind {
+        "young" => print_kept(rt, is_old(rt.alloc(), text)),
+        "marked" => print_kept(rt, is_kept(rt.alloc(), Some(MARK), text)),
+        "unmarked" => print_kept(rt, is_kept(rt.alloc(), None, text)),
+        "split" => print_split(rt, split_of(rt.alloc(), text)),
+        _ => println!(rt; "no row"),
+    }
+}
+
+fn print_kept(rt: &HostRuntime, kept: Result<bool, MetaRefusal>) -> io::Result<()> {
+    match kept {
+        Ok(true) => println!(rt; "kept"),
+        Ok(false) => println!(rt; "dropped"),
+        Err(refusal) => println!(rt; "{refusal:?}"),
+    }
+}
+
+fn moment_of(text: &str) -> Moment {
+    Moment {
+        ms: text.parse().unwrap_or(0),
+    }
+}
+
+fn is_old(alloc: Global, text: &str) -> Result<bool, MetaRefusal> {
+    let (program, read) = text.split_once(' ').unwrap_or((text, ""));
+    let program = if program == "." { "" } else { program };
+    let mut found = found_of(alloc, "1", "1", "0", program)?;
+    found.meta_read = moment_of(read);
+    Ok(consistent(&found, DELAY))
+}
+
+fn is_kept(alloc: Global, mark: Option<&str>, text: &str) -> Result<bool, MetaRefusal> {
+    let mut found = found_of(alloc, "1", "1", "0", "")?;
+    if let Some(mark) = mark {
+        found.mark = Some(DeletionMark::read(alloc, mark.as_bytes())?);
+    }
+    found.mark_read = moment_of(text);
+    Ok(unmarked(&found.copy()?, MARK_DELAY))
+}
+
+fn found_of(
+    alloc: Global,
+    block: &str,
+    sources: &str,
+    resolution: &str,
+    program: &str,
+) -> Result<Found, MetaRefusal> {
+    let meta = read_meta(alloc, block, sources, resolution, program)?;
+    Ok(Found {
+        ulid: meta.ulid,
+        mark: None,
+        mark_read: Moment { ms: 0 },
+        meta,
+        meta_read: Moment { ms: 0 },
+    })
+}
+
+fn split_of(alloc: Global, text: &str) -> Result<(FoundList, FoundList), MetaRefusal> {
+    let mut found = FoundList::new(alloc);
+    for word in text.split(' ') {
+        found.push(named_block(alloc, word)?)?;
+    }
+    Ok(uncovered(alloc, found)?)
+}
+
+fn named_block(alloc: Global, word: &str) -> Result<Found, MetaRefusal> {
+    let (block, rest) = word.split_once(':').unwrap_or((word, ""));
+    let (sources, resolution) = rest.split_once(':').unwrap_or((rest, ""));
+    found_of(alloc, block, sources, resolution, "")
+}
+
+fn print_split(
+    rt: &HostRuntime,
+    split: Result<(FoundList, FoundList), MetaRefusal>,
+) -> io::Result<()> {
+    match split {
+        Ok((kept, covered)) => {
+            print_blocks(rt, "kept", &kept)?;
+            print_blocks(rt, ", covered", &covered)?;
+            println!(rt; "")
+        }
+        Err(refusal) => println!(rt; "{refusal:?}"),
+    }
+}
+
+/// Prints a word, and of each block the last character of its ULID.
+pub(crate) fn print_blocks(rt: &HostRuntime, word: &str, blocks: &FoundList) -> io::Result<()> {
+    print!(rt; "{word}")?;
+    for block in blocks.members() {
+        print!(rt; " {}", char::from(block.ulid.text()[25]))?;
+    }
+    Ok(())
+}

@@ -1,0 +1,21 @@
+//! Asks the filters of a view about blocks, and runs syncs over a world, and prints what comes of it. A line of standard
+//! input is one question, in the notation of `filters`; one that begins with `= ` is a heading. What is to be printed was
+//! worked out by hand.
+#![tactic(auto)]
+
+mod filters;
+mod metas;
+mod syncs;
+mod turns;
+
+use crate::filters::print_row;
+use crate::syncs::{print_fault, print_two_syncs};
+use std::io;
+
+fn main(rt: HostRuntime) -> io::Result<()> {
+    for row in rt.lines(rt.alloc()) {
+        print_row(&rt, row?.as_str())?;
+    }
+    print_two_syncs(&rt)?;
+    print_fault(&rt)
+}

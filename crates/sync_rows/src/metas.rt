@@ -1,0 +1,39 @@
+use block_meta::{Meta, MetaRefusal};
+use std::alloc::{AllocError, Global};
+
+/// The text of a meta. The block and its sources, between which `+` stands, are named by the last characters of their ULIDs.
+pub(crate) fn meta_text(
+    alloc: Global,
+    block: &str,
+    sources: &str,
+    resolution: &str,
+    program: &str,
+) -> Result<String, AllocError> {
+    let listed = source_texts(alloc, sources)?;
+    let listed = listed.as_str();
+    format!(in alloc;
+        "{{\"version\":1,\"ulid\":\"0000000000000000000000000{block}\",\"minTime\":0,\"maxTime\":1,\"stats\":{{}},\"compaction\":{{\"level\":1,\"sources\":[{listed}]}},\"thanos\":{{\"downsample\":{{\"resolution\":{resolution}}},\"source\":\"{program}\"}}}}"
+    )
+}
+
+fn source_texts(alloc: Global, sources: &str) -> Result<String, AllocError> {
+    let mut listed = String::new(alloc);
+    for source in sources.split('+') {
+        listed.push_str(if listed.is_empty() { "\"" } else { ",\"" })?;
+        listed.push_str("0000000000000000000000000")?;
+        listed.push_str(source)?;
+        listed.push('"')?;
+    }
+    Ok(listed)
+}
+
+pub(crate) fn read_meta(
+    alloc: Global,
+    block: &str,
+    sources: &str,
+    resolution: &str,
+    program: &str,
+) -> Result<Meta, MetaRefusal> {
+    let text = meta_text(alloc, block, sources, resolution, program)?;
+    Meta::read(alloc, text.as_bytes())
+}

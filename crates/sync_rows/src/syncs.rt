@@ -1,0 +1,122 @@
+ghost use Rattle.std.specs.Prelude.{◌≡◌};
+
+use crate::filters::print_blocks;
+use crate::metas::meta_text;
+use crate::turns::{finish, turn};
+use block_keys::Key;
+use bucket_core::{Fail, FailList, MemoryBucket};
+use list_core::NoMemory;
+use meta_fetcher::{Sync, SyncEnd, SyncRules};
+use moment_core::{Moment, Partition, Span};
+use std::alloc::Global;
+use std::io;
+use ulid_core::Ulid;
+use wire_bytes::Blob;
+use world_core::{Act, Acted, Driven, Machine, Op, World, WorldHand, drive};
+
+/// A world whose bucket fails at this call.
+fn world(alloc: Global, failing_call: u64) -> Result<World<MemoryBucket>, NoMemory> {
+    let mut failing = FailList::new(alloc);
+    failing.push(Fail {
+        call: failing_call,
+        landed: false,
+    })?;
+    match World::open(alloc, MemoryBucket::new(alloc, failing), Span { ms: 1 }) {
+        Ok(world) => Ok(world),
+        Err(_) => Err(NoMemory),
+    }
+}
+
+/// Rules by which every block is kept, and a page has one name.
+fn rules() -> SyncRules
+    ensures { result.page_limit ≡ 1 }
+{
+    SyncRules {
+        consistency: Span { ms: 0 },
+        mark_delay: Span { ms: 0 },
+        page_limit: 1,
+        partition: Partition {
+            low: i64::MIN,
+            high: i64::MAX,
+        },
+    }
+}
+
+/// Puts the meta of the block that is named so, whose ULID is that number.
+fn put_meta(
+    alloc: Global,
+    world: &mut World<MemoryBucket>,
+    block: &str,
+    number: u8,
+) -> Result<(), NoMemory> {
+    let text = meta_text(alloc, block, block, "0", "")?;
+    let bytes = Blob::from_bytes(alloc, text.as_bytes())?;
+    let key = Key::Meta(Ulid::from_parts(0, u128::from(number)));
+    match world.act(1, Op::Put(key, bytes)) {
+        Acted::Done(_) => Ok(()),
+        _ => Err(NoMemory),
+    }
+}
+
+/// Syncs while a block comes behind the cursor, and gives the world and how the sync ended.
+fn overtaken(alloc: Global) -> Result<(World<MemoryBucket>, SyncEnd), NoMemory> {
+    let mut world = world(alloc, 0)?;
+    put_meta(alloc, &mut world, "B", 11)?;
+    put_meta(alloc, &mut world, "C", 12)?;
+    let mut sync = Sync::start(alloc, rules())?;
+    let act = match sync.first()? {
+        Act::Do(op) => turn(&mut sync, &mut world, op)?,
+        Act::Done(_) => return Err(NoMemory),
+    };
+    put_meta(alloc, &mut world, "A", 10)?;
+    let end = finish(&mut sync, &mut world, act)?;
+    Ok((world, end))
+}
+
+/// Prints the view of a sync that a block came behind, and that of the next one.
+pub(crate) fn print_two_syncs(rt: &HostRuntime) -> io::Result<()> {
+    println!(rt; "= a block behind the cursor is found by the next sync")?;
+    match overtaken(rt.alloc()) {
+        Ok((world, end)) => {
+            print_end(rt, &end)?;
+            print_sync(rt, world)
+        }
+        Err(_) => println!(rt; "no end"),
+    }
+}
+
+/// Prints how a sync ends.
+fn print_sync(rt: &HostRuntime, world: World<MemoryBucket>) -> io::Result<()> {
+    match driven(rt.alloc(), world) {
+        Ok(Driven::Ended(end)) => print_end(rt, &end),
+        _ => println!(rt; "no end"),
+    }
+}
+
+fn driven(alloc: Global, world: World<MemoryBucket>) -> Result<Driven<SyncEnd>, NoMemory> {
+    let mut hand = WorldHand::new(world, 3);
+    let mut sync = Sync::start(alloc, rules())?;
+    Ok(drive(&mut sync, &mut hand, None))
+}
+
+fn print_end(rt: &HostRuntime, end: &SyncEnd) -> io::Result<()> {
+    match end {
+        SyncEnd::View(view) => print_blocks(rt, "a view of", &view.kept)?,
+        SyncEnd::Fault(entry) => print!(rt; "a fault at entry {entry}")?,
+        SyncEnd::Damaged(entry) => print!(rt; "damage at entry {entry}")?,
+        SyncEnd::TooMany => print!(rt; "too many")?,
+    }
+    println!(rt; "")
+}
+
+/// Prints the end of a sync whose page fails.
+pub(crate) fn print_fault(rt: &HostRuntime) -> io::Result<()> {
+    println!(rt; "= a page that fails at the second entry")?;
+    match world(rt.alloc(), 2) {
+        Ok(mut world) => {
+            let _clock = world.act(0, Op::Clock(Moment { ms: 5 }));
+            print_sync(rt, world)
+        }
+        Err(_) => println!(rt; "not opened"),
+    }
+}

@@ -1,0 +1,56 @@
+use label_sets::{Sample, SampleList};
+use std::alloc::{AllocError, Global};
+use std::io;
+use xor_chunks::{XorRefusal, decode, decode_stored, encode, fit_a_chunk};
+
+/// Prints a row, and what its call gives.
+pub(crate) fn print_row(rt: &HostRuntime, row: &str) -> io::Result<()> {
+    if row.starts_with("= ") {
+        return println!(rt; "{row}");
+    }
+    print!(rt; "{row} ->")?;
+    let (kind, text) = row.split_once(' ').unwrap_or((row, ""));
+    if kind == "encode" {
+        return print_encoded(rt, samples_of(rt.alloc(), text)?.as_slice());
+    }
+    match hex::decode(rt.alloc(), text) {
+        Ok(bytes) if kind == "stored" => print_read(rt, decode_stored(rt.alloc(), &bytes)),
+        Ok(bytes) => print_read(rt, decode(rt.alloc(), &bytes)),
+        Err(_) => println!(rt; " no bytes"),
+    }
+}
+
+/// The samples of a text, each as in a script.
+fn samples_of(alloc: Global, text: &str) -> Result<Vec<Sample>, AllocError> {
+    let mut samples = Vec::new(alloc);
+    for word in text.split(' ') {
+        if let Ok(sample) = Sample::read(word) {
+            samples.push(sample)?;
+        }
+    }
+    Ok(samples)
+}
+
+fn print_encoded(rt: &HostRuntime, samples: &[Sample]) -> io::Result<()> {
+    if !fit_a_chunk(samples) {
+        return println!(rt; " no chunk");
+    }
+    match encode(rt.alloc(), samples) {
+        Ok(text) => println!(rt; " {}", hex::encode(rt.alloc(), text.bytes())?.as_str()),
+        Err(_) => println!(rt; " no memory"),
+    }
+}
+
+fn print_read(rt: &HostRuntime, read: Result<SampleList, XorRefusal>) -> io::Result<()> {
+    match read {
+        Ok(samples) => print_samples(rt, samples.members()),
+        Err(refusal) => println!(rt; " {refusal:?}"),
+    }
+}
+
+fn print_samples(rt: &HostRuntime, samples: &[Sample]) -> io::Result<()> {
+    for sample in samples {
+        print!(rt; " {}:{:016x}", sample.time, sample.pattern)?;
+    }
+    println!(rt; "")
+}
