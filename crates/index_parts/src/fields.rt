@@ -2,7 +2,7 @@ ghost use Rattle.std.specs.Prelude.{◌≡◌, ◌-◌, ◌*◌, ◌≤◌, ◌<
 ghost use Rattle.std.specs.Str.{is_utf8};
 ghost use Rattle.std.specs.Int.{w8, w32, w64};
 ghost use Rattle.reading_core.specs.Reading.{Steps};
-ghost use Rattle.wire_bytes.specs.Fields.{bytes_at, groups_of, number_at, uvarint_at, varint_at};
+ghost use Rattle.wire_bytes.specs.Fields.{bytes_at, groups_of, number_at, unzigzag, uvarint_at, varint_at};
 ghost use Rattle.wire_bytes.specs.Position.{left};
 ghost use Rattle.index_parts.specs.Placed.{refused_at, field, text_at};
 
@@ -105,15 +105,23 @@ fn next_long_uvarint(cursor: &mut Cursor<'_>) -> Result<u64, PartRefusal>
     }
 }
 
+/// The number that stands at a place in the order 0, -1, 1, -2, 2.
 #[inline(always)]
+fn unzigzag(n: u64) -> i64
+    ensures { result ≡ unzigzag n }
+{
+    let half = (n / 2) as i64;
+    if n % 2 == 0 { half } else { -1 - half }
+}
+
+/// A signed number, by its place in that order.
+#[inline(always)]
+#[tactic(auto, unfolding(wire_bytes::specs::Fields::varint_at))]
 pub(crate) fn next_varint(cursor: &mut Cursor<'_>) -> Result<i64, PartRefusal>
     ensures { Steps (λ n. n) cursor.old cursor.new result (field varint_at cursor.old) }
 {
-    let place = cursor.place() as u64;
-    match cursor.take_varint() {
-        Ok(n) => Ok(n),
-        Err(refusal) => Err(refused_at(place, refusal)),
-    }
+    let n = next_uvarint(cursor)?;
+    Ok(unzigzag(n))
 }
 
 #[inline(always)]
