@@ -1,10 +1,12 @@
 // The proved index reader beside the yardstick's loops, on the same index in one run. Built by run-index.sh, which puts the
-// yardstick's source, without its `main`, in front of this file. The index has four labels and four chunks a series.
+// yardstick's source, without its `main`, in front of this file. The index has four labels and four chunks a series. The
+// yardstick writes no index, so of the proved writer only its own times are told.
 
 unsafe extern "C" {
     fn index_open(bytes: *const u8, count: usize) -> u64;
     fn index_walk(bytes: *const u8, count: usize) -> u64;
     fn index_whole(bytes: *const u8, count: usize) -> u64;
+    fn index_write(bytes: *const u8, count: usize, times: u64) -> u64;
 }
 
 fn put_number(out: &mut Vec<u8>, mut n: u64) {
@@ -32,8 +34,8 @@ fn pad(out: &mut Vec<u8>, to: usize) {
     }
 }
 
-/// An index of so many series by the public format document.
-fn index_of(count: usize) -> Vec<u8> {
+/// An index of so many series, each with so many chunks, by the public format document.
+fn index_of(count: usize, chunks: u64) -> Vec<u8> {
     use std::collections::BTreeMap;
     let mut series: Vec<Vec<(String, String)>> = (0..count)
         .map(|i| {
@@ -76,8 +78,8 @@ fn index_of(count: usize) -> Vec<u8> {
             put_number(&mut content, symbols[value.as_str()]);
             rows.entry((name, value)).or_default().push(number);
         }
-        put_number(&mut content, 4);
-        for chunk in 0..4u64 {
+        put_number(&mut content, chunks);
+        for chunk in 0..chunks {
             put_number(&mut content, if chunk == 0 { 2 * 1_728_000_000_000 } else { 15_000 });
             put_number(&mut content, 1_785_000);
             let place = 8 + i as u64 * 400;
@@ -118,9 +120,22 @@ fn index_of(count: usize) -> Vec<u8> {
     out
 }
 
+/// How long writing an index takes without the reading before it: three times less once.
+fn write(name: &str, count: usize, chunks: u64) {
+    let bytes = index_of(count, chunks);
+    let (at, size) = (bytes.as_ptr(), bytes.len());
+    let written = unsafe { index_write(at, size, 1) };
+    assert!(written > 0);
+    let once = per(count, || assert_eq!(written, unsafe { index_write(at, size, 1) }));
+    let thrice = per(count, || assert_eq!(written, unsafe { index_write(at, size, 3) }));
+    let series = (thrice - once) / 2.0;
+    println!("write_{name} {series:.1} ns/series");
+    println!("write_bytes_{name} {:.1} ns/byte", series * count as f64 / written as f64);
+}
+
 fn main() {
     for count in [10_000usize, 100_000] {
-        let bytes = index_of(count);
+        let bytes = index_of(count, 4);
         let (at, size) = (bytes.as_ptr(), bytes.len());
         let once = unsafe { index_walk(at, size) };
         assert!(once > 0 && unsafe { index_open(at, size) } == 1);
@@ -131,5 +146,7 @@ fn main() {
         println!("proved_walk_{count} {:.1} ns/series", per(count, || mixed = mixed.wrapping_add(unsafe { index_walk(at, size) })));
         println!("proved_whole_{count} {:.1} ns/series", per(count, || mixed = mixed.wrapping_add(unsafe { index_whole(at, size) })));
         std::hint::black_box(mixed);
+        write(&count.to_string(), count, 4);
     }
+    write("chunks", 10_000, 40);
 }

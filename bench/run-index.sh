@@ -1,5 +1,6 @@
 #!/usr/bin/env bash
-# Times the proved index reader beside tight unverified loops over the same index, in one run, and prints one table.
+# Times the proved index reader beside tight unverified loops over the same index, and the proved writer, in one run, and
+# prints two tables.
 # The loops' source, limit.rs, is the first argument; without one, ../shared/bench/limit.rs beside the repository.
 # CPU names the processor that the proved code is built for, LIMIT_CPU that of the loops.
 set -euo pipefail
@@ -11,18 +12,21 @@ made=$(mktemp -d)
 trap 'rm -rf "$made"' EXIT
 
 # A repository of its own for the functions that C calls, over this one's crates and what their checks kept.
-mkdir -p "$made/crates/index_c/src"
-cp "$top/bench/index_c/lib.rt.txt" "$made/crates/index_c/src/lib.rt"
+own=$made/crates/index_c
+mkdir -p "$own/src" "$own/proofs/+are_in_order" "$own/proofs/written"
+cp "$top/bench/index_c/lib.rt.txt" "$own/src/lib.rt"
+cp "$top/bench/index_c/are_in_order.antt.txt" "$own/proofs/+are_in_order/Invariants.antt"
+cp "$top/bench/index_c/written.antt.txt" "$own/proofs/written/Invariants.antt"
 below="list_core reading_core wire_bytes label_sets index_parts index_v2"
 for name in $below; do cp -a "$top/crates/$name" "$made/crates/$name"; done
 for name in $below; do grep "^$name:" "$top/crates.txt"; done >"$made/crates.txt"
 echo "index_c staticlib: list_core wire_bytes label_sets index_parts index_v2" >>"$made/crates.txt"
-(cd "$made/crates/index_c" && rt lib --cpu "$cpu" >"$made/lib.log" 2>&1) || { tail -20 "$made/lib.log"; exit 1; }
+(cd "$own" && rt lib --cpu "$cpu" >"$made/lib.log" 2>&1) || { tail -20 "$made/lib.log"; exit 1; }
 
 sed '/^fn main() {$/,$d' "$limit" >"$made/index.rs"
 cat "$top/bench/index.rs" >>"$made/index.rs"
 rustc --edition 2021 -C opt-level=3 -C target-cpu="${LIMIT_CPU:-native}" -A warnings -o "$made/index" "$made/index.rs" \
-    -L "$made/crates/index_c/out" -l static=index_c -C link-arg="$kit/c/liblibc_c.a"
+    -L "$own/out" -l static=index_c -C link-arg="$kit/c/liblibc_c.a"
 "$made/index" >"$made/lines"
 awk '{ time[$1] = $2 }
 END {
@@ -34,6 +38,13 @@ END {
         row("walk, " n " series", time["index_walk_" n], time["proved_walk_" n], "3.0")
         row("whole beside a walk, " n " series", time["index_walk_" n], time["proved_whole_" n], "none")
     }
+    print "\n| Work | ns a series | ns a byte |\n|---|---|---|"
+    written("10,000 series of four chunks", "10000")
+    written("100,000 series of four chunks", "100000")
+    written("10,000 series of forty chunks", "chunks")
+}
+function written(name, key) {
+    printf "| write %s | %.1f | %.1f |\n", name, time["write_" key], time["write_bytes_" key]
 }
 function row(name, limit, proved, bar) {
     printf "| %s | %.1f | %.1f | ns a series | %.2f | %s |\n", name, limit, proved, proved / limit, bar

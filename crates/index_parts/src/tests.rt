@@ -9,7 +9,7 @@ use std::test::Fail;
 use wire_bytes::{NumberList, crc_of, put_bytes, put_u32, put_uvarint};
 
 /// An index as Prometheus 2.42 wrote it, of the one series `up{job="a"}` with four chunks.
-const STORED: [u8; 298] = [
+static STORED: [u8; 298] = [
     0xba, 0xaa, 0xd7, 0x00, 0x02, 0x00, 0x00, 0x00, 0x17, 0x00, 0x00, 0x00, 0x05, 0x00, 0x08, 0x5f,
     0x5f, 0x6e, 0x61, 0x6d, 0x65, 0x5f, 0x5f, 0x01, 0x61, 0x03, 0x6a, 0x6f, 0x62, 0x02, 0x75, 0x70,
     0x3c, 0x59, 0xa2, 0x92, 0x00, 0x00, 0x00, 0x00, 0x00, 0x00, 0x00, 0x00, 0x00, 0x00, 0x00, 0x00,
@@ -77,7 +77,7 @@ fn rows(alloc: Global, rows: &[(&str, &str, u64)]) -> Result<PostingsRowList, Fa
 }
 
 /// The chunks of the stored series.
-const CHUNKS: [ChunkPlace; 4] = [
+static CHUNKS: [ChunkPlace; 4] = [
     ChunkPlace {
         min: 1_728_000_000_000,
         max: 1_728_001_785_000,
@@ -105,8 +105,7 @@ const CHUNKS: [ChunkPlace; 4] = [
 ];
 
 #[test]
-fn a_stored_index_is_read(rt: HostRuntime) -> Result<(), Fail> {
-    let toc = read_toc(&STORED)?;
+fn a_stored_table_of_contents_is_read(rt: HostRuntime) {
     let places = Toc {
         symbols: 5,
         series: 36,
@@ -115,31 +114,62 @@ fn a_stored_index_is_read(rt: HostRuntime) -> Result<(), Fail> {
         postings: 128,
         postings_table: 205,
     };
-    assert_eq!(rt; toc, places);
+    assert!(rt; read_toc(&STORED) == Ok(places));
+}
 
-    let symbols = read_symbols(rt.alloc(), &STORED, toc.symbols)?;
-    assert_eq!(rt; symbols.len(), 5);
-    assert!(rt; symbols.get(0) == Some(""));
-    assert!(rt; symbols.get(4) == Some("up"));
-    assert!(rt; symbols.get(5) == None);
+fn are_symbols(table: &SymbolTable<'_>) -> bool {
+    table.len() == 5
+        && table.get(0) == Some("")
+        && table.get(4) == Some("up")
+        && table.get(5) == None
+}
 
-    let table = read_postings_table(rt.alloc(), &STORED, toc.postings_table)?;
-    assert_eq!(rt; table.len(), 3);
-    assert!(rt; table.get(0) == Some(("", "", 128)));
-    assert!(rt; table.get(1) == Some(("__name__", "up", 144)));
-    assert!(rt; table.get(2) == Some(("job", "a", 160)));
-    assert!(rt; table.get(3) == None);
-
-    let postings = read_postings(rt.alloc(), &STORED, 128)?;
-    assert_eq!(rt; postings.members(), [3].as_slice());
-
-    let series = read_series(rt.alloc(), &STORED, 48)?;
-    assert_eq!(rt; series.names.members(), [1, 3].as_slice());
-    assert_eq!(rt; series.values.members(), [4, 2].as_slice());
-    assert!(rt; series.chunks.members() == CHUNKS.as_slice());
-    assert_eq!(rt; label_place(&STORED, 48, 1), Some((52, 53)));
-    assert_eq!(rt; label_place(&STORED, 48, 2), None);
+#[test]
+fn stored_symbols_are_read(rt: HostRuntime) -> Result<(), Fail> {
+    let table = read_symbols(rt.alloc(), &STORED, 5)?;
+    assert!(rt; are_symbols(&table));
     Ok(())
+}
+
+fn are_rows(table: &PostingsTable<'_>) -> bool {
+    table.len() == 3
+        && table.get(0) == Some(("", "", 128))
+        && table.get(1) == Some(("__name__", "up", 144))
+        && table.get(2) == Some(("job", "a", 160))
+        && table.get(3) == None
+}
+
+#[test]
+fn a_stored_table_is_read(rt: HostRuntime) -> Result<(), Fail> {
+    let table = read_postings_table(rt.alloc(), &STORED, 205)?;
+    assert!(rt; are_rows(&table));
+    Ok(())
+}
+
+#[test]
+fn a_stored_list_is_read(rt: HostRuntime) -> Result<(), Fail> {
+    let numbers = read_postings(rt.alloc(), &STORED, 128)?;
+    assert!(rt; numbers.members() == [3].as_slice());
+    Ok(())
+}
+
+fn is_stored(series: &RawSeries) -> bool {
+    series.names.members() == [1, 3].as_slice()
+        && series.values.members() == [4, 2].as_slice()
+        && series.chunks.members() == CHUNKS.as_slice()
+}
+
+#[test]
+fn a_stored_series_is_read(rt: HostRuntime) -> Result<(), Fail> {
+    let series = read_series(rt.alloc(), &STORED, 48)?;
+    assert!(rt; is_stored(&series));
+    Ok(())
+}
+
+#[test]
+fn labels_of_a_stored_series_have_places(rt: HostRuntime) {
+    assert!(rt; label_place(&STORED, 48, 1) == Some((52, 53)));
+    assert!(rt; label_place(&STORED, 48, 2) == None);
 }
 
 #[test]
@@ -197,167 +227,198 @@ fn a_stored_table_is_written(rt: HostRuntime) -> Result<(), Fail> {
 
 /// Five bytes, and behind them a section of this content.
 fn section(alloc: Global, content: &[u8]) -> Result<Vec<u8>, Fail> {
-    let mut out = Vec::new(alloc);
-    put_bytes(&mut out, &[0; 5])?;
+    let mut out = Vec::from_slice(alloc, &[0; 5])?;
     put_u32(&mut out, u32::try_from(content.len())?)?;
     put_bytes(&mut out, content)?;
     put_u32(&mut out, crc_of(content))?;
     Ok(out)
 }
 
+/// Contents, and why each is no symbol table.
+static NO_SYMBOLS: [(&[u8], PartRefusal); 8] = [
+    (b"\0\0\0", PartRefusal::Short(9)),
+    (
+        b"\xff\xff\xff\xff\x08__name__\x02up",
+        PartRefusal::Short(25),
+    ),
+    (b"\0\0\0\x01\x05ab", PartRefusal::Short(14)),
+    (
+        b"\0\0\0\x01\xff\xff\xff\xff\xff\xff\xff\xff\xff\x02",
+        PartRefusal::Overlong(13),
+    ),
+    (b"\0\0\0\x02\x01b\x01a", PartRefusal::Unordered(15)),
+    (b"\0\0\0\x02\x01a\x01a", PartRefusal::Unordered(15)),
+    (b"\0\0\0\x02\x01b\x02a\xff", PartRefusal::Unordered(15)),
+    (b"\0\0\0\x01\x01\xff", PartRefusal::NotText(14)),
+];
+
+fn symbols_refusal(alloc: Global, content: &[u8]) -> Result<Option<PartRefusal>, Fail> {
+    let index = section(alloc, content)?;
+    Ok(read_symbols(alloc, index.as_slice(), 5).err())
+}
+
+#[test]
+fn symbols_are_refused_in_order(rt: HostRuntime) -> Result<(), Fail> {
+    for (content, refusal) in NO_SYMBOLS {
+        let found = symbols_refusal(rt.alloc(), content)?;
+        assert!(rt; found == Some(refusal), "not {refusal:?}");
+    }
+    Ok(())
+}
+
+/// Contents, and why each is no postings list.
+static NO_POSTINGS: [(&[u8], PartRefusal); 4] = [
+    (
+        b"\0\0\0\x02\0\0\0\x03\0\0\0\x03",
+        PartRefusal::Unordered(17),
+    ),
+    (
+        b"\0\0\0\x03\0\0\0\x03\0\0\0\x02",
+        PartRefusal::Unordered(17),
+    ),
+    (b"\xff\xff\xff\xff\0\0\0\x03", PartRefusal::Short(17)),
+    (b"\0\0\0\x02\0\0\0\x03\0\0\0", PartRefusal::Short(17)),
+];
+
+fn postings_refusal(alloc: Global, content: &[u8]) -> Result<Option<PartRefusal>, Fail> {
+    let index = section(alloc, content)?;
+    Ok(read_postings(alloc, index.as_slice(), 5).err())
+}
+
+#[test]
+fn postings_are_refused_in_order(rt: HostRuntime) -> Result<(), Fail> {
+    for (content, refusal) in NO_POSTINGS {
+        let found = postings_refusal(rt.alloc(), content)?;
+        assert!(rt; found == Some(refusal), "not {refusal:?}");
+    }
+    Ok(())
+}
+
+/// Contents, and why each is no postings table.
+static NO_ROWS: [(&[u8], PartRefusal); 7] = [
+    (b"\0\0\0\x01\x01\0\0\x07", PartRefusal::Unordered(13)),
+    (b"\0\0\0\x01\x02\x01a\0\x07", PartRefusal::Unordered(13)),
+    (
+        b"\0\0\0\x02\x02\0\0\x07\x02\0\0\x08",
+        PartRefusal::Unordered(17),
+    ),
+    (
+        b"\0\0\0\x02\x02\0\0\x07\x02\x01\xff\0\x08",
+        PartRefusal::NotText(19),
+    ),
+    (
+        b"\0\0\0\x02\x02\0\0\x07\x02\x01a\x01\xfe\x08",
+        PartRefusal::NotText(21),
+    ),
+    (
+        b"\0\0\0\x02\x02\0\0\x07\x02\x01a\x01",
+        PartRefusal::Short(21),
+    ),
+    (b"\0\0\0\x02\x02\0\0\x07", PartRefusal::Short(17)),
+];
+
+fn rows_refusal(alloc: Global, content: &[u8]) -> Result<Option<PartRefusal>, Fail> {
+    let index = section(alloc, content)?;
+    Ok(read_postings_table(alloc, index.as_slice(), 5).err())
+}
+
+#[test]
+fn rows_are_refused_in_order(rt: HostRuntime) -> Result<(), Fail> {
+    for (content, refusal) in NO_ROWS {
+        let found = rows_refusal(rt.alloc(), content)?;
+        assert!(rt; found == Some(refusal), "not {refusal:?}");
+    }
+    Ok(())
+}
+
 /// Five bytes, and behind them a series of this content.
 fn entry(alloc: Global, content: &[u8]) -> Result<Vec<u8>, Fail> {
-    let mut out = Vec::new(alloc);
-    put_bytes(&mut out, &[0; 5])?;
+    let mut out = Vec::from_slice(alloc, &[0; 5])?;
     put_uvarint(&mut out, content.len() as u64)?;
     put_bytes(&mut out, content)?;
     put_u32(&mut out, crc_of(content))?;
     Ok(out)
 }
 
-#[test]
-fn symbols_are_refused_in_order(rt: HostRuntime) -> Result<(), Fail> {
-    let refusals = [
-        (b"\0\0\0".as_slice(), PartRefusal::Short(9)),
-        (
-            b"\xff\xff\xff\xff\x08__name__\x02up",
-            PartRefusal::Short(25),
-        ),
-        (b"\0\0\0\x01\x05ab", PartRefusal::Short(14)),
-        (
-            b"\0\0\0\x01\xff\xff\xff\xff\xff\xff\xff\xff\xff\x02",
-            PartRefusal::Overlong(13),
-        ),
-        (b"\0\0\0\x02\x01b\x01a", PartRefusal::Unordered(15)),
-        (b"\0\0\0\x02\x01a\x01a", PartRefusal::Unordered(15)),
-        (b"\0\0\0\x02\x01b\x02a\xff", PartRefusal::Unordered(15)),
-        (b"\0\0\0\x01\x01\xff", PartRefusal::NotText(14)),
-    ];
-    for (content, refusal) in refusals {
-        let index = section(rt.alloc(), content)?;
-        let read = read_symbols(rt.alloc(), index.as_slice(), 5);
-        assert!(rt; read.err() == Some(refusal), "at {content:?}");
-    }
-    Ok(())
-}
+/// Contents, and why each is no series.
+static NO_SERIES: [(&[u8], PartRefusal); 5] = [
+    (b"\x01\0\x01\x7f\xd0\x0f\0\x08", PartRefusal::Short(14)),
+    (
+        b"\xff\xff\xff\xff\xff\xff\xff\xff\xff\x01",
+        PartRefusal::Short(16),
+    ),
+    (
+        b"\0\x01\xfe\xff\xff\xff\xff\xff\xff\xff\xff\x01\x01\x08",
+        PartRefusal::Overlong(18),
+    ),
+    (
+        b"\0\x02\0\0\xff\xff\xff\xff\xff\xff\xff\xff\xff\x01\0\0\x02",
+        PartRefusal::Overlong(22),
+    ),
+    (b"\0\x02\0\0\0\0\0\x01", PartRefusal::Overlong(13)),
+];
 
-#[test]
-fn postings_are_refused_in_order(rt: HostRuntime) -> Result<(), Fail> {
-    let refusals = [
-        (
-            b"\0\0\0\x02\0\0\0\x03\0\0\0\x03".as_slice(),
-            PartRefusal::Unordered(17),
-        ),
-        (
-            b"\0\0\0\x03\0\0\0\x03\0\0\0\x02",
-            PartRefusal::Unordered(17),
-        ),
-        (b"\xff\xff\xff\xff\0\0\0\x03", PartRefusal::Short(17)),
-        (b"\0\0\0\x02\0\0\0\x03\0\0\0", PartRefusal::Short(17)),
-    ];
-    for (content, refusal) in refusals {
-        let index = section(rt.alloc(), content)?;
-        let read = read_postings(rt.alloc(), index.as_slice(), 5);
-        assert!(rt; read.err() == Some(refusal), "at {content:?}");
-    }
-    Ok(())
-}
-
-#[test]
-fn rows_are_refused_in_order(rt: HostRuntime) -> Result<(), Fail> {
-    let refusals = [
-        (
-            b"\0\0\0\x01\x01\0\0\x07".as_slice(),
-            PartRefusal::Unordered(13),
-        ),
-        (b"\0\0\0\x01\x02\x01a\0\x07", PartRefusal::Unordered(13)),
-        (
-            b"\0\0\0\x02\x02\0\0\x07\x02\0\0\x08",
-            PartRefusal::Unordered(17),
-        ),
-        (
-            b"\0\0\0\x02\x02\0\0\x07\x02\x01\xff\0\x08",
-            PartRefusal::NotText(19),
-        ),
-        (
-            b"\0\0\0\x02\x02\0\0\x07\x02\x01a\x01\xfe\x08",
-            PartRefusal::NotText(21),
-        ),
-        (
-            b"\0\0\0\x02\x02\0\0\x07\x02\x01a\x01",
-            PartRefusal::Short(21),
-        ),
-        (b"\0\0\0\x02\x02\0\0\x07", PartRefusal::Short(17)),
-    ];
-    for (content, refusal) in refusals {
-        let index = section(rt.alloc(), content)?;
-        let read = read_postings_table(rt.alloc(), index.as_slice(), 5);
-        assert!(rt; read.err() == Some(refusal), "at {content:?}");
-    }
-    Ok(())
+fn series_refusal(alloc: Global, content: &[u8]) -> Result<Option<PartRefusal>, Fail> {
+    let index = entry(alloc, content)?;
+    Ok(read_series(alloc, index.as_slice(), 5).err())
 }
 
 #[test]
 fn series_are_refused_in_order(rt: HostRuntime) -> Result<(), Fail> {
-    let refusals = [
-        (
-            b"\x01\0\x01\x7f\xd0\x0f\0\x08".as_slice(),
-            PartRefusal::Short(14),
-        ),
-        (
-            b"\xff\xff\xff\xff\xff\xff\xff\xff\xff\x01",
-            PartRefusal::Short(16),
-        ),
-        (
-            b"\0\x01\xfe\xff\xff\xff\xff\xff\xff\xff\xff\x01\x01\x08",
-            PartRefusal::Overlong(18),
-        ),
-        (
-            b"\0\x02\0\0\xff\xff\xff\xff\xff\xff\xff\xff\xff\x01\0\0\x02",
-            PartRefusal::Overlong(22),
-        ),
-        (b"\0\x02\0\0\0\0\0\x01", PartRefusal::Overlong(13)),
-    ];
-    for (content, refusal) in refusals {
-        let index = entry(rt.alloc(), content)?;
-        let read = read_series(rt.alloc(), index.as_slice(), 5);
-        assert!(rt; read.err() == Some(refusal), "at {content:?}");
+    for (content, refusal) in NO_SERIES {
+        let found = series_refusal(rt.alloc(), content)?;
+        assert!(rt; found == Some(refusal), "not {refusal:?}");
     }
     Ok(())
 }
 
 #[test]
-fn frames_are_refused_in_order(rt: HostRuntime) -> Result<(), Fail> {
-    let alloc = rt.alloc();
+fn places_past_the_end_are_refused(rt: HostRuntime) {
     let far = 1 << 40;
-    assert!(rt; read_symbols(alloc, &STORED, far).err() == Some(PartRefusal::Short(far)));
-    assert!(rt; read_series(alloc, &STORED, u64::MAX).err() == Some(PartRefusal::Short(u64::MAX)));
+    let symbols = read_symbols(rt.alloc(), &STORED, far).err();
+    assert!(rt; symbols == Some(PartRefusal::Short(far)));
+    let series = read_series(rt.alloc(), &STORED, u64::MAX).err();
+    assert!(rt; series == Some(PartRefusal::Short(u64::MAX)));
     assert!(rt; read_toc(&STORED[..51]) == Err(PartRefusal::Short(0)));
+}
 
-    let mut changed = STORED;
-    changed[5] = 0xff;
-    assert!(rt; read_symbols(alloc, &changed, 5).err() == Some(PartRefusal::Short(5)));
-    changed[48] = 0xff;
-    assert!(rt; read_series(alloc, &changed, 48).err() == Some(PartRefusal::Short(48)));
-    changed[139] = 4;
-    assert!(rt;
-        matches!(
-            read_postings(alloc, &changed, 128),
-            Err(PartRefusal::BadSum {
-                kept: 0xa7692ed2,
-                ..
-            })
-        )
-    );
-    changed[297] = 0;
-    assert!(rt;
-        matches!(
-            read_toc(&changed),
-            Err(PartRefusal::BadSum {
-                kept: 0x6a087d00,
-                computed: 0x6a087dda
-            })
-        )
-    );
+/// The stored index with a byte put at a place.
+fn changed(alloc: Global, place: usize, value: u8) -> Result<Vec<u8>, Fail> {
+    let mut index = Vec::from_slice(alloc, &STORED)?;
+    *index.get_mut(place).ok_or("a place")? = value;
+    Ok(index)
+}
+
+#[test]
+fn lengths_past_the_end_are_refused(rt: HostRuntime) -> Result<(), Fail> {
+    let symbols = changed(rt.alloc(), 5, 0xff)?;
+    let found = read_symbols(rt.alloc(), symbols.as_slice(), 5).err();
+    assert!(rt; found == Some(PartRefusal::Short(5)));
+    let series = changed(rt.alloc(), 48, 0xff)?;
+    let found = read_series(rt.alloc(), series.as_slice(), 48).err();
+    assert!(rt; found == Some(PartRefusal::Short(48)));
+    Ok(())
+}
+
+fn sums(refusal: Option<PartRefusal>) -> Option<(u32, u32)> {
+    match refusal {
+        Some(PartRefusal::BadSum { kept, computed }) => Some((kept, computed)),
+        _ => None,
+    }
+}
+
+#[test]
+fn a_changed_list_is_refused(rt: HostRuntime) -> Result<(), Fail> {
+    let index = changed(rt.alloc(), 139, 4)?;
+    let found = sums(read_postings(rt.alloc(), index.as_slice(), 128).err());
+    assert!(rt; found.map(|both| both.0) == Some(0xa769_2ed2));
+    Ok(())
+}
+
+#[test]
+fn a_changed_sum_is_refused(rt: HostRuntime) -> Result<(), Fail> {
+    let index = changed(rt.alloc(), 297, 0)?;
+    let found = sums(read_toc(index.as_slice()).err());
+    assert!(rt; found == Some((0x6a08_7d00, 0x6a08_7dda)));
     Ok(())
 }

@@ -6,7 +6,6 @@ use Rattle.std.specs.List.{All, filter}
 use Rattle.std.specs.Str.{bytes_eq}
 use Rattle.label_sets.specs.declared.label.Label.{Label}
 use Rattle.index_parts.specs.declared.postings_row.PostingsRow.{PostingsRow}
-use Rattle.index_parts.specs.declared.raw_series.RawSeries.{RawSeries}
 use Rattle.index_parts.specs.Lists.{IsList}
 use Rattle.index_parts.specs.Symbols.{IsNextSymbol}
 use Rattle.index_parts.specs.Postings.{IsNextPosting}
@@ -19,7 +18,7 @@ use Rattle.index_parts.proofs.SeriesLaws as parts
 use Rattle.index_v2.specs.declared.index_series.IndexSeries.{IndexSeries}
 use Rattle.index_v2.specs.Opened.{Opened}
 use Rattle.index_v2.specs.PostingsLists.{values_of}
-use Rattle.index_v2.specs.IndexFile.{Has, Holds, StandFor, IsOpened, IsSeriesOf, IsIndex, AreListed}
+use Rattle.index_v2.specs.IndexFile.{Holds, StandFor, IsOpened, IsSeriesOf, IsIndex, AreListed}
 
 module _ {A : Type 0} (IsNext : Option A → List ℕ → A → Type 0) (least : ℕ) (size : (before : Option A) (text : List ℕ) (x : A) → IsNext before text x → least ≤ length text) (index : List ℕ) (reference : ℕ) (members : List A) where
   few_by : (absent : Bool) → MatchBool absent (members ≡ []) (IsList IsNext index reference members) → least * length members ≤ length index

@@ -1,20 +1,17 @@
 -- A series' labels, read one after another.
-use Rattle.std.proofs.Common.{◌≡◌, ℕ, suc, ◌+◌, ◌<◌, ◌≤◌, true, false, List, [], ◌∷◌, ◌++◌, length, map, drop, get_or, Option, Some, None, Result, Ok, Err, refl, sym, ap, ◌∙◌, append_assoc, arith, add-one, drop-cons, inr}
-use Rattle.std.specs.Prelude.{slice_get, nat_lt, ◌==◌}
+use Rattle.std.proofs.Common.{◌≡◌, ℕ, ◌+◌, ◌<◌, ◌≤◌, true, List, [], ◌∷◌, ◌++◌, length, map, drop, get_or, Option, Some, None, Result, Ok, Err, refl, sym, ap, ◌∙◌, append_assoc, arith, add-one, drop-cons, inr}
+use Rattle.std.specs.Prelude.{slice_get, nat_lt}
 use Rattle.std.specs.Option.{ok_or}
 use Rattle.std.specs.declared.cmp.Ordering.{Ordering}
 use Rattle.std.specs.declared.cmp.Ordering.TheVariants.{Less, Equal, Greater}
 use Rattle.std.specs.Ordering.{is_lt}
-use Rattle.std.proofs.lemmas.Bool.{ltb-true, ne_eqb}
+use Rattle.std.proofs.lemmas.Bool.{ltb-true}
 use Rattle.std.proofs.lemmas.List.{append-nil, drop_all}
-use Rattle.std.specs.Prelude.{IsErrAnd, is_err}
+use Rattle.std.specs.Prelude.{IsErrAnd}
 use Rattle.reading_core.specs.Reading.{◌>>=◌, ◌>>◌, unless, Gives}
 use Rattle.reading_core.proofs.Binds.{bind_ok, unless_ok, ok_is}
 use Rattle.label_sets.specs.declared.label.Label.{Label}
-use Rattle.label_sets.specs.declared.label_refusal.LabelRefusal.{LabelRefusal}
-use Rattle.label_sets.specs.Ordered.{placed}
-use Rattle.label_sets.specs.Labels.{compare_texts, ComesBefore, value_of, has_lesser_name, added}
-use Rattle.label_sets.proofs.LabelValues.{before_trans, before_differs, value_miss, value_nil}
+use Rattle.label_sets.specs.Labels.{compare_texts, ComesBefore}
 use Rattle.index_v2.specs.declared.label_fault.LabelFault.{LabelFault}
 use Rattle.index_v2.specs.declared.label_fault.LabelFault.TheVariants.{Name, Value}
 use Rattle.index_v2.specs.declared.lent_label.LentLabel.{LentLabel}

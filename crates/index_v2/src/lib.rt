@@ -33,8 +33,6 @@ pub use refusal::IndexRefusal;
 pub use write_refusal::IndexWriteRefusal;
 
 #[cfg(test)]
-mod real_indexes;
-#[cfg(test)]
 mod shared_list;
 #[cfg(test)]
 mod tests;

@@ -1,7 +1,6 @@
 //! Indexes that other programs wrote, and what is refused of changed ones.
 use super::*;
-use crate::real_indexes as real;
-use index_parts::{ChunkPlace, PartRefusal};
+use index_parts::PartRefusal;
 use list_core::NoMemory;
 use reading_core::{put_signed, put_unsigned};
 use std::alloc::Global;
@@ -51,53 +50,23 @@ fn show_series(out: &mut Vec<u8>, series: &IndexSeries) -> Result<(), NoMemory> 
     Ok(())
 }
 
-/// The bytes of pieces one after another.
-fn joined(alloc: Global, pieces: &[&[u8]]) -> Result<Vec<u8>, NoMemory> {
-    let mut bytes = Vec::new(alloc);
-    for piece in pieces {
-        bytes.extend_from_slice(piece)?;
-    }
-    Ok(bytes)
-}
-
-/// Each series of an index on a line: its labels, when its first chunk begins and when its last one ends.
-fn spans(alloc: Global, bytes: &[u8]) -> Result<Vec<u8>, IndexRefusal> {
-    let list = IndexReader::open(alloc, bytes)?.whole(alloc)?;
-    let mut out = Vec::new(alloc);
-    for series in list.members() {
-        series.labels.write(&mut out)?;
-        put_span(&mut out, series.chunks.members())?;
-    }
-    Ok(out)
-}
-
-fn put_span(out: &mut Vec<u8>, chunks: &[ChunkPlace]) -> Result<(), NoMemory> {
-    out.push(b' ')?;
-    put_signed(out, chunks.first().map_or(0, |chunk| chunk.min))?;
-    out.push(b'-')?;
-    put_signed(out, chunks.last().map_or(0, |chunk| chunk.max))?;
-    out.push(b'\n')?;
-    Ok(())
-}
-
-/// The worked index with bytes put at places, and with the sum of a section and that of the table of contents made right.
+/// The worked index with bytes put at a place, and with the sum of a section and that of the table of contents made right.
 fn changed(
     alloc: Global,
-    changes: &[(usize, u8)],
+    place: usize,
+    values: &[u8],
     section: (usize, usize),
 ) -> Result<Vec<u8>, NoMemory> {
     let mut bytes = Vec::from_slice(alloc, &WORKED)?;
-    for change in changes {
-        put_byte(&mut bytes, change.0, change.1);
-    }
+    put_bytes_at(&mut bytes, place, values);
     put_sum(&mut bytes, section);
     put_sum(&mut bytes, TOC);
     Ok(bytes)
 }
 
-fn put_byte(bytes: &mut [u8], place: usize, value: u8) {
-    if let Some(byte) = bytes.get_mut(place) {
-        *byte = value;
+fn put_bytes_at(bytes: &mut [u8], place: usize, values: &[u8]) {
+    for (value, byte) in values.iter().zip(bytes.iter_mut().skip(place)) {
+        *byte = *value;
     }
 }
 
@@ -107,9 +76,7 @@ fn put_sum(bytes: &mut [u8], range: (usize, usize)) {
         Some(content) => crc_of(content),
         None => 0,
     };
-    for (place, byte) in sum.to_be_bytes().iter().enumerate() {
-        put_byte(bytes, range.1.saturating_add(place), *byte);
-    }
+    put_bytes_at(bytes, range.1, &sum.to_be_bytes());
 }
 
 /// What the sums of the worked index are of.
@@ -126,77 +93,94 @@ const TOC: (usize, usize) = (153, 201);
 #[test]
 fn worked_series(rt: HostRuntime) -> Result<(), Fail> {
     let text = shown(rt.alloc(), &WORKED)?;
-    assert_eq!(rt;
-        text.as_slice(),
-        b"{__name__=\"up\"} 1000-1000@0:8\n".as_slice()
-    );
+    assert!(rt; text.as_slice() == b"{__name__=\"up\"} 1000-1000@0:8\n".as_slice());
     Ok(())
 }
 
 #[test]
 fn worked_symbols(rt: HostRuntime) -> Result<(), Fail> {
     let reader = IndexReader::open(rt.alloc(), &WORKED)?;
-    assert_eq!(rt; reader.symbol(1), Some("up"));
-    assert_eq!(rt; reader.symbol(2), None);
+    let both = reader.symbol(1) == Some("up") && reader.symbol(2) == None;
+    assert!(rt; both);
     Ok(())
+}
+
+fn is_list_of(
+    alloc: Global,
+    name: &str,
+    value: &str,
+    numbers: &[u64],
+) -> Result<bool, IndexRefusal> {
+    let reader = IndexReader::open(alloc, &WORKED)?;
+    let found = reader.postings(alloc, name, value)?;
+    Ok(found.members() == numbers)
 }
 
 #[test]
 fn worked_postings(rt: HostRuntime) -> Result<(), Fail> {
-    let reader = IndexReader::open(rt.alloc(), &WORKED)?;
-    let up = reader.postings(rt.alloc(), "__name__", "up")?;
-    assert_eq!(rt; up.members(), [2].as_slice());
-    let all = reader.postings(rt.alloc(), "", "")?;
-    assert_eq!(rt; all.members(), [2].as_slice());
-    assert!(rt; reader.postings(rt.alloc(), "a", "b")?.is_empty());
+    assert!(rt; is_list_of(rt.alloc(), "__name__", "up", &[2])?);
+    assert!(rt; is_list_of(rt.alloc(), "", "", &[2])?);
+    assert!(rt; is_list_of(rt.alloc(), "a", "b", &[])?);
     Ok(())
+}
+
+/// Whether these texts are the values under a name.
+fn are_values_of(alloc: Global, name: &str, values: &[&str]) -> Result<bool, IndexRefusal> {
+    let reader = IndexReader::open(alloc, &WORKED)?;
+    let found = reader.label_values(alloc, name)?;
+    let texts = found.members().iter().map(|text| text.as_str());
+    Ok(texts.eq(values.iter().copied()))
 }
 
 #[test]
 fn worked_values(rt: HostRuntime) -> Result<(), Fail> {
-    let reader = IndexReader::open(rt.alloc(), &WORKED)?;
-    let values = reader.label_values(rt.alloc(), "__name__")?;
-    assert_eq!(rt; values.len(), 1);
-    assert_eq!(rt; values.get(0).ok_or("a value")?.as_str(), "up");
-    assert!(rt; reader.label_values(rt.alloc(), "")?.is_empty());
+    assert!(rt; are_values_of(rt.alloc(), "__name__", &["up"])?);
+    assert!(rt; are_values_of(rt.alloc(), "", &[])?);
     Ok(())
 }
 
 #[test]
 fn cut_short(rt: HostRuntime) {
     let found = IndexReader::open(rt.alloc(), &WORKED[..56]).err();
-    assert_eq!(rt;
-        found,
-        Some(IndexRefusal::BadSection(0, PartRefusal::Short(0)))
-    );
+    assert!(rt; found == Some(IndexRefusal::BadSection(0, PartRefusal::Short(0))));
 }
 
-/// A count and a length near 2^32, and a reference past the end, beside lesser changes.
+/// Bytes at places, and why an index with them is not opened: among them a count and a length near 2^32, and a reference past
+/// the end.
+static NOT_OPENED: [(usize, &[u8], IndexRefusal); 5] = [
+    (0, b"\xBB", IndexRefusal::BadMagic),
+    (4, b"\x01", IndexRefusal::BadVersion),
+    (
+        9,
+        b"\xFF\xFF\xFF\xFF",
+        IndexRefusal::BadSection(1, PartRefusal::Short(25)),
+    ),
+    (
+        5,
+        b"\xFF\xFF\xFF\xFF",
+        IndexRefusal::BadSection(1, PartRefusal::Short(5)),
+    ),
+    (
+        153,
+        b"\0\0\x01\0\0\0\0\0",
+        IndexRefusal::BadSection(1, PartRefusal::Short(1 << 40)),
+    ),
+];
+
+fn opening_refusal(
+    alloc: Global,
+    place: usize,
+    values: &[u8],
+) -> Result<Option<IndexRefusal>, NoMemory> {
+    let bytes = changed(alloc, place, values, SYMBOLS)?;
+    Ok(IndexReader::open(alloc, bytes.as_slice()).err())
+}
+
 #[test]
 fn refused_when_opened(rt: HostRuntime) -> Result<(), Fail> {
-    let count: [(usize, u8); 4] = [(9, 255), (10, 255), (11, 255), (12, 255)];
-    let length: [(usize, u8); 4] = [(5, 255), (6, 255), (7, 255), (8, 255)];
-    let reference: [(usize, u8); 2] = [(155, 1), (160, 0)];
-    let table = [
-        ([(0, 0xBB)].as_slice(), IndexRefusal::BadMagic),
-        ([(4, 1)].as_slice(), IndexRefusal::BadVersion),
-        (
-            count.as_slice(),
-            IndexRefusal::BadSection(1, PartRefusal::Short(25)),
-        ),
-        (
-            length.as_slice(),
-            IndexRefusal::BadSection(1, PartRefusal::Short(5)),
-        ),
-        (
-            reference.as_slice(),
-            IndexRefusal::BadSection(1, PartRefusal::Short(1 << 40)),
-        ),
-    ];
-    for (changes, refusal) in table {
-        let bytes = changed(rt.alloc(), changes, SYMBOLS)?;
-        let found = IndexReader::open(rt.alloc(), bytes.as_slice()).err();
-        assert_eq!(rt; found, Some(refusal));
+    for (place, values, refusal) in NOT_OPENED {
+        let found = opening_refusal(rt.alloc(), place, values)?;
+        assert!(rt; found == Some(refusal), "at {place}");
     }
     Ok(())
 }
@@ -204,80 +188,95 @@ fn refused_when_opened(rt: HostRuntime) -> Result<(), Fail> {
 #[test]
 fn a_changed_sum(rt: HostRuntime) -> Result<(), Fail> {
     let mut bytes = Vec::from_slice(rt.alloc(), &WORKED)?;
-    put_byte(&mut bytes, 201, 0);
+    put_bytes_at(&mut bytes, 201, &[0]);
     let found = IndexReader::open(rt.alloc(), bytes.as_slice()).err();
     let refusal = IndexRefusal::BadTocSum {
         kept: 0x00E2_FACE,
         computed: 0xD9E2_FACE,
     };
-    assert_eq!(rt; found, Some(refusal));
+    assert!(rt; found == Some(refusal));
     Ok(())
+}
+
+/// A byte at a place, and why the series with it is not read.
+static NO_SERIES: [(usize, u8, PartRefusal); 3] = [
+    (35, 5, PartRefusal::Unordered(35)),
+    (34, 5, PartRefusal::Unordered(34)),
+    (36, 127, PartRefusal::Short(41)),
+];
+
+/// What refuses the series, and what does where its texts are lent.
+fn series_refusals(
+    alloc: Global,
+    place: usize,
+    value: u8,
+) -> Result<[Option<IndexRefusal>; 2], Fail> {
+    let bytes = changed(alloc, place, &[value], SERIES)?;
+    let reader = IndexReader::open(alloc, bytes.as_slice())?;
+    let found = reader.series(alloc, 2).err();
+    Ok([found, reader.lent_series(2, LentSeries::new(alloc)).err()])
 }
 
 #[test]
 fn refused_series(rt: HostRuntime) -> Result<(), Fail> {
-    let table = [
-        ((35, 5), PartRefusal::Unordered(35)),
-        ((34, 5), PartRefusal::Unordered(34)),
-        ((36, 127), PartRefusal::Short(41)),
-    ];
-    for (change, refusal) in table {
-        let bytes = changed(rt.alloc(), &[change], SERIES)?;
-        let reader = IndexReader::open(rt.alloc(), bytes.as_slice())?;
-        let found = reader.series(rt.alloc(), 2).err();
-        assert_eq!(rt; found, Some(IndexRefusal::BadSeries(2, refusal)));
-        let lent = reader.lent_series(2, LentSeries::new(rt.alloc())).err();
-        assert_eq!(rt; lent, found);
+    for (place, value, refusal) in NO_SERIES {
+        let found = series_refusals(rt.alloc(), place, value)?;
+        let refusal = Some(IndexRefusal::BadSeries(2, refusal));
+        assert!(rt; found == [refusal, refusal], "at {place}");
     }
     Ok(())
+}
+
+/// A byte at a place, the section in which it is, and why the index with it is not read as a whole.
+static NOT_WHOLE: [(usize, u8, (usize, usize), IndexRefusal); 5] = [
+    (
+        79,
+        3,
+        ALL_SERIES,
+        IndexRefusal::BadSeries(
+            3,
+            PartRefusal::BadSum {
+                kept: 3072,
+                computed: 0,
+            },
+        ),
+    ),
+    (95, 3, UP_SERIES, IndexRefusal::PostingsDiffer(1)),
+    (
+        160,
+        0,
+        TOC,
+        IndexRefusal::BadSection(1, PartRefusal::Short(0)),
+    ),
+    (
+        168,
+        0,
+        TOC,
+        IndexRefusal::BadSection(2, PartRefusal::Short(0)),
+    ),
+    (
+        192,
+        0,
+        TOC,
+        IndexRefusal::BadSection(5, PartRefusal::Short(0)),
+    ),
+];
+
+fn whole_refusal(
+    alloc: Global,
+    place: usize,
+    value: u8,
+    section: (usize, usize),
+) -> Result<Option<IndexRefusal>, NoMemory> {
+    let bytes = changed(alloc, place, &[value], section)?;
+    Ok(shown(alloc, bytes.as_slice()).err())
 }
 
 #[test]
 fn refused_as_a_whole(rt: HostRuntime) -> Result<(), Fail> {
-    let empty = PartRefusal::BadSum {
-        kept: 3072,
-        computed: 0,
-    };
-    let table = [
-        ((79, 3), ALL_SERIES, IndexRefusal::BadSeries(3, empty)),
-        ((95, 3), UP_SERIES, IndexRefusal::PostingsDiffer(1)),
-        (
-            (160, 0),
-            TOC,
-            IndexRefusal::BadSection(1, PartRefusal::Short(0)),
-        ),
-        (
-            (168, 0),
-            TOC,
-            IndexRefusal::BadSection(2, PartRefusal::Short(0)),
-        ),
-        (
-            (192, 0),
-            TOC,
-            IndexRefusal::BadSection(5, PartRefusal::Short(0)),
-        ),
-    ];
-    for (change, section, refusal) in table {
-        let bytes = changed(rt.alloc(), &[change], section)?;
-        assert_eq!(rt; shown(rt.alloc(), bytes.as_slice()).err(), Some(refusal));
+    for (place, value, section, refusal) in NOT_WHOLE {
+        let found = whole_refusal(rt.alloc(), place, value, section)?;
+        assert!(rt; found == Some(refusal), "at {place}");
     }
-    Ok(())
-}
-
-/// Whether the series of an index that is read whole are these.
-fn has_series(alloc: Global, index: &[&[u8]], series: &[&[u8]]) -> Result<bool, Fail> {
-    let index = joined(alloc, index)?;
-    let found = spans(alloc, index.as_slice())?;
-    let series = joined(alloc, series)?;
-    Ok(found.as_slice() == series.as_slice())
-}
-
-#[test]
-fn indexes_of_a_server(rt: HostRuntime) -> Result<(), Fail> {
-    let alloc = rt.alloc();
-    assert!(rt; has_series(alloc, &real::ONE_SAMPLE, &real::ONE_SAMPLE_SERIES)?);
-    assert!(rt; has_series(alloc, &real::FEW_SAMPLES, &real::FEW_SAMPLES_SERIES)?);
-    assert!(rt; has_series(alloc, &real::ONE_SERIES, &real::ONE_SERIES_SERIES)?);
-    assert!(rt; has_series(alloc, &real::EPOCH, &real::EPOCH_SERIES)?);
     Ok(())
 }

@@ -102,38 +102,29 @@ fn the_worked_index_is_written(rt: HostRuntime) -> Result<(), Fail> {
         rt.alloc(),
         &[("{__name__=\"up\"}", &[chunk(1000, 1000, 0, 8)])],
     )?;
-    assert_eq!(rt; index.bytes(), WORKED.as_slice());
+    assert!(rt; index.bytes() == WORKED.as_slice());
     Ok(())
 }
 
-/// What is read of the index of series.
-fn again(alloc: Global, list: &[(&str, &[ChunkPlace])]) -> Result<Vec<u8>, Fail> {
-    Ok(shown(alloc, written(alloc, list)?.bytes())?)
+/// Whether what is read of the index of series are these lines.
+fn reads_as(alloc: Global, list: &[(&str, &[ChunkPlace])], lines: &str) -> Result<bool, Fail> {
+    let index = written(alloc, list)?;
+    Ok(shown(alloc, index.bytes())?.as_slice() == lines.as_bytes())
 }
 
-/// No series; none of labels and chunks; no shared label, and negative times.
-#[test]
-fn what_is_written_is_read_again(rt: HostRuntime) -> Result<(), Fail> {
-    let alloc = rt.alloc();
-    assert!(rt; again(alloc, &[])?.is_empty());
-    let bare = again(alloc, &[("{}", &[])])?;
-    assert_eq!(rt; bare.as_slice(), b"{}\n".as_slice());
-    let apart: [(&str, &[ChunkPlace]); 2] = [
+/// No shared label, and negative times.
+fn reads_apart(alloc: Global) -> Result<bool, Fail> {
+    let list: [(&str, &[ChunkPlace]); 2] = [
         ("{a=\"b\"}", &[chunk(-5, -3, 0, 8), chunk(-3, 7, 0, 60)]),
         ("{c=\"d\",e=\"f\"}", &[chunk(-9, -9, 1, 8)]),
     ];
-    assert_eq!(rt;
-        again(alloc, &apart)?.as_slice(),
-        b"{a=\"b\"} -5--3@0:8 -3-7@0:60\n{c=\"d\",e=\"f\"} -9--9@1:8\n".as_slice()
-    );
-    Ok(())
+    let lines = "{a=\"b\"} -5--3@0:8 -3-7@0:60\n{c=\"d\",e=\"f\"} -9--9@1:8\n";
+    reads_as(alloc, &list, lines)
 }
 
-/// All labels but one are shared, names are values too, and references fall.
-#[test]
-fn shared_labels_are_read_again(rt: HostRuntime) -> Result<(), Fail> {
-    let alloc = rt.alloc();
-    let shared: [(&str, &[ChunkPlace]); 3] = [
+/// The index of series of which all labels but one are shared, names are values too, and references fall.
+fn shared(alloc: Global) -> Result<Blob, Fail> {
+    let list: [(&str, &[ChunkPlace]); 3] = [
         (
             "{a=\"b\",b=\"a\"}",
             &[chunk(0, 1, 2, 8), chunk(2, 3, 1, 90)],
@@ -144,48 +135,77 @@ fn shared_labels_are_read_again(rt: HostRuntime) -> Result<(), Fail> {
             &[chunk(4, 5, 0, 40), chunk(6, 7, 0, 8)],
         ),
     ];
-    let lines = [
-        "{a=\"b\",b=\"a\"} 0-1@2:8 2-3@1:90\n",
-        "{a=\"b\",b=\"b\"} 0-9@0:500\n",
-        "{a=\"b\",b=\"c\"} 4-5@0:40 6-7@0:8\n",
-    ];
-    let mut text = Vec::new(alloc);
-    for line in lines {
-        text.extend_from_slice(line.as_bytes())?;
-    }
-    assert_eq!(rt; again(alloc, &shared)?.as_slice(), text.as_slice());
-    let index = written(alloc, &shared)?;
-    let reader = IndexReader::open(alloc, index.bytes())?;
-    assert_eq!(rt; reader.postings(alloc, "a", "b")?.len(), 3);
-    assert_eq!(rt; reader.label_values(alloc, "b")?.len(), 3);
+    written(alloc, &list)
+}
+
+static SHARED_LINES: &str =
+    "{a=\"b\",b=\"a\"} 0-1@2:8 2-3@1:90\n{a=\"b\",b=\"b\"} 0-9@0:500\n{a=\"b\",b=\"c\"} 4-5@0:40 6-7@0:8\n";
+
+/// No series, one of no labels and no chunks, and series that share nothing.
+#[test]
+fn what_is_written_is_read_again(rt: HostRuntime) -> Result<(), Fail> {
+    assert!(rt; reads_as(rt.alloc(), &[], "")?);
+    assert!(rt; reads_as(rt.alloc(), &[("{}", &[])], "{}\n")?);
+    assert!(rt; reads_apart(rt.alloc())?);
     Ok(())
 }
 
-/// A thousand chunks of one series, whose references rise and fall.
+/// How many series have a label, and how many values a name.
+fn counts(alloc: Global, index: &[u8]) -> Result<(usize, usize), IndexRefusal> {
+    let reader = IndexReader::open(alloc, index)?;
+    let series = reader.postings(alloc, "a", "b")?.len();
+    Ok((series, reader.label_values(alloc, "b")?.len()))
+}
+
 #[test]
-fn many_chunks_are_read_again(rt: HostRuntime) -> Result<(), Fail> {
-    let alloc = rt.alloc();
+fn shared_labels_are_read_again(rt: HostRuntime) -> Result<(), Fail> {
+    let index = shared(rt.alloc())?;
+    assert!(rt; shown(rt.alloc(), index.bytes())?.as_slice() == SHARED_LINES.as_bytes());
+    assert!(rt; counts(rt.alloc(), index.bytes())? == (3, 3));
+    Ok(())
+}
+
+/// A thousand chunks, whose references rise and fall.
+fn many_chunks(alloc: Global) -> Result<Vec<ChunkPlace>, Fail> {
     let mut places = Vec::new(alloc);
     for n in 0..1000u16 {
         let time = 2 * i64::from(n);
         places.push(chunk(time, time + 1, u32::from(n / 100), u32::from(n % 7) * 50))?;
     }
-    let index = written(alloc, &[("{a=\"b\"}", places.as_slice())])?;
-    let list = IndexReader::open(alloc, index.bytes())?.whole(alloc)?;
-    let series = list.get(0).ok_or("no series")?;
-    assert!(rt; series.chunks.members() == places.as_slice());
+    Ok(places)
+}
+
+fn has_chunks(alloc: Global, index: &[u8], places: &[ChunkPlace]) -> Result<bool, IndexRefusal> {
+    let list = IndexReader::open(alloc, index)?.whole(alloc)?;
+    Ok(
+        list.get(0)
+            .is_some_and(|series| series.chunks.members() == places),
+    )
+}
+
+#[test]
+fn many_chunks_are_read_again(rt: HostRuntime) -> Result<(), Fail> {
+    let places = many_chunks(rt.alloc())?;
+    let index = written(rt.alloc(), &[("{a=\"b\"}", places.as_slice())])?;
+    assert!(rt; has_chunks(rt.alloc(), index.bytes(), places.as_slice())?);
     Ok(())
+}
+
+/// The labels of a series whose one value has so many bytes.
+fn labels_of(alloc: Global, count: usize) -> Result<LabelSet, Fail> {
+    let mut labels = LabelSet::empty(alloc);
+    let value = text_of(alloc, count)?;
+    labels.add("a", value.as_str()).ok().ok_or("a label")?;
+    Ok(labels)
 }
 
 #[test]
 fn a_value_that_fills_an_index_is_too_large(rt: HostRuntime) -> Result<(), Fail> {
     let alloc = rt.alloc();
-    let value = text_of(alloc, 67_108_864)?;
-    let mut labels = LabelSet::empty(alloc);
-    labels.add("a", value.as_str()).ok().ok_or("a label")?;
+    let labels = labels_of(alloc, 67_108_864)?;
     let mut writer = IndexWriter::new(alloc);
     let places = [chunk(0, 0, 0, 8)];
     add(alloc, &mut writer, &mut Vec::new(alloc), labels, &places)?;
-    assert_eq!(rt; writer.finish().err(), Some(IndexWriteRefusal::TooLarge));
+    assert!(rt; writer.finish().err() == Some(IndexWriteRefusal::TooLarge));
     Ok(())
 }

@@ -1,4 +1,4 @@
-use Rattle.std.proofs.Common.{◌*◌, arith}
+use Rattle.std.proofs.Common.{arith}
 use Rattle.index_v2.proofs.Spending.{no_section}
 use Rattle.index_v2.proofs.budget.section_bytes.Goals as goal
 

@@ -1,4 +1,4 @@
-use Rattle.std.proofs.Common.{rules, refl, sym, ◌∙◌, map, ap}
+use Rattle.std.proofs.Common.{rules, refl, ◌∙◌, map, ap}
 use Rattle.std.proofs.lemmas.List.{map_push}
 use Rattle.index_v2.specs.LentLabels.{as_label}
 use Rattle.index_v2.proofs.LabelReading.{labels_begin, labels_step, labels_stop, labels_end, gives_err}

@@ -1,4 +1,4 @@
-use Rattle.std.proofs.Common.{refl, arith, ◌≤◌, ◌+◌, ◌*◌, length, sum_by, ap}
+use Rattle.std.proofs.Common.{refl, arith, sum_by, ap}
 use Rattle.std.proofs.lemmas.List.{take_more, take_all}
 use Rattle.index_v2.proofs.WholeLoops.{series_step, series_stop, series_end, gives_stop}
 use Rattle.index_v2.proofs.Spending.{spent}

@@ -1,4 +1,4 @@
-use Rattle.std.proofs.Common.{map, sym}
+use Rattle.std.proofs.Common.{map}
 use Rattle.index_v2.specs.LentLabels.{as_label}
 use Rattle.index_v2.proofs.LabelPlaces.{labelled_found, labelled_refused}
 use Rattle.index_v2.proofs.LabelLaws.{labels_lawful}
