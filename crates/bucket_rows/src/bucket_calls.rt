@@ -17,13 +17,13 @@ pub(crate) fn print_bucket(rt: &HostRuntime, text: &str) -> io::Result<()> {
 
 fn print_calls(rt: &HostRuntime, mut bucket: MemoryBucket, rows: &str) -> io::Result<()> {
     for row in rows.lines() {
-        print!(rt; "{row} -> ")?;
         print_call(rt, &mut bucket, row)?;
     }
     Ok(())
 }
 
 fn print_call(rt: &HostRuntime, bucket: &mut MemoryBucket, row: &str) -> io::Result<()> {
+    print!(rt; "{row} -> ")?;
     let (kind, text) = row.split_once(' ').unwrap_or((row, ""));
     match kind {
         "put" => print_put(rt, bucket, text),

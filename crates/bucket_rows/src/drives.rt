@@ -55,10 +55,10 @@ fn filled(mut world: World<MemoryBucket>) -> World<MemoryBucket> {
 }
 
 fn print_filled(rt: &HostRuntime, mut world: World<MemoryBucket>) -> io::Result<()> {
-    println!(rt; "entries: {}", world.journal().len())?;
+    let before = world.journal().len();
     let is_full = matches!(world.act(0, Op::Clock(Moment { ms: 0 })), Acted::Full);
-    println!(rt; "takes no more: {is_full}")?;
     let mut hand = WorldHand::new(world, 1);
-    println!(rt; "a machine is driven: {}", driven_word(&mut hand, Some(1)))?;
-    println!(rt; "entries: {}", hand.into_world().journal().len())
+    let word = driven_word(&mut hand, Some(1));
+    let after = hand.into_world().journal().len();
+    println!(rt; "entries: {before}, takes no more: {is_full}, a machine: {word}, entries: {after}")
 }

@@ -19,6 +19,7 @@ pub(crate) fn print_act(
     world: &mut World<MemoryBucket>,
     row: &str,
 ) -> io::Result<()> {
+    print!(rt; "{row} -> ")?;
     match op_of(rt.alloc(), row) {
         Ok(op) => match world.act(3, op) {
             Acted::Done(seen) => print_seen(rt, seen),

@@ -28,7 +28,6 @@ fn print_opened(rt: &HostRuntime, bucket: MemoryBucket, rows: &str) -> io::Resul
 
 fn print_acts(rt: &HostRuntime, mut world: World<MemoryBucket>, rows: &str) -> io::Result<()> {
     for row in rows.lines() {
-        print!(rt; "{row} -> ")?;
         print_act(rt, &mut world, row)?;
     }
     let (journal, _bucket) = world.into_parts();
