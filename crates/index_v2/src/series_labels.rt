@@ -1,6 +1,8 @@
 ghost use Rattle.std.specs.Prelude.{◌≡◌, ◌*◌, ◌<◌, ℕ, List, [], length, map, Ok, Err, MatchResult, slice_get};
 ghost use Rattle.std.specs.Option.{option_copied};
+ghost use Rattle.std.specs.Ordering.{is_lt};
 ghost use Rattle.reading_core.specs.Reading.{Answers, Gives};
+ghost use Rattle.label_sets.specs.Labels.{compare_texts};
 ghost use Rattle.index_parts.specs.SeriesReading.{label_places_at};
 ghost use Rattle.index_v2.specs.LentLabels.{as_label};
 ghost use Rattle.index_v2.specs.SeriesLabels.{label_of, labels_of, fault_at};
@@ -9,6 +11,18 @@ use crate::LentLabel;
 use crate::label_fault::LabelFault;
 use crate::symbols::Symbols;
 use index_parts::{PartRefusal, label_place};
+
+/// Whether one text stands before another. Most names are told apart by their first bytes.
+#[inline(always)]
+fn is_before(one: &str, other: &str) -> bool
+    ensures { result ≡ is_lt (compare_texts one.now other.now) }
+{
+    let (left, right) = (one.as_bytes(), other.as_bytes());
+    if left.is_empty() || right.is_empty() || left[0] == right[0] {
+        return one < other;
+    }
+    left[0] < right[0]
+}
 
 /// The texts of a label's symbol numbers: the name is above the one before it, and the value is not empty.
 #[inline(always)]
@@ -23,7 +37,7 @@ fn label_of<'a>(
     ensures { Answers as_label result (label_of symbols.now before.now place name value) }
 {
     let name = match symbols.get(name) {
-        Some(name) if before < name => name,
+        Some(name) if is_before(before, name) => name,
         _ => return Err(LabelFault::Name(place)),
     };
     match symbols.get(value) {
