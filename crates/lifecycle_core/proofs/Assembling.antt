@@ -31,7 +31,7 @@ use Rattle.script_core.specs.declared.work.Work.{Work}
 use Rattle.script_core.specs.declared.work.Work.TheVariants.{Upload, Sync, Query}
 use Rattle.lifecycle_core.specs.Causes.{AreFaultsShown, AreUndamaged, AreWell, IsDamaged, IsFault, IsWell, SomeCame}
 use Rattle.lifecycle_core.specs.Completed.{IsSettled, IsUploadedBefore}
-use Rattle.lifecycle_core.specs.Guarantees.{Answered, IsExact, IsGiven, IsGuaranteed, IsGuaranteedJournal, IsSound, NamesUploads}
+use Rattle.lifecycle_core.specs.Guarantees.{Answered, IsExact, IsGiven, IsGuaranteed, IsGuaranteedJournal, IsSound, LeavesNoneOut, NamesUploads}
 use Rattle.lifecycle_core.specs.Held.{held}
 use Rattle.lifecycle_core.specs.Phases.{IsRunOf}
 use Rattle.lifecycle_core.specs.Tasks.{End, IsBefore, IsStop, QueryTask, TaskRun, asked_by, sync_rules, uploaded, synced, answered, without_view, stopped}
@@ -249,13 +249,13 @@ module _ (script : Script) (journal : List Entry) (ends : List (List (List End))
         let found = (named_by ulid).0 (All-contains_itself query.sources k d below) in
         (given.used, its_own, subst (λ (u : ℕ). IsUploadedBefore script journal u given.used.last) found.2 (All-contains (λ (f : Found). IsUploadedBefore script journal f.ulid given.used.last) given.used.view.kept found.0 view.uploaded found.1))
 
-    covers : (used : Use) → Contains query.uses used → (ulid : ℕ) → IsSettled script journal used ulid → Contains query.sources ulid
-    covers used among ulid settled =
+    covers : (used : Use) (ulid : ℕ) → Contains query.uses used → IsSettled script journal used ulid → Contains query.sources ulid
+    covers used ulid among settled =
         let found = view.settled ulid (subst (λ (u : Use). IsSettled script journal u ulid) (sym (only_one used among)) settled) in
         (named_by ulid).1 found
 
     is_sound : IsSound script journal query
-    is_sound = record { exact = exact; named = names; covered = λ uploaded used among synced ulid settled. covers used among ulid settled }
+    is_sound = record { exact = exact; named = names; covered = λ uploaded used among synced ulid settled. covers used ulid among settled }
 
   complete : failed_count journal ≡ 0 → AreWell ends
   complete none end came =
@@ -291,3 +291,7 @@ none_guaranteed script = (
     complete = λ honest none end came. absurd (no_end_came end came);
   },
 )
+
+-- and no settled upload is left out
+pub none_left_out : (script : Script) (journal : List Entry) (ends : List (List (List End))) (query : Answered) → IsLawfulScript script → IsRunOf script journal ends → IsHonest journal → IsGiven script ends query → LeavesNoneOut script journal query
+none_left_out script journal ends query lawful run honest given = covers script journal ends lawful run honest query given

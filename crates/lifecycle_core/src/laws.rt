@@ -11,7 +11,7 @@ ghost use Rattle.script_core.specs.declared.script.Script.{Script};
 ghost use Rattle.script_core.specs.Lawful.{IsLawfulScript};
 ghost use Rattle.lifecycle_core.specs.Breaches.{IsBreach, IsCallRead, IsLie, IsSyncIn, IsUnbroken, IsViewAt, Rule};
 ghost use Rattle.lifecycle_core.specs.Causes.{AreFound, AreMissesExplained, IsExplained};
-ghost use Rattle.lifecycle_core.specs.Guarantees.{IsGuaranteed};
+ghost use Rattle.lifecycle_core.specs.Guarantees.{Answered, IsGiven, IsGuaranteed, LeavesNoneOut};
 ghost use Rattle.lifecycle_core.specs.InLine.{IsRunInLine};
 ghost use Rattle.lifecycle_core.specs.Phases.{IsLawfulJournal, IsRunOf, BeginsPhase};
 ghost use Rattle.lifecycle_core.specs.Tasks.{End};
@@ -78,4 +78,11 @@ pub fn unbroken_journals_are_in_time()
 /// broken off.
 pub fn runs_are_guaranteed()
     ensures { (script : Script) (journal : List Entry) (ends : List (List (List End))) → IsLawfulScript script → IsRunOf script journal ends → IsGuaranteed script journal ends }
+{}
+
+/// A law: where the bucket is honest, an answered query leaves no settled upload out, whatever the rules of time, since no script
+/// deletes anything yet.
+pub fn settled_uploads_are_named()
+    ensures { (script : Script) (journal : List Entry) (ends : List (List (List End))) (query : Answered) → IsLawfulScript script → IsRunOf script journal ends → IsHonest journal
+        → IsGiven script ends query → LeavesNoneOut script journal query }
 {}

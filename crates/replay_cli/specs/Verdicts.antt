@@ -150,9 +150,9 @@ IsUnread text left source_failed other = ⊥
 abbrev pub IsWorked : Around → Verdict → Type 0
 IsWorked around verdict = (IsUnread around.text around.left around.source_failed verdict × (around.journal ≡ None)) ⊎ IsRunOfText around verdict
 
--- why a call comes to a verdict, by whether its words are a form of one
+-- why a call comes to a verdict, by whether its words are a form of one; where they are none, the source was not read
 abbrev pub IsCaused : Type 0 → Around → Verdict → Type 0
-IsCaused accepted around WordsRefused = (¬ accepted) × (around.journal ≡ None)
+IsCaused accepted around WordsRefused = (¬ accepted) × (around.journal ≡ None) × (around.left ≡ around.text)
 IsCaused accepted around other = accepted × IsWorked around other
 
 -- ---- what is said

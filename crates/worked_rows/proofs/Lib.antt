@@ -17,6 +17,7 @@ pub mod OneInTime
 pub mod Ends
 pub mod OneUnbroken
 pub mod OneGuaranteed
+pub mod NoCause
 pub mod LateUpload
 pub mod OneStrict
 pub mod OneUnsound

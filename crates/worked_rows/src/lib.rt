@@ -9,7 +9,10 @@ mod one_strict;
 mod young_block;
 
 pub use late_upload::{late_upload_is_the_breach, late_upload_runs};
-pub use lost_index::{lost_index_is_explained, lost_index_is_the_breach, lost_index_runs};
+pub use lost_index::{
+    lost_index_has_no_other_cause, lost_index_is_explained, lost_index_is_the_breach,
+    lost_index_runs,
+};
 pub use one_block::{
     one_block_breaks_no_rule, one_block_is_answered, one_block_is_guaranteed, one_block_is_honest,
     one_block_is_in_time, one_block_is_reported, one_block_is_spelled, one_block_runs,

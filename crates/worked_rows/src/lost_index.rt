@@ -1,9 +1,13 @@
-ghost use Rattle.lifecycle_core.specs.Breaches.{IsBreach, honesty};
-ghost use Rattle.lifecycle_core.specs.Causes.{IsExplained};
+ghost use Rattle.std.specs.Prelude.{[]};
+ghost use Rattle.block_keys.specs.declared.key.Key.TheVariants as key;
+ghost use Rattle.lifecycle_core.specs.Breaches.{IsBreach, honesty, upload_time, mark_time, sync_time, view_time};
+ghost use Rattle.lifecycle_core.specs.Causes.{AreWell, IsBlamed, IsExplained};
 ghost use Rattle.lifecycle_core.specs.Guarantees.{IsGuaranteed};
 ghost use Rattle.lifecycle_core.specs.Phases.{IsRunOf, AreFinished};
-ghost use Rattle.worked_rows.specs.LostIndex.{journal, ends};
+ghost use Rattle.worked_rows.specs.Entries.{stored};
+ghost use Rattle.worked_rows.specs.LostIndex.{journal, ends, lost};
 ghost use Rattle.worked_rows.specs.OneBlock.{script};
+ghost use Rattle.worked_rows.specs.SmallBlock.{a};
 
 /// A law: a gateway says that the object at entry 10 is missing, in a lawful journal.
 pub fn lost_index_runs()
@@ -20,4 +24,13 @@ pub fn lost_index_is_the_breach()
 pub fn lost_index_is_explained()
     ensures explained { IsExplained script journal 10 }
     ensures guaranteed { IsGuaranteed script journal ends }
+{}
+
+/// A law: not every task ended well then. And what another block was put or marked with, a sync, and another read are not to blame.
+pub fn lost_index_has_no_other_cause()
+    ensures unwell { ¬ AreWell ends }
+    ensures other_put { ¬ IsBlamed a 10 upload_time (stored 2 1 1 (key.Index 11) []) }
+    ensures other_mark { ¬ IsBlamed a 10 mark_time (stored 2 1 1 (key.Mark 11) []) }
+    ensures no_sync { ¬ IsBlamed a 10 sync_time lost }
+    ensures other_read { ¬ IsBlamed a 9 view_time lost }
 {}
