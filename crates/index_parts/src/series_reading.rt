@@ -141,11 +141,14 @@ fn chunks_of(
     ensures { Gives PartRefusal.NoMemory (λ chunks. chunks.items) result (turns_at chunk_at count cursor.entry) }
 {
     chunks.clear();
-    let mut before = None;
-    for _ in 0..count {
-        let chunk = next_chunk(&mut cursor, before)?;
-        chunks.push(chunk)?;
-        before = Some(chunk);
+    if count == 0 {
+        return Ok(chunks);
+    }
+    let mut last = next_chunk(&mut cursor, None)?;
+    chunks.push(last)?;
+    for _ in 1..count {
+        last = next_chunk(&mut cursor, Some(last))?;
+        chunks.push(last)?;
     }
     Ok(chunks)
 }
