@@ -80,7 +80,13 @@ phase_of script number (phase ∷ phases) (first ∷ later) outcomes (own, other
           let is : number ≡ number + 0 = omega arith in
           let start : 0 + place ≡ place = omega arith in
           record {
-            k = 0; phase = phase; place = place; own = first; in_phases = refl; in_tasks = one; in_ends = refl;
+            k = 0;
+            phase = phase;
+            place = place;
+            own = first;
+            in_phases = refl;
+            in_tasks = one;
+            in_ends = refl;
             came = subst (λ n. TaskCame script (workers_of script n) first place task o) is
                 (subst (λ n. TaskCame script (workers_of script number) first n task o) start (task_came script (workers_of script number) first 0 phase.tasks own here place task o one two));
           }
@@ -88,7 +94,13 @@ phase_of script number (phase ∷ phases) (first ∷ later) outcomes (own, other
           let p = phase_of script (number + 1) phases later others rest j task o one two in
           let is : number + 1 + p.k ≡ number + suc p.k = omega arith in
           record {
-            k = suc p.k; phase = p.phase; place = p.place; own = p.own; in_phases = p.in_phases; in_tasks = p.in_tasks; in_ends = p.in_ends;
+            k = suc p.k;
+            phase = p.phase;
+            place = p.place;
+            own = p.own;
+            in_phases = p.in_phases;
+            in_tasks = p.in_tasks;
+            in_ends = p.in_ends;
             came = subst (λ n. TaskCame script (workers_of script n) p.own p.place task o) is p.came;
           }
     ]

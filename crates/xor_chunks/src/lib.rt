@@ -14,7 +14,8 @@ mod refusal;
 mod setting;
 mod short_bits;
 mod step;
-mod taking;mod window;
+mod taking;
+mod window;
 mod words;
 
 pub use bit_reader::BitReader;
