@@ -1,11 +1,12 @@
 -- What is spent of the budget of reading a whole index.
-use Rattle.std.proofs.Common.{◌≡◌, ℕ, ◌+◌, ◌<◌, ◌≤◌, List, [], ◌∷◌, ◌++◌, length, sum_by, refl, arith}
+use Rattle.std.proofs.Common.{◌≡◌, ℕ, ◌+◌, ◌<◌, ◌≤◌, List, [], ◌∷◌, ◌++◌, length, get_or, take, sum_by, refl, ap, arith}
 use Rattle.std.proofs.lemmas.List.{drop_all}
-use Rattle.std.proofs.lemmas.List.Sums.{sum_by-append, sum_by-cons}
+use Rattle.std.proofs.lemmas.List.Sums.{sum_by-append, sum_by-cons, sum_by_more}
 use Rattle.std.specs.Int.{w32}
 use Rattle.wire_bytes.specs.Fields.{groups_of, number_at, uvarint_at}
 use Rattle.index_parts.specs.Placed.{at_place}
-use Rattle.index_v2.specs.Budget.{told}
+use Rattle.label_sets.specs.declared.label.Label.{Label}
+use Rattle.index_v2.specs.Budget.{label_bytes, told}
 
 -- past the end no length is told
 pub no_entry : (index : List ℕ) (at : ℕ) → length index < at → 0 ≡ told (uvarint_at (at_place index at))
@@ -21,3 +22,16 @@ pub spent : {A B : Type 0} (size : A → ℕ) (bytes : B → ℕ) (made made' : 
     → sum_by size made + (sum_by bytes seen + left) ≤ budget → made' ≡ made ++ one ∷ [] → seen' ≡ seen ++ key ∷ [] → many ≡ bytes key → between + many ≡ left → much ≡ size one → rest + much ≡ between → sum_by size made' + (sum_by bytes seen' + rest) ≤ budget
 spent size bytes made made' one seen seen' key left between rest much many budget within pushed further m e m' e' =
     rw (pushed, further) (omega (arith, sum_by-append size made (one ∷ []), sum_by-cons size one [], sum_by-append bytes seen (key ∷ []), sum_by-cons bytes key []))
+
+-- one more series is read, and the bytes of its texts are spent
+pub texts_spent : {A : Type 0} (size : A → ℕ) (made made' : List A) (one : A) (left rest much budget : ℕ)
+    → sum_by size made + left ≤ budget → made' ≡ made ++ one ∷ [] → much ≡ size one → rest + much ≡ left → sum_by size made' + rest ≤ budget
+texts_spent size made made' one left rest much budget within pushed is spent' = rw pushed (omega (arith, within, is, spent', sum_by-append size made (one ∷ []), sum_by-cons size one []))
+
+-- one more is counted
+pub counted : {A : Type 0} (size : A → ℕ) (xs : List A) (i : ℕ) (d x : A) (n n' more : ℕ) → n ≡ sum_by size (take i xs) → i < length xs → x ≡ get_or xs i d → n' ≡ n + more → more ≡ size x → n' ≡ sum_by size (take (i + 1) xs)
+counted size xs i d x n n' more so_far below at added is = omega (arith, so_far, is, added, ap size at, sum_by_more size xs i d below)
+
+-- the bytes of two texts
+pub both_texts : (name value : List ℕ) (label : Label) → name ≡ label.name → value ≡ label.value → length name + length value ≡ label_bytes label
+both_texts name value label is is' = omega (arith, ap (length {A = ℕ}) is, ap (length {A = ℕ}) is')

@@ -1,6 +1,7 @@
 -- What reading a whole index costs, of which there is a budget.
-use Rattle.std.specs.Prelude.{ℕ, ◌+◌, ◌*◌, List, length, Result, Ok, Err}
+use Rattle.std.specs.Prelude.{ℕ, ◌+◌, ◌*◌, List, length, sum_by, Result, Ok, Err}
 use Rattle.std.specs.Int.{w32}
+use Rattle.label_sets.specs.declared.label.Label.{Label}
 use Rattle.wire_bytes.specs.declared.refusal.WireRefusal.{WireRefusal}
 use Rattle.wire_bytes.specs.Position.{Position}
 use Rattle.wire_bytes.specs.Fields.{number_at, uvarint_at}
@@ -11,6 +12,14 @@ use Rattle.index_v2.specs.declared.index_series.IndexSeries.{IndexSeries}
 -- a series' labels and chunks
 abbrev pub members_of : IndexSeries → ℕ
 members_of series = length series.labels + length series.chunks
+
+-- how many bytes a label's texts take
+abbrev pub label_bytes : Label → ℕ
+label_bytes label = length label.name + length label.value
+
+-- how many bytes the texts of a series' labels take
+abbrev pub text_bytes : IndexSeries → ℕ
+text_bytes series = sum_by label_bytes series.labels
 
 -- the length that is read, and nothing where none is
 abbrev pub told : Result (ℕ × Position) WireRefusal → ℕ

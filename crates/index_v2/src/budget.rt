@@ -1,10 +1,11 @@
-ghost use Rattle.std.specs.Prelude.{◌≡◌, ◌+◌, ◌*◌, ◌^◌, ◌<◌, ◌≤◌, length, MatchResult};
-ghost use Rattle.index_v2.specs.Budget.{members_of, series_bytes, told};
+ghost use Rattle.std.specs.Prelude.{◌≡◌, ◌+◌, ◌*◌, ◌^◌, ◌<◌, ◌≤◌, length, sum_by, IfOk, MatchResult};
+ghost use Rattle.index_v2.specs.Budget.{label_bytes, members_of, series_bytes, text_bytes, told};
+ghost use Rattle.index_v2.specs.LentLabels.{as_label};
 ghost use Rattle.std.specs.Int.{w32};
 ghost use Rattle.wire_bytes.specs.Fields.{number_at};
 ghost use Rattle.index_parts.specs.Placed.{at_place};
 
-use crate::IndexSeries;
+use crate::{IndexSeries, LentLabel};
 use list_core::NoMemory;
 use wire_bytes::Cursor;
 
@@ -16,6 +17,46 @@ pub(crate) fn budget_of(index: &[u8]) -> usize
     ensures { result ≤ 8 * length index.now }
 {
     index.len().saturating_mul(8)
+}
+
+/// How many bytes of label texts are copied out of an index at most: sixty-four for each of its bytes. A label takes two bytes
+/// of its series and four of a list, so that only texts of some four hundred bytes, which many series share, come to more.
+pub(crate) fn text_budget_of(index: &[u8]) -> usize
+    ensures { result ≤ 64 * length index.now }
+{
+    index.len().saturating_mul(64)
+}
+
+/// So many bytes and those of two texts.
+fn with_texts(bytes: usize, name: &str, value: &str) -> Result<usize, NoMemory>
+    ensures { IfOk result (λ n. n ≡ bytes + (length name.now + length value.now)) }
+{
+    match bytes.checked_add(name.len()) {
+        Some(more) => more.checked_add(value.len()).ok_or(NoMemory),
+        None => Err(NoMemory),
+    }
+}
+
+/// How many bytes the texts of lent labels take.
+pub(crate) fn lent_text_bytes(labels: &[LentLabel<'_>]) -> Result<usize, NoMemory>
+    ensures { IfOk result (λ n. n ≡ sum_by (λ l. label_bytes (as_label l)) labels.now) }
+{
+    let mut bytes = 0;
+    for label in labels {
+        bytes = with_texts(bytes, label.name, label.value)?;
+    }
+    Ok(bytes)
+}
+
+/// How many bytes the texts of a series' labels take.
+pub(crate) fn text_bytes(series: &IndexSeries) -> Result<usize, NoMemory>
+    ensures { IfOk result (λ n. n ≡ text_bytes series.now) }
+{
+    let mut bytes = 0;
+    for label in series.labels.labels() {
+        bytes = with_texts(bytes, label.name.as_str(), label.value.as_str())?;
+    }
+    Ok(bytes)
 }
 
 /// What is left of a budget behind this much.

@@ -5,7 +5,7 @@ ghost use Rattle.reading_core.specs.Reading.{Gives};
 ghost use Rattle.reading_core.specs.Grammar.{IsBytes};
 ghost use Rattle.index_v2.specs.Opening.{opened_at};
 ghost use Rattle.index_v2.specs.SeriesLabels.{numbered_at};
-ghost use Rattle.index_v2.specs.Budget.{members_of};
+ghost use Rattle.index_v2.specs.Budget.{members_of, text_bytes};
 ghost use Rattle.index_v2.specs.WholeReading.{whole_at};
 ghost use Rattle.index_v2.specs.PostingsLists.{postings_of, values_of};
 
@@ -169,6 +169,7 @@ impl<'a> IndexReader<'a> {
         // The first refusal.
         ensures exact { Gives IndexRefusal.NoMemory (λ list. list) result (whole_at self.now) }
         ensures bounded { IfOk result (λ list. sum_by members_of list ≤ 8 * length self.now.bytes) }
+        ensures texts { IfOk result (λ list. sum_by text_bytes list ≤ 64 * length self.now.bytes) }
         ensures few { IfOk result (λ list. (4 * length list ≤ length self.now.bytes)
             × All (λ series. 2 * length series.labels + 3 * length series.chunks ≤ length self.now.bytes) list) }
     {

@@ -6,6 +6,7 @@ ghost use Rattle.index_v2.specs.declared.index_series.IndexSeries.{IndexSeries};
 ghost use Rattle.index_v2.specs.IndexFile.{IsSeriesOf};
 ghost use Rattle.index_v2.specs.SeriesLabels.{labelled_at, numbered_at};
 
+use crate::budget::{lent_text_bytes, spend, text_budget_of};
 use crate::opening::refused_of;
 use crate::symbols::Symbols;
 use crate::{IndexRefusal, IndexSeries, LentSeries};
@@ -41,7 +42,7 @@ pub(crate) fn lent_series_of<'a>(
     lent(index, symbols, number, room)
 }
 
-/// Reads the series at a place of the index.
+/// Reads the series at a place of the index, and copies its texts, where these are within their budget.
 pub(crate) fn labelled(
     alloc: Global,
     index: &[u8],
@@ -51,7 +52,10 @@ pub(crate) fn labelled(
     ensures { Gives PartRefusal.NoMemory (λ series. series) result (labelled_at index.now symbols.now at) }
 {
     match LentSeries::read(index, symbols, at, LentSeries::new(alloc)) {
-        Ok(series) => Ok(series.to_series(alloc)?),
+        Ok(series) => {
+            spend(text_budget_of(index), lent_text_bytes(series.labels())?)?;
+            Ok(series.to_series(alloc)?)
+        }
         Err(refusal) => Err(refusal),
     }
 }

@@ -7,11 +7,13 @@ ghost use Rattle.std.specs.Result.{IsOkAnd};
 ghost use Rattle.reading_core.specs.Grammar.{IsBytes};
 ghost use Rattle.index_v2.specs.declared.index_series.IndexSeries.{IndexSeries};
 ghost use Rattle.index_v2.specs.Opening.{opened_at};
-ghost use Rattle.index_v2.specs.Budget.{members_of, series_bytes, list_bytes};
+ghost use Rattle.index_v2.specs.Budget.{members_of, series_bytes, list_bytes, text_bytes};
 ghost use Rattle.index_v2.specs.IndexFile.{IsIndex};
 ghost use Rattle.index_v2.specs.WholeReading.{present_at, may_stand_behind, behind_at, all_at, lists_at, whole_at};
 
-use crate::budget::{budget_of, members_of, section_bytes, series_bytes, spend};
+use crate::budget::{
+    budget_of, members_of, section_bytes, series_bytes, spend, text_budget_of, text_bytes,
+};
 use crate::difference::difference;
 use crate::numbered::labelled;
 use crate::opening::refused_of;
@@ -78,7 +80,7 @@ fn series_behind(
 }
 
 /// Reads the series of these numbers, which ascend by their labels. Their bytes, labels and chunks are within the
-/// budget.
+/// budget, and their texts within theirs.
 pub(crate) fn all_series(
     alloc: Global,
     index: &[u8],
@@ -88,12 +90,16 @@ pub(crate) fn all_series(
     requires { AreSmall numbers.now }
     ensures as_many { IfOk result (λ series. length series.items ≡ length numbers.now) }
     ensures bounded { IfOk result (λ series. sum_by members_of series.items + sum_by (series_bytes index.now) numbers.now ≤ 8 * length index.now) }
+    ensures texts { IfOk result (λ series. sum_by text_bytes series.items ≤ 64 * length index.now) }
     ensures exact { Gives IndexRefusal.NoMemory (λ series. series.items) result (all_at index.now symbols.now None numbers.now) }
 {
     let mut made = Vec::new(alloc);
     let mut left = budget_of(index);
+    let mut texts = text_budget_of(index);
     for number in numbers {
         let series = series_behind(alloc, index, symbols, made.as_slice(), *number)?;
+        let size = text_bytes(&series)?;
+        texts = spend(texts, size)?;
         let between = spend(left, series_bytes(index, *number))?;
         left = spend(between, members_of(&series))?;
         made.push(series)?;
@@ -137,6 +143,7 @@ fn read_whole(
 ) -> Result<IndexSeriesList, IndexRefusal>
     ensures bytes { IsBytes index.now }
     ensures bounded { IfOk result (λ list. sum_by members_of list ≤ 8 * length index.now) }
+    ensures texts { IfOk result (λ list. sum_by text_bytes list ≤ 64 * length index.now) }
     ensures exact { Gives IndexRefusal.NoMemory (λ list. list) result (whole_at (record { bytes = index.now; toc = toc.now; symbols = symbols.now; rows = rows.now })) }
 {
     let numbers = list_of(alloc, index, rows, "", "")?;
@@ -161,6 +168,7 @@ pub(crate) fn whole(
     ensures found { IfOk result (λ list. IsIndex index.now list) }
     ensures only { (list : List IndexSeries) → IsIndex index.now list → IsOkAnd result (λ found. found ≡ list) ⊎ (result ≡ Err IndexRefusal.NoMemory) }
     ensures bounded { IfOk result (λ list. sum_by members_of list ≤ 8 * length index.now) }
+    ensures texts { IfOk result (λ list. sum_by text_bytes list ≤ 64 * length index.now) }
     ensures exact { Gives IndexRefusal.NoMemory (λ list. list) result (whole_at (record { bytes = index.now; toc = toc.now; symbols = symbols.now; rows = rows.now })) }
 {
     read_whole(alloc, index, toc, symbols, rows)

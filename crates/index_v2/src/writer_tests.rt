@@ -209,3 +209,38 @@ fn a_value_that_fills_an_index_is_too_large(rt: HostRuntime) -> Result<(), Fail>
     assert!(rt; writer.finish().err() == Some(IndexWriteRefusal::TooLarge));
     Ok(())
 }
+
+/// A number below 1,000 in three digits.
+fn digits_of(alloc: Global, number: u32) -> Result<String, Fail> {
+    let mut bytes = Vec::new(alloc);
+    for unit in [100, 10, 1] {
+        bytes.push(b'0' + u8::try_from(number / unit % 10)?)?;
+    }
+    Ok(String::from_utf8(bytes).ok().ok_or("a text")?)
+}
+
+/// What comes of the whole of an index in which so many series share a value of 20,000 bytes.
+fn shared_text(alloc: Global, count: u32) -> Result<Option<IndexRefusal>, Fail> {
+    let shared = text_of(alloc, 20_000)?;
+    let mut writer = IndexWriter::new(alloc);
+    let mut before = Vec::new(alloc);
+    for number in 0..count {
+        let mut labels = LabelSet::empty(alloc);
+        labels.add("a", shared.as_str()).ok().ok_or("labels")?;
+        labels
+            .add("b", digits_of(alloc, number)?.as_str())
+            .ok()
+            .ok_or("labels")?;
+        add(alloc, &mut writer, &mut before, labels, &[])?;
+    }
+    let index = writer.finish().ok().ok_or("not written")?;
+    Ok(IndexReader::open(alloc, index.bytes())?.whole(alloc).err())
+}
+
+/// Texts that many series share are copied as long as they come to no more than 64 bytes for each byte of the index.
+#[test]
+fn one_text_for_many_series(rt: HostRuntime) -> Result<(), Fail> {
+    assert!(rt; shared_text(rt.alloc(), 10)?.is_none());
+    assert!(rt; shared_text(rt.alloc(), 200)? == Some(IndexRefusal::NoMemory));
+    Ok(())
+}
