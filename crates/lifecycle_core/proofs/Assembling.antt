@@ -42,6 +42,8 @@ use Rattle.lifecycle_core.proofs.FirstPhases.{none_run}
 use Rattle.lifecycle_core.proofs.Lists.{contains_first}
 use Rattle.lifecycle_core.proofs.Faults.{ShowsFault, call_shows, sync_shows, upload_shows}
 use Rattle.lifecycle_core.proofs.Positions.{filtered}
+use Rattle.lifecycle_core.proofs.FewNames.{none_found_many}
+use Rattle.lifecycle_core.proofs.ViewsThere.{views_are_there}
 use Rattle.lifecycle_core.proofs.Readable.{is_readable}
 use Rattle.lifecycle_core.proofs.TasksMade.{answers_are_made, ends_are_made}
 use Rattle.lifecycle_core.proofs.Telling.{all_told, journal_rises}
@@ -147,20 +149,20 @@ task_undamaged script view (Query low high selector) entries end syncs calls run
 
 -- ---- every end is well
 
-well : (end : End) → ((number : ℕ) → ¬ IsFault end number) → ¬ IsDamaged end → ((used : Use) (number : ℕ) → end ≢ answered used (called.Missing number)) → IsWell end
-well (uploaded (shipped.Done count)) faults damaged missing = tt
-well (uploaded shipped.Already) faults damaged missing = tt
-well (uploaded (shipped.Fault n)) faults damaged missing = absurd (faults n refl)
-well (synced (fetched.View v)) faults damaged missing = tt
-well (synced (fetched.Fault n)) faults damaged missing = absurd (faults n refl)
-well (synced (fetched.Damaged n)) faults damaged missing = absurd (damaged tt)
-well (synced fetched.TooMany) faults damaged missing = tt
-well (answered used (called.Answer series sources)) faults damaged missing = tt
-well (answered used (called.Missing n)) faults damaged missing = absurd (missing used n refl)
-well (answered used (called.Damaged n)) faults damaged missing = absurd (damaged tt)
-well (answered used (called.Fault n)) faults damaged missing = absurd (faults n refl)
-well without_view faults damaged missing = tt
-well (stopped n) faults damaged missing = tt
+well : (end : End) → ((number : ℕ) → ¬ IsFault end number) → ¬ IsDamaged end → ((used : Use) (number : ℕ) → end ≢ answered used (called.Missing number)) → end ≢ synced fetched.TooMany → end ≢ without_view → IsWell end
+well (uploaded (shipped.Done count)) faults damaged missing few there = tt
+well (uploaded shipped.Already) faults damaged missing few there = tt
+well (uploaded (shipped.Fault n)) faults damaged missing few there = absurd (faults n refl)
+well (synced (fetched.View v)) faults damaged missing few there = tt
+well (synced (fetched.Fault n)) faults damaged missing few there = absurd (faults n refl)
+well (synced (fetched.Damaged n)) faults damaged missing few there = absurd (damaged tt)
+well (synced fetched.TooMany) faults damaged missing few there = absurd (few refl)
+well (answered used (called.Answer series sources)) faults damaged missing few there = tt
+well (answered used (called.Missing n)) faults damaged missing few there = absurd (missing used n refl)
+well (answered used (called.Damaged n)) faults damaged missing few there = absurd (damaged tt)
+well (answered used (called.Fault n)) faults damaged missing few there = absurd (faults n refl)
+well without_view faults damaged missing few there = absurd (there refl)
+well (stopped n) faults damaged missing few there = tt
 
 -- ---- an answer
 
@@ -257,10 +259,24 @@ module _ (script : Script) (journal : List Entry) (ends : List (List (List End))
     is_sound : IsSound script journal query
     is_sound = record { exact = exact; named = names; covered = λ uploaded used among synced ulid settled. covers used ulid among settled }
 
+  few : ¬ SomeCame ends (synced fetched.TooMany)
+  few = none_found_many script journal ends lawful readable rising told run
+
+  no_fault : failed_count journal ≡ 0 → (end : End) → SomeCame ends end → (number : ℕ) → ¬ IsFault end number
+  no_fault none end came number fault = none_failed journal number none (fault_among script journal ends run end number came fault)
+
+  views_given : failed_count journal ≡ 0 → (e : SyncEnd) → SomeCame ends (synced e) → (v : View) × (e ≡ fetched.View v)
+  views_given none (fetched.View v) came = (v, refl)
+  views_given none (fetched.Fault n) came = absurd (no_fault none (synced (fetched.Fault n)) came n refl)
+  views_given none (fetched.Damaged n) came = absurd (undamaged (synced (fetched.Damaged n)) came tt)
+  views_given none fetched.TooMany came = absurd (few came)
+
   complete : failed_count journal ≡ 0 → AreWell ends
   complete none end came =
-      well end (λ number fault. none_failed journal number none (fault_among script journal ends run end number came fault))
-      (undamaged end came) (λ used number is. honest_misses_nothing script journal ends lawful run honest used number (subst (SomeCame ends) is came))
+      well end (no_fault none end came) (undamaged end came)
+      (λ used number is. honest_misses_nothing script journal ends lawful run honest used number (subst (SomeCame ends) is came))
+      (λ is. few (subst (SomeCame ends) is came))
+      (λ is. views_are_there script journal ends lawful run (views_given none) (subst (SomeCame ends) is came))
 
 -- in every run of a lawful script
 pub all_guaranteed : (script : Script) (journal : List Entry) (ends : List (List (List End))) → IsLawfulScript script → IsRunOf script journal ends → IsGuaranteed script journal ends

@@ -11,7 +11,7 @@ use Rattle.meta_fetcher.specs.declared.sync_end.SyncEnd.TheVariants as fetched
 use Rattle.store_gateway.specs.declared.series_end.SeriesEnd.TheVariants as called
 use Rattle.script_core.specs.declared.script.Script.{Script}
 use Rattle.lifecycle_core.specs.Breaches.{Rule, honesty, upload_time, mark_time, sync_time, view_time, Refuses, read_key}
-use Rattle.lifecycle_core.specs.Tasks.{End, uploaded, synced, answered, without_view, stopped}
+use Rattle.lifecycle_core.specs.Tasks.{End, uploaded, synced, answered, stopped}
 use Rattle.lifecycle_core.specs.TimeRules.{PutsMark, PutsObject}
 use Rattle.lifecycle_core.specs.Views.{Use}
 
@@ -75,14 +75,12 @@ IsFault other number = ⊥
 abbrev pub AreFaultsShown : List Entry → List (List (List End)) → Type 0
 AreFaultsShown journal ends = (end : End) (number : ℕ) → SomeCame ends end → IsFault end number → (e : Entry) × (entry_at journal number ≡ Some e) × IsTrue (has_failed e.reply)
 
--- The task came to what it is for, or to the stop of its line; or a sync found too many names, or a query's gateway had no view.
+-- The task came to what it is for, or to the stop of its line.
 abbrev pub IsWell : End → Type 0
 IsWell (uploaded (shipped.Done count)) = Unit {0}
 IsWell (uploaded shipped.Already) = Unit {0}
 IsWell (synced (fetched.View view)) = Unit {0}
-IsWell (synced fetched.TooMany) = Unit {0}
 IsWell (answered used (called.Answer series sources)) = Unit {0}
-IsWell without_view = Unit {0}
 IsWell (stopped count) = Unit {0}
 IsWell other = ⊥
 

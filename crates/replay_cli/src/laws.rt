@@ -1,5 +1,6 @@
-ghost use Rattle.std.specs.Prelude.{ℕ, Bool, List};
+ghost use Rattle.std.specs.Prelude.{◌≡◌, ℕ, Bool, true, List};
 ghost use Rattle.world_core.specs.Standing.{IsHonest};
+ghost use Rattle.world_core.specs.Worlds.{failed_count};
 ghost use Rattle.world_core.specs.declared.entry.Entry.{Entry};
 ghost use Rattle.script_core.specs.Lawful.{IsLawfulScript};
 ghost use Rattle.script_core.specs.declared.script.Script.{Script};
@@ -13,4 +14,10 @@ pub fn told_answers_are_sound()
         → (place : ℕ) (answer : ToldAnswer) → IsTold script script.phases run.report.outcomes place answer → IsWorth script journal run.ends answer }
     ensures full { (script : Script) (text : List ℕ) (journal : List Entry) (run : IsFullRun script text journal) → IsLawfulScript script → IsHonest journal
         → (place : ℕ) (answer : ToldAnswer) → IsTold script run.done run.report.outcomes place answer → IsWorth script journal run.ends answer }
+{}
+
+/// A law: where the bucket is honest and no call to it failed, a whole run ends as asked: no line tells of a fault, of something
+/// missing, damaged or too many, or of a view that is not there.
+pub fn calm_runs_end_as_asked()
+    ensures { (script : Script) (as_asked : Bool) (text : List ℕ) (journal : List Entry) → IsWholeRun script as_asked text journal → IsHonest journal → failed_count journal ≡ 0 → as_asked ≡ true }
 {}

@@ -1,0 +1,133 @@
+-- Where every task has ended well, every outcome is as asked.
+use Rattle.std.proofs.Common.{◌≡◌, ◌⊎◌, inl, inr, ℕ, zero, suc, ◌+◌, Bool, true, false, ◌&&◌, List, [], ◌∷◌, ◌++◌, length, Contains, Option, Some, None, refl, sym, ◌∙◌, ap, subst, arith}
+use Rattle.std.specs.List.{AllZip, list_all, zip}
+use Rattle.std.proofs.lemmas.List.Folds.{list_all-append}
+use Rattle.std.proofs.lemmas.Bool.{and_from}
+use Rattle.world_core.specs.Standing.{IsHonest}
+use Rattle.world_core.specs.Worlds.{failed_count}
+use Rattle.world_core.specs.declared.entry.Entry.{Entry}
+use Rattle.shipper.specs.declared.upload_end.UploadEnd.{UploadEnd}
+use Rattle.shipper.specs.declared.upload_end.UploadEnd.TheVariants as shipped
+use Rattle.meta_fetcher.specs.declared.sync_end.SyncEnd.{SyncEnd}
+use Rattle.meta_fetcher.specs.declared.sync_end.SyncEnd.TheVariants as fetched
+use Rattle.store_gateway.specs.declared.series_end.SeriesEnd.{SeriesEnd}
+use Rattle.store_gateway.specs.declared.series_end.SeriesEnd.TheVariants as called
+use Rattle.script_core.specs.Hands.{gateway_count, gateway_of, hands_of_task, workers_of}
+use Rattle.script_core.specs.Lawful.{IsLawfulScript}
+use Rattle.script_core.specs.declared.hand.Hand.{Hand}
+use Rattle.script_core.specs.declared.phase.Phase.{Phase}
+use Rattle.script_core.specs.declared.script.Script.{Script}
+use Rattle.script_core.specs.declared.task.Task.{Task}
+use Rattle.script_core.specs.declared.work.Work.{Work}
+use Rattle.script_core.specs.declared.work.Work.TheVariants as work
+use Rattle.script_core.specs.declared.worker.Worker.{Worker}
+use Rattle.lifecycle_core.specs.Causes.{AreWell, IsWell, SomeCame}
+use Rattle.lifecycle_core.specs.Phases.{CameTo}
+use Rattle.lifecycle_core.specs.Tasks.{End, uploaded, synced, answered, without_view, stopped}
+use Rattle.lifecycle_core.specs.Views.{Use}
+use Rattle.lifecycle_core.proofs.Lists.{contains_first, contains_later}
+use Rattle.replay_cli.specs.Outcomes.{IsOutcome, PhasesCame, TaskCame, TasksCame, call_outcome, sync_outcome, upload_outcome}
+use Rattle.replay_cli.specs.Reports.{is_as_asked}
+use Rattle.replay_cli.specs.Verdicts.{IsWholeRun}
+use Rattle.replay_cli.specs.declared.outcome.Outcome.{Outcome}
+use Rattle.replay_cli.specs.declared.outcome.Outcome.TheVariants as outcome
+
+-- ---- one task
+
+upload_asked : (end : UploadEnd) → IsWell (uploaded end) → is_as_asked (outcome.Upload (upload_outcome end)) ≡ true
+upload_asked (shipped.Done count) well = refl
+upload_asked shipped.Already well = refl
+upload_asked (shipped.Fault entry) well = absurd well
+
+sync_asked : (end : SyncEnd) → IsWell (synced end) → is_as_asked (outcome.Sync (sync_outcome end)) ≡ true
+sync_asked (fetched.View view) well = refl
+sync_asked (fetched.Fault entry) well = absurd well
+sync_asked (fetched.Damaged entry) well = absurd well
+sync_asked fetched.TooMany well = absurd well
+
+call_asked : (used : Use) (end : SeriesEnd) → IsWell (answered used end) → is_as_asked (outcome.Query (call_outcome 0 end)) ≡ true
+call_asked used (called.Answer series sources) well = refl
+call_asked used (called.Missing entry) well = absurd well
+call_asked used (called.Damaged entry) well = absurd well
+call_asked used (called.Fault entry) well = absurd well
+
+asked_as : (o p : Outcome) → o ≡ p → is_as_asked p ≡ true → is_as_asked o ≡ true
+asked_as o p is asked = ap is_as_asked is ∙ asked
+
+one_asked : (w : Work) (end : End) (o : Outcome) → IsWell end → IsOutcome w (end ∷ []) o → is_as_asked o ≡ true
+one_asked (work.Upload ulid stop) (uploaded e) o well is = asked_as o _ is (upload_asked e well)
+one_asked (work.Upload ulid stop) (stopped count) o well is = asked_as o _ is refl
+one_asked (work.Upload ulid stop) (synced e) o well is = absurd is
+one_asked (work.Upload ulid stop) (answered used e) o well is = absurd is
+one_asked (work.Upload ulid stop) without_view o well is = absurd is
+one_asked (work.Sync gateway) (synced e) o well is = asked_as o _ is (sync_asked e well)
+one_asked (work.Sync gateway) (uploaded e) o well is = absurd is
+one_asked (work.Sync gateway) (answered used e) o well is = absurd is
+one_asked (work.Sync gateway) without_view o well is = absurd is
+one_asked (work.Sync gateway) (stopped count) o well is = absurd is
+one_asked (work.Query low high n) (answered used e) o well is = asked_as o _ is (call_asked used e well)
+one_asked (work.Query low high n) (uploaded e) o well is = absurd is
+one_asked (work.Query low high n) (synced e) o well is = absurd is
+one_asked (work.Query low high n) without_view o well is = absurd well
+one_asked (work.Query low high n) (stopped count) o well is = absurd is
+
+none_asked : (w : Work) (o : Outcome) → IsOutcome w [] o → is_as_asked o ≡ true
+none_asked (work.Upload ulid stop) o is = absurd is
+none_asked (work.Sync gateway) o is = absurd is
+none_asked (work.Query low high n) o is = asked_as o _ is refl
+
+more_asked : (w : Work) (one other : End) (ends : List End) (o : Outcome) → IsOutcome w (one ∷ other ∷ ends) o → ⊥
+more_asked (work.Upload ulid stop) (uploaded e) other ends o is = is
+more_asked (work.Upload ulid stop) (synced e) other ends o is = is
+more_asked (work.Upload ulid stop) (answered used e) other ends o is = is
+more_asked (work.Upload ulid stop) without_view other ends o is = is
+more_asked (work.Upload ulid stop) (stopped count) other ends o is = is
+more_asked (work.Sync gateway) (uploaded e) other ends o is = is
+more_asked (work.Sync gateway) (synced e) other ends o is = is
+more_asked (work.Sync gateway) (answered used e) other ends o is = is
+more_asked (work.Sync gateway) without_view other ends o is = is
+more_asked (work.Sync gateway) (stopped count) other ends o is = is
+more_asked (work.Query low high n) (uploaded e) other ends o is = is
+more_asked (work.Query low high n) (synced e) other ends o is = is
+more_asked (work.Query low high n) (answered used e) other ends o is = is
+more_asked (work.Query low high n) without_view other ends o is = is
+more_asked (work.Query low high n) (stopped count) other ends o is = is
+
+-- ---- the ends of workers
+
+of_zip : {X Y : Type 0} (xs : List X) (ys : List Y) (x : X) (y : Y) → Contains (zip xs ys) (x, y) → Contains ys y
+of_zip [] ys x y (k, below, at) = absurd (omega (arith, below))
+of_zip (a ∷ xs) [] x y (k, below, at) = absurd (omega (arith, below))
+of_zip {X} {Y} (a ∷ xs) (b ∷ ys) x y (zero, below, at) = let same : b ≡ y = ap (λ (p : X × Y). p.1) at in subst (Contains (b ∷ ys)) same (contains_first b ys)
+of_zip (a ∷ xs) (b ∷ ys) x y (suc k, below, at) = contains_later b y ys (of_zip xs ys x y (k, omega (arith, below), at))
+
+end_came : (workers : List Worker) (ends : List (List End)) (gateway : Option ℕ) (place : ℕ) (end : End) → CameTo workers ends gateway place end → (own : List End) × Contains ends own × Contains own end
+end_came workers ends gateway place end c = (c.own, of_zip workers ends c.worker c.own c.among, of_zip (c.worker).tasks c.own place end c.came)
+
+module _ (workers : List Worker) (ends : List (List End)) (well : (own : List End) (end : End) → Contains ends own → Contains own end → IsWell end) where
+  hands_asked : (place : ℕ) (w : Work) (hs : List Hand) (own : List End) (o : Outcome) → AllZip (λ hand end. CameTo workers ends (gateway_of hand) place end) hs own → IsOutcome w own o → is_as_asked o ≡ true
+  hands_asked place w [] [] o all is = none_asked w o is
+  hands_asked place w [] (end ∷ own) o all is = absurd all
+  hands_asked place w (h ∷ hs) [] o all is = absurd all
+  hands_asked place w (h ∷ hs) (end ∷ []) o all is = let came = end_came workers ends (gateway_of h) place end all.0 in one_asked w end o (well came.0 end came.1 came.2) is
+  hands_asked place w (h ∷ hs) (end ∷ other ∷ own) o all is = absurd (more_asked w end other own o is)
+
+  tasks_asked : (script : Script) (place : ℕ) (tasks : List Task) (outcomes : List Outcome) → TasksCame script workers ends place tasks outcomes → list_all is_as_asked outcomes ≡ true
+  tasks_asked script place [] outcomes came = ap (list_all is_as_asked) came
+  tasks_asked script place (task ∷ tasks) [] came = absurd came
+  tasks_asked script place (task ∷ tasks) (o ∷ outcomes) came =
+      and_from _ _ (hands_asked place task.work (hands_of_task (gateway_count script.gateways) place task.work) (came.0).own o (came.0).came (came.0).is) (tasks_asked script (place + 1) tasks outcomes came.1)
+
+phases_asked : (script : Script) (number : ℕ) (phases : List Phase) (ends : List (List (List End))) (outcomes : List Outcome) → ((phase : List (List End)) (own : List End) (end : End) → Contains ends phase → Contains phase own → Contains own end → IsWell end)
+    → PhasesCame script number phases ends outcomes → list_all is_as_asked outcomes ≡ true
+phases_asked script number [] ends outcomes well came = ap (list_all is_as_asked) came.1
+phases_asked script number (phase ∷ phases) [] outcomes well came = absurd came
+phases_asked script number (phase ∷ phases) (first ∷ later) outcomes well (own, others, parts, here, rest) =
+    ap (list_all is_as_asked) parts ∙ list_all-append is_as_asked own others
+    ∙ and_from _ _ (tasks_asked (workers_of script number) first (λ es end among came. well first es end (contains_first first later) among came) script 0 phase.tasks own here)
+    (phases_asked script (number + 1) phases later others (λ p es end here' among came. well p es end (contains_later first p later here') among came) rest)
+
+pub calm_run : (script : Script) (as_asked : Bool) (text : List ℕ) (journal : List Entry) → IsWholeRun script as_asked text journal → IsHonest journal → failed_count journal ≡ 0 → as_asked ≡ true
+calm_run script as_asked text journal run honest none =
+    run.report.flag ∙ phases_asked script 0 script.phases run.ends run.report.outcomes
+    (λ phase own end in_ends in_phase in_own. run.guaranteed.complete honest none end (phase, own, in_ends, in_phase, in_own)) run.report.came
