@@ -11,20 +11,28 @@ use Rattle.ulid_core.specs.UlidText.{text_of}
 use Rattle.bucket_core.specs.Pages.{Ascends, Before}
 use Rattle.world_core.specs.declared.entry.Entry.{Entry}
 use Rattle.meta_fetcher.specs.Syncs.{SyncRun}
+use Rattle.meta_fetcher.specs.declared.sync_end.SyncEnd.{SyncEnd}
 use Rattle.meta_fetcher.specs.declared.sync_end.SyncEnd.TheVariants as fetched
+use Rattle.store_gateway.specs.SeriesRuns.{Query as Question}
 use Rattle.script_core.specs.Lawful.{IsLawfulScript}
 use Rattle.script_core.specs.declared.block.Block.{Block}
 use Rattle.script_core.specs.declared.script.Script.{Script}
-use Rattle.lifecycle_core.specs.Tasks.{sync_rules}
+use Rattle.script_core.specs.declared.work.Work.{Work}
+use Rattle.script_core.specs.declared.work.Work.TheVariants.{Upload, Sync, Query}
+use Rattle.lifecycle_core.specs.Causes.{SomeCame}
+use Rattle.lifecycle_core.specs.Phases.{IsRunOf}
+use Rattle.lifecycle_core.specs.Tasks.{End, QueryTask, TaskRun, asked_by, sync_rules, synced}
+use Rattle.lifecycle_core.specs.Views.{Use}
 use Rattle.lifecycle_core.proofs.ExactAnswersMembers.{into_map}
 use Rattle.lifecycle_core.proofs.Explaining.{parted}
 use Rattle.lifecycle_core.proofs.Lists.{contains_first, contains_later}
 use Rattle.lifecycle_core.proofs.Misses.{find_holds}
+use Rattle.lifecycle_core.proofs.TasksMade.{ends_are_made}
 use Rattle.lifecycle_core.proofs.TellingPuts.{declared_ulid}
-use Rattle.lifecycle_core.proofs.Told.{IsDeclaredName, IsPart, IsReadable, IsTold}
+use Rattle.lifecycle_core.proofs.Told.{IsDeclaredName, IsPart, IsReadable, IsTold, Rises}
 use Rattle.lifecycle_core.proofs.TrueViews.{not_in_view, own_entries}
 use Rattle.lifecycle_core.proofs.TrueViewsFinds.{IsOwn}
-use Rattle.lifecycle_core.proofs.TrueViewsWalk.{IsNextPage, KeptByPages, KeptByReads, synced}
+use Rattle.lifecycle_core.proofs.TrueViewsWalk.{IsNextPage, KeptByPages, KeptByReads, synced as walked}
 
 -- ---- how many names ascend
 
@@ -118,7 +126,34 @@ pub syncs_find_few : (script : Script) (journal entries : List Entry) → IsLawf
     → ¬ SyncRun (sync_rules script.rules) entries (Some fetched.TooMany)
 syncs_find_few script journal [] lawful readable told part run = cc (run)
 syncs_find_few script journal (first ∷ entries) lawful readable told part run =
-    synced fetched.TooMany ⊥ (IsOwn script journal first entries) (sync_rules script.rules) (AreListed script) (λ listed. Unit {0}) (λ sightings ulids. Unit {0})
+    walked fetched.TooMany ⊥ (IsOwn script journal first entries) (sync_rules script.rules) (AreListed script) (λ listed. Unit {0}) (λ sightings ulids. Unit {0})
     (few_pages script lawful journal first entries script.rules.page_limit) (few_reads script lawful journal first entries)
     (record { ascend = tt; declared_names = All-nil (IsDeclaredName script) }) (λ names l. tt)
     first entries (own_entries script journal first entries told part) (λ sightings j es run'. not_in_view fetched.TooMany es _ (λ view is. cc (is)) run') run
+
+-- ---- the ends
+
+query_finds_few : (script : Script) (view : Option Use) (asked : Option Question) (entries : List Entry) → ¬ QueryTask script view asked entries (Some (synced fetched.TooMany))
+query_finds_few script None asked entries (nil, inl none) = cc (none)
+query_finds_few script None asked entries (nil, inr same) = cc (same)
+query_finds_few script (Some used) None entries run = run
+query_finds_few script (Some used) (Some asked) entries (None, run, same) = cc (same)
+query_finds_few script (Some used) (Some asked) entries (Some own, run, same) = cc (same)
+
+task_finds_few : (script : Script) (view : Option Use) (w : Work) (entries : List Entry) → ¬ SyncRun (sync_rules script.rules) entries (Some fetched.TooMany) → ¬ TaskRun script view w entries (Some (synced fetched.TooMany))
+task_finds_few script view (Upload ulid stop) entries few (block, is, (objects, None, shipped, run, inl (same, early))) = cc (same)
+task_finds_few script view (Upload ulid stop) entries few (block, is, (objects, Some own, shipped, run, inl (same, early))) = cc (same)
+task_finds_few script view (Upload ulid stop) entries few (block, is, (objects, own, shipped, run, inr (n, stops, above, count, same))) = cc (same)
+task_finds_few script view (Sync gateway) entries few (None, run, same) = cc (same)
+task_finds_few script view (Sync gateway) entries few (Some own, run, same) =
+    let one : own ≡ fetched.TooMany = cc (same) in
+    few (subst (λ (x : SyncEnd). SyncRun (sync_rules script.rules) entries (Some x)) one run)
+task_finds_few script view (Query low high selector) entries few run = query_finds_few script view (asked_by script selector low high) entries run
+
+-- no worker says that a sync found too many names
+pub none_found_many : (script : Script) (journal : List Entry) (ends : List (List (List End))) → IsLawfulScript script → IsReadable script → Rises journal → All (IsTold script journal) journal → IsRunOf script journal ends
+    → ¬ SomeCame ends (synced fetched.TooMany)
+none_found_many script journal ends lawful readable rises told run came =
+    let made = ends_are_made script journal ends rises run (synced fetched.TooMany) came in
+    let m = made.1 in
+    task_finds_few script m.view (made.0).work m.entries (syncs_find_few script journal m.entries lawful readable told m.part) m.run
