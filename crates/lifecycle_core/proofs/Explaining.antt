@@ -318,7 +318,7 @@ found_is_lie front e k bytes reads found stood = (
   ([], codes "F" ++ bytes, codes "A", refl, refl, refl, refl, λ same. omega (arith, same)),
 )
 
-pub parted : (xs : List Entry) (x : Entry) → Contains xs x → (front : List Entry) × (back : List Entry) × (xs ≡ front ++ x ∷ back)
+pub parted : {X : Type 0} (xs : List X) (x : X) → Contains xs x → (front : List X) × (back : List X) × (xs ≡ front ++ x ∷ back)
 parted [] x (k, below, is) = absurd (omega (arith, below))
 parted (y ∷ xs) x (zero, below, is) = ([], xs, ap (λ z. z ∷ xs) is)
 parted (y ∷ xs) x (suc k, below, is) = let rest = parted xs x (k, omega (arith, below), is) in (y ∷ rest.0, rest.1, ap (λ es. y ∷ es) rest.2)

@@ -1,6 +1,6 @@
 -- What the entries of an honest journal tell of a script's blocks: numbers rise and moments do not fall, what was put stands, and
 -- what stands was put.
-use Rattle.std.proofs.Common.{◌≡◌, ◌≢◌, ◌⊎◌, inl, inr, ℕ, suc, ◌+◌, ◌<◌, ◌≤◌, ◌^◌, ◌==◌, false, not, cond, List, [], ◌∷◌, ◌++◌, map, length, take, Contains, Some, None, refl, sym, ◌∙◌, ap, subst, append_assoc, arith}
+use Rattle.std.proofs.Common.{◌≡◌, ◌≢◌, ◌⊎◌, inl, inr, ℕ, suc, ◌+◌, ◌<◌, ◌≤◌, ◌^◌, ◌==◌, true, false, not, cond, List, [], ◌∷◌, ◌++◌, map, length, take, Contains, Option, Some, None, refl, sym, ◌∙◌, ap, subst, append_assoc, arith}
 use Rattle.std.specs.Option.{is_some}
 use Rattle.std.specs.List.{All, before_first, position_or_len}
 use Rattle.std.specs.Int.Digits.{AllBelowBase}
@@ -18,7 +18,7 @@ use Rattle.block_keys.specs.KeyText.{key_text, name_of}
 use Rattle.block_keys.specs.declared.key.Key.{Key}
 use Rattle.block_keys.specs.declared.key.Key.TheVariants as key
 use Rattle.bucket_core.specs.Contents.{nothing}
-use Rattle.bucket_core.specs.Pages.{Before, IsPage}
+use Rattle.bucket_core.specs.Pages.{Before, IsName, IsPage}
 use Rattle.world_core.specs.Journals.{IsNumbered}
 use Rattle.world_core.specs.Moments.{HasMoments, last_moment, moment_after}
 use Rattle.world_core.specs.Operations.{IsLawful}
@@ -37,7 +37,7 @@ use Rattle.lifecycle_core.specs.Views.{no_views}
 use Rattle.lifecycle_core.proofs.Explaining.{WasPut, parted, phases_in_order, put_stays, was_put}
 use Rattle.lifecycle_core.proofs.Positions.{split, stands_in}
 use Rattle.lifecycle_core.proofs.TellingPuts.{PutsShipped, puts_are_shipped}
-use Rattle.lifecycle_core.proofs.Told.{IsReadable, IsShippedObject, IsTold, Rises, WasPutBefore}
+use Rattle.lifecycle_core.proofs.Told.{IsDeclaredName, IsReadable, IsShippedObject, IsTold, Rises, WasPutBefore}
 use Rattle.lifecycle_core.proofs.Unbroken.{after_more, last_is}
 
 -- ---- numbers and moments
@@ -82,18 +82,23 @@ to_slash (d ∷ digits) others low =
     let other : (character d == 47) ≡ false = grind (arith, nat_tests) in
     ap (λ b. take (cond (not b) (1 + n) 0) (character d ∷ rest)) other ∙ ap (λ m. take m (character d ∷ rest)) (one_more n) ∙ ap (λ text. character d ∷ text) (to_slash digits others low.1)
 
--- a block's meta is listed in the root under the block's ULID
-root_name : (ulid : ℕ) → text_of ulid ≡ before_first (λ byte. byte == 47) (key_text (key.Meta ulid))
+-- an object of a block is listed in the root under the block's ULID
+root_name : (k : Key) → text_of (key_ulid k) ≡ before_first (λ byte. byte == 47) (key_text k)
 unfolding key_text text_of
-root_name ulid =
-    let digits = fixed_digits 32 26 ulid in
-    let name = name_of (key.Meta ulid) in
-    sym (ap (before_first (λ byte. byte == 47)) (append_assoc (map character digits) (47 ∷ []) name) ∙ to_slash digits name (below-fixed_digits 32 26 ulid (omega arith)))
+root_name k =
+    let digits = fixed_digits 32 26 (key_ulid k) in
+    let name = name_of k in
+    sym (ap (before_first (λ byte. byte == 47)) (append_assoc (map character digits) (47 ∷ []) name) ∙ to_slash digits name (below-fixed_digits 32 26 (key_ulid k) (omega arith)))
 
 -- keys that can be written have one text only where they are one
 one_key : (k other : Key) → IsLawfulKey k → IsLawfulKey other → key_ulid k < 2 ^ 128 → key_ulid other < 2 ^ 128 → key_text k ≡ key_text other → k ≡ other
 one_key k other lawful also small little same =
     key_text-distinct k other (IsKeyText-key_text k lawful (IsUlidText-text_of (key_ulid k) small)) (IsKeyText-key_text other also (IsUlidText-text_of (key_ulid other) little)) same
+
+-- what an object that stands holds
+standing : (o : Option (List ℕ)) → is_some o ≡ true → (bytes : List ℕ) × (o ≡ Some bytes)
+standing None is = absurd (cc (is))
+standing (Some bytes) is = (bytes, refl)
 
 -- ---- what one entry tells
 
@@ -145,7 +150,22 @@ module _ (script : Script) (journal : List Entry) (readable : IsReadable script)
 
   page_lists : (cursor : List ℕ) (limit : ℕ) (names : List (List ℕ)) → IsPage (stands before) [] cursor limit names → (ulid : ℕ) (bytes : List ℕ) → WasPutBefore journal (key.Meta ulid) bytes e.seq → Before cursor (text_of ulid)
       → Contains names (text_of ulid) ⊎ ((length names ≡ limit) × All (λ name. Before name (text_of ulid)) names)
-  page_lists cursor limit names page ulid bytes put later = page.whole (text_of ulid) (key_text (key.Meta ulid), ap is_some (put_stands (key.Meta ulid) bytes put).1, root_name ulid) later
+  page_lists cursor limit names page ulid bytes put later = page.whole (text_of ulid) (key_text (key.Meta ulid), ap is_some (put_stands (key.Meta ulid) bytes put).1, root_name (key.Meta ulid)) later
+
+  -- what stands under a text is listed under a declared block's ULID
+  put_listed : (text name bytes : List ℕ) → name ≡ before_first (λ byte. byte == 47) text → WasPut before text bytes → IsDeclaredName script name
+  put_listed text name bytes lists w =
+      let among : Contains journal w.entry = subst (λ es. Contains es w.entry) (sym parts) (Contains-append_left before (e ∷ after) w.entry (subst (λ es. Contains es w.entry) (sym w.parts) (stands_in w.front w.back w.entry))) in
+      let shipped : IsShippedObject script w.key_is bytes = All-contains (PutsShipped script) journal w.entry puts among w.key_is bytes w.puts in
+      (key_ulid w.key_is, shipped.block, shipped.is, lists ∙ ap (before_first (λ byte. byte == 47)) (sym w.same) ∙ sym (root_name w.key_is))
+
+  name_declared : (name : List ℕ) → IsName (stands before) [] name → IsDeclaredName script name
+  name_declared name (text, stand, lists) =
+      let here = standing (stands before text) stand in
+      elim (was_put before nothing text here.0 here.1) [
+        | inl w ↦ put_listed text name here.0 lists w
+        | inr none ↦ absurd (cc (none))
+      ]
 
   entry_told : IsTold script journal e
   entry_told = record {
@@ -153,6 +173,7 @@ module _ (script : Script) (journal : List Entry) (readable : IsReadable script)
     absent = absent_unput;
     ascend = λ cursor limit names asked told. (shows (op.RootPage cursor limit) (reply.Names names) asked told).ascend;
     listed = λ cursor limit names asked told. page_lists cursor limit names (shows (op.RootPage cursor limit) (reply.Names names) asked told);
+    only = λ cursor limit names asked told. All-weaker (IsName (stands before) []) (IsDeclaredName script) name_declared names (shows (op.RootPage cursor limit) (reply.Names names) asked told).stand;
   }
 
 -- each entry of an honest journal tells of the script's blocks

@@ -45,6 +45,10 @@ pub record IsShippedObject (script : Script) (k : Key) (bytes : List ℕ) : Type
 abbrev pub WasPutBefore : List Entry → Key → List ℕ → ℕ → Type 0
 WasPutBefore journal k bytes number = (p : Entry) × Contains journal p × (p.op ≡ op.Put k bytes) × IsTrue (has_landed p.reply) × (p.seq < number)
 
+-- the name is that of a declared block
+abbrev pub IsDeclaredName : Script → List ℕ → Type 0
+IsDeclaredName script name = (ulid : ℕ) × (block : Block) × (declared script ulid ≡ Some block) × (name ≡ text_of ulid)
+
 -- What the entry tells of the script's blocks. Nothing deletes.
 pub record IsTold (script : Script) (journal : List Entry) (e : Entry) : Type 0 where
   -- found bytes are those of a shipped object, which was put before
@@ -58,6 +62,8 @@ pub record IsTold (script : Script) (journal : List Entry) (e : Entry) : Type 0 
   pub listed : (after : List ℕ) (limit : ℕ) (names : List (List ℕ)) → e.op ≡ op.RootPage after limit → e.reply ≡ reply.Names names
       → (ulid : ℕ) (bytes : List ℕ) → WasPutBefore journal (key.Meta ulid) bytes e.seq → Before after (text_of ulid)
       → Contains names (text_of ulid) ⊎ ((length names ≡ limit) × All (λ name. Before name (text_of ulid)) names)
+  -- a page has no names but those of declared blocks
+  pub only : (after : List ℕ) (limit : ℕ) (names : List (List ℕ)) → e.op ≡ op.RootPage after limit → e.reply ≡ reply.Names names → All (IsDeclaredName script) names
 
 -- numbers rise along the entries, and moments do not fall
 abbrev pub Rises : List Entry → Type 0

@@ -1,6 +1,6 @@
 -- A view whose sync is told of by an honest journal is true of the script: it keeps blocks that the script declares, which were
 -- complete before the sync's last entry, and each one that was settled before the sync began. And no sync finds anything damaged.
-use Rattle.std.proofs.Common.{◌≡◌, inl, inr, ℕ, ◌==◌, ◌+◌, ◌<◌, ◌≤◌, ◌^◌, ◌-◌, suc, zero, Bool, true, false, ◌&&◌, cond, List, [], ◌∷◌, Contains, Option, Some, None, ℤ, pos, negsuc, refl, sym, ◌∙◌, ap, subst, arith}
+use Rattle.std.proofs.Common.{◌≡◌, ◌≢◌, inl, inr, ℕ, ◌==◌, ◌+◌, ◌<◌, ◌≤◌, ◌^◌, ◌-◌, suc, zero, Bool, true, false, ◌&&◌, cond, List, [], ◌∷◌, Contains, Option, Some, None, ℤ, pos, negsuc, refl, sym, ◌∙◌, ap, subst, arith}
 use Rattle.std.specs.Prelude.{int_le, is_some, neg_ℤ, ◌≤ℤ◌, ◌<ℤ◌}
 use Rattle.std.specs.List.{All, AllByRecursion, filter}
 use Rattle.std.proofs.lemmas.Bool.{both_ways, le-leb, or_left}
@@ -15,6 +15,7 @@ use Rattle.sync_filters.specs.Filters.{is_consistent, is_in_partition, is_late_s
 use Rattle.sync_filters.specs.declared.found.Found.{Found}
 use Rattle.meta_fetcher.specs.Sightings.{sighting_of}
 use Rattle.meta_fetcher.specs.Syncs.{EndsInView, SyncRun}
+use Rattle.meta_fetcher.specs.declared.sync_end.SyncEnd.{SyncEnd}
 use Rattle.meta_fetcher.specs.declared.sync_end.SyncEnd.TheVariants as fetched
 use Rattle.meta_fetcher.specs.declared.view.View.{View}
 use Rattle.script_core.specs.Lawful.{IsLawfulBlock, IsLawfulBody, IsLawfulScript}
@@ -78,7 +79,7 @@ module _ (script : Script) (journal : List Entry) (first : Entry) (entries : Lis
         own_later es (λ x among. within x (contains_later e x es among)) (All-tail (λ (x : Entry). (first.seq < x.seq) × (first.moment.ms ≤ x.moment.ms)) e es all),
       )
 
-  own_entries : AllByRecursion (IsOwn script journal first entries) (first ∷ entries)
+  pub own_entries : AllByRecursion (IsOwn script journal first entries) (first ∷ entries)
   own_entries = (own_entry first (contains_first first entries) (omega arith) (omega arith), own_later entries (λ e among. contains_later first e entries among) part.rises.0)
 
 -- ---- what a sync found
@@ -180,15 +181,16 @@ module _ (script : Script) (readable : IsReadable script) (journal : List Entry)
   undamaged_pages : (limit : ℕ) → KeptByPages (fetched.Damaged number) ⊥ (IsOwn script journal first entries) limit (λ listed. Unit {0}) (λ listed. Unit {0})
   undamaged_pages limit = record {
     fault = λ n is. cc (is);
-    many = λ is. cc (is);
+    many = λ names i many is. cc (is);
     unordered = λ listed names page i own next down is. both_ways _ down (ascends_after (last_listed listed) names (own.told.ascend _ limit names next.asks next.shows));
     short = λ listed names page i own next few. tt;
     full = λ listed names page i own next many. tt;
   }
 
-not_in_view : (number : ℕ) (es : List Entry) (IsSuch : View → Type 0) → EndsInView IsSuch es (Some (fetched.Damaged number)) → ⊥
-not_in_view number es IsSuch (nil, inl none) = cc (none)
-not_in_view number es IsSuch (nil, inr (view, is, v)) = cc (is)
+-- an end that is no view is not that of all reads
+pub not_in_view : (last : SyncEnd) (es : List Entry) (IsSuch : View → Type 0) → ((view : View) → last ≢ fetched.View view) → EndsInView IsSuch es (Some last) → ⊥
+not_in_view last es IsSuch other (nil, inl none) = cc (none)
+not_in_view last es IsSuch other (nil, inr (view, is, v)) = other view (cc (is))
 
 -- no sync of the journal finds names or bytes that are not of the form
 pub syncs_undamaged : (script : Script) (journal entries : List Entry) (number : ℕ) → IsLawfulScript script → IsReadable script → All (IsTold script journal) journal → IsPart journal entries
@@ -197,4 +199,4 @@ syncs_undamaged script journal [] number lawful readable told part run = cc (run
 syncs_undamaged script journal (first ∷ entries) number lawful readable told part run =
     synced (fetched.Damaged number) ⊥ (IsOwn script journal first entries) (sync_rules script.rules) (λ listed. Unit {0}) (λ listed. Unit {0}) (λ sightings ulids. AreSmall ulids)
     (undamaged_pages script readable journal first entries number script.rules.page_limit) (undamaged_reads script readable journal first entries number) tt (λ names l. ulids_small names)
-    first entries (own_entries script journal first entries told part) (λ sightings small es run'. not_in_view number es _ run') run
+    first entries (own_entries script journal first entries told part) (λ sightings small es run'. not_in_view (fetched.Damaged number) es _ (λ view is. cc (is)) run') run

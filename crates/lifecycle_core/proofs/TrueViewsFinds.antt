@@ -126,7 +126,7 @@ module _ (script : Script) (journal : List Entry) (first : Entry) (entries : Lis
     pages_kept : KeptByPages (fetched.View view) (FindsPast rules view) IsOwn rules.page_limit ArePastListed AllPastListed
     pages_kept = record {
       fault = λ number is. absurd (cc (is));
-      many = λ is. absurd (cc (is));
+      many = λ names i many is. absurd (cc (is));
       unordered = λ listed names page i own next down is. absurd (cc (is));
       short = λ listed names page i own next few ulid past.
           listed_at_last rules.page_limit listed names (text_of ulid) (on_page listed names page ulid own next past) (ltb-true (length names) rules.page_limit few) (i ulid past);

@@ -102,7 +102,7 @@ pub record IsNextPage (limit : ℕ) (listed : List (List ℕ)) (page : Entry) (n
 -- I is kept along the pages, of the names that were listed until now; after the last one L holds of all names.
 pub record KeptByPages (last : SyncEnd) (Goal : Type 0) (P : Entry → Type 0) (limit : ℕ) (I L : List (List ℕ) → Type 0) : Type 0 where
   pub fault : (number : ℕ) → last ≡ fetched.Fault number → Goal
-  pub many : last ≡ fetched.TooMany → Goal
+  pub many : (names : List (List ℕ)) → I names → nat_le 1_000_000 (length names) ≡ true → last ≡ fetched.TooMany → Goal
   pub unordered : (listed names : List (List ℕ)) (page : Entry) → I listed → P page → IsNextPage limit listed page names
       → ascends (last_listed listed) names ≡ false → last ≡ fetched.Damaged page.seq → Goal
   pub short : (listed names : List (List ℕ)) (page : Entry) → I listed → P page → IsNextPage limit listed page names → nat_lt (length names) limit ≡ true → L (listed ++ names)
@@ -122,7 +122,7 @@ module _ (last : SyncEnd) (Goal : Type 0) (P : Entry → Type 0) (limit : ℕ) (
       (λ up. match_told (nat_lt (length names) limit) _ _ Goal
       (λ short. goes (listed ++ names) entries (kept.short listed names page i own shown short) all)
       (λ full. match_told (nat_le 1_000_000 (length (listed ++ names))) _ _ Goal
-      (λ many. ends_with last fetched.TooMany Goal entries kept.many)
+      (λ many. ends_with last fetched.TooMany Goal entries (kept.many (listed ++ names) (kept.full listed names page i own shown full) many))
       (λ few. rest (listed ++ names) (kept.full listed names page i own shown full))))
       (λ down. ends_with last (fetched.Damaged page.seq) Goal entries (kept.unordered listed names page i own shown down)) run
   after_page entries rest listed page (reply.Failed landed) same i own is all run = ends_with last (fetched.Fault page.seq) Goal entries (kept.fault page.seq) run
