@@ -37,7 +37,6 @@ pub mod TasksMade
 pub mod TellingPuts
 pub mod Telling
 pub mod MetasAgain
-pub mod ViewsThere
 pub mod Readable
 pub mod FewNames
 pub mod Assembling
