@@ -38,4 +38,5 @@ pub mod TellingPuts
 pub mod Telling
 pub mod MetasAgain
 pub mod Readable
+pub mod ViewsThere
 pub mod Assembling
