@@ -39,4 +39,5 @@ pub mod Telling
 pub mod MetasAgain
 pub mod Readable
 pub mod FewNames
+pub mod ViewsThere
 pub mod Assembling
