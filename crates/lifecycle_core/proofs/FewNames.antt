@@ -66,7 +66,7 @@ few_ascend after (name ∷ names) texts up among =
     let front = at.0 in
     let back = at.1 in
     let others : (x : List ℕ) → Contains names x → Contains (front ++ back) x = λ x inside.
-        still_in front back name x (All-contains (Before name) names x (all_after name names up.1) inside) (subst (λ ts. Contains ts x) at.2 (among x (contains_later name x names inside))) in
+    still_in front back name x (All-contains (Before name) names x (all_after name names up.1) inside) (subst (λ ts. Contains ts x) at.2 (among x (contains_later name x names inside))) in
     let rest : length names ≤ length (front ++ back) = few_ascend name names (front ++ back) up.1 others in
     omega (arith, rest, ap (length {A = List ℕ}) at.2, length-append front (name ∷ back), length-append front back)
 
@@ -88,7 +88,7 @@ record AreListed (script : Script) (names : List (List ℕ)) : Type 0 where
 listed_few : (script : Script) (names : List (List ℕ)) → IsLawfulScript script → AreListed script names → length names ≤ 4_096
 listed_few script names lawful listed =
     let few : length names ≤ length (texts_of script) = few_ascend [] names (texts_of script) listed.ascend
-        (λ x inside. declared_text script x (All-contains (IsDeclaredName script) names x listed.declared_names inside)) in
+    (λ x inside. declared_text script x (All-contains (IsDeclaredName script) names x listed.declared_names inside)) in
     omega (arith, few, length-map script.blocks (λ (b : Block). text_of b.ulid), lawful.blocks.few)
 
 too_few : (n : ℕ) → n ≤ 4_096 → nat_le 1_000_000 n ≡ true → ⊥
