@@ -1,5 +1,5 @@
 -- What is spent of the budget of reading a whole index.
-use Rattle.std.proofs.Common.{◌≡◌, ℕ, ◌+◌, ◌<◌, ◌≤◌, List, [], ◌∷◌, ◌++◌, length, get_or, take, sum_by, refl, ap, arith}
+use Rattle.std.proofs.Common.{◌≡◌, ℕ, ◌+◌, ◌<◌, ◌≤◌, List, [], ◌∷◌, ◌++◌, length, get_or, take, map, sum_by, refl, sym, ◌∙◌, ap, arith}
 use Rattle.std.proofs.lemmas.List.{drop_all}
 use Rattle.std.proofs.lemmas.List.Sums.{sum_by-append, sum_by-cons, sum_by_more}
 use Rattle.std.specs.Int.{w32}
@@ -35,3 +35,8 @@ counted size xs i d x n n' more so_far below at added is = omega (arith, so_far,
 -- the bytes of two texts
 pub both_texts : (name value : List ℕ) (label : Label) → name ≡ label.name → value ≡ label.value → length name + length value ≡ label_bytes label
 both_texts name value label is is' = omega (arith, ap (length {A = ℕ}) is, ap (length {A = ℕ}) is')
+
+-- a sum over what a function makes of members
+pub sum_of_map : {X Y : Type 0} (size : Y → ℕ) (f : X → Y) (xs : List X) → sum_by (λ x. size (f x)) xs ≡ sum_by size (map f xs)
+sum_of_map size f [] = refl
+sum_of_map size f (x ∷ xs) = sum_by-cons (λ y. size (f y)) x xs ∙ ap (λ n. size (f x) + n) (sum_of_map size f xs) ∙ sym (sum_by-cons size (f x) (map f xs))

@@ -1,4 +1,4 @@
-ghost use Rattle.std.specs.Prelude.{◌≡◌, ◌+◌, ◌*◌, ◌^◌, ◌<◌, ◌≤◌, length, sum_by, IfOk, MatchResult};
+ghost use Rattle.std.specs.Prelude.{◌≡◌, ◌+◌, ◌*◌, ◌^◌, ◌<◌, ◌≤◌, length, map, sum_by, IfOk, MatchResult};
 ghost use Rattle.index_v2.specs.Budget.{label_bytes, members_of, series_bytes, text_bytes, told};
 ghost use Rattle.index_v2.specs.LentLabels.{as_label};
 ghost use Rattle.std.specs.Int.{w32};
@@ -39,7 +39,7 @@ fn with_texts(bytes: usize, name: &str, value: &str) -> Result<usize, NoMemory>
 
 /// How many bytes the texts of lent labels take.
 pub(crate) fn lent_text_bytes(labels: &[LentLabel<'_>]) -> Result<usize, NoMemory>
-    ensures { IfOk result (λ n. n ≡ sum_by (λ l. label_bytes (as_label l)) labels.now) }
+    ensures { IfOk result (λ n. n ≡ sum_by label_bytes (map as_label labels.now)) }
 {
     let mut bytes = 0;
     for label in labels {

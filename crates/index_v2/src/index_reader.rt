@@ -89,7 +89,7 @@ impl<'a> IndexReader<'a> {
         self.symbols.get(u64::from(number))
     }
 
-    /// Reads the series of a number, which need not be listed.
+    /// Reads the series of a number, which need not be listed. Its labels' texts come to 64 bytes for each byte of the index at most.
     pub fn series(&self, alloc: Global, number: u32) -> Result<IndexSeries, IndexRefusal>
         // What is read is what stands there, and what stands there is read.
         ensures found { IfOk result (λ series. IsSeriesOf self.now.bytes self.now.symbols number series) }
@@ -100,6 +100,7 @@ impl<'a> IndexReader<'a> {
 
         // The first refusal.
         ensures exact { Gives IndexRefusal.NoMemory (λ series. series) result (numbered_at self.now.bytes self.now.symbols number) }
+        ensures texts { IfOk result (λ series. text_bytes series ≤ 64 * length self.now.bytes) }
         ensures few { IfOk result (λ series. 2 * length series.labels + 3 * length series.chunks ≤ length self.now.bytes) }
     {
         series_of(alloc, self.bytes, &self.symbols, number)
@@ -160,7 +161,8 @@ impl<'a> IndexReader<'a> {
     /// A lawful index may be made of series that lie within one another, or of many rows with one list. What it holds may then
     /// be far more than its bytes, and reading it would take as much: it is answered with `NoMemory`. The bytes of the series
     /// read, their labels and their chunks come to eight for each byte of the index at most, and so do the bytes and the
-    /// numbers of the lists. Where sections do not overlap, as in each index that a server writes, neither comes to two.
+    /// numbers of the lists. Where sections do not overlap, as in each index that a server writes, neither comes to two. The texts of
+    /// the labels, which each series has for itself, come to 64 bytes for each byte of the index at most.
     pub fn whole(&self, alloc: Global) -> Result<IndexSeriesList, IndexRefusal>
         // It is read exactly where the bytes are an index of the list.
         ensures found { IfOk result (λ list. IsIndex self.now.bytes list) }

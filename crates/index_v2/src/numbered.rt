@@ -1,8 +1,9 @@
-ghost use Rattle.std.specs.Prelude.{◌≡◌, ◌⊎◌, ◌*◌, IfOk, Ok, Err};
+ghost use Rattle.std.specs.Prelude.{◌≡◌, ◌⊎◌, ◌*◌, ◌≤◌, length, IfOk, Ok, Err};
 ghost use Rattle.std.specs.Result.{IsOkAnd};
 ghost use Rattle.reading_core.specs.Reading.{Gives};
 ghost use Rattle.reading_core.specs.Grammar.{IsBytes};
 ghost use Rattle.index_v2.specs.declared.index_series.IndexSeries.{IndexSeries};
+ghost use Rattle.index_v2.specs.Budget.{text_bytes};
 ghost use Rattle.index_v2.specs.IndexFile.{IsSeriesOf};
 ghost use Rattle.index_v2.specs.SeriesLabels.{labelled_at, numbered_at};
 
@@ -49,7 +50,8 @@ pub(crate) fn labelled(
     symbols: &Symbols<'_>,
     at: u64,
 ) -> Result<IndexSeries, PartRefusal>
-    ensures { Gives PartRefusal.NoMemory (λ series. series) result (labelled_at index.now symbols.now at) }
+    ensures texts { IfOk result (λ series. text_bytes series ≤ 64 * length index.now) }
+    ensures exact { Gives PartRefusal.NoMemory (λ series. series) result (labelled_at index.now symbols.now at) }
 {
     match LentSeries::read(index, symbols, at, LentSeries::new(alloc)) {
         Ok(series) => {
@@ -67,6 +69,7 @@ fn numbered(
     number: u32,
 ) -> Result<IndexSeries, IndexRefusal>
     ensures bytes { IsBytes index.now }
+    ensures texts { IfOk result (λ series. text_bytes series ≤ 64 * length index.now) }
     ensures exact { Gives IndexRefusal.NoMemory (λ series. series) result (numbered_at index.now symbols.now number) }
 {
     match labelled(alloc, index, symbols, 16 * u64::from(number)) {
@@ -84,6 +87,7 @@ pub(crate) fn series_of(
 ) -> Result<IndexSeries, IndexRefusal>
     ensures found { IfOk result (λ series. IsSeriesOf index.now symbols.now number series) }
     ensures only { (series : IndexSeries) → IsSeriesOf index.now symbols.now number series → (result ≡ Ok series) ⊎ (result ≡ Err IndexRefusal.NoMemory) }
+    ensures texts { IfOk result (λ series. text_bytes series ≤ 64 * length index.now) }
     ensures exact { Gives IndexRefusal.NoMemory (λ series. series) result (numbered_at index.now symbols.now number) }
 {
     numbered(alloc, index, symbols, number)
