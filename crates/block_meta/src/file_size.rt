@@ -25,6 +25,7 @@ impl TryCopy for FileSize {
     }
 }
 
+/// Files in the order in which a meta lists them.
 pub type FileSizeList = List<FileSize>;
 
 impl Item for FileSize {

@@ -23,6 +23,7 @@ impl TryCopy for Parent {
     }
 }
 
+/// Parents in the order in which a meta lists them.
 pub type ParentList = List<Parent>;
 
 impl Item for Parent {

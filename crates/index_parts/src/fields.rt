@@ -1,8 +1,8 @@
-ghost use Rattle.std.specs.Prelude.{◌≡◌, ◌-◌, ◌*◌, ◌≤◌, ◌<◌, Ok, Err, MatchResult, IfSome, length, true, false};
+ghost use Rattle.std.specs.Prelude.{◌≡◌, ◌-◌, ◌*◌, ◌≤◌, ◌<◌, Ok, Err, MatchResult, length, true, false};
 ghost use Rattle.std.specs.Str.{is_utf8};
 ghost use Rattle.std.specs.Int.{w8, w32, w64};
 ghost use Rattle.reading_core.specs.Reading.{Steps};
-ghost use Rattle.wire_bytes.specs.Fields.{bytes_at, groups_of, number_at, unzigzag, uvarint_at, varint_at};
+ghost use Rattle.wire_bytes.specs.Fields.{bytes_at, number_at, uvarint_at, varint_at};
 ghost use Rattle.wire_bytes.specs.Position.{left};
 ghost use Rattle.index_parts.specs.Placed.{refused_at, field, text_at};
 
@@ -53,49 +53,8 @@ pub(crate) fn next_u64(cursor: &mut Cursor<'_>) -> Result<u64, PartRefusal>
     }
 }
 
-/// A number of at most three groups at the front of the bytes, and how many groups it has.
-#[inline(always)]
-fn short_number(bytes: &[u8]) -> Option<(u64, u64)>
-    ensures read { IfSome result (λ x. groups_of 9 bytes.now ≡ Ok x) }
-    ensures within { IfSome result (λ x. x.1 ≤ length bytes.now) }
-{
-    if bytes.is_empty() {
-        return None;
-    }
-    let first = bytes[0];
-    if first < 128 {
-        return Some((u64::from(first), 1));
-    }
-    if bytes.len() < 2 {
-        return None;
-    }
-    let second = bytes[1];
-    if second < 128 {
-        return Some((u64::from(first - 128) + 128 * u64::from(second), 2));
-    }
-    if bytes.len() < 3 || bytes[2] >= 128 {
-        return None;
-    }
-    let high = u64::from(second - 128) + 128 * u64::from(bytes[2]);
-    Some((u64::from(first - 128) + 128 * high, 3))
-}
-
-/// A short number is taken at once.
 #[inline(always)]
 pub(crate) fn next_uvarint(cursor: &mut Cursor<'_>) -> Result<u64, PartRefusal>
-    ensures { Steps (λ n. n) cursor.old cursor.new result (field uvarint_at cursor.old) }
-{
-    match short_number(cursor.rest()) {
-        Some((number, size)) => {
-            next_bytes(cursor, size)?;
-            Ok(number)
-        }
-        None => next_long_uvarint(cursor),
-    }
-}
-
-#[inline(always)]
-fn next_long_uvarint(cursor: &mut Cursor<'_>) -> Result<u64, PartRefusal>
     ensures { Steps (λ n. n) cursor.old cursor.new result (field uvarint_at cursor.old) }
 {
     let place = cursor.place() as u64;
@@ -105,23 +64,15 @@ fn next_long_uvarint(cursor: &mut Cursor<'_>) -> Result<u64, PartRefusal>
     }
 }
 
-/// The number that stands at a place in the order 0, -1, 1, -2, 2.
 #[inline(always)]
-fn unzigzag(n: u64) -> i64
-    ensures { result ≡ unzigzag n }
-{
-    let half = (n / 2) as i64;
-    if n % 2 == 0 { half } else { -1 - half }
-}
-
-/// A signed number, by its place in that order.
-#[inline(always)]
-#[tactic(auto, unfolding(wire_bytes::specs::Fields::varint_at))]
 pub(crate) fn next_varint(cursor: &mut Cursor<'_>) -> Result<i64, PartRefusal>
     ensures { Steps (λ n. n) cursor.old cursor.new result (field varint_at cursor.old) }
 {
-    let n = next_uvarint(cursor)?;
-    Ok(unzigzag(n))
+    let place = cursor.place() as u64;
+    match cursor.take_varint() {
+        Ok(n) => Ok(n),
+        Err(refusal) => Err(refused_at(place, refusal)),
+    }
 }
 
 #[inline(always)]

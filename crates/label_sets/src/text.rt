@@ -39,6 +39,7 @@ impl Text {
         Text { text }
     }
 
+    /// Lends the text, which is UTF-8.
     pub fn as_str(&self) -> &str
         ensures { result.now ≡ self.now }
     {

@@ -12,40 +12,54 @@ pub enum Outcome {
     Query(QueryOutcome),
 }
 
+/// Outcomes in the order in which the report tells them.
 pub type OutcomeList = List<Outcome>;
 
+/// How an upload ended.
 #[derive(Clone, Copy, Debug, PartialEq, Eq)]
 pub enum UploadOutcome {
     /// So many objects were put.
     Done(u32),
     /// The bucket has the block's meta already.
     Already,
+    /// A call to the bucket failed.
     Fault(u64),
     /// It was stopped after so many operations, as the script asked.
     Stopped(u32),
 }
 
+/// How a gateway's sync ended.
 #[derive(Clone, Copy, Debug, PartialEq, Eq)]
 pub enum SyncOutcome {
     /// The view keeps so many blocks.
     Blocks(u64),
+    /// A call to the bucket failed.
     Fault(u64),
+    /// A meta or a mark was not of its form, or a page not in order.
     Damaged(u64),
+    /// The bucket has more names than a sync reads.
     TooMany,
 }
 
+/// How a query ended.
 #[derive(Drop)]
 pub enum QueryOutcome {
+    /// The series in the order of their labels, and the blocks that they come from.
     Answer(SeriesList, UlidList),
     /// The first gateway in order that gave no answer, and why.
     NoAnswer(u32, NoAnswer),
 }
 
+/// Why a gateway gave no answer.
 #[derive(Clone, Copy, Debug, PartialEq, Eq)]
 pub enum NoAnswer {
+    /// It has not synced yet.
     NoView,
+    /// An object of its view was not there.
     Missing(u64),
+    /// An object was not of its form.
     Damaged(u64),
+    /// A call to the bucket failed.
     Fault(u64),
 }
 

@@ -11,6 +11,7 @@ pub struct ReaderSource<R: Read + Drop> {
 impl<R: Read + Drop> ReaderSource<R> {
     ghost use Rattle.std.specs.Prelude.{◌≡◌};
 
+    /// A source of the reader's bytes, which has not failed yet.
     pub fn new(reader: R) -> Self
         ensures { result.faults ≡ 0 }
     {
@@ -48,6 +49,7 @@ pub struct WriterSink<W: Write + Drop> {
 impl<W: Write + Drop> WriterSink<W> {
     ghost use Rattle.std.specs.Prelude.{◌≡◌};
 
+    /// A sink before the writer, which has not failed yet.
     pub fn new(writer: W) -> Self
         ensures { result.faults ≡ 0 }
     {

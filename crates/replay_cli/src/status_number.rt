@@ -4,6 +4,7 @@ ghost use Rattle.replay_cli.specs.Statuses.{number_of};
 use crate::Status;
 
 impl Status {
+    /// The exit status of the program.
     pub fn number(self) -> u8
         ensures { result ≡ number_of self }
     {

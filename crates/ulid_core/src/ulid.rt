@@ -75,6 +75,7 @@ impl Ulid {
         (self.number >> 80) as u64
     }
 
+    /// The 80 bits behind the time, random ones where a server made the ULID.
     pub fn entropy(self) -> u128
         ensures value { result ≡ self % 2 ^ 80 }
         ensures bound { result < 2 ^ 80 }
@@ -82,6 +83,7 @@ impl Ulid {
         self.number % (1 << 80)
     }
 
+    /// The ULID of milliseconds since 1970 and 80 bits behind them.
     pub fn from_parts(time: u64, entropy: u128) -> Ulid
         requires time_fits { time < 2 ^ 48 }
         requires entropy_fits { entropy < 2 ^ 80 }

@@ -1,18 +1,19 @@
 -- Multiplying by x is linear, so that many coefficients are taken at once.
-use Rattle.std.proofs.Common.{◌≡◌, ℕ, zero, suc, ◌+◌, ◌*◌, ◌/◌, ◌%◌, ◌^◌, ◌<◌, ◌≤◌, true, false, cond, eqb, List, [], ◌∷◌, ◌++◌, length, map, fold, refl, sym, ap, ◌∙◌, arith, ◌⊎◌, inl, inr, append_assoc, take, drop, get_or, add-one, drop-cons, length-drop}
-use Rattle.std.specs.Int.Bits.{bit_xor, xor_assoc, xor_self, xor_zero_l, xor_zero_r}
-use Rattle.std.specs.Int.{w64, from_le_bytes}
+use Rattle.std.proofs.Common.{◌≡◌, ℕ, zero, suc, ◌+◌, ◌*◌, ◌/◌, ◌%◌, ◌^◌, ◌<◌, ◌≤◌, cond, eqb, List, [], ◌∷◌, ◌++◌, length, fold, refl, sym, ap, ◌∙◌, arith, ◌⊎◌, inl, inr, take, drop, get_or, add-one, drop-cons, length-drop}
+use Rattle.std.specs.Int.Bits.{bit_xor, xor_assoc, xor_self, xor_zero_r}
+use Rattle.std.specs.Int.{w32, w64, from_le_bytes}
 use Rattle.std.specs.List.{flat_map, AllByRecursion}
 use Rattle.std.specs.Int.Bits.{xor_shifted}
-use Rattle.std.proofs.Math.Nat.{pow-suc}
-use Rattle.std.proofs.lemmas.Nat.{xor_comm, xor_shr, xor_mod, pow-add, shr-shr}
+use Rattle.std.proofs.Math.Nat.{pow-suc, mod-lt}
+use Rattle.std.proofs.lemmas.Nat.{xor_comm, xor_shr, xor_mod, shr-shr, pow_pos, div-add-mod'}
 use Rattle.std.proofs.lemmas.List.{take-append-drop, length-take, nil_from_length}
 use Rattle.std.proofs.lemmas.List.Sums.{fold-append}
 use Rattle.std.proofs.lemmas.List.Concat.{flat_map-cons}
 use Rattle.std.proofs.lemmas.Grind.{flat_map-append}
 use Rattle.reading_core.specs.Grammar.{IsBytes}
+use Rattle.reading_core.proofs.Fronts.{IsBytes-drop}
 use Rattle.wire_bytes.proofs.FixedLaws.{IsBytes-take}
-use Rattle.wire_bytes.specs.Crc.{castagnoli, times_x, times_x_to, with_bit, coefficients, ones, crc}
+use Rattle.wire_bytes.specs.Crc.{castagnoli, times_x, times_x_to, with_bit, coefficients, remainder}
 
 -- ---- sums of polynomials
 
@@ -85,12 +86,15 @@ shifted_back (suc n) h =
     let next : 2 ^ suc n ≡ 2 * 2 ^ n = rw pow-suc (omega arith) in
     ap (times_x_to n) (one_power h (2 ^ n) (2 ^ suc n) next) ∙ shifted_back n h
 
--- eight coefficients are taken from the low end, and the others move
-pub times_x_to-peel : (n w : ℕ) → times_x_to (8 + n) w ≡ bit_xor (times_x_to n (w / 256)) (times_x_to (8 + n) (w % 256))
-times_x_to-peel n w =
-    let apart : w ≡ bit_xor (w / 256 * 256) (w % 256) = let e : w / 256 * 256 + w % 256 ≡ w = omega arith in sym (xor_shifted (w / 256) 8 (w % 256) (omega arith) ∙ e) in
-    let high : times_x_to (8 + n) (w / 256 * 256) ≡ times_x_to n (w / 256) = times_x_to-add 8 n (w / 256 * 256) ∙ ap (times_x_to n) (shifted_back 8 (w / 256)) in
-    ap (times_x_to (8 + n)) apart ∙ times_x_to-xor (8 + n) (w / 256 * 256) (w % 256) ∙ ap (λ k. bit_xor k (times_x_to (8 + n) (w % 256))) high
+-- coefficients are taken from the low end, and the others move
+pub times_x_to-part : (k n w : ℕ) → times_x_to (k + n) w ≡ bit_xor (times_x_to n (w / 2 ^ k)) (times_x_to (k + n) (w % 2 ^ k))
+times_x_to-part k n w =
+    let above = w / 2 ^ k in
+    let below = w % 2 ^ k in
+    let whole : above * 2 ^ k + below ≡ w = div-add-mod' w (2 ^ k) in
+    let apart : w ≡ bit_xor (above * 2 ^ k) below = sym (xor_shifted above k below (mod-lt w (pow_pos k)) ∙ whole) in
+    let high : times_x_to (k + n) (above * 2 ^ k) ≡ times_x_to n above = times_x_to-add k n (above * 2 ^ k) ∙ ap (times_x_to n) (shifted_back k above) in
+    ap (times_x_to (k + n)) apart ∙ times_x_to-xor (k + n) (above * 2 ^ k) below ∙ ap (λ part. bit_xor part (times_x_to (k + n) below)) high
 
 -- ---- coefficients one after another
 
@@ -154,79 +158,114 @@ with_bytes r (byte ∷ bytes) are =
     parts ∙ with_bytes (fold with_bit r (coefficients byte)) bytes are.1 ∙ ap (λ k. times_x_to n (bit_xor k high)) first
     ∙ ap (times_x_to n) (sym at_once) ∙ sym (ap (λ k. times_x_to k (bit_xor r (byte + 256 * high))) count ∙ times_x_to-add 8 n (bit_xor r (byte + 256 * high)))
 
--- ---- eight bytes and one byte of the code
+-- ---- four, eight and sixteen bytes of the code, and one
 
 next_entry : (n k w : ℕ) → times_x_to (8 + n) (w / 2 ^ k) ≡ bit_xor (times_x_to n (w / 2 ^ (k + 8))) (times_x_to (8 + n) (w / 2 ^ k % 256))
-next_entry n k w = times_x_to-peel n (w / 2 ^ k) ∙ ap (λ v. bit_xor (times_x_to n v) (times_x_to (8 + n) (w / 2 ^ k % 256))) (shr-shr w k 8)
+next_entry n k w = times_x_to-part 8 n (w / 2 ^ k) ∙ ap (λ v. bit_xor (times_x_to n v) (times_x_to (8 + n) (w / 2 ^ k % 256))) (shr-shr w k 8)
 
-regroup : (h a b c d : ℕ) → bit_xor h (bit_xor (bit_xor (bit_xor a b) c) d) ≡ bit_xor (bit_xor (bit_xor (bit_xor h a) b) c) d
-regroup h a b c d = sym (xor_assoc h (bit_xor (bit_xor a b) c) d) ∙ ap (λ n. bit_xor n d) (sym (xor_assoc h (bit_xor a b) c) ∙ ap (λ n. bit_xor n c) (sym (xor_assoc h a b)))
+four_parts : (n w : ℕ) → w < 2 ^ 32 → times_x_to (8 + (8 + (8 + (8 + n)))) w ≡ bit_xor (bit_xor (times_x_to (8 + n) (w / 2 ^ 24 % 256)) (times_x_to (8 + (8 + n)) (w / 2 ^ 16 % 256))) (bit_xor (times_x_to (8 + (8 + (8 + n))) (w / 2 ^ 8 % 256)) (times_x_to (8 + (8 + (8 + (8 + n)))) (w % 256)))
+four_parts n w small =
+    let top : w / 2 ^ 24 ≡ w / 2 ^ 24 % 256 = omega arith in
+    let a = times_x_to (8 + n) (w / 2 ^ 24 % 256) in
+    let b = times_x_to (8 + (8 + n)) (w / 2 ^ 16 % 256) in
+    let c = times_x_to (8 + (8 + (8 + n))) (w / 2 ^ 8 % 256) in
+    let d = times_x_to (8 + (8 + (8 + (8 + n)))) (w % 256) in
+    times_x_to-part 8 (8 + (8 + (8 + n))) w
+    ∙ ap (λ m. bit_xor m d) (next_entry (8 + (8 + n)) 8 w
+    ∙ ap (λ m. bit_xor m c) (next_entry (8 + n) 16 w
+    ∙ ap (λ m. bit_xor (times_x_to (8 + n) m) b) top))
+    ∙ xor_assoc (bit_xor a b) c d
 
--- the sum of the entries of the four high bytes, and of the four low ones
-abbrev pub high_entries : ℕ → ℕ
-high_entries w = bit_xor (bit_xor (bit_xor (times_x_to 8 (w / 2 ^ 56 % 256)) (times_x_to 16 (w / 2 ^ 48 % 256))) (times_x_to 24 (w / 2 ^ 40 % 256))) (times_x_to 32 (w / 2 ^ 32 % 256))
+-- the entries of a half word's bytes add up to its four bytes
+pub four_entries : (behind half : ℕ) → half < 2 ^ 32 → bit_xor (bit_xor (times_x_to (8 * (behind + 1)) (half / 2 ^ 24 % 256)) (times_x_to (8 * (behind + 1 + 1)) (half / 2 ^ 16 % 256))) (bit_xor (times_x_to (8 * (behind + 2 + 1)) (half / 2 ^ 8 % 256)) (times_x_to (8 * (behind + 3 + 1)) (half % 256))) ≡ times_x_to (8 * (behind + 4)) half
+four_entries behind half small =
+    let n = 8 * behind in
+    let one : 8 * (behind + 1) ≡ 8 + n = omega arith in
+    let two : 8 * (behind + 1 + 1) ≡ 8 + (8 + n) = omega arith in
+    let three : 8 * (behind + 2 + 1) ≡ 8 + (8 + (8 + n)) = omega arith in
+    let last : 8 * (behind + 3 + 1) ≡ 8 + (8 + (8 + (8 + n))) = omega arith in
+    let four : 8 * (behind + 4) ≡ 8 + (8 + (8 + (8 + n))) = omega arith in
+    rw (one, two, three, last, four) (sym (four_parts n half small))
 
-abbrev pub low_entries : ℕ → ℕ
-low_entries w = bit_xor (bit_xor (bit_xor (times_x_to 40 (w / 2 ^ 24 % 256)) (times_x_to 48 (w / 2 ^ 16 % 256))) (times_x_to 56 (w / 2 ^ 8 % 256))) (times_x_to 64 (w % 256))
+-- the halves of a word add up to its eight bytes
+pub two_halves : (behind word : ℕ) → bit_xor (times_x_to (8 * (behind + 4)) (word / 2 ^ 32)) (times_x_to (8 * (behind + 4 + 4)) (word % 2 ^ 32)) ≡ times_x_to (8 * (behind + 8)) word
+two_halves behind word =
+    let n = 8 * (behind + 4) in
+    let low : 8 * (behind + 4 + 4) ≡ 32 + n = omega arith in
+    let all : 8 * (behind + 8) ≡ 32 + n = omega arith in
+    rw (low, all) (sym (times_x_to-part 32 n word))
 
-four_high : (w : ℕ) → w < 2 ^ 64 → times_x_to 32 (w / 2 ^ 32) ≡ high_entries w
-four_high w small =
-    let top : w / 2 ^ 56 ≡ w / 2 ^ 56 % 256 = omega arith in
-    next_entry 24 32 w
-    ∙ ap (λ n. bit_xor n (times_x_to 32 (w / 2 ^ 32 % 256))) (next_entry 16 40 w
-    ∙ ap (λ n. bit_xor n (times_x_to 24 (w / 2 ^ 40 % 256))) (next_entry 8 48 w
-    ∙ ap (λ n. bit_xor (times_x_to 8 n) (times_x_to 16 (w / 2 ^ 48 % 256))) top))
-
-four_low : (w : ℕ) → times_x_to 64 w ≡ bit_xor (times_x_to 32 (w / 2 ^ 32)) (low_entries w)
-four_low w =
-    times_x_to-peel 56 w
-    ∙ ap (λ n. bit_xor n (times_x_to 64 (w % 256))) (next_entry 48 8 w
-    ∙ ap (λ n. bit_xor n (times_x_to 56 (w / 2 ^ 8 % 256))) (next_entry 40 16 w
-    ∙ ap (λ n. bit_xor n (times_x_to 48 (w / 2 ^ 16 % 256))) (next_entry 32 24 w)))
-    ∙ sym (regroup (times_x_to 32 (w / 2 ^ 32)) (times_x_to 40 (w / 2 ^ 24 % 256)) (times_x_to 48 (w / 2 ^ 16 % 256)) (times_x_to 56 (w / 2 ^ 8 % 256)) (times_x_to 64 (w % 256)))
-
--- the entries of a word's bytes add up to the word's eight bytes
-pub eight_entries : (w : ℕ) → w < 2 ^ 64 → bit_xor (high_entries w) (low_entries w) ≡ times_x_to 64 w
-eight_entries w small = sym (four_low w ∙ ap (λ n. bit_xor n (low_entries w)) (four_high w small))
+-- a word moves on by the eight bytes behind it
+pub two_words : (first second : ℕ) → bit_xor (times_x_to 128 first) (times_x_to 64 second) ≡ times_x_to 64 (bit_xor (times_x_to 64 first) second)
+two_words first second = sym (times_x_to-xor 64 (times_x_to 64 first) second ∙ ap (λ m. bit_xor m (times_x_to 64 second)) (sym (times_x_to-add 64 64 first)))
 
 pub one_entry : (w : ℕ) → bit_xor (w / 256) (times_x_to 8 (w % 256)) ≡ times_x_to 8 w
 unfolding times_x_to
-one_entry w = sym (times_x_to-peel 0 w)
+one_entry w = sym (times_x_to-part 8 0 w)
 
--- the bytes of a word
-pub low_first-word : (bytes : List ℕ) → length bytes ≡ 8 → low_first bytes ≡ from_le_bytes w64 bytes
-low_first-word (a ∷ b ∷ c ∷ d ∷ e ∷ f ∷ g ∷ h ∷ []) eight = omega arith
-low_first-word other eight = absurd (omega arith)
+-- ---- what is read and what is still to be read
 
 pub bytes_small : (bytes : List ℕ) → IsBytes bytes → AllByRecursion (λ byte. byte < 256) bytes
 bytes_small [] are = tt
 bytes_small (byte ∷ bytes) are = (are 0, bytes_small bytes (λ i. are (suc i)))
 
--- a word more, before what is still to be read
-pub word_more : (r total : ℕ) (rest : List ℕ) → 8 ≤ length rest → IsBytes rest → fold with_bit r (flat_map coefficients rest) ≡ total → fold with_bit (times_x_to 64 (bit_xor r (from_le_bytes w64 (take 8 rest)))) (flat_map coefficients (drop 8 rest)) ≡ total
+low_first-word : (bytes : List ℕ) → length bytes ≡ 8 → low_first bytes ≡ from_le_bytes w64 bytes
+low_first-word (a ∷ b ∷ c ∷ d ∷ e ∷ f ∷ g ∷ h ∷ []) eight = omega arith
+low_first-word other eight = absurd (omega arith)
+
+low_first-half : (bytes : List ℕ) → length bytes ≡ 4 → low_first bytes ≡ from_le_bytes w32 bytes
+low_first-half (a ∷ b ∷ c ∷ d ∷ []) four = omega arith
+low_first-half other four = absurd (omega arith)
+
+-- a word, and half of one
+of_word : (r : ℕ) (bytes : List ℕ) → length bytes ≡ 8 → IsBytes bytes → times_x_to 64 (bit_xor r (from_le_bytes w64 bytes)) ≡ remainder r bytes
+unfolding remainder
+of_word r bytes eight are =
+    sym (with_bytes r bytes (bytes_small bytes are) ∙ ap (λ n. times_x_to (8 * n) (bit_xor r (low_first bytes))) eight ∙ ap (λ n. times_x_to 64 (bit_xor r n)) (low_first-word bytes eight))
+
+of_half : (r : ℕ) (bytes : List ℕ) → length bytes ≡ 4 → IsBytes bytes → times_x_to 32 (bit_xor r (from_le_bytes w32 bytes)) ≡ remainder r bytes
+unfolding remainder
+of_half r bytes four are =
+    sym (with_bytes r bytes (bytes_small bytes are) ∙ ap (λ n. times_x_to (8 * n) (bit_xor r (low_first bytes))) four ∙ ap (λ n. times_x_to 32 (bit_xor r n)) (low_first-half bytes four))
+
+of_byte : (r byte : ℕ) → byte < 256 → times_x_to 8 (bit_xor r byte) ≡ remainder r (byte ∷ [])
+unfolding remainder
+of_byte r byte small = sym (ap (fold with_bit r) (flat_map-cons coefficients byte []) ∙ fold-append with_bit r (coefficients byte) [] ∙ with_one_byte r byte small)
+
+-- what is read, before what is still to be read
+remainder-append : (r : ℕ) (front after : List ℕ) → remainder (remainder r front) after ≡ remainder r (front ++ after)
+unfolding remainder
+remainder-append r front after =
+    sym (ap (fold with_bit r) (flat_map-append coefficients front after) ∙ fold-append with_bit r (flat_map coefficients front) (flat_map coefficients after))
+
+remainder-split : (n r : ℕ) (rest : List ℕ) → remainder (remainder r (take n rest)) (drop n rest) ≡ remainder r rest
+remainder-split n r rest = remainder-append r (take n rest) (drop n rest) ∙ ap (remainder r) (take-append-drop n rest)
+
+-- eight bytes more, sixteen, four, and one
+word_more : (r total : ℕ) (rest : List ℕ) → 8 ≤ length rest → IsBytes rest → remainder r rest ≡ total → remainder (times_x_to 64 (bit_xor r (from_le_bytes w64 (take 8 rest)))) (drop 8 rest) ≡ total
 word_more r total rest long are so_far =
     let front = take 8 rest in
-    let after = drop 8 rest in
-    let eight : length front ≡ 8 = omega (arith, length-take 8 rest) in
-    let word : fold with_bit r (flat_map coefficients front) ≡ times_x_to 64 (bit_xor r (from_le_bytes w64 front)) =
-    with_bytes r front (bytes_small front (IsBytes-take 8 rest are)) ∙ ap (λ n. times_x_to (8 * n) (bit_xor r (low_first front))) eight ∙ ap (λ n. times_x_to 64 (bit_xor r n)) (low_first-word front eight) in
-    ap (λ k. fold with_bit k (flat_map coefficients after)) (sym word)
-    ∙ sym (fold-append with_bit r (flat_map coefficients front) (flat_map coefficients after))
-    ∙ ap (fold with_bit r) (sym (ap (flat_map coefficients) (sym (take-append-drop 8 rest)) ∙ flat_map-append coefficients front after)) ∙ so_far
+    ap (λ m. remainder m (drop 8 rest)) (of_word r front (omega (arith, length-take 8 rest)) (IsBytes-take 8 rest are)) ∙ remainder-split 8 r rest ∙ so_far
 
--- a byte more
-pub byte_more : (r total i : ℕ) (rest : List ℕ) → i < length rest → IsBytes rest → fold with_bit r (flat_map coefficients (drop i rest)) ≡ total → fold with_bit (times_x_to 8 (bit_xor r (get_or rest i 0))) (flat_map coefficients (drop (i + 1) rest)) ≡ total
+pub words_more : (r total : ℕ) (rest : List ℕ) → 16 ≤ length rest → IsBytes rest → remainder r rest ≡ total → remainder (times_x_to 64 (bit_xor (times_x_to 64 (bit_xor r (from_le_bytes w64 (take 8 rest)))) (from_le_bytes w64 (take 8 (drop 8 rest))))) (drop 8 (drop 8 rest)) ≡ total
+words_more r total rest long are so_far =
+    word_more (times_x_to 64 (bit_xor r (from_le_bytes w64 (take 8 rest)))) total (drop 8 rest) (omega (arith, length-drop 8 rest)) (IsBytes-drop 8 rest are) (word_more r total rest (omega arith) are so_far)
+
+pub half_more : (r total : ℕ) (rest : List ℕ) → 4 ≤ length rest → IsBytes rest → remainder r rest ≡ total → remainder (times_x_to 32 (bit_xor r (from_le_bytes w32 (take 4 rest)))) (drop 4 rest) ≡ total
+half_more r total rest long are so_far =
+    let front = take 4 rest in
+    ap (λ m. remainder m (drop 4 rest)) (of_half r front (omega (arith, length-take 4 rest)) (IsBytes-take 4 rest are)) ∙ remainder-split 4 r rest ∙ so_far
+
+pub byte_more : (r total i : ℕ) (rest : List ℕ) → i < length rest → IsBytes rest → remainder r (drop i rest) ≡ total → remainder (times_x_to 8 (bit_xor r (get_or rest i 0))) (drop (i + 1) rest) ≡ total
 byte_more r total i rest lt are so_far =
     let byte = get_or rest i 0 in
     let after = drop (i + 1) rest in
     let split : drop i rest ≡ byte ∷ after = rw (add-one, drop-cons rest i 0) refl in
-    ap (λ k. fold with_bit k (flat_map coefficients after)) (sym (with_one_byte r byte (are i)))
-    ∙ sym (fold-append with_bit r (coefficients byte) (flat_map coefficients after))
-    ∙ ap (fold with_bit r) (sym (ap (flat_map coefficients) split ∙ flat_map-cons coefficients byte after)) ∙ so_far
+    ap (λ m. remainder m after) (of_byte r byte (are i)) ∙ remainder-append r (byte ∷ []) after ∙ ap (remainder r) (sym split) ∙ so_far
 
--- where nothing is left, the sum of what was read is the sum
-pub all_read : (r i : ℕ) (rest bytes : List ℕ) → length rest ≤ i → fold with_bit r (flat_map coefficients (drop i rest)) ≡ fold with_bit ones (flat_map coefficients bytes) → bit_xor r 0xFFFFFFFF ≡ crc bytes
-unfolding crc
-all_read r i rest bytes le so_far =
+-- where nothing is left, what was read is all
+pub all_read : (r total i : ℕ) (rest : List ℕ) → length rest ≤ i → remainder r (drop i rest) ≡ total → r ≡ total
+unfolding remainder
+all_read r total i rest le so_far =
     let nothing : drop i rest ≡ [] = nil_from_length (drop i rest) (omega (arith, length-drop i rest)) in
-    ap (λ k. bit_xor k ones) (ap (λ (left : List ℕ). fold with_bit r (flat_map coefficients left)) (sym nothing) ∙ so_far)
+    ap (λ (left : List ℕ). remainder r left) (sym nothing) ∙ so_far

@@ -1,17 +1,17 @@
 -- Fields at a position against their grammar.
-use Rattle.std.proofs.Common.{◌≡◌, ℕ, suc, ◌+◌, ◌*◌, ◌/◌, ◌%◌, ◌^◌, ◌<◌, ◌≤◌, List, [], ◌∷◌, ◌++◌, length, get_or, take, drop, Result, Ok, Err, refl, sym, ap, subst, ◌∙◌, arith, ◌⊎◌, inl, inr, ℤ, pos, negsuc}
+use Rattle.std.proofs.Common.{◌≡◌, ℕ, ◌+◌, ◌*◌, ◌/◌, ◌%◌, ◌≤◌, List, ◌++◌, length, take, drop, Result, Ok, Err, refl, sym, ap, subst, ◌∙◌, arith, inl, inr, ℤ, pos, negsuc}
 use Rattle.std.specs.Prelude.{◌↔◌}
 use Rattle.std.proofs.lemmas.Bool.{cases_eq, ne_eqb}
-use Rattle.std.proofs.lemmas.List.{take-append-drop, drop_at, drop-drop, length-take, length-append}
-use Rattle.reading_core.specs.Reading.{◌>>=◌, Steps}
+use Rattle.std.proofs.lemmas.List.{take-append-drop, drop_at, drop-drop, length-take}
+use Rattle.reading_core.specs.Reading.{Steps}
 use Rattle.reading_core.specs.Grammar.{IsBytes, HasFront}
-use Rattle.reading_core.proofs.Binds.{bind_ok, bind_err, ok_is, err_is}
+use Rattle.reading_core.proofs.Binds.{bind_ok, bind_err, ok_is}
 use Rattle.wire_bytes.specs.declared.refusal.WireRefusal.{WireRefusal}
 use Rattle.wire_bytes.specs.declared.refusal.WireRefusal.TheVariants.{Short, Overlong}
 use Rattle.wire_bytes.specs.Position.{Position, left, further}
 use Rattle.wire_bytes.specs.Fields.{groups_of, uvarint_at, varint_at, zigzag, unzigzag}
-use Rattle.wire_bytes.specs.FieldTexts.{IsGroups, IsUvarint, IsVarint, EndsInside, PassesLimit, Found, Only}
-use Rattle.wire_bytes.proofs.GroupLaws.{Reads, Passes, groups_found, groups_again, groups_short, groups_short_again, groups_over, groups_over_again}
+use Rattle.wire_bytes.specs.FieldTexts.{IsUvarint, IsVarint, EndsInside, PassesLimit, Found, Only}
+use Rattle.wire_bytes.proofs.GroupLaws.{groups_found, groups_again, groups_short, groups_short_again, groups_over, groups_over_again}
 
 pub left-further : (count : ℕ) (p : Position) → left (further count p) ≡ drop count (left p)
 left-further count p = sym (drop-drop count p.place p.bytes)

@@ -1,13 +1,13 @@
 -- A loop over the groups of a number: what is read of the low groups, put before what the rest gives.
-use Rattle.std.proofs.Common.{◌≡◌, ℕ, zero, suc, ◌+◌, ◌-◌, ◌*◌, ◌%◌, ◌^◌, ◌<◌, ◌≤◌, Bool, true, false, cond, ltb, List, [], ◌∷◌, length, get_or, drop, Result, Ok, Err, refl, sym, ap, ◌∙◌, arith, add-one, drop-cons, length-drop}
+use Rattle.std.proofs.Common.{◌≡◌, ℕ, suc, ◌+◌, ◌-◌, ◌*◌, ◌%◌, ◌^◌, ◌<◌, ◌≤◌, true, false, ltb, List, [], ◌∷◌, length, get_or, drop, Result, Ok, Err, refl, ap, ◌∙◌, arith, add-one, drop-cons, length-drop}
 use Rattle.std.proofs.Math.Nat.{mul-le-mul_left}
 use Rattle.std.proofs.Math.Pow.{pow_mono}
-use Rattle.std.proofs.lemmas.Nat.{pow_pos, pow-add, shl_whole, pow_below}
+use Rattle.std.proofs.lemmas.Nat.{pow-add, shl_whole}
 use Rattle.std.proofs.lemmas.Bool.{le-ltb, lt-ltb}
 use Rattle.std.proofs.lemmas.List.{nil_from_length}
 use Rattle.reading_core.specs.Reading.{◌>>=◌}
 use Rattle.wire_bytes.specs.declared.refusal.WireRefusal.{WireRefusal}
-use Rattle.wire_bytes.specs.declared.refusal.WireRefusal.TheVariants.{Short, Overlong}
+use Rattle.wire_bytes.specs.declared.refusal.WireRefusal.TheVariants.{Short}
 use Rattle.wire_bytes.specs.Fields.{groups_of}
 
 -- i low groups that make n, before what the others give

@@ -4,5 +4,6 @@ pub mod GroupLaws
 pub mod FieldLaws
 pub mod FixedLaws
 pub mod GroupTexts
+pub mod ShortNumbers
 pub mod CrcTables
 pub mod Division

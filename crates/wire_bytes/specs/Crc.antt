@@ -1,6 +1,6 @@
 -- CRC-32C (Castagnoli, RFC 3720): the remainder of a division of polynomials over the field of two elements. A number of
 -- 32 bits is a polynomial of degree 31 at most, whose lowest bit is the highest power.
-use Rattle.std.specs.Prelude.{ℕ, zero, suc, ◌+◌, ◌*◌, ◌/◌, ◌%◌, List, [], ◌∷◌, map, fold, ◌==◌, if◌then◌else◌, bit_xor}
+use Rattle.std.specs.Prelude.{ℕ, zero, suc, ◌/◌, ◌%◌, List, [], ◌∷◌, map, fold, ◌==◌, if◌then◌else◌, bit_xor}
 use Rattle.std.specs.Int.{bit_at}
 use Rattle.std.specs.List.{flat_map}
 
@@ -29,5 +29,9 @@ coefficients byte = map (λ i. bit_at byte i) (0 ∷ 1 ∷ 2 ∷ 3 ∷ 4 ∷ 5 �
 abbrev pub ones : ℕ
 ones = 0xFFFFFFFF
 
+-- the remainder after so many bytes more
+unfoldable pub remainder : ℕ → List ℕ → ℕ
+remainder r bytes = fold with_bit r (flat_map coefficients bytes)
+
 unfoldable pub crc : List ℕ → ℕ
-crc bytes = bit_xor (fold with_bit ones (flat_map coefficients bytes)) ones
+crc bytes = bit_xor (remainder ones bytes) ones

@@ -40,6 +40,7 @@ impl Blob {
         self.bytes
     }
 
+    /// Lends the bytes.
     pub fn bytes(&self) -> &[u8]
         ensures { result.now ≡ self.now }
     {

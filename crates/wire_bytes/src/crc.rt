@@ -1,6 +1,6 @@
-ghost use Rattle.std.specs.Prelude.{◌≡◌, ◌+◌, ◌*◌, ◌/◌, ◌%◌, ◌^◌, ◌<◌, length, bit_xor};
-ghost use Rattle.std.specs.Int.{w64, from_le_bytes};
-ghost use Rattle.wire_bytes.specs.Crc.{times_x_to, crc};
+ghost use Rattle.std.specs.Prelude.{◌≡◌, ◌+◌, ◌*◌, ◌/◌, ◌%◌, ◌^◌, ◌<◌, ◌≤◌, length, bit_xor};
+ghost use Rattle.std.specs.Int.{w32, w64, from_le_bytes};
+ghost use Rattle.wire_bytes.specs.Crc.{times_x_to, remainder, crc};
 
 use crate::crc_tables::TABLES;
 
@@ -10,32 +10,47 @@ pub fn crc_of(bytes: &[u8]) -> u32
 {
     let mut sum = u32::MAX;
     let mut rest = bytes;
-    while rest.len() >= 8 {
-        let (front, after) = rest.split_at(8);
-        sum = with_word(sum, word_of(front));
+    while rest.len() >= 16 {
+        let (first, others) = rest.split_at(8);
+        let (second, after) = others.split_at(8);
+        sum = with_words(sum, word_of(first), word_of(second));
+        rest = after;
+    }
+    with_few(sum, rest) ^ u32::MAX
+}
+
+/// The bytes behind the last sixteen.
+#[inline(always)]
+fn with_few(before: u32, bytes: &[u8]) -> u32
+    ensures { result ≡ remainder before bytes.now }
+{
+    let mut sum = before;
+    let mut rest = bytes;
+    while rest.len() >= 4 {
+        let (front, after) = rest.split_at(4);
+        sum = with_half(sum, half_of(front));
         rest = after;
     }
     for byte in rest {
         sum = with_byte(sum, *byte);
     }
-    sum ^ u32::MAX
+    sum
 }
 
-/// Eight bytes more, the first of them the lowest of the word.
+/// Sixteen bytes more, the first of each eight the lowest of their word.
 #[inline(always)]
-fn with_word(sum: u32, word: u64) -> u32
-    ensures { result ≡ times_x_to 64 (bit_xor sum word) }
+fn with_words(sum: u32, first: u64, second: u64) -> u32
+    ensures { result ≡ times_x_to 64 (bit_xor (times_x_to 64 (bit_xor sum first)) second) }
 {
-    let mixed = u64::from(sum) ^ word;
-    let high = entry(0, byte_of(mixed, 7))
-        ^ entry(1, byte_of(mixed, 6))
-        ^ entry(2, byte_of(mixed, 5))
-        ^ entry(3, byte_of(mixed, 4));
-    let low = entry(4, byte_of(mixed, 3))
-        ^ entry(5, byte_of(mixed, 2))
-        ^ entry(6, byte_of(mixed, 1))
-        ^ entry(7, byte_of(mixed, 0));
-    high ^ low
+    times_word(u64::from(sum) ^ first, 8) ^ times_word(second, 0)
+}
+
+/// Four bytes more, the first of them the lowest.
+#[inline(always)]
+fn with_half(sum: u32, half: u32) -> u32
+    ensures { result ≡ times_x_to 32 (bit_xor sum half) }
+{
+    times_half(sum ^ half, 0)
 }
 
 /// A byte more.
@@ -58,17 +73,47 @@ fn word_of(front: &[u8]) -> u64
 }
 
 #[inline(always)]
-fn byte_of(word: u64, place: u32) -> usize
-    requires { place < 8 }
-    ensures { result ≡ word / 2 ^ (8 * place) % 256 }
+fn half_of(front: &[u8]) -> u32
+    requires { length front.now ≡ 4 }
+    ensures { result ≡ from_le_bytes w32 front.now }
 {
-    ((word >> (8 * place)) % 256) as usize
+    u32::from_le_bytes([front[0], front[1], front[2], front[3]])
+}
+
+/// Eight bytes with so many behind them.
+#[inline(always)]
+fn times_word(word: u64, behind: usize) -> u32
+    requires { behind ≤ 8 }
+    ensures { result ≡ times_x_to (8 * (behind + 8)) word }
+{
+    let low = (word % 0x1_0000_0000) as u32;
+    let high = (word / 0x1_0000_0000) as u32;
+    times_half(high, behind) ^ times_half(low, behind + 4)
+}
+
+/// Four bytes with so many behind them.
+#[inline(always)]
+fn times_half(half: u32, behind: usize) -> u32
+    requires { behind ≤ 12 }
+    ensures { result ≡ times_x_to (8 * (behind + 4)) half }
+{
+    let high = entry(behind, byte_of(half, 3)) ^ entry(behind + 1, byte_of(half, 2));
+    let low = entry(behind + 2, byte_of(half, 1)) ^ entry(behind + 3, byte_of(half, 0));
+    high ^ low
+}
+
+#[inline(always)]
+fn byte_of(half: u32, place: u32) -> usize
+    requires { place < 4 }
+    ensures { result ≡ half / 2 ^ (8 * place) % 256 }
+{
+    ((half >> (8 * place)) % 256) as usize
 }
 
 /// A byte times the power `8 * (slice + 1)` of x.
 #[inline(always)]
 fn entry(slice: usize, byte: usize) -> u32
-    requires slice { slice < 8 }
+    requires slice { slice < 16 }
     requires byte { byte < 256 }
     ensures { result ≡ times_x_to (8 * (slice + 1)) byte }
 {

@@ -4,7 +4,7 @@ ghost use Rattle.reading_core.specs.Grammar.{IsBytes};
 ghost use Rattle.wire_bytes.specs.Position.{Position, left, further};
 
 use crate::WireRefusal;
-use crate::varint::{groups_of, unzigzag};
+use crate::varint::{number_of, unzigzag};
 use std::marker::Model;
 
 /// Reads bytes from left to right. A call that refuses leaves the place as it was.
@@ -107,6 +107,7 @@ impl<'a> Cursor<'a> {
     }
 
     /// Reads a number in base 128.
+    #[inline(always)]
     pub fn take_uvarint(&mut self) -> Result<u64, WireRefusal>
         ensures found { Found IsUvarint self.old self.new result }
         ensures only { Only IsUvarint self.old self.new result }
@@ -118,6 +119,7 @@ impl<'a> Cursor<'a> {
     }
 
     /// Reads a signed number by its place in the order 0, -1, 1, -2, 2.
+    #[inline(always)]
     pub fn take_varint(&mut self) -> Result<i64, WireRefusal>
         ensures found { Found IsVarint self.old self.new result }
         ensures only { Only IsVarint self.old self.new result }
@@ -181,16 +183,18 @@ impl<'a> Cursor<'a> {
         ]))
     }
 
+    #[inline(always)]
     #[tactic(auto, unfolding(crate::specs::Fields::uvarint_at))]
     fn read_uvarint(&mut self) -> Result<u64, WireRefusal>
         ensures exact { Steps (λ n. n) self.old self.new result (uvarint_at self.old) }
         ensures bytes { IsBytes (left self.old) }
     {
-        let (n, taken) = groups_of(&self.bytes[self.place..])?;
+        let (n, taken) = number_of(&self.bytes[self.place..])?;
         self.place += taken;
         Ok(n)
     }
 
+    #[inline(always)]
     #[tactic(auto, unfolding(crate::specs::Fields::varint_at))]
     fn read_varint(&mut self) -> Result<i64, WireRefusal>
         ensures exact { Steps (λ n. n) self.old self.new result (varint_at self.old) }

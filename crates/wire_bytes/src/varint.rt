@@ -1,12 +1,50 @@
-ghost use Rattle.std.specs.Prelude.{◌≡◌, ◌≤◌, ◌<◌, ◌^◌, ◌*◌, ◌+◌, drop, Ok, suc, length, take, IfOk, ℕ, ℤ};
+ghost use Rattle.std.specs.Prelude.{◌≡◌, ◌≤◌, ◌<◌, ◌^◌, ◌*◌, ◌+◌, drop, Ok, suc, length, take, IfOk, IfSome, ℕ, ℤ};
 ghost use Rattle.reading_core.specs.Reading.{Answers};
 ghost use Rattle.wire_bytes.specs.Fields.{groups_of, zigzag, unzigzag};
 ghost use Rattle.wire_bytes.specs.Written.{uvarint_text};
 
 use crate::WireRefusal;
 
-/// A number in base 128 at the front of the bytes, and how many bytes it takes.
-pub fn groups_of(bytes: &[u8]) -> Result<(u64, usize), WireRefusal>
+/// A number in base 128 at the front of the bytes, and how many bytes it takes. A short one is told without a call.
+#[inline(always)]
+pub fn number_of(bytes: &[u8]) -> Result<(u64, usize), WireRefusal>
+    ensures exact { Answers (λ x. x) result (groups_of 9 bytes.now) }
+    ensures within { IfOk result (λ x. x.1 ≤ length bytes.now) }
+{
+    match short_number(bytes) {
+        Some(found) => Ok(found),
+        None => groups_of(bytes),
+    }
+}
+
+/// A number of at most three groups at the front of the bytes, and how many groups it has.
+#[inline(always)]
+fn short_number(bytes: &[u8]) -> Option<(u64, usize)>
+    ensures read { IfSome result (λ x. groups_of 9 bytes.now ≡ Ok x) }
+    ensures within { IfSome result (λ x. x.1 ≤ length bytes.now) }
+{
+    if bytes.is_empty() {
+        return None;
+    }
+    let first = bytes[0];
+    if first < 128 {
+        return Some((u64::from(first), 1));
+    }
+    if bytes.len() < 2 {
+        return None;
+    }
+    let second = bytes[1];
+    if second < 128 {
+        return Some((u64::from(first - 128) + 128 * u64::from(second), 2));
+    }
+    if bytes.len() < 3 || bytes[2] >= 128 {
+        return None;
+    }
+    let high = u64::from(second - 128) + 128 * u64::from(bytes[2]);
+    Some((u64::from(first - 128) + 128 * high, 3))
+}
+
+fn groups_of(bytes: &[u8]) -> Result<(u64, usize), WireRefusal>
     ensures exact { Answers (λ x. x) result (groups_of 9 bytes.now) }
     ensures within { IfOk result (λ x. x.1 ≤ length bytes.now) }
 {
@@ -52,6 +90,7 @@ fn last_group(bytes: &[u8]) -> Result<u64, WireRefusal>
 }
 
 /// The number that stands at a place in the order 0, -1, 1, -2, 2.
+#[inline(always)]
 pub fn unzigzag(n: u64) -> i64
     ensures { result ≡ unzigzag n }
 {

@@ -37,12 +37,14 @@ impl Journal {
         }
     }
 
+    /// How many entries there are.
     pub fn len(&self) -> u64
         ensures { result ≡ length self.now }
     {
         self.entries.len() as u64
     }
 
+    /// Whether there is no entry.
     pub fn is_empty(&self) -> bool
         ensures { IsTrue result ↔ (self.now ≡ []) }
     {

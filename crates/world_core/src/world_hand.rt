@@ -12,6 +12,7 @@ pub struct WorldHand<B: Bucket> {
 }
 
 impl<B: Bucket> WorldHand<B> {
+    /// A hand of this seat, which has been refused nothing yet.
     pub fn new(world: World<B>, seat: u32) -> Self
         ensures world { result.world ≡ world }
         ensures seat { result.seat ≡ seat }
@@ -24,6 +25,7 @@ impl<B: Bucket> WorldHand<B> {
         }
     }
 
+    /// Hands the world back.
     pub fn into_world(self) -> World<B>
         ensures { result ≡ self.world }
     {

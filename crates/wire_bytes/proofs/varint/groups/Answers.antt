@@ -1,4 +1,4 @@
-use Rattle.std.proofs.Common.{arith, ◌≤◌, ◌+◌, ◌%◌}
+use Rattle.std.proofs.Common.{arith, ◌+◌, ◌%◌}
 use Rattle.std.proofs.lemmas.List.{length-set}
 use Rattle.wire_bytes.specs.Written.{uvarint_text}
 use Rattle.wire_bytes.proofs.GroupsWritten.{written_last, written_more, written_tenth, still_small}

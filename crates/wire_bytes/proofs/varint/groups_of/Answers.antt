@@ -1,4 +1,4 @@
-use Rattle.std.proofs.Common.{◌∙◌, sym, ap, refl, get_or, ◌-◌, Ok, ◌+◌}
+use Rattle.std.proofs.Common.{◌∙◌, sym, refl, get_or}
 use Rattle.wire_bytes.proofs.Groups.{low_short, low_last, low_more}
 use Rattle.wire_bytes.proofs.varint.groups_of.Goals as goal
 

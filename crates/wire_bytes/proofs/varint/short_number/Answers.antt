@@ -1,7 +1,7 @@
 use Rattle.std.proofs.Common.{◌<◌, length, get_or, arith, refl}
 use Rattle.std.proofs.lemmas.Bool.Decides.{nat_tests}
-use Rattle.index_parts.proofs.Moves.{one_group, two_groups, three_groups}
-use Rattle.index_parts.proofs.fields.short_number.Goals as goal
+use Rattle.wire_bytes.proofs.ShortNumbers.{one_group, two_groups, three_groups}
+use Rattle.wire_bytes.proofs.varint.short_number.Goals as goal
 
 pub returns-then-first-lt128-clause-read : goal.returns-then-first-lt128-clause-read
 returns-then-first-lt128-clause-read c =
