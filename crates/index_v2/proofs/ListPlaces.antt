@@ -4,7 +4,7 @@ use Rattle.std.specs.Prelude.{bit_xor, ◌==◌}
 use Rattle.std.specs.Int.{w32, to_be_bytes}
 use Rattle.std.specs.List.{AllByRecursion, flat_map}
 use Rattle.std.proofs.lemmas.Nat.{xor_of_32}
-use Rattle.wire_bytes.specs.Crc.{crc, with_bit, castagnoli, coefficients, ones}
+use Rattle.wire_bytes.specs.Crc.{crc, remainder, with_bit, castagnoli, coefficients, ones}
 use Rattle.index_parts.specs.Framed.{section_text, IsSection}
 use Rattle.index_parts.specs.Lists.{list_content}
 use Rattle.index_parts.specs.Turns.{InOrderAfter, InOrder}
@@ -45,7 +45,7 @@ all_bits [] = tt
 all_bits (byte ∷ bytes) = all_append (λ bit. bit < 2) (coefficients byte) (flat_map coefficients bytes) (bits_of byte) (all_bits bytes)
 
 pub crc_fits : (bytes : List ℕ) → crc bytes < 2 ^ 32
-unfolding crc
+unfolding crc remainder
 crc_fits bytes = xor_of_32 (fold with_bit ones (flat_map coefficients bytes)) ones (fold_fits (flat_map coefficients bytes) ones (omega arith) (all_bits bytes)) (omega arith)
 
 -- ---- places
