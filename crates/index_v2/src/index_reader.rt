@@ -69,13 +69,14 @@ impl<'a> IndexReader<'a> {
         ensures exact { Gives IndexRefusal.NoMemory (λ reader. reader) result (opened_at bytes.now) }
     {
         let toc = contents_of(bytes)?;
+        // The symbols are read last, though their refusal is the first: they are what is wanted next, and still in the caches.
+        let rows = Rows::read(alloc, bytes, toc.postings_table);
         let symbols = Symbols::read(alloc, bytes, toc.symbols)?;
-        let rows = Rows::read(alloc, bytes, toc.postings_table)?;
         Ok(IndexReader {
             bytes,
             toc,
             symbols,
-            rows,
+            rows: rows?,
         })
     }
 
