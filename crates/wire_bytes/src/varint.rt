@@ -13,8 +13,18 @@ pub fn number_of(bytes: &[u8]) -> Result<(u64, usize), WireRefusal>
 {
     match short_number(bytes) {
         Some(found) => Ok(found),
-        None => groups_of(bytes),
+        None => long_number(bytes),
     }
+}
+
+/// The same of a number of any size. What the call writes is taken apart here, so that a short number needs no memory.
+#[inline(always)]
+fn long_number(bytes: &[u8]) -> Result<(u64, usize), WireRefusal>
+    ensures exact { Answers (λ x. x) result (groups_of 9 bytes.now) }
+    ensures within { IfOk result (λ x. x.1 ≤ length bytes.now) }
+{
+    let (number, size) = groups_of(bytes)?;
+    Ok((number, size))
 }
 
 /// A number of at most three groups at the front of the bytes, and how many groups it has.
