@@ -12,9 +12,9 @@ use Rattle.index_parts.specs.declared.refusal.PartRefusal.{PartRefusal}
 use Rattle.index_parts.specs.declared.raw_series.RawSeries.{RawSeries}
 use Rattle.index_parts.specs.Placed.{field}
 use Rattle.index_parts.specs.Framing.{entry_at}
-use Rattle.index_parts.specs.SeriesReading.{label_at, labels_at, chunk_at, label_place_at, label_places_at, place_among, label_place_of, series_at}
+use Rattle.index_parts.specs.SeriesReading.{labels_begin_at, label_at, labels_at, chunks_at, label_place_at, label_places_at, place_among, label_place_of, series_at}
 use Rattle.index_parts.specs.ListReading.{turns_at}
-use Rattle.index_parts.proofs.SeriesLaws.{after_labels, series_with, length-firsts}
+use Rattle.index_parts.proofs.SeriesLaws.{after_labels, begin_parts, series_with, length-firsts}
 use Rattle.reading_core.proofs.Counted.{members_parts, members_first, members_stop, length-members}
 
 module _ {A S E : Type 0} (read : S → Result (A × S) E) where
@@ -129,18 +129,17 @@ place_read p q x e =
 pub label_places_are : (index : List ℕ) (at : ℕ) (series : RawSeries) → series_at index at ≡ Ok series → (places : List (ℕ × ℕ)) × (label_places_at index at ≡ Ok places) × (length places ≡ length series.names)
 unfolding series_at labels_at
 label_places_are index at series e =
-    let content = bind_ok (entry_at index at) (λ content. field uvarint_at content >>= λ label_count. labels_at label_count.0 label_count.1 >>= after_labels) series e in
-    let count = bind_ok (field uvarint_at content.0) (λ label_count. labels_at label_count.0 label_count.1 >>= after_labels) series content.2 in
+    let count = bind_ok (labels_begin_at index at) (λ begin. labels_at begin.0 begin.1 >>= after_labels) series e in
+    let content = begin_parts index at count.0 count.1 in
     let labels = bind_ok (labels_at count.0.0 count.0.1) after_labels series count.2 in
     let all = bind_ok (members_at label_at count.0.0 count.0.1) (λ labels. Ok ((map (λ label. label.0) labels.0, map (λ label. label.1) labels.0), labels.1)) labels.0 labels.1 in
     let same : ◌≡◌ {A = (List ℕ × List ℕ) × Position} ((map (λ label. label.0) all.0.0, map (λ label. label.1) all.0.0), all.0.1) labels.0 = ok_is {E = PartRefusal} _ _ all.2 in
-    let chunk_count = bind_ok (field uvarint_at labels.0.1) (λ chunk_count. turns_at chunk_at chunk_count.0 chunk_count.1 >>= λ chunks. Ok (series_with labels.0 chunks)) series labels.2 in
-    let chunks = bind_ok (turns_at chunk_at chunk_count.0.0 chunk_count.0.1) (λ chunks. Ok (series_with labels.0 chunks)) series chunk_count.2 in
+    let chunks = bind_ok (chunks_at labels.0.1) (λ chunks. Ok (series_with labels.0 chunks)) series labels.2 in
     let names : labels.0.0.0 ≡ series.names = ap (λ (s : RawSeries). s.names) (ok_is {E = PartRefusal} (series_with labels.0 chunks.0) series chunks.2) in
     let places = others_read label_at label_place_at place_read count.0.0 count.0.1 all.0.1 all.0.0 all.1 in
     let many : length places.0 ≡ length series.names =
     length-members label_place_at count.0.0 count.0.1 all.0.1 places.0 places.1 ∙ sym (length-members label_at count.0.0 count.0.1 all.0.1 all.0.0 all.1) ∙ sym (length-firsts all.0.0) ∙ ap (λ (r : (List ℕ × List ℕ) × Position). length r.0.0) same ∙ ap length names in
-    (places.0, places_steps index at content.0 count.0 places.0 all.0.1 content.1 count.1 places.1, many)
+    (places.0, places_steps index at content.0 count.0 places.0 all.0.1 content.1 content.2 places.1, many)
 
 -- ---- a label among so many
 

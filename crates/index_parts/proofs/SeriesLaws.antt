@@ -17,7 +17,7 @@ use Rattle.index_parts.specs.Framing.{entry_at}
 use Rattle.index_parts.specs.Turns.{AreInTurn}
 use Rattle.index_parts.specs.ListReading.{turns_at}
 use Rattle.index_parts.specs.SeriesEntry.{IsLabel, IsNextChunk, IsSeries}
-use Rattle.index_parts.specs.SeriesReading.{label_at, labels_at, chunk_at, series_at}
+use Rattle.index_parts.specs.SeriesReading.{labels_begin_at, label_at, labels_at, chunk_at, chunks_at, series_at}
 use Rattle.index_parts.proofs.FieldLaws.{uvarint_field}
 use Rattle.index_parts.proofs.FrameLaws.{entry_found, entry_again, entry_small}
 use Rattle.index_parts.proofs.TurnLaws.{turns_found, turns_again, turns_few}
@@ -143,25 +143,33 @@ unfolding turns_at
 chunks_again p text after chunks are e = let r = turns_again chunk_at IsNextChunk chunk_turn.again None p text chunks after are e in rw r.1 refl
 
 abbrev pub after_labels : (List ℕ × List ℕ) × Position → Result RawSeries PartRefusal
-after_labels labels = field uvarint_at labels.1 >>= λ chunk_count. turns_at chunk_at chunk_count.0 chunk_count.1 >>= λ chunks. Ok (series_with labels chunks)
+after_labels labels = chunks_at labels.1 >>= λ chunks. Ok (series_with labels chunks)
+
+pub begin_parts : (index : List ℕ) (at : ℕ) (count : ℕ × Position) → labels_begin_at index at ≡ Ok count → (content : Position) × (entry_at index at ≡ Ok content) × (field uvarint_at content ≡ Ok count)
+unfolding labels_begin_at
+begin_parts index at count e = bind_ok (entry_at index at) (λ content. field uvarint_at content) count e
+
+chunks_parts : (p : Position) (chunks : List ChunkPlace) → chunks_at p ≡ Ok chunks → (count : ℕ × Position) × (field uvarint_at p ≡ Ok count) × (turns_at chunk_at count.0 count.1 ≡ Ok chunks)
+unfolding chunks_at
+chunks_parts p chunks e = bind_ok (field uvarint_at p) (λ count. turns_at chunk_at count.0 count.1) chunks e
 
 pub series_found : (index : List ℕ) (at : ℕ) (series : RawSeries) → IsBytes index → series_at index at ≡ Ok series → IsSeries index at series
 unfolding series_at
 series_found index at series are e =
-    let content = bind_ok (entry_at index at) (λ content. field uvarint_at content >>= λ label_count. labels_at label_count.0 label_count.1 >>= after_labels) series e in
-    let label_count = bind_ok (field uvarint_at content.0) (λ label_count. labels_at label_count.0 label_count.1 >>= after_labels) series content.2 in
+    let label_count = bind_ok (labels_begin_at index at) (λ begin. labels_at begin.0 begin.1 >>= after_labels) series e in
+    let content = begin_parts index at label_count.0 label_count.1 in
     let labels = bind_ok (labels_at label_count.0.0 label_count.0.1) after_labels series label_count.2 in
-    let chunk_count = bind_ok (field uvarint_at labels.0.1) (λ chunk_count. turns_at chunk_at chunk_count.0 chunk_count.1 >>= λ chunks. Ok (series_with labels.0 chunks)) series labels.2 in
-    let chunks = bind_ok (turns_at chunk_at chunk_count.0.0 chunk_count.0.1) (λ chunks. Ok (series_with labels.0 chunks)) series chunk_count.2 in
+    let chunks = bind_ok (chunks_at labels.0.1) (λ chunks. Ok (series_with labels.0 chunks)) series labels.2 in
+    let chunk_count = chunks_parts labels.0.1 chunks.0 chunks.1 in
     let same : series_with labels.0 chunks.0 ≡ series = ok_is {E = PartRefusal} _ _ chunks.2 in
     let entry = entry_found index at content.0 are content.1 in
-    let f0 = uvarint_field.found content.0 label_count.0.1 label_count.0.0 entry.1 label_count.1 in
+    let f0 = uvarint_field.found content.0 label_count.0.1 label_count.0.0 entry.1 content.2 in
     let are1 = IsBytes-after f0.0 (left label_count.0.1) (left content.0) f0.2 entry.1 in
     let f1 = labels_found label_count.0.0 label_count.0.1 labels.0.1 labels.0.0.0 labels.0.0.1 are1 labels.1 in
     let are2 = IsBytes-after f1.text (left labels.0.1) (left label_count.0.1) f1.front are1 in
     let f2 = uvarint_field.found labels.0.1 chunk_count.0.1 chunk_count.0.0 are2 chunk_count.1 in
     let are3 = IsBytes-after f2.0 (left chunk_count.0.1) (left labels.0.1) f2.2 are2 in
-    let f3 = chunks_found chunk_count.0.0 chunk_count.0.1 chunks.0 are3 chunks.1 in
+    let f3 = chunks_found chunk_count.0.0 chunk_count.0.1 chunks.0 are3 chunk_count.2 in
     let is : IsSeries index at (series_with labels.0 chunks.0) = record {
       content = left content.0;
       label_count = f0.0;
@@ -180,7 +188,7 @@ series_found index at series are e =
     subst (λ (s : RawSeries). IsSeries index at s) same is
 
 pub series_again : (index : List ℕ) (at : ℕ) (series : RawSeries) → IsSeries index at series → series_at index at ≡ Ok series
-unfolding series_at
+unfolding series_at labels_begin_at chunks_at
 series_again index at series is =
     let entry = entry_again index at is.content is.entry in
     let whole = entry.2 ∙ is.content_is ∙ regroup is.label_count is.labels is.chunk_count is.chunks is.left_over in

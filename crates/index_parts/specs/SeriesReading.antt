@@ -24,6 +24,12 @@ fits_unsigned (negsuc n) = nat_lt n 0
 
 -- ---- labels
 
+-- how many labels the series at a place has, and where they begin
+unfoldable pub labels_begin_at : List ℕ → ℕ → Result (ℕ × Position) PartRefusal
+labels_begin_at index at = do
+  content ← entry_at index at
+  field uvarint_at content
+
 unfoldable pub label_at : Position → Result ((ℕ × ℕ) × Position) PartRefusal
 label_at p = do
   name ← field uvarint_at p
@@ -70,15 +76,19 @@ chunk_at s = do
   reference ← reference_at s.0 max.1
   Ok (chunk_of min.0 max.0 reference.0, (Some (chunk_of min.0 max.0 reference.0), reference.1))
 
+-- the chunks behind their count
+unfoldable pub chunks_at : Position → Result (List ChunkPlace) PartRefusal
+chunks_at p = do
+  count ← field uvarint_at p
+  turns_at chunk_at count.0 count.1
+
 -- ---- the series
 
 unfoldable pub series_at : List ℕ → ℕ → Result RawSeries PartRefusal
 series_at index at = do
-  content ← entry_at index at
-  label_count ← field uvarint_at content
-  labels ← labels_at label_count.0 label_count.1
-  chunk_count ← field uvarint_at labels.1
-  chunks ← turns_at chunk_at chunk_count.0 chunk_count.1
+  begin ← labels_begin_at index at
+  labels ← labels_at begin.0 begin.1
+  chunks ← chunks_at labels.1
   Ok (record { names = labels.0.0; values = labels.0.1; chunks = chunks })
 
 -- where the symbol numbers of a label stand, that of its name and that of its value

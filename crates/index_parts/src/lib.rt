@@ -30,7 +30,7 @@ pub use postings_row::{PostingsRow, PostingsRowList};
 pub use postings_table::{PostingsTable, read_postings_table};
 pub use raw_series::RawSeries;
 pub use refusal::PartRefusal;
-pub use series_reading::{read_series, read_series_into};
+pub use series_reading::{before_labels, chunks_behind, next_label, read_series};
 pub use series_writing::write_series;
 pub use symbol_table::{SymbolTable, read_symbols};
 pub use toc::Toc;

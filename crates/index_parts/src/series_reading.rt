@@ -1,23 +1,34 @@
 ghost use Rattle.std.specs.Prelude.{◌≡◌, ◌⊎◌, ◌≤◌, ◌*◌, ◌+◌, ◌<◌, ◌^◌, List, ℕ, ℤ, length, IfOk, Ok, Err, Some, MatchResult};
-ghost use Rattle.reading_core.specs.Reading.{Gives, Steps};
+ghost use Rattle.reading_core.specs.Reading.{Answers, Gives};
 ghost use Rattle.reading_core.specs.Grammar.{IsBytes};
 ghost use Rattle.wire_bytes.specs.Position.{Position};
 ghost use Rattle.index_parts.specs.declared.raw_series.RawSeries.{RawSeries};
 ghost use Rattle.index_parts.specs.SeriesEntry.{IsSeries, reference_of};
-ghost use Rattle.index_parts.specs.SeriesReading.{label_at, labels_at, later_at, moved_at, begin_at, reference_at, chunk_of, chunk_at, series_at};
+ghost use Rattle.index_parts.specs.SeriesReading.{labels_begin_at, label_at, labels_at, later_at, moved_at, begin_at, reference_at, chunk_of, chunk_at, chunks_at, series_at};
 ghost use Rattle.index_parts.specs.ListReading.{turns_at};
 
 use crate::fields::{next_uvarint, next_varint};
 use crate::sections::entry_of;
-use crate::{ChunkPlace, PartRefusal, RawSeries};
+use crate::{ChunkList, ChunkPlace, PartRefusal, RawSeries};
 use list_core::List;
 use std::alloc::Global;
 use wire_bytes::Cursor;
 
+/// Stands before the labels of the series at a place, and tells how many they are. The sum over the series is tested.
+#[inline(always)]
+#[tactic(auto, unfolding(crate::specs::SeriesReading::labels_begin_at))]
+pub fn before_labels(index: &[u8], at: u64) -> Result<(u64, Cursor<'_>), PartRefusal>
+    ensures { Answers (λ x. (x.0, x.1)) result (labels_begin_at index.now at) }
+{
+    let mut content = entry_of(index, at)?;
+    let count = next_uvarint(&mut content)?;
+    Ok((count, content))
+}
+
 /// The symbol numbers of the next label, its name's and its value's.
 #[inline(always)]
 #[tactic(auto, unfolding(crate::specs::SeriesReading::label_at))]
-fn next_label(cursor: &mut Cursor<'_>) -> Result<(u64, u64), PartRefusal>
+pub fn next_label(cursor: &mut Cursor<'_>) -> Result<(u64, u64), PartRefusal>
     ensures { MatchResult result (λ label. label_at cursor.old ≡ Ok (label, cursor.new)) (λ e. label_at cursor.old ≡ Err e) }
 {
     let name = next_uvarint(cursor)?;
@@ -25,17 +36,16 @@ fn next_label(cursor: &mut Cursor<'_>) -> Result<(u64, u64), PartRefusal>
     Ok((name, value))
 }
 
-/// Reads the symbol numbers of so many labels in place of those that the lists have, and what follows them.
+/// Reads the symbol numbers of so many labels, and what follows them.
 fn labels_of<'a>(
+    alloc: Global,
     count: u64,
     mut cursor: Cursor<'a>,
-    mut names: Vec<u64>,
-    mut values: Vec<u64>,
 ) -> Result<(Vec<u64>, Vec<u64>, Cursor<'a>), PartRefusal>
     ensures { Gives PartRefusal.NoMemory (λ x. ((x.0.items, x.1.items), x.2)) result (labels_at count cursor.entry) }
 {
-    names.clear();
-    values.clear();
+    let mut names = Vec::new(alloc);
+    let mut values = Vec::new(alloc);
     for _ in 0..count {
         let (name, value) = next_label(&mut cursor)?;
         names.push(name)?;
@@ -153,40 +163,31 @@ fn chunks_of(
     Ok(chunks)
 }
 
+/// Reads the chunks behind the labels of a series into the room of a list, of which nothing is kept but its memory: where it
+/// has room enough, none is taken. Where nothing is read the room is given up.
+#[inline(always)]
+#[tactic(auto, unfolding(crate::specs::SeriesReading::chunks_at))]
+pub fn chunks_behind(mut cursor: Cursor<'_>, room: ChunkList) -> Result<ChunkList, PartRefusal>
+    ensures { Gives PartRefusal.NoMemory (λ chunks. chunks) result (chunks_at cursor.entry) }
+{
+    let count = next_uvarint(&mut cursor)?;
+    let chunks = chunks_of(count, cursor, room.into_vec())?;
+    Ok(List::from_vec(chunks))
+}
+
 #[tactic(auto, unfolding(crate::specs::SeriesReading::series_at))]
-fn series_of(index: &[u8], at: u64, room: RawSeries) -> Result<RawSeries, PartRefusal>
+fn series_of(alloc: Global, index: &[u8], at: u64) -> Result<RawSeries, PartRefusal>
     ensures exact { Gives PartRefusal.NoMemory (λ series. series) result (series_at index.now at) }
     ensures bytes { IsBytes index.now }
 {
-    let mut content = entry_of(index, at)?;
-    let label_count = next_uvarint(&mut content)?;
-    let (names, values, mut rest) = labels_of(
-        label_count,
-        content,
-        room.names.into_vec(),
-        room.values.into_vec(),
-    )?;
-    let chunk_count = next_uvarint(&mut rest)?;
-    let chunks = chunks_of(chunk_count, rest, room.chunks.into_vec())?;
+    let (count, labels) = before_labels(index, at)?;
+    let (names, values, labels_end) = labels_of(alloc, count, labels)?;
+    let chunks = chunks_behind(labels_end, List::new(alloc))?;
     Ok(RawSeries {
         names: List::from_vec(names),
         values: List::from_vec(values),
-        chunks: List::from_vec(chunks),
+        chunks,
     })
-}
-
-/// Reads the series at a place into the room of another, of which nothing is kept but the memory of its lists: where these
-/// have room enough, none is taken. Where nothing is read the room is given up.
-pub fn read_series_into(index: &[u8], at: u64, room: RawSeries) -> Result<RawSeries, PartRefusal>
-    // What is read is what stands there, and what stands there is read.
-    ensures found { IfOk result (λ series. IsSeries index.now at series) }
-    ensures only { (series : RawSeries) → IsSeries index.now at series → (result ≡ Ok series) ⊎ (result ≡ Err PartRefusal.NoMemory) }
-
-    // The first refusal.
-    ensures exact { Gives PartRefusal.NoMemory (λ series. series) result (series_at index.now at) }
-    ensures few { IfOk result (λ series. length series.names + length series.values + 3 * length series.chunks ≤ length index.now) }
-{
-    series_of(index, at, room)
 }
 
 /// Reads the series at a place.
@@ -199,5 +200,5 @@ pub fn read_series(alloc: Global, index: &[u8], at: u64) -> Result<RawSeries, Pa
     ensures exact { Gives PartRefusal.NoMemory (λ series. series) result (series_at index.now at) }
     ensures few { IfOk result (λ series. length series.names + length series.values + 3 * length series.chunks ≤ length index.now) }
 {
-    read_series_into(index, at, RawSeries::new(alloc))
+    series_of(alloc, index, at)
 }

@@ -15,10 +15,12 @@ use Rattle.index_parts.proofs.SeriesLaws.{series_found, series_again}
 use Rattle.index_v2.specs.declared.index_series.IndexSeries.{IndexSeries}
 use Rattle.index_v2.specs.declared.label_fault.LabelFault.{LabelFault}
 use Rattle.index_v2.specs.Opening.{refused_of}
-use Rattle.index_v2.specs.SeriesLabels.{label_of, labels_of, fault_at, labelled_at, numbered_at}
+use Rattle.index_v2.specs.SeriesLabels.{label_of, labels_of, texts_at, fault_at, labelled_at, numbered_at}
 use Rattle.index_v2.specs.IndexFile.{StandFor, IsSeriesOf}
+use Rattle.wire_bytes.specs.Position.{Position}
 use Rattle.index_v2.proofs.LabelReading.{label_parts, lt_from_less}
-use Rattle.index_v2.proofs.LabelPlaces.{labelled_found}
+use Rattle.index_v2.proofs.LabelTexts.{texts_read}
+use Rattle.index_v2.proofs.LabelPlaces.{places_known, with_labels}
 
 -- ---- label sets as chains
 
@@ -95,6 +97,11 @@ one_label : (symbols : List (List ℕ)) (before : List ℕ) (place name value : 
 unfolding label_of
 one_label symbols before place name value label n v ascends some = rw (n, lt_from_less (compare_texts before label.name) ascends, v, lt-ltb 0 (length label.value) some) refl
 
+pub labels_lawful_read : (symbols : List (List ℕ)) (count : ℕ) (p : Position) (labels : List Label) (q : Position) → texts_at symbols [] 0 count p ≡ Ok (Ok labels, q) → IsLabelSet labels
+labels_lawful_read symbols count p labels q e =
+    let read = texts_read symbols count p (Ok labels) q e in
+    labels_lawful symbols read.names read.values labels read.as_many read.texts_are
+
 labels_joined : (symbols : List (List ℕ)) (before : List ℕ) (place name value : ℕ) (names values : List ℕ) (label : Label) (labels : List Label) → label_of symbols before place name value ≡ Ok label → labels_of symbols label.name (place + 1) names values ≡ Ok labels → labels_of symbols before place (name ∷ names) (value ∷ values) ≡ Ok (label ∷ labels)
 unfolding labels_of
 labels_joined symbols before place name value names values label labels e f = rw (e, f) refl
@@ -147,4 +154,5 @@ pub numbered_again : (index : List ℕ) (symbols : List (List ℕ)) (number : �
 numbered_again index symbols number series is =
     let raw = series_again index (16 * number) (record { names = is.names; values = is.values; chunks = series.chunks }) is.stands in
     let labels = labels_again symbols [] 0 is.names is.values series.labels is.names_are is.values_are (chain_from_set [] series.labels is.lawful (all_above_nothing series.labels is.lawful)) in
-    rw (labelled_found index symbols (16 * number) (record { names = is.names; values = is.values; chunks = series.chunks }) is.names is.values series.labels refl refl raw labels) refl
+    let places = places_known index (16 * number) (record { names = is.names; values = is.values; chunks = series.chunks }) raw in
+    rw (with_labels index symbols (16 * number) (record { names = is.names; values = is.values; chunks = series.chunks }) places.0 series.labels raw places.1 labels) refl

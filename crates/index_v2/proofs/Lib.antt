@@ -1,6 +1,5 @@
 pub mod RowPlaces
 pub mod LabelReading
-pub mod LabelPlaces
 pub mod RowsFound
 pub mod ValuesListed
 pub mod WholeLoops
@@ -9,6 +8,8 @@ pub mod Differences
 pub mod ListNumbers
 pub mod OpeningLaws
 pub mod LabelLaws
+pub mod LabelTexts
+pub mod LabelPlaces
 pub mod LabelsOwned
 pub mod Members
 pub mod WholeParts

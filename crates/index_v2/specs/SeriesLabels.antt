@@ -1,6 +1,6 @@
 -- What reading a series gives, or the first refusal: first the series' own bytes, and then its symbol numbers from left to
 -- right.
-use Rattle.std.specs.Prelude.{ℕ, ◌+◌, ◌*◌, List, [], ◌∷◌, length, slice_get, option_map, unwrap_or, Result, Ok, nat_lt}
+use Rattle.std.specs.Prelude.{ℕ, ◌+◌, ◌*◌, List, [], ◌∷◌, length, slice_get, option_map, unwrap_or, Result, Ok, Err, nat_lt}
 use Rattle.std.specs.Ordering.{is_lt}
 use Rattle.std.specs.Option.{ok_or}
 use Rattle.reading_core.specs.Reading.{◌>>=◌, ◌>>◌, unless, refused_as}
@@ -8,10 +8,11 @@ use Rattle.label_sets.specs.declared.label.Label.{Label}
 use Rattle.label_sets.specs.Labels.{compare_texts}
 use Rattle.index_parts.specs.declared.refusal.PartRefusal.{PartRefusal}
 use Rattle.index_parts.specs.declared.refusal.PartRefusal.TheVariants as part
-use Rattle.index_parts.specs.SeriesReading.{series_at, label_places_at}
+use Rattle.wire_bytes.specs.Position.{Position}
+use Rattle.index_parts.specs.SeriesReading.{labels_at, series_at, label_places_at}
 use Rattle.index_v2.specs.declared.index_series.IndexSeries.{IndexSeries}
 use Rattle.index_v2.specs.declared.label_fault.LabelFault.{LabelFault}
-use Rattle.index_v2.specs.declared.label_fault.LabelFault.TheVariants.{Name, Value, NoMemory}
+use Rattle.index_v2.specs.declared.label_fault.LabelFault.TheVariants.{Name, Value}
 use Rattle.index_v2.specs.declared.refusal.IndexRefusal.{IndexRefusal}
 use Rattle.index_v2.specs.Opening.{refused_of}
 
@@ -34,11 +35,22 @@ labels_of symbols before place (name ∷ names) (value ∷ values) = do
   others ← labels_of symbols label.name (place + 1) names values
   Ok (label ∷ others)
 
+-- the labels of the next symbol numbers, of so many pairs, or which number is refused; and what follows the numbers
+unfoldable pub texts_at : List (List ℕ) → List ℕ → ℕ → ℕ → Position → Result (Result (List Label) LabelFault × Position) PartRefusal
+texts_at symbols before place count p = do
+  labels ← labels_at count p
+  Ok (labels_of symbols before place labels.0.0 labels.0.1, labels.1)
+
+-- a fault that is told once the other labels have been passed
+unfoldable pub faulty_at : LabelFault → ℕ → Position → Result (Result (List Label) LabelFault × Position) PartRefusal
+faulty_at fault count p = do
+  labels ← labels_at count p
+  Ok (Err fault, labels.1)
+
 -- where a refused symbol number stands, of the places of each label's two
 abbrev pub fault_at : List (ℕ × ℕ) → LabelFault → PartRefusal
 fault_at places (Name label) = part.Unordered (unwrap_or (option_map (λ (p : ℕ × ℕ). p.0) (slice_get places label)) 0)
 fault_at places (Value label) = part.Unordered (unwrap_or (option_map (λ (p : ℕ × ℕ). p.1) (slice_get places label)) 0)
-fault_at places NoMemory = part.NoMemory
 
 -- the series at a place of the index
 unfoldable pub labelled_at : List ℕ → List (List ℕ) → ℕ → Result IndexSeries PartRefusal

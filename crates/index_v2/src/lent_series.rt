@@ -4,10 +4,10 @@ ghost use Rattle.label_sets.specs.Labels.{IsLabelSet};
 ghost use Rattle.index_v2.specs.LentLabels.{as_label};
 ghost use Rattle.index_v2.specs.SeriesLabels.{labelled_at};
 
-use crate::series_labels::{fault_at, labels_of};
+use crate::series_labels::{fault_at, texts_of};
 use crate::symbols::Symbols;
 use crate::{IndexSeries, LentLabel};
-use index_parts::{ChunkPlace, PartRefusal, RawSeries, read_series_into};
+use index_parts::{ChunkList, ChunkPlace, PartRefusal, before_labels, chunks_behind};
 use label_sets::LabelSet;
 use list_core::{NoMemory, TryCopy};
 use std::alloc::Global;
@@ -18,7 +18,7 @@ use std::marker::Model;
 #[derive(Drop)]
 pub struct LentSeries<'a> {
     labels: Vec<LentLabel<'a>>,
-    raw: RawSeries,
+    chunks: ChunkList,
 }
 
 impl<'a> Model for LentSeries<'a> {
@@ -29,7 +29,7 @@ impl<'a> Model for LentSeries<'a> {
 
     ghost Value = { IndexSeries };
 
-    ghost view = { λ s. record { labels = map as_label s.labels.items; chunks = s.raw.chunks } };
+    ghost view = { λ s. record { labels = map as_label s.labels.items; chunks = s.chunks } };
 
     ghost invariant = { λ s. IsLabelSet (map as_label s.labels.items) };
 }
@@ -41,7 +41,7 @@ impl<'a> LentSeries<'a> {
     {
         LentSeries {
             labels: Vec::new(alloc),
-            raw: RawSeries::new(alloc),
+            chunks: ChunkList::new(alloc),
         }
     }
 
@@ -57,7 +57,7 @@ impl<'a> LentSeries<'a> {
     pub fn chunks(&self) -> &[ChunkPlace]
         ensures { result.now ≡ self.now.chunks }
     {
-        self.raw.chunks.members()
+        self.chunks.members()
     }
 
     /// A copy that lends nothing.
@@ -66,12 +66,11 @@ impl<'a> LentSeries<'a> {
     {
         Ok(IndexSeries {
             labels: set_of(alloc, self.labels.as_slice())?,
-            chunks: self.raw.chunks.copy()?,
+            chunks: self.chunks.copy()?,
         })
     }
 
     /// Reads the series at a place of the index.
-    #[tactic(auto, unfolding(crate::specs::SeriesLabels::labelled_at))]
     pub(crate) fn read(
         index: &[u8],
         symbols: &Symbols<'a>,
@@ -80,10 +79,15 @@ impl<'a> LentSeries<'a> {
     ) -> Result<LentSeries<'a>, PartRefusal>
         ensures { Gives PartRefusal.NoMemory (λ series. series) result (labelled_at index.now symbols.now at) }
     {
-        let LentSeries { labels, raw } = room;
-        let raw = read_series_into(index, at, raw)?;
-        match labels_of(symbols, raw.names.members(), raw.values.members(), labels) {
-            Ok(labels) => Ok(LentSeries { labels, raw }),
+        let LentSeries { labels, chunks } = room;
+        let (count, cursor) = before_labels(index, at)?;
+        let (texts, labels_end) = match texts_of(symbols, count, cursor, labels) {
+            Ok(read) => read,
+            Err(refusal) => return Err(refusal),
+        };
+        let chunks = chunks_behind(labels_end, chunks)?;
+        match texts {
+            Ok(labels) => Ok(LentSeries { labels, chunks }),
             Err(fault) => Err(fault_at(index, at, fault)),
         }
     }

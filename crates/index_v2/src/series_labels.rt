@@ -1,16 +1,18 @@
 ghost use Rattle.std.specs.Prelude.{◌≡◌, ◌*◌, ◌<◌, ℕ, List, [], length, map, Ok, Err, MatchResult, slice_get};
 ghost use Rattle.std.specs.Option.{option_copied};
+ghost use Rattle.std.specs.Result.{result_map_both};
 ghost use Rattle.std.specs.Ordering.{is_lt};
 ghost use Rattle.reading_core.specs.Reading.{Answers, Gives};
 ghost use Rattle.label_sets.specs.Labels.{compare_texts};
 ghost use Rattle.index_parts.specs.SeriesReading.{label_places_at};
 ghost use Rattle.index_v2.specs.LentLabels.{as_label};
-ghost use Rattle.index_v2.specs.SeriesLabels.{label_of, labels_of, fault_at};
+ghost use Rattle.index_v2.specs.SeriesLabels.{label_of, texts_at, faulty_at, fault_at};
 
 use crate::LentLabel;
 use crate::label_fault::LabelFault;
 use crate::symbols::Symbols;
-use index_parts::{PartRefusal, label_place};
+use index_parts::{PartRefusal, label_place, next_label};
+use wire_bytes::Cursor;
 
 /// Whether one text stands before another. Most names are told apart by their first bytes.
 #[inline(always)]
@@ -46,24 +48,44 @@ fn label_of<'a>(
     }
 }
 
-/// The labels of a series' symbol numbers, in place of those that the list has.
-pub(crate) fn labels_of<'a>(
+/// The labels of so many pairs of symbol numbers, in place of those that the list has, or the number that is refused; and what
+/// follows the numbers.
+#[inline(always)]
+pub(crate) fn texts_of<'a, 'b>(
     symbols: &Symbols<'a>,
-    names: &[u64],
-    values: &[u64],
+    count: u64,
+    mut cursor: Cursor<'b>,
     mut labels: Vec<LentLabel<'a>>,
-) -> Result<Vec<LentLabel<'a>>, LabelFault>
-    requires { length names.now ≡ length values.now }
-    ensures { Gives LabelFault.NoMemory (λ labels. map as_label labels.items) result (labels_of symbols.now [] 0 names.now values.now) }
+) -> Result<(Result<Vec<LentLabel<'a>>, LabelFault>, Cursor<'b>), PartRefusal>
+    ensures { Gives PartRefusal.NoMemory (λ x. (result_map_both (λ labels. map as_label labels.items) (λ fault. fault) x.0, x.1)) result (texts_at symbols.now [] 0 count cursor.entry) }
 {
     labels.clear();
     let mut before = "";
-    for place in 0..names.len() {
-        let label = label_of(symbols, before, place, names[place], values[place])?;
-        labels.push(label)?;
-        before = label.name;
+    for place in 0..count {
+        let (name, value) = next_label(&mut cursor)?;
+        match label_of(symbols, before, place as usize, name, value) {
+            Ok(label) => {
+                labels.push(label)?;
+                before = label.name;
+            }
+            Err(fault) => return after_fault(fault, count - place - 1, cursor),
+        }
     }
-    Ok(labels)
+    Ok((Ok(labels), cursor))
+}
+
+/// Passes the labels behind one that is refused, so that what cannot be read there is told first.
+fn after_fault<'a, 'b>(
+    fault: LabelFault,
+    count: u64,
+    mut cursor: Cursor<'b>,
+) -> Result<(Result<Vec<LentLabel<'a>>, LabelFault>, Cursor<'b>), PartRefusal>
+    ensures { Answers (λ x. (result_map_both (λ labels. map as_label labels.items) (λ fault. fault) x.0, x.1)) result (faulty_at fault count cursor.entry) }
+{
+    for _ in 0..count {
+        next_label(&mut cursor)?;
+    }
+    Ok((Err(fault), cursor))
 }
 
 /// The refusal of the symbol number that is at fault.
@@ -77,6 +99,5 @@ pub(crate) fn fault_at(index: &[u8], at: u64, fault: LabelFault) -> PartRefusal
         LabelFault::Value(label) => {
             PartRefusal::Unordered(label_place(index, at, label).map_or(0, |places| places.1))
         }
-        LabelFault::NoMemory => PartRefusal::NoMemory,
     }
 }

@@ -1,14 +1,30 @@
-use Rattle.std.proofs.Common.{map}
+use Rattle.std.proofs.Common.{List, Vec, Global, map, Ok, Err, inr}
+use Rattle.label_sets.specs.declared.label.Label.{Label}
+use Rattle.index_v2.specs.declared.lent_label.LentLabel.{LentLabel}
 use Rattle.index_v2.specs.LentLabels.{as_label}
-use Rattle.index_v2.proofs.LabelPlaces.{labelled_found, labelled_refused}
-use Rattle.index_v2.proofs.LabelLaws.{labels_lawful}
+use Rattle.index_v2.proofs.LabelTexts.{texts_told}
+use Rattle.index_v2.proofs.LabelLaws.{labels_lawful_read}
+use Rattle.index_v2.proofs.LabelReading.{gives_err, gives_refused}
+use Rattle.index_v2.proofs.LabelPlaces.{labelled_found, labelled_refused, labelled_not_begun, labelled_no_labels, labelled_no_chunks}
 use Rattle.index_v2.proofs.lent_series.LentSeries.read.Goals as goal
 
+abbrev views : Vec LentLabel Global → List Label
+views labels = map as_label labels.items
+
+pub returns-in_err-count : goal.returns-in_err-count
+returns-in_err-count c = gives_err _ _ c.from_residual.result c.in_err-count.field-0.0 _ c.from_residual.ensures.1 (labelled_not_begun _ _ _ _ c.in_err-count.ensures)
+
+pub returns-in-Err : goal.returns-in-Err
+returns-in-Err c = labelled_no_labels _ _ _ c.in_ok-count.count c.in_ok-count.cursor _ c.in_ok-count.ensures c.in-Err.ensures
+
+pub returns-in_err-chunks : goal.returns-in_err-chunks
+returns-in_err-chunks c = gives_refused _ _ c.from_residual-in_err-chunks.result c.in_err-chunks.field-0.0 _ c.from_residual-in_err-chunks.ensures.1 (labelled_no_chunks _ _ _ c.in_ok-count.count c.in_ok-count.cursor c.in-Ok.read.1 _ _ c.in_ok-count.ensures c.in-Ok.ensures c.in_err-chunks.ensures)
+
 pub invariant_of-result : goal.invariant_of-result
-invariant_of-result c = labels_lawful c.args.symbols.now c.members.result.now c.members-2.result.now (map as_label c.in-Ok.labels.items) (rw (c.members.ensures, c.members-2.ensures) c.in_ok-raw.ensures.found.as_many) c.in-Ok.ensures
+invariant_of-result c = labels_lawful_read _ _ c.in_ok-count.cursor _ c.in-Ok.read.1 (texts_told views _ _ c.in_ok-count.cursor c.in-Ok.read.1 c.in-Ok.read.0 (Ok c.in-Ok-texts.labels) c.in-Ok.ensures c.in-Ok-texts.is)
 
-pub returns-in-Ok : goal.returns-in-Ok
-returns-in-Ok c = labelled_found _ _ _ (record { names = c.in_ok-raw.raw.names; values = c.in_ok-raw.raw.values; chunks = c.in_ok-raw.raw.chunks }) _ _ _ c.members.ensures c.members-2.ensures c.in_ok-raw.ensures.exact c.in-Ok.ensures
+pub returns-in-Ok-texts : goal.returns-in-Ok-texts
+returns-in-Ok-texts c = labelled_found _ _ _ _ c.in_ok-count.cursor c.in-Ok.read.1 _ _ c.in_ok-count.ensures (texts_told views _ _ c.in_ok-count.cursor c.in-Ok.read.1 c.in-Ok.read.0 (Ok c.in-Ok-texts.labels) c.in-Ok.ensures c.in-Ok-texts.is) c.in_ok-chunks.ensures
 
-pub returns : goal.returns
-returns c = labelled_refused _ _ _ c.in_ok-raw.raw _ _ _ _ c.members.ensures c.members-2.ensures c.in_ok-raw.ensures.exact c.in-Err.ensures c.fault_at.ensures
+pub returns-in-Err-texts : goal.returns-in-Err-texts
+returns-in-Err-texts c = inr (labelled_refused _ _ _ _ c.in_ok-count.cursor c.in-Ok.read.1 c.in-Err-texts.fault _ _ c.in_ok-count.ensures (texts_told views _ _ c.in_ok-count.cursor c.in-Ok.read.1 c.in-Ok.read.0 (Err c.in-Err-texts.fault) c.in-Ok.ensures c.in-Err-texts.is) c.in_ok-chunks.ensures c.fault_at.ensures)

@@ -5,7 +5,7 @@ use Rattle.index_parts.specs.SeriesEntry.{IsSeries}
 use Rattle.index_parts.specs.SeriesReading.{series_at}
 use Rattle.index_parts.proofs.ListLaws.{found_from, only_from, same_from}
 use Rattle.index_parts.proofs.SeriesLaws.{series_found, series_again, series_few}
-use Rattle.index_parts.proofs.series_reading.read_series_into.Goals as goal
+use Rattle.index_parts.proofs.series_reading.read_series.Goals as goal
 
 pub returns-clause-found : goal.returns-clause-found
 returns-clause-found c = found_from (IsSeries c.args.index.now c.args.at) NoMemory (λ (x : RawSeries). x) c.series_of.result (series_at c.args.index.now c.args.at) (λ series e. series_found c.args.index.now c.args.at series c.series_of.ensures.bytes e) c.series_of.ensures.exact
