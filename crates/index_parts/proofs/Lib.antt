@@ -9,6 +9,7 @@ pub mod ListLaws
 pub mod PostingsLaws
 pub mod SymbolLaws
 pub mod RowLaws
+pub mod SameNames
 pub mod TocLaws
 pub mod ChunkLaws
 pub mod SeriesLaws

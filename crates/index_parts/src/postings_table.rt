@@ -1,7 +1,10 @@
-ghost use Rattle.std.specs.Prelude.{◌≡◌, ◌⊎◌, ◌≤◌, ◌*◌, List, ℕ, length, map, slice_get, IfOk, Err, Ok, Some, MatchResult, option_map};
+ghost use Rattle.std.specs.Prelude.{◌≡◌, ◌⊎◌, ◌≤◌, ◌-◌, ◌*◌, true, List, ℕ, length, map, slice_get, IfOk, Err, Ok, Some, MatchResult, option_map, if◌then◌else◌};
+ghost use Rattle.std.specs.Str.{is_utf8};
+ghost use Rattle.std.specs.Ordering.{is_lt};
 ghost use Rattle.std.specs.Result.{IsOkAnd};
-ghost use Rattle.reading_core.specs.Reading.{Gives};
+ghost use Rattle.reading_core.specs.Reading.{Answers, Gives};
 ghost use Rattle.reading_core.specs.Grammar.{IsBytes};
+ghost use Rattle.label_sets.specs.Labels.{compare_texts};
 ghost use Rattle.index_parts.specs.declared.postings_row.PostingsRow.{PostingsRow};
 ghost use Rattle.index_parts.specs.Lent.{row_of, row_before};
 ghost use Rattle.index_parts.specs.Rows.{IsPostingsTable};
@@ -87,6 +90,92 @@ fn may_bytes_come_after(before: Option<LentRow<'_>>, name: &[u8], value: &[u8]) 
     }
 }
 
+/// A row of the name of the row before it, which is taken as it is. Its order is tested, and then its value.
+#[inline(always)]
+#[tactic(auto, using(crate::proofs::Texts::utf8_tests))]
+fn row_of_same_name<'a>(
+    name: &'a str,
+    value_before: &str,
+    place: u64,
+    value_bytes: &'a [u8],
+    value_end: usize,
+    offset: u64,
+) -> Result<LentRow<'a>, PartRefusal>
+    requires { length value_bytes.now ≤ value_end }
+    ensures row { Answers row_of result (if is_lt (compare_texts value_before.now value_bytes.now) then (if is_utf8 value_bytes.now then Ok (record { name = name.now; value = value_bytes.now; offset = offset }) else Err (PartRefusal.NotText (value_end - length value_bytes.now))) else Err (PartRefusal.Unordered place)) }
+    ensures text { is_utf8 name.now ≡ true }
+{
+    match text_of(value_bytes, value_end) {
+        Ok(value) if value_before < value => Ok(LentRow {
+            name,
+            value,
+            offset,
+        }),
+        Err(refusal) if value_before.as_bytes().cmp(value_bytes).is_lt() => Err(refusal),
+        _ => Err(PartRefusal::Unordered(place)),
+    }
+}
+
+/// A row of another name. Its order is tested, and then its texts.
+#[inline(always)]
+fn row_of_other_name<'a>(
+    before: Option<LentRow<'a>>,
+    place: u64,
+    name_bytes: &'a [u8],
+    name_end: usize,
+    value_bytes: &'a [u8],
+    value_end: usize,
+    offset: u64,
+) -> Result<LentRow<'a>, PartRefusal>
+    requires name { length name_bytes.now ≤ name_end }
+    requires value { length value_bytes.now ≤ value_end }
+    ensures { Answers row_of result (if may_come_after (row_before before.entry) (record { name = name_bytes.now; value = value_bytes.now; offset = offset }) then (if is_utf8 name_bytes.now then (if is_utf8 value_bytes.now then Ok (record { name = name_bytes.now; value = value_bytes.now; offset = offset }) else Err (PartRefusal.NotText (value_end - length value_bytes.now))) else Err (PartRefusal.NotText (name_end - length name_bytes.now))) else Err (PartRefusal.Unordered place)) }
+{
+    let name = text_of(name_bytes, name_end);
+    let value = text_of(value_bytes, value_end);
+    match (name, value) {
+        (Ok(name), Ok(value)) if may_come_after(before, name, value) => Ok(LentRow {
+            name,
+            value,
+            offset,
+        }),
+        (Err(refusal), _) | (Ok(_), Err(refusal))
+            if may_bytes_come_after(before, name_bytes, value_bytes) => { Err(refusal) }
+        _ => Err(PartRefusal::Unordered(place)),
+    }
+}
+
+/// A row of these fields. Mostly it begins with the name of the row before it.
+#[inline(always)]
+fn row_of_fields<'a>(
+    before: Option<LentRow<'a>>,
+    place: u64,
+    name_bytes: &'a [u8],
+    name_end: usize,
+    value_bytes: &'a [u8],
+    value_end: usize,
+    offset: u64,
+) -> Result<LentRow<'a>, PartRefusal>
+    requires name { length name_bytes.now ≤ name_end }
+    requires value { length value_bytes.now ≤ value_end }
+    ensures { Answers row_of result (if may_come_after (row_before before.entry) (record { name = name_bytes.now; value = value_bytes.now; offset = offset }) then (if is_utf8 name_bytes.now then (if is_utf8 value_bytes.now then Ok (record { name = name_bytes.now; value = value_bytes.now; offset = offset }) else Err (PartRefusal.NotText (value_end - length value_bytes.now))) else Err (PartRefusal.NotText (name_end - length name_bytes.now))) else Err (PartRefusal.Unordered place)) }
+{
+    match before {
+        Some(row) if row.name.as_bytes() == name_bytes => {
+            row_of_same_name(row.name, row.value, place, value_bytes, value_end, offset)
+        }
+        _ => row_of_other_name(
+            before,
+            place,
+            name_bytes,
+            name_end,
+            value_bytes,
+            value_end,
+            offset,
+        ),
+    }
+}
+
 /// The next row. All its fields are read, then its order is tested, and then its texts.
 #[inline(always)]
 #[tactic(auto, unfolding(crate::specs::RowsReading::row_at))]
@@ -100,21 +189,12 @@ fn next_row<'a>(
     if next_u8(cursor)? != KIND {
         return Err(PartRefusal::Unordered(place));
     }
-    let name_bytes = next_text(cursor)?;
-    let name = text_of(name_bytes, cursor.place());
-    let value_bytes = next_text(cursor)?;
-    let value = text_of(value_bytes, cursor.place());
+    let name = next_text(cursor)?;
+    let name_end = cursor.place();
+    let value = next_text(cursor)?;
+    let value_end = cursor.place();
     let offset = next_uvarint(cursor)?;
-    match (name, value) {
-        (Ok(name), Ok(value)) if may_come_after(before, name, value) => Ok(LentRow {
-            name,
-            value,
-            offset,
-        }),
-        (Err(refusal), _) | (Ok(_), Err(refusal))
-            if may_bytes_come_after(before, name_bytes, value_bytes) => { Err(refusal) }
-        _ => Err(PartRefusal::Unordered(place)),
-    }
+    row_of_fields(before, place, name, name_end, value, value_end, offset)
 }
 
 /// Reads so many rows.
