@@ -1,4 +1,4 @@
-ghost use Rattle.std.specs.Prelude.{◌≡◌, ◌+◌, ◌*◌, ◌^◌, ◌<◌, ◌≤◌, length, map, sum_by, IfOk, MatchResult};
+ghost use Rattle.std.specs.Prelude.{◌≡◌, ◌+◌, ◌-◌, ◌*◌, ◌^◌, ◌<◌, ◌≤◌, length, map, min, sum_by, IfOk, MatchResult};
 ghost use Rattle.index_v2.specs.Budget.{label_bytes, members_of, series_bytes, text_bytes, told};
 ghost use Rattle.index_v2.specs.LentLabels.{as_label};
 ghost use Rattle.std.specs.Int.{w32};
@@ -14,7 +14,8 @@ use wire_bytes::Cursor;
 /// not overlap their bytes come to the index's length at most, and a label takes two of them at least, a chunk three and a
 /// number of a list four: so such an index never asks for more than half as much again as its length.
 pub(crate) fn budget_of(index: &[u8]) -> usize
-    ensures { result ≤ 8 * length index.now }
+    ensures value { result ≡ min (8 * length index.now) (2 ^ 64 - 1) }
+    ensures bound { result ≤ 8 * length index.now }
 {
     index.len().saturating_mul(8)
 }
@@ -22,7 +23,8 @@ pub(crate) fn budget_of(index: &[u8]) -> usize
 /// How many bytes of label texts are copied out of an index at most: sixty-four for each of its bytes. A label takes two bytes
 /// of its series and four of a list, so that only texts of some four hundred bytes, which many series share, come to more.
 pub(crate) fn text_budget_of(index: &[u8]) -> usize
-    ensures { result ≤ 64 * length index.now }
+    ensures value { result ≡ min (64 * length index.now) (2 ^ 64 - 1) }
+    ensures bound { result ≤ 64 * length index.now }
 {
     index.len().saturating_mul(64)
 }

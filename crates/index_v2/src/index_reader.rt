@@ -8,6 +8,7 @@ ghost use Rattle.index_v2.specs.SeriesLabels.{numbered_at};
 ghost use Rattle.index_v2.specs.Budget.{members_of, text_bytes};
 ghost use Rattle.index_v2.specs.WholeReading.{whole_at};
 ghost use Rattle.index_v2.specs.PostingsLists.{postings_of, values_of};
+ghost use Rattle.index_v2.specs.RowOrder.{DoRise};
 
 use crate::numbered::{lent_series_of, series_of};
 use crate::opening::contents_of;
@@ -109,6 +110,10 @@ impl<'a> IndexReader<'a> {
 
     /// Reads the series of a number into the room of another, of which nothing is kept but the memory of its lists: where these
     /// have room enough, none is taken. The labels' texts are lent from the index. Where nothing is read the room is given up.
+    ///
+    /// A call takes time in proportion to the bytes of its series and to the texts of its labels. Series of a hostile index may
+    /// lie within one another or share long texts: reading all that it lists may then take far more than its length, and whoever
+    /// walks through it has to set the bound, as `whole` does.
     pub fn lent_series(
         &self,
         number: u32,
@@ -137,6 +142,9 @@ impl<'a> IndexReader<'a> {
     ) -> Result<NumberList, IndexRefusal>
         // In an index of a list these are exactly the numbers of its series with this label, and nothing but memory is wanting.
         ensures agrees { (list : List IndexSeries) (is : IsIndex self.now.bytes list) → MatchResult result (λ numbers. AreNumbersOf is.listed name.now value.now numbers) (λ e. e ≡ IndexRefusal.NoMemory) }
+
+        // They ascend, whatever the index.
+        ensures rises { IfOk result (λ numbers. DoRise numbers) }
 
         // The first refusal.
         ensures exact { Gives IndexRefusal.NoMemory (λ numbers. numbers) result (postings_of self.now name.now value.now) }
