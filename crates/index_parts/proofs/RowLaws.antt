@@ -19,7 +19,7 @@ use Rattle.index_parts.specs.declared.refusal.PartRefusal.TheVariants.{Unordered
 use Rattle.index_parts.specs.declared.postings_row.PostingsRow.{PostingsRow}
 use Rattle.index_parts.specs.Placed.{field, text_at}
 use Rattle.index_parts.specs.Rows.{compare_rows, MayComeAfter, IsNextRow}
-use Rattle.index_parts.specs.RowsReading.{may_come_after, row_at}
+use Rattle.index_parts.specs.RowsReading.{may_come_after, row_told, row_at}
 use Rattle.index_parts.proofs.FieldLaws.{fixed_field, uvarint_field, long_field}
 use Rattle.index_parts.proofs.ListLaws.{IsTurnOf}
 use Rattle.index_parts.proofs.SymbolLaws.{less_from_test, test_from_less, text_is, long_is, text_size, uvarint_size}
@@ -44,20 +44,34 @@ Read = Result (PostingsRow × (Option PostingsRow × Position)) PartRefusal
 abbrev row_with : List ℕ × Position → List ℕ × Position → ℕ × Position → PostingsRow
 row_with name value offset = record { name = name.0; value = value.0; offset = offset.0 }
 
-abbrev done : List ℕ × Position → List ℕ × Position → ℕ × Position → Read
-done name value offset = Ok (row_with name value offset, (Some (row_with name value offset), offset.1))
+abbrev value_tested : ℕ → PostingsRow → Result PostingsRow PartRefusal
+value_tested value_end row = unless (is_utf8 row.value) (NotText (value_end - length row.value)) >> Ok row
 
-abbrev value_tested : List ℕ × Position → List ℕ × Position → ℕ × Position → Read
-value_tested name value offset = unless (is_utf8 value.0) (NotText (value.1.place - length value.0)) >> done name value offset
+abbrev name_tested : ℕ → ℕ → PostingsRow → Result PostingsRow PartRefusal
+name_tested name_end value_end row = unless (is_utf8 row.name) (NotText (name_end - length row.name)) >> value_tested value_end row
 
-abbrev name_tested : List ℕ × Position → List ℕ × Position → ℕ × Position → Read
-name_tested name value offset = unless (is_utf8 name.0) (NotText (name.1.place - length name.0)) >> value_tested name value offset
+-- what a row that is told has passed
+record IsTold (before : Option PostingsRow) (row told : PostingsRow) : Type 0 where
+  ordered : may_come_after before row ≡ true
+  name_utf8 : is_utf8 row.name ≡ true
+  value_utf8 : is_utf8 row.value ≡ true
+  same : row ≡ told
 
-abbrev order_tested : Option PostingsRow → Position → List ℕ × Position → List ℕ × Position → ℕ × Position → Read
-order_tested before p name value offset = unless (may_come_after before (row_with name value offset)) (Unordered p.place) >> name_tested name value offset
+told_parts : (before : Option PostingsRow) (place name_end value_end : ℕ) (row told : PostingsRow) → row_told before place name_end value_end row ≡ Ok told → IsTold before row told
+told_parts before place name_end value_end row told e =
+    let order = unless_ok (may_come_after before row) (Unordered place) (name_tested name_end value_end row) told e in
+    let name = unless_ok (is_utf8 row.name) (NotText (name_end - length row.name)) (value_tested value_end row) told order.1 in
+    let value = unless_ok (is_utf8 row.value) (NotText (value_end - length row.value)) (Ok row) told name.1 in
+    record { ordered = order.0; name_utf8 = name.0; value_utf8 = value.0; same = ok_is {E = PartRefusal} _ _ value.1 }
+
+abbrev done : ℕ × Position → PostingsRow → Read
+done offset row = Ok (row, (Some row, offset.1))
+
+abbrev row_tested : Option PostingsRow → Position → List ℕ × Position → List ℕ × Position → ℕ × Position → Read
+row_tested before p name value offset = row_told before p.place name.1.place value.1.place (row_with name value offset) >>= λ row. done offset row
 
 abbrev after_value : Option PostingsRow → Position → List ℕ × Position → List ℕ × Position → Read
-after_value before p name value = field uvarint_at value.1 >>= λ offset. order_tested before p name value offset
+after_value before p name value = field uvarint_at value.1 >>= λ offset. row_tested before p name value offset
 
 abbrev after_name : Option PostingsRow → Position → List ℕ × Position → Read
 after_name before p name = text_at name.1 >>= λ value. after_value before p name value
@@ -75,12 +89,11 @@ found before p x t are e =
     let is_two = unless_ok (kind.0.0 == 2) (Unordered p.place) (text_at kind.0.1 >>= λ name. after_name before p name) (x, t) kind.2 in
     let name = bind_ok (text_at kind.0.1) (λ name. after_name before p name) (x, t) is_two.1 in
     let value = bind_ok (text_at name.0.1) (λ value. after_value before p name.0 value) (x, t) name.2 in
-    let offset = bind_ok (field uvarint_at value.0.1) (λ offset. order_tested before p name.0 value.0 offset) (x, t) value.2 in
+    let offset = bind_ok (field uvarint_at value.0.1) (λ offset. row_tested before p name.0 value.0 offset) (x, t) value.2 in
     let row = row_with name.0 value.0 offset.0 in
-    let ordered = unless_ok (may_come_after before row) (Unordered p.place) (name_tested name.0 value.0 offset.0) (x, t) offset.2 in
-    let name_utf8 = unless_ok (is_utf8 name.0.0) (NotText (name.0.1.place - length name.0.0)) (value_tested name.0 value.0 offset.0) (x, t) ordered.1 in
-    let value_utf8 = unless_ok (is_utf8 value.0.0) (NotText (value.0.1.place - length value.0.0)) (done name.0 value.0 offset.0) (x, t) name_utf8.1 in
-    let same : ◌≡◌ {A = PostingsRow × (Option PostingsRow × Position)} (row, (Some row, offset.0.1)) (x, t) = ok_is {E = PartRefusal} _ _ value_utf8.1 in
+    let told = bind_ok (row_told before p.place name.0.1.place value.0.1.place row) (λ row. done offset.0 row) (x, t) offset.2 in
+    let tests = told_parts before p.place name.0.1.place value.0.1.place row told.0 told.1 in
+    let same : ◌≡◌ {A = PostingsRow × (Option PostingsRow × Position)} (row, (Some row, offset.0.1)) (x, t) = ap (λ (r : PostingsRow). (r, (Some r, offset.0.1))) tests.same ∙ ok_is {E = PartRefusal} _ _ told.2 in
     let fixed = fixed_field w8 wide8 in
     let f0 = fixed.found p kind.0.1 kind.0.0 are kind.1 in
     let are1 = IsBytes-after f0.0 (left kind.0.1) (left p) f0.2 are in
@@ -94,11 +107,11 @@ found before p x t are e =
       name = f1.0;
       value = f2.0;
       offset = f3.0;
-      name_is = text_is f1.0 name.0.0 f1.1 name_utf8.0;
-      value_is = text_is f2.0 value.0.0 f2.1 value_utf8.0;
+      name_is = text_is f1.0 name.0.0 f1.1 tests.name_utf8;
+      value_is = text_is f2.0 value.0.0 f2.1 tests.value_utf8;
       offset_is = f3.1;
       text_is = refl;
-      ascends = after_found before row ordered.0;
+      ascends = after_found before row tests.ordered;
     } in
     let behind : left kind.0.1 ≡ (f1.0 ++ f2.0 ++ f3.0) ++ left offset.0.1 = f1.2 ∙ ap (λ (a : List ℕ). f1.0 ++ a) (f2.2 ∙ ap (λ (a : List ℕ). f2.0 ++ a) f3.2) ∙ sym (regroup f1.0 f2.0 f3.0 (left offset.0.1)) in
     let whole : left p ≡ (2 ∷ (f1.0 ++ f2.0 ++ f3.0)) ++ left offset.0.1 = f0.2 ∙ ap (λ (a : List ℕ). a ++ left kind.0.1) two ∙ ap (λ (a : List ℕ). 2 ∷ a) behind in

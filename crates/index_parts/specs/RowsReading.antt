@@ -18,7 +18,15 @@ abbrev pub may_come_after : Option PostingsRow → PostingsRow → Bool
 may_come_after None row = (length row.name == 0) && (length row.value == 0)
 may_come_after (Some before) row = is_lt (compare_rows before row)
 
--- a row: all its fields are read, then its order is tested, and then its texts
+-- a row whose fields were read, the name and the value up to these places: its order is tested, and then its texts
+abbrev pub row_told : Option PostingsRow → ℕ → ℕ → ℕ → PostingsRow → Result PostingsRow PartRefusal
+row_told before place name_end value_end row = do
+  unless (may_come_after before row) (Unordered place)
+  unless (is_utf8 row.name) (NotText (name_end - length row.name))
+  unless (is_utf8 row.value) (NotText (value_end - length row.value))
+  Ok row
+
+-- a row: all its fields are read first
 unfoldable pub row_at : Option PostingsRow × Position → Result (PostingsRow × (Option PostingsRow × Position)) PartRefusal
 row_at s = do
   kind ← field (number_at w8) s.1
@@ -26,10 +34,8 @@ row_at s = do
   name ← text_at kind.1
   value ← text_at name.1
   offset ← field uvarint_at value.1
-  unless (may_come_after s.0 (record { name = name.0; value = value.0; offset = offset.0 })) (Unordered s.1.place)
-  unless (is_utf8 name.0) (NotText (name.1.place - length name.0))
-  unless (is_utf8 value.0) (NotText (value.1.place - length value.0))
-  Ok (record { name = name.0; value = value.0; offset = offset.0 }, (Some (record { name = name.0; value = value.0; offset = offset.0 }), offset.1))
+  row ← row_told s.0 s.1.place name.1.place value.1.place (record { name = name.0; value = value.0; offset = offset.0 })
+  Ok (row, (Some row, offset.1))
 
 abbrev pub postings_table_at : List ℕ → ℕ → Result (List PostingsRow) PartRefusal
 postings_table_at = list_at row_at

@@ -8,7 +8,7 @@ ghost use Rattle.label_sets.specs.Labels.{compare_texts};
 ghost use Rattle.index_parts.specs.declared.postings_row.PostingsRow.{PostingsRow};
 ghost use Rattle.index_parts.specs.Lent.{row_of, row_before};
 ghost use Rattle.index_parts.specs.Rows.{IsPostingsTable};
-ghost use Rattle.index_parts.specs.RowsReading.{may_come_after, row_at, postings_table_at};
+ghost use Rattle.index_parts.specs.RowsReading.{may_come_after, row_told, row_at, postings_table_at};
 ghost use Rattle.index_parts.specs.ListReading.{turns_at};
 
 use crate::PartRefusal;
@@ -129,7 +129,7 @@ fn row_of_other_name<'a>(
 ) -> Result<LentRow<'a>, PartRefusal>
     requires name { length name_bytes.now ≤ name_end }
     requires value { length value_bytes.now ≤ value_end }
-    ensures { Answers row_of result (if may_come_after (row_before before.entry) (record { name = name_bytes.now; value = value_bytes.now; offset = offset }) then (if is_utf8 name_bytes.now then (if is_utf8 value_bytes.now then Ok (record { name = name_bytes.now; value = value_bytes.now; offset = offset }) else Err (PartRefusal.NotText (value_end - length value_bytes.now))) else Err (PartRefusal.NotText (name_end - length name_bytes.now))) else Err (PartRefusal.Unordered place)) }
+    ensures { Answers row_of result (row_told (row_before before.entry) place name_end value_end (record { name = name_bytes.now; value = value_bytes.now; offset = offset })) }
 {
     let name = text_of(name_bytes, name_end);
     let value = text_of(value_bytes, value_end);
@@ -158,7 +158,7 @@ fn row_of_fields<'a>(
 ) -> Result<LentRow<'a>, PartRefusal>
     requires name { length name_bytes.now ≤ name_end }
     requires value { length value_bytes.now ≤ value_end }
-    ensures { Answers row_of result (if may_come_after (row_before before.entry) (record { name = name_bytes.now; value = value_bytes.now; offset = offset }) then (if is_utf8 name_bytes.now then (if is_utf8 value_bytes.now then Ok (record { name = name_bytes.now; value = value_bytes.now; offset = offset }) else Err (PartRefusal.NotText (value_end - length value_bytes.now))) else Err (PartRefusal.NotText (name_end - length name_bytes.now))) else Err (PartRefusal.Unordered place)) }
+    ensures { Answers row_of result (row_told (row_before before.entry) place name_end value_end (record { name = name_bytes.now; value = value_bytes.now; offset = offset })) }
 {
     match before {
         Some(row) if row.name.as_bytes() == name_bytes => {
