@@ -51,13 +51,13 @@ abbrev name_tested : ℕ → ℕ → PostingsRow → Result PostingsRow PartRefu
 name_tested name_end value_end row = unless (is_utf8 row.name) (NotText (name_end - length row.name)) >> value_tested value_end row
 
 -- what a row that is told has passed
-record IsTold (before : Option PostingsRow) (row told : PostingsRow) : Type 0 where
+record HasPassed (before : Option PostingsRow) (row told : PostingsRow) : Type 0 where
   ordered : may_come_after before row ≡ true
   name_utf8 : is_utf8 row.name ≡ true
   value_utf8 : is_utf8 row.value ≡ true
   same : row ≡ told
 
-told_parts : (before : Option PostingsRow) (place name_end value_end : ℕ) (row told : PostingsRow) → row_told before place name_end value_end row ≡ Ok told → IsTold before row told
+told_parts : (before : Option PostingsRow) (place name_end value_end : ℕ) (row told : PostingsRow) → row_told before place name_end value_end row ≡ Ok told → HasPassed before row told
 told_parts before place name_end value_end row told e =
     let order = unless_ok (may_come_after before row) (Unordered place) (name_tested name_end value_end row) told e in
     let name = unless_ok (is_utf8 row.name) (NotText (name_end - length row.name)) (value_tested value_end row) told order.1 in
