@@ -1,4 +1,4 @@
--- What is written of a list of series is an index of it.
+-- What is written of a list of series is an index of it, and has its label indices.
 use Rattle.std.proofs.Common.{◌≡◌, ◌≢◌, ℕ, ◌*◌, ◌<◌, ◌≤◌, false, List, [], ◌∷◌, ◌++◌, length, map, Result, Ok, Err, refl, sym, ap, ◌∙◌, subst, arith, inl, inr}
 use Rattle.std.specs.Prelude.{slice_get, option_map, unwrap_or, MatchBool, OnOk, ◌==◌}
 use Rattle.std.specs.List.{AllByRecursion}
@@ -7,6 +7,7 @@ use Rattle.label_sets.specs.Labels.{IsLabelSet}
 use Rattle.index_parts.specs.declared.postings_row.PostingsRow.{PostingsRow}
 use Rattle.index_parts.specs.Turns.{InOrder}
 use Rattle.index_parts.specs.Contents.{IsToc, toc_text}
+use Rattle.index_parts.specs.LabelIndices.{IsLabelOffsets}
 use Rattle.index_parts.specs.Postings.{IsPostings}
 use Rattle.index_parts.specs.Rows.{MayComeAfter, IsPostingsTable}
 use Rattle.index_parts.specs.Symbols.{IsSymbols}
@@ -14,18 +15,20 @@ use Rattle.index_v2.specs.declared.index_series.IndexSeries.{IndexSeries}
 use Rattle.index_v2.specs.declared.parts.Parts.{Parts}
 use Rattle.index_v2.specs.Opened.{Opened}
 use Rattle.index_v2.specs.IndexFile.{Holds, IsOpened, IsIndex}
+use Rattle.index_v2.specs.LabelTable.{HasLabelIndices}
 use Rattle.index_v2.specs.SymbolsInUse.{symbols_of, raw_of}
 use Rattle.index_v2.specs.Aligned.{padded, places_at}
 use Rattle.index_v2.specs.declared.write_refusal.IndexWriteRefusal.{IndexWriteRefusal}
 use Rattle.index_parts.specs.declared.toc.Toc.{Toc}
 use Rattle.index_v2.specs.WriteSteps.{greatest, Makes, EachStands}
-use Rattle.index_v2.specs.Written.{AreWritable, first_or, up_to_symbols, table_rows, parts_of, with_series, with_label_indices, list_places, with_label_offsets, with_table, toc_of, written}
+use Rattle.index_v2.specs.Written.{AreWritable, first_or, up_to_symbols, table_rows, offset_rows, parts_of, with_series, with_label_indices, with_lists, list_places, with_label_offsets, with_table, toc_of, written}
 use Rattle.index_v2.proofs.OrderedEntries.{In}
 use Rattle.index_v2.proofs.SeriesNumbers.{numbers_after}
 use Rattle.index_v2.proofs.AlignedTexts.{padded_longer}
 use Rattle.index_v2.proofs.PartsLaws.{front_longer, indices_longer, lists_longer, offsets_longer}
 use Rattle.index_v2.proofs.TableLaws.{table_in_order}
 use Rattle.index_v2.proofs.WrittenIndex.{has_in, zip_firsts, zip_seconds, written_series, written_table, begins, front_size, long}
+use Rattle.index_v2.proofs.LabelTableLaw.{label_table_law}
 use Rattle.index_v2.proofs.IndexWritten.{numbers, all_place, table, table_is, many, numbered, listed, all_stands, rows_hold, complete, series_hold}
 
 -- what the calls that wrote it have shown
@@ -35,6 +38,7 @@ pub record IsShown (list : List IndexSeries) : Type 0 where
   pub symbols : (after : List ℕ) → IsSymbols (with_series (parts_of list) ++ after) 5 (symbols_of list)
   pub series : EachStands (with_series (parts_of list)) (parts_of list).numbers (parts_of list).series
   pub table : InOrder MayComeAfter (table_rows (parts_of list).symbols (parts_of list).rows (list_places (parts_of list))) → (after : List ℕ) → IsPostingsTable (with_table (parts_of list) ++ after) (length (with_label_offsets (parts_of list))) (table_rows (parts_of list).symbols (parts_of list).rows (list_places (parts_of list)))
+  pub offsets : (after : List ℕ) → IsLabelOffsets (with_table (parts_of list) ++ after) (length (with_lists (parts_of list))) (offset_rows (parts_of list))
   pub toc : IsToc (written list) (toc_of (parts_of list))
 
 abbrev opened : List IndexSeries → Opened
@@ -118,28 +122,59 @@ index_law list lawful shown = record {
   complete = λ n s has label h. complete list n s label shown.labels (has_in (listed list) (n, s) has) (has_in s.labels label h);
 }
 
+symbols_shown : (list : List IndexSeries) → IsShown list → IsSymbols (written list) (toc_of (parts_of list)).symbols (symbols_of list)
+unfolding toc_of
+symbols_shown list shown = let more = written_series list in subst (λ (l : List ℕ). IsSymbols l 5 (symbols_of list)) (sym more.1) (shown.symbols more.0)
+
+offsets_shown : (list : List IndexSeries) → IsShown list → IsLabelOffsets (written list) (toc_of (parts_of list)).label_offsets (offset_rows (parts_of list))
+unfolding toc_of
+offsets_shown list shown =
+    subst (λ (l : List ℕ). IsLabelOffsets l (length (with_lists (parts_of list))) (offset_rows (parts_of list))) (sym (written_table list)) (shown.offsets (toc_text (toc_of (parts_of list))))
+
+pub label_indices_law : (list : List IndexSeries) → IsShown list → HasLabelIndices (written list) list
+label_indices_law list shown = label_table_law list shown.room shown.labels shown.toc (symbols_shown list shown) (offsets_shown list shown)
+
 -- ---- as the calls show it
 
 -- the table of these parts stands in the text, whatever follows
 abbrev pub TableStands : List ℕ → Parts → Type 0
 TableStands text parts = InOrder MayComeAfter (table_rows parts.symbols parts.rows (list_places parts)) → (after : List ℕ) → IsPostingsTable (text ++ after) (length (with_label_offsets parts)) (table_rows parts.symbols parts.rows (list_places parts))
 
-fill_at : (r : Result (Unit {0}) IndexWriteRefusal) (list : List IndexSeries) (first third out : List ℕ) (toc : Toc) → AreWritable list → first ≡ with_series (parts_of list) → AllByRecursion (λ one. IsLabelSet one.labels) list → ((after : List ℕ) → IsSymbols (first ++ after) 5 (symbols_of list)) → Makes r out (third ++ toc_text toc) → OnOk r (IsToc out toc)
-    → EachStands first (parts_of list).numbers (parts_of list).series → third ≡ with_table (parts_of list) → TableStands third (parts_of list) → toc ≡ toc_of (parts_of list) → OnOk r (IsIndex out list)
-fill_at (Err e) list first third out toc lawful first_is labels symbols makes stands series third_is stand toc_is = tt
-fill_at (Ok x) list first third out toc lawful first_is labels symbols made stands series third_is stand toc_is =
-    let text : third ++ toc_text toc ≡ written list = ap (λ (l : List ℕ). l ++ toc_text toc) third_is ∙ ap (λ (t : Toc). with_table (parts_of list) ++ toc_text t) toc_is ∙ sym (written_table list) in
-    let makes : Makes {A = Unit {0}} (Ok x) out (written list) = subst (λ (l : List ℕ). Makes {A = Unit {0}} (Ok x) out l) text made in
-    subst (λ (l : List ℕ). IsIndex l list) (sym makes.0) (index_law list lawful (record {
-      room = makes.1;
-      labels = labels;
-      symbols = subst (λ (l : List ℕ). (after : List ℕ) → IsSymbols (l ++ after) 5 (symbols_of list)) first_is symbols;
-      series = subst (λ (l : List ℕ). EachStands l (parts_of list).numbers (parts_of list).series) first_is series;
-      table = subst (λ (l : List ℕ). TableStands l (parts_of list)) third_is stand;
-      toc = subst (λ (l : List ℕ). IsToc l (toc_of (parts_of list))) makes.0 (subst (λ (t : Toc). IsToc out t) toc_is stands);
-    }))
+-- the table of label indices of these parts stands in the text, whatever follows
+abbrev pub OffsetsStand : List ℕ → Parts → Type 0
+OffsetsStand text parts = (after : List ℕ) → IsLabelOffsets (text ++ after) (length (with_lists parts)) (offset_rows parts)
 
-pub fill_law : (r : Result (Unit {0}) IndexWriteRefusal) (list : List IndexSeries) (parts : Parts) (first third out : List ℕ) (toc : Toc) → AreWritable list → parts ≡ parts_of list → first ≡ with_series (parts_of list) → AllByRecursion (λ one. IsLabelSet one.labels) list → ((after : List ℕ) → IsSymbols (first ++ after) 5 (symbols_of list)) → Makes r out (third ++ toc_text toc) → OnOk r (IsToc out toc)
-    → EachStands first parts.numbers parts.series → third ≡ with_table parts → TableStands third parts → toc ≡ toc_of parts → OnOk r (IsIndex out list)
-fill_law r list parts first third out toc lawful is first_is labels symbols makes stands =
-    subst (λ (p : Parts). EachStands first p.numbers p.series → third ≡ with_table p → TableStands third p → toc ≡ toc_of p → OnOk r (IsIndex out list)) (sym is) (fill_at r list first third out toc lawful first_is labels symbols makes stands)
+-- what was written, and what the calls have shown of it
+abbrev pub Shown : List ℕ → List IndexSeries → Type 0
+Shown out list = (out ≡ written list) × IsShown list
+
+shown_at : (r : Result (Unit {0}) IndexWriteRefusal) (list : List IndexSeries) (first third out : List ℕ) (toc : Toc) → first ≡ with_series (parts_of list) → AllByRecursion (λ one. IsLabelSet one.labels) list → ((after : List ℕ) → IsSymbols (first ++ after) 5 (symbols_of list)) → Makes r out (third ++ toc_text toc) → OnOk r (IsToc out toc)
+    → EachStands first (parts_of list).numbers (parts_of list).series → third ≡ with_table (parts_of list) → TableStands third (parts_of list) → OffsetsStand third (parts_of list) → toc ≡ toc_of (parts_of list) → OnOk r (Shown out list)
+shown_at (Err e) list first third out toc first_is labels symbols makes stands series third_is stand offsets toc_is = tt
+shown_at (Ok x) list first third out toc first_is labels symbols made stands series third_is stand offsets toc_is =
+    let text : third ++ toc_text toc ≡ written list = ap (λ (l : List ℕ). l ++ toc_text toc) third_is ∙ ap (λ (t : Toc). with_table (parts_of list) ++ toc_text t) toc_is ∙ sym (written_table list) in
+    let makes : Makes {A = Unit {0}} (Ok x) out (written list) = subst (λ (l : List ℕ). Makes {A = Unit {0}} (Ok x) out l) text made in (
+      makes.0,
+      record {
+        room = makes.1;
+        labels = labels;
+        symbols = subst (λ (l : List ℕ). (after : List ℕ) → IsSymbols (l ++ after) 5 (symbols_of list)) first_is symbols;
+        series = subst (λ (l : List ℕ). EachStands l (parts_of list).numbers (parts_of list).series) first_is series;
+        table = subst (λ (l : List ℕ). TableStands l (parts_of list)) third_is stand;
+        offsets = subst (λ (l : List ℕ). OffsetsStand l (parts_of list)) third_is offsets;
+        toc = subst (λ (l : List ℕ). IsToc l (toc_of (parts_of list))) makes.0 (subst (λ (t : Toc). IsToc out t) toc_is stands);
+      },
+    )
+
+pub fill_shown : (r : Result (Unit {0}) IndexWriteRefusal) (list : List IndexSeries) (parts : Parts) (first third out : List ℕ) (toc : Toc) → parts ≡ parts_of list → first ≡ with_series (parts_of list) → AllByRecursion (λ one. IsLabelSet one.labels) list → ((after : List ℕ) → IsSymbols (first ++ after) 5 (symbols_of list)) → Makes r out (third ++ toc_text toc) → OnOk r (IsToc out toc)
+    → EachStands first parts.numbers parts.series → third ≡ with_table parts → TableStands third parts → OffsetsStand third parts → toc ≡ toc_of parts → OnOk r (Shown out list)
+fill_shown r list parts first third out toc is first_is labels symbols makes stands =
+    subst (λ (p : Parts). EachStands first p.numbers p.series → third ≡ with_table p → TableStands third p → OffsetsStand third p → toc ≡ toc_of p → OnOk r (Shown out list)) (sym is) (shown_at r list first third out toc first_is labels symbols makes stands)
+
+pub fill_index : (r : Result (Unit {0}) IndexWriteRefusal) (list : List IndexSeries) (out : List ℕ) → AreWritable list → OnOk r (Shown out list) → OnOk r (IsIndex out list)
+fill_index (Err e) list out lawful shown = tt
+fill_index (Ok x) list out lawful shown = subst (λ (l : List ℕ). IsIndex l list) (sym shown.0) (index_law list lawful shown.1)
+
+pub fill_label_indices : (r : Result (Unit {0}) IndexWriteRefusal) (list : List IndexSeries) (out : List ℕ) → OnOk r (Shown out list) → OnOk r (HasLabelIndices out list)
+fill_label_indices (Err e) list out shown = tt
+fill_label_indices (Ok x) list out shown = subst (λ (l : List ℕ). HasLabelIndices l list) (sym shown.0) (label_indices_law list shown.1)

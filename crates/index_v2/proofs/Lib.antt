@@ -39,3 +39,5 @@ pub mod TableLaws
 pub mod WrittenIndex
 pub mod IndexWritten
 pub mod IndexLaw
+pub mod GroupedNames
+pub mod LabelTableLaw

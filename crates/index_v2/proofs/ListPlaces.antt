@@ -1,16 +1,17 @@
--- Postings lists stand at their places in a text that is not too long.
+-- Postings lists and label indices stand at their places in a text that is not too long.
 use Rattle.std.proofs.Common.{◌≡◌, ℕ, ◌/◌, ◌%◌, ◌^◌, ◌<◌, ◌≤◌, Bool, true, false, cond, List, [], ◌∷◌, ◌++◌, length, zip, fold, Option, Some, None, sym, ap, ◌∙◌, subst, arith, inl, inr, length-append, append_assoc}
 use Rattle.std.specs.Prelude.{bit_xor, ◌==◌}
 use Rattle.std.specs.Int.{w32, to_be_bytes}
-use Rattle.std.specs.List.{AllByRecursion, flat_map}
+use Rattle.std.specs.List.{All, AllByRecursion, flat_map}
 use Rattle.std.proofs.lemmas.Nat.{xor_of_32}
 use Rattle.wire_bytes.specs.Crc.{crc, remainder, with_bit, castagnoli, coefficients, ones}
 use Rattle.index_parts.specs.Framed.{section_text, IsSection}
 use Rattle.index_parts.specs.Lists.{list_content}
+use Rattle.index_parts.specs.LabelIndices.{IsLabelIndex, label_index_content, label_index_text}
 use Rattle.index_parts.specs.Turns.{InOrderAfter, InOrder}
 use Rattle.index_parts.specs.Postings.{Rises, IsPostings, postings_text}
 use Rattle.index_parts.proofs.Stands.{section_stands}
-use Rattle.index_parts.proofs.Writing.{postings_stand}
+use Rattle.index_parts.proofs.Writing.{postings_stand, values_stand}
 use Rattle.index_v2.specs.Aligned.{padded, each_at, places_at}
 use Rattle.index_v2.specs.WriteSteps.{greatest}
 use Rattle.index_v2.proofs.OrderedEntries.{In, Rise}
@@ -93,11 +94,22 @@ unfolding section_text
 content_shorter content before after =
     omega (arith, length-append (before ++ section_text content) after, length-append before (section_text content), length-append (to_be_bytes w32 (length content) ++ content) (to_be_bytes w32 (crc content)), length-append (to_be_bytes w32 (length content)) content)
 
+-- numbers that rise are in order
+pub in_order : (numbers : List ℕ) → Rise (λ n m. n < m) numbers → InOrder Rises numbers
+in_order numbers up = order_after None numbers (any_first numbers) up
+
 pub list_stands : (whole : List ℕ) (place : ℕ) (numbers : List ℕ) → length whole ≤ greatest → StandsAt whole place (postings_text numbers) → AllByRecursion (λ n. n < 2 ^ 32) numbers → Rise (λ n m. n < m) numbers → IsPostings whole place numbers
 list_stands whole place numbers room stands small up =
     let content = list_content (to_be_bytes w32) numbers in
     let fits : length content < 2 ^ 32 = omega (arith, room, ap length stands.is, content_shorter content stands.before stands.after) in
     let section : IsSection ((stands.before ++ section_text content) ++ stands.after) (length stands.before) content = section_stands stands.before content stands.after fits (crc_fits content) in
-    let order : InOrder Rises numbers = order_after None numbers (any_first numbers) up in
     subst (λ (n : ℕ). IsPostings whole n numbers) stands.at (subst (λ (l : List ℕ). IsPostings l (length stands.before) numbers) (sym stands.is)
-    (postings_stand ((stands.before ++ section_text content) ++ stands.after) (length stands.before) numbers fits (all_from (λ n. n < 2 ^ 32) numbers small) order section))
+    (postings_stand ((stands.before ++ section_text content) ++ stands.after) (length stands.before) numbers fits (all_from (λ n. n < 2 ^ 32) numbers small) (in_order numbers up) section))
+
+pub index_stands : (whole : List ℕ) (place : ℕ) (values : List ℕ) → length whole ≤ greatest → StandsAt whole place (label_index_text values) → All (λ n. n < 2 ^ 32) values → IsLabelIndex whole place values
+index_stands whole place values room stands small =
+    let content = label_index_content values in
+    let fits : length content < 2 ^ 32 = omega (arith, room, ap length stands.is, content_shorter content stands.before stands.after) in
+    let section : IsSection ((stands.before ++ section_text content) ++ stands.after) (length stands.before) content = section_stands stands.before content stands.after fits (crc_fits content) in
+    subst (λ (n : ℕ). IsLabelIndex whole n values) stands.at (subst (λ (l : List ℕ). IsLabelIndex l (length stands.before) values) (sym stands.is)
+    (values_stand ((stands.before ++ section_text content) ++ stands.after) (length stands.before) values fits small section))

@@ -116,7 +116,7 @@ same_name list one other a b e =
     ap (compare_texts a.label.name) (sym same) ∙ compare_self a.label.name
 
 -- what compares as less by numbers is less
-text_less : (list : List IndexSeries) (text other : List ℕ) → In text (symbols_of list) → In other (symbols_of list) → number_of (symbols_of list) text < number_of (symbols_of list) other → compare_texts text other ≡ Less
+pub text_less : (list : List IndexSeries) (text other : List ℕ) → In text (symbols_of list) → In other (symbols_of list) → number_of (symbols_of list) text < number_of (symbols_of list) other → compare_texts text other ≡ Less
 text_less list text other h i lt = by_order (compare_texts text other) (compare_texts text other) refl
     (λ e. e) (λ e. absurd (equal_less list text other e lt)) (λ e. absurd (greater_less list text other i e lt))
 

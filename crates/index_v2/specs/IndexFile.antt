@@ -23,7 +23,8 @@ abbrev pub Holds : {A : Type 0} → (List ℕ → ℕ → List A → Type 0) →
 Holds IsSectionOf index reference members = MatchBool (reference == 0) (members ≡ []) (IsSectionOf index reference members)
 
 -- An index begins with the header and ends with the table of contents, which says where the symbols and the postings table
--- stand. Nothing is said of what lies between sections, nor of the label indices and their table, which nobody reads.
+-- stand. Nothing is said here of what lies between sections, nor of the label indices and their table, which nobody reads
+-- (LabelTable says which values they list).
 pub record IsOpened (opened : Opened) : Type 0 where
   pub begins : take 5 opened.bytes ≡ header
   pub long : 57 ≤ length opened.bytes

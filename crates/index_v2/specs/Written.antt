@@ -105,8 +105,12 @@ label_index_places parts = places_at 4 (with_series parts) (label_index_texts pa
 unfoldable pub list_places : Parts → List ℕ
 list_places parts = places_at 4 (with_label_indices parts) (list_texts parts.numbers parts.rows)
 
+-- the rows of the table of label indices
+abbrev pub offset_rows : Parts → List (List ℕ × ℕ)
+offset_rows parts = zip (name_texts parts.symbols parts.names) (label_index_places parts)
+
 unfoldable pub with_label_offsets : Parts → List ℕ
-with_label_offsets parts = with_lists parts ++ label_offsets_text (zip (name_texts parts.symbols parts.names) (label_index_places parts))
+with_label_offsets parts = with_lists parts ++ label_offsets_text (offset_rows parts)
 
 unfoldable pub with_table : Parts → List ℕ
 with_table parts = with_label_offsets parts ++ postings_table_text (table_rows parts.symbols parts.rows (list_places parts))

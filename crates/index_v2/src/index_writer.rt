@@ -2,11 +2,13 @@ ghost use Rattle.std.specs.Prelude.{◌≡◌, ◌++◌, ◌∷◌, [], ◌≤�
 ghost use Rattle.std.specs.List.{All};
 ghost use Rattle.index_parts.specs.Turns.{InOrder};
 ghost use Rattle.index_parts.specs.SeriesEntry.{StartsAfter};
+ghost use Rattle.index_parts.specs.LabelIndices.{IsLabelOffsets};
 ghost use Rattle.index_parts.specs.Rows.{MayComeAfter, IsPostingsTable};
 ghost use Rattle.index_v2.specs.declared.index_series.IndexSeries.{IndexSeries};
 ghost use Rattle.index_v2.specs.IndexFile.{IsIndex};
+ghost use Rattle.index_v2.specs.LabelTable.{HasLabelIndices};
 ghost use Rattle.index_v2.specs.WriteSteps.{greatest, Makes};
-ghost use Rattle.index_v2.specs.Written.{AreWritable, IsBehind, AreSmall, first_or, up_to_symbols, with_series, with_label_indices, with_lists, with_label_offsets, with_table, table_rows, label_index_places, list_places, toc_of, written, parts_of};
+ghost use Rattle.index_v2.specs.Written.{AreWritable, IsBehind, AreSmall, first_or, up_to_symbols, with_series, with_label_indices, with_lists, with_label_offsets, with_table, table_rows, offset_rows, label_index_places, list_places, toc_of, written, parts_of};
 
 use crate::parts::{Parts, put_parts};
 use crate::section_places::{put_label_indices, put_lists};
@@ -73,6 +75,9 @@ impl IndexWriter {
 
         // It is an index of the series that were added.
         ensures index { IfOk result (λ blob. IsIndex blob self) }
+
+        // It has their label indices, and the table of these.
+        ensures label_indices { IfOk result (λ blob. HasLabelIndices blob self) }
     {
         let alloc = *self.series.allocator();
         let out = text_of(alloc, self.series.as_slice())?;
@@ -120,6 +125,7 @@ fn put_tables(
     requires lists { lists ≡ list_places parts.now }
     ensures makes { Makes result out.new.items (with_table parts.now) }
     ensures stands { InOrder MayComeAfter (table_rows parts.now.symbols parts.now.rows (list_places parts.now)) → (after : List ℕ) → OnOk result (IsPostingsTable (out.new.items ++ after) (length (with_label_offsets parts.now)) (table_rows parts.now.symbols parts.now.rows (list_places parts.now))) }
+    ensures offsets_stand { (after : List ℕ) → OnOk result (IsLabelOffsets (out.new.items ++ after) (length (with_lists parts.now)) (offset_rows parts.now)) }
     ensures label_indices { IfOk result (λ places. places.label_indices ≡ label_index_places parts.now) }
     ensures lists { IfOk result (λ places. places.lists ≡ list_places parts.now) }
     ensures label_offsets { IfOk result (λ places. places.label_offsets ≡ length (with_lists parts.now)) }
@@ -183,6 +189,7 @@ fn fill(out: &mut Vec<u8>, list: &[IndexSeries]) -> Result<(), IndexWriteRefusal
     requires lawful { AreWritable list.now }
     ensures makes { Makes result out.new.items (written list.now) }
     ensures index { OnOk result (IsIndex out.new.items list.now) }
+    ensures label_indices { OnOk result (HasLabelIndices out.new.items list.now) }
 {
     let parts = put_parts(out, list)?;
     let (label_indices, lists) = put_all_lists(out, &parts)?;
@@ -194,6 +201,7 @@ fn text_of(alloc: Global, list: &[IndexSeries]) -> Result<Vec<u8>, IndexWriteRef
     requires { AreWritable list.now }
     ensures exact { MatchResult result (λ out. (out.items ≡ written list.now) × (length (written list.now) ≤ greatest)) (λ e. e ≡ IndexWriteRefusal.TooLarge → greatest < length (written list.now)) }
     ensures index { IfOk result (λ out. IsIndex out.items list.now) }
+    ensures label_indices { IfOk result (λ out. HasLabelIndices out.items list.now) }
 {
     let mut out = Vec::new(alloc);
     fill(&mut out, list)?;

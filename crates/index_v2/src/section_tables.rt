@@ -4,7 +4,7 @@ ghost use Rattle.index_parts.specs.Turns.{InOrder};
 ghost use Rattle.index_parts.specs.Contents.{IsToc, toc_text};
 ghost use Rattle.index_parts.specs.Framed.{text_field};
 ghost use Rattle.index_parts.specs.Lists.{list_content};
-ghost use Rattle.index_parts.specs.LabelIndices.{label_offsets_text};
+ghost use Rattle.index_parts.specs.LabelIndices.{IsLabelOffsets, label_offsets_text};
 ghost use Rattle.index_parts.specs.Rows.{MayComeAfter, IsPostingsTable, postings_table_text, row_text};
 ghost use Rattle.index_parts.specs.Symbols.{MayFollow, IsSymbols, symbols_text};
 ghost use Rattle.index_v2.specs.WriteSteps.{greatest, Makes, Measures, text_size, row_size};
@@ -74,7 +74,8 @@ pub(crate) fn put_label_offsets(
     places: &NumberList,
 ) -> Result<(), IndexWriteRefusal>
     requires { length names.now ≡ length places.now }
-    ensures { Makes result out.new.items (out.old.items ++ label_offsets_text (zip (name_texts symbols.now names.now) places.now)) }
+    ensures makes { Makes result out.new.items (out.old.items ++ label_offsets_text (zip (name_texts symbols.now names.now) places.now)) }
+    ensures stands { (after : List ℕ) → OnOk result (IsLabelOffsets (out.new.items ++ after) (length out.old.items) (zip (name_texts symbols.now names.now) places.now)) }
 {
     let texts = name_texts(*out.allocator(), symbols, names)?;
     size_of_texts(texts.members())?;

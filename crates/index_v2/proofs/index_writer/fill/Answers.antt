@@ -2,7 +2,7 @@ use Rattle.std.proofs.Common.{ℕ, List}
 use Rattle.index_v2.specs.declared.parts.Parts.{Parts}
 use Rattle.index_v2.specs.Written.{with_series, with_lists, parts_of, written}
 use Rattle.index_v2.proofs.AlignedTexts.{makes_longer}
-use Rattle.index_v2.proofs.IndexLaw.{fill_law}
+use Rattle.index_v2.proofs.IndexLaw.{fill_shown, fill_index, fill_label_indices}
 use Rattle.index_v2.proofs.PartsLaws.{series_written, lists_written, end_is, small_as}
 use Rattle.index_v2.proofs.index_writer.fill.Goals as goal
 
@@ -26,4 +26,13 @@ toc_of-requires-clause-end c = end_is c.args.list.now c.in_ok-parts.parts c.in_o
 pub returns-clause-index : goal.returns-clause-index
 returns-clause-index c =
     let parts = c.in_ok-parts.ensures in
-    fill_law c.put_toc.result c.args.list.now c.in_ok-parts.parts c.put_parts.new.out.items c.put_tables.new.out.items c.put_toc.new.out.items c.toc_of.result c.requires.lawful parts.parts parts.makes.0 parts.labels parts.symbols c.put_toc.ensures.makes c.put_toc.ensures.stands parts.series c.in_ok-places.ensures.makes.0 c.in_ok-places.ensures.stands c.toc_of.ensures
+    let tables = c.in_ok-places.ensures in
+    fill_index c.put_toc.result c.args.list.now c.put_toc.new.out.items c.requires.lawful
+    (fill_shown c.put_toc.result c.args.list.now c.in_ok-parts.parts c.put_parts.new.out.items c.put_tables.new.out.items c.put_toc.new.out.items c.toc_of.result parts.parts parts.makes.0 parts.labels parts.symbols c.put_toc.ensures.makes c.put_toc.ensures.stands parts.series tables.makes.0 tables.stands tables.offsets_stand c.toc_of.ensures)
+
+pub returns-clause-label_indices : goal.returns-clause-label_indices
+returns-clause-label_indices c =
+    let parts = c.in_ok-parts.ensures in
+    let tables = c.in_ok-places.ensures in
+    fill_label_indices c.put_toc.result c.args.list.now c.put_toc.new.out.items
+    (fill_shown c.put_toc.result c.args.list.now c.in_ok-parts.parts c.put_parts.new.out.items c.put_tables.new.out.items c.put_toc.new.out.items c.toc_of.result parts.parts parts.makes.0 parts.labels parts.symbols c.put_toc.ensures.makes c.put_toc.ensures.stands parts.series tables.makes.0 tables.stands tables.offsets_stand c.toc_of.ensures)

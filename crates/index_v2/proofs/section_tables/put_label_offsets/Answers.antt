@@ -9,8 +9,8 @@ use Rattle.index_v2.proofs.SectionSizes.{offsets_fit, offsets_large}
 use Rattle.index_v2.proofs.TableRows.{measured_stop}
 use Rattle.index_v2.proofs.section_tables.put_label_offsets.Goals as goal
 
-pub returns-in_err-size_of_texts : goal.returns-in_err-size_of_texts
-returns-in_err-size_of_texts c =
+pub returns-in_err-size_of_texts-clause-makes : goal.returns-in_err-size_of_texts-clause-makes
+returns-in_err-size_of_texts-clause-makes c =
     measured_stop c.from_residual-in_err-size_of_texts.result c.in_err-size_of_texts.field-0.0 _ _ _ c.from_residual-in_err-size_of_texts.ensures.1 c.in_err-size_of_texts.ensures
     (λ large. offsets_large c.args.out.now.items (name_texts c.args.symbols.now c.args.names.now) c.args.places.now (length-map c.args.names.now (λ (name : NameValues). symbol_of c.args.symbols.now name.name) ∙ c.requires) (omega (arith, ap (sum_by text_size) (c.members.ensures ∙ c.in_ok-texts.ensures))))
 
