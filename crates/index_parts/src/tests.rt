@@ -295,7 +295,7 @@ fn postings_are_refused_in_order(rt: HostRuntime) -> Result<(), Fail> {
 }
 
 /// Contents, and why each is no postings table.
-static NO_ROWS: [(&[u8], PartRefusal); 7] = [
+static NO_ROWS: [(&[u8], PartRefusal); 8] = [
     (b"\0\0\0\x01\x01\0\0\x07", PartRefusal::Unordered(13)),
     (b"\0\0\0\x01\x02\x01a\0\x07", PartRefusal::Unordered(13)),
     (
@@ -315,6 +315,7 @@ static NO_ROWS: [(&[u8], PartRefusal); 7] = [
         PartRefusal::Short(21),
     ),
     (b"\0\0\0\x02\x02\0\0\x07", PartRefusal::Short(17)),
+    (b"\xff\xff\xff\xff\x02\0\0\x07", PartRefusal::Short(17)),
 ];
 
 fn rows_refusal(alloc: Global, content: &[u8]) -> Result<Option<PartRefusal>, Fail> {
@@ -379,6 +380,12 @@ fn places_past_the_end_are_refused(rt: HostRuntime) {
     assert!(rt; symbols == Some(PartRefusal::Short(far)));
     let series = read_series(rt.alloc(), &STORED, u64::MAX).err();
     assert!(rt; series == Some(PartRefusal::Short(u64::MAX)));
+    for place in [295, 298, far, u64::MAX] {
+        let list = read_postings(rt.alloc(), &STORED, place).err();
+        let table = read_postings_table(rt.alloc(), &STORED, place).err();
+        let refusal = Some(PartRefusal::Short(place));
+        assert!(rt; [list, table] == [refusal, refusal], "at {place}");
+    }
     assert!(rt; read_toc(&STORED[..51]) == Err(PartRefusal::Short(0)));
 }
 
@@ -411,7 +418,7 @@ fn sums(refusal: Option<PartRefusal>) -> Option<(u32, u32)> {
 fn a_changed_list_is_refused(rt: HostRuntime) -> Result<(), Fail> {
     let index = changed(rt.alloc(), 139, 4)?;
     let found = sums(read_postings(rt.alloc(), index.as_slice(), 128).err());
-    assert!(rt; found.map(|both| both.0) == Some(0xa769_2ed2));
+    assert!(rt; found == Some((0xa769_2ed2, 0x73a3_4a39)));
     Ok(())
 }
 
@@ -420,5 +427,8 @@ fn a_changed_sum_is_refused(rt: HostRuntime) -> Result<(), Fail> {
     let index = changed(rt.alloc(), 297, 0)?;
     let found = sums(read_toc(index.as_slice()).err());
     assert!(rt; found == Some((0x6a08_7d00, 0x6a08_7dda)));
+    let index = changed(rt.alloc(), 253, 6)?;
+    let found = sums(read_toc(index.as_slice()).err());
+    assert!(rt; found == Some((0x6a08_7dda, 0xa5de_253b)));
     Ok(())
 }
