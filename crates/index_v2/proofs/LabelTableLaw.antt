@@ -13,7 +13,7 @@ use Rattle.index_parts.specs.LabelIndices.{IsLabelOffsets, label_index_text}
 use Rattle.index_v2.specs.declared.index_series.IndexSeries.{IndexSeries}
 use Rattle.index_v2.specs.declared.label_groups.NameValues.{NameValues}
 use Rattle.index_v2.specs.IndexFile.{Has, StandFor}
-use Rattle.index_v2.specs.LabelTable.{HasValue, IsIndexOf, HasLabelIndices}
+use Rattle.index_v2.specs.LabelTable.{HasValue, IsLabelIndexOf, HasLabelIndices}
 use Rattle.index_v2.specs.SymbolsInUse.{symbols_of, number_of, symbol_of}
 use Rattle.index_v2.specs.LabelGroups.{names_of}
 use Rattle.index_v2.specs.Aligned.{places_at}
@@ -221,7 +221,7 @@ index_all list name value lawful h has =
     let number : In (number_of symbols value) name.values = subst (λ (x : NameValues). In (number_of symbols value) x.values) same found.value_in in
     in_has (map (symbol_of symbols) name.values) value (subst (λ (v : List ℕ). In v (map (symbol_of symbols) name.values)) found.value_text (in_mapped (symbol_of symbols) name.values (number_of symbols value) number))
 
-index_of : (list : List IndexSeries) (name : NameValues) (place : ℕ) → length (written list) ≤ greatest → AreLawful list → In name (names list) → In (place, name) (zip (places list) (names list)) → IsIndexOf (written list) (symbols_of list) list (text_of list name) place
+index_of : (list : List IndexSeries) (name : NameValues) (place : ℕ) → length (written list) ≤ greatest → AreLawful list → In name (names list) → In (place, name) (zip (places list) (names list)) → IsLabelIndexOf (written list) (symbols_of list) list (text_of list name) place
 index_of list name place room lawful h i = record {
   numbers = name.values;
   values = map (symbol_of (symbols_of list)) name.values;
@@ -234,10 +234,10 @@ index_of list name place room lawful h i = record {
 
 -- ---- the table
 
-row_index : (list : List IndexSeries) (name : List ℕ) (place : ℕ) → length (written list) ≤ greatest → AreLawful list → Has (table list) (name, place) → IsIndexOf (written list) (symbols_of list) list name place
+row_index : (list : List IndexSeries) (name : List ℕ) (place : ℕ) → length (written list) ≤ greatest → AreLawful list → Has (table list) (name, place) → IsLabelIndexOf (written list) (symbols_of list) list name place
 row_index list name place room lawful has =
     let found = pair_of (text_of list) (names list) (places list) name place (has_in (table list) (name, place) has) in
-    subst (λ (t : List ℕ). IsIndexOf (written list) (symbols_of list) list t place) (sym found.3) (index_of list found.0 place room lawful found.1 found.2)
+    subst (λ (t : List ℕ). IsLabelIndexOf (written list) (symbols_of list) list t place) (sym found.3) (index_of list found.0 place room lawful found.1 found.2)
 
 name_only : (list : List IndexSeries) (name : List ℕ) → AreLawful list → Has (map (text_of list) (names list)) name → (value : List ℕ) × HasValue list name value
 name_only list name lawful has =

@@ -14,7 +14,7 @@ abbrev pub HasValue : List IndexSeries → List ℕ → List ℕ → Type 0
 HasValue list name value = (series : IndexSeries) × Has list series × Has series.labels (record { name = name; value = value })
 
 -- At a place stands the label index of a name: the symbol numbers, ascending, of exactly the values that the name has.
-pub record IsIndexOf (index : List ℕ) (symbols : List (List ℕ)) (list : List IndexSeries) (name : List ℕ) (place : ℕ) : Type 0 where
+pub record IsLabelIndexOf (index : List ℕ) (symbols : List (List ℕ)) (list : List IndexSeries) (name : List ℕ) (place : ℕ) : Type 0 where
   pub numbers : List ℕ
   pub values : List (List ℕ)
   pub stands : IsLabelIndex index place numbers
@@ -35,5 +35,5 @@ pub record HasLabelIndices (index : List ℕ) (list : List IndexSeries) : Type 0
   pub ascend : InOrder MayFollow (map (λ row. row.0) rows)
   pub only : (name : List ℕ) → Has (map (λ row. row.0) rows) name → (value : List ℕ) × HasValue list name value
   pub all : (name value : List ℕ) → HasValue list name value → Has (map (λ row. row.0) rows) name
-  pub indices : (name : List ℕ) (place : ℕ) → Has rows (name, place) → IsIndexOf index symbols list name place
+  pub indices : (name : List ℕ) (place : ℕ) → Has rows (name, place) → IsLabelIndexOf index symbols list name place
   pub first : toc.label_indices ≡ unwrap_or (slice_get (map (λ row. row.1) rows) 0) 0
