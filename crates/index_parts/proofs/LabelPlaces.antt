@@ -13,7 +13,6 @@ use Rattle.index_parts.specs.declared.raw_series.RawSeries.{RawSeries}
 use Rattle.index_parts.specs.Placed.{field}
 use Rattle.index_parts.specs.Framing.{entry_at}
 use Rattle.index_parts.specs.SeriesReading.{labels_begin_at, label_at, labels_at, chunks_at, label_place_at, label_places_at, place_among, label_place_of, series_at}
-use Rattle.index_parts.specs.ListReading.{turns_at}
 use Rattle.index_parts.proofs.SeriesLaws.{after_labels, begin_parts, series_with, length-firsts}
 use Rattle.reading_core.proofs.Counted.{members_parts, members_first, members_stop, length-members}
 

@@ -1,10 +1,10 @@
 -- Fields move a position within the same bytes, and no field begins past their end.
-use Rattle.std.proofs.Common.{◌≡◌, ℕ, ◌+◌, ◌-◌, ◌*◌, ◌<◌, ◌≤◌, ltb, List, [], ◌∷◌, length, get_or, take, drop, Result, Ok, Err, refl, sym, ap, ◌∙◌, arith}
+use Rattle.std.proofs.Common.{◌≡◌, ℕ, ◌+◌, ◌<◌, ◌≤◌, ltb, List, [], length, take, drop, Result, Ok, Err, refl, sym, ap, ◌∙◌, arith}
 use Rattle.std.specs.Int.{Width, w32, byte_len, from_be_bytes}
-use Rattle.std.proofs.lemmas.Bool.{ltb-false, lt-ltb, le-ltb}
+use Rattle.std.proofs.lemmas.Bool.{ltb-false}
 use Rattle.std.proofs.lemmas.List.{drop_all, length-drop, length-take}
 use Rattle.reading_core.specs.Reading.{Answers}
-use Rattle.reading_core.proofs.Binds.{bind_ok, cond_ok, refused_as_ok, refused_as_err, ok_is}
+use Rattle.reading_core.proofs.Binds.{bind_ok, cond_ok, refused_as_ok, ok_is}
 use Rattle.wire_bytes.specs.Position.{Position, left, further}
 use Rattle.wire_bytes.specs.Fields.{bytes_at, number_at, uvarint_at, groups_of}
 use Rattle.wire_bytes.specs.declared.refusal.WireRefusal.{WireRefusal}

@@ -198,6 +198,7 @@ fn next_row<'a>(
 }
 
 /// Reads so many rows.
+#[inline(never)]
 fn rows_of<'a>(
     alloc: Global,
     count: u32,

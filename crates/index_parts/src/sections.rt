@@ -8,6 +8,7 @@ use crate::fields::{next_u32, next_uvarint};
 use wire_bytes::{Cursor, crc_of};
 
 /// Tests the sum behind so many bytes, of a section that begins at a place, and stands before those bytes.
+#[inline(always)]
 #[tactic(auto, unfolding(crate::specs::Framing::summed_at))]
 pub(crate) fn summed(
     index: &[u8],
@@ -47,6 +48,7 @@ pub(crate) fn section_of(index: &[u8], at: u64) -> Result<Cursor<'_>, PartRefusa
 }
 
 /// The same where the length is in base 128, as of a series.
+#[inline(always)]
 #[tactic(auto, unfolding(crate::specs::Framing::entry_at))]
 pub(crate) fn entry_of(index: &[u8], at: u64) -> Result<Cursor<'_>, PartRefusal>
     ensures { Answers (λ content. content) result (entry_at index.now at) }

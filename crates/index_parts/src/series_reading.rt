@@ -25,15 +25,15 @@ pub fn before_labels(index: &[u8], at: u64) -> Result<(u64, Cursor<'_>), PartRef
     Ok((count, content))
 }
 
-/// The symbol numbers of the next label, its name's and its value's.
+/// The symbol numbers of the next label, its name's and its value's, and what follows them.
 #[inline(always)]
 #[tactic(auto, unfolding(crate::specs::SeriesReading::label_at))]
-pub fn next_label(cursor: &mut Cursor<'_>) -> Result<(u64, u64), PartRefusal>
-    ensures { MatchResult result (λ label. label_at cursor.old ≡ Ok (label, cursor.new)) (λ e. label_at cursor.old ≡ Err e) }
+pub fn next_label(mut cursor: Cursor<'_>) -> Result<((u64, u64), Cursor<'_>), PartRefusal>
+    ensures { Answers (λ x. ((x.0.0, x.0.1), x.1)) result (label_at cursor.entry) }
 {
-    let name = next_uvarint(cursor)?;
-    let value = next_uvarint(cursor)?;
-    Ok((name, value))
+    let name = next_uvarint(&mut cursor)?;
+    let value = next_uvarint(&mut cursor)?;
+    Ok(((name, value), cursor))
 }
 
 /// Reads the symbol numbers of so many labels, and what follows them.
@@ -47,9 +47,10 @@ fn labels_of<'a>(
     let mut names = Vec::new(alloc);
     let mut values = Vec::new(alloc);
     for _ in 0..count {
-        let (name, value) = next_label(&mut cursor)?;
+        let ((name, value), rest) = next_label(cursor)?;
         names.push(name)?;
         values.push(value)?;
+        cursor = rest;
     }
     Ok((names, values, cursor))
 }
@@ -143,6 +144,7 @@ fn next_chunk(
 }
 
 /// Reads the places of so many chunks in place of those that the list has.
+#[inline(never)]
 fn chunks_of(
     count: u64,
     mut cursor: Cursor<'_>,

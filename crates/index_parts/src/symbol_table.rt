@@ -82,6 +82,7 @@ fn next_symbol<'a>(cursor: &mut Cursor<'a>, before: Option<&str>) -> Result<&'a 
 }
 
 /// Reads so many symbols.
+#[inline(never)]
 fn symbols_of<'a>(
     alloc: Global,
     count: u32,

@@ -114,6 +114,7 @@ impl<'a> IndexReader<'a> {
     /// A call takes time in proportion to the bytes of its series and to the texts of its labels. Series of a hostile index may
     /// lie within one another or share long texts: reading all that it lists may then take far more than its length, and whoever
     /// walks through it has to set the bound, as `whole` does.
+    #[inline(always)]
     pub fn lent_series(
         &self,
         number: u32,

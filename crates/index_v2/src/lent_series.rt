@@ -72,6 +72,7 @@ impl<'a> LentSeries<'a> {
     }
 
     /// Reads the series at a place of the index.
+    #[inline(always)]
     pub(crate) fn read(
         index: &[u8],
         symbols: &Symbols<'a>,

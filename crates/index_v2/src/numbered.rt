@@ -14,6 +14,7 @@ use crate::{IndexRefusal, IndexSeries, LentSeries};
 use index_parts::PartRefusal;
 use std::alloc::Global;
 
+#[inline(always)]
 fn lent<'a>(
     index: &[u8],
     symbols: &Symbols<'a>,
@@ -30,6 +31,7 @@ fn lent<'a>(
 }
 
 /// Reads the series of a number into the room of another.
+#[inline(always)]
 pub(crate) fn lent_series_of<'a>(
     index: &[u8],
     symbols: &Symbols<'a>,

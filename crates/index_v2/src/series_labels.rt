@@ -20,7 +20,10 @@ fn is_before(one: &str, other: &str) -> bool
     ensures { result ≡ is_lt (compare_texts one.now other.now) }
 {
     let (left, right) = (one.as_bytes(), other.as_bytes());
-    if left.is_empty() || right.is_empty() || left[0] == right[0] {
+    if left.is_empty() {
+        return !right.is_empty();
+    }
+    if right.is_empty() || left[0] == right[0] {
         return one < other;
     }
     left[0] < right[0]
@@ -50,7 +53,7 @@ fn label_of<'a>(
 
 /// The labels of so many pairs of symbol numbers, in place of those that the list has, or the number that is refused; and what
 /// follows the numbers.
-#[inline(always)]
+#[inline(never)]
 pub(crate) fn texts_of<'a, 'b>(
     symbols: &Symbols<'a>,
     count: u64,
@@ -62,7 +65,8 @@ pub(crate) fn texts_of<'a, 'b>(
     labels.clear();
     let mut before = "";
     for place in 0..count {
-        let (name, value) = next_label(&mut cursor)?;
+        let ((name, value), rest) = next_label(cursor)?;
+        cursor = rest;
         match label_of(symbols, before, place as usize, name, value) {
             Ok(label) => {
                 labels.push(label)?;
@@ -75,6 +79,7 @@ pub(crate) fn texts_of<'a, 'b>(
 }
 
 /// Passes the labels behind one that is refused, so that what cannot be read there is told first.
+#[inline(never)]
 fn after_fault<'a, 'b>(
     fault: LabelFault,
     count: u64,
@@ -83,7 +88,7 @@ fn after_fault<'a, 'b>(
     ensures { Answers (λ x. (result_map_both (λ labels. map as_label labels.items) (λ fault. fault) x.0, x.1)) result (faulty_at fault count cursor.entry) }
 {
     for _ in 0..count {
-        next_label(&mut cursor)?;
+        (_, cursor) = next_label(cursor)?;
     }
     Ok((Err(fault), cursor))
 }

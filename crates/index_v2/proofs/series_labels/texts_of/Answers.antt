@@ -13,12 +13,12 @@ returns-in_err-name c =
 pub returns-in-Err : goal.returns-in-Err
 returns-in-Err c =
     gives_answered _ _ c.after_fault.result _ _
-    (texts_fault _ _ _ c.loop-place.before.now c.loop-place.place _ (map as_label c.loop-place.labels.items) c.loop-place.cursor c.next_label.new.cursor c.in_ok-name.name c.in_ok-name.value c.in-Err.fault c.loop-place.invariant.0 c.in_ok-name.ensures c.in-Err.ensures c.loop-place-test.true refl)
+    (texts_fault _ _ _ c.loop-place.before.now c.loop-place.place _ (map as_label c.loop-place.labels.items) c.loop-place.cursor c.in_ok-name.rest c.in_ok-name.name c.in_ok-name.value c.in-Err.fault c.loop-place.invariant.0 c.in_ok-name.ensures c.in-Err.ensures c.loop-place-test.true refl)
     c.after_fault.ensures
 
 pub loop-place-preserved : goal.loop-place-preserved
 loop-place-preserved c = (
-  texts_step _ _ _ c.loop-place.before.now c.loop-place.place _ (map as_label c.loop-place.labels.items) _ c.loop-place.cursor c.next_label.new.cursor c.in_ok-name.name c.in_ok-name.value (as_label c.in-Ok.label) c.loop-place.invariant.0 c.in_ok-name.ensures c.in-Ok.ensures c.loop-place-test.true refl
+  texts_step _ _ _ c.loop-place.before.now c.loop-place.place _ (map as_label c.loop-place.labels.items) _ c.loop-place.cursor c.in_ok-name.rest c.in_ok-name.name c.in_ok-name.value (as_label c.in-Ok.label) c.loop-place.invariant.0 c.in_ok-name.ensures c.in-Ok.ensures c.loop-place-test.true refl
       (ap (map as_label) c.in_ok-push-in-Ok.ensures.items ∙ map_push as_label c.loop-place.labels.items c.in-Ok.label),
   search rules,
 )
