@@ -133,6 +133,16 @@ fn write(name: &str, count: usize, chunks: u64) {
     println!("write_bytes_{name} {:.1} ns/byte", series * count as f64 / written as f64);
 }
 
+/// Times both sides once over an index of so many series.
+fn round(count: usize, bytes: &[u8]) {
+    let (at, size) = (bytes.as_ptr(), bytes.len());
+    index(&count.to_string(), bytes);
+    let mut mixed = 0u64;
+    println!("proved_open_{count} {:.1} ns/series", per(count, || mixed = mixed.wrapping_add(unsafe { index_open(at, size) })));
+    println!("proved_walk_{count} {:.1} ns/series", per(count, || mixed = mixed.wrapping_add(unsafe { index_walk(at, size) })));
+    std::hint::black_box(mixed);
+}
+
 fn main() {
     for count in [10_000usize, 100_000] {
         let bytes = index_of(count, 4);
@@ -140,12 +150,11 @@ fn main() {
         let once = unsafe { index_walk(at, size) };
         assert!(once > 0 && unsafe { index_open(at, size) } == 1);
         assert_eq!(once, unsafe { index_whole(at, size) });
-        index(&count.to_string(), &bytes);
-        let mut mixed = 0u64;
-        println!("proved_open_{count} {:.1} ns/series", per(count, || mixed = mixed.wrapping_add(unsafe { index_open(at, size) })));
-        println!("proved_walk_{count} {:.1} ns/series", per(count, || mixed = mixed.wrapping_add(unsafe { index_walk(at, size) })));
-        println!("proved_whole_{count} {:.1} ns/series", per(count, || mixed = mixed.wrapping_add(unsafe { index_whole(at, size) })));
-        std::hint::black_box(mixed);
+        // The two sides in turn, so that a machine that slows down for a while slows both.
+        for _ in 0..4 {
+            round(count, &bytes);
+        }
+        println!("proved_whole_{count} {:.1} ns/series", per(count, || assert_eq!(once, unsafe { index_whole(at, size) })));
         write(&count.to_string(), count, 4);
     }
     write("chunks", 10_000, 40);

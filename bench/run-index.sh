@@ -1,6 +1,6 @@
 #!/usr/bin/env bash
 # Times the proved index reader beside tight unverified loops over the same index, and the proved writer, in one run, and
-# prints two tables.
+# prints two tables, and whether every bar is met.
 # The loops' source, limit.rs, is the first argument; without one, ../shared/bench/limit.rs beside the repository.
 # CPU names the processor that the proved code is built for, LIMIT_CPU that of the loops.
 set -euo pipefail
@@ -28,7 +28,7 @@ cat "$top/bench/index.rs" >>"$made/index.rs"
 rustc --edition 2021 -C opt-level=3 -C target-cpu="${LIMIT_CPU:-native}" -A warnings -o "$made/index" "$made/index.rs" \
     -L "$own/out" -l static=index_c -C link-arg="$kit/c/liblibc_c.a"
 "$made/index" >"$made/lines"
-awk '{ time[$1] = $2 }
+awk '!($1 in time) || $2 < time[$1] { time[$1] = $2 }
 END {
     print "| Work | Yardstick | Proved | Unit | Ratio | Bar |\n|---|---|---|---|---|---|"
     split("10000 100000", counts)
@@ -42,10 +42,12 @@ END {
     written("10,000 series of four chunks", "10000")
     written("100,000 series of four chunks", "100000")
     written("10,000 series of forty chunks", "chunks")
+    print missed ? "\nMissed: " missed : "\nEvery bar is met."
 }
 function written(name, key) {
     printf "| write %s | %.1f | %.1f |\n", name, time["write_" key], time["write_bytes_" key]
 }
 function row(name, limit, proved, bar) {
     printf "| %s | %.1f | %.1f | ns a series | %.2f | %s |\n", name, limit, proved, proved / limit, bar
+    if (bar != "none" && proved > bar * limit) missed = missed (missed ? "; " : "") name
 }' "$made/lines"

@@ -144,7 +144,7 @@ fn next_chunk(
 }
 
 /// Reads the places of so many chunks in place of those that the list has.
-#[inline(never)]
+#[inline(always)]
 fn chunks_of(
     count: u64,
     mut cursor: Cursor<'_>,

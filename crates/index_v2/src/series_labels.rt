@@ -53,7 +53,7 @@ fn label_of<'a>(
 
 /// The labels of so many pairs of symbol numbers, in place of those that the list has, or the number that is refused; and what
 /// follows the numbers.
-#[inline(never)]
+#[inline(always)]
 pub(crate) fn texts_of<'a, 'b>(
     symbols: &Symbols<'a>,
     count: u64,
