@@ -11,6 +11,7 @@ mod postings_row;
 mod postings_table;
 mod raw_series;
 mod refusal;
+mod row_fields;
 mod section_writing;
 mod sections;
 mod series_reading;

@@ -6,7 +6,7 @@ ghost use Rattle.reading_core.specs.Reading.{Answers, Gives};
 ghost use Rattle.reading_core.specs.Grammar.{IsBytes};
 ghost use Rattle.label_sets.specs.Labels.{compare_texts};
 ghost use Rattle.index_parts.specs.declared.postings_row.PostingsRow.{PostingsRow};
-ghost use Rattle.index_parts.specs.Lent.{row_of, row_before};
+ghost use Rattle.index_parts.specs.Lent.{row_of, row_before, row_of_fields};
 ghost use Rattle.index_parts.specs.Rows.{IsPostingsTable};
 ghost use Rattle.index_parts.specs.RowsReading.{may_come_after, row_told, row_at, postings_table_at};
 ghost use Rattle.index_parts.specs.ListReading.{turns_at};
@@ -14,6 +14,7 @@ ghost use Rattle.index_parts.specs.ListReading.{turns_at};
 use crate::PartRefusal;
 use crate::fields::{next_text, next_u8, next_u32, next_uvarint, room_for, text_of};
 use crate::lent_row::LentRow;
+use crate::row_fields::RowFields;
 use crate::sections::section_of;
 use std::alloc::Global;
 use std::cmp::Ordering;
@@ -96,23 +97,20 @@ fn may_bytes_come_after(before: Option<LentRow<'_>>, name: &[u8], value: &[u8]) 
 fn row_of_same_name<'a>(
     name: &'a str,
     value_before: &str,
-    place: u64,
-    value_bytes: &'a [u8],
-    value_end: usize,
-    offset: u64,
+    fields: RowFields<'a>,
 ) -> Result<LentRow<'a>, PartRefusal>
-    requires { length value_bytes.now ≤ value_end }
-    ensures row { Answers row_of result (if is_lt (compare_texts value_before.now value_bytes.now) then (if is_utf8 value_bytes.now then Ok (record { name = name.now; value = value_bytes.now; offset = offset }) else Err (PartRefusal.NotText (value_end - length value_bytes.now))) else Err (PartRefusal.Unordered place)) }
+    requires { length fields.value.now ≤ fields.value_end }
+    ensures row { Answers row_of result (if is_lt (compare_texts value_before.now fields.entry.value.now) then (if is_utf8 fields.entry.value.now then Ok (record { name = name.now; value = fields.entry.value.now; offset = fields.entry.offset }) else Err (PartRefusal.NotText (fields.entry.value_end - length fields.entry.value.now))) else Err (PartRefusal.Unordered fields.entry.place)) }
     ensures text { is_utf8 name.now ≡ true }
 {
-    match text_of(value_bytes, value_end) {
+    match text_of(fields.value, fields.value_end) {
         Ok(value) if value_before < value => Ok(LentRow {
             name,
             value,
-            offset,
+            offset: fields.offset,
         }),
-        Err(refusal) if value_before.as_bytes().cmp(value_bytes).is_lt() => Err(refusal),
-        _ => Err(PartRefusal::Unordered(place)),
+        Err(refusal) if value_before.as_bytes().cmp(fields.value).is_lt() => Err(refusal),
+        _ => Err(PartRefusal::Unordered(fields.place)),
     }
 }
 
@@ -120,28 +118,23 @@ fn row_of_same_name<'a>(
 #[inline(always)]
 fn row_of_other_name<'a>(
     before: Option<LentRow<'a>>,
-    place: u64,
-    name_bytes: &'a [u8],
-    name_end: usize,
-    value_bytes: &'a [u8],
-    value_end: usize,
-    offset: u64,
+    fields: RowFields<'a>,
 ) -> Result<LentRow<'a>, PartRefusal>
-    requires name { length name_bytes.now ≤ name_end }
-    requires value { length value_bytes.now ≤ value_end }
-    ensures { Answers row_of result (row_told (row_before before.entry) place name_end value_end (record { name = name_bytes.now; value = value_bytes.now; offset = offset })) }
+    requires name { length fields.name.now ≤ fields.name_end }
+    requires value { length fields.value.now ≤ fields.value_end }
+    ensures { Answers row_of result (row_told (row_before before.entry) fields.entry.place fields.entry.name_end fields.entry.value_end (row_of_fields fields.entry)) }
 {
-    let name = text_of(name_bytes, name_end);
-    let value = text_of(value_bytes, value_end);
+    let name = text_of(fields.name, fields.name_end);
+    let value = text_of(fields.value, fields.value_end);
     match (name, value) {
         (Ok(name), Ok(value)) if may_come_after(before, name, value) => Ok(LentRow {
             name,
             value,
-            offset,
+            offset: fields.offset,
         }),
         (Err(refusal), _) | (Ok(_), Err(refusal))
-            if may_bytes_come_after(before, name_bytes, value_bytes) => { Err(refusal) }
-        _ => Err(PartRefusal::Unordered(place)),
+            if may_bytes_come_after(before, fields.name, fields.value) => { Err(refusal) }
+        _ => Err(PartRefusal::Unordered(fields.place)),
     }
 }
 
@@ -149,30 +142,17 @@ fn row_of_other_name<'a>(
 #[inline(always)]
 fn row_of_fields<'a>(
     before: Option<LentRow<'a>>,
-    place: u64,
-    name_bytes: &'a [u8],
-    name_end: usize,
-    value_bytes: &'a [u8],
-    value_end: usize,
-    offset: u64,
+    fields: RowFields<'a>,
 ) -> Result<LentRow<'a>, PartRefusal>
-    requires name { length name_bytes.now ≤ name_end }
-    requires value { length value_bytes.now ≤ value_end }
-    ensures { Answers row_of result (row_told (row_before before.entry) place name_end value_end (record { name = name_bytes.now; value = value_bytes.now; offset = offset })) }
+    requires name { length fields.name.now ≤ fields.name_end }
+    requires value { length fields.value.now ≤ fields.value_end }
+    ensures { Answers row_of result (row_told (row_before before.entry) fields.entry.place fields.entry.name_end fields.entry.value_end (row_of_fields fields.entry)) }
 {
     match before {
-        Some(row) if row.name.as_bytes() == name_bytes => {
-            row_of_same_name(row.name, row.value, place, value_bytes, value_end, offset)
+        Some(row) if row.name.as_bytes() == fields.name => {
+            row_of_same_name(row.name, row.value, fields)
         }
-        _ => row_of_other_name(
-            before,
-            place,
-            name_bytes,
-            name_end,
-            value_bytes,
-            value_end,
-            offset,
-        ),
+        _ => row_of_other_name(before, fields),
     }
 }
 
@@ -194,7 +174,15 @@ fn next_row<'a>(
     let value = next_text(cursor)?;
     let value_end = cursor.place();
     let offset = next_uvarint(cursor)?;
-    row_of_fields(before, place, name, name_end, value, value_end, offset)
+    let fields = RowFields {
+        place,
+        name,
+        name_end,
+        value,
+        value_end,
+        offset,
+    };
+    row_of_fields(before, fields)
 }
 
 /// Reads so many rows.
