@@ -16,7 +16,7 @@ use Rattle.index_v2.specs.declared.index_series.IndexSeries.{IndexSeries}
 use Rattle.index_v2.specs.RowOrder.{compare_row, AreAscending, IsRowAt, StandsAt, DoRise}
 use Rattle.index_v2.specs.WholeReading.{belongs, is_of_row, stray_from, gap_from, gap_of, gap_among, earlier, by_order}
 use Rattle.std.proofs.lemmas.Cmp.{tied_itself}
-use Rattle.index_v2.proofs.RowPlaces.{rows_total}
+use Rattle.index_v2.proofs.RowPlaces.{rows_total, stands_behind}
 use Rattle.index_v2.proofs.ValuesListed.{same_compare}
 use Rattle.index_v2.proofs.WholeLoops.{drop_at}
 
@@ -157,9 +157,7 @@ missing_from from (suc place) to [] lists number label e many stands = let w = s
 missing_from from place to (row ∷ rows) [] number label e many stands = absurd (omega arith)
 missing_from from zero to (row ∷ rows) (list ∷ lists) number label e many stands = gap_greater from row rows list lists number label (stands.above 0 row (omega arith) refl) ∙ ap Some (omega arith)
 missing_from from (suc place) to (row ∷ rows) (list ∷ lists) number label e many stands =
-    let w = stands.within in
-    let tail : StandsAt rows label.name label.value place = record { within = omega arith; below = λ k other lt at. stands.below (suc k) other (omega arith) at; above = λ k other le at. stands.above (suc k) other (omega arith) at } in
-    gap_less from row rows list lists number label (stands.below 0 row (omega arith) refl) ∙ missing_from (from + 1) place to rows lists number label (omega arith) (omega arith) tail
+    gap_less from row rows list lists number label (stands.below 0 row (omega arith) refl) ∙ missing_from (from + 1) place to rows lists number label (omega arith) (omega arith) (stands_behind row rows label.name label.value place stands)
 
 pub gap_missing : (rows : List PostingsRow) (lists : List (List ℕ)) (number place : ℕ) (name value : List ℕ) (label : Label) → name ≡ label.name → value ≡ label.value → length rows ≡ length lists → StandsAt rows name value place → Some place ≡ gap_from 0 rows lists number label
 gap_missing rows lists number place name value label n v many stands =

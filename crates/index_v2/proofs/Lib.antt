@@ -15,6 +15,8 @@ pub mod Members
 pub mod WholeParts
 pub mod WholeLaws
 pub mod WholeAgain
+pub mod LeastPlaces
+pub mod DifferingLaws
 pub mod PostingsLaws
 pub mod FewLaws
 pub mod ValuesAgree

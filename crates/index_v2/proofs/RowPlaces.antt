@@ -65,7 +65,7 @@ less_below rows name value middle k here row ascend at less lt stands =
           ap (λ (r : PostingsRow). compare_row r name value) same ∙ less
     ]
 
-greater_above : (rows : List PostingsRow) (name value : List ℕ) (middle k : ℕ) (here row : PostingsRow) → AreAscending rows → slice_get rows middle ≡ Some here → compare_row here name value ≡ Greater → middle ≤ k → slice_get rows k ≡ Some row → compare_row row name value ≡ Greater
+pub greater_above : (rows : List PostingsRow) (name value : List ℕ) (middle k : ℕ) (here row : PostingsRow) → AreAscending rows → slice_get rows middle ≡ Some here → compare_row here name value ≡ Greater → middle ≤ k → slice_get rows k ≡ Some row → compare_row row name value ≡ Greater
 unfolding key
 greater_above rows name value middle k here row ascend at greater le stands =
     elim (cases_lt middle k) [
@@ -108,10 +108,27 @@ between_some rows name value low high middle b lt none =
       | inr p ↦ let past = p.0 in absurd (omega arith)
     ]
 
+pub equal_texts : (row : PostingsRow) (name value : List ℕ) → compare_row row name value ≡ Equal → (row.name ≡ name) × (row.value ≡ value)
+equal_texts row name value e =
+    let parts = both_equal (compare_texts row.name name) (compare_texts row.value value) e in
+    (same_text row.name name parts.0, same_text row.value value parts.1)
+
 pub equal_row : (rows : List PostingsRow) (name value : List ℕ) (place : ℕ) (row : PostingsRow) → slice_get rows place ≡ Some row → compare_row row name value ≡ Equal → IsRowAt rows name value place
 equal_row rows name value place row stands e =
-    let parts = both_equal (compare_texts row.name name) (compare_texts row.value value) e in
-    record { row = row; stands = stands; name_is = same_text row.name name parts.0; value_is = same_text row.value value parts.1 }
+    let texts = equal_texts row name value e in
+    record { row = row; stands = stands; name_is = texts.0; value_is = texts.1 }
+
+-- ---- without the first row
+
+pub ascend_behind : (row : PostingsRow) (rows : List PostingsRow) → AreAscending (row ∷ rows) → AreAscending rows
+ascend_behind row rows ascend = record { ascend = λ j k one other lt a b. ascend.ascend (suc j) (suc k) one other (omega arith) a b }
+
+pub stands_behind : (first : PostingsRow) (rows : List PostingsRow) (name value : List ℕ) (place : ℕ) → StandsAt (first ∷ rows) name value (suc place) → StandsAt rows name value place
+stands_behind first rows name value place stands = let w = stands.within in record {
+  within = omega arith;
+  below = λ k row lt at. stands.below (suc k) row (omega arith) at;
+  above = λ k row le at. stands.above (suc k) row (omega arith) at;
+}
 
 -- ---- rows of a table that is in the grammar ascend
 

@@ -16,7 +16,7 @@ use Rattle.index_v2.specs.declared.refusal.IndexRefusal.{IndexRefusal}
 use Rattle.index_v2.specs.declared.refusal.IndexRefusal.TheVariants.{NoMemory}
 use Rattle.index_v2.specs.Opening.{refused_in}
 use Rattle.index_v2.specs.PostingsLists.{is_row_of, row_of, list_of}
-use Rattle.index_v2.proofs.RowPlaces.{rows_total}
+use Rattle.index_v2.proofs.RowPlaces.{rows_total, ascend_behind}
 
 both_true : (a b : Bool) → (a && b) ≡ true → (a ≡ true) × (b ≡ true)
 both_true true b e = (refl, e)
@@ -63,9 +63,8 @@ find_some : (name value : List ℕ) (rows : List PostingsRow) (place : ℕ) (row
 find_some name value [] place row ascend at is = absurd cc
 find_some name value (first ∷ rows) zero row ascend at is = let same : first ≡ row = cc in rw (ap (is_row_of name value) same, is, same) refl
 find_some name value (first ∷ rows) (suc place) row ascend at is =
-    let tail : AreAscending rows = record { ascend = λ j k one other lt a b. ascend.ascend (suc j) (suc k) one other (omega arith) a b } in
     let less : compare_rows first row ≡ Less = ascend.ascend 0 (suc place) first row (omega arith) refl at in
-    rw (not_row name value first (before_key name value first row less is)) (find_some name value rows place row tail at is)
+    rw (not_row name value first (before_key name value first row less is)) (find_some name value rows place row (ascend_behind first rows ascend) at is)
 
 pub row_found : (rows : List PostingsRow) (name value : List ℕ) (place : ℕ) (row : PostingsRow) → AreAscending rows → IsRowAt rows name value place → slice_get rows place ≡ Some row → row_of rows name value ≡ Some row
 unfolding row_of

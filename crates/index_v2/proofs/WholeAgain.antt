@@ -1,9 +1,11 @@
 -- The list of an index's bytes is read as a whole.
-use Rattle.std.proofs.Common.{◌≡◌, ℕ, ◌<◌, List, [], ◌∷◌, length, map, zip, Some, None, Ok, refl, sym, ap, subst, ◌∙◌, ◌⊎◌, inl, inr}
+use Rattle.std.proofs.Common.{◌≡◌, ℕ, ◌<◌, true, eqb, List, [], ◌∷◌, length, map, zip, Some, None, Ok, refl, sym, ap, subst, ◌∙◌, ◌⊎◌, inl, inr}
 use Rattle.std.specs.Prelude.{slice_get}
+use Rattle.std.specs.List.{list_any, list_all}
 use Rattle.std.specs.declared.cmp.Ordering.TheVariants.{Less, Equal}
 use Rattle.std.proofs.lemmas.Cmp.{tied_itself, alike_right}
 use Rattle.label_sets.specs.declared.label.Label.{Label}
+use Rattle.label_sets.specs.Labels.{IsLabelSet}
 use Rattle.index_parts.specs.declared.toc.Toc.{Toc}
 use Rattle.index_parts.specs.declared.postings_row.PostingsRow.{PostingsRow}
 use Rattle.index_parts.specs.Rows.{IsPostingsTable}
@@ -17,7 +19,7 @@ use Rattle.index_v2.specs.Opening.{opened_at}
 use Rattle.index_v2.specs.RowOrder.{compare_row, AreAscending}
 use Rattle.index_v2.specs.PostingsLists.{row_of, list_of, postings_of}
 use Rattle.index_v2.specs.WholeReading.{present_at, all_at, lists_at, is_of_row, stray_from, gap_among, difference, whole_at}
-use Rattle.index_v2.specs.IndexFile.{Has, BelongsTo, IsIndex, Holds}
+use Rattle.index_v2.specs.IndexFile.{Has, BelongsTo, IsListOf, IsIndex, Holds}
 use Rattle.index_v2.proofs.RowPlaces.{rows_total}
 use Rattle.index_v2.proofs.ValuesListed.{same_compare}
 use Rattle.index_v2.proofs.OpeningLaws.{opened_again}
@@ -26,19 +28,36 @@ use Rattle.index_v2.proofs.Members.{same_some, has_all, zipped, length_firsts}
 use Rattle.index_v2.proofs.WholeParts.{AreRead, all_again, AreLists, lists_found, lists_again, stray_again, gaps_again, gap_from_again}
 use Rattle.index_v2.proofs.WholeLaws.{rows_ascend, numbers_again, present_again, ArePresent, of_row_again, belongs_again, number_has, ok_same}
 
+-- what stands where a row points is read
+numbers_are : (index : List ℕ) (listed : List (ℕ × IndexSeries)) (row : PostingsRow) (list : List ℕ) (is : IsListOf index listed row) → postings_at index row.offset ≡ Ok list → is.numbers ≡ list
+numbers_are index listed row list is read = ok_same (postings_at index row.offset) is.numbers list (list_again IsNextPosting posting_at posting_turn index row.offset is.numbers is.stands) read
+
+-- the numbers of a row that lists exactly its series are of these
+pub all_of_row : (index : List ℕ) (listed : List (ℕ × IndexSeries)) (row : PostingsRow) (list : List ℕ) → IsListOf index listed row → postings_at index row.offset ≡ Ok list → ((number : ℕ) (series : IndexSeries) → Has listed (number, series) → IsLabelSet series.labels) → list_all (is_of_row listed row) list ≡ true
+all_of_row index listed row list is read lawful =
+    has_all (is_of_row listed row) list (λ k number stands.
+    let o = is.only number (k, ap (λ (xs : List ℕ). slice_get xs k) (numbers_are index listed row list is read) ∙ stands) in
+    of_row_again listed row number o.0 o.1 (belongs_again row o.0 (lawful number o.0 o.1) o.2))
+
+label_belongs : (row : PostingsRow) (series : IndexSeries) (label : Label) → row.name ≡ label.name → row.value ≡ label.value → Has series.labels label → BelongsTo row series
+label_belongs row series label n v labelled =
+    let label_is : ◌≡◌ {A = Label} label (record { name = row.name; value = row.value }) = rw (n, v) refl in
+    inr (labelled.0, labelled.1 ∙ ap Some label_is)
+
+-- such a row has the number of each series with its label
+pub has_labelled : (index : List ℕ) (listed : List (ℕ × IndexSeries)) (row : PostingsRow) (list : List ℕ) → IsListOf index listed row → postings_at index row.offset ≡ Ok list → (number : ℕ) (series : IndexSeries) → Has listed (number, series) → (label : Label) → Has series.labels label → row.name ≡ label.name → row.value ≡ label.value → list_any (λ n. eqb n number) list ≡ true
+has_labelled index listed row list is read number series has label labelled n v =
+    number_has number list (subst (λ (xs : List ℕ). Has xs number) (numbers_are index listed row list is read) (is.all number series has (label_belongs row series label n v labelled)))
+
 read_row : (index : List ℕ) (list : List IndexSeries) (is : IsIndex index list) (row : PostingsRow) (has : Has is.opened.rows row) → postings_at index row.offset ≡ Ok (is.rows_are row has).numbers
 read_row index list is row has = list_again IsNextPosting posting_at posting_turn index row.offset (is.rows_are row has).numbers (is.rows_are row has).stands
 
 no_stray : (index : List ℕ) (list : List IndexSeries) (is : IsIndex index list) (lists : List (List ℕ)) → AreLists index is.opened.rows lists → stray_from 0 is.opened.rows lists is.listed ≡ None
 no_stray index list is lists are = stray_again 0 is.opened.rows lists is.listed (λ place row found at here.
-    let lists_each = are.each place row at in
-    let same_list : lists_each.0 ≡ found = same_some lists_each.0 found (sym lists_each.1 ∙ here) in
-    let numbers_are : (is.rows_are row (place, at)).numbers ≡ found = ok_same (postings_at index row.offset) (is.rows_are row (place, at)).numbers found (read_row index list is row (place, at)) (lists_each.2 ∙ ap Ok same_list) in
-    has_all (is_of_row is.listed row) found (λ k number stands.
-    let o = (is.rows_are row (place, at)).only number (k, ap (λ (xs : List ℕ). slice_get xs k) numbers_are ∙ stands) in
-    of_row_again is.listed row number o.0 o.1 (belongs_again row o.0 (is.series_are number o.0 o.1).lawful o.2)))
+    let each = are.each place row at in
+    all_of_row index is.listed row found (is.rows_are row (place, at)) (each.2 ∙ ap Ok (same_some each.0 found (sym each.1 ∙ here))) (λ number series has. (is.series_are number series has).lawful))
 
-less_before : (rows : List PostingsRow) (name value : List ℕ) → AreAscending rows → (k : ℕ) (other : PostingsRow) (place : ℕ) → k < place → slice_get rows k ≡ Some other → (row : PostingsRow) → slice_get rows place ≡ Some row → compare_row row name value ≡ Equal → compare_row other name value ≡ Less
+pub less_before : (rows : List PostingsRow) (name value : List ℕ) → AreAscending rows → (k : ℕ) (other : PostingsRow) (place : ℕ) → k < place → slice_get rows k ≡ Some other → (row : PostingsRow) → slice_get rows place ≡ Some row → compare_row row name value ≡ Equal → compare_row other name value ≡ Less
 less_before rows name value ascend k other place lt at row stands equal = sym (alike_right rows_total row (record { name = name; value = value; offset = 0 }) other equal) ∙ ascend.ascend k place other row lt at stands
 
 no_gap : (index : List ℕ) (list : List IndexSeries) (is : IsIndex index list) (lists : List (List ℕ)) → AreLists index is.opened.rows lists → gap_among is.opened.rows lists is.listed ≡ None
@@ -46,21 +65,15 @@ no_gap index list is lists are = gaps_again is.opened.rows lists is.listed (λ n
     let ascend = rows_ascend is.opened.bytes is.opened.toc.postings_table is.opened.rows is.is_opened.rows_are in
     let found = is.complete number series has label labelled in
     let row_has = found.1 in
-    let exact = is.rows_are found.0 row_has in
-    let label_is : ◌≡◌ {A = Label} label (record { name = found.0.name; value = found.0.value }) = rw (found.2, found.3) refl in
-    let belongs : BelongsTo found.0 series = inr (labelled.0, labelled.1 ∙ ap Some label_is) in
-    let there = exact.all number series has belongs in
     let each = are.each row_has.0 found.0 row_has.1 in
-    let numbers_are : exact.numbers ≡ each.0 = ok_same (postings_at index found.0.offset) exact.numbers each.0 (read_row index list is found.0 row_has) each.2 in
-    let equal : compare_row found.0 label.name label.value ≡ Equal = same_compare found.0 found.0 label.name label.value found.2 found.3 ∙ tied_itself rows_total found.0 in
     gap_from_again 0 is.opened.rows lists number label (less_before is.opened.rows label.name label.value ascend) (record {
       place = row_has.0;
       row = found.0;
       list = each.0;
       row_at = row_has.1;
       list_at = each.1;
-      equal = equal;
-      has = number_has number each.0 (subst (λ (xs : List ℕ). Has xs number) numbers_are there);
+      equal = same_compare found.0 found.0 label.name label.value found.2 found.3 ∙ tied_itself rows_total found.0;
+      has = has_labelled index is.listed found.0 each.0 (is.rows_are found.0 row_has) each.2 number series has label labelled found.2 found.3;
     }))
 
 no_first : {A B : Type 0} (ps : List (A × B)) → ps ≡ [] → map (λ (p : A × B). p.0) ps ≡ []

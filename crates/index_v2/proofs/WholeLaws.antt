@@ -1,7 +1,7 @@
 -- What is read as a whole is the list of the bytes, and the list of the bytes is read.
 use Rattle.std.proofs.Common.{◌≡◌, ◌≢◌, ℕ, zero, suc, Bool, true, false, cond, eqb, List, [], ◌∷◌, length, zip, Option, Some, None, Result, Ok, Err, refl, sym, ap, subst, ◌∙◌, arith, ◌⊎◌, inl, inr}
 use Rattle.std.specs.Prelude.{slice_get, ◌&&◌, ◌==◌, nat_lt}
-use Rattle.std.specs.List.{list_any}
+use Rattle.std.specs.List.{list_any, list_all}
 use Rattle.std.specs.Str.{bytes_eq}
 use Rattle.std.specs.declared.cmp.Ordering.TheVariants.{Equal}
 use Rattle.std.specs.Cmp.Lexicographic.{bytes_decides}
@@ -32,7 +32,7 @@ use Rattle.index_v2.specs.RowOrder.{AreAscending}
 use Rattle.index_v2.specs.PostingsLists.{row_of, list_of, postings_of}
 use Rattle.index_v2.specs.WholeReading.{present_at, all_at, lists_at, belongs, has_value, is_of_row, stray_from, gap_among, earlier, difference, unless_differ, whole_at}
 use Rattle.index_v2.specs.IndexFile.{Has, BelongsTo, IsListOf, AreListed, HasRow, Holds, IsOpened, IsIndex}
-use Rattle.index_v2.proofs.RowPlaces.{rows_total, table_ascends, no_rows_ascend, equal_row}
+use Rattle.index_v2.proofs.RowPlaces.{rows_total, table_ascends, no_rows_ascend, equal_texts}
 use Rattle.index_v2.proofs.ValuesListed.{same_compare}
 use Rattle.index_v2.proofs.LabelLaws.{numbered_found}
 use Rattle.index_v2.proofs.Members.{same_some, and_both, any_has, has_any, all_has, firsts, seconds}
@@ -143,7 +143,7 @@ no_row : row_of [] [] [] ≡ None
 unfolding row_of
 no_row = refl
 
-numbers_found : (index : List ℕ) (reference : ℕ) (rows : List PostingsRow) (numbers : List ℕ) → IsBytes index → Holds IsPostingsTable index reference rows → list_of index (row_of rows [] []) ≡ Ok numbers → AreListed index rows numbers
+pub numbers_found : (index : List ℕ) (reference : ℕ) (rows : List PostingsRow) (numbers : List ℕ) → IsBytes index → Holds IsPostingsTable index reference rows → list_of index (row_of rows [] []) ≡ Ok numbers → AreListed index rows numbers
 numbers_found index reference [] numbers are holds e =
     let e' : ◌≡◌ {A = Result (List ℕ) IndexRefusal} (Ok []) (Ok numbers) = ap (list_of index) (sym no_row) ∙ e in
     sym (ok_is {E = IndexRefusal} [] numbers e')
@@ -211,13 +211,11 @@ pub ok_same : {A E : Type 0} (r : Result A E) (x y : A) → r ≡ Ok x → r ≡
 ok_same {A} {E} r x y e f = ok_is {E = E} x y (sym e ∙ f)
 
 -- what reading took from the rows
-record AreExact (index : List ℕ) (rows : List PostingsRow) (lists : List (List ℕ)) (listed : List (ℕ × IndexSeries)) (numbers : List ℕ) : Type 0 where
-  ascend : AreAscending rows
-  first_empty : (row : PostingsRow) (others : List PostingsRow) → rows ≡ row ∷ others → (row.name ≡ []) × (row.value ≡ []) × (postings_at index row.offset ≡ Ok numbers)
-  lists_are : AreLists index rows lists
-  stray : stray_from 0 rows lists listed ≡ None
-  gap : gap_among rows lists listed ≡ None
-  firsts_are : (number : ℕ) (series : IndexSeries) → Has listed (number, series) → Has numbers number
+pub record AreTaken (index : List ℕ) (rows : List PostingsRow) (lists : List (List ℕ)) (listed : List (ℕ × IndexSeries)) (numbers : List ℕ) : Type 0 where
+  pub ascend : AreAscending rows
+  pub first_empty : (row : PostingsRow) (others : List PostingsRow) → rows ≡ row ∷ others → (row.name ≡ []) × (row.value ≡ []) × (postings_at index row.offset ≡ Ok numbers)
+  pub lists_are : AreLists index rows lists
+  pub firsts_are : (number : ℕ) (series : IndexSeries) → Has listed (number, series) → Has numbers number
 
 -- the list of a row of the empty pair is that of all series
 empty_row : (index : List ℕ) (rows : List PostingsRow) (numbers : List ℕ) → AreAscending rows → ((row : PostingsRow) (others : List PostingsRow) → rows ≡ row ∷ others → (row.name ≡ []) × (row.value ≡ []) × (postings_at index row.offset ≡ Ok numbers)) → (place : ℕ) (row : PostingsRow) → slice_get rows place ≡ Some row → row.name ≡ [] → row.value ≡ [] → postings_at index row.offset ≡ Ok numbers
@@ -229,33 +227,41 @@ empty_row index (r ∷ rows) numbers ascend first place row at n v =
     let same : r ≡ row = same_some r row (ap (λ (k : ℕ). slice_get (r ∷ rows) k) zero_is ∙ at) in
     ap (λ (x : PostingsRow). postings_at index x.offset) (sym same) ∙ f.2
 
-all_of : (index : List ℕ) (rows : List PostingsRow) (lists : List (List ℕ)) (listed : List (ℕ × IndexSeries)) (numbers : List ℕ) → AreExact index rows lists listed numbers → (row : PostingsRow) (place : ℕ) → slice_get rows place ≡ Some row → (list : List ℕ) → slice_get lists place ≡ Some list → postings_at index row.offset ≡ Ok list → (number : ℕ) (series : IndexSeries) → Has listed (number, series) → BelongsTo row series → Has list number
-all_of index rows lists listed numbers ex row place at list here read number series has (inl empty) =
-    let all_read = empty_row index rows numbers ex.ascend ex.first_empty place row at empty.0 empty.1 in
-    subst (λ (xs : List ℕ). Has xs number) (ok_same (postings_at index row.offset) numbers list all_read read) (ex.firsts_are number series has)
-all_of index rows lists listed numbers ex row place at list here read number series has (inr labelled) =
-    let h = gaps_found rows lists listed ex.gap number series has (record { name = row.name; value = row.value }) labelled in
+-- a row lists exactly its series where each of its numbers is of one, and it has those of each series with its label
+pub taken_listed : (index : List ℕ) (rows : List PostingsRow) (lists : List (List ℕ)) (listed : List (ℕ × IndexSeries)) (numbers : List ℕ) → IsBytes index → AreTaken index rows lists listed numbers → (place : ℕ) (row : PostingsRow) (list : List ℕ) → slice_get rows place ≡ Some row → postings_at index row.offset ≡ Ok list → list_all (is_of_row listed row) list ≡ true
+    → ((number : ℕ) (series : IndexSeries) → Has listed (number, series) → Has series.labels (record { name = row.name; value = row.value }) → list_any (λ n. eqb n number) list ≡ true) → IsListOf index listed row
+taken_listed index rows lists listed numbers are taken place row list at read only labelled = record {
+  numbers = list;
+  stands = list_found IsNextPosting posting_at posting_turn index row.offset list are read;
+  only = λ number n. of_row_found listed row number (all_has (is_of_row listed row) list n.0 number only n.1);
+  all = λ number series has belongs. elim belongs [
+    | inl empty ↦
+        let all_read = empty_row index rows numbers taken.ascend taken.first_empty place row at empty.0 empty.1 in
+        subst (λ (xs : List ℕ). Has xs number) (ok_same (postings_at index row.offset) numbers list all_read read) (taken.firsts_are number series has)
+    | inr label ↦ has_number number list (labelled number series has label)
+  ];
+}
+
+-- the list of a label's row has its number
+label_listed : (rows : List PostingsRow) (lists : List (List ℕ)) (listed : List (ℕ × IndexSeries)) → AreAscending rows → gap_among rows lists listed ≡ None → (place : ℕ) (row : PostingsRow) (list : List ℕ) → slice_get rows place ≡ Some row → slice_get lists place ≡ Some list → (number : ℕ) (series : IndexSeries) → Has listed (number, series) → Has series.labels (record { name = row.name; value = row.value }) → list_any (λ n. eqb n number) list ≡ true
+label_listed rows lists listed ascend gap place row list at here number series has labelled =
+    let h = gaps_found rows lists listed gap number series has (record { name = row.name; value = row.value }) labelled in
     let equal : compare_rows h.row row ≡ Equal = sym (same_compare h.row row row.name row.value refl refl) ∙ h.equal in
-    let same : h.place ≡ place = same_place rows h.place place h.row row ex.ascend h.row_at at equal in
+    let same : h.place ≡ place = same_place rows h.place place h.row row ascend h.row_at at equal in
     let same_list : h.list ≡ list = same_some h.list list (sym h.list_at ∙ ap (λ (k : ℕ). slice_get lists k) same ∙ here) in
-    subst (λ (xs : List ℕ). Has xs number) same_list (has_number number h.list h.has)
+    ap (list_any (λ n. eqb n number)) (sym same_list) ∙ h.has
 
-row_is_listed : (index : List ℕ) (rows : List PostingsRow) (lists : List (List ℕ)) (listed : List (ℕ × IndexSeries)) (numbers : List ℕ) → IsBytes index → AreExact index rows lists listed numbers → (row : PostingsRow) → Has rows row → IsListOf index listed row
-row_is_listed index rows lists listed numbers are ex row has =
-    let here = ex.lists_are.each has.0 row has.1 in
-    record {
-      numbers = here.0;
-      stands = list_found IsNextPosting posting_at posting_turn index row.offset here.0 are here.2;
-      only = λ number n. of_row_found listed row number (all_has (is_of_row listed row) here.0 n.0 number (stray_found 0 rows lists listed ex.stray has.0 row here.0 has.1 here.1) n.1);
-      all = λ number series h b. all_of index rows lists listed numbers ex row has.0 has.1 here.0 here.1 here.2 number series h b;
-    }
+row_is_listed : (index : List ℕ) (rows : List PostingsRow) (lists : List (List ℕ)) (listed : List (ℕ × IndexSeries)) (numbers : List ℕ) → IsBytes index → AreTaken index rows lists listed numbers → stray_from 0 rows lists listed ≡ None → gap_among rows lists listed ≡ None → (row : PostingsRow) → Has rows row → IsListOf index listed row
+row_is_listed index rows lists listed numbers are taken stray gap row has =
+    let here = taken.lists_are.each has.0 row has.1 in
+    taken_listed index rows lists listed numbers are taken has.0 row here.0 has.1 here.2 (stray_found 0 rows lists listed stray has.0 row here.0 has.1 here.1)
+    (λ number series. label_listed rows lists listed taken.ascend gap has.0 row here.0 has.1 here.1 number series)
 
-find_row : (index : List ℕ) (rows : List PostingsRow) (lists : List (List ℕ)) (listed : List (ℕ × IndexSeries)) (numbers : List ℕ) → AreExact index rows lists listed numbers → (number : ℕ) (series : IndexSeries) → Has listed (number, series) → (label : Label) → Has series.labels label → HasRow rows label
-find_row index rows lists listed numbers ex number series has label labelled =
-    let h = gaps_found rows lists listed ex.gap number series has label labelled in
-    let at = equal_row rows label.name label.value h.place h.row h.row_at h.equal in
-    let same : at.row ≡ h.row = same_some at.row h.row (sym at.stands ∙ h.row_at) in
-    (h.row, (h.place, h.row_at), ap (λ (r : PostingsRow). r.name) (sym same) ∙ at.name_is, ap (λ (r : PostingsRow). r.value) (sym same) ∙ at.value_is)
+find_row : (rows : List PostingsRow) (lists : List (List ℕ)) (listed : List (ℕ × IndexSeries)) → gap_among rows lists listed ≡ None → (number : ℕ) (series : IndexSeries) → Has listed (number, series) → (label : Label) → Has series.labels label → HasRow rows label
+find_row rows lists listed gap number series has label labelled =
+    let h = gaps_found rows lists listed gap number series has label labelled in
+    let texts = equal_texts h.row label.name label.value h.equal in
+    (h.row, (h.place, h.row_at), texts.0, texts.1)
 
 then_ok : {A B E : Type 0} (r : Result A E) (next : Result B E) (y : B) → (r >> next) ≡ Ok y → (x : A) × (r ≡ Ok x) × (next ≡ Ok y)
 then_ok (Ok x) next y e = (x, refl, e)
@@ -285,18 +291,19 @@ nothing_or : (toc : Toc) (numbers : List ℕ) (list : List IndexSeries) → (num
 nothing_or toc numbers list (inl none) = inl (no_pairs numbers list none)
 nothing_or toc numbers list (inr are) = inr are
 
+pub are_taken : (opened : Opened) (numbers : List ℕ) (list : List IndexSeries) (lists : List (List ℕ)) → IsOpened opened → postings_of opened [] [] ≡ Ok numbers → lists_at opened.bytes opened.rows ≡ Ok lists → AreTaken opened.bytes opened.rows lists (zip numbers list) numbers
+are_taken opened numbers list lists is listed read = record {
+  ascend = rows_ascend opened.bytes opened.toc.postings_table opened.rows is.rows_are;
+  first_empty = listed_first opened.bytes opened.toc.postings_table opened.rows numbers is.rows_are listed;
+  lists_are = lists_found opened.bytes opened.rows lists read;
+  firsts_are = λ number one has. (has.0, zip_first numbers list has.0 number one has.1);
+}
+
 put_together : (opened : Opened) (numbers : List ℕ) (list : List IndexSeries) (lists : List (List ℕ)) (x : Unit {0}) → IsBytes opened.bytes → IsOpened opened → postings_of opened [] [] ≡ Ok numbers → present_at opened.toc numbers ≡ Ok x → all_at opened.bytes opened.symbols None numbers ≡ Ok list → lists_at opened.bytes opened.rows ≡ Ok lists → difference opened.rows lists (zip numbers list) ≡ None → IsIndex opened.bytes list
 put_together opened numbers list lists x are is listed present series read exact =
     let series_are = all_found opened.bytes opened.symbols None numbers list series in
     let none = both_none (stray_from 0 opened.rows lists (zip numbers list)) (gap_among opened.rows lists (zip numbers list)) exact in
-    let ex : AreExact opened.bytes opened.rows lists (zip numbers list) numbers = record {
-      ascend = rows_ascend opened.bytes opened.toc.postings_table opened.rows is.rows_are;
-      first_empty = listed_first opened.bytes opened.toc.postings_table opened.rows numbers is.rows_are listed;
-      lists_are = lists_found opened.bytes opened.rows lists read;
-      stray = none.0;
-      gap = none.1;
-      firsts_are = λ number one has. (has.0, zip_first numbers list has.0 number one has.1);
-    } in
+    let taken = are_taken opened numbers list lists is listed read in
     record {
       opened = opened;
       bytes_are = refl;
@@ -307,8 +314,8 @@ put_together opened numbers list lists x are is listed present series read exact
       present = nothing_or opened.toc numbers list (present_found opened.toc numbers x present);
       series_are = λ number one has. numbered_found opened.bytes opened.symbols number one are (series_are.each number one has);
       ascend = series_are.ascend;
-      rows_are = row_is_listed opened.bytes opened.rows lists (zip numbers list) numbers are ex;
-      complete = find_row opened.bytes opened.rows lists (zip numbers list) numbers ex;
+      rows_are = row_is_listed opened.bytes opened.rows lists (zip numbers list) numbers are taken none.0 none.1;
+      complete = find_row opened.rows lists (zip numbers list) none.1;
     }
 
 pub whole_found : (opened : Opened) (list : List IndexSeries) → IsBytes opened.bytes → IsOpened opened → whole_at opened ≡ Ok list → IsIndex opened.bytes list

@@ -7,6 +7,7 @@ pub mod RowOrder
 pub mod PostingsLists
 pub mod WholeReading
 pub mod IndexFile
+pub mod Differing
 pub mod LabelTable
 pub mod SymbolsInUse
 pub mod LabelGroups

@@ -46,8 +46,9 @@ impl<'a> Model for IndexReader<'a> {
 }
 
 impl<'a> IndexReader<'a> {
-    ghost use Rattle.std.specs.Prelude.{List};
+    ghost use Rattle.std.specs.Prelude.{List, ℕ};
     ghost use Rattle.index_v2.specs.Opened.{Opened};
+    ghost use Rattle.index_v2.specs.Differing.{DifferFirstAt};
     ghost use Rattle.index_v2.specs.IndexFile.{Has, IsOpened, IsSeriesOf, IsIndex, AreNumbersOf, AreValuesOf};
     ghost use Rattle.index_v2.specs.declared.index_series.IndexSeries.{IndexSeries};
 
@@ -177,6 +178,10 @@ impl<'a> IndexReader<'a> {
         // It is read exactly where the bytes are an index of the list.
         ensures found { IfOk result (λ list. IsIndex self.now.bytes list) }
         ensures only { (list : List IndexSeries) → IsIndex self.now.bytes list → IsOkAnd result (λ found. found ≡ list) ⊎ (result ≡ Err IndexRefusal.NoMemory) }
+
+        // Where the lists are said to differ, this is the first place of the table at which they are not exactly those of the
+        // series that the first row lists.
+        ensures differs { (place : ℕ) → result ≡ Err (IndexRefusal.PostingsDiffer place) → DifferFirstAt self.now place }
 
         // The first refusal.
         ensures exact { Gives IndexRefusal.NoMemory (λ list. list) result (whole_at self.now) }

@@ -9,6 +9,7 @@ ghost use Rattle.index_v2.specs.declared.index_series.IndexSeries.{IndexSeries};
 ghost use Rattle.index_v2.specs.Opening.{opened_at};
 ghost use Rattle.index_v2.specs.Budget.{members_of, series_bytes, list_bytes, text_bytes};
 ghost use Rattle.index_v2.specs.IndexFile.{IsIndex};
+ghost use Rattle.index_v2.specs.Differing.{DifferFirstAt};
 ghost use Rattle.index_v2.specs.WholeReading.{present_at, may_stand_behind, behind_at, all_at, lists_at, whole_at};
 
 use crate::budget::{
@@ -167,6 +168,7 @@ pub(crate) fn whole(
     requires { opened_at index.now ≡ Ok (record { bytes = index.now; toc = toc.now; symbols = symbols.now; rows = rows.now }) }
     ensures found { IfOk result (λ list. IsIndex index.now list) }
     ensures only { (list : List IndexSeries) → IsIndex index.now list → IsOkAnd result (λ found. found ≡ list) ⊎ (result ≡ Err IndexRefusal.NoMemory) }
+    ensures differs { (place : ℕ) → result ≡ Err (IndexRefusal.PostingsDiffer place) → DifferFirstAt (record { bytes = index.now; toc = toc.now; symbols = symbols.now; rows = rows.now }) place }
     ensures bounded { IfOk result (λ list. sum_by members_of list ≤ 8 * length index.now) }
     ensures texts { IfOk result (λ list. sum_by text_bytes list ≤ 64 * length index.now) }
     ensures exact { Gives IndexRefusal.NoMemory (λ list. list) result (whole_at (record { bytes = index.now; toc = toc.now; symbols = symbols.now; rows = rows.now })) }

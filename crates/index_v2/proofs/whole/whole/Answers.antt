@@ -8,6 +8,7 @@ use Rattle.index_v2.specs.IndexFile.{IsIndex}
 use Rattle.index_v2.proofs.OpeningLaws.{opened_found}
 use Rattle.index_v2.proofs.WholeLaws.{whole_found}
 use Rattle.index_v2.proofs.WholeAgain.{whole_again}
+use Rattle.index_v2.proofs.DifferingLaws.{differ_found, differ_from}
 use Rattle.index_v2.proofs.whole.whole.Goals as goal
 
 pub returns-clause-found : goal.returns-clause-found
@@ -20,3 +21,9 @@ pub returns-clause-only : goal.returns-clause-only
 returns-clause-only c =
     let o : Opened = record { bytes = c.args.index.now; toc = c.args.toc.now; symbols = c.args.symbols.now; rows = c.args.rows.now } in
     λ list is. only_from NoMemory (λ (xs : List IndexSeries). xs) c.read_whole.result (whole_at o) list (whole_again o list c.requires is) c.read_whole.ensures.exact
+
+pub returns-clause-differs : goal.returns-clause-differs
+returns-clause-differs c =
+    let o : Opened = record { bytes = c.args.index.now; toc = c.args.toc.now; symbols = c.args.symbols.now; rows = c.args.rows.now } in
+    λ place told. differ_found o place c.read_whole.ensures.bytes (opened_found c.args.index.now o c.read_whole.ensures.bytes c.requires).1
+    (differ_from (λ (xs : List IndexSeries). xs) c.read_whole.result (whole_at o) place c.read_whole.ensures.exact told)
