@@ -71,7 +71,7 @@ Moved reference text r = (step : ℤ) × IsVarint text step × (pos r ≡ pos re
 
 abs_back : (z : ℤ) → fits_unsigned z ≡ true → (pos (unsigned_abs z) ≡ z) × (unsigned_abs z < 2 ^ 64)
 abs_back (pos n) e = (refl, ltb-true n (2 ^ 64) e)
-abs_back (negsuc n) e = let lt : n < 0 = ltb-true n 0 e in absurd (omega arith)
+abs_back (negsuc n) e = absurd cc
 
 moved_found : (reference : ℕ) (p q : Position) (r : ℕ) → IsBytes (left p) → moved_at reference p ≡ Ok (r, q) → HasFront (λ text n. Moved reference text n × (n < 2 ^ 64)) (left p) r (left q)
 unfolding moved_at

@@ -20,7 +20,7 @@ signed_fails n large = false_from_ne_true (fits_signed n) (λ e. large (signed_f
 
 pub unsigned_from_test : (n : ℤ) → fits_unsigned n ≡ true → FitsUnsigned w64 n
 unsigned_from_test (pos n) e = let lt = ltb-true n (2 ^ 64) e in (search rules, search rules)
-unsigned_from_test (negsuc n) e = let lt : n < 0 = ltb-true n 0 e in absurd (omega arith)
+unsigned_from_test (negsuc n) e = absurd cc
 
 pub unsigned_test : (n : ℤ) → FitsUnsigned w64 n → fits_unsigned n ≡ true
 unsigned_test (pos n) fits = let high = fits.1 in let lt : n < 2 ^ 64 = omega (arith, ints, high) in lt-ltb n (2 ^ 64) lt

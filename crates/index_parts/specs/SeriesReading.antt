@@ -1,5 +1,5 @@
 -- What reading a series gives, or the first refusal.
-use Rattle.std.specs.Prelude.{ℕ, ◌/◌, ◌%◌, ◌^◌, List, map, Option, Some, None, option_map, Bool, if◌then◌else◌, Result, Ok, nat_lt, ℤ, pos, negsuc, ◌+ℤ◌}
+use Rattle.std.specs.Prelude.{ℕ, ◌/◌, ◌%◌, ◌^◌, List, map, Option, Some, None, option_map, Bool, false, if◌then◌else◌, Result, Ok, nat_lt, ℤ, pos, negsuc, ◌+ℤ◌}
 use Rattle.std.specs.Int.RustNames.{unsigned_abs}
 use Rattle.std.specs.Option.{option_and_then}
 use Rattle.std.specs.Result.{result_ok}
@@ -20,7 +20,7 @@ use Rattle.index_parts.specs.SeriesEntry.{reference_of}
 -- the unsigned numbers of 64 bits
 abbrev pub fits_unsigned : ℤ → Bool
 fits_unsigned (pos n) = nat_lt n (2 ^ 64)
-fits_unsigned (negsuc n) = nat_lt n 0
+fits_unsigned (negsuc n) = false
 
 -- ---- labels
 

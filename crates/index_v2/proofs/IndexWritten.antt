@@ -15,7 +15,7 @@ use Rattle.index_v2.specs.SymbolsInUse.{symbols_of, number_of, symbol_of, raw_of
 use Rattle.index_v2.specs.LabelGroups.{rows_of}
 use Rattle.index_v2.specs.Aligned.{padded, places_at}
 use Rattle.index_v2.specs.WriteSteps.{greatest, EachStands}
-use Rattle.index_v2.specs.Written.{AreSmall, up_to_symbols, numbers_behind, list_texts, label_rows, table_rows, parts_of, with_series, with_label_indices, with_lists, list_places, written}
+use Rattle.index_v2.specs.Written.{HaveSmallNumbers, up_to_symbols, numbers_behind, list_texts, label_rows, table_rows, parts_of, with_series, with_label_indices, with_lists, list_places, written}
 use Rattle.index_v2.proofs.OrderedEntries.{In, in_all}
 use Rattle.index_v2.proofs.SortedTexts.{symbols_strict}
 use Rattle.index_v2.proofs.SymbolNumbers.{label_in, number_at, symbol_at}
@@ -84,7 +84,7 @@ later_in : (list : List IndexSeries) (place : ℕ) (row : LabelRow) → In (plac
 unfolding places_at
 later_in list place row h = inr (in_texts (row_places list) (rows list) place row h)
 
-pub small_numbers : (list : List IndexSeries) → length (written list) ≤ greatest → AreSmall (parts_of list)
+pub small_numbers : (list : List IndexSeries) → length (written list) ≤ greatest → HaveSmallNumbers (parts_of list)
 small_numbers list room = parts_small list (omega (arith, series_written list))
 
 pub all_stands : (list : List IndexSeries) → length (written list) ≤ greatest → AllByRecursion (λ one. IsLabelSet one.labels) list → IsPostings (written list) (all_place list) (numbers list)

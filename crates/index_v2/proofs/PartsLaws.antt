@@ -21,7 +21,7 @@ use Rattle.index_v2.specs.SymbolsInUse.{symbols_of, number_of, raw_of}
 use Rattle.index_v2.specs.Aligned.{each_at, places_at}
 use Rattle.index_v2.specs.WriteSteps.{greatest, Makes, IsStorable}
 use Rattle.index_v2.specs.declared.write_refusal.IndexWriteRefusal.{IndexWriteRefusal}
-use Rattle.index_v2.specs.Written.{AreWritable, AreSmall, up_to_symbols, numbers_behind, label_index_texts, list_texts, name_texts, table_rows, with_series, with_label_indices, with_lists, label_index_places, list_places, with_label_offsets, with_table, toc_of, parts_of, written}
+use Rattle.index_v2.specs.Written.{AreWritable, HaveSmallNumbers, up_to_symbols, numbers_behind, label_index_texts, list_texts, name_texts, table_rows, with_series, with_label_indices, with_lists, label_index_places, list_places, with_label_offsets, with_table, toc_of, parts_of, written}
 use Rattle.index_v2.proofs.AlignedTexts.{each_longer, places_many}
 use Rattle.index_v2.proofs.SortedTexts.{symbols_strict}
 use Rattle.index_v2.proofs.SmallNumbers.{parts_small}
@@ -94,8 +94,8 @@ as_many_numbers before series numbers is =
 pub strict_as : (list : List IndexSeries) (symbols members : List (List ℕ)) → symbols ≡ symbols_of list → members ≡ symbols → IsStrictlySortedBy compare_texts members
 strict_as list symbols members is same = subst (λ (l : List (List ℕ)). IsStrictlySortedBy compare_texts l) (sym (same ∙ is)) (symbols_strict list)
 
-pub small_as : (list : List IndexSeries) (parts : Parts) → parts ≡ parts_of list → length (with_series (parts_of list)) ≤ greatest → AreSmall parts
-small_as list parts is room = subst AreSmall (sym is) (parts_small list room)
+pub small_as : (list : List IndexSeries) (parts : Parts) → parts ≡ parts_of list → length (with_series (parts_of list)) ≤ greatest → HaveSmallNumbers parts
+small_as list parts is room = subst HaveSmallNumbers (sym is) (parts_small list room)
 
 pub indices_as : (parts : Parts) (out new : List ℕ) (names : List NameValues) (e : IndexWriteRefusal) → out ≡ with_series parts → names ≡ parts.names → Makes {A = List ℕ} (Err e) new (each_at 4 out (label_index_texts names)) → Makes {A = List ℕ} (Err e) new (with_label_indices parts)
 unfolding with_label_indices

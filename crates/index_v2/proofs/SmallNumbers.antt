@@ -20,7 +20,7 @@ use Rattle.index_v2.specs.SymbolsInUse.{is_lesser_text, symbols_of, number_of, r
 use Rattle.index_v2.specs.LabelGroups.{entries_of, all_entries, is_lesser_entry, with_first, grouped, row_of_entry, have_same_label, join_series, rows_of, values_of_row, have_same_name, join_values, names_of}
 use Rattle.index_v2.specs.Aligned.{padded, each_at, places_at}
 use Rattle.index_v2.specs.WriteSteps.{greatest}
-use Rattle.index_v2.specs.Written.{AreSmall, up_to_symbols, numbers_behind, with_series, parts_of}
+use Rattle.index_v2.specs.Written.{HaveSmallNumbers, up_to_symbols, numbers_behind, with_series, parts_of}
 use Rattle.index_v2.proofs.SortedTexts.{all_at}
 use Rattle.index_v2.proofs.AlignedTexts.{each_longer}
 
@@ -160,7 +160,7 @@ names_small rows small =
 
 -- ---- all of them
 
-pub parts_small : (list : List IndexSeries) → length (with_series (parts_of list)) ≤ greatest → AreSmall (parts_of list)
+pub parts_small : (list : List IndexSeries) → length (with_series (parts_of list)) ≤ greatest → HaveSmallNumbers (parts_of list)
 unfolding parts_of with_series
 parts_small list room =
     let symbols = symbols_of list in

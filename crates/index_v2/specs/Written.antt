@@ -75,7 +75,7 @@ abbrev pub IsBehind : List IndexSeries → List Label → Type 0
 IsBehind list labels = (last : IndexSeries) → slice_get list (length list - 1) ≡ Some last → compare_sets last.labels labels ≡ Less
 
 -- the numbers of series and of symbols have 32 bits
-pub record AreSmall (parts : Parts) : Type 0 where
+pub record HaveSmallNumbers (parts : Parts) : Type 0 where
   pub numbers : All (λ number. number < 2 ^ 32) parts.numbers
   pub rows : AllByRecursion (λ row. All (λ number. number < 2 ^ 32) row.series) parts.rows
   pub names : AllByRecursion (λ name. All (λ number. number < 2 ^ 32) name.values) parts.names

@@ -8,7 +8,7 @@ ghost use Rattle.index_v2.specs.declared.index_series.IndexSeries.{IndexSeries};
 ghost use Rattle.index_v2.specs.IndexFile.{IsIndex};
 ghost use Rattle.index_v2.specs.LabelTable.{HasLabelIndices};
 ghost use Rattle.index_v2.specs.WriteSteps.{greatest, Makes};
-ghost use Rattle.index_v2.specs.Written.{AreWritable, IsBehind, AreSmall, first_or, up_to_symbols, with_series, with_label_indices, with_lists, with_label_offsets, with_table, table_rows, offset_rows, label_index_places, list_places, toc_of, written, parts_of};
+ghost use Rattle.index_v2.specs.Written.{AreWritable, IsBehind, HaveSmallNumbers, first_or, up_to_symbols, with_series, with_label_indices, with_lists, with_label_offsets, with_table, table_rows, offset_rows, label_index_places, list_places, toc_of, written, parts_of};
 
 use crate::parts::{Parts, put_parts};
 use crate::section_places::{put_label_indices, put_lists};
@@ -102,7 +102,7 @@ fn put_all_lists(
 ) -> Result<(NumberList, NumberList), IndexWriteRefusal>
     requires so_far { out.old.items ≡ with_series parts.now }
     requires room { length out.old.items ≤ greatest }
-    requires small { AreSmall parts.now }
+    requires small { HaveSmallNumbers parts.now }
     ensures makes { Makes result out.new.items (with_lists parts.now) }
     ensures label_indices { IfOk result (λ places. places.0 ≡ label_index_places parts.now) }
     ensures lists { IfOk result (λ places. places.1 ≡ list_places parts.now) }
