@@ -1,5 +1,5 @@
 -- The place that is told as the first at which postings lists differ is the first one.
-use Rattle.std.proofs.Common.{◌≡◌, ◌≢◌, ℕ, zero, suc, ◌+◌, ◌*◌, ◌<◌, ◌≤◌, Bool, true, false, cond, eqb, List, [], ◌∷◌, length, zip, Option, Some, None, Result, Ok, Err, refl, sym, ap, subst, ◌∙◌, arith, ◌⊎◌, inl, inr}
+use Rattle.std.proofs.Common.{◌≡◌, ◌≢◌, ℕ, zero, suc, ◌+◌, ◌*◌, ◌<◌, ◌≤◌, Bool, true, false, cond, eqb, List, [], ◌∷◌, length, map, zip, Option, Some, None, Result, Ok, Err, refl, sym, ap, subst, ◌∙◌, arith, ◌⊎◌, inl, inr}
 use Rattle.std.specs.Prelude.{slice_get, nat_lt}
 use Rattle.std.specs.List.{list_any, list_all}
 use Rattle.std.specs.declared.cmp.Ordering.TheVariants.{Less, Equal, Greater}
@@ -14,7 +14,10 @@ use Rattle.index_parts.specs.declared.refusal.PartRefusal.{PartRefusal}
 use Rattle.index_parts.specs.declared.refusal.PartRefusal.TheVariants as part
 use Rattle.index_parts.specs.declared.toc.Toc.{Toc}
 use Rattle.index_parts.specs.declared.postings_row.PostingsRow.{PostingsRow}
-use Rattle.index_parts.specs.PostingsReading.{postings_at}
+use Rattle.index_parts.specs.Postings.{IsNextPosting}
+use Rattle.index_parts.specs.PostingsReading.{posting_at, postings_at}
+use Rattle.index_parts.proofs.ListLaws.{list_found, list_again}
+use Rattle.index_parts.proofs.PostingsLaws.{posting_turn}
 use Rattle.index_v2.specs.declared.index_series.IndexSeries.{IndexSeries}
 use Rattle.index_v2.specs.declared.refusal.IndexRefusal.{IndexRefusal}
 use Rattle.index_v2.specs.declared.refusal.IndexRefusal.TheVariants.{BadSection, BadSeries, PostingsDiffer, NoMemory}
@@ -29,11 +32,11 @@ use Rattle.index_v2.specs.Differing.{ListsOthersAt, DiffersAt, DifferFirstAt}
 use Rattle.index_v2.proofs.RowPlaces.{rows_total, greater_above, no_row_stands, equal_texts, ascend_behind, stands_behind}
 use Rattle.index_v2.proofs.ValuesListed.{same_compare}
 use Rattle.index_v2.proofs.LabelLaws.{numbered_found}
-use Rattle.index_v2.proofs.Members.{same_some, firsts, seconds}
-use Rattle.index_v2.proofs.WholeParts.{all_found, AreLists}
-use Rattle.index_v2.proofs.WholeLaws.{AreTaken, are_taken, taken_listed, numbers_found}
-use Rattle.index_v2.proofs.WholeAgain.{less_before, all_of_row, has_labelled}
-use Rattle.index_v2.proofs.LeastPlaces.{IsLeast, IsLeastFrom, HasSuch, least_as, earlier_least, least_from, from_here, from_next, by_test_from, by_order_from, such_least, such_none}
+use Rattle.index_v2.proofs.Members.{same_some, firsts, seconds, zipped}
+use Rattle.index_v2.proofs.WholeParts.{all_found, all_again, AreLists, lists_again}
+use Rattle.index_v2.proofs.WholeLaws.{AreTaken, are_taken, taken_listed, numbers_found, numbers_again, present_found, present_again, nothing_or}
+use Rattle.index_v2.proofs.WholeAgain.{less_before, all_of_row, has_labelled, present_then, read_all, series_read}
+use Rattle.index_v2.proofs.LeastPlaces.{IsLeast, IsLeastFrom, HasSuch, least_as, least_is, earlier_least, least_from, from_here, from_next, by_test_from, by_order_from, such_least, such_none}
 
 -- ---- the first stray
 
@@ -290,8 +293,8 @@ lists_never index (row ∷ rows) =
 
 -- ---- the whole
 
-told_together : (opened : Opened) (place : ℕ) (numbers : List ℕ) (list : List IndexSeries) (lists : List (List ℕ)) → IsBytes opened.bytes → IsOpened opened → postings_of opened [] [] ≡ Ok numbers → all_at opened.bytes opened.symbols None numbers ≡ Ok list → lists_at opened.bytes opened.rows ≡ Ok lists → difference opened.rows lists (zip numbers list) ≡ Some place → DifferFirstAt opened place
-told_together opened place numbers list lists are is listed series read told =
+told_together : (opened : Opened) (place : ℕ) (numbers : List ℕ) (list : List IndexSeries) (lists : List (List ℕ)) (x : Unit {0}) → IsBytes opened.bytes → IsOpened opened → postings_of opened [] [] ≡ Ok numbers → present_at opened.toc numbers ≡ Ok x → all_at opened.bytes opened.symbols None numbers ≡ Ok list → lists_at opened.bytes opened.rows ≡ Ok lists → difference opened.rows lists (zip numbers list) ≡ Some place → DifferFirstAt opened place
+told_together opened place numbers list lists x are is listed present series read told =
     let series_read = all_found opened.bytes opened.symbols None numbers list series in
     let series_are = λ (number : ℕ) (one : IndexSeries) (has : Has (zip numbers list) (number, one)). numbered_found opened.bytes opened.symbols number one are (series_read.each number one has) in
     let taken = are_taken opened numbers list lists is listed read in
@@ -299,8 +302,10 @@ told_together opened place numbers list lists are is listed series read told =
     record {
       listed = zip numbers list;
       numbers_are = subst (AreListed opened.bytes opened.rows) (sym (firsts numbers list series_read.many)) (numbers_found opened.bytes opened.toc.postings_table opened.rows numbers are is.rows_are listed);
+      present = nothing_or opened.toc numbers list (present_found opened.toc numbers x present);
       series_are = series_are;
       ascend = subst (Ascend None) (sym (seconds numbers list series_read.many)) series_read.ascend;
+      lists_stand = λ row has. let each = taken.lists_are.each has.0 row has.1 in (each.0, list_found IsNextPosting posting_at posting_turn opened.bytes row.offset each.0 are each.2);
       differs = least.0;
       first = least.1;
     }
@@ -312,10 +317,31 @@ differ_found opened place are is e =
     let present = then_told (present_at opened.toc numbers.0) (all_at opened.bytes opened.symbols None numbers.0 >>= λ series. lists_at opened.bytes opened.rows >>= λ lists. unless_differ (difference opened.rows lists (zip numbers.0 series)) >> Ok series) place (present_never opened.toc numbers.0) numbers.2 in
     let series = bind_told (all_at opened.bytes opened.symbols None numbers.0) (λ series. lists_at opened.bytes opened.rows >>= λ lists. unless_differ (difference opened.rows lists (zip numbers.0 series)) >> Ok series) place (all_never opened.bytes opened.symbols None numbers.0) present.2 in
     let lists = bind_told (lists_at opened.bytes opened.rows) (λ lists. unless_differ (difference opened.rows lists (zip numbers.0 series.0)) >> Ok series.0) place (lists_never opened.bytes opened.rows) series.2 in
-    told_together opened place numbers.0 series.0 lists.0 are is numbers.1 series.1 lists.1 (differ_told (difference opened.rows lists.0 (zip numbers.0 series.0)) series.0 place lists.2)
+    told_together opened place numbers.0 series.0 lists.0 present.0 are is numbers.1 present.1 series.1 lists.1 (differ_told (difference opened.rows lists.0 (zip numbers.0 series.0)) series.0 place lists.2)
+
+-- such a place is told
+pub differ_again : (opened : Opened) (place : ℕ) → IsBytes opened.bytes → IsOpened opened → DifferFirstAt opened place → whole_at opened ≡ Err (PostingsDiffer place)
+differ_again opened place are is d =
+    let numbers = map (λ (one : ℕ × IndexSeries). one.0) d.listed in
+    let list = map (λ (one : ℕ × IndexSeries). one.1) d.listed in
+    let pairs : zip numbers list ≡ d.listed = zipped d.listed in
+    let lists = lists_again opened.bytes opened.rows (λ k row at. let stands = d.lists_stand row (k, at) in (stands.0, list_again IsNextPosting posting_at posting_turn opened.bytes row.offset stands.0 stands.1)) in
+    let listed : postings_of opened [] [] ≡ Ok numbers = numbers_again opened.bytes opened.toc.postings_table opened.rows numbers is.rows_are d.numbers_are in
+    let taken : AreTaken opened.bytes opened.rows lists.0 d.listed numbers = subst (λ (ps : List (ℕ × IndexSeries)). AreTaken opened.bytes opened.rows lists.0 ps numbers) pairs (are_taken opened numbers list lists.0 is listed lists.1) in
+    let least = differs_least opened.bytes opened.rows lists.0 d.listed numbers are taken (λ number one has. (d.series_are number one has).lawful) in
+    let told : difference opened.rows lists.0 d.listed ≡ Some place = least_is (DiffersAt opened.bytes opened.rows d.listed) (difference opened.rows lists.0 d.listed) place least d.differs d.first in
+    read_all opened numbers list lists.0 (Some place) listed (present_again opened.toc numbers (present_then opened.toc d.listed d.present))
+    (all_again opened.bytes opened.symbols None numbers list (series_read opened.bytes opened.symbols d.listed d.series_are d.ascend)) lists.1
+    (ap (difference opened.rows lists.0) pairs ∙ told)
 
 -- a refusal other than want of memory is what reading gives
 pub differ_from : {X Y : Type 0} (view : X → Y) (r : Result X IndexRefusal) (read : Result Y IndexRefusal) (place : ℕ) → Gives NoMemory view r read → r ≡ Err (PostingsDiffer place) → read ≡ Err (PostingsDiffer place)
 differ_from view (Ok x) read place given e = absurd cc
 differ_from view (Err d) read place (inl none) e = absurd cc
 differ_from view (Err d) read place (inr is) e = is ∙ cc
+
+-- a refusal that reading gives is told, unless memory runs out
+pub differing_from : {X Y : Type 0} (view : X → Y) (r : Result X IndexRefusal) (read : Result Y IndexRefusal) (place : ℕ) → Gives NoMemory view r read → read ≡ Err (PostingsDiffer place) → (r ≡ Err (PostingsDiffer place)) ⊎ (r ≡ Err NoMemory)
+differing_from view (Ok x) read place given e = let no = sym given ∙ e in absurd cc
+differing_from view (Err d) read place (inl none) e = inr (ap Err none)
+differing_from {Y = Y} view (Err d) read place (inr is) e = inl (ap Err (err_is {A = Y} d (PostingsDiffer place) (sym is ∙ e)))

@@ -1,9 +1,9 @@
 -- The least place of several, by what holds there and before.
-use Rattle.std.proofs.Common.{◌≡◌, ℕ, zero, suc, ◌+◌, ◌<◌, Bool, true, false, cond, min, List, [], ◌∷◌, Option, Some, None, refl, sym, subst, arith, ◌⊎◌, inl, inr}
+use Rattle.std.proofs.Common.{◌≡◌, ℕ, zero, suc, ◌+◌, ◌<◌, Bool, true, false, cond, min, List, [], ◌∷◌, Option, Some, None, refl, sym, ap, subst, arith, ◌⊎◌, inl, inr}
 use Rattle.std.specs.Prelude.{slice_get}
 use Rattle.std.specs.declared.cmp.Ordering.{Ordering}
 use Rattle.std.specs.declared.cmp.Ordering.TheVariants.{Less, Equal, Greater}
-use Rattle.std.proofs.lemmas.Bool.{cases_lt}
+use Rattle.std.proofs.lemmas.Bool.{cases_lt, cases_order}
 use Rattle.index_v2.specs.WholeReading.{earlier, by_order}
 use Rattle.index_v2.specs.IndexFile.{Has}
 use Rattle.index_v2.proofs.Members.{same_some}
@@ -16,6 +16,17 @@ IsLeast P (Some place) = P place × ((k : ℕ) → k < place → P k → ⊥)
 pub least_as : (P Q : ℕ → Type 0) (o : Option ℕ) → ((k : ℕ) → P k → Q k) → ((k : ℕ) → (P k → ⊥) → Q k → ⊥) → IsLeast P o → IsLeast Q o
 least_as P Q None to back least = λ k. back k (least k)
 least_as P Q (Some place) to back least = (to place least.0, λ k lt. back k (least.1 k lt))
+
+-- a place of which it holds, and of none before, is the least
+pub least_is : (P : ℕ → Type 0) (o : Option ℕ) (place : ℕ) → IsLeast P o → P place → ((k : ℕ) → k < place → P k → ⊥) → o ≡ Some place
+least_is P None place least here first = absurd (least place here)
+least_is P (Some k) place least here first = elim (cases_order k place) [
+  | inl same ↦ ap Some same
+  | inr apart ↦ elim apart [
+    | inl less ↦ absurd (first k less least.0)
+    | inr more ↦ absurd (least.1 place more here)
+  ]
+]
 
 -- ---- the earlier of two
 

@@ -1,9 +1,10 @@
 -- The list of an index's bytes is read as a whole.
-use Rattle.std.proofs.Common.{◌≡◌, ℕ, ◌<◌, true, eqb, List, [], ◌∷◌, length, map, zip, Some, None, Ok, refl, sym, ap, subst, ◌∙◌, ◌⊎◌, inl, inr}
+use Rattle.std.proofs.Common.{◌≡◌, ℕ, ◌<◌, true, eqb, List, [], ◌∷◌, map, zip, Option, Some, None, Ok, refl, sym, ap, subst, ◌∙◌, ◌⊎◌, inl, inr}
 use Rattle.std.specs.Prelude.{slice_get}
 use Rattle.std.specs.List.{list_any, list_all}
 use Rattle.std.specs.declared.cmp.Ordering.TheVariants.{Less, Equal}
 use Rattle.std.proofs.lemmas.Cmp.{tied_itself, alike_right}
+use Rattle.reading_core.specs.Reading.{◌>>◌}
 use Rattle.label_sets.specs.declared.label.Label.{Label}
 use Rattle.label_sets.specs.Labels.{IsLabelSet}
 use Rattle.index_parts.specs.declared.toc.Toc.{Toc}
@@ -18,8 +19,8 @@ use Rattle.index_v2.specs.Opened.{Opened}
 use Rattle.index_v2.specs.Opening.{opened_at}
 use Rattle.index_v2.specs.RowOrder.{compare_row, AreAscending}
 use Rattle.index_v2.specs.PostingsLists.{row_of, list_of, postings_of}
-use Rattle.index_v2.specs.WholeReading.{present_at, all_at, lists_at, is_of_row, stray_from, gap_among, difference, whole_at}
-use Rattle.index_v2.specs.IndexFile.{Has, BelongsTo, IsListOf, IsIndex, Holds}
+use Rattle.index_v2.specs.WholeReading.{present_at, all_at, lists_at, is_of_row, stray_from, gap_among, difference, unless_differ, whole_at}
+use Rattle.index_v2.specs.IndexFile.{Has, BelongsTo, Ascend, IsSeriesOf, IsListOf, IsIndex, Holds}
 use Rattle.index_v2.proofs.RowPlaces.{rows_total}
 use Rattle.index_v2.proofs.ValuesListed.{same_compare}
 use Rattle.index_v2.proofs.OpeningLaws.{opened_again}
@@ -80,21 +81,20 @@ no_first : {A B : Type 0} (ps : List (A × B)) → ps ≡ [] → map (λ (p : A 
 no_first [] e = refl
 no_first (p ∷ ps) e = absurd cc
 
-present_then : (toc : Toc) (listed : List (ℕ × IndexSeries)) → (listed ≡ []) ⊎ ArePresent toc → (map (λ (one : ℕ × IndexSeries). one.0) listed ≡ []) ⊎ ArePresent toc
+pub present_then : (toc : Toc) (listed : List (ℕ × IndexSeries)) → (listed ≡ []) ⊎ ArePresent toc → (map (λ (one : ℕ × IndexSeries). one.0) listed ≡ []) ⊎ ArePresent toc
 present_then toc listed (inl none) = inl (no_first listed none)
 present_then toc listed (inr are) = inr are
 
-read_all : (opened : Opened) (numbers : List ℕ) (list : List IndexSeries) (lists : List (List ℕ)) → postings_of opened [] [] ≡ Ok numbers → present_at opened.toc numbers ≡ Ok tt → all_at opened.bytes opened.symbols None numbers ≡ Ok list → lists_at opened.bytes opened.rows ≡ Ok lists → difference opened.rows lists (zip numbers list) ≡ None → whole_at opened ≡ Ok list
+-- what was read of each part, and where the lists differ, is what reading gives
+pub read_all : (opened : Opened) (numbers : List ℕ) (list : List IndexSeries) (lists : List (List ℕ)) (where_differ : Option ℕ) → postings_of opened [] [] ≡ Ok numbers → present_at opened.toc numbers ≡ Ok tt → all_at opened.bytes opened.symbols None numbers ≡ Ok list → lists_at opened.bytes opened.rows ≡ Ok lists → difference opened.rows lists (zip numbers list) ≡ where_differ → whole_at opened ≡ (unless_differ where_differ >> Ok list)
 unfolding whole_at
-read_all opened numbers list lists a b c d e = rw (a, b, c, d, e) refl
+read_all opened numbers list lists where_differ a b c d e = rw (a, b, c, d, e) refl
 
-series_read : (index : List ℕ) (list : List IndexSeries) (is : IsIndex index list) → AreRead index is.opened.symbols None (map (λ (one : ℕ × IndexSeries). one.0) is.listed) list
-series_read index list is = record {
-  many = length_firsts is.listed ∙ ap length is.list_is;
-  each = λ number one has.
-      let pairs : zip (map (λ (p : ℕ × IndexSeries). p.0) is.listed) list ≡ is.listed = ap (λ (xs : List IndexSeries). zip (map (λ (p : ℕ × IndexSeries). p.0) is.listed) xs) (sym is.list_is) ∙ zipped is.listed in
-      numbered_again index is.opened.symbols number one (is.series_are number one (has.0, ap (λ (ps : List (ℕ × IndexSeries)). slice_get ps has.0) (sym pairs) ∙ has.1));
-  ascend = is.ascend;
+pub series_read : (index : List ℕ) (symbols : List (List ℕ)) (listed : List (ℕ × IndexSeries)) → ((number : ℕ) (series : IndexSeries) → Has listed (number, series) → IsSeriesOf index symbols number series) → Ascend None (map (λ (one : ℕ × IndexSeries). one.1) listed) → AreRead index symbols None (map (λ (one : ℕ × IndexSeries). one.0) listed) (map (λ (one : ℕ × IndexSeries). one.1) listed)
+series_read index symbols listed are ascend = record {
+  many = length_firsts listed;
+  each = λ number one has. numbered_again index symbols number one (are number one (has.0, ap (λ (ps : List (ℕ × IndexSeries)). slice_get ps has.0) (sym (zipped listed)) ∙ has.1));
+  ascend = ascend;
 }
 
 read_opened : (index : List ℕ) (list : List IndexSeries) (is : IsIndex index list) → whole_at is.opened ≡ Ok list
@@ -105,9 +105,9 @@ read_opened index list is =
     let are = lists_found index is.opened.rows lists.0 lists.1 in
     let exact : difference is.opened.rows lists.0 (zip numbers list) ≡ None = rw pairs (rw (no_stray index list is lists.0 are, no_gap index list is lists.0 are) refl) in
     let listed : postings_of is.opened [] [] ≡ Ok numbers = ap (λ (b : List ℕ). list_of b (row_of is.opened.rows [] [])) is.bytes_are ∙ numbers_again index is.opened.toc.postings_table is.opened.rows numbers (subst (λ (b : List ℕ). Holds IsPostingsTable b is.opened.toc.postings_table is.opened.rows) is.bytes_are is.is_opened.rows_are) is.numbers_are in
-    let series : all_at is.opened.bytes is.opened.symbols None numbers ≡ Ok list = ap (λ (b : List ℕ). all_at b is.opened.symbols None numbers) is.bytes_are ∙ (all_again index is.opened.symbols None numbers list (series_read index list is)) in
+    let series : all_at is.opened.bytes is.opened.symbols None numbers ≡ Ok list = ap (λ (b : List ℕ). all_at b is.opened.symbols None numbers) is.bytes_are ∙ all_again index is.opened.symbols None numbers list (subst (AreRead index is.opened.symbols None numbers) is.list_is (series_read index is.opened.symbols is.listed is.series_are (subst (Ascend None) (sym is.list_is) is.ascend))) in
     let read : lists_at is.opened.bytes is.opened.rows ≡ Ok lists.0 = ap (λ (b : List ℕ). lists_at b is.opened.rows) is.bytes_are ∙ lists.1 in
-    read_all is.opened numbers list lists.0 listed (present_again is.opened.toc numbers (present_then is.opened.toc is.listed is.present)) series read exact
+    read_all is.opened numbers list lists.0 None listed (present_again is.opened.toc numbers (present_then is.opened.toc is.listed is.present)) series read exact
 
 pub whole_again : (opened : Opened) (list : List IndexSeries) → opened_at opened.bytes ≡ Ok opened → IsIndex opened.bytes list → whole_at opened ≡ Ok list
 whole_again opened list read is =

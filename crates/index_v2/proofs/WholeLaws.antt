@@ -169,7 +169,7 @@ not_zero n e zero_is = let lt = ltb-true 0 n e in omega arith
 some_number : (n : ℕ) → n ≢ 0 → nat_lt 0 n ≡ true
 some_number n other = lt-ltb 0 n (omega arith)
 
-present_found : (toc : Toc) (numbers : List ℕ) (x : Unit {0}) → present_at toc numbers ≡ Ok x → (numbers ≡ []) ⊎ ArePresent toc
+pub present_found : (toc : Toc) (numbers : List ℕ) (x : Unit {0}) → present_at toc numbers ≡ Ok x → (numbers ≡ []) ⊎ ArePresent toc
 unfolding present_at
 present_found toc [] x e = inl refl
 present_found toc (number ∷ numbers) x e =
@@ -287,7 +287,7 @@ no_pairs : (numbers : List ℕ) (list : List IndexSeries) → numbers ≡ [] →
 no_pairs [] list e = refl
 no_pairs (n ∷ numbers) list e = absurd cc
 
-nothing_or : (toc : Toc) (numbers : List ℕ) (list : List IndexSeries) → (numbers ≡ []) ⊎ ArePresent toc → (zip numbers list ≡ []) ⊎ ArePresent toc
+pub nothing_or : (toc : Toc) (numbers : List ℕ) (list : List IndexSeries) → (numbers ≡ []) ⊎ ArePresent toc → (zip numbers list ≡ []) ⊎ ArePresent toc
 nothing_or toc numbers list (inl none) = inl (no_pairs numbers list none)
 nothing_or toc numbers list (inr are) = inr are
 

@@ -179,9 +179,11 @@ impl<'a> IndexReader<'a> {
         ensures found { IfOk result (λ list. IsIndex self.now.bytes list) }
         ensures only { (list : List IndexSeries) → IsIndex self.now.bytes list → IsOkAnd result (λ found. found ≡ list) ⊎ (result ≡ Err IndexRefusal.NoMemory) }
 
-        // Where the lists are said to differ, this is the first place of the table at which they are not exactly those of the
-        // series that the first row lists.
+        // The lists are said to differ at a place exactly where the series that the first row lists and the lists of all rows
+        // stand, and it is the first place of the table at which the lists are not exactly those of the series. Only memory may
+        // run out first.
         ensures differs { (place : ℕ) → result ≡ Err (IndexRefusal.PostingsDiffer place) → DifferFirstAt self.now place }
+        ensures differing { (place : ℕ) → DifferFirstAt self.now place → (result ≡ Err (IndexRefusal.PostingsDiffer place)) ⊎ (result ≡ Err IndexRefusal.NoMemory) }
 
         // The first refusal.
         ensures exact { Gives IndexRefusal.NoMemory (λ list. list) result (whole_at self.now) }

@@ -169,6 +169,7 @@ pub(crate) fn whole(
     ensures found { IfOk result (λ list. IsIndex index.now list) }
     ensures only { (list : List IndexSeries) → IsIndex index.now list → IsOkAnd result (λ found. found ≡ list) ⊎ (result ≡ Err IndexRefusal.NoMemory) }
     ensures differs { (place : ℕ) → result ≡ Err (IndexRefusal.PostingsDiffer place) → DifferFirstAt (record { bytes = index.now; toc = toc.now; symbols = symbols.now; rows = rows.now }) place }
+    ensures differing { (place : ℕ) → DifferFirstAt (record { bytes = index.now; toc = toc.now; symbols = symbols.now; rows = rows.now }) place → (result ≡ Err (IndexRefusal.PostingsDiffer place)) ⊎ (result ≡ Err IndexRefusal.NoMemory) }
     ensures bounded { IfOk result (λ list. sum_by members_of list ≤ 8 * length index.now) }
     ensures texts { IfOk result (λ list. sum_by text_bytes list ≤ 64 * length index.now) }
     ensures exact { Gives IndexRefusal.NoMemory (λ list. list) result (whole_at (record { bytes = index.now; toc = toc.now; symbols = symbols.now; rows = rows.now })) }

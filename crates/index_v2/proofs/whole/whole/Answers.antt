@@ -8,7 +8,7 @@ use Rattle.index_v2.specs.IndexFile.{IsIndex}
 use Rattle.index_v2.proofs.OpeningLaws.{opened_found}
 use Rattle.index_v2.proofs.WholeLaws.{whole_found}
 use Rattle.index_v2.proofs.WholeAgain.{whole_again}
-use Rattle.index_v2.proofs.DifferingLaws.{differ_found, differ_from}
+use Rattle.index_v2.proofs.DifferingLaws.{differ_found, differ_again, differ_from, differing_from}
 use Rattle.index_v2.proofs.whole.whole.Goals as goal
 
 pub returns-clause-found : goal.returns-clause-found
@@ -27,3 +27,9 @@ returns-clause-differs c =
     let o : Opened = record { bytes = c.args.index.now; toc = c.args.toc.now; symbols = c.args.symbols.now; rows = c.args.rows.now } in
     λ place told. differ_found o place c.read_whole.ensures.bytes (opened_found c.args.index.now o c.read_whole.ensures.bytes c.requires).1
     (differ_from (λ (xs : List IndexSeries). xs) c.read_whole.result (whole_at o) place c.read_whole.ensures.exact told)
+
+pub returns-clause-differing : goal.returns-clause-differing
+returns-clause-differing c =
+    let o : Opened = record { bytes = c.args.index.now; toc = c.args.toc.now; symbols = c.args.symbols.now; rows = c.args.rows.now } in
+    λ place differs. differing_from (λ (xs : List IndexSeries). xs) c.read_whole.result (whole_at o) place c.read_whole.ensures.exact
+    (differ_again o place c.read_whole.ensures.bytes (opened_found c.args.index.now o c.read_whole.ensures.bytes c.requires).1 differs)
