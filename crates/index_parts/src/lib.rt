@@ -37,6 +37,3 @@ pub use symbol_table::{SymbolTable, read_symbols};
 pub use toc::Toc;
 pub use toc_reading::read_toc;
 pub use toc_writing::write_toc;
-
-#[cfg(test)]
-mod tests;

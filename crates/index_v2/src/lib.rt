@@ -31,10 +31,3 @@ pub use lent_label::LentLabel;
 pub use lent_series::LentSeries;
 pub use refusal::IndexRefusal;
 pub use write_refusal::IndexWriteRefusal;
-
-#[cfg(test)]
-mod shared_list;
-#[cfg(test)]
-mod tests;
-#[cfg(test)]
-mod writer_tests;

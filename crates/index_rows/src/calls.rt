@@ -1,0 +1,51 @@
+use crate::made_sections::print_made;
+use crate::pieces::put_pieces;
+use crate::reader_calls::print_read;
+use crate::section_calls::print_section;
+use index_parts::read_toc;
+use list_core::NoMemory;
+use std::alloc::Global;
+use std::io;
+
+/// Prints a call and its answer. `made` and a section, in the notation of `made_sections`, are the bytes that are written of
+/// it, `bytes FROM..END` those of the index from a place on, up to its end where none is named, and `toc` is its table of
+/// contents. `symbols`, `table`, `list`, `raw` and `place` ask for a section of it, and the others ask its reader.
+pub(crate) fn print_call(rt: &HostRuntime, index: &[u8], row: &str) -> io::Result<()> {
+    print!(rt; "{row} -> ")?;
+    let (call, pieces) = row.split_once(" with ").unwrap_or((row, ""));
+    match with_pieces(rt.alloc(), index, pieces) {
+        Ok(bytes) => print_answer(rt, bytes.as_slice(), call),
+        Err(_) => println!(rt; "no bytes"),
+    }
+}
+
+/// A copy to which pieces were put.
+fn with_pieces(alloc: Global, index: &[u8], pieces: &str) -> Result<Vec<u8>, NoMemory> {
+    let mut bytes = Vec::from_slice(alloc, index)?;
+    put_pieces(&mut bytes, pieces)?;
+    Ok(bytes)
+}
+
+fn print_answer(rt: &HostRuntime, index: &[u8], call: &str) -> io::Result<()> {
+    let (word, argument) = call.split_once(' ').unwrap_or((call, ""));
+    match word {
+        "made" => print_made(rt, argument),
+        "bytes" => print_bytes(rt, index, argument),
+        "toc" => println!(rt; "{:?}", read_toc(index)),
+        "symbols" | "table" | "list" | "raw" | "place" => print_section(rt, index, word, argument),
+        _ => print_read(rt, index, word, argument),
+    }
+}
+
+fn print_bytes(rt: &HostRuntime, index: &[u8], range: &str) -> io::Result<()> {
+    let (from, end) = range.split_once("..").unwrap_or((range, ""));
+    let end = end.parse().unwrap_or(index.len());
+    match index.get(from.parse().unwrap_or(0)..end) {
+        Some(bytes) => print_hex(rt, bytes),
+        None => println!(rt; "no bytes"),
+    }
+}
+
+pub(crate) fn print_hex(rt: &HostRuntime, bytes: &[u8]) -> io::Result<()> {
+    println!(rt; "{}", hex::encode(rt.alloc(), bytes)?.as_str())
+}

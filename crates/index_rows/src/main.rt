@@ -1,0 +1,62 @@
+//! Reads indexes and their sections, writes them, and prints what comes of it. A line of standard input is a row, and the
+//! rows speak of the index at hand: `new` begins one without bytes, `put` puts bytes to it, in the notation of `pieces`, and
+//! `write` makes it the one that is written of series, in the notation of `series_rows`. Any other row is a call, which is
+//! asked of a copy to which the pieces behind ` with ` were put first; `calls` has the words. A row that begins with `= ` is a
+//! heading. What is to be printed comes from a Prometheus server (2.42), and else was worked out by hand from the description
+//! of the format.
+#![tactic(auto)]
+
+mod calls;
+mod chunk_notation;
+mod made_sections;
+mod order;
+mod pieces;
+mod reader_calls;
+mod section_calls;
+mod series_rows;
+mod texts;
+
+use crate::calls::print_call;
+use crate::pieces::put_pieces;
+use crate::series_rows::written;
+use std::io;
+
+fn main(rt: HostRuntime) -> io::Result<()> {
+    let mut index = Vec::new(rt.alloc());
+    for row in rt.lines(rt.alloc()) {
+        do_row(&rt, &mut index, row?.as_str())?;
+    }
+    Ok(())
+}
+
+/// Does what a row says. Rows that make the index at hand print nothing.
+fn do_row(rt: &HostRuntime, index: &mut Vec<u8>, row: &str) -> io::Result<()> {
+    let (word, text) = row.split_once(' ').unwrap_or((row, ""));
+    match word {
+        "=" => println!(rt; "{row}"),
+        "new" => {
+            index.clear();
+            Ok(())
+        }
+        "put" => put(rt, index, text),
+        "write" => write(rt, index, text),
+        _ => print_call(rt, index.as_slice(), row),
+    }
+}
+
+fn put(rt: &HostRuntime, index: &mut Vec<u8>, pieces: &str) -> io::Result<()> {
+    match put_pieces(index, pieces) {
+        Ok(()) => Ok(()),
+        Err(_) => println!(rt; "no bytes"),
+    }
+}
+
+fn write(rt: &HostRuntime, index: &mut Vec<u8>, series: &str) -> io::Result<()> {
+    match written(rt.alloc(), series) {
+        Ok(text) => {
+            *index = text.into_vec();
+            Ok(())
+        }
+        Err(refusal) => println!(rt; "{refusal:?}"),
+    }
+}

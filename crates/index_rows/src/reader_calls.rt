@@ -1,0 +1,107 @@
+use crate::chunk_notation::print_chunks;
+use index_v2::{IndexReader, IndexRefusal, IndexSeries, IndexSeriesList, LentSeries};
+use label_sets::TextList;
+use std::{fmt, io, str};
+use wire_bytes::NumberList;
+
+/// Prints what a call on the reader of an index gives: `open` that it is opened, `whole` its series, `count` how many these
+/// are, `symbol NUMBER` a symbol, `postings NAME=VALUE` the numbers of series, `values NAME` the values of a name, `series
+/// NUMBER` a series, and `lent NUMBER` a copy of one whose texts the index lends.
+pub(crate) fn print_read(
+    rt: &HostRuntime,
+    index: &[u8],
+    word: &str,
+    argument: &str,
+) -> io::Result<()> {
+    match IndexReader::open(rt.alloc(), index) {
+        Ok(reader) => print_opened(rt, &reader, word, argument),
+        Err(refusal) => println!(rt; "{refusal:?}"),
+    }
+}
+
+fn print_opened(
+    rt: &HostRuntime,
+    reader: &IndexReader<'_>,
+    word: &str,
+    argument: &str,
+) -> io::Result<()> {
+    let (name, value) = argument.split_once('=').unwrap_or((argument, ""));
+    let number = argument.parse().unwrap_or(0);
+    match word {
+        "whole" => print_whole(rt, reader.whole(rt.alloc())),
+        "count" => print_count(rt, reader.whole(rt.alloc())),
+        "symbol" => println!(rt; "{:?}", reader.symbol(number)),
+        "postings" => print_numbers(rt, reader.postings(rt.alloc(), name, value)),
+        "values" => print_values(rt, reader.label_values(rt.alloc(), name)),
+        "series" => print_series(rt, reader.series(rt.alloc(), number)),
+        "lent" => print_lent(rt, reader.lent_series(number, LentSeries::new(rt.alloc()))),
+        _ => println!(rt; "opened"),
+    }
+}
+
+fn print_whole(rt: &HostRuntime, read: Result<IndexSeriesList, IndexRefusal>) -> io::Result<()> {
+    match read {
+        Ok(list) => print_all(rt, list.members()),
+        Err(refusal) => println!(rt; "{refusal:?}"),
+    }
+}
+
+fn print_all(rt: &HostRuntime, list: &[IndexSeries]) -> io::Result<()> {
+    println!(rt; "{} series", list.len())?;
+    for series in list {
+        print_one(rt, series)?;
+    }
+    Ok(())
+}
+
+/// Prints the labels and the chunks of a series.
+fn print_one(rt: &HostRuntime, series: &IndexSeries) -> io::Result<()> {
+    let mut text = Vec::new(rt.alloc());
+    match series.labels.write(&mut text) {
+        Ok(()) => print!(rt; "{}", str::from_utf8(text.as_slice()).unwrap_or("no text"))?,
+        Err(_) => print!(rt; "no memory")?,
+    }
+    print_chunks(rt, series.chunks.members())
+}
+
+fn print_count(rt: &HostRuntime, read: Result<IndexSeriesList, IndexRefusal>) -> io::Result<()> {
+    match read {
+        Ok(list) => println!(rt; "{} series", list.len()),
+        Err(refusal) => println!(rt; "{refusal:?}"),
+    }
+}
+
+/// Prints numbers, or why they are not read.
+pub(crate) fn print_numbers<E: fmt::Debug + Drop>(
+    rt: &HostRuntime,
+    read: Result<NumberList, E>,
+) -> io::Result<()> {
+    match read {
+        Ok(numbers) => println!(rt; "{:?}", numbers.members()),
+        Err(refusal) => println!(rt; "{refusal:?}"),
+    }
+}
+
+fn print_values(rt: &HostRuntime, read: Result<TextList, IndexRefusal>) -> io::Result<()> {
+    match read {
+        Ok(values) => println!(rt; "{:?}", values.members()),
+        Err(refusal) => println!(rt; "{refusal:?}"),
+    }
+}
+
+fn print_series(rt: &HostRuntime, read: Result<IndexSeries, IndexRefusal>) -> io::Result<()> {
+    match read {
+        Ok(series) => print_one(rt, &series),
+        Err(refusal) => println!(rt; "{refusal:?}"),
+    }
+}
+
+fn print_lent(rt: &HostRuntime, read: Result<LentSeries<'_>, IndexRefusal>) -> io::Result<()> {
+    match read {
+        Ok(series) => match series.to_series(rt.alloc()) {
+            Ok(copy) => print_one(rt, &copy),
+            Err(_) => println!(rt; "no memory"),
+        },
+        Err(refusal) => println!(rt; "{refusal:?}"),
+    }
+}
