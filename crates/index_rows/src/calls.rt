@@ -3,13 +3,15 @@ use crate::pieces::put_pieces;
 use crate::reader_calls::print_read;
 use crate::section_calls::print_section;
 use index_parts::read_toc;
+use label_sets::LabelSet;
 use list_core::NoMemory;
 use std::alloc::Global;
 use std::io;
 
 /// Prints a call and its answer. `made` and a section, in the notation of `made_sections`, are the bytes that are written of
 /// it, `bytes FROM..END` those of the index from a place on, up to its end where none is named, and `toc` is its table of
-/// contents. `symbols`, `table`, `list`, `raw` and `place` ask for a section of it, and the others ask its reader.
+/// contents. `labels` and a text tells why the text is no label set. `symbols`, `table`, `list`, `raw` and `place` ask for a
+/// section of the index, and the others ask its reader.
 pub(crate) fn print_call(rt: &HostRuntime, index: &[u8], row: &str) -> io::Result<()> {
     print!(rt; "{row} -> ")?;
     let (call, pieces) = row.split_once(" with ").unwrap_or((row, ""));
@@ -32,6 +34,7 @@ fn print_answer(rt: &HostRuntime, index: &[u8], call: &str) -> io::Result<()> {
         "made" => print_made(rt, argument),
         "bytes" => print_bytes(rt, index, argument),
         "toc" => println!(rt; "{:?}", read_toc(index)),
+        "labels" => print_labels(rt, argument),
         "symbols" | "table" | "list" | "raw" | "place" => print_section(rt, index, word, argument),
         _ => print_read(rt, index, word, argument),
     }
@@ -43,6 +46,13 @@ fn print_bytes(rt: &HostRuntime, index: &[u8], range: &str) -> io::Result<()> {
     match index.get(from.parse().unwrap_or(0)..end) {
         Some(bytes) => print_hex(rt, bytes),
         None => println!(rt; "no bytes"),
+    }
+}
+
+fn print_labels(rt: &HostRuntime, text: &str) -> io::Result<()> {
+    match LabelSet::read(rt.alloc(), text) {
+        Ok(_) => println!(rt; "a label set"),
+        Err(refusal) => println!(rt; "{refusal:?}"),
     }
 }
 

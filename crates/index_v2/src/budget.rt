@@ -11,8 +11,9 @@ use wire_bytes::Cursor;
 
 /// How much reading the series of a whole index may cost, and as much again reading its lists: eight for each of its bytes.
 /// Spent are the bytes of each section that is read, since they are summed, and the members that it gives. Where sections do
-/// not overlap their bytes come to the index's length at most, and a label takes two of them at least, a chunk three and a
-/// number of a list four: so such an index never asks for more than half as much again as its length.
+/// not overlap and each row has a list of its own, these bytes come to the index's length at most, and a label takes two of
+/// them at least, a chunk three and a number of a list four: so such an index never asks for more than half as much again as
+/// its length. Rows that share a list, or series that lie within one another, may ask for more.
 pub(crate) fn budget_of(index: &[u8]) -> usize
     ensures value { result ≡ min (8 * length index.now) (2 ^ 64 - 1) }
     ensures bound { result ≤ 8 * length index.now }
@@ -21,7 +22,8 @@ pub(crate) fn budget_of(index: &[u8]) -> usize
 }
 
 /// How many bytes of label texts are copied out of an index at most: sixty-four for each of its bytes. A label takes two bytes
-/// of its series and four of a list, so that only texts of some four hundred bytes, which many series share, come to more.
+/// of its series at least, and four of a list where its row has one of its own: then only texts of some four hundred bytes,
+/// which many series share, come to more, and else such of some hundred and thirty.
 pub(crate) fn text_budget_of(index: &[u8]) -> usize
     ensures value { result ≡ min (64 * length index.now) (2 ^ 64 - 1) }
     ensures bound { result ≤ 64 * length index.now }

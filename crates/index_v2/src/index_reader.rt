@@ -3,7 +3,7 @@ ghost use Rattle.std.specs.Result.{IsOkAnd};
 ghost use Rattle.std.specs.Option.{option_copied};
 ghost use Rattle.reading_core.specs.Reading.{Gives};
 ghost use Rattle.reading_core.specs.Grammar.{IsBytes};
-ghost use Rattle.index_v2.specs.Opening.{opened_at};
+ghost use Rattle.index_v2.specs.Opening.{contents_at, opened_at};
 ghost use Rattle.index_v2.specs.SeriesLabels.{numbered_at};
 ghost use Rattle.index_v2.specs.Budget.{members_of, text_bytes};
 ghost use Rattle.index_v2.specs.WholeReading.{whole_at};
@@ -51,6 +51,7 @@ impl<'a> IndexReader<'a> {
     ghost use Rattle.index_v2.specs.Differing.{DifferFirstAt};
     ghost use Rattle.index_v2.specs.IndexFile.{Has, IsOpened, IsSeriesOf, IsIndex, AreNumbersOf, AreValuesOf};
     ghost use Rattle.index_v2.specs.declared.index_series.IndexSeries.{IndexSeries};
+    ghost use Rattle.index_v2.specs.declared.refusal.IndexRefusal.{IndexRefusal};
 
     /// Reads what an index begins and ends with, its symbols and its postings table.
     pub fn open(alloc: Global, bytes: &'a [u8]) -> Result<IndexReader<'a>, IndexRefusal>
@@ -58,8 +59,9 @@ impl<'a> IndexReader<'a> {
         ensures found { IfOk result (λ reader. (reader.bytes ≡ bytes.now) × IsOpened reader) }
         ensures only { (opened : Opened) → opened.bytes ≡ bytes.now → IsOpened opened → IsOkAnd result (λ reader. reader ≡ opened) ⊎ (result ≡ Err IndexRefusal.NoMemory) }
 
-        // The first refusal.
+        // The first refusal. One of the header or of the table of contents comes whatever memory there is.
         ensures exact { Gives IndexRefusal.NoMemory (λ reader. reader) result (opened_at bytes.now) }
+        ensures contents { (refusal : IndexRefusal) → contents_at bytes.now ≡ Err refusal → result ≡ Err refusal }
         ensures few { IfOk result (λ reader. (length reader.symbols ≤ length bytes.now) × (4 * length reader.rows ≤ length bytes.now)) }
     {
         IndexReader::read(alloc, bytes)
@@ -69,6 +71,7 @@ impl<'a> IndexReader<'a> {
     fn read(alloc: Global, bytes: &'a [u8]) -> Result<IndexReader<'a>, IndexRefusal>
         ensures bytes { IsBytes bytes.now }
         ensures exact { Gives IndexRefusal.NoMemory (λ reader. reader) result (opened_at bytes.now) }
+        ensures contents { (refusal : IndexRefusal) → contents_at bytes.now ≡ Err refusal → result ≡ Err refusal }
     {
         let toc = contents_of(bytes)?;
         // The symbols are read last, though their refusal is the first: they are what is wanted next, and still in the caches.
@@ -170,10 +173,11 @@ impl<'a> IndexReader<'a> {
     /// series.
     ///
     /// A lawful index may be made of series that lie within one another, or of many rows with one list. What it holds may then
-    /// be far more than its bytes, and reading it would take as much: it is answered with `NoMemory`. The bytes of the series
-    /// read, their labels and their chunks come to eight for each byte of the index at most, and so do the bytes and the
-    /// numbers of the lists. Where sections do not overlap, as in each index that a server writes, neither comes to two. The texts of
-    /// the labels, which each series has for itself, come to 64 bytes for each byte of the index at most.
+    /// be far more than its bytes, and reading it would take as much: it is answered with `NoMemory`. Counted are the bytes of
+    /// the series that are read with their labels and chunks, and the bytes of the lists with their numbers: neither passes
+    /// eight for each byte of the index. Where sections do not overlap and each row has a list of its own, as in each index
+    /// that a server writes, neither comes to two. The texts of the labels, which each series has for itself, come to 64 bytes
+    /// for each byte of the index at most.
     pub fn whole(&self, alloc: Global) -> Result<IndexSeriesList, IndexRefusal>
         // It is read exactly where the bytes are an index of the list.
         ensures found { IfOk result (λ list. IsIndex self.now.bytes list) }
