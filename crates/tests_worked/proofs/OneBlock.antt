@@ -1,0 +1,193 @@
+-- The run of the script of one block.
+use Rattle.std.proofs.Common.{◌≡◌, ◌≢◌, inl, inr, ℕ, zero, suc, ◌+◌, ◌^◌, ◌<◌, pos, List, [], ◌∷◌, ◌++◌, length, map, Contains, Some, None, refl, sym, ap, subst, append-nil, lit<, lit≤}
+use Rattle.std.specs.List.{All}
+use Rattle.std.proofs.lemmas.List.Elements.{All-append, All-head, All-from_recursion}
+use Rattle.world_core.specs.Operations.{IsLawful, IsReplyTo}
+use Rattle.world_core.specs.Moments.{moment_after, last_moment}
+use Rattle.world_core.specs.Standing.{stands, Tells, IsHonest}
+use Rattle.world_core.specs.Worlds.{IsJournal}
+use Rattle.script_core.specs.Hands.{hands_of_task, with_hands, hands_from, places_from, workers_from, seats_from, workers_of}
+use Rattle.script_core.specs.declared.task.Task.{Task}
+use Rattle.script_core.specs.declared.worker.Worker.{Worker}
+use Rattle.lifecycle_core.specs.Phases.{TasksRun, PhaseRun, PhasesRun, AreDone, AreFinished, IsRunOf, of_seat}
+use Rattle.world_core.specs.declared.entry.Entry.{Entry}
+use Rattle.shipper.specs.declared.upload_end.UploadEnd.TheVariants as shipped
+use Rattle.meta_fetcher.specs.declared.sync_end.SyncEnd.TheVariants as fetched
+use Rattle.script_core.specs.declared.work.Work.TheVariants as works
+use Rattle.store_gateway.specs.declared.series_end.SeriesEnd.{SeriesEnd}
+use Rattle.store_gateway.specs.declared.series_end.SeriesEnd.TheVariants as called
+use Rattle.lifecycle_core.specs.Tasks.{End, UploadTask, SyncTask, QueryTask, uploaded, synced, answered}
+use Rattle.lifecycle_core.specs.Views.{Views, no_views}
+use Rattle.tests_worked.specs.SmallBlock as small
+use Rattle.tests_worked.specs.OneBlock as one
+use Rattle.tests_worked.specs.Entries.{clock}
+use Rattle.tests_worked.proofs.Each.{each_of}
+use Rattle.tests_worked.proofs.Bucket.{page, shows_meta, shows_index, shows_segment, shows_no_mark}
+use Rattle.tests_worked.specs.SmallRuns as runs
+use Rattle.tests_worked.proofs.SmallTasks.{upload_task, sync_run, question, merge_up, query_run}
+
+-- ---- the tasks
+
+upload_end : UploadTask one.script small.a None one.upload (Some (uploaded (shipped.Done 3)))
+upload_end = upload_task one.script refl 2 1 1
+
+sync_end : SyncTask one.script one.sync (Some (synced (fetched.View one.view)))
+sync_end = (Some (fetched.View one.view), sync_run 7 2 1_800_001 (runs.seen 1_800_001 ∷ []) refl, refl)
+
+query_end : QueryTask one.script (Some one.used) (Some (question one.selector)) one.query (Some (answered one.used (called.Answer (small.up ∷ []) (small.a ∷ []))))
+query_end = (Some (called.Answer (small.up ∷ []) (small.a ∷ [])), query_run one.selector merge_up 7 1_800_001 1_800_001 10 2 1_800_004, refl)
+
+-- ---- the phases
+
+abbrev pub uploader : Worker
+uploader = record { seat = 1; gateway = None; tasks = 0 ∷ [] }
+
+abbrev pub gateway : Worker
+gateway = record { seat = 2; gateway = Some 0; tasks = 0 ∷ 1 ∷ [] }
+
+pub first_workers : workers_of one.script 0 ≡ uploader ∷ []
+unfolding hands_of_task with_hands hands_from places_from workers_from seats_from
+first_workers = refl
+
+pub second_workers : workers_of one.script 1 ≡ gateway ∷ []
+unfolding hands_of_task with_hands hands_from places_from workers_from seats_from
+second_workers = refl
+
+abbrev pub first_tasks : List Task
+first_tasks = record { line = 6; work = works.Upload small.a None } ∷ []
+
+abbrev pub second_tasks : List Task
+second_tasks = record { line = 8; work = works.Sync 0 } ∷ record { line = 9; work = works.Query (pos 0) (pos 5000) 0 } ∷ []
+
+abbrev pub first_ends : List (List End)
+first_ends = (uploaded (shipped.Done 3) ∷ []) ∷ []
+
+-- where the query came to this end
+abbrev pub second_ends_by : SeriesEnd → List (List End)
+second_ends_by came = (synced (fetched.View one.view) ∷ answered one.used came ∷ []) ∷ []
+
+abbrev pub second_ends : List (List End)
+second_ends = second_ends_by (called.Answer (small.up ∷ []) (small.a ∷ []))
+
+-- the views after the sync
+abbrev views : Views
+views zero = Some one.used
+views (suc other) = None
+
+kept_else : (other : ℕ) → Some 0 ≢ Some other → views other ≡ None
+kept_else zero differ = absurd (differ refl)
+kept_else (suc other) differ = refl
+
+first_phase : PhaseRun one.script first_tasks (uploader ∷ []) no_views one.upload first_ends no_views
+first_phase = record {
+  seats = All-from_recursion (λ (e : Entry). Contains (1 ∷ []) e.seat) one.upload ((0, lit< tt, refl), ((0, lit< tt, refl), ((0, lit< tt, refl), ((0, lit< tt, refl), tt))));
+  runs = (
+    record {
+      own = first_tasks;
+      are = (refl, refl);
+      last = None;
+      runs = inl (one.upload, [], uploaded (shipped.Done 3), [], refl, upload_end, refl, (refl, refl, refl));
+      leaves = λ gateway is. absurd (cc);
+    },
+    tt,
+  );
+  kept = λ gateway none. refl;
+}
+
+first_done : AreDone (workers_of one.script 0) first_ends
+first_done = ap (map (λ (w : Worker). length w.tasks)) first_workers
+
+-- with these entries of the query, and this end of it
+module _ (made : List Entry) (came : SeriesEnd) (seats : All (λ (e : Entry). Contains (2 ∷ []) e.seat) made) (own : of_seat 2 made ≡ made)
+    (asked : QueryTask one.script (Some one.used) (Some (question one.selector)) made (Some (answered one.used came))) where
+  tasks_run : TasksRun one.script None second_tasks (of_seat 2 (one.sync ++ made)) (synced (fetched.View one.view) ∷ answered one.used came ∷ []) (Some one.used)
+  tasks_run = subst (λ (es : List Entry). TasksRun one.script None second_tasks (one.sync ++ es) (synced (fetched.View one.view) ∷ answered one.used came ∷ []) (Some one.used)) (sym own) (inl (
+    one.sync,
+    made,
+    synced (fetched.View one.view),
+    answered one.used came ∷ [],
+    refl,
+    sync_end,
+    refl,
+    inl (made, [], answered one.used came, [], sym (append-nil made), asked, refl, (refl, refl, refl)),
+  ))
+
+  second_phase : PhaseRun one.script second_tasks (gateway ∷ []) no_views (one.sync ++ made) (second_ends_by came) views
+  second_phase = record {
+    seats = All-append (λ (e : Entry). Contains (2 ∷ []) e.seat) one.sync made
+        (All-from_recursion (λ (e : Entry). Contains (2 ∷ []) e.seat) one.sync ((0, lit< tt, refl), ((0, lit< tt, refl), ((0, lit< tt, refl), tt)))) seats;
+    runs = (
+      record {
+        own = second_tasks;
+        are = (refl, (refl, refl));
+        last = Some one.used;
+        runs = tasks_run;
+        leaves = λ other is. let same : 0 ≡ other = cc in subst (λ (x : ℕ). views x ≡ Some one.used) same refl;
+      },
+      tt,
+    );
+    kept = λ other differ. kept_else other (All-head (λ (w : Worker). w.gateway ≢ Some other) gateway [] differ);
+  }
+
+  second_done : AreDone (workers_of one.script 1) (second_ends_by came)
+  second_done = ap (map (λ (w : Worker). length w.tasks)) second_workers
+
+  phases : PhasesRun one.script 0 no_views one.script.phases (clock 1 0 ∷ one.upload ++ clock 6 1_800_000 ∷ one.sync ++ made) (first_ends ∷ second_ends_by came ∷ [])
+  phases = inr (
+    clock 1 0,
+    one.upload,
+    clock 6 1_800_000 ∷ one.sync ++ made,
+    first_ends,
+    second_ends_by came ∷ [],
+    no_views,
+    refl,
+    record { seat = refl; sets = refl },
+    subst (λ (ws : List Worker). PhaseRun one.script first_tasks ws no_views one.upload first_ends no_views) (sym first_workers) first_phase,
+    refl,
+    inr (
+      first_done,
+      inr (
+        clock 6 1_800_000,
+        one.sync ++ made,
+        [],
+        second_ends_by came,
+        [],
+        views,
+        ap (λ (es : List Entry). clock 6 1_800_000 ∷ one.sync ++ es) (sym (append-nil made)),
+        record { seat = refl; sets = refl },
+        subst (λ (ws : List Worker). PhaseRun one.script second_tasks ws no_views (one.sync ++ made) (second_ends_by came) views) (sym second_workers) second_phase,
+        refl,
+        inl (refl, refl),
+      ),
+    ),
+  )
+
+  pub run_by : IsJournal 1 (clock 1 0 ∷ one.upload ++ clock 6 1_800_000 ∷ one.sync ++ made) → IsRunOf one.script (clock 1 0 ∷ one.upload ++ clock 6 1_800_000 ∷ one.sync ++ made) (first_ends ∷ second_ends_by came ∷ [])
+  run_by kept = record { kept = kept; phases = phases }
+
+  pub finished_by : AreFinished one.script 0 one.script.phases (first_ends ∷ second_ends_by came ∷ [])
+  finished_by = (first_done, (second_done, refl))
+
+-- ---- the journal
+
+kept : IsJournal 1 one.journal
+kept = record {
+  few = lit≤ tt;
+  numbered = each_of (λ before e. e.seq ≡ length before + 1) one.journal (refl, (refl, (refl, (refl, (refl, (refl, (refl, (refl, (refl, (refl, (refl, tt)))))))))));
+  lawful = each_of (λ before e. IsLawful e.op) one.journal (lit< tt, (tt, ((lit≤ tt, lit≤ tt), (tt, (tt, (lit< tt, (lit≤ tt, (tt, (tt, (tt, ((lit≤ tt, lit≤ tt), tt)))))))))));
+  kinds = each_of (λ before e. IsReplyTo e.op e.reply) one.journal (tt, (tt, (tt, (tt, (tt, (tt, (tt, (tt, (tt, (tt, (tt, tt)))))))))));
+  moments = each_of (λ before e. e.moment.ms ≡ moment_after 1 (last_moment before) e.op) one.journal (refl, (refl, (refl, (refl, (refl, (refl, (refl, (refl, (refl, (refl, (refl, tt)))))))))));
+  small = each_of (λ before e. e.moment.ms < 2 ^ 48) one.journal (lit< tt, (lit< tt, (lit< tt, (lit< tt, (lit< tt, (lit< tt, (lit< tt, (lit< tt, (lit< tt, (lit< tt, (lit< tt, tt)))))))))));
+}
+
+query_seats : All (λ (e : Entry). Contains (2 ∷ []) e.seat) one.query
+query_seats = All-from_recursion (λ (e : Entry). Contains (2 ∷ []) e.seat) one.query ((0, lit< tt, refl), ((0, lit< tt, refl), tt))
+
+pub run : IsRunOf one.script one.journal one.ends
+run = run_by one.query (called.Answer (small.up ∷ []) (small.a ∷ [])) query_seats refl query_end kept
+
+pub finished : AreFinished one.script 0 one.script.phases one.ends
+finished = finished_by one.query (called.Answer (small.up ∷ []) (small.a ∷ [])) query_seats refl query_end
+
+pub honest : IsHonest one.journal
+honest = each_of (λ before e. Tells (stands before) e.op e.reply) one.journal (tt, (refl, (tt, (tt, (tt, (tt, (page, (shows_no_mark, (shows_meta, (shows_index, (shows_segment, tt)))))))))))

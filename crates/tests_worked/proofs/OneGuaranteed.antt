@@ -1,0 +1,190 @@
+-- All that is guaranteed of a run holds of that of the script of one block, and of the one that loses the index.
+use Rattle.std.proofs.Common.{◌≡◌, ℕ, ℤ, zero, suc, pos, List, [], ◌∷◌, All, Contains, Option, Some, None, inl, inr, refl, sym, ◌∙◌, ap, subst, arith, lit<, lit≤}
+use Rattle.std.proofs.Common.{◌⊎◌, ◌+◌, ◌<◌, ◌^◌, length}
+use Rattle.std.specs.Prelude.{slice_get}
+use Rattle.std.proofs.lemmas.List.Elements.{All-from_recursion}
+use Rattle.block_keys.specs.declared.key.Key.TheVariants as key
+use Rattle.label_sets.specs.Triples.{Triple, triples_of, triples_under}
+use Rattle.matchers.specs.declared.matcher.Matcher.{Matcher}
+use Rattle.meta_fetcher.specs.declared.sync_end.SyncEnd.TheVariants as fetched
+use Rattle.store_gateway.specs.declared.series_end.SeriesEnd.TheVariants as called
+use Rattle.block_keys.specs.KeyText.{key_text}
+use Rattle.world_core.specs.Moments.{moment_after, last_moment}
+use Rattle.world_core.specs.Operations.{IsLawful, IsReplyTo}
+use Rattle.world_core.specs.Standing.{IsHonest}
+use Rattle.world_core.specs.Worlds.{IsJournal}
+use Rattle.world_core.specs.declared.entry.Entry.{Entry}
+use Rattle.script_core.specs.Hands.{workers_of}
+use Rattle.script_core.specs.declared.worker.Worker.{Worker}
+use Rattle.script_core.specs.declared.phase.Phase.{Phase}
+use Rattle.script_core.specs.declared.task.Task.{Task}
+use Rattle.script_core.specs.declared.work.Work.TheVariants as works
+use Rattle.lifecycle_core.specs.Breaches.{honesty}
+use Rattle.lifecycle_core.specs.Causes.{IsDamaged, IsExplained, IsFault, IsWell}
+use Rattle.lifecycle_core.specs.Guarantees.{Answered, IsGiven, IsGuaranteed, IsSound}
+use Rattle.lifecycle_core.specs.Phases.{AreFinished, CameTo, IsRunOf}
+use Rattle.lifecycle_core.specs.Tasks.{End, QueryTask, synced, answered}
+use Rattle.lifecycle_core.specs.Views.{Use}
+use Rattle.tests_worked.specs.LostIndex as lost
+use Rattle.tests_worked.specs.OneBlock as one
+use Rattle.tests_worked.specs.SmallBlock as small
+use Rattle.tests_worked.proofs.Ends.{of_each}
+use Rattle.tests_worked.proofs.OneAnswer.{exact, names}
+use Rattle.tests_worked.proofs.Bucket.{full, shows_index}
+use Rattle.tests_worked.proofs.Each.{each_of}
+use Rattle.tests_worked.proofs.SmallTasks.{question}
+use Rattle.tests_worked.proofs.OneBlock.{finished_by, first_tasks, gateway, run_by, second_ends, second_tasks, second_workers}
+use Rattle.tests_worked.proofs.OneInTime.{leaves_none_out}
+use Rattle.tests_worked.proofs.OneOutcomes.{came_among, one_of_two}
+use Rattle.tests_worked.proofs.OneUnbroken.{front, lost_is_lie}
+
+all_ends : (Q : End → Type 0) (one two three : End) → Q one → Q two → Q three → All (All (All Q)) (((one ∷ []) ∷ []) ∷ ((two ∷ three ∷ []) ∷ []) ∷ [])
+all_ends Q one two three first second third =
+    All-from_recursion (All (All Q)) (((one ∷ []) ∷ []) ∷ ((two ∷ three ∷ []) ∷ []) ∷ []) (
+      All-from_recursion (All Q) ((one ∷ []) ∷ []) (All-from_recursion Q (one ∷ []) (first, tt), tt),
+      (All-from_recursion (All Q) ((two ∷ three ∷ []) ∷ []) (All-from_recursion Q (two ∷ three ∷ []) (second, (third, tt)), tt), tt),
+    )
+
+-- ---- the answered query
+
+abbrev ask : ℤ → ℤ → List Matcher → List Use → List Triple → List ℕ → Answered
+ask low high selector uses samples sources = record { low = low; high = high; selector = selector; uses = uses; samples = samples; sources = sources }
+
+same_query : (l h l' h' : ℤ) (s s' : List Matcher) (u u' : List Use) (t t' : List Triple) (o o' : List ℕ) → l ≡ l' → h ≡ h' → s ≡ s' → u ≡ u' → t ≡ t' → o ≡ o' → ask l h s u t o ≡ ask l' h' s' u' t' o'
+same_query l h l' h' s s' u u' t t' o o' a b c d e f = cc (a, b, c, d, e, f)
+
+abbrev answer : End
+answer = answered one.used (called.Answer (small.up ∷ []) (small.a ∷ []))
+
+up_triples : triples_of (small.up ∷ []) ≡ small.triple ∷ []
+unfolding triples_of triples_under
+up_triples = refl
+
+abbrev first_phase : Phase
+first_phase = record { line = 5; moment = record { ms = 0 }; tasks = first_tasks }
+
+abbrev second_phase : Phase
+second_phase = record { line = 7; moment = record { ms = 1_800_000 }; tasks = second_tasks }
+
+own_phase : (n : ℕ) (phase : Phase) → slice_get one.script.phases n ≡ Some phase → (first_phase ≡ phase) ⊎ ((n ≡ 1) × (second_phase ≡ phase))
+own_phase zero phase at = inl (cc (at))
+own_phase (suc zero) phase at = inr (refl, cc (at))
+own_phase (suc (suc n)) phase at = absurd (cc (at))
+
+no_query : (place sel : ℕ) (task : Task) (low high : ℤ) → slice_get first_tasks place ≡ Some task → task.work ≡ works.Query low high sel → ⊥
+no_query zero sel task low high at asks =
+    let same : record { line = 6; work = works.Upload small.a None } ≡ task = cc (at) in
+    let w : works.Upload small.a None ≡ task.work = ap (λ (t : Task). t.work) same in
+    cc (w, asks)
+no_query (suc place) sel task low high at asks = cc (at)
+
+the_query : (place sel : ℕ) (task : Task) (low high : ℤ) → slice_get second_tasks place ≡ Some task → task.work ≡ works.Query low high sel → (place ≡ 1) × (sel ≡ 0) × (pos 0 ≡ low) × (pos 5000 ≡ high)
+the_query zero sel task low high at asks =
+    let same : record { line = 8; work = works.Sync 0 } ≡ task = cc (at) in
+    let w : works.Sync 0 ≡ task.work = ap (λ (t : Task). t.work) same in
+    absurd (cc (w, asks))
+the_query (suc zero) sel task low high at asks =
+    let same : record { line = 9; work = works.Query (pos 0) (pos 5000) 0 } ≡ task = cc (at) in
+    let w : works.Query (pos 0) (pos 5000) 0 ≡ task.work = ap (λ (t : Task). t.work) same in
+    let all : works.Query (pos 0) (pos 5000) 0 ≡ works.Query low high sel = w ∙ asks in
+    (refl, cc (all), cc (all), cc (all))
+the_query (suc (suc place)) sel task low high at asks = absurd (cc (at))
+
+answer_came : (hand : Option ℕ) (end : End) → CameTo (gateway ∷ []) second_ends hand 1 end → answer ≡ end
+answer_came hand end came =
+    elim (one_of_two (0, synced (fetched.View one.view)) (1, answer) (1, end) (came_among gateway (synced (fetched.View one.view) ∷ answer ∷ []) hand 1 end came)) [
+      | inl is ↦ absurd (omega (arith, ap (λ (p : ℕ × End). p.0) is))
+      | inr is ↦ ap (λ (p : ℕ × End). p.1) is
+    ]
+
+-- the run gives this answer, and no other
+given_is : (query : Answered) → IsGiven one.script one.ends query → one.asked ≡ query
+given_is query g = elim (own_phase g.phase_number g.phase g.in_phases) [
+  | inl is ↦ absurd (no_query g.place g.selector_number g.task query.low query.high (subst (λ (p : Phase). slice_get p.tasks g.place ≡ Some g.task) (sym is) g.in_tasks) g.asks)
+  | inr (number, is) ↦
+      let asked = the_query g.place g.selector_number g.task query.low query.high (subst (λ (p : Phase). slice_get p.tasks g.place ≡ Some g.task) (sym is) g.in_tasks) g.asks in
+      let selects : slice_get one.script.selectors 0 ≡ Some query.selector = subst (λ (n : ℕ). slice_get one.script.selectors n ≡ Some query.selector) asked.1 g.selects in
+      let ends : slice_get one.ends 1 ≡ Some g.phase_ends = subst (λ (n : ℕ). slice_get one.ends n ≡ Some g.phase_ends) number g.phase_came in
+      let are : second_ends ≡ g.phase_ends = cc (ends) in
+      let end : End = answered g.used (called.Answer g.series query.sources) in
+      let here : CameTo (workers_of one.script 1) g.phase_ends (Some g.gateway) g.place end = subst (λ (n : ℕ). CameTo (workers_of one.script n) g.phase_ends (Some g.gateway) g.place end) number g.answer in
+      let among : CameTo (gateway ∷ []) g.phase_ends (Some g.gateway) g.place end = subst (λ (ws : List Worker). CameTo ws g.phase_ends (Some g.gateway) g.place end) second_workers here in
+      let came : CameTo (gateway ∷ []) second_ends (Some g.gateway) 1 end =
+      subst (λ (n : ℕ). CameTo (gateway ∷ []) second_ends (Some g.gateway) n end) asked.0 (subst (λ (l : List (List End)). CameTo (gateway ∷ []) l (Some g.gateway) g.place end) (sym are) among) in
+      let told : answer ≡ end = answer_came (Some g.gateway) end came in
+      let used : one.used ≡ g.used = cc (told) in
+      let series : small.up ∷ [] ≡ g.series = cc (told) in
+      let sources : small.a ∷ [] ≡ query.sources = cc (told) in
+      same_query (pos 0) (pos 5000) query.low query.high one.selector query.selector (one.used ∷ []) query.uses (small.triple ∷ []) query.samples (small.a ∷ []) query.sources
+      asked.2 asked.3 (cc (selects)) (ap (λ (u : Use). u ∷ []) used ∙ sym g.uses) (sym up_triples ∙ ap triples_of series ∙ sym g.samples) sources
+]
+
+sound : IsSound one.script one.journal one.asked
+sound = record { exact = exact; named = names; covered = λ uploaded used among synced ulid settled. leaves_none_out used ulid among settled }
+
+pub guaranteed : IsGuaranteed one.script one.journal one.ends
+guaranteed = record {
+  explained = λ used number came. absurd (of_each (λ end. end ≡ answered used (called.Missing number) → ⊥) one.ends (answered used (called.Missing number))
+      (all_ends (λ end. end ≡ answered used (called.Missing number) → ⊥) _ _ _ (λ e. cc (e)) (λ e. cc (e)) (λ e. cc (e))) came refl);
+  faults = λ end number came fault. absurd (of_each (λ end. (n : ℕ) → ¬ IsFault end n) one.ends end (all_ends (λ end. (n : ℕ) → ¬ IsFault end n) _ _ _ (λ n f. f) (λ n f. f) (λ n f. f)) came number fault);
+  undamaged = λ honest end came. of_each (λ end. ¬ IsDamaged end) one.ends end (all_ends (λ end. ¬ IsDamaged end) _ _ _ (λ d. d) (λ d. d) (λ d. d)) came;
+  sound = λ honest query given. subst (IsSound one.script one.journal) (given_is query given) sound;
+  complete = λ honest none end came. of_each IsWell one.ends end (all_ends IsWell _ _ _ tt tt tt) came;
+}
+
+-- ---- where the index is lost
+
+missing_run : QueryTask one.script (Some one.used) (Some (question one.selector)) (lost.lost ∷ []) (Some lost.missing)
+missing_run = (Some (called.Missing 10), (refl, (refl, inr refl)), refl)
+
+lost_seats : All (λ (e : Entry). Contains (2 ∷ []) e.seat) (lost.lost ∷ [])
+lost_seats = All-from_recursion (λ (e : Entry). Contains (2 ∷ []) e.seat) (lost.lost ∷ []) ((0, lit< tt, refl), tt)
+
+lost_kept : IsJournal 1 lost.journal
+lost_kept = record {
+  few = lit≤ tt;
+  numbered = each_of (λ before e. e.seq ≡ length before + 1) lost.journal (refl, (refl, (refl, (refl, (refl, (refl, (refl, (refl, (refl, (refl, tt))))))))));
+  lawful = each_of (λ before e. IsLawful e.op) lost.journal (lit< tt, (tt, ((lit≤ tt, lit≤ tt), (tt, (tt, (lit< tt, (lit≤ tt, (tt, (tt, (tt, tt))))))))));
+  kinds = each_of (λ before e. IsReplyTo e.op e.reply) lost.journal (tt, (tt, (tt, (tt, (tt, (tt, (tt, (tt, (tt, (tt, tt))))))))));
+  moments = each_of (λ before e. e.moment.ms ≡ moment_after 1 (last_moment before) e.op) lost.journal (refl, (refl, (refl, (refl, (refl, (refl, (refl, (refl, (refl, (refl, tt))))))))));
+  small = each_of (λ before e. e.moment.ms < 2 ^ 48) lost.journal (lit< tt, (lit< tt, (lit< tt, (lit< tt, (lit< tt, (lit< tt, (lit< tt, (lit< tt, (lit< tt, (lit< tt, tt))))))))));
+}
+
+pub lost_run : IsRunOf one.script lost.journal lost.ends
+lost_run = run_by (lost.lost ∷ []) (called.Missing 10) lost_seats refl missing_run lost_kept
+
+pub lost_finished : AreFinished one.script 0 one.script.phases lost.ends
+lost_finished = finished_by (lost.lost ∷ []) (called.Missing 10) lost_seats refl missing_run
+
+pub lost_explained : IsExplained one.script lost.journal 10
+lost_explained = record {
+  missed = lost.lost;
+  key = key.Index small.a;
+  at = refl;
+  reads = refl;
+  absent = refl;
+  rule = honesty;
+  before = front;
+  entry = lost.lost;
+  after = [];
+  x = 65;
+  y = 70;
+  parts = refl;
+  early = lit≤ tt;
+  refused = lost_is_lie;
+  blamed = tt;
+}
+
+lost_is_dishonest : ¬ IsHonest lost.journal
+lost_is_dishonest honest = let told : full (key_text (key.Index small.a)) ≡ None = honest front [] lost.lost refl in cc (told, shows_index)
+
+pub lost_guaranteed : IsGuaranteed one.script lost.journal lost.ends
+lost_guaranteed = record {
+  explained = λ used number came. of_each (λ end. end ≡ answered used (called.Missing number) → IsExplained one.script lost.journal number) lost.ends (answered used (called.Missing number))
+      (all_ends (λ end. end ≡ answered used (called.Missing number) → IsExplained one.script lost.journal number) _ _ _ (λ e. absurd (cc (e))) (λ e. absurd (cc (e)))
+      (λ e. let same : 10 ≡ number = cc (e) in subst (IsExplained one.script lost.journal) same lost_explained)) came refl;
+  faults = λ end number came fault. absurd (of_each (λ end. (n : ℕ) → ¬ IsFault end n) lost.ends end (all_ends (λ end. (n : ℕ) → ¬ IsFault end n) _ _ _ (λ n f. f) (λ n f. f) (λ n f. f)) came number fault);
+  undamaged = λ honest end came. absurd (lost_is_dishonest honest);
+  sound = λ honest query given. absurd (lost_is_dishonest honest);
+  complete = λ honest none end came. absurd (lost_is_dishonest honest);
+}

@@ -1,0 +1,90 @@
+-- The run of the script of one block keeps the rules of time, and its query leaves no block out.
+use Rattle.std.proofs.Common.{◌≡◌, ◌+◌, ◌*◌, ◌≤◌, ◌==◌, ℕ, All, Bool, true, false, cond, [], ◌∷◌, Some, None, is_some, refl, ap, subst, arith, lit<, lit≤}
+use Rattle.std.proofs.lemmas.Bool.Decides.{nat_tests}
+use Rattle.std.proofs.lemmas.List.Elements.{All-contains, All-from_recursion}
+use Rattle.block_keys.specs.declared.key.Key.TheVariants as key
+use Rattle.sync_filters.specs.Filters.{time_of}
+use Rattle.world_core.specs.declared.entry.Entry.{Entry}
+use Rattle.lifecycle_core.specs.Guarantees.{IsSyncOf, LeavesNoneOut}
+use Rattle.lifecycle_core.specs.TimeRules.{PutsMark, PutsObject, IsMarkedInTime, IsReadInTime, IsUploadedInTime, IsSyncedInTime}
+use Rattle.tests_worked.specs.SmallBlock as small
+use Rattle.tests_worked.specs.Entries.{absent, found, listed}
+use Rattle.tests_worked.specs.OneBlock as one
+
+-- ---- uploads
+
+abbrev pub InTime : ℕ → Entry → Type 0
+InTime ulid e = PutsObject ulid e → (time_of ulid ≤ e.moment.ms) × (e.moment.ms ≤ time_of ulid + 1_800_000)
+
+pub in_time : (ulid moment : ℕ) → moment ≤ 1_800_000 → small.a ≡ ulid → (time_of ulid ≤ moment) × (moment ≤ time_of ulid + 1_800_000)
+in_time ulid moment early same = subst (λ u. (time_of u ≤ moment) × (moment ≤ time_of u + 1_800_000)) same (omega arith, omega (arith, early))
+
+pub uploaded_in_time : (ulid : ℕ) → IsUploadedInTime one.script.rules ulid one.journal
+uploaded_in_time ulid = All-from_recursion (InTime ulid) one.journal (
+  λ p. cc (p.2),
+  (
+    λ p. cc (p.2),
+    (
+      λ p. in_time ulid 2 (lit≤ tt) (cc (p.2, p.3)),
+      (
+        λ p. in_time ulid 3 (lit≤ tt) (cc (p.2, p.3)),
+        (
+          λ p. in_time ulid 4 (lit≤ tt) (cc (p.2, p.3)),
+          (
+            λ p. cc (p.2),
+            (λ p. cc (p.2), (λ p. cc (p.2), (λ p. cc (p.2), (λ p. cc (p.2), (λ p. cc (p.2), tt))))),
+          ),
+        ),
+      ),
+    ),
+  ),
+)
+
+-- ---- the sync
+
+pub sync_is : IsSyncOf one.journal one.used one.sync
+sync_is = record {
+  first = listed 7 2 1_800_001 (small.a_text ∷ []);
+  others = absent 8 2 1_800_002 (key.Mark small.a) ∷ found 9 2 1_800_003 (key.Meta small.a) small.meta ∷ [];
+  begins = refl;
+  number = refl;
+  seat = All-from_recursion (λ (e : Entry). e.seat ≡ 2) one.sync (refl, (refl, (refl, tt)));
+  within = refl;
+}
+
+pub synced_in_time : IsSyncedInTime one.script.rules one.sync
+synced_in_time first last others is among =
+    let begins : listed 7 2 1_800_001 (small.a_text ∷ []) ≡ first = cc (is) in
+    let from : 1_800_001 ≡ first.moment.ms = ap (λ (e : Entry). e.moment.ms) begins in
+    let until : last.moment.ms ≤ 1_800_003 = All-contains (λ (e : Entry). e.moment.ms ≤ 1_800_003) one.sync last (All-from_recursion (λ (e : Entry). e.moment.ms ≤ 1_800_003) one.sync (lit≤ tt, (lit≤ tt, (lit≤ tt, tt)))) among in
+    omega (arith, from, until)
+
+-- ---- marks and reads
+
+pub marked_in_time : (ulid : ℕ) → IsMarkedInTime one.script.rules ulid one.journal
+marked_in_time ulid = All-from_recursion (λ (e : Entry). (second : ℕ) → PutsMark ulid second e → e.moment.ms ≤ 1000 * second + 86_400_000) one.journal (
+  λ second p. cc (p.2),
+  (
+    λ second p. cc (p.2),
+    (
+      λ second p. cc (p.2),
+      (
+        λ second p. cc (p.2),
+        (λ second p. cc (p.2), (λ second p. cc (p.2), (λ second p. cc (p.2), (λ second p. cc (p.2), (λ second p. cc (p.2), (λ second p. cc (p.2), (λ second p. cc (p.2), tt))))))),
+      ),
+    ),
+  ),
+)
+
+pub read_in_time : All (IsReadInTime one.script.rules one.used.view) one.query
+read_in_time = All-from_recursion (IsReadInTime one.script.rules one.used.view) one.query (lit≤ tt, (lit≤ tt, tt))
+
+-- ---- what has to be named
+
+same_ulid : (ulid : ℕ) (b : Bool) → b ≡ (small.a == ulid) → is_some (cond b (Some small.block) None) ≡ true → small.a ≡ ulid
+same_ulid ulid true is some = grind (arith, nat_tests)
+same_ulid ulid false is some = absurd (cc)
+
+pub leaves_none_out : LeavesNoneOut one.script one.journal one.asked
+leaves_none_out used ulid among settled =
+    let same = same_ulid ulid (small.a == ulid) refl settled.uploaded.is_declared in (0, lit< tt, same)

@@ -1,0 +1,144 @@
+-- What the second phase of every lawful journal of the script of one block is.
+use Rattle.std.proofs.Common.{◌≡◌, ◌⊎◌, inl, inr, pos, List, [], ◌∷◌, ◌++◌, Option, Some, None, option_map, map, refl, sym, ap, subst, ◌∙◌, append-nil}
+use Rattle.std.specs.List.{AllZip}
+use Rattle.ulid_core.specs.UlidText.{alphabet, digit_of, number_of, bad_place, ulid_of}
+use Rattle.block_keys.specs.declared.key.Key.TheVariants as key
+use Rattle.world_core.specs.declared.entry.Entry.{Entry}
+use Rattle.sync_filters.specs.declared.found.Found.{Found}
+use Rattle.meta_fetcher.specs.Sightings.{kept_by, sighting_of}
+use Rattle.meta_fetcher.specs.Syncs.{SyncRun}
+use Rattle.meta_fetcher.specs.declared.view.View.{View}
+use Rattle.meta_fetcher.specs.declared.sync_end.SyncEnd.{SyncEnd}
+use Rattle.meta_fetcher.specs.declared.sync_end.SyncEnd.TheVariants as fetched
+use Rattle.store_gateway.specs.SeriesRuns.{Query, SeriesRun, Reads, sources_of, to_read}
+use Rattle.store_gateway.specs.declared.series_end.SeriesEnd.{SeriesEnd}
+use Rattle.script_core.specs.declared.task.Task.{Task}
+use Rattle.script_core.specs.declared.work.Work.TheVariants as works
+use Rattle.script_core.specs.declared.worker.Worker.{Worker}
+use Rattle.lifecycle_core.specs.Phases.{PhasesRun, PhaseRun, WorkerRun, TasksRun, TasksAt, of_seat}
+use Rattle.lifecycle_core.specs.Tasks.{End, synced, view_after, last_number}
+use Rattle.lifecycle_core.specs.Views.{Use, Views}
+use Rattle.tests_worked.specs.SmallBlock as small
+use Rattle.tests_worked.specs.Entries.{absent, found, listed}
+use Rattle.tests_worked.specs.OneBlock as one
+use Rattle.tests_worked.proofs.SmallTasks.{rules, question}
+use Rattle.tests_worked.proofs.OneBlock.{gateway, second_tasks, second_workers}
+use Rattle.tests_worked.proofs.OneUpload.{second}
+
+-- ---- a sync that finds no meta
+
+abbrev page : Entry
+page = listed 7 2 1_800_001 (small.a_text ∷ [])
+
+abbrev mark : Entry
+mark = absent 8 2 1_800_002 (key.Mark small.a)
+
+abbrev no_meta : Entry
+no_meta = absent 9 2 1_800_003 (key.Meta small.a)
+
+-- a run that has no end
+abbrev Ends : Option SyncEnd → Type 0
+Ends end = (view : View) × (end ≡ Some (fetched.View view)) × (view.kept ≡ [])
+
+none_kept : (found : List Found) → map sighting_of found ≡ [] → kept_by rules found ≡ []
+none_kept [] is = refl
+none_kept (block ∷ blocks) is = absurd (cc)
+
+no_page : (end : Option SyncEnd) → SyncRun rules [] end → end ≡ None
+no_page end run = run
+
+only_page : (end : Option SyncEnd) → SyncRun rules (page ∷ []) end → end ≡ None
+unfolding ulid_of bad_place digit_of alphabet number_of
+only_page end run = run.1
+
+only_mark : (end : Option SyncEnd) → SyncRun rules (page ∷ mark ∷ []) end → end ≡ None
+unfolding ulid_of bad_place digit_of alphabet number_of
+only_mark end run = run.1.1
+
+whole_sync : (more : List Entry) (end : Option SyncEnd) → SyncRun rules (page ∷ mark ∷ no_meta ∷ more) end → (more ≡ []) × ((end ≡ None) ⊎ Ends end)
+unfolding ulid_of bad_place digit_of alphabet number_of
+whole_sync more end run =
+    let last = run.1.1.1 in
+    (last.0, elim last.1 [ inl none ↦ inl none | inr some ↦ inr (some.0, some.1, some.2.kept ∙ none_kept some.2.found some.2.sighted) ])
+
+-- ---- no query reads after it
+
+abbrev query : Task
+query = record { line = 9; work = works.Query (pos 0) (pos 5000) 0 }
+
+nothing_read : (view : View) → view.kept ≡ [] → (question : Query) (entries : List Entry) (end : Option SeriesEnd) → SeriesRun view question entries end → entries ≡ []
+nothing_read view none question entries end run =
+    (subst (λ (kept : List Found). Reads question (sources_of kept) [] (to_read question kept) entries end) none run).0
+
+no_query : (used : Use) → used.view.kept ≡ [] → (read : Entry) (rest : List Entry) (ends : List End) (last : Option Use) → TasksRun one.script (Some used) (query ∷ []) (read ∷ rest) ends last → ⊥
+no_query used none read rest ends last (inl r) =
+    let made : r.0 ≡ read ∷ rest = sym (r.4 ∙ ap (λ es. r.0 ++ es) r.7.0 ∙ append-nil r.0) in
+    let nothing : r.0 ≡ [] = nothing_read used.view none (question one.selector) r.0 r.5.0 r.5.1 in
+    cc (made, nothing)
+no_query used none read rest ends last (inr r) =
+    let nothing : read ∷ rest ≡ [] = nothing_read used.view none (question one.selector) (read ∷ rest) r.0.0 r.0.1 in
+    cc (nothing)
+
+module _ (read : Entry) (rest : List Entry) (later : List End) (last : Option Use) (end : End) where
+  by_sync : (made others : List Entry) (own : Option SyncEnd) → page ∷ mark ∷ no_meta ∷ read ∷ rest ≡ made ++ others → SyncRun rules made own → Some end ≡ option_map synced own
+      → TasksRun one.script (view_after None made end) (query ∷ []) others later last → ⊥
+  by_sync [] others own is run ended more = let none = no_page own run in cc (ended, ap (option_map synced) none)
+  by_sync (a ∷ []) others own is run ended more =
+      let same : a ∷ [] ≡ page ∷ [] = cc (is) in
+      let none = only_page own (subst (λ (es : List Entry). SyncRun rules es own) same run) in cc (ended, ap (option_map synced) none)
+  by_sync (a ∷ b ∷ []) others own is run ended more =
+      let same : a ∷ b ∷ [] ≡ page ∷ mark ∷ [] = cc (is) in
+      let none = only_mark own (subst (λ (es : List Entry). SyncRun rules es own) same run) in cc (ended, ap (option_map synced) none)
+  by_sync (a ∷ b ∷ c ∷ left) others own is run ended more =
+      let same : a ∷ b ∷ c ∷ left ≡ page ∷ mark ∷ no_meta ∷ left = cc (is) in
+      let whole = whole_sync left own (subst (λ (es : List Entry). SyncRun rules es own) same run) in
+      elim whole.1 [
+        | inl none ↦ cc (ended, ap (option_map synced) none)
+        | inr some ↦
+            let ends : end ≡ synced (fetched.View some.0) = cc (ended ∙ ap (option_map synced) some.1) in
+            let others_are : others ≡ read ∷ rest = cc (is, whole.0) in
+            no_query (record { view = some.0; last = last_number (a ∷ b ∷ c ∷ left) }) some.2 read rest later last
+            (subst (λ (es : List Entry). TasksRun one.script (Some (record { view = some.0; last = last_number (a ∷ b ∷ c ∷ left) })) (query ∷ []) es later last) others_are
+            (subst (λ (e : End). TasksRun one.script (view_after None (a ∷ b ∷ c ∷ left) e) (query ∷ []) others later last) ends more))
+      ]
+
+no_read : (read : Entry) (rest : List Entry) (ends : List End) (last : Option Use) → TasksRun one.script None second_tasks (page ∷ mark ∷ no_meta ∷ read ∷ rest) ends last → ⊥
+no_read read rest ends last (inl r) = by_sync read rest r.3 last r.2 r.0 r.1 r.5.0 r.4 r.5.1 r.5.2 r.7
+no_read read rest ends last (inr r) = let whole = whole_sync (read ∷ rest) r.0.0 r.0.1 in cc (whole.0)
+
+-- ---- the gateway's worker
+
+own_tasks : (own : List Task) → TasksAt second_tasks (0 ∷ 1 ∷ []) own → own ≡ second_tasks
+own_tasks [] at = absurd at
+own_tasks (task ∷ []) at = absurd at.1
+own_tasks (task ∷ other ∷ tasks) at = cc (at.0, at.1.0, at.1.1)
+
+gateway_run : (views after : Views) (made : List Entry) (ends : List (List End)) → PhaseRun one.script second_tasks (gateway ∷ []) views made ends after
+    → (own : List End) × (last : Option Use) × TasksRun one.script (views 0) second_tasks (of_seat 2 made) own last
+gateway_run views after made ends run = go ends run.runs
+  where
+    go : (ends : List (List End)) → AllZip (WorkerRun one.script second_tasks views made after) (gateway ∷ []) ends → (own : List End) × (last : Option Use) × TasksRun one.script (views 0) second_tasks (of_seat 2 made) own last
+    go [] runs = absurd runs
+    go (own ∷ ends) runs =
+        let worker = runs.0 in
+        (own, worker.last, subst (λ (ts : List Task). TasksRun one.script (views 0) ts (of_seat 2 made) own worker.last) (own_tasks worker.own worker.are) worker.runs)
+
+-- the second phase is all that follows
+second_made : (views : Views) (first : Entry) (entries : List Entry) (ends : List (List (List End))) → PhasesRun one.script 1 views (second ∷ []) (first ∷ entries) ends
+    → (own : List End) × (last : Option Use) × TasksRun one.script (views 0) second_tasks (of_seat 2 entries) own last
+second_made views first entries ends (inl none) = absurd (cc (none.0))
+second_made views first entries ends (inr r) =
+    let none : r.2 ≡ [] = elim r.10 [ inl n ↦ n.0 | inr m ↦ m.1.0 ] in
+    let same : r.1 ≡ entries = sym (append-nil r.1) ∙ ap (λ es. r.1 ++ es) (sym none) ∙ cc (r.6) in
+    let run = gateway_run views r.5 r.1 r.3 (subst (λ (ws : List Worker). PhaseRun one.script second_tasks ws views r.1 r.3 r.5) second_workers r.8) in
+    (run.0, run.1, subst (λ (es : List Entry). TasksRun one.script (views 0) second_tasks (of_seat 2 es) run.0 run.1) same run.2)
+
+abbrev index_read : Entry
+index_read = found 10 2 1_800_004 (key.Index small.a) small.index
+
+pub no_read_after_absent : (views : Views) → views 0 ≡ None → (first : Entry) (rest : List Entry) (ends : List (List (List End)))
+    → PhasesRun one.script 1 views (second ∷ []) (first ∷ page ∷ mark ∷ no_meta ∷ index_read ∷ rest) ends → ⊥
+no_read_after_absent views none first rest ends run =
+    let made = second_made views first (page ∷ mark ∷ no_meta ∷ index_read ∷ rest) ends run in
+    no_read index_read (of_seat 2 rest) made.0 made.1
+    (subst (λ (v : Option Use). TasksRun one.script v second_tasks (page ∷ mark ∷ no_meta ∷ index_read ∷ of_seat 2 rest) made.0 made.1) none made.2)

@@ -1,0 +1,101 @@
+-- Journals that are no run of the script of one block.
+use Rattle.std.proofs.Common.{◌≡◌, ◌≢◌, inl, inr, List, [], ◌∷◌, ◌++◌, All, Contains, Some, None, refl, sym, ap, subst, ◌∙◌, arith}
+use Rattle.std.proofs.lemmas.List.Elements.{All-nil, All-cons, All-head, All-tail}
+use Rattle.block_keys.specs.declared.key.Key.TheVariants as key
+use Rattle.world_core.specs.declared.entry.Entry.{Entry}
+use Rattle.moment_core.specs.declared.moment.Moment.{Moment}
+use Rattle.std.specs.List.{AllByRecursion}
+use Rattle.world_core.specs.Standing.{IsHonest}
+use Rattle.world_core.specs.declared.op.Op.TheVariants as op
+use Rattle.script_core.specs.declared.worker.Worker.{Worker}
+use Rattle.lifecycle_core.specs.Phases.{IsLawfulJournal, PhasesRun, of_seat}
+use Rattle.lifecycle_core.specs.Tasks.{End}
+use Rattle.lifecycle_core.specs.Views.{Views}
+use Rattle.tests_worked.proofs.Bucket.{shows_meta}
+use Rattle.tests_worked.proofs.OneBlock.{uploader}
+use Rattle.tests_worked.specs.SmallBlock as small
+use Rattle.tests_worked.specs.Entries.{clock, stored, absent, found, listed}
+use Rattle.tests_worked.specs.OneBlock as one
+use Rattle.tests_worked.specs.OneBlockChanged as changed
+use Rattle.tests_worked.proofs.OneLater.{no_read_after_absent}
+use Rattle.tests_worked.proofs.OneOutcomes.{only_one}
+use Rattle.tests_worked.proofs.OneUpload.{BeginsAnew, FirstPhase, second, first_phase_of, stays, upload_of, uploads_of, Uploads, first_is_look, second_is_put}
+
+pub no_look_refused : (rest : List Entry) → ¬ IsLawfulJournal one.script (changed.no_look ++ rest)
+no_look_refused rest lawful =
+    let put : Entry = stored 2 1 1 (key.Segment small.a 1) small.segment in
+    let phase = first_phase_of (clock 1 0) (put ∷ rest) lawful in
+    let one = stays phase.1 phase.0 put rest phase.3.parts phase.3.anew (λ moment is. cc (is)) in
+    let upload = upload_of phase.1 phase.3.ends phase.2 phase.3.run in
+    let uploads = uploads_of (of_seat 1 phase.1) upload.0 upload.1 in
+    let look = first_is_look put (of_seat 1 one.0) (subst (λ es. Uploads (of_seat 1 es)) one.1 uploads) in
+    cc (look)
+
+pub index_first_refused : (rest : List Entry) → ¬ IsLawfulJournal one.script (changed.index_first ++ rest)
+index_first_refused rest lawful =
+    let look : Entry = absent 2 1 1 (key.Meta small.a) in
+    let put : Entry = stored 3 1 2 (key.Index small.a) small.index in
+    let phase = first_phase_of (clock 1 0) (look ∷ put ∷ rest) lawful in
+    let one = stays phase.1 phase.0 look (put ∷ rest) phase.3.parts phase.3.anew (λ moment is. cc (is)) in
+    let two = stays one.0 phase.0 put rest one.2 phase.3.anew (λ moment is. cc (is)) in
+    let upload = upload_of phase.1 phase.3.ends phase.2 phase.3.run in
+    let uploads = uploads_of (of_seat 1 phase.1) upload.0 upload.1 in
+    let made : phase.1 ≡ look ∷ put ∷ two.0 = cc (one.1, two.1) in
+    let segment = second_is_put look put (of_seat 1 two.0) refl (subst (λ es. Uploads (of_seat 1 es)) {y = look ∷ put ∷ two.0} made uploads) in
+    cc (segment.1)
+
+-- ---- a query that reads a block whose meta was absent
+
+-- the clock's setting is no worker's
+no_clock : (left others : List Entry) (tail : List Entry) → clock 6 1_800_000 ∷ tail ≡ left ++ others → All (λ (e : Entry). Contains (1 ∷ []) e.seat) left → left ≡ []
+no_clock [] others tail is seats = refl
+no_clock (x ∷ left) others tail is seats =
+    let same : clock 6 1_800_000 ≡ x = cc (is) in
+    let seat : 1 ≡ x.seat = only_one 1 x.seat (All-head (λ (e : Entry). Contains (1 ∷ []) e.seat) x left seats) in
+    absurd (omega (arith, seat, ap (λ (e : Entry). e.seat) same))
+
+-- the entry sets no clock
+abbrev IsOther : Entry → Type 0
+IsOther e = (moment : Moment) → e.op ≡ op.Clock moment → ⊥
+
+-- entries that set no clock belong to the phase
+all_stay : (P : Entry → Type 0) (entries tail made others : List Entry) → entries ++ tail ≡ made ++ others → BeginsAnew others → AllByRecursion IsOther entries → All P made
+    → (left : List Entry) × (tail ≡ left ++ others) × All P left
+all_stay P [] tail made others is anew other seats = (made, is, seats)
+all_stay P (e ∷ entries) tail made others is anew other seats =
+    let one = stays made others e (entries ++ tail) is anew other.0 in
+    all_stay P entries tail one.0 others one.2 anew other.1 (All-tail P e one.0 (subst (All P) one.1 seats))
+
+after_upload : (made others tail : List Entry) → one.upload ++ clock 6 1_800_000 ∷ tail ≡ made ++ others → BeginsAnew others → All (λ (e : Entry). Contains (1 ∷ []) e.seat) made
+    → others ≡ clock 6 1_800_000 ∷ tail
+after_upload made others tail is anew seats =
+    let rest = all_stay (λ (e : Entry). Contains (1 ∷ []) e.seat) one.upload (clock 6 1_800_000 ∷ tail) made others is anew (λ m h. cc (h), (λ m h. cc (h), (λ m h. cc (h), (λ m h. cc (h), tt)))) seats in
+    let none = no_clock rest.0 others tail rest.1 rest.2 in
+    cc (rest.1, ap (λ es. es ++ others) none)
+
+second_begins : (entries others made : List Entry) (after : Views) (tail : List Entry) → FirstPhase entries others made after → entries ≡ one.upload ++ clock 6 1_800_000 ∷ tail
+    → (ends : List (List (List End))) × PhasesRun one.script 1 after (second ∷ []) (clock 6 1_800_000 ∷ tail) ends × (after 0 ≡ None)
+second_begins entries others made after tail phase is =
+    let next = after_upload made others tail (sym is ∙ phase.parts) phase.anew phase.run.seats in
+    let none = phase.run.kept 0 (All-cons (λ (w : Worker). w.gateway ≢ Some 0) uploader [] (λ h. cc (h)) (All-nil (λ (w : Worker). w.gateway ≢ Some 0))) in
+    elim phase.later [
+      | inl nothing ↦ absurd (cc (next, nothing))
+      | inr later ↦ (later.0, subst (λ (es : List Entry). PhasesRun one.script 1 after (second ∷ []) es later.0) next later.1, none)
+    ]
+
+abbrev after_clock : List Entry → List Entry
+after_clock rest =
+    listed 7 2 1_800_001 (small.a_text ∷ []) ∷ absent 8 2 1_800_002 (key.Mark small.a) ∷ absent 9 2 1_800_003 (key.Meta small.a) ∷ found 10 2 1_800_004 (key.Index small.a) small.index ∷ rest
+
+pub meta_absent_refused : (rest : List Entry) → ¬ IsLawfulJournal one.script (changed.meta_absent ++ rest)
+meta_absent_refused rest lawful =
+    let phase = first_phase_of (clock 1 0) (one.upload ++ clock 6 1_800_000 ∷ after_clock rest) lawful in
+    let later = second_begins (one.upload ++ clock 6 1_800_000 ∷ after_clock rest) phase.0 phase.1 phase.2 (after_clock rest) phase.3 refl in
+    no_read_after_absent phase.2 later.2 (clock 6 1_800_000) rest later.0 later.1
+
+-- ---- and no honest bucket shows it
+
+pub meta_absent_is_a_lie : (rest : List Entry) → ¬ IsHonest (changed.meta_absent ++ rest)
+meta_absent_is_a_lie rest honest =
+    let told = honest (clock 1 0 ∷ one.upload ++ clock 6 1_800_000 ∷ listed 7 2 1_800_001 (small.a_text ∷ []) ∷ absent 8 2 1_800_002 (key.Mark small.a) ∷ []) (found 10 2 1_800_004 (key.Index small.a) small.index ∷ rest) (absent 9 2 1_800_003 (key.Meta small.a)) refl in
+    cc (told, shows_meta)

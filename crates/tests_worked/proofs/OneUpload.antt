@@ -1,0 +1,142 @@
+-- What the first phase of every lawful journal of the script of one block is.
+use Rattle.std.proofs.Common.{◌≡◌, ◌⊎◌, inl, inr, ℕ, List, [], ◌∷◌, ◌++◌, length, Option, Some, None, sym, ap, subst, ◌∙◌, append-nil}
+use Rattle.std.specs.List.{AllZip}
+use Rattle.moment_core.specs.declared.moment.Moment.{Moment}
+use Rattle.block_keys.specs.declared.key.Key.TheVariants as key
+use Rattle.block_keys.specs.declared.object.Object.{Object}
+use Rattle.block_files.specs.Built.{segment_text, segments_of, segment_objects, objects_of}
+use Rattle.world_core.specs.declared.entry.Entry.{Entry}
+use Rattle.world_core.specs.declared.op.Op.TheVariants as op
+use Rattle.world_core.specs.declared.reply.Reply.TheVariants as reply
+use Rattle.shipper.specs.Uploads.{UploadRun, PutsRun, AfterLook}
+use Rattle.shipper.specs.declared.upload_end.UploadEnd.{UploadEnd}
+use Rattle.script_core.specs.declared.block.Block.{Block}
+use Rattle.script_core.specs.declared.phase.Phase.{Phase}
+use Rattle.script_core.specs.declared.script.Script.{Script}
+use Rattle.script_core.specs.declared.task.Task.{Task}
+use Rattle.script_core.specs.declared.work.Work.TheVariants as works
+use Rattle.script_core.specs.declared.worker.Worker.{Worker}
+use Rattle.lifecycle_core.specs.Shipped.{IsShipped}
+use Rattle.lifecycle_core.specs.Phases.{IsLawfulJournal, PhasesRun, PhaseRun, WorkerRun, TasksRun, TasksAt, of_seat}
+use Rattle.lifecycle_core.specs.Tasks.{End, TaskRun, UploadTask}
+use Rattle.lifecycle_core.specs.Views.{Use, Views, no_views}
+use Rattle.tests_worked.specs.SmallBlock as small
+use Rattle.tests_worked.specs.OneBlock as one
+use Rattle.tests_worked.proofs.OneBlock.{uploader, first_workers, first_tasks, second_tasks}
+
+-- ---- the phases of a journal
+
+-- the entries begin with the clock's setting, if there are any
+abbrev pub BeginsAnew : List Entry → Type 0
+BeginsAnew entries = (e : Entry) (more : List Entry) → entries ≡ e ∷ more → (moment : Moment) × (e.op ≡ op.Clock moment)
+
+pub phases_begin : (script : Script) (number : ℕ) (views : Views) (phases : List Phase) (entries : List Entry) (ends : List (List (List End))) → PhasesRun script number views phases entries ends → BeginsAnew entries
+phases_begin script number views [] entries ends run e more is = absurd (cc (run.0))
+phases_begin script number views (phase ∷ phases) entries ends (inl none) e more is = absurd (cc (none.0))
+phases_begin script number views (phase ∷ phases) entries ends (inr r) e more is =
+    let same : r.0 ≡ e = cc (r.6) in (phase.moment, subst (λ (x : Entry). x.op ≡ op.Clock phase.moment) same r.7.sets)
+
+-- an entry that sets no clock belongs to the phase
+pub stays : (made others : List Entry) (e : Entry) (more : List Entry) → e ∷ more ≡ made ++ others → BeginsAnew others → ((moment : Moment) → e.op ≡ op.Clock moment → ⊥)
+    → (left : List Entry) × (made ≡ e ∷ left) × (more ≡ left ++ others)
+stays [] others e more is anew other = let clock = anew e more (sym is) in absurd (other clock.0 clock.1)
+stays (x ∷ left) others e more is anew other = (left, cc, cc)
+
+-- ---- its first phase
+
+abbrev pub second : Phase
+second = record { line = 7; moment = record { ms = 1_800_000 }; tasks = second_tasks }
+
+pub record FirstPhase (entries : List Entry) (others : List Entry) (made : List Entry) (after : Views) : Type 0 where
+  pub ends : List (List End)
+  pub parts : entries ≡ made ++ others
+  pub run : PhaseRun one.script first_tasks (uploader ∷ []) no_views made ends after
+  pub anew : BeginsAnew others
+  pub later : (others ≡ []) ⊎ ((left : List (List (List End))) × PhasesRun one.script 1 after (second ∷ []) others left)
+
+pub first_phase_of : (clock : Entry) (entries : List Entry) → IsLawfulJournal one.script (clock ∷ entries)
+    → (others : List Entry) × (made : List Entry) × (after : Views) × FirstPhase entries others made after
+first_phase_of clock entries lawful = go lawful.0 lawful.1.phases
+  where
+    go : (ends : List (List (List End))) → PhasesRun one.script 0 no_views one.script.phases (clock ∷ entries) ends → (others : List Entry) × (made : List Entry) × (after : Views) × FirstPhase entries others made after
+    go ends (inl none) = absurd (cc (none.0))
+    go ends (inr r) = (
+      r.2,
+      r.1,
+      r.5,
+      record {
+        ends = r.3;
+        parts = cc (r.6);
+        run = subst (λ (ws : List Worker). PhaseRun one.script first_tasks ws no_views r.1 r.3 r.5) first_workers r.8;
+        anew = elim r.10 [
+          | inl none ↦ λ e more is. absurd (cc (none.0))
+          | inr more ↦ phases_begin one.script 1 r.5 (second ∷ []) r.2 r.4 more.1
+        ];
+        later = elim r.10 [ inl none ↦ inl none.0 | inr more ↦ inr (r.4, more.1) ];
+      },
+    )
+
+-- ---- the upload in it
+
+own_task : (own : List Task) → TasksAt first_tasks (0 ∷ []) own → own ≡ first_tasks
+own_task [] at = absurd at
+own_task (task ∷ tasks) at = cc (at.0, at.1)
+
+one_task : (script : Script) (task : Task) (entries : List Entry) (ends : List End) (last : Option Use) → TasksRun script None (task ∷ []) entries ends last
+    → (end : Option End) × TaskRun script None task.work entries end
+one_task script task entries ends last (inl r) =
+    (Some r.2, subst (λ es. TaskRun script None task.work es (Some r.2)) (sym (r.4 ∙ ap (λ es. r.0 ++ es) r.7.0 ∙ append-nil r.0)) r.5)
+one_task script task entries ends last (inr r) = (None, r.0)
+
+pub upload_of : (made : List Entry) (ends : List (List End)) (after : Views) → PhaseRun one.script first_tasks (uploader ∷ []) no_views made ends after
+    → (end : Option End) × UploadTask one.script small.a None (of_seat 1 made) end
+upload_of made ends after run = go ends run.runs
+  where
+    go : (ends : List (List End)) → AllZip (WorkerRun one.script first_tasks no_views made after) (uploader ∷ []) ends → (end : Option End) × UploadTask one.script small.a None (of_seat 1 made) end
+    go [] runs = absurd runs
+    go (own ∷ ends) runs =
+        let worker = runs.0 in
+        one_task one.script (record { line = 6; work = works.Upload small.a None }) (of_seat 1 made) own worker.last
+        (subst (λ (ts : List Task). TasksRun one.script None ts (of_seat 1 made) own worker.last) (own_task worker.own worker.are) worker.runs)
+
+pub record Uploads (entries : List Entry) : Type 0 where
+  pub objects : List Object
+  pub end : Option UploadEnd
+  pub segment : List ℕ
+  pub index : List ℕ
+  pub meta : List ℕ
+  pub are : objects ≡ objects_of small.a (segment ∷ []) index meta
+  pub run : UploadRun small.a objects entries end
+
+pub uploads_of : (entries : List Entry) (end : Option End) → UploadTask one.script small.a None entries end → Uploads entries
+unfolding segments_of
+uploads_of entries end task =
+    let same : task.0 ≡ small.block = cc (task.1) in
+    let shipped = subst (λ (b : Block). IsShipped b task.2.0) same task.2.2 in
+    record {
+      objects = task.2.0;
+      end = task.2.1;
+      segment = segment_text (small.up ∷ []);
+      index = _;
+      meta = _;
+      are = shipped.2;
+      run = subst (λ (b : Block). UploadRun b.ulid task.2.0 entries task.2.1) same task.2.3;
+    }
+
+-- ---- what it begins with
+
+pub first_is_look : (e : Entry) (more : List Entry) → Uploads (e ∷ more) → e.op ≡ op.Get (key.Meta small.a)
+first_is_look e more uploads = uploads.run.0
+
+second_is_segment : (e : Entry) (more : List Entry) (objects : List Object) (end : Option UploadEnd) (s i m : List ℕ) → objects ≡ objects_of small.a (s ∷ []) i m
+    → (total : ℕ) → PutsRun total objects (e ∷ more) end → e.op ≡ op.Put (key.Segment small.a 1) s
+unfolding objects_of segment_objects
+second_is_segment e more objects end s i m are total run =
+    (subst (λ (os : List Object). PutsRun total os (e ∷ more) end) are run).0
+
+pub second_is_put : (look e : Entry) (more : List Entry) → look.reply ≡ reply.Absent → Uploads (look ∷ e ∷ more) → (bytes : List ℕ) × (e.op ≡ op.Put (key.Segment small.a 1) bytes)
+second_is_put look e more is uploads = (
+  uploads.segment,
+  second_is_segment e more uploads.objects uploads.end uploads.segment uploads.index uploads.meta uploads.are (length uploads.objects)
+      (subst (λ r. AfterLook uploads.objects look.seq r (e ∷ more) uploads.end) is uploads.run.1),
+)

@@ -1,0 +1,109 @@
+-- The answered queries of the script of a young block.
+use Rattle.std.proofs.Common.{◌≡◌, ◌<◌, ℕ, pos, true, List, [], ◌∷◌, Contains, Some, refl, sym, subst, arith, lit<}
+use Rattle.std.proofs.lemmas.List.Elements.{All-nil, All-cons}
+use Rattle.std.specs.List.{IsDistinct, list_any}
+use Rattle.std.specs.List.Sorted.{IsStrictlySortedBy}
+use Rattle.label_sets.specs.Triples.{Triple, triples_under, triples_of, has_same_key}
+use Rattle.matchers.specs.Selected.{is_selected, selected}
+use Rattle.meta_fetcher.specs.declared.sync_end.SyncEnd.TheVariants as fetched
+use Rattle.script_core.specs.declared.worker.Worker.{Worker}
+use Rattle.script_core.specs.declared.work.Work.TheVariants as works
+use Rattle.world_core.specs.declared.entry.Entry.{Entry}
+use Rattle.lifecycle_core.specs.Completed.{IsSettled}
+use Rattle.lifecycle_core.specs.Guarantees.{IsExact, IsGiven}
+use Rattle.lifecycle_core.specs.Held.{held, held_by}
+use Rattle.lifecycle_core.specs.Phases.{CameTo}
+use Rattle.lifecycle_core.specs.Tasks.{synced}
+use Rattle.lifecycle_core.specs.Views.{Use}
+use Rattle.label_sets.specs.Finals.{is_among, without, final_of}
+use Rattle.label_sets.specs.Ordered.{in_order, placed}
+use Rattle.matchers.specs.Selectors.{is_match}
+use Rattle.tests_worked.specs.SmallBlock as small
+use Rattle.tests_worked.specs.YoungBlock as young
+use Rattle.tests_worked.proofs.YoungBlock.{first_gateway, uploader, second_gateway, first_workers, second_workers, first_tasks, second_tasks, first_ends, second_ends}
+
+none_came : (used : Use) → CameTo (first_gateway ∷ uploader ∷ []) (first_ends used) (Some 0) 2 (young.no_answer used)
+none_came used = record {
+  worker = first_gateway;
+  own = synced (fetched.View used.view) ∷ young.no_answer used ∷ [];
+  among = (0, lit< tt, refl);
+  is = refl;
+  came = (1, lit< tt, refl);
+}
+
+pub none_given : (early late : Use) → IsGiven young.script (young.ends_by early late) (young.first_asked early)
+unfolding triples_of
+none_given early late = record {
+  phase_number = 0;
+  phase = record { line = 5; moment = record { ms = 0 }; tasks = first_tasks };
+  place = 2;
+  task = record { line = 8; work = works.Query (pos 0) (pos 5000) 0 };
+  selector_number = 0;
+  in_phases = refl;
+  in_tasks = refl;
+  asks = refl;
+  selects = refl;
+  phase_ends = first_ends early;
+  gateway = 0;
+  used = early;
+  series = [];
+  phase_came = refl;
+  answer = subst (λ (ws : List Worker). CameTo ws (first_ends early) (Some 0) 2 (young.no_answer early)) (sym first_workers) (none_came early);
+  samples = refl;
+  uses = refl;
+}
+
+pub none_exact : (used : Use) → IsExact young.script (young.first_asked used)
+unfolding held selected IsDistinct IsStrictlySortedBy
+none_exact used = record {
+  ascending = tt;
+  one_to_one = record { once = tt; taken = All-nil (Contains []); complete = All-nil (λ (t : Triple). list_any (has_same_key t) [] ≡ true) };
+}
+
+-- no block is old enough for a view that began in the first half hour
+pub not_settled : (journal : List Entry) (used : Use) → used.view.begin.ms < 1_800_000 → (ulid : ℕ) → ¬ IsSettled young.script journal used ulid
+not_settled journal used early ulid settled = omega (arith, settled.old)
+
+-- ---- the second query
+
+some_came : (used : Use) → CameTo (second_gateway ∷ []) (second_ends used) (Some 0) 1 (young.block_answer used)
+some_came used = record {
+  worker = second_gateway;
+  own = synced (fetched.View used.view) ∷ young.block_answer used ∷ [];
+  among = (0, lit< tt, refl);
+  is = refl;
+  came = (1, lit< tt, refl);
+}
+
+pub some_given : (early late : Use) → IsGiven young.script (young.ends_by early late) (young.second_asked late)
+unfolding triples_of triples_under
+some_given early late = record {
+  phase_number = 1;
+  phase = record { line = 9; moment = record { ms = 1_800_000 }; tasks = second_tasks };
+  place = 1;
+  task = record { line = 11; work = works.Query (pos 0) (pos 5000) 1 };
+  selector_number = 1;
+  in_phases = refl;
+  in_tasks = refl;
+  asks = refl;
+  selects = refl;
+  phase_ends = second_ends late;
+  gateway = 0;
+  used = late;
+  series = small.up ∷ [];
+  phase_came = refl;
+  answer = subst (λ (ws : List Worker). CameTo ws (second_ends late) (Some 0) 1 (young.block_answer late)) (sym second_workers) (some_came late);
+  samples = refl;
+  uses = refl;
+}
+
+pub some_exact : (used : Use) → IsExact young.script (young.second_asked used)
+unfolding held held_by triples_under selected is_selected is_match final_of without is_among in_order placed IsDistinct IsStrictlySortedBy
+some_exact used = record {
+  ascending = (tt, tt);
+  one_to_one = record {
+    once = (tt, tt);
+    taken = All-cons (Contains (small.triple ∷ [])) small.triple [] (0, lit< tt, refl) (All-nil (Contains (small.triple ∷ [])));
+    complete = All-cons (λ t. list_any (has_same_key t) (small.triple ∷ []) ≡ true) small.triple [] refl (All-nil (λ (t : Triple). list_any (has_same_key t) (small.triple ∷ []) ≡ true));
+  };
+}

@@ -1,0 +1,94 @@
+-- The report of the script of a young block, which is the same for both runs.
+use Rattle.std.proofs.Common.{◌≡◌, ℕ, true, List, [], ◌∷◌, ◌++◌, length, refl, sym, ap, subst, lit<}
+use Rattle.reading_core.specs.Decimal.{decimal_text, signed_text}
+use Rattle.ulid_core.specs.FixedDigits.{fixed_digits}
+use Rattle.ulid_core.specs.UlidText.{text_of, character, alphabet}
+use Rattle.label_sets.specs.Notation.{quoted_byte, quoted, pair_text, comma_pair_text, pairs_text, set_text}
+use Rattle.label_sets.specs.SampleText.{hex_sign, hex_text, pattern_text, timed_text, sample_text, spaced_sample_text, series_text}
+use Rattle.shipper.specs.declared.upload_end.UploadEnd.TheVariants as shipped
+use Rattle.meta_fetcher.specs.declared.sync_end.SyncEnd.TheVariants as fetched
+use Rattle.script_core.specs.Hands.{hands_of_task}
+use Rattle.script_core.specs.declared.worker.Worker.{Worker}
+use Rattle.lifecycle_core.specs.Tasks.{End, uploaded, synced}
+use Rattle.lifecycle_core.specs.Views.{Use}
+use Rattle.replay_cli.specs.Outcomes.{TasksCame}
+use Rattle.replay_cli.specs.Reports.{upload_words, sync_words, source_line, series_line, counts_text, answer_text, query_text, activity_text}
+use Rattle.replay_cli.specs.Verdicts.{IsReport, report_of}
+use Rattle.replay_cli.specs.declared.outcome.Outcome.{Outcome}
+use Rattle.replay_cli.specs.declared.outcome.Outcome.TheVariants as outcome
+use Rattle.replay_cli.specs.declared.outcome.UploadOutcome.TheVariants as uploads
+use Rattle.replay_cli.specs.declared.outcome.SyncOutcome.TheVariants as syncs
+use Rattle.replay_cli.specs.declared.outcome.QueryOutcome.TheVariants as queries
+use Rattle.tests_worked.specs.SmallBlock as small
+use Rattle.tests_worked.specs.YoungBlock as young
+use Rattle.tests_worked.proofs.YoungBlock.{first_gateway, uploader, second_gateway, first_workers, second_workers, first_tasks, second_tasks, first_ends, second_ends}
+
+abbrev first_outcomes : List Outcome
+first_outcomes = outcome.Sync (syncs.Blocks 0) ∷ outcome.Upload (uploads.Done 3) ∷ outcome.Query (queries.Answer [] []) ∷ []
+
+abbrev second_outcomes : List Outcome
+second_outcomes = outcome.Sync (syncs.Blocks 1) ∷ outcome.Query (queries.Answer (small.up ∷ []) (small.a ∷ [])) ∷ []
+
+abbrev gateway_ends : Use → List End
+gateway_ends used = synced (fetched.View used.view) ∷ young.no_answer used ∷ []
+
+first_came : (used : Use) → length used.view.kept ≡ 0 → TasksCame young.script (first_gateway ∷ uploader ∷ []) (first_ends used) 0 first_tasks first_outcomes
+unfolding hands_of_task
+first_came used none = (
+  record {
+    own = synced (fetched.View used.view) ∷ [];
+    came = (record { worker = first_gateway; own = gateway_ends used; among = (0, lit< tt, refl); is = refl; came = (0, lit< tt, refl) }, tt);
+    is = ap (λ (n : ℕ). outcome.Sync (syncs.Blocks n)) (sym none);
+  },
+  (
+    record {
+      own = uploaded (shipped.Done 3) ∷ [];
+      came = (record { worker = uploader; own = uploaded (shipped.Done 3) ∷ []; among = (1, lit< tt, refl); is = refl; came = (0, lit< tt, refl) }, tt);
+      is = refl;
+    },
+    (
+      record {
+        own = young.no_answer used ∷ [];
+        came = (record { worker = first_gateway; own = gateway_ends used; among = (0, lit< tt, refl); is = refl; came = (1, lit< tt, refl) }, tt);
+        is = refl;
+      },
+      refl,
+    ),
+  ),
+)
+
+second_came : (used : Use) → length used.view.kept ≡ 1 → TasksCame young.script (second_gateway ∷ []) (second_ends used) 0 second_tasks second_outcomes
+unfolding hands_of_task
+second_came used one = (
+  record {
+    own = synced (fetched.View used.view) ∷ [];
+    came = (record { worker = second_gateway; own = synced (fetched.View used.view) ∷ young.block_answer used ∷ []; among = (0, lit< tt, refl); is = refl; came = (0, lit< tt, refl) }, tt);
+    is = ap (λ (n : ℕ). outcome.Sync (syncs.Blocks n)) (sym one);
+  },
+  (
+    record {
+      own = young.block_answer used ∷ [];
+      came = (record { worker = second_gateway; own = synced (fetched.View used.view) ∷ young.block_answer used ∷ []; among = (0, lit< tt, refl); is = refl; came = (1, lit< tt, refl) }, tt);
+      is = refl;
+    },
+    refl,
+  ),
+)
+
+lines : young.report ≡ report_of young.script (first_tasks ++ second_tasks) (first_outcomes ++ second_outcomes)
+unfolding young.report report_of activity_text upload_words sync_words source_line series_line counts_text answer_text query_text text_of character alphabet fixed_digits decimal_text signed_text set_text pairs_text pair_text comma_pair_text quoted quoted_byte spaced_sample_text series_text sample_text timed_text pattern_text hex_text hex_sign
+lines = refl
+
+pub reports : (early late : Use) → length early.view.kept ≡ 0 → length late.view.kept ≡ 1 → IsReport young.script young.script.phases (young.ends_by early late) true young.report
+reports early late none one = record {
+  outcomes = first_outcomes ++ second_outcomes;
+  came = (
+    first_outcomes,
+    second_outcomes,
+    refl,
+    subst (λ (ws : List Worker). TasksCame young.script ws (first_ends early) 0 first_tasks first_outcomes) (sym first_workers) (first_came early none),
+    (second_outcomes, [], refl, subst (λ (ws : List Worker). TasksCame young.script ws (second_ends late) 0 second_tasks second_outcomes) (sym second_workers) (second_came late one), (refl, refl)),
+  );
+  lines = lines;
+  flag = refl;
+}

@@ -1,0 +1,5 @@
+use Rattle.tests_worked.proofs.LateUpload.{run}
+use Rattle.tests_worked.proofs.late_upload.late_upload_runs.Goals as goal
+
+pub returns : goal.returns
+returns c = run

@@ -1,0 +1,5 @@
+use Rattle.tests_worked.proofs.NoCause as row
+use Rattle.tests_worked.proofs.lost_index.lost_index_has_no_other_cause.Goals as goal
+
+pub returns : goal.returns
+returns c = record { unwell = row.not_well; other_put = row.other_put; other_mark = row.other_mark; no_sync = row.no_sync; other_read = row.other_read }

@@ -1,0 +1,33 @@
+-- The script of one block with another ignore delay. Its run is the same.
+use Rattle.std.specs.Prelude.{[]}
+use Rattle.block_keys.specs.declared.key.Key.TheVariants as key
+use Rattle.moment_core.specs.StandardRules.{minutes, hours}
+use Rattle.moment_core.specs.declared.rules.Rules.{Rules}
+use Rattle.moment_core.specs.declared.span.Span.{Span}
+use Rattle.world_core.specs.declared.entry.Entry.{Entry}
+use Rattle.script_core.specs.declared.script.Script.{Script}
+use Rattle.tests_worked.specs.Entries.{found}
+use Rattle.tests_worked.specs.OneBlock as one
+use Rattle.tests_worked.specs.SmallBlock as small
+
+-- the standard rules with this ignore delay
+abbrev pub rules_with : Span → Rules
+rules_with ignore = record { consistency = minutes 30; ignore = ignore; delete = hours 48; partial = hours 48; upload = minutes 30; tick = record { ms = 1 }; page_limit = 1_000; replicas = [] }
+
+abbrev pub script_with : Span → Script
+script_with ignore = record { rules = rules_with ignore; gateways = one.script.gateways; blocks = one.script.blocks; selectors = one.script.selectors; phases = one.script.phases }
+
+-- marks are ignored for a second
+abbrev pub hasty : Script
+hasty = script_with (record { ms = 1_000 })
+
+-- marks are ignored for as long as objects stand after their mark
+abbrev pub idle : Script
+idle = script_with (hours 48)
+
+-- the sync's last read, and the query's first one
+abbrev pub last_read : Entry
+last_read = found 9 2 1_800_003 (key.Meta small.a) small.meta
+
+abbrev pub first_call : Entry
+first_call = found 10 2 1_800_004 (key.Index small.a) small.index

@@ -1,0 +1,41 @@
+-- The entries of runs over the small block, from a number and a moment on, where each operation takes a millisecond.
+use Rattle.std.specs.Prelude.{ℕ, ◌+◌, List, [], ◌∷◌}
+use Rattle.block_keys.specs.declared.key.Key.TheVariants as key
+use Rattle.world_core.specs.declared.entry.Entry.{Entry}
+use Rattle.meta_fetcher.specs.declared.view.View.{View}
+use Rattle.sync_filters.specs.declared.found.Found.{Found}
+use Rattle.tests_worked.specs.SmallBlock as small
+use Rattle.tests_worked.specs.Entries.{stored, found, absent, listed}
+
+-- an upload of it into a bucket that does not have it
+abbrev pub upload : ℕ → ℕ → ℕ → List Entry
+upload seq seat moment =
+    absent seq seat moment (key.Meta small.a)
+    ∷ stored (seq + 1) seat (moment + 1) (key.Segment small.a 1) small.segment
+    ∷ stored (seq + 2) seat (moment + 2) (key.Index small.a) small.index
+    ∷ stored (seq + 3) seat (moment + 3) (key.Meta small.a) small.meta
+    ∷ []
+
+-- a sync that finds it alone
+abbrev pub sync : ℕ → ℕ → ℕ → List Entry
+sync seq seat moment =
+    listed seq seat moment (small.a_text ∷ [])
+    ∷ absent (seq + 1) seat (moment + 1) (key.Mark small.a)
+    ∷ found (seq + 2) seat (moment + 2) (key.Meta small.a) small.meta
+    ∷ []
+
+-- what that sync reads
+abbrev pub seen : ℕ → Found
+seen moment = small.found (moment + 1) (moment + 2)
+
+-- the view of that sync, with what it keeps
+abbrev pub view : ℕ → ℕ → List Found → View
+view seq moment kept =
+    record { first = seq; begin = record { ms = moment }; end = record { ms = moment + 2 }; kept = kept; covered = [] }
+
+-- a query over a view that keeps it
+abbrev pub query : ℕ → ℕ → ℕ → List Entry
+query seq seat moment =
+    found seq seat moment (key.Index small.a) small.index
+    ∷ found (seq + 1) seat (moment + 1) (key.Segment small.a 1) small.segment
+    ∷ []

@@ -1,0 +1,63 @@
+ghost use Rattle.std.specs.Prelude.{◌≡◌, ℕ, List, All, Bool, true};
+ghost use Rattle.world_core.specs.Standing.{IsHonest};
+ghost use Rattle.script_core.specs.Lawful.{IsLawfulScript};
+ghost use Rattle.script_core.specs.Spelling.{Spells};
+ghost use Rattle.lifecycle_core.specs.Breaches.{IsUnbroken};
+ghost use Rattle.lifecycle_core.specs.Completed.{IsSettled};
+ghost use Rattle.lifecycle_core.specs.Guarantees.{IsExact, IsGiven, IsGuaranteed, IsSyncOf, LeavesNoneOut, NamesUploads};
+ghost use Rattle.lifecycle_core.specs.Phases.{IsRunOf, AreFinished};
+ghost use Rattle.lifecycle_core.specs.TimeRules.{IsMarkedInTime, IsReadInTime, IsSyncedInTime, IsUploadedInTime};
+ghost use Rattle.replay_cli.specs.Verdicts.{IsReport, IsWholeRun};
+ghost use Rattle.tests_worked.specs.OneBlock.{text, script, journal, ends, report, sync, query, used, asked};
+ghost use Rattle.tests_worked.specs.SmallBlock.{a};
+
+/// A law: the script is what its text spells, and lawful.
+pub fn one_block_is_spelled()
+    ensures spelled { Spells text script }
+    ensures lawful { IsLawfulScript script }
+{}
+
+/// A law: the journal is that of a run of the script that comes to these ends.
+pub fn one_block_runs()
+    ensures { IsRunOf script journal ends }
+{}
+
+/// A law: the bucket gave back what was put.
+pub fn one_block_is_honest()
+    ensures { IsHonest journal }
+{}
+
+/// A law: all is done, and what is printed says so. Nothing else may be printed.
+pub fn one_block_is_reported()
+    ensures finished { AreFinished script 0 script.phases ends }
+    ensures report { IsReport script script.phases ends true report }
+    ensures only { (as_asked : Bool) (other : List ℕ) → IsReport script script.phases ends as_asked other → other ≡ report }
+    ensures whole { IsWholeRun script true report journal }
+{}
+
+/// A law: the query's answer is the run's, it is exact, and it names a complete upload, as it has to.
+pub fn one_block_is_answered()
+    ensures given { IsGiven script ends asked }
+    ensures exact { IsExact script asked }
+    ensures named { NamesUploads script journal asked }
+    ensures settled { IsSettled script journal used a }
+{}
+
+/// A law: the run keeps the rules of time, so that its query may leave no block out, and it leaves none out.
+pub fn one_block_is_in_time()
+    ensures uploaded { (ulid : ℕ) → IsUploadedInTime script.rules ulid journal }
+    ensures marked { (ulid : ℕ) → IsMarkedInTime script.rules ulid journal }
+    ensures synced { IsSyncOf journal used sync × IsSyncedInTime script.rules sync }
+    ensures read { All (IsReadInTime script.rules used.view) query }
+    ensures covered { LeavesNoneOut script journal asked }
+{}
+
+/// A law: so no entry of it breaks a rule.
+pub fn one_block_breaks_no_rule()
+    ensures { IsUnbroken script journal }
+{}
+
+/// A law: all that is guaranteed of a run holds of it.
+pub fn one_block_is_guaranteed()
+    ensures { IsGuaranteed script journal ends }
+{}

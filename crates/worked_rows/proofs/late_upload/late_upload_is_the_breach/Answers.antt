@@ -1,5 +1,0 @@
-use Rattle.worked_rows.proofs.OneUnbroken.{late_is_breach}
-use Rattle.worked_rows.proofs.late_upload.late_upload_is_the_breach.Goals as goal
-
-pub returns : goal.returns
-returns c = late_is_breach

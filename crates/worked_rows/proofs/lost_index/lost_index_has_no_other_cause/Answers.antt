@@ -1,5 +1,0 @@
-use Rattle.worked_rows.proofs.NoCause as row
-use Rattle.worked_rows.proofs.lost_index.lost_index_has_no_other_cause.Goals as goal
-
-pub returns : goal.returns
-returns c = record { unwell = row.not_well; other_put = row.other_put; other_mark = row.other_mark; no_sync = row.no_sync; other_read = row.other_read }

@@ -1,5 +1,0 @@
-use Rattle.worked_rows.proofs.OneUnbroken.{lost_is_breach}
-use Rattle.worked_rows.proofs.lost_index.lost_index_is_the_breach.Goals as goal
-
-pub returns : goal.returns
-returns c = lost_is_breach

@@ -1,5 +1,0 @@
-use Rattle.worked_rows.proofs.OneGuaranteed as row
-use Rattle.worked_rows.proofs.lost_index.lost_index_runs.Goals as goal
-
-pub returns : goal.returns
-returns c = record { run = row.lost_run; finished = row.lost_finished }

@@ -1,5 +1,0 @@
-use Rattle.worked_rows.proofs.OneAnswer as answer
-use Rattle.worked_rows.proofs.one_block.one_block_is_answered.Goals as goal
-
-pub returns : goal.returns
-returns c = record { given = answer.given; exact = answer.exact; named = answer.names; settled = answer.settled }

@@ -1,5 +1,0 @@
-use Rattle.worked_rows.proofs.OneRefused.{meta_absent_is_a_lie}
-use Rattle.worked_rows.proofs.one_block_changed.absent_meta_is_a_lie.Goals as goal
-
-pub returns : goal.returns
-returns c = meta_absent_is_a_lie

@@ -1,5 +1,0 @@
-use Rattle.worked_rows.proofs.OneUnsound.{nothing_leaves_out}
-use Rattle.worked_rows.proofs.one_block_changed.answer_of_nothing_leaves_one_out.Goals as goal
-
-pub returns : goal.returns
-returns c = nothing_leaves_out

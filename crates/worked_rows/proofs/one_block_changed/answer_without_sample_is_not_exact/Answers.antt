@@ -1,5 +1,0 @@
-use Rattle.worked_rows.proofs.OneUnsound.{not_exact}
-use Rattle.worked_rows.proofs.one_block_changed.answer_without_sample_is_not_exact.Goals as goal
-
-pub returns : goal.returns
-returns c = not_exact

@@ -1,5 +1,0 @@
-use Rattle.worked_rows.proofs.OneRefused.{index_first_refused}
-use Rattle.worked_rows.proofs.one_block_changed.index_before_segment_is_refused.Goals as goal
-
-pub returns : goal.returns
-returns c = index_first_refused

@@ -1,5 +1,0 @@
-use Rattle.worked_rows.proofs.OneUnsound.{strange_refused}
-use Rattle.worked_rows.proofs.one_block_changed.strange_source_is_refused.Goals as goal
-
-pub returns : goal.returns
-returns c = strange_refused

@@ -1,5 +1,0 @@
-use Rattle.worked_rows.proofs.OneStrict.{slow_sync, old_view}
-use Rattle.worked_rows.proofs.one_strict.strict_rules_are_broken.Goals as goal
-
-pub returns : goal.returns
-returns c = record { sync = slow_sync; view = old_view }

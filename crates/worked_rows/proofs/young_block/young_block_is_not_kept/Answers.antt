@@ -1,5 +1,0 @@
-use Rattle.worked_rows.proofs.YoungBlock.{run_turned, honest_turned}
-use Rattle.worked_rows.proofs.young_block.young_block_is_not_kept.Goals as goal
-
-pub returns : goal.returns
-returns c = record { run = run_turned; honest = honest_turned }

@@ -1,8 +1,0 @@
-use Rattle.std.proofs.Common.{refl}
-use Rattle.worked_rows.specs.YoungBlock.{early, late, early_turned, late_turned}
-use Rattle.worked_rows.proofs.YoungBlock.{finished}
-use Rattle.worked_rows.proofs.YoungReport.{reports}
-use Rattle.worked_rows.proofs.young_block.young_block_is_reported.Goals as goal
-
-pub returns : goal.returns
-returns c = record { finished = finished early late; report = reports early late refl refl; turned_finished = finished early_turned late_turned; turned_report = reports early_turned late_turned refl refl }

@@ -1,5 +1,0 @@
-use Rattle.worked_rows.proofs.Texts.{young_spelled, young_lawful}
-use Rattle.worked_rows.proofs.young_block.young_block_is_spelled.Goals as goal
-
-pub returns : goal.returns
-returns c = record { spelled = young_spelled; lawful = young_lawful }
