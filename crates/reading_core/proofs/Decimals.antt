@@ -20,8 +20,8 @@ AreDigits text = list_all is_ascii_digit text ≡ true
 tells : IsDigitsTest AreDigits
 tells = search rules
 
-pub own : IsNumeralModel AreDigits (digits_value 10)
-own = numerals_by_value AreDigits tells
+pub digits_are_numerals : IsNumeralModel AreDigits (digits_value 10)
+digits_are_numerals = numerals_by_value AreDigits tells
 
 -- digits that follow those of a number
 digits_after : (n : ℕ) (ds : List ℕ) → 0 < n → AllBelowBase 10 ds → digits_of 10 (number_from_digits_after 10 n ds) ≡ digits_of 10 n ++ ds

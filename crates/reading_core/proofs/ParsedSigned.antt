@@ -11,15 +11,8 @@ use Rattle.reading_core.specs.declared.refusal.NumberRefusal.{NumberRefusal}
 use Rattle.reading_core.specs.declared.refusal.NumberRefusal.TheVariants.{NotANumber, TooLarge}
 use Rattle.reading_core.specs.Decimal.{signed_text, is_signed_decimal, signed_of, fits_signed}
 use Rattle.reading_core.proofs.Parsed.{true_or_false}
+use Rattle.reading_core.proofs.SignedRanges.{fits_from_test, test_from_fits}
 use Rattle.reading_core.proofs.SignedDecimals.{signed_text_of_value, signed_texts, signed_numeral}
-
-fits_from_test : (n : ℤ) → fits_signed n ≡ true → FitsSigned w64 n
-fits_from_test (pos n) e = record { sfits = ltb-true _ _ e }
-fits_from_test (negsuc n) e = record { sfits = ltb-true _ _ e }
-
-test_from_fits : (n : ℤ) → FitsSigned w64 n → fits_signed n ≡ true
-test_from_fits (pos n) fits = lt-ltb _ _ fits.sfits
-test_from_fits (negsuc n) fits = lt-ltb _ _ fits.sfits
 
 fits_or_not : (n : ℤ) → (FitsSigned w64 n) ⊎ (¬ FitsSigned w64 n)
 fits_or_not n =
