@@ -4,16 +4,20 @@ use Rattle.std.specs.Prelude.{slice_get}
 use Rattle.std.specs.declared.cmp.Ordering.{Ordering}
 use Rattle.std.specs.declared.cmp.Ordering.TheVariants.{Less, Equal, Greater}
 use Rattle.std.specs.Cmp.{IsTotalOrder}
-use Rattle.std.specs.List.{All, AllByRecursion, AllPairs, Contains}
+use Rattle.std.specs.List.{All, AllByRecursion, AllPairs, Contains, IsDistinct}
+use Rattle.std.specs.Ordering.{is_lt, is_eq, eq_by_cmp, ordering_reverse}
+use Rattle.std.proofs.lemmas.Bool.{cases_Bool}
 use Rattle.std.specs.List.Sorted.{IsStrictlySortedBy}
 use Rattle.std.proofs.lemmas.List.Elements.{All-from_recursion, recursion_from_All, All-contains, Contains-append_left, Contains-append_right, Contains-append_cases}
 use Rattle.std.proofs.lemmas.List.Kept.{AllPairs-cons}
-use Rattle.std.proofs.lemmas.Map.Keys.{sorted_head, sorted_tail, Less-from_sorted}
+use Rattle.std.proofs.lemmas.Map.Keys.{sorted_head, sorted_tail, Less-from_sorted, IsDistinct-head, IsDistinct-tail}
 use Rattle.std.proofs.lemmas.Map.Views.{All-before_last}
 use Rattle.std.proofs.lemmas.Option.{slice_get_within, get_or_from_slice_get, slice_get-get_or}
 use Rattle.list_core.specs.Order.{InOrderAfter, ComesAfter}
 use Rattle.list_core.proofs.Lists.{AllByRecursion-append, AllByRecursion-weaker, AllByRecursion-map}
-use Rattle.list_core.proofs.Membership.{each_member, all_members, contains_first, contains_later, only_member, into_map}
+use Rattle.list_core.proofs.Membership.{each_member, all_members, contains_first, contains_later, only_member, into_map, of_placed, of_in_order}
+use Rattle.list_core.proofs.Bools.{Less-from_is_lt}
+use Rattle.list_core.specs.Ordered.{placed, in_order}
 
 -- ---- a relation that goes on, told from the one before
 
@@ -111,3 +115,39 @@ module _ {A : Type 0} (cmp : A → A → Ordering) where
   sorted_unmap order f keeps (x ∷ xs) up =
       sorted_cons x xs (all_members (λ y. cmp x y ≡ Less) xs (λ y among. keeps x y (each_member (λ z. order (f x) z ≡ Less) (map f xs) (f y) (sorted_head order (f x) (map f xs) up) (into_map f xs y among))))
       (sorted_unmap order f keeps xs (sorted_tail order (f x) (map f xs) up))
+
+-- ---- a list that was put in order
+
+less_of_two : (o p : Ordering) → o ≡ ordering_reverse p → is_eq o ≡ false → is_lt p ≡ false → o ≡ Less
+less_of_two o Less e apart greater = absurd cc
+less_of_two o Equal e apart greater = let tie : is_eq o ≡ true = rw e refl in absurd cc
+less_of_two o Greater e apart greater = e
+
+module _ {A : Type 0} (cmp : A → A → Ordering) (total : IsTotalOrder cmp) where
+  abbrev less : A → A → Bool
+  less x y = is_lt (cmp x y)
+
+  -- of two that are not equal one is less
+  other_less : (x y : A) → is_eq (cmp x y) ≡ false → is_lt (cmp y x) ≡ false → cmp x y ≡ Less
+  other_less x y apart greater = less_of_two (cmp x y) (cmp y x) (total.antisymm x y) apart greater
+
+  -- a member at its place among others, none of which is its equal
+  pub sorted_placed : (x : A) (ys : List A) → AllByRecursion (λ y. is_eq (cmp x y) ≡ false) ys → IsStrictlySortedBy cmp ys → IsStrictlySortedBy cmp (placed less x ys)
+  unfolding placed
+  sorted_placed x [] apart up = sorted_cons cmp x [] tt up
+  sorted_placed x (y ∷ ys) apart up = elim (cases_Bool (is_lt (cmp y x))) [
+    | inl test ↦ rw test (sorted_cons cmp y (placed less x ys) (all_members (λ z. cmp y z ≡ Less) (placed less x ys) (λ z among. elim (of_placed less x z ys among) [
+      | inl same ↦ subst (λ w. cmp y w ≡ Less) same (Less-from_is_lt (cmp y x) test)
+      | inr other ↦ each_member (λ w. cmp y w ≡ Less) ys z (sorted_head cmp y ys up) other
+    ])) (sorted_placed x ys apart.1 (sorted_tail cmp y ys up)))
+    | inr test ↦ let first : cmp x y ≡ Less = other_less x y apart.0 test in
+        rw test (sorted_cons cmp x (y ∷ ys) (first, AllByRecursion-weaker (λ z. cmp y z ≡ Less) (λ z. cmp x z ≡ Less) (λ z behind. total.trans x y z first behind) ys (sorted_head cmp y ys up)) up)
+  ]
+
+  -- different members in order strictly ascend
+  pub sorted_in_order : (xs : List A) → IsDistinct (eq_by_cmp cmp) xs → IsStrictlySortedBy cmp (in_order less xs)
+  unfolding in_order
+  sorted_in_order [] apart = sorted_nil cmp
+  sorted_in_order (x ∷ xs) apart =
+      sorted_placed x (in_order less xs) (all_members (λ y. is_eq (cmp x y) ≡ false) (in_order less xs) (λ y among. each_member (λ z. is_eq (cmp x z) ≡ false) xs y (IsDistinct-head (eq_by_cmp cmp) x xs apart) (of_in_order less y xs among)))
+      (sorted_in_order xs (IsDistinct-tail (eq_by_cmp cmp) x xs apart))
