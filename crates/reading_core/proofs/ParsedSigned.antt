@@ -1,12 +1,12 @@
 -- The same for numbers on either side of zero.
-use Rattle.std.proofs.Common.{◌≡◌, ◌≢◌, ℕ, ◌+◌, ◌^◌, ◌<◌, Bool, true, false, ltb, List, length, Result, Ok, Err, refl, sym, ap, ◌∙◌, arith, ◌⊎◌, inl, inr, ℤ, pos, negsuc}
+use Rattle.std.proofs.Common.{◌≡◌, ◌≢◌, ℕ, true, false, List, Result, Ok, Err, refl, sym, ap, ◌∙◌, ◌⊎◌, inl, inr, ℤ}
 use Rattle.std.specs.Prelude.{IfOk}
-use Rattle.std.specs.Result.{OkIff, result_or}
+use Rattle.std.specs.Result.{result_or}
 use Rattle.std.specs.Int.{w64}
 use Rattle.std.specs.Int.RustNames.{FitsSigned}
-use Rattle.std.specs.Str.Parse.{signed_digits_value, ParsesSigned, IsNumeral, without_leading_sign}
+use Rattle.std.specs.Str.Parse.{signed_digits_value, ParsesSigned}
 use Rattle.std.specs.declared.num.ParseIntError.{ParseIntError}
-use Rattle.std.proofs.lemmas.Bool.{lt-ltb, ltb-true, false_from_ne_true}
+use Rattle.std.proofs.lemmas.Bool.{false_from_ne_true}
 use Rattle.reading_core.specs.declared.refusal.NumberRefusal.{NumberRefusal}
 use Rattle.reading_core.specs.declared.refusal.NumberRefusal.TheVariants.{NotANumber, TooLarge}
 use Rattle.reading_core.specs.Decimal.{signed_text, is_signed_decimal, signed_of, fits_signed}
