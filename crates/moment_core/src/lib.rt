@@ -1,7 +1,6 @@
 //! Moments, spans of time, ranges of times, and the rules of a run.
 #![tactic(auto)]
 
-mod digits;
 mod moment;
 mod partition;
 mod refusal;

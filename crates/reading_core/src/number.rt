@@ -1,11 +1,10 @@
 ghost use Rattle.std.specs.Prelude.{◌≡◌, ◌++◌, ◌^◌, ◌<◌, ◌≤◌, ◌≢◌, ◌↔◌, ◌==◌, ℕ, ℤ, not, IsTrue, IfOk, OnOk, OnErr, Ok, Err};
 ghost use Rattle.std.specs.Int.{w64};
 ghost use Rattle.std.specs.Int.RustNames.{FitsSigned};
-ghost use Rattle.std.specs.List.{list_all};
-ghost use Rattle.std.specs.Char.{is_ascii_digit};
 ghost use Rattle.reading_core.specs.Decimal.{is_decimal, is_signed_decimal, unsigned_of, signed_of, decimal_text, signed_text};
 
 use crate::NumberRefusal;
+use crate::digits::all_digits;
 use itoa::Buffer;
 use list_core::NoMemory;
 
@@ -82,12 +81,6 @@ fn are_digits(text: &[u8]) -> bool
     ensures { result ≡ is_decimal text.now }
 {
     !text.is_empty() && (text[0] != b'0' || text.len() == 1) && all_digits(text)
-}
-
-fn all_digits(text: &[u8]) -> bool
-    ensures { result ≡ list_all is_ascii_digit text.now }
-{
-    text.iter().all(|byte| byte.is_ascii_digit())
 }
 
 #[tactic(auto, unfolding(crate::specs::Decimal::is_signed_decimal))]
