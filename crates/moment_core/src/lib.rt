@@ -12,6 +12,3 @@ pub use partition::Partition;
 pub use refusal::{BadSpan, MomentRefusal};
 pub use rules::Rules;
 pub use span::Span;
-
-#[cfg(test)]
-mod tests;

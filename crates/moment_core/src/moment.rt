@@ -34,7 +34,8 @@ impl Moment {
         ensures gives { option_map (λ moment. moment.ms) (result_ok result) ≡ moment_of text.now }
         ensures refused { IfErr result (λ refusal. refusal ≡ MomentRefusal.BadMoment) }
         ensures found { IfOk result (λ moment. IsMomentText text.now moment.ms) }
-        ensures only { (ms : ℕ) → IsMomentText text.now ms → IsOkAnd result (λ moment. moment.ms ≡ ms) }
+        ensures only { (ms : ℕ) → IsMomentText text.now ms
+            → IsOkAnd result (λ moment. moment.ms ≡ ms) }
         ensures none { IsErr result ↔ ((ms : ℕ) → ¬ IsMomentText text.now ms) }
     {
         match read_ms(text) {

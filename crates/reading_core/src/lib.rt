@@ -8,6 +8,3 @@ mod refusal;
 pub use digits::{all_digits, short_number};
 pub use number::{put_signed, put_unsigned, read_signed, read_unsigned};
 pub use refusal::NumberRefusal;
-
-#[cfg(test)]
-mod tests;

@@ -1,5 +1,5 @@
 -- The alphabet both ways, computed for each digit and each byte.
-use Rattle.std.proofs.Common.{◌≡◌, ℕ, ◌≤◌, zero, suc, ◌+◌, ◌-◌, ◌<◌, Bool, true, false, ◌&&◌, Option, None, Some, eqb, leb, cond, refl, sym, ap, subst, ◌⊎◌, ⊎_elim, inl, inr, arith, List, length, get_or, Ordering}
+use Rattle.std.proofs.Common.{◌≡◌, ℕ, ◌≤◌, zero, suc, ◌+◌, ◌-◌, ◌<◌, Bool, true, false, ◌&&◌, Option, None, Some, eqb, leb, cond, refl, ap, subst, ⊎_elim, arith, List, length, get_or, Ordering}
 use Rattle.std.proofs.lemmas.Bool.{and_parts, cases_lt}
 use Rattle.std.proofs.lemmas.Bool.Decides.{nat_tests}
 use Rattle.std.proofs.lemmas.List.Quantifiers.{position-Some}
