@@ -1,18 +1,20 @@
 -- What ties the text of a key to the key.
-use Rattle.std.proofs.Common.{◌≡◌, ◌↔◌, ℕ, suc, ◌+◌, ◌<◌, Bool, true, false, not, Option, None, Some, Result, Ok, Err, cond, eqb, ltb, List, [], ◌∷◌, ◌++◌, map, length, take, drop, ◌⊎◌, inl, inr, ⊎_elim, refl, sym, ap, subst, ◌∙◌, arith, codes, append_assoc, length-append, Ordering}
+use Rattle.std.proofs.Common.{◌≡◌, ◌↔◌, ℕ, ◌+◌, ◌<◌, Bool, true, false, not, Option, None, Some, Result, Ok, Err, cond, eqb, ltb, List, [], ◌∷◌, ◌++◌, map, length, take, drop, ◌⊎◌, inl, inr, ⊎_elim, refl, sym, ap, subst, ◌∙◌, arith, codes, append_assoc, length-append, Ordering}
 use Rattle.std.specs.List.{before_first, after_first, position_or_len, list_all}
 use Rattle.std.specs.Int.Digits.{AllBelowBase}
 use Rattle.std.specs.Cmp.Lexicographic.{slice_cmp}
 use Rattle.std.specs.Option.{option_map}
 use Rattle.std.specs.Ordering.{nat_cmp, ordering_then}
 use Rattle.std.specs.Result.{IfOk, IsErr, result_ok}
-use Rattle.std.proofs.lemmas.Bool.{true≢false}
+use Rattle.std.proofs.lemmas.Bool.{and_parts, ltb-true, true≢false}
+use Rattle.std.proofs.lemmas.Option.{none-some, same_Some}
+use Rattle.std.proofs.lemmas.Fmt.{IsAscii-from_digits}
+use Rattle.std.proofs.Math.Numerals.{one-add}
+use Rattle.ulid_core.proofs.AsciiTexts.{IsAscii-ulid_text}
 use Rattle.std.specs.Str.{bytes_eq, IsUtf8, IsAscii}
 use Rattle.std.proofs.lemmas.Str.{IsUtf8-from_ascii, IsAscii-append}
 use Rattle.std.proofs.lemmas.Str.Ascii.{IsAscii-nil, IsAscii-cons}
-use Rattle.std.proofs.lemmas.Str.Parse.{digit_from_value}
 use Rattle.std.proofs.lemmas.Str.Pattern.{IsSplitOnceResult}
-use Rattle.std.specs.Str.Parse.{AllDigits}
 use Rattle.std.proofs.lemmas.Bool.Decides.{nat_tests}
 use Rattle.std.proofs.lemmas.List.{length-map}
 use Rattle.std.proofs.lemmas.Slice.Eq.{bytes_eq-Decides}
@@ -27,26 +29,23 @@ use Rattle.block_keys.specs.KeyText.{IsName, IsKeyText, name_of, key_text, segme
 use Rattle.block_keys.specs.declared.key.Key.{Key}
 use Rattle.block_keys.specs.declared.key.Key.TheVariants.{Meta, Index, Segment, Mark}
 use Rattle.block_keys.proofs.SixDigits.{IsSegmentName-six_digits, IsSegmentName-small, IsSegmentName-unique, slice_cmp-six_digits}
-use Rattle.block_keys.proofs.NameText.{slash_cases, cut_at_slash, after_first-none, uncut, and_first, and_second, segment_of-found, segment_of-only, segment_of-none, None-not-Some}
+use Rattle.block_keys.proofs.NameText.{slash_cases, cut_at_slash, after_first-none, uncut, segment_of-found, segment_of-only, segment_of-none}
 
 -- a choice that gave a key
 key_test : (b : Bool) (x y : Option Key) (key : Key) → cond b x y ≡ Some key → ((b ≡ true) × (x ≡ Some key)) ⊎ (y ≡ Some key)
 key_test true x y key is = inl (refl, is)
 key_test false x y key is = inr is
 
-Some-key : {k l : Key} → Some k ≡ Some l → k ≡ l
-Some-key e = cc
-
 map_found : (ulid : ℕ) (o : Option ℕ) (key : Key) → option_map (λ n. Segment ulid n) o ≡ Some key → (n : ℕ) × (o ≡ Some n) × (key ≡ Segment ulid n)
-map_found ulid None key is = absurd (None-not-Some is)
-map_found ulid (Some n) key is = (n, refl, sym (Some-key is))
+map_found ulid None key is = absurd (none-some key is)
+map_found ulid (Some n) key is = (n, refl, sym (same_Some (Segment ulid n) key is))
 
 -- a key of the block with the name
 abbrev Named : ℕ → List ℕ → Key → Type 0
 Named ulid name key = (key_ulid key ≡ ulid) × IsName name key
 
 found_named : (ulid : ℕ) (name : List ℕ) (found key : Key) → Some found ≡ Some key → Named ulid name found → Named ulid name key
-found_named ulid name found key e is = subst (Named ulid name) (Some-key e) is
+found_named ulid name found key e is = subst (Named ulid name) (same_Some found key e) is
 
 key_named-found : (ulid : ℕ) (name : List ℕ) (key : Key) → key_named ulid name ≡ Some key → Named ulid name key
 unfolding key_named
@@ -68,7 +67,7 @@ key_named-nil ulid = ap (option_map (λ n. Segment ulid n)) (segment_of-none [] 
 
 within_found : (r : Result ℕ UlidRefusal) (name : List ℕ) (key : Key) → key_within r name ≡ Some key → (ulid : ℕ) × (r ≡ Ok ulid) × (key_named ulid name ≡ Some key)
 within_found (Ok ulid) name key is = (ulid, refl, is)
-within_found (Err e) name key is = absurd (None-not-Some is)
+within_found (Err e) name key is = absurd (none-some key is)
 
 within_nil : (r : Result ℕ UlidRefusal) → key_within r [] ≡ None
 within_nil (Ok ulid) = key_named-nil ulid
@@ -96,12 +95,8 @@ key_of-found text key is =
       is_name = known.1;
     } in
     let empty : position_or_len is_slash text ≡ length text → IsKeyText text key = λ none.
-    absurd (None-not-Some (sym (key_named-nil parts.0) ∙ ap (key_named parts.0) (sym (after_first-none text none)) ∙ parts.2)) in
+    absurd (none-some key (sym (key_named-nil parts.0) ∙ ap (key_named parts.0) (sym (after_first-none text none)) ∙ parts.2)) in
     ⊎_elim empty found (slash_cases text)
-
--- the text of a ULID holds no slash
-one_more : (n : ℕ) → 1 + n ≡ suc n
-one_more n = omega arith
 
 before_slash : (digits name : List ℕ) → AllBelowBase 32 digits → position_or_len is_slash (map character digits ++ (47 ∷ name)) ≡ length digits
 before_slash [] name all = refl
@@ -109,7 +104,7 @@ before_slash (d ∷ digits) name all =
     let range = character-range d all.0 in
     let other : eqb (character d) 47 ≡ false = grind (arith, nat_tests) in
     ap (λ b. cond (not b) (1 + position_or_len is_slash (map character digits ++ (47 ∷ name))) 0) other
-    ∙ ap (λ n. 1 + n) (before_slash digits name all.1) ∙ one_more (length digits)
+    ∙ ap (λ n. 1 + n) (before_slash digits name all.1) ∙ one-add (length digits)
 
 cut : (text : List ℕ) (digits name : List ℕ) → AllBelowBase 32 digits → text ≡ (map character digits ++ codes "/") ++ name
     → (before_first is_slash text ≡ map character digits) × (after_first is_slash text ≡ name)
@@ -196,43 +191,29 @@ IfOk-one_text text (Ok key) is = IsKeyText-unique text key (key_of-found text ke
 IfOk-one_text text (Err e) is = tt
 
 pub Ok-key_text : {E : Type 0} (text : List ℕ) (r : Result Key E) → result_ok r ≡ key_of text → (key : Key) → IsKeyText text key → r ≡ Ok key
-Ok-key_text text (Ok read) is key of_key = ap Ok (Some-key (is ∙ key_of-only text key of_key))
-Ok-key_text text (Err e) is key of_key = absurd (None-not-Some (is ∙ key_of-only text key of_key))
+Ok-key_text text (Ok read) is key of_key = ap Ok (same_Some read key (is ∙ key_of-only text key of_key))
+Ok-key_text text (Err e) is key of_key = absurd (none-some key (is ∙ key_of-only text key of_key))
 
 pub IsErr-key_text : {E : Type 0} (text : List ℕ) (r : Result Key E) → result_ok r ≡ key_of text → IsErr r ↔ ((key : Key) → ¬ IsKeyText text key)
 IsErr-key_text text (Ok key) is = (λ e. absurd (true≢false (sym e)), λ none. absurd (none key (key_of-found text key (sym is))))
-IsErr-key_text text (Err e) is = (λ r key of_key. None-not-Some (is ∙ key_of-only text key of_key), λ none. refl)
-
--- a key's text is ASCII
-IsAscii-characters : (digits : List ℕ) → AllBelowBase 32 digits → IsAscii (map character digits)
-IsAscii-characters [] all = IsAscii-nil
-IsAscii-characters (d ∷ digits) all =
-    let range = character-range d all.0 in
-    IsAscii-cons (character d) (map character digits) (omega arith) (IsAscii-characters digits all.1)
-
-IsAscii-digits : (text : List ℕ) → AllDigits 10 text → IsAscii text
-IsAscii-digits [] all = IsAscii-nil
-IsAscii-digits (c ∷ text) all =
-    let range = digit_from_value c all.0 in
-    IsAscii-cons c text (omega arith) (IsAscii-digits text all.1)
+IsErr-key_text text (Err e) is = (λ r key of_key. none-some key (is ∙ key_of-only text key of_key), λ none. refl)
 
 IsAscii-tested : (text : List ℕ) → list_all (λ c. ltb c 128) text ≡ true → IsAscii text
 IsAscii-tested [] all = IsAscii-nil
 IsAscii-tested (c ∷ text) all =
-    let low : ltb c 128 ≡ true = and_first (ltb c 128) (list_all (λ c. ltb c 128) text) all in
-    let small : c < 128 = grind (arith, nat_tests) in
-    IsAscii-cons c text small (IsAscii-tested text (and_second (ltb c 128) (list_all (λ c. ltb c 128) text) all))
+    let parts = and_parts (ltb c 128) (list_all (λ c. ltb c 128) text) all in
+    IsAscii-cons c text (ltb-true c 128 parts.0) (IsAscii-tested text parts.1)
 
 IsAscii-name : (name : List ℕ) (key : Key) → IsName name key → IsAscii name
 IsAscii-name name (Meta ulid) is = rw is (IsAscii-tested (codes "meta.json") refl)
 IsAscii-name name (Index ulid) is = rw is (IsAscii-tested (codes "index") refl)
 IsAscii-name name (Segment ulid number) is =
-    rw is.name_is (IsAscii-append (codes "chunks/") is.digits (IsAscii-tested (codes "chunks/") refl) (IsAscii-digits is.digits is.decimal))
+    rw is.name_is (IsAscii-append (codes "chunks/") is.digits (IsAscii-tested (codes "chunks/") refl) (IsAscii-from_digits is.digits is.decimal))
 IsAscii-name name (Mark ulid) is = rw is (IsAscii-tested (codes "deletion-mark.json") refl)
 
 pub IsUtf8-key_text : (text : List ℕ) (key : Key) → IsKeyText text key → IsUtf8 text
 IsUtf8-key_text text key is =
-    let block : IsAscii is.block = rw is.is_block.characters (IsAscii-characters is.is_block.digits is.is_block.below_base) in
+    let block = IsAscii-ulid_text is.block (key_ulid key) is.is_block in
     let front : IsAscii (is.block ++ codes "/") = IsAscii-append is.block (codes "/") block (IsAscii-tested (codes "/") refl) in
     IsUtf8-from_ascii text (rw is.text_is (IsAscii-append (is.block ++ codes "/") is.name front (IsAscii-name is.name key is.is_name)))
 
@@ -242,7 +223,7 @@ IsUtf8-key_text_of text key lawful block is = IsUtf8-key_text text key (IsKeyTex
 -- two keys have one text only where they are one
 pub key_text-distinct : (one other : Key) → IsKeyText (key_text one) one → IsKeyText (key_text other) other → key_text one ≡ key_text other → one ≡ other
 key_text-distinct one other is_one is_other same =
-    Some-key (sym (key_of-only (key_text one) one is_one) ∙ ap key_of same ∙ key_of-only (key_text other) other is_other)
+    same_Some one other (sym (key_of-only (key_text one) one is_one) ∙ ap key_of same ∙ key_of-only (key_text other) other is_other)
 
 -- lists that begin with equally many others
 cmp-append : (xs ys vs ws : List ℕ) → length xs ≡ length ys

@@ -1,18 +1,21 @@
 -- Names of segments, and texts cut at a slash.
-use Rattle.std.proofs.Common.{◌≡◌, ℕ, ◌+◌, ◌/◌, ◌%◌, ◌<◌, ◌≤◌, Bool, true, false, not, ◌&&◌, Option, None, Some, Result, Ok, cond, eqb, ltb, List, [], ◌∷◌, ◌++◌, length, drop, get_or, ◌⊎◌, inl, inr, ⊎_elim, refl, sym, ap, subst, ◌∙◌, arith, rules, codes}
+use Rattle.std.proofs.Common.{◌≡◌, ℕ, ◌+◌, ◌/◌, ◌%◌, ◌<◌, ◌≤◌, Bool, true, false, not, ◌&&◌, Option, None, Some, Result, Ok, cond, eqb, ltb, List, [], ◌∷◌, ◌++◌, length, drop, get_or, ◌⊎◌, inl, inr, ⊎_elim, refl, sym, ap, subst, ◌∙◌, arith, codes}
 use Rattle.std.specs.List.{before_first, after_first, position_or_len, list_all}
 use Rattle.std.specs.Char.{is_ascii_digit}
 use Rattle.std.specs.Str.{bytes_eq}
 use Rattle.std.specs.Str.Parse.{digits_value, ParsesUnsigned, AllDigits}
-use Rattle.std.proofs.lemmas.Bool.{cases_lt}
+use Rattle.std.proofs.lemmas.Bool.{and_from, and_parts, cases_lt}
+use Rattle.std.proofs.lemmas.Option.{none-some, same_Some}
 use Rattle.std.proofs.lemmas.Bool.Decides.{nat_tests}
 use Rattle.std.proofs.lemmas.List.Sums.{split_at_first, passes_at_first, prefix_len-le-length}
 use Rattle.std.proofs.lemmas.Slice.Eq.{bytes_eq-Decides}
-use Rattle.std.proofs.lemmas.Str.Parse.{IsNumeralModel, numerals_by_value, parse_gives, digits_value_short}
+use Rattle.std.proofs.lemmas.Str.Parse.{parse_gives, digits_value_short}
 use Rattle.std.proofs.lemmas.Str.Pattern.{IsSplitOnceResult, split_once_first}
 use Rattle.std.proofs.Math.ListN.{drop_of_length-le}
 use Rattle.std.proofs.Math.Nat.{div-div-eq-div-mul}
+use Rattle.list_core.proofs.Options.{tested_some}
 use Rattle.reading_core.specs.FixedDigits.{fixed_digits}
+use Rattle.reading_core.proofs.Decimals.{digits_are_numerals}
 use Rattle.block_keys.specs.KeyText.{six_digits, number_of, segment_of, is_slash, IsSegmentName}
 
 -- six digits one by one
@@ -51,61 +54,35 @@ cut_at_slash text some =
     let at : get_or text (position_or_len is_slash text) 0 ≡ 47 = let test = passes_at_first is_slash text 0 some in grind (arith, nat_tests) in
     split_at_first is_slash text 0 some ∙ ap (λ c. before_first is_slash text ++ (c ∷ after_first is_slash text)) at
 
-own : IsNumeralModel (λ ds. list_all is_ascii_digit ds ≡ true) (digits_value 10)
-own = numerals_by_value _ (search rules)
-
 -- six digits are a number below a million, which is parsed
 pub six-small : (digits : List ℕ) → list_all is_ascii_digit digits ≡ true → length digits ≡ 6 → digits_value 10 digits < 1_000_000
-six-small digits all six = digits_value_short own digits 6 all (omega arith)
+six-small digits all six = digits_value_short digits_are_numerals digits 6 all (omega arith)
 
 pub parse_six : {E : Type 0} (digits : List ℕ) (r : Result ℕ E) → ParsesUnsigned 32 10 digits r → list_all is_ascii_digit digits ≡ true → length digits ≡ 6 → r ≡ Ok (digits_value 10 digits)
-parse_six digits r h all six = let small = six-small digits all six in parse_gives own 32 digits r h all (omega arith) (omega arith)
-
--- what passes two tests
-pub and_first : (a b : Bool) → a && b ≡ true → a ≡ true
-and_first true b h = refl
-and_first false b h = absurd (cc)
-
-pub and_second : (a b : Bool) → a && b ≡ true → b ≡ true
-and_second true b h = h
-and_second false b h = absurd (cc)
-
-and_true : (a b : Bool) → a ≡ true → b ≡ true → a && b ≡ true
-and_true true true h k = refl
-and_true true false h k = absurd (cc)
-and_true false b h k = absurd (cc)
-
-Some-test : (b : Bool) (x : Option ℕ) (n : ℕ) → cond b x None ≡ Some n → (b ≡ true) × (x ≡ Some n)
-Some-test true x n is = (refl, is)
-Some-test false x n is = absurd (cc)
-
-Some-equal : {m n : ℕ} → Some m ≡ Some n → m ≡ n
-Some-equal e = cc
+parse_six digits r h all six = let small = six-small digits all six in parse_gives digits_are_numerals 32 digits r h all (omega arith) (omega arith)
 
 -- what six digits are read as
 pub number_of-found : (digits : List ℕ) (n : ℕ) → number_of digits ≡ Some n → (length digits ≡ 6) × AllDigits 10 digits × (n ≡ digits_value 10 digits) × (1 ≤ n) × (n < 1_000_000)
 unfolding number_of
 number_of-found digits n is =
-    let passed = Some-test (eqb (length digits) 6 && list_all is_ascii_digit digits && ltb 0 (digits_value 10 digits)) (Some (digits_value 10 digits)) n is in
-    let shape : eqb (length digits) 6 && list_all is_ascii_digit digits ≡ true = and_first (eqb (length digits) 6 && list_all is_ascii_digit digits) (ltb 0 (digits_value 10 digits)) passed.0 in
-    let all : list_all is_ascii_digit digits ≡ true = and_second (eqb (length digits) 6) (list_all is_ascii_digit digits) shape in
-    let counted : eqb (length digits) 6 ≡ true = and_first (eqb (length digits) 6) (list_all is_ascii_digit digits) shape in
-    let above : ltb 0 (digits_value 10 digits) ≡ true = and_second (eqb (length digits) 6 && list_all is_ascii_digit digits) (ltb 0 (digits_value 10 digits)) passed.0 in
+    let passed = tested_some (eqb (length digits) 6 && list_all is_ascii_digit digits && ltb 0 (digits_value 10 digits)) (Some (digits_value 10 digits)) n is in
+    let tests = and_parts (eqb (length digits) 6 && list_all is_ascii_digit digits) (ltb 0 (digits_value 10 digits)) passed.0 in
+    let shape = and_parts (eqb (length digits) 6) (list_all is_ascii_digit digits) tests.0 in
+    let all : list_all is_ascii_digit digits ≡ true = shape.1 in
+    let counted : eqb (length digits) 6 ≡ true = shape.0 in
+    let above : ltb 0 (digits_value 10 digits) ≡ true = tests.1 in
     let six : length digits ≡ 6 = grind (arith, nat_tests) in
     let some : 1 ≤ digits_value 10 digits = grind (arith, nat_tests) in
-    let value : n ≡ digits_value 10 digits = sym (Some-equal passed.1) in
+    let value : n ≡ digits_value 10 digits = sym (same_Some (digits_value 10 digits) n passed.1) in
     let small = six-small digits all six in
-    (six, own.to digits all, value, omega arith, omega arith)
+    (six, digits_are_numerals.to digits all, value, omega arith, omega arith)
 
 pub number_of-only : (digits : List ℕ) → length digits ≡ 6 → AllDigits 10 digits → 1 ≤ digits_value 10 digits → number_of digits ≡ Some (digits_value 10 digits)
 unfolding number_of
 number_of-only digits six all some =
     let counted : eqb (length digits) 6 ≡ true = grind (arith, nat_tests) in
     let above : ltb 0 (digits_value 10 digits) ≡ true = grind (arith, nat_tests) in
-    ap (λ b. cond b (Some (digits_value 10 digits)) None) (and_true _ _ (and_true _ _ counted (own.from digits all)) above)
-
-pub None-not-Some : {A : Type 0} {n : A} → ◌≡◌ {A = Option A} None (Some n) → ⊥
-None-not-Some e = cc
+    ap (λ b. cond b (Some (digits_value 10 digits)) None) (and_from _ _ (and_from _ _ counted (digits_are_numerals.from digits all)) above)
 
 -- a text has no slash, or one
 pub slash_cases : (text : List ℕ) → (position_or_len is_slash text ≡ length text) ⊎ (position_or_len is_slash text < length text)
@@ -118,7 +95,7 @@ pub segment_of-found : (name : List ℕ) (n : ℕ) → segment_of name ≡ Some 
 unfolding segment_of
 segment_of-found name n is =
     let named : position_or_len is_slash name < length name → IsSegmentName name n = λ some.
-    let passed = Some-test (bytes_eq (before_first is_slash name) (codes "chunks")) (number_of (after_first is_slash name)) n is in
+    let passed = tested_some (bytes_eq (before_first is_slash name) (codes "chunks")) (number_of (after_first is_slash name)) n is in
     let folder : before_first is_slash name ≡ codes "chunks" = (bytes_eq-Decides (before_first is_slash name) (codes "chunks")).0 passed.0 in
     let parts = number_of-found (after_first is_slash name) n passed.1 in
     record {
@@ -129,7 +106,7 @@ segment_of-found name n is =
       number_is = parts.2;
       first = parts.3;
     } in
-    ⊎_elim (λ none. absurd (None-not-Some (sym (segment_of-none name none) ∙ is))) named (slash_cases name)
+    ⊎_elim (λ none. absurd (none-some n (sym (segment_of-none name none) ∙ is))) named (slash_cases name)
 
 pub segment_of-only : (name : List ℕ) (n : ℕ) → IsSegmentName name n → segment_of name ≡ Some n
 unfolding segment_of

@@ -1,5 +1,5 @@
 -- The six digits of a segment's number.
-use Rattle.std.proofs.Common.{◌≡◌, ℕ, ◌+◌, ◌^◌, ◌<◌, ◌≤◌, List, [], ◌∷◌, ◌++◌, map, length, refl, sym, ap, subst, ◌∙◌, arith, codes, Ordering}
+use Rattle.std.proofs.Common.{◌≡◌, ℕ, ◌+◌, ◌^◌, ◌<◌, ◌≤◌, List, [], ◌∷◌, ◌++◌, map, length, refl, sym, ap, subst, ◌∙◌, arith, codes}
 use Rattle.std.specs.Char.{digit_value}
 use Rattle.std.specs.Cmp.Lexicographic.{slice_cmp}
 use Rattle.std.specs.Int.Digits.{number_from_digits, AllBelowBase}
@@ -13,6 +13,7 @@ use Rattle.std.proofs.lemmas.Str.Parse.{digit_from_value}
 use Rattle.reading_core.specs.FixedDigits.{fixed_digits}
 use Rattle.reading_core.proofs.Positional.{length-fixed_digits, below-fixed_digits, number-fixed_digits, cmp-digits}
 use Rattle.block_keys.specs.KeyText.{IsSegmentName, six_digits}
+use Rattle.list_core.proofs.Bools.{nat_cmp-Equal}
 
 -- the character of a decimal digit
 abbrev shown : ℕ → ℕ
@@ -61,9 +62,6 @@ IsSegmentName-small name n is =
 cmp-shift : (d e : ℕ) → nat_cmp (shown d) (shown e) ≡ nat_cmp d e
 cmp-shift d e = grind (arith, nat_tests)
 
-nat_cmp-self : (n : ℕ) → nat_cmp n n ≡ Ordering.Equal
-nat_cmp-self n = grind (arith, nat_tests)
-
 -- six digits in base ten are in the order of their numbers
 cmp-six : (ds es : List ℕ) (m n : ℕ) → length ds ≡ 6 → length es ≡ 6 → AllBelowBase 10 ds → AllBelowBase 10 es
     → number_from_digits 10 ds ≡ m → number_from_digits 10 es ≡ n → slice_cmp nat_cmp ds es ≡ nat_cmp m n
@@ -98,5 +96,5 @@ IsSegmentName-unique name n is =
     let order : slice_cmp nat_cmp (map digit_value is.digits) (fixed_digits 10 6 n) ≡ nat_cmp n n =
     cmp-six (map digit_value is.digits) (fixed_digits 10 6 n) n n (length-map is.digits digit_value ∙ is.count) (length-fixed_digits 10 6 n)
     (all_below_base_from_digits 10 is.digits is.decimal) (below-fixed_digits 10 6 n (omega arith)) values (number-fixed_digits 10 6 n (omega arith) (omega arith)) in
-    let same : map digit_value is.digits ≡ fixed_digits 10 6 n = exact_bytes (map digit_value is.digits) (fixed_digits 10 6 n) (order ∙ nat_cmp-self n) in
+    let same : map digit_value is.digits ≡ fixed_digits 10 6 n = exact_bytes (map digit_value is.digits) (fixed_digits 10 6 n) (order ∙ nat_cmp-Equal n) in
     is.name_is ∙ ap (λ (t : List ℕ). codes "chunks/" ++ t) (shown-values is.digits is.decimal ∙ ap (map shown) same)

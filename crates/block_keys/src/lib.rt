@@ -9,6 +9,3 @@ mod refusal;
 pub use key::Key;
 pub use object::{Object, ObjectList};
 pub use refusal::NotAKey;
-
-#[cfg(test)]
-mod tests;

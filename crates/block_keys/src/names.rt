@@ -1,10 +1,9 @@
 ghost use Rattle.std.specs.Prelude.{◌≡◌, ◌++◌, ◌+◌, ◌%◌, ◌≤◌, OnOk, codes};
-ghost use Rattle.std.specs.Char.{is_ascii_digit};
-ghost use Rattle.std.specs.List.{list_all};
 ghost use Rattle.block_keys.specs.KeyText.{key_of, key_named, number_of, segment_of, six_digits};
 
 use crate::Key;
 use list_core::NoMemory;
+use reading_core::all_digits;
 use ulid_core::Ulid;
 
 /// Appends `chunks/` and the six digits of a segment's number.
@@ -69,17 +68,11 @@ fn read_segment(name: &str) -> Option<u32>
     read_number(digits)
 }
 
-fn are_digits(text: &[u8]) -> bool
-    ensures { result ≡ list_all is_ascii_digit text.now }
-{
-    text.iter().all(|byte| byte.is_ascii_digit())
-}
-
 #[tactic(auto, unfolding(crate::specs::KeyText::number_of))]
 fn read_number(digits: &str) -> Option<u32>
     ensures { result ≡ number_of digits.now }
 {
-    if digits.len() != 6 || !are_digits(digits.as_bytes()) {
+    if digits.len() != 6 || !all_digits(digits.as_bytes()) {
         return None;
     }
     let number = digits.parse::<u32>().ok()?;

@@ -1,3 +1,2 @@
-pub mod DigitLoop
 pub mod MomentLaws
 pub mod SpanLaws

@@ -1,23 +1,18 @@
 -- What ties the text of a moment to its milliseconds.
-use Rattle.std.proofs.Common.{◌≡◌, ℕ, ℤ, pos, negsuc, ◌+◌, ◌*◌, ◌/◌, ◌%◌, ◌^◌, ◌<◌, Bool, true, false, cond, eqb, ltb, List, Option, None, Some, Result, Ok, Err, refl, sym, ap, subst, ◌∙◌, arith}
+use Rattle.std.proofs.Common.{◌≡◌, ℕ, ℤ, pos, negsuc, ◌+◌, ◌*◌, ◌/◌, ◌%◌, ◌^◌, ◌<◌, Bool, true, false, cond, eqb, ltb, List, None, Some, Result, Ok, Err, sym, ap, subst, ◌∙◌, arith}
 use Rattle.std.specs.Bool.{MatchBool}
 use Rattle.std.specs.Str.Parse.{digits_value}
 use Rattle.std.proofs.lemmas.Bool.Decides.{nat_tests}
 use Rattle.std.proofs.lemmas.Nat.{div-add-mod'}
 use Rattle.jiff.specs.Words.{parse_timestamp, Error}
-use Rattle.moment_core.specs.Digits.{is_number}
+use Rattle.reading_core.specs.ShortNumber.{is_number}
 use Rattle.moment_core.specs.MomentText.{IsMomentText, moment_within, moment_of_timestamp, moment_of}
-
-pub None-not-Some : {n : ℕ} → None ≡ Some n → ⊥
-None-not-Some e = cc
-
-pub Some-test : (b : Bool) (x n : ℕ) → cond b (Some x) None ≡ Some n → (b ≡ true) × (x ≡ n)
-Some-test true x n is = (refl, cc)
-Some-test false x n is = absurd (cc)
+use Rattle.std.proofs.lemmas.Option.{cond_some, none-some}
+use Rattle.list_core.proofs.Options.{tested_some}
 
 within_found : (value ms : ℕ) → moment_within value ≡ Some ms → (ms < 2 ^ 47) × (value ≡ ms)
 within_found value ms is =
-    let passed = Some-test (ltb value (2 ^ 47)) value ms is in
+    let passed = cond_some (ltb value (2 ^ 47)) value ms is in
     let test : ltb value (2 ^ 47) ≡ true = passed.0 in
     let low : value < 2 ^ 47 = grind (arith, nat_tests) in
     (subst (λ n. n < 2 ^ 47) passed.1 low, passed.1)
@@ -25,21 +20,17 @@ within_found value ms is =
 within_only : (ms : ℕ) → ms < 2 ^ 47 → moment_within ms ≡ Some ms
 within_only ms low = let test : ltb ms (2 ^ 47) ≡ true = grind (arith, nat_tests) in ap (λ b. cond b (Some ms) None) test
 
-pub cond_found : (b : Bool) (x : Option ℕ) (n : ℕ) → cond b x None ≡ Some n → (b ≡ true) × (x ≡ Some n)
-cond_found true x n is = (refl, is)
-cond_found false x n is = absurd (None-not-Some is)
-
 -- what is read of a timestamp is whole milliseconds
 at_found : (r : Result ℤ Error) (ms : ℕ) → moment_of_timestamp r ≡ Some ms → (ms < 2 ^ 47) × (r ≡ Ok (pos (ms * 1_000_000)))
 at_found (Ok (pos n)) ms is =
-    let tested = cond_found (eqb (n % 1_000_000) 0) (moment_within (n / 1_000_000)) ms is in
+    let tested = tested_some (eqb (n % 1_000_000) 0) (moment_within (n / 1_000_000)) ms is in
     let whole : n % 1_000_000 ≡ 0 = let test : eqb (n % 1_000_000) 0 ≡ true = tested.0 in grind (arith, nat_tests) in
     let known = within_found (n / 1_000_000) ms tested.1 in
     let parts : n / 1_000_000 * 1_000_000 + n % 1_000_000 ≡ n = div-add-mod' n 1_000_000 in
     let same : n ≡ ms * 1_000_000 = omega (arith, known.1) in
     (known.0, ap (λ k. Ok (pos k)) same)
-at_found (Ok (negsuc n)) ms is = absurd (None-not-Some is)
-at_found (Err e) ms is = absurd (None-not-Some is)
+at_found (Ok (negsuc n)) ms is = absurd (none-some ms is)
+at_found (Err e) ms is = absurd (none-some ms is)
 
 at_only : (ms : ℕ) → ms < 2 ^ 47 → moment_of_timestamp (Ok (pos (ms * 1_000_000))) ≡ Some ms
 at_only ms low =
@@ -73,4 +64,4 @@ pub moment_of-same : (text : List ℕ) (read ms : ℕ) → Some read ≡ moment_
 moment_of-same text read ms is of_ms = let e : Some read ≡ Some ms = is ∙ moment_of-only text ms of_ms in cc
 
 pub moment_of-none : (text : List ℕ) (ms : ℕ) → None ≡ moment_of text → IsMomentText text ms → ⊥
-moment_of-none text ms is of_ms = None-not-Some (is ∙ moment_of-only text ms of_ms)
+moment_of-none text ms is of_ms = none-some ms (is ∙ moment_of-only text ms of_ms)

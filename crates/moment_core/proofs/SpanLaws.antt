@@ -1,5 +1,5 @@
 -- What ties the text of a span to its milliseconds.
-use Rattle.std.proofs.Common.{◌≡◌, ℕ, suc, ◌+◌, ◌*◌, ◌^◌, ◌≤◌, Bool, true, false, not, ◌&&◌, cond, ltb, leb, List, [], ◌∷◌, ◌++◌, length, take, drop, Option, None, Some, ◌⊎◌, inl, inr, ⊎_elim, refl, sym, ap, subst, ◌∙◌, arith, codes}
+use Rattle.std.proofs.Common.{◌≡◌, ℕ, ◌+◌, ◌*◌, ◌^◌, ◌≤◌, Bool, true, false, not, ◌&&◌, cond, ltb, leb, List, [], ◌∷◌, ◌++◌, length, take, drop, Option, None, Some, ◌⊎◌, inl, inr, ⊎_elim, refl, sym, ap, subst, ◌∙◌, arith, codes}
 use Rattle.std.specs.Char.{is_ascii_digit}
 use Rattle.std.specs.List.{before_first, position, position_or_len, list_all}
 use Rattle.std.specs.Option.{unwrap_or}
@@ -8,10 +8,12 @@ use Rattle.std.specs.Str.Parse.{digits_value}
 use Rattle.std.proofs.lemmas.Bool.Decides.{nat_tests}
 use Rattle.std.proofs.lemmas.List.{take-append-drop, take_at, drop_at}
 use Rattle.std.proofs.lemmas.List.Sums.{prefix_len-le-length}
-use Rattle.std.proofs.lemmas.Slice.Eq.{bytes_eq-Decides}
-use Rattle.moment_core.specs.Digits.{is_number, number_of}
+use Rattle.reading_core.specs.ShortNumber.{is_number, number_of}
 use Rattle.moment_core.specs.SpanText.{IsUnit, IsSpanText, unit_of, is_no_digit, span_within, span_of}
-use Rattle.moment_core.proofs.MomentLaws.{None-not-Some, Some-test}
+use Rattle.std.proofs.lemmas.Bool.{and_parts}
+use Rattle.std.proofs.lemmas.Option.{cond_some, none-some}
+use Rattle.std.proofs.Math.Numerals.{one-add}
+use Rattle.list_core.proofs.Bools.{bytes_eq-same}
 
 unwrap-test : (b : Bool) (k len : ℕ) → ltb k len ≡ b → k ≤ len → unwrap_or (cond b (Some k) None) len ≡ k
 unwrap-test true k len test low = refl
@@ -28,15 +30,12 @@ place_or_length p xs =
 
 within_found : (number each : Option ℕ) (ms : ℕ) → span_within number each ≡ Some ms
     → (n : ℕ) × (e : ℕ) × (number ≡ Some n) × (each ≡ Some e) × (ms ≡ n * e) × (ms ≤ 2 ^ 46)
-within_found None each ms is = absurd (None-not-Some is)
-within_found (Some n) None ms is = absurd (None-not-Some is)
+within_found None each ms is = absurd (none-some ms is)
+within_found (Some n) None ms is = absurd (none-some ms is)
 within_found (Some n) (Some e) ms is =
-    let passed = Some-test (leb (n * e) (2 ^ 46)) (n * e) ms is in
+    let passed = cond_some (leb (n * e) (2 ^ 46)) (n * e) ms is in
     let low : n * e ≤ 2 ^ 46 = let test : leb (n * e) (2 ^ 46) ≡ true = passed.0 in grind (arith, nat_tests) in
     (n, e, refl, refl, sym passed.1, subst (λ k. k ≤ 2 ^ 46) passed.1 low)
-
-unit-test : (unit text : List ℕ) → bytes_eq unit text ≡ true → unit ≡ text
-unit-test unit text passed = (bytes_eq-Decides unit text).0 passed
 
 -- a choice that gave a number
 choice : (b : Bool) (x : ℕ) (others : Option ℕ) (n : ℕ) → cond b (Some x) others ≡ Some n → ((b ≡ true) × (n ≡ x)) ⊎ (others ≡ Some n)
@@ -46,10 +45,10 @@ choice false x others n is = inr is
 unit_of-found : (unit : List ℕ) (each : ℕ) → unit_of unit ≡ Some each → IsUnit unit each
 unfolding unit_of
 unit_of-found unit each is =
-    ⊎_elim (λ one. inl (unit-test unit (codes "ms") one.0, one.1))
-    (λ more. ⊎_elim (λ one. inr (inl (unit-test unit (codes "s") one.0, one.1)))
-    (λ further. ⊎_elim (λ one. inr (inr (inl (unit-test unit (codes "m") one.0, one.1))))
-    (λ left. let last = Some-test (bytes_eq unit (codes "h")) 3_600_000 each left in inr (inr (inr (unit-test unit (codes "h") last.0, sym last.1))))
+    ⊎_elim (λ one. inl (bytes_eq-same unit (codes "ms") one.0, one.1))
+    (λ more. ⊎_elim (λ one. inr (inl (bytes_eq-same unit (codes "s") one.0, one.1)))
+    (λ further. ⊎_elim (λ one. inr (inr (inl (bytes_eq-same unit (codes "m") one.0, one.1))))
+    (λ left. let last = cond_some (bytes_eq unit (codes "h")) 3_600_000 each left in inr (inr (inr (bytes_eq-same unit (codes "h") last.0, sym last.1))))
     (choice (bytes_eq unit (codes "m")) 60_000 _ each further))
     (choice (bytes_eq unit (codes "s")) 1_000 _ each more))
     (choice (bytes_eq unit (codes "ms")) 1 _ each is)
@@ -58,7 +57,7 @@ pub span_of-found : (text : List ℕ) (ms : ℕ) → span_of text ≡ Some ms �
 unfolding span_of
 span_of-found text ms is =
     let known = within_found (number_of 12 (before_first is_no_digit text)) (unit_of (drop (position_or_len is_no_digit text) text)) ms is in
-    let number = Some-test (is_number 12 (before_first is_no_digit text)) (digits_value 10 (before_first is_no_digit text)) known.0 known.2 in
+    let number = cond_some (is_number 12 (before_first is_no_digit text)) (digits_value 10 (before_first is_no_digit text)) known.0 known.2 in
     record {
       digits = before_first is_no_digit text;
       unit = drop (position_or_len is_no_digit text) text;
@@ -84,25 +83,14 @@ unit_of-only unit each is =
     (⊎_elim (read_at unit (codes "s") each 1_000 (refl, refl))
     (⊎_elim (read_at unit (codes "m") each 60_000 (refl, refl)) (read_at unit (codes "h") each 3_600_000 (refl, refl)))) is
 
-one_more : (n : ℕ) → 1 + n ≡ suc n
-one_more n = omega arith
-
-and_first : (a b : Bool) → a && b ≡ true → a ≡ true
-and_first true b h = refl
-and_first false b h = absurd (cc)
-
-and_second : (a b : Bool) → a && b ≡ true → b ≡ true
-and_second true b h = h
-and_second false b h = absurd (cc)
-
 -- digits end where the unit begins
 place_after : (digits unit : List ℕ) → list_all is_ascii_digit digits ≡ true → position_or_len is_no_digit unit ≡ 0 → position_or_len is_no_digit (digits ++ unit) ≡ length digits
 place_after [] unit all begins = begins
 place_after (d ∷ digits) unit all begins =
-    let first : is_ascii_digit d ≡ true = and_first (is_ascii_digit d) (list_all is_ascii_digit digits) all in
-    let others = place_after digits unit (and_second (is_ascii_digit d) (list_all is_ascii_digit digits) all) begins in
-    ap (λ b. cond (not (not b)) (1 + position_or_len is_no_digit (digits ++ unit)) 0) first
-    ∙ ap (λ n. 1 + n) others ∙ one_more (length digits)
+    let parts = and_parts (is_ascii_digit d) (list_all is_ascii_digit digits) all in
+    let others = place_after digits unit parts.1 begins in
+    ap (λ b. cond (not (not b)) (1 + position_or_len is_no_digit (digits ++ unit)) 0) parts.0
+    ∙ ap (λ n. 1 + n) others ∙ one-add (length digits)
 
 passes : (n : ℕ) → n ≤ 2 ^ 46 → leb n (2 ^ 46) ≡ true
 passes n low = grind (arith, nat_tests)
@@ -112,7 +100,7 @@ unfolding span_of
 span_of-only text ms is =
     let unit = unit_of-only is.unit is.each is.is_unit in
     let all : list_all is_ascii_digit is.digits ≡ true =
-    and_second (leb 1 (length is.digits) && leb (length is.digits) 12) (list_all is_ascii_digit is.digits) is.is_number in
+    (and_parts (leb 1 (length is.digits) && leb (length is.digits) 12) (list_all is_ascii_digit is.digits) is.is_number).1 in
     let place : position_or_len is_no_digit text ≡ length is.digits =
     ap (position_or_len is_no_digit) is.text_is ∙ place_after is.digits is.unit all unit.1 in
     let before : before_first is_no_digit text ≡ is.digits =
@@ -132,4 +120,4 @@ pub span_of-same : (text : List ℕ) (read ms : ℕ) → Some read ≡ span_of t
 span_of-same text read ms is of_ms = let e : Some read ≡ Some ms = is ∙ span_of-only text ms of_ms in cc
 
 pub span_of-none : (text : List ℕ) (ms : ℕ) → None ≡ span_of text → IsSpanText text ms → ⊥
-span_of-none text ms is of_ms = None-not-Some (is ∙ span_of-only text ms of_ms)
+span_of-none text ms is of_ms = none-some ms (is ∙ span_of-only text ms of_ms)

@@ -1,4 +1,3 @@
-pub mod Digits
 pub mod MomentText
 pub mod SpanText
 pub mod StandardRules

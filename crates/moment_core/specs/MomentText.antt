@@ -4,7 +4,7 @@ use Rattle.std.specs.Prelude.{◌≡◌, ℕ, ℤ, pos, negsuc, ◌*◌, ◌/◌
 use Rattle.std.specs.Bool.{MatchBool}
 use Rattle.std.specs.Str.Parse.{digits_value}
 use Rattle.jiff.specs.Words.{parse_timestamp, Error}
-use Rattle.moment_core.specs.Digits.{is_number}
+use Rattle.reading_core.specs.ShortNumber.{is_number}
 
 -- The text is that of the moment.
 pub record IsMomentText (text : List ℕ) (ms : ℕ) : Type 0 where

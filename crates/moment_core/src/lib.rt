@@ -1,7 +1,6 @@
 //! Moments, spans of time, ranges of times, and the rules of a run.
 #![tactic(auto)]
 
-mod digits;
 mod moment;
 mod partition;
 mod refusal;
@@ -13,6 +12,3 @@ pub use partition::Partition;
 pub use refusal::{BadSpan, MomentRefusal};
 pub use rules::Rules;
 pub use span::Span;
-
-#[cfg(test)]
-mod tests;

@@ -5,10 +5,13 @@ ghost use Rattle.jiff.specs.Words.{parse_timestamp};
 ghost use Rattle.moment_core.specs.MomentText as words;
 
 use crate::MomentRefusal;
-use crate::digits::read_digits;
 use jiff::Timestamp;
 use list_core::{NoMemory, TryCopy};
+use reading_core::short_number;
 use std::alloc::Global;
+
+/// How many digits milliseconds have at most.
+const MOST_DIGITS: usize = 15;
 
 /// The least number of milliseconds that is no moment.
 const LIMIT: u64 = 1 << 47;
@@ -31,7 +34,8 @@ impl Moment {
         ensures gives { option_map (λ moment. moment.ms) (result_ok result) ≡ moment_of text.now }
         ensures refused { IfErr result (λ refusal. refusal ≡ MomentRefusal.BadMoment) }
         ensures found { IfOk result (λ moment. IsMomentText text.now moment.ms) }
-        ensures only { (ms : ℕ) → IsMomentText text.now ms → IsOkAnd result (λ moment. moment.ms ≡ ms) }
+        ensures only { (ms : ℕ) → IsMomentText text.now ms
+            → IsOkAnd result (λ moment. moment.ms ≡ ms) }
         ensures none { IsErr result ↔ ((ms : ℕ) → ¬ IsMomentText text.now ms) }
     {
         match read_ms(text) {
@@ -53,7 +57,7 @@ impl TryCopy for Moment {
 fn read_ms(text: &str) -> Option<u64>
     ensures { result ≡ words.moment_of text.now }
 {
-    match read_digits(text.as_bytes(), 15) {
+    match short_number(text.as_bytes(), MOST_DIGITS) {
         Some(ms) => moment_within(ms),
         None => read_timestamp(text),
     }

@@ -5,8 +5,11 @@ ghost use Rattle.std.specs.Result.{result_ok};
 ghost use Rattle.moment_core.specs.SpanText as words;
 
 use crate::BadSpan;
-use crate::digits::read_digits;
 use list_core::{NoMemory, TryCopy};
+use reading_core::short_number;
+
+/// How many digits the number of a span has at most.
+const MOST_DIGITS: usize = 12;
 
 /// The greatest span: 2^46 milliseconds.
 const GREATEST: u64 = 1 << 46;
@@ -47,7 +50,7 @@ fn read_ms(text: &str) -> Option<u64>
     ensures { result ≡ words.span_of text.now }
 {
     let (digits, unit) = text.as_bytes().split_at(digit_count(text.as_bytes()));
-    span_within(read_digits(digits, 12), unit_of(unit))
+    span_within(short_number(digits, MOST_DIGITS), unit_of(unit))
 }
 
 /// How many decimal digits the text begins with.

@@ -13,10 +13,6 @@ pub bind_err : {A B E : Type 0} (r : Result A E) (f : A → Result B E) (d : E) 
 bind_err (Ok x) f d e = inr (x, refl, e)
 bind_err (Err c) f d e = inl cc
 
-pub bind-assoc : {A B C E : Type 0} (r : Result A E) (f : A → Result B E) (g : B → Result C E) → ((r >>= f) >>= g) ≡ (r >>= λ x. f x >>= g)
-bind-assoc (Ok x) f g = refl
-bind-assoc (Err d) f g = refl
-
 -- what was read behind a step that gives nothing on
 pub then_ok : {A B E : Type 0} (r : Result A E) (s : Result B E) (y : B) → (r >> s) ≡ Ok y → (x : A) × (r ≡ Ok x) × (s ≡ Ok y)
 then_ok (Ok x) s y e = (x, refl, e)
@@ -39,11 +35,6 @@ cond_ok false d r y e = (refl, e)
 pub cond_ok_second : {A E : Type 0} (b : Bool) (r : Result A E) (d : E) (y : A) → cond b r (Err d) ≡ Ok y → (b ≡ true) × (r ≡ Ok y)
 cond_ok_second true r d y e = (refl, e)
 cond_ok_second false r d y e = absurd cc
-
--- which way a choice went
-pub cond_is : {A : Type 0} (b : Bool) (x y z : A) → cond b x y ≡ z → ((b ≡ true) × (x ≡ z)) ⊎ ((b ≡ false) × (y ≡ z))
-cond_is true x y z e = inl (refl, e)
-cond_is false x y z e = inr (refl, e)
 
 -- the value is what was read
 pub ok_is : {A E : Type 0} (x y : A) → ◌≡◌ {A = Result A E} (Ok x) (Ok y) → x ≡ y

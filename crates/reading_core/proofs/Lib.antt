@@ -8,3 +8,4 @@ pub mod SignedDecimals
 pub mod Parsed
 pub mod ParsedSigned
 pub mod Printed
+pub mod DigitLoop

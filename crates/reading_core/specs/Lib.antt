@@ -3,3 +3,4 @@ pub mod Members
 pub mod Grammar
 pub mod Decimal
 pub mod FixedDigits
+pub mod ShortNumber

@@ -1,11 +1,10 @@
 ghost use Rattle.std.specs.Prelude.{◌≡◌, ◌++◌, ◌^◌, ◌<◌, ◌≤◌, ◌≢◌, ◌↔◌, ◌==◌, ℕ, ℤ, not, IsTrue, IfOk, OnOk, OnErr, Ok, Err};
 ghost use Rattle.std.specs.Int.{w64};
 ghost use Rattle.std.specs.Int.RustNames.{FitsSigned};
-ghost use Rattle.std.specs.List.{list_all};
-ghost use Rattle.std.specs.Char.{is_ascii_digit};
 ghost use Rattle.reading_core.specs.Decimal.{is_decimal, is_signed_decimal, unsigned_of, signed_of, decimal_text, signed_text};
 
 use crate::NumberRefusal;
+use crate::digits::all_digits;
 use itoa::Buffer;
 use list_core::NoMemory;
 
@@ -16,27 +15,31 @@ pub fn read_unsigned(text: &str) -> Result<u64, NumberRefusal>
     ensures only { (n : ℕ) → n < 2 ^ 64 → text.now ≡ decimal_text n → result ≡ Ok n }
 
     // Which refusal it is.
-    ensures too_large { (result ≡ Err NumberRefusal.TooLarge) ↔ ((n : ℕ) × (2 ^ 64 ≤ n) × (text.now ≡ decimal_text n)) }
-    ensures no_number { (result ≡ Err NumberRefusal.NotANumber) ↔ ((n : ℕ) → text.now ≢ decimal_text n) }
+    ensures too_large { (result ≡ Err NumberRefusal.TooLarge)
+        ↔ ((n : ℕ) × (2 ^ 64 ≤ n) × (text.now ≡ decimal_text n)) }
+    ensures no_number { (result ≡ Err NumberRefusal.NotANumber)
+        ↔ ((n : ℕ) → text.now ≢ decimal_text n) }
 
     ensures exact { result ≡ unsigned_of text.now }
 {
-    unsigned(text)
+    unsigned_exact(text)
 }
 
-/// Reads the same, which may have `-` before it. `-0` is no number.
+/// Reads decimal digits without a needless zero in front, which may have `-` before them. `-0` is no number.
 pub fn read_signed(text: &str) -> Result<i64, NumberRefusal>
     // What is read is the text of the number, and each number that fits is read from its text.
     ensures found { IfOk result (λ n. text.now ≡ signed_text n) }
     ensures only { (n : ℤ) → FitsSigned w64 n → text.now ≡ signed_text n → result ≡ Ok n }
 
     // Which refusal it is.
-    ensures too_large { (result ≡ Err NumberRefusal.TooLarge) ↔ ((n : ℤ) × (¬ FitsSigned w64 n) × (text.now ≡ signed_text n)) }
-    ensures no_number { (result ≡ Err NumberRefusal.NotANumber) ↔ ((n : ℤ) → text.now ≢ signed_text n) }
+    ensures too_large { (result ≡ Err NumberRefusal.TooLarge)
+        ↔ ((n : ℤ) × (¬ FitsSigned w64 n) × (text.now ≡ signed_text n)) }
+    ensures no_number { (result ≡ Err NumberRefusal.NotANumber)
+        ↔ ((n : ℤ) → text.now ≢ signed_text n) }
 
     ensures exact { result ≡ signed_of text.now }
 {
-    signed(text)
+    signed_exact(text)
 }
 
 /// Appends a number's decimal digits.
@@ -59,7 +62,9 @@ pub fn put_signed(out: &mut Vec<u8>, n: i64) -> Result<(), NoMemory>
     Ok(())
 }
 
-fn unsigned(text: &str) -> Result<u64, NumberRefusal>
+// What each call above does; that it reads the texts of numbers and no others is its caller's.
+
+fn unsigned_exact(text: &str) -> Result<u64, NumberRefusal>
     ensures { result ≡ unsigned_of text.now }
 {
     if !are_digits(text.as_bytes()) {
@@ -68,7 +73,7 @@ fn unsigned(text: &str) -> Result<u64, NumberRefusal>
     text.parse().or(Err(NumberRefusal::TooLarge))
 }
 
-fn signed(text: &str) -> Result<i64, NumberRefusal>
+fn signed_exact(text: &str) -> Result<i64, NumberRefusal>
     ensures { result ≡ signed_of text.now }
 {
     if !are_signed_digits(text.as_bytes()) {
@@ -82,12 +87,6 @@ fn are_digits(text: &[u8]) -> bool
     ensures { result ≡ is_decimal text.now }
 {
     !text.is_empty() && (text[0] != b'0' || text.len() == 1) && all_digits(text)
-}
-
-fn all_digits(text: &[u8]) -> bool
-    ensures { result ≡ list_all is_ascii_digit text.now }
-{
-    text.iter().all(|byte| byte.is_ascii_digit())
 }
 
 #[tactic(auto, unfolding(crate::specs::Decimal::is_signed_decimal))]

@@ -1,6 +1,6 @@
 -- The alphabet both ways, computed for each digit and each byte.
-use Rattle.std.proofs.Common.{◌≡◌, ℕ, ◌≤◌, zero, suc, ◌+◌, ◌-◌, ◌<◌, Bool, true, false, ◌&&◌, Option, None, Some, eqb, leb, cond, refl, sym, ap, subst, ◌⊎◌, ⊎_elim, inl, inr, arith, List, length, get_or, Ordering}
-use Rattle.std.proofs.lemmas.Bool.{cases_lt}
+use Rattle.std.proofs.Common.{◌≡◌, ℕ, ◌≤◌, zero, suc, ◌+◌, ◌-◌, ◌<◌, Bool, true, false, ◌&&◌, Option, None, Some, eqb, leb, cond, refl, ap, subst, ⊎_elim, arith, List, length, get_or, Ordering}
+use Rattle.std.proofs.lemmas.Bool.{and_parts, cases_lt}
 use Rattle.std.proofs.lemmas.Bool.Decides.{nat_tests}
 use Rattle.std.proofs.lemmas.List.Quantifiers.{position-Some}
 use Rattle.std.specs.Ordering.{nat_cmp}
@@ -13,20 +13,11 @@ abbrev pub pass_below : (ℕ → Bool) → ℕ → Bool
 pass_below p zero = true
 pass_below p (suc n) = p n && pass_below p n
 
-and-first : (a b : Bool) → a && b ≡ true → a ≡ true
-and-first true b h = refl
-and-first false b h = absurd (cc)
-
-and-second : (a b : Bool) → a && b ≡ true → b ≡ true
-and-second true b h = h
-and-second false b h = absurd (cc)
-
-split : (k n : ℕ) → k < suc n → (k < n) ⊎ (k ≡ n)
-split k n low = ⊎_elim inl (λ high. inr (omega arith)) (cases_lt k n)
-
 pub passes_at : (p : ℕ → Bool) (n k : ℕ) → pass_below p n ≡ true → k < n → p k ≡ true
 passes_at p zero k all low = absurd (omega arith)
-passes_at p (suc n) k all low = ⊎_elim (λ lower. passes_at p n k (and-second (p n) (pass_below p n) all) lower) (λ e. subst (λ i. p i ≡ true) (sym e) (and-first (p n) (pass_below p n) all)) (split k n low)
+passes_at p (suc n) k all low =
+    let parts = and_parts (p n) (pass_below p n) all in
+    ⊎_elim (λ lower. passes_at p n k parts.1 lower) (λ high. let e : n ≡ k = omega arith in subst (λ i. p i ≡ true) e parts.0) (cases_lt k n)
 
 -- two options of numbers are the same
 abbrev pub same : Option ℕ → Option ℕ → Bool

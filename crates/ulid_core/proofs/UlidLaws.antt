@@ -1,5 +1,5 @@
 -- What ties the text of a ULID to its number.
-use Rattle.std.proofs.Common.{◌≡◌, ◌≢◌, ◌↔◌, ℕ, suc, ◌+◌, ◌*◌, ◌^◌, ◌<◌, ◌≤◌, Bool, true, false, not, Option, None, Some, Result, Ok, Err, eqb, ltb, leb, cond, List, [], ◌∷◌, map, length, get_or, refl, sym, ap, subst, ◌∙◌, arith, Ordering}
+use Rattle.std.proofs.Common.{◌≡◌, ◌≢◌, ◌↔◌, ℕ, suc, ◌+◌, ◌*◌, ◌^◌, ◌<◌, ◌≤◌, Bool, true, false, not, Option, None, Some, Result, Ok, Err, eqb, ltb, leb, cond, List, [], ◌∷◌, map, length, get_or, refl, sym, ap, subst, ◌∙◌, arith}
 use Rattle.std.proofs.lemmas.Bool.Decides.{nat_tests}
 use Rattle.std.proofs.lemmas.Int.Digits.{number_after_lt}
 use Rattle.std.proofs.lemmas.List.{length-map}
@@ -16,6 +16,10 @@ use Rattle.reading_core.specs.FixedDigits.{fixed_digits}
 use Rattle.ulid_core.specs.UlidText.{character, digit_of, IsUlidText, text_of, number_of, bad_place, read_characters, ulid_of}
 use Rattle.ulid_core.specs.declared.refusal.UlidRefusal.{UlidRefusal}
 use Rattle.ulid_core.specs.declared.refusal.UlidRefusal.TheVariants.{BadLength, BadCharacter, TooLarge}
+use Rattle.list_core.proofs.Bools.{by_bool, nat_cmp-Equal}
+use Rattle.list_core.proofs.Lists.{cons_parts, cons_same}
+use Rattle.list_core.proofs.Options.{some_not_none}
+use Rattle.reading_core.proofs.Binds.{cond_ok_second}
 
 pub IsUlidText-text_of : (ulid : ℕ) → ulid < 2 ^ 128 → IsUlidText (text_of ulid) ulid
 unfolding text_of
@@ -54,14 +58,11 @@ slice_cmp-ulid_texts s t u v is_s is_t =
 pub slice_cmp-text_of : (u v : ℕ) → u < 2 ^ 128 → v < 2 ^ 128 → slice_cmp nat_cmp (text_of u) (text_of v) ≡ nat_cmp u v
 slice_cmp-text_of u v low_u low_v = slice_cmp-ulid_texts (text_of u) (text_of v) u v (IsUlidText-text_of u low_u) (IsUlidText-text_of v low_v)
 
-nat_cmp-self : (n : ℕ) → nat_cmp n n ≡ Ordering.Equal
-nat_cmp-self n = grind (arith, nat_tests)
-
 -- a ULID has one text
 pub IsUlidText-unique : (text : List ℕ) (ulid : ℕ) → IsUlidText text ulid → text ≡ text_of ulid
 IsUlidText-unique text ulid is =
     exact_bytes text (text_of ulid)
-    (slice_cmp-ulid_texts text (text_of ulid) ulid ulid is (IsUlidText-text_of ulid is.fits) ∙ nat_cmp-self ulid)
+    (slice_cmp-ulid_texts text (text_of ulid) ulid ulid is (IsUlidText-text_of ulid is.fits) ∙ nat_cmp-Equal ulid)
 
 -- the value of a character, or 0
 abbrev pub value : ℕ → ℕ
@@ -104,16 +105,13 @@ value-digit : (c : ℕ) (o : Option ℕ) → digit_of c ≡ o → is_none o ≡ 
 value-digit c None e some = absurd (cc)
 value-digit c (Some d) e some = let known = character-digit_of c d e in rw e known
 
-cons-equal : (c d : ℕ) (text other : List ℕ) → c ≡ d → text ≡ other → ◌≡◌ {A = List ℕ} (c ∷ text) (d ∷ other)
-cons-equal c d text other first others = cc
-
 digits-found : (text : List ℕ) → bad_place text ≡ None → AllBelowBase 32 (map value text) × (text ≡ map character (map value text))
 unfolding bad_place
 digits-found [] none = (tt, refl)
 digits-found (c ∷ text) none =
     let first = value-digit c (digit_of c) refl (first_fails (λ x. is_none (digit_of x)) c text none) in
     let others = digits-found text (others_fail (λ x. is_none (digit_of x)) c text none) in
-    ((first.0, others.0), cons-equal _ _ _ _ (sym first.1) others.1)
+    ((first.0, others.0), cons_same _ _ _ _ (sym first.1) others.1)
 
 digits-only : (digits : List ℕ) → AllBelowBase 32 digits → (bad_place (map character digits) ≡ None) × (map value (map character digits) ≡ digits)
 unfolding bad_place
@@ -123,7 +121,7 @@ digits-only (d ∷ digits) all =
     let others = digits-only digits all.1 in
     let good : is_none (digit_of (character d)) ≡ false = ap is_none known in
     let same : value (character d) ≡ d = ap (λ o. unwrap_or o 0) known in
-    (all_fail (λ c. is_none (digit_of c)) (character d) (map character digits) good others.0, cons-equal _ _ _ _ same others.1)
+    (all_fail (λ c. is_none (digit_of c)) (character d) (map character digits) good others.0, cons_same _ _ _ _ same others.1)
 
 leb-from : (d : ℕ) → d ≤ 7 → leb d 7 ≡ true
 leb-from d small = grind (arith, nat_tests)
@@ -131,9 +129,6 @@ leb-from d small = grind (arith, nat_tests)
 number_of-digits : (digits : List ℕ) → AllBelowBase 32 digits → number_of (map character digits) ≡ number_from_digits 32 digits
 unfolding number_of
 number_of-digits digits all = ap (number_from_digits 32) (digits-only digits all).1
-
-head-equal : {c d : ℕ} {text other : List ℕ} → ◌≡◌ {A = List ℕ} (c ∷ text) (d ∷ other) → c ≡ d
-head-equal e = cc
 
 -- a ULID's first character is at most `7`
 number-first : (d : ℕ) (digits : List ℕ) → length digits ≡ 25 → AllBelowBase 32 digits → leb d 7 ≡ true → number_from_digits 32 (d ∷ digits) < 2 ^ 128
@@ -152,16 +147,11 @@ first-number d digits count fits =
     let small : d ≤ 7 = omega arith in
     leb-from d small
 
--- an answer that a test lets through
-Ok-test : (b : Bool) (r : Result ℕ UlidRefusal) (e : UlidRefusal) (ulid : ℕ) → cond b r (Err e) ≡ Ok ulid → (b ≡ true) × (r ≡ Ok ulid)
-Ok-test true r e ulid is = (refl, is)
-Ok-test false r e ulid is = absurd (cc)
-
 Ok-characters : (bad : Option ℕ) (text : List ℕ) (ulid : ℕ) → read_characters bad text ≡ Ok ulid
     → (bad ≡ None) × (leb (get_or text 0 0) 55 ≡ true) × (ulid ≡ number_of text)
 Ok-characters (Some place) text ulid is = absurd (cc)
 Ok-characters None text ulid is =
-    let passed = Ok-test (leb (get_or text 0 0) 55) (Ok (number_of text)) TooLarge ulid is in
+    let passed = cond_ok_second (leb (get_or text 0 0) 55) (Ok (number_of text)) TooLarge ulid is in
     let same : ulid ≡ number_of text = let e : Ok (number_of text) ≡ Ok ulid = passed.1 in cc in
     (refl, passed.0, same)
 
@@ -170,7 +160,7 @@ unfolding number_of
 found-characters [] ulid count none low is = absurd (omega arith)
 found-characters (c ∷ text) ulid count none low is =
     let known = digits-found (c ∷ text) none in
-    let first : leb (character (value c)) 55 ≡ true = subst (λ x. leb x 55 ≡ true) (head-equal known.1) low in
+    let first : leb (character (value c)) 55 ≡ true = subst (λ x. leb x 55 ≡ true) (cons_parts c (character (value c)) text (map character (map value text)) known.1).0 low in
     let small : leb (value c) 7 ≡ true = sym (leb-character (value c) known.0.0) ∙ first in
     let shorter : length (map value text) ≡ 25 = length-map text value ∙ (omega arith) in
     record {
@@ -185,7 +175,7 @@ found-characters (c ∷ text) ulid count none low is =
 pub ulid_of-found : (text : List ℕ) (ulid : ℕ) → ulid_of text ≡ Ok ulid → IsUlidText text ulid
 unfolding ulid_of
 ulid_of-found text ulid is =
-    let counted = Ok-test (eqb (length text) 26) (read_characters (bad_place text) text) BadLength ulid is in
+    let counted = cond_ok_second (eqb (length text) 26) (read_characters (bad_place text) text) BadLength ulid is in
     let count : length text ≡ 26 = let test = counted.0 in grind (arith, nat_tests) in
     let known = Ok-characters (bad_place text) text ulid counted.1 in
     found-characters text ulid count known.0 known.1 known.2
@@ -210,10 +200,6 @@ ulid_of-only text ulid is =
     ap (λ n. cond (eqb n 26) (read_characters (bad_place text) text) (Err BadLength)) count
     ∙ ap (λ o. read_characters o text) none ∙ read ∙ ap Ok number
 
-by_bool : {P : Type 0} (b : Bool) → (b ≡ true → P) → (b ≡ false → P) → P
-by_bool true f g = f refl
-by_bool false f g = g refl
-
 by_place : {P : Type 0} (o : Option ℕ) → ((p : ℕ) → o ≡ Some p → P) → (o ≡ None → P) → P
 by_place (Some p) f g = f p refl
 by_place None f g = g refl
@@ -234,65 +220,29 @@ ulid_of-cases text f g h k = by_bool (eqb (length text) 26)
     h long none large (read ∙ ap (λ p. read_characters p text) none ∙ ap (λ b. cond b (Ok (number_of text)) (Err TooLarge)) high))))
     (λ t. let other : length text ≢ 26 = grind (arith, nat_tests) in f other (ap (λ b. cond b (read_characters (bad_place text) text) (Err BadLength)) t))
 
-two_answers : (x y : Result ℕ UlidRefusal) (r : Result ℕ UlidRefusal) → r ≡ x → r ≡ y → x ≡ y
-two_answers x y r e f = sym e ∙ f
-
-character_not_length : (place : ℕ) → ◌≡◌ {A = Result ℕ UlidRefusal} (Err (BadCharacter place)) (Err BadLength) → ⊥
-character_not_length place e = cc
-
-large_not_length : ◌≡◌ {A = Result ℕ UlidRefusal} (Err TooLarge) (Err BadLength) → ⊥
-large_not_length e = cc
-
-large_not_character : (place : ℕ) → ◌≡◌ {A = Result ℕ UlidRefusal} (Err TooLarge) (Err (BadCharacter place)) → ⊥
-large_not_character place e = cc
-
-read_not_refused : (n : ℕ) (e : UlidRefusal) → Ok n ≡ Err e → ⊥
-read_not_refused n e h = cc
-
-same_character : (p q : ℕ) → ◌≡◌ {A = Result ℕ UlidRefusal} (Err (BadCharacter p)) (Err (BadCharacter q)) → p ≡ q
-same_character p q e = cc
-
-same_place : (p q : ℕ) (o : Option ℕ) → o ≡ Some p → o ≡ Some q → p ≡ q
-same_place p q o e f = cc
-
-some_none : (p : ℕ) (o : Option ℕ) → o ≡ Some p → o ≡ None → ⊥
-some_none p o e f = cc
-
 -- each refusal comes exactly where its case is the first
 pub length_refused : (text : List ℕ) → (ulid_of text ≡ Err BadLength) ↔ (length text ≢ 26)
 length_refused text = (
-  λ e. ulid_of-cases text
-      (λ other r. other)
-      (λ place long bad r. absurd (character_not_length place (two_answers (Err (BadCharacter place)) (Err BadLength) (ulid_of text) r e)))
-      (λ long none large r. absurd (large_not_length (two_answers (Err TooLarge) (Err BadLength) (ulid_of text) r e)))
-      (λ long none small r. absurd (read_not_refused (number_of text) BadLength (two_answers (Ok (number_of text)) (Err BadLength) (ulid_of text) r e))),
+  λ e. ulid_of-cases text (λ other r. other) (λ place long bad r. absurd cc) (λ long none large r. absurd cc) (λ long none small r. absurd cc),
   λ other. ulid_of-cases text (λ n r. r) (λ place long bad r. absurd (other long)) (λ long none large r. absurd (other long)) (λ long none small r. absurd (other long)),
 )
 
 pub character_refused : (text : List ℕ) (place : ℕ) → (ulid_of text ≡ Err (BadCharacter place)) ↔ ((length text ≡ 26) × (bad_place text ≡ Some place))
 character_refused text place = (
-  λ e. ulid_of-cases text
-      (λ other r. absurd (character_not_length place (two_answers (Err (BadCharacter place)) (Err BadLength) (ulid_of text) e r)))
-      (λ p long bad r. (long, bad ∙ ap (λ n. Some n) (same_character p place (two_answers (Err (BadCharacter p)) (Err (BadCharacter place)) (ulid_of text) r e))))
-      (λ long none large r. absurd (large_not_character place (two_answers (Err TooLarge) (Err (BadCharacter place)) (ulid_of text) r e)))
-      (λ long none small r. absurd (read_not_refused (number_of text) (BadCharacter place) (two_answers (Ok (number_of text)) (Err (BadCharacter place)) (ulid_of text) r e))),
+  λ e. ulid_of-cases text (λ other r. absurd cc) (λ p long bad r. (long, cc)) (λ long none large r. absurd cc) (λ long none small r. absurd cc),
   λ w. ulid_of-cases text
       (λ other r. absurd (other w.0))
-      (λ p long bad r. r ∙ ap (λ n. Err (BadCharacter n)) (same_place p place (bad_place text) bad w.1))
-      (λ long none large r. absurd (some_none place (bad_place text) w.1 none))
-      (λ long none small r. absurd (some_none place (bad_place text) w.1 none)),
+      (λ p long bad r. cc (w.1))
+      (λ long none large r. absurd (some_not_none place (bad_place text) w.1 none))
+      (λ long none small r. absurd (some_not_none place (bad_place text) w.1 none)),
 )
 
 pub large_refused : (text : List ℕ) → (ulid_of text ≡ Err TooLarge) ↔ ((length text ≡ 26) × (bad_place text ≡ None) × (55 < get_or text 0 0))
 large_refused text = (
-  λ e. ulid_of-cases text
-      (λ other r. absurd (large_not_length (two_answers (Err TooLarge) (Err BadLength) (ulid_of text) e r)))
-      (λ p long bad r. absurd (large_not_character p (two_answers (Err TooLarge) (Err (BadCharacter p)) (ulid_of text) e r)))
-      (λ long none large r. (long, none, large))
-      (λ long none small r. absurd (read_not_refused (number_of text) TooLarge (two_answers (Ok (number_of text)) (Err TooLarge) (ulid_of text) r e))),
+  λ e. ulid_of-cases text (λ other r. absurd cc) (λ p long bad r. absurd cc) (λ long none large r. (long, none, large)) (λ long none small r. absurd cc),
   λ w. ulid_of-cases text
       (λ other r. absurd (other w.0))
-      (λ p long bad r. absurd (some_none p (bad_place text) bad w.1))
+      (λ p long bad r. absurd (some_not_none p (bad_place text) bad w.1))
       (λ long none large r. r)
       (λ long none small r. absurd (omega (arith, w.2))),
 )

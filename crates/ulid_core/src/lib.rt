@@ -7,6 +7,3 @@ mod ulid;
 
 pub use refusal::UlidRefusal;
 pub use ulid::{Ulid, UlidList};
-
-#[cfg(test)]
-mod tests;

@@ -41,7 +41,8 @@ impl Ulid {
         ensures character { (place : ℕ) → (result ≡ Err (UlidRefusal.BadCharacter place))
             ↔ ((length text.now ≡ 26) × (bad_place text.now ≡ Some place)) }
         ensures large { (result ≡ Err UlidRefusal.TooLarge)
-            ↔ ((length text.now ≡ 26) × (bad_place text.now ≡ None) × (byte "7" < slice_index text.now 0)) }
+            ↔ ((length text.now ≡ 26) × (bad_place text.now ≡ None)
+            × (byte "7" < slice_index text.now 0)) }
     {
         read_ulid(text)
     }

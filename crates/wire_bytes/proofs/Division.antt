@@ -28,12 +28,6 @@ two_bits zero low = inl refl
 two_bits (suc zero) low = inr refl
 two_bits (suc (suc n)) low = absurd (omega arith)
 
-reduced-zero : (bit half : ℕ) → bit ≡ 0 → reduced bit half ≡ half
-reduced-zero bit half e = rw e refl
-
-reduced-one : (bit half : ℕ) → bit ≡ 1 → reduced bit half ≡ bit_xor half castagnoli
-reduced-one bit half e = rw e refl
-
 reduced-xor : (a b h k : ℕ) → a < 2 → b < 2 → reduced (bit_xor a b) (bit_xor h k) ≡ bit_xor (reduced a h) (reduced b k)
 reduced-xor a b h k low_a low_b =
     elim (two_bits a low_a) [
@@ -46,9 +40,6 @@ reduced-xor a b h k low_a low_b =
         | inr b1 ↦ rw (a1, b1) (sym (swap_inner h castagnoli k castagnoli ∙ ap (bit_xor (bit_xor h k)) (xor_self castagnoli) ∙ xor_zero_r (bit_xor h k)))
       ]
     ]
-
-times_x-reduced : (r : ℕ) → times_x r ≡ reduced (r % 2) (r / 2)
-times_x-reduced r = refl
 
 pub times_x-xor : (a b : ℕ) → times_x (bit_xor a b) ≡ bit_xor (times_x a) (times_x b)
 times_x-xor a b =

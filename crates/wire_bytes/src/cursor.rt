@@ -59,9 +59,11 @@ impl<'a> Cursor<'a> {
 
     /// Lends the next bytes.
     pub fn take_bytes(&mut self, count: usize) -> Result<&'a [u8], WireRefusal>
-        ensures found { IfOk result (λ bytes. (length bytes.now ≡ count) × (left self.old ≡ bytes.now ++ left self.new)) }
+        ensures found { IfOk result (λ bytes. (length bytes.now ≡ count)
+            × (left self.old ≡ bytes.now ++ left self.new)) }
         ensures short { (result ≡ Err WireRefusal.Short) ↔ (length (left self.old) < count) }
-        ensures exact { Steps (λ bytes. bytes.now) self.old self.new result (bytes_at count self.old) }
+        ensures exact { Steps (λ bytes. bytes.now) self.old self.new result
+            (bytes_at count self.old) }
     {
         self.read_bytes(count)
     }
@@ -134,7 +136,8 @@ impl<'a> Cursor<'a> {
 
     #[tactic(auto, unfolding(crate::specs::Fields::bytes_at))]
     fn read_bytes(&mut self, count: usize) -> Result<&'a [u8], WireRefusal>
-        ensures exact { Steps (λ bytes. bytes.now) self.old self.new result (bytes_at count self.old) }
+        ensures exact { Steps (λ bytes. bytes.now) self.old self.new result
+            (bytes_at count self.old) }
         ensures bytes { IsBytes (left self.old) }
     {
         let left = &self.bytes[self.place..];

@@ -5,7 +5,7 @@ ghost use Rattle.wire_bytes.specs.Written.{uvarint_text};
 
 use crate::WireRefusal;
 
-/// A number in base 128 at the front of the bytes, and how many bytes it takes. A short one is told without a call.
+/// A number in base 128 at the front of the bytes, and how many bytes it takes. A short one needs no call.
 #[inline(always)]
 pub fn number_of(bytes: &[u8]) -> Result<(u64, usize), WireRefusal>
     ensures exact { Answers (λ x. x) result (groups_of 9 bytes.now) }
@@ -17,7 +17,8 @@ pub fn number_of(bytes: &[u8]) -> Result<(u64, usize), WireRefusal>
     }
 }
 
-/// The same of a number of any size. What the call writes is taken apart here, so that a short number needs no memory.
+/// A number of any size at the front, and how many groups it has. What the call writes is taken apart here, so that a
+/// short number needs no memory.
 #[inline(always)]
 fn long_number(bytes: &[u8]) -> Result<(u64, usize), WireRefusal>
     ensures exact { Answers (λ x. x) result (groups_of 9 bytes.now) }
@@ -65,9 +66,9 @@ fn groups_of(bytes: &[u8]) -> Result<(u64, usize), WireRefusal>
         }
         let group = bytes[place] as u64;
         if group < 128 {
-            return Ok((joined(n, group, place), place + 1));
+            return Ok((with_group(n, group, place), place + 1));
         }
-        n = joined(n, group - 128, place);
+        n = with_group(n, group - 128, place);
     }
     let group = last_group(bytes)?;
     Ok((n + (group << 63), 10))
@@ -75,7 +76,7 @@ fn groups_of(bytes: &[u8]) -> Result<(u64, usize), WireRefusal>
 
 /// A group more above the low ones.
 #[inline(always)]
-fn joined(n: u64, group: u64, place: usize) -> u64
+fn with_group(n: u64, group: u64, place: usize) -> u64
     requires low { n < 2 ^ (7 * place) }
     requires group { group < 128 }
     requires limit { place < 9 }

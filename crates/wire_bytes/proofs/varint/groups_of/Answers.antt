@@ -9,10 +9,10 @@ pub returns-then-group-lt128-clause-exact : goal.returns-then-group-lt128-clause
 returns-then-group-lt128-clause-exact c =
     let group = get_or c.args.bytes.now c.loop-place.place 0 in
     let last = low_last c.loop-place.n c.loop-place.place group c.args.bytes.now c.loop-place-test.true c.if-place-bytes.false refl c.if-group-lt128.true in
-    rw c.joined.ensures.value (sym c.loop-place.invariant.whole ∙ last)
+    rw c.with_group.ensures.value (sym c.loop-place.invariant.whole ∙ last)
 
 pub loop-place-preserved : goal.loop-place-preserved
 loop-place-preserved c =
     let group = get_or c.args.bytes.now c.loop-place.place 0 in
     let more = low_more c.loop-place.n c.loop-place.place group c.args.bytes.now c.loop-place-test.true c.if-place-bytes.false refl c.if-group-lt128.false in
-    record { low = c.joined-n.ensures.below; whole = rw c.joined-n.ensures.value (sym more ∙ c.loop-place.invariant.whole) }
+    record { low = c.with_group-n.ensures.below; whole = rw c.with_group-n.ensures.value (sym more ∙ c.loop-place.invariant.whole) }

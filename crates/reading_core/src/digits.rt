@@ -2,20 +2,21 @@ ghost use Rattle.std.specs.Prelude.{◌≡◌, ◌≤◌, length, true};
 ghost use Rattle.std.specs.Char.{is_ascii_digit};
 ghost use Rattle.std.specs.List.{list_all};
 ghost use Rattle.std.specs.Str.Parse.{digits_value};
-ghost use Rattle.moment_core.specs.Digits.{number_of};
+ghost use Rattle.reading_core.specs.ShortNumber.{number_of};
 
 /// The number of 1 to `most` decimal digits, of which the first may be zeros.
-pub(crate) fn read_digits(digits: &[u8], most: usize) -> Option<u64>
+pub fn short_number(digits: &[u8], most: usize) -> Option<u64>
     requires { most ≤ 15 }
     ensures { result ≡ number_of most digits.now }
 {
-    if digits.is_empty() || digits.len() > most || !are_digits(digits) {
+    if digits.is_empty() || digits.len() > most || !all_digits(digits) {
         return None;
     }
     Some(value_of(digits))
 }
 
-fn are_digits(text: &[u8]) -> bool
+/// Whether all are decimal digits.
+pub fn all_digits(text: &[u8]) -> bool
     ensures { result ≡ list_all is_ascii_digit text.now }
 {
     text.iter().all(|byte| byte.is_ascii_digit())

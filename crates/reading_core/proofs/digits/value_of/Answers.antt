@@ -1,6 +1,6 @@
 use Rattle.std.proofs.Common.{arith}
-use Rattle.moment_core.proofs.DigitLoop.{value_at}
-use Rattle.moment_core.proofs.digits.value_of.Goals as goal
+use Rattle.reading_core.proofs.DigitLoop.{value_at}
+use Rattle.reading_core.proofs.digits.value_of.Goals as goal
 
 pub overflow_mul-number : goal.overflow_mul-number
 overflow_mul-number c =

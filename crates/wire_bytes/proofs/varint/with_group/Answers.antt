@@ -1,6 +1,6 @@
 use Rattle.std.proofs.Common.{arith, refl}
 use Rattle.wire_bytes.proofs.Groups.{joined_below, shifted_group, weight_fits}
-use Rattle.wire_bytes.proofs.varint.joined.Goals as goal
+use Rattle.wire_bytes.proofs.varint.with_group.Goals as goal
 
 pub overflow_add-result : goal.overflow_add-result
 overflow_add-result c =

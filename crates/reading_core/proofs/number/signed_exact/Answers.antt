@@ -1,6 +1,6 @@
 use Rattle.std.proofs.Common.{◌∙◌, sym}
 use Rattle.reading_core.proofs.ParsedSigned.{parsed_signed, signed_not}
-use Rattle.reading_core.proofs.number.signed.Goals as goal
+use Rattle.reading_core.proofs.number.signed_exact.Goals as goal
 
 pub returns : goal.returns
 returns c = c.or.ensures ∙ parsed_signed c.args.text.now c.parse.result (rw c.as_bytes.ensures.value at (sym c.if-not-are_signed_digits.ensures)) c.parse.ensures.value.0

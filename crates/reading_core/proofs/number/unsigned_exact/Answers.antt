@@ -1,6 +1,6 @@
 use Rattle.std.proofs.Common.{◌∙◌, sym}
 use Rattle.reading_core.proofs.Parsed.{parsed_unsigned, unsigned_not}
-use Rattle.reading_core.proofs.number.unsigned.Goals as goal
+use Rattle.reading_core.proofs.number.unsigned_exact.Goals as goal
 
 pub returns : goal.returns
 returns c = c.or.ensures ∙ parsed_unsigned c.args.text.now c.parse.result (rw c.as_bytes.ensures.value at (sym c.if-not-are_digits.ensures)) c.parse.ensures.value.0

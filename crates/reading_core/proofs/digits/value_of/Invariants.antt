@@ -1,6 +1,6 @@
 use Rattle.std.proofs.Common.{◌≡◌, take}
 use Rattle.std.specs.Str.Parse.{digits_value}
-use Rattle.moment_core.proofs.digits.value_of.Given as goal
+use Rattle.reading_core.proofs.digits.value_of.Given as goal
 
 -- the value of the digits so far
 abbrev pub invariant-loop-digit : goal.invariant-loop-digit
