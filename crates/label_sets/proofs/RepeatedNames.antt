@@ -1,20 +1,21 @@
 -- Names that stand twice among labels, before and after the labels are put in order.
-use Rattle.std.proofs.Common.{◌≡◌, ◌≢◌, ℕ, zero, suc, ◌+◌, ◌-◌, ◌<◌, ◌≤◌, Bool, true, false, cond, ◌||◌, List, [], ◌∷◌, length, get_or, Option, Some, None, refl, sym, ap, ◌∙◌, subst, arith}
+use Rattle.std.proofs.Common.{◌≡◌, ◌≢◌, ℕ, zero, suc, ◌+◌, ◌-◌, ◌<◌, ◌≤◌, Bool, true, false, cond, ◌||◌, List, [], ◌∷◌, ◌++◌, length, get_or, Option, Some, None, refl, sym, ap, ◌∙◌, subst, arith}
 use Rattle.std.specs.Ordering.{ordering_reverse, is_lt}
 use Rattle.std.specs.Cmp.Lexicographic.{nat_list_cmp_total, nat_list_eq_equiv, bytes_decides}
 use Rattle.std.specs.Str.{bytes_eq}
 use Rattle.std.specs.List.{list_any}
 use Rattle.std.specs.List.Sorted.{IsSortedBy}
 use Rattle.std.specs.Option.{is_some}
-use Rattle.std.proofs.lemmas.Bool.{true≢false}
+use Rattle.std.proofs.lemmas.Bool.{true≢false, or_parts}
 use Rattle.std.proofs.lemmas.List.Sorted.{ranks_by}
 use Rattle.std.proofs.lemmas.List.{get_or_default}
 use Rattle.label_sets.specs.declared.label.Label.{Label}
 use Rattle.label_sets.specs.Labels.{compare_texts, ComesBefore, MakeASet, value_of, names_of, has_lesser_name}
 use Rattle.label_sets.specs.Ordered.{placed, in_order}
 use Rattle.label_sets.specs.Finals.{is_among}
-use Rattle.label_sets.specs.Notation.{repeats}
-use Rattle.label_sets.proofs.LabelValues.{by_ordering, before_differs, before_trans, bytes_eq_differs, same_text}
+use Rattle.label_sets.specs.Notation.{is_name, repeats}
+use Rattle.label_sets.specs.SetText.{ArePairs}
+use Rattle.label_sets.proofs.LabelValues.{by_bool, by_ordering, before_differs, before_trans, bytes_eq_differs, same_text}
 use Rattle.label_sets.proofs.OrderedLabels.{value_of-in_order}
 use Rattle.label_sets.proofs.FinalLabels.{among_names}
 use Rattle.label_sets.proofs.StableSorts.{NoneLess, Rises, Rises-from_sorted}
@@ -24,7 +25,7 @@ unfolding is_among
 among_labels [] name = refl
 among_labels (l ∷ ls) name = ap (λ b. bytes_eq l.name name || b) (among_labels ls name)
 
-or_true : (b : Bool) → (b || true) ≡ true
+pub or_true : (b : Bool) → (b || true) ≡ true
 or_true true = refl
 or_true false = refl
 
@@ -144,21 +145,65 @@ pub repeats_sorted_with : (labels sorted : List Label) (name : List ℕ) → sor
 unfolding repeats
 repeats_sorted_with labels sorted name e = ap (λ ls. is_among (names_of ls) name || repeats (names_of ls)) e ∙ (λ i. among-in_order labels name i || repeats-in_order labels i)
 
--- each label has a name and a value
-abbrev pub AreFilled : List Label → Type 0
-AreFilled [] = Unit {0}
-AreFilled (l ∷ ls) = (l.name ≢ []) × (l.value ≢ []) × AreFilled ls
+-- labels that can stand as pairs, no two of one name, make a set
+pub named_some : (name : List ℕ) → is_name name ≡ true → name ≢ []
+unfolding is_name
+named_some [] is e = true≢false (sym is)
+named_some (x ∷ name) is e = absurd cc
 
-not_some : (b : Bool) (v : Bool) → (b || v) ≡ false → (b ≡ false) × (v ≡ false)
-not_some true v h = absurd (true≢false h)
-not_some false v h = (refl, h)
-
-pub MakeASet-from_read : (labels : List Label) → AreFilled labels → repeats (names_of labels) ≡ false → MakeASet labels
+pub MakeASet-from_pairs : (labels : List Label) → ArePairs labels → repeats (names_of labels) ≡ false → MakeASet labels
 unfolding repeats
-MakeASet-from_read [] h n = tt
-MakeASet-from_read (l ∷ ls) h n =
-    let p = not_some (is_among (names_of ls) l.name) (repeats (names_of ls)) n in
-    (h.0, h.1, none_from (value_of ls l.name) (sym (among_names ls l.name) ∙ p.0), MakeASet-from_read ls h.2 p.1)
+MakeASet-from_pairs [] are once = tt
+MakeASet-from_pairs (l ∷ ls) are once =
+    let p = or_parts (is_among (names_of ls) l.name) (repeats (names_of ls)) once in
+    let one = are 0 l (omega arith) in
+    (named_some l.name one.0, one.1, none_from (value_of ls l.name) (sym (among_names ls l.name) ∙ p.0), MakeASet-from_pairs ls (λ k d lt. are (suc k) d (omega arith)) p.1)
+
+pub once_from_able : (labels : List Label) → MakeASet labels → repeats (names_of labels) ≡ false
+unfolding repeats
+once_from_able [] able = refl
+once_from_able (l ∷ ls) able = (λ i. among_names ls l.name i || once_from_able ls able.3 i) ∙ ap (λ o. is_some o || false) able.2
+
+-- no label lacks its name
+nameless : (labels : List Label) → ArePairs labels → is_among (names_of labels) [] ≡ false
+unfolding is_among
+nameless [] are = refl
+nameless (l ∷ ls) are = neither (bytes_eq l.name []) (is_among (names_of ls) []) (bytes_eq_differs l.name [] (named_some l.name (are 0 l (omega arith)).0)) (nameless ls (λ k d lt. are (suc k) d (omega arith)))
+
+pub repeats-nameless : (labels : List Label) → ArePairs labels → repeats ([] ∷ names_of labels) ≡ repeats (names_of labels)
+unfolding repeats is_among
+repeats-nameless labels are = ap (λ b. b || repeats (names_of labels)) (nameless labels are)
+
+among-last : (labels : List Label) (l : Label) (name : List ℕ) → is_among (names_of (labels ++ l ∷ [])) name ≡ (bytes_eq l.name name || is_among (names_of labels) name)
+unfolding is_among
+among-last [] l name = refl
+among-last (x ∷ xs) l name = ap (λ b. bytes_eq x.name name || b) (among-last xs l name) ∙ swap_or (bytes_eq x.name name) (bytes_eq l.name name) (is_among (names_of xs) name)
+
+-- the last label may stand first
+pub repeats-last : (labels : List Label) (l : Label) → repeats (names_of (labels ++ l ∷ [])) ≡ repeats (l.name ∷ names_of labels)
+unfolding repeats is_among
+repeats-last [] l = refl
+repeats-last (x ∷ xs) l =
+    (λ i. among-last xs l x.name i || repeats-last xs l i)
+    ∙ ap (λ b. (b || is_among (names_of xs) x.name) || (is_among (names_of xs) l.name || repeats (names_of xs))) (same_either_way l.name x.name)
+    ∙ middle_or (bytes_eq x.name l.name) (is_among (names_of xs) x.name) (is_among (names_of xs) l.name) (repeats (names_of xs))
+
+either_more : (a b c : Bool) → (a || b) ≡ true → (b ≡ true → c ≡ true) → (a || c) ≡ true
+either_more true b c t h = refl
+either_more false b c t h = h t
+
+among-more : (labels more : List Label) (name : List ℕ) → is_among (names_of labels) name ≡ true → is_among (names_of (labels ++ more)) name ≡ true
+unfolding is_among
+among-more [] more name t = absurd (true≢false (sym t))
+among-more (x ∷ xs) more name t = either_more (bytes_eq x.name name) (is_among (names_of xs) name) (is_among (names_of (xs ++ more)) name) t (among-more xs more name)
+
+-- what stands twice does so whatever follows
+pub repeats-more : (labels more : List Label) → repeats (names_of labels) ≡ true → repeats (names_of (labels ++ more)) ≡ true
+unfolding repeats
+repeats-more [] more t = absurd (true≢false (sym t))
+repeats-more (x ∷ xs) more t = by_bool (is_among (names_of xs) x.name)
+    (λ here. either_true (is_among (names_of (xs ++ more)) x.name) (repeats (names_of (xs ++ more))) (among-more xs more x.name here))
+    (λ f. ap (λ b. is_among (names_of (xs ++ more)) x.name || b) (repeats-more xs more (ap (λ b. b || repeats (names_of xs)) (sym f) ∙ t)) ∙ or_true (is_among (names_of (xs ++ more)) x.name))
 
 -- the name that is added is among the others, or only the others decide
 pub repeats_found : (labels : List Label) (name : List ℕ) (r : Bool) → r ≡ list_any (λ l. bytes_eq l.name name) labels → r ≡ true → r ≡ repeats (name ∷ names_of labels)
