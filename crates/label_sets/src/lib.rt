@@ -19,6 +19,3 @@ pub use sample::{Sample, SampleList};
 pub use sample_refusal::SampleRefusal;
 pub use series::{Series, SeriesList, sample_count};
 pub use text::{Text, TextList};
-
-#[cfg(test)]
-mod tests;
