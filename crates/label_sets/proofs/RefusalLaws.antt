@@ -1,5 +1,6 @@
 -- Each refusal of a label set has its cause, and each cause its refusal.
 use Rattle.std.proofs.Common.{◌≡◌, ◌≢◌, ℕ, zero, suc, true, false, Bool, cond, ◌||◌, ◌+◌, ◌-◌, ◌<◌, ◌≤◌, List, [], ◌∷◌, ◌++◌, length, take, drop, replicate, Some, Result, Ok, Err, refl, sym, ap, ◌∙◌, subst, arith, append_assoc, append-nil, ◌⊎◌, inl, inr}
+use Rattle.std.proofs.Math.Bool.{or-true}
 use Rattle.std.proofs.lemmas.Bool.{true≢false, cases_order, or_parts}
 use Rattle.std.proofs.lemmas.List.{length-append, length-replicate, take_at, take-take, take-append-drop}
 use Rattle.std.proofs.lemmas.List.Elements.{All-push, All-pop}
@@ -7,7 +8,7 @@ use Rattle.std.specs.Prelude.{IfErr, IsErr, IsErrAnd}
 use Rattle.std.specs.Result.{is_err}
 use Rattle.std.specs.List.{flat_map, list_all}
 use Rattle.reading_core.specs.Reading.{Gives}
-use Rattle.reading_core.proofs.Binds.{cond_is, err_is}
+use Rattle.reading_core.proofs.Binds.{cond_is, err_is, ok_not_err}
 use Rattle.label_sets.specs.declared.label.Label.{Label}
 use Rattle.label_sets.specs.declared.label_refusal.LabelRefusal.{LabelRefusal}
 use Rattle.label_sets.specs.declared.label_refusal.LabelRefusal.TheVariants.{EmptyName, EmptyValue, Repeated, BadText, NoMemory}
@@ -18,7 +19,7 @@ use Rattle.label_sets.specs.Notation.{is_name, is_name_byte, Walk, name_length, 
 use Rattle.label_sets.specs.SetText.{ArePairs, IsSetText}
 use Rattle.label_sets.specs.SetRefusals.{pair_comma_text, LacksName, LacksValue, RepeatsName, BeginsASet, StopsAt, IsRefused}
 use Rattle.label_sets.proofs.LabelValues.{bytes_eq_differs}
-use Rattle.label_sets.proofs.RepeatedNames.{or_true, repeats-nameless, repeats-last, repeats-more}
+use Rattle.label_sets.proofs.RepeatedNames.{repeats-nameless, repeats-last, repeats-more}
 use Rattle.label_sets.proofs.ReadSets.{pair_steps, after_equals, after_quote, with_value}
 use Rattle.label_sets.proofs.SetsFound.{pair_found, pair_written, pairs_and_last, BehindPairs, InBraces, IsWalk, walk_is, concluded}
 use Rattle.label_sets.proofs.SetsAgain.{name_again, past_it, pair_again, begins_no_end, pair_named, walk_goes_on, walk_ends_behind}
@@ -280,7 +281,7 @@ repeated_whole : (total : ℕ) (labels : List Label) (end : Result (List ℕ) (L
 unfolding conclusion repeats
 repeated_whole total labels (Ok after) t = ap (λ b. cond b (Err Repeated) (Ok (in_order has_lesser_name labels, total - length after))) t
 repeated_whole total labels (Err stop) t =
-    ap (λ b. cond b (Err Repeated) (Err (placed_at total stop.0))) (ap (λ b. is_among (names_of labels) (name_at stop.1) || b) t ∙ or_true (is_among (names_of labels) (name_at stop.1)))
+    ap (λ b. cond b (Err Repeated) (Err (placed_at total stop.0))) (ap (λ b. is_among (names_of labels) (name_at stop.1) || b) t ∙ or-true (is_among (names_of labels) (name_at stop.1)))
 
 repeated_pair : (text : List ℕ) (labels : List Label) (pair : List ℕ) (r : Result (Label × List ℕ) LabelRefusal) → pair_at pair ≡ r → text ≡ 123 ∷ (commas labels ++ pair) → ArePairs labels → (labels ≡ [] → IsErr (past 125 pair))
     → repeats (name_at pair ∷ names_of labels) ≡ true → read_set text ≡ Err Repeated
@@ -308,15 +309,12 @@ repeats_again text t = repeated_pair text t.listed t.after (pair_at t.after) ref
 one_refusal : {A : Type 0} (d e : LabelRefusal) (r : Result A LabelRefusal) → r ≡ Err d → r ≡ Err e → d ≡ e
 one_refusal d e r h k = err_is d e (sym h ∙ k)
 
-read_or_refused : {A P : Type 0} (x : A) (e : LabelRefusal) (r : Result A LabelRefusal) → r ≡ Ok x → r ≡ Err e → P
-read_or_refused x e r h k = absurd (true≢false (sym (ap is_err (sym h ∙ k))))
-
 stops_from : (text : List ℕ) (place : ℕ) → read_set text ≡ Err (BadText place) → Reaches text place → StopsAt text place
 stops_from text place h r = record {
   within = r.within;
   so_far = r.so_far;
   no_further = r.no_further;
-  no_set = λ front after set is e. read_or_refused (set, length front) (BadText place) (read_set text) (ap read_set e ∙ set_text_again front after set is) h;
+  no_set = λ front after set is e. ok_not_err (set, length front) (BadText place) (read_set text) (ap read_set e ∙ set_text_again front after set is) h;
   no_lack = λ t. let e = one_refusal EmptyName (BadText place) (read_set text) (lacks_name_again text t) h in absurd cc;
   no_empty = λ t. let e = one_refusal EmptyValue (BadText place) (read_set text) (lacks_value_again text t) h in absurd cc;
   no_repeat = λ t. let e = one_refusal Repeated (BadText place) (read_set text) (repeats_again text t) h in absurd cc;
@@ -367,6 +365,6 @@ refused_of view (Err e) text (inl none) = inl none
 refused_of view (Err e) text (inr h) = inr (refused_is text e h)
 
 pub exact_of : {X : Type 0} (view : X → List Label × ℕ) (r : Result X LabelRefusal) (text : List ℕ) (refusal : LabelRefusal) → Gives NoMemory view r (read_set text) → IsRefused text refusal → IsErrAnd r (λ e. (e ≡ NoMemory) ⊎ (e ≡ refusal))
-exact_of view (Ok x) text refusal h t = read_or_refused (view x) refusal (read_set text) h (refused_exactly text refusal t)
+exact_of view (Ok x) text refusal h t = absurd (ok_not_err (view x) refusal (read_set text) h (refused_exactly text refusal t))
 exact_of view (Err e) text refusal (inl none) t = inl none
 exact_of view (Err e) text refusal (inr h) t = inr (one_refusal e refusal (read_set text) h (refused_exactly text refusal t))

@@ -1,5 +1,6 @@
 -- What is read as a label set is a text of it, and each text of a set is read, whatever follows.
 use Rattle.std.proofs.Common.{◌≡◌, ◌≢◌, ℕ, zero, suc, ◌+◌, ◌-◌, ◌<◌, ◌≤◌, true, false, cond, List, [], ◌∷◌, ◌++◌, length, take, get_or, Option, Some, None, Result, Ok, Err, refl, sym, ap, ◌∙◌, subst, arith, inl, inr}
+use Rattle.reading_core.proofs.Binds.{one_answer, ok_not_err}
 use Rattle.std.proofs.lemmas.List.{length-append, take_at}
 use Rattle.std.proofs.lemmas.List.Sorted.{IsPermutation-refl, IsPermutation-sym, IsPermutation-cons, IsPermutation-trans, IsPermutation-middle, All-permutation, Contains-permutation, sum_by-IsPermutation}
 use Rattle.std.proofs.lemmas.List.Sums.{sum_by-cons}
@@ -17,7 +18,7 @@ use Rattle.label_sets.specs.Labels.{IsLabelSet, MakeASet, value_of, names_of, ha
 use Rattle.label_sets.specs.Ordered.{placed, in_order}
 use Rattle.label_sets.specs.SetText.{AreNamed, ArePairs, IsSetText}
 use Rattle.label_sets.specs.Notation.{repeats, conclusion, read_set, set_text}
-use Rattle.label_sets.proofs.LabelValues.{by_bool, bytes_eq_differs, value_hit, value_miss, value_nil, some_none, some_same, same_sets}
+use Rattle.label_sets.proofs.LabelValues.{by_bool, bytes_eq_differs, value_hit, value_miss, value_nil, some_not_none, one_value, same_sets}
 use Rattle.label_sets.proofs.OrderedLabels.{value_of-in_order, IsLabelSet-in_order, MakeASet-from_set}
 use Rattle.label_sets.proofs.RepeatedNames.{MakeASet-from_pairs, once_from_able}
 use Rattle.label_sets.proofs.SetsFound.{set_found}
@@ -75,7 +76,7 @@ count_none : (ls : List Label) (name : List ℕ) → value_of ls name ≡ None �
 unfolding count_of
 count_none [] name none = refl
 count_none (l ∷ ls) name none = by_name l.name name
-    (λ e. absurd (some_none l.value (value_of (l ∷ ls) name) (value_hit l ls name e) none))
+    (λ e. absurd (some_not_none l.value (value_of (l ∷ ls) name) (value_hit l ls name e) none))
     (λ n. count-miss name l ls n ∙ count_none ls name (sym (value_miss l ls name n) ∙ none))
 
 none_count : (ls : List Label) (name : List ℕ) → count_of name ls ≡ 0 → value_of ls name ≡ None
@@ -116,9 +117,9 @@ able_from_order listed set able p =
     (λ name. omega (arith, sum_by-IsPermutation (λ (l : Label). cond (bytes_eq l.name name) 1 0) listed set p, counts_from_able set able name))
 
 value_in : (ls : List Label) (name value : List ℕ) → value_of ls name ≡ Some value → Contains ls (record { name = name; value = value })
-value_in [] name value some = absurd (some_none value (value_of [] name) some (value_nil name))
+value_in [] name value some = absurd (some_not_none value (value_of [] name) some (value_nil name))
 value_in (l ∷ ls) name value some = by_name l.name name
-    (λ e. let same : l.value ≡ value = some_same l.value value (value_of (l ∷ ls) name) (value_hit l ls name e) some in
+    (λ e. let same : l.value ≡ value = one_value l.value value (value_of (l ∷ ls) name) (value_hit l ls name e) some in
     (0, omega arith, λ i. record { name = e i; value = same i }))
     (λ n. let later = value_in ls name value (sym (value_miss l ls name n) ∙ some) in (suc later.0, omega arith, later.2))
 
@@ -127,7 +128,7 @@ in_value [] l k able within e = absurd (omega arith)
 in_value (x ∷ xs) l zero able within e = value_hit x xs l.name (ap (λ y. y.name) e) ∙ ap (λ y. Some y.value) e
 in_value (x ∷ xs) l (suc k) able within e =
     let later = in_value xs l k able.3 (omega arith) e in
-    value_miss x xs l.name (λ same. some_none l.value (value_of xs l.name) later (subst (λ n. value_of xs n ≡ None) same able.2)) ∙ later
+    value_miss x xs l.name (λ same. some_not_none l.value (value_of xs l.name) later (subst (λ n. value_of xs n ≡ None) same able.2)) ∙ later
 
 -- the values under all names are the same in another order
 moved_value : (xs ys : List Label) (name value : List ℕ) → MakeASet ys → IsPermutation xs ys → value_of xs name ≡ Some value → value_of ys name ≡ Some value
@@ -143,7 +144,7 @@ same_values : (xs ys : List Label) (name : List ℕ) → MakeASet xs → MakeASe
 same_values xs ys name able_x able_y p = by_option (value_of xs name)
     (λ v e. e ∙ sym (moved_value xs ys name v able_y p e))
     (λ none. by_option (value_of ys name)
-    (λ v e. absurd (some_none v (value_of xs name) (moved_value ys xs name v able_x (IsPermutation-sym xs ys p) e) none))
+    (λ v e. absurd (some_not_none v (value_of xs name) (moved_value ys xs name v able_x (IsPermutation-sym xs ys p) e) none))
     (λ also. none ∙ sym also))
 
 -- in order, they are the set
@@ -196,17 +197,11 @@ pub found_of : {X : Type 0} (view : X → List Label × ℕ) (r : Result X Label
 found_of view (Ok x) text h = set_text_found text (view x).0 (view x).1 h
 found_of view (Err e) text h = tt
 
-both_answers : {A : Type 0} (x y : A) (r : Result A LabelRefusal) → r ≡ Ok x → r ≡ Ok y → x ≡ y
-both_answers x y r h k = cc
-
-no_refusal : {A : Type 0} (e : LabelRefusal) (x : A) (r : Result A LabelRefusal) → r ≡ Err e → r ≡ Ok x → ⊥
-no_refusal e x r h k = cc
-
 pub only_of : {X : Type 0} (view : X → List Label × ℕ) (r : Result X LabelRefusal) (text front after : List ℕ) (set : List Label) → Gives NoMemory view r (read_set text) → IsSetText front set → text ≡ front ++ after
     → MatchResult r (λ x. ((view x).0 ≡ set) × ((view x).1 ≡ length front)) (λ e. e ≡ NoMemory)
 only_of view (Ok x) text front after set h is e =
-    let same = both_answers (view x) (set, length front) (read_set text) h (ap read_set e ∙ set_text_again front after set is) in
+    let same = one_answer (view x) (set, length front) (read_set text) h (ap read_set e ∙ set_text_again front after set is) in
     (ap (λ y. y.0) same, ap (λ y. y.1) same)
 only_of view (Err refusal) text front after set (inl none) is e = none
 only_of view (Err refusal) text front after set (inr h) is e =
-    absurd (no_refusal refusal (set, length front) (read_set text) h (ap read_set e ∙ set_text_again front after set is))
+    absurd (ok_not_err (set, length front) refusal (read_set text) (ap read_set e ∙ set_text_again front after set is) h)

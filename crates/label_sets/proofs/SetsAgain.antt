@@ -57,9 +57,6 @@ value_again (byte ∷ value) after =
 
 -- ---- a name
 
-is_true : (b : Bool) → IsTrue b → b ≡ true
-is_true b h = h
-
 equals_sign : is_name_byte 61 ≡ false
 equals_sign = refl
 

@@ -9,7 +9,7 @@ use Rattle.std.specs.Result.{is_err}
 use Rattle.std.proofs.lemmas.Str.{IsCharBoundary-after_ascii}
 use Rattle.std.specs.Str.{IsUtf8, IsCharBoundary}
 use Rattle.std.specs.List.{flat_map, prefix_len, list_all}
-use Rattle.reading_core.proofs.Binds.{cond_ok}
+use Rattle.reading_core.proofs.Binds.{cond_ok, ok_is}
 use Rattle.label_sets.specs.declared.label.Label.{Label}
 use Rattle.label_sets.specs.declared.label_refusal.LabelRefusal.{LabelRefusal}
 use Rattle.label_sets.specs.declared.label_refusal.LabelRefusal.TheVariants.{Repeated, BadText}
@@ -25,9 +25,6 @@ use Rattle.std.specs.Char.{is_ascii_digit}
 
 refused_not_read : {A E : Type 0} (e : E) (x : A) → Err e ≡ Ok x → ⊥
 refused_not_read e x h = cc
-
-read_is : {A E : Type 0} (x y : A) → ◌≡◌ {A = Result A E} (Ok x) (Ok y) → x ≡ y
-read_is x y h = cc
 
 -- the text of a pair that was read
 pub pair_found : (text : List ℕ) (label : Label) (rest : List ℕ) → pair_at text ≡ Ok (label, rest) → text ≡ pair_text label ++ rest
@@ -203,7 +200,7 @@ pub concluded : (total : ℕ) (labels : List Label) (o : Result (List ℕ) (Labe
 unfolding conclusion
 concluded total labels (Ok after) made taken e =
     let c = cond_ok (repeats (names_of labels)) Repeated (Ok (in_order has_lesser_name labels, total - length after)) (made, taken) e in
-    let s = read_is (in_order has_lesser_name labels, total - length after) (made, taken) c.1 in
+    let s = ok_is (in_order has_lesser_name labels, total - length after) (made, taken) c.1 in
     (after, refl, c.0, ap (λ x. x.0) (sym s), ap (λ x. x.1) (sym s))
 concluded total labels (Err stop) made taken e =
     absurd (refused_not_read (placed_at total stop.0) (made, taken) (cond_ok (repeats (name_at stop.1 ∷ names_of labels)) Repeated (Err (placed_at total stop.0)) (made, taken) e).1)
