@@ -1,5 +1,6 @@
 -- So many digits in base 16 and the number that they write, each from the other.
 use Rattle.std.proofs.Common.{◌≡◌, ℕ, zero, suc, ◌+◌, ◌*◌, ◌/◌, ◌%◌, ◌^◌, ◌<◌, ◌≤◌, Bool, true, false, ◌&&◌, cond, eqb, List, [], ◌∷◌, length, fold, Some, None, refl, sym, ap, subst, ◌∙◌, arith, eq-eqb}
+use Rattle.std.proofs.lemmas.Bool.{and_parts}
 use Rattle.std.proofs.lemmas.Bool.Decides.{nat_tests}
 use Rattle.std.proofs.lemmas.Nat.{div-mul-add, div-add-mod'}
 use Rattle.std.proofs.lemmas.List.{length-append}
@@ -8,10 +9,6 @@ use Rattle.std.proofs.Math.Nat.{pow-zero, pow-suc, mul_comm, mul_assoc, div-lt_i
 use Rattle.std.specs.List.{list_all}
 use Rattle.label_sets.specs.SampleText.{hex_sign, hex_text, is_hex_sign, hex_digit, hex_number, pattern_text, pattern_of}
 use Rattle.label_sets.proofs.HexNumbers.{hex_text-nil, hex_text-front, hex_number-push}
-
-both : (a b : Bool) → (a && b) ≡ true → (a ≡ true) × (b ≡ true)
-both true b e = (refl, e)
-both false b e = absurd cc
 
 -- a digit's sign
 sign_of_digit : (d : ℕ) → d < 16 → (hex_digit (hex_sign d) ≡ d) × (is_hex_sign (hex_sign d) ≡ true)
@@ -37,7 +34,7 @@ small_rest h r q a b =
 after_moves : (n : ℕ) (digits : List ℕ) → list_all is_hex_sign digits ≡ true → (r : ℕ) × (after n digits ≡ n * 16 ^ length digits + r) × (r < 16 ^ length digits)
 after_moves n [] all = (0, rw (pow-zero 16) (omega arith), rw (pow-zero 16) (omega arith))
 after_moves n (d ∷ ds) all =
-    let b = both (is_hex_sign d) (list_all is_hex_sign ds) all in
+    let b = and_parts (is_hex_sign d) (list_all is_hex_sign ds) all in
     let h = after_moves (n * 16 + hex_digit d) ds b.1 in (
       hex_digit d * 16 ^ length ds + h.0,
       h.1 ∙ moved (n * 16 + hex_digit d) (hex_digit d) n h.0 (16 ^ length ds) refl ∙ ap (λ q. n * q + (hex_digit d * 16 ^ length ds + h.0)) (sym (pow-suc 16 (length ds))),
@@ -51,7 +48,7 @@ last_of w h low = omega arith
 digits_back : (n : ℕ) (digits : List ℕ) → list_all is_hex_sign digits ≡ true → hex_text (length digits) (after n digits) ≡ digits
 digits_back n [] all = hex_text-nil n
 digits_back n (d ∷ ds) all =
-    let b = both (is_hex_sign d) (list_all is_hex_sign ds) all in
+    let b = and_parts (is_hex_sign d) (list_all is_hex_sign ds) all in
     let m = after_moves (n * 16 + hex_digit d) ds b.1 in
     let s = digit_of_sign d b.0 in
     let front : after (n * 16 + hex_digit d) ds / 16 ^ length ds ≡ n * 16 + hex_digit d = ap (λ v. v / 16 ^ length ds) m.1 ∙ div-mul-add (n * 16 + hex_digit d) (16 ^ length ds) m.0 m.2 in
@@ -103,7 +100,7 @@ pub pattern_found : (digits : List ℕ) (pattern : ℕ) → pattern_of digits �
 unfolding pattern_of pattern_text
 pattern_found digits pattern e =
     let t = test_passed (eqb (length digits) 16 && list_all is_hex_sign digits) (hex_number digits) pattern e in
-    let b = both (eqb (length digits) 16) (list_all is_hex_sign digits) t.0 in
+    let b = and_parts (eqb (length digits) 16) (list_all is_hex_sign digits) t.0 in
     let long = sixteen digits b.0 in
     let same : after 0 digits ≡ pattern = sym (number_is digits) ∙ t.1 in
     (sym (digits_back 0 digits b.1) ∙ (λ i. hex_text (long i) (same i)), omega (arith, bounded digits b.1 long, same))

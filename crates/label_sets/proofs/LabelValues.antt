@@ -1,5 +1,7 @@
 -- What `value_of` finds in a list of labels, and that a label set is determined by it.
 use Rattle.std.proofs.Common.{◌≡◌, ◌≢◌, ℕ, Bool, true, false, cond, List, [], ◌∷◌, Option, Some, None, refl, sym, ap, ◌∙◌, subst}
+pub use Rattle.list_core.proofs.Bools.{by_bool}
+pub use Rattle.list_core.proofs.Options.{one_value, some_not_none}
 use Rattle.std.specs.declared.cmp.Ordering.{Ordering}
 use Rattle.std.specs.declared.cmp.Ordering.TheVariants.{Less, Equal, Greater}
 use Rattle.std.specs.Ordering.{ordering_reverse, is_eq}
@@ -35,10 +37,6 @@ bytes_eq_differs one other n = untrue (bytes_eq one other) (λ t. n ((bytes_deci
 pub same_text : (one other : List ℕ) → compare_texts one other ≡ Equal → one ≡ other
 same_text one other e = (bytes_decides one other).0 (texts_ties one other ∙ ap is_eq e)
 
-pub by_bool : {P : Type 0} (b : Bool) → (b ≡ true → P) → (b ≡ false → P) → P
-by_bool true f g = f refl
-by_bool false f g = g refl
-
 pub by_ordering : {P : Type 0} (r : Ordering) → (r ≡ Less → P) → (r ≡ Equal → P) → (r ≡ Greater → P) → P
 by_ordering Less f g h = f refl
 by_ordering Equal f g h = g refl
@@ -65,15 +63,9 @@ pub StandsBefore-trans : (a b : List ℕ) (ls : List Label) → ComesBefore a b 
 StandsBefore-trans a b [] p h = tt
 StandsBefore-trans a b (l ∷ ls) p h = (before_trans a b l.name p h.0, StandsBefore-trans a b ls p h.1)
 
-pub some_none : (v : List ℕ) (o : Option (List ℕ)) → o ≡ Some v → o ≡ None → ⊥
-some_none v o p q = cc
-
-pub some_same : (u v : List ℕ) (o : Option (List ℕ)) → o ≡ Some u → o ≡ Some v → u ≡ v
-some_same u v o p q = cc
-
 -- a set that begins after the name has no value under it, as one that begins with it has
 head_not_before : (x y : Label) (xs ys : List Label) → StandsBefore y.name ys → value_of (x ∷ xs) x.name ≡ value_of (y ∷ ys) x.name → ComesBefore x.name y.name → ⊥
-head_not_before x y xs ys q same b = some_none x.value (value_of (x ∷ xs) x.name) (value_hit x xs x.name refl)
+head_not_before x y xs ys q same b = some_not_none x.value (value_of (x ∷ xs) x.name) (value_hit x xs x.name refl)
     (same ∙ value_of-below x.name (y ∷ ys) (b, StandsBefore-trans x.name y.name ys b q))
 
 tail_values : (x y : Label) (xs ys : List Label) (name : List ℕ) → x.name ≡ y.name → StandsBefore x.name xs → StandsBefore y.name ys → value_of (x ∷ xs) name ≡ value_of (y ∷ ys) name → value_of xs name ≡ value_of ys name
@@ -87,12 +79,12 @@ tail_values x y xs ys name e p q same = by_bool (bytes_eq x.name name)
 -- A label set is determined by the values under all names.
 pub same_sets : (xs ys : List Label) → IsLabelSet xs → IsLabelSet ys → ((name : List ℕ) → value_of xs name ≡ value_of ys name) → xs ≡ ys
 same_sets [] [] p q same = refl
-same_sets [] (y ∷ ys) p q same = absurd (some_none y.value (value_of (y ∷ ys) y.name) (value_hit y ys y.name refl) (sym (same y.name) ∙ value_nil y.name))
-same_sets (x ∷ xs) [] p q same = absurd (some_none x.value (value_of (x ∷ xs) x.name) (value_hit x xs x.name refl) (same x.name ∙ value_nil x.name))
+same_sets [] (y ∷ ys) p q same = absurd (some_not_none y.value (value_of (y ∷ ys) y.name) (value_hit y ys y.name refl) (sym (same y.name) ∙ value_nil y.name))
+same_sets (x ∷ xs) [] p q same = absurd (some_not_none x.value (value_of (x ∷ xs) x.name) (value_hit x xs x.name refl) (same x.name ∙ value_nil x.name))
 same_sets (x ∷ xs) (y ∷ ys) p q same = by_ordering (compare_texts x.name y.name)
     (λ b. absurd (head_not_before x y xs ys q.2 (same x.name) b))
     (λ t. let e : x.name ≡ y.name = same_text x.name y.name t in
-    let v : x.value ≡ y.value = some_same x.value y.value (value_of (x ∷ xs) x.name) (value_hit x xs x.name refl) (same x.name ∙ value_hit y ys x.name (sym e)) in
+    let v : x.value ≡ y.value = one_value x.value y.value (value_of (x ∷ xs) x.name) (value_hit x xs x.name refl) (same x.name ∙ value_hit y ys x.name (sym e)) in
     let l : x ≡ y = λ i. record { name = e i; value = v i } in
     let ls : xs ≡ ys = same_sets xs ys p.3 q.3 (λ name. tail_values x y xs ys name e p.2 q.2 (same name)) in
     λ i. l i ∷ ls i)

@@ -13,10 +13,6 @@ pub mod SetsFound
 pub mod SetsAgain
 pub mod SetLaws
 pub mod StopPlaces
-pub mod PairRefusals
-pub mod CommaPairs
-pub mod WalkStops
-pub mod RepeatsFound
 pub mod RefusalLaws
 pub mod HexNumbers
 pub mod HexTexts

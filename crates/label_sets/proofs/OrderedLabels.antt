@@ -1,5 +1,6 @@
 -- Labels put in the order of their names make a set with the same values.
 use Rattle.std.proofs.Common.{◌≡◌, ◌≢◌, ◌⊎◌, ℕ, Bool, true, false, cond, List, [], ◌∷◌, ◌++◌, Option, Some, None, refl, sym, ap, ◌∙◌, subst, inl, inr}
+use Rattle.list_core.proofs.Bools.{Less-from_is_lt, swap_tests}
 use Rattle.std.specs.declared.cmp.Ordering.{Ordering}
 use Rattle.std.specs.declared.cmp.Ordering.TheVariants.{Less, Equal, Greater}
 use Rattle.std.specs.Ordering.{ordering_reverse, is_lt}
@@ -10,25 +11,13 @@ use Rattle.std.proofs.lemmas.Bool.{true≢false}
 use Rattle.label_sets.specs.declared.label.Label.{Label}
 use Rattle.label_sets.specs.Labels.{compare_texts, ComesBefore, StandsBefore, IsLabelSet, MakeASet, value_of, has_lesser_name}
 use Rattle.label_sets.specs.Ordered.{placed, in_order}
-use Rattle.label_sets.proofs.LabelValues.{by_bool, by_ordering, before_differs, same_text, value_hit, value_miss, value_of-below, StandsBefore-trans, some_none}
-
-less_from : (r : Ordering) → is_lt r ≡ true → r ≡ Less
-less_from Less h = refl
-less_from Equal h = absurd (true≢false (sym h))
-less_from Greater h = absurd (true≢false (sym h))
+use Rattle.label_sets.proofs.LabelValues.{by_bool, by_ordering, before_differs, same_text, value_hit, value_miss, value_of-below, StandsBefore-trans, some_not_none}
 
 not_less_from : (r : Ordering) → is_lt r ≡ false → r ≡ Less → ⊥
 not_less_from r h e = true≢false (ap is_lt (sym e) ∙ h)
 
--- two tests that do not both hold can be asked in either order
-exchange : (a b : Bool) (P Q R : Option (List ℕ)) → (a ≡ true → b ≡ true → ⊥) → cond a P (cond b Q R) ≡ cond b Q (cond a P R)
-exchange true true P Q R h = absurd (h refl refl)
-exchange true false P Q R h = refl
-exchange false true P Q R h = refl
-exchange false false P Q R h = refl
-
 names_apart : (l m : Label) (name : List ℕ) → has_lesser_name m l ≡ true → bytes_eq m.name name ≡ true → bytes_eq l.name name ≡ true → ⊥
-names_apart l m name t p q = before_differs m.name l.name (less_from (compare_texts m.name l.name) t) ((bytes_decides m.name name).0 p ∙ sym ((bytes_decides l.name name).0 q))
+names_apart l m name t p q = before_differs m.name l.name (Less-from_is_lt (compare_texts m.name l.name) t) ((bytes_decides m.name name).0 p ∙ sym ((bytes_decides l.name name).0 q))
 
 pub value_of-placed : (l : Label) (ls : List Label) (name : List ℕ) → value_of (placed has_lesser_name l ls) name ≡ value_of (l ∷ ls) name
 unfolding placed value_of
@@ -36,7 +25,7 @@ value_of-placed l [] name = refl
 value_of-placed l (m ∷ ms) name = by_bool (has_lesser_name m l)
     (λ t. ap (λ b. value_of (cond b (m ∷ placed has_lesser_name l ms) (l ∷ m ∷ ms)) name) t
     ∙ ap (λ v. cond (bytes_eq m.name name) (Some m.value) v) (value_of-placed l ms name)
-    ∙ exchange (bytes_eq m.name name) (bytes_eq l.name name) (Some m.value) (Some l.value) (value_of ms name) (names_apart l m name t))
+    ∙ swap_tests (bytes_eq m.name name) (bytes_eq l.name name) (Some m.value) (Some l.value) (value_of ms name) (names_apart l m name t))
     (λ f. ap (λ b. value_of (cond b (m ∷ placed has_lesser_name l ms) (l ∷ m ∷ ms)) name) f)
 
 pub value_of-in_order : (ls : List Label) (name : List ℕ) → value_of (in_order has_lesser_name ls) name ≡ value_of ls name
@@ -55,14 +44,14 @@ StandsBefore-placed name l (m ∷ ms) b h = elim (has_lesser_name m l) as (λ t.
 goes_first : (l m : Label) (ms : List Label) → has_lesser_name m l ≡ false → value_of (m ∷ ms) l.name ≡ None → ComesBefore l.name m.name
 goes_first l m ms f none = by_ordering (compare_texts m.name l.name)
     (λ e. absurd (not_less_from (compare_texts m.name l.name) f e))
-    (λ e. absurd (some_none m.value (value_of (m ∷ ms) l.name) (value_hit m ms l.name (same_text m.name l.name e)) none))
+    (λ e. absurd (some_not_none m.value (value_of (m ∷ ms) l.name) (value_hit m ms l.name (same_text m.name l.name e)) none))
     (λ e. nat_list_cmp_total.antisymm l.name m.name ∙ ap ordering_reverse e)
 
 pub IsLabelSet-placed : (l : Label) (ls : List Label) → l.name ≢ [] → l.value ≢ [] → value_of ls l.name ≡ None → IsLabelSet ls → IsLabelSet (placed has_lesser_name l ls)
 unfolding placed
 IsLabelSet-placed l [] n v none h = (n, v, tt, tt)
 IsLabelSet-placed l (m ∷ ms) n v none h = by_bool (has_lesser_name m l)
-    (λ t. let b : ComesBefore m.name l.name = less_from (compare_texts m.name l.name) t in
+    (λ t. let b : ComesBefore m.name l.name = Less-from_is_lt (compare_texts m.name l.name) t in
     subst (λ b. IsLabelSet (cond b (m ∷ placed has_lesser_name l ms) (l ∷ m ∷ ms))) (sym t) (
       h.0,
       h.1,
@@ -95,12 +84,12 @@ abbrev pub AreApart : List Label → List Label → Type 0
 AreApart xs ys = (name : List ℕ) → (value_of xs name ≡ None) ⊎ (value_of ys name ≡ None)
 
 not_first : {P : Type 0} (x : Label) (xs : List Label) → (value_of (x ∷ xs) x.name ≡ None) ⊎ P → P
-not_first x xs (inl none) = absurd (some_none x.value (value_of (x ∷ xs) x.name) (value_hit x xs x.name refl) none)
+not_first x xs (inl none) = absurd (some_not_none x.value (value_of (x ∷ xs) x.name) (value_hit x xs x.name refl) none)
 not_first x xs (inr p) = p
 
 none_later : (x : Label) (xs : List Label) (name : List ℕ) → value_of (x ∷ xs) name ≡ None → value_of xs name ≡ None
 none_later x xs name none = by_bool (bytes_eq x.name name)
-    (λ t. absurd (some_none x.value (value_of (x ∷ xs) name) (value_hit x xs name ((bytes_decides x.name name).0 t)) none))
+    (λ t. absurd (some_not_none x.value (value_of (x ∷ xs) name) (value_hit x xs name ((bytes_decides x.name name).0 t)) none))
     (λ f. sym (value_miss x xs name (λ e. true≢false (sym ((bytes_decides x.name name).1 e) ∙ f))) ∙ none)
 
 apart_later : (x : Label) (xs ys : List Label) → AreApart (x ∷ xs) ys → AreApart xs ys

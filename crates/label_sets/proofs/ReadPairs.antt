@@ -1,5 +1,6 @@
 -- What the readers of values and pairs have read is in the notation.
 use Rattle.std.proofs.Common.{◌≡◌, ℕ, ◌<◌, Bool, true, false, cond, ◌||◌, List, [], ◌∷◌, ◌++◌, length, take, drop, Result, Ok, Err, refl, sym, ap, ◌∙◌, subst, arith, append_assoc, eqb}
+use Rattle.reading_core.proofs.Binds.{one_answer}
 use Rattle.std.proofs.lemmas.Bool.Decides.{Decides-eqb}
 use Rattle.std.proofs.lemmas.List.{take-append-drop, length-append}
 use Rattle.std.specs.Str.{IsUtf8}
@@ -26,11 +27,8 @@ not_err e x h = cc
 not_ok : {A : Type 0} (e : LabelRefusal) (x : A) → Ok x ≡ Err e → ⊥
 not_ok e x h = cc
 
-same_ok : {A : Type 0} (x y : A) (r : Result A LabelRefusal) → r ≡ Ok x → r ≡ Ok y → x ≡ y
-same_ok x y r h k = cc
-
 same_pair : (x : List ℕ × List ℕ) (w after : List ℕ) (r : Result (List ℕ × List ℕ) LabelRefusal) → r ≡ Ok x → r ≡ Ok (w, after) → (x.0 ≡ w) × (x.1 ≡ after)
-same_pair x w after r h k = let e = same_ok x (w, after) r h k in (ap (λ p. p.0) e, ap (λ p. p.1) e)
+same_pair x w after r h k = let e = one_answer x (w, after) r h k in (ap (λ p. p.0) e, ap (λ p. p.1) e)
 
 pub is_byte : (byte n : ℕ) → eqb byte n ≡ true → byte ≡ n
 is_byte byte n t = (Decides-eqb byte n).0 t
@@ -39,7 +37,7 @@ pub past-only : (byte : ℕ) (text rest : List ℕ) → past byte text ≡ Ok re
 unfolding past
 past-only byte [] rest e = absurd (not_err (BadText 0) rest e)
 past-only byte (first ∷ text) rest e = by_bool (eqb first byte)
-    (λ t. let h : text ≡ rest = same_ok text rest (past byte (first ∷ text)) (ap (λ b. cond b (Ok text) (Err (BadText (length (first ∷ text))))) t) e in
+    (λ t. let h : text ≡ rest = one_answer text rest (past byte (first ∷ text)) (ap (λ b. cond b (Ok text) (Err (BadText (length (first ∷ text))))) t) e in
     λ i. is_byte first byte t i ∷ h i)
     (λ f. absurd (not_err (BadText (length (first ∷ text))) rest (sym (ap (λ b. cond b (Ok text) (Err (BadText (length (first ∷ text))))) f) ∙ e)))
 

@@ -1,38 +1,32 @@
 -- Names that stand twice among labels, before and after the labels are put in order.
-use Rattle.std.proofs.Common.{◌≡◌, ◌≢◌, ℕ, zero, suc, ◌+◌, ◌-◌, ◌<◌, ◌≤◌, Bool, true, false, cond, ◌||◌, List, [], ◌∷◌, length, get_or, Option, Some, None, refl, sym, ap, ◌∙◌, subst, arith}
+use Rattle.std.proofs.Common.{◌≡◌, ◌≢◌, ℕ, zero, suc, ◌+◌, ◌-◌, ◌<◌, ◌≤◌, Bool, true, false, cond, ◌||◌, List, [], ◌∷◌, ◌++◌, length, get_or, Option, Some, None, refl, sym, ap, ◌∙◌, subst, arith}
+use Rattle.list_core.proofs.Bools.{or_swap}
+use Rattle.list_core.proofs.Options.{None-from_is_some}
+use Rattle.std.proofs.Math.Bool.{or-true}
 use Rattle.std.specs.Ordering.{ordering_reverse, is_lt}
 use Rattle.std.specs.Cmp.Lexicographic.{nat_list_cmp_total, nat_list_eq_equiv, bytes_decides}
 use Rattle.std.specs.Str.{bytes_eq}
 use Rattle.std.specs.List.{list_any}
 use Rattle.std.specs.List.Sorted.{IsSortedBy}
 use Rattle.std.specs.Option.{is_some}
-use Rattle.std.proofs.lemmas.Bool.{true≢false}
+use Rattle.std.proofs.lemmas.Bool.{true≢false, or_parts, or_left, or_from}
 use Rattle.std.proofs.lemmas.List.Sorted.{ranks_by}
 use Rattle.std.proofs.lemmas.List.{get_or_default}
 use Rattle.label_sets.specs.declared.label.Label.{Label}
 use Rattle.label_sets.specs.Labels.{compare_texts, ComesBefore, MakeASet, value_of, names_of, has_lesser_name}
 use Rattle.label_sets.specs.Ordered.{placed, in_order}
 use Rattle.label_sets.specs.Finals.{is_among}
-use Rattle.label_sets.specs.Notation.{repeats}
-use Rattle.label_sets.proofs.LabelValues.{by_ordering, before_differs, before_trans, bytes_eq_differs, same_text}
+use Rattle.label_sets.specs.Notation.{is_name, repeats}
+use Rattle.label_sets.specs.SetText.{ArePairs}
+use Rattle.label_sets.proofs.LabelValues.{by_bool, by_ordering, before_differs, before_trans, bytes_eq_differs, same_text}
 use Rattle.label_sets.proofs.OrderedLabels.{value_of-in_order}
 use Rattle.label_sets.proofs.FinalLabels.{among_names}
-use Rattle.label_sets.proofs.StableSorts.{NoneLess, Rises, Rises-from_sorted}
+use Rattle.list_core.proofs.StableSorts.{NoneLess, Rises, Rises-from_sorted}
 
 pub among_labels : (labels : List Label) (name : List ℕ) → list_any (λ l. bytes_eq l.name name) labels ≡ is_among (names_of labels) name
 unfolding is_among
 among_labels [] name = refl
 among_labels (l ∷ ls) name = ap (λ b. bytes_eq l.name name || b) (among_labels ls name)
-
-or_true : (b : Bool) → (b || true) ≡ true
-or_true true = refl
-or_true false = refl
-
-either_true : (a b : Bool) → a ≡ true → (a || b) ≡ true
-either_true a b h = ap (λ x. x || b) h
-
-neither : (a b : Bool) → a ≡ false → b ≡ false → (a || b) ≡ false
-neither a b p q = λ i. p i || q i
 
 -- two neighbours with one name
 pub repeats_at : (labels : List Label) (k : ℕ) (d : Label) → suc k < length labels → bytes_eq (get_or labels k d).name (get_or labels (suc k) d).name ≡ true → repeats (names_of labels) ≡ true
@@ -40,10 +34,10 @@ unfolding repeats is_among
 repeats_at [] k d l e = absurd (omega arith)
 repeats_at (x ∷ []) k d l e = absurd (omega arith)
 repeats_at (x ∷ y ∷ ys) zero d l e =
-    either_true (is_among (names_of (y ∷ ys)) x.name) (repeats (names_of (y ∷ ys)))
-    (either_true (bytes_eq y.name x.name) (is_among (names_of ys) x.name) ((bytes_decides y.name x.name).1 (sym ((bytes_decides x.name y.name).0 e))))
+    or_left (is_among (names_of (y ∷ ys)) x.name) (repeats (names_of (y ∷ ys)))
+    (or_left (bytes_eq y.name x.name) (is_among (names_of ys) x.name) ((bytes_decides y.name x.name).1 (sym ((bytes_decides x.name y.name).0 e))))
 repeats_at (x ∷ y ∷ ys) (suc k) d l e =
-    ap (λ b. is_among (names_of (y ∷ ys)) x.name || b) (repeats_at (y ∷ ys) k d (omega arith) e) ∙ or_true (is_among (names_of (y ∷ ys)) x.name)
+    ap (λ b. is_among (names_of (y ∷ ys)) x.name || b) (repeats_at (y ∷ ys) k d (omega arith) e) ∙ or-true (is_among (names_of (y ∷ ys)) x.name)
 
 not_less : (one other : List ℕ) → is_lt (compare_texts one other) ≡ false → ComesBefore one other → ⊥
 not_less one other f b = true≢false (sym (ap is_lt b) ∙ f)
@@ -64,7 +58,7 @@ still_before a b c p f = by_ordering (compare_texts b c)
 not_among_later : (name : List ℕ) (y : Label) (ys : List Label) → ComesBefore name y.name → NoneLess has_lesser_name y ys → is_among (names_of ys) name ≡ false
 unfolding is_among
 not_among_later name y [] b n = refl
-not_among_later name y (w ∷ ws) b n = neither (bytes_eq w.name name) (is_among (names_of ws) name)
+not_among_later name y (w ∷ ws) b n = or_from (bytes_eq w.name name) (is_among (names_of ws) name)
     (bytes_eq_differs w.name name (λ e. before_differs name w.name (still_before name y.name w.name b n.0) (sym e)))
     (not_among_later name y ws b n.1)
 
@@ -74,8 +68,8 @@ no_repeats [] r h = refl
 no_repeats (x ∷ []) r h = refl
 no_repeats (x ∷ y ∷ ys) r h =
     let b : ComesBefore x.name y.name = goes_after x.name y.name r.0.0 (h 0 x (omega arith)) in
-    neither (is_among (names_of (y ∷ ys)) x.name) (repeats (names_of (y ∷ ys)))
-    (neither (bytes_eq y.name x.name) (is_among (names_of ys) x.name) (bytes_eq_differs y.name x.name (λ e. before_differs x.name y.name b (sym e))) (not_among_later x.name y ys b r.1.0))
+    or_from (is_among (names_of (y ∷ ys)) x.name) (repeats (names_of (y ∷ ys)))
+    (or_from (bytes_eq y.name x.name) (is_among (names_of ys) x.name) (bytes_eq_differs y.name x.name (λ e. before_differs x.name y.name b (sym e))) (not_among_later x.name y ys b r.1.0))
     (no_repeats (y ∷ ys) r.1 (λ k d l. h (suc k) d (omega arith)))
 
 pub no_repeats-sorted : (labels : List Label) → IsSortedBy has_lesser_name labels → ((k : ℕ) (d : Label) → suc k < length labels → bytes_eq (get_or labels k d).name (get_or labels (suc k) d).name ≡ false) → repeats (names_of labels) ≡ false
@@ -96,28 +90,19 @@ no_repeats_before labels i end up h = sym (no_repeats-sorted labels up
 pub among-in_order : (labels : List Label) (name : List ℕ) → is_among (names_of (in_order has_lesser_name labels)) name ≡ is_among (names_of labels) name
 among-in_order labels name = among_names (in_order has_lesser_name labels) name ∙ ap is_some (value_of-in_order labels name) ∙ sym (among_names labels name)
 
-swap_or : (a b c : Bool) → (a || (b || c)) ≡ (b || (a || c))
-swap_or true b c = sym (or_true b)
-swap_or false true c = refl
-swap_or false false c = refl
-
 middle_or : (a b c d : Bool) → ((a || b) || (c || d)) ≡ ((a || c) || (b || d))
 middle_or true b c d = refl
-middle_or false true c d = sym (or_true c)
+middle_or false true c d = sym (or-true c)
 middle_or false false c d = refl
 
 same_either_way : (one other : List ℕ) → bytes_eq one other ≡ bytes_eq other one
 same_either_way one other = nat_list_eq_equiv.symm one other
 
-none_from : (o : Option (List ℕ)) → is_some o ≡ false → o ≡ None
-none_from None h = refl
-none_from (Some v) h = absurd (true≢false h)
-
 among-placed : (l : Label) (ls : List Label) (name : List ℕ) → is_among (names_of (placed has_lesser_name l ls)) name ≡ (bytes_eq l.name name || is_among (names_of ls) name)
 unfolding placed is_among
 among-placed l [] name = refl
 among-placed l (m ∷ ms) name = elim (has_lesser_name m l) as (λ b. is_among (names_of (cond b (m ∷ placed has_lesser_name l ms) (l ∷ m ∷ ms))) name ≡ (bytes_eq l.name name || (bytes_eq m.name name || is_among (names_of ms) name))) [
-  | true ↦ ap (λ b. bytes_eq m.name name || b) (among-placed l ms name) ∙ swap_or (bytes_eq m.name name) (bytes_eq l.name name) (is_among (names_of ms) name)
+  | true ↦ ap (λ b. bytes_eq m.name name || b) (among-placed l ms name) ∙ or_swap (bytes_eq m.name name) (bytes_eq l.name name) (is_among (names_of ms) name)
   | false ↦ refl
 ]
 
@@ -144,21 +129,65 @@ pub repeats_sorted_with : (labels sorted : List Label) (name : List ℕ) → sor
 unfolding repeats
 repeats_sorted_with labels sorted name e = ap (λ ls. is_among (names_of ls) name || repeats (names_of ls)) e ∙ (λ i. among-in_order labels name i || repeats-in_order labels i)
 
--- each label has a name and a value
-abbrev pub AreFilled : List Label → Type 0
-AreFilled [] = Unit {0}
-AreFilled (l ∷ ls) = (l.name ≢ []) × (l.value ≢ []) × AreFilled ls
+-- labels that can stand as pairs, no two of one name, make a set
+pub named_some : (name : List ℕ) → is_name name ≡ true → name ≢ []
+unfolding is_name
+named_some [] is e = true≢false (sym is)
+named_some (x ∷ name) is e = absurd cc
 
-not_some : (b : Bool) (v : Bool) → (b || v) ≡ false → (b ≡ false) × (v ≡ false)
-not_some true v h = absurd (true≢false h)
-not_some false v h = (refl, h)
-
-pub MakeASet-from_read : (labels : List Label) → AreFilled labels → repeats (names_of labels) ≡ false → MakeASet labels
+pub MakeASet-from_pairs : (labels : List Label) → ArePairs labels → repeats (names_of labels) ≡ false → MakeASet labels
 unfolding repeats
-MakeASet-from_read [] h n = tt
-MakeASet-from_read (l ∷ ls) h n =
-    let p = not_some (is_among (names_of ls) l.name) (repeats (names_of ls)) n in
-    (h.0, h.1, none_from (value_of ls l.name) (sym (among_names ls l.name) ∙ p.0), MakeASet-from_read ls h.2 p.1)
+MakeASet-from_pairs [] are once = tt
+MakeASet-from_pairs (l ∷ ls) are once =
+    let p = or_parts (is_among (names_of ls) l.name) (repeats (names_of ls)) once in
+    let one = are 0 l (omega arith) in
+    (named_some l.name one.0, one.1, None-from_is_some (value_of ls l.name) (sym (among_names ls l.name) ∙ p.0), MakeASet-from_pairs ls (λ k d lt. are (suc k) d (omega arith)) p.1)
+
+pub once_from_able : (labels : List Label) → MakeASet labels → repeats (names_of labels) ≡ false
+unfolding repeats
+once_from_able [] able = refl
+once_from_able (l ∷ ls) able = (λ i. among_names ls l.name i || once_from_able ls able.3 i) ∙ ap (λ o. is_some o || false) able.2
+
+-- no label lacks its name
+nameless : (labels : List Label) → ArePairs labels → is_among (names_of labels) [] ≡ false
+unfolding is_among
+nameless [] are = refl
+nameless (l ∷ ls) are = or_from (bytes_eq l.name []) (is_among (names_of ls) []) (bytes_eq_differs l.name [] (named_some l.name (are 0 l (omega arith)).0)) (nameless ls (λ k d lt. are (suc k) d (omega arith)))
+
+pub repeats-nameless : (labels : List Label) → ArePairs labels → repeats ([] ∷ names_of labels) ≡ repeats (names_of labels)
+unfolding repeats is_among
+repeats-nameless labels are = ap (λ b. b || repeats (names_of labels)) (nameless labels are)
+
+among-last : (labels : List Label) (l : Label) (name : List ℕ) → is_among (names_of (labels ++ l ∷ [])) name ≡ (bytes_eq l.name name || is_among (names_of labels) name)
+unfolding is_among
+among-last [] l name = refl
+among-last (x ∷ xs) l name = ap (λ b. bytes_eq x.name name || b) (among-last xs l name) ∙ or_swap (bytes_eq x.name name) (bytes_eq l.name name) (is_among (names_of xs) name)
+
+-- the last label may stand first
+pub repeats-last : (labels : List Label) (l : Label) → repeats (names_of (labels ++ l ∷ [])) ≡ repeats (l.name ∷ names_of labels)
+unfolding repeats is_among
+repeats-last [] l = refl
+repeats-last (x ∷ xs) l =
+    (λ i. among-last xs l x.name i || repeats-last xs l i)
+    ∙ ap (λ b. (b || is_among (names_of xs) x.name) || (is_among (names_of xs) l.name || repeats (names_of xs))) (same_either_way l.name x.name)
+    ∙ middle_or (bytes_eq x.name l.name) (is_among (names_of xs) x.name) (is_among (names_of xs) l.name) (repeats (names_of xs))
+
+either_more : (a b c : Bool) → (a || b) ≡ true → (b ≡ true → c ≡ true) → (a || c) ≡ true
+either_more true b c t h = refl
+either_more false b c t h = h t
+
+among-more : (labels more : List Label) (name : List ℕ) → is_among (names_of labels) name ≡ true → is_among (names_of (labels ++ more)) name ≡ true
+unfolding is_among
+among-more [] more name t = absurd (true≢false (sym t))
+among-more (x ∷ xs) more name t = either_more (bytes_eq x.name name) (is_among (names_of xs) name) (is_among (names_of (xs ++ more)) name) t (among-more xs more name)
+
+-- what stands twice does so whatever follows
+pub repeats-more : (labels more : List Label) → repeats (names_of labels) ≡ true → repeats (names_of (labels ++ more)) ≡ true
+unfolding repeats
+repeats-more [] more t = absurd (true≢false (sym t))
+repeats-more (x ∷ xs) more t = by_bool (is_among (names_of xs) x.name)
+    (λ here. or_left (is_among (names_of (xs ++ more)) x.name) (repeats (names_of (xs ++ more))) (among-more xs more x.name here))
+    (λ f. ap (λ b. is_among (names_of (xs ++ more)) x.name || b) (repeats-more xs more (ap (λ b. b || repeats (names_of xs)) (sym f) ∙ t)) ∙ or-true (is_among (names_of (xs ++ more)) x.name))
 
 -- the name that is added is among the others, or only the others decide
 pub repeats_found : (labels : List Label) (name : List ℕ) (r : Bool) → r ≡ list_any (λ l. bytes_eq l.name name) labels → r ≡ true → r ≡ repeats (name ∷ names_of labels)

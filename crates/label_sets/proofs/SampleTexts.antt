@@ -1,5 +1,6 @@
 -- What is read as a sample is its text, and each refusal has its cause.
 use Rattle.std.proofs.Common.{◌≡◌, ◌≢◌, ℕ, ℤ, pos, negsuc, suc, ◌+◌, ◌^◌, ◌<◌, Bool, true, false, not, ◌&&◌, cond, List, [], ◌∷◌, ◌++◌, length, take, drop, get_or, Option, Some, None, Result, Ok, Err, IfOk, refl, sym, ap, ◌∙◌, arith, append_assoc, inl, inr}
+use Rattle.std.proofs.lemmas.Bool.{and_parts}
 use Rattle.std.proofs.lemmas.Bool.{cases_lt}
 use Rattle.std.proofs.lemmas.Bool.Decides.{nat_tests}
 use Rattle.std.proofs.lemmas.List.{length-append, take_at, drop_at}
@@ -21,10 +22,6 @@ use Rattle.label_sets.specs.SampleText.{pattern_of, pattern_text, timed_text, sa
 use Rattle.label_sets.proofs.HexTexts.{pattern_found, pattern_again}
 
 -- ---- the colon
-
-and_parts : (a b : Bool) → (a && b) ≡ true → (a ≡ true) × (b ≡ true)
-and_parts true b e = (refl, e)
-and_parts false b e = absurd cc
 
 abbrev HasNoColon : List ℕ → Type 0
 HasNoColon text = list_all (λ byte. not (is_colon byte)) text ≡ true

@@ -1,39 +1,33 @@
 -- What is read as a label set is a text of it, and each text of a set is read, whatever follows.
-use Rattle.std.proofs.Common.{◌≡◌, ◌≢◌, ℕ, zero, suc, ◌+◌, ◌-◌, ◌<◌, ◌≤◌, true, false, cond, ◌||◌, List, [], ◌∷◌, ◌++◌, length, take, get_or, Option, Some, None, Result, Ok, Err, refl, sym, ap, ◌∙◌, subst, arith, inl, inr}
+use Rattle.std.proofs.Common.{◌≡◌, ◌≢◌, ℕ, zero, suc, ◌+◌, ◌-◌, ◌<◌, ◌≤◌, true, false, cond, List, [], ◌∷◌, ◌++◌, length, take, get_or, Option, Some, None, Result, Ok, Err, refl, sym, ap, ◌∙◌, subst, arith, inl, inr}
+use Rattle.reading_core.proofs.Binds.{one_answer, ok_not_err}
 use Rattle.std.proofs.lemmas.List.{length-append, take_at}
 use Rattle.std.proofs.lemmas.List.Sorted.{IsPermutation-refl, IsPermutation-sym, IsPermutation-cons, IsPermutation-trans, IsPermutation-middle, All-permutation, Contains-permutation, sum_by-IsPermutation}
 use Rattle.std.proofs.lemmas.List.Sums.{sum_by-cons}
-use Rattle.std.proofs.lemmas.List.Elements.{All-cons, All-nil}
+use Rattle.std.proofs.lemmas.List.Elements.{All-cons, All-nil, All-head, All-tail}
 use Rattle.std.proofs.lemmas.Bool.{true≢false}
 use Rattle.std.specs.Cmp.Lexicographic.{bytes_decides}
-use Rattle.std.specs.Prelude.{All, Contains, IsTrue, IsPermutation, IfOk, MatchResult}
+use Rattle.std.specs.Prelude.{All, Contains, IsPermutation, IfOk, MatchResult}
 use Rattle.reading_core.specs.Reading.{Gives}
 use Rattle.std.specs.List.{sum_by}
-use Rattle.std.specs.Option.{is_some}
 use Rattle.std.specs.Str.{bytes_eq}
 use Rattle.label_sets.specs.declared.label.Label.{Label}
 use Rattle.label_sets.specs.declared.label_refusal.LabelRefusal.{LabelRefusal}
 use Rattle.label_sets.specs.declared.label_refusal.LabelRefusal.TheVariants.{Repeated, NoMemory}
 use Rattle.label_sets.specs.Labels.{IsLabelSet, MakeASet, value_of, names_of, has_lesser_name}
 use Rattle.label_sets.specs.Ordered.{placed, in_order}
-use Rattle.label_sets.specs.SetText.{AreNamed, IsSetText}
-use Rattle.label_sets.specs.Notation.{is_name, repeats, conclusion, read_set, set_text}
-use Rattle.label_sets.proofs.LabelValues.{by_bool, bytes_eq_differs, value_hit, value_miss, value_nil, some_none, some_same, same_sets}
+use Rattle.label_sets.specs.SetText.{AreNamed, ArePairs, IsSetText}
+use Rattle.label_sets.specs.Notation.{repeats, conclusion, read_set, set_text}
+use Rattle.label_sets.proofs.LabelValues.{by_bool, bytes_eq_differs, value_hit, value_miss, value_nil, some_not_none, one_value, same_sets}
 use Rattle.label_sets.proofs.OrderedLabels.{value_of-in_order, IsLabelSet-in_order, MakeASet-from_set}
-use Rattle.label_sets.proofs.FinalLabels.{among_names}
-use Rattle.label_sets.proofs.RepeatedNames.{AreFilled, MakeASet-from_read}
-use Rattle.label_sets.proofs.SetsFound.{AreWritten, IsReadSet, set_found}
+use Rattle.label_sets.proofs.RepeatedNames.{MakeASet-from_pairs, once_from_able}
+use Rattle.label_sets.proofs.SetsFound.{set_found}
 use Rattle.label_sets.proofs.SetsAgain.{walk_again}
 
 -- ---- the labels in the order of the text
 
-pub once_from_able : (labels : List Label) → MakeASet labels → repeats (names_of labels) ≡ false
-unfolding repeats
-once_from_able [] able = refl
-once_from_able (l ∷ ls) able = (λ i. among_names ls l.name i || once_from_able ls able.3 i) ∙ ap (λ o. is_some o || false) able.2
-
 -- labels in braces that make a set are read, whatever follows
-pub read_set-again : (labels : List Label) (after : List ℕ) → AreWritten labels → MakeASet labels → read_set (set_text labels ++ after) ≡ Ok (in_order has_lesser_name labels, length (set_text labels))
+pub read_set-again : (labels : List Label) (after : List ℕ) → ArePairs labels → MakeASet labels → read_set (set_text labels ++ after) ≡ Ok (in_order has_lesser_name labels, length (set_text labels))
 unfolding read_set conclusion
 read_set-again labels after are able =
     let total : ℕ = length (set_text labels ++ after) in
@@ -41,19 +35,6 @@ read_set-again labels after are able =
     ap (λ w. conclusion total w.0 w.1) (walk_again labels after are)
     ∙ ap (λ b. cond b (Err Repeated) (Ok (in_order has_lesser_name labels, total - length after))) (once_from_able labels able)
     ∙ ap (λ n. Ok (in_order has_lesser_name labels, n)) front
-
-pub named_some : (name : List ℕ) → is_name name ≡ true → name ≢ []
-unfolding is_name
-named_some [] is e = absurd cc
-named_some (x ∷ name) is e = absurd cc
-
-pub filled_from_written : (labels : List Label) → AreWritten labels → AreFilled labels
-filled_from_written [] are = tt
-filled_from_written (l ∷ ls) are = (named_some l.name are.0, are.1, filled_from_written ls are.2)
-
--- what was read makes a set
-pub set_able : (text : List ℕ) (made : List Label) (taken : ℕ) → (s : IsReadSet text made taken) → MakeASet s.labels
-set_able text made taken s = MakeASet-from_read s.labels (filled_from_written s.labels s.are_written) s.once
 
 -- ---- the labels in any order
 
@@ -95,7 +76,7 @@ count_none : (ls : List Label) (name : List ℕ) → value_of ls name ≡ None �
 unfolding count_of
 count_none [] name none = refl
 count_none (l ∷ ls) name none = by_name l.name name
-    (λ e. absurd (some_none l.value (value_of (l ∷ ls) name) (value_hit l ls name e) none))
+    (λ e. absurd (some_not_none l.value (value_of (l ∷ ls) name) (value_hit l ls name e) none))
     (λ n. count-miss name l ls n ∙ count_none ls name (sym (value_miss l ls name n) ∙ none))
 
 none_count : (ls : List Label) (name : List ℕ) → count_of name ls ≡ 0 → value_of ls name ≡ None
@@ -111,37 +92,34 @@ counts_from_able (l ∷ ls) able name = by_name l.name name
     (λ e. omega (arith, count-hit name l ls e, count_none ls name (subst (λ n. value_of ls n ≡ None) e able.2)))
     (λ n. omega (arith, count-miss name l ls n, counts_from_able ls able.3 name))
 
-able_from_counts : (ls : List Label) → AreFilled ls → ((name : List ℕ) → count_of name ls ≤ 1) → MakeASet ls
-able_from_counts [] filled few = tt
-able_from_counts (l ∷ ls) filled few = (
-  filled.0,
-  filled.1,
-  none_count ls l.name (omega (arith, count-hit l.name l ls refl, few l.name)),
-  able_from_counts ls filled.2 (λ name. omega (arith, count-cons name l ls, few name)),
-)
-
 abbrev IsFilled : Label → Type 0
 IsFilled l = (l.name ≢ []) × (l.value ≢ [])
+
+able_from_counts : (ls : List Label) → All IsFilled ls → ((name : List ℕ) → count_of name ls ≤ 1) → MakeASet ls
+able_from_counts [] filled few = tt
+able_from_counts (l ∷ ls) filled few =
+    let here = All-head IsFilled l ls filled in (
+      here.0,
+      here.1,
+      none_count ls l.name (omega (arith, count-hit l.name l ls refl, few l.name)),
+      able_from_counts ls (All-tail IsFilled l ls filled) (λ name. omega (arith, count-cons name l ls, few name)),
+    )
 
 all_filled : (ls : List Label) → MakeASet ls → All IsFilled ls
 all_filled [] able = All-nil IsFilled
 all_filled (l ∷ ls) able = All-cons IsFilled l ls (able.0, able.1) (all_filled ls able.3)
 
-filled_all : (ls : List Label) → All IsFilled ls → AreFilled ls
-filled_all [] all = tt
-filled_all (l ∷ ls) all = let here = all 0 l (omega arith) in (here.0, here.1, filled_all ls (λ k d lt. all (suc k) d (omega arith)))
-
 -- labels that are those of a set in another order make a set
 able_from_order : (listed set : List Label) → MakeASet set → IsPermutation listed set → MakeASet listed
 unfolding count_of
 able_from_order listed set able p =
-    able_from_counts listed (filled_all listed (All-permutation IsFilled set listed (IsPermutation-sym listed set p) (all_filled set able)))
+    able_from_counts listed (All-permutation IsFilled set listed (IsPermutation-sym listed set p) (all_filled set able))
     (λ name. omega (arith, sum_by-IsPermutation (λ (l : Label). cond (bytes_eq l.name name) 1 0) listed set p, counts_from_able set able name))
 
 value_in : (ls : List Label) (name value : List ℕ) → value_of ls name ≡ Some value → Contains ls (record { name = name; value = value })
-value_in [] name value some = absurd (some_none value (value_of [] name) some (value_nil name))
+value_in [] name value some = absurd (some_not_none value (value_of [] name) some (value_nil name))
 value_in (l ∷ ls) name value some = by_name l.name name
-    (λ e. let same : l.value ≡ value = some_same l.value value (value_of (l ∷ ls) name) (value_hit l ls name e) some in
+    (λ e. let same : l.value ≡ value = one_value l.value value (value_of (l ∷ ls) name) (value_hit l ls name e) some in
     (0, omega arith, λ i. record { name = e i; value = same i }))
     (λ n. let later = value_in ls name value (sym (value_miss l ls name n) ∙ some) in (suc later.0, omega arith, later.2))
 
@@ -150,7 +128,7 @@ in_value [] l k able within e = absurd (omega arith)
 in_value (x ∷ xs) l zero able within e = value_hit x xs l.name (ap (λ y. y.name) e) ∙ ap (λ y. Some y.value) e
 in_value (x ∷ xs) l (suc k) able within e =
     let later = in_value xs l k able.3 (omega arith) e in
-    value_miss x xs l.name (λ same. some_none l.value (value_of xs l.name) later (subst (λ n. value_of xs n ≡ None) same able.2)) ∙ later
+    value_miss x xs l.name (λ same. some_not_none l.value (value_of xs l.name) later (subst (λ n. value_of xs n ≡ None) same able.2)) ∙ later
 
 -- the values under all names are the same in another order
 moved_value : (xs ys : List Label) (name value : List ℕ) → MakeASet ys → IsPermutation xs ys → value_of xs name ≡ Some value → value_of ys name ≡ Some value
@@ -166,7 +144,7 @@ same_values : (xs ys : List Label) (name : List ℕ) → MakeASet xs → MakeASe
 same_values xs ys name able_x able_y p = by_option (value_of xs name)
     (λ v e. e ∙ sym (moved_value xs ys name v able_y p e))
     (λ none. by_option (value_of ys name)
-    (λ v e. absurd (some_none v (value_of xs name) (moved_value ys xs name v able_x (IsPermutation-sym xs ys p) e) none))
+    (λ v e. absurd (some_not_none v (value_of xs name) (moved_value ys xs name v able_x (IsPermutation-sym xs ys p) e) none))
     (λ also. none ∙ sym also))
 
 -- in order, they are the set
@@ -178,32 +156,36 @@ order_is listed set lawful p =
 
 -- ---- the laws
 
-pub named_from_written : (ls : List Label) → AreWritten ls → AreNamed ls
-named_from_written [] are = All-nil (λ (l : Label). IsTrue (is_name l.name))
-named_from_written (l ∷ ls) are = All-cons (λ (l : Label). IsTrue (is_name l.name)) l ls are.0 (named_from_written ls are.2)
+-- labels that can stand as pairs, no two of one name, are those of a set
+pub pairs_make_text : (labels : List Label) → ArePairs labels → repeats (names_of labels) ≡ false → IsSetText (set_text labels) (in_order has_lesser_name labels)
+pairs_make_text labels are once = record {
+  listed = labels;
+  written = refl;
+  named = λ k d lt. (are k d lt).0;
+  arranged = order_moves labels;
+  lawful = IsLabelSet-in_order labels (MakeASet-from_pairs labels are once);
+}
 
-pub written_from_named : (ls : List Label) → AreNamed ls → MakeASet ls → AreWritten ls
-written_from_named [] named able = tt
-written_from_named (l ∷ ls) named able = (named 0 l (omega arith), able.1, written_from_named ls (λ k d lt. named (suc k) d (omega arith)) able.3)
+pairs_from_named : (ls : List Label) → AreNamed ls → MakeASet ls → ArePairs ls
+pairs_from_named ls named able k d lt = (named k d lt, (all_filled ls able k d lt).1)
 
 -- what is read is a text of the set
 pub set_text_found : (text : List ℕ) (set : List Label) (taken : ℕ) → read_set text ≡ Ok (set, taken) → IsSetText (take taken text) set
 set_text_found text set taken e =
     let s = set_found text set taken e in
-    record {
-      listed = s.labels;
-      written = (λ i. take (s.taken_is i) (s.whole i)) ∙ take_at (set_text s.labels) s.after (length (set_text s.labels)) refl;
-      named = named_from_written s.labels s.are_written;
-      arranged = subst (IsPermutation s.labels) (sym s.made_is) (order_moves s.labels);
-      lawful = subst IsLabelSet (sym s.made_is) (IsLabelSet-in_order s.labels (set_able text set taken s));
-    }
+    let front : take taken text ≡ set_text s.labels = (λ i. take (s.taken_is i) (s.whole i)) ∙ take_at (set_text s.labels) s.after (length (set_text s.labels)) refl in
+    subst (λ t. IsSetText t set) (sym front) (subst (IsSetText (set_text s.labels)) (sym s.made_is) (pairs_make_text s.labels s.are_pairs s.once))
+
+-- so it is lawful
+pub read_set-lawful : (text : List ℕ) (set : List Label) (taken : ℕ) → read_set text ≡ Ok (set, taken) → IsLabelSet set
+read_set-lawful text set taken e = (set_text_found text set taken e).lawful
 
 -- and each text of a set is read, whatever follows
 pub set_text_again : (front after : List ℕ) (set : List Label) → IsSetText front set → read_set (front ++ after) ≡ Ok (set, length front)
 set_text_again front after set is =
     let able = able_from_order is.listed set (MakeASet-from_set set is.lawful) is.arranged in
     ap (λ t. read_set (t ++ after)) is.written
-    ∙ read_set-again is.listed after (written_from_named is.listed is.named able) able
+    ∙ read_set-again is.listed after (pairs_from_named is.listed is.named able) able
     ∙ (λ i. Ok (order_is is.listed set is.lawful is.arranged i, length (sym is.written i)))
 
 -- the written text of a set is one of them
@@ -215,17 +197,11 @@ pub found_of : {X : Type 0} (view : X → List Label × ℕ) (r : Result X Label
 found_of view (Ok x) text h = set_text_found text (view x).0 (view x).1 h
 found_of view (Err e) text h = tt
 
-both_answers : {A : Type 0} (x y : A) (r : Result A LabelRefusal) → r ≡ Ok x → r ≡ Ok y → x ≡ y
-both_answers x y r h k = cc
-
-no_refusal : {A : Type 0} (e : LabelRefusal) (x : A) (r : Result A LabelRefusal) → r ≡ Err e → r ≡ Ok x → ⊥
-no_refusal e x r h k = cc
-
 pub only_of : {X : Type 0} (view : X → List Label × ℕ) (r : Result X LabelRefusal) (text front after : List ℕ) (set : List Label) → Gives NoMemory view r (read_set text) → IsSetText front set → text ≡ front ++ after
     → MatchResult r (λ x. ((view x).0 ≡ set) × ((view x).1 ≡ length front)) (λ e. e ≡ NoMemory)
 only_of view (Ok x) text front after set h is e =
-    let same = both_answers (view x) (set, length front) (read_set text) h (ap read_set e ∙ set_text_again front after set is) in
+    let same = one_answer (view x) (set, length front) (read_set text) h (ap read_set e ∙ set_text_again front after set is) in
     (ap (λ y. y.0) same, ap (λ y. y.1) same)
 only_of view (Err refusal) text front after set (inl none) is e = none
 only_of view (Err refusal) text front after set (inr h) is e =
-    absurd (no_refusal refusal (set, length front) (read_set text) h (ap read_set e ∙ set_text_again front after set is))
+    absurd (ok_not_err (set, length front) refusal (read_set text) (ap read_set e ∙ set_text_again front after set is) h)

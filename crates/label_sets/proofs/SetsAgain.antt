@@ -1,15 +1,21 @@
 -- The labels that stand in braces are read, whatever follows them.
-use Rattle.std.proofs.Common.{◌≡◌, ◌≢◌, ℕ, zero, suc, ◌+◌, ◌<◌, ◌≤◌, Bool, true, false, cond, eqb, ◌||◌, ◌&&◌, List, [], ◌∷◌, ◌++◌, length, take, drop, Result, Ok, Err, refl, sym, ap, ◌∙◌, subst, arith, append_assoc, nat_lt}
+use Rattle.std.proofs.Common.{◌≡◌, ◌≢◌, ℕ, zero, suc, ◌+◌, ◌-◌, ◌≤◌, Bool, true, false, cond, eqb, ◌||◌, ◌&&◌, List, [], ◌∷◌, ◌++◌, length, take, drop, Some, Result, Ok, Err, refl, sym, ap, ◌∙◌, subst, arith, append_assoc, nat_lt}
 use Rattle.std.proofs.lemmas.Bool.Decides.{nat_tests}
 use Rattle.std.proofs.lemmas.List.{length-append, take_at, drop_at}
-use Rattle.std.specs.Prelude.{IsTrue}
+use Rattle.std.specs.Prelude.{IsTrue, IsErr}
+use Rattle.std.specs.Result.{is_err}
 use Rattle.std.specs.List.{flat_map, prefix_len, list_all}
 use Rattle.label_sets.specs.declared.label.Label.{Label}
 use Rattle.label_sets.specs.declared.label_refusal.LabelRefusal.{LabelRefusal}
 use Rattle.label_sets.specs.declared.label_refusal.LabelRefusal.TheVariants.{EmptyName, EmptyValue, BadText}
-use Rattle.label_sets.specs.Notation.{is_name, is_name_start, is_name_byte, name_length, name_at, past, with_byte, value_at, pair_at, pairs_at, on_pair, with_label, after_pair, at_comma, end_at, at_end, at_brace, after_brace, walk_at, quoted, quoted_byte, pair_text, comma_pair_text, pairs_text, set_text}
+use Rattle.label_sets.specs.Notation.{is_name, is_name_start, is_name_byte, name_length, name_at, past, with_byte, value_at, Walk, pair_at, pairs_at, on_pair, with_label, after_pair, at_comma, end_at, at_end, at_brace, after_brace, walk_at, quoted, quoted_byte, pair_text, pairs_text, set_text}
+use Rattle.label_sets.specs.SetText.{ArePairs}
+use Rattle.label_sets.specs.SetRefusals.{pair_comma_text}
 use Rattle.label_sets.proofs.LabelValues.{by_bool}
-use Rattle.label_sets.proofs.SetsFound.{AreWritten}
+use Rattle.label_sets.proofs.ReadSets.{with_value, after_quote, after_equals}
+use Rattle.label_sets.proofs.SetsFound.{pairs_and_last}
+use Rattle.std.proofs.lemmas.Bool.{true≢false, and_parts}
+use Rattle.std.proofs.lemmas.List.Elements.{All-pop}
 use Rattle.std.specs.Char.{is_ascii_digit}
 use Rattle.reading_core.specs.Reading.{◌>>=◌, ◌>>◌, unless}
 
@@ -51,20 +57,13 @@ value_again (byte ∷ value) after =
 
 -- ---- a name
 
-is_true : (b : Bool) → IsTrue b → b ≡ true
-is_true b h = h
-
-both : (a b : Bool) → (a && b) ≡ true → (a ≡ true) × (b ≡ true)
-both true b e = (refl, e)
-both false b e = absurd cc
-
 equals_sign : is_name_byte 61 ≡ false
 equals_sign = refl
 
 prefix_through : (p : ℕ → Bool) (front rest : List ℕ) (c : ℕ) → list_all p front ≡ true → p c ≡ false → prefix_len p (front ++ c ∷ rest) ≡ length front
 prefix_through p [] rest c all stop = ap (λ b. cond b (1 + prefix_len p rest) 0) stop
 prefix_through p (x ∷ front) rest c all stop =
-    let b = both (p x) (list_all p front) all in
+    let b = and_parts (p x) (list_all p front) all in
     ap (λ t. cond t (1 + prefix_len p (front ++ c ∷ rest)) 0) b.0 ∙ ap (λ n. 1 + n) (prefix_through p front rest c b.1 stop) ∙ omega arith
 
 -- the name at the front of a text is the longest one there
@@ -72,7 +71,7 @@ pub name_again : (name rest : List ℕ) (c : ℕ) → is_name name ≡ true → 
 unfolding is_name name_length
 name_again [] rest c is stop = absurd cc
 name_again (x ∷ name) rest c is stop =
-    let b = both (is_name_start x) (list_all is_name_byte name) is in
+    let b = and_parts (is_name_start x) (list_all is_name_byte name) is in
     let all : list_all is_name_byte (x ∷ name) ≡ true = (λ i. (b.0 i || is_ascii_digit x) && b.1 i) in
     ap (λ t. cond t (prefix_len is_name_byte (x ∷ (name ++ c ∷ rest))) 0) b.0 ∙ prefix_through is_name_byte (x ∷ name) rest c all stop
 
@@ -81,7 +80,7 @@ unfolding is_name
 name_some [] is = absurd cc
 name_some (x ∷ name) is = grind (arith, nat_tests)
 
-value_some : (value : List ℕ) → value ≢ [] → nat_lt 0 (length value) ≡ true
+pub value_some : (value : List ℕ) → value ≢ [] → nat_lt 0 (length value) ≡ true
 value_some [] some = absurd (some refl)
 value_some (x ∷ value) some = grind (arith, nat_tests)
 
@@ -90,15 +89,6 @@ value_some (x ∷ value) some = grind (arith, nat_tests)
 pub pair_shape_again : (label : Label) (rest : List ℕ) → pair_text label ++ rest ≡ label.name ++ 61 ∷ 34 ∷ (quoted label.value ++ 34 ∷ rest)
 unfolding pair_text
 pair_shape_again label rest = simp append_assoc
-
-unfoldable pub with_value : List ℕ → List ℕ × List ℕ → Result (Label × List ℕ) LabelRefusal
-with_value name value = unless (nat_lt 0 (length value.0)) EmptyValue >> Ok (record { name = name; value = value.0 }, value.1)
-
-unfoldable pub after_quote : List ℕ → List ℕ → Result (Label × List ℕ) LabelRefusal
-after_quote name inside = value_at false inside >>= with_value name
-
-unfoldable pub after_equals : List ℕ → ℕ → List ℕ → Result (Label × List ℕ) LabelRefusal
-after_equals name n after = unless (nat_lt 0 n) EmptyName >> (past 34 after >>= after_quote name)
 
 -- a pair whose name is whole and is followed by an equals sign
 pub pair_named : (text name after : List ℕ) → is_name name ≡ true → text ≡ name ++ 61 ∷ after → pair_at text ≡ (past 34 after >>= after_quote name)
@@ -123,54 +113,91 @@ pair_steps_again text name value rest is some e =
 pub pair_again : (label : Label) (rest : List ℕ) → is_name label.name ≡ true → label.value ≢ [] → pair_at (pair_text label ++ rest) ≡ Ok (label, rest)
 pair_again label rest is some = pair_steps_again (pair_text label ++ rest) label.name label.value rest is some (pair_shape_again label rest)
 
--- ---- pairs
+-- ---- pairs with a comma after each
 
-pairs_again : (n : ℕ) (l : Label) (ls : List Label) (after : List ℕ) → length ls < n → AreWritten (l ∷ ls) → pairs_at n (pair_text l ++ (flat_map comma_pair_text ls ++ 125 ∷ after)) ≡ (l ∷ ls, Ok after)
-unfolding pairs_at on_pair with_label after_pair at_comma end_at at_end comma_pair_text
-pairs_again zero l ls after few are = absurd (omega arith)
-pairs_again (suc n) l [] after few are =
-    let text : List ℕ = pair_text l ++ 125 ∷ after in
-    ap (on_pair (pairs_at n) text) (pair_again l (125 ∷ after) are.0 are.1)
-    ∙ ap (λ r. with_label l (at_comma (pairs_at n) (125 ∷ after) r)) (past_other 44 125 after (omega arith))
-    ∙ ap (λ r. with_label l (at_end (125 ∷ after) r)) (past_it 125 after)
-pairs_again (suc n) l (m ∷ ms) after few are =
-    let others : List ℕ = pair_text m ++ (flat_map comma_pair_text ms ++ 125 ∷ after) in
-    let joined : flat_map comma_pair_text (m ∷ ms) ++ 125 ∷ after ≡ 44 ∷ others = append_assoc (comma_pair_text m) (flat_map comma_pair_text ms) (125 ∷ after) in
-    let text : List ℕ = pair_text l ++ 44 ∷ others in
-    ap (λ t. pairs_at (suc n) (pair_text l ++ t)) joined
-    ∙ ap (on_pair (pairs_at n) text) (pair_again l (44 ∷ others) are.0 are.1)
-    ∙ ap (λ r. with_label l (at_comma (pairs_at n) (44 ∷ others) r)) (past_it 44 others)
-    ∙ ap (with_label l) (pairs_again n m ms after (omega arith) are.2)
+commas_shape : (l : Label) (ls : List Label) (text : List ℕ) → flat_map pair_comma_text (l ∷ ls) ++ text ≡ pair_text l ++ 44 ∷ (flat_map pair_comma_text ls ++ text)
+unfolding pair_comma_text
+commas_shape l ls text = simp append_assoc
 
-no_more_than_text : (ls : List Label) → length ls ≤ length (flat_map comma_pair_text ls)
-unfolding comma_pair_text
-no_more_than_text [] = omega arith
-no_more_than_text (l ∷ ls) = omega (arith, no_more_than_text ls, length-append (comma_pair_text l) (flat_map comma_pair_text ls))
+pairs_go_on : (labels : List Label) (n fuel : ℕ) (text : List ℕ) → fuel ≡ length labels + n → ArePairs labels → pairs_at fuel (flat_map pair_comma_text labels ++ text) ≡ (labels ++ (pairs_at n text).0, (pairs_at n text).1)
+unfolding pairs_at on_pair with_label after_pair at_comma
+pairs_go_on [] n fuel text e are = let same : fuel ≡ n = omega arith in ap (λ f. pairs_at f text) same
+pairs_go_on (l ∷ ls) n zero text e are = absurd (omega arith)
+pairs_go_on (l ∷ ls) n (suc fuel) text e are =
+    let after : List ℕ = flat_map pair_comma_text ls ++ text in
+    let one = are 0 l (omega arith) in
+    ap (pairs_at (suc fuel)) (commas_shape l ls text)
+    ∙ ap (on_pair (pairs_at fuel) (pair_text l ++ 44 ∷ after)) (pair_again l (44 ∷ after) one.0 one.1)
+    ∙ ap (λ r. with_label l (at_comma (pairs_at fuel) (44 ∷ after) r)) (past_it 44 after)
+    ∙ ap (with_label l) (pairs_go_on ls n fuel text (omega arith) (λ k d lt. are (suc k) d (omega arith)))
 
-pub begins_no_end : (name rest : List ℕ) → is_name name ≡ true → past 125 (name ++ rest) ≡ Err (BadText (length (name ++ rest)))
+at_most_text : (ls : List Label) → length ls ≤ length (flat_map pair_comma_text ls)
+unfolding pair_comma_text
+at_most_text [] = omega arith
+at_most_text (l ∷ ls) = omega (arith, at_most_text ls, length-append (pair_text l ++ 44 ∷ []) (flat_map pair_comma_text ls), length-append (pair_text l) (44 ∷ []))
+
+pub begins_no_end : (name rest : List ℕ) → is_name name ≡ true → IsErr (past 125 (name ++ rest))
 unfolding is_name
 begins_no_end [] rest is = absurd cc
 begins_no_end (x ∷ name) rest is =
-    let b = both (is_name_start x) (list_all is_name_byte name) is in
+    let b = and_parts (is_name_start x) (list_all is_name_byte name) is in
     let other : x ≢ 125 = λ e. let closing : is_name_start 125 ≡ true = ap is_name_start (sym e) ∙ b.0 in absurd (cc closing) in
-    past_other 125 x (name ++ rest) other
+    ap is_err (past_other 125 x (name ++ rest) other)
 
-braces_again : (labels : List Label) (after : List ℕ) → AreWritten labels → after_brace (pairs_text labels ++ 125 ∷ after) (past 125 (pairs_text labels ++ 125 ∷ after)) ≡ (labels, Ok after)
-unfolding after_brace pairs_text
-braces_again [] after are = ap (after_brace (125 ∷ after)) (past_it 125 after)
-braces_again (l ∷ ls) after are =
-    let inside : List ℕ = pair_text l ++ flat_map comma_pair_text ls ++ 125 ∷ after in
-    let shape : inside ≡ l.name ++ 61 ∷ 34 ∷ (quoted l.value ++ 34 ∷ (flat_map comma_pair_text ls ++ 125 ∷ after)) =
-    append_assoc (pair_text l) (flat_map comma_pair_text ls) (125 ∷ after) ∙ pair_shape_again l (flat_map comma_pair_text ls ++ 125 ∷ after) in
-    let many : length ls < suc (length inside) = omega (arith, no_more_than_text ls, length-append (pair_text l ++ flat_map comma_pair_text ls) (125 ∷ after), length-append (pair_text l) (flat_map comma_pair_text ls)) in
-    ap (after_brace inside) (ap (past 125) shape ∙ begins_no_end l.name (61 ∷ 34 ∷ (quoted l.value ++ 34 ∷ (flat_map comma_pair_text ls ++ 125 ∷ after))) are.0)
-    ∙ ap (pairs_at (suc (length inside))) (append_assoc (pair_text l) (flat_map comma_pair_text ls) (125 ∷ after))
-    ∙ pairs_again (suc (length inside)) l ls after many are
+pair_no_end : (l : Label) (rest : List ℕ) → is_name l.name ≡ true → IsErr (past 125 (pair_text l ++ rest))
+pair_no_end l rest is = subst (λ t. IsErr (past 125 t)) (sym (pair_shape_again l rest)) (begins_no_end l.name (61 ∷ 34 ∷ (quoted l.value ++ 34 ∷ rest)) is)
+
+no_end_at_once : (labels : List Label) (text : List ℕ) → ArePairs labels → (labels ≡ [] → IsErr (past 125 text)) → IsErr (past 125 (flat_map pair_comma_text labels ++ text))
+no_end_at_once [] text are unclosed = unclosed refl
+no_end_at_once (l ∷ ls) text are unclosed = subst (λ t. IsErr (past 125 t)) (sym (commas_shape l ls text)) (pair_no_end l (44 ∷ (flat_map pair_comma_text ls ++ text)) (are 0 l (omega arith)).0)
+
+unclosed_braces : (inside : List ℕ) (r : Result (List ℕ) LabelRefusal) → IsErr r → after_brace inside r ≡ pairs_at (suc (length inside)) inside
+unfolding after_brace
+unclosed_braces inside (Ok after) bad = absurd (true≢false (sym bad))
+unclosed_braces inside (Err e) bad = refl
+
+-- a walk goes on behind them
+pub walk_goes_on : (labels : List Label) (pair : List ℕ) → ArePairs labels → (labels ≡ [] → IsErr (past 125 pair))
+    → (n : ℕ) × (walk_at (123 ∷ (flat_map pair_comma_text labels ++ pair)) ≡ (labels ++ (on_pair (pairs_at n) pair (pair_at pair)).0, (on_pair (pairs_at n) pair (pair_at pair)).1))
+unfolding walk_at at_brace pairs_at
+walk_goes_on labels pair are unclosed =
+    let inside : List ℕ = flat_map pair_comma_text labels ++ pair in
+    let n : ℕ = length inside - length labels in (
+      n,
+      ap (at_brace (123 ∷ inside)) (past_it 123 inside)
+          ∙ unclosed_braces inside (past 125 inside) (no_end_at_once labels pair are unclosed)
+          ∙ pairs_go_on labels (suc n) (suc (length inside)) pair (omega (arith, at_most_text labels, length-append (flat_map pair_comma_text labels) pair)) are,
+    )
+
+no_comma_here : (more : List ℕ → Walk) (rest : List ℕ) (r : Result (List ℕ) LabelRefusal) → IsErr r → at_comma more rest r ≡ end_at rest
+unfolding at_comma
+no_comma_here more rest (Ok next) bad = absurd (true≢false (sym bad))
+no_comma_here more rest (Err e) bad = refl
+
+-- and comes to its end behind the last one
+pub walk_ends_behind : (front : List Label) (l : Label) (rest : List ℕ) → ArePairs (front ++ l ∷ []) → IsErr (past 44 rest)
+    → walk_at (123 ∷ (flat_map pair_comma_text front ++ (pair_text l ++ rest))) ≡ (front ++ l ∷ (end_at rest).0, (end_at rest).1)
+unfolding on_pair with_label after_pair
+walk_ends_behind front l rest are no_comma =
+    let parts = All-pop (λ (l : Label). (is_name l.name ≡ true) × (l.value ≢ [])) (front ++ l ∷ []) front (Some l) refl are in
+    let one = parts.1 in
+    let w = walk_goes_on front (pair_text l ++ rest) parts.0 (λ none. pair_no_end l rest one.0) in
+    w.1
+    ∙ ap (λ (x : Walk). (front ++ x.0, x.1))
+    (ap (on_pair (pairs_at w.0) (pair_text l ++ rest)) (pair_again l rest one.0 one.1) ∙ ap (with_label l) (no_comma_here (pairs_at w.0) rest (past 44 rest) no_comma))
+
+last_of : (l : Label) (ls : List Label) → (front : List Label) × (last : Label) × (l ∷ ls ≡ front ++ last ∷ [])
+last_of l [] = ([], l, refl)
+last_of l (m ∷ ms) = let v = last_of m ms in (l ∷ v.0, v.1, ap (λ xs. l ∷ xs) v.2)
 
 -- the labels that stand in braces are read
-pub walk_again : (labels : List Label) (after : List ℕ) → AreWritten labels → walk_at (set_text labels ++ after) ≡ (labels, Ok after)
-unfolding walk_at at_brace set_text
-walk_again labels after are =
-    let inside : List ℕ = pairs_text labels ++ 125 ∷ after in
-    let shape : set_text labels ++ after ≡ 123 ∷ inside = simp append_assoc in
-    ap (λ t. at_brace t (past 123 t)) shape ∙ ap (at_brace (123 ∷ inside)) (past_it 123 inside) ∙ braces_again labels after are
+pub walk_again : (labels : List Label) (after : List ℕ) → ArePairs labels → walk_at (set_text labels ++ after) ≡ (labels, Ok after)
+unfolding walk_at at_brace after_brace set_text pairs_text end_at at_end past
+walk_again [] after are = refl
+walk_again (l ∷ ls) after are =
+    let v = last_of l ls in
+    let shape : pairs_text (l ∷ ls) ++ (125 ∷ after) ≡ flat_map pair_comma_text v.0 ++ (pair_text v.1 ++ 125 ∷ after) =
+    ap (λ x. pairs_text x ++ 125 ∷ after) v.2 ∙ ap (λ t. t ++ 125 ∷ after) (pairs_and_last v.0 v.1) ∙ append_assoc (flat_map pair_comma_text v.0) (pair_text v.1) (125 ∷ after) in
+    ap (λ t. walk_at (123 ∷ t)) (append_assoc (pairs_text (l ∷ ls)) (125 ∷ []) after ∙ shape)
+    ∙ walk_ends_behind v.0 v.1 (125 ∷ after) (subst ArePairs v.2 are) refl
+    ∙ ap (λ x. (x, Ok after)) (sym v.2)

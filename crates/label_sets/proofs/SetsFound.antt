@@ -1,26 +1,30 @@
 -- What a walk over a text reads is what stands there.
-use Rattle.std.proofs.Common.{◌≡◌, ◌≢◌, Bool, true, cond, ◌||◌, ◌&&◌, nat_lt, ℕ, zero, suc, ◌+◌, ◌-◌, ◌<◌, false, List, [], ◌∷◌, ◌++◌, length, take, drop, get_or, Result, Ok, Err, refl, sym, ap, ◌∙◌, subst, arith, append_assoc}
+use Rattle.std.proofs.Common.{◌≡◌, ◌≢◌, Bool, true, cond, ◌||◌, ◌&&◌, nat_lt, ℕ, zero, suc, ◌+◌, ◌-◌, ◌<◌, false, List, [], ◌∷◌, ◌++◌, length, take, drop, get_or, Result, Ok, Err, refl, sym, ap, ◌∙◌, subst, arith, append_assoc, append-nil, ◌⊎◌, inl, inr}
 use Rattle.std.proofs.lemmas.List.{length-append, get_or_at}
+use Rattle.std.proofs.lemmas.List.Elements.{All-nil, All-push}
+use Rattle.std.proofs.lemmas.Grind.{flat_map-append}
+use Rattle.std.proofs.lemmas.Bool.{true≢false}
+use Rattle.std.specs.Prelude.{IfOk, IsErr}
+use Rattle.std.specs.Result.{is_err}
 use Rattle.std.proofs.lemmas.Str.{IsCharBoundary-after_ascii}
 use Rattle.std.specs.Str.{IsUtf8, IsCharBoundary}
 use Rattle.std.specs.List.{flat_map, prefix_len, list_all}
-use Rattle.reading_core.proofs.Binds.{cond_ok}
+use Rattle.reading_core.proofs.Binds.{cond_ok, ok_is}
 use Rattle.label_sets.specs.declared.label.Label.{Label}
 use Rattle.label_sets.specs.declared.label_refusal.LabelRefusal.{LabelRefusal}
 use Rattle.label_sets.specs.declared.label_refusal.LabelRefusal.TheVariants.{Repeated, BadText}
 use Rattle.label_sets.specs.Labels.{names_of, has_lesser_name}
 use Rattle.label_sets.specs.Ordered.{in_order}
+use Rattle.label_sets.specs.SetText.{ArePairs}
+use Rattle.label_sets.specs.SetRefusals.{pair_comma_text}
 use Rattle.label_sets.specs.Notation.{is_name, is_name_start, is_name_byte, Walk, past, pair_at, pairs_at, on_pair, with_label, after_pair, at_comma, end_at, at_end, at_brace, after_brace, stopped_at, walk_at, repeats, name_at, name_length, placed_at, conclusion, read_set, pair_text, comma_pair_text, pairs_text, set_text}
 use Rattle.label_sets.proofs.ReadPairs.{past-only, pair_shape}
-use Rattle.label_sets.proofs.ReadSets.{pair_steps, filled_pair}
+use Rattle.label_sets.proofs.ReadSets.{pair_steps}
 use Rattle.label_sets.proofs.LabelValues.{by_bool}
 use Rattle.std.specs.Char.{is_ascii_digit}
 
 refused_not_read : {A E : Type 0} (e : E) (x : A) → Err e ≡ Ok x → ⊥
 refused_not_read e x h = cc
-
-read_is : {A E : Type 0} (x y : A) → ◌≡◌ {A = Result A E} (Ok x) (Ok y) → x ≡ y
-read_is x y h = cc
 
 -- the text of a pair that was read
 pub pair_found : (text : List ℕ) (label : Label) (rest : List ℕ) → pair_at text ≡ Ok (label, rest) → text ≡ pair_text label ++ rest
@@ -54,81 +58,141 @@ name_read (x ∷ xs) some = by_bool (is_name_start x)
     ∙ (λ i. t i && prefix_all is_name_byte xs i))
     (λ f. let none : nat_lt 0 0 ≡ true = ap (λ b. nat_lt 0 (cond b (prefix_len is_name_byte (x ∷ xs)) 0)) (sym f) ∙ some in absurd (cc none))
 
--- each name has the form of a name, and no value is empty
-abbrev pub AreWritten : List Label → Type 0
-AreWritten [] = Unit {0}
-AreWritten (l ∷ ls) = (is_name l.name ≡ true) × (l.value ≢ []) × AreWritten ls
-
 pub pair_written : (text : List ℕ) (label : Label) (rest : List ℕ) → pair_at text ≡ Ok (label, rest) → (is_name label.name ≡ true) × (label.value ≢ [])
 pair_written text label rest e =
     let s = pair_steps text label rest e in
-    (ap is_name s.name_is ∙ name_read text s.named, (filled_pair text label rest s).1)
+    (ap is_name s.name_is ∙ name_read text s.named, λ none. true≢false (sym s.valued ∙ ap (λ v. nat_lt 0 (length v)) none))
 
--- a pair, and more pairs each after a comma, up to the closing brace
-abbrev ArePairs : List ℕ → List Label → List ℕ → Type 0
-ArePairs text labels after = (l : Label) × (ls : List Label) × (labels ≡ l ∷ ls) × (text ≡ pair_text l ++ (flat_map comma_pair_text ls ++ 125 ∷ after)) × AreWritten labels
+-- ---- pairs, each with a comma after it
 
-last_pair : (l : Label) (rest after : List ℕ) → rest ≡ 125 ∷ after → pair_text l ++ rest ≡ pair_text l ++ (flat_map comma_pair_text [] ++ 125 ∷ after)
-last_pair l rest after e = ap (λ t. pair_text l ++ t) e
+-- one more of them
+commas_more : (front : List Label) (l : Label) (next : List ℕ) → flat_map pair_comma_text (front ++ l ∷ []) ++ next ≡ flat_map pair_comma_text front ++ (pair_text l ++ 44 ∷ next)
+unfolding pair_comma_text
+commas_more front l next = ap (λ t. t ++ next) (flat_map-append pair_comma_text front (l ∷ [])) ∙ simp append_assoc
 
-one_more_pair : (l m : Label) (ms labels : List Label) (rest next after : List ℕ) → labels ≡ m ∷ ms → rest ≡ 44 ∷ next → next ≡ pair_text m ++ (flat_map comma_pair_text ms ++ 125 ∷ after)
-    → pair_text l ++ rest ≡ pair_text l ++ (flat_map comma_pair_text labels ++ 125 ∷ after)
-unfolding comma_pair_text
-one_more_pair l m ms labels rest next after p e n =
-    ap (λ t. pair_text l ++ t) (e ∙ ap (λ t. 44 ∷ t) n ∙ sym (append_assoc (comma_pair_text m) (flat_map comma_pair_text ms) (125 ∷ after)) ∙ ap (λ ls. flat_map comma_pair_text ls ++ 125 ∷ after) (sym p))
+comma_after : (xs : List Label) (l : Label) → flat_map comma_pair_text (xs ++ l ∷ []) ≡ 44 ∷ pairs_text (xs ++ l ∷ [])
+unfolding comma_pair_text pairs_text
+comma_after [] l = refl
+comma_after (x ∷ xs) l = refl
 
-end_found : (rest : List ℕ) (r : Result (List ℕ) LabelRefusal) (labels : List Label) (after : List ℕ) → past 125 rest ≡ r → at_end rest r ≡ (labels, Ok after) → (labels ≡ []) × (rest ≡ 125 ∷ after)
+-- the pairs of a set, the last of which has none
+pub pairs_and_last : (front : List Label) (l : Label) → pairs_text (front ++ l ∷ []) ≡ flat_map pair_comma_text front ++ pair_text l
+unfolding pairs_text pair_comma_text
+pairs_and_last [] l = append-nil (pair_text l)
+pairs_and_last (x ∷ xs) l = ap (λ t. pair_text x ++ t) (comma_after xs l ∙ ap (λ t. 44 ∷ t) (pairs_and_last xs l)) ∙ simp append_assoc
+
+-- ---- where a walk over pairs ends
+
+-- these pairs, with commas between them, and then the rest
+pub record BehindPairs (inside : List ℕ) (labels : List Label) (rest : List ℕ) : Type 0 where
+  pub front : List Label
+  pub last : Label
+  pub labels_are : labels ≡ front ++ last ∷ []
+  pub whole : inside ≡ flat_map pair_comma_text front ++ (pair_text last ++ rest)
+  pub lawful : ArePairs labels
+
+-- in a pair, before which each has a comma after it
+pub record StopsInPair (inside : List ℕ) (labels : List Label) (stop : LabelRefusal × List ℕ) : Type 0 where
+  pub whole : inside ≡ flat_map pair_comma_text labels ++ stop.1
+  pub refused : pair_at stop.1 ≡ Err stop.0
+  pub lawful : ArePairs labels
+
+-- behind a pair, at what is neither a comma nor the closing brace
+pub record StopsBehind (inside : List ℕ) (labels : List Label) (stop : LabelRefusal × List ℕ) : Type 0 where
+  pub rest : List ℕ
+  pub pairs : BehindPairs inside labels rest
+  pub stop_is : stop ≡ (BadText (length rest), [])
+  pub no_comma : IsErr (past 44 rest)
+  pub no_end : IsErr (past 125 rest)
+
+abbrev pub WalkEnds : List ℕ → List Label → Result (List ℕ) (LabelRefusal × List ℕ) → Type 0
+WalkEnds inside labels (Ok after) = BehindPairs inside labels (125 ∷ after)
+WalkEnds inside labels (Err stop) = StopsInPair inside labels stop ⊎ StopsBehind inside labels stop
+
+end_ends : (inside : List ℕ) (labels : List Label) (rest : List ℕ) (r : Result (List ℕ) LabelRefusal) → BehindPairs inside labels rest → IsErr (past 44 rest) → past 125 rest ≡ r → WalkEnds inside (labels ++ (at_end rest r).0) (at_end rest r).1
 unfolding at_end stopped_at
-end_found rest (Ok next) labels after p e = (ap (λ w. w.0) (sym e), past-only 125 rest after (p ∙ ap (λ t. Ok t) (read_is next after (ap (λ w. w.1) e))))
-end_found rest (Err x) labels after p e = absurd (refused_not_read (BadText (length rest), []) after (ap (λ w. w.1) e))
+end_ends inside labels rest (Ok after) b c p = subst (λ ls. BehindPairs inside ls (125 ∷ after)) (sym (append-nil labels)) (subst (BehindPairs inside labels) (past-only 125 rest after p) b)
+end_ends inside labels rest (Err d) b c p = subst (λ ls. WalkEnds inside ls (Err (BadText (length rest), []))) (sym (append-nil labels)) (inr (record { rest = rest; pairs = b; stop_is = refl; no_comma = c; no_end = ap is_err p }))
 
-comma_found : (more : List ℕ → Walk) (rest : List ℕ) (r : Result (List ℕ) LabelRefusal) (l : Label) (labels : List Label) (after : List ℕ) → ((t : List ℕ) (ls : List Label) → more t ≡ (ls, Ok after) → ArePairs t ls after)
-    → past 44 rest ≡ r → at_comma more rest r ≡ (labels, Ok after) → (pair_text l ++ rest ≡ pair_text l ++ (flat_map comma_pair_text labels ++ 125 ∷ after)) × AreWritten labels
+-- a walk goes on from what is left, behind these labels
+abbrev GoesOn : (List ℕ → Walk) → List ℕ → ℕ → Type 0
+GoesOn more inside n = (labels : List Label) (next : List ℕ) → length next < n → inside ≡ flat_map pair_comma_text labels ++ next → ArePairs labels → WalkEnds inside (labels ++ (more next).0) (more next).1
+
+comma_ends : (more : List ℕ → Walk) (inside : List ℕ) (front : List Label) (l : Label) (rest : List ℕ) (r : Result (List ℕ) LabelRefusal) → inside ≡ flat_map pair_comma_text front ++ (pair_text l ++ rest) → ArePairs (front ++ l ∷ []) → GoesOn more inside (length rest)
+    → past 44 rest ≡ r → WalkEnds inside ((front ++ l ∷ []) ++ (at_comma more rest r).0) (at_comma more rest r).1
 unfolding at_comma end_at
-comma_found more rest (Ok next) l labels after h p e =
-    let f = h next labels e in
-    (one_more_pair l f.0 f.1 labels rest next after f.2 (past-only 44 rest next p) f.3, f.4)
-comma_found more rest (Err x) l labels after h p e =
-    let f = end_found rest (past 125 rest) labels after refl e in
-    (last_pair l rest after f.1 ∙ ap (λ ls. pair_text l ++ (flat_map comma_pair_text ls ++ 125 ∷ after)) (sym f.0), subst AreWritten (sym f.0) tt)
+comma_ends more inside front l rest (Ok next) shape are go p =
+    let is = past-only 44 rest next p in
+    go (front ++ l ∷ []) next (omega (arith, ap length is)) (shape ∙ ap (λ t. flat_map pair_comma_text front ++ (pair_text l ++ t)) is ∙ sym (commas_more front l next)) are
+comma_ends more inside front l rest (Err d) shape are go p =
+    end_ends inside (front ++ l ∷ []) rest (past 125 rest) (record { front = front; last = l; labels_are = refl; whole = shape; lawful = are }) (ap is_err p) refl
 
-on_pair_found : (more : List ℕ → Walk) (text : List ℕ) (r : Result (Label × List ℕ) LabelRefusal) (labels : List Label) (after : List ℕ) → ((t : List ℕ) (ls : List Label) → more t ≡ (ls, Ok after) → ArePairs t ls after)
-    → pair_at text ≡ r → on_pair more text r ≡ (labels, Ok after) → ArePairs text labels after
+on_pair_ends : (more : List ℕ → Walk) (inside : List ℕ) (labels : List Label) (text : List ℕ) (r : Result (Label × List ℕ) LabelRefusal) → inside ≡ flat_map pair_comma_text labels ++ text → ArePairs labels → GoesOn more inside (length text)
+    → pair_at text ≡ r → WalkEnds inside (labels ++ (on_pair more text r).0) (on_pair more text r).1
 unfolding on_pair with_label after_pair
-on_pair_found more text (Ok read) labels after h p e =
+on_pair_ends more inside labels text (Ok read) shape are go p =
     let w : Walk = at_comma more read.1 (past 44 read.1) in
-    let same : w ≡ (w.0, Ok after) = ap (λ x. (w.0, x.1)) e in
-    let m = comma_found more read.1 (past 44 read.1) read.0 w.0 after h refl same in
-    let here = pair_written text read.0 read.1 p in
-    let labels_are : labels ≡ read.0 ∷ w.0 = ap (λ x. x.0) (sym e) in
-    (read.0, w.0, labels_are, pair_found text read.0 read.1 p ∙ m.0, subst AreWritten (sym labels_are) (here.0, here.1, m.1))
-on_pair_found more text (Err x) labels after h p e = absurd (refused_not_read (x, text) after (ap (λ w. w.1) e))
+    let found = pair_found text read.0 read.1 p in
+    let lawful = All-push (λ (l : Label). (is_name l.name ≡ true) × (l.value ≢ [])) labels read.0 are (pair_written text read.0 read.1 p) in
+    subst (λ ls. WalkEnds inside ls w.1) (append_assoc labels (read.0 ∷ []) w.0)
+    (comma_ends more inside labels read.0 read.1 (past 44 read.1) (shape ∙ ap (λ t. flat_map pair_comma_text labels ++ t) found) lawful
+    (λ ls next few. go ls next (omega (arith, few, ap length found, length-append (pair_text read.0) read.1))) refl)
+on_pair_ends more inside labels text (Err e) shape are go p = subst (λ ls. WalkEnds inside ls (Err (e, text))) (sym (append-nil labels)) (inl (record { whole = shape; refused = p; lawful = are }))
 
-pairs_found : (n : ℕ) (text : List ℕ) (labels : List Label) (after : List ℕ) → pairs_at n text ≡ (labels, Ok after) → ArePairs text labels after
-unfolding pairs_at stopped_at
-pairs_found zero text labels after e = absurd (refused_not_read (BadText (length text), []) after (ap (λ w. w.1) e))
-pairs_found (suc n) text labels after e = on_pair_found (pairs_at n) text (pair_at text) labels after (λ t ls. pairs_found n t ls after) refl e
+pairs_end : (n : ℕ) (inside : List ℕ) → GoesOn (pairs_at n) inside n
+unfolding pairs_at
+pairs_end zero inside labels text few shape are = absurd (omega arith)
+pairs_end (suc n) inside labels text few shape are =
+    on_pair_ends (pairs_at n) inside labels text (pair_at text) shape are (λ ls next l. pairs_end n inside ls next (omega arith)) refl
 
-after_brace_found : (text : List ℕ) (r : Result (List ℕ) LabelRefusal) (labels : List Label) (after : List ℕ) → past 125 text ≡ r → after_brace text r ≡ (labels, Ok after) → (text ≡ pairs_text labels ++ 125 ∷ after) × AreWritten labels
-unfolding after_brace pairs_text
-after_brace_found text (Ok next) labels after p e =
-    let none : [] ≡ labels = ap (λ w. w.0) e in
-    (past-only 125 text after (p ∙ ap (λ t. Ok t) (read_is next after (ap (λ w. w.1) e))) ∙ ap (λ ls. pairs_text ls ++ 125 ∷ after) none, subst AreWritten none tt)
-after_brace_found text (Err x) labels after p e =
-    let f = pairs_found (suc (length text)) text labels after e in
-    (f.3 ∙ sym (append_assoc (pair_text f.0) (flat_map comma_pair_text f.1) (125 ∷ after)) ∙ ap (λ ls. pairs_text ls ++ 125 ∷ after) (sym f.2), f.4)
+-- pairs behind the opening brace
+pub record InBraces (text : List ℕ) (labels : List Label) (end : Result (List ℕ) (LabelRefusal × List ℕ)) : Type 0 where
+  pub inside : List ℕ
+  pub whole : text ≡ 123 ∷ inside
+  pub unclosed : IsErr (past 125 inside)
+  pub ends : WalkEnds inside labels end
 
-at_brace_found : (text : List ℕ) (r : Result (List ℕ) LabelRefusal) (labels : List Label) (after : List ℕ) → past 123 text ≡ r → at_brace text r ≡ (labels, Ok after) → (text ≡ set_text labels ++ after) × AreWritten labels
-unfolding at_brace stopped_at set_text
-at_brace_found text (Ok inside) labels after p e =
-    let f = after_brace_found inside (past 125 inside) labels after refl e in
-    (past-only 123 text inside p ∙ ap (λ t. 123 ∷ t) f.0 ∙ simp append_assoc, f.1)
-at_brace_found text (Err x) labels after p e = absurd (refused_not_read (BadText (length text), []) after (ap (λ w. w.1) e))
+-- what a walk comes to: no opening brace, a set without labels, or pairs
+abbrev pub IsWalk : List ℕ → Walk → Type 0
+IsWalk text w = (IsErr (past 123 text) × (w ≡ stopped_at text)) ⊎ (((after : List ℕ) × (text ≡ 123 ∷ 125 ∷ after) × (w ≡ ([], Ok after))) ⊎ InBraces text w.0 w.1)
+
+brace_walk : (text inside : List ℕ) (r : Result (List ℕ) LabelRefusal) → text ≡ 123 ∷ inside → past 125 inside ≡ r → IsWalk text (after_brace inside r)
+unfolding after_brace
+brace_walk text inside (Ok after) shape p = inr (inl (after, shape ∙ ap (λ t. 123 ∷ t) (past-only 125 inside after p), refl))
+brace_walk text inside (Err d) shape p =
+    inr (inr (record { inside = inside; whole = shape; unclosed = ap is_err p; ends = pairs_end (suc (length inside)) inside [] inside (omega arith) refl (All-nil (λ (l : Label). (is_name l.name ≡ true) × (l.value ≢ []))) }))
+
+start_walk : (text : List ℕ) (r : Result (List ℕ) LabelRefusal) → past 123 text ≡ r → IsWalk text (at_brace text r)
+unfolding at_brace
+start_walk text (Ok inside) p = brace_walk text inside (past 125 inside) (past-only 123 text inside p) refl
+start_walk text (Err d) p = inl (ap is_err p, refl)
+
+pub walk_is : (text : List ℕ) → IsWalk text (walk_at text)
+unfolding walk_at
+walk_is text = start_walk text (past 123 text) refl
+
+-- ---- what was read
+
+abbrev ReadsSet : List ℕ → Walk → Type 0
+ReadsSet text w = IfOk w.1 (λ after. (text ≡ set_text w.0 ++ after) × ArePairs w.0)
+
+braces_read : (text : List ℕ) (labels : List Label) (end : Result (List ℕ) (LabelRefusal × List ℕ)) → InBraces text labels end → ReadsSet text (labels, end)
+unfolding set_text
+braces_read text labels (Ok after) b =
+    let p : BehindPairs b.inside labels (125 ∷ after) = b.ends in
+    let pairs : pairs_text labels ≡ flat_map pair_comma_text p.front ++ pair_text p.last = ap pairs_text p.labels_are ∙ pairs_and_last p.front p.last in
+    (b.whole ∙ ap (λ t. 123 ∷ t) (p.whole ∙ sym (append_assoc (flat_map pair_comma_text p.front) (pair_text p.last) (125 ∷ after)) ∙ ap (λ t. t ++ 125 ∷ after) (sym pairs) ∙ sym (append_assoc (pairs_text labels) (125 ∷ []) after)), p.lawful)
+braces_read text labels (Err stop) b = tt
+
+walk_reads : (text : List ℕ) (w : Walk) → IsWalk text w → ReadsSet text w
+unfolding set_text pairs_text stopped_at
+walk_reads text w (inl stop) = subst (ReadsSet text) (sym stop.1) tt
+walk_reads text w (inr (inl empty)) = subst (ReadsSet text) (sym empty.2) (empty.1, All-nil (λ (l : Label). (is_name l.name ≡ true) × (l.value ≢ [])))
+walk_reads text w (inr (inr braces)) = braces_read text w.0 w.1 braces
 
 -- the labels in braces stand at the front of what was read well
-pub walk_found : (text : List ℕ) (labels : List Label) (after : List ℕ) → walk_at text ≡ (labels, Ok after) → (text ≡ set_text labels ++ after) × AreWritten labels
-unfolding walk_at
-walk_found text labels after e = at_brace_found text (past 123 text) labels after refl e
+pub walk_found : (text : List ℕ) (labels : List Label) (after : List ℕ) → walk_at text ≡ (labels, Ok after) → (text ≡ set_text labels ++ after) × ArePairs labels
+walk_found text labels after e = subst (ReadsSet text) e (walk_reads text (walk_at text) (walk_is text))
 
 -- what a conclusion of a set rests on
 pub concluded : (total : ℕ) (labels : List Label) (o : Result (List ℕ) (LabelRefusal × List ℕ)) (made : List Label) (taken : ℕ) → conclusion total labels o ≡ Ok (made, taken)
@@ -136,7 +200,7 @@ pub concluded : (total : ℕ) (labels : List Label) (o : Result (List ℕ) (Labe
 unfolding conclusion
 concluded total labels (Ok after) made taken e =
     let c = cond_ok (repeats (names_of labels)) Repeated (Ok (in_order has_lesser_name labels, total - length after)) (made, taken) e in
-    let s = read_is (in_order has_lesser_name labels, total - length after) (made, taken) c.1 in
+    let s = ok_is (in_order has_lesser_name labels, total - length after) (made, taken) c.1 in
     (after, refl, c.0, ap (λ x. x.0) (sym s), ap (λ x. x.1) (sym s))
 concluded total labels (Err stop) made taken e =
     absurd (refused_not_read (placed_at total stop.0) (made, taken) (cond_ok (repeats (name_at stop.1 ∷ names_of labels)) Repeated (Err (placed_at total stop.0)) (made, taken) e).1)
@@ -150,7 +214,7 @@ pub record IsReadSet (text : List ℕ) (made : List Label) (taken : ℕ) : Type 
   pub taken_is : taken ≡ length (set_text labels)
   pub made_is : made ≡ in_order has_lesser_name labels
   pub once : repeats (names_of labels) ≡ false
-  pub are_written : AreWritten labels
+  pub are_pairs : ArePairs labels
 
 pub set_found : (text : List ℕ) (made : List Label) (taken : ℕ) → read_set text ≡ Ok (made, taken) → IsReadSet text made taken
 unfolding read_set
@@ -166,7 +230,7 @@ set_found text made taken e =
       taken_is = c.4 ∙ omega (arith, ap length f.0, length-append (set_text (walk_at text).0) c.0);
       made_is = c.3;
       once = c.2;
-      are_written = f.1;
+      are_pairs = f.1;
     }
 
 -- a text can be cut after the closing brace

@@ -8,3 +8,4 @@ pub mod SetText
 pub mod SetRefusals
 pub mod SampleText
 pub mod Triples
+pub mod Counts

@@ -1,47 +1,44 @@
 -- Why no label set is read at the front of a text, by what stands there.
-use Rattle.std.specs.Prelude.{◌≡◌, ◌≢◌, ℕ, ◌<◌, ◌≤◌, suc, List, [], ◌∷◌, ◌++◌, length, take, slice_index, codes, false, IsTrue, IsSome, None}
+use Rattle.std.specs.Prelude.{◌≡◌, ◌≢◌, ℕ, ◌<◌, ◌≤◌, suc, List, ◌∷◌, ◌++◌, length, take, codes, IsTrue, IsFalse}
 use Rattle.std.specs.List.{flat_map}
 use Rattle.label_sets.specs.declared.label.Label.{Label}
 use Rattle.label_sets.specs.declared.label_refusal.LabelRefusal.{LabelRefusal}
 use Rattle.label_sets.specs.declared.label_refusal.LabelRefusal.TheVariants.{EmptyName, EmptyValue, Repeated, BadText, NoMemory}
-use Rattle.label_sets.specs.Labels.{MakeASet, value_of}
-use Rattle.label_sets.specs.Notation.{is_name, is_name_byte, pair_text}
-use Rattle.label_sets.specs.SetText.{AreNamed, IsSetText}
+use Rattle.label_sets.specs.Labels.{names_of}
+use Rattle.label_sets.specs.Notation.{is_name, name_at, repeats, pair_text}
+use Rattle.label_sets.specs.SetText.{ArePairs, IsSetText}
 
 -- a pair and a comma
 unfoldable pub pair_comma_text : Label → List ℕ
-pair_comma_text label = pair_text label ++ 44 ∷ []
+pair_comma_text label = pair_text label ++ codes ","
 
--- The opening brace, pairs of which a set can be made, each with a comma after it, and then the rest of the text.
+-- The opening brace, pairs with a comma after each, and then the rest of the text.
 pub record HasPairs (text : List ℕ) (listed : List Label) (after : List ℕ) : Type 0 where
-  pub begins : text ≡ 123 ∷ (flat_map pair_comma_text listed ++ after)
-  pub named : AreNamed listed
-  pub able : MakeASet listed
+  pub begins : text ≡ codes "{" ++ (flat_map pair_comma_text listed ++ after)
+  pub lawful : ArePairs listed
 
--- An equals sign stands where a name is due.
+-- An equals sign stands where a name is due, and no name has stood twice.
 pub record LacksName (text : List ℕ) : Type 0 where
   pub listed : List Label
   pub after : List ℕ
   pub pairs : HasPairs text listed (codes "=" ++ after)
+  pub once : IsFalse (repeats (names_of listed))
 
--- A new name stands with an empty value.
+-- A name stands with an empty value, and no name has stood twice, this one neither.
 pub record LacksValue (text : List ℕ) : Type 0 where
   pub listed : List Label
   pub name : List ℕ
   pub after : List ℕ
   pub pairs : HasPairs text listed (name ++ codes "=\"\"" ++ after)
   pub named : IsTrue (is_name name)
-  pub new : value_of listed name ≡ None
+  pub once : IsFalse (repeats (name ∷ names_of listed))
 
--- A whole name stands where a pair is due, and it stands before that too.
+-- Some name has stood twice, among those of the pairs and the whole one that stands behind them.
 pub record RepeatsName (text : List ℕ) : Type 0 where
   pub listed : List Label
-  pub name : List ℕ
   pub after : List ℕ
-  pub pairs : HasPairs text listed (name ++ after)
-  pub named : IsTrue (is_name name)
-  pub whole : is_name_byte (slice_index after 0) ≡ false
-  pub known : IsSome (value_of listed name)
+  pub pairs : HasPairs text listed after
+  pub again : IsTrue (repeats (name_at after ∷ names_of listed))
 
 -- Some text of a label set begins with it.
 pub record BeginsASet (front : List ℕ) : Type 0 where

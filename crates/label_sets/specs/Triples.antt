@@ -3,6 +3,7 @@ use Rattle.std.specs.Prelude.{◌≡◌, ℕ, ℤ, List, map, Bool, true, All, C
 use Rattle.std.specs.declared.cmp.Ordering.{Ordering}
 use Rattle.std.specs.Ordering.{int_cmp, ordering_then, is_lt, is_eq}
 use Rattle.std.specs.List.{flat_map, dedup, list_any, IsDistinct}
+use Rattle.std.specs.List.Sorted.{IsStrictlySortedBy}
 use Rattle.label_sets.specs.declared.label.Label.{Label}
 use Rattle.label_sets.specs.declared.sample.Sample.{Sample}
 use Rattle.label_sets.specs.declared.series.Series.{Series}
@@ -39,6 +40,11 @@ pub record IsOneToOne (kept list : List Triple) : Type 0 where
   pub once : IsDistinct has_same_key kept
   pub taken : All (Contains list) kept
   pub complete : All (λ t. list_any (has_same_key t) kept ≡ true) list
+
+-- One-to-one deduplication in the order of the keys: they strictly ascend.
+pub record IsDeduplication (kept list : List Triple) : Type 0 where
+  pub ascending : IsStrictlySortedBy compare_keys kept
+  pub one_to_one : IsOneToOne kept list
 
 -- The first pattern at each key, ascending by labels and then by time: the list in the order of its keys, and of the
 -- triples with one key the one that stands first in the list.

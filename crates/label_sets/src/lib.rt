@@ -4,6 +4,7 @@
 mod label;
 mod label_refusal;
 mod label_set;
+mod name;
 mod notation;
 mod sample;
 mod sample_refusal;
@@ -13,10 +14,8 @@ mod text;
 pub use label::Label;
 pub use label_refusal::LabelRefusal;
 pub use label_set::{LabelSet, final_labels, reduced};
+pub use name::is_name;
 pub use sample::{Sample, SampleList};
 pub use sample_refusal::SampleRefusal;
-pub use series::{Series, SeriesList};
+pub use series::{Series, SeriesList, sample_count};
 pub use text::{Text, TextList};
-
-#[cfg(test)]
-mod tests;

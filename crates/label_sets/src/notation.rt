@@ -7,9 +7,10 @@ ghost use Rattle.reading_core.specs.Reading.{Gives, Answers};
 ghost use Rattle.label_sets.specs.declared.label.Label.{Label};
 ghost use Rattle.std.specs.List.Sorted.{IsSortedBy};
 ghost use Rattle.label_sets.specs.Labels.{names_of, has_lesser_name};
-ghost use Rattle.label_sets.specs.Notation.{read_set, conclusion, repeats, is_name_start, is_name_byte, name_length, past, with_byte, value_at, pair_at, pairs_at, end_at, walk_at, placed_at, quoted_byte, quoted, pair_text, comma_pair_text, pairs_text, set_text};
+ghost use Rattle.label_sets.specs.Notation.{read_set, conclusion, repeats, is_name_byte, name_length, past, with_byte, value_at, pair_at, pairs_at, end_at, walk_at, placed_at, quoted_byte, quoted, pair_text, comma_pair_text, pairs_text, set_text};
 
 use crate::label_set::sort_by_name;
+use crate::name::{is_name_byte, is_name_start};
 use crate::{Label, LabelRefusal, Text};
 use list_core::NoMemory;
 use std::alloc::Global;
@@ -296,18 +297,6 @@ fn name_bytes(text: &[u8]) -> usize
     ensures within { result ≤ length text.now }
 {
     text.iter().take_while(|byte| is_name_byte(**byte)).count()
-}
-
-fn is_name_start(byte: u8) -> bool
-    ensures { result ≡ is_name_start byte }
-{
-    byte.is_ascii_alphabetic() || byte == b'_'
-}
-
-fn is_name_byte(byte: u8) -> bool
-    ensures { result ≡ is_name_byte byte }
-{
-    is_name_start(byte) || byte.is_ascii_digit()
 }
 
 /// Names are ASCII, so they are texts.

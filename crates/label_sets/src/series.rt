@@ -1,5 +1,6 @@
 ghost use Rattle.std.specs.Prelude.{◌≡◌, ◌++◌, length, take, OnOk, OnErr};
 ghost use Rattle.std.specs.List.{flat_map};
+ghost use Rattle.label_sets.specs.Counts.{sample_count};
 ghost use Rattle.label_sets.specs.Notation.{set_text};
 ghost use Rattle.label_sets.specs.SampleText.{series_text, spaced_sample_text};
 
@@ -60,4 +61,16 @@ fn put_spaced_sample(out: &mut Vec<u8>, sample: Sample) -> Result<(), NoMemory>
 {
     out.push(b' ')?;
     sample.write(out)
+}
+
+/// How many samples the series have, or the greatest number of 64 bits where they have more.
+#[tactic(auto, unfolding(crate::specs::Counts::sample_count))]
+pub fn sample_count(series: &[Series]) -> u64
+    ensures { result ≡ sample_count series.now }
+{
+    let mut count = 0u64;
+    for one in series {
+        count = count.saturating_add(one.samples.len() as u64);
+    }
+    count
 }

@@ -2,8 +2,7 @@
 use Rattle.std.specs.Prelude.{ℤ, List, Bool, ◌&&◌}
 use Rattle.std.specs.Ordering.{int_cmp, is_le}
 use Rattle.std.specs.List.{filter}
-use Rattle.std.specs.List.Sorted.{IsStrictlySortedBy}
-use Rattle.label_sets.specs.Triples.{Triple, compare_keys, IsOneToOne}
+use Rattle.label_sets.specs.Triples.{Triple, IsDeduplication}
 use Rattle.matchers.specs.declared.matcher.Matcher.{Matcher}
 use Rattle.matchers.specs.Selectors.{is_match}
 
@@ -19,8 +18,6 @@ is_selected selector low high t = is_match selector t.labels && is_within low hi
 unfoldable pub selected : List Matcher → ℤ → ℤ → List Triple → List Triple
 selected selector low high list = filter (is_selected selector low high) list
 
--- The answer to a query over these samples: the keys strictly ascend, and it is a one-to-one deduplication of those that
--- the query asks for.
-pub record IsAnswer (selector : List Matcher) (low high : ℤ) (answer held : List Triple) : Type 0 where
-  pub ascending : IsStrictlySortedBy compare_keys answer
-  pub one_to_one : IsOneToOne answer (selected selector low high held)
+-- The answer to a query over these samples: the deduplication of those that the query asks for.
+abbrev pub IsAnswer : List Matcher → ℤ → ℤ → List Triple → List Triple → Type 0
+IsAnswer selector low high answer held = IsDeduplication answer (selected selector low high held)

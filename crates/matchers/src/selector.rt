@@ -121,35 +121,3 @@ fn is_metric_byte(byte: u8) -> bool
 {
     is_metric_start(byte) || byte.is_ascii_digit()
 }
-
-#[cfg(test)]
-mod tests {
-    use super::*;
-    use std::test::Fail;
-
-    #[test]
-    fn selectors_take_their_sets(rt: HostRuntime) -> Result<(), Fail> {
-        let up = Selector::read(rt.alloc(), "up")?;
-        let all = Selector::read(rt.alloc(), "{}")?;
-        let (named, _) = LabelSet::read(rt.alloc(), "{__name__=\"up\",job=\"ab\"}")?;
-        let (other, _) = LabelSet::read(rt.alloc(), "{__name__=\"upper\"}")?;
-        let nothing = LabelSet::empty(rt.alloc());
-        for (labels, is_up) in [(&named, true), (&other, false), (&nothing, false)] {
-            assert_eq!(rt; up.matches(labels)?, is_up);
-            assert!(rt; all.matches(labels)?);
-        }
-        assert!(rt; up.plain() && all.plain());
-        Ok(())
-    }
-
-    #[test]
-    fn only_braces_and_metric_names_are_read(rt: HostRuntime) {
-        for text in ["up", ":job:rate5m", "_x9", "{}"] {
-            assert!(rt; Selector::read(rt.alloc(), text).is_ok(), "{text}");
-        }
-        for text in ["", "9up", "up{}", "{", "{ }", "a-b", "{a=\"b\"}", "é"] {
-            let refusal = Selector::read(rt.alloc(), text).err();
-            assert_eq!(rt; refusal, Some(SelectorRefusal::NotBuilt), "{text}");
-        }
-    }
-}

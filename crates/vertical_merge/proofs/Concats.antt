@@ -1,9 +1,9 @@
 -- Lists that are put in order, or of which repeats are dropped, part by part.
 use Rattle.std.proofs.Common.{◌≡◌, Bool, true, false, cond, List, [], ◌∷◌, ◌++◌, map, refl, sym, ap, ◌∙◌}
 use Rattle.std.specs.List.{dedup, dedup_from}
-use Rattle.label_sets.specs.Ordered.{placed, in_order}
-use Rattle.label_sets.proofs.StableSorts.{NoneLess}
-use Rattle.label_sets.proofs.LabelValues.{by_bool}
+use Rattle.list_core.specs.Ordered.{placed, in_order}
+use Rattle.list_core.proofs.StableSorts.{NoneLess}
+use Rattle.list_core.proofs.Bools.{by_bool}
 
 -- no member of the second list is less than one of the first
 abbrev pub IsBelow : {A : Type 0} → (A → A → Bool) → List A → List A → Type 0

@@ -14,8 +14,8 @@ use Rattle.label_sets.specs.declared.sample.Sample.{Sample}
 use Rattle.label_sets.specs.declared.series.Series.{Series}
 use Rattle.label_sets.specs.Labels.{compare_sets}
 use Rattle.label_sets.specs.Triples.{Triple, triples_of, triples_under}
-use Rattle.label_sets.proofs.LabelValues.{by_bool}
-use Rattle.label_sets.proofs.StableSorts.{NoneLess, Rises}
+use Rattle.list_core.proofs.Bools.{by_bool}
+use Rattle.list_core.proofs.StableSorts.{NoneLess, Rises}
 use Rattle.vertical_merge.specs.Joined.{has_lesser_labels, has_same_labels, joined, joined_to}
 use Rattle.vertical_merge.proofs.Concats.{IsBelow}
 use Rattle.vertical_merge.proofs.Orders.{same_set, is_equal, sets_total, labels_ranked}

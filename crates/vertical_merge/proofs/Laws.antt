@@ -12,10 +12,10 @@ use Rattle.std.proofs.lemmas.List.Kept.{IsStrictlySortedBy-dedup}
 use Rattle.std.proofs.lemmas.Map.Keys.{IsDistinct-from_sorted}
 use Rattle.std.proofs.lemmas.Bool.{true≢false}
 use Rattle.label_sets.specs.declared.series.Series.{Series}
-use Rattle.label_sets.specs.Ordered.{in_order, placed}
+use Rattle.list_core.specs.Ordered.{in_order, placed}
 use Rattle.label_sets.specs.Triples.{Triple, triples_of, first_of, has_lesser_key, has_same_key, compare_keys, IsOneToOne}
-use Rattle.label_sets.proofs.LabelValues.{by_bool}
-use Rattle.label_sets.proofs.StableSorts.{Rises, Rises-in_order}
+use Rattle.list_core.proofs.Bools.{by_bool}
+use Rattle.list_core.proofs.StableSorts.{Rises, Rises-in_order}
 use Rattle.vertical_merge.specs.Merged.{IsMerge, IsDeduplication, PatternsAgree}
 use Rattle.vertical_merge.proofs.Orders.{keys_total, keys_ranked, same_key}
 

@@ -12,10 +12,11 @@ use Rattle.label_sets.specs.declared.label.Label.{Label}
 use Rattle.label_sets.specs.declared.sample.Sample.{Sample}
 use Rattle.label_sets.specs.declared.series.Series.{Series}
 use Rattle.label_sets.specs.Labels.{compare_sets}
-use Rattle.label_sets.specs.Ordered.{in_order, placed}
+use Rattle.list_core.specs.Ordered.{in_order, placed}
 use Rattle.label_sets.specs.Triples.{Triple, triples_of, triples_under, first_of, has_lesser_key, has_same_key, compare_keys}
-use Rattle.label_sets.proofs.LabelValues.{by_bool}
-use Rattle.label_sets.proofs.StableSorts.{NoneLess, Rises, Rises-from_sorted, Rises-in_order, filter-in_order, same_in_order, filter_hit, filter_miss}
+use Rattle.list_core.proofs.Bools.{by_bool}
+use Rattle.list_core.proofs.StableSorts.{NoneLess, Rises, Rises-from_sorted, Rises-in_order, filter-in_order, same_in_order}
+use Rattle.list_core.proofs.Lists.{filter_hit, filter_miss}
 use Rattle.vertical_merge.specs.Joined.{has_lesser_labels, joined_to, has_lesser_time, has_same_time, first_samples}
 use Rattle.vertical_merge.specs.Merged.{IsMerge}
 use Rattle.vertical_merge.proofs.Concats.{IsBelow, IsApart, NoneSame, in_order-append, in_order-map, dedup-append, dedup-map}

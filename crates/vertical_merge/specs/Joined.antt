@@ -5,7 +5,7 @@ use Rattle.std.specs.List.{dedup}
 use Rattle.label_sets.specs.declared.sample.Sample.{Sample}
 use Rattle.label_sets.specs.declared.series.Series.{Series}
 use Rattle.label_sets.specs.Labels.{compare_sets}
-use Rattle.label_sets.specs.Ordered.{in_order}
+use Rattle.list_core.specs.Ordered.{in_order}
 
 abbrev pub has_lesser_labels : Series → Series → Bool
 has_lesser_labels one other = is_lt (compare_sets one.labels other.labels)

@@ -3,7 +3,8 @@ use Rattle.std.specs.Prelude.{◌≡◌, ◌≢◌, List, [], map, true, All, Co
 use Rattle.std.specs.List.Sorted.{IsStrictlySortedBy}
 use Rattle.label_sets.specs.declared.series.Series.{Series}
 use Rattle.label_sets.specs.Labels.{compare_sets}
-use Rattle.label_sets.specs.Triples.{Triple, triples_of, first_of, compare_keys, has_same_key, IsOneToOne}
+use Rattle.label_sets.specs.Triples.{Triple, triples_of, first_of, has_same_key}
+pub use Rattle.label_sets.specs.Triples.{IsDeduplication}
 
 -- The series are the merge of the triples: the labels strictly ascend, no series is without a sample, and the samples are
 -- the first pattern at each key of the list.
@@ -11,11 +12,6 @@ pub record IsMerge (list : List Triple) (series : List Series) : Type 0 where
   pub ascending : IsStrictlySortedBy compare_sets (map (λ s. s.labels) series)
   pub inhabited : All (λ s. s.samples ≢ []) series
   pub first : triples_of series ≡ first_of list
-
--- One-to-one deduplication in the order of the keys: they strictly ascend.
-pub record IsDeduplication (kept list : List Triple) : Type 0 where
-  pub ascending : IsStrictlySortedBy compare_keys kept
-  pub one_to_one : IsOneToOne kept list
 
 -- all patterns of the list at one key are equal
 abbrev pub PatternsAgree : List Triple → Type 0

@@ -4,6 +4,3 @@
 mod merger;
 
 pub use merger::Merger;
-
-#[cfg(test)]
-mod tests;

@@ -3,7 +3,7 @@ ghost use Rattle.std.specs.List.Sorted.{IsSortedBy, IsStableBy};
 ghost use Rattle.label_sets.specs.Triples.{Triple, triples_of, triples_under};
 ghost use Rattle.vertical_merge.specs.Merged.{IsMerge, IsDeduplication, PatternsAgree};
 ghost use Rattle.vertical_merge.specs.Joined.{has_lesser_labels, has_lesser_time, joined_to, first_samples};
-ghost use Rattle.label_sets.specs.Ordered.{in_order};
+ghost use Rattle.list_core.specs.Ordered.{in_order};
 
 use label_sets::{LabelSet, Sample, SampleList, Series, SeriesList};
 use list_core::{NoMemory, TryCopy};

@@ -1,4 +1,4 @@
-use Rattle.label_sets.proofs.ReadSets.{read_set-lawful}
+use Rattle.label_sets.proofs.SetLaws.{read_set-lawful}
 use Rattle.label_sets.proofs.SetsFound.{set_cut}
 use Rattle.label_sets.proofs.label_set.read_front.Goals as goal
 

@@ -3,7 +3,7 @@ use Rattle.std.proofs.lemmas.List.Sorted.{answers_always, ranks_by}
 use Rattle.std.specs.Cmp.Lexicographic.{nat_list_cmp_total}
 use Rattle.label_sets.specs.declared.label.Label.{Label}
 use Rattle.label_sets.specs.Labels.{has_lesser_name}
-use Rattle.label_sets.proofs.StableSorts.{in_order-from_sort}
+use Rattle.list_core.proofs.StableSorts.{in_order-from_sort}
 use Rattle.label_sets.proofs.label_set.sort_by_name.Goals as goal
 
 pub returns-clause-sorted : goal.returns-clause-sorted

@@ -1,6 +1,6 @@
 use Rattle.std.proofs.Common.{◌∙◌, ap, rules}
 use Rattle.std.specs.List.{dedup}
-use Rattle.label_sets.specs.Ordered.{in_order}
+use Rattle.list_core.specs.Ordered.{in_order}
 use Rattle.std.proofs.lemmas.Fn.{dedup_same}
 use Rattle.vertical_merge.specs.Joined.{first_samples, has_lesser_time, has_same_time}
 use Rattle.vertical_merge.proofs.merger.first_samples.Goals as goal

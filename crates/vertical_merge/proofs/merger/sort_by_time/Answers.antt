@@ -1,7 +1,7 @@
 use Rattle.std.proofs.Common.{rules}
 use Rattle.std.proofs.lemmas.List.Sorted.{answers_always}
 use Rattle.label_sets.specs.declared.sample.Sample.{Sample}
-use Rattle.label_sets.proofs.StableSorts.{in_order-from_sort}
+use Rattle.list_core.proofs.StableSorts.{in_order-from_sort}
 use Rattle.vertical_merge.specs.Joined.{has_lesser_time}
 use Rattle.vertical_merge.proofs.Orders.{times_ranked}
 use Rattle.vertical_merge.proofs.merger.sort_by_time.Goals as goal
