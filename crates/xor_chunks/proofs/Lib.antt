@@ -3,6 +3,8 @@ pub mod Buffers
 pub mod Crossings
 pub mod Writers
 pub mod Times
+pub mod Ascending
+pub mod Bound
 pub mod Takes
 pub mod Values
 pub mod Peeks
@@ -11,7 +13,6 @@ pub mod Codes
 pub mod Zeros
 pub mod PutLoops
 pub mod PutTexts
-pub mod Rising
 pub mod ValuesWritten
 pub mod SamplesWritten
 pub mod FieldsRead

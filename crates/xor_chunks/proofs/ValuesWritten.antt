@@ -8,8 +8,8 @@ use Rattle.std.proofs.lemmas.Bool.{leb-true, ltb-true, cases_eq, eq-eqb, ne_eqb}
 use Rattle.std.proofs.lemmas.Bool.Decides.{Decides-int_eq}
 use Rattle.std.proofs.lemmas.Int.{ints, to_z-of_z}
 use Rattle.std.proofs.lemmas.Nat.{xor_lt, shr_below, shr_split, mod_below, pow_pos}
-use Rattle.xor_chunks.specs.declared.setting.Setting.{Setting}
-use Rattle.xor_chunks.specs.declared.setting.Setting.TheVariants.{Unset, Set}
+use Rattle.xor_chunks.specs.declared.window_setting.WindowSetting.{WindowSetting}
+use Rattle.xor_chunks.specs.declared.window_setting.WindowSetting.TheVariants.{Unset, Set}
 use Rattle.xor_chunks.specs.Bits.{bits_of}
 use Rattle.xor_chunks.specs.Window.{Window, whole, IsInside}
 use Rattle.xor_chunks.specs.Written.{fits_field, change_bits, trail, window_round, is_round, in_window, reused, coded, kept, value_bits, window_after}
@@ -22,7 +22,7 @@ both_true true b e = (refl, e)
 both_true false b e = absurd cc
 
 -- the window that a reader has where the writer has set this one or none
-abbrev pub seen : Setting → Window
+abbrev pub seen : WindowSetting → Window
 seen Unset = whole
 seen (Set w) = w
 
@@ -76,7 +76,7 @@ opens_written window before pattern b p some =
     })
 
 -- a window that was set lies within a pattern
-abbrev pub IsSeen : Setting → Type 0
+abbrev pub IsSeen : WindowSetting → Type 0
 IsSeen Unset = Unit {0}
 IsSeen (Set w) = IsInside w
 
@@ -88,11 +88,11 @@ set_written w before pattern true e inside b p some =
     within_window (in_window w change) refl refl (within_written w before pattern b p some (record { inside = inside; lead = leb-true _ _ both.0; trail = leb-true _ _ both.1 }))
 set_written w before pattern false e inside b p some = opens_written w before pattern b p some
 
-change_written : (set : Setting) (before pattern : ℕ) → IsSeen set → before < 2 ^ 64 → pattern < 2 ^ 64 → (bit_xor before pattern ≡ 0 → ⊥) → IsValue (seen set) before (coded (reused set (bit_xor before pattern)) (bit_xor before pattern)) pattern (seen (kept (reused set (bit_xor before pattern)) (bit_xor before pattern)))
+change_written : (set : WindowSetting) (before pattern : ℕ) → IsSeen set → before < 2 ^ 64 → pattern < 2 ^ 64 → (bit_xor before pattern ≡ 0 → ⊥) → IsValue (seen set) before (coded (reused set (bit_xor before pattern)) (bit_xor before pattern)) pattern (seen (kept (reused set (bit_xor before pattern)) (bit_xor before pattern)))
 change_written Unset before pattern h b p some = opens_written whole before pattern b p some
 change_written (Set w) before pattern h b p some = set_written w before pattern (is_round w (bit_xor before pattern)) refl h b p some
 
-pub value_written : (set : Setting) (before pattern : ℕ) → IsSeen set → before < 2 ^ 64 → pattern < 2 ^ 64 → IsValue (seen set) before (value_bits set (bit_xor before pattern)) pattern (seen (window_after set (bit_xor before pattern)))
+pub value_written : (set : WindowSetting) (before pattern : ℕ) → IsSeen set → before < 2 ^ 64 → pattern < 2 ^ 64 → IsValue (seen set) before (value_bits set (bit_xor before pattern)) pattern (seen (window_after set (bit_xor before pattern)))
 unfolding value_bits window_after
 value_written set before pattern h b p =
     elim (cases_eq (bit_xor before pattern) 0) [
@@ -104,11 +104,11 @@ kept_of : (w : Window) (before pattern : ℕ) (round : Bool) → IsInside w → 
 kept_of w before pattern true h b p some = h
 kept_of w before pattern false h b p some = (round_is (bit_xor before pattern) (xor_lt 64 before pattern b p) some).0.inside
 
-kept_after : (set : Setting) (before pattern : ℕ) → IsSeen set → before < 2 ^ 64 → pattern < 2 ^ 64 → (bit_xor before pattern ≡ 0 → ⊥) → IsSeen (kept (reused set (bit_xor before pattern)) (bit_xor before pattern))
+kept_after : (set : WindowSetting) (before pattern : ℕ) → IsSeen set → before < 2 ^ 64 → pattern < 2 ^ 64 → (bit_xor before pattern ≡ 0 → ⊥) → IsSeen (kept (reused set (bit_xor before pattern)) (bit_xor before pattern))
 kept_after Unset before pattern h b p some = (round_is (bit_xor before pattern) (xor_lt 64 before pattern b p) some).0.inside
 kept_after (Set w) before pattern h b p some = kept_of w before pattern (is_round w (bit_xor before pattern)) h b p some
 
-pub kept_seen : (set : Setting) (before pattern : ℕ) → IsSeen set → before < 2 ^ 64 → pattern < 2 ^ 64 → IsSeen (window_after set (bit_xor before pattern))
+pub kept_seen : (set : WindowSetting) (before pattern : ℕ) → IsSeen set → before < 2 ^ 64 → pattern < 2 ^ 64 → IsSeen (window_after set (bit_xor before pattern))
 unfolding window_after
 kept_seen set before pattern h b p =
     elim (cases_eq (bit_xor before pattern) 0) [
