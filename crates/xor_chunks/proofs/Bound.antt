@@ -41,6 +41,11 @@ pub of_bind_as : {A B D E : Type 0} {Q : B → Type 0} (f : D → E) (r : Result
 of_bind_as f (Ok x) g next = next x refl
 of_bind_as f (Err d) g next = of_err
 
+-- a last step of another part
+pub of_refused : {A D E : Type 0} {P : A → Type 0} (f : D → E) (r : Result A D) → ((x : A) → r ≡ Ok x → P x) → OfValue (refused_as f r) P
+of_refused f (Ok x) p = of_ok (p x refl)
+of_refused f (Err d) p = of_err
+
 -- ---- from a reading function to the call
 
 pub of_gives : {X Y E : Type 0} {P : Y → Type 0} {read : Result Y E} (no_memory : E) (view : X → Y) (result : Result X E) → OfValue read P → Gives no_memory view result read → IfOk result (λ x. P (view x))

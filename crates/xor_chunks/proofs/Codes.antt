@@ -1,5 +1,5 @@
 -- What the writer puts, by its rows.
-use Rattle.std.proofs.Common.{◌≡◌, ℕ, ◌+◌, ◌-◌, ◌*◌, ◌/◌, ◌%◌, ◌^◌, ◌<◌, Bool, true, false, List, ◌++◌, length, refl, sym, ap, subst, ◌∙◌, append_assoc, arith, ℤ, pos, ◌-ℤ◌, bit_or, bit_and, bit_xor}
+use Rattle.std.proofs.Common.{◌≡◌, ℕ, ◌+◌, ◌-◌, ◌*◌, ◌/◌, ◌%◌, ◌^◌, ◌<◌, Bool, true, false, List, ◌++◌, length, refl, sym, ap, subst, ◌∙◌, append_assoc, arith, ℤ, pos, bit_or, bit_and}
 use Rattle.std.specs.Int.{cast_unsigned, w64}
 use Rattle.std.specs.Ordering.{int_eq}
 use Rattle.std.specs.Prelude.{FitsSigned}
@@ -7,13 +7,11 @@ use Rattle.std.proofs.lemmas.Int.{ints}
 use Rattle.std.proofs.lemmas.Bool.{false_from_ne_true, eq-eqb, ne_eqb}
 use Rattle.std.proofs.lemmas.Bool.Decides.{Decides-int_eq}
 use Rattle.std.proofs.lemmas.Nat.{pow-add, shl_whole, or_shifted, mod_below, pow_pos, mul-le}
-use Rattle.label_sets.specs.declared.sample.Sample.{Sample}
-use Rattle.xor_chunks.specs.declared.last_written.LastWritten.{LastWritten}
 use Rattle.xor_chunks.specs.declared.window_setting.WindowSetting.{WindowSetting}
 use Rattle.xor_chunks.specs.declared.window_setting.WindowSetting.TheVariants.{Unset, Set}
 use Rattle.xor_chunks.specs.Window.{Window}
 use Rattle.xor_chunks.specs.Bits.{bits_of}
-use Rattle.xor_chunks.specs.Written.{fits_field, change_bits, reused, value_bits, window_after, window_round, trail, next_bits}
+use Rattle.xor_chunks.specs.Written.{fits_field, change_bits, reused, value_bits, window_after, window_round, trail}
 use Rattle.xor_chunks.proofs.BitLists.{length-bits_of, bits_of-mod}
 use Rattle.xor_chunks.proofs.Buffers.{bits_of-joined}
 use Rattle.xor_chunks.proofs.Takes.{masked}

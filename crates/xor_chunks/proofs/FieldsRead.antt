@@ -1,12 +1,12 @@
 -- The bits of a step and of a value: what is read is in the grammar, and what is in the grammar is read.
-use Rattle.std.proofs.Common.{◌≡◌, ℕ, zero, suc, ◌-◌, ◌^◌, ◌<◌, ◌≤◌, Bool, true, false, List, [], ◌∷◌, ◌++◌, Ok, refl, sym, ap, subst, ◌∙◌, append_assoc, arith, inl, inr, ℤ, pos}
+use Rattle.std.proofs.Common.{◌≡◌, ℕ, zero, suc, ◌-◌, ◌^◌, ◌<◌, ◌≤◌, Bool, true, false, List, [], ◌∷◌, ◌++◌, Ok, refl, sym, ap, subst, ◌∙◌, append_assoc, arith, inl, inr, ℤ}
 use Rattle.std.specs.Int.{cast_signed, w64}
 use Rattle.std.specs.Prelude.{Result}
 use Rattle.std.proofs.lemmas.Bool.{lt-ltb, le-ltb, cases_lt}
 use Rattle.xor_chunks.specs.declared.refusal.XorRefusal.{XorRefusal}
 use Rattle.xor_chunks.specs.Bits.{bits_of}
-use Rattle.xor_chunks.specs.Steps.{take_at, field_at, field_value, whole_field_at, change_at, value_at, within_at, opened_at}
-use Rattle.xor_chunks.specs.Window.{Window, width_of, changed, IsInside}
+use Rattle.xor_chunks.specs.Steps.{field_at, field_value, whole_field_at, change_at, value_at, within_at, opened_at}
+use Rattle.xor_chunks.specs.Window.{Window, width_of, IsInside}
 use Rattle.xor_chunks.specs.Grammar.{StandsFor, IsRow, IsLongRow, IsChange, unchanged, row_14, row_17, row_20, row_64, IsWithin, IsOpened, IsValue, same_pattern, in_window, opens}
 use Rattle.xor_chunks.proofs.Takes.{take_again, taken}
 use Rattle.xor_chunks.proofs.Bound.{OfValue, of_ok, of_err, of_weaker, of_bind}

@@ -1,10 +1,10 @@
+pub mod Bound
+pub mod Ascending
 pub mod BitLists
 pub mod Buffers
 pub mod Crossings
 pub mod Writers
 pub mod Times
-pub mod Ascending
-pub mod Bound
 pub mod Takes
 pub mod Values
 pub mod Peeks

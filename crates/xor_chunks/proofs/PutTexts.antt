@@ -3,7 +3,7 @@ use Rattle.std.proofs.Common.{◌≡◌, ℕ, suc, ◌-◌, ◌^◌, ◌<◌, Bo
 use Rattle.std.specs.Ordering.{int_cmp}
 use Rattle.std.specs.List.Sorted.{IsStrictlySortedBy}
 use Rattle.std.proofs.lemmas.Cmp.{int_ranked}
-use Rattle.std.specs.Prelude.{Result, Ok, Err, IfOk, unsigned_abs, bit_xor, FitsSigned}
+use Rattle.std.specs.Prelude.{unsigned_abs, bit_xor, FitsSigned}
 use Rattle.std.specs.Int.{cast_signed, cast_unsigned, w16, w64, to_be_bytes}
 use Rattle.std.proofs.lemmas.Int.{ints, to_z-of_z}
 use Rattle.std.proofs.lemmas.List.{append-nil, take_all}

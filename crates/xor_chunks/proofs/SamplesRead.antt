@@ -1,12 +1,8 @@
 -- Samples one after another: what is read is in the grammar, and what is in the grammar is read.
-use Rattle.std.proofs.Common.{◌≡◌, ℕ, zero, suc, ◌+◌, ◌-◌, ◌^◌, ◌<◌, ◌≤◌, Bool, true, false, List, [], ◌∷◌, ◌++◌, length, Ok, refl, sym, ap, subst, ◌∙◌, append_assoc, length-append, arith, ℤ, pos, negsuc, ◌+ℤ◌, ◌≤ℤ◌, ◌<ℤ◌}
-use Rattle.std.specs.Prelude.{nat_le, cond, Err, FitsSigned}
-use Rattle.std.specs.Int.{w64}
-use Rattle.std.proofs.lemmas.Bool.{lt-ltb, ltb-true, leb-true}
-use Rattle.std.proofs.lemmas.Int.{ints}
-use Rattle.reading_core.specs.Reading.{◌>>=◌, ◌>>◌, unless, refused_as}
+use Rattle.std.proofs.Common.{◌≡◌, ℕ, zero, suc, ◌+◌, ◌<◌, ◌≤◌, Bool, true, false, List, [], ◌∷◌, ◌++◌, length, Ok, refl, sym, ap, ◌∙◌, append_assoc, length-append, arith, ℤ, pos, negsuc, ◌+ℤ◌}
+use Rattle.std.specs.Prelude.{cond, Err}
+use Rattle.std.proofs.lemmas.Bool.{leb-true, le-leb}
 use Rattle.reading_core.specs.Grammar.{IsBytes, HasFront}
-use Rattle.wire_bytes.specs.Position.{left}
 use Rattle.wire_bytes.specs.Fields.{uvarint_at}
 use Rattle.wire_bytes.specs.FieldTexts.{IsUvarint}
 use Rattle.wire_bytes.proofs.FieldLaws.{uvarint_found, uvarint_again, left_after}
@@ -14,25 +10,19 @@ use Rattle.reading_core.specs.Decimal.{fits_signed}
 use Rattle.reading_core.specs.Members.{members_at}
 use Rattle.label_sets.specs.declared.sample.Sample.{Sample}
 use Rattle.xor_chunks.specs.State.{State}
-use Rattle.xor_chunks.specs.declared.refusal.XorRefusal.{XorRefusal}
 use Rattle.xor_chunks.specs.declared.refusal.XorRefusal.TheVariants.{OutOfRange}
-use Rattle.xor_chunks.specs.Steps.{value_at, change_at, time_after, risen, follow_at, next_at}
+use Rattle.xor_chunks.specs.Steps.{time_after, risen, follow_at, next_at}
 use Rattle.xor_chunks.specs.Samples.{sample_of}
-use Rattle.xor_chunks.specs.Refusals.{xor_refusal}
 use Rattle.xor_chunks.specs.Data.{start, gap_at, sample_at}
 use Rattle.xor_chunks.specs.Window.{Window, IsInside, is_inside}
 use Rattle.xor_chunks.specs.Grammar.{IsChange, unchanged, row_14, row_17, row_20, row_64, IsValue, same_pattern, in_window, opens, Follows, IsNext, AreOthers}
 use Rattle.xor_chunks.proofs.Bound.{OfValue, of_ok, of_err, of_weaker, of_bind, of_unless, of_bind_as}
-use Rattle.xor_chunks.proofs.Times.{fits_true}
+use Rattle.reading_core.proofs.SignedRanges.{fits_from_test, test_from_fits}
 use Rattle.xor_chunks.proofs.FieldsRead.{HasText, Finds, change_found, change_again, value_found, value_again, value_inside}
-
-fits_found : (z : ℤ) → fits_signed z ≡ true → FitsSigned w64 z
-fits_found (pos n) e = record { sfits = ltb-true n (2 ^ 63) e }
-fits_found (negsuc n) e = record { sfits = ltb-true n (2 ^ 63) e }
 
 after_at : (before delta : ℤ) (fits : Bool) → fits_signed (before +ℤ delta) ≡ fits → OfValue (cond fits (risen (before +ℤ delta) delta) (Err OutOfRange)) (λ x. (delta ≡ pos x.1) × Follows before x.0 x.1)
 after_at before (pos zero) true e = of_err
-after_at before (pos (suc n)) true e = of_ok (refl, record { later = refl; rises = omega arith; fits = fits_found _ e })
+after_at before (pos (suc n)) true e = of_ok (refl, record { later = refl; rises = omega arith; fits = fits_from_test _ e })
 after_at before (negsuc n) true e = of_err
 after_at before delta false e = of_err
 
@@ -44,13 +34,7 @@ after_again : (before time : ℤ) (d : ℕ) → Follows before time d → time_a
 unfolding time_after
 after_again before time zero h = absurd (omega (arith, h.rises))
 after_again before time (suc d) h =
-    rw (ap fits_signed (sym h.later) ∙ fits_true time h.fits) (ap (λ (z : ℤ). Ok (z, suc d)) (sym h.later))
-
-pub le-nat_le : (a b : ℕ) → a ≤ b → nat_le a b ≡ true
-le-nat_le a b h = search (arith)
-
-pub nat_le-le : (a b : ℕ) → nat_le a b ≡ true → a ≤ b
-nat_le-le a b h = leb-true a b h
+    rw (ap fits_signed (sym h.later) ∙ test_from_fits time h.fits) (ap (λ (z : ℤ). Ok (z, suc d)) (sym h.later))
 
 -- the sample comes later by a step that is so much longer, and has this text of its value
 abbrev pub Shows : State → ℤ → List Bool → State → Type 0
@@ -60,17 +44,17 @@ pub follow_found : (last : State) (change : ℤ) (bits : List Bool) → Finds (S
 unfolding follow_at
 follow_found last change bits =
     of_bind _ (value_found last.window last.pattern bits) (λ v h. of_unless (is_inside v.0.1) _ _ (λ inside.
-      of_bind _ (after_found last.time (pos last.delta +ℤ change)) (λ t a. of_ok (record {
-        text = h.text;
-        is = (sym a.0, a.1, h.is (nat_le-le (v.0.1.lead + v.0.1.width) 64 inside));
-        whole = h.whole;
-      }))))
+    of_bind _ (after_found last.time (pos last.delta +ℤ change)) (λ t a. of_ok (record {
+      text = h.text;
+      is = (sym a.0, a.1, h.is (leb-true (v.0.1.lead + v.0.1.width) 64 inside));
+      whole = h.whole;
+    }))))
 
 pub follow_again : (last : State) (change : ℤ) (text : List Bool) (next : State) (after : List Bool) → IsInside last.window → pos next.delta ≡ pos last.delta +ℤ change → Follows last.time next.time next.delta → IsValue last.window last.pattern text next.pattern next.window
     → follow_at last change (text ++ after) ≡ Ok (next, after)
 unfolding follow_at
 follow_again last change text next after inside longer follows shows =
-    let within = le-nat_le (next.window.lead + next.window.width) 64 (value_inside last.window last.pattern text next.pattern next.window inside shows) in
+    let within = le-leb (next.window.lead + next.window.width) 64 (value_inside last.window last.pattern text next.pattern next.window inside shows) in
     rw (value_again last.window last.pattern text next.pattern next.window after shows, within, sym longer, after_again last.time next.time next.delta follows) refl
 
 -- what begins with one text and goes on with another

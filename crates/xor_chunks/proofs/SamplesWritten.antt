@@ -11,6 +11,7 @@ use Rattle.wire_bytes.specs.Fields.{zigzag}
 use Rattle.wire_bytes.specs.Written.{uvarint_text, varint_text}
 use Rattle.wire_bytes.proofs.GroupTexts.{uvarint_text_is, varint_text_is}
 use Rattle.reading_core.proofs.Fronts.{IsBytes-after}
+use Rattle.reading_core.proofs.SignedRanges.{pos-unsigned_abs}
 use Rattle.label_sets.specs.declared.sample.Sample.{Sample}
 use Rattle.xor_chunks.specs.State.{State}
 use Rattle.xor_chunks.specs.declared.last_written.LastWritten.{LastWritten}
@@ -63,10 +64,6 @@ bits_split (b ∷ front) (c ∷ bytes) more are front_are e =
 abbrev pub last_of : LastWritten → State
 last_of put = record { time = put.time; delta = unsigned_abs put.delta; pattern = put.pattern; window = seen put.window }
 
-abs_pos : (z : ℤ) → pos 0 ≤ℤ z → pos (unsigned_abs z) ≡ z
-abs_pos (pos n) h = refl
-abs_pos (negsuc n) h = absurd (omega (arith, ints, h))
-
 record Between (a b d : ℤ) : Type 0 where
   nonneg : pos 0 ≤ℤ (b -ℤ a)
   small : unsigned_abs (b -ℤ a) < 2 ^ 64
@@ -77,8 +74,8 @@ record Between (a b d : ℤ) : Type 0 where
 between : (a b d : ℤ) → a <ℤ b → negsuc (2 ^ 62 - 1) ≤ℤ a → b <ℤ pos (2 ^ 62) → pos 0 ≤ℤ d → d <ℤ pos (2 ^ 63) → Between a b d
 between a b d lt low high d_low d_high =
     let nonneg : pos 0 ≤ℤ (b -ℤ a) = omega (arith, ints, lt) in
-    let step = abs_pos (b -ℤ a) nonneg in
-    let before = abs_pos d d_low in
+    let step = pos-unsigned_abs (b -ℤ a) nonneg in
+    let before = pos-unsigned_abs d d_low in
     record {
       nonneg = nonneg;
       fits = fits_both ((b -ℤ a) -ℤ d) (omega (arith, ints, lt, d_high)) (omega (arith, ints, low, high, d_low));

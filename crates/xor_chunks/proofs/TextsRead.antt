@@ -1,12 +1,12 @@
 -- Whole texts: what is read is in the grammar, and what is in the grammar is read.
 use Rattle.std.proofs.Common.{◌≡◌, ℕ, zero, suc, ◌+◌, ◌*◌, ◌≤◌, Bool, true, false, List, [], ◌∷◌, ◌++◌, length, Result, Ok, Err, refl, sym, ap, subst, ◌∙◌, length-append, arith, inl, inr, ◌⊎◌, pos}
-use Rattle.std.specs.Prelude.{nat_le, replicate, ◌&&◌, ◌==◌, IfOk}
+use Rattle.std.specs.Prelude.{nat_le, replicate, ◌==◌, IfOk}
 use Rattle.std.specs.Int.{w16, w64}
-use Rattle.std.proofs.lemmas.Bool.{eqb-true}
+use Rattle.std.proofs.lemmas.Bool.{eqb-true, and_parts, leb-true, le-leb}
 use Rattle.std.proofs.lemmas.Int.{ints}
 use Rattle.std.proofs.lemmas.Result.{IfOk-weaker}
 use Rattle.std.proofs.lemmas.List.{length-replicate}
-use Rattle.reading_core.specs.Reading.{◌>>=◌, ◌>>◌, unless, refused_as, Gives}
+use Rattle.reading_core.specs.Reading.{Gives}
 use Rattle.reading_core.specs.Grammar.{IsBytes, HasFront}
 use Rattle.reading_core.specs.Members.{members_at}
 use Rattle.reading_core.proofs.Fronts.{IsBytes-after}
@@ -19,19 +19,17 @@ use Rattle.wire_bytes.proofs.FixedLaws.{wide16, wide64, number_found, number_aga
 use Rattle.label_sets.specs.declared.sample.Sample.{Sample}
 use Rattle.xor_chunks.specs.State.{State}
 use Rattle.xor_chunks.specs.declared.refusal.XorRefusal.{XorRefusal}
-use Rattle.xor_chunks.specs.declared.refusal.XorRefusal.TheVariants.{Trailing, NoMemory}
+use Rattle.xor_chunks.specs.declared.refusal.XorRefusal.TheVariants.{NoMemory}
 use Rattle.xor_chunks.specs.Bits.{bits_of, bits_in, number_of}
-use Rattle.xor_chunks.specs.Samples.{begun, sample_of}
-use Rattle.xor_chunks.specs.Refusals.{xor_refusal}
-use Rattle.xor_chunks.specs.Steps.{follow_at}
-use Rattle.xor_chunks.specs.Data.{start, count_at, first_at, gap_at, sample_at, others_at, rest_at, samples_at, is_filling, data_at}
+use Rattle.xor_chunks.specs.Samples.{begun}
+use Rattle.xor_chunks.specs.Data.{start, count_at, first_at, sample_at, others_at, rest_at, samples_at, is_filling, data_at}
 use Rattle.xor_chunks.specs.Grammar.{AreOthers, AreRest, AreSamples, IsText}
 use Rattle.xor_chunks.specs.Window.{whole, IsInside}
 use Rattle.xor_chunks.proofs.Bound.{OfValue, of_ok, of_bind, of_unless, of_bind_as, of_gives}
 use Rattle.xor_chunks.proofs.FieldsRead.{HasText, value_inside}
 use Rattle.xor_chunks.proofs.BitLists.{bits_of-number_of, bits_of-zero, length-bits_in}
 use Rattle.xor_chunks.proofs.Takes.{number_of-zeros}
-use Rattle.xor_chunks.proofs.SamplesRead.{le-nat_le, nat_le-le, follow_found, follow_again, others_found, others_again, value_some, others_few, gap_found, gap_again}
+use Rattle.xor_chunks.proofs.SamplesRead.{follow_found, follow_again, others_found, others_again, value_some, others_few, gap_found, gap_again}
 
 others_at_found : (count : ℕ) (last : State) (bits : List Bool) → OfValue (others_at count last bits) (λ x. (length x.0 ≡ count) × HasText (λ text ss. AreOthers last text ss) bits x.0 x.1)
 unfolding others_at
@@ -48,21 +46,21 @@ unfolding rest_at
 rest_found zero first bytes are = of_ok (refl, refl)
 rest_found (suc count) first bytes are =
     of_bind _ (gap_found bytes are) (λ gap g. of_bind _ (follow_found (begun first) (pos gap.0) (bits_in gap.1)) (λ second s.
-      of_bind _ (others_at_found count second.0 second.1) (λ others o. of_ok (
-        ap suc o.0,
-        record {
-          gap = second.0.delta;
-          after = gap.1;
-          gap_is = subst (λ (n : ℕ). HasFront IsUvarint bytes n gap.1) (let longer = s.is.0 in omega (arith, ints, longer)) g;
-          value = s.text;
-          window = second.0.window;
-          rest = o.1.text;
-          bits_are = s.whole ∙ ap (λ (a : List Bool). s.text ++ a) o.1.whole;
-          follows = s.is.1;
-          shows = s.is.2;
-          others_are = o.1.is;
-        },
-      ))))
+    of_bind _ (others_at_found count second.0 second.1) (λ others o. of_ok (
+      ap suc o.0,
+      record {
+        gap = second.0.delta;
+        after = gap.1;
+        gap_is = subst (λ (n : ℕ). HasFront IsUvarint bytes n gap.1) (let longer = s.is.0 in omega (arith, ints, longer)) g;
+        value = s.text;
+        window = second.0.window;
+        rest = o.1.text;
+        bits_are = s.whole ∙ ap (λ (a : List Bool). s.text ++ a) o.1.whole;
+        follows = s.is.1;
+        shows = s.is.2;
+        others_are = o.1.is;
+      },
+    ))))
 
 rest_again : (first : Sample) (bytes : List ℕ) (samples : List Sample) (after : List Bool) → AreRest first bytes samples after → rest_at (length samples) (begun first) bytes ≡ Ok (samples, after)
 unfolding rest_at
@@ -80,7 +78,7 @@ first_found : (bytes : List ℕ) → IsBytes bytes → OfValue (first_at bytes) 
 unfolding first_at
 first_found bytes are =
     of_bind_as _ (varint_at (start bytes)) _ (λ time e. let t = varint_found (start bytes) time.1 time.0 are e in
-      of_bind_as _ (number_at w64 time.1) _ (λ pattern e. of_ok (left time.1, t, number_found w64 wide64 time.1 pattern.1 pattern.0 (IsBytes-after t.0 (left time.1) bytes t.2 are) e)))
+    of_bind_as _ (number_at w64 time.1) _ (λ pattern e. of_ok (left time.1, t, number_found w64 wide64 time.1 pattern.1 pattern.0 (IsBytes-after t.0 (left time.1) bytes t.2 are) e)))
 
 first_again : (bytes : List ℕ) (s : Sample) (middle after : List ℕ) → HasFront IsVarint bytes s.time middle → HasFront (IsFixed w64) middle s.pattern after → first_at bytes ≡ Ok (s, after)
 unfolding first_at
@@ -96,11 +94,11 @@ unfolding samples_at
 samples_found zero bytes are = of_ok (refl, refl)
 samples_found (suc count) bytes are =
     of_bind _ (first_found bytes are) (λ first f.
-      let after = IsBytes-after f.2.0 first.1 f.0 f.2.2 (IsBytes-after f.1.0 f.0 bytes f.1.2 are) in
-      of_bind _ (rest_found count first.0 first.1 after) (λ rest r. of_ok (
-        ap suc r.0,
-        record { after_time = f.0; after = first.1; time_is = f.1; pattern_is = f.2; rest_are = r.1 },
-      )))
+    let after = IsBytes-after f.2.0 first.1 f.0 f.2.2 (IsBytes-after f.1.0 f.0 bytes f.1.2 are) in
+    of_bind _ (rest_found count first.0 first.1 after) (λ rest r. of_ok (
+      ap suc r.0,
+      record { after_time = f.0; after = first.1; time_is = f.1; pattern_is = f.2; rest_are = r.1 },
+    )))
 
 samples_again : (bytes : List ℕ) (samples : List Sample) (after : List Bool) → AreSamples bytes samples after → samples_at (length samples) bytes ≡ Ok (samples, after)
 unfolding samples_at
@@ -109,18 +107,14 @@ samples_again bytes (s ∷ ss) after h = rw (first_again bytes s h.after_time h.
 
 -- ---- what is left
 
-and_true : (a b : Bool) → (a && b) ≡ true → (a ≡ true) × (b ≡ true)
-and_true true b e = (refl, e)
-and_true false b e = absurd cc
-
 filling_found : (most : ℕ) (bits : List Bool) → is_filling most bits ≡ true → (k : ℕ) × (bits ≡ replicate k false) × (k ≤ most)
 filling_found most bits e =
-    let both = and_true (nat_le (length bits) most) (number_of bits == 0) e in
+    let both = and_parts (nat_le (length bits) most) (number_of bits == 0) e in
     let none : number_of bits ≡ 0 = eqb-true (number_of bits) 0 both.1 in
-    (length bits, sym (bits_of-number_of bits) ∙ ap (bits_of (length bits)) none ∙ bits_of-zero (length bits), nat_le-le (length bits) most both.0)
+    (length bits, sym (bits_of-number_of bits) ∙ ap (bits_of (length bits)) none ∙ bits_of-zero (length bits), leb-true (length bits) most both.0)
 
 filling_again : (most k : ℕ) → k ≤ most → is_filling most (replicate k false) ≡ true
-filling_again most k le = rw (length-replicate k false, le-nat_le k most le, number_of-zeros k) refl
+filling_again most k le = rw (length-replicate k false, le-leb k most le, number_of-zeros k) refl
 
 -- ---- the whole
 
@@ -138,14 +132,14 @@ data_found : (most : ℕ) (bytes : List ℕ) → IsBytes bytes → OfValue (data
 unfolding data_at
 data_found most bytes are =
     of_bind _ (count_found bytes are) (λ count c. of_bind _ (samples_found count.0 count.1 (IsBytes-after c.0 count.1 bytes c.2 are)) (λ all s. of_unless (is_filling most all.1) _ _ (λ filling.
-      let left = filling_found most all.1 filling in
-      of_ok (record {
-        after = count.1;
-        left = left.0;
-        counted = subst (λ (n : ℕ). HasFront (IsFixed w16) bytes n count.1) (sym s.0) c;
-        samples_are = subst (AreSamples count.1 all.0) left.1 s.1;
-        filling = left.2;
-      }))))
+    let left = filling_found most all.1 filling in
+    of_ok (record {
+      after = count.1;
+      left = left.0;
+      counted = subst (λ (n : ℕ). HasFront (IsFixed w16) bytes n count.1) (sym s.0) c;
+      samples_are = subst (AreSamples count.1 all.0) left.1 s.1;
+      filling = left.2;
+    }))))
 
 pub data_again : (most : ℕ) (bytes : List ℕ) (samples : List Sample) → IsText most bytes samples → data_at most bytes ≡ Ok samples
 unfolding data_at

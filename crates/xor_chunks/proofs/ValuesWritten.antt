@@ -1,10 +1,10 @@
 -- What the writer puts for a step and for a value is in the grammar.
 use Rattle.std.proofs.Common.{◌≡◌, ℕ, suc, ◌+◌, ◌-◌, ◌*◌, ◌/◌, ◌%◌, ◌^◌, ◌<◌, ◌≤◌, Bool, true, false, cond, List, [], ◌∷◌, ◌++◌, refl, sym, ap, subst, ◌∙◌, arith, inl, inr, ℤ, pos, negsuc}
-use Rattle.std.specs.Prelude.{bit_xor, nat_le, FitsSigned, ◌&&◌}
+use Rattle.std.specs.Prelude.{bit_xor, nat_le, FitsSigned}
 use Rattle.std.specs.Int.{cast_unsigned, w64, leading_zeros, trailing_zeros}
 use Rattle.std.specs.Int.Bits.{xor_self, xor_assoc, xor_zero_l, xor_zero_r}
 use Rattle.std.specs.Ordering.{int_eq}
-use Rattle.std.proofs.lemmas.Bool.{leb-true, ltb-true, cases_eq, eq-eqb, ne_eqb}
+use Rattle.std.proofs.lemmas.Bool.{and_parts, leb-true, ltb-true, cases_eq, eq-eqb, ne_eqb}
 use Rattle.std.proofs.lemmas.Bool.Decides.{Decides-int_eq}
 use Rattle.std.proofs.lemmas.Int.{ints, to_z-of_z}
 use Rattle.std.proofs.lemmas.Nat.{xor_lt, shr_below, shr_split, mod_below, pow_pos}
@@ -16,10 +16,6 @@ use Rattle.xor_chunks.specs.Written.{fits_field, change_bits, trail, window_roun
 use Rattle.xor_chunks.specs.Grammar.{StandsFor, IsRow, IsChange, unchanged, row_14, row_17, row_20, row_64, IsWithin, IsValue, same_pattern, in_window as within_window, opens}
 use Rattle.xor_chunks.proofs.BitLists.{bits_of-mod}
 use Rattle.xor_chunks.proofs.Zeros.{trailing_low, leading_below, counts_apart}
-
-both_true : (a b : Bool) → (a && b) ≡ true → (a ≡ true) × (b ≡ true)
-both_true true b e = (refl, e)
-both_true false b e = absurd cc
 
 -- the window that a reader has where the writer has set this one or none
 abbrev pub seen : WindowSetting → Window
@@ -84,7 +80,7 @@ set_written : (w : Window) (before pattern : ℕ) (round : Bool) → is_round w 
     → IsValue w before (coded (cond round (Set w) Unset) (bit_xor before pattern)) pattern (seen (kept (cond round (Set w) Unset) (bit_xor before pattern)))
 set_written w before pattern true e inside b p some =
     let change = bit_xor before pattern in
-    let both = both_true (nat_le w.lead (leading_zeros w64 change)) (nat_le (trail w) (trailing_zeros w64 change)) e in
+    let both = and_parts (nat_le w.lead (leading_zeros w64 change)) (nat_le (trail w) (trailing_zeros w64 change)) e in
     within_window (in_window w change) refl refl (within_written w before pattern b p some (record { inside = inside; lead = leb-true _ _ both.0; trail = leb-true _ _ both.1 }))
 set_written w before pattern false e inside b p some = opens_written w before pattern b p some
 

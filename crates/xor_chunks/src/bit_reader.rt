@@ -56,8 +56,9 @@ impl<'a> BitReader<'a> {
         ensures short { IsErr result ↔ (length self.old < count) }
         ensures err { OnErr result (self.new ≡ self.old) }
     {
-        let Some((number, word, waiting, bytes)) = take_from(count, self.word, self.count, self.bytes)
-        else {
+        let Some((number, word, waiting, bytes)) = take_from(
+            count, self.word, self.count, self.bytes,
+        ) else {
             return Err(ShortBits);
         };
         self.word = word;

@@ -6,10 +6,10 @@ ghost use Rattle.reading_core.specs.Grammar.{IsBytes};
 ghost use Rattle.xor_chunks.specs.Bits.{bits_of, bits_in, filled};
 
 use crate::BitWriter;
-use crate::pending_bits::PendingBits;
 use crate::last_written::LastWritten;
-use crate::window_setting::WindowSetting;
+use crate::pending_bits::PendingBits;
 use crate::window::Window;
+use crate::window_setting::WindowSetting;
 use label_sets::Sample;
 use list_core::NoMemory;
 use std::alloc::Global;
@@ -107,7 +107,11 @@ fn put_value(
 
 /// Puts the next sample, after the second.
 #[inline(always)]
-fn put_next(writer: &mut BitWriter, put: LastWritten, sample: Sample) -> Result<LastWritten, NoMemory>
+fn put_next(
+    writer: &mut BitWriter,
+    put: LastWritten,
+    sample: Sample,
+) -> Result<LastWritten, NoMemory>
     requires { CanFollow put sample }
     ensures bits { OnOk result (writer.new ≡ writer.old ++ next_bits put sample) }
     ensures put { IfOk result (λ after. after ≡ put_after put sample) }
@@ -125,7 +129,11 @@ fn put_next(writer: &mut BitWriter, put: LastWritten, sample: Sample) -> Result<
 }
 
 /// Puts the samples after the second.
-fn put_others(mut writer: BitWriter, second: LastWritten, samples: &[Sample]) -> Result<BitWriter, NoMemory>
+fn put_others(
+    mut writer: BitWriter,
+    second: LastWritten,
+    samples: &[Sample],
+) -> Result<BitWriter, NoMemory>
     requires { AreToCome second samples.now }
     ensures bits { IfOk result (λ w. w ≡ writer ++ others_bits second samples.now) }
     ensures patterns { OnOk result (ArePatterns samples.now) }
@@ -168,7 +176,12 @@ fn put_from_second(
     put_uvarint(&mut bytes, second.time.abs_diff(first.time))?;
     let mut writer = BitWriter::behind(bytes);
     let change = first.pattern ^ second.pattern;
-    let window = put_value(&mut writer, PendingBits::none(), change, WindowSetting::Unset)?;
+    let window = put_value(
+        &mut writer,
+        PendingBits::none(),
+        change,
+        WindowSetting::Unset,
+    )?;
     let put = LastWritten {
         time: second.time,
         delta: second.time - first.time,

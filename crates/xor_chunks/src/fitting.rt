@@ -31,8 +31,5 @@ fn have_chunk_times(samples: &[Sample]) -> bool
 pub fn fit_a_chunk(samples: &[Sample]) -> bool
     ensures { IsTrue result ↔ AreOfChunk samples.now }
 {
-    !samples.is_empty()
-        && samples.len() < 0x1_0000
-        && ascend(samples)
-        && have_chunk_times(samples)
+    !samples.is_empty() && samples.len() < 0x1_0000 && ascend(samples) && have_chunk_times(samples)
 }

@@ -27,12 +27,7 @@ pub fn take_from(need: u32, word: u64, count: u32, bytes: &[u8]) -> Option<(u64,
 
 /// Takes bits that as a rule wait already.
 #[inline(always)]
-pub fn take_ready(
-    need: u32,
-    word: u64,
-    count: u32,
-    bytes: &[u8],
-) -> Option<(u64, u64, u32, &[u8])>
+pub fn take_ready(need: u32, word: u64, count: u32, bytes: &[u8]) -> Option<(u64, u64, u32, &[u8])>
     requires few { need ≤ 64 }
     requires buffer { IsBuffer word count }
     ensures taken { IfSome result (λ t. buffered word count bytes.now

@@ -16,7 +16,7 @@ pub loop-sample-preserved : goal.loop-sample-preserved
 loop-sample-preserved c = record {
   put =
       put_goes_on c.args.writer c.loop-sample.writer c.put_next.new.writer c.args.second _ _ c.args.samples.now c.loop-sample.sample-index _ _ c.loop-sample.invariant.put c.loop-sample-test.true refl c.in_ok-after.ensures.bits
-    (sym (put_cast c.in_ok-after.after (search rules) (search rules)) ∙ c.in_ok-after.ensures.put);
+      (sym (put_cast c.in_ok-after.after (search rules) (search rules)) ∙ c.in_ok-after.ensures.put);
   patterns = patterns_go_on c.args.samples.now c.loop-sample.sample-index _ _ c.loop-sample.invariant.patterns c.loop-sample-test.true refl c.in_ok-after.ensures.pattern;
 }
 

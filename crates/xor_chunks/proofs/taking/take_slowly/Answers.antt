@@ -1,4 +1,4 @@
-use Rattle.std.proofs.Common.{◌<◌, ◌-◌, length, refl, arith, rules}
+use Rattle.std.proofs.Common.{◌<◌, ◌-◌, length, refl, arith}
 use Rattle.xor_chunks.specs.Buffer.{buffered}
 use Rattle.xor_chunks.proofs.Buffers.{joined_fields}
 use Rattle.xor_chunks.proofs.Crossings.{lacks_later, never_short}
