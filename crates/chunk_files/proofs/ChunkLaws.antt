@@ -1,45 +1,27 @@
 -- What is read is in the grammar, and what is in the grammar is read.
-use Rattle.std.proofs.Common.{◌≡◌, ℕ, ◌+◌, ◌<◌, ◌≤◌, Bool, true, false, cond, ltb, List, [], ◌∷◌, ◌++◌, length, get_or, take, drop, Result, Ok, Err, refl, sym, ap, subst, ◌∙◌, append_assoc, length-append, length-take, arith}
+use Rattle.std.proofs.Common.{◌≡◌, ℕ, ◌+◌, ◌<◌, Bool, true, false, cond, List, [], ◌∷◌, ◌++◌, length, get_or, drop, Result, Ok, Err, refl, sym, ap, subst, ◌∙◌, append_assoc, arith}
 use Rattle.std.specs.Prelude.{◌==◌, ◌||◌, nat_le, IfOk}
 use Rattle.std.specs.Result.{IsOkAnd}
 use Rattle.std.specs.Borrow.{Bor}
 use Rattle.std.specs.Int.{w8, w32}
-use Rattle.std.proofs.lemmas.Bool.{leb-true, le-leb, le-ltb, ltb-false, eqb-true, eq-eqb}
-use Rattle.std.proofs.lemmas.List.{take-append-drop, take_at, drop_at, drop_all}
-use Rattle.reading_core.specs.Reading.{◌>>=◌, ◌>>◌, unless, refused_as, Answers}
+use Rattle.std.proofs.lemmas.Bool.{leb-true, le-leb, eqb-true, eq-eqb}
+use Rattle.std.proofs.lemmas.List.{drop_at, drop_all}
+use Rattle.reading_core.specs.Reading.{◌>>◌, unless, refused_as, Answers}
 use Rattle.reading_core.specs.Grammar.{IsBytes, HasFront}
 use Rattle.reading_core.proofs.Fronts.{IsBytes-after, IsBytes-drop}
-use Rattle.reading_core.proofs.Binds.{bind_ok, unless_ok, cond_ok, refused_as_ok, ok_is}
-use Rattle.wire_bytes.specs.Position.{Position, left, further}
+use Rattle.reading_core.proofs.Binds.{bind_ok, unless_ok, refused_as_ok, ok_is, then_ok, unless_is}
+use Rattle.wire_bytes.specs.Position.{left, further}
 use Rattle.wire_bytes.specs.Fields.{number_at, uvarint_at, bytes_at, groups_of}
 use Rattle.wire_bytes.specs.FieldTexts.{IsFixed, IsUvarint}
 use Rattle.wire_bytes.specs.Crc.{crc}
-use Rattle.wire_bytes.specs.declared.refusal.WireRefusal.{WireRefusal}
-use Rattle.wire_bytes.specs.declared.refusal.WireRefusal.TheVariants as wire
 use Rattle.wire_bytes.proofs.FieldLaws.{uvarint_found, uvarint_again, left-further, left_after}
+use Rattle.wire_bytes.proofs.ByteFields.{bytes_split, bytes_again}
 use Rattle.wire_bytes.proofs.FixedLaws.{wide8, wide32, number_found, number_again}
 use Rattle.chunk_files.specs.declared.refusal.ChunkRefusal.{ChunkRefusal}
-use Rattle.chunk_files.specs.declared.refusal.ChunkRefusal.TheVariants.{BadMagic, BadVersion, Short, BadSum, Histogram, UnknownEncoding}
+use Rattle.chunk_files.specs.declared.refusal.ChunkRefusal.TheVariants.{BadMagic, BadVersion, Short, Histogram, UnknownEncoding}
+use Rattle.chunk_files.specs.Layout.{magic, version, header_size, xor, histogram, float_histogram}
 use Rattle.chunk_files.specs.Chunk.{IsChunk, IsFront, IsSegment, IsPlace}
 use Rattle.chunk_files.specs.ChunkReading.{start, as_short, header_at, by_encoding, chunk_at, segment_at}
-
-bytes_found : (count : ℕ) (p q : Position) (bytes : List ℕ) → bytes_at count p ≡ Ok (bytes, q) → (length bytes ≡ count) × (left p ≡ bytes ++ left q)
-unfolding bytes_at
-bytes_found count p q bytes e =
-    let g = cond_ok (ltb (length (left p)) count) wire.Short (Ok (take count (left p), further count p)) (bytes, q) e in
-    let same : ◌≡◌ {A = List ℕ × Position} (take count (left p), further count p) (bytes, q) = ok_is {E = WireRefusal} _ _ g.1 in
-    let long : count ≤ length (left p) = ltb-false _ _ g.0 in
-    let front : take count (left p) ≡ bytes = ap (λ (y : List ℕ × Position). y.0) same in
-    let rest : drop count (left p) ≡ left q = sym (left-further count p) ∙ ap (λ (y : List ℕ × Position). left y.1) same in (
-      omega (arith, ap length front, length-take count (left p), long),
-      sym (take-append-drop count (left p)) ∙ ap (λ (a : List ℕ). a ++ drop count (left p)) front ∙ ap (λ (a : List ℕ). bytes ++ a) rest,
-    )
-
-bytes_again : (count : ℕ) (p : Position) (text after : List ℕ) → length text ≡ count → left p ≡ text ++ after → bytes_at count p ≡ Ok (text, further count p)
-unfolding bytes_at
-bytes_again count p text after len e =
-    let long : ltb (length (left p)) count ≡ false = le-ltb _ _ (omega (arith, ap length e, length-append text after)) in
-    rw (long, e, take_at text after count len) refl
 
 -- the encoding of XOR data, and no other
 xor_cases : (b d : Bool) (bytes content : List ℕ) (one other : ChunkRefusal) → cond b (Ok bytes) (cond d (Err one) (Err other)) ≡ Ok content → (b ≡ true) × (bytes ≡ content)
@@ -47,22 +29,14 @@ xor_cases true d bytes content one other e = (refl, ok_is {E = ChunkRefusal} _ _
 xor_cases false true bytes content one other e = absurd cc
 xor_cases false false bytes content one other e = absurd cc
 
-xor_found : (encoding : ℕ) (bytes content : List ℕ) → by_encoding encoding bytes ≡ Ok content → (encoding ≡ 1) × (bytes ≡ content)
+xor_found : (encoding : ℕ) (bytes content : List ℕ) → by_encoding encoding bytes ≡ Ok content → (encoding ≡ xor) × (bytes ≡ content)
 xor_found encoding bytes content e =
-    let h = xor_cases (encoding == 1) (encoding == 2 || encoding == 3) bytes content (Histogram encoding) (UnknownEncoding encoding) e in
-    (eqb-true encoding 1 h.0, h.1)
+    let h = xor_cases (encoding == xor) (encoding == histogram || encoding == float_histogram) bytes content (Histogram encoding) (UnknownEncoding encoding) e in
+    (eqb-true encoding xor h.0, h.1)
 
-unless_is : (b : Bool) (d : ChunkRefusal) → unless b d ≡ Ok tt → b ≡ true
-unless_is true d e = refl
-unless_is false d e = absurd cc
-
-then_ok : (r : Result (Unit {0}) ChunkRefusal) (s : Result (List ℕ) ChunkRefusal) (content : List ℕ) → (r >> s) ≡ Ok content → (r ≡ Ok tt) × (s ≡ Ok content)
-then_ok (Ok x) s content e = (refl, e)
-then_ok (Err d) s content e = absurd cc
-
-one_in_front : (framed content : List ℕ) → 0 < length framed → get_or framed 0 0 ≡ 1 → drop 1 framed ≡ content → framed ≡ 1 ∷ content
+one_in_front : (framed content : List ℕ) → 0 < length framed → get_or framed 0 0 ≡ xor → drop 1 framed ≡ content → framed ≡ xor ∷ content
 one_in_front [] content some e d = absurd (omega arith)
-one_in_front (x ∷ xs) content some e d = ap (λ (n : ℕ). n ∷ xs) e ∙ ap (λ (a : List ℕ). 1 ∷ a) d
+one_in_front (x ∷ xs) content some e d = ap (λ (n : ℕ). n ∷ xs) e ∙ ap (λ (a : List ℕ). xor ∷ a) d
 
 four_parts : (part size framed sum rest more after : List ℕ) → part ≡ size ++ rest → rest ≡ framed ++ more → more ≡ sum ++ after → part ≡ (size ++ framed ++ sum) ++ after
 four_parts part size framed sum rest more after p q r =
@@ -71,82 +45,82 @@ four_parts part size framed sum rest more after p q r =
 pub chunk_found : (part content : List ℕ) → IsBytes part → chunk_at part ≡ Ok content → IsFront part content
 unfolding chunk_at
 chunk_found part content are e =
-    let x = bind_ok (refused_as as_short (uvarint_at (start part))) (λ size. refused_as as_short (bytes_at (size.0 + 1) size.1) >>= λ framed. refused_as as_short (number_at w32 framed.1) >>= λ kept. unless (kept.0 == crc framed.0) (BadSum kept.0 (crc framed.0)) >> by_encoding (get_or framed.0 0 0) (drop 1 framed.0)) content e in
-    let y = bind_ok (refused_as as_short (bytes_at (x.0.0 + 1) x.0.1)) (λ framed. refused_as as_short (number_at w32 framed.1) >>= λ kept. unless (kept.0 == crc framed.0) (BadSum kept.0 (crc framed.0)) >> by_encoding (get_or framed.0 0 0) (drop 1 framed.0)) content x.2 in
-    let z = bind_ok (refused_as as_short (number_at w32 y.0.1)) (λ kept. unless (kept.0 == crc y.0.0) (BadSum kept.0 (crc y.0.0)) >> by_encoding (get_or y.0.0 0 0) (drop 1 y.0.0)) content y.2 in
-    let tested = unless_ok (z.0.0 == crc y.0.0) (BadSum z.0.0 (crc y.0.0)) (by_encoding (get_or y.0.0 0 0) (drop 1 y.0.0)) content z.2 in
+    let x = bind_ok (refused_as as_short (uvarint_at (start part))) _ content e in
+    let y = bind_ok (refused_as as_short (bytes_at (x.0.0 + 1) x.0.1)) _ content x.2 in
+    let z = bind_ok (refused_as as_short (number_at w32 y.0.1)) _ content y.2 in
+    let tested = unless_ok (z.0.0 == crc y.0.0) _ _ content z.2 in
     let size = uvarint_found (start part) x.0.1 x.0.0 are (refused_as_ok as_short (uvarint_at (start part)) x.0 x.1) in
-    let framed = bytes_found (x.0.0 + 1) x.0.1 y.0.1 y.0.0 (refused_as_ok as_short (bytes_at (x.0.0 + 1) x.0.1) y.0 y.1) in
+    let framed = bytes_split (x.0.0 + 1) x.0.1 y.0.1 y.0.0 (refused_as_ok as_short (bytes_at (x.0.0 + 1) x.0.1) y.0 y.1) in
     let are_after = IsBytes-after y.0.0 (left y.0.1) (left x.0.1) framed.1 (IsBytes-after size.0 (left x.0.1) part size.2 are) in
     let kept = number_found w32 wide32 y.0.1 z.0.1 z.0.0 are_after (refused_as_ok as_short (number_at w32 y.0.1) z.0 z.1) in
     let encoding = xor_found (get_or y.0.0 0 0) (drop 1 y.0.0) content tested.1 in
-    let framed_is : y.0.0 ≡ 1 ∷ content = one_in_front y.0.0 content (omega (arith, framed.0)) encoding.0 encoding.1 in
-    let sum : z.0.0 ≡ crc (1 ∷ content) = eqb-true z.0.0 (crc y.0.0) tested.0 ∙ ap crc framed_is in
+    let framed_is : y.0.0 ≡ xor ∷ content = one_in_front y.0.0 content (omega (arith, framed.0)) encoding.0 encoding.1 in
+    let sum : z.0.0 ≡ crc (xor ∷ content) = eqb-true z.0.0 (crc y.0.0) tested.0 ∙ ap crc framed_is in
     let many : x.0.0 ≡ length content = omega (arith, framed.0, ap length framed_is) in
-    let text : IsChunk (size.0 ++ (1 ∷ content) ++ kept.0) content = record {
+    let text : IsChunk (size.0 ++ (xor ∷ content) ++ kept.0) content = record {
       size = size.0;
       sum = kept.0;
       size_is = subst (IsUvarint size.0) many size.1;
       sum_is = subst (IsFixed w32 kept.0) sum kept.1;
       text_is = refl;
     } in
-    (left z.0.1, (size.0 ++ (1 ∷ content) ++ kept.0, text, four_parts part size.0 (1 ∷ content) kept.0 (left x.0.1) (left y.0.1) (left z.0.1) size.2 (framed.1 ∙ ap (λ (a : List ℕ). a ++ left y.0.1) framed_is) kept.2))
+    (left z.0.1, (size.0 ++ (xor ∷ content) ++ kept.0, text, four_parts part size.0 (xor ∷ content) kept.0 (left x.0.1) (left y.0.1) (left z.0.1) size.2 (framed.1 ∙ ap (λ (a : List ℕ). a ++ left y.0.1) framed_is) kept.2))
 
 pub chunk_again : (part content : List ℕ) → IsFront part content → chunk_at part ≡ Ok content
 unfolding chunk_at
 chunk_again part content h =
     let after = h.0 in
     let is = h.1.1 in
-    let whole : part ≡ is.size ++ ((1 ∷ content) ++ (is.sum ++ after)) =
-    h.1.2 ∙ ap (λ (a : List ℕ). a ++ after) is.text_is ∙ append_assoc (is.size ++ (1 ∷ content)) is.sum after ∙ append_assoc is.size (1 ∷ content) (is.sum ++ after) in
+    let whole : part ≡ is.size ++ ((xor ∷ content) ++ (is.sum ++ after)) =
+    h.1.2 ∙ ap (λ (a : List ℕ). a ++ after) is.text_is ∙ append_assoc (is.size ++ (xor ∷ content)) is.sum after ∙ append_assoc is.size (xor ∷ content) (is.sum ++ after) in
     let p = further (length is.size) (start part) in
-    let rest : left p ≡ (1 ∷ content) ++ (is.sum ++ after) = left_after is.size ((1 ∷ content) ++ (is.sum ++ after)) (start part) whole in
+    let rest : left p ≡ (xor ∷ content) ++ (is.sum ++ after) = left_after is.size ((xor ∷ content) ++ (is.sum ++ after)) (start part) whole in
     let q = further (length content + 1) p in
-    let len : length (1 ∷ content) ≡ length content + 1 = omega arith in
-    let more : left q ≡ is.sum ++ after = left-further (length content + 1) p ∙ ap (drop (length content + 1)) rest ∙ drop_at (1 ∷ content) (is.sum ++ after) (length content + 1) len in
-    let size = uvarint_again (start part) is.size (length content) ((1 ∷ content) ++ (is.sum ++ after)) is.size_is whole in
-    let framed = bytes_again (length content + 1) p (1 ∷ content) (is.sum ++ after) len rest in
-    let kept = number_again w32 wide32 q is.sum (crc (1 ∷ content)) after is.sum_is more in
-    rw (size, framed, kept, eq-eqb (crc (1 ∷ content)) (crc (1 ∷ content)) refl) refl
+    let len : length (xor ∷ content) ≡ length content + 1 = omega arith in
+    let more : left q ≡ is.sum ++ after = left-further (length content + 1) p ∙ ap (drop (length content + 1)) rest ∙ drop_at (xor ∷ content) (is.sum ++ after) (length content + 1) len in
+    let size = uvarint_again (start part) is.size (length content) ((xor ∷ content) ++ (is.sum ++ after)) is.size_is whole in
+    let framed = bytes_again (length content + 1) p (xor ∷ content) (is.sum ++ after) len rest in
+    let kept = number_again w32 wide32 q is.sum (crc (xor ∷ content)) after is.sum_is more in
+    rw (size, framed, kept, eq-eqb (crc (xor ∷ content)) (crc (xor ∷ content)) refl) refl
 
 pub header_found : (segment : List ℕ) → IsBytes segment → header_at segment ≡ Ok tt → IsSegment segment
 unfolding header_at
 header_found segment are e =
-    let x = bind_ok (refused_as (λ _. BadMagic) (number_at w32 (start segment))) (λ magic. unless (magic.0 == 0x85BD40DD) BadMagic >> (refused_as (λ _. BadVersion) (number_at w8 magic.1) >>= λ version. unless (version.0 == 1) BadVersion)) tt e in
-    let tested = unless_ok (x.0.0 == 0x85BD40DD) BadMagic (refused_as (λ _. BadVersion) (number_at w8 x.0.1) >>= λ version. unless (version.0 == 1) BadVersion) tt x.2 in
-    let y = bind_ok (refused_as (λ _. BadVersion) (number_at w8 x.0.1)) (λ version. unless (version.0 == 1) BadVersion) tt tested.1 in
-    let magic = number_found w32 wide32 (start segment) x.0.1 x.0.0 are (refused_as_ok (λ _. BadMagic) (number_at w32 (start segment)) x.0 x.1) in
-    let version = number_found w8 wide8 x.0.1 y.0.1 y.0.0 (IsBytes-after magic.0 (left x.0.1) segment magic.2 are) (refused_as_ok (λ _. BadVersion) (number_at w8 x.0.1) y.0 y.1) in
+    let x = bind_ok (refused_as (λ _. BadMagic) (number_at w32 (start segment))) _ tt e in
+    let tested = unless_ok (x.0.0 == magic) BadMagic _ tt x.2 in
+    let y = bind_ok (refused_as (λ _. BadVersion) (number_at w8 x.0.1)) _ tt tested.1 in
+    let first = number_found w32 wide32 (start segment) x.0.1 x.0.0 are (refused_as_ok (λ _. BadMagic) (number_at w32 (start segment)) x.0 x.1) in
+    let next = number_found w8 wide8 x.0.1 y.0.1 y.0.0 (IsBytes-after first.0 (left x.0.1) segment first.2 are) (refused_as_ok (λ _. BadVersion) (number_at w8 x.0.1) y.0 y.1) in
     record {
       after_magic = left x.0.1;
       after = left y.0.1;
-      magic = subst (λ (n : ℕ). HasFront (IsFixed w32) segment n (left x.0.1)) (eqb-true x.0.0 0x85BD40DD tested.0) magic;
-      version = subst (λ (n : ℕ). HasFront (IsFixed w8) (left x.0.1) n (left y.0.1)) (eqb-true y.0.0 1 (unless_is (y.0.0 == 1) BadVersion y.2)) version;
+      begins = subst (λ (n : ℕ). HasFront (IsFixed w32) segment n (left x.0.1)) (eqb-true x.0.0 magic tested.0) first;
+      numbered = subst (λ (n : ℕ). HasFront (IsFixed w8) (left x.0.1) n (left y.0.1)) (eqb-true y.0.0 version (unless_is (y.0.0 == version) BadVersion y.2)) next;
     }
 
 pub header_again : (segment : List ℕ) → IsSegment segment → header_at segment ≡ Ok tt
 unfolding header_at
 header_again segment h =
-    let p = further (length h.magic.0) (start segment) in
-    let rest : left p ≡ h.after_magic = left_after h.magic.0 h.after_magic (start segment) h.magic.2 in
-    let magic = number_again w32 wide32 (start segment) h.magic.0 0x85BD40DD h.after_magic h.magic.1 h.magic.2 in
-    let version = number_again w8 wide8 p h.version.0 1 h.after h.version.1 (rest ∙ h.version.2) in
-    rw (magic, version) refl
+    let p = further (length h.begins.0) (start segment) in
+    let rest : left p ≡ h.after_magic = left_after h.begins.0 h.after_magic (start segment) h.begins.2 in
+    let first = number_again w32 wide32 (start segment) h.begins.0 magic h.after_magic h.begins.1 h.begins.2 in
+    let next = number_again w8 wide8 p h.numbered.0 version h.after h.numbered.1 (rest ∙ h.numbered.2) in
+    rw (first, next) refl
 
 pub place_found : (segment : List ℕ) (offset : ℕ) (content : List ℕ) → IsBytes segment → segment_at segment offset ≡ Ok content → IsPlace segment offset content
 unfolding segment_at
 place_found segment offset content are e =
-    let header = then_ok (header_at segment) (unless (nat_le 8 offset) Short >> chunk_at (drop offset segment)) content e in
-    let behind = then_ok (unless (nat_le 8 offset) Short) (chunk_at (drop offset segment)) content header.1 in
+    let header = then_ok (header_at segment) (unless (nat_le header_size offset) Short >> chunk_at (drop offset segment)) content e in
+    let behind = then_ok (unless (nat_le header_size offset) Short) (chunk_at (drop offset segment)) content header.2 in
     record {
-      begins = header_found segment are header.0;
-      behind = leb-true 8 offset (unless_is (nat_le 8 offset) Short behind.0);
-      stands = chunk_found (drop offset segment) content (IsBytes-drop offset segment are) behind.1;
+      begins = header_found segment are header.1;
+      behind = leb-true header_size offset (unless_is (nat_le header_size offset) Short behind.1);
+      stands = chunk_found (drop offset segment) content (IsBytes-drop offset segment are) behind.2;
     }
 
 pub place_again : (segment : List ℕ) (offset : ℕ) (content : List ℕ) → IsPlace segment offset content → segment_at segment offset ≡ Ok content
 unfolding segment_at
-place_again segment offset content h = rw (header_again segment h.begins, le-leb 8 offset h.behind) (chunk_again (drop offset segment) content h.stands)
+place_again segment offset content h = rw (header_again segment h.begins, le-leb header_size offset h.behind) (chunk_again (drop offset segment) content h.stands)
 
 -- a place past the end
 past_end : chunk_at [] ≡ Err Short

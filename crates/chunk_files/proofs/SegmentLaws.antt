@@ -4,14 +4,15 @@ use Rattle.std.specs.Int.{w32, to_be_bytes}
 use Rattle.std.proofs.lemmas.Bool.{le-ltb, lt-ltb}
 use Rattle.std.proofs.lemmas.List.{drop_at, append-nil, length-drop, drop-append-le}
 use Rattle.wire_bytes.specs.Written.{groups_text, uvarint_text}
+use Rattle.chunk_files.specs.Layout.{magic, version, xor}
 use Rattle.chunk_files.specs.Chunk.{IsChunk, IsSegment, IsPlace, IsFilled, header}
 
 segment_more : (bytes more : List ℕ) → IsSegment bytes → IsSegment (bytes ++ more)
 segment_more bytes more h = record {
   after_magic = h.after_magic ++ more;
   after = h.after ++ more;
-  magic = (h.magic.0, h.magic.1, ap (λ (a : List ℕ). a ++ more) h.magic.2 ∙ append_assoc h.magic.0 h.after_magic more);
-  version = (h.version.0, h.version.1, ap (λ (a : List ℕ). a ++ more) h.version.2 ∙ append_assoc h.version.0 h.after more);
+  begins = (h.begins.0, h.begins.1, ap (λ (a : List ℕ). a ++ more) h.begins.2 ∙ append_assoc h.begins.0 h.after_magic more);
+  numbered = (h.numbered.0, h.numbered.1, ap (λ (a : List ℕ). a ++ more) h.numbered.2 ∙ append_assoc h.numbered.0 h.after more);
 }
 
 appended : (bytes frame content : List ℕ) → IsFilled bytes → IsChunk frame content → IsPlace (bytes ++ frame) (length bytes) content
@@ -24,10 +25,10 @@ appended bytes frame content h is = record {
 pub begun : IsFilled header
 begun = record {
   begins = record {
-    after_magic = 1 ∷ 0 ∷ 0 ∷ 0 ∷ [];
+    after_magic = version ∷ 0 ∷ 0 ∷ 0 ∷ [];
     after = 0 ∷ 0 ∷ 0 ∷ [];
-    magic = (to_be_bytes w32 0x85BD40DD, record { digits = refl; fits = omega arith }, refl);
-    version = (1 ∷ [], record { digits = refl; fits = omega arith }, refl);
+    begins = (to_be_bytes w32 magic, record { digits = refl; fits = omega arith }, refl);
+    numbered = (version ∷ [], record { digits = refl; fits = omega arith }, refl);
   };
   low = omega arith;
   high = omega arith;
@@ -66,7 +67,7 @@ earlier bytes more content place h =
     let text = h.stands.1.0 in
     let is = h.stands.1.1 in
     let here : drop place bytes ≡ text ++ after = h.stands.1.2 in
-    let within : place ≤ length bytes = omega (arith, length-drop place bytes, ap length here, length-append text after, ap length is.text_is, length-append (is.size ++ (1 ∷ content)) is.sum, length-append is.size (1 ∷ content)) in
+    let within : place ≤ length bytes = omega (arith, length-drop place bytes, ap length here, length-append text after, ap length is.text_is, length-append (is.size ++ (xor ∷ content)) is.sum, length-append is.size (xor ∷ content)) in
     record {
       begins = segment_more bytes more h.begins;
       behind = h.behind;

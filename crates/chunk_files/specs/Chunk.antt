@@ -5,14 +5,15 @@ use Rattle.reading_core.specs.Grammar.{HasFront}
 use Rattle.wire_bytes.specs.FieldTexts.{IsFixed, IsUvarint}
 use Rattle.wire_bytes.specs.Written.{uvarint_text}
 use Rattle.wire_bytes.specs.Crc.{crc}
+use Rattle.chunk_files.specs.Layout.{magic, version, header_size, greatest, xor}
 
 -- a chunk: how many bytes of data it has, its encoding, that of XOR data, the data, and the sum of encoding and data
 pub record IsChunk (text content : List ℕ) : Type 0 where
   pub size : List ℕ
   pub sum : List ℕ
   pub size_is : IsUvarint size (length content)
-  pub sum_is : IsFixed w32 sum (crc (1 ∷ content))
-  pub text_is : text ≡ size ++ (1 ∷ content) ++ sum
+  pub sum_is : IsFixed w32 sum (crc (xor ∷ content))
+  pub text_is : text ≡ size ++ (xor ∷ content) ++ sum
 
 -- The bytes begin with a chunk of the data.
 abbrev pub IsFront : List ℕ → List ℕ → Type 0
@@ -22,29 +23,25 @@ IsFront bytes content = (after : List ℕ) × HasFront IsChunk bytes content aft
 pub record IsSegment (bytes : List ℕ) : Type 0 where
   pub after_magic : List ℕ
   pub after : List ℕ
-  pub magic : HasFront (IsFixed w32) bytes 0x85BD40DD after_magic
-  pub version : HasFront (IsFixed w8) after_magic 1 after
+  pub begins : HasFront (IsFixed w32) bytes magic after_magic
+  pub numbered : HasFront (IsFixed w8) after_magic version after
 
 -- At a place behind the segment's header stands a chunk of the data.
 pub record IsPlace (segment : List ℕ) (offset : ℕ) (content : List ℕ) : Type 0 where
   pub begins : IsSegment segment
-  pub behind : 8 ≤ offset
+  pub behind : header_size ≤ offset
   pub stands : IsFront (drop offset segment) content
 
 -- the header that the writer puts
 abbrev pub header : List ℕ
-header = to_be_bytes w32 0x85BD40DD ++ 1 ∷ 0 ∷ 0 ∷ 0 ∷ []
+header = to_be_bytes w32 magic ++ version ∷ 0 ∷ 0 ∷ 0 ∷ []
 
 -- the one text of a chunk that the writer puts
 abbrev pub frame_text : List ℕ → List ℕ
-frame_text content = uvarint_text (length content) ++ (1 ∷ content) ++ to_be_bytes w32 (crc (1 ∷ content))
-
--- how many bytes a segment has at most
-abbrev pub greatest : ℕ
-greatest = 67108864
+frame_text content = uvarint_text (length content) ++ (xor ∷ content) ++ to_be_bytes w32 (crc (xor ∷ content))
 
 -- what a writer holds: a segment with its header, which has no more bytes than it may
 pub record IsFilled (bytes : List ℕ) : Type 0 where
   pub begins : IsSegment bytes
-  pub low : 8 ≤ length bytes
+  pub low : header_size ≤ length bytes
   pub high : length bytes ≤ greatest

@@ -6,6 +6,7 @@ use Rattle.wire_bytes.specs.Position.{Position}
 use Rattle.wire_bytes.specs.Fields.{number_at, uvarint_at, bytes_at}
 use Rattle.wire_bytes.specs.Crc.{crc}
 use Rattle.wire_bytes.specs.declared.refusal.WireRefusal.{WireRefusal}
+use Rattle.chunk_files.specs.Layout.{magic, version, header_size, xor, histogram, float_histogram}
 use Rattle.chunk_files.specs.declared.refusal.ChunkRefusal.{ChunkRefusal}
 use Rattle.chunk_files.specs.declared.refusal.ChunkRefusal.TheVariants.{BadMagic, BadVersion, Short, BadSum, Histogram, UnknownEncoding}
 
@@ -19,16 +20,16 @@ as_short _ = Short
 -- how a segment begins
 unfoldable pub header_at : List ℕ → Result (Unit {0}) ChunkRefusal
 header_at segment = do
-  magic ← refused_as (λ _. BadMagic) (number_at w32 (start segment))
-  unless (magic.0 == 0x85BD40DD) BadMagic
-  version ← refused_as (λ _. BadVersion) (number_at w8 magic.1)
-  unless (version.0 == 1) BadVersion
+  first ← refused_as (λ _. BadMagic) (number_at w32 (start segment))
+  unless (first.0 == magic) BadMagic
+  next ← refused_as (λ _. BadVersion) (number_at w8 first.1)
+  unless (next.0 == version) BadVersion
 
 -- the data of an encoding
 abbrev pub by_encoding : ℕ → List ℕ → Result (List ℕ) ChunkRefusal
 by_encoding encoding bytes =
-    if encoding == 1 then Ok bytes
-    else (if encoding == 2 || encoding == 3 then Err (Histogram encoding) else Err (UnknownEncoding encoding))
+    if encoding == xor then Ok bytes
+    else (if encoding == histogram || encoding == float_histogram then Err (Histogram encoding) else Err (UnknownEncoding encoding))
 
 -- the chunk at the front: its sum is tested before its encoding
 unfoldable pub chunk_at : List ℕ → Result (List ℕ) ChunkRefusal
@@ -43,5 +44,5 @@ chunk_at bytes = do
 unfoldable pub segment_at : List ℕ → ℕ → Result (List ℕ) ChunkRefusal
 segment_at segment offset = do
   header_at segment
-  unless (nat_le 8 offset) Short
+  unless (nat_le header_size offset) Short
   chunk_at (drop offset segment)

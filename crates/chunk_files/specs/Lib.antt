@@ -4,5 +4,6 @@ pub use Rattle.wire_bytes.specs.Fields
 pub use Rattle.wire_bytes.specs.FieldTexts
 pub use Rattle.wire_bytes.specs.Written
 pub use Rattle.wire_bytes.specs.Crc
+pub mod Layout
 pub mod Chunk
 pub mod ChunkReading

@@ -1,12 +1,11 @@
 //! Segment files: chunks of XOR data one after another, each with its length and its sum.
 #![tactic(auto)]
 
+mod layout;
 mod reading;
 mod refusal;
 mod segment_refusal;
 mod segment_writer;
-#[cfg(test)]
-mod tests;
 
 pub use reading::{read_chunk, take_chunk};
 pub use refusal::ChunkRefusal;

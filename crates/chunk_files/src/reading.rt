@@ -7,27 +7,14 @@ ghost use Rattle.chunk_files.specs.Chunk.{IsFront, IsPlace};
 ghost use Rattle.chunk_files.specs.ChunkReading.{as_short, header_at, by_encoding, chunk_at, segment_at};
 
 use crate::ChunkRefusal;
+use crate::layout::{FLOAT_HISTOGRAM, HEADER, HISTOGRAM, MAGIC, VERSION, XOR};
 use wire_bytes::{Cursor, crc_of};
-
-/// What a segment begins with.
-pub(crate) const MAGIC: u32 = 0x85BD_40DD;
-
-pub(crate) const VERSION: u8 = 1;
-
-/// The length of a segment's header, before which no chunk begins.
-pub(crate) const HEADER: u64 = 8;
-
-/// The encoding of XOR data; those of histograms come next.
-pub(crate) const XOR: u8 = 1;
-
-const HISTOGRAM: u8 = 2;
-
-const FLOAT_HISTOGRAM: u8 = 3;
 
 /// The encoding and as many bytes of data.
 #[tactic(auto, unfolding(wire_bytes::specs::Fields::bytes_at))]
 fn take_framed<'a>(cursor: &mut Cursor<'a>, size: u64) -> Result<&'a [u8], ChunkRefusal>
-    ensures exact { Steps (λ bytes. bytes.now) cursor.old cursor.new result (refused_as as_short (bytes_at (size + 1) cursor.old)) }
+    ensures exact { Steps (λ bytes. bytes.now) cursor.old cursor.new result
+        (refused_as as_short (bytes_at (size + 1) cursor.old)) }
     ensures some { IfOk result (λ bytes. 0 < length bytes.now) }
 {
     let left = cursor.rest();
@@ -40,7 +27,8 @@ fn take_framed<'a>(cursor: &mut Cursor<'a>, size: u64) -> Result<&'a [u8], Chunk
 /// The data behind an encoding that is XOR's.
 fn data_of<'a>(framed: &'a [u8]) -> Result<&'a [u8], ChunkRefusal>
     requires { 0 < length framed.now }
-    ensures { Answers (λ content. content.now) result (by_encoding (slice_index framed.now 0) (drop 1 framed.now)) }
+    ensures { Answers (λ content. content.now) result
+        (by_encoding (slice_index framed.now 0) (drop 1 framed.now)) }
 {
     match framed[0] {
         XOR => Ok(&framed[1..]),
@@ -85,7 +73,8 @@ fn test_header(segment: &[u8]) -> Result<(), ChunkRefusal>
 pub fn take_chunk<'a>(part: &'a [u8]) -> Result<&'a [u8], ChunkRefusal>
     // What is lent is what stands there, and data that stands there is lent.
     ensures found { IfOk result (λ content. IsFront part.now content.now) }
-    ensures only { (content : List ℕ) → IsFront part.now content → IsOkAnd result (λ lent. lent.now ≡ content) }
+    ensures only { (content : List ℕ) → IsFront part.now content
+        → IsOkAnd result (λ lent. lent.now ≡ content) }
 
     // The first refusal in the order of its cases.
     ensures exact { Answers (λ content. content.now) result (chunk_at part.now) }
@@ -97,7 +86,8 @@ pub fn take_chunk<'a>(part: &'a [u8]) -> Result<&'a [u8], ChunkRefusal>
 pub fn read_chunk<'a>(segment: &'a [u8], offset: u64) -> Result<&'a [u8], ChunkRefusal>
     // What is lent is what stands there, and data that stands there is lent.
     ensures found { IfOk result (λ content. IsPlace segment.now offset content.now) }
-    ensures only { (content : List ℕ) → IsPlace segment.now offset content → IsOkAnd result (λ lent. lent.now ≡ content) }
+    ensures only { (content : List ℕ) → IsPlace segment.now offset content
+        → IsOkAnd result (λ lent. lent.now ≡ content) }
 
     // The first refusal in the order of its cases.
     ensures exact { Answers (λ content. content.now) result (segment_at segment.now offset) }

@@ -2,7 +2,7 @@ ghost use Rattle.std.specs.Prelude.{◌≡◌};
 ghost use Rattle.chunk_files.specs.declared.segment_refusal.SegmentRefusal.TheVariants.{NoMemory as IsNoMemory};
 
 use list_core::NoMemory;
-use std::alloc::{AllocError, AllocFailed};
+use std::alloc::AllocError;
 
 /// Why a chunk is not appended.
 #[derive(Clone, Copy, Debug, PartialEq, Eq)]
@@ -24,14 +24,6 @@ impl From<AllocError> for SegmentRefusal {
     ghost from_gives = { λ _ e. e ≡ IsNoMemory };
 
     fn from(_: AllocError) -> Self {
-        SegmentRefusal::NoMemory
-    }
-}
-
-impl<T: Drop> From<AllocFailed<T>> for SegmentRefusal {
-    ghost from_gives = { λ _ e. e ≡ IsNoMemory };
-
-    fn from(_: AllocFailed<T>) -> Self {
         SegmentRefusal::NoMemory
     }
 }

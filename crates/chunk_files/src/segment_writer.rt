@@ -1,17 +1,15 @@
 ghost use Rattle.std.specs.Prelude.{◌≡◌, ◌↔◌, ◌+◌, ◌<◌, ◌∷◌, ◌++◌, ℕ, List, length, IsTrue, IfOk, OnOk, OnErr, Err, ◌≤◌, ◌^◌};
 ghost use Rattle.wire_bytes.specs.Written.{uvarint_text};
 ghost use Rattle.wire_bytes.specs.Crc.{crc};
-ghost use Rattle.chunk_files.specs.Chunk.{IsChunk, IsPlace, header, frame_text, greatest};
+ghost use Rattle.chunk_files.specs.Chunk.{IsChunk, IsPlace, header, frame_text};
+ghost use Rattle.chunk_files.specs.Layout.{greatest};
 
 use crate::SegmentRefusal;
-use crate::reading::{MAGIC, VERSION, XOR};
+use crate::layout::{GREATEST, MAGIC, VERSION, XOR};
 use list_core::NoMemory;
 use std::alloc::Global;
 use std::marker::Model;
 use wire_bytes::{Blob, crc_of, put_bytes, put_u8, put_u32, put_uvarint};
-
-/// The greatest length of a segment.
-const GREATEST: usize = 67_108_864;
 
 /// Writes chunks one after another behind a header.
 #[derive(Drop)]
@@ -48,7 +46,7 @@ fn size_of_length(count: usize) -> usize
     }
 }
 
-/// Whether a chunk of so many bytes of data fits behind as many bytes.
+/// Whether a chunk of this data fits behind `filled` bytes.
 fn fits(filled: usize, content: &[u8]) -> bool
     requires { filled ≤ greatest }
     ensures { IsTrue result ↔ (filled + length (frame_text content.now) ≤ greatest) }
@@ -89,8 +87,10 @@ impl SegmentWriter {
         ensures ok { OnOk result (self.new ≡ self.old ++ frame_text bytes.now) }
         ensures placed { IfOk result (λ offset. IsPlace self.new offset bytes.now) }
         // chunks that were appended before still stand
-        ensures kept { OnOk result ((place : ℕ) (content : List ℕ) → IsPlace self.old place content → IsPlace self.new place content) }
-        ensures full { (result ≡ Err SegmentRefusal.Full) ↔ (greatest < length self.old + length (frame_text bytes.now)) }
+        ensures kept { OnOk result ((place : ℕ) (content : List ℕ)
+            → IsPlace self.old place content → IsPlace self.new place content) }
+        ensures full { (result ≡ Err SegmentRefusal.Full)
+            ↔ (greatest < length self.old + length (frame_text bytes.now)) }
         ensures err { OnErr result (self.new ≡ self.old) }
     {
         let filled = self.bytes.len();

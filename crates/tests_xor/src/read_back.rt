@@ -42,7 +42,7 @@ pub(crate) fn print_widths(rt: &HostRuntime) -> io::Result<()> {
     println!(rt; "changes of each width that are read back: {count}")
 }
 
-/// Prints how often a change of a step in 24 bits and a window that is told are read back, behind so many bits of a word.
+/// Prints how often a change of a step in 24 bits and a window that is set anew are read back, at each place of a word.
 pub(crate) fn print_places(rt: &HostRuntime) -> io::Result<()> {
     let mut count = 0u32;
     for time in 1..40 {

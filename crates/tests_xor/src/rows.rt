@@ -1,3 +1,4 @@
+use crate::segments::{print_chunk_at, print_front, print_segment};
 use label_sets::{Sample, SampleList};
 use std::alloc::{AllocError, Global};
 use std::io;
@@ -10,9 +11,16 @@ pub(crate) fn print_row(rt: &HostRuntime, row: &str) -> io::Result<()> {
     }
     print!(rt; "{row} ->")?;
     let (kind, text) = row.split_once(' ').unwrap_or((row, ""));
-    if kind == "encode" {
-        return print_encoded(rt, samples_of(rt.alloc(), text)?.as_slice());
+    match kind {
+        "encode" => print_encoded(rt, samples_of(rt.alloc(), text)?.as_slice()),
+        "chunk" => print_chunk_at(rt, text),
+        "front" => print_front(rt, text),
+        "segment" => print_segment(rt, text),
+        _ => print_decoded(rt, kind, text),
     }
+}
+
+fn print_decoded(rt: &HostRuntime, kind: &str, text: &str) -> io::Result<()> {
     match hex::decode(rt.alloc(), text) {
         Ok(bytes) if kind == "stored" => print_read(rt, decode_stored(rt.alloc(), &bytes)),
         Ok(bytes) => print_read(rt, decode(rt.alloc(), &bytes)),

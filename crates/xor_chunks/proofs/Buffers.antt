@@ -2,22 +2,16 @@
 use Rattle.std.proofs.Common.{◌≡◌, ℕ, ◌+◌, ◌-◌, ◌*◌, ◌/◌, ◌%◌, ◌^◌, ◌<◌, ◌≤◌, Bool, false, List, [], ◌∷◌, ◌++◌, length, get_or, take, drop, refl, sym, ap, subst, ◌∙◌, append_assoc, arith, inl, inr, ◌⊎◌, length-append, bit_or}
 use Rattle.std.specs.Prelude.{replicate}
 use Rattle.std.specs.Int.{from_be_bytes, w64}
-use Rattle.std.proofs.lemmas.List.{take_at, take-append-drop, take-take, append-nil, length-take-le, get_or-take, get_or_past, length-take, replicate-append-replicate, take_rest}
+use Rattle.std.proofs.lemmas.List.{take_at, take-append-drop, take-take, append-nil, length-take-le, get_or-take, replicate-append-replicate, take_rest}
 use Rattle.std.proofs.lemmas.Bool.{cases_lt}
 use Rattle.std.proofs.lemmas.List.Concat.{flat_map-append}
 use Rattle.std.proofs.lemmas.Nat.{pow_pos, pow-add, shr-shr, shl-shr, shr_high, mod_low, mod-pow-add, shr_split, shr_below, shl_whole, shl_below, or_shifted}
 use Rattle.std.proofs.Math.Nat.{mod-eq_of_lt}
 use Rattle.reading_core.specs.Grammar.{IsBytes}
+use Rattle.reading_core.proofs.Fronts.{IsBytes-take}
 use Rattle.xor_chunks.specs.Bits.{bits_of, number_of, bits_in}
 use Rattle.xor_chunks.specs.Buffer.{top, IsBuffer, buffered, front}
 use Rattle.xor_chunks.proofs.BitLists.{length-bits_of, number_of-bits_of, bits_of-high, bits_of-mod, bits_of-append, bits_of-zero, bits_of-from_be_bytes, length-bits_in}
-
-IsBytes-take : (n : ℕ) (bytes : List ℕ) → IsBytes bytes → IsBytes (take n bytes)
-IsBytes-take n bytes are i =
-    elim (cases_lt i n) [
-      | inl lt ↦ rw (get_or-take n bytes i 0 lt) (are i)
-      | inr le ↦ rw (get_or_past (take n bytes) i 0 (omega (arith, length-take n bytes))) (omega arith)
-    ]
 
 -- the bits that wait, as a number
 pub high_is : (word count : ℕ) → IsBuffer word count → word ≡ word / 2 ^ (64 - count) * 2 ^ (64 - count)

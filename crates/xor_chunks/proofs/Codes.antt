@@ -1,5 +1,5 @@
 -- What the writer puts, by its rows.
-use Rattle.std.proofs.Common.{◌≡◌, ℕ, ◌+◌, ◌-◌, ◌*◌, ◌/◌, ◌%◌, ◌^◌, ◌<◌, Bool, true, false, List, ◌++◌, length, refl, sym, ap, subst, ◌∙◌, append_assoc, arith, ℤ, pos, ◌-ℤ◌, bit_or, bit_and, bit_xor}
+use Rattle.std.proofs.Common.{◌≡◌, ℕ, ◌+◌, ◌-◌, ◌*◌, ◌/◌, ◌%◌, ◌^◌, ◌<◌, Bool, true, false, List, ◌++◌, length, refl, sym, ap, subst, ◌∙◌, append_assoc, arith, ℤ, pos, bit_or, bit_and}
 use Rattle.std.specs.Int.{cast_unsigned, w64}
 use Rattle.std.specs.Ordering.{int_eq}
 use Rattle.std.specs.Prelude.{FitsSigned}
@@ -7,13 +7,11 @@ use Rattle.std.proofs.lemmas.Int.{ints}
 use Rattle.std.proofs.lemmas.Bool.{false_from_ne_true, eq-eqb, ne_eqb}
 use Rattle.std.proofs.lemmas.Bool.Decides.{Decides-int_eq}
 use Rattle.std.proofs.lemmas.Nat.{pow-add, shl_whole, or_shifted, mod_below, pow_pos, mul-le}
-use Rattle.label_sets.specs.declared.sample.Sample.{Sample}
-use Rattle.xor_chunks.specs.declared.put.Put.{Put}
-use Rattle.xor_chunks.specs.declared.setting.Setting.{Setting}
-use Rattle.xor_chunks.specs.declared.setting.Setting.TheVariants.{Unset, Set}
+use Rattle.xor_chunks.specs.declared.window_setting.WindowSetting.{WindowSetting}
+use Rattle.xor_chunks.specs.declared.window_setting.WindowSetting.TheVariants.{Unset, Set}
 use Rattle.xor_chunks.specs.Window.{Window}
 use Rattle.xor_chunks.specs.Bits.{bits_of}
-use Rattle.xor_chunks.specs.Written.{fits_field, change_bits, reused, value_bits, window_after, window_round, trail, next_bits}
+use Rattle.xor_chunks.specs.Written.{fits_field, change_bits, reused, value_bits, window_after, window_round, trail}
 use Rattle.xor_chunks.proofs.BitLists.{length-bits_of, bits_of-mod}
 use Rattle.xor_chunks.proofs.Buffers.{bits_of-joined}
 use Rattle.xor_chunks.proofs.Takes.{masked}
@@ -79,30 +77,23 @@ pub put_two : (new between old code middle part tail value : List Bool) → new 
 put_two new between old code middle part tail value n a b e =
     n ∙ ap (λ (x : List Bool). x ++ tail) (put_one between old code middle part part a b refl) ∙ append_assoc (old ++ code) part tail ∙ ap (λ (x : List Bool). old ++ code ++ x) e
 
-pub value_same : (window : Setting) (change : ℕ) → change ≡ 0 → (bits_of 1 0 ≡ value_bits window change) × (window ≡ window_after window change)
+pub value_same : (window : WindowSetting) (change : ℕ) → change ≡ 0 → (bits_of 1 0 ≡ value_bits window change) × (window ≡ window_after window change)
 unfolding value_bits window_after bits_of
 value_same window change e = (rw (eq-eqb change 0 e) refl, rw (eq-eqb change 0 e) refl)
 
-pub value_within : (window : Setting) (set : Window) (change : ℕ) → (change ≡ 0 → ⊥) → reused window change ≡ Set set
-    → (bits_of 2 2 ++ bits_of set.width (change / 2 ^ trail set) ≡ value_bits window change) × (◌≡◌ {A = Setting} (Set set) (window_after window change))
+pub value_within : (window : WindowSetting) (set : Window) (change : ℕ) → (change ≡ 0 → ⊥) → reused window change ≡ Set set
+    → (bits_of 2 2 ++ bits_of set.width (change / 2 ^ trail set) ≡ value_bits window change) × (◌≡◌ {A = WindowSetting} (Set set) (window_after window change))
 unfolding value_bits window_after bits_of
 value_within window set change some e = (rw (ne_eqb change 0 some, e) refl, rw (ne_eqb change 0 some, e) refl)
 
-pub value_opens : (window : Setting) (set : Window) (change : ℕ) → (change ≡ 0 → ⊥) → reused window change ≡ Unset → set ≡ window_round change
-    → (((bits_of 2 3 ++ bits_of 5 set.lead) ++ bits_of 6 set.width) ++ bits_of set.width (change / 2 ^ trail set) ≡ value_bits window change) × (◌≡◌ {A = Setting} (Set set) (window_after window change))
+pub value_opens : (window : WindowSetting) (set : Window) (change : ℕ) → (change ≡ 0 → ⊥) → reused window change ≡ Unset → set ≡ window_round change
+    → (((bits_of 2 3 ++ bits_of 5 set.lead) ++ bits_of 6 set.width) ++ bits_of set.width (change / 2 ^ trail set) ≡ value_bits window change) × (◌≡◌ {A = WindowSetting} (Set set) (window_after window change))
 unfolding value_bits window_after bits_of
 value_opens window set change some e round = (rw (ne_eqb change 0 some, e, round) refl, rw (ne_eqb change 0 some, e, round) refl)
 
-pub is_unset : (s : Setting) → ((w : Window) → s ≡ Set w → ⊥) → s ≡ Unset
+pub is_unset : (s : WindowSetting) → ((w : Window) → s ≡ Set w → ⊥) → s ≡ Unset
 is_unset Unset h = refl
 is_unset (Set w) h = absurd (h w refl)
-
--- the next sample
-pub put_both : (new between old code : List Bool) (put : Put) (s : Sample) (change : ℤ) → between ++ code ≡ old ++ change_bits change → change ≡ (s.time -ℤ put.time) -ℤ put.delta → new ≡ between ++ code ++ value_bits put.window (bit_xor put.pattern s.pattern)
-    → new ≡ old ++ next_bits put s
-put_both new between old code put s change a e b =
-    let value = value_bits put.window (bit_xor put.pattern s.pattern) in
-    b ∙ ap (λ (x : List Bool). x ++ value) (a ∙ ap (λ z. old ++ change_bits z) e) ∙ append_assoc old (change_bits ((s.time -ℤ put.time) -ℤ put.delta)) value
 
 pub opened_head : (code one two three a b d : List Bool) → one ≡ code ++ a → two ≡ one ++ b → three ≡ two ++ d → three ≡ code ++ ((a ++ b) ++ d)
 opened_head code one two three a b d e f g =

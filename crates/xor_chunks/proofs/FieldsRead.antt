@@ -1,15 +1,15 @@
 -- The bits of a step and of a value: what is read is in the grammar, and what is in the grammar is read.
-use Rattle.std.proofs.Common.{◌≡◌, ℕ, zero, suc, ◌-◌, ◌^◌, ◌<◌, ◌≤◌, Bool, true, false, List, [], ◌∷◌, ◌++◌, Ok, refl, sym, ap, subst, ◌∙◌, append_assoc, arith, inl, inr, ℤ, pos}
+use Rattle.std.proofs.Common.{◌≡◌, ℕ, zero, suc, ◌-◌, ◌^◌, ◌<◌, ◌≤◌, Bool, true, false, List, [], ◌∷◌, ◌++◌, Ok, refl, sym, ap, subst, ◌∙◌, append_assoc, arith, inl, inr, ℤ}
 use Rattle.std.specs.Int.{cast_signed, w64}
+use Rattle.std.specs.Prelude.{Result}
 use Rattle.std.proofs.lemmas.Bool.{lt-ltb, le-ltb, cases_lt}
-use Rattle.reading_core.specs.Reading.{◌>>=◌}
-use Rattle.reading_core.proofs.Binds.{bind_ok, ok_is}
 use Rattle.xor_chunks.specs.declared.refusal.XorRefusal.{XorRefusal}
 use Rattle.xor_chunks.specs.Bits.{bits_of}
-use Rattle.xor_chunks.specs.Steps.{take_at, field_at, field_value, whole_field_at, change_at, value_at, within_at, opened_at}
-use Rattle.xor_chunks.specs.Window.{Window, width_of, changed, IsInside}
+use Rattle.xor_chunks.specs.Steps.{field_at, field_value, whole_field_at, change_at, value_at, within_at, opened_at}
+use Rattle.xor_chunks.specs.Window.{Window, width_of, IsInside}
 use Rattle.xor_chunks.specs.Grammar.{StandsFor, IsRow, IsLongRow, IsChange, unchanged, row_14, row_17, row_20, row_64, IsWithin, IsOpened, IsValue, same_pattern, in_window, opens}
-use Rattle.xor_chunks.proofs.Takes.{take_again, take_found}
+use Rattle.xor_chunks.proofs.Takes.{take_again, taken}
+use Rattle.xor_chunks.proofs.Bound.{OfValue, of_ok, of_err, of_weaker, of_bind}
 use Rattle.xor_chunks.proofs.BitLists.{bits_of-high}
 
 -- The bits begin with a text of the value, and these are left after it.
@@ -17,6 +17,10 @@ pub record HasText {V : Type 0} (IsText : List Bool → V → Type 0) (bits : Li
   pub text : List Bool
   pub is : IsText text value
   pub whole : bits ≡ text ++ after
+
+-- What a reading function gives of the bits, it gives of their front.
+abbrev pub Finds : {V : Type 0} → (List Bool → V → Type 0) → List Bool → Result (V × List Bool) XorRefusal → Type 0
+Finds IsText bits read = OfValue read (λ x. HasText IsText bits x.0 x.1)
 
 stands : (width field : ℕ) → StandsFor width field (field_value width field)
 stands width field =
@@ -29,33 +33,27 @@ stood_for : (width field : ℕ) (z : ℤ) → StandsFor width field z → field_
 stood_for width field z (inl h) = rw (le-ltb (2 ^ (width - 1)) field h.0) (sym h.1)
 stood_for width field z (inr h) = rw (lt-ltb (2 ^ (width - 1)) field h.0) (sym h.1)
 
-row_found : (front : List Bool) (width : ℕ) (bits : List Bool) (z : ℤ) (after : List Bool) → field_at width bits ≡ Ok (z, after) → HasText (IsRow front width) (front ++ bits) z after
+row_found : (front : List Bool) (width : ℕ) (bits : List Bool) → Finds (IsRow front width) (front ++ bits) (field_at width bits)
 unfolding field_at
-row_found front width bits z after e =
-    let x = bind_ok (take_at width bits) (λ f. Ok (field_value width f.0, f.1)) (z, after) e in
-    let same : ◌≡◌ {A = ℤ × List Bool} (field_value width x.0.0, x.0.1) (z, after) = ok_is {E = XorRefusal} _ _ x.2 in
-    let found = take_found width bits x.0.0 x.0.1 x.1 in
-    record {
-      text = front ++ bits_of width x.0.0;
-      is = record { field = x.0.0; fits = found.1; text = refl; value = subst (StandsFor width x.0.0) (ap (λ (y : ℤ × List Bool). y.0) same) (stands width x.0.0) };
-      whole = ap (λ (a : List Bool). front ++ a) (found.0 ∙ ap (λ (y : ℤ × List Bool). bits_of width x.0.0 ++ y.1) same) ∙ sym (append_assoc front (bits_of width x.0.0) after);
-    }
+row_found front width bits =
+    of_bind _ (taken width bits) (λ f t. of_ok (record {
+      text = front ++ bits_of width f.0;
+      is = record { field = f.0; fits = t.1; text = refl; value = stands width f.0 };
+      whole = ap (λ (a : List Bool). front ++ a) t.0 ∙ sym (append_assoc front (bits_of width f.0) f.1);
+    }))
 
 row_again : (width field : ℕ) (z : ℤ) (after : List Bool) → field < 2 ^ width → StandsFor width field z → field_at width (bits_of width field ++ after) ≡ Ok (z, after)
 unfolding field_at
 row_again width field z after fits stand = rw (take_again width field after fits) (ap (λ (y : ℤ). Ok (y, after)) (stood_for width field z stand))
 
-long_found : (front bits : List Bool) (z : ℤ) (after : List Bool) → whole_field_at bits ≡ Ok (z, after) → HasText (IsLongRow front) (front ++ bits) z after
+long_found : (front bits : List Bool) → Finds (IsLongRow front) (front ++ bits) (whole_field_at bits)
 unfolding whole_field_at
-long_found front bits z after e =
-    let x = bind_ok (take_at 64 bits) (λ f. Ok (cast_signed w64 f.0, f.1)) (z, after) e in
-    let same : ◌≡◌ {A = ℤ × List Bool} (cast_signed w64 x.0.0, x.0.1) (z, after) = ok_is {E = XorRefusal} _ _ x.2 in
-    let found = take_found 64 bits x.0.0 x.0.1 x.1 in
-    record {
-      text = front ++ bits_of 64 x.0.0;
-      is = record { field = x.0.0; fits = found.1; text = refl; value = sym (ap (λ (y : ℤ × List Bool). y.0) same) };
-      whole = ap (λ (a : List Bool). front ++ a) (found.0 ∙ ap (λ (y : ℤ × List Bool). bits_of 64 x.0.0 ++ y.1) same) ∙ sym (append_assoc front (bits_of 64 x.0.0) after);
-    }
+long_found front bits =
+    of_bind _ (taken 64 bits) (λ f t. of_ok (record {
+      text = front ++ bits_of 64 f.0;
+      is = record { field = f.0; fits = t.1; text = refl; value = refl };
+      whole = ap (λ (a : List Bool). front ++ a) t.0 ∙ sym (append_assoc front (bits_of 64 f.0) f.1);
+    }))
 
 long_again : (field : ℕ) (z : ℤ) (after : List Bool) → field < 2 ^ 64 → z ≡ cast_signed w64 field → whole_field_at (bits_of 64 field ++ after) ≡ Ok (z, after)
 unfolding whole_field_at
@@ -63,22 +61,20 @@ long_again field z after fits value = rw (take_again 64 field after fits) (ap (�
 
 -- ---- steps
 
-as_change : (IsOne : List Bool → ℤ → Type 0) (bits : List Bool) (z : ℤ) (after : List Bool) → ((text : List Bool) → IsOne text z → IsChange text z) → HasText IsOne bits z after → HasText IsChange bits z after
-as_change IsOne bits z after f h = record { text = h.text; is = f h.text h.is; whole = h.whole }
+as_change : (IsOne : List Bool → ℤ → Type 0) (bits : List Bool) (read : Result (ℤ × List Bool) XorRefusal) → ((text : List Bool) (z : ℤ) → IsOne text z → IsChange text z) → Finds IsOne bits read → Finds IsChange bits read
+as_change IsOne bits read f h = of_weaker (λ x t. record { text = t.text; is = f t.text x.0 t.is; whole = t.whole }) h
 
-pub change_found : (bits : List Bool) (z : ℤ) (after : List Bool) → change_at bits ≡ Ok (z, after) → HasText IsChange bits z after
+pub change_found : (bits : List Bool) → Finds IsChange bits (change_at bits)
 unfolding change_at
-change_found [] z after e = absurd cc
-change_found (false ∷ bits) z after e =
-    let both : ◌≡◌ {A = ℤ × List Bool} (pos 0, bits) (z, after) = ok_is {E = XorRefusal} _ _ e in
-    record { text = false ∷ []; is = unchanged refl (sym (ap (λ (y : ℤ × List Bool). y.0) both)); whole = ap (λ (y : ℤ × List Bool). false ∷ y.1) both }
-change_found (true ∷ []) z after e = absurd cc
-change_found (true ∷ false ∷ bits) z after e = as_change _ _ z after (λ text is. row_14 is) (row_found (true ∷ false ∷ []) 14 bits z after e)
-change_found (true ∷ true ∷ []) z after e = absurd cc
-change_found (true ∷ true ∷ false ∷ bits) z after e = as_change _ _ z after (λ text is. row_17 is) (row_found (true ∷ true ∷ false ∷ []) 17 bits z after e)
-change_found (true ∷ true ∷ true ∷ []) z after e = absurd cc
-change_found (true ∷ true ∷ true ∷ false ∷ bits) z after e = as_change _ _ z after (λ text is. row_20 is) (row_found (true ∷ true ∷ true ∷ false ∷ []) 20 bits z after e)
-change_found (true ∷ true ∷ true ∷ true ∷ bits) z after e = as_change _ _ z after (λ text is. row_64 is) (long_found (true ∷ true ∷ true ∷ true ∷ []) bits z after e)
+change_found [] = of_err
+change_found (false ∷ bits) = of_ok (record { text = false ∷ []; is = unchanged refl refl; whole = refl })
+change_found (true ∷ []) = of_err
+change_found (true ∷ false ∷ bits) = as_change _ _ (field_at 14 bits) (λ text z is. row_14 is) (row_found (true ∷ false ∷ []) 14 bits)
+change_found (true ∷ true ∷ []) = of_err
+change_found (true ∷ true ∷ false ∷ bits) = as_change _ _ (field_at 17 bits) (λ text z is. row_17 is) (row_found (true ∷ true ∷ false ∷ []) 17 bits)
+change_found (true ∷ true ∷ true ∷ []) = of_err
+change_found (true ∷ true ∷ true ∷ false ∷ bits) = as_change _ _ (field_at 20 bits) (λ text z is. row_20 is) (row_found (true ∷ true ∷ true ∷ false ∷ []) 20 bits)
+change_found (true ∷ true ∷ true ∷ true ∷ bits) = as_change _ _ (whole_field_at bits) (λ text z is. row_64 is) (long_found (true ∷ true ∷ true ∷ true ∷ []) bits)
 
 pub change_again : (text : List Bool) (z : ℤ) (after : List Bool) → IsChange text z → change_at (text ++ after) ≡ Ok (z, after)
 unfolding change_at
@@ -90,24 +86,14 @@ change_again text z after (row_64 r) = rw r.text (long_again r.field z after r.f
 
 -- ---- values
 
-within_same : (window : Window) (before : ℕ) (bits : List Bool) (pattern : ℕ) (next : Window) (after : List Bool) → within_at before window bits ≡ Ok ((pattern, next), after) → next ≡ window
+within_found : (window : Window) (before : ℕ) (bits : List Bool) → Finds (λ text x. (x.1 ≡ window) × (IsInside window → IsWithin window before text x.0)) bits (within_at before window bits)
 unfolding within_at
-within_same window before bits pattern next after e =
-    let x = bind_ok (take_at window.width bits) (λ f. Ok ((changed before window f.0, window), f.1)) ((pattern, next), after) e in
-    let same : ◌≡◌ {A = (ℕ × Window) × List Bool} ((changed before window x.0.0, window), x.0.1) ((pattern, next), after) = ok_is {E = XorRefusal} _ _ x.2 in
-    sym (ap (λ (y : (ℕ × Window) × List Bool). y.0.1) same)
-
-within_found : (window : Window) (before : ℕ) (bits : List Bool) (pattern : ℕ) (next : Window) (after : List Bool) → IsInside window → within_at before window bits ≡ Ok ((pattern, next), after) → HasText (IsWithin window before) bits pattern after
-unfolding within_at
-within_found window before bits pattern next after inside e =
-    let x = bind_ok (take_at window.width bits) (λ f. Ok ((changed before window f.0, window), f.1)) ((pattern, next), after) e in
-    let same : ◌≡◌ {A = (ℕ × Window) × List Bool} ((changed before window x.0.0, window), x.0.1) ((pattern, next), after) = ok_is {E = XorRefusal} _ _ x.2 in
-    let found = take_found window.width bits x.0.0 x.0.1 x.1 in
-    record {
-      text = bits_of window.width x.0.0;
-      is = record { field = x.0.0; fits = found.1; text = refl; value = sym (ap (λ (y : (ℕ × Window) × List Bool). y.0.0) same); inside = inside };
-      whole = found.0 ∙ ap (λ (y : (ℕ × Window) × List Bool). bits_of window.width x.0.0 ++ y.1) same;
-    }
+within_found window before bits =
+    of_bind _ (taken window.width bits) (λ f t. of_ok (record {
+      text = bits_of window.width f.0;
+      is = (refl, λ inside. record { field = f.0; fits = t.1; text = refl; value = refl; inside = inside });
+      whole = t.0;
+    }))
 
 within_again : (window : Window) (before : ℕ) (text : List Bool) (pattern : ℕ) (after : List Bool) → IsWithin window before text pattern → within_at before window (text ++ after) ≡ Ok ((pattern, window), after)
 unfolding within_at
@@ -135,23 +121,21 @@ three_parts bits a b c d more others after p q r e =
     p ∙ ap (λ (x : List Bool). a ++ x) (q ∙ ap (λ (x : List Bool). x ++ others) (sym e) ∙ ap (λ (x : List Bool). b ++ x) r)
     ∙ sym (append_assoc a b (d ++ after)) ∙ sym (append_assoc (a ++ b) d after)
 
-opened_found : (before : ℕ) (bits : List Bool) (pattern : ℕ) (window : Window) (after : List Bool) → IsInside window → opened_at before bits ≡ Ok ((pattern, window), after) → HasText (λ text p. IsOpened before text p window) bits pattern after
-unfolding opened_at within_at
-opened_found before bits pattern window after inside e =
-    let x = bind_ok (take_at 5 bits) (λ lead. take_at 6 lead.1 >>= λ width. within_at before (record { lead = lead.0; width = width_of width.0 }) width.1) ((pattern, window), after) e in
-    let y = bind_ok (take_at 6 x.0.1) (λ width. within_at before (record { lead = x.0.0; width = width_of width.0 }) width.1) ((pattern, window), after) x.2 in
-    let told : Window = record { lead = x.0.0; width = width_of y.0.0 } in
-    let same : window ≡ told = within_same told before y.0.1 pattern window after y.2 in
-    let h = within_found told before y.0.1 pattern window after (subst IsInside same inside) y.2 in
-    let lead = take_found 5 bits x.0.0 x.0.1 x.1 in
-    let width = take_found 6 x.0.1 y.0.0 y.0.1 y.1 in
-    let sizes = width_some y.0.0 width.1 in
-    let found : HasText (λ text p. IsOpened before text p told) bits pattern after = record {
-      text = bits_of 5 x.0.0 ++ bits_of 6 (width_of y.0.0) ++ h.text;
-      is = record { lead = lead.1; some = sizes.0; few = sizes.1; within = h.text; text = refl; field = h.is };
-      whole = three_parts bits (bits_of 5 x.0.0) (bits_of 6 (width_of y.0.0)) (bits_of 6 y.0.0) h.text x.0.1 y.0.1 after lead.0 width.0 h.whole (width_text y.0.0);
-    } in
-    subst (λ (w : Window). HasText (λ text p. IsOpened before text p w) bits pattern after) (sym same) found
+opened_found : (before : ℕ) (bits : List Bool) → Finds (λ text x. IsInside x.1 → IsOpened before text x.0 x.1) bits (opened_at before bits)
+unfolding opened_at
+opened_found before bits =
+    of_bind _ (taken 5 bits) (λ lead l. of_bind _ (taken 6 lead.1) (λ width w. of_bind _ (taken (width_of width.0) width.1) (λ f t. of_ok (record {
+      text = bits_of 5 lead.0 ++ bits_of 6 (width_of width.0) ++ bits_of (width_of width.0) f.0;
+      is = λ inside. record {
+        lead = l.1;
+        some = (width_some width.0 w.1).0;
+        few = (width_some width.0 w.1).1;
+        within = bits_of (width_of width.0) f.0;
+        text = refl;
+        field = record { field = f.0; fits = t.1; text = refl; value = refl; inside = inside };
+      };
+      whole = three_parts bits (bits_of 5 lead.0) (bits_of 6 (width_of width.0)) (bits_of 6 width.0) _ lead.1 width.1 f.1 l.0 w.0 t.0 (width_text width.0);
+    }))))
 
 opened_again : (before : ℕ) (text : List Bool) (pattern : ℕ) (window : Window) (after : List Bool) → IsOpened before text pattern window → opened_at before (text ++ after) ≡ Ok ((pattern, window), after)
 unfolding opened_at within_at
@@ -167,24 +151,23 @@ opened_again before text pattern window after h =
     within_again told before h.within pattern after (subst (λ (v : Window). IsWithin v before h.within pattern) (sym same) h.field) ∙ ap (λ (v : Window). Ok ((pattern, v), after)) same in
     rw (parts, take_again 5 window.lead (bits_of 6 w.0 ++ (h.within ++ after)) h.lead, take_again 6 w.0 (h.within ++ after) w.1) field
 
-pub value_found : (window : Window) (before : ℕ) (bits : List Bool) (pattern : ℕ) (next : Window) (after : List Bool) → IsInside next → value_at before window bits ≡ Ok ((pattern, next), after) → HasText (λ text p. IsValue window before text p next) bits pattern after
+pub value_found : (window : Window) (before : ℕ) (bits : List Bool) → Finds (λ text x. IsInside x.1 → IsValue window before text x.0 x.1) bits (value_at before window bits)
 unfolding value_at
-value_found window before [] pattern next after inside e = absurd cc
-value_found window before (false ∷ bits) pattern next after inside e =
-    let both : ◌≡◌ {A = (ℕ × Window) × List Bool} ((before, window), bits) ((pattern, next), after) = ok_is {E = XorRefusal} _ _ e in
-    record {
-      text = false ∷ [];
-      is = same_pattern refl (sym (ap (λ (y : (ℕ × Window) × List Bool). y.0.0) both)) (sym (ap (λ (y : (ℕ × Window) × List Bool). y.0.1) both));
-      whole = ap (λ (y : (ℕ × Window) × List Bool). false ∷ y.1) both;
-    }
-value_found window before (true ∷ []) pattern next after inside e = absurd cc
-value_found window before (true ∷ false ∷ bits) pattern next after inside e =
-    let same : next ≡ window = within_same window before bits pattern next after e in
-    let h = within_found window before bits pattern next after (subst IsInside same inside) e in
-    record { text = true ∷ false ∷ h.text; is = in_window h.text refl same h.is; whole = ap (λ (a : List Bool). true ∷ false ∷ a) h.whole }
-value_found window before (true ∷ true ∷ bits) pattern next after inside e =
-    let h = opened_found before bits pattern next after inside e in
-    record { text = true ∷ true ∷ h.text; is = opens h.text refl h.is; whole = ap (λ (a : List Bool). true ∷ true ∷ a) h.whole }
+value_found window before [] = of_err
+value_found window before (false ∷ bits) = of_ok (record { text = false ∷ []; is = λ _. same_pattern refl refl refl; whole = refl })
+value_found window before (true ∷ []) = of_err
+value_found window before (true ∷ false ∷ bits) =
+    of_weaker (λ x h. record {
+      text = true ∷ false ∷ h.text;
+      is = λ inside. in_window h.text refl h.is.0 (h.is.1 (subst IsInside h.is.0 inside));
+      whole = ap (λ (a : List Bool). true ∷ false ∷ a) h.whole;
+    }) (within_found window before bits)
+value_found window before (true ∷ true ∷ bits) =
+    of_weaker (λ x h. record {
+      text = true ∷ true ∷ h.text;
+      is = λ inside. opens h.text refl (h.is inside);
+      whole = ap (λ (a : List Bool). true ∷ true ∷ a) h.whole;
+    }) (opened_found before bits)
 
 pub value_again : (window : Window) (before : ℕ) (text : List Bool) (pattern : ℕ) (next : Window) (after : List Bool) → IsValue window before text pattern next → value_at before window (text ++ after) ≡ Ok ((pattern, next), after)
 unfolding value_at

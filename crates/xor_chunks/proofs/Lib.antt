@@ -1,3 +1,5 @@
+pub mod Bound
+pub mod Ascending
 pub mod BitLists
 pub mod Buffers
 pub mod Crossings
@@ -11,7 +13,6 @@ pub mod Codes
 pub mod Zeros
 pub mod PutLoops
 pub mod PutTexts
-pub mod Rising
 pub mod ValuesWritten
 pub mod SamplesWritten
 pub mod FieldsRead

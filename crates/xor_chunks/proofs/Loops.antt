@@ -1,7 +1,7 @@
 -- Samples read one after another.
-use Rattle.std.proofs.Common.{◌≡◌, ℕ, zero, suc, ◌+◌, ◌-◌, ◌^◌, ◌==◌, min, false, length, ℤ, pos, ◌<◌, ◌≤◌, Bool, List, [], ◌∷◌, ◌++◌, Result, Ok, Err, refl, sym, ap, ◌∙◌, append_assoc, arith}
+use Rattle.std.proofs.Common.{◌≡◌, ℕ, zero, suc, ◌+◌, ◌-◌, ◌^◌, ◌==◌, min, length, ℤ, pos, ◌<◌, ◌≤◌, Bool, List, [], ◌∷◌, ◌++◌, Result, Ok, Err, refl, sym, ap, ◌∙◌, append_assoc, arith}
 use Rattle.std.proofs.lemmas.List.{append-nil, nil_from_length, length-append}
-use Rattle.std.proofs.lemmas.Bool.{lt-leb, le-leb}
+use Rattle.std.proofs.lemmas.Bool.{le-leb}
 use Rattle.std.proofs.Math.Nat.{mod-eq_of_lt}
 use Rattle.xor_chunks.specs.Bits.{bits_of, bits_in, number_of}
 use Rattle.xor_chunks.proofs.BitLists.{length-bits_of, number_of-bits_of}
@@ -62,15 +62,9 @@ rest_steps front more (suc count) gap change first second bytes after reader bit
 
 -- ---- what is left
 
-pub nothing_left : (most left : ℕ) (bits : List Bool) → left ≡ min (length bits) (2 ^ 64 - 1) → most < left → most ≤ 64 → false ≡ is_filling most bits
-nothing_left most left bits left-is more few = rw (lt-leb (length bits) most (omega arith)) refl
-
 pub all_left : (most left number : ℕ) (bits after : List Bool) → left ≡ min (length bits) (2 ^ 64 - 1) → left ≤ most → most ≤ 64 → bits ≡ bits_of left number ++ after → number < 2 ^ left → (number == 0) ≡ is_filling most bits
 all_left most left number bits after left-is le few parts lt =
     let len : length bits ≡ left = omega arith in
     let none : after ≡ [] = nil_from_length after (omega (arith, ap length parts, length-append (bits_of left number) after, length-bits_of left number)) in
     let value : number_of bits ≡ number = ap number_of (parts ∙ ap (λ (a : List Bool). bits_of left number ++ a) none ∙ append-nil (bits_of left number)) ∙ number_of-bits_of left number ∙ mod-eq_of_lt lt in
     rw (le-leb (length bits) most (omega arith), value) refl
-
-pub not_all_left : (most left : ℕ) (bits : List Bool) → left ≡ min (length bits) (2 ^ 64 - 1) → left ≤ most → most ≤ 64 → length bits < left → ⊥
-not_all_left most left bits left-is le few short = omega arith

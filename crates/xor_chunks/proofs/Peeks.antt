@@ -14,7 +14,7 @@ use Rattle.xor_chunks.specs.Steps.{take_at, behind, field_behind, field_value, c
 use Rattle.xor_chunks.proofs.BitLists.{length-bits_of}
 use Rattle.xor_chunks.proofs.Buffers.{shl_cut, front-joined}
 use Rattle.xor_chunks.proofs.Takes.{take_again, take_found, take_cases, field_found, field_short, front-nil, front-cons, front-lt}
-use Rattle.xor_chunks.proofs.Values.{take_split, take_split_short, same_found, same_short, within_found, within_short, opened_found, opened_short}
+use Rattle.xor_chunks.proofs.Values.{take_split, take_split_short, value_same, value_10, opened_found, opened_short}
 
 -- ---- the bits behind others in the word
 
@@ -84,19 +84,19 @@ behind_none {Y = Y} read bits =
 
 pub same_behind : (pattern n : ℕ) (window : Window) (known : ℕ) (bits after : List Bool) → front 1 (drop known bits) ≡ 0 → take_at (known + 1) bits ≡ Ok (n, after) → behind known (value_at pattern window) bits ≡ Ok ((pattern, window), after)
 same_behind pattern n window known bits after e t =
-    behind_found (value_at pattern window) known 1 n bits after (Ok ((pattern, window), after)) t (λ middle same one. same_found pattern (n % 2 ^ 1) window middle middle after refl (ap (front 1) same ∙ e) one)
+    behind_found (value_at pattern window) known 1 n bits after (Ok ((pattern, window), after)) t (λ middle same one. value_same pattern window middle (ap (front 1) same ∙ e) ∙ rw one refl)
 
 pub same_lacks : (pattern : ℕ) (window : Window) (known : ℕ) (bits : List Bool) (refusal : XorRefusal) → front 1 (drop known bits) ≡ 0 → take_at (known + 1) bits ≡ Err refusal → behind known (value_at pattern window) bits ≡ Err refusal
 same_lacks pattern window known bits refusal e t =
-    behind_short (value_at pattern window) known 1 bits refusal t (λ middle same one. same_short pattern window middle middle refusal refl (ap (front 1) same ∙ e) one)
+    behind_short (value_at pattern window) known 1 bits refusal t (λ middle same one. value_same pattern window middle (ap (front 1) same ∙ e) ∙ rw one refl)
 
 pub within_behind : (pattern n : ℕ) (window : Window) (known : ℕ) (bits after : List Bool) → front 2 (drop known bits) ≡ 2 → take_at (known + 2) bits ≡ Ok (n, after) → behind known (value_at pattern window) bits ≡ within_at pattern window after
 within_behind pattern n window known bits after e t =
-    behind_found (value_at pattern window) known 2 n bits after (within_at pattern window after) t (λ middle same two. within_found pattern (n % 2 ^ 2) window middle middle after refl (ap (front 2) same ∙ e) two)
+    behind_found (value_at pattern window) known 2 n bits after (within_at pattern window after) t (λ middle same two. value_10 pattern window middle (ap (front 2) same ∙ e) ∙ rw two refl)
 
 pub within_lacks : (pattern : ℕ) (window : Window) (known : ℕ) (bits : List Bool) (refusal : XorRefusal) → front 2 (drop known bits) ≡ 2 → take_at (known + 2) bits ≡ Err refusal → behind known (value_at pattern window) bits ≡ Err refusal
 within_lacks pattern window known bits refusal e t =
-    behind_short (value_at pattern window) known 2 bits refusal t (λ middle same two. within_short pattern window middle middle refusal refl (ap (front 2) same ∙ e) two)
+    behind_short (value_at pattern window) known 2 bits refusal t (λ middle same two. value_10 pattern window middle (ap (front 2) same ∙ e) ∙ rw two refl)
 
 told_low : (n : ℕ) → told_by (n % 2 ^ 13) ≡ told_by n
 told_low n =
@@ -107,11 +107,11 @@ told_low n =
 pub opened_behind : (pattern n : ℕ) (window : Window) (known : ℕ) (bits after : List Bool) → front 2 (drop known bits) ≡ 3 → take_at (known + 13) bits ≡ Ok (n, after) → behind known (value_at pattern window) bits ≡ within_at pattern (told_by n) after
 opened_behind pattern n window known bits after e t =
     behind_found (value_at pattern window) known 13 n bits after (within_at pattern (told_by n) after) t
-    (λ middle same head. opened_found pattern (n % 2 ^ 13) window middle middle after refl (ap (front 2) same ∙ e) head ∙ ap (λ (w : Window). within_at pattern w after) (told_low n))
+    (λ middle same head. opened_found pattern (n % 2 ^ 13) window middle after (ap (front 2) same ∙ e) head ∙ ap (λ (w : Window). within_at pattern w after) (told_low n))
 
 pub opened_lacks : (pattern : ℕ) (window : Window) (known : ℕ) (bits : List Bool) (refusal : XorRefusal) → front 2 (drop known bits) ≡ 3 → take_at (known + 13) bits ≡ Err refusal → behind known (value_at pattern window) bits ≡ Err refusal
 opened_lacks pattern window known bits refusal e t =
-    behind_short (value_at pattern window) known 13 bits refusal t (λ middle same head. opened_short pattern window middle middle refusal refl (ap (front 2) same ∙ e) head)
+    behind_short (value_at pattern window) known 13 bits refusal t (λ middle same head. opened_short pattern window middle refusal (ap (front 2) same ∙ e) head)
 
 -- where no other word fits, the bits tell a window
 pub eleven : (head : ℕ) (bits : List Bool) → head < 2 ^ 64 → head / 2 ^ 62 ≡ front 2 bits → (head / 2 ^ 63 ≡ 0 → ⊥) → (head / 2 ^ 62 ≡ 2 → ⊥) → front 2 bits ≡ 3

@@ -1,17 +1,21 @@
 -- Samples of one chunk can be put one after another, and what is put is their text.
-use Rattle.std.proofs.Common.{◌≡◌, ℕ, suc, ◌-◌, ◌^◌, ◌<◌, Bool, List, [], ◌∷◌, ◌++◌, length, get_or, take, drop, refl, sym, ap, subst, ◌∙◌, append_assoc, arith, ℤ, pos, negsuc, ◌-ℤ◌, ◌≤ℤ◌, ◌<ℤ◌}
-use Rattle.std.specs.Prelude.{Result, Ok, Err, IfOk, unsigned_abs, bit_xor, FitsSigned}
+use Rattle.std.proofs.Common.{◌≡◌, ℕ, suc, ◌-◌, ◌^◌, ◌<◌, Bool, List, [], ◌∷◌, ◌++◌, length, map, All, Less, get_or, take, drop, refl, sym, ap, subst, ◌∙◌, append_assoc, arith, ℤ, pos, negsuc, ◌-ℤ◌, ◌≤ℤ◌, ◌<ℤ◌}
+use Rattle.std.specs.Ordering.{int_cmp}
+use Rattle.std.specs.List.Sorted.{IsStrictlySortedBy}
+use Rattle.std.proofs.lemmas.Cmp.{int_ranked}
+use Rattle.std.specs.Prelude.{unsigned_abs, bit_xor, FitsSigned}
 use Rattle.std.specs.Int.{cast_signed, cast_unsigned, w16, w64, to_be_bytes}
 use Rattle.std.proofs.lemmas.Int.{ints, to_z-of_z}
 use Rattle.std.proofs.lemmas.List.{append-nil, take_all}
+use Rattle.std.proofs.lemmas.List.Elements.{All-head, All-tail}
 use Rattle.std.proofs.lemmas.List.Concat.{flat_map-append}
 use Rattle.wire_bytes.specs.Written.{uvarint_text, varint_text}
 use Rattle.label_sets.specs.declared.sample.Sample.{Sample}
-use Rattle.xor_chunks.specs.declared.put.Put.{Put}
-use Rattle.xor_chunks.specs.declared.setting.Setting.{Setting}
-use Rattle.xor_chunks.specs.declared.setting.Setting.TheVariants.{Unset}
+use Rattle.xor_chunks.specs.declared.last_written.LastWritten.{LastWritten}
+use Rattle.xor_chunks.specs.declared.window_setting.WindowSetting.{WindowSetting}
+use Rattle.xor_chunks.specs.declared.window_setting.WindowSetting.TheVariants.{Unset}
 use Rattle.xor_chunks.specs.Bits.{bits_of, bits_in}
-use Rattle.xor_chunks.specs.Written.{CanFollow, AreToCome, AreRising, AreOfChunk, put_after, put_first, value_bits, window_after, others_bits, rest_bits, written}
+use Rattle.xor_chunks.specs.Written.{IsChunkTime, CanFollow, AreToCome, AreOfChunk, put_after, put_first, value_bits, window_after, others_bits, rest_bits, written}
 use Rattle.xor_chunks.proofs.BitLists.{bits_in-bytes}
 
 record Apart (a b delta : ℤ) : Type 0 where
@@ -21,16 +25,19 @@ record Apart (a b delta : ℤ) : Type 0 where
 apart : (a b delta : ℤ) → negsuc (2 ^ 62 - 1) ≤ℤ a → b <ℤ pos (2 ^ 62) → a <ℤ b → delta ≡ b -ℤ a → Apart a b delta
 apart a b delta low high lt e = record { low = omega (arith, ints); high = omega (arith, ints) }
 
-pub to_come : (put : Put) (ss : List Sample) → negsuc (2 ^ 62 - 1) ≤ℤ put.time → pos 0 ≤ℤ put.delta → put.delta <ℤ pos (2 ^ 63) → AreRising put.time ss → AreToCome put ss
-to_come put [] from low high rising = tt
-to_come put (s ∷ ss) from low high rising =
-    let d = apart put.time s.time (s.time -ℤ put.time) from rising.1 rising.0 refl in (
-      record { rises = rising.0; low = from; high = rising.1; delta_low = low; delta_high = high },
-      to_come (put_after put s) ss (omega (arith, ints, rising.0, from)) d.low d.high rising.2,
+pub to_come : (put : LastWritten) (ss : List Sample) → negsuc (2 ^ 62 - 1) ≤ℤ put.time → pos 0 ≤ℤ put.delta → put.delta <ℤ pos (2 ^ 63) → IsStrictlySortedBy int_cmp (put.time ∷ map (λ (s : Sample). s.time) ss) → All (λ (s : Sample). IsChunkTime s.time) ss → AreToCome put ss
+unfolding IsStrictlySortedBy
+to_come put [] from low high ascend times = tt
+to_come put (s ∷ ss) from low high ascend times =
+    let later : put.time <ℤ s.time = int_ranked put.time s.time Less (sym ascend.0.0) in
+    let below : s.time <ℤ pos (2 ^ 62) = (All-head (λ (x : Sample). IsChunkTime x.time) s ss times).1 in
+    let d = apart put.time s.time (s.time -ℤ put.time) from below later refl in (
+      record { rises = later; low = from; high = below; delta_low = low; delta_high = high },
+      to_come (put_after put s) ss (omega (arith, ints, later, from)) d.low d.high ascend.1 (All-tail (λ (x : Sample). IsChunkTime x.time) s ss times),
     )
 
 pub chunk_to_come : (s : Sample) (ss : List Sample) → AreOfChunk (s ∷ ss) → AreToCome (put_first s) ss
-chunk_to_come s ss h = to_come (put_first s) ss (omega (arith, ints, h.rising.0)) (omega (arith, ints)) (omega (arith, ints)) h.rising.2
+chunk_to_come s ss h = to_come (put_first s) ss (All-head (λ (x : Sample). IsChunkTime x.time) s ss h.times).0 (omega (arith, ints)) (omega (arith, ints)) h.ascend (All-tail (λ (x : Sample). IsChunkTime x.time) s ss h.times)
 
 -- the bytes before the second sample
 pub head_bits : (count pattern : ℕ) (time a b d : List ℕ) → a ≡ [] ++ to_be_bytes w16 count → b ≡ a ++ time → d ≡ b ++ to_be_bytes w64 pattern → bits_in d ≡ bits_of 16 count ++ bits_in time ++ bits_of 64 pattern
@@ -48,7 +55,7 @@ pub gap_text : (a b : ℤ) (n : ℕ) → FitsSigned w64 a → FitsSigned w64 b �
 gap_text a b n fa fb e = let same = rw (to_z-of_z w64 a fa, to_z-of_z w64 b fb) at e in ap uvarint_text same
 
 -- what is known of the first two samples, as the code hands its numbers on
-pub second_put : (first second : Sample) (window : Setting) → FitsSigned w64 first.time → FitsSigned w64 second.time → CanFollow (put_first first) second → window ≡ window_after Unset (bit_xor first.pattern second.pattern)
+pub second_put : (first second : Sample) (window : WindowSetting) → FitsSigned w64 first.time → FitsSigned w64 second.time → CanFollow (put_first first) second → window ≡ window_after Unset (bit_xor first.pattern second.pattern)
     → record { time = cast_signed w64 (cast_unsigned w64 second.time); delta = cast_signed w64 (cast_unsigned w64 (cast_signed w64 (cast_unsigned w64 second.time) -ℤ cast_signed w64 (cast_unsigned w64 first.time))); pattern = second.pattern; window = window } ≡ put_after (put_first first) second
 second_put first second window f t h e =
     let d = apart first.time second.time (second.time -ℤ first.time) h.low h.high h.rises refl in
@@ -56,7 +63,7 @@ second_put first second window f t h e =
     rw (to_z-of_z w64 second.time t, to_z-of_z w64 first.time f, to_z-of_z w64 (second.time -ℤ first.time) fits, e) refl
 
 -- the bits after the first sample
-pub rest_put : (first second : Sample) (others : List Sample) (put : Put) (start after gap : List ℕ) (none begun more all : List Bool) → put ≡ put_after (put_first first) second → after ≡ start ++ gap → gap ≡ uvarint_text (unsigned_abs (second.time -ℤ first.time)) → begun ≡ bits_in after → none ≡ []
+pub rest_put : (first second : Sample) (others : List Sample) (put : LastWritten) (start after gap : List ℕ) (none begun more all : List Bool) → put ≡ put_after (put_first first) second → after ≡ start ++ gap → gap ≡ uvarint_text (unsigned_abs (second.time -ℤ first.time)) → begun ≡ bits_in after → none ≡ []
     → more ≡ begun ++ none ++ value_bits Unset (bit_xor first.pattern second.pattern) → all ≡ more ++ others_bits put others → all ≡ bits_in start ++ rest_bits (put_first first) (second ∷ others)
 rest_put first second others put start after gap none begun more all same a g b n p q =
     let value = value_bits Unset (bit_xor first.pattern second.pattern) in
@@ -64,15 +71,8 @@ rest_put first second others put start after gap none begun more all same a g b 
     let text = uvarint_text (unsigned_abs (second.time -ℤ first.time)) in
     let bytes : bits_in after ≡ bits_in start ++ bits_in text = ap bits_in (a ∙ ap (λ (x : List ℕ). start ++ x) g) ∙ flat_map-append (bits_of 8) start text in
     let here : begun ++ none ≡ bits_in start ++ bits_in text = ap (λ (x : List Bool). begun ++ x) n ∙ append-nil begun ∙ b ∙ bytes in
-    q ∙ ap (λ (s : Put). more ++ others_bits s others) same ∙ ap (λ (x : List Bool). x ++ rest) (p ∙ ap (λ (x : List Bool). x ++ value) here)
+    q ∙ ap (λ (s : LastWritten). more ++ others_bits s others) same ∙ ap (λ (x : List Bool). x ++ rest) (p ∙ ap (λ (x : List Bool). x ++ value) here)
     ∙ ap (λ (x : List Bool). x ++ rest) (append_assoc (bits_in start) (bits_in text) value) ∙ append_assoc (bits_in start) (bits_in text ++ value) rest
-
-pub ok_same : {E : Type 0} (r : Result (List Bool) E) (a b : List Bool) → a ≡ b → IfOk r (λ w. w ≡ a) → IfOk r (λ w. w ≡ b)
-ok_same (Ok w) a b e h = h ∙ e
-ok_same (Err x) a b e h = tt
-
-pub none_put : (first : Sample) (start : List ℕ) (all : List Bool) → all ≡ bits_in start → all ≡ bits_in start ++ rest_bits (put_first first) []
-none_put first start all e = e ∙ sym (append-nil (bits_in start))
 
 -- a list that is not empty
 pub parts : (ss : List Sample) (d : Sample) → 0 < length ss → ss ≡ get_or ss 0 d ∷ take (length ss - 1) (drop 1 ss)

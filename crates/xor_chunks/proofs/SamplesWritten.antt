@@ -1,22 +1,23 @@
 -- Samples that the writer puts one after another are in the grammar, and so is their whole text.
-use Rattle.std.proofs.Common.{◌≡◌, ℕ, zero, suc, ◌-◌, ◌%◌, ◌^◌, ◌<◌, ◌≤◌, Bool, false, List, [], ◌∷◌, ◌++◌, length, get_or, take, drop, refl, sym, ap, ◌∙◌, append_assoc, length-append, arith, ℤ, pos, negsuc, ◌-ℤ◌, ◌+ℤ◌, ◌≤ℤ◌, ◌<ℤ◌}
+use Rattle.std.proofs.Common.{◌≡◌, ℕ, zero, suc, ◌-◌, ◌%◌, ◌^◌, ◌<◌, ◌≤◌, Bool, false, List, [], ◌∷◌, ◌++◌, length, get_or, take, drop, refl, sym, ap, subst, ◌∙◌, append_assoc, length-append, arith, ℤ, pos, negsuc, ◌-ℤ◌, ◌+ℤ◌, ◌≤ℤ◌, ◌<ℤ◌}
 use Rattle.std.specs.Prelude.{bit_xor, unsigned_abs, replicate, FitsSigned}
-use Rattle.std.specs.List.{AllByRecursion}
 use Rattle.std.specs.Int.{w16, w64, byte_at, bytes_high_first, to_be_bytes}
 use Rattle.std.proofs.lemmas.Int.{ints}
-use Rattle.std.proofs.lemmas.List.{take_at, drop_at}
+use Rattle.std.proofs.lemmas.List.{take_at, drop_at, take_all}
+use Rattle.std.proofs.lemmas.List.Elements.{All-cons, All-head, All-tail}
 use Rattle.reading_core.specs.Grammar.{IsBytes}
 use Rattle.wire_bytes.specs.FieldTexts.{IsGroups}
 use Rattle.wire_bytes.specs.Fields.{zigzag}
 use Rattle.wire_bytes.specs.Written.{uvarint_text, varint_text}
 use Rattle.wire_bytes.proofs.GroupTexts.{uvarint_text_is, varint_text_is}
 use Rattle.reading_core.proofs.Fronts.{IsBytes-after}
+use Rattle.reading_core.proofs.SignedRanges.{pos-unsigned_abs}
 use Rattle.label_sets.specs.declared.sample.Sample.{Sample}
 use Rattle.xor_chunks.specs.State.{State}
-use Rattle.xor_chunks.specs.declared.put.Put.{Put}
+use Rattle.xor_chunks.specs.declared.last_written.LastWritten.{LastWritten}
 use Rattle.xor_chunks.specs.Bits.{bits_of, bits_in, filled}
-use Rattle.xor_chunks.specs.declared.setting.Setting.TheVariants.{Unset}
-use Rattle.xor_chunks.specs.Written.{CanFollow, AreToCome, AreOfChunk, put_after, put_first, change_bits, value_bits, window_after, next_bits, others_bits, rest_bits, written}
+use Rattle.xor_chunks.specs.declared.window_setting.WindowSetting.TheVariants.{Unset}
+use Rattle.xor_chunks.specs.Written.{CanFollow, IsChunkTime, AreToCome, AreOfChunk, ArePatterns, put_after, put_first, change_bits, value_bits, window_after, next_bits, others_bits, rest_bits, written}
 use Rattle.xor_chunks.specs.Grammar.{Follows, IsNext, AreOthers, AreRest, AreFromFirst, IsText}
 use Rattle.xor_chunks.proofs.BitLists.{length-bits_of, same_from_bits_of, bits_in-bytes}
 use Rattle.xor_chunks.proofs.PutTexts.{chunk_to_come}
@@ -60,12 +61,8 @@ bits_split (b ∷ front) (c ∷ bytes) more are front_are e =
 -- ---- samples
 
 -- the state where the writer knows this
-abbrev pub last_of : Put → State
+abbrev pub last_of : LastWritten → State
 last_of put = record { time = put.time; delta = unsigned_abs put.delta; pattern = put.pattern; window = seen put.window }
-
-abs_pos : (z : ℤ) → pos 0 ≤ℤ z → pos (unsigned_abs z) ≡ z
-abs_pos (pos n) h = refl
-abs_pos (negsuc n) h = absurd (omega (arith, ints, h))
 
 record Between (a b d : ℤ) : Type 0 where
   nonneg : pos 0 ≤ℤ (b -ℤ a)
@@ -77,17 +74,17 @@ record Between (a b d : ℤ) : Type 0 where
 between : (a b d : ℤ) → a <ℤ b → negsuc (2 ^ 62 - 1) ≤ℤ a → b <ℤ pos (2 ^ 62) → pos 0 ≤ℤ d → d <ℤ pos (2 ^ 63) → Between a b d
 between a b d lt low high d_low d_high =
     let nonneg : pos 0 ≤ℤ (b -ℤ a) = omega (arith, ints, lt) in
-    let step = abs_pos (b -ℤ a) nonneg in
-    let before = abs_pos d d_low in
+    let step = pos-unsigned_abs (b -ℤ a) nonneg in
+    let before = pos-unsigned_abs d d_low in
     record {
       nonneg = nonneg;
       fits = fits_both ((b -ℤ a) -ℤ d) (omega (arith, ints, lt, d_high)) (omega (arith, ints, low, high, d_low));
       small = omega (arith, ints, step, low, high);
       longer = omega (arith, ints, step, before);
-      follows = record { later = omega (arith, ints, step); rises = omega (arith, ints, step, lt); low = omega (arith, ints, low, lt); high = omega (arith, ints, high) };
+      follows = record { later = omega (arith, ints, step); rises = omega (arith, ints, step, lt); fits = fits_both b (omega (arith, ints, low, lt)) (omega (arith, ints, high)) };
     }
 
-next_written : (put : Put) (s : Sample) → CanFollow put s → IsSeen put.window → put.pattern < 2 ^ 64 → s.pattern < 2 ^ 64 → IsNext (last_of put) (next_bits put s) (last_of (put_after put s))
+next_written : (put : LastWritten) (s : Sample) → CanFollow put s → IsSeen put.window → put.pattern < 2 ^ 64 → s.pattern < 2 ^ 64 → IsNext (last_of put) (next_bits put s) (last_of (put_after put s))
 next_written put s h are b p =
     let t = between put.time s.time put.delta h.rises h.low h.high h.delta_low h.delta_high in
     record {
@@ -101,25 +98,34 @@ next_written put s h are b p =
       shows = value_written put.window put.pattern s.pattern are b p;
     }
 
--- each pattern is one of 64 bits
-abbrev pub ArePatterns : List Sample → Type 0
-ArePatterns ss = AllByRecursion (λ s. s.pattern < 2 ^ 64) ss
+first_pattern : (s : Sample) (ss : List Sample) → ArePatterns (s ∷ ss) → s.pattern < 2 ^ 64
+first_pattern s ss ps = All-head (λ (x : Sample). x.pattern < 2 ^ 64) s ss ps
 
-others_written : (put : Put) (ss : List Sample) → AreToCome put ss → IsSeen put.window → put.pattern < 2 ^ 64 → ArePatterns ss → AreOthers (last_of put) (others_bits put ss) ss
+other_patterns : (s : Sample) (ss : List Sample) → ArePatterns (s ∷ ss) → ArePatterns ss
+other_patterns s ss ps = All-tail (λ (x : Sample). x.pattern < 2 ^ 64) s ss ps
+
+-- the first sample's pattern, and those of the others, as the code hands them on
+pub all_patterns : (ss : List Sample) (d : Sample) → 0 < length ss → (get_or ss 0 d).pattern < 2 ^ 64 → ArePatterns (take (length ss - 1) (drop 1 ss)) → ArePatterns ss
+all_patterns [] d some p ps = absurd (omega arith)
+all_patterns (s ∷ ss) d some p ps = All-cons (λ (x : Sample). x.pattern < 2 ^ 64) s ss p (subst ArePatterns (take_all (suc (length ss) - 1) ss (omega arith)) ps)
+
+others_written : (put : LastWritten) (ss : List Sample) → AreToCome put ss → IsSeen put.window → put.pattern < 2 ^ 64 → ArePatterns ss → AreOthers (last_of put) (others_bits put ss) ss
 others_written put [] h are b ps = refl
-others_written put (s ∷ ss) h are b ps = (
-  last_of (put_after put s),
-  next_bits put s,
-  others_bits (put_after put s) ss,
-  refl,
-  next_written put s h.0 are b ps.0,
-  refl,
-  others_written (put_after put s) ss h.1 (kept_seen put.window put.pattern s.pattern are b ps.0) ps.0 ps.1,
-)
+others_written put (s ∷ ss) h are b ps =
+    let p = first_pattern s ss ps in (
+      last_of (put_after put s),
+      next_bits put s,
+      others_bits (put_after put s) ss,
+      refl,
+      next_written put s h.0 are b p,
+      refl,
+      others_written (put_after put s) ss h.1 (kept_seen put.window put.pattern s.pattern are b p) p (other_patterns s ss ps),
+    )
 
 rest_written : (s : Sample) (ss : List Sample) (bytes : List ℕ) (z : List Bool) → AreToCome (put_first s) ss → s.pattern < 2 ^ 64 → ArePatterns ss → IsBytes bytes → bits_in bytes ≡ rest_bits (put_first s) ss ++ z → AreRest s bytes ss z
 rest_written s [] bytes z h p ps are e = e
 rest_written s (t ∷ ss) bytes z h p ps are e =
+    let q = first_pattern t ss ps in
     let gap = unsigned_abs (t.time -ℤ s.time) in
     let text = uvarint_text gap in
     let value = value_bits Unset (bit_xor s.pattern t.pattern) in
@@ -136,15 +142,16 @@ rest_written s (t ∷ ss) bytes z h p ps are e =
       rest = rest;
       bits_are = split.2;
       follows = b.follows;
-      shows = value_written Unset s.pattern t.pattern tt p ps.0;
-      others_are = others_written (put_after (put_first s) t) ss h.1 (kept_seen Unset s.pattern t.pattern tt p ps.0) ps.0 ps.1;
+      shows = value_written Unset s.pattern t.pattern tt p q;
+      others_are = others_written (put_after (put_first s) t) ss h.1 (kept_seen Unset s.pattern t.pattern tt p q) q (other_patterns t ss ps);
     }
 
 first_written : (s : Sample) (ss : List Sample) (bytes : List ℕ) (z : List Bool) → AreOfChunk (s ∷ ss) → s.pattern < 2 ^ 64 → ArePatterns ss → IsBytes bytes
     → bits_in bytes ≡ bits_in (varint_text s.time) ++ (bits_of 64 s.pattern ++ (rest_bits (put_first s) ss ++ z)) → AreFromFirst bytes s ss z
 first_written s ss bytes z h p ps are e =
     let rest = rest_bits (put_first s) ss in
-    let fits = fits_both s.time (omega (arith, ints, h.rising.0)) (omega (arith, ints, h.rising.1)) in
+    let near = All-head (λ (x : Sample). IsChunkTime x.time) s ss h.times in
+    let fits = fits_both s.time (omega (arith, ints, near.0)) (omega (arith, ints, near.1)) in
     let is = varint_text_is s.time fits in
     let time = bits_split (varint_text s.time) bytes (bits_of 64 s.pattern ++ (rest ++ z)) are (groups_bytes (varint_text s.time) (zigzag s.time) is.groups) e in
     let are_after = IsBytes-after (varint_text s.time) time.0 bytes time.1 are in
@@ -175,6 +182,6 @@ text_written (s ∷ ss) bytes h ps are e =
       after = count.0;
       left = k;
       counted = (to_be_bytes w16 n, record { digits = refl; fits = h.few }, count.1);
-      samples_are = first_written s ss count.0 z h ps.0 ps.1 (IsBytes-after (to_be_bytes w16 n) count.0 bytes count.1 are) count.2;
+      samples_are = first_written s ss count.0 z h (first_pattern s ss ps) (other_patterns s ss ps) (IsBytes-after (to_be_bytes w16 n) count.0 bytes count.1 are) count.2;
       filling = filling_few (length (written (s ∷ ss)));
     }

@@ -1,19 +1,20 @@
 -- Taking bits in one piece or in two, and what the first bits tell.
-use Rattle.std.proofs.Common.{◌≡◌, ℕ, zero, suc, ◌+◌, ◌-◌, ◌*◌, ◌/◌, ◌%◌, ◌^◌, ◌<◌, ◌≤◌, Bool, true, false, cond, ltb, List, [], ◌∷◌, ◌++◌, length, take, drop, Result, Ok, Err, refl, sym, ap, subst, ◌∙◌, append_assoc, arith, inl, inr, ◌⊎◌, length-append, ℤ, pos}
+use Rattle.std.proofs.Common.{◌≡◌, ℕ, zero, suc, ◌+◌, ◌-◌, ◌*◌, ◌/◌, ◌%◌, ◌^◌, ◌<◌, ◌≤◌, Bool, true, false, cond, List, [], ◌∷◌, ◌++◌, length, take, drop, Result, Ok, Err, refl, sym, ap, subst, ◌∙◌, append_assoc, arith, inl, inr, ◌⊎◌, length-append, ℤ, pos}
 use Rattle.std.specs.Prelude.{replicate, FitsSigned, bit_and}
 use Rattle.std.specs.Int.{cast_signed, cast_unsigned, w64}
-use Rattle.std.proofs.lemmas.Bool.{lt-ltb, le-ltb, ltb-false, cases_lt}
+use Rattle.std.proofs.lemmas.Bool.{lt-ltb, le-ltb, cases_lt}
 use Rattle.std.proofs.lemmas.List.{take_at as take_first, drop_at, take-append-drop, take-append-le, length-take-le, replicate_more, take_all, length-replicate}
 use Rattle.std.proofs.lemmas.Nat.{shr_below, mod_below, pow_pos, one_shl, and_mask}
 use Rattle.std.proofs.lemmas.Int.{to_z-of_z}
 use Rattle.std.proofs.Math.Nat.{mod-eq_of_lt}
 use Rattle.reading_core.specs.Reading.{◌>>=◌}
-use Rattle.reading_core.proofs.Binds.{cond_ok, ok_is, err_is}
+use Rattle.reading_core.proofs.Binds.{err_is}
 use Rattle.xor_chunks.specs.declared.refusal.XorRefusal.{XorRefusal}
 use Rattle.xor_chunks.specs.declared.refusal.XorRefusal.TheVariants.{Short}
 use Rattle.xor_chunks.specs.Bits.{bits_of, number_of}
 use Rattle.xor_chunks.specs.Buffer.{front}
 use Rattle.xor_chunks.specs.Steps.{Reads, take_at, field_at, field_value, field_behind, whole_field_at, change_at}
+use Rattle.xor_chunks.proofs.Bound.{OfValue, of_ok, of_err}
 use Rattle.xor_chunks.proofs.BitLists.{length-bits_of, number_of-bits_of, number_of-lt, bits_of-number_of, bits_of-append, bits_of-mod}
 
 -- ---- taking
@@ -29,18 +30,18 @@ unfolding take_at
 take_short count bits lt = rw (lt-ltb (length bits) count lt) refl
 
 -- what is taken stood in front
-pub take_found : (count : ℕ) (bits : List Bool) (n : ℕ) (after : List Bool) → take_at count bits ≡ Ok (n, after) → (bits ≡ bits_of count n ++ after) × (n < 2 ^ count)
+pub taken : (count : ℕ) (bits : List Bool) → OfValue (take_at count bits) (λ x. (bits ≡ bits_of count x.0 ++ x.1) × (x.0 < 2 ^ count))
 unfolding take_at
-take_found count bits n after e =
-    let all : Result (ℕ × List Bool) XorRefusal = Ok (number_of (take count bits), drop count bits) in
-    let g = cond_ok (ltb (length bits) count) Short all (n, after) e in
-    let long : count ≤ length bits = ltb-false (length bits) count g.0 in
-    let both : (number_of (take count bits), drop count bits) ≡ (n, after) = ok_is {E = XorRefusal} _ _ g.1 in
-    let number : number_of (take count bits) ≡ n = ap (λ (p : ℕ × List Bool). p.0) both in
-    let len : length (take count bits) ≡ count = length-take-le count bits long in
-    let same : bits_of count n ≡ take count bits = ap (bits_of count) (sym number) ∙ ap (λ k. bits_of k (number_of (take count bits))) (sym len) ∙ bits_of-number_of (take count bits) in
-    let below : n < 2 ^ count = subst (λ k. n < 2 ^ k) len (subst (λ m. m < 2 ^ length (take count bits)) number (number_of-lt (take count bits))) in
-    (sym (take-append-drop count bits) ∙ ap (λ (a : List Bool). a ++ drop count bits) (sym same) ∙ ap (λ (a : List Bool). bits_of count n ++ a) (ap (λ (p : ℕ × List Bool). p.1) both), below)
+taken count bits = elim (cases_lt (length bits) count) [
+  | inl lt ↦ rw (lt-ltb (length bits) count lt) of_err
+  | inr le ↦ rw (le-ltb (length bits) count le) (
+      let len : length (take count bits) ≡ count = length-take-le count bits le in
+      let same : bits_of count (number_of (take count bits)) ≡ take count bits = ap (λ k. bits_of k (number_of (take count bits))) (sym len) ∙ bits_of-number_of (take count bits) in
+      of_ok (sym (take-append-drop count bits) ∙ ap (λ (a : List Bool). a ++ drop count bits) (sym same), subst (λ k. number_of (take count bits) < 2 ^ k) len (number_of-lt (take count bits))))
+]
+
+pub take_found : (count : ℕ) (bits : List Bool) (n : ℕ) (after : List Bool) → take_at count bits ≡ Ok (n, after) → (bits ≡ bits_of count n ++ after) × (n < 2 ^ count)
+take_found count bits n after e = (taken count bits).holds (n, after) e
 
 -- too few bits, or enough
 pub take_cases : (count : ℕ) (bits : List Bool) → (take_at count bits ≡ Err Short) ⊎ ((n : ℕ) × (after : List Bool) × (n < 2 ^ count) × (bits ≡ bits_of count n ++ after))
@@ -172,16 +173,16 @@ cast_is z v after fits e = ap (λ (w : ℤ). Ok (w, after)) (sym e ∙ sym (to_z
 
 -- ---- the same, for bits that were taken
 
-pub row_1111_found : (old bits middle after : List Bool) (n field : ℕ) → bits ≡ old → front 4 old ≡ 15 → take_at 4 bits ≡ Ok (n, middle) → take_at 64 middle ≡ Ok (field, after) → change_at old ≡ Ok (cast_signed w64 field, after)
+pub row_1111_found : (bits middle after : List Bool) (n field : ℕ) → front 4 bits ≡ 15 → take_at 4 bits ≡ Ok (n, middle) → take_at 64 middle ≡ Ok (field, after) → change_at bits ≡ Ok (cast_signed w64 field, after)
 unfolding whole_field_at
-row_1111_found old bits middle after n field same e h k = row_1111 old e ∙ rw (← same, h, k) refl
+row_1111_found bits middle after n field e h k = row_1111 bits e ∙ rw (h, k) refl
 
-pub row_1111_known_short : (old bits : List Bool) (e : XorRefusal) → bits ≡ old → front 4 old ≡ 15 → take_at 4 bits ≡ Err e → change_at old ≡ Err e
-row_1111_known_short old bits refusal same e h = row_1111 old e ∙ rw (← same, h) refl
+pub row_1111_known_short : (bits : List Bool) (e : XorRefusal) → front 4 bits ≡ 15 → take_at 4 bits ≡ Err e → change_at bits ≡ Err e
+row_1111_known_short bits refusal e h = row_1111 bits e ∙ rw h refl
 
-pub row_1111_short : (old bits middle : List Bool) (n : ℕ) (e : XorRefusal) → bits ≡ old → front 4 old ≡ 15 → take_at 4 bits ≡ Ok (n, middle) → take_at 64 middle ≡ Err e → change_at old ≡ Err e
+pub row_1111_short : (bits middle : List Bool) (n : ℕ) (e : XorRefusal) → front 4 bits ≡ 15 → take_at 4 bits ≡ Ok (n, middle) → take_at 64 middle ≡ Err e → change_at bits ≡ Err e
 unfolding whole_field_at
-row_1111_short old bits middle n refusal same e h k = row_1111 old e ∙ rw (← same, h, k) refl
+row_1111_short bits middle n refusal e h k = row_1111 bits e ∙ rw (h, k) refl
 
 -- what a call read is what was to be read
 pub reads_same : {X Y : Type 0} (view : X → Y) (after : List Bool) (result : Result X XorRefusal) (read wanted : Result (Y × List Bool) XorRefusal) → Reads view after result read → read ≡ wanted → Reads view after result wanted

@@ -1,5 +1,5 @@
 -- The bits of a value: the same again, a field in the window that is set, or a field in a new one.
-use Rattle.std.proofs.Common.{◌≡◌, ℕ, ◌+◌, ◌-◌, ◌/◌, ◌%◌, ◌^◌, ◌<◌, ◌≤◌, Bool, true, false, List, [], ◌∷◌, ◌++◌, length, Ok, Err, refl, sym, ap, ◌∙◌, append_assoc, arith, inl, inr, ◌⊎◌, length-append}
+use Rattle.std.proofs.Common.{◌≡◌, ℕ, ◌+◌, ◌/◌, ◌%◌, ◌^◌, ◌<◌, Bool, true, false, List, [], ◌∷◌, ◌++◌, length, Ok, Err, refl, sym, ap, ◌∙◌, append_assoc, arith, inl, inr, ◌⊎◌, length-append}
 use Rattle.std.proofs.lemmas.Bool.{le-ltb}
 use Rattle.std.proofs.lemmas.Nat.{shr_below, mod_below, pow_pos}
 use Rattle.reading_core.specs.Reading.{◌>>=◌}
@@ -32,13 +32,13 @@ take_split_short j k bits e h =
 
 -- ---- by the first bits
 
-value_same : (pattern : ℕ) (window : Window) (bits : List Bool) → front 1 bits ≡ 0 → value_at pattern window bits ≡ (take_at 1 bits >>= λ b. Ok ((pattern, window), b.1))
+pub value_same : (pattern : ℕ) (window : Window) (bits : List Bool) → front 1 bits ≡ 0 → value_at pattern window bits ≡ (take_at 1 bits >>= λ b. Ok ((pattern, window), b.1))
 unfolding value_at take_at
 value_same pattern window [] e = refl
 value_same pattern window (false ∷ bits) e = rw (le-ltb (length (false ∷ bits)) 1 (omega arith)) refl
 value_same pattern window (true ∷ bits) e = absurd (omega (arith, e, front-cons 0 true bits))
 
-value_10 : (pattern : ℕ) (window : Window) (bits : List Bool) → front 2 bits ≡ 2 → value_at pattern window bits ≡ (take_at 2 bits >>= λ b. within_at pattern window b.1)
+pub value_10 : (pattern : ℕ) (window : Window) (bits : List Bool) → front 2 bits ≡ 2 → value_at pattern window bits ≡ (take_at 2 bits >>= λ b. within_at pattern window b.1)
 unfolding value_at take_at
 value_10 pattern window [] e = refl
 value_10 pattern window (true ∷ []) e = refl
@@ -54,18 +54,6 @@ value_11 pattern window (true ∷ true ∷ bits) e = rw (le-ltb (length (true �
 value_11 pattern window (true ∷ false ∷ bits) e = absurd (omega (arith, e, front-cons 1 true (false ∷ bits), front-cons 0 false bits, front-lt 0 bits))
 value_11 pattern window (false ∷ bits) e = absurd (omega (arith, e, front-cons 1 false bits, front-lt 1 bits))
 
-pub same_found : (pattern n : ℕ) (window : Window) (old bits after : List Bool) → bits ≡ old → front 1 old ≡ 0 → take_at 1 bits ≡ Ok (n, after) → value_at pattern window old ≡ Ok ((pattern, window), after)
-same_found pattern n window old bits after same e h = value_same pattern window old e ∙ rw (← same, h) refl
-
-pub same_short : (pattern : ℕ) (window : Window) (old bits : List Bool) (e : XorRefusal) → bits ≡ old → front 1 old ≡ 0 → take_at 1 bits ≡ Err e → value_at pattern window old ≡ Err e
-same_short pattern window old bits refusal same e h = value_same pattern window old e ∙ rw (← same, h) refl
-
-pub within_found : (pattern n : ℕ) (window : Window) (old bits after : List Bool) → bits ≡ old → front 2 old ≡ 2 → take_at 2 bits ≡ Ok (n, after) → value_at pattern window old ≡ within_at pattern window after
-within_found pattern n window old bits after same e h = value_10 pattern window old e ∙ rw (← same, h) refl
-
-pub within_short : (pattern : ℕ) (window : Window) (old bits : List Bool) (e : XorRefusal) → bits ≡ old → front 2 old ≡ 2 → take_at 2 bits ≡ Err e → value_at pattern window old ≡ Err e
-within_short pattern window old bits refusal same e h = value_10 pattern window old e ∙ rw (← same, h) refl
-
 -- a window that is told at once with the bits that say so
 opened_is : (pattern head : ℕ) (bits after : List Bool) → take_at 11 bits ≡ Ok (head % 2 ^ 11, after) → opened_at pattern bits ≡ within_at pattern (told_by head) after
 unfolding opened_at within_at
@@ -75,10 +63,10 @@ opened_is pattern head bits after e =
     let width : head % 2 ^ 11 % 2 ^ 6 ≡ head % 64 = omega arith in
     rw (parts.0, parts.1, lead, width) refl
 
-pub opened_found : (pattern head : ℕ) (window : Window) (old bits after : List Bool) → bits ≡ old → front 2 old ≡ 3 → take_at 13 bits ≡ Ok (head, after) → value_at pattern window old ≡ within_at pattern (told_by head) after
-opened_found pattern head window old bits after same e h =
+pub opened_found : (pattern head : ℕ) (window : Window) (bits after : List Bool) → front 2 bits ≡ 3 → take_at 13 bits ≡ Ok (head, after) → value_at pattern window bits ≡ within_at pattern (told_by head) after
+opened_found pattern head window bits after e h =
     let parts = take_split 2 11 head bits after h in
-    value_11 pattern window old e ∙ rw (← same, parts.0) (opened_is pattern head (bits_of 11 head ++ after) after parts.1)
+    value_11 pattern window bits e ∙ rw parts.0 (opened_is pattern head (bits_of 11 head ++ after) after parts.1)
 
 opened_lacks : (pattern : ℕ) (bits : List Bool) (e : XorRefusal) → take_at 11 bits ≡ Err e → opened_at pattern bits ≡ Err e
 unfolding opened_at
@@ -88,15 +76,9 @@ opened_lacks pattern bits e h =
       | inr parts ↦ rw (parts.2, parts.3) refl
     ]
 
-pub opened_short : (pattern : ℕ) (window : Window) (old bits : List Bool) (e : XorRefusal) → bits ≡ old → front 2 old ≡ 3 → take_at 13 bits ≡ Err e → value_at pattern window old ≡ Err e
-opened_short pattern window old bits refusal same e h =
-    value_11 pattern window old e ∙ elim (take_split_short 2 11 bits refusal h) [
-      | inl lacks ↦ rw (← same, lacks) refl
-      | inr parts ↦ rw (← same, parts.2) (opened_lacks pattern parts.1 refusal parts.3)
+pub opened_short : (pattern : ℕ) (window : Window) (bits : List Bool) (e : XorRefusal) → front 2 bits ≡ 3 → take_at 13 bits ≡ Err e → value_at pattern window bits ≡ Err e
+opened_short pattern window bits refusal e h =
+    value_11 pattern window bits e ∙ elim (take_split_short 2 11 bits refusal h) [
+      | inl lacks ↦ rw lacks refl
+      | inr parts ↦ rw parts.2 (opened_lacks pattern parts.1 refusal parts.3)
     ]
-
--- where no other word fits, the bits tell a window
-pub eleven : (word : ℕ) (bits : List Bool) → word < 2 ^ 64 → ((n : ℕ) → n ≤ 2 → word / 2 ^ (64 - n) ≡ front n bits) → (word / 2 ^ 63 ≡ 0 → ⊥) → (word / 2 ^ 62 ≡ 2 → ⊥) → front 2 bits ≡ 3
-eleven word bits lt fronts a b =
-    let three : word / 2 ^ 62 ≡ 3 = omega arith in
-    sym (fronts 2 (omega arith)) ∙ three

@@ -1,15 +1,15 @@
 -- What the writer puts for a step and for a value is in the grammar.
 use Rattle.std.proofs.Common.{◌≡◌, ℕ, suc, ◌+◌, ◌-◌, ◌*◌, ◌/◌, ◌%◌, ◌^◌, ◌<◌, ◌≤◌, Bool, true, false, cond, List, [], ◌∷◌, ◌++◌, refl, sym, ap, subst, ◌∙◌, arith, inl, inr, ℤ, pos, negsuc}
-use Rattle.std.specs.Prelude.{bit_xor, nat_le, FitsSigned, ◌&&◌}
+use Rattle.std.specs.Prelude.{bit_xor, nat_le, FitsSigned}
 use Rattle.std.specs.Int.{cast_unsigned, w64, leading_zeros, trailing_zeros}
 use Rattle.std.specs.Int.Bits.{xor_self, xor_assoc, xor_zero_l, xor_zero_r}
 use Rattle.std.specs.Ordering.{int_eq}
-use Rattle.std.proofs.lemmas.Bool.{leb-true, ltb-true, cases_eq, eq-eqb, ne_eqb}
+use Rattle.std.proofs.lemmas.Bool.{and_parts, leb-true, ltb-true, cases_eq, eq-eqb, ne_eqb}
 use Rattle.std.proofs.lemmas.Bool.Decides.{Decides-int_eq}
 use Rattle.std.proofs.lemmas.Int.{ints, to_z-of_z}
 use Rattle.std.proofs.lemmas.Nat.{xor_lt, shr_below, shr_split, mod_below, pow_pos}
-use Rattle.xor_chunks.specs.declared.setting.Setting.{Setting}
-use Rattle.xor_chunks.specs.declared.setting.Setting.TheVariants.{Unset, Set}
+use Rattle.xor_chunks.specs.declared.window_setting.WindowSetting.{WindowSetting}
+use Rattle.xor_chunks.specs.declared.window_setting.WindowSetting.TheVariants.{Unset, Set}
 use Rattle.xor_chunks.specs.Bits.{bits_of}
 use Rattle.xor_chunks.specs.Window.{Window, whole, IsInside}
 use Rattle.xor_chunks.specs.Written.{fits_field, change_bits, trail, window_round, is_round, in_window, reused, coded, kept, value_bits, window_after}
@@ -17,12 +17,8 @@ use Rattle.xor_chunks.specs.Grammar.{StandsFor, IsRow, IsChange, unchanged, row_
 use Rattle.xor_chunks.proofs.BitLists.{bits_of-mod}
 use Rattle.xor_chunks.proofs.Zeros.{trailing_low, leading_below, counts_apart}
 
-both_true : (a b : Bool) → (a && b) ≡ true → (a ≡ true) × (b ≡ true)
-both_true true b e = (refl, e)
-both_true false b e = absurd cc
-
 -- the window that a reader has where the writer has set this one or none
-abbrev pub seen : Setting → Window
+abbrev pub seen : WindowSetting → Window
 seen Unset = whole
 seen (Set w) = w
 
@@ -76,7 +72,7 @@ opens_written window before pattern b p some =
     })
 
 -- a window that was set lies within a pattern
-abbrev pub IsSeen : Setting → Type 0
+abbrev pub IsSeen : WindowSetting → Type 0
 IsSeen Unset = Unit {0}
 IsSeen (Set w) = IsInside w
 
@@ -84,15 +80,15 @@ set_written : (w : Window) (before pattern : ℕ) (round : Bool) → is_round w 
     → IsValue w before (coded (cond round (Set w) Unset) (bit_xor before pattern)) pattern (seen (kept (cond round (Set w) Unset) (bit_xor before pattern)))
 set_written w before pattern true e inside b p some =
     let change = bit_xor before pattern in
-    let both = both_true (nat_le w.lead (leading_zeros w64 change)) (nat_le (trail w) (trailing_zeros w64 change)) e in
+    let both = and_parts (nat_le w.lead (leading_zeros w64 change)) (nat_le (trail w) (trailing_zeros w64 change)) e in
     within_window (in_window w change) refl refl (within_written w before pattern b p some (record { inside = inside; lead = leb-true _ _ both.0; trail = leb-true _ _ both.1 }))
 set_written w before pattern false e inside b p some = opens_written w before pattern b p some
 
-change_written : (set : Setting) (before pattern : ℕ) → IsSeen set → before < 2 ^ 64 → pattern < 2 ^ 64 → (bit_xor before pattern ≡ 0 → ⊥) → IsValue (seen set) before (coded (reused set (bit_xor before pattern)) (bit_xor before pattern)) pattern (seen (kept (reused set (bit_xor before pattern)) (bit_xor before pattern)))
+change_written : (set : WindowSetting) (before pattern : ℕ) → IsSeen set → before < 2 ^ 64 → pattern < 2 ^ 64 → (bit_xor before pattern ≡ 0 → ⊥) → IsValue (seen set) before (coded (reused set (bit_xor before pattern)) (bit_xor before pattern)) pattern (seen (kept (reused set (bit_xor before pattern)) (bit_xor before pattern)))
 change_written Unset before pattern h b p some = opens_written whole before pattern b p some
 change_written (Set w) before pattern h b p some = set_written w before pattern (is_round w (bit_xor before pattern)) refl h b p some
 
-pub value_written : (set : Setting) (before pattern : ℕ) → IsSeen set → before < 2 ^ 64 → pattern < 2 ^ 64 → IsValue (seen set) before (value_bits set (bit_xor before pattern)) pattern (seen (window_after set (bit_xor before pattern)))
+pub value_written : (set : WindowSetting) (before pattern : ℕ) → IsSeen set → before < 2 ^ 64 → pattern < 2 ^ 64 → IsValue (seen set) before (value_bits set (bit_xor before pattern)) pattern (seen (window_after set (bit_xor before pattern)))
 unfolding value_bits window_after
 value_written set before pattern h b p =
     elim (cases_eq (bit_xor before pattern) 0) [
@@ -104,11 +100,11 @@ kept_of : (w : Window) (before pattern : ℕ) (round : Bool) → IsInside w → 
 kept_of w before pattern true h b p some = h
 kept_of w before pattern false h b p some = (round_is (bit_xor before pattern) (xor_lt 64 before pattern b p) some).0.inside
 
-kept_after : (set : Setting) (before pattern : ℕ) → IsSeen set → before < 2 ^ 64 → pattern < 2 ^ 64 → (bit_xor before pattern ≡ 0 → ⊥) → IsSeen (kept (reused set (bit_xor before pattern)) (bit_xor before pattern))
+kept_after : (set : WindowSetting) (before pattern : ℕ) → IsSeen set → before < 2 ^ 64 → pattern < 2 ^ 64 → (bit_xor before pattern ≡ 0 → ⊥) → IsSeen (kept (reused set (bit_xor before pattern)) (bit_xor before pattern))
 kept_after Unset before pattern h b p some = (round_is (bit_xor before pattern) (xor_lt 64 before pattern b p) some).0.inside
 kept_after (Set w) before pattern h b p some = kept_of w before pattern (is_round w (bit_xor before pattern)) h b p some
 
-pub kept_seen : (set : Setting) (before pattern : ℕ) → IsSeen set → before < 2 ^ 64 → pattern < 2 ^ 64 → IsSeen (window_after set (bit_xor before pattern))
+pub kept_seen : (set : WindowSetting) (before pattern : ℕ) → IsSeen set → before < 2 ^ 64 → pattern < 2 ^ 64 → IsSeen (window_after set (bit_xor before pattern))
 unfolding window_after
 kept_seen set before pattern h b p =
     elim (cases_eq (bit_xor before pattern) 0) [

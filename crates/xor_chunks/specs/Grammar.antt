@@ -1,5 +1,5 @@
 -- XOR data and the samples that it stands for, apart from reading and writing.
-use Rattle.std.specs.Prelude.{◌≡◌, ℕ, ◌-◌, ◌^◌, ◌<◌, ◌≤◌, ◌⊎◌, Bool, true, false, List, [], ◌∷◌, ◌++◌, length, replicate, ℤ, pos, negsuc, ◌+ℤ◌, ◌-ℤ◌, ◌<ℤ◌, ◌≤ℤ◌}
+use Rattle.std.specs.Prelude.{◌≡◌, ℕ, ◌-◌, ◌^◌, ◌<◌, ◌≤◌, ◌⊎◌, Bool, true, false, List, [], ◌∷◌, ◌++◌, length, replicate, ℤ, pos, ◌+ℤ◌, ◌-ℤ◌, FitsSigned}
 use Rattle.std.specs.Int.{w16, w64, cast_signed}
 use Rattle.reading_core.specs.Grammar.{HasFront}
 use Rattle.wire_bytes.specs.FieldTexts.{IsFixed, IsUvarint, IsVarint}
@@ -20,7 +20,7 @@ pub record IsRow (front : List Bool) (width : ℕ) (bits : List Bool) (z : ℤ) 
   pub text : bits ≡ front ++ bits_of width field
   pub value : StandsFor width field z
 
--- the same with a field of 64 bits, a number in two's complement
+-- these bits, and a field of 64 bits, which stands for a number in two's complement
 pub record IsLongRow (front : List Bool) (bits : List Bool) (z : ℤ) : Type 0 where
   pub field : ℕ
   pub fits : field < 2 ^ 64
@@ -62,8 +62,7 @@ pub data IsValue (window : Window) (before : ℕ) (bits : List Bool) (pattern : 
 pub record Follows (before time : ℤ) (delta : ℕ) : Type 0 where
   pub later : time ≡ before +ℤ pos delta
   pub rises : 0 < delta
-  pub low : negsuc (2 ^ 63 - 1) ≤ℤ time
-  pub high : time <ℤ pos (2 ^ 63)
+  pub fits : FitsSigned w64 time
 
 -- a sample after the second: by how much its step is longer, and its value
 pub record IsNext (before : State) (bits : List Bool) (next : State) : Type 0 where

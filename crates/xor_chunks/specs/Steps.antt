@@ -30,7 +30,7 @@ field_at width bits = do
   field ← take_at width bits
   Ok (field_value width field.0, field.1)
 
--- the same behind bits that are known
+-- a field behind bits that are known
 unfoldable pub field_behind : ℕ → ℕ → List Bool → Result (ℤ × List Bool) XorRefusal
 field_behind known width bits = do
   front ← take_at known bits

@@ -1,25 +1,30 @@
 -- The one text of samples that the writer puts.
-use Rattle.std.specs.Prelude.{ℕ, suc, ◌+◌, ◌-◌, ◌/◌, ◌^◌, ◌<◌, ◌==◌, ◌&&◌, min, Bool, true, false, List, [], ◌∷◌, ◌++◌, length, if◌then◌else◌, nat_le, nat_lt, ℤ, pos, negsuc, ◌-ℤ◌, ◌≤ℤ◌, ◌<ℤ◌, unsigned_abs, bit_xor}
+use Rattle.std.specs.Prelude.{ℕ, suc, ◌+◌, ◌-◌, ◌/◌, ◌^◌, ◌<◌, ◌==◌, ◌&&◌, min, Bool, true, false, List, [], ◌∷◌, ◌++◌, length, map, All, if◌then◌else◌, nat_le, nat_lt, ℤ, pos, negsuc, ◌-ℤ◌, ◌≤ℤ◌, ◌<ℤ◌, unsigned_abs, bit_xor}
 use Rattle.std.specs.Int.{cast_unsigned, w64, leading_zeros, trailing_zeros}
-use Rattle.std.specs.Ordering.{int_eq}
+use Rattle.std.specs.Ordering.{int_eq, int_cmp}
+use Rattle.std.specs.List.Sorted.{IsStrictlySortedBy}
 use Rattle.wire_bytes.specs.Written.{uvarint_text, varint_text}
 use Rattle.label_sets.specs.declared.sample.Sample.{Sample}
 use Rattle.xor_chunks.specs.Bits.{bits_of, bits_in}
 use Rattle.xor_chunks.specs.Window.{Window}
-use Rattle.xor_chunks.specs.declared.put.Put.{Put}
-use Rattle.xor_chunks.specs.declared.setting.Setting.{Setting}
-use Rattle.xor_chunks.specs.declared.setting.Setting.TheVariants.{Unset, Set}
+use Rattle.xor_chunks.specs.declared.last_written.LastWritten.{LastWritten}
+use Rattle.xor_chunks.specs.declared.window_setting.WindowSetting.{WindowSetting}
+use Rattle.xor_chunks.specs.declared.window_setting.WindowSetting.TheVariants.{Unset, Set}
 
--- Each time is above the one before it, the first above this one, and all are below 2^62.
-abbrev pub AreRising : ℤ → List Sample → Type 0
-AreRising before [] = Unit {0}
-AreRising before (s ∷ ss) = (before <ℤ s.time) × (s.time <ℤ pos (2 ^ 62)) × AreRising s.time ss
+-- a time from -2^62 to 2^62 - 1
+abbrev pub IsChunkTime : ℤ → Type 0
+IsChunkTime time = (negsuc (2 ^ 62 - 1) ≤ℤ time) × (time <ℤ pos (2 ^ 62))
 
--- samples of one chunk: some, but no more than two bytes count, with rising times from -2^62 to 2^62 - 1
+-- samples of one chunk: some, but no more than two bytes count, whose times ascend
 pub record AreOfChunk (samples : List Sample) : Type 0 where
   pub some : 0 < length samples
   pub few : length samples < 2 ^ 16
-  pub rising : AreRising (negsuc (2 ^ 62)) samples
+  pub ascend : IsStrictlySortedBy int_cmp (map (λ s. s.time) samples)
+  pub times : All (λ s. IsChunkTime s.time) samples
+
+-- Each pattern is one of 64 bits.
+abbrev pub ArePatterns : List Sample → Type 0
+ArePatterns samples = All (λ s. s.pattern < 2 ^ 64) samples
 
 -- A field of so many bits can stand for the number.
 abbrev pub fits_field : ℕ → ℤ → Bool
@@ -55,46 +60,46 @@ abbrev pub in_window : Window → ℕ → List Bool
 in_window window change = bits_of window.width (change / 2 ^ trail window)
 
 -- the window that was set, where it is round the change
-abbrev pub reused : Setting → ℕ → Setting
+abbrev pub reused : WindowSetting → ℕ → WindowSetting
 reused Unset change = Unset
 reused (Set window) change = if is_round window change then Set window else Unset
 
 -- a change in the window that was set, or in a new one
-abbrev pub coded : Setting → ℕ → List Bool
+abbrev pub coded : WindowSetting → ℕ → List Bool
 coded (Set window) change = true ∷ false ∷ in_window window change
 coded Unset change = true ∷ true ∷ (bits_of 5 (window_round change).lead ++ bits_of 6 (window_round change).width ++ in_window (window_round change) change)
 
 -- the bits of a change of the pattern, where this window was set or none was
-unfoldable pub value_bits : Setting → ℕ → List Bool
+unfoldable pub value_bits : WindowSetting → ℕ → List Bool
 value_bits window change = if change == 0 then false ∷ [] else coded (reused window change) change
 
-abbrev pub kept : Setting → ℕ → Setting
+abbrev pub kept : WindowSetting → ℕ → WindowSetting
 kept (Set window) change = Set window
 kept Unset change = Set (window_round change)
 
 -- the window that is set then
-unfoldable pub window_after : Setting → ℕ → Setting
+unfoldable pub window_after : WindowSetting → ℕ → WindowSetting
 window_after window change = if change == 0 then window else kept (reused window change) change
 
 -- what is known of the samples put, once the next is put too
-abbrev pub put_after : Put → Sample → Put
+abbrev pub put_after : LastWritten → Sample → LastWritten
 put_after put s = record { time = s.time; delta = s.time -ℤ put.time; pattern = s.pattern; window = window_after put.window (bit_xor put.pattern s.pattern) }
 
 -- after the first sample
-abbrev pub put_first : Sample → Put
+abbrev pub put_first : Sample → LastWritten
 put_first s = record { time = s.time; delta = pos 0; pattern = s.pattern; window = Unset }
 
 -- the next sample, after the second
-abbrev pub next_bits : Put → Sample → List Bool
+abbrev pub next_bits : LastWritten → Sample → List Bool
 next_bits put s = change_bits ((s.time -ℤ put.time) -ℤ put.delta) ++ value_bits put.window (bit_xor put.pattern s.pattern)
 
 -- the samples after the second
-abbrev pub others_bits : Put → List Sample → List Bool
+abbrev pub others_bits : LastWritten → List Sample → List Bool
 others_bits put [] = []
 others_bits put (s ∷ ss) = next_bits put s ++ others_bits (put_after put s) ss
 
 -- the samples after the first
-abbrev pub rest_bits : Put → List Sample → List Bool
+abbrev pub rest_bits : LastWritten → List Sample → List Bool
 rest_bits put [] = []
 rest_bits put (s ∷ ss) = bits_in (uvarint_text (unsigned_abs (s.time -ℤ put.time))) ++ value_bits put.window (bit_xor put.pattern s.pattern) ++ others_bits (put_after put s) ss
 
@@ -104,7 +109,7 @@ written [] = bits_of 16 0
 written (s ∷ ss) = bits_of 16 (suc (length ss)) ++ bits_in (varint_text s.time) ++ bits_of 64 s.pattern ++ rest_bits (put_first s) ss
 
 -- The sample can come next.
-pub record CanFollow (put : Put) (s : Sample) : Type 0 where
+pub record CanFollow (put : LastWritten) (s : Sample) : Type 0 where
   pub rises : put.time <ℤ s.time
   pub low : negsuc (2 ^ 62 - 1) ≤ℤ put.time
   pub high : s.time <ℤ pos (2 ^ 62)
@@ -112,6 +117,6 @@ pub record CanFollow (put : Put) (s : Sample) : Type 0 where
   pub delta_high : put.delta <ℤ pos (2 ^ 63)
 
 -- The samples can come one after another.
-abbrev pub AreToCome : Put → List Sample → Type 0
+abbrev pub AreToCome : LastWritten → List Sample → Type 0
 AreToCome put [] = Unit {0}
 AreToCome put (s ∷ ss) = CanFollow put s × AreToCome (put_after put s) ss

@@ -3,8 +3,8 @@ ghost use Rattle.xor_chunks.specs.Bits.{bits_of, bits_in};
 ghost use Rattle.xor_chunks.specs.Buffer.{Shows};
 
 use crate::ShortBits;
-use crate::refill::refilled;
-use crate::taking::{taken, taken_peeked};
+use crate::refill::refill_word;
+use crate::taking::{take_from, take_ready};
 use std::marker::Model;
 
 /// Reads bits from bytes, the most significant first.
@@ -56,8 +56,9 @@ impl<'a> BitReader<'a> {
         ensures short { IsErr result ↔ (length self.old < count) }
         ensures err { OnErr result (self.new ≡ self.old) }
     {
-        let Some((number, word, waiting, bytes)) = taken(count, self.word, self.count, self.bytes)
-        else {
+        let Some((number, word, waiting, bytes)) = take_from(
+            count, self.word, self.count, self.bytes,
+        ) else {
             return Err(ShortBits);
         };
         self.word = word;
@@ -66,7 +67,7 @@ impl<'a> BitReader<'a> {
         Ok(number)
     }
 
-    /// The same for bits that were just peeked at; for others it is slow.
+    /// Takes bits that were just peeked at; for others it is slow.
     #[inline(always)]
     pub(crate) fn take_peeked(&mut self, count: u32) -> Result<u64, ShortBits>
         requires { count ≤ 64 }
@@ -75,7 +76,7 @@ impl<'a> BitReader<'a> {
         ensures short { IsErr result ↔ (length self.old < count) }
         ensures err { OnErr result (self.new ≡ self.old) }
     {
-        let Some((number, word, waiting, bytes)) = taken_peeked(
+        let Some((number, word, waiting, bytes)) = take_ready(
             count, self.word, self.count, self.bytes,
         ) else {
             return Err(ShortBits);
@@ -93,7 +94,7 @@ impl<'a> BitReader<'a> {
         ensures same { self.new ≡ self.old }
         ensures bits { Shows result count self.old }
     {
-        let (word, waiting, bytes) = refilled(count, self.word, self.count, self.bytes);
+        let (word, waiting, bytes) = refill_word(count, self.word, self.count, self.bytes);
         self.word = word;
         self.count = waiting;
         self.bytes = bytes;

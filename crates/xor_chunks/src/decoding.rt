@@ -45,19 +45,20 @@ fn gap_of(bytes: &[u8]) -> Result<(u64, &[u8]), XorRefusal>
     Ok((gap, cursor.rest()))
 }
 
-/// Reads so many samples after the second.
+/// Reads `count` samples after the second.
 fn push_others<'a>(
     mut samples: Vec<Sample>,
     count: u16,
     second: Last,
     mut reader: BitReader<'a>,
 ) -> Result<(Vec<Sample>, BitReader<'a>), XorRefusal>
-    ensures { Gives XorRefusal.NoMemory (λ x. (x.0.items, x.1)) result (with_front samples.items (others_at count (state_of second) reader.entry)) }
+    ensures { Gives XorRefusal.NoMemory (λ x. (x.0.items, x.1)) result
+        (with_front samples.items (others_at count (state_of second) reader.entry)) }
 {
     let mut last = second;
     for _ in 0..count {
         let (after, left) = next(reader, last)?;
-        samples = pushed(samples, after.sample())?;
+        samples = push_sample(samples, after.sample())?;
         last = after;
         reader = left;
     }
@@ -66,36 +67,39 @@ fn push_others<'a>(
 
 /// The samples with one more.
 #[inline(always)]
-fn pushed(mut samples: Vec<Sample>, sample: Sample) -> Result<Vec<Sample>, XorRefusal>
-    ensures { MatchResult result (λ v. v.items ≡ samples.items ++ sample ∷ []) (λ e. e ≡ XorRefusal.NoMemory) }
+fn push_sample(mut samples: Vec<Sample>, sample: Sample) -> Result<Vec<Sample>, XorRefusal>
+    ensures { MatchResult result (λ v. v.items ≡ samples.items ++ sample ∷ [])
+        (λ e. e ≡ XorRefusal.NoMemory) }
 {
     if samples.len() < samples.capacity() {
         samples.push_reserved(sample);
         Ok(samples)
     } else {
-        with_room(samples, sample)
+        push_growing(samples, sample)
     }
 }
 
-/// The same where there may be no room. Its temporaries stand here, off the fast path.
+/// The samples with one more, where there may be no room. Its temporaries stand here, off the fast path.
 #[inline(always)]
-fn with_room(samples: Vec<Sample>, sample: Sample) -> Result<Vec<Sample>, XorRefusal>
-    ensures { MatchResult result (λ v. v.items ≡ samples.items ++ sample ∷ []) (λ e. e ≡ XorRefusal.NoMemory) }
+fn push_growing(samples: Vec<Sample>, sample: Sample) -> Result<Vec<Sample>, XorRefusal>
+    ensures { MatchResult result (λ v. v.items ≡ samples.items ++ sample ∷ [])
+        (λ e. e ≡ XorRefusal.NoMemory) }
 {
-    let samples = grown(samples, sample)?;
+    let samples = push_slowly(samples, sample)?;
     Ok(samples)
 }
 
 #[cold]
 #[inline(never)]
-fn grown(mut samples: Vec<Sample>, sample: Sample) -> Result<Vec<Sample>, XorRefusal>
-    ensures { MatchResult result (λ v. v.items ≡ samples.items ++ sample ∷ []) (λ e. e ≡ XorRefusal.NoMemory) }
+fn push_slowly(mut samples: Vec<Sample>, sample: Sample) -> Result<Vec<Sample>, XorRefusal>
+    ensures { MatchResult result (λ v. v.items ≡ samples.items ++ sample ∷ [])
+        (λ e. e ≡ XorRefusal.NoMemory) }
 {
     samples.push(sample)?;
     Ok(samples)
 }
 
-/// Reads so many samples after the first.
+/// Reads `count` samples after the first.
 #[tactic(auto, unfolding(crate::specs::Data::rest_at))]
 fn push_rest<'a>(
     mut samples: Vec<Sample>,
@@ -103,7 +107,8 @@ fn push_rest<'a>(
     first: Last,
     bytes: &'a [u8],
 ) -> Result<(Vec<Sample>, BitReader<'a>), XorRefusal>
-    ensures { Gives XorRefusal.NoMemory (λ x. (x.0.items, x.1)) result (with_front samples.items (rest_at count (state_of first) bytes.now)) }
+    ensures { Gives XorRefusal.NoMemory (λ x. (x.0.items, x.1)) result
+        (with_front samples.items (rest_at count (state_of first) bytes.now)) }
 {
     if count == 0 {
         return Ok((samples, BitReader::new(bytes)));
@@ -115,14 +120,15 @@ fn push_rest<'a>(
     push_others(samples, count - 1, second, reader)
 }
 
-/// Reads so many samples.
+/// Reads `count` samples.
 #[tactic(auto, unfolding(crate::specs::Data::samples_at))]
 fn samples_of(
     alloc: Global,
     count: u16,
     bytes: &[u8],
 ) -> Result<(Vec<Sample>, BitReader<'_>), XorRefusal>
-    ensures { Gives XorRefusal.NoMemory (λ x. (x.0.items, x.1)) result (samples_at count bytes.now) }
+    ensures { Gives XorRefusal.NoMemory (λ x. (x.0.items, x.1)) result
+        (samples_at count bytes.now) }
 {
     if count == 0 {
         return Ok((Vec::new(alloc), BitReader::new(bytes)));
@@ -138,7 +144,7 @@ fn room_for(count: u16, bytes: &[u8]) -> usize {
     (count as usize).min(bytes.len().saturating_mul(4))
 }
 
-/// Whether no more than so many bits are left, all zero.
+/// Whether at most `most` bits are left, all zero.
 fn is_filling(mut reader: BitReader<'_>, most: u32) -> bool
     requires { most ≤ 64 }
     ensures { result ≡ is_filling most reader.entry }
@@ -153,7 +159,7 @@ fn is_filling(mut reader: BitReader<'_>, most: u32) -> bool
     }
 }
 
-/// The samples of all the bytes, after which at most so many bits are left.
+/// The samples of all the bytes, after which at most `most` bits are left, all zero.
 #[tactic(auto, unfolding(crate::specs::Data::data_at))]
 fn data_of(alloc: Global, bytes: &[u8], most: u32) -> Result<SampleList, XorRefusal>
     requires { most ≤ 64 }
@@ -172,7 +178,8 @@ fn data_of(alloc: Global, bytes: &[u8], most: u32) -> Result<SampleList, XorRefu
 pub fn decode(alloc: Global, bytes: &[u8]) -> Result<SampleList, XorRefusal>
     // What is read is what the bytes stand for, and bytes that stand for samples are read.
     ensures found { IfOk result (λ samples. IsText 7 bytes.now samples) }
-    ensures only { (samples : List Sample) → IsText 7 bytes.now samples → (result ≡ Ok samples) ⊎ (result ≡ Err XorRefusal.NoMemory) }
+    ensures only { (samples : List Sample) → IsText 7 bytes.now samples
+        → (result ≡ Ok samples) ⊎ (result ≡ Err XorRefusal.NoMemory) }
 
     // A refusal is that of the first sample that cannot be read, by its first case.
     ensures exact { Gives XorRefusal.NoMemory (λ samples. samples) result (data_at 7 bytes.now) }
@@ -185,7 +192,8 @@ pub fn decode(alloc: Global, bytes: &[u8]) -> Result<SampleList, XorRefusal>
 pub fn decode_stored(alloc: Global, bytes: &[u8]) -> Result<SampleList, XorRefusal>
     // What is read is what the bytes stand for, and bytes that stand for samples are read.
     ensures found { IfOk result (λ samples. IsText 8 bytes.now samples) }
-    ensures only { (samples : List Sample) → IsText 8 bytes.now samples → (result ≡ Ok samples) ⊎ (result ≡ Err XorRefusal.NoMemory) }
+    ensures only { (samples : List Sample) → IsText 8 bytes.now samples
+        → (result ≡ Ok samples) ⊎ (result ≡ Err XorRefusal.NoMemory) }
 
     // A refusal is that of the first sample that cannot be read, by its first case.
     ensures exact { Gives XorRefusal.NoMemory (λ samples. samples) result (data_at 8 bytes.now) }

@@ -1,22 +1,21 @@
 ghost use Rattle.std.specs.Prelude.{◌≡◌, ◌++◌, ◌∷◌, ℕ, pos, negsuc, ◌≤ℤ◌, ◌<ℤ◌, ◌-ℤ◌, ◌^◌, ◌<◌, ◌≤◌, length, IfOk, OnOk, bit_xor};
-ghost use Rattle.xor_chunks.specs.Written.{fits_field, change_bits, reused, value_bits, window_after, CanFollow, put_after, next_bits, AreToCome, others_bits, rest_bits, put_first, written, AreOfChunk};
+ghost use Rattle.xor_chunks.specs.Written.{fits_field, change_bits, reused, value_bits, window_after, CanFollow, put_after, next_bits, AreToCome, ArePatterns, others_bits, rest_bits, put_first, written, AreOfChunk};
 ghost use Rattle.wire_bytes.specs.Written.{varint_text};
 ghost use Rattle.xor_chunks.specs.Grammar.{IsText};
 ghost use Rattle.reading_core.specs.Grammar.{IsBytes};
 ghost use Rattle.xor_chunks.specs.Bits.{bits_of, bits_in, filled};
 
 use crate::BitWriter;
-use crate::code::Code;
-use crate::put::Put;
-use crate::setting::Setting;
+use crate::last_written::LastWritten;
+use crate::pending_bits::PendingBits;
 use crate::window::Window;
-use crate::words::have_words;
+use crate::window_setting::WindowSetting;
 use label_sets::Sample;
 use list_core::NoMemory;
 use std::alloc::Global;
 use wire_bytes::{Blob, put_u16, put_u64, put_uvarint, put_varint};
 
-/// Whether a field of so many bits can stand for the number.
+/// Whether a field of `width` bits can stand for the number.
 #[inline(always)]
 fn fits_field(width: u32, number: i64) -> bool
     requires some { 0 < width }
@@ -29,20 +28,20 @@ fn fits_field(width: u32, number: i64) -> bool
 
 /// Bits that say what follows, and behind them the low bits of a number.
 #[inline(always)]
-fn row(known: u64, count: u32, width: u32, number: u64) -> Code
+fn row(known: u64, count: u32, width: u32, number: u64) -> PendingBits
     requires few { count ≤ 4 }
     requires short { width ≤ 20 }
     ensures bits { result ≡ bits_of count known ++ bits_of width number }
     ensures length { length result ≤ 24 }
 {
-    Code::none()
+    PendingBits::none()
         .and_field(count, known)
         .and_field(width, number)
 }
 
-/// Puts by how much a step is longer than the step before it, but for the code that is still to be put.
+/// Puts by how much a step is longer than the step before it, but for bits that are still to be put.
 #[inline(always)]
-fn put_change(writer: &mut BitWriter, change: i64) -> Result<Code, NoMemory>
+fn put_change(writer: &mut BitWriter, change: i64) -> Result<PendingBits, NoMemory>
     ensures bits { IfOk result (λ code. writer.new ++ code ≡ writer.old ++ change_bits change) }
     ensures short { IfOk result (λ code. length code ≤ 24) }
 {
@@ -61,28 +60,29 @@ fn put_change(writer: &mut BitWriter, change: i64) -> Result<Code, NoMemory>
     }
     writer.put_bits(0b1111, 4)?;
     writer.put_bits(bits, 64)?;
-    Ok(Code::none())
+    Ok(PendingBits::none())
 }
 
 /// The window that was set, where it is round a change.
 #[inline(always)]
-fn reused(window: Setting, change: u64) -> Setting
+fn window_to_reuse(window: WindowSetting, change: u64) -> WindowSetting
     ensures { result ≡ reused window change }
 {
     match window {
-        Setting::Set(set) if set.is_round(change) => Setting::Set(set),
-        _ => Setting::Unset,
+        WindowSetting::Set(set) if set.is_round(change) => WindowSetting::Set(set),
+        _ => WindowSetting::Unset,
     }
 }
 
-/// Puts the code that is still to be put and the bits of a change of the pattern, and gives the window that is set then.
+/// Puts the bits that are still to be put and those of a change of the pattern, and gives the window
+/// that is set then.
 #[inline(always)]
 fn put_value(
     writer: &mut BitWriter,
-    code: Code,
+    code: PendingBits,
     change: u64,
-    window: Setting,
-) -> Result<Setting, NoMemory>
+    window: WindowSetting,
+) -> Result<WindowSetting, NoMemory>
     requires { length code ≤ 24 }
     ensures bits { OnOk result (writer.new ≡ writer.old ++ code ++ value_bits window change) }
     ensures window { IfOk result (λ after. after ≡ window_after window change) }
@@ -91,10 +91,10 @@ fn put_value(
         code.and_field(1, 0).put(writer)?;
         return Ok(window);
     }
-    if let Setting::Set(set) = reused(window, change) {
+    if let WindowSetting::Set(set) = window_to_reuse(window, change) {
         code.and_field(2, 0b10).put(writer)?;
         writer.put_bits(set.field(change), set.width())?;
-        return Ok(Setting::Set(set));
+        return Ok(WindowSetting::Set(set));
     }
     let set = Window::round(change);
     code.and_field(2, 0b11)
@@ -102,20 +102,25 @@ fn put_value(
         .and_field(6, u64::from(set.width()))
         .put(writer)?;
     writer.put_bits(set.field(change), set.width())?;
-    Ok(Setting::Set(set))
+    Ok(WindowSetting::Set(set))
 }
 
 /// Puts the next sample, after the second.
 #[inline(always)]
-fn put_next(writer: &mut BitWriter, put: Put, sample: Sample) -> Result<Put, NoMemory>
+fn put_next(
+    writer: &mut BitWriter,
+    put: LastWritten,
+    sample: Sample,
+) -> Result<LastWritten, NoMemory>
     requires { CanFollow put sample }
     ensures bits { OnOk result (writer.new ≡ writer.old ++ next_bits put sample) }
     ensures put { IfOk result (λ after. after ≡ put_after put sample) }
+    ensures pattern { sample.pattern < 2 ^ 64 }
 {
     let delta = sample.time - put.time;
     let code = put_change(writer, delta - put.delta)?;
     let window = put_value(writer, code, put.pattern ^ sample.pattern, put.window)?;
-    Ok(Put {
+    Ok(LastWritten {
         time: sample.time,
         delta,
         pattern: sample.pattern,
@@ -124,18 +129,23 @@ fn put_next(writer: &mut BitWriter, put: Put, sample: Sample) -> Result<Put, NoM
 }
 
 /// Puts the samples after the second.
-fn put_others(mut writer: BitWriter, second: Put, samples: &[Sample]) -> Result<BitWriter, NoMemory>
+fn put_others(
+    mut writer: BitWriter,
+    second: LastWritten,
+    samples: &[Sample],
+) -> Result<BitWriter, NoMemory>
     requires { AreToCome second samples.now }
-    ensures { IfOk result (λ w. w ≡ writer ++ others_bits second samples.now) }
+    ensures bits { IfOk result (λ w. w ≡ writer ++ others_bits second samples.now) }
+    ensures patterns { OnOk result (ArePatterns samples.now) }
 {
-    let Put {
+    let LastWritten {
         mut time,
         mut delta,
         mut pattern,
         mut window,
     } = second;
     for sample in samples {
-        let put = Put {
+        let put = LastWritten {
             time,
             delta,
             pattern,
@@ -159,13 +169,20 @@ fn put_from_second(
 ) -> Result<BitWriter, NoMemory>
     requires next { CanFollow (put_first first) second }
     requires others { AreToCome (put_after (put_first first) second) others.now }
-    ensures { IfOk result (λ w. w ≡ bits_in bytes.items ++ rest_bits (put_first first) (second ∷ others.now)) }
+    ensures bits { IfOk result (λ w. w
+        ≡ bits_in bytes.items ++ rest_bits (put_first first) (second ∷ others.now)) }
+    ensures patterns { OnOk result (ArePatterns (second ∷ others.now)) }
 {
     put_uvarint(&mut bytes, second.time.abs_diff(first.time))?;
     let mut writer = BitWriter::behind(bytes);
     let change = first.pattern ^ second.pattern;
-    let window = put_value(&mut writer, Code::none(), change, Setting::Unset)?;
-    let put = Put {
+    let window = put_value(
+        &mut writer,
+        PendingBits::none(),
+        change,
+        WindowSetting::Unset,
+    )?;
+    let put = LastWritten {
         time: second.time,
         delta: second.time - first.time,
         pattern: second.pattern,
@@ -177,7 +194,9 @@ fn put_from_second(
 /// Puts the samples after the first behind the bytes.
 fn put_rest(bytes: Vec<u8>, first: Sample, samples: &[Sample]) -> Result<BitWriter, NoMemory>
     requires { AreToCome (put_first first) samples.now }
-    ensures { IfOk result (λ w. w ≡ bits_in bytes.items ++ rest_bits (put_first first) samples.now) }
+    ensures bits { IfOk result (λ w. w
+        ≡ bits_in bytes.items ++ rest_bits (put_first first) samples.now) }
+    ensures patterns { OnOk result (ArePatterns samples.now) }
 {
     match samples.split_first() {
         Some((second, others)) => put_from_second(bytes, first, *second, others),
@@ -187,7 +206,9 @@ fn put_rest(bytes: Vec<u8>, first: Sample, samples: &[Sample]) -> Result<BitWrit
 
 /// The bytes of how many samples there are and of the first.
 fn head_of(alloc: Global, count: u16, first: Sample) -> Result<Vec<u8>, NoMemory>
-    ensures { IfOk result (λ bytes. bits_in bytes.items ≡ bits_of 16 count ++ bits_in (varint_text first.time) ++ bits_of 64 first.pattern) }
+    ensures bits { IfOk result (λ bytes. bits_in bytes.items
+        ≡ bits_of 16 count ++ bits_in (varint_text first.time) ++ bits_of 64 first.pattern) }
+    ensures pattern { first.pattern < 2 ^ 64 }
 {
     let mut bytes = Vec::new(alloc);
     put_u16(&mut bytes, count)?;
@@ -205,7 +226,6 @@ pub fn encode(alloc: Global, samples: &[Sample]) -> Result<Blob, NoMemory>
     ensures text { IfOk result (λ blob. IsText 7 blob samples.now) }
     ensures bytes { IfOk result (λ blob. IsBytes blob) }
 {
-    have_words(samples);
     let first = samples[0];
     let bytes = head_of(alloc, samples.len() as u16, first)?;
     let writer = put_rest(bytes, first, &samples[1..])?;

@@ -3,20 +3,19 @@
 
 mod bit_reader;
 mod bit_writer;
-mod code;
 mod decoding;
 mod encoding;
 mod fitting;
 mod last;
-mod put;
+mod last_written;
+mod pending_bits;
 mod refill;
 mod refusal;
-mod setting;
 mod short_bits;
 mod step;
 mod taking;
 mod window;
-mod words;
+mod window_setting;
 
 pub use bit_reader::BitReader;
 pub use bit_writer::BitWriter;

@@ -3,7 +3,7 @@ ghost use Rattle.xor_chunks.specs.Buffer.{IsBuffer, buffered};
 
 /// A word in which as many bits wait as are needed, or all that are left, and the bytes after them.
 #[inline(always)]
-pub fn refilled(need: u32, word: u64, count: u32, bytes: &[u8]) -> (u64, u32, &[u8])
+pub fn refill_word(need: u32, word: u64, count: u32, bytes: &[u8]) -> (u64, u32, &[u8])
     requires few { need ≤ 56 }
     requires buffer { IsBuffer word count }
     ensures same { buffered result.0 result.1 result.2.now ≡ buffered word count bytes.now }
@@ -13,26 +13,26 @@ pub fn refilled(need: u32, word: u64, count: u32, bytes: &[u8]) -> (u64, u32, &[
     if need <= count || bytes.is_empty() {
         (word, count, bytes)
     } else if bytes.len() >= 8 {
-        refilled_by_word(word, count, bytes)
+        refill_by_word(word, count, bytes)
     } else {
-        refilled_at_end(word, count, bytes)
+        refill_at_end(word, count, bytes)
     }
 }
 
 /// The last bytes, one by one. Its temporaries stand here, off the fast path.
 #[inline(always)]
-fn refilled_at_end(word: u64, count: u32, bytes: &[u8]) -> (u64, u32, &[u8])
+fn refill_at_end(word: u64, count: u32, bytes: &[u8]) -> (u64, u32, &[u8])
     requires { IsBuffer word count }
     ensures same { buffered result.0 result.1 result.2.now ≡ buffered word count bytes.now }
     ensures buffer { IsBuffer result.0 result.1 }
     ensures full { (55 < result.1) ⊎ (result.2.now ≡ []) }
 {
-    let (word, count, bytes) = refilled_by_bytes(word, count, bytes);
+    let (word, count, bytes) = refill_by_bytes(word, count, bytes);
     (word, count, bytes)
 }
 
 #[inline(always)]
-fn refilled_by_word(word: u64, count: u32, bytes: &[u8]) -> (u64, u32, &[u8])
+fn refill_by_word(word: u64, count: u32, bytes: &[u8]) -> (u64, u32, &[u8])
     requires buffer { IsBuffer word count }
     requires room { count ≤ 55 }
     requires bytes { 8 ≤ length bytes.now }
@@ -55,7 +55,7 @@ fn refilled_by_word(word: u64, count: u32, bytes: &[u8]) -> (u64, u32, &[u8])
 
 #[cold]
 #[inline(never)]
-fn refilled_by_bytes(mut word: u64, mut count: u32, mut bytes: &[u8]) -> (u64, u32, &[u8])
+fn refill_by_bytes(mut word: u64, mut count: u32, mut bytes: &[u8]) -> (u64, u32, &[u8])
     requires { IsBuffer word count }
     ensures same { buffered result.0 result.1 result.2.now ≡ buffered word count bytes.now }
     ensures buffer { IsBuffer result.0 result.1 }

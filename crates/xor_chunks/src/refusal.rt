@@ -3,7 +3,6 @@ ghost use Rattle.xor_chunks.specs.declared.refusal.XorRefusal.TheVariants.{Short
 ghost use Rattle.xor_chunks.specs.Refusals.{xor_refusal};
 
 use crate::ShortBits;
-use list_core::NoMemory;
 use std::alloc::{AllocError, AllocFailed};
 use wire_bytes::WireRefusal;
 
@@ -37,14 +36,6 @@ impl From<WireRefusal> for XorRefusal {
             WireRefusal::Short => XorRefusal::Short,
             WireRefusal::Overlong => XorRefusal::OutOfRange,
         }
-    }
-}
-
-impl From<NoMemory> for XorRefusal {
-    ghost from_gives = { λ _ e. e ≡ IsNoMemory };
-
-    fn from(_: NoMemory) -> Self {
-        XorRefusal::NoMemory
     }
 }
 

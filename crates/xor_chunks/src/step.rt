@@ -23,7 +23,7 @@ fn field_value(width: u32, field: u64) -> i64
     }
 }
 
-/// The time that comes so long after another, with how long that is: what it was before, and how it changed.
+/// The time after a step, and how long that is: `delta`, as the step before it, and `change` more.
 #[inline(always)]
 fn time_after(time: i64, delta: u64, change: i128) -> Result<(i64, u64), XorRefusal>
     requires low { negsuc (2 ^ 64) ≤ℤ change }
@@ -48,7 +48,7 @@ fn is_near(number: i64) -> bool
     -FAR <= number && number < FAR
 }
 
-/// The same in 64 bits, where these hold all sums and no refusal is due.
+/// The time after a step, computed in 64 bits, where these hold all sums and no refusal is due.
 #[inline(always)]
 fn near_time(time: i64, delta: u64, change: i128) -> Option<(i64, u64)>
     ensures { IfSome result (λ x. time_after time (pos delta +ℤ change) ≡ Ok x) }
@@ -66,7 +66,7 @@ fn near_time(time: i64, delta: u64, change: i128) -> Option<(i64, u64)>
     Some((time + delta, delta as u64))
 }
 
-/// The same for any step. Its temporaries stand here, off the fast path.
+/// The time after any step. Its temporaries stand here, off the fast path.
 #[inline(always)]
 fn far_time(time: i64, delta: i128) -> Result<(i64, u64), XorRefusal>
     requires low { negsuc (2 ^ 65) ≤ℤ delta }
@@ -77,7 +77,7 @@ fn far_time(time: i64, delta: i128) -> Result<(i64, u64), XorRefusal>
     Ok((after, delta))
 }
 
-/// The time that comes so long after another, with how long that is.
+/// The time that comes `delta` after another, and `delta` itself.
 #[cold]
 #[inline(never)]
 fn wide_time(time: i64, delta: i128) -> Result<(i64, u64), XorRefusal>
@@ -104,7 +104,7 @@ fn take(reader: &mut BitReader<'_>, count: u32) -> Result<u64, XorRefusal>
     Ok(reader.take_bits(count)?)
 }
 
-/// The same for bits that were peeked at.
+/// The next bits, which were peeked at, as a number.
 #[inline(always)]
 fn take_peeked(reader: &mut BitReader<'_>, count: u32) -> Result<u64, XorRefusal>
     requires { count ≤ 64 }
@@ -154,7 +154,7 @@ fn take_value(
     take_within(reader, pattern, Window::told_by(told))
 }
 
-/// The sample that comes later by a step which has changed by so much, behind bits that were read from a word.
+/// The sample whose step is `change` longer than the step before, behind `known` bits that were read from a word.
 #[inline(always)]
 fn follow_known(
     reader: &mut BitReader<'_>,
@@ -167,7 +167,8 @@ fn follow_known(
     requires word { Shows word (known + 13) reader.old }
     requires low { negsuc (2 ^ 64) ≤ℤ change }
     requires high { change ≤ℤ pos (2 ^ 64) }
-    ensures { Reads state_of reader.new result (behind known (follow_at (state_of last) change) reader.old) }
+    ensures { Reads state_of reader.new result
+        (behind known (follow_at (state_of last) change) reader.old) }
 {
     let (pattern, window) = take_value(reader, word, known, last.pattern, last.window)?;
     if !window.is_inside() {
@@ -182,7 +183,7 @@ fn follow_known(
     })
 }
 
-/// The sample that comes later by a step which has changed by so much.
+/// The sample whose step is `change` longer than the step before.
 #[inline(always)]
 pub(crate) fn follow(
     reader: &mut BitReader<'_>,
@@ -210,11 +211,12 @@ fn row_in(word: u64, known: u32, width: u32) -> (i64, u32)
     (field_value(width, field), known + width)
 }
 
-/// By how much a step has changed, and how many bits tell it, where a field of less than 64 bits does.
+/// By how much a step has changed, and how many bits tell it, where fewer than 64 bits do.
 #[inline(always)]
 fn short_change(word: u64) -> Option<(i64, u32)>
     requires { word / 2 ^ 63 ≡ 1 }
-    ensures told { IfSome result (λ x. (bits : List Bool) → Shows word 24 bits → change_at bits ≡ behind x.1 (λ after. Ok (x.0, after)) bits) }
+    ensures told { IfSome result (λ x. (bits : List Bool) → Shows word 24 bits
+        → change_at bits ≡ behind x.1 (λ after. Ok (x.0, after)) bits) }
     ensures few { IfSome result (λ x. x.1 ≤ 24) }
     ensures none { IfNone result (word / 2 ^ 60 ≡ 15) }
 {
@@ -260,7 +262,8 @@ pub(crate) fn next<'a>(
     Ok((after, reader))
 }
 
-/// The next sample, whose step's change is told in a field of 64 bits. Its temporaries stand here, off the fast path.
+/// The next sample, whose step's change stands in a field of 64 bits. Its temporaries stand here, off
+/// the fast path.
 #[inline(always)]
 fn next_by_long_change<'a>(
     reader: BitReader<'a>,

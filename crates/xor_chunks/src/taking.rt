@@ -2,55 +2,54 @@ ghost use Rattle.std.specs.Prelude.{◌≡◌, ◌↔◌, ◌^◌, ◌<◌, ◌�
 ghost use Rattle.xor_chunks.specs.Bits.{bits_of};
 ghost use Rattle.xor_chunks.specs.Buffer.{IsBuffer, buffered};
 
-use crate::refill::refilled;
+use crate::refill::refill_word;
 
-/// The next bits as a number, and the word, how many bits wait in it and the bytes after them; nothing where bits lack.
+/// The next bits as a number, and then the word, how many bits wait in it and the bytes after them;
+/// nothing where bits lack.
 #[inline(always)]
-pub fn taken(need: u32, word: u64, count: u32, bytes: &[u8]) -> Option<(u64, u64, u32, &[u8])>
+pub fn take_from(need: u32, word: u64, count: u32, bytes: &[u8]) -> Option<(u64, u64, u32, &[u8])>
     requires few { need ≤ 64 }
     requires buffer { IsBuffer word count }
-    ensures taken { IfSome result (λ t. buffered word count bytes.now ≡ bits_of need t.0 ++ buffered t.1 t.2 t.3.now) }
+    ensures taken { IfSome result (λ t. buffered word count bytes.now
+        ≡ bits_of need t.0 ++ buffered t.1 t.2 t.3.now) }
     ensures number { IfSome result (λ t. t.0 < 2 ^ need) }
     ensures buffer { IfSome result (λ t. IsBuffer t.1 t.2) }
     ensures short { IsNone result ↔ (length (buffered word count bytes.now) < need) }
 {
     if need <= count {
-        Some(waiting(need, word, count, bytes))
+        Some(take_waiting(need, word, count, bytes))
     } else if bytes.len() >= 8 {
-        Some(crossing(need, word, count, bytes))
+        Some(take_across(need, word, count, bytes))
     } else {
-        taken_at_end(need, word, count, bytes)
+        take_at_end(need, word, count, bytes)
     }
 }
 
-/// The same where the bits wait already, as a rule.
+/// Takes bits that as a rule wait already.
 #[inline(always)]
-pub fn taken_peeked(
-    need: u32,
-    word: u64,
-    count: u32,
-    bytes: &[u8],
-) -> Option<(u64, u64, u32, &[u8])>
+pub fn take_ready(need: u32, word: u64, count: u32, bytes: &[u8]) -> Option<(u64, u64, u32, &[u8])>
     requires few { need ≤ 64 }
     requires buffer { IsBuffer word count }
-    ensures taken { IfSome result (λ t. buffered word count bytes.now ≡ bits_of need t.0 ++ buffered t.1 t.2 t.3.now) }
+    ensures taken { IfSome result (λ t. buffered word count bytes.now
+        ≡ bits_of need t.0 ++ buffered t.1 t.2 t.3.now) }
     ensures number { IfSome result (λ t. t.0 < 2 ^ need) }
     ensures buffer { IfSome result (λ t. IsBuffer t.1 t.2) }
     ensures short { IsNone result ↔ (length (buffered word count bytes.now) < need) }
 {
     if need <= count {
-        Some(waiting(need, word, count, bytes))
+        Some(take_waiting(need, word, count, bytes))
     } else {
-        taken_at_end(need, word, count, bytes)
+        take_at_end(need, word, count, bytes)
     }
 }
 
 /// Bits that wait.
 #[inline(always)]
-fn waiting(need: u32, word: u64, count: u32, bytes: &[u8]) -> (u64, u64, u32, &[u8])
+fn take_waiting(need: u32, word: u64, count: u32, bytes: &[u8]) -> (u64, u64, u32, &[u8])
     requires wait { need ≤ count }
     requires buffer { IsBuffer word count }
-    ensures taken { buffered word count bytes.now ≡ bits_of need result.0 ++ buffered result.1 result.2 result.3.now }
+    ensures taken { buffered word count bytes.now
+        ≡ bits_of need result.0 ++ buffered result.1 result.2 result.3.now }
     ensures number { result.0 < 2 ^ need }
     ensures buffer { IsBuffer result.1 result.2 }
 {
@@ -64,12 +63,13 @@ fn waiting(need: u32, word: u64, count: u32, bytes: &[u8]) -> (u64, u64, u32, &[
 
 /// All bits that wait, and the first of the next eight bytes.
 #[inline(always)]
-fn crossing(need: u32, word: u64, count: u32, bytes: &[u8]) -> (u64, u64, u32, &[u8])
+fn take_across(need: u32, word: u64, count: u32, bytes: &[u8]) -> (u64, u64, u32, &[u8])
     requires few { need ≤ 64 }
     requires more { count < need }
     requires buffer { IsBuffer word count }
     requires bytes { 8 ≤ length bytes.now }
-    ensures taken { buffered word count bytes.now ≡ bits_of need result.0 ++ buffered result.1 result.2 result.3.now }
+    ensures taken { buffered word count bytes.now
+        ≡ bits_of need result.0 ++ buffered result.1 result.2 result.3.now }
     ensures number { result.0 < 2 ^ need }
     ensures buffer { IsBuffer result.1 result.2 }
 {
@@ -87,48 +87,51 @@ fn crossing(need: u32, word: u64, count: u32, bytes: &[u8]) -> (u64, u64, u32, &
 
 /// Bits that wait, or come in the last bytes. Its temporaries stand here, off the fast path.
 #[inline(always)]
-fn taken_at_end(need: u32, word: u64, count: u32, bytes: &[u8]) -> Option<(u64, u64, u32, &[u8])>
+fn take_at_end(need: u32, word: u64, count: u32, bytes: &[u8]) -> Option<(u64, u64, u32, &[u8])>
     requires few { need ≤ 64 }
     requires buffer { IsBuffer word count }
-    ensures taken { IfSome result (λ t. buffered word count bytes.now ≡ bits_of need t.0 ++ buffered t.1 t.2 t.3.now) }
+    ensures taken { IfSome result (λ t. buffered word count bytes.now
+        ≡ bits_of need t.0 ++ buffered t.1 t.2 t.3.now) }
     ensures number { IfSome result (λ t. t.0 < 2 ^ need) }
     ensures buffer { IfSome result (λ t. IsBuffer t.1 t.2) }
     ensures short { IsNone result ↔ (length (buffered word count bytes.now) < need) }
 {
-    let (number, word, count, bytes) = taken_slowly(need, word, count, bytes)?;
+    let (number, word, count, bytes) = take_slowly(need, word, count, bytes)?;
     Some((number, word, count, bytes))
 }
 
 #[cold]
 #[inline(never)]
-fn taken_slowly(need: u32, word: u64, count: u32, bytes: &[u8]) -> Option<(u64, u64, u32, &[u8])>
+fn take_slowly(need: u32, word: u64, count: u32, bytes: &[u8]) -> Option<(u64, u64, u32, &[u8])>
     requires few { need ≤ 64 }
     requires buffer { IsBuffer word count }
-    ensures taken { IfSome result (λ t. buffered word count bytes.now ≡ bits_of need t.0 ++ buffered t.1 t.2 t.3.now) }
+    ensures taken { IfSome result (λ t. buffered word count bytes.now
+        ≡ bits_of need t.0 ++ buffered t.1 t.2 t.3.now) }
     ensures number { IfSome result (λ t. t.0 < 2 ^ need) }
     ensures buffer { IfSome result (λ t. IsBuffer t.1 t.2) }
     ensures short { IsNone result ↔ (length (buffered word count bytes.now) < need) }
 {
     if need <= 32 {
-        return half(need, word, count, bytes);
+        return take_half(need, word, count, bytes);
     }
-    let (high, word, count, bytes) = half(need - 32, word, count, bytes)?;
-    let (low, word, count, bytes) = half(32, word, count, bytes)?;
+    let (high, word, count, bytes) = take_half(need - 32, word, count, bytes)?;
+    let (low, word, count, bytes) = take_half(32, word, count, bytes)?;
     Some(((high << 32) | low, word, count, bytes))
 }
 
 /// At most half a word of bits.
-fn half(need: u32, word: u64, count: u32, bytes: &[u8]) -> Option<(u64, u64, u32, &[u8])>
+fn take_half(need: u32, word: u64, count: u32, bytes: &[u8]) -> Option<(u64, u64, u32, &[u8])>
     requires few { need ≤ 32 }
     requires buffer { IsBuffer word count }
-    ensures taken { IfSome result (λ t. buffered word count bytes.now ≡ bits_of need t.0 ++ buffered t.1 t.2 t.3.now) }
+    ensures taken { IfSome result (λ t. buffered word count bytes.now
+        ≡ bits_of need t.0 ++ buffered t.1 t.2 t.3.now) }
     ensures number { IfSome result (λ t. t.0 < 2 ^ need) }
     ensures buffer { IfSome result (λ t. IsBuffer t.1 t.2) }
     ensures short { IsNone result ↔ (length (buffered word count bytes.now) < need) }
 {
-    let (word, count, bytes) = refilled(need, word, count, bytes);
+    let (word, count, bytes) = refill_word(need, word, count, bytes);
     if count < need {
         return None;
     }
-    Some(waiting(need, word, count, bytes))
+    Some(take_waiting(need, word, count, bytes))
 }

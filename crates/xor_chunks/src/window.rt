@@ -11,9 +11,9 @@ pub(crate) struct Window {
 
 impl Model for Window {
     ghost use Rattle.std.specs.Prelude.{◌<◌, ◌≤◌};
-    ghost use Rattle.xor_chunks.specs.Window.{Window as Part};
+    ghost use Rattle.xor_chunks.specs.Window.{Window as WindowParts};
 
-    ghost Value = { Part };
+    ghost Value = { WindowParts };
 
     ghost view = { λ w. record { lead = w.lead; width = w.width } };
 

@@ -4,30 +4,30 @@ use Rattle.xor_chunks.specs.Written.{trail}
 use Rattle.xor_chunks.proofs.Codes.{put_one, put_two, value_same, value_within, value_opens, is_unset, opened_head}
 use Rattle.xor_chunks.proofs.encoding.put_value.Goals as goal
 
-pub returns-then-change-eq0-clause-bits : goal.returns-then-change-eq0-clause-bits
-returns-then-change-eq0-clause-bits c = put_one c.put.new.writer c.args.writer.now c.args.code c.and_field.result _ _ c.in_ok-put.ensures c.and_field.ensures.bits (value_same c.args.window c.args.change c.if-change-eq0.true).0
+pub returns-then-change-eq0 : goal.returns-then-change-eq0
+returns-then-change-eq0 c =
+    let value = value_same c.args.window c.args.change c.if-change-eq0.true in
+    record { bits = put_one c.put.new.writer c.args.writer.now c.args.code c.and_field.result _ _ c.in_ok-put.ensures c.and_field.ensures.bits value.0; window = value.1 }
 
-pub returns-then-change-eq0-clause-window : goal.returns-then-change-eq0-clause-window
-returns-then-change-eq0-clause-window c = (value_same c.args.window c.args.change c.if-change-eq0.true).1
-
-pub returns-in-Set-clause-bits : goal.returns-in-Set-clause-bits
-returns-in-Set-clause-bits c =
-    let value = value_within c.args.window c.in-Set.set c.args.change c.if-change-eq0.false (sym c.reused.ensures ∙ c.in-Set.is) in
+pub returns-in-Set : goal.returns-in-Set
+returns-in-Set c =
+    let value = value_within c.args.window c.in-Set.set c.args.change c.if-change-eq0.false (sym c.window_to_reuse.ensures ∙ c.in-Set.is) in
     let tail : bits_of c.width.result c.field.result ≡ bits_of c.in-Set.set.width (c.args.change / 2 ^ trail c.in-Set.set) = ap (λ n. bits_of n c.field.result) c.width.ensures.width ∙ ap (bits_of c.in-Set.set.width) c.field.ensures in
-    put_two c.put_bits.new.self c.put-in-Set.new.writer c.args.writer.now c.args.code c.and_field-in-Set.result _ _ _ c.in_ok-put_bits.ensures.ok c.in_ok-put-2.ensures c.and_field-in-Set.ensures.bits (ap (λ (a : List Bool). bits_of 2 2 ++ a) tail ∙ value.0)
+    record {
+      bits = put_two c.put_bits.new.self c.put-in-Set.new.writer c.args.writer.now c.args.code c.and_field-in-Set.result _ _ _ c.in_ok-put_bits.ensures.ok c.in_ok-put-2.ensures c.and_field-in-Set.ensures.bits (ap (λ (a : List Bool). bits_of 2 2 ++ a) tail ∙ value.0);
+      window = value.1;
+    }
 
-pub returns-in-Set-clause-window : goal.returns-in-Set-clause-window
-returns-in-Set-clause-window c = (value_within c.args.window c.in-Set.set c.args.change c.if-change-eq0.false (sym c.reused.ensures ∙ c.in-Set.is)).1
-
-pub returns-clause-bits : goal.returns-clause-bits
-returns-clause-bits c =
+pub returns : goal.returns
+returns c =
     let set = c.round-set.result in
-    let value = value_opens c.args.window set c.args.change c.if-change-eq0.false (sym c.reused.ensures ∙ is_unset c.reused.result c.in_default.not-Set) c.round-set.ensures in
+    let value = value_opens c.args.window set c.args.change c.if-change-eq0.false (sym c.window_to_reuse.ensures ∙ is_unset c.window_to_reuse.result c.in_default.not-Set) c.round-set.ensures in
     let tail : bits_of c.width-3.result c.field-2.result ≡ bits_of set.width (c.args.change / 2 ^ trail set) = ap (λ n. bits_of n c.field-2.result) c.width-3.ensures.width ∙ ap (bits_of set.width) c.field-2.ensures in
     let head = opened_head c.args.code c.and_field-2.result c.and_field-3.result c.and_field-4.result (bits_of 2 3) (bits_of 5 c.from.result) (bits_of 6 c.from-2.result) c.and_field-2.ensures.bits c.and_field-3.ensures.bits c.and_field-4.ensures.bits in
     let fields : (bits_of 2 3 ++ bits_of 5 c.from.result) ++ bits_of 6 c.from-2.result ≡ (bits_of 2 3 ++ bits_of 5 set.lead) ++ bits_of 6 set.width =
     ap (λ n. (bits_of 2 3 ++ bits_of 5 n) ++ bits_of 6 c.from-2.result) (c.from.ensures ∙ c.lead.ensures) ∙ ap (λ n. (bits_of 2 3 ++ bits_of 5 set.lead) ++ bits_of 6 n) (c.from-2.ensures ∙ c.width-2.ensures.width) in
-    put_two c.put_bits-2.new.self c.put-2.new.writer c.args.writer.now c.args.code c.and_field-4.result _ _ _ c.in_ok-put_bits-2.ensures.ok c.in_ok-put-3.ensures head (ap (λ (a : List Bool). a ++ bits_of c.width-3.result c.field-2.result) fields ∙ ap (λ (a : List Bool). (bits_of 2 3 ++ bits_of 5 set.lead) ++ bits_of 6 set.width ++ a) tail ∙ value.0)
-
-pub returns-clause-window : goal.returns-clause-window
-returns-clause-window c = (value_opens c.args.window c.round-set.result c.args.change c.if-change-eq0.false (sym c.reused.ensures ∙ is_unset c.reused.result c.in_default.not-Set) c.round-set.ensures).1
+    record {
+      bits = put_two c.put_bits-2.new.self c.put-2.new.writer c.args.writer.now c.args.code c.and_field-4.result _ _ _ c.in_ok-put_bits-2.ensures.ok c.in_ok-put-3.ensures head
+          (ap (λ (a : List Bool). a ++ bits_of c.width-3.result c.field-2.result) fields ∙ ap (λ (a : List Bool). (bits_of 2 3 ++ bits_of 5 set.lead) ++ bits_of 6 set.width ++ a) tail ∙ value.0);
+      window = value.1;
+    }

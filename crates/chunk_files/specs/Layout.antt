@@ -1,0 +1,28 @@
+-- The numbers of a segment file.
+use Rattle.std.specs.Prelude.{ℕ}
+
+-- what a segment begins with
+abbrev pub magic : ℕ
+magic = 0x85BD40DD
+
+abbrev pub version : ℕ
+version = 1
+
+-- how many bytes a segment's header has
+abbrev pub header_size : ℕ
+header_size = 8
+
+-- how many bytes a segment has at most
+abbrev pub greatest : ℕ
+greatest = 67108864
+
+-- ---- encodings of a chunk's data
+
+abbrev pub xor : ℕ
+xor = 1
+
+abbrev pub histogram : ℕ
+histogram = 2
+
+abbrev pub float_histogram : ℕ
+float_histogram = 3

@@ -1,0 +1,19 @@
+//! The numbers of a segment file.
+
+/// What a segment begins with.
+pub(crate) const MAGIC: u32 = 0x85BD_40DD;
+
+pub(crate) const VERSION: u8 = 1;
+
+/// The length of a segment's header, before which no chunk begins.
+pub(crate) const HEADER: u64 = 8;
+
+/// The greatest length of a segment.
+pub(crate) const GREATEST: usize = 67_108_864;
+
+/// The encoding of XOR data; those of histograms come next.
+pub(crate) const XOR: u8 = 1;
+
+pub(crate) const HISTOGRAM: u8 = 2;
+
+pub(crate) const FLOAT_HISTOGRAM: u8 = 3;
