@@ -69,7 +69,7 @@ pub record IsLong (text bytes : List ℕ) : Type 0 where
 text_found : (p q : Position) (bytes : List ℕ) → IsBytes (left p) → text_at p ≡ Ok (bytes, q) → HasFront IsLong (left p) bytes (left q)
 unfolding text_at
 text_found p q bytes are e =
-    let x = bind_ok (field uvarint_at p) (λ size. field (bytes_at size.0) size.1) (bytes, q) e in
+    let x = bind_ok _ _ _ e in
     let size = uvarint_field.found p x.0.1 x.0.0 are x.1 in
     let front = bytes_found x.0.0 x.0.1 q bytes (placed_ok (bytes_at x.0.0) x.0.1 q bytes x.2) in
     let long : IsLong (size.0 ++ bytes) bytes = record { size = size.0; size_is = subst (IsUvarint size.0) (sym front.0) size.1; text_is = refl } in

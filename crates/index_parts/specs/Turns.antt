@@ -12,6 +12,6 @@ abbrev pub InOrderAfter : {A : Type 0} → (Option A → A → Type 0) → Optio
 InOrderAfter MayFollow before [] = Unit {0}
 InOrderAfter MayFollow before (member ∷ members) = MayFollow before member × InOrderAfter MayFollow (Some member) members
 
--- the same of the first one too, which stands behind none
+-- and the first one behind none
 abbrev pub InOrder : {A : Type 0} → (Option A → A → Type 0) → List A → Type 0
 InOrder MayFollow members = InOrderAfter MayFollow None members
