@@ -4,17 +4,14 @@ use Rattle.std.specs.Int.{w64}
 use Rattle.std.specs.Int.RustNames.{FitsSigned, unsigned_abs}
 use Rattle.std.proofs.lemmas.Bool.{ltb-true, lt-ltb}
 use Rattle.reading_core.specs.Decimal.{fits_signed}
-use Rattle.reading_core.specs.Reading.{◌>>=◌, ◌>>◌, unless}
 use Rattle.reading_core.specs.Grammar.{IsBytes, HasFront}
 use Rattle.reading_core.proofs.Fronts.{IsBytes-after}
-use Rattle.reading_core.proofs.Binds.{bind_ok, unless_ok, ok_is}
+use Rattle.reading_core.proofs.Binds.{bind_ok, unless_ok}
 use Rattle.wire_bytes.specs.Position.{Position, left}
-use Rattle.wire_bytes.specs.Fields.{uvarint_at, varint_at, zigzag}
+use Rattle.wire_bytes.specs.Fields.{zigzag}
 use Rattle.wire_bytes.specs.FieldTexts.{IsUvarint, IsVarint}
-use Rattle.index_parts.specs.declared.refusal.PartRefusal.{PartRefusal}
 use Rattle.index_parts.specs.declared.refusal.PartRefusal.TheVariants.{Overlong}
 use Rattle.index_parts.specs.declared.chunk_place.ChunkPlace.{ChunkPlace}
-use Rattle.index_parts.specs.Placed.{field}
 use Rattle.index_parts.specs.SeriesEntry.{reference_of, Begins, Refers, IsNextChunk}
 use Rattle.index_parts.specs.SeriesReading.{fits_unsigned, later_at, moved_at, begin_at, reference_at, chunk_of, chunk_at}
 use Rattle.index_parts.proofs.Ranges.{signed_from_test, signed_test}

@@ -1,12 +1,10 @@
 -- The place of a label's symbol numbers among the labels of a series.
-use Rattle.std.proofs.Common.{◌≡◌, ℕ, ◌<◌, ◌≤◌, List, Some, None, Ok, Err, refl}
+use Rattle.std.proofs.Common.{◌≡◌, ℕ, ◌<◌, ◌≤◌, List, None, Ok, Err, refl}
 use Rattle.std.proofs.lemmas.Bool.{lt-ltb, le-ltb}
 use Rattle.reading_core.specs.Members.{members_at}
 use Rattle.reading_core.proofs.Counted.{members_stop}
 use Rattle.wire_bytes.specs.Position.{Position}
-use Rattle.wire_bytes.specs.Fields.{uvarint_at}
 use Rattle.index_parts.specs.declared.refusal.PartRefusal.{PartRefusal}
-use Rattle.index_parts.specs.Placed.{field}
 use Rattle.index_parts.specs.SeriesReading.{label_at, place_behind, place_among}
 
 pub none_among : (count label : ℕ) (p : Position) → count ≤ label → None ≡ place_among count label p

@@ -3,8 +3,7 @@ use Rattle.std.proofs.Common.{◌≡◌, ℕ, ◌+◌, ◌*◌, ◌≤◌, List,
 use Rattle.std.specs.Prelude.{IfOk}
 use Rattle.std.specs.Result.{IsOkAnd}
 use Rattle.std.specs.Int.{w32}
-use Rattle.reading_core.specs.Reading.{◌>>=◌, Gives}
-use Rattle.reading_core.specs.Members.{members_at}
+use Rattle.reading_core.specs.Reading.{Gives}
 use Rattle.reading_core.specs.Grammar.{IsBytes, HasFront}
 use Rattle.reading_core.proofs.Binds.{bind_ok, ok_is}
 use Rattle.reading_core.proofs.Counted.{length-members}
@@ -15,8 +14,6 @@ use Rattle.wire_bytes.specs.FieldTexts.{IsFixed}
 use Rattle.wire_bytes.proofs.FixedLaws.{wide32}
 use Rattle.index_parts.specs.declared.refusal.PartRefusal.{PartRefusal}
 use Rattle.index_parts.specs.declared.refusal.PartRefusal.TheVariants.{NoMemory}
-use Rattle.index_parts.specs.Placed.{field}
-use Rattle.index_parts.specs.Framing.{section_at}
 use Rattle.index_parts.specs.Turns.{AreInTurn}
 use Rattle.index_parts.specs.Lists.{IsList}
 use Rattle.index_parts.specs.ListReading.{turns_at, list_at}

@@ -1,16 +1,12 @@
 -- Postings lists against their grammar.
-use Rattle.std.proofs.Common.{◌≡◌, ℕ, ◌≤◌, true, List, ◌++◌, length, Option, Some, None, Ok, refl, ap, subst, arith}
+use Rattle.std.proofs.Common.{◌≡◌, ℕ, ◌≤◌, true, List, ◌++◌, length, Option, Some, None, Ok, refl, ap, arith}
 use Rattle.std.specs.Int.{w32}
 use Rattle.std.proofs.lemmas.Bool.{ltb-true, lt-ltb}
-use Rattle.reading_core.specs.Reading.{◌>>◌, unless}
 use Rattle.reading_core.specs.Grammar.{IsBytes, HasFront}
-use Rattle.reading_core.proofs.Binds.{bind_ok, unless_ok, ok_is}
+use Rattle.reading_core.proofs.Binds.{bind_ok, unless_ok}
 use Rattle.wire_bytes.specs.Position.{Position, left}
-use Rattle.wire_bytes.specs.Fields.{number_at}
 use Rattle.wire_bytes.proofs.FixedLaws.{wide32}
-use Rattle.index_parts.specs.declared.refusal.PartRefusal.{PartRefusal}
 use Rattle.index_parts.specs.declared.refusal.PartRefusal.TheVariants.{Unordered}
-use Rattle.index_parts.specs.Placed.{field}
 use Rattle.index_parts.specs.Postings.{Rises, IsNextPosting}
 use Rattle.index_parts.specs.PostingsReading.{rises, posting_at}
 use Rattle.index_parts.proofs.FieldLaws.{fixed_field}

@@ -1,6 +1,5 @@
 -- Series against their grammar.
-use Rattle.std.proofs.Common.{◌≡◌, ℕ, suc, ◌+◌, ◌*◌, ◌≤◌, List, [], ◌∷◌, ◌++◌, length, map, zip, None, Result, Ok, refl, sym, ap, subst, ◌∙◌, append_assoc, length-append, arith}
-use Rattle.reading_core.specs.Reading.{◌>>=◌}
+use Rattle.std.proofs.Common.{◌≡◌, ℕ, ◌+◌, ◌*◌, ◌≤◌, List, [], ◌∷◌, ◌++◌, length, map, zip, None, Ok, refl, sym, ap, subst, ◌∙◌, append_assoc, length-append, arith}
 use Rattle.reading_core.specs.Members.{members_at}
 use Rattle.reading_core.specs.Grammar.{IsBytes, HasFront, AreTexts}
 use Rattle.reading_core.proofs.Fronts.{IsBytes-after, members_found, members_again}
@@ -12,10 +11,6 @@ use Rattle.wire_bytes.specs.FieldTexts.{IsUvarint}
 use Rattle.index_parts.specs.declared.refusal.PartRefusal.{PartRefusal}
 use Rattle.index_parts.specs.declared.chunk_place.ChunkPlace.{ChunkPlace}
 use Rattle.index_parts.specs.declared.raw_series.RawSeries.{RawSeries}
-use Rattle.index_parts.specs.Placed.{field}
-use Rattle.index_parts.specs.Framing.{entry_at}
-use Rattle.index_parts.specs.Turns.{AreInTurn}
-use Rattle.index_parts.specs.ListReading.{turns_at}
 use Rattle.index_parts.specs.SeriesEntry.{IsLabel, IsNextChunk, IsSeries}
 use Rattle.index_parts.specs.SeriesReading.{labels_begin_at, label_at, labels_at, chunk_at, chunks_at, series_at}
 use Rattle.index_parts.proofs.FieldLaws.{uvarint_field}

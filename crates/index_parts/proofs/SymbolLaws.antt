@@ -1,18 +1,16 @@
 -- Symbol tables against their grammar.
-use Rattle.std.proofs.Common.{◌≡◌, ℕ, ◌-◌, ◌≤◌, true, List, [], ◌∷◌, ◌++◌, length, Option, Some, None, Result, Ok, refl, ap, subst, arith}
+use Rattle.std.proofs.Common.{◌≡◌, ℕ, ◌-◌, ◌≤◌, true, List, [], ◌∷◌, ◌++◌, length, Option, Some, None, Ok, refl, ap, arith}
 use Rattle.std.specs.declared.cmp.Ordering.{Ordering}
 use Rattle.std.specs.declared.cmp.Ordering.TheVariants.{Less, Equal, Greater}
 use Rattle.std.specs.Ordering.{is_lt}
 use Rattle.std.specs.Str.{is_utf8}
 use Rattle.std.proofs.lemmas.List.{length-append}
 use Rattle.std.proofs.lemmas.Str.{IsUtf8-from_is_utf8, is_utf8-from_IsUtf8}
-use Rattle.reading_core.specs.Reading.{◌>>◌, unless}
 use Rattle.reading_core.specs.Grammar.{IsBytes, HasFront}
-use Rattle.reading_core.proofs.Binds.{bind_ok, unless_ok, ok_is}
+use Rattle.reading_core.proofs.Binds.{bind_ok, unless_ok}
 use Rattle.wire_bytes.specs.Position.{Position, left}
 use Rattle.wire_bytes.specs.FieldTexts.{IsUvarint, IsGroups}
 use Rattle.label_sets.specs.Labels.{compare_texts}
-use Rattle.index_parts.specs.declared.refusal.PartRefusal.{PartRefusal}
 use Rattle.index_parts.specs.declared.refusal.PartRefusal.TheVariants.{Unordered, NotText}
 use Rattle.index_parts.specs.Placed.{text_at}
 use Rattle.index_parts.specs.Framed.{IsText}

@@ -17,13 +17,13 @@ use Rattle.wire_bytes.proofs.GroupTexts.{uvarint_text_is}
 use Rattle.index_parts.specs.Turns.{AreInTurn, InOrderAfter, InOrder}
 use Rattle.index_parts.specs.Framed.{IsSection, IsText, text_field}
 use Rattle.index_parts.specs.Lists.{IsList, list_content}
-use Rattle.index_parts.specs.Symbols.{MayFollow, IsNextSymbol, IsSymbols}
+use Rattle.index_parts.specs.Symbols.{MayFollow, IsNextSymbol}
 use Rattle.index_parts.specs.Postings.{Rises, IsNextPosting, IsPostings}
 use Rattle.wire_bytes.specs.Crc.{crc}
 use Rattle.index_parts.specs.declared.toc.Toc.{Toc}
 use Rattle.index_parts.specs.declared.postings_row.PostingsRow.{PostingsRow}
 use Rattle.index_parts.specs.Contents.{references_of, IsToc, references_text}
-use Rattle.index_parts.specs.Rows.{MayComeAfter, IsNextRow, IsPostingsTable, IsWritable, row_text}
+use Rattle.index_parts.specs.Rows.{MayComeAfter, IsNextRow, IsWritable, row_text}
 use Rattle.index_parts.specs.LabelIndices.{IsLabelIndex, label_index_content}
 
 -- the content that was appended, by how it was made

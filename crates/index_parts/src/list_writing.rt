@@ -217,7 +217,7 @@ pub fn write_label_offsets(
     // The rows stand where they were written, whatever is appended after them.
     ensures stands { (after : List ℕ)
         → OnOk result (IsLabelOffsets (out.new.items ++ after) (length out.old.items)
-            (zip names.now offsets.now)) }
+        (zip names.now offsets.now)) }
 {
     let content = offsets_content(*out.allocator(), names.members(), offsets.members())?;
     append_section(out, content.as_slice())

@@ -53,7 +53,7 @@ impl<'a> PostingsTable<'a> {
     /// The name, the value and the place of a row.
     pub fn get(&self, place: usize) -> Option<(&'a str, &'a str, u64)>
         ensures { option_map
-        (λ row. record { name = row.0.now; value = row.1.now; offset = row.2 }) result
+            (λ row. record { name = row.0.now; value = row.1.now; offset = row.2 }) result
             ≡ slice_get self.now place }
     {
         match self.rows.get(place) {

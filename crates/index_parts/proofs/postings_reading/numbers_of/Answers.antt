@@ -1,4 +1,4 @@
-use Rattle.std.proofs.Common.{rules, None}
+use Rattle.std.proofs.Common.{rules}
 use Rattle.reading_core.proofs.Counted.{loop_start, loop_step}
 use Rattle.index_parts.specs.PostingsReading.{posting_at}
 use Rattle.index_parts.specs.ListReading.{turns_at}

@@ -1,8 +1,7 @@
-use Rattle.std.proofs.Common.{rules, None, map}
+use Rattle.std.proofs.Common.{rules}
 use Rattle.std.proofs.lemmas.List.{map_push}
 use Rattle.reading_core.proofs.Counted.{loop_start, loop_step}
 use Rattle.index_parts.specs.RowsReading.{row_at}
-use Rattle.index_parts.specs.Lent.{row_of, row_before}
 use Rattle.index_parts.specs.ListReading.{turns_at}
 use Rattle.index_parts.specs.declared.refusal.PartRefusal.TheVariants.{NoMemory}
 use Rattle.index_parts.proofs.Loops.{turns_exit, turns_end}

@@ -1,5 +1,4 @@
-use Rattle.std.proofs.Common.{rules, None, map}
-use Rattle.std.specs.Option.{option_copied}
+use Rattle.std.proofs.Common.{rules}
 use Rattle.std.proofs.lemmas.List.{map_push}
 use Rattle.reading_core.proofs.Counted.{loop_start, loop_step}
 use Rattle.index_parts.specs.SymbolsReading.{symbol_at}
