@@ -14,7 +14,7 @@ use Rattle.index_parts.specs.declared.refusal.PartRefusal.TheVariants.{Overlong}
 use Rattle.index_parts.specs.declared.chunk_place.ChunkPlace.{ChunkPlace}
 use Rattle.index_parts.specs.SeriesEntry.{reference_of, Begins, Refers, IsNextChunk}
 use Rattle.index_parts.specs.SeriesReading.{fits_unsigned, later_at, moved_at, begin_at, reference_at, chunk_of, chunk_at}
-use Rattle.index_parts.proofs.Ranges.{signed_from_test, signed_test}
+use Rattle.reading_core.proofs.SignedRanges.{fits_from_test, test_from_fits}
 use Rattle.index_parts.proofs.FieldLaws.{uvarint_field, varint_field}
 use Rattle.index_parts.proofs.TurnLaws.{field_found, turn_found}
 use Rattle.index_parts.proofs.ListLaws.{IsTurnOf}
@@ -40,13 +40,13 @@ later_found time p q t are e =
     let by = bind_ok _ _ _ e in
     let tested = unless_ok (fits_signed (time +ℤ pos by.0.0)) (Overlong p.place) _ _ by.2 in
     let front = uvarint_field.found p by.0.1 by.0.0 are by.1 in
-    field_found (IsLater time) p by.0.1 q front.0 (time +ℤ pos by.0.0) t (record { by = by.0.0; text_is = front.1; value = refl; fits = signed_from_test (time +ℤ pos by.0.0) tested.0 }) front.2 tested.1
+    field_found (IsLater time) p by.0.1 q front.0 (time +ℤ pos by.0.0) t (record { by = by.0.0; text_is = front.1; value = refl; fits = fits_from_test (time +ℤ pos by.0.0) tested.0 }) front.2 tested.1
 
 later_again : (time : ℤ) (p : Position) (text : List ℕ) (t : ℤ) (after : List ℕ) → IsLater time text t → left p ≡ text ++ after → (q : Position) × (later_at time p ≡ Ok (t, q)) × (left q ≡ after)
 unfolding later_at
 later_again time p text t after is e =
     let by = uvarint_field.again p text is.by after is.text_is e in
-    let tested : fits_signed (time +ℤ pos is.by) ≡ true = subst (λ (z : ℤ). fits_signed z ≡ true) is.value (signed_test t is.fits) in
+    let tested : fits_signed (time +ℤ pos is.by) ≡ true = subst (λ (z : ℤ). fits_signed z ≡ true) is.value (test_from_fits t is.fits) in
     (by.0, rw (by.1, tested, is.value) refl, by.2)
 
 -- the begin of the next chunk, within 64 bits

@@ -20,8 +20,8 @@ use Rattle.index_parts.specs.declared.refusal.PartRefusal.TheVariants.{Short, Ba
 use Rattle.index_parts.specs.Placed.{at_place, field}
 use Rattle.index_parts.specs.Framed.{IsFramed}
 use Rattle.index_parts.specs.Framing.{summed_at, framed_at}
-use Rattle.index_parts.proofs.Moves.{bytes_parts}
-use Rattle.index_parts.proofs.FieldLaws.{IsFieldOf, bytes_found, bytes_again}
+use Rattle.wire_bytes.proofs.ByteFields.{bytes_parts, bytes_split, bytes_again}
+use Rattle.index_parts.proofs.FieldLaws.{IsFieldOf}
 
 -- content and its sum, and what follows
 pub record IsSummed (bytes content after : List ℕ) : Type 0 where
@@ -40,7 +40,7 @@ summed_found at size p q are e =
     let tested = unless_ok (y.0.0 == crc x.0.0) (BadSum y.0.0 (crc x.0.0)) _ _ y.2 in
     let content_read = refused_as_ok (λ _. Short at) (bytes_at size p) x.0 x.1 in
     let parts = bytes_parts size p x.0.1 x.0.0 content_read in
-    let content = bytes_found size p x.0.1 x.0.0 content_read in
+    let content = bytes_split size p x.0.1 x.0.0 content_read in
     let kept = number_found w32 wide32 x.0.1 y.0.1 y.0.0 (IsBytes-after x.0.0 (left x.0.1) (left p) content.1 are) (refused_as_ok (λ _. Short at) (number_at w32 x.0.1) y.0 y.1) in
     let end : p.place + size ≡ x.0.1.place = ap (λ (r : Position). r.place) parts.2 in
     let here : left q ≡ x.0.0 = ap left (sym (ok_is {E = PartRefusal} _ _ tested.1)) ∙ ap (λ (n : ℕ). left (at_place (take n p.bytes) p.place)) (sym end) ∙ content_left p size ∙ parts.1 in

@@ -1,4 +1,5 @@
 -- Fields move a position within the same bytes, and no field begins past their end.
+use Rattle.wire_bytes.proofs.ByteFields.{bytes_parts}
 use Rattle.std.proofs.Common.{◌≡◌, ℕ, ◌+◌, ◌<◌, ◌≤◌, ltb, List, [], length, take, Result, Ok, Err, refl, sym, ap, ◌∙◌, arith}
 use Rattle.std.specs.Int.{w32, byte_len, from_be_bytes}
 use Rattle.std.proofs.lemmas.Bool.{ltb-false}
@@ -13,13 +14,6 @@ use Rattle.index_parts.specs.declared.refusal.PartRefusal.{PartRefusal}
 use Rattle.index_parts.specs.declared.refusal.PartRefusal.TheVariants.{Short}
 use Rattle.index_parts.specs.Placed.{at_place, field}
 use Rattle.index_parts.specs.Framing.{summed_at, framed_at}
-
-pub bytes_parts : (count : ℕ) (p q : Position) (bytes : List ℕ) → bytes_at count p ≡ Ok (bytes, q) → (count ≤ length (left p)) × (take count (left p) ≡ bytes) × (further count p ≡ q)
-unfolding bytes_at
-bytes_parts count p q bytes e =
-    let g = cond_ok (ltb (length (left p)) count) wire.Short (Ok (take count (left p), further count p)) (bytes, q) e in
-    let same : ◌≡◌ {A = List ℕ × Position} (take count (left p), further count p) (bytes, q) = ok_is {E = WireRefusal} _ _ g.1 in
-    (ltb-false _ _ g.0, ap (λ (y : List ℕ × Position). y.0) same, ap (λ (y : List ℕ × Position). y.1) same)
 
 -- How a length is read: that moves a position within the same bytes, and nothing is read past their end.
 pub record IsSizeOf (size_at : Position → Result (ℕ × Position) WireRefusal) : Type 0 where

@@ -9,7 +9,7 @@ use Rattle.index_parts.specs.Turns.{InOrderAfter}
 use Rattle.index_parts.specs.Framed.{IsSection, text_field}
 use Rattle.index_parts.specs.Lists.{list_content}
 use Rattle.index_parts.specs.LabelIndices.{IsOffset, IsLabelOffsets, offset_text}
-use Rattle.index_parts.proofs.PairLists.{zip_size}
+use Rattle.list_core.proofs.Lists.{length-zip}
 use Rattle.index_parts.proofs.Writing.{IsWrittenBy, list_stands, count_fits, text_written}
 
 -- ---- where it stands
@@ -18,11 +18,11 @@ pub offset_size : (row : List ℕ × ℕ) → 1 ≤ length (offset_text row)
 offset_size row = omega arith
 
 pub offsets_few : (names : List (List ℕ)) (offsets : List ℕ) → length names ≡ length offsets → length (list_content offset_text (zip names offsets)) < 2 ^ 32 → length names < 2 ^ 32
-offsets_few names offsets many fits = omega (arith, zip_size names offsets many, count_fits offset_text offset_size (zip names offsets) fits)
+offsets_few names offsets many fits = omega (arith, length-zip names offsets many, count_fits offset_text offset_size (zip names offsets) fits)
 
 -- the content with its count, by the rows or by the names
 pub offsets_content_is : (names : List (List ℕ)) (offsets : List ℕ) → length names ≡ length offsets → to_be_bytes w32 (length names) ++ flat_map offset_text (zip names offsets) ≡ list_content offset_text (zip names offsets)
-offsets_content_is names offsets many = ap (λ (n : ℕ). to_be_bytes w32 n ++ flat_map offset_text (zip names offsets)) (sym (zip_size names offsets many))
+offsets_content_is names offsets many = ap (λ (n : ℕ). to_be_bytes w32 n ++ flat_map offset_text (zip names offsets)) (sym (length-zip names offsets many))
 
 abbrev Fits : List ℕ × ℕ → Type 0
 Fits row = IsUtf8 row.0 × (row.1 < 2 ^ 64)

@@ -1,4 +1,5 @@
 -- Postings tables against their grammar.
+use Rattle.list_core.proofs.Bools.{Less-from_is_lt, is_lt-from_Less}
 use Rattle.std.proofs.Common.{◌≡◌, ℕ, ◌-◌, ◌≤◌, true, List, [], ◌∷◌, ◌++◌, length, Option, Some, None, Ok, refl, sym, ap, ◌∙◌, append_assoc, length-append, arith}
 use Rattle.std.specs.Prelude.{◌==◌}
 use Rattle.std.specs.Int.{w8, to_be_bytes}
@@ -20,17 +21,17 @@ use Rattle.index_parts.specs.RowsReading.{may_come_after, row_told, row_at}
 use Rattle.index_parts.proofs.FieldLaws.{fixed_field, uvarint_field, long_field}
 use Rattle.index_parts.proofs.TurnLaws.{turn_found}
 use Rattle.index_parts.proofs.ListLaws.{IsTurnOf}
-use Rattle.index_parts.proofs.SymbolLaws.{less_from_test, test_from_less, text_is, long_is, text_size, uvarint_size}
+use Rattle.index_parts.proofs.SymbolLaws.{text_is, long_is, text_size, uvarint_size}
 
 after_found : (before : Option PostingsRow) (row : PostingsRow) → may_come_after before row ≡ true → MayComeAfter before row
 after_found None row e =
     let p = and_parts (length row.name == 0) (length row.value == 0) e in
     (nil_from_length row.name (eqb-true (length row.name) 0 p.0), nil_from_length row.value (eqb-true (length row.value) 0 p.1))
-after_found (Some b) row e = less_from_test (compare_rows b row) e
+after_found (Some b) row e = Less-from_is_lt (compare_rows b row) e
 
 after_again : (before : Option PostingsRow) (row : PostingsRow) → MayComeAfter before row → may_come_after before row ≡ true
 after_again None row h = rw (h.0, h.1) refl
-after_again (Some b) row h = test_from_less (compare_rows b row) h
+after_again (Some b) row h = is_lt-from_Less (compare_rows b row) h
 
 abbrev row_with : List ℕ × Position → List ℕ × Position → ℕ × Position → PostingsRow
 row_with name value offset = record { name = name.0; value = value.0; offset = offset.0 }

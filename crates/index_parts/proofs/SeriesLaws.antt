@@ -17,7 +17,7 @@ use Rattle.index_parts.proofs.FieldLaws.{uvarint_field}
 use Rattle.index_parts.proofs.FrameLaws.{framed_found, framed_again, framed_small}
 use Rattle.index_parts.proofs.TurnLaws.{field_found, turns_few}
 use Rattle.index_parts.proofs.ListLaws.{counted_found, counted_again}
-use Rattle.std.proofs.lemmas.Slice.Zip.{firsts-zip, seconds-zip, length-zip}
+use Rattle.list_core.proofs.Lists.{zip_firsts, zip_seconds, zip_parts, length-zip}
 use Rattle.std.proofs.lemmas.List.{length-map}
 use Rattle.index_parts.proofs.SymbolLaws.{uvarint_size}
 use Rattle.index_parts.proofs.ChunkLaws.{chunk_turn, chunk_size}
@@ -39,10 +39,6 @@ label_again p text x after is e =
     let name = uvarint_field.again p is.name x.0 (is.value ++ after) is.name_is (e ∙ ap (λ (a : List ℕ). a ++ after) is.text_is ∙ append_assoc is.name is.value after) in
     let value = uvarint_field.again name.0 is.value x.1 after is.value_is name.2 in
     (value.0, rw (name.1, value.1) refl, value.2)
-
-zip_parts : (pairs : List (ℕ × ℕ)) → zip (map (λ p. p.0) pairs) (map (λ p. p.1) pairs) ≡ pairs
-zip_parts [] = refl
-zip_parts (p ∷ pairs) = ap (λ (l : List (ℕ × ℕ)). p ∷ l) (zip_parts pairs)
 
 labels_few : (text : List ℕ) (labels : List (ℕ × ℕ)) → AreTexts IsLabel text labels → 2 * length labels ≤ length text
 labels_few text [] are = omega arith
@@ -88,9 +84,9 @@ labels_again : (p : Position) (text names values after : List ℕ) → length na
 unfolding labels_at
 labels_again p text names values after many are e =
     let r = members_again left label_at IsLabel label_again p text (zip names values) after are e in
-    let count : length (zip names values) ≡ length names = omega (arith, length-zip names values) in
+    let count : length (zip names values) ≡ length names = length-zip names values many in
     let read : members_at label_at (length names) p ≡ Ok (zip names values, r.0) = ap (λ (n : ℕ). members_at label_at n p) (sym count) ∙ r.1 in
-    (r.0, rw (read, firsts-zip names values (sym many), seconds-zip names values (sym many)) refl, r.2)
+    (r.0, rw (read, zip_firsts names values many, zip_seconds names values many) refl, r.2)
 
 pub series_found : (index : List ℕ) (at : ℕ) (series : RawSeries) → IsBytes index → series_at index at ≡ Ok series → IsSeries index at series
 unfolding series_at labels_begin_at chunks_at
@@ -142,6 +138,6 @@ series_few index at series is =
     let small = framed_small IsUvarint index at is.content is.entry in
     let labels = labels_few is.labels (zip series.names series.values) is.labels_are in
     let chunks = turns_few IsNextChunk 3 chunk_size None is.chunks series.chunks is.chunks_are in
-    let many = length-zip series.names series.values in
+    let many = length-zip series.names series.values is.as_many in
     let whole = ap length (is.content_is ∙ regroup is.label_count is.labels is.chunk_count is.chunks is.left_over) in
     omega (arith, whole, is.as_many, length-append is.label_count (is.labels ++ (is.chunk_count ++ (is.chunks ++ is.left_over))), length-append is.labels (is.chunk_count ++ (is.chunks ++ is.left_over)), length-append is.chunk_count (is.chunks ++ is.left_over), length-append is.chunks is.left_over)

@@ -1,4 +1,5 @@
 -- Symbol tables against their grammar.
+use Rattle.list_core.proofs.Bools.{Less-from_is_lt, is_lt-from_Less}
 use Rattle.std.proofs.Common.{◌≡◌, ℕ, ◌-◌, ◌≤◌, true, List, [], ◌∷◌, ◌++◌, length, Option, Some, None, Ok, refl, ap, arith}
 use Rattle.std.specs.declared.cmp.Ordering.{Ordering}
 use Rattle.std.specs.declared.cmp.Ordering.TheVariants.{Less, Equal, Greater}
@@ -20,16 +21,6 @@ use Rattle.index_parts.proofs.FieldLaws.{long_field, IsLong}
 use Rattle.index_parts.proofs.TurnLaws.{turn_found}
 use Rattle.index_parts.proofs.ListLaws.{IsTurnOf}
 
-pub less_from_test : (o : Ordering) → is_lt o ≡ true → o ≡ Less
-less_from_test Less e = refl
-less_from_test Equal e = absurd cc
-less_from_test Greater e = absurd cc
-
-pub test_from_less : (o : Ordering) → o ≡ Less → is_lt o ≡ true
-test_from_less Less e = refl
-test_from_less Equal e = absurd cc
-test_from_less Greater e = absurd cc
-
 -- a text that is UTF-8 behind its length
 pub text_is : (bytes text : List ℕ) → IsLong bytes text → is_utf8 text ≡ true → IsText bytes text
 text_is bytes text is e = record { size = is.size; size_is = is.size_is; utf8 = IsUtf8-from_is_utf8 text e; bytes_are = is.text_is }
@@ -50,11 +41,11 @@ text_size bytes text is = let one = uvarint_size is.size (length text) is.size_i
 
 follows_found : (before : Option (List ℕ)) (s : List ℕ) → may_follow before s ≡ true → MayFollow before s
 follows_found None s e = tt
-follows_found (Some b) s e = less_from_test (compare_texts b s) e
+follows_found (Some b) s e = Less-from_is_lt (compare_texts b s) e
 
 follows_again : (before : Option (List ℕ)) (s : List ℕ) → MayFollow before s → may_follow before s ≡ true
 follows_again None s h = refl
-follows_again (Some b) s h = test_from_less (compare_texts b s) h
+follows_again (Some b) s h = is_lt-from_Less (compare_texts b s) h
 
 found : (before : Option (List ℕ)) (p : Position) (x : List ℕ) (t : Option (List ℕ) × Position) → IsBytes (left p) → symbol_at (before, p) ≡ Ok (x, t) → HasFront (IsNextSymbol before) (left p) x (left t.1) × (t.0 ≡ Some x)
 unfolding symbol_at

@@ -8,7 +8,7 @@ use Rattle.reading_core.proofs.Binds.{bind_ok}
 use Rattle.wire_bytes.specs.Position.{Position, left}
 use Rattle.wire_bytes.specs.Fields.{bytes_at, uvarint_at}
 use Rattle.index_parts.specs.Placed.{field, text_at}
-use Rattle.index_parts.proofs.Moves.{bytes_parts}
+use Rattle.wire_bytes.proofs.ByteFields.{bytes_parts}
 use Rattle.index_parts.proofs.FieldLaws.{placed_ok}
 
 -- what was read stands before the place
