@@ -4,21 +4,19 @@ use Rattle.std.specs.Int.{w64}
 use Rattle.std.specs.Int.RustNames.{FitsSigned, unsigned_abs}
 use Rattle.std.proofs.lemmas.Bool.{ltb-true, lt-ltb}
 use Rattle.reading_core.specs.Decimal.{fits_signed}
-use Rattle.reading_core.specs.Reading.{◌>>=◌, ◌>>◌, unless}
 use Rattle.reading_core.specs.Grammar.{IsBytes, HasFront}
 use Rattle.reading_core.proofs.Fronts.{IsBytes-after}
-use Rattle.reading_core.proofs.Binds.{bind_ok, unless_ok, ok_is}
+use Rattle.reading_core.proofs.Binds.{bind_ok, unless_ok}
 use Rattle.wire_bytes.specs.Position.{Position, left}
-use Rattle.wire_bytes.specs.Fields.{uvarint_at, varint_at, zigzag}
+use Rattle.wire_bytes.specs.Fields.{zigzag}
 use Rattle.wire_bytes.specs.FieldTexts.{IsUvarint, IsVarint}
-use Rattle.index_parts.specs.declared.refusal.PartRefusal.{PartRefusal}
 use Rattle.index_parts.specs.declared.refusal.PartRefusal.TheVariants.{Overlong}
 use Rattle.index_parts.specs.declared.chunk_place.ChunkPlace.{ChunkPlace}
-use Rattle.index_parts.specs.Placed.{field}
 use Rattle.index_parts.specs.SeriesEntry.{reference_of, Begins, Refers, IsNextChunk}
 use Rattle.index_parts.specs.SeriesReading.{fits_unsigned, later_at, moved_at, begin_at, reference_at, chunk_of, chunk_at}
-use Rattle.index_parts.proofs.Ranges.{signed_from_test, signed_test}
+use Rattle.reading_core.proofs.SignedRanges.{fits_from_test, test_from_fits}
 use Rattle.index_parts.proofs.FieldLaws.{uvarint_field, varint_field}
+use Rattle.index_parts.proofs.TurnLaws.{field_found, turn_found}
 use Rattle.index_parts.proofs.ListLaws.{IsTurnOf}
 use Rattle.index_parts.proofs.SymbolLaws.{uvarint_size}
 
@@ -39,18 +37,16 @@ pub record IsLater (time : ℤ) (text : List ℕ) (t : ℤ) : Type 0 where
 later_found : (time : ℤ) (p q : Position) (t : ℤ) → IsBytes (left p) → later_at time p ≡ Ok (t, q) → HasFront (IsLater time) (left p) t (left q)
 unfolding later_at
 later_found time p q t are e =
-    let by = bind_ok (field uvarint_at p) (λ by. unless (fits_signed (time +ℤ pos by.0)) (Overlong p.place) >> Ok (time +ℤ pos by.0, by.1)) (t, q) e in
-    let tested = unless_ok (fits_signed (time +ℤ pos by.0.0)) (Overlong p.place) (Ok (time +ℤ pos by.0.0, by.0.1)) (t, q) by.2 in
-    let same : ◌≡◌ {A = ℤ × Position} (time +ℤ pos by.0.0, by.0.1) (t, q) = ok_is {E = PartRefusal} _ _ tested.1 in
+    let by = bind_ok _ _ _ e in
+    let tested = unless_ok (fits_signed (time +ℤ pos by.0.0)) (Overlong p.place) _ _ by.2 in
     let front = uvarint_field.found p by.0.1 by.0.0 are by.1 in
-    let is : IsLater time front.0 (time +ℤ pos by.0.0) = record { by = by.0.0; text_is = front.1; value = refl; fits = signed_from_test (time +ℤ pos by.0.0) tested.0 } in
-    subst (λ (r : ℤ × Position). HasFront (IsLater time) (left p) r.0 (left r.1)) same (front.0, is, front.2)
+    field_found (IsLater time) p by.0.1 q front.0 (time +ℤ pos by.0.0) t (record { by = by.0.0; text_is = front.1; value = refl; fits = fits_from_test (time +ℤ pos by.0.0) tested.0 }) front.2 tested.1
 
 later_again : (time : ℤ) (p : Position) (text : List ℕ) (t : ℤ) (after : List ℕ) → IsLater time text t → left p ≡ text ++ after → (q : Position) × (later_at time p ≡ Ok (t, q)) × (left q ≡ after)
 unfolding later_at
 later_again time p text t after is e =
     let by = uvarint_field.again p text is.by after is.text_is e in
-    let tested : fits_signed (time +ℤ pos is.by) ≡ true = subst (λ (z : ℤ). fits_signed z ≡ true) is.value (signed_test t is.fits) in
+    let tested : fits_signed (time +ℤ pos is.by) ≡ true = subst (λ (z : ℤ). fits_signed z ≡ true) is.value (test_from_fits t is.fits) in
     (by.0, rw (by.1, tested, is.value) refl, by.2)
 
 -- the begin of the next chunk, within 64 bits
@@ -76,13 +72,11 @@ abs_back (negsuc n) e = absurd cc
 moved_found : (reference : ℕ) (p q : Position) (r : ℕ) → IsBytes (left p) → moved_at reference p ≡ Ok (r, q) → HasFront (λ text n. Moved reference text n × (n < 2 ^ 64)) (left p) r (left q)
 unfolding moved_at
 moved_found reference p q r are e =
-    let by = bind_ok (field varint_at p) (λ by. unless (fits_unsigned (pos reference +ℤ by.0)) (Overlong p.place) >> Ok (unsigned_abs (pos reference +ℤ by.0), by.1)) (r, q) e in
-    let tested = unless_ok (fits_unsigned (pos reference +ℤ by.0.0)) (Overlong p.place) (Ok (unsigned_abs (pos reference +ℤ by.0.0), by.0.1)) (r, q) by.2 in
-    let same : ◌≡◌ {A = ℕ × Position} (unsigned_abs (pos reference +ℤ by.0.0), by.0.1) (r, q) = ok_is {E = PartRefusal} _ _ tested.1 in
+    let by = bind_ok _ _ _ e in
+    let tested = unless_ok (fits_unsigned (pos reference +ℤ by.0.0)) (Overlong p.place) _ _ by.2 in
     let front = varint_field.found p by.0.1 by.0.0 are by.1 in
     let back = abs_back (pos reference +ℤ by.0.0) tested.0 in
-    let is : Moved reference front.0 (unsigned_abs (pos reference +ℤ by.0.0)) = (by.0.0, front.1, back.0) in
-    subst (λ (x : ℕ × Position). HasFront (λ text n. Moved reference text n × (n < 2 ^ 64)) (left p) x.0 (left x.1)) same (front.0, (is, back.1), front.2)
+    field_found (λ text n. Moved reference text n × (n < 2 ^ 64)) p by.0.1 q front.0 (unsigned_abs (pos reference +ℤ by.0.0)) r ((by.0.0, front.1, back.0), back.1) front.2 tested.1
 
 moved_again : (reference : ℕ) (p : Position) (text : List ℕ) (r : ℕ) (after : List ℕ) → Moved reference text r → r < 2 ^ 64 → left p ≡ text ++ after → (q : Position) × (moved_at reference p ≡ Ok (r, q)) × (left q ≡ after)
 unfolding moved_at
@@ -113,11 +107,10 @@ regroup a b c after = append_assoc (a ++ b) c after ∙ append_assoc a b (c ++ a
 found : (before : Option ChunkPlace) (p : Position) (x : ChunkPlace) (t : Option ChunkPlace × Position) → IsBytes (left p) → chunk_at (before, p) ≡ Ok (x, t) → HasFront (IsNextChunk before) (left p) x (left t.1) × (t.0 ≡ Some x)
 unfolding chunk_at
 found before p x t are e =
-    let min = bind_ok (begin_at before p) (λ min. later_at min.0 min.1 >>= λ max. reference_at before max.1 >>= λ reference. Ok (chunk_of min.0 max.0 reference.0, (Some (chunk_of min.0 max.0 reference.0), reference.1))) (x, t) e in
-    let max = bind_ok (later_at min.0.0 min.0.1) (λ max. reference_at before max.1 >>= λ reference. Ok (chunk_of min.0.0 max.0 reference.0, (Some (chunk_of min.0.0 max.0 reference.0), reference.1))) (x, t) min.2 in
-    let reference = bind_ok (reference_at before max.0.1) (λ reference. Ok (chunk_of min.0.0 max.0.0 reference.0, (Some (chunk_of min.0.0 max.0.0 reference.0), reference.1))) (x, t) max.2 in
+    let min = bind_ok _ _ _ e in
+    let max = bind_ok _ _ _ min.2 in
+    let reference = bind_ok _ _ _ max.2 in
     let chunk = chunk_of min.0.0 max.0.0 reference.0.0 in
-    let same : ◌≡◌ {A = ChunkPlace × (Option ChunkPlace × Position)} (chunk, (Some chunk, reference.0.1)) (x, t) = ok_is {E = PartRefusal} _ _ reference.2 in
     let f0 = begin_found before p min.0.1 min.0.0 are min.1 in
     let are1 = IsBytes-after f0.0 (left min.0.1) (left p) f0.2 are in
     let f1 = later_found min.0.0 min.0.1 max.0.1 max.0.0 are1 max.1 in
@@ -139,7 +132,7 @@ found before p x t are e =
       text_is = refl;
     } in
     let whole : left p ≡ (f0.0 ++ f1.0 ++ f2.0) ++ left reference.0.1 = f0.2 ∙ ap (λ (a : List ℕ). f0.0 ++ a) (f1.2 ∙ ap (λ (a : List ℕ). f1.0 ++ a) f2.2) ∙ sym (regroup f0.0 f1.0 f2.0 (left reference.0.1)) in
-    subst (λ (r : ChunkPlace × (Option ChunkPlace × Position)). HasFront (IsNextChunk before) (left p) r.0 (left r.1.1) × (r.1.0 ≡ Some r.0)) same ((f0.0 ++ f1.0 ++ f2.0, is, whole), refl)
+    turn_found IsNextChunk before p reference.0.1 (f0.0 ++ f1.0 ++ f2.0) chunk x t is whole reference.2
 
 joined : (min max : ℤ) (segment offset : ℕ) → offset < 2 ^ 32 → chunk_of min max (segment * 2 ^ 32 + offset) ≡ record { min = min; max = max; segment = segment; offset = offset }
 joined min max segment offset small =

@@ -1,4 +1,5 @@
 -- Chunks that are written, and the series that they stand in.
+use Rattle.reading_core.proofs.SignedRanges.{pos-unsigned_abs}
 use Rattle.std.proofs.Common.{◌≡◌, ℕ, suc, ◌+◌, ◌-◌, ◌^◌, ◌<◌, ◌≤◌, List, [], ◌∷◌, ◌++◌, length, get_or, drop, zip, Option, Some, None, refl, sym, ap, subst, ◌∙◌, append_assoc, add-one, arith, ℤ, pos, negsuc, ◌+ℤ◌, ◌-ℤ◌, ◌≤ℤ◌, ◌<ℤ◌}
 use Rattle.std.specs.Int.{w64}
 use Rattle.std.specs.Int.RustNames.{FitsSigned, unsigned_abs}
@@ -44,10 +45,6 @@ chunks_all chunks i before start new whole so_far past =
 
 -- ---- a chunk that is written is a text of it
 
-abs_pos : (z : ℤ) → pos 0 ≤ℤ z → pos (unsigned_abs z) ≡ z
-abs_pos (pos n) le = refl
-abs_pos (negsuc n) le = absurd (omega (arith, ints, le))
-
 abs_most : (z : ℤ) (n : ℕ) → z ≤ℤ pos n → pos 0 ≤ℤ (z +ℤ pos n) → unsigned_abs z ≤ n
 abs_most (pos m) n high low = omega (arith, ints, high)
 abs_most (negsuc m) n high low = omega (arith, ints, low)
@@ -69,7 +66,7 @@ from_bounds (negsuc n) low high = record { sfits = omega (arith, ints, low) }
 later_is : (a b : ℤ) → a ≤ℤ b → b ≡ a +ℤ pos (span a b)
 later_is a b le =
     let d : pos 0 ≤ℤ (b -ℤ a) = omega (arith, ints, le) in
-    omega (arith, ints, abs_pos (b -ℤ a) d)
+    omega (arith, ints, pos-unsigned_abs (b -ℤ a) d)
 
 later_fits : (a b : ℤ) → FitsSigned w64 a → FitsSigned w64 b → span a b < 2 ^ 64
 later_fits a b fa fb =

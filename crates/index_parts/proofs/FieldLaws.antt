@@ -13,7 +13,7 @@ use Rattle.wire_bytes.proofs.FieldLaws.{left-further, left_after, uvarint_found,
 use Rattle.wire_bytes.proofs.FixedLaws.{IsWide, number_found, number_again}
 use Rattle.index_parts.specs.declared.refusal.PartRefusal.{PartRefusal}
 use Rattle.index_parts.specs.Placed.{field, refused_at, text_at}
-use Rattle.index_parts.proofs.Moves.{bytes_parts}
+use Rattle.wire_bytes.proofs.ByteFields.{bytes_split, bytes_again}
 
 -- a way to read, and the texts that it reads
 pub record IsFieldOf {A : Type 0} (IsText : List ℕ → A → Type 0) (read : Position → Result (A × Position) PartRefusal) : Type 0 where
@@ -46,20 +46,6 @@ fixed_field w wide = record {
 
 -- ---- bytes
 
-pub bytes_found : (count : ℕ) (p q : Position) (bytes : List ℕ) → bytes_at count p ≡ Ok (bytes, q) → (length bytes ≡ count) × (left p ≡ bytes ++ left q)
-bytes_found count p q bytes e =
-    let x = bytes_parts count p q bytes e in (
-      omega (arith, ap length x.1, length-take count (left p), x.0),
-      sym (take-append-drop count (left p)) ∙ ap (λ (a : List ℕ). a ++ drop count (left p)) x.1 ∙ ap (λ (a : List ℕ). bytes ++ a) (sym (left-further count p) ∙ ap left x.2),
-    )
-
-pub bytes_again : (count : ℕ) (p : Position) (text after : List ℕ) → length text ≡ count → left p ≡ text ++ after → bytes_at count p ≡ Ok (text, further count p)
-unfolding bytes_at
-bytes_again count p text after len e =
-    let long = le-ltb (length (left p)) count (omega (arith, ap length e, length-append text after)) in
-    let front : take count (left p) ≡ text = ap (take count) e ∙ take_at text after count len in
-    rw (long, front) refl
-
 -- bytes behind their length
 pub record IsLong (text bytes : List ℕ) : Type 0 where
   pub size : List ℕ
@@ -69,9 +55,9 @@ pub record IsLong (text bytes : List ℕ) : Type 0 where
 text_found : (p q : Position) (bytes : List ℕ) → IsBytes (left p) → text_at p ≡ Ok (bytes, q) → HasFront IsLong (left p) bytes (left q)
 unfolding text_at
 text_found p q bytes are e =
-    let x = bind_ok (field uvarint_at p) (λ size. field (bytes_at size.0) size.1) (bytes, q) e in
+    let x = bind_ok _ _ _ e in
     let size = uvarint_field.found p x.0.1 x.0.0 are x.1 in
-    let front = bytes_found x.0.0 x.0.1 q bytes (placed_ok (bytes_at x.0.0) x.0.1 q bytes x.2) in
+    let front = bytes_split x.0.0 x.0.1 q bytes (placed_ok (bytes_at x.0.0) x.0.1 q bytes x.2) in
     let long : IsLong (size.0 ++ bytes) bytes = record { size = size.0; size_is = subst (IsUvarint size.0) (sym front.0) size.1; text_is = refl } in
     (size.0 ++ bytes, long, size.2 ∙ ap (λ (a : List ℕ). size.0 ++ a) front.1 ∙ sym (append_assoc size.0 bytes (left q)))
 

@@ -1,6 +1,7 @@
 -- Fields move a position within the same bytes, and no field begins past their end.
-use Rattle.std.proofs.Common.{◌≡◌, ℕ, ◌+◌, ◌<◌, ◌≤◌, ltb, List, [], length, take, drop, Result, Ok, Err, refl, sym, ap, ◌∙◌, arith}
-use Rattle.std.specs.Int.{Width, w32, byte_len, from_be_bytes}
+use Rattle.wire_bytes.proofs.ByteFields.{bytes_parts}
+use Rattle.std.proofs.Common.{◌≡◌, ℕ, ◌+◌, ◌<◌, ◌≤◌, ltb, List, [], length, take, Result, Ok, Err, refl, sym, ap, ◌∙◌, arith}
+use Rattle.std.specs.Int.{w32, byte_len, from_be_bytes}
 use Rattle.std.proofs.lemmas.Bool.{ltb-false}
 use Rattle.std.proofs.lemmas.List.{drop_all, length-drop, length-take}
 use Rattle.reading_core.specs.Reading.{Answers}
@@ -11,33 +12,41 @@ use Rattle.wire_bytes.specs.declared.refusal.WireRefusal.{WireRefusal}
 use Rattle.wire_bytes.specs.declared.refusal.WireRefusal.TheVariants as wire
 use Rattle.index_parts.specs.declared.refusal.PartRefusal.{PartRefusal}
 use Rattle.index_parts.specs.declared.refusal.PartRefusal.TheVariants.{Short}
-use Rattle.index_parts.specs.Placed.{at_place, field, refused_at}
-use Rattle.index_parts.specs.Framing.{summed_at, section_at, entry_at}
+use Rattle.index_parts.specs.Placed.{at_place, field}
+use Rattle.index_parts.specs.Framing.{summed_at, framed_at}
 
-pub bytes_parts : (count : ℕ) (p q : Position) (bytes : List ℕ) → bytes_at count p ≡ Ok (bytes, q) → (count ≤ length (left p)) × (take count (left p) ≡ bytes) × (further count p ≡ q)
-unfolding bytes_at
-bytes_parts count p q bytes e =
-    let g = cond_ok (ltb (length (left p)) count) wire.Short (Ok (take count (left p), further count p)) (bytes, q) e in
-    let same : ◌≡◌ {A = List ℕ × Position} (take count (left p), further count p) (bytes, q) = ok_is {E = WireRefusal} _ _ g.1 in
-    (ltb-false _ _ g.0, ap (λ (y : List ℕ × Position). y.0) same, ap (λ (y : List ℕ × Position). y.1) same)
+-- How a length is read: that moves a position within the same bytes, and nothing is read past their end.
+pub record IsSizeOf (size_at : Position → Result (ℕ × Position) WireRefusal) : Type 0 where
+  pub moves : (p q : Position) (n : ℕ) → size_at p ≡ Ok (n, q) → (count : ℕ) × (further count p ≡ q)
+  pub past : (p : Position) → left p ≡ [] → size_at p ≡ Err wire.Short
 
-pub number_parts : (w : Width) (p q : Position) (n : ℕ) → number_at w p ≡ Ok (n, q) → further (byte_len w) p ≡ q
+number_moves : (p q : Position) (n : ℕ) → number_at w32 p ≡ Ok (n, q) → (count : ℕ) × (further count p ≡ q)
 unfolding number_at
-number_parts w p q n e =
-    let g = cond_ok (ltb (length (left p)) (byte_len w)) wire.Short (Ok (from_be_bytes w (take (byte_len w) (left p)), further (byte_len w) p)) (n, q) e in
-    let same : ◌≡◌ {A = ℕ × Position} (from_be_bytes w (take (byte_len w) (left p)), further (byte_len w) p) (n, q) = ok_is {E = WireRefusal} _ _ g.1 in
-    ap (λ (y : ℕ × Position). y.1) same
+number_moves p q n e =
+    let g = cond_ok (ltb (length (left p)) (byte_len w32)) wire.Short (Ok (from_be_bytes w32 (take (byte_len w32) (left p)), further (byte_len w32) p)) (n, q) e in
+    let same : ◌≡◌ {A = ℕ × Position} (from_be_bytes w32 (take (byte_len w32) (left p)), further (byte_len w32) p) (n, q) = ok_is {E = WireRefusal} _ _ g.1 in
+    (byte_len w32, ap (λ (y : ℕ × Position). y.1) same)
 
-pub uvarint_parts : (p q : Position) (n : ℕ) → uvarint_at p ≡ Ok (n, q) → (count : ℕ) × (further count p ≡ q)
+number_past : (p : Position) → left p ≡ [] → number_at w32 p ≡ Err wire.Short
+unfolding number_at
+number_past p e = rw e refl
+
+pub number_size : IsSizeOf (number_at w32)
+number_size = record { moves = number_moves; past = number_past }
+
+uvarint_moves : (p q : Position) (n : ℕ) → uvarint_at p ≡ Ok (n, q) → (count : ℕ) × (further count p ≡ q)
 unfolding uvarint_at
-uvarint_parts p q n e =
-    let x = bind_ok (groups_of 9 (left p)) (λ n. Ok (n.0, further n.1 p)) (n, q) e in
+uvarint_moves p q n e =
+    let x = bind_ok (groups_of 9 (left p)) _ _ e in
     let same : ◌≡◌ {A = ℕ × Position} (x.0.0, further x.0.1 p) (n, q) = ok_is {E = WireRefusal} _ _ x.2 in
     (x.0.1, ap (λ (y : ℕ × Position). y.1) same)
 
--- a position is its bytes and its place
-moved : (count : ℕ) (p q : Position) → further count p ≡ q → at_place p.bytes q.place ≡ q
-moved count p q e = ap (λ (r : Position). at_place p.bytes r.place) (sym e) ∙ e
+uvarint_past : (p : Position) → left p ≡ [] → uvarint_at p ≡ Err wire.Short
+unfolding uvarint_at groups_of
+uvarint_past p e = rw e refl
+
+pub uvarint_size : IsSizeOf uvarint_at
+uvarint_size = record { moves = uvarint_moves; past = uvarint_past }
 
 -- ---- the end of what is summed
 
@@ -57,61 +66,30 @@ start_within index place size end content q e here within =
     let x = end_is index place size end content q within here e in
     omega (arith, length-take end index, x.0, x.1)
 
--- ---- from the length of a section to its content
+-- ---- from a length to the content
 
-section_moved : (index : List ℕ) (at size : ℕ) (q : Position) → field (number_at w32) (at_place index at) ≡ Ok (size, q) → at_place index q.place ≡ q
-section_moved index at size q e =
-    moved _ (at_place index at) q (number_parts w32 (at_place index at) q size (refused_as_ok (refused_at at) (number_at w32 (at_place index at)) (size, q) e))
+module _ (size_at : Position → Result (ℕ × Position) WireRefusal) (is : IsSizeOf size_at) where
+  -- a position is its bytes and its place
+  moved : (index : List ℕ) (at size : ℕ) (q : Position) → field size_at (at_place index at) ≡ Ok (size, q) → at_place index q.place ≡ q
+  moved index at size q e =
+      let x = is.moves (at_place index at) q size (refused_as_ok _ _ _ e) in
+      ap (λ (r : Position). at_place index r.place) (sym x.1) ∙ x.1
 
-pub section_steps : (index : List ℕ) (at size : ℕ) (q : Position) → field (number_at w32) (at_place index at) ≡ Ok (size, q) → section_at index at ≡ summed_at at size (at_place index q.place)
-unfolding section_at
-section_steps index at size q e = rw e (ap (summed_at at size) (sym (section_moved index at size q e)))
+  pub framed_within : (index : List ℕ) (at size place : ℕ) (q : Position) → field size_at (at_place index at) ≡ Ok (size, q) → place ≡ q.place → q.place ≤ length q.bytes → place ≤ length index
+  framed_within index at size place q e here within =
+      let same : index ≡ q.bytes = ap (λ (r : Position). r.bytes) (moved index at size q e) in
+      omega (arith, ap length same)
 
-entry_moved : (index : List ℕ) (at size : ℕ) (q : Position) → field uvarint_at (at_place index at) ≡ Ok (size, q) → at_place index q.place ≡ q
-entry_moved index at size q e =
-    let x = uvarint_parts (at_place index at) q size (refused_as_ok (refused_at at) (uvarint_at (at_place index at)) (size, q) e) in
-    moved x.0 (at_place index at) q x.1
+  pub framed_past : (index : List ℕ) (at : ℕ) → length index < at → framed_at size_at index at ≡ Err (Short at)
+  unfolding framed_at
+  framed_past index at lt = rw (is.past (at_place index at) (drop_all at index (omega arith))) refl
 
-pub entry_steps : (index : List ℕ) (at size : ℕ) (q : Position) → field uvarint_at (at_place index at) ≡ Ok (size, q) → entry_at index at ≡ summed_at at size (at_place index q.place)
-unfolding entry_at
-entry_steps index at size q e = rw e (ap (summed_at at size) (sym (entry_moved index at size q e)))
+  steps : (index : List ℕ) (at size : ℕ) (q : Position) → field size_at (at_place index at) ≡ Ok (size, q) → framed_at size_at index at ≡ summed_at at size (at_place index q.place)
+  unfolding framed_at
+  steps index at size q e = rw e (ap (summed_at at size) (sym (moved index at size q e)))
 
-pub section_within : (index : List ℕ) (at size place : ℕ) (q : Position) → field (number_at w32) (at_place index at) ≡ Ok (size, q) → place ≡ q.place → q.place ≤ length q.bytes → place ≤ length index
-section_within index at size place q e here within =
-    let same : index ≡ q.bytes = ap (λ (r : Position). r.bytes) (section_moved index at size q e) in
-    omega (arith, ap length same)
-
-pub entry_within : (index : List ℕ) (at size place : ℕ) (q : Position) → field uvarint_at (at_place index at) ≡ Ok (size, q) → place ≡ q.place → q.place ≤ length q.bytes → place ≤ length index
-entry_within index at size place q e here within =
-    let same : index ≡ q.bytes = ap (λ (r : Position). r.bytes) (entry_moved index at size q e) in
-    omega (arith, ap length same)
-
--- ---- past the end
-
-number_past : (index : List ℕ) (at : ℕ) → drop at index ≡ [] → number_at w32 (at_place index at) ≡ Err wire.Short
-unfolding number_at
-number_past index at e = rw e refl
-
-uvarint_past : (index : List ℕ) (at : ℕ) → drop at index ≡ [] → uvarint_at (at_place index at) ≡ Err wire.Short
-unfolding uvarint_at groups_of
-uvarint_past index at e = rw e refl
-
-pub section_past : (index : List ℕ) (at : ℕ) → length index < at → section_at index at ≡ Err (Short at)
-unfolding section_at
-section_past index at lt = rw (number_past index at (drop_all at index (omega arith))) refl
-
-pub entry_past : (index : List ℕ) (at : ℕ) → length index < at → entry_at index at ≡ Err (Short at)
-unfolding entry_at
-entry_past index at lt = rw (uvarint_past index at (drop_all at index (omega arith))) refl
-
-pub section_answers : (index : List ℕ) (at size counted place : ℕ) (q : Position) (r : Result Position PartRefusal) → Answers (λ content. content) r (summed_at at counted (at_place index place)) → field (number_at w32) (at_place index at) ≡ Ok (size, q) → counted ≡ size → place ≡ q.place
-    → Answers (λ content. content) r (section_at index at)
-section_answers index at size counted place q r h e same here =
-    let whole : section_at index at ≡ summed_at at counted (at_place index place) = section_steps index at size q e ∙ ap (λ (n : ℕ). summed_at at n (at_place index q.place)) (sym same) ∙ ap (λ (n : ℕ). summed_at at counted (at_place index n)) (sym here) in
-    rw whole h
-
-pub entry_answers : (index : List ℕ) (at size counted place : ℕ) (q : Position) (r : Result Position PartRefusal) → Answers (λ content. content) r (summed_at at counted (at_place index place)) → field uvarint_at (at_place index at) ≡ Ok (size, q) → counted ≡ size → place ≡ q.place
-    → Answers (λ content. content) r (entry_at index at)
-entry_answers index at size counted place q r h e same here =
-    let whole : entry_at index at ≡ summed_at at counted (at_place index place) = entry_steps index at size q e ∙ ap (λ (n : ℕ). summed_at at n (at_place index q.place)) (sym same) ∙ ap (λ (n : ℕ). summed_at at counted (at_place index n)) (sym here) in
-    rw whole h
+  pub framed_answers : (index : List ℕ) (at size counted place : ℕ) (q : Position) (r : Result Position PartRefusal) → Answers (λ content. content) r (summed_at at counted (at_place index place)) → field size_at (at_place index at) ≡ Ok (size, q) → counted ≡ size → place ≡ q.place
+      → Answers (λ content. content) r (framed_at size_at index at)
+  framed_answers index at size counted place q r h e same here =
+      let whole : framed_at size_at index at ≡ summed_at at counted (at_place index place) = steps index at size q e ∙ ap (λ (n : ℕ). summed_at at n (at_place index q.place)) (sym same) ∙ ap (λ (n : ℕ). summed_at at counted (at_place index n)) (sym here) in
+      rw whole h

@@ -9,8 +9,8 @@ use Rattle.index_parts.specs.Turns.{InOrderAfter}
 use Rattle.index_parts.specs.Framed.{IsSection, text_field}
 use Rattle.index_parts.specs.Lists.{list_content}
 use Rattle.index_parts.specs.LabelIndices.{IsOffset, IsLabelOffsets, offset_text}
-use Rattle.index_parts.proofs.PairLists.{zip_size}
-use Rattle.index_parts.proofs.Writing.{each_fits, both_each, turns_written, list_stands, count_fits, text_written}
+use Rattle.list_core.proofs.Lists.{length-zip}
+use Rattle.index_parts.proofs.Writing.{IsWrittenBy, list_stands, count_fits, text_written}
 
 -- ---- where it stands
 
@@ -18,11 +18,11 @@ pub offset_size : (row : List ℕ × ℕ) → 1 ≤ length (offset_text row)
 offset_size row = omega arith
 
 pub offsets_few : (names : List (List ℕ)) (offsets : List ℕ) → length names ≡ length offsets → length (list_content offset_text (zip names offsets)) < 2 ^ 32 → length names < 2 ^ 32
-offsets_few names offsets many fits = omega (arith, zip_size names offsets many, count_fits offset_text offset_size (zip names offsets) fits)
+offsets_few names offsets many fits = omega (arith, length-zip names offsets many, count_fits offset_text offset_size (zip names offsets) fits)
 
 -- the content with its count, by the rows or by the names
 pub offsets_content_is : (names : List (List ℕ)) (offsets : List ℕ) → length names ≡ length offsets → to_be_bytes w32 (length names) ++ flat_map offset_text (zip names offsets) ≡ list_content offset_text (zip names offsets)
-offsets_content_is names offsets many = ap (λ (n : ℕ). to_be_bytes w32 n ++ flat_map offset_text (zip names offsets)) (sym (zip_size names offsets many))
+offsets_content_is names offsets many = ap (λ (n : ℕ). to_be_bytes w32 n ++ flat_map offset_text (zip names offsets)) (sym (length-zip names offsets many))
 
 abbrev Fits : List ℕ × ℕ → Type 0
 Fits row = IsUtf8 row.0 × (row.1 < 2 ^ 64)
@@ -36,21 +36,21 @@ any_order : (rows : List (List ℕ × ℕ)) (before : Option (List ℕ × ℕ)) 
 any_order [] before = tt
 any_order (row ∷ rows) before = (tt, any_order rows (Some row))
 
-row_written : (before : Option (List ℕ × ℕ)) (row : List ℕ × ℕ) → Unit {0} → Fits row × (length (offset_text row) < 2 ^ 32) → IsOffset (offset_text row) row
-row_written before row _ fits = record {
-  name = text_field row.0;
-  offset = uvarint_text row.1;
-  name_is = text_written row.0 fits.0.0 (omega (arith, fits.1, length-append (text_field row.0) (uvarint_text row.1), length-append (uvarint_text (length row.0)) row.0));
-  offset_is = uvarint_text_is row.1 fits.0.1;
-  text_is = refl;
+pub offset_writing : IsWrittenBy (λ _ text row. IsOffset text row) (λ _ _. Unit {0}) Fits offset_text
+offset_writing = record {
+  some = offset_size;
+  one = λ before row _ fits small. record {
+    name = text_field row.0;
+    offset = uvarint_text row.1;
+    name_is = text_written row.0 fits.0 (omega (arith, small, length-append (text_field row.0) (uvarint_text row.1), length-append (uvarint_text (length row.0)) row.0));
+    offset_is = uvarint_text_is row.1 fits.1;
+    text_is = refl;
+  };
 }
 
-pub offsets_stand : (index : List ℕ) (at : ℕ) (names : List (List ℕ)) (offsets : List ℕ) → length names ≡ length offsets → length (list_content offset_text (zip names offsets)) < 2 ^ 32 → AllByRecursion IsUtf8 names → ((k : ℕ) → get_or offsets k 0 < 2 ^ 64) → IsSection index at (list_content offset_text (zip names offsets)) → IsLabelOffsets index at (zip names offsets)
-offsets_stand index at names offsets many fits utf8 fit section =
-    let rows = zip names offsets in
-    let all = each_fits offset_text (2 ^ 32) rows (omega (arith, length-append (to_be_bytes w32 (length rows)) (flat_map offset_text rows))) in
-    list_stands (λ _ text row. IsOffset text row) offset_text index at rows section (count_fits offset_text offset_size rows fits)
-    (turns_written (λ _ text row. IsOffset text row) (λ _ _. Unit {0}) (λ row. Fits row × (length (offset_text row) < 2 ^ 32)) offset_text row_written None rows (any_order rows None) (both_each Fits (λ row. length (offset_text row) < 2 ^ 32) rows (rows_fit names offsets utf8 fit) all))
+pub offsets_stand : (index : List ℕ) (at : ℕ) (names : List (List ℕ)) (offsets : List ℕ) → length (list_content offset_text (zip names offsets)) < 2 ^ 32 → AllByRecursion IsUtf8 names → ((k : ℕ) → get_or offsets k 0 < 2 ^ 64) → IsSection index at (list_content offset_text (zip names offsets)) → IsLabelOffsets index at (zip names offsets)
+offsets_stand index at names offsets small utf8 fit section =
+    list_stands (λ _ text row. IsOffset text row) (λ _ _. Unit {0}) Fits offset_text offset_writing index at (zip names offsets) small (rows_fit names offsets utf8 fit) (any_order (zip names offsets) None) section
 
 pub lent_content : (seen names : List (List ℕ)) (told offsets lent made : List ℕ) → lent ≡ made → made ≡ to_be_bytes w32 (length seen) ++ flat_map offset_text (zip seen told) → seen ≡ names → told ≡ offsets → length names ≡ length offsets → lent ≡ list_content offset_text (zip names offsets)
 lent_content seen names told offsets lent made a b c d many =

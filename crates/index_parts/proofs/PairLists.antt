@@ -1,30 +1,24 @@
 -- Two lists that are written in pairs.
+use Rattle.list_core.proofs.Lists.{length-zip, AllByRecursion-push}
 use Rattle.std.proofs.Common.{◌≡◌, ℕ, ◌+◌, ◌<◌, ◌≤◌, List, [], ◌∷◌, ◌++◌, length, get_or, take, zip, sym, ap, subst, ◌∙◌, append_assoc, arith}
 use Rattle.std.specs.List.{AllByRecursion, flat_map}
 use Rattle.std.proofs.lemmas.List.{append-nil, take_all, take_more}
-use Rattle.std.proofs.lemmas.Slice.Zip.{get_or-zip, length-zip}
+use Rattle.std.proofs.lemmas.Slice.Zip.{get_or-zip}
 use Rattle.std.proofs.lemmas.Grind.{flat_map-append}
 
 module _ {A B : Type 0} where
-  pub zip_size : (xs : List A) (ys : List B) → length xs ≡ length ys → length (zip xs ys) ≡ length xs
-  zip_size xs ys e = omega (arith, length-zip xs ys)
-
   pub pairs_more : (text_of : A × B → List ℕ) (d : A) (e : B) (xs : List A) (ys : List B) (start old new : List ℕ) (i : ℕ) (x : A) (y : B) → old ≡ start ++ flat_map text_of (take i (zip xs ys)) → new ≡ old ++ text_of (x, y) → i < length xs → length xs ≡ length ys → x ≡ get_or xs i d → y ≡ get_or ys i e
       → new ≡ start ++ flat_map text_of (take (i + 1) (zip xs ys))
   pairs_more text_of d e xs ys start old new i x y before put lt many a b =
       let z = zip xs ys in
       let at : get_or z i (d, e) ≡ (x, y) = get_or-zip xs ys i (d, e) lt (omega arith) ∙ ap (λ (n : A). (n, get_or ys i e)) (sym a) ∙ ap (λ (o : B). (x, o)) (sym b) in
-      let more : take (i + 1) z ≡ take i z ++ (x, y) ∷ [] = take_more z i (d, e) (omega (arith, zip_size xs ys many)) ∙ ap (λ (r : A × B). take i z ++ r ∷ []) at in
+      let more : take (i + 1) z ≡ take i z ++ (x, y) ∷ [] = take_more z i (d, e) (omega (arith, length-zip xs ys many)) ∙ ap (λ (r : A × B). take i z ++ r ∷ []) at in
       let texts : flat_map text_of (take (i + 1) z) ≡ flat_map text_of (take i z) ++ text_of (x, y) =
       ap (λ (l : List (A × B)). flat_map text_of l) more ∙ flat_map-append text_of (take i z) ((x, y) ∷ []) ∙ ap (λ (l : List ℕ). flat_map text_of (take i z) ++ l) (append-nil (text_of (x, y))) in
       put ∙ ap (λ (l : List ℕ). l ++ text_of (x, y)) before ∙ append_assoc start (flat_map text_of (take i z)) (text_of (x, y)) ∙ ap (λ (l : List ℕ). start ++ l) (sym texts)
 
   pub pairs_all : (text_of : A × B → List ℕ) (xs : List A) (ys : List B) (start new : List ℕ) (i : ℕ) → new ≡ start ++ flat_map text_of (take i (zip xs ys)) → length xs ≤ i → length xs ≡ length ys → new ≡ start ++ flat_map text_of (zip xs ys)
-  pairs_all text_of xs ys start new i e past many = e ∙ ap (λ (l : List (A × B)). start ++ flat_map text_of l) (take_all i (zip xs ys) (omega (arith, zip_size xs ys many)))
-
-pub all_more : {A : Type 0} (P : A → Type 0) (xs : List A) (x : A) → AllByRecursion P xs → P x → AllByRecursion P (xs ++ x ∷ [])
-all_more P [] x all p = (p, tt)
-all_more P (y ∷ xs) x all p = (all.0, all_more P xs x all.1 p)
+  pairs_all text_of xs ys start new i e past many = e ∙ ap (λ (l : List (A × B)). start ++ flat_map text_of l) (take_all i (zip xs ys) (omega (arith, length-zip xs ys many)))
 
 pub all_take_more : {A : Type 0} (P : A → Type 0) (d : A) (xs : List A) (i : ℕ) (x : A) → AllByRecursion P (take i xs) → P x → x ≡ get_or xs i d → i < length xs → AllByRecursion P (take (i + 1) xs)
-all_take_more {A} P d xs i x all one at lt = subst (λ (l : List A). AllByRecursion P l) (sym (take_more xs i d lt ∙ ap (λ (n : A). take i xs ++ n ∷ []) (sym at))) (all_more P (take i xs) x all one)
+all_take_more {A} P d xs i x all one at lt = subst (λ (l : List A). AllByRecursion P l) (sym (take_more xs i d lt ∙ ap (λ (n : A). take i xs ++ n ∷ []) (sym at))) (AllByRecursion-push P (take i xs) x all one)

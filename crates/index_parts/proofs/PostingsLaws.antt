@@ -1,19 +1,16 @@
 -- Postings lists against their grammar.
-use Rattle.std.proofs.Common.{◌≡◌, ℕ, ◌≤◌, true, List, ◌++◌, length, Option, Some, None, Ok, refl, ap, subst, arith}
+use Rattle.std.proofs.Common.{◌≡◌, ℕ, ◌≤◌, true, List, ◌++◌, length, Option, Some, None, Ok, refl, ap, arith}
 use Rattle.std.specs.Int.{w32}
 use Rattle.std.proofs.lemmas.Bool.{ltb-true, lt-ltb}
-use Rattle.reading_core.specs.Reading.{◌>>◌, unless}
 use Rattle.reading_core.specs.Grammar.{IsBytes, HasFront}
-use Rattle.reading_core.proofs.Binds.{bind_ok, unless_ok, ok_is}
+use Rattle.reading_core.proofs.Binds.{bind_ok, unless_ok}
 use Rattle.wire_bytes.specs.Position.{Position, left}
-use Rattle.wire_bytes.specs.Fields.{number_at}
 use Rattle.wire_bytes.proofs.FixedLaws.{wide32}
-use Rattle.index_parts.specs.declared.refusal.PartRefusal.{PartRefusal}
 use Rattle.index_parts.specs.declared.refusal.PartRefusal.TheVariants.{Unordered}
-use Rattle.index_parts.specs.Placed.{field}
 use Rattle.index_parts.specs.Postings.{Rises, IsNextPosting}
 use Rattle.index_parts.specs.PostingsReading.{rises, posting_at}
 use Rattle.index_parts.proofs.FieldLaws.{fixed_field}
+use Rattle.index_parts.proofs.TurnLaws.{turn_found}
 use Rattle.index_parts.proofs.ListLaws.{IsTurnOf}
 
 rises_found : (before : Option ℕ) (n : ℕ) → rises before n ≡ true → Rises before n
@@ -27,13 +24,11 @@ rises_again (Some b) n h = lt-ltb b n h
 found : (before : Option ℕ) (p : Position) (x : ℕ) (t : Option ℕ × Position) → IsBytes (left p) → posting_at (before, p) ≡ Ok (x, t) → HasFront (IsNextPosting before) (left p) x (left t.1) × (t.0 ≡ Some x)
 unfolding posting_at
 found before p x t are e =
-    let number = bind_ok (field (number_at w32) p) (λ number. unless (rises before number.0) (Unordered p.place) >> Ok (number.0, (Some number.0, number.1))) (x, t) e in
-    let tested = unless_ok (rises before number.0.0) (Unordered p.place) (Ok (number.0.0, (Some number.0.0, number.0.1))) (x, t) number.2 in
-    let same : ◌≡◌ {A = ℕ × (Option ℕ × Position)} (number.0.0, (Some number.0.0, number.0.1)) (x, t) = ok_is {E = PartRefusal} _ _ tested.1 in
+    let number = bind_ok _ _ _ e in
+    let tested = unless_ok (rises before number.0.0) (Unordered p.place) _ _ number.2 in
     let fixed = fixed_field w32 wide32 in
-    let front = fixed.found p number.0.1 number.0.0 are number.1 in
-    let is : IsNextPosting before front.0 number.0.0 = record { text_is = front.1; rises = rises_found before number.0.0 tested.0 } in
-    subst (λ (r : ℕ × (Option ℕ × Position)). HasFront (IsNextPosting before) (left p) r.0 (left r.1.1) × (r.1.0 ≡ Some r.0)) same ((front.0, is, front.2), refl)
+    let front = fixed.found _ _ _ are number.1 in
+    turn_found IsNextPosting before p number.0.1 front.0 number.0.0 x t (record { text_is = front.1; rises = rises_found before number.0.0 tested.0 }) front.2 tested.1
 
 again : (before : Option ℕ) (p : Position) (text : List ℕ) (x : ℕ) (after : List ℕ) → IsNextPosting before text x → left p ≡ text ++ after → (q : Position) × (posting_at (before, p) ≡ Ok (x, (Some x, q))) × (left q ≡ after)
 unfolding posting_at

@@ -1,4 +1,5 @@
 -- Tests of ranges.
+use Rattle.reading_core.proofs.SignedRanges.{fits_from_test, test_from_fits}
 use Rattle.std.proofs.Common.{◌≡◌, ◌^◌, ◌<◌, true, false, arith, rules, ℤ, pos, negsuc}
 use Rattle.std.specs.Int.{w64, FitsUnsigned}
 use Rattle.std.proofs.lemmas.Int.{ints}
@@ -7,16 +8,8 @@ use Rattle.std.proofs.lemmas.Bool.{ltb-true, lt-ltb, false_from_ne_true}
 use Rattle.reading_core.specs.Decimal.{fits_signed}
 use Rattle.index_parts.specs.SeriesReading.{fits_unsigned}
 
-pub signed_from_test : (n : ℤ) → fits_signed n ≡ true → FitsSigned w64 n
-signed_from_test (pos n) e = record { sfits = ltb-true _ _ e }
-signed_from_test (negsuc n) e = record { sfits = ltb-true _ _ e }
-
-pub signed_test : (n : ℤ) → FitsSigned w64 n → fits_signed n ≡ true
-signed_test (pos n) fits = lt-ltb _ _ fits.sfits
-signed_test (negsuc n) fits = lt-ltb _ _ fits.sfits
-
 pub signed_fails : (n : ℤ) → ¬ FitsSigned w64 n → fits_signed n ≡ false
-signed_fails n large = false_from_ne_true (fits_signed n) (λ e. large (signed_from_test n e))
+signed_fails n large = false_from_ne_true (fits_signed n) (λ e. large (fits_from_test n e))
 
 pub unsigned_from_test : (n : ℤ) → fits_unsigned n ≡ true → FitsUnsigned w64 n
 unsigned_from_test (pos n) e = let lt = ltb-true n (2 ^ 64) e in (search rules, search rules)
@@ -29,6 +22,6 @@ unsigned_test (negsuc n) fits = let low = fits.0 in absurd (omega (arith, ints, 
 pub unsigned_fails : (n : ℤ) → ¬ FitsUnsigned w64 n → fits_unsigned n ≡ false
 unsigned_fails n large = false_from_ne_true (fits_unsigned n) (λ e. large (unsigned_from_test n e))
 
-pub ruleset signed_tests = (signed_test, signed_fails)
+pub ruleset signed_tests = (test_from_fits, signed_fails)
 
 pub ruleset unsigned_tests = (unsigned_test, unsigned_fails)

@@ -1,54 +1,40 @@
 -- Postings tables against their grammar.
-use Rattle.std.proofs.Common.{◌≡◌, ℕ, ◌-◌, ◌≤◌, Bool, true, false, List, [], ◌∷◌, ◌++◌, length, Option, Some, None, Result, Ok, refl, sym, ap, subst, ◌∙◌, append_assoc, length-append, arith}
-use Rattle.std.specs.Prelude.{◌&&◌, ◌==◌}
+use Rattle.list_core.proofs.Bools.{Less-from_is_lt, is_lt-from_Less}
+use Rattle.std.proofs.Common.{◌≡◌, ℕ, ◌-◌, ◌≤◌, true, List, [], ◌∷◌, ◌++◌, length, Option, Some, None, Ok, refl, sym, ap, ◌∙◌, append_assoc, length-append, arith}
+use Rattle.std.specs.Prelude.{◌==◌}
 use Rattle.std.specs.Int.{w8, to_be_bytes}
 use Rattle.std.specs.Str.{is_utf8}
-use Rattle.std.proofs.lemmas.Bool.{eqb-true}
+use Rattle.std.proofs.lemmas.Bool.{and_parts, eqb-true}
 use Rattle.std.proofs.lemmas.List.{nil_from_length}
 use Rattle.std.proofs.lemmas.Str.{is_utf8-from_IsUtf8}
-use Rattle.reading_core.specs.Reading.{◌>>=◌, ◌>>◌, unless}
 use Rattle.reading_core.specs.Grammar.{IsBytes, HasFront}
 use Rattle.reading_core.proofs.Fronts.{IsBytes-after}
 use Rattle.reading_core.proofs.Binds.{bind_ok, unless_ok, ok_is}
 use Rattle.wire_bytes.specs.Position.{Position, left}
-use Rattle.wire_bytes.specs.Fields.{number_at, uvarint_at}
 use Rattle.wire_bytes.specs.FieldTexts.{IsFixed}
 use Rattle.wire_bytes.proofs.FixedLaws.{wide8}
 use Rattle.index_parts.specs.declared.refusal.PartRefusal.{PartRefusal}
 use Rattle.index_parts.specs.declared.refusal.PartRefusal.TheVariants.{Unordered, NotText}
 use Rattle.index_parts.specs.declared.postings_row.PostingsRow.{PostingsRow}
-use Rattle.index_parts.specs.Placed.{field, text_at}
 use Rattle.index_parts.specs.Rows.{compare_rows, MayComeAfter, IsNextRow}
 use Rattle.index_parts.specs.RowsReading.{may_come_after, row_told, row_at}
 use Rattle.index_parts.proofs.FieldLaws.{fixed_field, uvarint_field, long_field}
+use Rattle.index_parts.proofs.TurnLaws.{turn_found}
 use Rattle.index_parts.proofs.ListLaws.{IsTurnOf}
-use Rattle.index_parts.proofs.SymbolLaws.{less_from_test, test_from_less, text_is, long_is, text_size, uvarint_size}
-
-both : (a b : Bool) → (a && b) ≡ true → (a ≡ true) × (b ≡ true)
-both true b e = (refl, e)
-both false b e = absurd cc
+use Rattle.index_parts.proofs.SymbolLaws.{text_is, long_is, text_size, uvarint_size}
 
 after_found : (before : Option PostingsRow) (row : PostingsRow) → may_come_after before row ≡ true → MayComeAfter before row
 after_found None row e =
-    let p = both (length row.name == 0) (length row.value == 0) e in
+    let p = and_parts (length row.name == 0) (length row.value == 0) e in
     (nil_from_length row.name (eqb-true (length row.name) 0 p.0), nil_from_length row.value (eqb-true (length row.value) 0 p.1))
-after_found (Some b) row e = less_from_test (compare_rows b row) e
+after_found (Some b) row e = Less-from_is_lt (compare_rows b row) e
 
 after_again : (before : Option PostingsRow) (row : PostingsRow) → MayComeAfter before row → may_come_after before row ≡ true
 after_again None row h = rw (h.0, h.1) refl
-after_again (Some b) row h = test_from_less (compare_rows b row) h
-
-abbrev Read : Type 0
-Read = Result (PostingsRow × (Option PostingsRow × Position)) PartRefusal
+after_again (Some b) row h = is_lt-from_Less (compare_rows b row) h
 
 abbrev row_with : List ℕ × Position → List ℕ × Position → ℕ × Position → PostingsRow
 row_with name value offset = record { name = name.0; value = value.0; offset = offset.0 }
-
-abbrev value_tested : ℕ → PostingsRow → Result PostingsRow PartRefusal
-value_tested value_end row = unless (is_utf8 row.value) (NotText (value_end - length row.value)) >> Ok row
-
-abbrev name_tested : ℕ → ℕ → PostingsRow → Result PostingsRow PartRefusal
-name_tested name_end value_end row = unless (is_utf8 row.name) (NotText (name_end - length row.name)) >> value_tested value_end row
 
 -- what a row that is told has passed
 record HasPassed (before : Option PostingsRow) (row told : PostingsRow) : Type 0 where
@@ -59,25 +45,10 @@ record HasPassed (before : Option PostingsRow) (row told : PostingsRow) : Type 0
 
 told_parts : (before : Option PostingsRow) (place name_end value_end : ℕ) (row told : PostingsRow) → row_told before place name_end value_end row ≡ Ok told → HasPassed before row told
 told_parts before place name_end value_end row told e =
-    let order = unless_ok (may_come_after before row) (Unordered place) (name_tested name_end value_end row) told e in
-    let name = unless_ok (is_utf8 row.name) (NotText (name_end - length row.name)) (value_tested value_end row) told order.1 in
-    let value = unless_ok (is_utf8 row.value) (NotText (value_end - length row.value)) (Ok row) told name.1 in
+    let order = unless_ok (may_come_after before row) (Unordered place) _ _ e in
+    let name = unless_ok (is_utf8 row.name) (NotText (name_end - length row.name)) _ _ order.1 in
+    let value = unless_ok (is_utf8 row.value) (NotText (value_end - length row.value)) _ _ name.1 in
     record { ordered = order.0; name_utf8 = name.0; value_utf8 = value.0; same = ok_is {E = PartRefusal} _ _ value.1 }
-
-abbrev done : ℕ × Position → PostingsRow → Read
-done offset row = Ok (row, (Some row, offset.1))
-
-abbrev row_tested : Option PostingsRow → Position → List ℕ × Position → List ℕ × Position → ℕ × Position → Read
-row_tested before p name value offset = row_told before p.place name.1.place value.1.place (row_with name value offset) >>= λ row. done offset row
-
-abbrev after_value : Option PostingsRow → Position → List ℕ × Position → List ℕ × Position → Read
-after_value before p name value = field uvarint_at value.1 >>= λ offset. row_tested before p name value offset
-
-abbrev after_name : Option PostingsRow → Position → List ℕ × Position → Read
-after_name before p name = text_at name.1 >>= λ value. after_value before p name value
-
-abbrev after_kind : Option PostingsRow → Position → ℕ × Position → Read
-after_kind before p kind = unless (kind.0 == 2) (Unordered p.place) >> (text_at kind.1 >>= λ name. after_name before p name)
 
 regroup : (name value offset after : List ℕ) → (name ++ value ++ offset) ++ after ≡ name ++ (value ++ (offset ++ after))
 regroup name value offset after = append_assoc (name ++ value) offset after ∙ append_assoc name value (offset ++ after)
@@ -85,15 +56,14 @@ regroup name value offset after = append_assoc (name ++ value) offset after ∙ 
 found : (before : Option PostingsRow) (p : Position) (x : PostingsRow) (t : Option PostingsRow × Position) → IsBytes (left p) → row_at (before, p) ≡ Ok (x, t) → HasFront (IsNextRow before) (left p) x (left t.1) × (t.0 ≡ Some x)
 unfolding row_at
 found before p x t are e =
-    let kind = bind_ok (field (number_at w8) p) (λ kind. after_kind before p kind) (x, t) e in
-    let is_two = unless_ok (kind.0.0 == 2) (Unordered p.place) (text_at kind.0.1 >>= λ name. after_name before p name) (x, t) kind.2 in
-    let name = bind_ok (text_at kind.0.1) (λ name. after_name before p name) (x, t) is_two.1 in
-    let value = bind_ok (text_at name.0.1) (λ value. after_value before p name.0 value) (x, t) name.2 in
-    let offset = bind_ok (field uvarint_at value.0.1) (λ offset. row_tested before p name.0 value.0 offset) (x, t) value.2 in
+    let kind = bind_ok _ _ _ e in
+    let is_two = unless_ok (kind.0.0 == 2) (Unordered p.place) _ _ kind.2 in
+    let name = bind_ok _ _ _ is_two.1 in
+    let value = bind_ok _ _ _ name.2 in
+    let offset = bind_ok _ _ _ value.2 in
     let row = row_with name.0 value.0 offset.0 in
-    let told = bind_ok (row_told before p.place name.0.1.place value.0.1.place row) (λ row. done offset.0 row) (x, t) offset.2 in
+    let told = bind_ok _ _ _ offset.2 in
     let tests = told_parts before p.place name.0.1.place value.0.1.place row told.0 told.1 in
-    let same : ◌≡◌ {A = PostingsRow × (Option PostingsRow × Position)} (row, (Some row, offset.0.1)) (x, t) = ap (λ (r : PostingsRow). (r, (Some r, offset.0.1))) tests.same ∙ ok_is {E = PartRefusal} _ _ told.2 in
     let fixed = fixed_field w8 wide8 in
     let f0 = fixed.found p kind.0.1 kind.0.0 are kind.1 in
     let are1 = IsBytes-after f0.0 (left kind.0.1) (left p) f0.2 are in
@@ -115,7 +85,7 @@ found before p x t are e =
     } in
     let behind : left kind.0.1 ≡ (f1.0 ++ f2.0 ++ f3.0) ++ left offset.0.1 = f1.2 ∙ ap (λ (a : List ℕ). f1.0 ++ a) (f2.2 ∙ ap (λ (a : List ℕ). f2.0 ++ a) f3.2) ∙ sym (regroup f1.0 f2.0 f3.0 (left offset.0.1)) in
     let whole : left p ≡ (2 ∷ (f1.0 ++ f2.0 ++ f3.0)) ++ left offset.0.1 = f0.2 ∙ ap (λ (a : List ℕ). a ++ left kind.0.1) two ∙ ap (λ (a : List ℕ). 2 ∷ a) behind in
-    subst (λ (r : PostingsRow × (Option PostingsRow × Position)). HasFront (IsNextRow before) (left p) r.0 (left r.1.1) × (r.1.0 ≡ Some r.0)) same ((2 ∷ (f1.0 ++ f2.0 ++ f3.0), is, whole), refl)
+    turn_found IsNextRow before p offset.0.1 (2 ∷ (f1.0 ++ f2.0 ++ f3.0)) row x t is whole (ap (λ (r : PostingsRow). Ok (r, (Some r, offset.0.1))) tests.same ∙ told.2)
 
 again : (before : Option PostingsRow) (p : Position) (text : List ℕ) (x : PostingsRow) (after : List ℕ) → IsNextRow before text x → left p ≡ text ++ after → (q : Position) × (row_at (before, p) ≡ Ok (x, (Some x, q))) × (left q ≡ after)
 unfolding row_at

@@ -1,6 +1,5 @@
 -- Series against their grammar.
-use Rattle.std.proofs.Common.{◌≡◌, ℕ, suc, ◌+◌, ◌*◌, ◌≤◌, List, [], ◌∷◌, ◌++◌, length, map, zip, None, Result, Ok, refl, sym, ap, subst, ◌∙◌, append_assoc, length-append, arith}
-use Rattle.reading_core.specs.Reading.{◌>>=◌}
+use Rattle.std.proofs.Common.{◌≡◌, ℕ, ◌+◌, ◌*◌, ◌≤◌, List, [], ◌∷◌, ◌++◌, length, map, zip, None, Ok, refl, sym, ap, subst, ◌∙◌, append_assoc, length-append, arith}
 use Rattle.reading_core.specs.Members.{members_at}
 use Rattle.reading_core.specs.Grammar.{IsBytes, HasFront, AreTexts}
 use Rattle.reading_core.proofs.Fronts.{IsBytes-after, members_found, members_again}
@@ -12,15 +11,14 @@ use Rattle.wire_bytes.specs.FieldTexts.{IsUvarint}
 use Rattle.index_parts.specs.declared.refusal.PartRefusal.{PartRefusal}
 use Rattle.index_parts.specs.declared.chunk_place.ChunkPlace.{ChunkPlace}
 use Rattle.index_parts.specs.declared.raw_series.RawSeries.{RawSeries}
-use Rattle.index_parts.specs.Placed.{field}
-use Rattle.index_parts.specs.Framing.{entry_at}
-use Rattle.index_parts.specs.Turns.{AreInTurn}
-use Rattle.index_parts.specs.ListReading.{turns_at}
 use Rattle.index_parts.specs.SeriesEntry.{IsLabel, IsNextChunk, IsSeries}
 use Rattle.index_parts.specs.SeriesReading.{labels_begin_at, label_at, labels_at, chunk_at, chunks_at, series_at}
 use Rattle.index_parts.proofs.FieldLaws.{uvarint_field}
-use Rattle.index_parts.proofs.FrameLaws.{entry_found, entry_again, entry_small}
-use Rattle.index_parts.proofs.TurnLaws.{turns_found, turns_again, turns_few}
+use Rattle.index_parts.proofs.FrameLaws.{framed_found, framed_again, framed_small}
+use Rattle.index_parts.proofs.TurnLaws.{field_found, turns_few}
+use Rattle.index_parts.proofs.ListLaws.{counted_found, counted_again}
+use Rattle.list_core.proofs.Lists.{zip_firsts, zip_seconds, zip_parts, length-zip}
+use Rattle.std.proofs.lemmas.List.{length-map}
 use Rattle.index_parts.proofs.SymbolLaws.{uvarint_size}
 use Rattle.index_parts.proofs.ChunkLaws.{chunk_turn, chunk_size}
 
@@ -29,13 +27,11 @@ use Rattle.index_parts.proofs.ChunkLaws.{chunk_turn, chunk_size}
 label_found : (p : Position) (x : ℕ × ℕ) (q : Position) → IsBytes (left p) → label_at p ≡ Ok (x, q) → HasFront IsLabel (left p) x (left q)
 unfolding label_at
 label_found p x q are e =
-    let name = bind_ok (field uvarint_at p) (λ name. field uvarint_at name.1 >>= λ value. Ok ((name.0, value.0), value.1)) (x, q) e in
-    let value = bind_ok (field uvarint_at name.0.1) (λ value. Ok ((name.0.0, value.0), value.1)) (x, q) name.2 in
-    let same : ◌≡◌ {A = (ℕ × ℕ) × Position} ((name.0.0, value.0.0), value.0.1) (x, q) = ok_is {E = PartRefusal} _ _ value.2 in
+    let name = bind_ok _ _ _ e in
+    let value = bind_ok _ _ _ name.2 in
     let f0 = uvarint_field.found p name.0.1 name.0.0 are name.1 in
     let f1 = uvarint_field.found name.0.1 value.0.1 value.0.0 (IsBytes-after f0.0 (left name.0.1) (left p) f0.2 are) value.1 in
-    let is : IsLabel (f0.0 ++ f1.0) (name.0.0, value.0.0) = record { name = f0.0; value = f1.0; name_is = f0.1; value_is = f1.1; text_is = refl } in
-    subst (λ (r : (ℕ × ℕ) × Position). HasFront IsLabel (left p) r.0 (left r.1)) same (f0.0 ++ f1.0, is, f0.2 ∙ ap (λ (a : List ℕ). f0.0 ++ a) f1.2 ∙ sym (append_assoc f0.0 f1.0 (left value.0.1)))
+    field_found IsLabel p value.0.1 q (f0.0 ++ f1.0) (name.0.0, value.0.0) x (record { name = f0.0; value = f1.0; name_is = f0.1; value_is = f1.1; text_is = refl }) (f0.2 ∙ ap (λ (a : List ℕ). f0.0 ++ a) f1.2 ∙ sym (append_assoc f0.0 f1.0 (left value.0.1))) value.2
 
 label_again : (p : Position) (text : List ℕ) (x : ℕ × ℕ) (after : List ℕ) → IsLabel text x → left p ≡ text ++ after → (q : Position) × (label_at p ≡ Ok (x, q)) × (left q ≡ after)
 unfolding label_at
@@ -43,35 +39,6 @@ label_again p text x after is e =
     let name = uvarint_field.again p is.name x.0 (is.value ++ after) is.name_is (e ∙ ap (λ (a : List ℕ). a ++ after) is.text_is ∙ append_assoc is.name is.value after) in
     let value = uvarint_field.again name.0 is.value x.1 after is.value_is name.2 in
     (value.0, rw (name.1, value.1) refl, value.2)
-
--- two lists as pairs, and back
-pub firsts_zip : (a b : List ℕ) → length a ≡ length b → map (λ (p : ℕ × ℕ). p.0) (zip a b) ≡ a
-firsts_zip [] b e = refl
-firsts_zip (x ∷ a) [] e = absurd (omega arith)
-firsts_zip (x ∷ a) (y ∷ b) e = ap (λ (l : List ℕ). x ∷ l) (firsts_zip a b (omega arith))
-
-pub seconds_zip : (a b : List ℕ) → length a ≡ length b → map (λ (p : ℕ × ℕ). p.1) (zip a b) ≡ b
-seconds_zip [] [] e = refl
-seconds_zip [] (y ∷ b) e = absurd (omega arith)
-seconds_zip (x ∷ a) [] e = absurd (omega arith)
-seconds_zip (x ∷ a) (y ∷ b) e = ap (λ (l : List ℕ). y ∷ l) (seconds_zip a b (omega arith))
-
-pub zip_parts : (pairs : List (ℕ × ℕ)) → zip (map (λ p. p.0) pairs) (map (λ p. p.1) pairs) ≡ pairs
-zip_parts [] = refl
-zip_parts (p ∷ pairs) = ap (λ (l : List (ℕ × ℕ)). p ∷ l) (zip_parts pairs)
-
-pub length-zip : (a b : List ℕ) → length a ≡ length b → length (zip a b) ≡ length a
-length-zip [] b e = refl
-length-zip (x ∷ a) [] e = absurd (omega arith)
-length-zip (x ∷ a) (y ∷ b) e = ap suc (length-zip a b (omega arith))
-
-pub length-firsts : (pairs : List (ℕ × ℕ)) → length (map (λ (p : ℕ × ℕ). p.0) pairs) ≡ length pairs
-length-firsts [] = refl
-length-firsts (p ∷ pairs) = ap suc (length-firsts pairs)
-
-pub length-seconds : (pairs : List (ℕ × ℕ)) → length (map (λ (p : ℕ × ℕ). p.1) pairs) ≡ length pairs
-length-seconds [] = refl
-length-seconds (p ∷ pairs) = ap suc (length-seconds pairs)
 
 labels_few : (text : List ℕ) (labels : List (ℕ × ℕ)) → AreTexts IsLabel text labels → 2 * length labels ≤ length text
 labels_few text [] are = omega arith
@@ -83,7 +50,7 @@ labels_few text (label ∷ labels) are =
 
 -- ---- the series
 
-abbrev pub series_with : (List ℕ × List ℕ) × Position → List ChunkPlace → RawSeries
+abbrev series_with : (List ℕ × List ℕ) × Position → List ChunkPlace → RawSeries
 series_with labels chunks = record { names = labels.0.0; values = labels.0.1; chunks = chunks }
 
 regroup : (a b c d after : List ℕ) → a ++ b ++ c ++ d ++ after ≡ a ++ (b ++ (c ++ (d ++ after)))
@@ -100,7 +67,7 @@ record HasLabels (bytes : List ℕ) (count : ℕ) (names values after : List ℕ
 labels_found : (count : ℕ) (p q : Position) (names values : List ℕ) → IsBytes (left p) → labels_at count p ≡ Ok ((names, values), q) → HasLabels (left p) count names values (left q)
 unfolding labels_at
 labels_found count p q names values are e =
-    let x = bind_ok (members_at label_at count p) (λ labels. Ok ((map (λ label. label.0) labels.0, map (λ label. label.1) labels.0), labels.1)) ((names, values), q) e in
+    let x = bind_ok _ _ _ e in
     let same : ◌≡◌ {A = (List ℕ × List ℕ) × Position} ((map (λ label. label.0) x.0.0, map (λ label. label.1) x.0.0), x.0.1) ((names, values), q) = ok_is {E = PartRefusal} _ _ x.2 in
     let texts = members_found left label_at IsLabel label_found count p x.0.0 x.0.1 are x.1 in
     let many : length x.0.0 ≡ count = length-members label_at count p x.0.1 x.0.0 x.1 in
@@ -108,8 +75,8 @@ labels_found count p q names values are e =
       text = texts.0;
       are = subst (λ (l : List (ℕ × ℕ)). AreTexts IsLabel texts.0 l) (sym (zip_parts x.0.0)) texts.1;
       front = texts.2;
-      names_many = length-firsts x.0.0 ∙ many;
-      values_many = length-seconds x.0.0 ∙ many;
+      names_many = length-map x.0.0 (λ (p : ℕ × ℕ). p.0) ∙ many;
+      values_many = length-map x.0.0 (λ (p : ℕ × ℕ). p.1) ∙ many;
     } in
     subst (λ (r : (List ℕ × List ℕ) × Position). HasLabels (left p) count r.0.0 r.0.1 (left r.1)) same has
 
@@ -119,57 +86,25 @@ labels_again p text names values after many are e =
     let r = members_again left label_at IsLabel label_again p text (zip names values) after are e in
     let count : length (zip names values) ≡ length names = length-zip names values many in
     let read : members_at label_at (length names) p ≡ Ok (zip names values, r.0) = ap (λ (n : ℕ). members_at label_at n p) (sym count) ∙ r.1 in
-    (r.0, rw (read, firsts_zip names values many, seconds_zip names values many) refl, r.2)
-
--- the same of chunks
-record HasChunks (bytes : List ℕ) (count : ℕ) (chunks : List ChunkPlace) : Type 0 where
-  text : List ℕ
-  after : List ℕ
-  are : AreInTurn IsNextChunk None text chunks
-  front : bytes ≡ text ++ after
-  many : length chunks ≡ count
-
-chunks_found : (count : ℕ) (p : Position) (chunks : List ChunkPlace) → IsBytes (left p) → turns_at chunk_at count p ≡ Ok chunks → HasChunks (left p) count chunks
-unfolding turns_at
-chunks_found count p chunks are e =
-    let x = bind_ok (members_at chunk_at count (None, p)) (λ members. Ok members.0) chunks e in
-    let same : x.0.0 ≡ chunks = ok_is {E = PartRefusal} _ _ x.2 in
-    let texts = turns_found chunk_at IsNextChunk chunk_turn.found count None p x.0.0 x.0.1 are x.1 in
-    let has : HasChunks (left p) count x.0.0 = record { text = texts.0; after = left x.0.1.1; are = texts.1; front = texts.2; many = length-members chunk_at count (None, p) x.0.1 x.0.0 x.1 } in
-    subst (λ (xs : List ChunkPlace). HasChunks (left p) count xs) same has
-
-chunks_again : (p : Position) (text after : List ℕ) (chunks : List ChunkPlace) → AreInTurn IsNextChunk None text chunks → left p ≡ text ++ after → turns_at chunk_at (length chunks) p ≡ Ok chunks
-unfolding turns_at
-chunks_again p text after chunks are e = let r = turns_again chunk_at IsNextChunk chunk_turn.again None p text chunks after are e in rw r.1 refl
-
-abbrev pub after_labels : (List ℕ × List ℕ) × Position → Result RawSeries PartRefusal
-after_labels labels = chunks_at labels.1 >>= λ chunks. Ok (series_with labels chunks)
-
-pub begin_parts : (index : List ℕ) (at : ℕ) (count : ℕ × Position) → labels_begin_at index at ≡ Ok count → (content : Position) × (entry_at index at ≡ Ok content) × (field uvarint_at content ≡ Ok count)
-unfolding labels_begin_at
-begin_parts index at count e = bind_ok (entry_at index at) (λ content. field uvarint_at content) count e
-
-chunks_parts : (p : Position) (chunks : List ChunkPlace) → chunks_at p ≡ Ok chunks → (count : ℕ × Position) × (field uvarint_at p ≡ Ok count) × (turns_at chunk_at count.0 count.1 ≡ Ok chunks)
-unfolding chunks_at
-chunks_parts p chunks e = bind_ok (field uvarint_at p) (λ count. turns_at chunk_at count.0 count.1) chunks e
+    (r.0, rw (read, zip_firsts names values many, zip_seconds names values many) refl, r.2)
 
 pub series_found : (index : List ℕ) (at : ℕ) (series : RawSeries) → IsBytes index → series_at index at ≡ Ok series → IsSeries index at series
-unfolding series_at
+unfolding series_at labels_begin_at chunks_at
 series_found index at series are e =
-    let label_count = bind_ok (labels_begin_at index at) (λ begin. labels_at begin.0 begin.1 >>= after_labels) series e in
-    let content = begin_parts index at label_count.0 label_count.1 in
-    let labels = bind_ok (labels_at label_count.0.0 label_count.0.1) after_labels series label_count.2 in
-    let chunks = bind_ok (chunks_at labels.0.1) (λ chunks. Ok (series_with labels.0 chunks)) series labels.2 in
-    let chunk_count = chunks_parts labels.0.1 chunks.0 chunks.1 in
+    let label_count = bind_ok _ _ _ e in
+    let content = bind_ok _ _ _ label_count.1 in
+    let labels = bind_ok _ _ _ label_count.2 in
+    let chunks = bind_ok _ _ _ labels.2 in
+    let chunk_count = bind_ok _ _ _ chunks.1 in
     let same : series_with labels.0 chunks.0 ≡ series = ok_is {E = PartRefusal} _ _ chunks.2 in
-    let entry = entry_found index at content.0 are content.1 in
+    let entry = framed_found IsUvarint uvarint_at uvarint_field index at content.0 are content.1 in
     let f0 = uvarint_field.found content.0 label_count.0.1 label_count.0.0 entry.1 content.2 in
     let are1 = IsBytes-after f0.0 (left label_count.0.1) (left content.0) f0.2 entry.1 in
     let f1 = labels_found label_count.0.0 label_count.0.1 labels.0.1 labels.0.0.0 labels.0.0.1 are1 labels.1 in
     let are2 = IsBytes-after f1.text (left labels.0.1) (left label_count.0.1) f1.front are1 in
     let f2 = uvarint_field.found labels.0.1 chunk_count.0.1 chunk_count.0.0 are2 chunk_count.1 in
     let are3 = IsBytes-after f2.0 (left chunk_count.0.1) (left labels.0.1) f2.2 are2 in
-    let f3 = chunks_found chunk_count.0.0 chunk_count.0.1 chunks.0 are3 chunk_count.2 in
+    let f3 = counted_found IsNextChunk chunk_at chunk_turn chunk_count.0.0 chunk_count.0.1 chunks.0 are3 chunk_count.2 in
     let is : IsSeries index at (series_with labels.0 chunks.0) = record {
       content = left content.0;
       label_count = f0.0;
@@ -190,17 +125,17 @@ series_found index at series are e =
 pub series_again : (index : List ℕ) (at : ℕ) (series : RawSeries) → IsSeries index at series → series_at index at ≡ Ok series
 unfolding series_at labels_begin_at chunks_at
 series_again index at series is =
-    let entry = entry_again index at is.content is.entry in
+    let entry = framed_again IsUvarint uvarint_at uvarint_field index at is.content is.entry in
     let whole = entry.2 ∙ is.content_is ∙ regroup is.label_count is.labels is.chunk_count is.chunks is.left_over in
     let label_count = uvarint_field.again entry.0 is.label_count (length series.names) (is.labels ++ (is.chunk_count ++ (is.chunks ++ is.left_over))) is.label_count_is whole in
     let labels = labels_again label_count.0 is.labels series.names series.values (is.chunk_count ++ (is.chunks ++ is.left_over)) is.as_many is.labels_are label_count.2 in
     let chunk_count = uvarint_field.again labels.0 is.chunk_count (length series.chunks) (is.chunks ++ is.left_over) is.chunk_count_is labels.2 in
-    let chunks = chunks_again chunk_count.0 is.chunks is.left_over series.chunks is.chunks_are chunk_count.2 in
+    let chunks = counted_again IsNextChunk chunk_at chunk_turn chunk_count.0 is.chunks is.left_over series.chunks is.chunks_are chunk_count.2 in
     rw (entry.1, label_count.1, labels.1, chunk_count.1, chunks) refl
 
 pub series_few : (index : List ℕ) (at : ℕ) (series : RawSeries) → IsSeries index at series → length series.names + length series.values + 3 * length series.chunks ≤ length index
 series_few index at series is =
-    let small = entry_small index at is.content is.entry in
+    let small = framed_small IsUvarint index at is.content is.entry in
     let labels = labels_few is.labels (zip series.names series.values) is.labels_are in
     let chunks = turns_few IsNextChunk 3 chunk_size None is.chunks series.chunks is.chunks_are in
     let many = length-zip series.names series.values is.as_many in

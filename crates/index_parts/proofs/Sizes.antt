@@ -6,30 +6,22 @@ use Rattle.std.proofs.lemmas.Bool.{cases_lt, le-ltb, lt-ltb}
 use Rattle.std.proofs.lemmas.List.Concat.{flat_map-cons, length-flat_map}
 use Rattle.std.proofs.lemmas.List.Sums.{sum_by-cons, sum_by-le-sum_by}
 use Rattle.wire_bytes.specs.Written.{groups_text, uvarint_text}
-use Rattle.wire_bytes.proofs.FixedLaws.{wide32}
+use Rattle.wire_bytes.proofs.FixedLaws.{length-four_each}
+use Rattle.wire_bytes.proofs.GroupTexts.{few_groups}
 use Rattle.index_parts.specs.declared.postings_row.PostingsRow.{PostingsRow}
 use Rattle.index_parts.specs.Framed.{text_field}
 use Rattle.index_parts.specs.Lists.{list_content}
 use Rattle.index_parts.specs.LabelIndices.{offset_text, label_index_content}
 use Rattle.index_parts.specs.Rows.{row_text}
 
-groups_most : (more n : ℕ) → length (groups_text more n) ≤ suc more
-unfolding groups_text
-groups_most zero n = omega arith
-groups_most (suc more) n =
-    elim (cases_lt n 128) [
-      | inl low ↦ rw (lt-ltb n 128 low) (omega arith)
-      | inr large ↦ rw (le-ltb n 128 large) (omega (arith, groups_most more (n / 128)))
-    ]
-
 pub text_field_most : (text : List ℕ) → length (text_field text) ≤ 10 + length text
-text_field_most text = omega (arith, groups_most 9 (length text), length-append (uvarint_text (length text)) text)
+text_field_most text = omega (arith, few_groups 9 (length text), length-append (uvarint_text (length text)) text)
 
 offset_most : (row : List ℕ × ℕ) → length (offset_text row) ≤ 21 + length row.0
-offset_most row = omega (arith, text_field_most row.0, groups_most 9 row.1, length-append (text_field row.0) (uvarint_text row.1))
+offset_most row = omega (arith, text_field_most row.0, few_groups 9 row.1, length-append (text_field row.0) (uvarint_text row.1))
 
 row_most : (row : PostingsRow) → length (row_text row) ≤ 31 + length row.name + length row.value
-row_most row = omega (arith, text_field_most row.name, text_field_most row.value, groups_most 9 row.offset, length-append (text_field row.name ++ text_field row.value) (uvarint_text row.offset), length-append (text_field row.name) (text_field row.value))
+row_most row = omega (arith, text_field_most row.name, text_field_most row.value, few_groups 9 row.offset, length-append (text_field row.name ++ text_field row.value) (uvarint_text row.offset), length-append (text_field row.name) (text_field row.value))
 
 list_most : {A : Type 0} (text_of : A → List ℕ) (most : A → ℕ) → ((x : A) → length (text_of x) ≤ most x) → (xs : List A) → length (list_content text_of xs) ≤ 4 + sum_by most xs
 list_most text_of most one xs =
@@ -45,16 +37,11 @@ offsets_small rows small = omega (arith, list_most offset_text (λ row. 21 + len
 pub rows_small : (rows : List PostingsRow) → 4 + sum_by (λ row. 31 + length row.name + length row.value) rows < 2 ^ 32 → length (list_content row_text rows) < 2 ^ 32
 rows_small rows small = omega (arith, list_most row_text (λ row. 31 + length row.name + length row.value) row_most rows)
 
--- numbers take four bytes each
-numbers_length : (numbers : List ℕ) → length (flat_map (to_be_bytes w32) numbers) ≡ 4 * length numbers
-numbers_length [] = refl
-numbers_length (n ∷ numbers) = omega (arith, numbers_length numbers, ap length (flat_map-cons (to_be_bytes w32) n numbers), length-append (to_be_bytes w32 n) (flat_map (to_be_bytes w32) numbers), wide32.len n)
-
 pub postings_small : (numbers : List ℕ) → length numbers < 2 ^ 30 - 1 → length (list_content (to_be_bytes w32) numbers) < 2 ^ 32
-postings_small numbers few = omega (arith, numbers_length numbers, length-append (to_be_bytes w32 (length numbers)) (flat_map (to_be_bytes w32) numbers))
+postings_small numbers few = omega (arith, length-four_each numbers, length-append (to_be_bytes w32 (length numbers)) (flat_map (to_be_bytes w32) numbers))
 
 pub values_small : (values : List ℕ) → length values < 2 ^ 30 - 2 → length (label_index_content values) < 2 ^ 32
-values_small values few = omega (arith, numbers_length values, length-append (to_be_bytes w32 1) (list_content (to_be_bytes w32) values), length-append (to_be_bytes w32 (length values)) (flat_map (to_be_bytes w32) values))
+values_small values few = omega (arith, length-four_each values, length-append (to_be_bytes w32 1) (list_content (to_be_bytes w32) values), length-append (to_be_bytes w32 (length values)) (flat_map (to_be_bytes w32) values))
 
 -- the same of a table of offsets by its names
 names_most : (names : List (List ℕ)) (offsets : List ℕ) → sum_by (λ row. 21 + length row.0) (zip names offsets) ≤ sum_by (λ name. 21 + length name) names

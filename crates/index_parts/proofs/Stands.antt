@@ -3,40 +3,27 @@ use Rattle.std.proofs.Common.{◌≡◌, ℕ, ◌^◌, ◌<◌, List, ◌++◌, 
 use Rattle.std.specs.Prelude.{OnOk}
 use Rattle.std.specs.Int.{w32, to_be_bytes}
 use Rattle.std.proofs.lemmas.List.{drop_at}
-use Rattle.wire_bytes.specs.Written.{uvarint_text}
+use Rattle.wire_bytes.specs.FieldTexts.{IsFixed}
 use Rattle.wire_bytes.specs.Crc.{crc}
-use Rattle.wire_bytes.proofs.GroupTexts.{uvarint_text_is}
-use Rattle.index_parts.specs.Framed.{IsSection, IsEntry, section_text, entry_text}
+use Rattle.index_parts.specs.Framed.{IsFramed, IsSection, section_text}
 
 behind : (before size content sum after : List ℕ) → drop (length before) ((before ++ (size ++ content ++ sum)) ++ after) ≡ size ++ content ++ sum ++ after
 behind before size content sum after = ap (drop (length before)) (append_assoc before (size ++ content ++ sum) after) ∙ drop_at before ((size ++ content ++ sum) ++ after) (length before) refl
 
+pub framed_stands : (IsSize : List ℕ → ℕ → Type 0) (before size content after : List ℕ) → IsSize size (length content) → crc content < 2 ^ 32 → IsFramed IsSize ((before ++ (size ++ content ++ to_be_bytes w32 (crc content))) ++ after) (length before) content
+framed_stands IsSize before size content after is sum = record {
+  size = size;
+  sum = to_be_bytes w32 (crc content);
+  after = after;
+  size_is = is;
+  sum_is = record { digits = refl; fits = sum };
+  stands = behind before size content (to_be_bytes w32 (crc content)) after;
+}
+
 pub section_stands : (before content after : List ℕ) → length content < 2 ^ 32 → crc content < 2 ^ 32 → IsSection ((before ++ section_text content) ++ after) (length before) content
 unfolding section_text
-section_stands before content after fits sum = record {
-  size = to_be_bytes w32 (length content);
-  sum = to_be_bytes w32 (crc content);
-  after = after;
-  size_is = record { digits = refl; fits = fits };
-  sum_is = record { digits = refl; fits = sum };
-  stands = behind before (to_be_bytes w32 (length content)) content (to_be_bytes w32 (crc content)) after;
-}
+section_stands before content after fits sum = framed_stands (IsFixed w32) before (to_be_bytes w32 (length content)) content after (record { digits = refl; fits = fits }) sum
 
-pub entry_stands : (before content after : List ℕ) → length content < 2 ^ 64 → crc content < 2 ^ 32 → IsEntry ((before ++ entry_text content) ++ after) (length before) content
-unfolding entry_text
-entry_stands before content after fits sum = record {
-  size = uvarint_text (length content);
-  sum = to_be_bytes w32 (crc content);
-  after = after;
-  size_is = uvarint_text_is (length content) fits;
-  sum_is = record { digits = refl; fits = sum };
-  stands = behind before (uvarint_text (length content)) content (to_be_bytes w32 (crc content)) after;
-}
-
-pub section_written : {E : Type 0} (r : Result (Unit {0}) E) (old new content after : List ℕ) (sum : ℕ) → OnOk r (new ≡ old ++ section_text content) → length content < 2 ^ 32 → sum ≡ crc content → sum < 2 ^ 32 → OnOk r (IsSection (new ++ after) (length old) content)
-section_written (Ok x) old new content after sum is fits e small = subst (λ (a : List ℕ). IsSection (a ++ after) (length old) content) (sym is) (section_stands old content after fits (omega arith))
-section_written (Err d) old new content after sum is fits e small = tt
-
-pub entry_written : {E : Type 0} (r : Result (Unit {0}) E) (old new content after : List ℕ) (sum : ℕ) → OnOk r (new ≡ old ++ entry_text content) → length content < 2 ^ 64 → sum ≡ crc content → sum < 2 ^ 32 → OnOk r (IsEntry (new ++ after) (length old) content)
-entry_written (Ok x) old new content after sum is fits e small = subst (λ (a : List ℕ). IsEntry (a ++ after) (length old) content) (sym is) (entry_stands old content after fits (omega arith))
-entry_written (Err d) old new content after sum is fits e small = tt
+pub framed_written : {E : Type 0} (IsSize : List ℕ → ℕ → Type 0) (r : Result (Unit {0}) E) (old new size content after : List ℕ) (sum : ℕ) → OnOk r (new ≡ old ++ (size ++ content ++ to_be_bytes w32 (crc content))) → IsSize size (length content) → sum ≡ crc content → sum < 2 ^ 32 → OnOk r (IsFramed IsSize (new ++ after) (length old) content)
+framed_written IsSize (Ok x) old new size content after sum put is e small = subst (λ (a : List ℕ). IsFramed IsSize (a ++ after) (length old) content) (sym put) (framed_stands IsSize old size content after is (omega arith))
+framed_written IsSize (Err d) old new size content after sum put is e small = tt

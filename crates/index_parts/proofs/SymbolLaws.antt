@@ -1,35 +1,25 @@
 -- Symbol tables against their grammar.
-use Rattle.std.proofs.Common.{◌≡◌, ℕ, ◌-◌, ◌≤◌, true, List, [], ◌∷◌, ◌++◌, length, Option, Some, None, Result, Ok, refl, ap, subst, arith}
+use Rattle.list_core.proofs.Bools.{Less-from_is_lt, is_lt-from_Less}
+use Rattle.std.proofs.Common.{◌≡◌, ℕ, ◌-◌, ◌≤◌, true, List, [], ◌∷◌, ◌++◌, length, Option, Some, None, Ok, refl, ap, arith}
 use Rattle.std.specs.declared.cmp.Ordering.{Ordering}
 use Rattle.std.specs.declared.cmp.Ordering.TheVariants.{Less, Equal, Greater}
 use Rattle.std.specs.Ordering.{is_lt}
 use Rattle.std.specs.Str.{is_utf8}
 use Rattle.std.proofs.lemmas.List.{length-append}
 use Rattle.std.proofs.lemmas.Str.{IsUtf8-from_is_utf8, is_utf8-from_IsUtf8}
-use Rattle.reading_core.specs.Reading.{◌>>◌, unless}
 use Rattle.reading_core.specs.Grammar.{IsBytes, HasFront}
-use Rattle.reading_core.proofs.Binds.{bind_ok, unless_ok, ok_is}
+use Rattle.reading_core.proofs.Binds.{bind_ok, unless_ok}
 use Rattle.wire_bytes.specs.Position.{Position, left}
 use Rattle.wire_bytes.specs.FieldTexts.{IsUvarint, IsGroups}
 use Rattle.label_sets.specs.Labels.{compare_texts}
-use Rattle.index_parts.specs.declared.refusal.PartRefusal.{PartRefusal}
 use Rattle.index_parts.specs.declared.refusal.PartRefusal.TheVariants.{Unordered, NotText}
 use Rattle.index_parts.specs.Placed.{text_at}
 use Rattle.index_parts.specs.Framed.{IsText}
 use Rattle.index_parts.specs.Symbols.{MayFollow, IsNextSymbol}
 use Rattle.index_parts.specs.SymbolsReading.{may_follow, symbol_at}
 use Rattle.index_parts.proofs.FieldLaws.{long_field, IsLong}
+use Rattle.index_parts.proofs.TurnLaws.{turn_found}
 use Rattle.index_parts.proofs.ListLaws.{IsTurnOf}
-
-pub less_from_test : (o : Ordering) → is_lt o ≡ true → o ≡ Less
-less_from_test Less e = refl
-less_from_test Equal e = absurd cc
-less_from_test Greater e = absurd cc
-
-pub test_from_less : (o : Ordering) → o ≡ Less → is_lt o ≡ true
-test_from_less Less e = refl
-test_from_less Equal e = absurd cc
-test_from_less Greater e = absurd cc
 
 -- a text that is UTF-8 behind its length
 pub text_is : (bytes text : List ℕ) → IsLong bytes text → is_utf8 text ≡ true → IsText bytes text
@@ -51,25 +41,22 @@ text_size bytes text is = let one = uvarint_size is.size (length text) is.size_i
 
 follows_found : (before : Option (List ℕ)) (s : List ℕ) → may_follow before s ≡ true → MayFollow before s
 follows_found None s e = tt
-follows_found (Some b) s e = less_from_test (compare_texts b s) e
+follows_found (Some b) s e = Less-from_is_lt (compare_texts b s) e
 
 follows_again : (before : Option (List ℕ)) (s : List ℕ) → MayFollow before s → may_follow before s ≡ true
 follows_again None s h = refl
-follows_again (Some b) s h = test_from_less (compare_texts b s) h
+follows_again (Some b) s h = is_lt-from_Less (compare_texts b s) h
 
 found : (before : Option (List ℕ)) (p : Position) (x : List ℕ) (t : Option (List ℕ) × Position) → IsBytes (left p) → symbol_at (before, p) ≡ Ok (x, t) → HasFront (IsNextSymbol before) (left p) x (left t.1) × (t.0 ≡ Some x)
 unfolding symbol_at
 found before p x t are e =
-    let symbol = bind_ok (text_at p) (λ symbol. unless (may_follow before symbol.0) (Unordered p.place) >> (unless (is_utf8 symbol.0) (NotText (symbol.1.place - length symbol.0)) >> Ok (symbol.0, (Some symbol.0, symbol.1)))) (x, t) e in
+    let symbol = bind_ok (text_at p) _ _ e in
     let s = symbol.0.0 in
     let q = symbol.0.1 in
-    let done : Result (List ℕ × (Option (List ℕ) × Position)) PartRefusal = Ok (s, (Some s, q)) in
-    let ordered = unless_ok (may_follow before s) (Unordered p.place) (unless (is_utf8 s) (NotText (q.place - length s)) >> done) (x, t) symbol.2 in
-    let utf8 = unless_ok (is_utf8 s) (NotText (q.place - length s)) done (x, t) ordered.1 in
-    let same : ◌≡◌ {A = List ℕ × (Option (List ℕ) × Position)} (s, (Some s, q)) (x, t) = ok_is {E = PartRefusal} _ _ utf8.1 in
+    let ordered = unless_ok (may_follow before s) (Unordered p.place) _ _ symbol.2 in
+    let utf8 = unless_ok (is_utf8 s) (NotText (q.place - length s)) _ _ ordered.1 in
     let front = long_field.found p q s are symbol.1 in
-    let is : IsNextSymbol before front.0 s = record { text_is = text_is front.0 s front.1 utf8.0; ascends = follows_found before s ordered.0 } in
-    subst (λ (r : List ℕ × (Option (List ℕ) × Position)). HasFront (IsNextSymbol before) (left p) r.0 (left r.1.1) × (r.1.0 ≡ Some r.0)) same ((front.0, is, front.2), refl)
+    turn_found IsNextSymbol before p q front.0 s x t (record { text_is = text_is front.0 s front.1 utf8.0; ascends = follows_found before s ordered.0 }) front.2 utf8.1
 
 again : (before : Option (List ℕ)) (p : Position) (text x after : List ℕ) → IsNextSymbol before text x → left p ≡ text ++ after → (q : Position) × (symbol_at (before, p) ≡ Ok (x, (Some x, q))) × (left q ≡ after)
 unfolding symbol_at

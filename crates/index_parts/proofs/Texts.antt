@@ -8,14 +8,14 @@ use Rattle.reading_core.proofs.Binds.{bind_ok}
 use Rattle.wire_bytes.specs.Position.{Position, left}
 use Rattle.wire_bytes.specs.Fields.{bytes_at, uvarint_at}
 use Rattle.index_parts.specs.Placed.{field, text_at}
-use Rattle.index_parts.proofs.Moves.{bytes_parts}
+use Rattle.wire_bytes.proofs.ByteFields.{bytes_parts}
 use Rattle.index_parts.proofs.FieldLaws.{placed_ok}
 
 -- what was read stands before the place
 pub text_within : (p q : Position) (bytes : List ℕ) → text_at p ≡ Ok (bytes, q) → length bytes ≤ q.place
 unfolding text_at
 text_within p q bytes e =
-    let x = bind_ok (field uvarint_at p) (λ size. field (bytes_at size.0) size.1) (bytes, q) e in
+    let x = bind_ok (field uvarint_at p) _ _ e in
     let parts = bytes_parts x.0.0 x.0.1 q bytes (placed_ok (bytes_at x.0.0) x.0.1 q bytes x.2) in
     let end : x.0.1.place + x.0.0 ≡ q.place = ap (λ (r : Position). r.place) parts.2 in
     omega (arith, ap length parts.1, length-take x.0.0 (left x.0.1))

@@ -4,7 +4,7 @@ use Rattle.std.specs.Prelude.{nat_le, IfOk}
 use Rattle.std.specs.Int.{w32, w64}
 use Rattle.std.proofs.lemmas.Bool.{leb-true, le-leb}
 use Rattle.std.proofs.lemmas.List.{take-append-drop, drop_at, length-append, length-drop, append-nil, nil_from_length}
-use Rattle.reading_core.specs.Reading.{◌>>=◌, Answers}
+use Rattle.reading_core.specs.Reading.{Answers}
 use Rattle.reading_core.specs.Grammar.{IsBytes, AreTexts}
 use Rattle.reading_core.proofs.Binds.{bind_ok, unless_ok, ok_is}
 use Rattle.reading_core.proofs.Fronts.{IsBytes-after, IsBytes-drop}
@@ -57,12 +57,12 @@ no_words p = record { text = []; are = refl; front = refl }
 references_found : (p : Position) (toc : Toc) → IsBytes (left p) → references_at p ≡ Ok toc → (q : Position) × HasWords (left p) (references_of toc) (left q)
 unfolding references_at
 references_found p toc are h =
-    let a = bind_ok (word p) (λ a. word a.1 >>= λ b. word b.1 >>= λ c. word c.1 >>= λ d. word d.1 >>= λ e. word e.1 >>= λ f. Ok (toc_of a.0 b.0 c.0 d.0 e.0 f.0)) toc h in
-    let b = bind_ok (word a.0.1) (λ b. word b.1 >>= λ c. word c.1 >>= λ d. word d.1 >>= λ e. word e.1 >>= λ f. Ok (toc_of a.0.0 b.0 c.0 d.0 e.0 f.0)) toc a.2 in
-    let c = bind_ok (word b.0.1) (λ c. word c.1 >>= λ d. word d.1 >>= λ e. word e.1 >>= λ f. Ok (toc_of a.0.0 b.0.0 c.0 d.0 e.0 f.0)) toc b.2 in
-    let d = bind_ok (word c.0.1) (λ d. word d.1 >>= λ e. word e.1 >>= λ f. Ok (toc_of a.0.0 b.0.0 c.0.0 d.0 e.0 f.0)) toc c.2 in
-    let e = bind_ok (word d.0.1) (λ e. word e.1 >>= λ f. Ok (toc_of a.0.0 b.0.0 c.0.0 d.0.0 e.0 f.0)) toc d.2 in
-    let f = bind_ok (word e.0.1) (λ f. Ok (toc_of a.0.0 b.0.0 c.0.0 d.0.0 e.0.0 f.0)) toc e.2 in
+    let a = bind_ok _ _ _ h in
+    let b = bind_ok _ _ _ a.2 in
+    let c = bind_ok _ _ _ b.2 in
+    let d = bind_ok _ _ _ c.2 in
+    let e = bind_ok _ _ _ d.2 in
+    let f = bind_ok _ _ _ e.2 in
     let same : toc_of a.0.0 b.0.0 c.0.0 d.0.0 e.0.0 f.0.0 ≡ toc = ok_is {E = PartRefusal} _ _ f.2 in
     let words : HasWords (left p) (a.0.0 ∷ b.0.0 ∷ c.0.0 ∷ d.0.0 ∷ e.0.0 ∷ f.0.0 ∷ []) (left f.0.1) =
     word_more p a.0.1 a.0.0 _ _ are a.1 (λ are1. word_more a.0.1 b.0.1 b.0.0 _ _ are1 b.1 (λ are2. word_more b.0.1 c.0.1 c.0.0 _ _ are2 c.1 (λ are3. word_more c.0.1 d.0.1 d.0.0 _ _ are3 d.1 (λ are4. word_more d.0.1 e.0.1 e.0.0 _ _ are4 e.1 (λ are5. word_more e.0.1 f.0.1 f.0.0 _ _ are5 f.1 (λ are6. no_words f.0.1)))))) in
@@ -94,16 +94,13 @@ words_size text (n ∷ words) are =
     let others = words_size are.1 words are.3 in
     omega (arith, ap length are.4, length-append are.0 are.1)
 
-end_of : (size after : List ℕ) → length size ≡ 4 → length size + length after ≤ 4 → after ≡ []
-end_of size after four few = nil_from_length after (omega arith)
-
 pub toc_found : (index : List ℕ) (toc : Toc) → IsBytes index → toc_at index ≡ Ok toc → IsToc index toc
 unfolding toc_at
 toc_found index toc are e =
     let at = length index - 52 in
-    let enough = unless_ok (nat_le 52 (length index)) (Short 0) (summed_at at 48 (at_place index at) >>= references_at) toc e in
+    let enough = unless_ok (nat_le 52 (length index)) (Short 0) _ _ e in
     let long : 52 ≤ length index = leb-true 52 (length index) enough.0 in
-    let content = bind_ok (summed_at at 48 (at_place index at)) references_at toc enough.1 in
+    let content = bind_ok _ _ _ enough.1 in
     let summed = summed_found at 48 (at_place index at) content.0 (IsBytes-drop at index are) content.1 in
     let words = references_found content.0 toc summed.3 content.2 in
     let text = words.1.text in

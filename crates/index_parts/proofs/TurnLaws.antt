@@ -8,6 +8,15 @@ use Rattle.reading_core.proofs.Fronts.{IsBytes-after}
 use Rattle.wire_bytes.specs.Position.{Position, left}
 use Rattle.index_parts.specs.Turns.{AreInTurn}
 
+-- a value that was read, as the reading function gave it
+pub field_found : {A E : Type 0} (IsText : List ℕ → A → Type 0) (p q r : Position) (text : List ℕ) (s x : A) → IsText text s → left p ≡ text ++ left q → ◌≡◌ {A = Result (A × Position) E} (Ok (s, q)) (Ok (x, r)) → HasFront IsText (left p) x (left r)
+field_found {A} {E} IsText p q r text s x is front e = subst (λ (y : A × Position). HasFront IsText (left p) y.0 (left y.1)) (ok_is {E = E} _ _ e) (text, is, front)
+
+-- the same of a member, from which the next one is told
+pub turn_found : {A E : Type 0} (IsNext : Option A → List ℕ → A → Type 0) (before : Option A) (p q : Position) (text : List ℕ) (s x : A) (t : Option A × Position) → IsNext before text s → left p ≡ text ++ left q → ◌≡◌ {A = Result (A × (Option A × Position)) E} (Ok (s, (Some s, q))) (Ok (x, t)) → HasFront (IsNext before) (left p) x (left t.1) × (t.0 ≡ Some x)
+turn_found {A} {E} IsNext before p q text s x t is front e =
+    subst (λ (r : A × (Option A × Position)). HasFront (IsNext before) (left p) r.0 (left r.1.1) × (r.1.0 ≡ Some r.0)) (ok_is {E = E} _ _ e) ((text, is, front), refl)
+
 module _ {A E : Type 0} (read : Option A × Position → Result (A × (Option A × Position)) E) (IsNext : Option A → List ℕ → A → Type 0) where
   -- If each member that is read is in its grammar, then so are all that a loop over a count reads.
   pub turns_found : (one : (before : Option A) (p : Position) (x : A) (t : Option A × Position) → IsBytes (left p) → read (before, p) ≡ Ok (x, t) → HasFront (IsNext before) (left p) x (left t.1) × (t.0 ≡ Some x)) → (n : ℕ) (before : Option A) (p : Position) (xs : List A) (t : Option A × Position)

@@ -6,23 +6,22 @@ use Rattle.wire_bytes.specs.FieldTexts.{IsFixed, IsUvarint}
 use Rattle.wire_bytes.specs.Written.{uvarint_text}
 use Rattle.wire_bytes.specs.Crc.{crc}
 
--- At a place of the index stands a section: how many bytes its content has, in four bytes, the content, and its sum.
-pub record IsSection (index : List ℕ) (at : ℕ) (content : List ℕ) : Type 0 where
+-- At a place of the index stands content in a frame: how many bytes the content has, the content, and its sum.
+pub record IsFramed (IsSize : List ℕ → ℕ → Type 0) (index : List ℕ) (at : ℕ) (content : List ℕ) : Type 0 where
   pub size : List ℕ
   pub sum : List ℕ
   pub after : List ℕ
-  pub size_is : IsFixed w32 size (length content)
+  pub size_is : IsSize size (length content)
   pub sum_is : IsFixed w32 sum (crc content)
   pub stands : drop at index ≡ size ++ content ++ sum ++ after
 
--- The same with the length in base 128, as each series stands.
-pub record IsEntry (index : List ℕ) (at : ℕ) (content : List ℕ) : Type 0 where
-  pub size : List ℕ
-  pub sum : List ℕ
-  pub after : List ℕ
-  pub size_is : IsUvarint size (length content)
-  pub sum_is : IsFixed w32 sum (crc content)
-  pub stands : drop at index ≡ size ++ content ++ sum ++ after
+-- a section, whose length has four bytes
+abbrev pub IsSection : List ℕ → ℕ → List ℕ → Type 0
+IsSection = IsFramed (IsFixed w32)
+
+-- an entry, whose length is in base 128, as each series stands
+abbrev pub IsEntry : List ℕ → ℕ → List ℕ → Type 0
+IsEntry = IsFramed IsUvarint
 
 -- a text in UTF-8 behind its length
 pub record IsText (bytes text : List ℕ) : Type 0 where

@@ -6,6 +6,7 @@ use Rattle.reading_core.specs.Reading.{◌>>=◌, ◌>>◌, unless, refused_as}
 use Rattle.wire_bytes.specs.Position.{Position}
 use Rattle.wire_bytes.specs.Fields.{number_at, uvarint_at, bytes_at}
 use Rattle.wire_bytes.specs.Crc.{crc}
+use Rattle.wire_bytes.specs.declared.refusal.WireRefusal.{WireRefusal}
 use Rattle.index_parts.specs.declared.refusal.PartRefusal.{PartRefusal}
 use Rattle.index_parts.specs.declared.refusal.PartRefusal.TheVariants.{Short, BadSum}
 use Rattle.index_parts.specs.Placed.{at_place, field}
@@ -18,14 +19,16 @@ summed_at at size p = do
   unless (kept.0 == crc content.0) (BadSum kept.0 (crc content.0))
   Ok (at_place (take content.1.place p.bytes) p.place)
 
--- a section with its length in four bytes
-unfoldable pub section_at : List ℕ → ℕ → Result Position PartRefusal
-section_at index at = do
-  size ← field (number_at w32) (at_place index at)
+-- the content at a place, behind its length, by how that is read
+unfoldable pub framed_at : (Position → Result (ℕ × Position) WireRefusal) → List ℕ → ℕ → Result Position PartRefusal
+framed_at size_at index at = do
+  size ← field size_at (at_place index at)
   summed_at at size.0 size.1
 
--- the same with its length in base 128
-unfoldable pub entry_at : List ℕ → ℕ → Result Position PartRefusal
-entry_at index at = do
-  size ← field uvarint_at (at_place index at)
-  summed_at at size.0 size.1
+-- a section, whose length has four bytes
+abbrev pub section_at : List ℕ → ℕ → Result Position PartRefusal
+section_at = framed_at (number_at w32)
+
+-- an entry, whose length is in base 128
+abbrev pub entry_at : List ℕ → ℕ → Result Position PartRefusal
+entry_at = framed_at uvarint_at

@@ -20,13 +20,17 @@ pub record IsLabelIndex (index : List ℕ) (at : ℕ) (values : List ℕ) : Type
   pub count_is : IsFixed w32 count (length values)
   pub texts_are : AreTexts (IsFixed w32) texts values
 
--- the byte 1, a name, and the place of its label index
+-- what a row of their table begins with
+abbrev pub offset_kind : ℕ
+offset_kind = 1
+
+-- that byte, a name, and the place of its label index
 pub record IsOffset (text : List ℕ) (row : List ℕ × ℕ) : Type 0 where
   pub name : List ℕ
   pub offset : List ℕ
   pub name_is : IsText name row.0
   pub offset_is : IsUvarint offset row.1
-  pub text_is : text ≡ 1 ∷ (name ++ offset)
+  pub text_is : text ≡ offset_kind ∷ (name ++ offset)
 
 abbrev pub IsLabelOffsets : List ℕ → ℕ → List (List ℕ × ℕ) → Type 0
 IsLabelOffsets = IsList (λ _ text row. IsOffset text row)
@@ -40,7 +44,7 @@ abbrev pub label_index_text : List ℕ → List ℕ
 label_index_text values = section_text (label_index_content values)
 
 abbrev pub offset_text : List ℕ × ℕ → List ℕ
-offset_text row = 1 ∷ (text_field row.0 ++ uvarint_text row.1)
+offset_text row = offset_kind ∷ (text_field row.0 ++ uvarint_text row.1)
 
 abbrev pub label_offsets_text : List (List ℕ × ℕ) → List ℕ
 label_offsets_text rows = list_text offset_text rows

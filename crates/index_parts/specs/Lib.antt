@@ -8,6 +8,7 @@ pub use Rattle.wire_bytes.specs.Written
 pub use Rattle.wire_bytes.specs.Crc
 pub mod Turns
 pub mod Placed
+pub mod Moves
 pub mod Framed
 pub mod Framing
 pub mod Lists

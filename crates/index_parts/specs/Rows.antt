@@ -21,7 +21,11 @@ abbrev pub MayComeAfter : Option PostingsRow → PostingsRow → Type 0
 MayComeAfter None row = (row.name ≡ []) × (row.value ≡ [])
 MayComeAfter (Some before) row = compare_rows before row ≡ Less
 
--- the byte 2, the name, the value and the place
+-- what a row begins with
+abbrev pub row_kind : ℕ
+row_kind = 2
+
+-- that byte, the name, the value and the place
 pub record IsNextRow (before : Option PostingsRow) (text : List ℕ) (row : PostingsRow) : Type 0 where
   pub name : List ℕ
   pub value : List ℕ
@@ -29,7 +33,7 @@ pub record IsNextRow (before : Option PostingsRow) (text : List ℕ) (row : Post
   pub name_is : IsText name row.name
   pub value_is : IsText value row.value
   pub offset_is : IsUvarint offset row.offset
-  pub text_is : text ≡ 2 ∷ (name ++ value ++ offset)
+  pub text_is : text ≡ row_kind ∷ (name ++ value ++ offset)
   pub ascends : MayComeAfter before row
 
 abbrev pub IsPostingsTable : List ℕ → ℕ → List PostingsRow → Type 0
@@ -42,7 +46,7 @@ abbrev pub IsWritable : PostingsRow → Type 0
 IsWritable row = IsUtf8 row.name × IsUtf8 row.value × (row.offset < 2 ^ 64)
 
 abbrev pub row_text : PostingsRow → List ℕ
-row_text row = 2 ∷ (text_field row.name ++ text_field row.value ++ uvarint_text row.offset)
+row_text row = row_kind ∷ (text_field row.name ++ text_field row.value ++ uvarint_text row.offset)
 
 abbrev pub postings_table_text : List PostingsRow → List ℕ
 postings_table_text rows = list_text row_text rows

@@ -11,7 +11,7 @@ use Rattle.index_parts.specs.declared.refusal.PartRefusal.TheVariants.{Unordered
 use Rattle.index_parts.specs.declared.postings_row.PostingsRow.{PostingsRow}
 use Rattle.index_parts.specs.Placed.{field, text_at}
 use Rattle.index_parts.specs.ListReading.{list_at}
-use Rattle.index_parts.specs.Rows.{compare_rows}
+use Rattle.index_parts.specs.Rows.{compare_rows, row_kind}
 
 -- whether a row may stand behind another, or first
 abbrev pub may_come_after : Option PostingsRow → PostingsRow → Bool
@@ -30,7 +30,7 @@ row_told before place name_end value_end row = do
 unfoldable pub row_at : Option PostingsRow × Position → Result (PostingsRow × (Option PostingsRow × Position)) PartRefusal
 row_at s = do
   kind ← field (number_at w8) s.1
-  unless (kind.0 == 2) (Unordered s.1.place)
+  unless (kind.0 == row_kind) (Unordered s.1.place)
   name ← text_at kind.1
   value ← text_at name.1
   offset ← field uvarint_at value.1

@@ -1,5 +1,5 @@
 -- What reading a series gives, or the first refusal.
-use Rattle.std.specs.Prelude.{ℕ, ◌/◌, ◌%◌, ◌^◌, List, map, Option, Some, None, option_map, Bool, false, if◌then◌else◌, Result, Ok, nat_lt, ℤ, pos, negsuc, ◌+ℤ◌}
+use Rattle.std.specs.Prelude.{ℕ, ◌/◌, ◌%◌, ◌^◌, List, map, Option, Some, None, Bool, false, if◌then◌else◌, Result, Ok, nat_lt, ℤ, pos, negsuc, ◌+ℤ◌}
 use Rattle.std.specs.Int.RustNames.{unsigned_abs}
 use Rattle.std.specs.Option.{option_and_then}
 use Rattle.std.specs.Result.{result_ok}
@@ -91,27 +91,19 @@ series_at index at = do
   chunks ← chunks_at labels.1
   Ok (record { names = labels.0.0; values = labels.0.1; chunks = chunks })
 
--- where the symbol numbers of a label stand, that of its name and that of its value
-unfoldable pub label_place_at : Position → Result ((ℕ × ℕ) × Position) PartRefusal
-label_place_at p = do
-  name ← field uvarint_at p
+-- where the symbol numbers of the label behind so many others stand, that of its name and that of its value
+unfoldable pub place_behind : ℕ → Position → Result (ℕ × ℕ) PartRefusal
+place_behind label p = do
+  before ← members_at label_at label p
+  name ← field uvarint_at before.1
   value ← field uvarint_at name.1
-  Ok ((p.place, name.1.place), value.1)
+  Ok (before.1.place, name.1.place)
 
 -- those of one label among so many, where the labels before it and it itself can be read
-unfoldable pub place_among : ℕ → ℕ → Position → Option (ℕ × ℕ)
-place_among count label p =
-    if nat_lt label count then option_map (λ (read : (ℕ × ℕ) × Position). read.0) (result_ok (members_at label_place_at label p >>= λ before. label_place_at before.1)) else None
+abbrev pub place_among : ℕ → ℕ → Position → Option (ℕ × ℕ)
+place_among count label p = if nat_lt label count then result_ok (place_behind label p) else None
 
 -- those of one label of the series at a place
 unfoldable pub label_place_of : List ℕ → ℕ → ℕ → Option (ℕ × ℕ)
 label_place_of index at label =
-    option_and_then (λ (count : ℕ × Position). place_among count.0 label count.1) (result_ok (entry_at index at >>= λ content. field uvarint_at content))
-
--- those of each label of a series
-unfoldable pub label_places_at : List ℕ → ℕ → Result (List (ℕ × ℕ)) PartRefusal
-label_places_at index at = do
-  content ← entry_at index at
-  count ← field uvarint_at content
-  places ← members_at label_place_at count.0 count.1
-  Ok places.0
+    option_and_then (λ (begin : ℕ × Position). place_among begin.0 label begin.1) (result_ok (labels_begin_at index at))

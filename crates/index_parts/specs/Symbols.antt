@@ -1,13 +1,13 @@
 -- The symbol table: every text of an index's labels once, in ascending order.
 use Rattle.std.specs.Prelude.{ℕ, List, Option, Some, None}
-use Rattle.label_sets.specs.Labels.{ComesBefore}
+use Rattle.list_core.specs.Order.{ComesAfter}
+use Rattle.label_sets.specs.Labels.{compare_texts}
 use Rattle.index_parts.specs.Framed.{IsText, text_field}
 use Rattle.index_parts.specs.Lists.{IsList, list_text}
 
 -- A symbol may stand behind another where it is greater by its bytes.
 abbrev pub MayFollow : Option (List ℕ) → List ℕ → Type 0
-MayFollow None symbol = Unit {0}
-MayFollow (Some before) symbol = ComesBefore before symbol
+MayFollow = ComesAfter compare_texts
 
 pub record IsNextSymbol (before : Option (List ℕ)) (text symbol : List ℕ) : Type 0 where
   pub text_is : IsText text symbol

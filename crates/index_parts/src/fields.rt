@@ -5,6 +5,7 @@ ghost use Rattle.reading_core.specs.Reading.{Steps};
 ghost use Rattle.wire_bytes.specs.Fields.{bytes_at, number_at, uvarint_at, varint_at};
 ghost use Rattle.wire_bytes.specs.Position.{left};
 ghost use Rattle.index_parts.specs.Placed.{refused_at, field, text_at};
+ghost use Rattle.index_parts.specs.Moves.{MovesOn};
 
 use crate::PartRefusal;
 use wire_bytes::{Cursor, WireRefusal};
@@ -77,7 +78,8 @@ pub(crate) fn next_varint(cursor: &mut Cursor<'_>) -> Result<i64, PartRefusal>
 
 #[inline(always)]
 fn next_bytes<'a>(cursor: &mut Cursor<'a>, count: u64) -> Result<&'a [u8], PartRefusal>
-    ensures { Steps (λ bytes. bytes.now) cursor.old cursor.new result (field (bytes_at count) cursor.old) }
+    ensures { Steps (λ bytes. bytes.now) cursor.old cursor.new result
+        (field (bytes_at count) cursor.old) }
 {
     let place = cursor.place() as u64;
     match cursor.take_bytes(count as usize) {
@@ -90,7 +92,7 @@ fn next_bytes<'a>(cursor: &mut Cursor<'a>, count: u64) -> Result<&'a [u8], PartR
 #[inline(always)]
 #[tactic(auto, unfolding(crate::specs::Placed::text_at))]
 pub(crate) fn next_text<'a>(cursor: &mut Cursor<'a>) -> Result<&'a [u8], PartRefusal>
-    ensures { MatchResult result (λ bytes. text_at cursor.old ≡ Ok (bytes.now, cursor.new)) (λ e. text_at cursor.old ≡ Err e) }
+    ensures { MovesOn (λ bytes. bytes.now) cursor.new result (text_at cursor.old) }
 {
     let size = next_uvarint(cursor)?;
     next_bytes(cursor, size)
@@ -101,7 +103,8 @@ pub(crate) fn next_text<'a>(cursor: &mut Cursor<'a>) -> Result<&'a [u8], PartRef
 #[tactic(auto, using(crate::proofs::Texts::utf8_tests))]
 pub(crate) fn text_of(bytes: &[u8], end: usize) -> Result<&str, PartRefusal>
     requires { length bytes.now ≤ end }
-    ensures { MatchResult result (λ text. (is_utf8 bytes.now ≡ true) × (text.now ≡ bytes.now)) (λ e. (is_utf8 bytes.now ≡ false) × (e ≡ PartRefusal.NotText (end - length bytes.now))) }
+    ensures { MatchResult result (λ text. (is_utf8 bytes.now ≡ true) × (text.now ≡ bytes.now))
+        (λ e. (is_utf8 bytes.now ≡ false) × (e ≡ PartRefusal.NotText (end - length bytes.now))) }
 {
     if bytes.is_ascii() {
         return Ok(unsafe { str::from_utf8_unchecked(bytes) });
@@ -112,7 +115,7 @@ pub(crate) fn text_of(bytes: &[u8], end: usize) -> Result<&str, PartRefusal>
     }
 }
 
-/// How many of so many members to make room for at once: no more than the bytes that are left hold, where each takes so many.
+/// How many of `count` members to make room for at once: no more than the bytes that are left hold, where each takes `size`.
 #[inline(always)]
 pub(crate) fn room_for(count: u32, cursor: &Cursor<'_>, size: usize) -> usize
     requires { 0 < size }

@@ -10,12 +10,16 @@ ghost use Rattle.index_parts.specs.Postings.{Rises, IsPostings, postings_text};
 ghost use Rattle.index_parts.specs.LabelIndices.{IsLabelIndex, IsLabelOffsets, label_index_content, label_index_text, offset_text, label_offsets_text};
 ghost use Rattle.index_parts.specs.Rows.{MayComeAfter, IsPostingsTable, IsWritable, row_text, postings_table_text};
 
+use crate::postings_row::ROW_KIND;
 use crate::section_writing::{append_section, put_text};
 use crate::{PostingsRow, PostingsRowList};
 use label_sets::{Text, TextList};
 use list_core::NoMemory;
 use std::alloc::Global;
 use wire_bytes::{NumberList, put_u8, put_u32, put_uvarint};
+
+/// What a row of the table of label indices begins with.
+const OFFSET_KIND: u8 = 1;
 
 fn put_symbols(out: &mut Vec<u8>, symbols: &[Text]) -> Result<(), NoMemory>
     ensures ok { OnOk result (out.new.items ≡ out.old.items ++ flat_map text_field symbols.now) }
@@ -45,7 +49,8 @@ pub fn write_symbols(out: &mut Vec<u8>, symbols: &TextList) -> Result<(), NoMemo
     ensures err { OnErr result (out.new.items ≡ out.old.items) }
 
     // Symbols in order stand where they were written, whatever is appended after them.
-    ensures stands { InOrder MayFollow symbols.now → (after : List ℕ) → OnOk result (IsSymbols (out.new.items ++ after) (length out.old.items) symbols.now) }
+    ensures stands { InOrder MayFollow symbols.now → (after : List ℕ)
+        → OnOk result (IsSymbols (out.new.items ++ after) (length out.old.items) symbols.now) }
 {
     let content = symbols_content(*out.allocator(), symbols.members())?;
     append_section(out, content.as_slice())
@@ -53,7 +58,8 @@ pub fn write_symbols(out: &mut Vec<u8>, symbols: &TextList) -> Result<(), NoMemo
 
 fn put_numbers(out: &mut Vec<u8>, numbers: &[u64]) -> Result<(), NoMemory>
     requires { All (λ number. number < 2 ^ 32) numbers.now }
-    ensures { OnOk result (out.new.items ≡ out.old.items ++ flat_map (to_be_bytes w32) numbers.now) }
+    ensures { OnOk result
+        (out.new.items ≡ out.old.items ++ flat_map (to_be_bytes w32) numbers.now) }
 {
     for number in numbers {
         put_u32(out, *number as u32)?;
@@ -64,7 +70,8 @@ fn put_numbers(out: &mut Vec<u8>, numbers: &[u64]) -> Result<(), NoMemory>
 fn postings_content(alloc: Global, numbers: &[u64]) -> Result<Vec<u8>, NoMemory>
     requires count { length numbers.now < 2 ^ 32 }
     requires numbers { All (λ number. number < 2 ^ 32) numbers.now }
-    ensures { IfOk result (λ content. content.items ≡ list_content (to_be_bytes w32) numbers.now) }
+    ensures { IfOk result
+        (λ content. content.items ≡ list_content (to_be_bytes w32) numbers.now) }
 {
     let mut content = Vec::new(alloc);
     put_u32(&mut content, numbers.len() as u32)?;
@@ -80,7 +87,8 @@ pub fn write_postings(out: &mut Vec<u8>, numbers: &NumberList) -> Result<(), NoM
     ensures err { OnErr result (out.new.items ≡ out.old.items) }
 
     // Numbers that rise stand where they were written, whatever is appended after them.
-    ensures stands { InOrder Rises numbers.now → (after : List ℕ) → OnOk result (IsPostings (out.new.items ++ after) (length out.old.items) numbers.now) }
+    ensures stands { InOrder Rises numbers.now → (after : List ℕ)
+        → OnOk result (IsPostings (out.new.items ++ after) (length out.old.items) numbers.now) }
 {
     let content = postings_content(*out.allocator(), numbers.members())?;
     append_section(out, content.as_slice())
@@ -106,7 +114,8 @@ pub fn write_label_index(out: &mut Vec<u8>, values: &NumberList) -> Result<(), N
     ensures err { OnErr result (out.new.items ≡ out.old.items) }
 
     // The values stand where they were written, whatever is appended after them.
-    ensures stands { (after : List ℕ) → OnOk result (IsLabelIndex (out.new.items ++ after) (length out.old.items) values.now) }
+    ensures stands { (after : List ℕ)
+        → OnOk result (IsLabelIndex (out.new.items ++ after) (length out.old.items) values.now) }
 {
     let content = values_content(*out.allocator(), values.members())?;
     append_section(out, content.as_slice())
@@ -116,7 +125,7 @@ fn put_offset(out: &mut Vec<u8>, name: &Text, offset: u64) -> Result<(), NoMemor
     ensures ok { OnOk result (out.new.items ≡ out.old.items ++ offset_text (name.now, offset)) }
     ensures utf8 { OnOk result (IsUtf8 name.now) }
 {
-    put_u8(out, 1)?;
+    put_u8(out, OFFSET_KIND)?;
     put_text(out, name)?;
     put_uvarint(out, offset)
 }
@@ -125,7 +134,7 @@ fn put_row(out: &mut Vec<u8>, row: &PostingsRow) -> Result<(), NoMemory>
     ensures ok { OnOk result (out.new.items ≡ out.old.items ++ row_text row.now) }
     ensures lawful { OnOk result (IsWritable row.now) }
 {
-    put_u8(out, 2)?;
+    put_u8(out, ROW_KIND)?;
     put_text(out, &row.name)?;
     put_text(out, &row.value)?;
     put_uvarint(out, row.offset)
@@ -159,7 +168,8 @@ pub fn write_postings_table(out: &mut Vec<u8>, rows: &PostingsRowList) -> Result
     ensures err { OnErr result (out.new.items ≡ out.old.items) }
 
     // Rows in order stand where they were written, whatever is appended after them.
-    ensures stands { InOrder MayComeAfter rows.now → (after : List ℕ) → OnOk result (IsPostingsTable (out.new.items ++ after) (length out.old.items) rows.now) }
+    ensures stands { InOrder MayComeAfter rows.now → (after : List ℕ)
+        → OnOk result (IsPostingsTable (out.new.items ++ after) (length out.old.items) rows.now) }
 {
     let content = rows_content(*out.allocator(), rows.members())?;
     append_section(out, content.as_slice())
@@ -167,7 +177,8 @@ pub fn write_postings_table(out: &mut Vec<u8>, rows: &PostingsRowList) -> Result
 
 fn put_offsets(out: &mut Vec<u8>, names: &[Text], offsets: &[u64]) -> Result<(), NoMemory>
     requires { length names.now ≡ length offsets.now }
-    ensures ok { OnOk result (out.new.items ≡ out.old.items ++ flat_map offset_text (zip names.now offsets.now)) }
+    ensures ok { OnOk result
+        (out.new.items ≡ out.old.items ++ flat_map offset_text (zip names.now offsets.now)) }
     ensures utf8 { OnOk result (AllByRecursion IsUtf8 names.now) }
     ensures fit { (k : ℕ) → slice_index offsets.now k < 2 ^ 64 }
 {
@@ -180,7 +191,8 @@ fn put_offsets(out: &mut Vec<u8>, names: &[Text], offsets: &[u64]) -> Result<(),
 fn offsets_content(alloc: Global, names: &[Text], offsets: &[u64]) -> Result<Vec<u8>, NoMemory>
     requires count { length names.now < 2 ^ 32 }
     requires as_many { length names.now ≡ length offsets.now }
-    ensures ok { IfOk result (λ content. content.items ≡ to_be_bytes w32 (length names.now) ++ flat_map offset_text (zip names.now offsets.now)) }
+    ensures ok { IfOk result (λ content. content.items
+        ≡ to_be_bytes w32 (length names.now) ++ flat_map offset_text (zip names.now offsets.now)) }
     ensures utf8 { OnOk result (AllByRecursion IsUtf8 names.now) }
     ensures fit { (k : ℕ) → slice_index offsets.now k < 2 ^ 64 }
 {
@@ -198,11 +210,14 @@ pub fn write_label_offsets(
 ) -> Result<(), NoMemory>
     requires as_many { length names.now ≡ length offsets.now }
     requires size { length (list_content offset_text (zip names.now offsets.now)) < 2 ^ 32 }
-    ensures ok { OnOk result (out.new.items ≡ out.old.items ++ label_offsets_text (zip names.now offsets.now)) }
+    ensures ok { OnOk result
+        (out.new.items ≡ out.old.items ++ label_offsets_text (zip names.now offsets.now)) }
     ensures err { OnErr result (out.new.items ≡ out.old.items) }
 
     // The rows stand where they were written, whatever is appended after them.
-    ensures stands { (after : List ℕ) → OnOk result (IsLabelOffsets (out.new.items ++ after) (length out.old.items) (zip names.now offsets.now)) }
+    ensures stands { (after : List ℕ)
+        → OnOk result (IsLabelOffsets (out.new.items ++ after) (length out.old.items)
+        (zip names.now offsets.now)) }
 {
     let content = offsets_content(*out.allocator(), names.members(), offsets.members())?;
     append_section(out, content.as_slice())

@@ -4,6 +4,7 @@ ghost use Rattle.reading_core.specs.Grammar.{IsBytes};
 ghost use Rattle.index_parts.specs.Postings.{IsPostings};
 ghost use Rattle.index_parts.specs.PostingsReading.{posting_at, postings_at};
 ghost use Rattle.index_parts.specs.ListReading.{turns_at};
+ghost use Rattle.index_parts.specs.Moves.{MovesOnTo};
 
 use crate::PartRefusal;
 use crate::fields::{next_u32, room_for};
@@ -16,7 +17,7 @@ use wire_bytes::{Cursor, NumberList};
 #[inline(always)]
 #[tactic(auto, unfolding(crate::specs::PostingsReading::posting_at))]
 fn next_posting(cursor: &mut Cursor<'_>, before: Option<u64>) -> Result<u64, PartRefusal>
-    ensures { MatchResult result (λ number. posting_at (before, cursor.old) ≡ Ok (number, (Some number, cursor.new))) (λ e. posting_at (before, cursor.old) ≡ Err e) }
+    ensures { MovesOnTo (λ n. n) cursor.new result (posting_at (before, cursor.old)) }
 {
     let place = cursor.place() as u64;
     let number = u64::from(next_u32(cursor)?);
@@ -26,9 +27,10 @@ fn next_posting(cursor: &mut Cursor<'_>, before: Option<u64>) -> Result<u64, Par
     }
 }
 
-/// Reads so many numbers.
+/// Reads `count` numbers.
 fn numbers_of(alloc: Global, count: u32, mut cursor: Cursor<'_>) -> Result<Vec<u64>, PartRefusal>
-    ensures { Gives PartRefusal.NoMemory (λ numbers. numbers.items) result (turns_at posting_at count cursor.entry) }
+    ensures { Gives PartRefusal.NoMemory (λ numbers. numbers.items) result
+        (turns_at posting_at count cursor.entry) }
 {
     let mut numbers = Vec::with_capacity(alloc, room_for(count, &cursor, 4))?;
     let mut before = None;
@@ -42,7 +44,8 @@ fn numbers_of(alloc: Global, count: u32, mut cursor: Cursor<'_>) -> Result<Vec<u
 
 #[tactic(auto, unfolding(crate::specs::ListReading::list_at))]
 fn postings_of(alloc: Global, index: &[u8], at: u64) -> Result<NumberList, PartRefusal>
-    ensures exact { Gives PartRefusal.NoMemory (λ numbers. numbers) result (postings_at index.now at) }
+    ensures exact { Gives PartRefusal.NoMemory (λ numbers. numbers) result
+        (postings_at index.now at) }
     ensures bytes { IsBytes index.now }
 {
     let mut content = section_of(index, at)?;
@@ -54,10 +57,12 @@ fn postings_of(alloc: Global, index: &[u8], at: u64) -> Result<NumberList, PartR
 pub fn read_postings(alloc: Global, index: &[u8], at: u64) -> Result<NumberList, PartRefusal>
     // What is read is what stands there, and what stands there is read.
     ensures found { IfOk result (λ numbers. IsPostings index.now at numbers) }
-    ensures only { (numbers : List ℕ) → IsPostings index.now at numbers → (result ≡ Ok numbers) ⊎ (result ≡ Err PartRefusal.NoMemory) }
+    ensures only { (numbers : List ℕ) → IsPostings index.now at numbers
+        → (result ≡ Ok numbers) ⊎ (result ≡ Err PartRefusal.NoMemory) }
 
     // The first refusal.
-    ensures exact { Gives PartRefusal.NoMemory (λ numbers. numbers) result (postings_at index.now at) }
+    ensures exact { Gives PartRefusal.NoMemory (λ numbers. numbers) result
+        (postings_at index.now at) }
     ensures few { IfOk result (λ numbers. 4 * length numbers ≤ length index.now) }
 {
     postings_of(alloc, index, at)

@@ -6,23 +6,22 @@ ghost use Rattle.reading_core.specs.Reading.{Answers, Gives};
 ghost use Rattle.reading_core.specs.Grammar.{IsBytes};
 ghost use Rattle.label_sets.specs.Labels.{compare_texts};
 ghost use Rattle.index_parts.specs.declared.postings_row.PostingsRow.{PostingsRow};
-ghost use Rattle.index_parts.specs.Lent.{row_of, row_before, row_of_fields};
+ghost use Rattle.index_parts.specs.Lent.{row_of, row_before, fields_tell};
 ghost use Rattle.index_parts.specs.Rows.{IsPostingsTable};
 ghost use Rattle.index_parts.specs.RowsReading.{may_come_after, row_told, row_at, postings_table_at};
 ghost use Rattle.index_parts.specs.ListReading.{turns_at};
+ghost use Rattle.index_parts.specs.Moves.{MovesOnTo};
 
 use crate::PartRefusal;
 use crate::fields::{next_text, next_u8, next_u32, next_uvarint, room_for, text_of};
 use crate::lent_row::LentRow;
+use crate::postings_row::ROW_KIND;
 use crate::row_fields::RowFields;
 use crate::sections::section_of;
 use std::alloc::Global;
 use std::cmp::Ordering;
 use std::marker::Model;
 use wire_bytes::Cursor;
-
-/// What the entry of a postings list begins with.
-const KIND: u8 = 2;
 
 /// How many bytes a row takes, as a guess at how many there are.
 const USUAL_SIZE: usize = 16;
@@ -53,7 +52,9 @@ impl<'a> PostingsTable<'a> {
 
     /// The name, the value and the place of a row.
     pub fn get(&self, place: usize) -> Option<(&'a str, &'a str, u64)>
-        ensures { option_map (λ row. record { name = row.0.now; value = row.1.now; offset = row.2 }) result ≡ slice_get self.now place }
+        ensures { option_map
+            (λ row. record { name = row.0.now; value = row.1.now; offset = row.2 }) result
+            ≡ slice_get self.now place }
     {
         match self.rows.get(place) {
             None => None,
@@ -65,7 +66,8 @@ impl<'a> PostingsTable<'a> {
 /// Whether a row of this name and value may stand behind another, or first.
 #[inline(always)]
 fn may_come_after(before: Option<LentRow<'_>>, name: &str, value: &str) -> bool
-    ensures { (offset : ℕ) → result ≡ may_come_after (row_before before.entry) (record { name = name.now; value = value.now; offset = offset }) }
+    ensures { (offset : ℕ) → result ≡ may_come_after (row_before before.entry)
+        (record { name = name.now; value = value.now; offset = offset }) }
 {
     let Some(row) = before else {
         return name.is_empty() && value.is_empty();
@@ -77,9 +79,10 @@ fn may_come_after(before: Option<LentRow<'_>>, name: &str, value: &str) -> bool
     }
 }
 
-/// The same of bytes, of which some are no text.
+/// Whether a row of these bytes, of which some are no text, may stand behind another, or first.
 fn may_bytes_come_after(before: Option<LentRow<'_>>, name: &[u8], value: &[u8]) -> bool
-    ensures { (offset : ℕ) → result ≡ may_come_after (row_before before.entry) (record { name = name.now; value = value.now; offset = offset }) }
+    ensures { (offset : ℕ) → result ≡ may_come_after (row_before before.entry)
+        (record { name = name.now; value = value.now; offset = offset }) }
 {
     let Some(row) = before else {
         return name.is_empty() && value.is_empty();
@@ -95,21 +98,21 @@ fn may_bytes_come_after(before: Option<LentRow<'_>>, name: &[u8], value: &[u8]) 
 #[inline(always)]
 #[tactic(auto, using(crate::proofs::Texts::utf8_tests))]
 fn row_of_same_name<'a>(
-    name: &'a str,
-    value_before: &str,
+    before: LentRow<'a>,
     fields: RowFields<'a>,
 ) -> Result<LentRow<'a>, PartRefusal>
-    requires { length fields.value.now ≤ fields.value_end }
-    ensures row { Answers row_of result (if is_lt (compare_texts value_before.now fields.entry.value.now) then (if is_utf8 fields.entry.value.now then Ok (record { name = name.now; value = fields.entry.value.now; offset = fields.entry.offset }) else Err (PartRefusal.NotText (fields.entry.value_end - length fields.entry.value.now))) else Err (PartRefusal.Unordered fields.entry.place)) }
-    ensures text { is_utf8 name.now ≡ true }
+    requires same { before.name.now ≡ fields.name.now }
+    requires name { is_utf8 fields.name.now ≡ true }
+    requires value { length fields.value.now ≤ fields.value_end }
+    ensures { Answers row_of result (fields_tell (Some before.entry) fields.entry) }
 {
     match text_of(fields.value, fields.value_end) {
-        Ok(value) if value_before < value => Ok(LentRow {
-            name,
+        Ok(value) if before.value < value => Ok(LentRow {
+            name: before.name,
             value,
             offset: fields.offset,
         }),
-        Err(refusal) if value_before.as_bytes().cmp(fields.value).is_lt() => Err(refusal),
+        Err(refusal) if before.value.as_bytes().cmp(fields.value).is_lt() => Err(refusal),
         _ => Err(PartRefusal::Unordered(fields.place)),
     }
 }
@@ -122,7 +125,7 @@ fn row_of_other_name<'a>(
 ) -> Result<LentRow<'a>, PartRefusal>
     requires name { length fields.name.now ≤ fields.name_end }
     requires value { length fields.value.now ≤ fields.value_end }
-    ensures { Answers row_of result (row_told (row_before before.entry) fields.entry.place fields.entry.name_end fields.entry.value_end (row_of_fields fields.entry)) }
+    ensures { Answers row_of result (fields_tell before.entry fields.entry) }
 {
     let name = text_of(fields.name, fields.name_end);
     let value = text_of(fields.value, fields.value_end);
@@ -146,12 +149,10 @@ fn row_of_fields<'a>(
 ) -> Result<LentRow<'a>, PartRefusal>
     requires name { length fields.name.now ≤ fields.name_end }
     requires value { length fields.value.now ≤ fields.value_end }
-    ensures { Answers row_of result (row_told (row_before before.entry) fields.entry.place fields.entry.name_end fields.entry.value_end (row_of_fields fields.entry)) }
+    ensures { Answers row_of result (fields_tell before.entry fields.entry) }
 {
     match before {
-        Some(row) if row.name.as_bytes() == fields.name => {
-            row_of_same_name(row.name, row.value, fields)
-        }
+        Some(row) if row.name.as_bytes() == fields.name => row_of_same_name(row, fields),
         _ => row_of_other_name(before, fields),
     }
 }
@@ -163,10 +164,10 @@ fn next_row<'a>(
     cursor: &mut Cursor<'a>,
     before: Option<LentRow<'a>>,
 ) -> Result<LentRow<'a>, PartRefusal>
-    ensures { MatchResult result (λ row. row_at (row_before before.entry, cursor.old) ≡ Ok (row_of row, (Some (row_of row), cursor.new))) (λ e. row_at (row_before before.entry, cursor.old) ≡ Err e) }
+    ensures { MovesOnTo row_of cursor.new result (row_at (row_before before.entry, cursor.old)) }
 {
     let place = cursor.place() as u64;
-    if next_u8(cursor)? != KIND {
+    if next_u8(cursor)? != ROW_KIND {
         return Err(PartRefusal::Unordered(place));
     }
     let name = next_text(cursor)?;
@@ -185,14 +186,15 @@ fn next_row<'a>(
     row_of_fields(before, fields)
 }
 
-/// Reads so many rows.
+/// Reads `count` rows.
 #[inline(never)]
 fn rows_of<'a>(
     alloc: Global,
     count: u32,
     mut cursor: Cursor<'a>,
 ) -> Result<Vec<LentRow<'a>>, PartRefusal>
-    ensures { Gives PartRefusal.NoMemory (λ rows. map row_of rows.items) result (turns_at row_at count cursor.entry) }
+    ensures { Gives PartRefusal.NoMemory (λ rows. map row_of rows.items) result
+        (turns_at row_at count cursor.entry) }
 {
     let mut rows = Vec::with_capacity(alloc, room_for(count, &cursor, USUAL_SIZE))?;
     let mut before = None;
@@ -206,7 +208,8 @@ fn rows_of<'a>(
 
 #[tactic(auto, unfolding(crate::specs::ListReading::list_at))]
 fn table_of<'a>(alloc: Global, index: &'a [u8], at: u64) -> Result<PostingsTable<'a>, PartRefusal>
-    ensures exact { Gives PartRefusal.NoMemory (λ table. table) result (postings_table_at index.now at) }
+    ensures exact { Gives PartRefusal.NoMemory (λ table. table) result
+        (postings_table_at index.now at) }
     ensures bytes { IsBytes index.now }
 {
     let mut content = section_of(index, at)?;
@@ -223,10 +226,12 @@ pub fn read_postings_table<'a>(
 ) -> Result<PostingsTable<'a>, PartRefusal>
     // What is read is what stands there, and what stands there is read.
     ensures found { IfOk result (λ table. IsPostingsTable index.now at table) }
-    ensures only { (rows : List PostingsRow) → IsPostingsTable index.now at rows → IsOkAnd result (λ table. table ≡ rows) ⊎ (result ≡ Err PartRefusal.NoMemory) }
+    ensures only { (rows : List PostingsRow) → IsPostingsTable index.now at rows
+        → IsOkAnd result (λ table. table ≡ rows) ⊎ (result ≡ Err PartRefusal.NoMemory) }
 
     // The first refusal.
-    ensures exact { Gives PartRefusal.NoMemory (λ table. table) result (postings_table_at index.now at) }
+    ensures exact { Gives PartRefusal.NoMemory (λ table. table) result
+        (postings_table_at index.now at) }
     ensures few { IfOk result (λ table. 4 * length table ≤ length index.now) }
 {
     table_of(alloc, index, at)

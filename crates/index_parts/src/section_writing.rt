@@ -21,7 +21,8 @@ pub(crate) fn put_text(out: &mut Vec<u8>, text: &Text) -> Result<(), NoMemory>
 /// Appends content and its sum, or a part of it where memory runs out.
 fn put_summed(out: &mut Vec<u8>, content: &[u8], sum: u32) -> Result<(), NoMemory>
     requires { sum ≡ crc content.now }
-    ensures ok { OnOk result (out.new.items ≡ out.old.items ++ content.now ++ to_be_bytes w32 (crc content.now)) }
+    ensures ok { OnOk result
+        (out.new.items ≡ out.old.items ++ content.now ++ to_be_bytes w32 (crc content.now)) }
     ensures kept { take (length out.old.items) out.new.items ≡ out.old.items }
 {
     put_bytes(out, content)?;
@@ -54,7 +55,8 @@ fn put_entry(out: &mut Vec<u8>, content: &[u8], sum: u32) -> Result<(), NoMemory
 
 /// Appends content and its sum.
 pub(crate) fn append_summed(out: &mut Vec<u8>, content: &[u8]) -> Result<(), NoMemory>
-    ensures ok { OnOk result (out.new.items ≡ out.old.items ++ content.now ++ to_be_bytes w32 (crc content.now)) }
+    ensures ok { OnOk result
+        (out.new.items ≡ out.old.items ++ content.now ++ to_be_bytes w32 (crc content.now)) }
     ensures err { OnErr result (out.new.items ≡ out.old.items) }
     ensures sum { OnOk result (crc content.now < 2 ^ 32) }
 {
@@ -71,7 +73,8 @@ pub(crate) fn append_section(out: &mut Vec<u8>, content: &[u8]) -> Result<(), No
     requires { length content.now < 2 ^ 32 }
     ensures ok { OnOk result (out.new.items ≡ out.old.items ++ section_text content.now) }
     ensures err { OnErr result (out.new.items ≡ out.old.items) }
-    ensures stands { (after : List ℕ) → OnOk result (IsSection (out.new.items ++ after) (length out.old.items) content.now) }
+    ensures stands { (after : List ℕ)
+        → OnOk result (IsSection (out.new.items ++ after) (length out.old.items) content.now) }
 {
     let start = out.len();
     let put = put_section(out, content, crc_of(content));
@@ -81,11 +84,12 @@ pub(crate) fn append_section(out: &mut Vec<u8>, content: &[u8]) -> Result<(), No
     put
 }
 
-/// Appends the same with the length in base 128.
+/// Appends an entry, with the length of its content in base 128.
 pub(crate) fn append_entry(out: &mut Vec<u8>, content: &[u8]) -> Result<(), NoMemory>
     ensures ok { OnOk result (out.new.items ≡ out.old.items ++ entry_text content.now) }
     ensures err { OnErr result (out.new.items ≡ out.old.items) }
-    ensures stands { (after : List ℕ) → OnOk result (IsEntry (out.new.items ++ after) (length out.old.items) content.now) }
+    ensures stands { (after : List ℕ)
+        → OnOk result (IsEntry (out.new.items ++ after) (length out.old.items) content.now) }
 {
     let start = out.len();
     let put = put_entry(out, content, crc_of(content));

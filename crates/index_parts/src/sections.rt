@@ -7,10 +7,10 @@ use crate::PartRefusal;
 use crate::fields::{next_u32, next_uvarint};
 use wire_bytes::{Cursor, crc_of};
 
-/// Tests the sum behind so many bytes, of a section that begins at a place, and stands before those bytes.
+/// Tests the sum behind `size` bytes, of a section that begins at `at`, and stands before those bytes.
 #[inline(always)]
 #[tactic(auto, unfolding(crate::specs::Framing::summed_at))]
-pub(crate) fn summed(
+pub(crate) fn summed_content(
     index: &[u8],
     place: usize,
     at: u64,
@@ -35,7 +35,7 @@ pub(crate) fn summed(
 }
 
 /// Stands before the content of the section at a place.
-#[tactic(auto, unfolding(crate::specs::Framing::section_at))]
+#[tactic(auto, unfolding(crate::specs::Framing::framed_at))]
 pub(crate) fn section_of(index: &[u8], at: u64) -> Result<Cursor<'_>, PartRefusal>
     ensures { Answers (λ content. content) result (section_at index.now at) }
 {
@@ -44,12 +44,12 @@ pub(crate) fn section_of(index: &[u8], at: u64) -> Result<Cursor<'_>, PartRefusa
     }
     let mut cursor = Cursor::at(index, at as usize);
     let size = next_u32(&mut cursor)?;
-    summed(index, cursor.place(), at, u64::from(size))
+    summed_content(index, cursor.place(), at, u64::from(size))
 }
 
-/// The same where the length is in base 128, as of a series.
+/// Stands before the content of the entry at a place, whose length is in base 128, as that of a series.
 #[inline(always)]
-#[tactic(auto, unfolding(crate::specs::Framing::entry_at))]
+#[tactic(auto, unfolding(crate::specs::Framing::framed_at))]
 pub(crate) fn entry_of(index: &[u8], at: u64) -> Result<Cursor<'_>, PartRefusal>
     ensures { Answers (λ content. content) result (entry_at index.now at) }
 {
@@ -58,5 +58,5 @@ pub(crate) fn entry_of(index: &[u8], at: u64) -> Result<Cursor<'_>, PartRefusal>
     }
     let mut cursor = Cursor::at(index, at as usize);
     let size = next_uvarint(&mut cursor)?;
-    summed(index, cursor.place(), at, size)
+    summed_content(index, cursor.place(), at, size)
 }

@@ -6,6 +6,7 @@ ghost use Rattle.index_parts.specs.declared.raw_series.RawSeries.{RawSeries};
 ghost use Rattle.index_parts.specs.SeriesEntry.{IsSeries, reference_of};
 ghost use Rattle.index_parts.specs.SeriesReading.{labels_begin_at, label_at, labels_at, later_at, moved_at, begin_at, reference_at, chunk_of, chunk_at, chunks_at, series_at};
 ghost use Rattle.index_parts.specs.ListReading.{turns_at};
+ghost use Rattle.index_parts.specs.Moves.{MovesOn, MovesOnTo};
 
 use crate::fields::{next_uvarint, next_varint};
 use crate::sections::entry_of;
@@ -36,13 +37,14 @@ pub fn next_label(mut cursor: Cursor<'_>) -> Result<((u64, u64), Cursor<'_>), Pa
     Ok(((name, value), cursor))
 }
 
-/// Reads the symbol numbers of so many labels, and what follows them.
+/// Reads the symbol numbers of `count` labels, and what follows them.
 fn labels_of<'a>(
     alloc: Global,
     count: u64,
     mut cursor: Cursor<'a>,
 ) -> Result<(Vec<u64>, Vec<u64>, Cursor<'a>), PartRefusal>
-    ensures { Gives PartRefusal.NoMemory (λ x. ((x.0.items, x.1.items), x.2)) result (labels_at count cursor.entry) }
+    ensures { Gives PartRefusal.NoMemory (λ x. ((x.0.items, x.1.items), x.2)) result
+        (labels_at count cursor.entry) }
 {
     let mut names = Vec::new(alloc);
     let mut values = Vec::new(alloc);
@@ -55,11 +57,11 @@ fn labels_of<'a>(
     Ok((names, values, cursor))
 }
 
-/// A time that comes so long after another.
+/// The time that comes as long after another as the next number says.
 #[inline(always)]
 #[tactic(auto, using(crate::proofs::Ranges::signed_tests), unfolding(crate::specs::SeriesReading::later_at))]
-fn later(cursor: &mut Cursor<'_>, time: i64) -> Result<i64, PartRefusal>
-    ensures { MatchResult result (λ t. later_at time cursor.old ≡ Ok (t, cursor.new)) (λ e. later_at time cursor.old ≡ Err e) }
+fn time_after(cursor: &mut Cursor<'_>, time: i64) -> Result<i64, PartRefusal>
+    ensures { MovesOn (λ t. t) cursor.new result (later_at time cursor.old) }
 {
     let place = cursor.place() as u64;
     let by = next_uvarint(cursor)?;
@@ -69,11 +71,11 @@ fn later(cursor: &mut Cursor<'_>, time: i64) -> Result<i64, PartRefusal>
     }
 }
 
-/// A reference that is so far from another.
+/// The reference that is as far from another as the next number says.
 #[inline(always)]
 #[tactic(auto, using(crate::proofs::Ranges::unsigned_tests), unfolding(crate::specs::SeriesReading::moved_at))]
-fn moved(cursor: &mut Cursor<'_>, reference: u64) -> Result<u64, PartRefusal>
-    ensures { MatchResult result (λ r. moved_at reference cursor.old ≡ Ok (r, cursor.new)) (λ e. moved_at reference cursor.old ≡ Err e) }
+fn reference_after(cursor: &mut Cursor<'_>, reference: u64) -> Result<u64, PartRefusal>
+    ensures { MovesOn (λ r. r) cursor.new result (moved_at reference cursor.old) }
 {
     let place = cursor.place() as u64;
     let by = next_varint(cursor)?;
@@ -108,11 +110,11 @@ fn chunk_of(min: i64, max: i64, reference: u64) -> ChunkPlace
 #[inline(always)]
 #[tactic(auto, unfolding(crate::specs::SeriesReading::begin_at))]
 fn next_begin(cursor: &mut Cursor<'_>, before: Option<ChunkPlace>) -> Result<i64, PartRefusal>
-    ensures { MatchResult result (λ t. begin_at before cursor.old ≡ Ok (t, cursor.new)) (λ e. begin_at before cursor.old ≡ Err e) }
+    ensures { MovesOn (λ t. t) cursor.new result (begin_at before cursor.old) }
 {
     match before {
         None => next_varint(cursor),
-        Some(chunk) => later(cursor, chunk.max),
+        Some(chunk) => time_after(cursor, chunk.max),
     }
 }
 
@@ -120,11 +122,11 @@ fn next_begin(cursor: &mut Cursor<'_>, before: Option<ChunkPlace>) -> Result<i64
 #[inline(always)]
 #[tactic(auto, unfolding(crate::specs::SeriesReading::reference_at))]
 fn next_reference(cursor: &mut Cursor<'_>, before: Option<ChunkPlace>) -> Result<u64, PartRefusal>
-    ensures { MatchResult result (λ r. reference_at before cursor.old ≡ Ok (r, cursor.new)) (λ e. reference_at before cursor.old ≡ Err e) }
+    ensures { MovesOn (λ r. r) cursor.new result (reference_at before cursor.old) }
 {
     match before {
         None => next_uvarint(cursor),
-        Some(chunk) => moved(cursor, reference_of(chunk)),
+        Some(chunk) => reference_after(cursor, reference_of(chunk)),
     }
 }
 
@@ -135,22 +137,23 @@ fn next_chunk(
     cursor: &mut Cursor<'_>,
     before: Option<ChunkPlace>,
 ) -> Result<ChunkPlace, PartRefusal>
-    ensures { MatchResult result (λ chunk. chunk_at (before, cursor.old) ≡ Ok (chunk, (Some chunk, cursor.new))) (λ e. chunk_at (before, cursor.old) ≡ Err e) }
+    ensures { MovesOnTo (λ chunk. chunk) cursor.new result (chunk_at (before, cursor.old)) }
 {
     let min = next_begin(cursor, before)?;
-    let max = later(cursor, min)?;
+    let max = time_after(cursor, min)?;
     let reference = next_reference(cursor, before)?;
     Ok(chunk_of(min, max, reference))
 }
 
-/// Reads the places of so many chunks in place of those that the list has.
+/// Reads the places of `count` chunks in place of those that the list has.
 #[inline(always)]
 fn chunks_of(
     count: u64,
     mut cursor: Cursor<'_>,
     mut chunks: Vec<ChunkPlace>,
 ) -> Result<Vec<ChunkPlace>, PartRefusal>
-    ensures { Gives PartRefusal.NoMemory (λ chunks. chunks.items) result (turns_at chunk_at count cursor.entry) }
+    ensures { Gives PartRefusal.NoMemory (λ chunks. chunks.items) result
+        (turns_at chunk_at count cursor.entry) }
 {
     chunks.clear();
     if count == 0 {
@@ -196,11 +199,13 @@ fn series_of(alloc: Global, index: &[u8], at: u64) -> Result<RawSeries, PartRefu
 pub fn read_series(alloc: Global, index: &[u8], at: u64) -> Result<RawSeries, PartRefusal>
     // What is read is what stands there, and what stands there is read.
     ensures found { IfOk result (λ series. IsSeries index.now at series) }
-    ensures only { (series : RawSeries) → IsSeries index.now at series → (result ≡ Ok series) ⊎ (result ≡ Err PartRefusal.NoMemory) }
+    ensures only { (series : RawSeries) → IsSeries index.now at series
+        → (result ≡ Ok series) ⊎ (result ≡ Err PartRefusal.NoMemory) }
 
     // The first refusal.
     ensures exact { Gives PartRefusal.NoMemory (λ series. series) result (series_at index.now at) }
-    ensures few { IfOk result (λ series. length series.names + length series.values + 3 * length series.chunks ≤ length index.now) }
+    ensures few { IfOk result (λ series.
+        length series.names + length series.values + 3 * length series.chunks ≤ length index.now) }
 {
     series_of(alloc, index, at)
 }

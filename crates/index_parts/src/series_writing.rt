@@ -19,7 +19,8 @@ fn put_label(out: &mut Vec<u8>, name: u64, value: u64) -> Result<(), NoMemory>
 
 fn put_labels(out: &mut Vec<u8>, names: &[u64], values: &[u64]) -> Result<(), NoMemory>
     requires { length names.now ≡ length values.now }
-    ensures ok { OnOk result (out.new.items ≡ out.old.items ++ flat_map label_text (zip names.now values.now)) }
+    ensures ok { OnOk result
+        (out.new.items ≡ out.old.items ++ flat_map label_text (zip names.now values.now)) }
     ensures names { (k : ℕ) → slice_index names.now k < 2 ^ 64 }
     ensures values { (k : ℕ) → slice_index values.now k < 2 ^ 64 }
 {
@@ -136,7 +137,8 @@ pub fn write_series(out: &mut Vec<u8>, series: &RawSeries) -> Result<(), NoMemor
     ensures err { OnErr result (out.new.items ≡ out.old.items) }
 
     // It stands where it was written, whatever is appended after it.
-    ensures stands { (after : List ℕ) → OnOk result (IsSeries (out.new.items ++ after) (length out.old.items) series.now) }
+    ensures stands { (after : List ℕ)
+        → OnOk result (IsSeries (out.new.items ++ after) (length out.old.items) series.now) }
 {
     let content = content_of(*out.allocator(), series)?;
     append_entry(out, content.as_slice())

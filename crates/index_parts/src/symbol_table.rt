@@ -6,6 +6,7 @@ ghost use Rattle.reading_core.specs.Grammar.{IsBytes};
 ghost use Rattle.index_parts.specs.Symbols.{IsSymbols};
 ghost use Rattle.index_parts.specs.SymbolsReading.{may_follow, symbol_at, symbols_at};
 ghost use Rattle.index_parts.specs.ListReading.{turns_at};
+ghost use Rattle.index_parts.specs.Moves.{MovesOnTo};
 
 use crate::PartRefusal;
 use crate::fields::{next_text, next_u32, room_for, text_of};
@@ -56,7 +57,7 @@ fn may_follow(before: Option<&str>, symbol: &str) -> bool
     }
 }
 
-/// The same of bytes that are no text.
+/// Whether bytes that are no text may stand behind a symbol.
 fn may_bytes_follow(before: Option<&str>, symbol: &[u8]) -> bool
     ensures { result ≡ may_follow (option_copied before.entry) symbol.now }
 {
@@ -70,7 +71,8 @@ fn may_bytes_follow(before: Option<&str>, symbol: &[u8]) -> bool
 #[inline(always)]
 #[tactic(auto, unfolding(crate::specs::SymbolsReading::symbol_at))]
 fn next_symbol<'a>(cursor: &mut Cursor<'a>, before: Option<&str>) -> Result<&'a str, PartRefusal>
-    ensures { MatchResult result (λ symbol. symbol_at (option_copied before.entry, cursor.old) ≡ Ok (symbol.now, (Some symbol.now, cursor.new))) (λ e. symbol_at (option_copied before.entry, cursor.old) ≡ Err e) }
+    ensures { MovesOnTo (λ symbol. symbol.now) cursor.new result
+        (symbol_at (option_copied before.entry, cursor.old)) }
 {
     let place = cursor.place() as u64;
     let bytes = next_text(cursor)?;
@@ -81,14 +83,15 @@ fn next_symbol<'a>(cursor: &mut Cursor<'a>, before: Option<&str>) -> Result<&'a 
     }
 }
 
-/// Reads so many symbols.
+/// Reads `count` symbols.
 #[inline(never)]
 fn symbols_of<'a>(
     alloc: Global,
     count: u32,
     mut cursor: Cursor<'a>,
 ) -> Result<Vec<&'a str>, PartRefusal>
-    ensures { Gives PartRefusal.NoMemory (λ symbols. map (λ s. s.now) symbols.items) result (turns_at symbol_at count cursor.entry) }
+    ensures { Gives PartRefusal.NoMemory (λ symbols. map (λ s. s.now) symbols.items) result
+        (turns_at symbol_at count cursor.entry) }
 {
     let mut symbols = Vec::with_capacity(alloc, room_for(count, &cursor, USUAL_SIZE))?;
     let mut before = None;
@@ -119,7 +122,8 @@ pub fn read_symbols<'a>(
 ) -> Result<SymbolTable<'a>, PartRefusal>
     // What is read is what stands there, and what stands there is read.
     ensures found { IfOk result (λ table. IsSymbols index.now at table) }
-    ensures only { (symbols : List (List ℕ)) → IsSymbols index.now at symbols → IsOkAnd result (λ table. table ≡ symbols) ⊎ (result ≡ Err PartRefusal.NoMemory) }
+    ensures only { (symbols : List (List ℕ)) → IsSymbols index.now at symbols
+        → IsOkAnd result (λ table. table ≡ symbols) ⊎ (result ≡ Err PartRefusal.NoMemory) }
 
     // The first refusal.
     ensures exact { Gives PartRefusal.NoMemory (λ table. table) result (symbols_at index.now at) }

@@ -6,7 +6,7 @@ ghost use Rattle.index_parts.specs.Contents.{IsToc};
 ghost use Rattle.index_parts.specs.ContentsReading.{references_at, toc_at};
 
 use crate::fields::next_u64;
-use crate::sections::summed;
+use crate::sections::summed_content;
 use crate::{PartRefusal, Toc};
 use wire_bytes::Cursor;
 
@@ -39,7 +39,7 @@ fn toc_of(index: &[u8]) -> Result<Toc, PartRefusal>
         return Err(PartRefusal::Short(0));
     }
     let place = index.len() - SIZE;
-    references_of(summed(index, place, place as u64, REFERENCES)?)
+    references_of(summed_content(index, place, place as u64, REFERENCES)?)
 }
 
 /// Reads the table of contents, the last 52 bytes of an index. Of fewer bytes the refusal has the place 0.

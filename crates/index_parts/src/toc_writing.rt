@@ -11,7 +11,8 @@ use wire_bytes::put_u64;
 #[tactic(auto, unfolding(crate::specs::Contents::references_text))]
 fn references_content(alloc: Global, toc: &Toc) -> Result<Vec<u8>, NoMemory>
     ensures ok { IfOk result (λ content. content.items ≡ references_text toc.now) }
-    ensures fit { OnOk result (AllByRecursion (λ number. number < 2 ^ 64) (references_of toc.now)) }
+    ensures fit { OnOk result
+        (AllByRecursion (λ number. number < 2 ^ 64) (references_of toc.now)) }
 {
     let mut content = Vec::new(alloc);
     put_u64(&mut content, toc.symbols)?;

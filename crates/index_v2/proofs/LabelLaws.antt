@@ -2,7 +2,7 @@
 use Rattle.std.proofs.Common.{◌≡◌, ◌≢◌, ℕ, ◌+◌, ◌*◌, ◌<◌, List, [], ◌∷◌, length, map, Some, Ok, refl, subst, arith}
 use Rattle.std.specs.Prelude.{slice_get}
 use Rattle.std.proofs.lemmas.Bool.{lt-ltb}
-use Rattle.reading_core.specs.Reading.{◌>>=◌, refused_as}
+use Rattle.reading_core.specs.Reading.{◌>>=◌}
 use Rattle.reading_core.specs.Grammar.{IsBytes}
 use Rattle.reading_core.proofs.Binds.{bind_ok, refused_as_ok, ok_is}
 use Rattle.label_sets.specs.declared.label.Label.{Label}
@@ -10,7 +10,7 @@ use Rattle.label_sets.specs.Labels.{compare_texts, ComesBefore, StandsBefore, Is
 use Rattle.label_sets.proofs.LabelValues.{StandsBefore-trans}
 use Rattle.index_parts.specs.declared.refusal.PartRefusal.{PartRefusal}
 use Rattle.index_parts.specs.declared.raw_series.RawSeries.{RawSeries}
-use Rattle.index_parts.specs.SeriesReading.{series_at, label_places_at}
+use Rattle.index_parts.specs.SeriesReading.{series_at}
 use Rattle.index_parts.proofs.SeriesLaws.{series_found, series_again}
 use Rattle.index_v2.specs.declared.index_series.IndexSeries.{IndexSeries}
 use Rattle.index_v2.specs.declared.label_fault.LabelFault.{LabelFault}
@@ -20,7 +20,7 @@ use Rattle.index_v2.specs.IndexFile.{StandFor, IsSeriesOf}
 use Rattle.wire_bytes.specs.Position.{Position}
 use Rattle.index_v2.proofs.LabelReading.{label_parts, lt_from_less}
 use Rattle.index_v2.proofs.LabelTexts.{texts_read}
-use Rattle.index_v2.proofs.LabelPlaces.{places_known, with_labels}
+use Rattle.index_v2.proofs.LabelPlaces.{with_labels}
 
 -- ---- label sets as chains
 
@@ -127,10 +127,9 @@ labels_again symbols before place (name ∷ names) (value ∷ values) (label ∷
 series_parts : (index : List ℕ) (symbols : List (List ℕ)) (at : ℕ) (series : IndexSeries) → labelled_at index symbols at ≡ Ok series → (raw : RawSeries) × (labels : List Label) × (series_at index at ≡ Ok raw) × (labels_of symbols [] 0 raw.names raw.values ≡ Ok labels) × (record { labels = labels; chunks = raw.chunks } ≡ series)
 unfolding labelled_at
 series_parts index symbols at series e =
-    let raw = bind_ok (series_at index at) (λ raw. label_places_at index at >>= λ places. refused_as (fault_at places) (labels_of symbols [] 0 raw.names raw.values) >>= λ labels. Ok (record { labels = labels; chunks = raw.chunks })) series e in
-    let places = bind_ok (label_places_at index at) (λ places. refused_as (fault_at places) (labels_of symbols [] 0 raw.0.names raw.0.values) >>= λ labels. Ok (record { labels = labels; chunks = raw.0.chunks })) series raw.2 in
-    let labels = bind_ok (refused_as (fault_at places.0) (labels_of symbols [] 0 raw.0.names raw.0.values)) (λ labels. Ok (record { labels = labels; chunks = raw.0.chunks })) series places.2 in
-    (raw.0, labels.0, raw.1, refused_as_ok (fault_at places.0) (labels_of symbols [] 0 raw.0.names raw.0.values) labels.0 labels.1, ok_is {A = IndexSeries} {E = PartRefusal} _ _ labels.2)
+    let raw = bind_ok _ _ _ e in
+    let labels = bind_ok _ _ _ raw.2 in
+    (raw.0, labels.0, raw.1, refused_as_ok (fault_at index at) (labels_of symbols [] 0 raw.0.names raw.0.values) labels.0 labels.1, ok_is {A = IndexSeries} {E = PartRefusal} _ _ labels.2)
 
 labelled_is : (index : List ℕ) (symbols : List (List ℕ)) (number : ℕ) (series : IndexSeries) → IsBytes index → labelled_at index symbols (16 * number) ≡ Ok series → IsSeriesOf index symbols number series
 labelled_is index symbols number series are e =
@@ -154,5 +153,4 @@ pub numbered_again : (index : List ℕ) (symbols : List (List ℕ)) (number : �
 numbered_again index symbols number series is =
     let raw = series_again index (16 * number) (record { names = is.names; values = is.values; chunks = series.chunks }) is.stands in
     let labels = labels_again symbols [] 0 is.names is.values series.labels is.names_are is.values_are (chain_from_set [] series.labels is.lawful (all_above_nothing series.labels is.lawful)) in
-    let places = places_known index (16 * number) (record { names = is.names; values = is.values; chunks = series.chunks }) raw in
-    rw (with_labels index symbols (16 * number) (record { names = is.names; values = is.values; chunks = series.chunks }) places.0 series.labels raw places.1 labels) refl
+    rw (with_labels index symbols (16 * number) (record { names = is.names; values = is.values; chunks = series.chunks }) series.labels raw labels) refl

@@ -5,27 +5,21 @@ use Rattle.index_parts.specs.declared.refusal.PartRefusal.{PartRefusal}
 use Rattle.index_parts.specs.declared.refusal.PartRefusal.TheVariants as part
 use Rattle.index_parts.specs.declared.raw_series.RawSeries.{RawSeries}
 use Rattle.index_parts.specs.declared.chunk_place.ChunkPlace.{ChunkPlace}
-use Rattle.index_parts.specs.SeriesReading.{labels_begin_at, labels_at, chunks_at, series_at, label_places_at}
-use Rattle.index_parts.proofs.LabelPlaces.{label_places_are}
+use Rattle.index_parts.specs.SeriesReading.{labels_begin_at, labels_at, chunks_at, series_at}
 use Rattle.label_sets.specs.declared.label.Label.{Label}
 use Rattle.index_v2.specs.declared.label_fault.LabelFault.{LabelFault}
 use Rattle.index_v2.specs.SeriesLabels.{labels_of, texts_at, fault_at, labelled_at}
 use Rattle.index_v2.proofs.LabelTexts.{texts_read, texts_unread}
 
-pub places_known : (index : List ℕ) (at : ℕ) (series : RawSeries) → series_at index at ≡ Ok series → (places : List (ℕ × ℕ)) × (label_places_at index at ≡ Ok places)
-places_known index at series e = let places = label_places_are index at series e in (places.0, places.1)
-
 -- ---- the series with its labels
 
-pub with_labels : (index : List ℕ) (symbols : List (List ℕ)) (at : ℕ) (series : RawSeries) (places : List (ℕ × ℕ)) (labels : List Label) → series_at index at ≡ Ok series → label_places_at index at ≡ Ok places → labels_of symbols [] 0 series.names series.values ≡ Ok labels
-    → labelled_at index symbols at ≡ Ok (record { labels = labels; chunks = series.chunks })
+pub with_labels : (index : List ℕ) (symbols : List (List ℕ)) (at : ℕ) (series : RawSeries) (labels : List Label) → series_at index at ≡ Ok series → labels_of symbols [] 0 series.names series.values ≡ Ok labels → labelled_at index symbols at ≡ Ok (record { labels = labels; chunks = series.chunks })
 unfolding labelled_at
-with_labels index symbols at series places labels e p f = rw (e, p, f) refl
+with_labels index symbols at series labels e f = rw (e, f) refl
 
-labelled_fault : (index : List ℕ) (symbols : List (List ℕ)) (at : ℕ) (series : RawSeries) (places : List (ℕ × ℕ)) (f : LabelFault) → series_at index at ≡ Ok series → label_places_at index at ≡ Ok places → labels_of symbols [] 0 series.names series.values ≡ Err f
-    → labelled_at index symbols at ≡ Err (fault_at places f)
+labelled_fault : (index : List ℕ) (symbols : List (List ℕ)) (at : ℕ) (series : RawSeries) (f : LabelFault) → series_at index at ≡ Ok series → labels_of symbols [] 0 series.names series.values ≡ Err f → labelled_at index symbols at ≡ Err (fault_at index at f)
 unfolding labelled_at
-labelled_fault index symbols at series places f e p g = rw (e, p, g) refl
+labelled_fault index symbols at series f e g = rw (e, g) refl
 
 -- ---- from the parts of a series
 
@@ -38,17 +32,15 @@ pub labelled_found : (index : List ℕ) (symbols : List (List ℕ)) (at count : 
 labelled_found index symbols at count p q labels chunks a b c =
     let read = texts_read symbols count p (Ok labels) q b in
     let series = series_read index at count p q read.names read.values chunks a read.labels_are c in
-    let places = places_known index at (record { names = read.names; values = read.values; chunks = chunks }) series in
-    with_labels index symbols at (record { names = read.names; values = read.values; chunks = chunks }) places.0 labels series places.1 read.texts_are
+    with_labels index symbols at (record { names = read.names; values = read.values; chunks = chunks }) labels series read.texts_are
 
 -- a refused symbol number, with the place that was looked up for it
 pub labelled_refused : (index : List ℕ) (symbols : List (List ℕ)) (at count : ℕ) (p q : Position) (fault : LabelFault) (chunks : List ChunkPlace) (refusal : PartRefusal) → labels_begin_at index at ≡ Ok (count, p) → texts_at symbols [] 0 count p ≡ Ok (Err fault, q) → chunks_at q ≡ Ok chunks
-    → ((places : List (ℕ × ℕ)) → label_places_at index at ≡ Ok places → refusal ≡ fault_at places fault) → labelled_at index symbols at ≡ Err refusal
+    → refusal ≡ fault_at index at fault → labelled_at index symbols at ≡ Err refusal
 labelled_refused index symbols at count p q fault chunks refusal a b c placed =
     let read = texts_read symbols count p (Err fault) q b in
     let series = series_read index at count p q read.names read.values chunks a read.labels_are c in
-    let places = places_known index at (record { names = read.names; values = read.values; chunks = chunks }) series in
-    labelled_fault index symbols at (record { names = read.names; values = read.values; chunks = chunks }) places.0 fault series places.1 read.texts_are ∙ ap Err (sym (placed places.0 places.1))
+    labelled_fault index symbols at (record { names = read.names; values = read.values; chunks = chunks }) fault series read.texts_are ∙ ap Err (sym placed)
 
 -- ---- what is refused before the symbol numbers are
 

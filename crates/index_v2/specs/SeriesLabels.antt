@@ -9,7 +9,7 @@ use Rattle.label_sets.specs.Labels.{compare_texts}
 use Rattle.index_parts.specs.declared.refusal.PartRefusal.{PartRefusal}
 use Rattle.index_parts.specs.declared.refusal.PartRefusal.TheVariants as part
 use Rattle.wire_bytes.specs.Position.{Position}
-use Rattle.index_parts.specs.SeriesReading.{labels_at, series_at, label_places_at}
+use Rattle.index_parts.specs.SeriesReading.{labels_at, series_at, label_place_of}
 use Rattle.index_v2.specs.declared.index_series.IndexSeries.{IndexSeries}
 use Rattle.index_v2.specs.declared.label_fault.LabelFault.{LabelFault}
 use Rattle.index_v2.specs.declared.label_fault.LabelFault.TheVariants.{Name, Value}
@@ -47,17 +47,16 @@ faulty_at fault count p = do
   labels ← labels_at count p
   Ok (Err fault, labels.1)
 
--- where a refused symbol number stands, of the places of each label's two
-abbrev pub fault_at : List (ℕ × ℕ) → LabelFault → PartRefusal
-fault_at places (Name label) = part.Unordered (unwrap_or (option_map (λ (p : ℕ × ℕ). p.0) (slice_get places label)) 0)
-fault_at places (Value label) = part.Unordered (unwrap_or (option_map (λ (p : ℕ × ℕ). p.1) (slice_get places label)) 0)
+-- where a refused symbol number of the series at a place stands
+abbrev pub fault_at : List ℕ → ℕ → LabelFault → PartRefusal
+fault_at index at (Name label) = part.Unordered (unwrap_or (option_map (λ (p : ℕ × ℕ). p.0) (label_place_of index at label)) 0)
+fault_at index at (Value label) = part.Unordered (unwrap_or (option_map (λ (p : ℕ × ℕ). p.1) (label_place_of index at label)) 0)
 
 -- the series at a place of the index
 unfoldable pub labelled_at : List ℕ → List (List ℕ) → ℕ → Result IndexSeries PartRefusal
 labelled_at index symbols at = do
   series ← series_at index at
-  places ← label_places_at index at
-  labels ← refused_as (fault_at places) (labels_of symbols [] 0 series.names series.values)
+  labels ← refused_as (fault_at index at) (labels_of symbols [] 0 series.names series.values)
   Ok (record { labels = labels; chunks = series.chunks })
 
 -- the series of a number, which stands at sixteen times the number

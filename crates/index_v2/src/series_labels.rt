@@ -4,7 +4,6 @@ ghost use Rattle.std.specs.Result.{result_map_both};
 ghost use Rattle.std.specs.Ordering.{is_lt};
 ghost use Rattle.reading_core.specs.Reading.{Answers, Gives};
 ghost use Rattle.label_sets.specs.Labels.{compare_texts};
-ghost use Rattle.index_parts.specs.SeriesReading.{label_places_at};
 ghost use Rattle.index_v2.specs.LentLabels.{as_label};
 ghost use Rattle.index_v2.specs.SeriesLabels.{label_of, texts_at, faulty_at, fault_at};
 
@@ -95,7 +94,7 @@ fn after_fault<'a, 'b>(
 
 /// The refusal of the symbol number that is at fault.
 pub(crate) fn fault_at(index: &[u8], at: u64, fault: LabelFault) -> PartRefusal
-    ensures { (places : List (ℕ × ℕ)) → label_places_at index.now at ≡ Ok places → result ≡ fault_at places fault }
+    ensures { result ≡ fault_at index.now at fault }
 {
     match fault {
         LabelFault::Name(label) => {

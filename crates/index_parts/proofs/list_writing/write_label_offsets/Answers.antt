@@ -1,7 +1,7 @@
 use Rattle.std.proofs.Common.{◌≡◌, ◌++◌, List, ℕ, length, subst}
 use Rattle.std.specs.Prelude.{OnOk}
 use Rattle.index_parts.specs.Framed.{IsSection, section_text}
-use Rattle.index_parts.proofs.Writing.{on_ok}
+use Rattle.std.proofs.lemmas.Result.{on_ok_weaker}
 use Rattle.index_parts.proofs.Offsets.{offsets_few, offsets_stand, lent_content}
 use Rattle.index_parts.proofs.list_writing.write_label_offsets.Goals as goal
 
@@ -16,4 +16,4 @@ returns-clause-ok c =
 pub returns-clause-stands : goal.returns-clause-stands
 returns-clause-stands c = λ after.
     let same = lent_content c.members.result.now c.args.names.now c.members-2.result.now c.args.offsets.now c.as_slice.result.now c.in_ok-content.content.items c.as_slice.ensures.value c.in_ok-content.ensures.ok c.members.ensures c.members-2.ensures c.requires.as_many in
-    on_ok c.append_section.result (λ section. offsets_stand (c.append_section.new.out.items ++ after) (length c.args.out.now.items) c.args.names.now c.args.offsets.now c.requires.as_many c.requires.size (rw c.members.ensures at c.in_ok-content.ensures.utf8) (rw c.members-2.ensures at c.in_ok-content.ensures.fit) (subst (IsSection (c.append_section.new.out.items ++ after) (length c.args.out.now.items)) same section)) (c.append_section.ensures.stands after)
+    on_ok_weaker c.append_section.result (λ section. offsets_stand (c.append_section.new.out.items ++ after) (length c.args.out.now.items) c.args.names.now c.args.offsets.now c.requires.size (rw c.members.ensures at c.in_ok-content.ensures.utf8) (rw c.members-2.ensures at c.in_ok-content.ensures.fit) (subst (IsSection (c.append_section.new.out.items ++ after) (length c.args.out.now.items)) same section)) (c.append_section.ensures.stands after)

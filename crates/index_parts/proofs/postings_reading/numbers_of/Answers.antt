@@ -1,4 +1,4 @@
-use Rattle.std.proofs.Common.{rules, None}
+use Rattle.std.proofs.Common.{rules}
 use Rattle.reading_core.proofs.Counted.{loop_start, loop_step}
 use Rattle.index_parts.specs.PostingsReading.{posting_at}
 use Rattle.index_parts.specs.ListReading.{turns_at}
@@ -14,8 +14,8 @@ loop-preserved c = search (rules, loop_step)
 
 pub returns-in_err-number : goal.returns-in_err-number
 unfolding turns_at
-returns-in_err-number c = turns_exit posting_at NoMemory _ c.from_residual-in_err-number.result c.loop.counter c.args.count (None, c.args.cursor) (c.loop.before, c.loop.cursor) c.loop.numbers.items c.in_err-number.field-0.0 c.loop.invariant c.from_residual-in_err-number.ensures.1 c.in_err-number.ensures c.loop-test.true
+returns-in_err-number c = turns_exit posting_at NoMemory _ _ _ _ _ _ _ _ c.loop.invariant c.from_residual-in_err-number.ensures.1 c.in_err-number.ensures c.loop-test.true
 
 pub returns : goal.returns
 unfolding turns_at
-returns c = turns_end posting_at c.loop.counter c.args.count (None, c.args.cursor) (c.loop.before, c.loop.cursor) c.loop.numbers.items c.loop.invariant c.loop-test.false c.loop.auto.counter-end
+returns c = turns_end posting_at _ _ _ _ _ c.loop.invariant c.loop-test.false c.loop.auto.counter-end

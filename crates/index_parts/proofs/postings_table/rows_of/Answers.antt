@@ -1,8 +1,7 @@
-use Rattle.std.proofs.Common.{rules, None, map}
+use Rattle.std.proofs.Common.{rules}
 use Rattle.std.proofs.lemmas.List.{map_push}
 use Rattle.reading_core.proofs.Counted.{loop_start, loop_step}
 use Rattle.index_parts.specs.RowsReading.{row_at}
-use Rattle.index_parts.specs.Lent.{row_of, row_before}
 use Rattle.index_parts.specs.ListReading.{turns_at}
 use Rattle.index_parts.specs.declared.refusal.PartRefusal.TheVariants.{NoMemory}
 use Rattle.index_parts.proofs.Loops.{turns_exit, turns_end}
@@ -16,8 +15,8 @@ loop-preserved c = search (rules, loop_step, map_push)
 
 pub returns-in_err-row : goal.returns-in_err-row
 unfolding turns_at
-returns-in_err-row c = turns_exit row_at NoMemory _ c.from_residual-in_err-row.result c.loop.counter c.args.count (None, c.args.cursor) (row_before c.loop.before, c.loop.cursor) (map row_of c.loop.rows.items) c.in_err-row.field-0.0 c.loop.invariant c.from_residual-in_err-row.ensures.1 c.in_err-row.ensures c.loop-test.true
+returns-in_err-row c = turns_exit row_at NoMemory _ _ _ _ _ _ _ _ c.loop.invariant c.from_residual-in_err-row.ensures.1 c.in_err-row.ensures c.loop-test.true
 
 pub returns : goal.returns
 unfolding turns_at
-returns c = turns_end row_at c.loop.counter c.args.count (None, c.args.cursor) (row_before c.loop.before, c.loop.cursor) (map row_of c.loop.rows.items) c.loop.invariant c.loop-test.false c.loop.auto.counter-end
+returns c = turns_end row_at _ _ _ _ _ c.loop.invariant c.loop-test.false c.loop.auto.counter-end

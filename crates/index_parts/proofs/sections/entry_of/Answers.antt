@@ -1,12 +1,13 @@
 use Rattle.std.proofs.Common.{rules}
-use Rattle.index_parts.proofs.Moves.{entry_past, entry_answers, entry_within}
+use Rattle.wire_bytes.specs.Fields.{uvarint_at}
+use Rattle.index_parts.proofs.Moves.{uvarint_size, framed_past, framed_answers, framed_within}
 use Rattle.index_parts.proofs.sections.entry_of.Goals as goal
 
 pub returns-then-at-index : goal.returns-then-at-index
-returns-then-at-index c = entry_past c.args.index.now c.args.at c.if-at-index.true
+returns-then-at-index c = framed_past uvarint_at uvarint_size c.args.index.now c.args.at c.if-at-index.true
 
-pub summed-requires : goal.summed-requires
-summed-requires c = search (rules, entry_within)
+pub summed_content-requires : goal.summed_content-requires
+summed_content-requires c = search (rules, framed_within uvarint_at uvarint_size)
 
 pub returns : goal.returns
-returns c = search (rules, entry_answers)
+returns c = search (rules, framed_answers uvarint_at uvarint_size)

@@ -1,12 +1,14 @@
 use Rattle.std.proofs.Common.{rules}
-use Rattle.index_parts.proofs.Moves.{section_past, section_answers, section_within}
+use Rattle.std.specs.Int.{w32}
+use Rattle.wire_bytes.specs.Fields.{number_at}
+use Rattle.index_parts.proofs.Moves.{number_size, framed_past, framed_answers, framed_within}
 use Rattle.index_parts.proofs.sections.section_of.Goals as goal
 
 pub returns-then-at-index : goal.returns-then-at-index
-returns-then-at-index c = section_past c.args.index.now c.args.at c.if-at-index.true
+returns-then-at-index c = framed_past (number_at w32) number_size c.args.index.now c.args.at c.if-at-index.true
 
-pub summed-requires : goal.summed-requires
-summed-requires c = search (rules, section_within)
+pub summed_content-requires : goal.summed_content-requires
+summed_content-requires c = search (rules, framed_within (number_at w32) number_size)
 
 pub returns : goal.returns
-returns c = search (rules, section_answers)
+returns c = search (rules, framed_answers (number_at w32) number_size)

@@ -1,5 +1,4 @@
-use Rattle.std.proofs.Common.{rules, None, map}
-use Rattle.std.specs.Option.{option_copied}
+use Rattle.std.proofs.Common.{rules}
 use Rattle.std.proofs.lemmas.List.{map_push}
 use Rattle.reading_core.proofs.Counted.{loop_start, loop_step}
 use Rattle.index_parts.specs.SymbolsReading.{symbol_at}
@@ -16,8 +15,8 @@ loop-preserved c = search (rules, loop_step, map_push)
 
 pub returns-in_err-symbol : goal.returns-in_err-symbol
 unfolding turns_at
-returns-in_err-symbol c = turns_exit symbol_at NoMemory _ c.from_residual-in_err-symbol.result c.loop.counter c.args.count (None, c.args.cursor) (option_copied c.loop.before, c.loop.cursor) (map (λ s. s.now) c.loop.symbols.items) c.in_err-symbol.field-0.0 c.loop.invariant c.from_residual-in_err-symbol.ensures.1 c.in_err-symbol.ensures c.loop-test.true
+returns-in_err-symbol c = turns_exit symbol_at NoMemory _ _ _ _ _ _ _ _ c.loop.invariant c.from_residual-in_err-symbol.ensures.1 c.in_err-symbol.ensures c.loop-test.true
 
 pub returns : goal.returns
 unfolding turns_at
-returns c = turns_end symbol_at c.loop.counter c.args.count (None, c.args.cursor) (option_copied c.loop.before, c.loop.cursor) (map (λ s. s.now) c.loop.symbols.items) c.loop.invariant c.loop-test.false c.loop.auto.counter-end
+returns c = turns_end symbol_at _ _ _ _ _ c.loop.invariant c.loop-test.false c.loop.auto.counter-end
