@@ -18,16 +18,16 @@ use Rattle.index_parts.specs.Postings.{IsNextPosting}
 use Rattle.index_parts.specs.PostingsReading.{posting_at, postings_at}
 use Rattle.index_parts.proofs.ListLaws.{list_found, list_again}
 use Rattle.index_parts.proofs.PostingsLaws.{posting_turn}
-use Rattle.index_v2.specs.declared.index_series.IndexSeries.{IndexSeries}
+use Rattle.index_file.specs.declared.index_series.IndexSeries.{IndexSeries}
 use Rattle.index_v2.specs.declared.refusal.IndexRefusal.{IndexRefusal}
 use Rattle.index_v2.specs.declared.refusal.IndexRefusal.TheVariants.{BadSection, BadSeries, PostingsDiffer, NoMemory}
-use Rattle.index_v2.specs.Opened.{Opened}
+use Rattle.index_file.specs.Opened.{Opened}
 use Rattle.index_v2.specs.Opening.{refused_in, refused_of}
 use Rattle.index_v2.specs.SeriesLabels.{labelled_at, numbered_at}
 use Rattle.index_v2.specs.RowOrder.{compare_row, AreAscending, StandsAt}
 use Rattle.index_v2.specs.PostingsLists.{row_of, list_of, postings_of}
 use Rattle.index_v2.specs.WholeReading.{present_at, may_stand_behind, behind_at, all_at, lists_at, is_of_row, stray_from, gap_from, gap_of, gap_among, difference, unless_differ, whole_at}
-use Rattle.index_v2.specs.IndexFile.{Has, Ascend, IsListOf, AreListed, IsOpened}
+use Rattle.index_file.specs.IndexFile.{Has, Ascend, IsListOf, AreListed, IsOpened}
 use Rattle.index_v2.specs.Differing.{ListsOthersAt, DiffersAt, DifferFirstAt}
 use Rattle.index_v2.proofs.RowPlaces.{rows_total, greater_above, no_row_stands, equal_texts, ascend_behind, stands_behind}
 use Rattle.index_v2.proofs.ValuesListed.{same_compare}

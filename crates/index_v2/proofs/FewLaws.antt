@@ -15,10 +15,10 @@ use Rattle.index_parts.proofs.SymbolLaws.{symbol_size}
 use Rattle.index_parts.proofs.PostingsLaws.{posting_size}
 use Rattle.index_parts.proofs.RowLaws.{row_size}
 use Rattle.index_parts.proofs.SeriesLaws as parts
-use Rattle.index_v2.specs.declared.index_series.IndexSeries.{IndexSeries}
-use Rattle.index_v2.specs.Opened.{Opened}
+use Rattle.index_file.specs.declared.index_series.IndexSeries.{IndexSeries}
+use Rattle.index_file.specs.Opened.{Opened}
 use Rattle.index_v2.specs.PostingsLists.{values_of}
-use Rattle.index_v2.specs.IndexFile.{Holds, StandFor, IsOpened, IsSeriesOf, IsIndex, AreListed}
+use Rattle.index_file.specs.IndexFile.{Holds, StandFor, IsOpened, IsSeriesOf, IsIndex, AreListed}
 
 module _ {A : Type 0} (IsNext : Option A → List ℕ → A → Type 0) (least : ℕ) (size : (before : Option A) (text : List ℕ) (x : A) → IsNext before text x → least ≤ length text) (index : List ℕ) (reference : ℕ) (members : List A) where
   few_by : (absent : Bool) → MatchBool absent (members ≡ []) (IsList IsNext index reference members) → least * length members ≤ length index

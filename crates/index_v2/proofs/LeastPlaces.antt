@@ -5,7 +5,7 @@ use Rattle.std.specs.declared.cmp.Ordering.{Ordering}
 use Rattle.std.specs.declared.cmp.Ordering.TheVariants.{Less, Equal, Greater}
 use Rattle.std.proofs.lemmas.Bool.{cases_lt, cases_order}
 use Rattle.index_v2.specs.WholeReading.{earlier, by_order}
-use Rattle.index_v2.specs.IndexFile.{Has}
+use Rattle.index_file.specs.IndexFile.{Has}
 use Rattle.index_v2.proofs.Members.{same_some}
 
 -- the least place of which something holds; it holds of none where there is none

@@ -13,12 +13,12 @@ use Rattle.index_parts.specs.Postings.{IsNextPosting}
 use Rattle.index_parts.specs.PostingsReading.{posting_at, postings_at}
 use Rattle.index_parts.proofs.ListLaws.{list_again}
 use Rattle.index_parts.proofs.PostingsLaws.{posting_turn}
-use Rattle.index_v2.specs.declared.index_series.IndexSeries.{IndexSeries}
+use Rattle.index_file.specs.declared.index_series.IndexSeries.{IndexSeries}
 use Rattle.index_v2.specs.declared.refusal.IndexRefusal.{IndexRefusal}
-use Rattle.index_v2.specs.Opened.{Opened}
+use Rattle.index_file.specs.Opened.{Opened}
 use Rattle.index_v2.specs.Opening.{refused_in, opened_at}
 use Rattle.index_v2.specs.PostingsLists.{is_row_of, row_of, list_of, postings_of}
-use Rattle.index_v2.specs.IndexFile.{Has, BelongsTo, AreListed, HasRow, IsIndex, AreNumbersOf, Holds}
+use Rattle.index_file.specs.IndexFile.{Has, BelongsTo, AreListed, HasRow, IsIndex, AreNumbersOf, Holds}
 use Rattle.index_v2.proofs.OpeningLaws.{opened_again}
 use Rattle.index_v2.proofs.Members.{same_some, and_both}
 use Rattle.index_v2.proofs.WholeLaws.{ok_same, first_is_empty}

@@ -10,12 +10,12 @@ use Rattle.label_sets.specs.Labels.{compare_texts, ComesBefore, IsLabelSet}
 use Rattle.label_sets.proofs.LabelValues.{bytes_eq_self}
 use Rattle.index_parts.specs.declared.postings_row.PostingsRow.{PostingsRow}
 use Rattle.index_parts.specs.Rows.{IsPostingsTable, compare_rows}
-use Rattle.index_v2.specs.declared.index_series.IndexSeries.{IndexSeries}
-use Rattle.index_v2.specs.Opened.{Opened}
+use Rattle.index_file.specs.declared.index_series.IndexSeries.{IndexSeries}
+use Rattle.index_file.specs.Opened.{Opened}
 use Rattle.index_v2.specs.Opening.{opened_at}
 use Rattle.index_v2.specs.PostingsLists.{values_of}
 use Rattle.index_v2.specs.RowOrder.{AreAscending}
-use Rattle.index_v2.specs.IndexFile.{Has, Holds, HasRow, IsIndex, AreValuesOf}
+use Rattle.index_file.specs.IndexFile.{Has, Holds, HasRow, IsIndex, AreValuesOf}
 use Rattle.index_v2.proofs.LabelsOwned.{some_bytes}
 use Rattle.index_v2.proofs.Members.{same_some}
 use Rattle.index_v2.proofs.OpeningLaws.{opened_again}

@@ -14,13 +14,13 @@ use Rattle.index_parts.specs.Postings.{IsNextPosting}
 use Rattle.index_parts.specs.PostingsReading.{posting_at, postings_at}
 use Rattle.index_parts.proofs.ListLaws.{list_again}
 use Rattle.index_parts.proofs.PostingsLaws.{posting_turn}
-use Rattle.index_v2.specs.declared.index_series.IndexSeries.{IndexSeries}
-use Rattle.index_v2.specs.Opened.{Opened}
+use Rattle.index_file.specs.declared.index_series.IndexSeries.{IndexSeries}
+use Rattle.index_file.specs.Opened.{Opened}
 use Rattle.index_v2.specs.Opening.{opened_at}
 use Rattle.index_v2.specs.RowOrder.{compare_row, AreAscending}
 use Rattle.index_v2.specs.PostingsLists.{row_of, list_of, postings_of}
 use Rattle.index_v2.specs.WholeReading.{present_at, all_at, lists_at, is_of_row, stray_from, gap_among, difference, unless_differ, whole_at}
-use Rattle.index_v2.specs.IndexFile.{Has, BelongsTo, Ascend, IsSeriesOf, IsListOf, IsIndex, Holds}
+use Rattle.index_file.specs.IndexFile.{Has, BelongsTo, Ascend, IsSeriesOf, IsListOf, IsIndex, Holds}
 use Rattle.index_v2.proofs.RowPlaces.{rows_total}
 use Rattle.index_v2.proofs.ValuesListed.{same_compare}
 use Rattle.index_v2.proofs.OpeningLaws.{opened_again}

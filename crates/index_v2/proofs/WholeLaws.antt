@@ -23,15 +23,15 @@ use Rattle.index_parts.specs.Postings.{IsNextPosting}
 use Rattle.index_parts.specs.PostingsReading.{posting_at, postings_at}
 use Rattle.index_parts.proofs.ListLaws.{list_found, list_again}
 use Rattle.index_parts.proofs.PostingsLaws.{posting_turn}
-use Rattle.index_v2.specs.declared.index_series.IndexSeries.{IndexSeries}
+use Rattle.index_file.specs.declared.index_series.IndexSeries.{IndexSeries}
 use Rattle.index_v2.specs.declared.refusal.IndexRefusal.{IndexRefusal}
 use Rattle.index_v2.specs.declared.refusal.IndexRefusal.TheVariants.{BadSection}
-use Rattle.index_v2.specs.Opened.{Opened}
+use Rattle.index_file.specs.Opened.{Opened}
 use Rattle.index_v2.specs.Opening.{refused_in}
 use Rattle.index_v2.specs.RowOrder.{AreAscending}
 use Rattle.index_v2.specs.PostingsLists.{row_of, list_of, postings_of}
 use Rattle.index_v2.specs.WholeReading.{present_at, all_at, lists_at, belongs, has_value, is_of_row, stray_from, gap_among, earlier, difference, unless_differ, whole_at}
-use Rattle.index_v2.specs.IndexFile.{Has, BelongsTo, IsListOf, AreListed, HasRow, Holds, IsOpened, IsIndex}
+use Rattle.index_file.specs.IndexFile.{Has, BelongsTo, IsListOf, AreListed, HasRow, Holds, IsOpened, IsIndex}
 use Rattle.index_v2.proofs.RowPlaces.{rows_total, table_ascends, no_rows_ascend, equal_texts}
 use Rattle.index_v2.proofs.ValuesListed.{same_compare}
 use Rattle.index_v2.proofs.LabelLaws.{numbered_found}

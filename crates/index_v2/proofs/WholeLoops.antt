@@ -6,7 +6,7 @@ use Rattle.std.proofs.lemmas.Option.{slice_get_within, get_or_from_slice_get, sl
 use Rattle.reading_core.specs.Reading.{◌>>=◌, refused_as, Gives}
 use Rattle.index_parts.specs.declared.postings_row.PostingsRow.{PostingsRow}
 use Rattle.index_parts.specs.PostingsReading.{postings_at}
-use Rattle.index_v2.specs.declared.index_series.IndexSeries.{IndexSeries}
+use Rattle.index_file.specs.declared.index_series.IndexSeries.{IndexSeries}
 use Rattle.index_v2.specs.declared.refusal.IndexRefusal.{IndexRefusal}
 use Rattle.index_v2.specs.Opening.{refused_in}
 use Rattle.index_v2.specs.RowOrder.{DoRise, AllRise}

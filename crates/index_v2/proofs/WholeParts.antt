@@ -11,14 +11,14 @@ use Rattle.label_sets.specs.Labels.{compare_sets}
 use Rattle.index_parts.specs.declared.refusal.PartRefusal.TheVariants as part
 use Rattle.index_parts.specs.declared.postings_row.PostingsRow.{PostingsRow}
 use Rattle.index_parts.specs.PostingsReading.{postings_at}
-use Rattle.index_v2.specs.declared.index_series.IndexSeries.{IndexSeries}
+use Rattle.index_file.specs.declared.index_series.IndexSeries.{IndexSeries}
 use Rattle.index_v2.specs.declared.refusal.IndexRefusal.{IndexRefusal}
 use Rattle.index_v2.specs.declared.refusal.IndexRefusal.TheVariants.{BadSeries}
 use Rattle.index_v2.specs.Opening.{refused_in}
 use Rattle.index_v2.specs.SeriesLabels.{numbered_at}
 use Rattle.index_v2.specs.RowOrder.{compare_row}
 use Rattle.index_v2.specs.WholeReading.{may_stand_behind, behind_at, all_at, lists_at, is_of_row, stray_from, gap_from, gap_of, gap_among, earlier, by_order}
-use Rattle.index_v2.specs.IndexFile.{Has, Ascend}
+use Rattle.index_file.specs.IndexFile.{Has, Ascend}
 use Rattle.index_v2.proofs.LabelReading.{lt_from_less, less_from_lt}
 use Rattle.index_v2.proofs.Members.{same_some}
 

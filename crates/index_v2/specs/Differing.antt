@@ -3,10 +3,10 @@ use Rattle.std.specs.Prelude.{◌≡◌, ◌≢◌, ◌⊎◌, ℕ, ◌<◌, Lis
 use Rattle.label_sets.specs.declared.label.Label.{Label}
 use Rattle.index_parts.specs.declared.postings_row.PostingsRow.{PostingsRow}
 use Rattle.index_parts.specs.Postings.{IsPostings}
-use Rattle.index_v2.specs.declared.index_series.IndexSeries.{IndexSeries}
-use Rattle.index_v2.specs.Opened.{Opened}
+use Rattle.index_file.specs.declared.index_series.IndexSeries.{IndexSeries}
+use Rattle.index_file.specs.Opened.{Opened}
 use Rattle.index_v2.specs.RowOrder.{StandsAt}
-use Rattle.index_v2.specs.IndexFile.{Has, IsSeriesOf, Ascend, IsListOf, AreListed}
+use Rattle.index_file.specs.IndexFile.{Has, IsSeriesOf, Ascend, IsListOf, AreListed}
 
 -- the row at a place does not list exactly its series
 abbrev pub ListsOthersAt : List ℕ → List PostingsRow → List (ℕ × IndexSeries) → ℕ → Type 0

@@ -10,7 +10,7 @@ use Rattle.index_parts.specs.SymbolsReading.{symbols_at}
 use Rattle.index_parts.specs.RowsReading.{postings_table_at}
 use Rattle.index_v2.specs.declared.refusal.IndexRefusal.{IndexRefusal}
 use Rattle.index_v2.specs.declared.refusal.IndexRefusal.TheVariants.{BadMagic, BadVersion, BadTocSum, BadSection, BadSeries, NoMemory}
-use Rattle.index_v2.specs.Opened.{Opened}
+use Rattle.index_file.specs.Opened.{Opened}
 
 -- a refusal of a part, as that of its section
 abbrev pub refused_in : ℕ → PartRefusal → IndexRefusal

@@ -34,7 +34,7 @@ pub struct IndexReader<'a> {
 
 impl<'a> Model for IndexReader<'a> {
     ghost use Rattle.std.specs.Prelude.{◌≡◌, Ok};
-    ghost use Rattle.index_v2.specs.Opened.{Opened};
+    ghost use Rattle.index_file.specs.Opened.{Opened};
     ghost use Rattle.reading_core.specs.Grammar.{IsBytes};
     ghost use Rattle.index_v2.specs.Opening.{opened_at};
 
@@ -47,10 +47,10 @@ impl<'a> Model for IndexReader<'a> {
 
 impl<'a> IndexReader<'a> {
     ghost use Rattle.std.specs.Prelude.{List, ℕ};
-    ghost use Rattle.index_v2.specs.Opened.{Opened};
+    ghost use Rattle.index_file.specs.Opened.{Opened};
     ghost use Rattle.index_v2.specs.Differing.{DifferFirstAt};
-    ghost use Rattle.index_v2.specs.IndexFile.{Has, IsOpened, IsSeriesOf, IsIndex, AreNumbersOf, AreValuesOf};
-    ghost use Rattle.index_v2.specs.declared.index_series.IndexSeries.{IndexSeries};
+    ghost use Rattle.index_file.specs.IndexFile.{Has, IsOpened, IsSeriesOf, IsIndex, AreNumbersOf, AreValuesOf};
+    ghost use Rattle.index_file.specs.declared.index_series.IndexSeries.{IndexSeries};
     ghost use Rattle.index_v2.specs.declared.refusal.IndexRefusal.{IndexRefusal};
 
     /// Reads what an index begins and ends with, its symbols and its postings table.

@@ -24,7 +24,7 @@ pub struct LentSeries<'a> {
 impl<'a> Model for LentSeries<'a> {
     ghost use Rattle.std.specs.Prelude.{map};
     ghost use Rattle.label_sets.specs.Labels.{IsLabelSet};
-    ghost use Rattle.index_v2.specs.declared.index_series.IndexSeries.{IndexSeries};
+    ghost use Rattle.index_file.specs.declared.index_series.IndexSeries.{IndexSeries};
     ghost use Rattle.index_v2.specs.LentLabels.{as_label};
 
     ghost Value = { IndexSeries };

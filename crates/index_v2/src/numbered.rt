@@ -2,9 +2,9 @@ ghost use Rattle.std.specs.Prelude.{◌≡◌, ◌⊎◌, ◌*◌, ◌≤◌, le
 ghost use Rattle.std.specs.Result.{IsOkAnd};
 ghost use Rattle.reading_core.specs.Reading.{Gives};
 ghost use Rattle.reading_core.specs.Grammar.{IsBytes};
-ghost use Rattle.index_v2.specs.declared.index_series.IndexSeries.{IndexSeries};
+ghost use Rattle.index_file.specs.declared.index_series.IndexSeries.{IndexSeries};
 ghost use Rattle.index_v2.specs.Budget.{text_bytes};
-ghost use Rattle.index_v2.specs.IndexFile.{IsSeriesOf};
+ghost use Rattle.index_file.specs.IndexFile.{IsSeriesOf};
 ghost use Rattle.index_v2.specs.SeriesLabels.{labelled_at, numbered_at};
 
 use crate::budget::{lent_text_bytes, spend, text_budget_of};

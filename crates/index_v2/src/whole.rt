@@ -5,10 +5,10 @@ ghost use Rattle.index_parts.specs.declared.toc.Toc.{Toc};
 ghost use Rattle.index_v2.specs.RowOrder.{AreSmall, AllRise};
 ghost use Rattle.std.specs.Result.{IsOkAnd};
 ghost use Rattle.reading_core.specs.Grammar.{IsBytes};
-ghost use Rattle.index_v2.specs.declared.index_series.IndexSeries.{IndexSeries};
+ghost use Rattle.index_file.specs.declared.index_series.IndexSeries.{IndexSeries};
 ghost use Rattle.index_v2.specs.Opening.{opened_at};
 ghost use Rattle.index_v2.specs.Budget.{members_of, series_bytes, list_bytes, text_bytes};
-ghost use Rattle.index_v2.specs.IndexFile.{IsIndex};
+ghost use Rattle.index_file.specs.IndexFile.{IsIndex};
 ghost use Rattle.index_v2.specs.Differing.{DifferFirstAt};
 ghost use Rattle.index_v2.specs.WholeReading.{present_at, may_stand_behind, behind_at, all_at, lists_at, whole_at};
 

@@ -3,7 +3,7 @@ ghost use Rattle.std.specs.Prelude.{IsTrue, Option, Some, None};
 ghost use Rattle.label_sets.specs.declared.label.Label.{Label};
 ghost use Rattle.index_parts.specs.Turns.{InOrderAfter};
 ghost use Rattle.index_parts.specs.SeriesEntry.{StartsAfter};
-ghost use Rattle.index_v2.specs.Written.{IsBehind};
+ghost use Rattle.index_writing.specs.Written.{IsBehind};
 
 use index_parts::ChunkPlace;
 use index_v2::IndexSeries;

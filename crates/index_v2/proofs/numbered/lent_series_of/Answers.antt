@@ -1,8 +1,8 @@
 use Rattle.index_parts.proofs.ListLaws.{found_from, only_from}
 use Rattle.index_v2.specs.declared.refusal.IndexRefusal.TheVariants.{NoMemory}
-use Rattle.index_v2.specs.declared.index_series.IndexSeries.{IndexSeries}
+use Rattle.index_file.specs.declared.index_series.IndexSeries.{IndexSeries}
 use Rattle.index_v2.specs.SeriesLabels.{numbered_at}
-use Rattle.index_v2.specs.IndexFile.{IsSeriesOf}
+use Rattle.index_file.specs.IndexFile.{IsSeriesOf}
 use Rattle.index_v2.proofs.LabelLaws.{numbered_found, numbered_again}
 use Rattle.index_v2.proofs.numbered.lent_series_of.Goals as goal
 

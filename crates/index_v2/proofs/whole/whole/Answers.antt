@@ -1,10 +1,10 @@
 use Rattle.std.proofs.Common.{List}
 use Rattle.index_parts.proofs.ListLaws.{found_from, only_from}
 use Rattle.index_v2.specs.declared.refusal.IndexRefusal.TheVariants.{NoMemory}
-use Rattle.index_v2.specs.declared.index_series.IndexSeries.{IndexSeries}
+use Rattle.index_file.specs.declared.index_series.IndexSeries.{IndexSeries}
 use Rattle.index_v2.specs.WholeReading.{whole_at}
-use Rattle.index_v2.specs.Opened.{Opened}
-use Rattle.index_v2.specs.IndexFile.{IsIndex}
+use Rattle.index_file.specs.Opened.{Opened}
+use Rattle.index_file.specs.IndexFile.{IsIndex}
 use Rattle.index_v2.proofs.OpeningLaws.{opened_found}
 use Rattle.index_v2.proofs.WholeLaws.{whole_found}
 use Rattle.index_v2.proofs.WholeAgain.{whole_again}

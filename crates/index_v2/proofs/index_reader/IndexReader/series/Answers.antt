@@ -1,6 +1,6 @@
 use Rattle.std.proofs.Common.{subst}
-use Rattle.index_v2.specs.Opened.{Opened}
-use Rattle.index_v2.specs.IndexFile.{IsSeriesOf}
+use Rattle.index_file.specs.Opened.{Opened}
+use Rattle.index_file.specs.IndexFile.{IsSeriesOf}
 use Rattle.index_v2.proofs.PostingsLaws.{opened_is}
 use Rattle.index_v2.proofs.FewLaws.{if_ok, series_few}
 use Rattle.index_v2.proofs.index_reader.IndexReader.series.Goals as goal
