@@ -1,8 +1,10 @@
 -- An index of version 2, apart from reading and writing: which bytes hold which series.
-use Rattle.std.specs.Prelude.{◌≡◌, ◌≢◌, ◌⊎◌, ℕ, ◌*◌, ◌<◌, ◌≤◌, ◌==◌, List, [], ◌∷◌, length, map, take, slice_get, Option, Some, None, MatchBool}
-use Rattle.std.specs.declared.cmp.Ordering.TheVariants.{Less}
+use Rattle.std.specs.Prelude.{◌≡◌, ◌≢◌, ◌⊎◌, ℕ, ◌*◌, ◌≤◌, ◌==◌, List, [], ◌∷◌, ◌++◌, length, map, take, slice_get, Some, MatchBool}
+use Rattle.std.specs.declared.cmp.Ordering.{Ordering}
+use Rattle.std.specs.List.{Contains}
+use Rattle.std.specs.List.Sorted.{IsStrictlySortedBy}
 use Rattle.label_sets.specs.declared.label.Label.{Label}
-use Rattle.label_sets.specs.Labels.{IsLabelSet, ComesBefore, compare_sets}
+use Rattle.label_sets.specs.Labels.{IsLabelSet, compare_sets, compare_texts}
 use Rattle.index_parts.specs.declared.postings_row.PostingsRow.{PostingsRow}
 use Rattle.index_parts.specs.Contents.{IsToc}
 use Rattle.index_parts.specs.Symbols.{IsSymbols}
@@ -14,9 +16,12 @@ use Rattle.index_file.specs.Opened.{Opened}
 
 -- ---- what an index begins and ends with, and its tables
 
+abbrev pub magic : List ℕ
+magic = 186 ∷ 170 ∷ 215 ∷ 0 ∷ []
+
 -- the magic number and the version
 abbrev pub header : List ℕ
-header = 186 ∷ 170 ∷ 215 ∷ 0 ∷ 2 ∷ []
+header = magic ++ 2 ∷ []
 
 -- A section that holds a list stands at its reference. The reference 0 says that there is none, and then the list is empty.
 abbrev pub Holds : {A : Type 0} → (List ℕ → ℕ → List A → Type 0) → List ℕ → ℕ → List A → Type 0
@@ -48,28 +53,22 @@ pub record IsSeriesOf (index : List ℕ) (symbols : List (List ℕ)) (number : �
   pub values_are : StandFor symbols values (map (λ l. l.value) series.labels)
   pub lawful : IsLabelSet series.labels
 
--- series ascend by their labels, behind another if there is one
-abbrev pub Ascend : Option IndexSeries → List IndexSeries → Type 0
-Ascend before [] = Unit {0}
-Ascend None (one ∷ list) = Ascend (Some one) list
-Ascend (Some before) (one ∷ list) = (compare_sets before.labels one.labels ≡ Less) × Ascend (Some one) list
+-- the order of series: by their labels
+abbrev pub compare_series : IndexSeries → IndexSeries → Ordering
+compare_series one other = compare_sets one.labels other.labels
 
 -- ---- postings
 
--- a member of a list
-abbrev pub Has : {A : Type 0} → List A → A → Type 0
-Has xs x = (place : ℕ) × (slice_get xs place ≡ Some x)
-
 -- A series belongs to the row of each of its labels; all series belong to the row of the empty pair.
 abbrev pub BelongsTo : PostingsRow → IndexSeries → Type 0
-BelongsTo row series = ((row.name ≡ []) × (row.value ≡ [])) ⊎ Has series.labels (record { name = row.name; value = row.value })
+BelongsTo row series = ((row.name ≡ []) × (row.value ≡ [])) ⊎ Contains series.labels (record { name = row.name; value = row.value })
 
 -- At a row's place stands a list of exactly the numbers of the listed series that belong to the row.
 pub record IsListOf (index : List ℕ) (listed : List (ℕ × IndexSeries)) (row : PostingsRow) : Type 0 where
   pub numbers : List ℕ
   pub stands : IsPostings index row.offset numbers
-  pub only : (number : ℕ) → Has numbers number → (series : IndexSeries) × Has listed (number, series) × BelongsTo row series
-  pub all : (number : ℕ) (series : IndexSeries) → Has listed (number, series) → BelongsTo row series → Has numbers number
+  pub only : (number : ℕ) → Contains numbers number → (series : IndexSeries) × Contains listed (number, series) × BelongsTo row series
+  pub all : (number : ℕ) (series : IndexSeries) → Contains listed (number, series) → BelongsTo row series → Contains numbers number
 
 -- the list of the table's first row; where there is no row there is no series
 abbrev pub AreListed : List ℕ → List PostingsRow → List ℕ → Type 0
@@ -78,36 +77,40 @@ AreListed index (row ∷ rows) numbers = IsPostings index row.offset numbers
 
 -- a row of this name and value stands in the table
 abbrev pub HasRow : List PostingsRow → Label → Type 0
-HasRow rows label = (row : PostingsRow) × Has rows row × (row.name ≡ label.name) × (row.value ≡ label.value)
+HasRow rows label = (row : PostingsRow) × Contains rows row × (row.name ≡ label.name) × (row.value ≡ label.value)
 
 -- ---- the whole
 
--- The bytes are an index of these series: those that the table's first row lists by their numbers, ascending by their
--- labels. Each row lists exactly its series, and each label of a series has its row. An index with series has symbols,
--- series and postings lists.
+-- The series that the table's first row lists by their numbers stand at these and ascend by their labels. An index with
+-- series has symbols, series and postings lists.
+pub record AreSeriesOf (opened : Opened) (listed : List (ℕ × IndexSeries)) : Type 0 where
+  pub numbers_are : AreListed opened.bytes opened.rows (map (λ one. one.0) listed)
+  pub present : (listed ≡ []) ⊎ ((opened.toc.symbols ≢ 0) × (opened.toc.series ≢ 0) × (opened.toc.postings ≢ 0))
+  pub stand : (number : ℕ) (series : IndexSeries) → Contains listed (number, series) → IsSeriesOf opened.bytes opened.symbols number series
+  pub ascend : IsStrictlySortedBy compare_series (map (λ one. one.1) listed)
+
+-- The bytes are an index of these series. Each row of the table lists exactly its series, and each label of a series has its
+-- row.
 pub record IsIndex (index : List ℕ) (list : List IndexSeries) : Type 0 where
   pub opened : Opened
   pub bytes_are : opened.bytes ≡ index
   pub is_opened : IsOpened opened
   pub listed : List (ℕ × IndexSeries)
   pub list_is : map (λ one. one.1) listed ≡ list
-  pub numbers_are : AreListed index opened.rows (map (λ one. one.0) listed)
-  pub present : (listed ≡ []) ⊎ ((opened.toc.symbols ≢ 0) × (opened.toc.series ≢ 0) × (opened.toc.postings ≢ 0))
-  pub series_are : (number : ℕ) (series : IndexSeries) → Has listed (number, series) → IsSeriesOf index opened.symbols number series
-  pub ascend : Ascend None list
-  pub rows_are : (row : PostingsRow) → Has opened.rows row → IsListOf index listed row
-  pub complete : (number : ℕ) (series : IndexSeries) → Has listed (number, series) → (label : Label) → Has series.labels label → HasRow opened.rows label
+  pub series_are : AreSeriesOf opened listed
+  pub rows_are : (row : PostingsRow) → Contains opened.rows row → IsListOf opened.bytes listed row
+  pub complete : (number : ℕ) (series : IndexSeries) → Contains listed (number, series) → (label : Label) → Contains series.labels label → HasRow opened.rows label
 
 -- In an index of a list, these are exactly the numbers of the listed series with a name and a value; two empty texts stand
 -- for all series.
 pub record AreNumbersOf (listed : List (ℕ × IndexSeries)) (name value numbers : List ℕ) : Type 0 where
-  pub only : (number : ℕ) → Has numbers number → (series : IndexSeries) × Has listed (number, series) × BelongsTo (record { name = name; value = value; offset = 0 }) series
-  pub all : (number : ℕ) (series : IndexSeries) → Has listed (number, series) → BelongsTo (record { name = name; value = value; offset = 0 }) series → Has numbers number
+  pub only : (number : ℕ) → Contains numbers number → (series : IndexSeries) × Contains listed (number, series) × BelongsTo (record { name = name; value = value; offset = 0 }) series
+  pub all : (number : ℕ) (series : IndexSeries) → Contains listed (number, series) → BelongsTo (record { name = name; value = value; offset = 0 }) series → Contains numbers number
 
 -- In an index of a list, these are the values under a name, ascending: exactly those for which the table has a row, and so
 -- each value that a listed series has under the name. A row may list no series. There is no value under an empty name.
 pub record AreValuesOf (rows : List PostingsRow) (list : List IndexSeries) (name : List ℕ) (values : List (List ℕ)) : Type 0 where
-  pub only : (value : List ℕ) → Has values value → (name ≢ []) × HasRow rows (record { name = name; value = value })
-  pub each : (value : List ℕ) → name ≢ [] → HasRow rows (record { name = name; value = value }) → Has values value
-  pub all : (series : IndexSeries) (value : List ℕ) → Has list series → Has series.labels (record { name = name; value = value }) → Has values value
-  pub ascend : (j k : ℕ) (one other : List ℕ) → j < k → slice_get values j ≡ Some one → slice_get values k ≡ Some other → ComesBefore one other
+  pub only : (value : List ℕ) → Contains values value → (name ≢ []) × HasRow rows (record { name = name; value = value })
+  pub each : (value : List ℕ) → name ≢ [] → HasRow rows (record { name = name; value = value }) → Contains values value
+  pub all : (series : IndexSeries) (value : List ℕ) → Contains list series → Contains series.labels (record { name = name; value = value }) → Contains values value
+  pub ascend : IsStrictlySortedBy compare_texts values

@@ -14,9 +14,9 @@ pub mod LabelsOwned
 pub mod Members
 pub mod WholeParts
 pub mod WholeLaws
-pub mod WholeAgain
+pub mod WholeRead
 pub mod LeastPlaces
-pub mod DifferingLaws
+pub mod Faults
 pub mod PostingsLaws
 pub mod FewLaws
 pub mod ValuesAgree

@@ -8,7 +8,7 @@ ghost use Rattle.index_v2.specs.SeriesLabels.{numbered_at};
 ghost use Rattle.index_v2.specs.Budget.{members_of, text_bytes};
 ghost use Rattle.index_v2.specs.WholeReading.{whole_at};
 ghost use Rattle.index_v2.specs.PostingsLists.{postings_of, values_of};
-ghost use Rattle.index_v2.specs.RowOrder.{DoRise};
+ghost use Rattle.std.specs.List.Sorted.{IsStrictlyIncreasing};
 
 use crate::numbered::{lent_series_of, series_of};
 use crate::opening::contents_of;
@@ -49,7 +49,8 @@ impl<'a> IndexReader<'a> {
     ghost use Rattle.std.specs.Prelude.{List, ℕ};
     ghost use Rattle.index_file.specs.Opened.{Opened};
     ghost use Rattle.index_v2.specs.Differing.{DifferFirstAt};
-    ghost use Rattle.index_file.specs.IndexFile.{Has, IsOpened, IsSeriesOf, IsIndex, AreNumbersOf, AreValuesOf};
+    ghost use Rattle.std.specs.List.{Contains};
+    ghost use Rattle.index_file.specs.IndexFile.{IsOpened, IsSeriesOf, IsIndex, AreNumbersOf, AreValuesOf};
     ghost use Rattle.index_file.specs.declared.index_series.IndexSeries.{IndexSeries};
     ghost use Rattle.index_v2.specs.declared.refusal.IndexRefusal.{IndexRefusal};
 
@@ -102,7 +103,7 @@ impl<'a> IndexReader<'a> {
         ensures only { (series : IndexSeries) → IsSeriesOf self.now.bytes self.now.symbols number series → (result ≡ Ok series) ⊎ (result ≡ Err IndexRefusal.NoMemory) }
 
         // In an index of a list the series that is listed under the number is read.
-        ensures agrees { (list : List IndexSeries) (is : IsIndex self.now.bytes list) (series : IndexSeries) → Has is.listed (number, series) → (result ≡ Ok series) ⊎ (result ≡ Err IndexRefusal.NoMemory) }
+        ensures agrees { (list : List IndexSeries) (is : IsIndex self.now.bytes list) (series : IndexSeries) → Contains is.listed (number, series) → (result ≡ Ok series) ⊎ (result ≡ Err IndexRefusal.NoMemory) }
 
         // The first refusal.
         ensures exact { Gives IndexRefusal.NoMemory (λ series. series) result (numbered_at self.now.bytes self.now.symbols number) }
@@ -129,7 +130,7 @@ impl<'a> IndexReader<'a> {
         ensures only { (series : IndexSeries) → IsSeriesOf self.now.bytes self.now.symbols number series → IsOkAnd result (λ found. found ≡ series) ⊎ (result ≡ Err IndexRefusal.NoMemory) }
 
         // In an index of a list the series that is listed under the number is read.
-        ensures agrees { (list : List IndexSeries) (is : IsIndex self.now.bytes list) (series : IndexSeries) → Has is.listed (number, series) → IsOkAnd result (λ found. found ≡ series) ⊎ (result ≡ Err IndexRefusal.NoMemory) }
+        ensures agrees { (list : List IndexSeries) (is : IsIndex self.now.bytes list) (series : IndexSeries) → Contains is.listed (number, series) → IsOkAnd result (λ found. found ≡ series) ⊎ (result ≡ Err IndexRefusal.NoMemory) }
 
         // The first refusal.
         ensures exact { Gives IndexRefusal.NoMemory (λ series. series) result (numbered_at self.now.bytes self.now.symbols number) }
@@ -149,7 +150,7 @@ impl<'a> IndexReader<'a> {
         ensures agrees { (list : List IndexSeries) (is : IsIndex self.now.bytes list) → MatchResult result (λ numbers. AreNumbersOf is.listed name.now value.now numbers) (λ e. e ≡ IndexRefusal.NoMemory) }
 
         // They ascend, whatever the index.
-        ensures rises { IfOk result (λ numbers. DoRise numbers) }
+        ensures rises { IfOk result IsStrictlyIncreasing }
 
         // The first refusal.
         ensures exact { Gives IndexRefusal.NoMemory (λ numbers. numbers) result (postings_of self.now name.now value.now) }

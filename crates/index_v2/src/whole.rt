@@ -1,8 +1,8 @@
-ghost use Rattle.std.specs.Prelude.{◌≡◌, ◌⊎◌, ◌+◌, ◌*◌, ◌-◌, ◌^◌, ◌<◌, ◌≤◌, ℕ, List, [], length, sum_by, slice_get, slice_index, map, zip, Option, Some, None, Ok, Err, MatchResult, IfOk, IfSome};
+ghost use Rattle.std.specs.Prelude.{◌≡◌, ◌⊎◌, ◌+◌, ◌*◌, ◌-◌, ◌^◌, ◌<◌, ◌≤◌, ℕ, List, All, length, sum_by, slice_get, None, Ok, Err, IfOk};
 ghost use Rattle.std.specs.Option.{option_copied};
 ghost use Rattle.reading_core.specs.Reading.{Gives, Answers};
 ghost use Rattle.index_parts.specs.declared.toc.Toc.{Toc};
-ghost use Rattle.index_v2.specs.RowOrder.{AreSmall, AllRise};
+ghost use Rattle.std.specs.List.Sorted.{IsStrictlyIncreasing};
 ghost use Rattle.std.specs.Result.{IsOkAnd};
 ghost use Rattle.reading_core.specs.Grammar.{IsBytes};
 ghost use Rattle.index_file.specs.declared.index_series.IndexSeries.{IndexSeries};
@@ -88,7 +88,7 @@ pub(crate) fn all_series(
     symbols: &Symbols<'_>,
     numbers: &[u64],
 ) -> Result<Vec<IndexSeries>, IndexRefusal>
-    requires { AreSmall numbers.now }
+    requires { All (λ n. n < 2 ^ 32) numbers.now }
     ensures as_many { IfOk result (λ series. length series.items ≡ length numbers.now) }
     ensures bounded { IfOk result (λ series. sum_by members_of series.items + sum_by (series_bytes index.now) numbers.now ≤ 8 * length index.now) }
     ensures texts { IfOk result (λ series. sum_by text_bytes series.items ≤ 64 * length index.now) }
@@ -114,7 +114,7 @@ pub(crate) fn all_lists(
     index: &[u8],
     rows: &Rows<'_>,
 ) -> Result<Vec<NumberList>, IndexRefusal>
-    ensures rise { IfOk result (λ lists. AllRise lists.items) }
+    ensures rise { IfOk result (λ lists. All IsStrictlyIncreasing lists.items) }
     ensures one_each { IfOk result (λ lists. length lists.items ≡ length rows.now) }
     ensures bounded { IfOk result (λ lists. sum_by length lists.items + sum_by (list_bytes index.now) rows.now ≤ 8 * length index.now) }
     ensures exact { Gives IndexRefusal.NoMemory (λ lists. lists.items) result (lists_at index.now rows.now) }

@@ -2,6 +2,7 @@
 use Rattle.std.proofs.Common.{◌≡◌, ◌≢◌, ℕ, ◌*◌, ◌<◌, ◌≤◌, false, List, [], ◌∷◌, ◌++◌, length, map, Result, Ok, Err, refl, sym, ap, ◌∙◌, subst, arith, inl, inr}
 use Rattle.std.specs.Prelude.{slice_get, option_map, unwrap_or, MatchBool, OnOk, ◌==◌}
 use Rattle.std.specs.List.{AllByRecursion}
+use Rattle.std.specs.List.Sorted.{IsStrictlySortedBy}
 use Rattle.std.proofs.lemmas.Bool.Decides.{nat_tests}
 use Rattle.label_sets.specs.Labels.{IsLabelSet}
 use Rattle.index_parts.specs.declared.postings_row.PostingsRow.{PostingsRow}
@@ -14,7 +15,7 @@ use Rattle.index_parts.specs.Symbols.{IsSymbols}
 use Rattle.index_file.specs.declared.index_series.IndexSeries.{IndexSeries}
 use Rattle.index_writing.specs.declared.parts.Parts.{Parts}
 use Rattle.index_file.specs.Opened.{Opened}
-use Rattle.index_file.specs.IndexFile.{Holds, IsOpened, IsIndex}
+use Rattle.index_file.specs.IndexFile.{compare_series, Holds, IsOpened, IsIndex}
 use Rattle.index_file.specs.LabelTable.{HasLabelIndices}
 use Rattle.index_writing.specs.SymbolsInUse.{symbols_of, raw_of}
 use Rattle.index_writing.specs.Aligned.{padded, places_at}
@@ -114,10 +115,12 @@ index_law list lawful shown = record {
   is_opened = is_opened list shown;
   listed = listed list;
   list_is = zip_seconds (numbers list) list (many list);
-  numbers_are = subst (λ (l : List ℕ). IsPostings (written list) (all_place list) l) (sym (zip_firsts (numbers list) list (many list))) (all_stands list shown.room shown.labels);
-  present = inr (symbols_present list, series_present list, postings_present list);
-  series_are = λ n s has. series_hold list n s shown.labels (series_shown list shown) (has_in (listed list) (n, s) has);
-  ascend = lawful.ascend;
+  series_are = record {
+    numbers_are = subst (λ (l : List ℕ). IsPostings (written list) (all_place list) l) (sym (zip_firsts (numbers list) list (many list))) (all_stands list shown.room shown.labels);
+    present = inr (symbols_present list, series_present list, postings_present list);
+    stand = λ n s has. series_hold list n s shown.labels (series_shown list shown) (has_in (listed list) (n, s) has);
+    ascend = subst (IsStrictlySortedBy compare_series) (sym (zip_seconds (numbers list) list (many list))) lawful.ascend;
+  };
   rows_are = λ row has. rows_hold list row shown.room shown.labels (has_in (table list) row has);
   complete = λ n s has label h. complete list n s label shown.labels (has_in (listed list) (n, s) has) (has_in s.labels label h);
 }

@@ -18,7 +18,7 @@ use Rattle.index_writing.specs.WriteSteps.{greatest, EachStands}
 use Rattle.index_writing.specs.Written.{HaveSmallNumbers, up_to_symbols, numbers_behind, list_texts, label_rows, table_rows, parts_of, with_series, with_label_indices, with_lists, list_places, written}
 use Rattle.index_writing.proofs.OrderedEntries.{In, in_all}
 use Rattle.index_writing.proofs.SortedTexts.{symbols_strict}
-use Rattle.index_writing.proofs.SymbolNumbers.{label_in, number_at, symbol_at}
+use Rattle.index_writing.proofs.SymbolNumbers.{in_has, label_in, number_at, symbol_at}
 use Rattle.index_writing.proofs.SeriesNumbers.{numbers_rise}
 use Rattle.index_writing.proofs.AlignedTexts.{places_many}
 use Rattle.index_writing.proofs.PartsLaws.{as_many_numbers, series_written}
@@ -26,7 +26,7 @@ use Rattle.index_writing.proofs.SmallNumbers.{parts_small}
 use Rattle.index_writing.proofs.ListPlaces.{StandsAt, each_stands, stands_on, list_stands}
 use Rattle.index_writing.proofs.TableRows.{row_with, row_of_all}
 use Rattle.index_writing.proofs.TableLaws.{IsNumbered, HasLabel, entries, are_rows, in_zip, row_label, row_only, row_all, label_row, name_text}
-use Rattle.index_writing.proofs.WrittenIndex.{has_in, in_has, in_numbers, zip_number, written_lists, written_series}
+use Rattle.index_writing.proofs.WrittenIndex.{has_in, in_numbers, zip_number, written_lists, written_series}
 
 -- ---- the parts by name
 

@@ -2,7 +2,7 @@
 use Rattle.std.proofs.Common.{◌≡◌, ℕ, ◌^◌, ◌<◌, ◌≤◌, List, [], ◌∷◌, ◌++◌, length, map, zip, Option, Some, None, refl, sym, ap, ◌∙◌, subst, arith, inl, inr, append_assoc}
 use Rattle.std.specs.Prelude.{slice_get, unwrap_or}
 use Rattle.std.specs.declared.cmp.Ordering.TheVariants.{Less}
-use Rattle.std.specs.List.{AllByRecursion, All}
+use Rattle.std.specs.List.{AllByRecursion, All, Contains}
 use Rattle.std.proofs.lemmas.List.{length-map}
 use Rattle.label_sets.specs.declared.label.Label.{Label}
 use Rattle.label_sets.specs.Labels.{IsLabelSet, compare_texts}
@@ -12,7 +12,7 @@ use Rattle.index_parts.specs.Symbols.{MayFollow, IsSymbols}
 use Rattle.index_parts.specs.LabelIndices.{IsLabelOffsets, label_index_text}
 use Rattle.index_file.specs.declared.index_series.IndexSeries.{IndexSeries}
 use Rattle.index_writing.specs.declared.label_groups.NameValues.{NameValues}
-use Rattle.index_file.specs.IndexFile.{Has, StandFor}
+use Rattle.index_file.specs.IndexFile.{StandFor}
 use Rattle.index_file.specs.LabelTable.{HasValue, IsLabelIndexOf, HasLabelIndices}
 use Rattle.index_writing.specs.SymbolsInUse.{symbols_of, number_of, symbol_of}
 use Rattle.index_writing.specs.LabelGroups.{names_of}
@@ -21,13 +21,13 @@ use Rattle.index_writing.specs.WriteSteps.{greatest}
 use Rattle.index_writing.specs.Written.{label_index_texts, list_texts, offset_rows, parts_of, with_series, with_label_indices, with_lists, label_index_places, toc_of, written}
 use Rattle.index_writing.proofs.OrderedEntries.{In, all_in, in_all, Rise}
 use Rattle.index_writing.proofs.SortedTexts.{symbols_strict}
-use Rattle.index_writing.proofs.SymbolNumbers.{label_in, number_at, symbol_at}
+use Rattle.index_writing.proofs.SymbolNumbers.{in_has, label_in, number_at, symbol_at}
 use Rattle.index_writing.proofs.AlignedTexts.{places_many}
 use Rattle.index_writing.proofs.Standing.{each_begins}
 use Rattle.index_writing.proofs.ListPlaces.{StandsAt, each_stands, stands_on, in_order, index_stands}
 use Rattle.index_writing.proofs.GroupedNames.{NameBefore, AreNamesOf, grouped_names, one_name}
 use Rattle.index_writing.proofs.TableLaws.{HasLabel, are_rows, in_zip, row_label, row_only, label_row, name_text, value_text, text_less}
-use Rattle.index_writing.proofs.WrittenIndex.{has_in, in_has, written_lists}
+use Rattle.index_writing.proofs.WrittenIndex.{has_in, written_lists}
 use Rattle.index_writing.proofs.IndexWritten.{numbers, rows, many, numbered, small_numbers}
 
 -- the labels of each series are a label set
@@ -208,12 +208,12 @@ number_stands : (list : List IndexSeries) (name n : ℕ) → HasLabel list name 
 number_stands list name n has =
     ap (slice_get (symbols_of list)) has.value_is ∙ number_at (symbols_of list) has.label.value (symbols_strict list) has.value_in ∙ ap Some (sym (value_text list name n has))
 
-index_only : (list : List IndexSeries) (name : NameValues) (value : List ℕ) → AreLawful list → In name (names list) → Has (map (symbol_of (symbols_of list)) name.values) value → HasValue list (text_of list name) value
+index_only : (list : List IndexSeries) (name : NameValues) (value : List ℕ) → AreLawful list → In name (names list) → Contains (map (symbol_of (symbols_of list)) name.values) value → HasValue list (text_of list name) value
 index_only list name value lawful h has =
     let found = from_mapped (symbol_of (symbols_of list)) name.values value (has_in (map (symbol_of (symbols_of list)) name.values) value has) in
     subst (λ (v : List ℕ). HasValue list (text_of list name) v) (sym found.2) (value_has list name found.0 lawful h found.1)
 
-index_all : (list : List IndexSeries) (name : NameValues) (value : List ℕ) → AreLawful list → In name (names list) → HasValue list (text_of list name) value → Has (map (symbol_of (symbols_of list)) name.values) value
+index_all : (list : List IndexSeries) (name : NameValues) (value : List ℕ) → AreLawful list → In name (names list) → HasValue list (text_of list name) value → Contains (map (symbol_of (symbols_of list)) name.values) value
 index_all list name value lawful h has =
     let symbols = symbols_of list in
     let found = value_found list (text_of list name) value lawful has in
@@ -234,18 +234,18 @@ index_of list name place room lawful h i = record {
 
 -- ---- the table
 
-row_index : (list : List IndexSeries) (name : List ℕ) (place : ℕ) → length (written list) ≤ greatest → AreLawful list → Has (table list) (name, place) → IsLabelIndexOf (written list) (symbols_of list) list name place
+row_index : (list : List IndexSeries) (name : List ℕ) (place : ℕ) → length (written list) ≤ greatest → AreLawful list → Contains (table list) (name, place) → IsLabelIndexOf (written list) (symbols_of list) list name place
 row_index list name place room lawful has =
     let found = pair_of (text_of list) (names list) (places list) name place (has_in (table list) (name, place) has) in
     subst (λ (t : List ℕ). IsLabelIndexOf (written list) (symbols_of list) list t place) (sym found.3) (index_of list found.0 place room lawful found.1 found.2)
 
-name_only : (list : List IndexSeries) (name : List ℕ) → AreLawful list → Has (map (text_of list) (names list)) name → (value : List ℕ) × HasValue list name value
+name_only : (list : List IndexSeries) (name : List ℕ) → AreLawful list → Contains (map (text_of list) (names list)) name → (value : List ℕ) × HasValue list name value
 name_only list name lawful has =
     let found = from_mapped (text_of list) (names list) name (has_in (map (text_of list) (names list)) name has) in
     let some = (are_names list lawful).some found.0 found.1 in
     (symbol_of (symbols_of list) some.0, subst (λ (t : List ℕ). HasValue list t (symbol_of (symbols_of list) some.0)) (sym found.2) (value_has list found.0 some.0 lawful found.1 some.1))
 
-name_all : (list : List IndexSeries) (name value : List ℕ) → AreLawful list → HasValue list name value → Has (map (text_of list) (names list)) name
+name_all : (list : List IndexSeries) (name value : List ℕ) → AreLawful list → HasValue list name value → Contains (map (text_of list) (names list)) name
 name_all list name value lawful has =
     let found = value_found list name value lawful has in
     in_has (map (text_of list) (names list)) name (subst (λ (t : List ℕ). In t (map (text_of list) (names list))) found.name_text (in_mapped (text_of list) (names list) found.one found.member))
@@ -265,8 +265,8 @@ label_table_law list room lawful toc symbols offsets =
       symbols_are = symbols;
       rows_are = subst (λ (t : List (List ℕ × ℕ)). IsLabelOffsets (written list) (toc_of (parts_of list)).label_offsets t) (table_is list) offsets;
       ascend = subst (λ (l : List (List ℕ)). InOrder MayFollow l) (sym texts) (texts_ascend list lawful);
-      only = λ name has. name_only list name lawful (subst (λ (l : List (List ℕ)). Has l name) texts has);
-      all = λ name value has. subst (λ (l : List (List ℕ)). Has l name) (sym texts) (name_all list name value lawful has);
+      only = λ name has. name_only list name lawful (subst (λ (l : List (List ℕ)). Contains l name) texts has);
+      all = λ name value has. subst (λ (l : List (List ℕ)). Contains l name) (sym texts) (name_all list name value lawful has);
       indices = λ name place has. row_index list name place room lawful has;
       first = first_place list;
     }

@@ -20,10 +20,10 @@ use Rattle.index_writing.proofs.OrderedEntries.{In, in_all, in_left, in_right, t
 
 -- ---- members by places
 
-pub contains_in : {A : Type 0} (x : A) (xs : List A) → In x xs → Contains xs x
-contains_in x [] h = absurd h
-contains_in x (y ∷ ys) (inl e) = (0, omega arith, sym e)
-contains_in x (y ∷ ys) (inr h) = let found = contains_in x ys h in (suc found.0, (let lt = found.1 in omega arith), found.2)
+pub in_has : {A : Type 0} (xs : List A) (x : A) → In x xs → Contains xs x
+in_has [] x h = absurd h
+in_has (y ∷ ys) x (inl e) = (0, omega arith, sym e)
+in_has (y ∷ ys) x (inr h) = let found = in_has ys x h in (suc found.0, (let lt = found.1 in omega arith), found.2)
 
 pub in_contains : {A : Type 0} (x : A) (xs : List A) (k : ℕ) → k < length xs → get_or xs k x ≡ x → In x xs
 in_contains x [] k lt is = absurd (omega arith)
@@ -38,7 +38,7 @@ same_bytes x y e = (bytes_decides x y).0 e
 pub symbol_in : (list : List IndexSeries) (text : List ℕ) → In text (texts_of list) → In text (symbols_of list)
 unfolding symbols_of
 symbol_in list text h =
-    let found = Contains-dedup nat_list_eq_equiv same_bytes (in_order is_lesser_text (texts_of list)) text (contains_in text (in_order is_lesser_text (texts_of list)) (to_order is_lesser_text text (texts_of list) h)) in
+    let found = Contains-dedup nat_list_eq_equiv same_bytes (in_order is_lesser_text (texts_of list)) text (in_has (in_order is_lesser_text (texts_of list)) text (to_order is_lesser_text text (texts_of list) h)) in
     in_contains text (dedup bytes_eq (in_order is_lesser_text (texts_of list))) found.0 found.1 found.2
 
 in_labels : (labels : List Label) (label : Label) → In label labels → In label.name (texts_of_labels labels) × In label.value (texts_of_labels labels)

@@ -2,7 +2,7 @@
 use Rattle.std.proofs.Common.{◌≡◌, ℕ, zero, suc, ◌*◌, ◌≤◌, List, [], ◌∷◌, ◌++◌, length, take, map, zip, Some, refl, sym, ap, ◌∙◌, arith, inl, inr, length-append, append_assoc}
 use Rattle.std.specs.Prelude.{slice_get}
 use Rattle.std.specs.Int.{w32, w64, to_be_bytes}
-use Rattle.std.specs.List.{flat_map}
+use Rattle.std.specs.List.{flat_map, Contains}
 use Rattle.wire_bytes.specs.Crc.{crc}
 use Rattle.wire_bytes.proofs.FixedLaws.{wide32, wide64}
 use Rattle.index_parts.specs.Contents.{toc_text, references_text, references_of}
@@ -12,27 +12,18 @@ use Rattle.index_parts.specs.SeriesEntry.{series_text}
 use Rattle.index_parts.specs.Symbols.{symbols_text}
 use Rattle.index_file.specs.declared.index_series.IndexSeries.{IndexSeries}
 use Rattle.index_writing.specs.declared.parts.Parts.{Parts}
-use Rattle.index_file.specs.IndexFile.{header, Has}
+use Rattle.index_file.specs.IndexFile.{header}
 use Rattle.index_writing.specs.SymbolsInUse.{symbols_of, raw_of}
 use Rattle.index_writing.specs.Written.{up_to_symbols, name_texts, list_texts, label_index_texts, table_rows, parts_of, with_series, with_label_indices, with_lists, label_index_places, list_places, with_label_offsets, with_table, toc_of, written}
 use Rattle.index_writing.proofs.OrderedEntries.{In}
+use Rattle.index_writing.proofs.SymbolNumbers.{in_contains}
 use Rattle.index_writing.proofs.PartsLaws.{front_longer, indices_longer, lists_longer, offsets_longer, table_longer}
 use Rattle.index_writing.proofs.Standing.{each_begins}
 
 -- ---- members, both ways
 
-at_place : {A : Type 0} (xs : List A) (k : ℕ) (x : A) → slice_get xs k ≡ Some x → In x xs
-at_place [] k x e = absurd cc
-at_place (y ∷ ys) zero x e = inl cc
-at_place (y ∷ ys) (suc k) x e = inr (at_place ys k x e)
-
-pub has_in : {A : Type 0} (xs : List A) (x : A) → Has xs x → In x xs
-has_in xs x has = at_place xs has.0 x has.1
-
-pub in_has : {A : Type 0} (xs : List A) (x : A) → In x xs → Has xs x
-in_has [] x h = absurd h
-in_has (y ∷ ys) x (inl e) = (0, ap Some (sym e))
-in_has (y ∷ ys) x (inr h) = let found = in_has ys x h in (suc found.0, found.1)
+pub has_in : {A : Type 0} (xs : List A) (x : A) → Contains xs x → In x xs
+has_in xs x has = in_contains x xs has.0 has.1 has.2
 
 pub in_numbers : (numbers : List ℕ) (list : List IndexSeries) (n : ℕ) → length numbers ≡ length list → In n numbers → (s : IndexSeries) × In (n, s) (zip numbers list)
 in_numbers [] list n many h = absurd h

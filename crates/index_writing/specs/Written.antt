@@ -3,6 +3,7 @@
 -- of 16, each label index and each postings list at a multiple of 4.
 use Rattle.std.specs.Prelude.{◌≡◌, ℕ, ◌-◌, ◌*◌, ◌/◌, ◌^◌, ◌<◌, List, [], ◌∷◌, ◌++◌, length, map, zip, slice_get, Some, None, option_map, unwrap_or}
 use Rattle.std.specs.List.{All, AllByRecursion}
+use Rattle.std.specs.List.Sorted.{IsStrictlySortedBy}
 use Rattle.std.specs.declared.cmp.Ordering.TheVariants.{Less}
 use Rattle.label_sets.specs.declared.label.Label.{Label}
 use Rattle.label_sets.specs.Labels.{compare_sets}
@@ -20,7 +21,7 @@ use Rattle.index_file.specs.declared.index_series.IndexSeries.{IndexSeries}
 use Rattle.index_writing.specs.declared.label_groups.LabelRow.{LabelRow}
 use Rattle.index_writing.specs.declared.label_groups.NameValues.{NameValues}
 use Rattle.index_writing.specs.declared.parts.Parts.{Parts}
-use Rattle.index_file.specs.IndexFile.{header, Ascend}
+use Rattle.index_file.specs.IndexFile.{header, compare_series}
 use Rattle.index_writing.specs.SymbolsInUse.{symbols_of, symbol_of, raw_of}
 use Rattle.index_writing.specs.LabelGroups.{all_entries, rows_of, names_of}
 use Rattle.index_writing.specs.Aligned.{each_at, places_at}
@@ -67,7 +68,7 @@ table_rows symbols rows (place ∷ places) = record { name = []; value = []; off
 
 -- Series that a writer takes: they ascend by their labels, and the chunks of each are in order and apart.
 pub record AreWritable (list : List IndexSeries) : Type 0 where
-  pub ascend : Ascend None list
+  pub ascend : IsStrictlySortedBy compare_series list
   pub chunks : AllByRecursion (λ series. InOrder StartsAfter series.chunks) list
 
 -- labels that are greater than those of the last series, if there is one
