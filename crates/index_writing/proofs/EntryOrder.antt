@@ -1,116 +1,61 @@
 -- The entries of series stand once each, and in order they strictly ascend.
-use Rattle.std.proofs.Common.{◌≡◌, ℕ, ◌<◌, true, false, List, [], ◌∷◌, ◌++◌, refl, sym, ap, ◌∙◌, subst, arith, inl, inr, ◌⊎◌}
+use Rattle.std.proofs.Common.{◌≡◌, ℕ, ◌<◌, List, [], ◌∷◌, ◌++◌, refl, sym, ap, subst, arith, inl, inr, ◌⊎◌}
 use Rattle.std.specs.declared.cmp.Ordering.{Ordering}
 use Rattle.std.specs.declared.cmp.Ordering.TheVariants.{Less, Equal, Greater}
-use Rattle.std.specs.Ordering.{nat_cmp, ordering_then, is_lt}
-use Rattle.std.proofs.lemmas.Bool.{true≢false, cases_lt}
-use Rattle.std.proofs.lemmas.Bool.Decides.{nat_tests}
+use Rattle.std.specs.Ordering.{nat_cmp, ordering_then}
+use Rattle.std.proofs.lemmas.Cmp.{ranked}
 use Rattle.std.specs.List.{AllByRecursion}
 use Rattle.index_parts.specs.declared.raw_series.RawSeries.{RawSeries}
 use Rattle.index_writing.specs.declared.label_groups.Entry.{Entry}
-use Rattle.index_writing.specs.LabelGroups.{entries_of, all_entries, is_lesser_entry}
-use Rattle.index_writing.proofs.OrderedEntries.{In, in_all, Rise, IsStrict, Once, in_either}
-use Rattle.index_writing.proofs.GroupedRows.{KeyBefore, Before}
-use Rattle.index_writing.proofs.Entries.{labels_with}
+use Rattle.index_writing.specs.LabelGroups.{entries_of, all_entries, compare_entries, is_lesser_entry}
+use Rattle.index_writing.proofs.OrderedEntries.{In, all_in, in_all, Rise, IsStrict, strict_order, Once, in_either}
+use Rattle.index_writing.proofs.LabelRows.{Before}
+use Rattle.index_writing.proofs.Entries.{labels_with, entries_total}
 
 -- ---- their order as a relation
 
--- how two numbers stand
-abbrev Stand : ℕ → ℕ → Type 0
-Stand n m = ((n < m) × (nat_cmp n m ≡ Less)) ⊎ (((n ≡ m) × (nat_cmp n m ≡ Equal)) ⊎ ((m < n) × (nat_cmp n m ≡ Greater)))
+cmp_less : (n m : ℕ) → nat_cmp n m ≡ Less → n < m
+cmp_less n m e = ranked n m Less (sym e)
 
-cmp_less : (n m : ℕ) → n < m → nat_cmp n m ≡ Less
-cmp_less n m lt = grind (arith, nat_tests)
+cmp_equal : (n m : ℕ) → nat_cmp n m ≡ Equal → n ≡ m
+cmp_equal n m e = ranked n m Equal (sym e)
 
-cmp_equal : (n m : ℕ) → n ≡ m → nat_cmp n m ≡ Equal
-cmp_equal n m e = grind (arith, nat_tests)
+then_less : (a b : Ordering) → ordering_then a b ≡ Less → (a ≡ Less) ⊎ ((a ≡ Equal) × (b ≡ Less))
+then_less Less b e = inl refl
+then_less Equal b e = inr (refl, e)
+then_less Greater b e = absurd cc
 
-cmp_greater : (n m : ℕ) → m < n → nat_cmp n m ≡ Greater
-cmp_greater n m lt = grind (arith, nat_tests)
+then_equal : (a b : Ordering) → ordering_then a b ≡ Equal → (a ≡ Equal) × (b ≡ Equal)
+then_equal Less b e = absurd cc
+then_equal Equal b e = (refl, e)
+then_equal Greater b e = absurd cc
 
-stands : (n m : ℕ) → Stand n m
-stands n m = elim (cases_lt n m) [
-  | inl lt ↦ inl (lt, cmp_less n m lt)
-  | inr le ↦ elim (cases_lt m n) [
-    | inl gt ↦ inr (inr (gt, cmp_greater n m gt))
-    | inr ge ↦ let e : n ≡ m = omega arith in inr (inl (e, cmp_equal n m e))
-  ]
-]
-
--- how two entries stand
-abbrev Entries : Entry → Entry → Type 0
-Entries x y = (Before x y × (is_lesser_entry x y ≡ true)) ⊎ ((x ≡ y) ⊎ (Before y x × (is_lesser_entry x y ≡ false)))
-
-then_is : (a b : Ordering) (a' : Ordering) → a ≡ a' → is_lt (ordering_then a b) ≡ is_lt (ordering_then a' b)
-then_is a b a' e = ap (λ o. is_lt (ordering_then o b)) e
-
-inner_is : (a b b' : Ordering) → b ≡ b' → is_lt (ordering_then a b) ≡ is_lt (ordering_then a b')
-inner_is a b b' e = ap (λ o. is_lt (ordering_then a o)) e
-
-same_entry : (x y : Entry) → x.name ≡ y.name → x.value ≡ y.value → x.series ≡ y.series → x ≡ y
-same_entry x y name value series = λ i. record { name = name i; value = value i; series = series i }
-
-entries : (x y : Entry) → Entries x y
-entries x y =
+before_from : (x y : Entry) → compare_entries x y ≡ Less → Before x y
+before_from x y e =
     let inner = ordering_then (nat_cmp x.value y.value) (nat_cmp x.series y.series) in
-    elim (stands x.name y.name) [
-      | inl l ↦ inl (record { is = inl (inl l.0) }, then_is (nat_cmp x.name y.name) inner Less l.1)
-      | inr r ↦ elim r [
-        | inl e ↦ elim (stands x.value y.value) [
-          | inl l ↦ inl (record { is = inl (inr (e.0, l.0)) }, then_is (nat_cmp x.name y.name) inner Equal e.1 ∙ then_is (nat_cmp x.value y.value) (nat_cmp x.series y.series) Less l.1)
-          | inr s ↦ elim s [
-            | inl f ↦ elim (stands x.series y.series) [
-              | inl l ↦ inl (record { is = inr (e.0, f.0, l.0) }, then_is (nat_cmp x.name y.name) inner Equal e.1 ∙ then_is (nat_cmp x.value y.value) (nat_cmp x.series y.series) Equal f.1 ∙ ap is_lt l.1)
-              | inr t ↦ elim t [
-                | inl g ↦ inr (inl (same_entry x y e.0 f.0 g.0))
-                | inr g ↦ inr (inr (record { is = inr (sym e.0, sym f.0, g.0) }, then_is (nat_cmp x.name y.name) inner Equal e.1 ∙ then_is (nat_cmp x.value y.value) (nat_cmp x.series y.series) Equal f.1 ∙ ap is_lt g.1))
-              ]
-            ]
-            | inr g ↦ inr (inr (record { is = inl (inr (sym e.0, g.0)) }, then_is (nat_cmp x.name y.name) inner Equal e.1 ∙ then_is (nat_cmp x.value y.value) (nat_cmp x.series y.series) Greater g.1))
-          ]
-        ]
-        | inr g ↦ inr (inr (record { is = inl (inl g.0) }, then_is (nat_cmp x.name y.name) inner Greater g.1))
+    elim (then_less (nat_cmp x.name y.name) inner e) [
+      | inl l ↦ record { is = inl (inl (cmp_less x.name y.name l)) }
+      | inr r ↦ elim (then_less (nat_cmp x.value y.value) (nat_cmp x.series y.series) r.1) [
+        | inl l ↦ record { is = inl (inr (cmp_equal x.name y.name r.0, cmp_less x.value y.value l)) }
+        | inr s ↦ record { is = inr (cmp_equal x.name y.name r.0, cmp_equal x.value y.value s.0, cmp_less x.series y.series s.1) }
       ]
     ]
 
-not_back : (x y : Entry) → Before x y → Before y x → ⊥
-not_back x y a b = elim a.is [
-  | inl k ↦ elim k [
-    | inl l ↦ elim b.is [ inl m ↦ elim m [ inl n ↦ omega arith | inr n ↦ omega arith ] | inr n ↦ omega arith ]
-    | inr l ↦ elim b.is [ inl m ↦ elim m [ inl n ↦ omega arith | inr n ↦ omega arith ] | inr n ↦ omega arith ]
-  ]
-  | inr l ↦ elim b.is [ inl m ↦ elim m [ inl n ↦ omega arith | inr n ↦ omega arith ] | inr n ↦ omega arith ]
-]
+same_entry : (x y : Entry) → compare_entries x y ≡ Equal → x ≡ y
+same_entry x y e =
+    let one = then_equal (nat_cmp x.name y.name) (ordering_then (nat_cmp x.value y.value) (nat_cmp x.series y.series)) e in
+    let two = then_equal (nat_cmp x.value y.value) (nat_cmp x.series y.series) one.1 in
+    let name = cmp_equal x.name y.name one.0 in
+    let value = cmp_equal x.value y.value two.0 in
+    let series = cmp_equal x.series y.series two.1 in
+    λ i. record { name = name i; value = value i; series = series i }
 
-key_trans : (a b c d e f : ℕ) → KeyBefore a b c d → KeyBefore c d e f → KeyBefore a b e f
-key_trans a b c d e f (inl l) (inl m) = inl (omega arith)
-key_trans a b c d e f (inl l) (inr m) = inl (omega arith)
-key_trans a b c d e f (inr l) (inl m) = inl (omega arith)
-key_trans a b c d e f (inr l) (inr m) = inr (l.0 ∙ m.0, omega arith)
+pub entries_strict : IsStrict is_lesser_entry (λ x y. compare_entries x y ≡ Less)
+entries_strict = strict_order compare_entries entries_total same_entry
 
-before_trans : (x y z : Entry) → Before x y → Before y z → Before x z
-before_trans x y z a b = elim a.is [
-  | inl k ↦ elim b.is [
-    | inl m ↦ record { is = inl (key_trans x.name x.value y.name y.value z.name z.value k m) }
-    | inr m ↦ record { is = inl (subst (λ (n : ℕ). KeyBefore x.name x.value n z.value) m.0 (subst (λ (v : ℕ). KeyBefore x.name x.value y.name v) m.1 k)) }
-  ]
-  | inr k ↦ elim b.is [
-    | inl m ↦ record { is = inl (subst (λ (n : ℕ). KeyBefore n x.value z.name z.value) (sym k.0) (subst (λ (v : ℕ). KeyBefore y.name v z.name z.value) (sym k.1) m)) }
-    | inr m ↦ record { is = inr (k.0 ∙ m.0, k.1 ∙ m.1, omega arith) }
-  ]
-]
-
-lesser_itself : (x y : Entry) → x ≡ y → is_lesser_entry x y ≡ true → ⊥
-lesser_itself x y e t =
-    let none : is_lesser_entry x x ≡ false = then_is (nat_cmp x.name x.name) (ordering_then (nat_cmp x.value x.value) (nat_cmp x.series x.series)) Equal (cmp_equal x.name x.name refl) ∙ then_is (nat_cmp x.value x.value) (nat_cmp x.series x.series) Equal (cmp_equal x.value x.value refl) ∙ ap is_lt (cmp_equal x.series x.series refl) in
-    true≢false (sym t ∙ sym (ap (is_lesser_entry x) e) ∙ none)
-
-pub entries_strict : IsStrict is_lesser_entry Before
-entries_strict = record {
-  yes = λ x y t. elim (entries x y) [ inl a ↦ a.0 | inr r ↦ elim r [ inl e ↦ absurd (lesser_itself x y e t) | inr b ↦ absurd (true≢false (sym t ∙ b.1)) ] ];
-  trans = before_trans;
-  other = λ x y f apart. elim (entries y x) [ inl a ↦ absurd (true≢false (sym a.1 ∙ f)) | inr r ↦ elim r [ inl e ↦ absurd (apart (sym e)) | inr b ↦ b.0 ] ];
-}
+pub before_all : (entries : List Entry) → Rise (λ x y. compare_entries x y ≡ Less) entries → Rise Before entries
+before_all [] up = tt
+before_all (x ∷ entries) up = (all_in (Before x) entries (λ y h. before_from x y (in_all (λ z. compare_entries x z ≡ Less) entries y up.0 h)), before_all entries up.1)
 
 -- ---- each stands once
 

@@ -25,7 +25,7 @@ use Rattle.index_writing.proofs.SymbolNumbers.{in_has, label_in, number_at, symb
 use Rattle.index_writing.proofs.AlignedTexts.{places_many}
 use Rattle.index_writing.proofs.Standing.{each_begins}
 use Rattle.index_writing.proofs.ListPlaces.{StandsAt, each_stands, stands_on, in_order, index_stands}
-use Rattle.index_writing.proofs.GroupedNames.{NameBefore, AreNamesOf, grouped_names, one_name}
+use Rattle.index_writing.proofs.LabelRows.{NameBefore, AreNamesOf, grouped_names, one_name}
 use Rattle.index_writing.proofs.TableLaws.{HasLabel, are_rows, in_zip, row_label, row_only, label_row, name_text, value_text, text_less}
 use Rattle.index_writing.proofs.WrittenIndex.{has_in, written_lists}
 use Rattle.index_writing.proofs.IndexWritten.{numbers, rows, many, numbered, small_numbers}
@@ -155,7 +155,7 @@ names_less list one other lawful h i lt =
 texts_after : (text : NameValues → List ℕ) (before : Option (List ℕ)) (ns : List NameValues) → ((one other : NameValues) → In one ns → In other ns → one.name < other.name → compare_texts (text one) (text other) ≡ Less) → AllByRecursion (λ name. MayFollow before (text name)) ns → Rise NameBefore ns → InOrderAfter MayFollow before (map text ns)
 texts_after text before [] less all up = tt
 texts_after text before (x ∷ ns) less all up =
-    (all.0, texts_after text (Some (text x)) ns (λ one other h i. less one other (inr h) (inr i)) (all_in (λ name. MayFollow (Some (text x)) (text name)) ns (λ y h. less x y (inl refl) (inr h) (in_all (NameBefore x) ns y up.0 h).is)) up.1)
+    (all.0, texts_after text (Some (text x)) ns (λ one other h i. less one other (inr h) (inr i)) (all_in (λ name. MayFollow (Some (text x)) (text name)) ns (λ y h. less x y (inl refl) (inr h) (in_all (NameBefore x) ns y up.0 h))) up.1)
 
 texts_ascend : (list : List IndexSeries) → AreLawful list → InOrder MayFollow (map (text_of list) (names list))
 texts_ascend list lawful =

@@ -2,8 +2,8 @@ pub mod AddedSeries
 pub mod AlignedTexts
 pub mod Entries
 pub mod EntryOrder
-pub mod GroupedNames
-pub mod GroupedRows
+pub mod GroupLaws
+pub mod LabelRows
 pub mod Groups
 pub mod IndexLaw
 pub mod IndexWritten

@@ -1,6 +1,10 @@
 -- A strictly ascending list by insertion: what it holds, and that it ascends.
-use Rattle.std.proofs.Common.{◌≡◌, Bool, true, false, cond, List, [], ◌∷◌, ◌++◌, refl, sym, subst, inl, inr, ◌⊎◌}
+use Rattle.std.proofs.Common.{◌≡◌, Bool, true, false, cond, List, [], ◌∷◌, ◌++◌, refl, sym, ap, ◌∙◌, subst, inl, inr, ◌⊎◌}
 use Rattle.std.specs.List.{AllByRecursion}
+use Rattle.std.specs.declared.cmp.Ordering.{Ordering}
+use Rattle.std.specs.declared.cmp.Ordering.TheVariants.{Less, Equal, Greater}
+use Rattle.std.specs.Ordering.{is_lt, ordering_reverse}
+use Rattle.std.specs.Cmp.{IsTotalOrder}
 use Rattle.label_sets.specs.Ordered.{placed, in_order}
 
 -- ---- members, from the front on
@@ -68,6 +72,25 @@ pub record IsStrict {A : Type 0} (less : A → A → Bool) (R : A → A → Type
   pub yes : (x y : A) → less x y ≡ true → R x y
   pub trans : (x y z : A) → R x y → R y z → R x z
   pub other : (x y : A) → less y x ≡ false → (x ≡ y → ⊥) → R x y
+
+-- the strict part of a total order
+strict_less : (o : Ordering) → is_lt o ≡ true → o ≡ Less
+strict_less Less e = refl
+strict_less Equal e = absurd cc
+strict_less Greater e = absurd cc
+
+module _ {A : Type 0} (c : A → A → Ordering) (total : IsTotalOrder c) (ties : (x y : A) → c x y ≡ Equal → x ≡ y) where
+  other_way : (x y : A) (o : Ordering) → o ≡ c x y → is_lt (c y x) ≡ false → (x ≡ y → ⊥) → c x y ≡ Less
+  other_way x y Less e not_back apart = sym e
+  other_way x y Equal e not_back apart = absurd (apart (ties x y (sym e)))
+  other_way x y Greater e not_back apart = let back : is_lt (c y x) ≡ true = ap is_lt (total.antisymm y x ∙ ap ordering_reverse (sym e)) in absurd cc
+
+  pub strict_order : IsStrict (λ x y. is_lt (c x y)) (λ x y. c x y ≡ Less)
+  strict_order = record {
+    yes = λ x y e. strict_less (c x y) e;
+    trans = total.trans;
+    other = λ x y e apart. other_way x y (c x y) refl e apart;
+  }
 
 -- no member stands twice
 abbrev pub Once : {A : Type 0} → List A → Type 0

@@ -16,11 +16,11 @@ use Rattle.index_file.specs.declared.index_series.IndexSeries.{IndexSeries}
 use Rattle.index_writing.specs.declared.label_groups.Entry.{Entry}
 use Rattle.index_writing.specs.declared.label_groups.LabelRow.{LabelRow}
 use Rattle.index_writing.specs.SymbolsInUse.{symbols_of, number_of, symbol_of, raw_of}
-use Rattle.index_writing.specs.LabelGroups.{all_entries, is_lesser_entry, rows_of}
+use Rattle.index_writing.specs.LabelGroups.{all_entries, compare_entries, is_lesser_entry, rows_of}
 use Rattle.index_writing.specs.Written.{label_rows, table_rows}
 use Rattle.index_writing.proofs.OrderedEntries.{In, in_all, Rise, from_order, to_order, rise_order}
-use Rattle.index_writing.proofs.GroupedRows.{Before, RowBefore, entry_in, AreRowsOf, grouped_rows}
-use Rattle.index_writing.proofs.EntryOrder.{entries_strict, once_entries}
+use Rattle.index_writing.proofs.LabelRows.{Before, RowBefore, entry_in, AreRowsOf, grouped_rows, row_entry, one_row}
+use Rattle.index_writing.proofs.EntryOrder.{entries_strict, before_all, once_entries}
 use Rattle.index_writing.proofs.SortedTexts.{symbols_strict}
 use Rattle.index_writing.proofs.SymbolNumbers.{label_in, symbol_at, number_less}
 use Rattle.index_writing.proofs.SeriesNumbers.{all_names, entry_from, entry_to}
@@ -38,7 +38,7 @@ pub are_rows : (list : List IndexSeries) (numbers : List ℕ) → IsNumbered lis
 unfolding rows_of
 are_rows list numbers known =
     grouped_rows (in_order is_lesser_entry (entries list numbers))
-    (rise_order is_lesser_entry Before entries_strict (entries list numbers) (once_entries (map (raw_of (symbols_of list)) list) numbers (all_names list known.lawful) known.rise))
+    (before_all (in_order is_lesser_entry (entries list numbers)) (rise_order is_lesser_entry (λ x y. compare_entries x y ≡ Less) entries_strict (entries list numbers) (once_entries (map (raw_of (symbols_of list)) list) numbers (all_names list known.lawful) known.rise)))
 
 -- ---- the label of a row
 
@@ -81,7 +81,7 @@ pub row_label : (list : List IndexSeries) (numbers : List ℕ) (row : LabelRow) 
 row_label list numbers row known h =
     let are = are_rows list numbers known in
     let one = are.some row h in
-    entry_label list numbers (entry_in row one.0) known (from_order is_lesser_entry (entry_in row one.0) (entries list numbers) (are.only row one.0 h one.1))
+    entry_label list numbers (entry_in row one.0) known (from_order is_lesser_entry (entry_in row one.0) (entries list numbers) (row_entry (in_order is_lesser_entry (entries list numbers)) (rows_of (entries list numbers)) row one.0 are h one.1))
 
 pub name_text : (list : List IndexSeries) (name value : ℕ) (has : HasLabel list name value) → symbol_of (symbols_of list) name ≡ has.label.name
 name_text list name value has = ap (symbol_of (symbols_of list)) has.name_is ∙ symbol_at (symbols_of list) has.label.name (symbols_strict list) has.name_in
@@ -161,23 +161,12 @@ table_in_order list numbers (place ∷ places) known =
 
 -- ---- whose lists they have
 
--- two rows of one label are one
-key_itself : (one other : LabelRow) → RowBefore one other → one.name ≡ other.name → one.value ≡ other.value → ⊥
-key_itself one other before name value = elim before.is [ inl lt ↦ omega arith | inr lt ↦ let less = lt.1 in omega arith ]
-
-one_row : (rows : List LabelRow) (one other : LabelRow) → Rise RowBefore rows → In one rows → In other rows → one.name ≡ other.name → one.value ≡ other.value → one ≡ other
-one_row [] one other up h i name value = absurd h
-one_row (x ∷ rows) one other up (inl a) (inl b) name value = a ∙ sym b
-one_row (x ∷ rows) one other up (inl a) (inr b) name value = absurd (key_itself x other (in_all (RowBefore x) rows other up.0 b) (ap (λ (r : LabelRow). r.name) (sym a) ∙ name) (ap (λ (r : LabelRow). r.value) (sym a) ∙ value))
-one_row (x ∷ rows) one other up (inr a) (inl b) name value = absurd (key_itself x one (in_all (RowBefore x) rows one up.0 a) (ap (λ (r : LabelRow). r.name) (sym b) ∙ sym name) (ap (λ (r : LabelRow). r.value) (sym b) ∙ sym value))
-one_row (x ∷ rows) one other up (inr a) (inr b) name value = one_row rows one other up.1 a b name value
-
 -- a row's numbers are those of the series with its label
 pub row_only : (list : List IndexSeries) (numbers : List ℕ) (row : LabelRow) (n : ℕ) → IsNumbered list numbers → In row (rows_of (entries list numbers)) → In n row.series
     → (s : IndexSeries) × In (n, s) (zip numbers list) × In (record { name = symbol_of (symbols_of list) row.name; value = symbol_of (symbols_of list) row.value }) s.labels
 row_only list numbers row n known h i =
     let symbols = symbols_of list in
-    let e = from_order is_lesser_entry (entry_in row n) (entries list numbers) ((are_rows list numbers known).only row n h i) in
+    let e = from_order is_lesser_entry (entry_in row n) (entries list numbers) (row_entry (in_order is_lesser_entry (entries list numbers)) (rows_of (entries list numbers)) row n (are_rows list numbers known) h i) in
     let found = entry_from symbols list numbers (entry_in row n) e in
     let s = found.0 in
     let l = found.2 in
@@ -191,7 +180,8 @@ pub label_row : (list : List IndexSeries) (numbers : List ℕ) (n : ℕ) (s : In
     → (row : LabelRow) × In row (rows_of (entries list numbers)) × (row.name ≡ number_of (symbols_of list) l.name) × (row.value ≡ number_of (symbols_of list) l.value) × In n row.series
 label_row list numbers n s l known h i =
     let e : Entry = record { name = number_of (symbols_of list) l.name; value = number_of (symbols_of list) l.value; series = n } in
-    (are_rows list numbers known).all e (to_order is_lesser_entry e (entries list numbers) (entry_to (symbols_of list) list numbers n s l h i))
+    let found = (are_rows list numbers known).all e (to_order is_lesser_entry e (entries list numbers) (entry_to (symbols_of list) list numbers n s l h i)) in
+    (found.0, found.1, ap (λ (k : ℕ × ℕ). k.0) found.2, ap (λ (k : ℕ × ℕ). k.1) found.2, found.3)
 
 pub row_all : (list : List IndexSeries) (numbers : List ℕ) (row : LabelRow) (n : ℕ) (s : IndexSeries) → IsNumbered list numbers → In row (rows_of (entries list numbers)) → In (n, s) (zip numbers list) → In (record { name = symbol_of (symbols_of list) row.name; value = symbol_of (symbols_of list) row.value }) s.labels → In n row.series
 row_all list numbers row n s known h i j =
