@@ -21,3 +21,4 @@ pub mod TableLaws
 pub mod TableRows
 pub mod Walks
 pub mod WrittenIndex
+pub mod ChunkOrder

@@ -1,4 +1,4 @@
-ghost use Rattle.std.specs.Prelude.{◌≡◌, ◌++◌, ◌∷◌, [], ◌≤◌, ◌<◌, ◌*◌, ◌^◌, ℕ, List, length, slice_get, option_map, unwrap_or, IfOk, OnOk, OnErr, MatchResult};
+ghost use Rattle.std.specs.Prelude.{◌↔◌, IsTrue, ◌≡◌, ◌++◌, ◌∷◌, [], ◌≤◌, ◌<◌, ◌*◌, ◌^◌, ℕ, List, length, slice_get, option_map, unwrap_or, IfOk, OnOk, OnErr, MatchResult};
 ghost use Rattle.std.specs.List.{All};
 ghost use Rattle.index_parts.specs.Turns.{InOrder};
 ghost use Rattle.index_parts.specs.SeriesEntry.{StartsAfter};
@@ -10,6 +10,7 @@ ghost use Rattle.index_file.specs.LabelTable.{HasLabelIndices};
 ghost use Rattle.index_writing.specs.WriteSteps.{greatest, Makes};
 ghost use Rattle.index_writing.specs.Written.{AreWritable, IsBehind, HaveSmallNumbers, first_or, up_to_symbols, with_series, with_label_indices, with_lists, with_label_offsets, with_table, table_rows, offset_rows, label_index_places, list_places, toc_of, written, parts_of};
 
+use crate::order::is_behind;
 use crate::parts::{Parts, put_parts};
 use crate::section_places::{put_label_indices, put_lists};
 use crate::section_tables::{put_label_offsets, put_table, put_toc};
@@ -53,8 +54,15 @@ impl IndexWriter {
         }
     }
 
+    /// Whether a series of these labels may be added: they are greater than those of the last one, if there is one.
+    pub fn may_add(&self, labels: &LabelSet) -> bool
+        ensures { IsTrue result ↔ IsBehind self.now labels.now }
+    {
+        is_behind(self.series.as_slice(), labels)
+    }
+
     /// Adds a series behind those that were added before. Its labels are greater than theirs, and its chunks follow one
-    /// another in time.
+    /// another in time: `may_add` and `are_in_order` test it.
     pub fn add(&mut self, labels: &LabelSet, chunks: &ChunkList) -> Result<(), NoMemory>
         requires greater { IsBehind self.old labels.now }
         requires chunks { InOrder StartsAfter chunks.now }

@@ -3,6 +3,7 @@
 
 mod index_writer;
 mod label_groups;
+mod order;
 mod parts;
 mod section_places;
 mod section_tables;
@@ -10,4 +11,5 @@ mod symbols_in_use;
 mod write_refusal;
 
 pub use index_writer::IndexWriter;
+pub use order::are_in_order;
 pub use write_refusal::IndexWriteRefusal;
