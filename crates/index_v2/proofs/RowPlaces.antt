@@ -153,6 +153,10 @@ held_by index reference rows false is = table_ascends index reference rows is
 pub held_ascends : (index : List ℕ) (reference : ℕ) (rows : List PostingsRow) → Holds IsPostingsTable index reference rows → IsStrictlySortedBy compare_rows rows
 held_ascends index reference rows holds = held_by index reference rows (reference == 0) holds
 
+pub no_rows_ascend : IsStrictlySortedBy compare_rows []
+unfolding IsStrictlySortedBy
+no_rows_ascend = tt
+
 pub no_row_stands : (name value : List ℕ) → StandsAt [] name value 0
 no_row_stands name value = record { within = omega arith; below = λ k row lt at. absurd cc; above = λ k row le at. absurd cc }
 

@@ -33,7 +33,7 @@ module _ {A : Type 0} (p : A → Bool) where
   kept (y ∷ ys) zero x at e =
       let same : y ≡ x = same_Some y x at in
       let here : p y ≡ true = ap p same ∙ e in
-      rw here (rw same (first_member x (filter p ys)))
+      rw here (subst (λ (z : A). Contains (z ∷ filter p ys) x) (sym same) (first_member x (filter p ys)))
   kept (y ∷ ys) (suc place) x at e =
       let others = kept ys place x at e in
       by_bool {P = Contains (filter p (y ∷ ys)) x} (p y)
@@ -46,7 +46,7 @@ module _ {A : Type 0} (p : A → Bool) where
 module _ {A B : Type 0} (f : A → B) where
   mapped_at : (xs : List A) (place : ℕ) (x : A) → slice_get xs place ≡ Some x → Contains (map f xs) (f x)
   mapped_at [] place x at = absurd cc
-  mapped_at (y ∷ ys) zero x at = rw (same_Some y x at) (first_member (f x) (map f ys))
+  mapped_at (y ∷ ys) zero x at = subst (λ (z : A). Contains (f z ∷ map f ys) (f x)) (sym (same_Some y x at)) (first_member (f x) (map f ys))
   mapped_at (y ∷ ys) (suc place) x at = later_member (f y) (map f ys) (f x) (mapped_at ys place x at)
 
   mapped : (xs : List A) (x : A) → Contains xs x → Contains (map f xs) (f x)

@@ -1,6 +1,9 @@
 pub use Rattle.index_parts.specs
-pub use Rattle.index_file.specs
-pub use Rattle.index_writing.specs
+pub use Rattle.index_file.specs.Opened
+pub use Rattle.index_file.specs.IndexFile
+pub use Rattle.index_file.specs.LabelTable
+pub use Rattle.index_writing.specs.WriteSteps
+pub use Rattle.index_writing.specs.Written
 pub mod Opening
 pub mod LentLabels
 pub mod SeriesLabels

@@ -37,7 +37,9 @@ fn belongs(name: &str, value: &str, series: &IndexSeries) -> bool
 fn is_of_row(numbers: &[u64], series: &[IndexSeries], row: (&str, &str, u64), number: u64) -> bool
     requires rise { IsStrictlyIncreasing numbers.now }
     requires as_many { length numbers.now ≡ length series.now }
-    ensures { result ≡ is_of_row (zip numbers.now series.now) (record { name = row.entry.0.now; value = row.entry.1.now; offset = row.entry.2 }) number }
+    ensures { result
+        ≡ is_of_row (zip numbers.now series.now)
+        (record { name = row.entry.0.now; value = row.entry.1.now; offset = row.entry.2 }) number }
 {
     match numbers.binary_search(&number) {
         Ok(place) => belongs(row.0, row.1, &series[place]),
@@ -49,7 +51,10 @@ fn is_of_row(numbers: &[u64], series: &[IndexSeries], row: (&str, &str, u64), nu
 fn are_of_row(numbers: &[u64], series: &[IndexSeries], row: (&str, &str, u64), list: &[u64]) -> bool
     requires rise { IsStrictlyIncreasing numbers.now }
     requires as_many { length numbers.now ≡ length series.now }
-    ensures { result ≡ list_all (is_of_row (zip numbers.now series.now) (record { name = row.entry.0.now; value = row.entry.1.now; offset = row.entry.2 })) list.now }
+    ensures { result
+        ≡ list_all (is_of_row (zip numbers.now series.now)
+        (record { name = row.entry.0.now; value = row.entry.1.now; offset = row.entry.2 }))
+        list.now }
 {
     for number in list {
         if !is_of_row(numbers, series, row, *number) {

@@ -79,7 +79,8 @@ impl<'a> LentSeries<'a> {
         at: u64,
         room: LentSeries<'a>,
     ) -> Result<LentSeries<'a>, PartRefusal>
-        ensures { Gives PartRefusal.NoMemory (λ series. series) result (labelled_at index.now symbols.now at) }
+        ensures { Gives PartRefusal.NoMemory
+            (λ series. series) result (labelled_at index.now symbols.now at) }
     {
         let LentSeries { labels, chunks } = room;
         let (count, cursor) = before_labels(index, at)?;

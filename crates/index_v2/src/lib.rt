@@ -18,7 +18,7 @@ mod whole;
 
 pub use index_file::{IndexSeries, IndexSeriesList};
 pub use index_reader::IndexReader;
-pub use index_writing::{IndexWriteRefusal, IndexWriter};
+pub use index_writing::{IndexWriteRefusal, IndexWriter, are_in_order};
 pub use lent_label::LentLabel;
 pub use lent_series::LentSeries;
 pub use refusal::IndexRefusal;

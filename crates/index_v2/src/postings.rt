@@ -22,7 +22,8 @@ pub(crate) fn list_at(alloc: Global, index: &[u8], at: u64) -> Result<NumberList
     ensures rise { IfOk result IsStrictlyIncreasing }
     ensures small { IfOk result (All (λ n. n < 2 ^ 32)) }
     ensures few { IfOk result (λ numbers. 4 * length numbers ≤ length index.now) }
-    ensures exact { Gives IndexRefusal.NoMemory (λ numbers. numbers) result (refused_as (refused_in 5) (postings_at index.now at)) }
+    ensures exact { Gives IndexRefusal.NoMemory
+        (λ numbers. numbers) result (refused_as (refused_in 5) (postings_at index.now at)) }
 {
     match read_postings(alloc, index, at) {
         Ok(numbers) => Ok(numbers),
@@ -41,7 +42,8 @@ pub(crate) fn list_of(
     ensures rise { IfOk result IsStrictlyIncreasing }
     ensures small { IfOk result (All (λ n. n < 2 ^ 32)) }
     ensures few { IfOk result (λ numbers. 4 * length numbers ≤ length index.now) }
-    ensures exact { Gives IndexRefusal.NoMemory (λ numbers. numbers) result (list_of index.now (row_of rows.now name.now value.now)) }
+    ensures exact { Gives IndexRefusal.NoMemory
+        (λ numbers. numbers) result (list_of index.now (row_of rows.now name.now value.now)) }
 {
     match rows.place_of(name, value) {
         Ok(place) => match rows.get(place) {

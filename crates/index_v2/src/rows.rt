@@ -49,7 +49,9 @@ impl<'a> Rows<'a> {
     /// The name, the value and the place of a row.
     #[inline(always)]
     pub(crate) fn get(&self, place: usize) -> Option<(&'a str, &'a str, u64)>
-        ensures { option_map (λ row. record { name = row.0.now; value = row.1.now; offset = row.2 }) result ≡ slice_get self.now place }
+        ensures { option_map
+            (λ row. record { name = row.0.now; value = row.1.now; offset = row.2 }) result
+            ≡ slice_get self.now place }
     {
         match &self.table {
             None => None,
@@ -86,7 +88,8 @@ impl<'a> Rows<'a> {
         index: &'a [u8],
         reference: u64,
     ) -> Result<Rows<'a>, IndexRefusal>
-        ensures { Gives IndexRefusal.NoMemory (λ rows. rows) result (held_at 6 postings_table_at index.now reference) }
+        ensures { Gives IndexRefusal.NoMemory
+            (λ rows. rows) result (held_at 6 postings_table_at index.now reference) }
     {
         if reference == 0 {
             return Ok(Rows { table: None });
@@ -101,7 +104,10 @@ impl<'a> Rows<'a> {
 /// The order of rows: by name and then by value.
 #[inline(always)]
 fn compare_row(row: (&str, &str, u64), name: &str, value: &str) -> Ordering
-    ensures { result ≡ compare_row (record { name = row.entry.0.now; value = row.entry.1.now; offset = row.entry.2 }) name.now value.now }
+    ensures { result
+        ≡ compare_row
+        (record { name = row.entry.0.now; value = row.entry.1.now; offset = row.entry.2 }) name.now
+        value.now }
 {
     match row.0.cmp(name) {
         Ordering::Equal => row.1.cmp(value),

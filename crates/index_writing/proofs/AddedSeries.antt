@@ -1,5 +1,5 @@
 -- A list of series that a writer takes, with one more behind it.
-use Rattle.std.proofs.Common.{◌≡◌, ◌-◌, List, [], ◌∷◌, ◌++◌, length, Some, refl, sym, subst}
+use Rattle.std.proofs.Common.{◌≡◌, ◌-◌, List, [], ◌∷◌, ◌++◌, length, Some, refl, sym, ap, ◌∙◌, subst, arith}
 use Rattle.std.specs.Prelude.{slice_get}
 use Rattle.std.specs.List.{AllByRecursion}
 use Rattle.std.specs.List.Sorted.{IsStrictlySortedBy}
@@ -19,13 +19,18 @@ all_more : {A : Type 0} (P : A → Type 0) (xs : List A) (x : A) → AllByRecurs
 all_more P [] x all p = (p, tt)
 all_more P (y ∷ xs) x all p = (all.0, all_more P xs x all.1 p)
 
-behind_all : (list : List IndexSeries) (one : IndexSeries) → IsStrictlySortedBy compare_series list → ((last : IndexSeries) → slice_get list (length list - 1) ≡ Some last → compare_series last one ≡ Less) → AllByRecursion (λ s. compare_series s one ≡ Less) list
+behind_from : (x : IndexSeries) (list : List IndexSeries) (one : IndexSeries) → IsStrictlySortedBy compare_series (x ∷ list) → ((last : IndexSeries) → slice_get (x ∷ list) (length list) ≡ Some last → compare_series last one ≡ Less) → AllByRecursion (λ s. compare_series s one ≡ Less) (x ∷ list)
 unfolding IsStrictlySortedBy
-behind_all [] one up behind = tt
-behind_all (x ∷ []) one up behind = (behind x refl, tt)
-behind_all (x ∷ y ∷ list) one up behind =
-    let others = behind_all (y ∷ list) one up.1 (λ last at. behind last at) in
+behind_from x [] one up behind = (behind x refl, tt)
+behind_from x (y ∷ list) one up behind =
+    let others = behind_from y list one up.1 (λ last at. behind last at) in
     (series_total.trans x y one up.0.0 others.0, others)
+
+behind_all : (list : List IndexSeries) (one : IndexSeries) → IsStrictlySortedBy compare_series list → IsBehind list one.labels → AllByRecursion (λ s. compare_series s one ≡ Less) list
+behind_all [] one up behind = tt
+behind_all (x ∷ list) one up behind =
+    let place : length (x ∷ list) - 1 ≡ length list = omega arith in
+    behind_from x list one up (λ last at. behind last (ap (slice_get (x ∷ list)) place ∙ at))
 
 ascend_more : (list : List IndexSeries) (one : IndexSeries) → IsStrictlySortedBy compare_series list → AllByRecursion (λ s. compare_series s one ≡ Less) list → IsStrictlySortedBy compare_series (list ++ one ∷ [])
 unfolding IsStrictlySortedBy
@@ -43,3 +48,7 @@ writable_added list view new labels given chunks apart lawful seen behind same o
     let one : IndexSeries = record { labels = labels; chunks = chunks } in
     let greater : IsBehind list labels = subst (λ (l : List IndexSeries). IsBehind l labels) (sym seen) (subst (λ (l : List Label). IsBehind view l) (sym same) behind) in
     writable_more list new one lawful greater (subst (λ (l : List ChunkPlace). InOrder StartsAfter l) (sym alike) ordered) is
+
+pub none_writable : AreWritable []
+unfolding IsStrictlySortedBy
+none_writable = record { ascend = tt; chunks = tt }

@@ -66,7 +66,8 @@ impl IndexWriter {
     pub fn add(&mut self, labels: &LabelSet, chunks: &ChunkList) -> Result<(), NoMemory>
         requires greater { IsBehind self.old labels.now }
         requires chunks { InOrder StartsAfter chunks.now }
-        ensures ok { OnOk result (self.new ≡ self.old ++ record { labels = labels.now; chunks = chunks.now } ∷ []) }
+        ensures ok { OnOk result
+            (self.new ≡ self.old ++ record { labels = labels.now; chunks = chunks.now } ∷ []) }
         ensures err { OnErr result (self.new ≡ self.old) }
     {
         let series = IndexSeries {
@@ -80,7 +81,9 @@ impl IndexWriter {
     /// The index of the series that were added.
     pub fn finish(self) -> Result<Blob, IndexWriteRefusal>
         // What is written is exactly the one text, which is too large exactly where it passes the greatest length.
-        ensures exact { MatchResult result (λ blob. (blob ≡ written self) × (length (written self) ≤ greatest)) (λ e. e ≡ IndexWriteRefusal.TooLarge → greatest < length (written self)) }
+        ensures exact { MatchResult result
+            (λ blob. (blob ≡ written self) × (length (written self) ≤ greatest))
+            (λ e. e ≡ IndexWriteRefusal.TooLarge → greatest < length (written self)) }
 
         // It is an index of the series that were added.
         ensures index { IfOk result (λ blob. IsIndex blob self) }
@@ -133,11 +136,20 @@ fn put_tables(
     requires label_indices { label_indices ≡ label_index_places parts.now }
     requires lists { lists ≡ list_places parts.now }
     ensures makes { Makes result out.new.items (with_table parts.now) }
-    ensures stands { InOrder MayComeAfter (table_rows parts.now.symbols parts.now.rows (list_places parts.now)) → (after : List ℕ) → OnOk result (IsPostingsTable (out.new.items ++ after) (length (with_label_offsets parts.now)) (table_rows parts.now.symbols parts.now.rows (list_places parts.now))) }
-    ensures offsets_stand { (after : List ℕ) → OnOk result (IsLabelOffsets (out.new.items ++ after) (length (with_lists parts.now)) (offset_rows parts.now)) }
-    ensures label_indices { IfOk result (λ places. places.label_indices ≡ label_index_places parts.now) }
+    ensures stands { InOrder MayComeAfter
+        (table_rows parts.now.symbols parts.now.rows (list_places parts.now)) → (after : List ℕ)
+        → OnOk result
+        (IsPostingsTable (out.new.items ++ after) (length (with_label_offsets parts.now))
+        (table_rows parts.now.symbols parts.now.rows (list_places parts.now))) }
+    ensures offsets_stand { (after : List ℕ)
+        → OnOk result
+        (IsLabelOffsets (out.new.items ++ after) (length (with_lists parts.now))
+        (offset_rows parts.now)) }
+    ensures label_indices { IfOk result
+        (λ places. places.label_indices ≡ label_index_places parts.now) }
     ensures lists { IfOk result (λ places. places.lists ≡ list_places parts.now) }
-    ensures label_offsets { IfOk result (λ places. places.label_offsets ≡ length (with_lists parts.now)) }
+    ensures label_offsets { IfOk result
+        (λ places. places.label_offsets ≡ length (with_lists parts.now)) }
     ensures table { IfOk result (λ places. places.table ≡ length (with_label_offsets parts.now)) }
 {
     let symbols = parts.symbols.members();
@@ -162,7 +174,9 @@ fn first_or(places: &[u64], other: u64) -> u64
 /// The place of the first series, or that behind the symbols.
 fn series_place(parts: &Parts) -> u64
     requires small { All (λ number. number < 2 ^ 32) parts.now.numbers }
-    ensures { result ≡ unwrap_or (option_map (λ number. 16 * number) (slice_get parts.now.numbers 0)) parts.now.symbols_end }
+    ensures { result
+        ≡ unwrap_or (option_map
+        (λ number. 16 * number) (slice_get parts.now.numbers 0)) parts.now.symbols_end }
 {
     match parts.numbers.members().first() {
         Some(number) => 16 * *number,
@@ -208,7 +222,9 @@ fn fill(out: &mut Vec<u8>, list: &[IndexSeries]) -> Result<(), IndexWriteRefusal
 
 fn text_of(alloc: Global, list: &[IndexSeries]) -> Result<Vec<u8>, IndexWriteRefusal>
     requires { AreWritable list.now }
-    ensures exact { MatchResult result (λ out. (out.items ≡ written list.now) × (length (written list.now) ≤ greatest)) (λ e. e ≡ IndexWriteRefusal.TooLarge → greatest < length (written list.now)) }
+    ensures exact { MatchResult result
+        (λ out. (out.items ≡ written list.now) × (length (written list.now) ≤ greatest))
+        (λ e. e ≡ IndexWriteRefusal.TooLarge → greatest < length (written list.now)) }
     ensures index { IfOk result (λ out. IsIndex out.items list.now) }
     ensures label_indices { IfOk result (λ out. HasLabelIndices out.items list.now) }
 {

@@ -40,7 +40,10 @@ fn add_entries(
     series: u64,
 ) -> Result<(), NoMemory>
     requires { length names.now ≡ length values.now }
-    ensures { OnOk result (entries.new.items ≡ entries.old.items ++ map (λ label. record { name = label.0; value = label.1; series = series }) (zip names.now values.now)) }
+    ensures { OnOk result
+        (entries.new.items ≡ entries.old.items ++ map
+        (λ label. record { name = label.0; value = label.1; series = series })
+        (zip names.now values.now)) }
 {
     for (place, name) in names.iter().enumerate() {
         let value = values[place];
@@ -97,7 +100,10 @@ fn next_row(
     row: LabelRow,
     entry: Entry,
 ) -> Result<LabelRow, NoMemory>
-    ensures { IfOk result (λ next. MatchBool (have_same_label row (row_of_entry entry)) ((rows.new.items ≡ rows.old.items) × (next ≡ join_series row (row_of_entry entry))) ((rows.new.items ≡ rows.old.items ++ row ∷ []) × (next ≡ row_of_entry entry))) }
+    ensures { IfOk result
+        (λ next. MatchBool (have_same_label row (row_of_entry entry))
+        ((rows.new.items ≡ rows.old.items) × (next ≡ join_series row (row_of_entry entry)))
+        ((rows.new.items ≡ rows.old.items ++ row ∷ []) × (next ≡ row_of_entry entry))) }
 {
     let mut row = row;
     if row.name == entry.name && row.value == entry.value {
@@ -109,7 +115,9 @@ fn next_row(
 }
 
 fn rows_behind(alloc: Global, first: Entry, others: &[Entry]) -> Result<Vec<LabelRow>, NoMemory>
-    ensures { IfOk result (λ rows. rows.items ≡ grouped have_same_label join_series (map row_of_entry (first ∷ others.now))) }
+    ensures { IfOk result
+        (λ rows. rows.items
+        ≡ grouped have_same_label join_series (map row_of_entry (first ∷ others.now))) }
 {
     let mut rows = Vec::new(alloc);
     let mut row = row_of_entry(alloc, first)?;
@@ -123,7 +131,8 @@ fn rows_behind(alloc: Global, first: Entry, others: &[Entry]) -> Result<Vec<Labe
 /// The rows of entries in order.
 #[tactic(auto, unfolding(crate::specs::LabelGroups::grouped))]
 fn grouped_entries(alloc: Global, entries: &[Entry]) -> Result<Vec<LabelRow>, NoMemory>
-    ensures { IfOk result (λ rows. rows.items ≡ grouped have_same_label join_series (map row_of_entry entries.now)) }
+    ensures { IfOk result
+        (λ rows. rows.items ≡ grouped have_same_label join_series (map row_of_entry entries.now)) }
 {
     match entries {
         [] => Ok(Vec::new(alloc)),
@@ -165,7 +174,10 @@ fn next_name(
     name: NameValues,
     row: &LabelRow,
 ) -> Result<NameValues, NoMemory>
-    ensures { IfOk result (λ next. MatchBool (have_same_name name (values_of_row row.now)) ((names.new.items ≡ names.old.items) × (next ≡ join_values name (values_of_row row.now))) ((names.new.items ≡ names.old.items ++ name ∷ []) × (next ≡ values_of_row row.now))) }
+    ensures { IfOk result
+        (λ next. MatchBool (have_same_name name (values_of_row row.now))
+        ((names.new.items ≡ names.old.items) × (next ≡ join_values name (values_of_row row.now)))
+        ((names.new.items ≡ names.old.items ++ name ∷ []) × (next ≡ values_of_row row.now))) }
 {
     let mut name = name;
     if name.name == row.name {
@@ -181,7 +193,9 @@ fn names_behind(
     first: &LabelRow,
     others: &[LabelRow],
 ) -> Result<Vec<NameValues>, NoMemory>
-    ensures { IfOk result (λ names. names.items ≡ grouped have_same_name join_values (map values_of_row (first.now ∷ others.now))) }
+    ensures { IfOk result
+        (λ names. names.items
+        ≡ grouped have_same_name join_values (map values_of_row (first.now ∷ others.now))) }
 {
     let mut names = Vec::new(alloc);
     let mut name = values_of_row(alloc, first)?;

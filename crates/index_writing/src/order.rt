@@ -5,7 +5,7 @@ ghost use Rattle.index_parts.specs.SeriesEntry.{StartsAfter};
 ghost use Rattle.index_writing.specs.Written.{IsBehind};
 
 use index_file::IndexSeries;
-use index_parts::{ChunkList, ChunkPlace};
+use index_parts::ChunkPlace;
 use label_sets::LabelSet;
 use std::cmp::Ordering;
 
@@ -26,11 +26,11 @@ fn starts_after(before: Option<ChunkPlace>, chunk: ChunkPlace) -> bool
 }
 
 /// Whether each chunk may stand behind the one before it, as `IndexWriter::add` asks.
-pub fn are_in_order(chunks: &ChunkList) -> bool
+pub fn are_in_order(chunks: &[ChunkPlace]) -> bool
     ensures { IsTrue result ↔ InOrder StartsAfter chunks.now }
 {
     let mut before = None;
-    for chunk in chunks.members() {
+    for chunk in chunks {
         if !starts_after(before, *chunk) {
             return false;
         }

@@ -45,7 +45,8 @@ fn put_front(out: &mut Vec<u8>, symbols: &TextList) -> Result<u64, IndexWriteRef
     requires { out.old.items ≡ [] }
     ensures makes { Makes result out.new.items (up_to_symbols symbols.now) }
     ensures end { IfOk result (λ end. end ≡ length (up_to_symbols symbols.now)) }
-    ensures stands { InOrder MayFollow symbols.now → (after : List ℕ) → OnOk result (IsSymbols (out.new.items ++ after) 5 symbols.now) }
+    ensures stands { InOrder MayFollow symbols.now → (after : List ℕ)
+        → OnOk result (IsSymbols (out.new.items ++ after) 5 symbols.now) }
 {
     put_header(out)?;
     put_symbols(out, symbols)?;
@@ -59,7 +60,8 @@ pub(crate) fn put_parts(out: &mut Vec<u8>, list: &[IndexSeries]) -> Result<Parts
     requires lawful { AreWritable list.now }
     ensures makes { Makes result out.new.items (with_series (parts_of list.now)) }
     ensures parts { IfOk result (λ parts. parts ≡ parts_of list.now) }
-    ensures symbols { (after : List ℕ) → OnOk result (IsSymbols (out.new.items ++ after) 5 (symbols_of list.now)) }
+    ensures symbols { (after : List ℕ)
+        → OnOk result (IsSymbols (out.new.items ++ after) 5 (symbols_of list.now)) }
     ensures series { IfOk result (λ parts. EachStands out.new.items parts.numbers parts.series) }
     ensures labels { OnOk result (AllByRecursion (λ one. IsLabelSet one.labels) list.now) }
 {

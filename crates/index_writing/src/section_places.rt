@@ -22,8 +22,8 @@ const SERIES_UNIT: usize = 16;
 
 const LIST_UNIT: usize = 4;
 
-/// Tells whether the text is too long already.
-pub(crate) fn within(out: &Vec<u8>) -> Result<(), IndexWriteRefusal>
+/// Refuses a text that is too long already.
+pub(crate) fn test_size(out: &Vec<u8>) -> Result<(), IndexWriteRefusal>
     ensures { Makes result out.now.items out.now.items }
 {
     if out.len() > GREATEST {
@@ -32,9 +32,10 @@ pub(crate) fn within(out: &Vec<u8>) -> Result<(), IndexWriteRefusal>
     Ok(())
 }
 
-/// Tells whether a section of so many numbers is too long by itself.
-fn few(count: usize) -> Result<(), IndexWriteRefusal>
-    ensures { MatchResult result (λ _. count ≤ 2 ^ 24) (λ e. (e ≡ IndexWriteRefusal.TooLarge) × (2 ^ 24 < count)) }
+/// Refuses a section whose numbers are too many for an index.
+fn test_count(count: usize) -> Result<(), IndexWriteRefusal>
+    ensures { MatchResult result (λ _. count ≤ 2 ^ 24)
+        (λ e. (e ≡ IndexWriteRefusal.TooLarge) × (2 ^ 24 < count)) }
 {
     if count > 1 << 24 {
         return Err(IndexWriteRefusal::TooLarge);
@@ -62,13 +63,15 @@ fn put_series(out: &mut Vec<u8>, series: &RawSeries) -> Result<u64, IndexWriteRe
     requires as_many { length series.now.names ≡ length series.now.values }
     requires chunks { InOrder StartsAfter series.now.chunks }
     ensures makes { Makes result out.new.items (padded 16 out.old.items ++ series_text series.now) }
-    ensures stands { (after : List ℕ) → OnOk result (IsSeries (out.new.items ++ after) (length (padded 16 out.old.items)) series.now) }
+    ensures stands { (after : List ℕ)
+        → OnOk result
+        (IsSeries (out.new.items ++ after) (length (padded 16 out.old.items)) series.now) }
     ensures number { IfOk result (λ number. number ≡ length (padded 16 out.old.items) / 16) }
 {
     pad(out, SERIES_UNIT)?;
     let number = (out.len() / SERIES_UNIT) as u64;
     write_series(out, series)?;
-    within(out)?;
+    test_size(out)?;
     Ok(number)
 }
 
@@ -94,14 +97,15 @@ pub(crate) fn put_all_series(
 fn put_label_index(out: &mut Vec<u8>, values: &NumberList) -> Result<u64, IndexWriteRefusal>
     requires room { length out.old.items ≤ greatest }
     requires small { All (λ number. number < 2 ^ 32) values.now }
-    ensures makes { Makes result out.new.items (padded 4 out.old.items ++ label_index_text values.now) }
+    ensures makes { Makes result out.new.items
+        (padded 4 out.old.items ++ label_index_text values.now) }
     ensures place { IfOk result (λ place. place ≡ length (padded 4 out.old.items)) }
 {
-    few(values.len())?;
+    test_count(values.len())?;
     pad(out, LIST_UNIT)?;
     let place = out.len() as u64;
     write_label_index(out, values)?;
-    within(out)?;
+    test_size(out)?;
     Ok(place)
 }
 
@@ -111,9 +115,12 @@ pub(crate) fn put_label_indices(
     names: &[NameValues],
 ) -> Result<NumberList, IndexWriteRefusal>
     requires room { length out.old.items ≤ greatest }
-    requires small { AllByRecursion (λ name. All (λ number. number < 2 ^ 32) name.values) names.now }
-    ensures makes { Makes result out.new.items (each_at 4 out.old.items (label_index_texts names.now)) }
-    ensures places { IfOk result (λ places. places ≡ places_at 4 out.old.items (label_index_texts names.now)) }
+    requires small { AllByRecursion
+        (λ name. All (λ number. number < 2 ^ 32) name.values) names.now }
+    ensures makes { Makes result out.new.items
+        (each_at 4 out.old.items (label_index_texts names.now)) }
+    ensures places { IfOk result
+        (λ places. places ≡ places_at 4 out.old.items (label_index_texts names.now)) }
 {
     let mut places = NumberList::new(*out.allocator());
     for name in names {
@@ -126,14 +133,15 @@ pub(crate) fn put_label_indices(
 fn put_list(out: &mut Vec<u8>, numbers: &NumberList) -> Result<u64, IndexWriteRefusal>
     requires room { length out.old.items ≤ greatest }
     requires small { All (λ number. number < 2 ^ 32) numbers.now }
-    ensures makes { Makes result out.new.items (padded 4 out.old.items ++ postings_text numbers.now) }
+    ensures makes { Makes result out.new.items
+        (padded 4 out.old.items ++ postings_text numbers.now) }
     ensures place { IfOk result (λ place. place ≡ length (padded 4 out.old.items)) }
 {
-    few(numbers.len())?;
+    test_count(numbers.len())?;
     pad(out, LIST_UNIT)?;
     let place = out.len() as u64;
     write_postings(out, numbers)?;
-    within(out)?;
+    test_size(out)?;
     Ok(place)
 }
 
@@ -145,8 +153,11 @@ fn put_row_lists(
 ) -> Result<NumberList, IndexWriteRefusal>
     requires room { length out.old.items ≤ greatest }
     requires small { AllByRecursion (λ row. All (λ number. number < 2 ^ 32) row.series) rows.now }
-    ensures makes { Makes result out.new.items (each_at 4 out.old.items (map (λ row. postings_text row.series) rows.now)) }
-    ensures places { IfOk result (λ places. places ≡ first ∷ places_at 4 out.old.items (map (λ row. postings_text row.series) rows.now)) }
+    ensures makes { Makes result out.new.items
+        (each_at 4 out.old.items (map (λ row. postings_text row.series) rows.now)) }
+    ensures places { IfOk result
+        (λ places. places
+        ≡ first ∷ places_at 4 out.old.items (map (λ row. postings_text row.series) rows.now)) }
 {
     let mut places = NumberList::new(*out.allocator());
     places.push(first)?;
@@ -165,8 +176,10 @@ pub(crate) fn put_lists(
     requires room { length out.old.items ≤ greatest }
     requires all_small { All (λ number. number < 2 ^ 32) numbers.now }
     requires small { AllByRecursion (λ row. All (λ number. number < 2 ^ 32) row.series) rows.now }
-    ensures makes { Makes result out.new.items (each_at 4 out.old.items (list_texts numbers.now rows.now)) }
-    ensures places { IfOk result (λ places. places ≡ places_at 4 out.old.items (list_texts numbers.now rows.now)) }
+    ensures makes { Makes result out.new.items
+        (each_at 4 out.old.items (list_texts numbers.now rows.now)) }
+    ensures places { IfOk result
+        (λ places. places ≡ places_at 4 out.old.items (list_texts numbers.now rows.now)) }
 {
     let first = put_list(out, numbers)?;
     put_row_lists(out, rows, first)

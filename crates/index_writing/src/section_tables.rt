@@ -13,7 +13,7 @@ ghost use Rattle.index_writing.specs.Written.{name_texts, label_rows, table_rows
 
 use crate::IndexWriteRefusal;
 use crate::label_groups::{LabelRow, NameValues};
-use crate::section_places::{GREATEST, within};
+use crate::section_places::{GREATEST, test_size};
 use crate::symbols_in_use::symbol_of;
 use index_parts::{
     PostingsRow, PostingsRowList, Toc, write_label_offsets, write_postings_table, write_symbols,
@@ -25,7 +25,7 @@ use std::alloc::Global;
 use wire_bytes::NumberList;
 
 /// A size with more, unless it passes the greatest length.
-fn grown(size: usize, by: usize) -> Result<usize, IndexWriteRefusal>
+fn size_with(size: usize, by: usize) -> Result<usize, IndexWriteRefusal>
     requires { size ≤ greatest }
     ensures { Measures result (size + by) }
 {
@@ -41,7 +41,7 @@ fn size_of_texts(texts: &[Text]) -> Result<usize, IndexWriteRefusal>
 {
     let mut size = 0;
     for text in texts {
-        size = grown(grown(size, 1)?, text.as_str().len())?;
+        size = size_with(size_with(size, 1)?, text.as_str().len())?;
     }
     Ok(size)
 }
@@ -49,11 +49,12 @@ fn size_of_texts(texts: &[Text]) -> Result<usize, IndexWriteRefusal>
 /// Appends the symbols.
 pub(crate) fn put_symbols(out: &mut Vec<u8>, symbols: &TextList) -> Result<(), IndexWriteRefusal>
     ensures makes { Makes result out.new.items (out.old.items ++ symbols_text symbols.now) }
-    ensures stands { InOrder MayFollow symbols.now → (after : List ℕ) → OnOk result (IsSymbols (out.new.items ++ after) (length out.old.items) symbols.now) }
+    ensures stands { InOrder MayFollow symbols.now → (after : List ℕ)
+        → OnOk result (IsSymbols (out.new.items ++ after) (length out.old.items) symbols.now) }
 {
     size_of_texts(symbols.members())?;
     write_symbols(out, symbols)?;
-    within(out)
+    test_size(out)
 }
 
 fn name_texts(alloc: Global, symbols: &[Text], names: &[NameValues]) -> Result<TextList, NoMemory>
@@ -74,13 +75,17 @@ pub(crate) fn put_label_offsets(
     places: &NumberList,
 ) -> Result<(), IndexWriteRefusal>
     requires { length names.now ≡ length places.now }
-    ensures makes { Makes result out.new.items (out.old.items ++ label_offsets_text (zip (name_texts symbols.now names.now) places.now)) }
-    ensures stands { (after : List ℕ) → OnOk result (IsLabelOffsets (out.new.items ++ after) (length out.old.items) (zip (name_texts symbols.now names.now) places.now)) }
+    ensures makes { Makes result out.new.items
+        (out.old.items ++ label_offsets_text (zip (name_texts symbols.now names.now) places.now)) }
+    ensures stands { (after : List ℕ)
+        → OnOk result
+        (IsLabelOffsets (out.new.items ++ after) (length out.old.items)
+        (zip (name_texts symbols.now names.now) places.now)) }
 {
     let texts = name_texts(*out.allocator(), symbols, names)?;
     size_of_texts(texts.members())?;
     write_label_offsets(out, &texts, places)?;
-    within(out)
+    test_size(out)
 }
 
 fn label_row(
@@ -89,7 +94,10 @@ fn label_row(
     row: &LabelRow,
     place: u64,
 ) -> Result<PostingsRow, NoMemory>
-    ensures { IfOk result (λ made. made ≡ record { name = symbol_of symbols.now row.now.name; value = symbol_of symbols.now row.now.value; offset = place }) }
+    ensures { IfOk result
+        (λ made. made
+        ≡ record { name = symbol_of symbols.now row.now.name;
+        value = symbol_of symbols.now row.now.value; offset = place }) }
 {
     Ok(PostingsRow {
         name: Text::from_str(alloc, symbol_of(symbols, row.name))?,
@@ -110,13 +118,13 @@ fn row_of_all(alloc: Global, place: u64) -> Result<PostingsRow, NoMemory>
 }
 
 /// A size with the least number of bytes of a row.
-fn grown_by_row(size: usize, row: &PostingsRow) -> Result<usize, IndexWriteRefusal>
+fn size_with_row(size: usize, row: &PostingsRow) -> Result<usize, IndexWriteRefusal>
     requires { size ≤ greatest }
     ensures { Measures result (size + row_size row.now) }
 {
-    let size = grown(size, 4)?;
-    let size = grown(size, row.name.as_str().len())?;
-    grown(size, row.value.as_str().len())
+    let size = size_with(size, 4)?;
+    let size = size_with(size, row.name.as_str().len())?;
+    size_with(size, row.value.as_str().len())
 }
 
 /// The rows of a postings table, as long as they are not too long for an index.
@@ -128,15 +136,18 @@ fn table_rows(
 ) -> Result<PostingsRowList, IndexWriteRefusal>
     requires { length places.now ≡ length rows.now + 1 }
     ensures rows { IfOk result (λ table. table ≡ table_rows symbols.now rows.now places.now) }
-    ensures fit { OnOk result (sum_by row_size (table_rows symbols.now rows.now places.now) ≤ greatest) }
-    ensures large { IfErr result (λ e. e ≡ IndexWriteRefusal.TooLarge → greatest < sum_by row_size (table_rows symbols.now rows.now places.now)) }
+    ensures fit { OnOk result
+        (sum_by row_size (table_rows symbols.now rows.now places.now) ≤ greatest) }
+    ensures large { IfErr result
+        (λ e. e ≡ IndexWriteRefusal.TooLarge
+        → greatest < sum_by row_size (table_rows symbols.now rows.now places.now)) }
 {
     let mut table = PostingsRowList::new(alloc);
     table.push(row_of_all(alloc, places[0])?)?;
     let mut size = 4;
     for (place, row) in rows.iter().enumerate() {
         let made = label_row(alloc, symbols, row, places[place + 1])?;
-        size = grown_by_row(size, &made)?;
+        size = size_with_row(size, &made)?;
         table.push(made)?;
     }
     Ok(table)
@@ -150,12 +161,17 @@ pub(crate) fn put_table(
     places: &[u64],
 ) -> Result<(), IndexWriteRefusal>
     requires { length places.now ≡ length rows.now + 1 }
-    ensures makes { Makes result out.new.items (out.old.items ++ postings_table_text (table_rows symbols.now rows.now places.now)) }
-    ensures stands { InOrder MayComeAfter (table_rows symbols.now rows.now places.now) → (after : List ℕ) → OnOk result (IsPostingsTable (out.new.items ++ after) (length out.old.items) (table_rows symbols.now rows.now places.now)) }
+    ensures makes { Makes result out.new.items
+        (out.old.items ++ postings_table_text (table_rows symbols.now rows.now places.now)) }
+    ensures stands { InOrder MayComeAfter (table_rows symbols.now rows.now places.now)
+        → (after : List ℕ)
+        → OnOk result
+        (IsPostingsTable (out.new.items ++ after) (length out.old.items)
+        (table_rows symbols.now rows.now places.now)) }
 {
     let table = table_rows(*out.allocator(), symbols, rows, places)?;
     write_postings_table(out, &table)?;
-    within(out)
+    test_size(out)
 }
 
 /// Appends the table of contents, with which an index ends.
@@ -164,5 +180,5 @@ pub(crate) fn put_toc(out: &mut Vec<u8>, toc: &Toc) -> Result<(), IndexWriteRefu
     ensures stands { OnOk result (IsToc out.new.items toc.now) }
 {
     write_toc(out, toc)?;
-    within(out)
+    test_size(out)
 }

@@ -88,7 +88,9 @@ fn numbers_of(
     labels: &[Label],
 ) -> Result<(NumberList, NumberList), NoMemory>
     requires { IsStrictlySortedBy compare_texts symbols.now }
-    ensures { IfOk result (λ numbers. (numbers.0 ≡ map (λ l. number_of symbols.now l.name) labels.now) × (numbers.1 ≡ map (λ l. number_of symbols.now l.value) labels.now)) }
+    ensures { IfOk result
+        (λ numbers. (numbers.0 ≡ map (λ l. number_of symbols.now l.name) labels.now)
+        × (numbers.1 ≡ map (λ l. number_of symbols.now l.value) labels.now)) }
 {
     let mut names = NumberList::new(alloc);
     let mut values = NumberList::new(alloc);
@@ -113,7 +115,7 @@ fn raw_of(alloc: Global, symbols: &[Text], series: &IndexSeries) -> Result<RawSe
     })
 }
 
-/// The same of each series.
+/// Each of these series with its names and values as symbol numbers.
 pub(crate) fn raws_of(
     alloc: Global,
     symbols: &[Text],

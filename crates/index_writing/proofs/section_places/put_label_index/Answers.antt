@@ -4,8 +4,8 @@ use Rattle.index_writing.proofs.AlignedTexts.{makes_large, behind_padding}
 use Rattle.index_writing.proofs.SectionSizes.{values_large}
 use Rattle.index_writing.proofs.section_places.put_label_index.Goals as goal
 
-pub returns-in_err-few-clause-makes : goal.returns-in_err-few-clause-makes
-returns-in_err-few-clause-makes c =
-    let many = c.in_err-few.ensures.1 in
-    makes_large c.from_residual.result c.in_err-few.field-0.0 _ _ c.from_residual.ensures.1 c.in_err-few.ensures.0
+pub returns-in_err-test_count-clause-makes : goal.returns-in_err-test_count-clause-makes
+returns-in_err-test_count-clause-makes c =
+    let many = c.in_err-test_count.ensures.1 in
+    makes_large c.from_residual.result c.in_err-test_count.field-0.0 _ _ c.from_residual.ensures.1 c.in_err-test_count.ensures.0
     (behind_padding 4 c.args.out.now.items (label_index_text c.args.values.now) (λ before. values_large before c.args.values.now (omega arith)))
