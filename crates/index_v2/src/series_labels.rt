@@ -59,7 +59,9 @@ pub(crate) fn texts_of<'a, 'b>(
     mut cursor: Cursor<'b>,
     mut labels: Vec<LentLabel<'a>>,
 ) -> Result<(Result<Vec<LentLabel<'a>>, LabelFault>, Cursor<'b>), PartRefusal>
-    ensures { Gives PartRefusal.NoMemory (λ x. (result_map_both (λ labels. map as_label labels.items) (λ fault. fault) x.0, x.1)) result (texts_at symbols.now [] 0 count cursor.entry) }
+    ensures { Gives PartRefusal.NoMemory
+        (λ x. (result_map_both (λ labels. map as_label labels.items) (λ fault. fault) x.0, x.1))
+        result (texts_at symbols.now [] 0 count cursor.entry) }
 {
     labels.clear();
     let mut before = "";
@@ -84,7 +86,9 @@ fn after_fault<'a, 'b>(
     count: u64,
     mut cursor: Cursor<'b>,
 ) -> Result<(Result<Vec<LentLabel<'a>>, LabelFault>, Cursor<'b>), PartRefusal>
-    ensures { Answers (λ x. (result_map_both (λ labels. map as_label labels.items) (λ fault. fault) x.0, x.1)) result (faulty_at fault count cursor.entry) }
+    ensures { Answers
+        (λ x. (result_map_both (λ labels. map as_label labels.items) (λ fault. fault) x.0, x.1))
+        result (faulty_at fault count cursor.entry) }
 {
     for _ in 0..count {
         (_, cursor) = next_label(cursor)?;
