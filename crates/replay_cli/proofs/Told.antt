@@ -24,9 +24,9 @@ use Rattle.replay_cli.specs.Outcomes.{IsOutcome, TasksCame}
 use Rattle.replay_cli.specs.Progress.{IsDueInLine, Shows, TaskStep, TasksBroken, TasksDone, TasksTold, duties_at}
 use Rattle.replay_cli.specs.Reports.{activity_text, is_as_asked}
 use Rattle.replay_cli.specs.Verdicts.{report_of}
+use Rattle.replay_cli.specs.declared.came.Broken.{Broken}
 use Rattle.replay_cli.specs.declared.came.Broken.TheVariants as broken
-use Rattle.replay_cli.specs.declared.came.Came.{Came}
-use Rattle.replay_cli.specs.declared.came.Came.TheVariants as came
+use Rattle.replay_cli.specs.Drives.{Came}
 use Rattle.replay_cli.specs.declared.outcome.Outcome.{Outcome}
 use Rattle.replay_cli.proofs.ReportLists.{all_append, report_append}
 
@@ -123,7 +123,7 @@ module _ (script : Script) (seat : Hand → ℕ) (place : ℕ) (tasks : List Tas
       ∙ ap (λ (l : List ℕ). report_of script (take place tasks) outcomes ++ l) (append-nil (activity_text script task.work o))
 
   pub done_more : (o : Outcome) (asked : Bool) (lines : List ℕ) → (d : TasksDone script seat (take place tasks) views shown start mid as_asked text)
-      → ((v : Views) → Shows v shown → TaskStep script seat place task v gateways mid new (came.To o))
+      → ((v : Views) → Shows v shown → TaskStep script seat place task v gateways mid new (Ok o))
       → lines ≡ text ++ activity_text script task.work o → asked ≡ as_asked && is_as_asked o → TasksDone script seat (take (place + 1) tasks) views gateways start new asked lines
   done_more o asked lines d step lines_are flag =
       let s = step d.after d.shows in
@@ -188,11 +188,17 @@ module _ (script : Script) (seat : Hand → ℕ) (place : ℕ) (tasks : List Tas
       )
 
   -- broken off by the full journal
-  pub cut_full : All (λ t. MayBegin script t.work) (drop (place + 1) tasks) → (d : TasksDone script seat (take place tasks) views shown start mid as_asked text)
-      → ((v : Views) → Shows v shown → TaskStep script seat place task v gateways mid new came.Full) → TasksBroken script seat tasks views start new broken.Full
+  cut_full : All (λ t. MayBegin script t.work) (drop (place + 1) tasks) → (d : TasksDone script seat (take place tasks) views shown start mid as_asked text)
+      → ((v : Views) → Shows v shown → TaskStep script seat place task v gateways mid new (Err broken.Full)) → TasksBroken script seat tasks views start new broken.Full
   cut_full begin d step =
       let s = step d.after d.shows in
       record { made = d.made ++ s.made; entries = both_entries d.made s.made d.entries s.entries; ends = d.ends ++ s.ends; after = s.after; run = cut_run begin d s.made s.ends s.after s.run; short = (too_few d s.ends s.whole, cut_due begin d s.made s.due) }
+
+  -- broken off, for whatever cause
+  pub cut_off : (why : Broken) → All (λ t. MayBegin script t.work) (drop (place + 1) tasks) → (d : TasksDone script seat (take place tasks) views shown start mid as_asked text)
+      → ((v : Views) → Shows v shown → TaskStep script seat place task v gateways mid new (Err why)) → TasksBroken script seat tasks views start new why
+  cut_off broken.Full begin d step = cut_full begin d step
+  cut_off broken.NoMemory begin d step = cut_short (Err broken.NoMemory) begin d step
 
 take_none : (tasks : List Task) → take 0 tasks ≡ []
 take_none [] = refl

@@ -1,5 +1,7 @@
 pub mod Drives
+pub mod Indexed
 pub mod Kept
+pub mod Limits
 pub mod Outcomes
 pub mod Output
 pub mod Progress
