@@ -66,8 +66,3 @@ pub stripped_slash : (text : List ℕ) (r : Option (Bor (List ℕ))) → MatchOp
     → option_map (λ x. x.now) r ≡ text_after (47 ∷ []) text
 stripped_slash text None lacks = text_after_is (47 ∷ []) text None lacks
 stripped_slash text (Some x) found = text_after_is (47 ∷ []) text (Some x) found
-
--- a folder's names
-pub name_of-folder : (within key : List ℕ) → (within ≡ [] → ⊥) → name_of within key ≡ text_after (within ++ 47 ∷ []) key
-name_of-folder [] key given = absurd (given refl)
-name_of-folder (b ∷ within) key given = refl

@@ -22,11 +22,6 @@ contains_among x [] among = absurd among
 contains_among x (y ∷ xs) (inl same) = (0, omega arith, same)
 contains_among x (y ∷ xs) (inr among) = let found : Contains xs x = contains_among x xs among in (suc found.0, omega arith, found.2)
 
-pub all_of : {X : Type 0} (P : X → Type 0) (xs : List X) → AllByRecursion P xs → All P xs
-all_of P [] all k d lt = absurd (omega arith)
-all_of P (x ∷ xs) all zero d lt = all.0
-all_of P (x ∷ xs) all (suc k) d lt = all_of P xs all.1 k d (omega arith)
-
 pub at_among : {X : Type 0} (P : X → Type 0) (x : X) (xs : List X) → AllByRecursion P xs → Among x xs → P x
 at_among P x [] all among = absurd among
 at_among P x (y ∷ xs) all (inl same) = subst P same all.0

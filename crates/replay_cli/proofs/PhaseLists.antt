@@ -389,11 +389,6 @@ seats_next script place phase workers before count after at are is counted next 
     let f : after ≡ seats_after (seats_before script place) (length (hands_of gateways phase.tasks)) = omega (arith, n, is, counted, next) in
     f ∙ sym e
 
-pub ended_step : (script : Script) (place : ℕ) (gateways : List Gateway) (journal : List Entry) (as_asked : Bool) (text : List ℕ) (b : Broken) → place < length script.phases → PhaseStep script place gateways journal as_asked text (Err b)
-    → RunCame script gateways journal as_asked text (Err b)
-ended_step script place gateways journal as_asked text broken.Full below step = (place, below, step)
-ended_step script place gateways journal as_asked text broken.NoMemory below step = step
-
 pub done_from : (script : Script) (place : ℕ) (phase : Phase) (shown gateways : List Gateway) (journal mid new : List Entry) (asked : Bool) (own : List ℕ) (workers : List Worker) (tasks : List Task) (clock : Entry)
     → workers ≡ workers_of script place → tasks ≡ phase.tasks → mid ≡ journal ++ clock ∷ []
     → ((v : Views) → Shows v shown → TasksDone script (seat_of workers) tasks v gateways mid new asked own)

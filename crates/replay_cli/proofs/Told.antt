@@ -19,7 +19,7 @@ use Rattle.lifecycle_core.specs.Views.{Views}
 use Rattle.lifecycle_core.proofs.Joined.{both, cut, duties_begin, duties_more, duties_parts}
 use Rattle.lifecycle_core.proofs.RunsInLine.{may_begin}
 use Rattle.lifecycle_core.proofs.TaskRuns.{MayBegin}
-use Rattle.std.proofs.lemmas.List.Elements.{All-tail}
+use Rattle.std.proofs.lemmas.List.Elements.{All-drop, All-tail}
 use Rattle.replay_cli.specs.Outcomes.{IsOutcome, TasksCame}
 use Rattle.replay_cli.specs.Progress.{IsDueInLine, Shows, TaskStep, TasksBroken, TasksDone, TasksTold, duties_at}
 use Rattle.replay_cli.specs.Reports.{activity_text, is_as_asked}
@@ -251,15 +251,9 @@ tasks_came script workers all place (task ∷ tasks) ends outcomes told zipped =
       tasks_came script workers all (place + 1) tasks told.1 told.3 told.8 parts.1,
     )
 
-all_drop : {X : Type 0} (P : X → Type 0) (n : ℕ) (xs : List X) → All P xs → All P (drop n xs)
-all_drop P zero [] all = all
-all_drop P (suc n) [] all = all
-all_drop P zero (x ∷ xs) all = all
-all_drop P (suc n) (x ∷ xs) all = all_drop P n xs (All-tail P x xs all)
-
 -- the tasks from a place on may begin, where the script is lawful
 pub later_begin : (script : Script) (n : ℕ) (tasks : List Task) → IsLawfulScript script → All (λ t. IsLawfulWork script.gateways script.blocks (length script.selectors) t.work) tasks → All (λ t. MayBegin script t.work) (drop n tasks)
-later_begin script n tasks lawful all = all_drop (λ t. MayBegin script t.work) n tasks (may_begin script tasks lawful all)
+later_begin script n tasks lawful all = All-drop (λ t. MayBegin script t.work) n tasks (may_begin script tasks lawful all)
 
 pub take_whole : (tasks : List Task) (n : ℕ) → length tasks ≤ n → take n tasks ≡ tasks
 take_whole [] zero below = refl
