@@ -261,15 +261,6 @@ take_whole [] (suc n) below = refl
 take_whole (t ∷ ts) zero below = absurd (omega (arith, below))
 take_whole (t ∷ ts) (suc n) below = ap (λ l. t ∷ l) (take_whole ts n (omega (arith, below)))
 
--- what is said of a call, by how it came out
-pub ok_told : {T E : Type 0} (P : T → Type 0) (Q : E → Type 0) (r : Result T E) (x : T) → r ≡ Ok x → MatchResult r P Q → P x
-ok_told P Q (Ok y) x is m = let same : y ≡ x = cc (is) in subst P same m
-ok_told P Q (Err y) x is m = absurd (cc (is))
-
-pub err_told : {T E : Type 0} (P : T → Type 0) (Q : E → Type 0) (r : Result T E) (x : E) → r ≡ Err x → MatchResult r P Q → Q x
-err_told P Q (Ok y) x is m = absurd (cc (is))
-err_told P Q (Err y) x is m = let same : y ≡ x = cc (is) in subst Q same m
-
 pub on_ok : {T E : Type 0} (P : Type 0) (r : Result T E) (x : T) → r ≡ Ok x → OnOk r P → P
 on_ok P (Ok y) x is m = m
 on_ok P (Err y) x is m = absurd (cc (is))
