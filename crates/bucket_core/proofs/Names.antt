@@ -5,7 +5,7 @@ use Rattle.std.specs.Str.Pattern.{FindsTextPrefix, LacksTextAt}
 use Rattle.std.proofs.lemmas.Bool.{eqb-true, eq-eqb, cases_Bool}
 use Rattle.std.specs.Bool.{◌==◌}
 use denote.Ref.{Bor}
-use Rattle.bucket_core.specs.Stored.{text_after, name_of}
+use Rattle.bucket_core.specs.Stored.{text_after}
 
 eq_self : (n : ℕ) → (n == n) ≡ true
 eq_self n = eq-eqb n n refl

@@ -1,6 +1,6 @@
 -- What is picked from a rising list of names.
 use Rattle.std.proofs.Common.{◌≡◌, ◌⊎◌, ℕ, ◌≤◌, ◌-◌, zero, suc, true, false, cond, List, [], ◌∷◌, length, refl, sym, ◌∙◌, ap, subst, inl, inr, arith}
-use Rattle.std.specs.Prelude.{◌==◌, All, Contains}
+use Rattle.std.specs.Prelude.{◌==◌, Contains}
 use Rattle.std.specs.List.{AllByRecursion}
 use Rattle.std.specs.Ordering.{nat_cmp, is_lt, ordering_reverse}
 use Rattle.std.specs.Cmp.Lexicographic.{slice_cmp}
