@@ -1,14 +1,13 @@
 -- Declared blocks by their ULIDs, and what is shipped of one.
-use Rattle.std.proofs.Common.{◌≡◌, ℕ, ℤ, zero, suc, ◌<◌, ◌+◌, Bool, true, false, List, [], ◌∷◌, length, map, get_or, take, refl, sym, ◌∙◌, ap, subst, arith}
+use Rattle.std.proofs.Common.{◌≡◌, ℕ, ℤ, zero, suc, ◌<◌, ◌+◌, Bool, true, false, List, [], ◌∷◌, length, map, get_or, take, refl, sym, ◌∙◌, ap, subst, inl, inr, arith}
 use Rattle.std.specs.Prelude.{◌==◌, ◌||◌, Option, Some, None, IsTrue, IsSomeAnd, Result, Ok, Err, IfOk, find, nat_eq, slice_get}
 use Rattle.list_core.specs.declared.memory.NoMemory.{NoMemory}
 use Rattle.std.specs.List.{AllByRecursion, IsDistinct}
-use Rattle.std.proofs.lemmas.Bool.{eqb-true}
+use Rattle.std.proofs.lemmas.Bool.{cases_Bool, eqb-true}
 use Rattle.std.proofs.lemmas.Bool.Decides.{nat_tests}
 use Rattle.std.proofs.Math.Bool.{or-false}
 use Rattle.std.proofs.lemmas.List.Folds.{list_any_more}
 use Rattle.std.proofs.lemmas.Option.{slice_get-get_or, slice_get_within}
-use Rattle.label_sets.proofs.LabelValues.{by_bool}
 use Rattle.label_sets.specs.declared.series.Series.{Series}
 use Rattle.block_keys.specs.declared.object.Object.{Object}
 use Rattle.block_meta.specs.MetaFields.{MetaFields, fields_of}
@@ -91,10 +90,11 @@ pub indexed_more : (blocks : List Block) (place : ℕ) (b : Block) (old new : �
 indexed_more blocks place b old new within is hit miss before u declared =
     let more : declares (take (place + 1) blocks) u ≡ (declares (take place blocks) u || (b.ulid == u)) =
     list_any_more (λ (x : Block). x.ulid == u) blocks place b within ∙ ap (λ (x : Block). declares (take place blocks) u || (x.ulid == u)) (sym is) in
-    by_bool (b.ulid == u)
-    (λ own. subst (StandsUnder blocks u) (sym (hit u own))
-    (subst (λ o. IsSomeAnd o (λ (x : Block). x.ulid ≡ u)) (sym (slice_get-get_or blocks place b within ∙ ap Some (sym is))) (eqb-true b.ulid u own)))
-    (λ other. subst (StandsUnder blocks u) (sym (miss u other)) (before u (sym (ap (λ t. declares (take place blocks) u || t) other ∙ or-false _) ∙ sym more ∙ declared)))
+    elim (cases_Bool (b.ulid == u)) [
+      | inl own ↦ subst (StandsUnder blocks u) (sym (hit u own))
+          (subst (λ o. IsSomeAnd o (λ (x : Block). x.ulid ≡ u)) (sym (slice_get-get_or blocks place b within ∙ ap Some (sym is))) (eqb-true b.ulid u own))
+      | inr other ↦ subst (StandsUnder blocks u) (sym (miss u other)) (before u (sym (ap (λ t. declares (take place blocks) u || t) other ∙ or-false _) ∙ sym more ∙ declared))
+    ]
 
 -- where a place is found, a block stands at it
 pub stands_at : (blocks : List Block) (u place : ℕ) (found : Option ℕ) → found ≡ Some place → StandsUnder blocks u found → IsSomeAnd (slice_get blocks place) (λ block. block.ulid ≡ u)

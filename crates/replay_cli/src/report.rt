@@ -65,7 +65,7 @@ fn put_upload(out: &mut Vec<u8>, ulid: Ulid, end: &UploadOutcome) -> Result<(), 
     ensures { OnOk result (out.new.items ≡ out.old.items ++ upload_line ulid end.now) }
 {
     put_text(out, "upload ")?;
-    put_text_of_ulid(out, ulid)?;
+    ulid.put_text(out)?;
     put_text(out, ": ")?;
     match end {
         UploadOutcome::Done(count) => put_numbered(out, "ok ", u64::from(*count), " objects")?,
@@ -74,13 +74,6 @@ fn put_upload(out: &mut Vec<u8>, ulid: Ulid, end: &UploadOutcome) -> Result<(), 
         UploadOutcome::Stopped(count) => put_numbered(out, "stopped ", u64::from(*count), "")?,
     }
     put_text(out, "\n")
-}
-
-fn put_text_of_ulid(out: &mut Vec<u8>, ulid: Ulid) -> Result<(), NoMemory>
-    ensures { OnOk result (out.new.items ≡ out.old.items ++ text_of ulid) }
-{
-    out.extend_from_slice(&ulid.text())?;
-    Ok(())
 }
 
 #[tactic(auto, unfolding(crate::specs::Reports::sync_words))]
@@ -184,7 +177,7 @@ fn put_source(out: &mut Vec<u8>, source: Ulid) -> Result<(), NoMemory>
     ensures { OnOk result (out.new.items ≡ out.old.items ++ source_line source) }
 {
     put_text(out, "source ")?;
-    put_text_of_ulid(out, source)?;
+    source.put_text(out)?;
     put_text(out, "\n")
 }
 
