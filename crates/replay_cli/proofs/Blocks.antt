@@ -96,13 +96,18 @@ indexed_more blocks place b old new within is hit miss before u declared =
       | inr other ↦ subst (StandsUnder blocks u) (sym (miss u other)) (before u (sym (ap (λ t. declares (take place blocks) u || t) other ∙ or-false _) ∙ sym more ∙ declared))
     ]
 
--- where a place is found, a block stands at it
-pub stands_at : (blocks : List Block) (u place : ℕ) (found : Option ℕ) → found ≡ Some place → StandsUnder blocks u found → IsSomeAnd (slice_get blocks place) (λ block. block.ulid ≡ u)
-stands_at blocks u place found is stands = subst (StandsUnder blocks u) is stands
-
-pub stands_within : (blocks : List Block) (u place : ℕ) (o : Option Block) → slice_get blocks place ≡ o → IsSomeAnd o (λ block. block.ulid ≡ u) → place < length blocks
+stands_within : (blocks : List Block) (u place : ℕ) (o : Option Block) → slice_get blocks place ≡ o → IsSomeAnd o (λ block. block.ulid ≡ u) → place < length blocks
 stands_within blocks u place None at stands = absurd stands
 stands_within blocks u place (Some b) at stands = slice_get_within blocks place b at
+
+-- the block at the place that the index has for a ULID is the one that is found under it
+pub found_under : (blocks : List Block) (ulid place : ℕ) (block : Block) (found known : Option ℕ) → IsDistinct nat_eq (map (λ (x : Block). x.ulid) blocks) → found ≡ known → found ≡ Some place
+    → StandsUnder blocks ulid known → block ≡ get_or blocks place block → (find (λ x. x.ulid == ulid) blocks ≡ Some block) × (place < length blocks)
+found_under blocks ulid place block found known distinct same is stands element =
+    let here : IsSomeAnd (slice_get blocks place) (λ b. b.ulid ≡ ulid) = subst (StandsUnder blocks ulid) (sym same ∙ is) stands in
+    let within : place < length blocks = stands_within blocks ulid place (slice_get blocks place) refl here in
+    let at : slice_get blocks place ≡ Some block = slice_get-get_or blocks place block within ∙ ap Some (sym element) in
+    (found_at ulid blocks place block distinct at (subst (λ (o : Option Block). IsSomeAnd o (λ b. b.ulid ≡ ulid)) at here), within)
 
 pub planned_same : (block : Block) (early early' late late' : ℤ) (plan : BlockPlan) → early ≡ early' → late ≡ late' → IsPlanOf block early late plan → IsPlanOf block early' late' plan
 planned_same block early early' late late' plan e l is = subst (λ (x : ℤ). IsPlanOf block x late' plan) e (subst (λ (y : ℤ). IsPlanOf block early y plan) l is)

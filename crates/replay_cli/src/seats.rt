@@ -1,4 +1,5 @@
-ghost use Rattle.std.specs.Prelude.{◌≡◌, ◌-◌, ◌^◌, min, length, IfOk};
+ghost use Rattle.std.specs.Prelude.{◌≡◌, ◌-◌, ◌==◌, ◌^◌, min, length, IfOk};
+ghost use Rattle.std.specs.List.{list_any};
 ghost use Rattle.script_core.specs.Hands.{seats_before, workers_of};
 ghost use Rattle.lifecycle_core.specs.InLine.{seat_of, serves};
 
@@ -44,21 +45,38 @@ impl Seats {
 }
 
 /// The seat of the worker that does the hand's tasks, and 0 where none does.
-#[tactic(auto, using(crate::proofs::SeatLists::seat_found))]
 fn seat_among(workers: &[Worker], hand: Hand) -> u32
     ensures { result ≡ seat_of workers.now hand }
 {
-    let worker = workers.iter().find(|worker| serves(hand, worker));
-    worker.map_or(0, |worker| worker.seat)
+    match workers {
+        [] => 0,
+        [worker, others @ ..] => {
+            if serves(hand, worker) {
+                worker.seat
+            } else {
+                seat_among(others, hand)
+            }
+        }
+    }
 }
 
 fn serves(hand: Hand, worker: &Worker) -> bool
     ensures { result ≡ serves hand worker.now.gateway worker.now.tasks }
 {
     match hand {
-        Hand::Upload(place) => {
-            worker.gateway.is_none() && worker.tasks.members().iter().any(|own| *own == place)
-        }
+        Hand::Upload(place) => match worker.gateway {
+            None => has(worker.tasks.members(), place),
+            Some(_) => false,
+        },
         Hand::Gateway(gateway) => worker.gateway == Some(gateway),
+    }
+}
+
+fn has(places: &[u64], place: u64) -> bool
+    ensures { result ≡ list_any (λ own. own == place) places.now }
+{
+    match places {
+        [] => false,
+        [own, others @ ..] => *own == place || has(others, place),
     }
 }

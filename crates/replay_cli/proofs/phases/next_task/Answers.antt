@@ -5,8 +5,8 @@ use Rattle.replay_cli.specs.Progress.{TaskStep}
 use Rattle.replay_cli.proofs.Told.{cut_off, cut_short, done_more, later_begin}
 use Rattle.replay_cli.proofs.phases.next_task.Goals as goal
 
-pub returns-in-Ok-Ok-clause-came : goal.returns-in-Ok-Ok-clause-came
-returns-in-Ok-Ok-clause-came g c = λ views start d.
+pub returns-in-Ok-tell-clause-came : goal.returns-in-Ok-tell-clause-came
+returns-in-Ok-tell-clause-came g c = λ views start d.
     done_more c.args.script.now (seat_of c.args.seats.now.workers) c.args.place c.args.tasks.now c.index-tasks-place.result views c.args.progress.now.gateways.items c.run_task-came.new.progress.gateways.items
     start c.args.world.journal c.run_task-came.result.1.journal c.args.lines.now.as_asked c.args.lines.now.text.items c.requires.within c.index-tasks-place.is
     c.in-Ok.outcome c.tell.new.self.as_asked c.tell.new.self.text.items d
