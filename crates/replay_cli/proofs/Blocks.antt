@@ -1,13 +1,9 @@
 -- Declared blocks by their ULIDs, and what is shipped of one.
-use Rattle.std.proofs.Common.{◌≡◌, ℕ, ℤ, zero, suc, ◌<◌, ◌+◌, Bool, true, false, List, [], ◌∷◌, length, map, get_or, take, refl, sym, ◌∙◌, ap, subst, inl, inr, arith}
-use Rattle.std.specs.Prelude.{◌==◌, ◌||◌, Option, Some, None, IsTrue, IsSomeAnd, Result, Ok, Err, IfOk, find, nat_eq, slice_get}
+use Rattle.std.proofs.Common.{◌≡◌, ℕ, ℤ, zero, suc, ◌<◌, Bool, true, false, List, [], ◌∷◌, length, map, get_or, refl, sym, ◌∙◌, ap, subst, arith}
+use Rattle.std.specs.Prelude.{◌==◌, Some, Result, Ok, Err, IfOk, find, nat_eq, slice_get}
 use Rattle.list_core.specs.declared.memory.NoMemory.{NoMemory}
 use Rattle.std.specs.List.{AllByRecursion, IsDistinct}
-use Rattle.std.proofs.lemmas.Bool.{cases_Bool, eqb-true}
 use Rattle.std.proofs.lemmas.Bool.Decides.{nat_tests}
-use Rattle.std.proofs.Math.Bool.{or-false}
-use Rattle.std.proofs.lemmas.List.Folds.{list_any_more}
-use Rattle.std.proofs.lemmas.Option.{slice_get-get_or, slice_get_within}
 use Rattle.label_sets.specs.declared.series.Series.{Series}
 use Rattle.block_keys.specs.declared.object.Object.{Object}
 use Rattle.block_meta.specs.MetaFields.{MetaFields, fields_of}
@@ -19,9 +15,7 @@ use Rattle.block_files.specs.declared.block_files.BlockFiles.{BlockFiles}
 use Rattle.script_core.specs.declared.block.Block.{Block}
 use Rattle.script_core.specs.declared.body.Body.{Body}
 use Rattle.script_core.specs.declared.body.Body.TheVariants.{Inline}
-use Rattle.script_core.specs.Works.{declares}
 use Rattle.lifecycle_core.specs.Shipped.{AreBuilt, IsPlanOf, IsShipped}
-use Rattle.replay_cli.specs.Indexed.{StandsUnder}
 
 all_at : (P : ℕ → Type 0) (blocks : List Block) (place : ℕ) (block : Block) → AllByRecursion P (map (λ (x : Block). x.ulid) blocks) → slice_get blocks place ≡ Some block → P block.ulid
 all_at P [] place block all at = absurd (cc (at))
@@ -81,33 +75,11 @@ shipped_from block min_time max_time series plan files (Ok objects) body is buil
     subst (λ (b : Body). AreBuilt block b objects) (sym body) (shipped_by block min_time max_time series plan files objects is built objects_are)
 shipped_from block min_time max_time series plan files (Err none) body is built objects_are = tt
 
--- ---- the index
-
--- one block more is indexed
-pub indexed_more : (blocks : List Block) (place : ℕ) (b : Block) (old new : ℕ → Option ℕ) → place < length blocks → b ≡ get_or blocks place b
-    → ((u : ℕ) → (b.ulid == u) ≡ true → new u ≡ Some place) → ((u : ℕ) → (b.ulid == u) ≡ false → new u ≡ old u)
-    → ((u : ℕ) → IsTrue (declares (take place blocks) u) → StandsUnder blocks u (old u)) → (u : ℕ) → IsTrue (declares (take (place + 1) blocks) u) → StandsUnder blocks u (new u)
-indexed_more blocks place b old new within is hit miss before u declared =
-    let more : declares (take (place + 1) blocks) u ≡ (declares (take place blocks) u || (b.ulid == u)) =
-    list_any_more (λ (x : Block). x.ulid == u) blocks place b within ∙ ap (λ (x : Block). declares (take place blocks) u || (x.ulid == u)) (sym is) in
-    elim (cases_Bool (b.ulid == u)) [
-      | inl own ↦ subst (StandsUnder blocks u) (sym (hit u own))
-          (subst (λ o. IsSomeAnd o (λ (x : Block). x.ulid ≡ u)) (sym (slice_get-get_or blocks place b within ∙ ap Some (sym is))) (eqb-true b.ulid u own))
-      | inr other ↦ subst (StandsUnder blocks u) (sym (miss u other)) (before u (sym (ap (λ t. declares (take place blocks) u || t) other ∙ or-false _) ∙ sym more ∙ declared))
-    ]
-
-stands_within : (blocks : List Block) (u place : ℕ) (o : Option Block) → slice_get blocks place ≡ o → IsSomeAnd o (λ block. block.ulid ≡ u) → place < length blocks
-stands_within blocks u place None at stands = absurd stands
-stands_within blocks u place (Some b) at stands = slice_get_within blocks place b at
-
--- the block at the place that the index has for a ULID is the one that is found under it
-pub found_under : (blocks : List Block) (ulid place : ℕ) (block : Block) (found known : Option ℕ) → IsDistinct nat_eq (map (λ (x : Block). x.ulid) blocks) → found ≡ known → found ≡ Some place
-    → StandsUnder blocks ulid known → block ≡ get_or blocks place block → (find (λ x. x.ulid == ulid) blocks ≡ Some block) × (place < length blocks)
-found_under blocks ulid place block found known distinct same is stands element =
-    let here : IsSomeAnd (slice_get blocks place) (λ b. b.ulid ≡ ulid) = subst (StandsUnder blocks ulid) (sym same ∙ is) stands in
-    let within : place < length blocks = stands_within blocks ulid place (slice_get blocks place) refl here in
-    let at : slice_get blocks place ≡ Some block = slice_get-get_or blocks place block within ∙ ap Some (sym element) in
-    (found_at ulid blocks place block distinct at (subst (λ (o : Option Block). IsSomeAnd o (λ b. b.ulid ≡ ulid)) at here), within)
+-- a block at a place of a list is the same, whatever stands for a place outside
+pub within_same : (blocks : List Block) (place : ℕ) (one other : Block) → place < length blocks → get_or blocks place one ≡ get_or blocks place other
+within_same [] place one other below = absurd (omega (arith, below))
+within_same (b ∷ bs) zero one other below = refl
+within_same (b ∷ bs) (suc place) one other below = within_same bs place one other (omega (arith, below))
 
 pub planned_same : (block : Block) (early early' late late' : ℤ) (plan : BlockPlan) → early ≡ early' → late ≡ late' → IsPlanOf block early late plan → IsPlanOf block early' late' plan
 planned_same block early early' late late' plan e l is = subst (λ (x : ℤ). IsPlanOf block x late' plan) e (subst (λ (y : ℤ). IsPlanOf block early y plan) l is)

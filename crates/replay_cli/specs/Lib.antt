@@ -1,5 +1,4 @@
 pub mod Drives
-pub mod Indexed
 pub mod Kept
 pub mod Limits
 pub mod Outcomes

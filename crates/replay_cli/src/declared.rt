@@ -1,8 +1,8 @@
-ghost use Rattle.std.specs.Prelude.{◌≡◌, Some, IsTrue, IfOk};
+ghost use Rattle.std.specs.Prelude.{◌≡◌, ◌==◌, Some, IsTrue, find, slice_get, map, nat_eq};
+ghost use Rattle.std.specs.List.{All, IsDistinct};
 ghost use Rattle.script_core.specs.Lawful.{IsLawfulScript, IsLawfulBlock};
 ghost use Rattle.script_core.specs.Works.{declares};
 ghost use Rattle.lifecycle_core.specs.Held.{declared};
-ghost use Rattle.replay_cli.specs.Indexed.{AreIndexed, place_of};
 
 use list_core::NoMemory;
 use script_core::{Block, Script};
@@ -17,33 +17,50 @@ pub(crate) struct Places {
 }
 
 impl Places {
-    pub(crate) fn new(alloc: Global, blocks: &[Block]) -> Result<Places, NoMemory>
-        ensures { IfOk result (AreIndexed blocks.now) }
-    {
+    pub(crate) fn new(alloc: Global, blocks: &[Block]) -> Result<Places, NoMemory> {
         let mut by_ulid = BTreeMap::new(alloc);
-        for place in 0..blocks.len() {
-            by_ulid.insert(blocks[place].ulid, place)?;
+        for (place, block) in blocks.iter().enumerate() {
+            by_ulid.insert(block.ulid, place)?;
         }
         Ok(Places { by_ulid })
     }
 
-    fn place_of(&self, ulid: Ulid) -> Option<usize>
-        ensures { result ≡ place_of self.now ulid }
-    {
-        self.by_ulid.get(&ulid).copied()
+    /// The place of a block, where it is known.
+    fn of(&self, ulid: Ulid) -> usize {
+        self.by_ulid.get(&ulid).copied().unwrap_or(0)
     }
 }
 
-/// The declared block of a ULID.
+/// The declared block of a ULID. A place that is not the block's only costs a walk over all blocks.
+#[tactic(auto, using(crate::proofs::Blocks::found_at))]
 pub(crate) fn declared_block<'a>(script: &'a Script, places: &Places, ulid: Ulid) -> &'a Block
     requires lawful { IsLawfulScript script.now }
-    requires indexed { AreIndexed script.now.blocks places.now }
     requires declared { IsTrue (declares script.now.blocks ulid) }
     ensures found { declared script.now ulid ≡ Some result.now }
     ensures lawful { IsLawfulBlock result.now }
 {
-    match places.place_of(ulid) {
-        Some(place) => &script.blocks.members()[place],
-        None => unreachable!(),
+    let blocks = script.blocks.members();
+    let place = places.of(ulid);
+    if place < blocks.len() && blocks[place].ulid == ulid {
+        return &blocks[place];
+    }
+    find_block(blocks, ulid)
+}
+
+fn find_block(blocks: &[Block], ulid: Ulid) -> &Block
+    requires lawful { All IsLawfulBlock blocks.now }
+    requires declared { IsTrue (declares blocks.now ulid) }
+    ensures found { find (λ block. block.ulid == ulid) blocks.now ≡ Some result.now }
+    ensures lawful { IsLawfulBlock result.now }
+{
+    match blocks {
+        [first, others @ ..] => {
+            if first.ulid == ulid {
+                first
+            } else {
+                find_block(others, ulid)
+            }
+        }
+        [] => unreachable!(),
     }
 }

@@ -8,7 +8,6 @@ ghost use Rattle.script_core.specs.Lawful.{IsLawfulScript};
 ghost use Rattle.lifecycle_core.specs.InLine.{seat_of};
 ghost use Rattle.lifecycle_core.specs.Phases.{BeginsPhase};
 ghost use Rattle.lifecycle_core.specs.Views.{Views};
-ghost use Rattle.replay_cli.specs.Indexed.{IsReady};
 ghost use Rattle.replay_cli.specs.Progress.{Allows, PhaseStep, Reached, RunCame, Shows, TasksBroken, TasksDone};
 ghost use Rattle.replay_cli.specs.Reports.{activity_text, is_as_asked};
 
@@ -48,7 +47,8 @@ impl Progress {
     pub(crate) fn new(alloc: Global, script: &Script) -> Result<Progress, NoMemory>
         ensures unseen { IfOk result
             (λ progress. All (λ (gateway : Gateway). gateway.view ≡ None) progress.gateways.items) }
-        ensures ready { IfOk result (IsReady script.now) }
+        ensures ready { IfOk result
+            (λ progress. length progress.gateways.items ≡ length script.now.gateways) }
         ensures workers { IfOk result (λ progress. progress.workers ≡ 0) }
         ensures empty { IfOk result (λ progress. progress.report.text.items ≡ []) }
         ensures asked { IfOk result (λ progress. progress.report.as_asked ≡ true) }
@@ -86,7 +86,7 @@ pub(crate) fn run_phases<B: Bucket>(
     world: World<B>,
 ) -> (Result<(), Broken>, World<B>)
     requires lawful { IsLawfulScript script.now }
-    requires ready { IsReady script.now progress.old }
+    requires ready { length progress.old.gateways.items ≡ length script.now.gateways }
     requires workers { progress.old.workers ≡ seats_before script.now 0 }
     requires reached { Reached script.now 0 progress.old.gateways.items world.journal
         progress.old.report.as_asked progress.old.report.text.items }
@@ -117,13 +117,13 @@ fn run_phase<B: Bucket>(
 ) -> (Result<(), Broken>, World<B>)
     requires lawful { IsLawfulScript script.now }
     requires at { slice_get script.now.phases place ≡ Some phase.now }
-    requires ready { IsReady script.now progress.old }
+    requires ready { length progress.old.gateways.items ≡ length script.now.gateways }
     requires workers { progress.old.workers ≡ seats_before script.now place }
     requires reached { Reached script.now place progress.old.gateways.items world.journal
         progress.old.report.as_asked progress.old.report.text.items }
     ensures full { result.0 ≡ Err Broken.Full → IsFull result.1.journal }
     ensures tick { result.1.tick ≡ world.tick }
-    ensures ready { IsReady script.now progress.new }
+    ensures ready { length progress.new.gateways.items ≡ length script.now.gateways }
     ensures workers { result.0 ≡ Ok tt
         → progress.new.workers ≡ seats_before script.now (place + 1) }
     ensures step { PhaseStep script.now place progress.new.gateways.items result.1.journal
@@ -207,7 +207,7 @@ fn run_tasks<B: Bucket>(
 ) -> (Result<Lines, Broken>, World<B>)
     requires lawful { IsLawfulScript script.now }
     requires tasks { All (λ task. Allows script.now task.work) tasks.now }
-    requires ready { IsReady script.now progress.old }
+    requires ready { length progress.old.gateways.items ≡ length script.now.gateways }
     ensures full { result.0 ≡ Err Broken.Full → IsFull result.1.journal }
     ensures tick { result.1.tick ≡ world.tick }
     ensures came { (views : Views) → Shows views progress.old.gateways.items
@@ -219,7 +219,7 @@ fn run_tasks<B: Bucket>(
         (seat_of seats.now.workers) tasks.now views world.journal result.1.journal broken) }
     ensures report { progress.new.report ≡ progress.old.report }
     ensures workers { progress.new.workers ≡ progress.old.workers }
-    ensures ready { IsReady script.now progress.new }
+    ensures ready { length progress.new.gateways.items ≡ length script.now.gateways }
 {
     let mut world = world;
     let mut lines = Lines {
@@ -252,7 +252,7 @@ fn next_task<B: Bucket>(
     requires lawful { IsLawfulScript script.now }
     requires tasks { All (λ task. Allows script.now task.work) tasks.now }
     requires within { place < length tasks.now }
-    requires ready { IsReady script.now progress.old }
+    requires ready { length progress.old.gateways.items ≡ length script.now.gateways }
     ensures full { result.0 ≡ Err Broken.Full → IsFull result.1.journal }
     ensures tick { result.1.tick ≡ world.tick }
     ensures came { (views : Views) (start : List Entry)
@@ -267,7 +267,7 @@ fn next_task<B: Bucket>(
         (seat_of seats.now.workers) tasks.now views start result.1.journal broken) }
     ensures report { progress.new.report ≡ progress.old.report }
     ensures workers { progress.new.workers ≡ progress.old.workers }
-    ensures ready { IsReady script.now progress.new }
+    ensures ready { length progress.new.gateways.items ≡ length script.now.gateways }
 {
     let task = &tasks[place];
     let (came, world) = run_task(alloc, script, task, place, seats, progress, world);

@@ -6,7 +6,6 @@ ghost use Rattle.script_core.specs.Lawful.{IsLawfulScript};
 ghost use Rattle.script_core.specs.declared.work.Work.TheVariants as works;
 ghost use Rattle.lifecycle_core.specs.InLine.{seat_of};
 ghost use Rattle.lifecycle_core.specs.Views.{Views};
-ghost use Rattle.replay_cli.specs.Indexed.{IsReady};
 ghost use Rattle.replay_cli.specs.Progress.{Allows, Shows, TaskStep};
 
 use crate::activity::{call, sync, upload};
@@ -36,7 +35,7 @@ pub(crate) fn run_task<B: Bucket>(
 ) -> (Came, World<B>)
     requires lawful { IsLawfulScript script.now }
     requires work { Allows script.now task.now.work }
-    requires ready { IsReady script.now progress.old }
+    requires ready { length progress.old.gateways.items ≡ length script.now.gateways }
     ensures full { result.0 ≡ Err Broken.Full → IsFull result.1.journal }
     ensures tick { result.1.tick ≡ world.tick }
     ensures step { (views : Views) → Shows views progress.old.gateways.items
@@ -45,7 +44,7 @@ pub(crate) fn run_task<B: Bucket>(
         result.1.journal result.0 }
     ensures report { progress.new.report ≡ progress.old.report }
     ensures workers { progress.new.workers ≡ progress.old.workers }
-    ensures ready { IsReady script.now progress.new }
+    ensures ready { length progress.new.gateways.items ≡ length script.now.gateways }
 {
     match &task.work {
         Work::Upload(ulid, stop) => {

@@ -1,6 +1,5 @@
-use Rattle.std.proofs.Common.{◌≡◌}
+use Rattle.std.proofs.Common.{◌≡◌, length}
 use Rattle.script_core.specs.Hands.{seats_before}
-use Rattle.replay_cli.specs.Indexed.{IsReady}
 use Rattle.replay_cli.specs.Progress.{Reached}
 use Rattle.replay_cli.proofs.phases.run_phases.Given as goal
 
@@ -10,5 +9,5 @@ invariant-loop-place g l = record {
   reached : Reached l.script l.place l.progress.gateways.items l.world.journal l.progress.report.as_asked l.progress.report.text.items;
   tick : l.world.tick ≡ l.initial.world.tick;
   workers : l.progress.workers ≡ seats_before l.script l.place;
-  ready : IsReady l.script l.progress;
+  ready : length l.progress.gateways.items ≡ length l.script.gateways;
 }

@@ -1,7 +1,6 @@
-use Rattle.std.proofs.Common.{◌≡◌, take}
+use Rattle.std.proofs.Common.{◌≡◌, take, length}
 use Rattle.lifecycle_core.specs.InLine.{seat_of}
 use Rattle.lifecycle_core.specs.Views.{Views}
-use Rattle.replay_cli.specs.Indexed.{IsReady}
 use Rattle.replay_cli.specs.Progress.{Shows, TasksDone}
 use Rattle.replay_cli.proofs.phases.run_tasks.Given as goal
 
@@ -13,5 +12,5 @@ invariant-loop-place g l = record {
   tick : l.world.tick ≡ l.initial.world.tick;
   report : l.progress.report ≡ l.initial.progress.report;
   workers : l.progress.workers ≡ l.initial.progress.workers;
-  ready : IsReady l.script l.progress;
+  ready : length l.progress.gateways.items ≡ length l.script.gateways;
 }

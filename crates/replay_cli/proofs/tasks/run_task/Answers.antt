@@ -27,7 +27,7 @@ pub returns-in-Sync-clause-step : goal.returns-in-Sync-clause-step
 returns-in-Sync-clause-step g c = λ views shows.
     let work : c.in-Sync.number < length c.args.script.now.gateways =
     subst (λ (w : Work). IsLawfulWork c.args.script.now.gateways c.args.script.now.blocks (length c.args.script.now.selectors) w) c.in-Sync.is c.requires.work in
-    let within : c.in-Sync.number < length c.args.progress.now.gateways.items = omega (arith, work, c.requires.ready.gateways) in
+    let within : c.in-Sync.number < length c.args.progress.now.gateways.items = omega (arith, work, c.requires.ready) in
     sync_step c.args.script.now (seat_of c.args.seats.now.workers) c.args.place c.args.task.now views c.args.progress.now.gateways.items c.args.world.journal c.sync.result.1.journal c.sync.result.0
     c.in-Sync.number c.index_mut-gateway.result.now c.sync.new.gateway c.in-Sync.is
     (slice_get-get_or c.args.progress.now.gateways.items c.in-Sync.number c.index_mut-gateway.result.now within ∙ ap Some (sym c.index_mut-gateway.ensures.value))
