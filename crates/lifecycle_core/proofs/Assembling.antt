@@ -36,19 +36,19 @@ use Rattle.lifecycle_core.specs.Held.{held}
 use Rattle.lifecycle_core.specs.Phases.{IsRunOf}
 use Rattle.lifecycle_core.specs.Tasks.{End, IsBefore, IsStop, QueryTask, TaskRun, asked_by, sync_rules, uploaded, synced, answered, without_view, stopped}
 use Rattle.lifecycle_core.specs.Views.{Use}
-use Rattle.lifecycle_core.proofs.Explaining.{honest_misses_nothing, misses_explained, parted, the_entry}
-use Rattle.lifecycle_core.proofs.ExactAnswers.{answer_is_exact, calls_undamaged, sources_are}
-use Rattle.lifecycle_core.proofs.FirstPhases.{none_run}
+use Rattle.lifecycle_core.proofs.misses.Explaining.{honest_misses_nothing, misses_explained, parted, the_entry}
+use Rattle.lifecycle_core.proofs.answers.ExactAnswers.{answer_is_exact, calls_undamaged, sources_are}
+use Rattle.lifecycle_core.proofs.phases.FirstPhases.{none_run}
 use Rattle.lifecycle_core.proofs.Lists.{contains_first}
-use Rattle.lifecycle_core.proofs.Faults.{ShowsFault, call_shows, sync_shows, upload_shows}
-use Rattle.lifecycle_core.proofs.Positions.{filtered}
-use Rattle.lifecycle_core.proofs.FewNames.{none_found_many}
-use Rattle.lifecycle_core.proofs.ViewsThere.{views_are_there}
-use Rattle.lifecycle_core.proofs.Readable.{is_readable}
-use Rattle.lifecycle_core.proofs.TasksMade.{answers_are_made, ends_are_made}
-use Rattle.lifecycle_core.proofs.Telling.{all_told, journal_rises}
-use Rattle.lifecycle_core.proofs.Told.{IsMade, IsOrigin, IsPart, IsReadable, IsTold, IsTrueFound, IsTrueView, Rises}
-use Rattle.lifecycle_core.proofs.TrueViews.{origin_is_true, syncs_undamaged}
+use Rattle.lifecycle_core.proofs.misses.Faults.{ShowsFault, call_shows, sync_shows, upload_shows}
+use Rattle.lifecycle_core.proofs.journals.Positions.{filtered}
+use Rattle.lifecycle_core.proofs.views.FewNames.{none_found_many}
+use Rattle.lifecycle_core.proofs.views.ViewsThere.{views_are_there}
+use Rattle.lifecycle_core.proofs.blocks.Readable.{is_readable}
+use Rattle.lifecycle_core.proofs.phases.TasksMade.{answers_are_made, ends_are_made}
+use Rattle.lifecycle_core.proofs.journals.Telling.{all_told, journal_rises}
+use Rattle.lifecycle_core.proofs.journals.Told.{IsMade, IsOrigin, IsPart, IsReadable, IsTold, IsTrueFound, IsTrueView, Rises}
+use Rattle.lifecycle_core.proofs.views.TrueViews.{origin_is_true, syncs_undamaged}
 
 -- ---- failed calls
 

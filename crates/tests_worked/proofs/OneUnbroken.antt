@@ -22,7 +22,7 @@ use Rattle.moment_core.specs.declared.rules.Rules.{Rules}
 use Rattle.script_core.specs.declared.script.Script.{Script}
 use Rattle.tests_worked.proofs.Bucket.{full, page, shows_meta, shows_index, shows_segment, shows_no_mark}
 use Rattle.tests_worked.proofs.Each.{EachAfter, each_after, each_of}
-use Rattle.lifecycle_core.proofs.Honesty.{no_lie}
+use Rattle.lifecycle_core.proofs.journals.Honesty.{no_lie}
 use Rattle.tests_worked.proofs.OneInTime.{InTime, in_time}
 
 -- An entry of the first half hour breaks no rule, where it is no lie, puts objects in time, and no mark.

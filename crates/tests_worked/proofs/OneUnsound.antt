@@ -15,7 +15,7 @@ use Rattle.lifecycle_core.specs.Guarantees.{IsExact, IsGuaranteed, LeavesNoneOut
 use Rattle.lifecycle_core.specs.Held.{held_by, held}
 use Rattle.lifecycle_core.specs.Tasks.{answered}
 use Rattle.lifecycle_core.specs.Views.{Use}
-use Rattle.lifecycle_core.proofs.Unbroken.{explains_nothing}
+use Rattle.lifecycle_core.proofs.journals.Unbroken.{explains_nothing}
 use Rattle.tests_worked.specs.LostIndex as lost
 use Rattle.tests_worked.specs.OneBlock as one
 use Rattle.tests_worked.specs.OneBlockChanged as changed

@@ -1,0 +1,4 @@
+-- That the objects of a declared block are read as that block.
+pub mod SegmentsAgain
+pub mod MetasAgain
+pub mod Readable

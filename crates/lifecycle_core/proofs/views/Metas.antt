@@ -1,0 +1,141 @@
+-- What is found under the key of a block's meta, where it is an object with which the script's block is shipped; and that no such
+-- object is under the key of a mark.
+use Rattle.std.proofs.Common.{◌≡◌, ℕ, suc, zero, ◌+◌, ◌==◌, eqb, Bool, true, false, List, [], ◌∷◌, ◌++◌, Contains, Some, None, Result, Ok, ℤ, refl, sym, ◌∙◌, ap, subst, arith}
+use Rattle.std.specs.Prelude.{find}
+use Rattle.std.proofs.lemmas.Bool.{eq-eqb, eqb-true, cond-true}
+use Rattle.label_sets.specs.declared.series.Series.{Series}
+use Rattle.block_keys.specs.declared.key.Key.{Key}
+use Rattle.block_keys.specs.declared.key.Key.TheVariants as key
+use Rattle.block_keys.specs.declared.object.Object.{Object}
+use Rattle.block_meta.specs.declared.block_plan.BlockPlan.{BlockPlan}
+use Rattle.block_meta.specs.declared.refusal.MetaRefusal.{MetaRefusal}
+use Rattle.block_meta.specs.MetaFields.{MetaFields}
+use Rattle.block_meta.specs.MetaReading.{meta_of_text}
+use Rattle.block_meta.specs.MetaValue.{meta_text}
+use Rattle.block_files.specs.Built.{built_meta, objects_of, segment_objects, segments_of}
+use Rattle.block_files.specs.PlainForm.{plain_index}
+use Rattle.meta_fetcher.specs.Sightings.{block_meta, named_meta}
+use Rattle.script_core.specs.declared.block.Block.{Block}
+use Rattle.script_core.specs.declared.body.Body.{Body}
+use Rattle.script_core.specs.declared.body.Body.TheVariants.{Inline}
+use Rattle.script_core.specs.declared.script.Script.{Script}
+use Rattle.lifecycle_core.specs.Held.{declared}
+use Rattle.lifecycle_core.specs.Shipped.{AreBuilt, IsPlanOf}
+use Rattle.lifecycle_core.proofs.journals.Told.{IsReadable, IsShippedObject, Spans}
+
+-- ---- what is declared
+
+first_found : {X : Type 0} (P : X → Type 0) (p : X → Bool) (x y : X) (xs : List X) (b : Bool) → p x ≡ b → (p x ≡ true → P x) → (find p xs ≡ Some y → P y) → find p (x ∷ xs) ≡ Some y → P y
+first_found P p x y xs true test own later is = let same : x ≡ y = cc (rw test at is) in subst P same (own test)
+first_found P p x y xs false test own later is = later (rw test at is)
+
+find_passes : {X : Type 0} (p : X → Bool) (xs : List X) (y : X) → find p xs ≡ Some y → p y ≡ true
+find_passes p [] y is = absurd (cc (is))
+find_passes p (x ∷ xs) y is = first_found (λ z. p z ≡ true) p x y xs (p x) refl (λ test. test) (find_passes p xs y) is
+
+-- a block is declared under its own ULID
+pub declared_ulid : (script : Script) (ulid : ℕ) (block : Block) → declared script ulid ≡ Some block → block.ulid ≡ ulid
+declared_ulid script ulid block is = eqb-true block.ulid ulid (find_passes (λ (b : Block). b.ulid == ulid) script.blocks block is)
+
+-- ---- the objects of a block
+
+-- a key of a segment or of an index
+abbrev IsOther : Key → Type 0
+IsOther (key.Meta ulid) = ⊥
+IsOther (key.Index ulid) = Unit {0}
+IsOther (key.Segment ulid number) = Unit {0}
+IsOther (key.Mark ulid) = ⊥
+
+of_two : (P : Object → Type 0) (x y z : Object) → P x → P y → Contains (x ∷ y ∷ []) z → P z
+of_two P x y z one other (zero, below, at) = subst P at one
+of_two P x y z one other (suc zero, below, at) = subst P at other
+of_two P x y z one other (suc (suc k), below, at) = absurd (omega (arith, below))
+
+of_first : (P : Object → Type 0) (x z : Object) (xs : List Object) → P x → (Contains xs z → P z) → Contains (x ∷ xs) z → P z
+of_first P x z xs one later (zero, below, at) = subst P at one
+of_first P x z xs one later (suc k, below, at) = later (k, omega (arith, below), at)
+
+of_segments : (P : Object → Type 0) (ulid number : ℕ) (segments : List (List ℕ)) (others : List Object) (z : Object) → ((n : ℕ) (bytes : List ℕ) → P (record { key = key.Segment ulid n; bytes = bytes }))
+    → (Contains others z → P z) → Contains (segment_objects ulid number segments ++ others) z → P z
+unfolding segment_objects
+of_segments P ulid number [] others z each later among = later among
+of_segments P ulid number (bytes ∷ segments) others z each later among =
+    of_first P (record { key = key.Segment ulid number; bytes = bytes }) z _ (each number bytes) (of_segments P ulid (number + 1) segments others z each later) among
+
+of_objects : (P : Object → Type 0) (ulid : ℕ) (segments : List (List ℕ)) (index meta : List ℕ) (z : Object) → ((n : ℕ) (bytes : List ℕ) → P (record { key = key.Segment ulid n; bytes = bytes }))
+    → P (record { key = key.Index ulid; bytes = index }) → P (record { key = key.Meta ulid; bytes = meta }) → Contains (objects_of ulid segments index meta) z → P z
+unfolding objects_of
+of_objects P ulid segments index meta z each one other among = of_segments P ulid 1 segments _ z each (of_two P _ _ z one other) among
+
+-- what is under the key of a meta is the meta, and no object is under the key of a mark
+abbrev HasKind : List ℕ → Key → List ℕ → Type 0
+HasKind meta (key.Meta ulid) bytes = bytes ≡ meta
+HasKind meta (key.Index ulid) bytes = Unit {0}
+HasKind meta (key.Segment ulid number) bytes = Unit {0}
+HasKind meta (key.Mark ulid) bytes = ⊥
+
+of_built : (ulid : ℕ) (segments : List (List ℕ)) (index meta : List ℕ) (z : Object) → Contains (objects_of ulid segments index meta) z → HasKind meta z.key z.bytes
+of_built ulid segments index meta z among = of_objects (λ (o : Object). HasKind meta o.key o.bytes) ulid segments index meta z (λ n bytes. tt) tt refl among
+
+-- ---- metas
+
+-- the meta of a block that the script declares, with what was shipped of it
+pub record IsMetaOf (script : Script) (ulid : ℕ) (meta : MetaFields) : Type 0 where
+  pub block : Block
+  pub is : declared script ulid ≡ Some block
+  pub own : meta.ulid ≡ ulid
+  pub sources : meta.sources ≡ ulid ∷ []
+  pub labels : meta.labels ≡ block.labels
+  pub times : Spans block.body meta.min_time meta.max_time
+
+-- the bytes are read as such a meta
+abbrev pub IsReadAsMeta : Script → ℕ → List ℕ → Type 0
+IsReadAsMeta script ulid bytes = (meta : MetaFields) × (meta_of_text bytes ≡ Ok meta) × IsMetaOf script ulid meta
+
+read_as : (script : Script) → IsReadable script → (ulid : ℕ) (block : Block) (low high : ℤ) (series : List Series) (plan : BlockPlan) (bytes : List ℕ) → declared script ulid ≡ Some block
+    → block.body ≡ Inline low high series → IsPlanOf block low high plan → bytes ≡ meta_text (built_meta plan series) → IsReadAsMeta script ulid bytes
+unfolding built_meta
+read_as script readable ulid block low high series plan bytes is body of_plan written =
+    let same : block.ulid ≡ ulid = declared_ulid script ulid block is in (
+      built_meta plan series,
+      ap meta_of_text written ∙ readable.metas ulid block is low high series body plan of_plan,
+      record {
+        block = block;
+        is = is;
+        own = of_plan.ulid ∙ same;
+        sources = of_plan.sources ∙ ap (λ u. u ∷ []) same;
+        labels = of_plan.labels;
+        times = subst (λ b. Spans b plan.min_time plan.max_time) (sym body) (of_plan.early, of_plan.late);
+      },
+    )
+
+built_meta_read : (script : Script) → IsReadable script → (ulid : ℕ) (block : Block) (body : Body) (objects : List Object) (bytes : List ℕ) → declared script ulid ≡ Some block → block.body ≡ body
+    → AreBuilt block body objects → Contains objects (record { key = key.Meta ulid; bytes = bytes }) → IsReadAsMeta script ulid bytes
+built_meta_read script readable ulid block (Inline low high series) objects bytes is body (plan, of_plan, are) among =
+    let written : bytes ≡ meta_text (built_meta plan series) =
+    of_built block.ulid (segments_of series) plain_index (meta_text (built_meta plan series)) (record { key = key.Meta ulid; bytes = bytes })
+    (subst (λ (os : List Object). Contains os (record { key = key.Meta ulid; bytes = bytes })) are among) in
+    read_as script readable ulid block low high series plan bytes is body of_plan written
+
+-- a shipped object under the key of a meta is read as the block's meta
+meta_read_as : (script : Script) → IsReadable script → (ulid : ℕ) (bytes : List ℕ) → IsShippedObject script (key.Meta ulid) bytes → IsReadAsMeta script ulid bytes
+meta_read_as script readable ulid bytes o = built_meta_read script readable ulid o.block o.block.body o.objects bytes o.is refl o.shipped o.among
+
+no_mark_built : (block : Block) (body : Body) (objects : List Object) (ulid : ℕ) (bytes : List ℕ) → AreBuilt block body objects → Contains objects (record { key = key.Mark ulid; bytes = bytes }) → ⊥
+no_mark_built block (Inline low high series) objects ulid bytes (plan, of_plan, are) among =
+    of_built block.ulid (segments_of series) plain_index (meta_text (built_meta plan series)) (record { key = key.Mark ulid; bytes = bytes })
+    (subst (λ (os : List Object). Contains os (record { key = key.Mark ulid; bytes = bytes })) are among)
+
+-- no shipped object is under the key of a mark
+pub no_mark : (script : Script) (ulid : ℕ) (bytes : List ℕ) → IsShippedObject script (key.Mark ulid) bytes → ⊥
+no_mark script ulid bytes o = no_mark_built o.block o.block.body o.objects ulid bytes o.shipped o.among
+
+-- what is read as the block's meta names the block
+named : (ulid : ℕ) (r : Result MetaFields MetaRefusal) (meta : MetaFields) → r ≡ Ok meta → meta.ulid ≡ ulid → named_meta ulid r ≡ Some meta
+named ulid r meta read own = ap (named_meta ulid) read ∙ cond-true (eqb meta.ulid ulid) (Some meta) None (eq-eqb meta.ulid ulid own)
+
+pub meta_found : (script : Script) → IsReadable script → (ulid : ℕ) (bytes : List ℕ) → IsShippedObject script (key.Meta ulid) bytes
+    → (meta : MetaFields) × (block_meta ulid bytes ≡ Some meta) × IsMetaOf script ulid meta
+meta_found script readable ulid bytes o =
+    let found = meta_read_as script readable ulid bytes o in
+    (found.0, named ulid (meta_of_text bytes) found.0 found.1 found.2.own, found.2)
