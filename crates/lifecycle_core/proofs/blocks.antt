@@ -1,4 +1,5 @@
 -- That the objects of a declared block are read as that block.
+pub mod Declared
 pub mod SegmentsAgain
 pub mod MetasAgain
 pub mod Readable

@@ -44,6 +44,21 @@ index_first_refused rest lawful =
     let segment = second_is_put look put (of_seat 1 two.0) refl (subst (λ es. Uploads (of_seat 1 es)) {y = look ∷ put ∷ two.0} made uploads) in
     cc (segment.1)
 
+pub seat_refused : (rest : List Entry) → ¬ IsLawfulJournal one.script (changed.at_gateways_seat ++ rest)
+seat_refused rest lawful =
+    let look : Entry = absent 2 2 1 (key.Meta small.a) in
+    let puts : List Entry = stored 3 2 2 (key.Segment small.a 1) small.segment ∷ stored 4 2 3 (key.Index small.a) small.index ∷ stored 5 2 4 (key.Meta small.a) small.meta ∷ rest in
+    let phase = first_phase_of (clock 1 0) (look ∷ puts) lawful in
+    let one = stays phase.1 phase.0 look puts phase.3.parts phase.3.anew (λ moment is. cc (is)) in
+    let first : Contains (1 ∷ []) 2 = All-head (λ (e : Entry). Contains (1 ∷ []) e.seat) look one.0 (subst (All (λ (e : Entry). Contains (1 ∷ []) e.seat)) one.1 phase.3.run.seats) in
+    omega (arith, only_one 1 2 first)
+
+pub clock_refused : (rest : List Entry) → ¬ IsLawfulJournal one.script (changed.clock_stands ++ rest)
+clock_refused rest lawful =
+    let reads : List Entry = absent 8 2 1_800_001 (key.Mark small.a) ∷ found 9 2 1_800_002 (key.Meta small.a) small.meta ∷ rest in
+    let moves : 1_800_000 ≡ 1_800_001 = lawful.1.kept.moments (clock 1 0 ∷ one.upload ++ clock 6 1_800_000 ∷ []) reads (listed 7 2 1_800_000 (small.a_text ∷ [])) refl in
+    omega (arith, moves)
+
 -- ---- a query that reads a block whose meta was absent
 
 -- the clock's setting is no worker's

@@ -1,6 +1,6 @@
 -- A block is not shown before it has been in the bucket for the consistency delay, which is half an hour. In the first phase a
 -- sync, an upload and a query stand, in the second one a sync and a query.
-use Rattle.std.specs.Prelude.{ℕ, pos, List, [], ◌∷◌, ◌++◌, codes, None}
+use Rattle.std.specs.Prelude.{◌≤◌, ℕ, pos, Contains, List, [], ◌∷◌, ◌++◌, codes, None}
 use Rattle.std.specs.List.{join_with_byte}
 use Rattle.moment_core.specs.StandardRules.{standard_rules}
 use Rattle.world_core.specs.declared.entry.Entry.{Entry}
@@ -11,6 +11,8 @@ use Rattle.script_core.specs.declared.script.Script.{Script}
 use Rattle.script_core.specs.declared.work.Work.TheVariants.{Upload, Sync, Query}
 use Rattle.lifecycle_core.specs.Tasks.{End, uploaded, synced, answered}
 use Rattle.lifecycle_core.specs.Views.{Use}
+use Rattle.lifecycle_core.specs.Completed.{IsUploadedBefore}
+use Rattle.sync_filters.specs.Filters.{time_of}
 use Rattle.lifecycle_core.specs.Guarantees.{Answered}
 use Rattle.tests_worked.specs.SmallBlock as small
 use Rattle.tests_worked.specs.SmallRuns as runs
@@ -112,6 +114,14 @@ report = join_with_byte 10 (
     ∷ codes "series {__name__=\"up\"} 1000:3ff0000000000000"
     ∷ [] ∷ []
     )
+
+-- with the upload first, the block was complete before the first sync began, however young
+abbrev pub IsUploadedEarly : Use → ℕ → Type 0
+IsUploadedEarly used ulid = IsUploadedBefore script journal_turned ulid used.view.first × (time_of ulid ≤ used.view.begin.ms)
+
+-- the answer names each block of which this holds
+abbrev pub NamesAll : (Use → ℕ → Type 0) → Answered → Type 0
+NamesAll Is query = (used : Use) (ulid : ℕ) → Contains query.uses used → Is used ulid → Contains query.sources ulid
 
 -- the two answered queries
 abbrev pub first_asked : Use → Answered

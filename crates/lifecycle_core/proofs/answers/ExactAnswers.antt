@@ -1,5 +1,6 @@
 -- An answer over a view of true blocks is exact: it is the deduplication of the samples of the blocks that it names which the query
 -- asks for. No object of such a call is damaged, and the answer names the blocks of the view.
+use Rattle.lifecycle_core.proofs.blocks.Declared.{declared_lawful}
 use Rattle.std.proofs.Common.{◌≡◌, inl, inr, ℕ, ℤ, ◌≤ℤ◌, ◌<ℤ◌, Bool, true, false, ◌&&◌, List, [], ◌∷◌, map, Contains, Option, Some, refl, sym, ap, subst, arith, is_le, is_lt, int_cmp, ◌↔◌}
 use Rattle.std.specs.Prelude.{◌==◌}
 use Rattle.std.specs.List.{All, AllByRecursion, filter, flat_map}
@@ -31,9 +32,8 @@ use Rattle.script_core.specs.declared.script.Script.{Script}
 use Rattle.script_core.proofs.SpelledValues.{within_spelled}
 use Rattle.lifecycle_core.specs.Held.{given_by, held, held_by}
 use Rattle.lifecycle_core.proofs.answers.Calls.{IsDeclared, IsTrueEnd, asked_of, held_under, true_end}
-use Rattle.lifecycle_core.proofs.answers.Members.{into_filter, into_flat_map, into_map, member_cases, member_passes, no_member, of_flat_map, of_map, same_one_to_one}
-use Rattle.lifecycle_core.proofs.Lists.{contains_first}
-use Rattle.lifecycle_core.proofs.misses.Misses.{find_holds}
+use Rattle.lifecycle_core.proofs.answers.Members.{into_filter, into_flat_map, into_map, member_cases, member_passes, no_member, of_flat_map, same_one_to_one}
+use Rattle.lifecycle_core.proofs.Lists.{contains_first, of_map}
 use Rattle.lifecycle_core.proofs.journals.Positions.{of_filter}
 use Rattle.lifecycle_core.proofs.journals.Told.{IsPart, IsReadable, IsTold, IsTrueFound, Spans}
 
@@ -173,7 +173,7 @@ module _ (script : Script) (lawful : IsLawfulScript script) (matchers : List Mat
   meets_asked : (found : Found) → IsTrueFound script found → (t : Triple) → Contains (held_under script script.rules.replicas found.ulid) t → is_selected matchers low high t ≡ true → meets asked found ≡ true
   meets_asked found is t among passes =
       let own : Contains (held_by script.rules.replicas is.block) t = subst (λ (o : Option Block). Contains (option_map_or (held_by script.rules.replicas) o []) t) is.is among in
-      let law : IsLawfulBlock is.block = find_holds IsLawfulBlock (λ (b : Block). b.ulid == found.ulid) script.blocks is.block lawful.blocks.each is.is in
+      let law : IsLawfulBlock is.block = declared_lawful script found.ulid is.block is.is lawful in
       let times = timed script.rules.replicas is.block found.meta.min_time found.meta.max_time t law.body is.times own in
       meets_range low high found.meta.min_time found.meta.max_time t.time (range_holds matchers low high t passes) times.0 times.1
 

@@ -34,13 +34,6 @@ into_filter p (y ∷ xs) x among passes = elim (member_cases y x xs among) [
 
 -- ---- maps
 
-pub of_map : {X Y : Type 0} (f : X → Y) (xs : List X) (y : Y) → Contains (map f xs) y → (x : X) × Contains xs x × (f x ≡ y)
-of_map f [] y among = absurd (no_member y among)
-of_map f (x ∷ xs) y among = elim (member_cases (f x) y (map f xs) among) [
-  | inl same ↦ (x, contains_first x xs, same)
-  | inr later ↦ let m = of_map f xs y later in (m.0, contains_later x m.0 xs m.1, m.2)
-]
-
 pub into_map : {X Y : Type 0} (f : X → Y) (xs : List X) (x : X) → Contains xs x → Contains (map f xs) (f x)
 into_map f [] x among = absurd (no_member x among)
 into_map f (y ∷ xs) x among = elim (member_cases y x xs among) [

@@ -34,7 +34,7 @@ use Rattle.script_core.specs.Spelling.{IsNear, IsWithin, TimesRise}
 use Rattle.script_core.proofs.SpelledValues.{near_tested, rise_spelled, within_spelled}
 use Rattle.script_core.proofs.ValueLaws.{time_fits}
 use Rattle.lifecycle_core.specs.Held.{declared, given, given_by}
-use Rattle.lifecycle_core.proofs.Lists.{contains_first, contains_later}
+use Rattle.lifecycle_core.proofs.blocks.Declared.{declared_lawful}
 
 -- ---- ASCII
 
@@ -263,9 +263,6 @@ samples_once text (s ∷ u ∷ us) (t ∷ v ∷ vs) is others =
     let later : u ∷ us ≡ v ∷ vs = samples_once is.0 (u ∷ us) (v ∷ vs) is.3 (subst (λ (more : List ℕ). AreSamples more (v ∷ vs)) (sym same.1) others.3) in
     λ i. first i ∷ later i
 
-tail_is : (x y : ℕ) (xs ys : List ℕ) → x ∷ xs ≡ y ∷ ys → xs ≡ ys
-tail_is x y xs ys e = cc
-
 -- the label set of a line, and what follows it
 labels_once : (line : List ℕ) (one other : Series) → (a : IsSeriesLine line one) → (b : IsSeriesLine line other) → (one.labels ≡ other.labels) × (a.samples ≡ b.samples)
 labels_once line one other a b =
@@ -274,7 +271,8 @@ labels_once line one other a b =
     let left : drop (length a.set) line ≡ 32 ∷ a.samples = ap (drop (length a.set)) a.written ∙ drop_at a.set (32 ∷ a.samples) (length a.set) refl in
     let right : drop (length b.set) line ≡ 32 ∷ b.samples = ap (drop (length b.set)) b.written ∙ drop_at b.set (32 ∷ b.samples) (length b.set) refl in
     let sizes : length a.set ≡ length b.set = ap (λ x. x.1) same in
-    (ap (λ x. x.0) same, tail_is 32 32 a.samples b.samples (sym left ∙ ap (λ n. drop n line) sizes ∙ right))
+    let rest : 32 ∷ a.samples ≡ 32 ∷ b.samples = sym left ∙ ap (λ n. drop n line) sizes ∙ right in
+    (ap (λ x. x.0) same, cc (rest))
 
 series_once : (line : List ℕ) (one other : Series) → IsSeriesLine line one → IsSeriesLine line other → one ≡ other
 series_once line one other a b =
@@ -299,37 +297,9 @@ lines_once text (s ∷ ss) (t ∷ ts) is others =
 
 -- ---- declared blocks
 
-abbrev has_ulid : ℕ → Block → Bool
-has_ulid ulid block = block.ulid == ulid
-
-found_by : (ulid : ℕ) (first : Block) (blocks : List Block) (block : Block) (b : Bool) → (first.ulid == ulid) ≡ b → cond b (Some first) (find (has_ulid ulid) blocks) ≡ Some block
-    → (find (has_ulid ulid) blocks ≡ Some block → Contains blocks block × (block.ulid ≡ ulid)) → Contains (first ∷ blocks) block × (block.ulid ≡ ulid)
-found_by ulid first blocks block true is found later =
-    let same : first ≡ block = cc in
-    let own : first.ulid ≡ ulid = grind (arith, nat_tests) in
-    (subst (Contains (first ∷ blocks)) same (contains_first first blocks), ap (λ (x : Block). x.ulid) (sym same) ∙ own)
-found_by ulid first blocks block false is found later =
-    let among = later found in
-    (contains_later first block blocks among.0, among.1)
-
-found_in : (ulid : ℕ) (blocks : List Block) (block : Block) → find (has_ulid ulid) blocks ≡ Some block → Contains blocks block × (block.ulid ≡ ulid)
-found_in ulid [] block found = absurd cc
-found_in ulid (first ∷ blocks) block found = found_by ulid first blocks block (first.ulid == ulid) refl found (found_in ulid blocks block)
-
--- the block that a script declares is one of its blocks, with this ULID
-pub declared_block : (script : Script) (ulid : ℕ) (block : Block) → declared script ulid ≡ Some block → Contains script.blocks block × (block.ulid ≡ ulid)
-declared_block script ulid block is = found_in ulid script.blocks block is
-
-pub declared_lawful : (script : Script) → IsLawfulScript script → (ulid : ℕ) (block : Block) → declared script ulid ≡ Some block → IsLawfulBlock block
-declared_lawful script lawful ulid block is = All-contains IsLawfulBlock script.blocks block lawful.blocks.each (declared_block script ulid block is).0
-
-pub blocks_are_small : (script : Script) → IsLawfulScript script → (ulid : ℕ) (block : Block) → declared script ulid ≡ Some block → ulid < 2 ^ 128
-blocks_are_small script lawful ulid block is =
-    subst (λ n. n < 2 ^ 128) (declared_block script ulid block is).1 (declared_lawful script lawful ulid block is).ulid
-
 -- the segment's text has the block's series
 pub segments_again : (script : Script) → IsLawfulScript script → (ulid : ℕ) (block : Block) → declared script ulid ≡ Some block → IsPlainSegment (segment_text (given block)) (given block)
-segments_again script lawful ulid block is = body_again block.body (declared_lawful script lawful ulid block is).body
+segments_again script lawful ulid block is = body_again block.body (declared_lawful script ulid block is lawful).body
 
 -- and no others
 pub segments_once : (script : Script) → IsLawfulScript script → (ulid : ℕ) (block : Block) → declared script ulid ≡ Some block

@@ -1,7 +1,7 @@
 -- An honest journal tells no lie: what an operation owes is one thing.
-use Rattle.std.proofs.Common.{◌≡◌, inl, inr, ℕ, zero, suc, ◌≤◌, List, [], ◌∷◌, ◌++◌, length, Contains, Option, Some, None, refl, sym, ◌∙◌, ap, subst, append_assoc, append-nil, arith}
+use Rattle.std.proofs.Common.{◌≡◌, ◌⊎◌, inl, inr, ℕ, zero, suc, ◌≤◌, List, [], ◌∷◌, ◌++◌, length, codes, Contains, Option, Some, None, refl, sym, ◌∙◌, ap, subst, append_assoc, append-nil, arith}
 use Rattle.std.specs.Prelude.{option_map}
-use Rattle.std.specs.List.{All}
+use Rattle.std.specs.List.{All, flat_map}
 use Rattle.std.specs.Ordering.{nat_cmp}
 use Rattle.std.specs.Cmp.Lexicographic.{slice_cmp}
 use Rattle.std.specs.declared.cmp.Ordering.{Ordering}
@@ -15,7 +15,6 @@ use Rattle.std.specs.Ordering.{is_eq, ordering_reverse}
 use Rattle.block_keys.specs.declared.key.Key.{Key}
 use Rattle.block_keys.specs.KeyText.{key_text}
 use Rattle.bucket_core.specs.Contents.{Contents, range_of}
-use Rattle.moment_core.specs.declared.moment.Moment.{Moment}
 use Rattle.bucket_core.specs.Pages.{Ascends, Before, IsName, IsPage}
 use Rattle.ulid_core.specs.UlidText.{text_of}
 use Rattle.world_core.specs.Operations.{IsReplyTo}
@@ -107,138 +106,72 @@ same_text one other x y same (front, left, right, begins, goes, is_x, is_y, diff
     let rest : left ≡ right = append_cancel_left front left right (sym begins ∙ same ∙ goes) in
     differ (sym is_x ∙ ap next_byte rest ∙ is_y)
 
--- what a reply shows of one object, or of a part of it
-abbrev Object : Option (List ℕ) → Option (List ℕ) → Reply → Type 0
-Object whole part (Found bytes) = part ≡ Some bytes
-Object whole part Absent = whole ≡ None
-Object whole part Clocked = ⊥
-Object whole part Stored = ⊥
-Object whole part Deleted = ⊥
-Object whole part (Names names) = ⊥
-Object whole part (Failed landed) = Unit {0}
+-- a reply that shows something of the bucket: an object, that there is none, or names
+abbrev Shows : Reply → Type 0
+Shows reply = ((bytes : List ℕ) × (reply ≡ Found bytes)) ⊎ ((reply ≡ Absent) ⊎ ((names : List (List ℕ)) × (reply ≡ Names names)))
 
-object_shows : (whole part : Option (List ℕ)) (shown owed : Reply) (one other : List ℕ) → (whole ≡ None → part ≡ None) → Object whole part shown → Object whole part owed → shown_by shown ≡ Some one → shown_by owed ≡ Some other → one ≡ other
-object_shows whole part Clocked owed one other none a b is is' = absurd a
-object_shows whole part Stored owed one other none a b is is' = absurd a
-object_shows whole part Deleted owed one other none a b is is' = absurd a
-object_shows whole part (Names names) owed one other none a b is is' = absurd a
-object_shows whole part (Failed landed) owed one other none a b is is' = absurd (cc (is))
-object_shows whole part (Found bytes) Clocked one other none a b is is' = absurd b
-object_shows whole part (Found bytes) Stored one other none a b is is' = absurd b
-object_shows whole part (Found bytes) Deleted one other none a b is is' = absurd b
-object_shows whole part (Found bytes) (Names names) one other none a b is is' = absurd b
-object_shows whole part (Found bytes) (Failed landed) one other none a b is is' = absurd (cc (is'))
-object_shows whole part (Found bytes) (Found others) one other none a b is is' = let same : bytes ≡ others = cc (a, b) in cc (is, is', same)
-object_shows whole part (Found bytes) Absent one other none a b is is' = let gone = none b in absurd (cc (a, gone))
-object_shows whole part Absent Clocked one other none a b is is' = absurd b
-object_shows whole part Absent Stored one other none a b is is' = absurd b
-object_shows whole part Absent Deleted one other none a b is is' = absurd b
-object_shows whole part Absent (Names names) one other none a b is is' = absurd b
-object_shows whole part Absent (Failed landed) one other none a b is is' = absurd (cc (is'))
-object_shows whole part Absent (Found others) one other none a b is is' = let gone = none a in absurd (cc (b, gone))
-object_shows whole part Absent Absent one other none a b is is' = cc (is, is')
+shows : (reply : Reply) (text : List ℕ) → shown_by reply ≡ Some text → Shows reply
+shows (Found bytes) text is = inl (bytes, refl)
+shows Absent text is = inr (inl refl)
+shows (Names names) text is = inr (inr (names, refl))
+shows Clocked text is = absurd (cc (is))
+shows Stored text is = absurd (cc (is))
+shows Deleted text is = absurd (cc (is))
+shows (Failed landed) text is = absurd (cc (is))
 
-got : (c : Contents) (k : Key) (r : Reply) → IsReplyTo (Get k) r → Tells c (Get k) r → Object (c (key_text k)) (c (key_text k)) r
-got c k Clocked kind tells = kind
-got c k Stored kind tells = kind
-got c k Deleted kind tells = kind
-got c k (Names names) kind tells = kind
-got c k (Found bytes) kind tells = tells
-got c k Absent kind tells = tells
-got c k (Failed landed) kind tells = tt
+-- the text of an object, and that of names
+abbrev object_text : Option (List ℕ) → List ℕ
+object_text None = codes "A"
+object_text (Some bytes) = codes "F" ++ bytes
 
-got_range : (c : Contents) (k : Key) (start len : ℕ) (r : Reply) → IsReplyTo (GetRange k start len) r → Tells c (GetRange k start len) r → Object (c (key_text k)) (option_map (range_of start len) (c (key_text k))) r
-got_range c k start len Clocked kind tells = kind
-got_range c k start len Stored kind tells = kind
-got_range c k start len Deleted kind tells = kind
-got_range c k start len (Names names) kind tells = kind
-got_range c k start len (Found bytes) kind tells = tells
-got_range c k start len Absent kind tells = tells
-got_range c k start len (Failed landed) kind tells = tt
+abbrev names_text : List (List ℕ) → List ℕ
+names_text names = codes "N" ++ flat_map (λ name. name ++ 255 ∷ []) names
 
--- what a reply shows of a page
-abbrev Listing : (List (List ℕ) → Type 0) → Reply → Type 0
-Listing Page (Names names) = Page names
-Listing Page Clocked = ⊥
-Listing Page Stored = ⊥
-Listing Page Deleted = ⊥
-Listing Page (Found bytes) = ⊥
-Listing Page Absent = ⊥
-Listing Page (Failed landed) = Unit {0}
+module _ (c : Contents) (o : Op) (reply : Reply) (text : List ℕ) (kind : IsReplyTo o reply) (tells : Tells c o reply) (is : shown_by reply ≡ Some text) where
+  nothing_shown : ((bytes : List ℕ) → ¬ IsReplyTo o (Found bytes)) → ¬ IsReplyTo o Absent → ((names : List (List ℕ)) → ¬ IsReplyTo o (Names names)) → ⊥
+  nothing_shown no_object no_absence no_names = elim (shows reply text is) [
+    | inl (bytes, same) ↦ no_object bytes (subst (IsReplyTo o) same kind)
+    | inr (inl same) ↦ no_absence (subst (IsReplyTo o) same kind)
+    | inr (inr (names, same)) ↦ no_names names (subst (IsReplyTo o) same kind)
+  ]
 
-page_shows : (Page : List (List ℕ) → Type 0) (shown owed : Reply) (one other : List ℕ) → ((a b : List (List ℕ)) → Page a → Page b → a ≡ b) → Listing Page shown → Listing Page owed → shown_by shown ≡ Some one → shown_by owed ≡ Some other → one ≡ other
-page_shows Page Clocked owed one other single a b is is' = absurd a
-page_shows Page Stored owed one other single a b is is' = absurd a
-page_shows Page Deleted owed one other single a b is is' = absurd a
-page_shows Page (Found bytes) owed one other single a b is is' = absurd a
-page_shows Page Absent owed one other single a b is is' = absurd a
-page_shows Page (Failed landed) owed one other single a b is is' = absurd (cc (is))
-page_shows Page (Names names) Clocked one other single a b is is' = absurd b
-page_shows Page (Names names) Stored one other single a b is is' = absurd b
-page_shows Page (Names names) Deleted one other single a b is is' = absurd b
-page_shows Page (Names names) (Found bytes) one other single a b is is' = absurd b
-page_shows Page (Names names) Absent one other single a b is is' = absurd b
-page_shows Page (Names names) (Failed landed) one other single a b is is' = absurd (cc (is'))
-page_shows Page (Names names) (Names others) one other single a b is is' = let same = single names others a b in cc (is, is', same)
+  object_shown : (object : Option (List ℕ)) → ((bytes : List ℕ) → Tells c o (Found bytes) → object ≡ Some bytes) → (Tells c o Absent → object ≡ None) → ((names : List (List ℕ)) → ¬ IsReplyTo o (Names names)) → text ≡ object_text object
+  object_shown object found absent no_names = elim (shows reply text is) [
+    | inl (bytes, same) ↦
+        let own : text ≡ codes "F" ++ bytes = cc (is, ap shown_by same) in
+        own ∙ sym (ap object_text (found bytes (subst (Tells c o) same tells)))
+    | inr (inl same) ↦
+        let own : text ≡ codes "A" = cc (is, ap shown_by same) in
+        own ∙ sym (ap object_text (absent (subst (Tells c o) same tells)))
+    | inr (inr (names, same)) ↦ absurd (no_names names (subst (IsReplyTo o) same kind))
+  ]
 
-listed : (c : Contents) (after : List ℕ) (limit : ℕ) (r : Reply) → IsReplyTo (RootPage after limit) r → Tells c (RootPage after limit) r → Listing (IsPage c [] after limit) r
-listed c after limit Clocked kind tells = kind
-listed c after limit Stored kind tells = kind
-listed c after limit Deleted kind tells = kind
-listed c after limit (Found bytes) kind tells = kind
-listed c after limit Absent kind tells = kind
-listed c after limit (Names names) kind tells = tells
-listed c after limit (Failed landed) kind tells = tt
-
-listed_block : (c : Contents) (ulid : ℕ) (after : List ℕ) (limit : ℕ) (r : Reply) → IsReplyTo (BlockPage ulid after limit) r → Tells c (BlockPage ulid after limit) r → Listing (IsPage c (text_of ulid) after limit) r
-listed_block c ulid after limit Clocked kind tells = kind
-listed_block c ulid after limit Stored kind tells = kind
-listed_block c ulid after limit Deleted kind tells = kind
-listed_block c ulid after limit (Found bytes) kind tells = kind
-listed_block c ulid after limit Absent kind tells = kind
-listed_block c ulid after limit (Names names) kind tells = tells
-listed_block c ulid after limit (Failed landed) kind tells = tt
-
--- what is answered to other operations shows nothing of the bucket
-clock_mute : (moment : Moment) (r : Reply) (one : List ℕ) → IsReplyTo (Clock moment) r → shown_by r ≡ Some one → ⊥
-clock_mute moment Clocked one kind is = absurd (cc (is))
-clock_mute moment Stored one kind is = absurd kind
-clock_mute moment (Found others) one kind is = absurd kind
-clock_mute moment Absent one kind is = absurd kind
-clock_mute moment Deleted one kind is = absurd kind
-clock_mute moment (Names names) one kind is = absurd kind
-clock_mute moment (Failed landed) one kind is = absurd kind
-
-put_mute : (k : Key) (bytes : List ℕ) (r : Reply) (one : List ℕ) → IsReplyTo (Put k bytes) r → shown_by r ≡ Some one → ⊥
-put_mute k bytes Clocked one kind is = absurd kind
-put_mute k bytes Stored one kind is = absurd (cc (is))
-put_mute k bytes (Found others) one kind is = absurd kind
-put_mute k bytes Absent one kind is = absurd kind
-put_mute k bytes Deleted one kind is = absurd kind
-put_mute k bytes (Names names) one kind is = absurd kind
-put_mute k bytes (Failed landed) one kind is = absurd (cc (is))
-
-delete_mute : (k : Key) (r : Reply) (one : List ℕ) → IsReplyTo (Delete k) r → shown_by r ≡ Some one → ⊥
-delete_mute k Clocked one kind is = absurd kind
-delete_mute k Stored one kind is = absurd kind
-delete_mute k (Found others) one kind is = absurd kind
-delete_mute k Absent one kind is = absurd kind
-delete_mute k Deleted one kind is = absurd (cc (is))
-delete_mute k (Names names) one kind is = absurd kind
-delete_mute k (Failed landed) one kind is = absurd (cc (is))
+  names_shown : ((bytes : List ℕ) → ¬ IsReplyTo o (Found bytes)) → ¬ IsReplyTo o Absent → (names : List (List ℕ)) × Tells c o (Names names) × (text ≡ names_text names)
+  names_shown no_object no_absence = elim (shows reply text is) [
+    | inl (bytes, same) ↦ absurd (no_object bytes (subst (IsReplyTo o) same kind))
+    | inr (inl same) ↦ absurd (no_absence (subst (IsReplyTo o) same kind))
+    | inr (inr (names, same)) ↦ (names, subst (Tells c o) same tells, cc (is, ap shown_by same))
+  ]
 
 one_reply : (c : Contents) (o : Op) (shown owed : Reply) (one other : List ℕ) → IsReplyTo o shown → Tells c o shown → IsReplyTo o owed → Tells c o owed → shown_by shown ≡ Some one → shown_by owed ≡ Some other → one ≡ other
-one_reply c (Clock moment) shown owed one other kind tells kind' tells' is is' = absurd (clock_mute moment shown one kind is)
-one_reply c (Put k bytes) shown owed one other kind tells kind' tells' is is' = absurd (put_mute k bytes shown one kind is)
-one_reply c (Delete k) shown owed one other kind tells kind' tells' is is' = absurd (delete_mute k shown one kind is)
+one_reply c (Clock moment) shown owed one other kind tells kind' tells' is is' = absurd (nothing_shown c (Clock moment) shown one kind tells is (λ bytes no. no) (λ no. no) (λ names no. no))
+one_reply c (Put k bytes) shown owed one other kind tells kind' tells' is is' = absurd (nothing_shown c (Put k bytes) shown one kind tells is (λ bytes no. no) (λ no. no) (λ names no. no))
+one_reply c (Delete k) shown owed one other kind tells kind' tells' is is' = absurd (nothing_shown c (Delete k) shown one kind tells is (λ bytes no. no) (λ no. no) (λ names no. no))
 one_reply c (Get k) shown owed one other kind tells kind' tells' is is' =
-    object_shows (c (key_text k)) (c (key_text k)) shown owed one other (λ none. none) (got c k shown kind tells) (got c k owed kind' tells') is is'
+    object_shown c (Get k) shown one kind tells is (c (key_text k)) (λ bytes found. found) (λ none. none) (λ names no. no)
+    ∙ sym (object_shown c (Get k) owed other kind' tells' is' (c (key_text k)) (λ bytes found. found) (λ none. none) (λ names no. no))
 one_reply c (GetRange k start len) shown owed one other kind tells kind' tells' is is' =
-    object_shows (c (key_text k)) (option_map (range_of start len) (c (key_text k))) shown owed one other (λ none. ap (option_map (range_of start len)) none) (got_range c k start len shown kind tells) (got_range c k start len owed kind' tells') is is'
+    let part : Option (List ℕ) = option_map (range_of start len) (c (key_text k)) in
+    object_shown c (GetRange k start len) shown one kind tells is part (λ bytes found. found) (λ none. ap (option_map (range_of start len)) none) (λ names no. no)
+    ∙ sym (object_shown c (GetRange k start len) owed other kind' tells' is' part (λ bytes found. found) (λ none. ap (option_map (range_of start len)) none) (λ names no. no))
 one_reply c (RootPage after limit) shown owed one other kind tells kind' tells' is is' =
-    page_shows (IsPage c [] after limit) shown owed one other (λ a b. same_page c [] after limit a b []) (listed c after limit shown kind tells) (listed c after limit owed kind' tells') is is'
+    let own = names_shown c (RootPage after limit) shown one kind tells is (λ bytes no. no) (λ no. no) in
+    let due = names_shown c (RootPage after limit) owed other kind' tells' is' (λ bytes no. no) (λ no. no) in
+    own.2 ∙ ap names_text (same_page c [] after limit own.0 due.0 [] own.1 due.1) ∙ sym due.2
 one_reply c (BlockPage ulid after limit) shown owed one other kind tells kind' tells' is is' =
-    page_shows (IsPage c (text_of ulid) after limit) shown owed one other (λ a b. same_page c (text_of ulid) after limit a b []) (listed_block c ulid after limit shown kind tells) (listed_block c ulid after limit owed kind' tells') is is'
+    let own = names_shown c (BlockPage ulid after limit) shown one kind tells is (λ bytes no. no) (λ no. no) in
+    let due = names_shown c (BlockPage ulid after limit) owed other kind' tells' is' (λ bytes no. no) (λ no. no) in
+    own.2 ∙ ap names_text (same_page c (text_of ulid) after limit own.0 due.0 [] own.1 due.1) ∙ sym due.2
 
 -- a reply of the operation's kind that shows what stands is no lie
 pub no_lie : (before : List Entry) (e : Entry) (x y : ℕ) → IsReplyTo e.op e.reply → Tells (stands before) e.op e.reply → ¬ IsLie before e x y

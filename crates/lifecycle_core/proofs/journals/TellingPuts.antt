@@ -1,4 +1,5 @@
 -- The runs of a script put nothing but objects with which the script's blocks are shipped.
+use Rattle.lifecycle_core.proofs.blocks.Declared.{declared_ulid}
 use Rattle.std.proofs.Common.{◌≡◌, inl, inr, ℕ, ◌+◌, ◌==◌, Bool, true, false, List, [], ◌∷◌, ◌++◌, map, length, Contains, Option, Some, None, refl, sym, ◌∙◌, ap, subst, arith}
 use Rattle.std.specs.Prelude.{find}
 use Rattle.std.specs.List.{All, AllByRecursion}
@@ -33,9 +34,9 @@ use Rattle.lifecycle_core.specs.Phases.{IsRunOf, PhaseRun, PhasesRun, TasksRun, 
 use Rattle.lifecycle_core.specs.Shipped.{AreBuilt, IsShipped}
 use Rattle.lifecycle_core.specs.Tasks.{End, QueryTask, TaskRun, asked_by, sync_rules, view_after}
 use Rattle.lifecycle_core.specs.Views.{Use, Views, no_views, view_of}
-use Rattle.lifecycle_core.proofs.misses.Explaining.{of_map, parted}
+use Rattle.lifecycle_core.proofs.misses.Explaining.{parted}
 use Rattle.lifecycle_core.proofs.misses.GatewayEntries.{calls, syncs}
-use Rattle.lifecycle_core.proofs.Lists.{contains_first, contains_later}
+use Rattle.lifecycle_core.proofs.Lists.{contains_first, contains_later, of_map}
 use Rattle.lifecycle_core.proofs.journals.Positions.{filtered, stands_in, zip_right}
 use Rattle.lifecycle_core.proofs.journals.RunEntries.{IsRead}
 use Rattle.lifecycle_core.proofs.journals.Told.{IsShippedObject}
@@ -115,20 +116,6 @@ objects_under ulid segments index meta =
 
 built_under : (block : Block) (body : Body) (objects : List Object) → AreBuilt block body objects → AreUnder block.ulid objects
 built_under block (Inline low high series) objects (plan, is, are) = subst (AreUnder block.ulid) (sym are) (objects_under block.ulid (segments_of series) plain_index (meta_text (built_meta plan series)))
-
-passes_first : {X : Type 0} (p : X → Bool) (x : X) (xs : List X) (y : X) (b : Bool) → p x ≡ b → (find p xs ≡ Some y → p y ≡ true) → find p (x ∷ xs) ≡ Some y → p y ≡ true
-passes_first p x xs y true test later is = let same : x ≡ y = cc (rw test at is) in subst (λ z. p z ≡ true) same test
-passes_first p x xs y false test later is = later (rw test at is)
-
-find_passes : {X : Type 0} (p : X → Bool) (xs : List X) (y : X) → find p xs ≡ Some y → p y ≡ true
-find_passes p [] y is = absurd (cc (is))
-find_passes p (x ∷ xs) y is = passes_first p x xs y (p x) refl (find_passes p xs y) is
-
--- what is declared under a ULID has it
-pub declared_ulid : (script : Script) (ulid : ℕ) (block : Block) → declared script ulid ≡ Some block → block.ulid ≡ ulid
-declared_ulid script ulid block is =
-    let test : (block.ulid == ulid) ≡ true = find_passes (λ (b : Block). b.ulid == ulid) script.blocks block is in
-    grind (arith, nat_tests, test)
 
 -- an object that is shipped for a declared block
 shipped_object : (script : Script) (ulid : ℕ) (block : Block) (objects : List Object) (k : Key) (bytes : List ℕ) → declared script ulid ≡ Some block → IsShipped block objects → Contains objects (record { key = k; bytes = bytes }) → IsShippedObject script k bytes

@@ -1,4 +1,5 @@
 -- A call that misses an object reads what was put, so that the bucket lied: in every lawful journal of a script.
+use Rattle.ulid_core.proofs.UlidLaws.{length-text_of}
 use Rattle.std.proofs.Common.{◌≡◌, ◌≢◌, ◌⊎◌, inl, inr, ℕ, zero, suc, ◌+◌, ◌-◌, ◌≤◌, ◌==◌, Bool, true, false, cond, IsTrue, List, [], ◌∷◌, ◌++◌, map, length, get_or, codes, Contains, Option, Some, None, refl, sym, ◌∙◌, ap, subst, append_assoc, append-nil, arith}
 use Rattle.std.specs.Prelude.{slice_get}
 use Rattle.std.specs.List.{fold}
@@ -34,18 +35,13 @@ use Rattle.lifecycle_core.specs.Causes.{AreFound, AreMissesExplained, IsExplaine
 use Rattle.lifecycle_core.specs.Phases.{IsRunOf, PhaseRun, PhasesRun, WorkerRun, of_seat}
 use Rattle.lifecycle_core.specs.Tasks.{End, answered}
 use Rattle.lifecycle_core.specs.Views.{Use, Views, no_views, view_of}
-use Rattle.lifecycle_core.proofs.Lists.{contains_first}
+use Rattle.lifecycle_core.proofs.Lists.{contains_first, of_map}
 use Rattle.lifecycle_core.proofs.misses.Misses.{Leaves, MissesAt, ViewSeen, misses_within, seen_among, tasks_in_order, tasks_leave, view_among}
 use Rattle.lifecycle_core.proofs.phases.PhaseViews.{views_left}
 use Rattle.lifecycle_core.proofs.journals.Positions.{filtered, of_filter, split, stands_in, unfilter, zip_left, zip_right}
 use Rattle.lifecycle_core.proofs.journals.RunEntries.{HasPut, PrecedesMeta, IsInOrder, in_order_at, more_before}
 
 -- ---- a phase
-
-pub of_map : {X Y : Type 0} (f : X → Y) (xs : List X) (y : Y) → Contains (map f xs) y → (x : X) × Contains xs x × (f x ≡ y)
-of_map f [] y (k, below, is) = absurd (omega (arith, below))
-of_map f (x ∷ xs) y (zero, below, is) = (x, contains_first x xs, is)
-of_map f (x ∷ xs) y (suc k, below, is) = let rest = of_map f xs y (k, omega (arith, below), is) in (rest.0, Contains-append_right (x ∷ []) xs rest.0 rest.1, rest.2)
 
 more_left : (before one other : List Entry) → ((x : Entry) → Contains one x → Contains other x) → (x : Entry) → Contains (before ++ one) x → Contains (before ++ other) x
 more_left before one other more x among = elim (Contains-append_cases before one x among) [
@@ -246,10 +242,6 @@ was_put (x ∷ entries) c text bytes holds = elim (was_put entries (left_by x.op
 
 -- ---- texts of keys
 
-text_length : (ulid : ℕ) → length (text_of ulid) ≡ 26
-unfolding text_of
-text_length ulid = length-map (fixed_digits 32 26 ulid) character ∙ length-fixed_digits 32 26 ulid
-
 same_front : (one other rest more : List ℕ) → length one ≡ length other → one ++ rest ≡ other ++ more → (one ≡ other) × (rest ≡ more)
 same_front [] [] rest more n is = (refl, is)
 same_front [] (y ∷ other) rest more n is = absurd (omega (arith, n))
@@ -258,7 +250,7 @@ same_front (x ∷ one) (y ∷ other) rest more n is = let tail = same_front one 
 
 same_name : (k : Key) (ulid other : ℕ) → text_of other ++ codes "/" ++ name_of k ≡ text_of ulid ++ codes "/" ++ name_of (key.Meta ulid) → (text_of other ≡ text_of ulid) × (name_of k ≡ name_of (key.Meta ulid))
 same_name k ulid other is =
-    let n : length (text_of other ++ codes "/") ≡ length (text_of ulid ++ codes "/") = omega (arith, length-append (text_of other) (codes "/"), length-append (text_of ulid) (codes "/"), text_length other, text_length ulid) in
+    let n : length (text_of other ++ codes "/") ≡ length (text_of ulid ++ codes "/") = omega (arith, length-append (text_of other) (codes "/"), length-append (text_of ulid) (codes "/"), length-text_of other, length-text_of ulid) in
     let parts = same_front (text_of other ++ codes "/") (text_of ulid ++ codes "/") (name_of k) (name_of (key.Meta ulid)) n is in
     (append_cancel_right (text_of other) (text_of ulid) (codes "/") parts.0, parts.1)
 

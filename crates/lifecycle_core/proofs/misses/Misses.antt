@@ -1,9 +1,10 @@
 -- What the runs of a script's phases have in common: nothing is deleted, a block's meta is put last, and a call that misses an
 -- object reads a block whose meta was found before.
+use Rattle.lifecycle_core.proofs.blocks.Declared.{declared_among}
 use Rattle.std.proofs.Common.{◌≡◌, inl, inr, ℕ, zero, suc, ◌==◌, Bool, true, false, List, [], ◌∷◌, ◌++◌, Contains, Option, Some, None, refl, sym, ◌∙◌, ap, subst, append_assoc, append-nil, arith}
 use Rattle.std.specs.Prelude.{option_map, find}
 use Rattle.std.specs.List.{All}
-use Rattle.std.proofs.lemmas.List.Elements.{All-tail, Contains-append_cases, Contains-append_left, Contains-append_right}
+use Rattle.std.proofs.lemmas.List.Elements.{All-contains, All-head, All-tail, Contains-append_cases, Contains-append_left, Contains-append_right}
 use Rattle.block_keys.specs.declared.key.Key.{Key}
 use Rattle.block_keys.specs.declared.object.Object.{Object}
 use Rattle.block_meta.specs.MetaValue.{meta_text}
@@ -34,19 +35,10 @@ use Rattle.lifecycle_core.specs.Shipped.{AreBuilt}
 use Rattle.lifecycle_core.specs.Tasks.{End, QueryTask, TaskRun, answered, asked_by, last_number, synced, sync_rules, uploaded, view_after}
 use Rattle.lifecycle_core.specs.Views.{Use}
 use Rattle.lifecycle_core.proofs.misses.GatewayEntries.{IsSeen, calls, seen_left, syncs}
-use Rattle.lifecycle_core.proofs.Lists.{all_first}
 use Rattle.lifecycle_core.proofs.journals.RunEntries.{AreInOrder, PrecedesMeta, all_read, in_order_both, more_before, upload_in_order}
 use Rattle.lifecycle_core.proofs.phases.TaskRuns.{task_leaves}
 
 -- ---- the order of one task's entries
-
-find_first : {X : Type 0} (P : X → Type 0) (p : X → Bool) (x : X) (xs : List X) (y : X) (b : Bool) → p x ≡ b → P x → (find p xs ≡ Some y → P y) → find p (x ∷ xs) ≡ Some y → P y
-find_first P p x xs y true test own later is = let same : x ≡ y = cc (rw test at is) in subst P same own
-find_first P p x xs y false test own later is = later (rw test at is)
-
-pub find_holds : {X : Type 0} (P : X → Type 0) (p : X → Bool) (xs : List X) (y : X) → All P xs → find p xs ≡ Some y → P y
-find_holds P p [] y all is = absurd (cc (is))
-find_holds P p (x ∷ xs) y all is = find_first P p x xs y (p x) refl (all_first P x xs all) (find_holds P p xs y (All-tail P x xs all)) is
 
 built_in_order : (block : Block) (body : Body) (objects : List Object) (entries : List Entry) (end : Option UploadEnd) → HasSeries body → AreBuilt block body objects → UploadRun block.ulid objects entries end → AreInOrder [] entries
 unfolding objects_of segments_of segment_objects
@@ -62,7 +54,7 @@ query_in_order script (Some used) (Some q) entries end (own, run, is) =
 
 task_in_order : (script : Script) → IsLawfulScript script → (view : Option Use) (w : Work) (entries : List Entry) (end : Option End) → TaskRun script view w entries end → AreInOrder [] entries
 task_in_order script lawful view (Upload ulid stop) entries end (block, is, (objects, own, shipped, run, how)) =
-    built_in_order block block.body objects entries own (find_holds (λ (b : Block). HasSeries b.body) (λ (b : Block). b.ulid == ulid) script.blocks block lawful.full is) shipped run
+    built_in_order block block.body objects entries own (All-contains (λ (b : Block). HasSeries b.body) script.blocks block lawful.full (declared_among script ulid block is)) shipped run
 task_in_order script lawful view (Sync gateway) entries end (own, run, is) = all_read [] entries (syncs (sync_rules script.rules) [] entries own run).reads
 task_in_order script lawful view (Query low high selector) entries end run = query_in_order script view (asked_by script selector low high) entries end run
 

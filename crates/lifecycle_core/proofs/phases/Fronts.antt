@@ -1,10 +1,11 @@
 -- Fronts of lawful journals are lawful.
+use Rattle.std.proofs.lemmas.Bool.{or_parts}
 use Rattle.std.proofs.Common.{◌≡◌, ◌≢◌, ◌⊎◌, inl, inr, ℕ, ◌+◌, ◌==◌, Bool, true, false, ◌||◌, cond, List, [], ◌∷◌, ◌++◌, length, map, Contains, Option, Some, None, refl, sym, ◌∙◌, ap, subst, arith, append_assoc, append-nil}
 use Rattle.std.specs.Prelude.{get_or, slice_get, ◌<◌, ◌≤◌, ◌^◌}
 use Rattle.std.proofs.lemmas.List.{length-append}
 use Rattle.std.specs.List.{All, AllByRecursion, AllZip, filter, list_any}
 use Rattle.std.proofs.lemmas.Bool.Decides.{nat_tests}
-use Rattle.std.proofs.lemmas.List.Elements.{All-cons, All-contains, All-contains_itself, All-nil, All-tail, Contains-append_left, filter-append}
+use Rattle.std.proofs.lemmas.List.Elements.{All-cons, All-contains, All-contains_itself, All-head, All-nil, All-tail, Contains-append_left, filter-append}
 use Rattle.world_core.specs.Journals.{Each}
 use Rattle.world_core.specs.Moments.{moment_after, last_moment}
 use Rattle.world_core.specs.Operations.{IsLawful, IsReplyTo}
@@ -22,7 +23,6 @@ use Rattle.lifecycle_core.specs.Phases.{AreDone, IsLawfulJournal, IsRunOf, Phase
 use Rattle.lifecycle_core.specs.Tasks.{End, TaskRun, view_after}
 use Rattle.lifecycle_core.specs.Views.{Use, Views, no_views, view_of, with_view}
 use Rattle.lifecycle_core.proofs.phases.HandLists.{Apart, joins_from}
-use Rattle.lifecycle_core.proofs.Lists.{all_first}
 use Rattle.lifecycle_core.proofs.phases.RunFronts.{not_nil, task_cut}
 
 -- ---- two ways to part a list
@@ -81,10 +81,6 @@ gateway_is (hands.Gateway own) gateway is = ap hands.Gateway (cc (is))
 
 same_gateways : (gateway : ℕ) (hand : Hand) → hand ≡ hands.Gateway gateway → same_hand (hands.Gateway gateway) hand ≡ true
 same_gateways gateway hand is = subst (λ (h : Hand). same_hand (hands.Gateway gateway) h ≡ true) (sym is) (grind (arith, nat_tests))
-
-or_parts : (a b : Bool) → (a || b) ≡ false → (a ≡ false) × (b ≡ false)
-or_parts true b is = absurd (cc (is))
-or_parts false b is = (refl, is)
 
 others_apart : (gateways before gateway : ℕ) (tasks : List Task) (hs : List Hand) → list_any (same_hand (hands.Gateway gateway)) hs ≡ false → All (λ (x : Worker). x.gateway ≢ Some gateway) (workers_from gateways before tasks hs)
 unfolding workers_from
@@ -145,7 +141,7 @@ kept_by : (views : Views) (ws : List Worker) (lasts : List (Option Use)) (gatewa
 kept_by views [] lasts gateway none = refl
 kept_by views (w ∷ ws) [] gateway none = refl
 kept_by views (w ∷ ws) (last ∷ lasts) gateway none =
-    other_view (left_by ws lasts views) w.gateway gateway last (all_first (λ (x : Worker). x.gateway ≢ Some gateway) w ws none)
+    other_view (left_by ws lasts views) w.gateway gateway last (All-head (λ (x : Worker). x.gateway ≢ Some gateway) w ws none)
     ∙ kept_by views ws lasts gateway (All-tail (λ (x : Worker). x.gateway ≢ Some gateway) w ws none)
 
 module _ (script : Script) (tasks : List Task) (views : Views) (entries : List Entry) where
@@ -160,7 +156,7 @@ module _ (script : Script) (tasks : List Task) (views : Views) (entries : List E
   agree_more after o used [] lasts apart own = tt
   agree_more after o used (w ∷ ws) [] apart own = tt
   agree_more after o used (w ∷ ws) (last ∷ lasts) apart own = (
-    λ gateway is. other_view after o gateway used (λ same. all_first (λ (x : Worker). x.gateway ≢ Some gateway) w ws (apart gateway same) is) ∙ own.0 gateway is,
+    λ gateway is. other_view after o gateway used (λ same. All-head (λ (x : Worker). x.gateway ≢ Some gateway) w ws (apart gateway same) is) ∙ own.0 gateway is,
     agree_more after o used ws lasts (λ gateway same. All-tail (λ (x : Worker). x.gateway ≢ Some gateway) w ws (apart gateway same)) own.1,
   )
 

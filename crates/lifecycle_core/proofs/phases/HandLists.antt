@@ -1,4 +1,5 @@
 -- The hands of a phase: each duty's hand is among them, each once, and there are no more than duties.
+use Rattle.std.proofs.lemmas.Bool.{or_from, or_left, or_parts, or_right}
 use Rattle.std.proofs.Common.{◌≡◌, ℕ, ◌+◌, ◌≤◌, Bool, true, false, ◌||◌, cond, List, [], ◌∷◌, ◌++◌, length, map, refl, sym, ◌∙◌, ap, subst, arith}
 use Rattle.std.specs.Prelude.{fold}
 use Rattle.std.specs.List.{AllByRecursion, list_any}
@@ -21,20 +22,6 @@ same_turned (hands.Upload a) (hands.Gateway b) = refl
 same_turned (hands.Gateway a) (hands.Upload b) = refl
 same_turned (hands.Gateway a) (hands.Gateway b) = grind (arith, nat_tests)
 
-or_left : (a b : Bool) → a ≡ true → (a || b) ≡ true
-or_left a b e = rw e refl
-
-or_right : (a b : Bool) → b ≡ true → (a || b) ≡ true
-or_right true b e = refl
-or_right false b e = e
-
-or_none : (a b : Bool) → (a || b) ≡ false → (a ≡ false) × (b ≡ false)
-or_none true b e = absurd (cc (e))
-or_none false b e = (refl, e)
-
-both_none : (a b : Bool) → a ≡ false → b ≡ false → (a || b) ≡ false
-both_none a b e f = rw (e, f) refl
-
 -- each hand once
 abbrev pub Apart : List Hand → Type 0
 Apart [] = Unit {0}
@@ -43,8 +30,8 @@ Apart (hand ∷ others) = (list_any (same_hand hand) others ≡ false) × Apart 
 apart_more : (others : List Hand) (hand : Hand) → Apart others → list_any (same_hand hand) others ≡ false → Apart (others ++ hand ∷ [])
 apart_more [] hand apart none = (refl, tt)
 apart_more (x ∷ xs) hand apart none =
-    let parts = or_none (same_hand hand x) (list_any (same_hand hand) xs) none in (
-      list_any-append (same_hand x) xs (hand ∷ []) ∙ both_none (list_any (same_hand x) xs) (same_hand x hand || false) apart.0 (both_none (same_hand x hand) false (same_turned x hand ∙ parts.0) refl),
+    let parts = or_parts (same_hand hand x) (list_any (same_hand hand) xs) none in (
+      list_any-append (same_hand x) xs (hand ∷ []) ∙ or_from (list_any (same_hand x) xs) (same_hand x hand || false) apart.0 (or_from (same_hand x hand) false (same_turned x hand ∙ parts.0) refl),
       apart_more xs hand apart.1 parts.1,
     )
 

@@ -1,7 +1,7 @@
 -- Runs in line one after another.
 use Rattle.std.proofs.Common.{◌≡◌, ℕ, zero, suc, ◌+◌, ◌<◌, ◌≤◌, List, [], ◌∷◌, ◌++◌, length, map, take, drop, get_or, refl, sym, ◌∙◌, ap, subst, inl, inr, arith, append_assoc, take-append-drop}
 use Rattle.std.specs.List.{All, AllByRecursion}
-use Rattle.std.proofs.lemmas.List.Elements.{All-nil, All-tail}
+use Rattle.std.proofs.lemmas.List.Elements.{All-head, All-nil, All-tail}
 use Rattle.std.proofs.lemmas.List.{take_more}
 use Rattle.world_core.specs.declared.entry.Entry.{Entry}
 use Rattle.script_core.specs.Hands.{gateway_of, hands_of_task}
@@ -12,7 +12,6 @@ use Rattle.script_core.specs.declared.task.Task.{Task}
 use Rattle.lifecycle_core.specs.InLine.{Duty, duties_from, InLine, PhasesInLine}
 use Rattle.lifecycle_core.specs.Tasks.{End, view_after}
 use Rattle.lifecycle_core.specs.Views.{Views, view_of, with_view}
-use Rattle.lifecycle_core.proofs.Lists.{all_first}
 use Rattle.lifecycle_core.proofs.phases.TaskRuns.{MayBegin}
 
 -- the work of each duty may begin
@@ -99,7 +98,7 @@ pub duties_begin : (script : Script) (gateways place : ℕ) (tasks : List Task) 
 unfolding duties_from
 duties_begin script gateways place [] all = tt
 duties_begin script gateways place (task ∷ tasks) all =
-    one_begins script place task (hands_of_task gateways place task.work) (duties_from gateways (place + 1) tasks) (all_first (λ t. MayBegin script t.work) task tasks all)
+    one_begins script place task (hands_of_task gateways place task.work) (duties_from gateways (place + 1) tasks) (All-head (λ t. MayBegin script t.work) task tasks all)
     (duties_begin script gateways (place + 1) tasks (All-tail (λ t. MayBegin script t.work) task tasks all))
 
 -- ---- phases

@@ -1,9 +1,10 @@
 -- A phase whose tasks are done in line is a run of the phase.
+use Rattle.std.proofs.lemmas.Bool.{or_left, or_right}
 use Rattle.std.proofs.Common.{◌≡◌, ◌≢◌, ℕ, suc, ◌+◌, ◌<◌, ◌≤◌, Bool, true, false, ◌||◌, cond, List, [], ◌∷◌, length, map, refl, sym, ◌∙◌, ap, subst, inl, inr, arith}
 use Rattle.std.specs.Prelude.{◌==◌, Option, Some, slice_get}
 use Rattle.std.specs.List.{All, AllByRecursion, AllZip, Contains, zip, list_any}
 use Rattle.std.proofs.lemmas.Bool.Decides.{nat_tests}
-use Rattle.std.proofs.lemmas.List.Elements.{All-tail, All-append, All-nil}
+use Rattle.std.proofs.lemmas.List.Elements.{All-append, All-head, All-nil, All-tail}
 use Rattle.std.proofs.lemmas.List.{length-map}
 use Rattle.std.proofs.lemmas.Option.{slice_get_within, get_or_from_slice_get}
 use Rattle.world_core.specs.declared.entry.Entry.{Entry}
@@ -19,18 +20,11 @@ use Rattle.lifecycle_core.specs.Tasks.{End, view_after}
 use Rattle.lifecycle_core.specs.Views.{Use, Views, view_of, with_view}
 use Rattle.lifecycle_core.proofs.phases.Duties.{same_is, same_self, part, ends_by, tasks_of}
 use Rattle.lifecycle_core.proofs.phases.HandLists.{JoinsAll, joins_from, hands_in}
-use Rattle.lifecycle_core.proofs.Lists.{all_first, contains_first, contains_later}
+use Rattle.lifecycle_core.proofs.Lists.{contains_first, contains_later}
 use Rattle.lifecycle_core.proofs.phases.Places.{IsDuty, all_duties, places_are, places_in, tasks_at, upload_place}
 use Rattle.lifecycle_core.proofs.phases.Workers.{IsPlaced, IsWorkerOf, each_worker, seat_among}
 use Rattle.lifecycle_core.proofs.phases.TaskRuns.{MayBegin}
 use Rattle.lifecycle_core.proofs.phases.WorkerRuns.{Fits, did}
-
-or_left : (a b : Bool) → a ≡ true → (a || b) ≡ true
-or_left a b e = rw e refl
-
-or_right : (a b : Bool) → b ≡ true → (a || b) ≡ true
-or_right true b e = refl
-or_right false b e = e
 
 pub zip_weaken : {A B : Type 0} (R S : A → B → Type 0) → ((a : A) (b : B) → R a b → S a b) → (xs : List A) (ys : List B) → AllZip R xs ys → AllZip S xs ys
 zip_weaken R S f [] [] all = tt
@@ -114,7 +108,7 @@ no_worker : (gateways before gateway : ℕ) (tasks : List Task) (all : List Work
 no_worker gateways before gateway tasks all [] workers zipped none found = absurd (cc (found))
 no_worker gateways before gateway tasks all (h ∷ hs) [] zipped none found = absurd zipped
 no_worker gateways before gateway tasks all (h ∷ hs) (w ∷ ws) zipped none found =
-    no_first gateways before gateway tasks all h w (same_hand (hands.Gateway gateway) h) (list_any (same_hand (hands.Gateway gateway)) hs) refl zipped.0 (all_first (λ (x : Worker). x.gateway ≢ Some gateway) w ws none)
+    no_first gateways before gateway tasks all h w (same_hand (hands.Gateway gateway) h) (list_any (same_hand (hands.Gateway gateway)) hs) refl zipped.0 (All-head (λ (x : Worker). x.gateway ≢ Some gateway) w ws none)
     (no_worker gateways before gateway tasks all hs ws zipped.1 (All-tail (λ (x : Worker). x.gateway ≢ Some gateway) w ws none)) found
 
 apart_from : (gateways before gateway : ℕ) (tasks : List Task) (all : List Worker) (hs : List Hand) (workers : List Worker) (ds : List Duty) → AllZip (IsWorkerOf gateways tasks before all) hs workers

@@ -3,8 +3,7 @@ use Rattle.std.proofs.Common.{◌≡◌, ℕ, ℤ, zero, suc, ◌<◌, Bool, tru
 use Rattle.std.specs.Prelude.{◌==◌, Option, Some, None, option_map, slice_get, codes, find}
 use Rattle.std.specs.List.{All, list_any}
 use Rattle.std.specs.List.Sorted.{IsStrictlyIncreasing}
-use Rattle.std.proofs.lemmas.List.Elements.{All-tail}
-use Rattle.lifecycle_core.proofs.Lists.{all_first}
+use Rattle.std.proofs.lemmas.List.Elements.{All-head, All-tail}
 use Rattle.world_core.specs.declared.entry.Entry.{Entry}
 use Rattle.block_keys.specs.declared.object.Object.{Object}
 use Rattle.block_meta.specs.declared.block_plan.BlockPlan.{BlockPlan}
@@ -38,7 +37,7 @@ found_first P p x xs false is own later e =
 
 found_by : {X : Type 0} (P : X → Type 0) (p : X → Bool) (xs : List X) → All P xs → list_any p xs ≡ true → (x : X) × (find p xs ≡ Some x) × P x
 found_by P p [] all e = absurd (cc (e))
-found_by P p (x ∷ xs) all e = found_first P p x xs (p x) refl (all_first P x xs all) (found_by P p xs (All-tail P x xs all)) e
+found_by P p (x ∷ xs) all e = found_first P p x xs (p x) refl (All-head P x xs all) (found_by P p xs (All-tail P x xs all)) e
 
 one_rises : (n : ℕ) → IsStrictlyIncreasing (n ∷ [])
 one_rises n = λ k below. absurd (omega (arith, below))

@@ -1,4 +1,5 @@
 -- The workers of a phase by their hands, and that no two of them have one seat.
+use Rattle.std.proofs.lemmas.Bool.{or_parts}
 use Rattle.std.proofs.Common.{◌≡◌, ◌≢◌, ◌⊎◌, ℕ, ◌+◌, ◌<◌, ◌≤◌, Bool, true, false, ◌||◌, cond, List, [], ◌∷◌, length, map, refl, sym, ◌∙◌, ap, subst, inl, inr, arith}
 use Rattle.std.specs.Prelude.{◌==◌}
 use Rattle.std.specs.List.{AllByRecursion, AllZip, Contains, list_any}
@@ -20,10 +21,6 @@ module _ (gateways : ℕ) (tasks : List Task) where
   or_false : (a : Bool) → (a || false) ≡ a
   or_false true = refl
   or_false false = refl
-
-  or_parts : (a b : Bool) → (a || b) ≡ false → (a ≡ false) × (b ≡ false)
-  or_parts true b e = absurd (cc (e))
-  or_parts false b e = (refl, e)
 
   serves_is : (hand x : Hand) → IsPlaced hand → serves x (gateway_of hand) (places_from gateways hand 0 tasks) ≡ same_hand hand x
   serves_is (hands.Upload a) (hands.Upload b) placed = rw (placed a refl) (or_false (a == b))

@@ -1,5 +1,6 @@
 -- A sync of a journal that tells of a script's blocks does not find too many names: each name that its pages list is that of a
 -- declared block, they strictly ascend, and a script declares fewer blocks.
+use Rattle.lifecycle_core.proofs.blocks.Declared.{declared_among, declared_ulid}
 use Rattle.std.proofs.Common.{◌≡◌, inl, inr, ℕ, suc, zero, ◌≤◌, ◌==◌, true, List, [], ◌∷◌, ◌++◌, map, length, Contains, Option, Some, None, sym, ◌∙◌, ap, subst, arith}
 use Rattle.std.specs.Prelude.{nat_le, unwrap_or}
 use Rattle.std.specs.List.{All, last_or}
@@ -26,9 +27,7 @@ use Rattle.lifecycle_core.specs.Views.{Use}
 use Rattle.lifecycle_core.proofs.answers.Members.{into_map}
 use Rattle.lifecycle_core.proofs.misses.Explaining.{parted}
 use Rattle.lifecycle_core.proofs.Lists.{contains_first, contains_later}
-use Rattle.lifecycle_core.proofs.misses.Misses.{find_holds}
 use Rattle.lifecycle_core.proofs.phases.TasksMade.{ends_are_made}
-use Rattle.lifecycle_core.proofs.journals.TellingPuts.{declared_ulid}
 use Rattle.lifecycle_core.proofs.journals.Told.{IsDeclaredName, IsPart, IsReadable, IsTold, Rises}
 use Rattle.lifecycle_core.proofs.views.TrueViews.{not_in_view, own_entries}
 use Rattle.lifecycle_core.proofs.views.Finds.{IsOwn}
@@ -77,7 +76,7 @@ texts_of script = map (λ (b : Block). text_of b.ulid) script.blocks
 
 declared_text : (script : Script) (name : List ℕ) → IsDeclaredName script name → Contains (texts_of script) name
 declared_text script name (ulid, block, is, same) =
-    let among : Contains script.blocks block = find_holds (Contains script.blocks) (λ (b : Block). b.ulid == ulid) script.blocks block (All-contains_itself script.blocks) is in
+    let among : Contains script.blocks block = declared_among script ulid block is in
     subst (Contains (texts_of script)) (ap text_of (declared_ulid script ulid block is) ∙ sym same) (into_map (λ (b : Block). text_of b.ulid) script.blocks block among)
 
 -- what was listed: names of declared blocks, in order

@@ -1,5 +1,6 @@
 -- What is found under the key of a block's meta, where it is an object with which the script's block is shipped; and that no such
 -- object is under the key of a mark.
+use Rattle.lifecycle_core.proofs.blocks.Declared.{declared_ulid}
 use Rattle.std.proofs.Common.{◌≡◌, ℕ, suc, zero, ◌+◌, ◌==◌, eqb, Bool, true, false, List, [], ◌∷◌, ◌++◌, Contains, Some, None, Result, Ok, ℤ, refl, sym, ◌∙◌, ap, subst, arith}
 use Rattle.std.specs.Prelude.{find}
 use Rattle.std.proofs.lemmas.Bool.{eq-eqb, eqb-true, cond-true}
@@ -22,20 +23,6 @@ use Rattle.script_core.specs.declared.script.Script.{Script}
 use Rattle.lifecycle_core.specs.Held.{declared}
 use Rattle.lifecycle_core.specs.Shipped.{AreBuilt, IsPlanOf}
 use Rattle.lifecycle_core.proofs.journals.Told.{IsReadable, IsShippedObject, Spans}
-
--- ---- what is declared
-
-first_found : {X : Type 0} (P : X → Type 0) (p : X → Bool) (x y : X) (xs : List X) (b : Bool) → p x ≡ b → (p x ≡ true → P x) → (find p xs ≡ Some y → P y) → find p (x ∷ xs) ≡ Some y → P y
-first_found P p x y xs true test own later is = let same : x ≡ y = cc (rw test at is) in subst P same (own test)
-first_found P p x y xs false test own later is = later (rw test at is)
-
-find_passes : {X : Type 0} (p : X → Bool) (xs : List X) (y : X) → find p xs ≡ Some y → p y ≡ true
-find_passes p [] y is = absurd (cc (is))
-find_passes p (x ∷ xs) y is = first_found (λ z. p z ≡ true) p x y xs (p x) refl (λ test. test) (find_passes p xs y) is
-
--- a block is declared under its own ULID
-pub declared_ulid : (script : Script) (ulid : ℕ) (block : Block) → declared script ulid ≡ Some block → block.ulid ≡ ulid
-declared_ulid script ulid block is = eqb-true block.ulid ulid (find_passes (λ (b : Block). b.ulid == ulid) script.blocks block is)
 
 -- ---- the objects of a block
 

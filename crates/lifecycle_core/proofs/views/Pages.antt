@@ -5,14 +5,14 @@ use Rattle.std.specs.List.{All, AllByRecursion, cons_option, last_or}
 use Rattle.std.specs.Ordering.{is_lt}
 use Rattle.std.specs.Result.{result_ok}
 use Rattle.std.proofs.lemmas.Bool.{and_from}
-use Rattle.std.proofs.lemmas.List.Elements.{All-tail, Contains-append_left, Contains-append_right}
+use Rattle.std.proofs.lemmas.List.Elements.{All-head, All-tail, Contains-append_left, Contains-append_right}
 use Rattle.ulid_core.specs.UlidText.{text_of, ulid_of}
 use Rattle.ulid_core.specs.declared.refusal.UlidRefusal.{UlidRefusal}
 use Rattle.ulid_core.proofs.UlidLaws.{IsUlidText-text_of, length-text_of, ulid_of-found, ulid_of-only}
 use Rattle.bucket_core.specs.Pages.{Ascends, Before}
 use Rattle.world_core.specs.Walks.{ascends, is_after, last_listed}
 use Rattle.meta_fetcher.specs.Syncs.{ulids_in}
-use Rattle.lifecycle_core.proofs.Lists.{all_first, contains_first, contains_later}
+use Rattle.lifecycle_core.proofs.Lists.{contains_first, contains_later}
 
 -- ---- the order of names
 
@@ -39,7 +39,7 @@ last_joined o (x ∷ xs) ys = last_joined (Some x) xs ys
 
 last_before : (o : Option (List ℕ)) (names : List (List ℕ)) (name : List ℕ) → Before (unwrap_or o []) name → All (λ x. Before x name) names → Before (unwrap_or (last_or o names) []) name
 last_before o [] name less all = less
-last_before o (x ∷ names) name less all = last_before (Some x) names name (all_first (λ y. Before y name) x names all) (All-tail (λ y. Before y name) x names all)
+last_before o (x ∷ names) name less all = last_before (Some x) names name (All-head (λ y. Before y name) x names all) (All-tail (λ y. Before y name) x names all)
 
 -- A name that is after all that were listed and after those of the page is still to be listed.
 pub still_before : (listed names : List (List ℕ)) (name : List ℕ) → Before (unwrap_or (last_listed listed) []) name → All (λ x. Before x name) names → Before (unwrap_or (last_listed (listed ++ names)) []) name

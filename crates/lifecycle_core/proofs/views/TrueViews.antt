@@ -1,5 +1,6 @@
 -- A view whose sync is told of by an honest journal is true of the script: it keeps blocks that the script declares, which were
 -- complete before the sync's last entry, and each one that was settled before the sync began. And no sync finds anything damaged.
+use Rattle.lifecycle_core.proofs.blocks.Declared.{declared_lawful}
 use Rattle.std.proofs.Common.{◌≡◌, ◌≢◌, inl, inr, ℕ, ◌==◌, ◌+◌, ◌<◌, ◌≤◌, ◌^◌, ◌-◌, suc, zero, Bool, true, false, ◌&&◌, cond, List, [], ◌∷◌, Contains, Option, Some, None, ℤ, pos, negsuc, refl, sym, ◌∙◌, ap, subst, arith}
 use Rattle.std.specs.Prelude.{int_le, is_some, neg_ℤ, ◌≤ℤ◌, ◌<ℤ◌}
 use Rattle.std.specs.List.{All, AllByRecursion, filter}
@@ -28,7 +29,6 @@ use Rattle.lifecycle_core.specs.Held.{declared}
 use Rattle.lifecycle_core.specs.Tasks.{all_times, last_number, sync_rules}
 use Rattle.lifecycle_core.specs.Views.{Use}
 use Rattle.lifecycle_core.proofs.Lists.{contains_first, contains_later}
-use Rattle.lifecycle_core.proofs.misses.Misses.{find_holds}
 use Rattle.lifecycle_core.proofs.journals.Told.{IsOrigin, IsPart, IsReadable, IsTold, IsTrueFound, IsTrueView, Rises, Spans}
 use Rattle.lifecycle_core.proofs.views.Finds.{FindsPast, IsOwn, IsPast, IsSighted, finds_past}
 use Rattle.lifecycle_core.proofs.views.Metas.{IsMetaOf, meta_found, no_mark}
@@ -59,7 +59,7 @@ body_within (Inline min_time max_time series) low high lawful (one, other) =
 
 in_partition : (script : Script) → IsLawfulScript script → (f : Found) → IsTrueFound script f → is_in_partition f.meta all_times ≡ true
 in_partition script lawful f t =
-    body_within t.block.body f.meta.min_time f.meta.max_time (find_holds IsLawfulBlock (λ (b : Block). b.ulid == f.ulid) script.blocks t.block lawful.blocks.each t.is).body t.times
+    body_within t.block.body f.meta.min_time f.meta.max_time (declared_lawful script f.ulid t.block t.is lawful).body t.times
 
 consistent : (f : Found) (delay : Span) → time_of f.ulid + delay.ms ≤ f.meta_read.ms → is_consistent f delay ≡ true
 consistent f delay old = or_left _ (is_late_source f.meta.source) (le-leb (time_of f.ulid + delay.ms) f.meta_read.ms old)

@@ -6,7 +6,7 @@ use Rattle.std.specs.List.{All, AllByRecursion, AllZip, list_any}
 use Rattle.std.proofs.Math.Bool.{or-false, or_assoc}
 use Rattle.std.proofs.Math.Nat.{min-le_left}
 use Rattle.std.proofs.lemmas.Bool.Decides.{nat_tests}
-use Rattle.std.proofs.lemmas.List.Elements.{All-cons, All-nil, All-tail}
+use Rattle.std.proofs.lemmas.List.Elements.{All-cons, All-head, All-nil, All-tail}
 use Rattle.world_core.specs.declared.entry.Entry.{Entry}
 use Rattle.shipper.specs.declared.upload_end.UploadEnd.{UploadEnd}
 use Rattle.meta_fetcher.specs.declared.view.View.{View}
@@ -33,7 +33,7 @@ use Rattle.lifecycle_core.specs.Phases.{AreDone, IsRunOf, PhaseRun, PhasesRun, T
 use Rattle.lifecycle_core.specs.Tasks.{End, QueryTask, TaskRun, asked_by, stopped, synced, uploaded, view_after, without_view}
 use Rattle.lifecycle_core.specs.Views.{Use, Views, no_views, view_of}
 use Rattle.lifecycle_core.proofs.phases.Duties.{same_is}
-use Rattle.lifecycle_core.proofs.Lists.{all_first, contains_first, contains_later}
+use Rattle.lifecycle_core.proofs.Lists.{contains_first, contains_later}
 use Rattle.lifecycle_core.proofs.journals.Positions.{zip_left, zip_right}
 use Rattle.lifecycle_core.proofs.phases.TaskRuns.{task_leaves}
 
@@ -303,7 +303,7 @@ module _ (gateways : ℕ) (tasks : List Task) where
   worker_there before g (hand ∷ hs) none found =
       let w = worker_of gateways (seats_after before 1) hand tasks in
       let ws = workers_from gateways (seats_after before 1) tasks hs in
-      found_hand g hand (same_hand (hands.Gateway g) hand) (list_any (same_hand (hands.Gateway g)) hs) refl (all_first (λ (x : Worker). x.gateway ≢ Some g) w ws none)
+      found_hand g hand (same_hand (hands.Gateway g) hand) (list_any (same_hand (hands.Gateway g)) hs) refl (All-head (λ (x : Worker). x.gateway ≢ Some g) w ws none)
       (worker_there (seats_after before 1) g hs (All-tail (λ (x : Worker). x.gateway ≢ Some g) w ws none)) found
 
   -- a gateway that has a sync has a worker
