@@ -12,7 +12,8 @@ use Rattle.tests_worked.specs.Entries.{clock, stored, found, absent, listed}
 
 -- the index is put before the segment
 abbrev pub index_first : List Entry
-index_first = clock 1 0 ∷ absent 2 1 1 (key.Meta small.a) ∷ stored 3 1 2 (key.Index small.a) small.index ∷ []
+index_first =
+    clock 1 0 ∷ absent 2 1 1 (key.Meta small.a) ∷ stored 3 1 2 (key.Index small.a) small.index ∷ []
 
 -- the segment is put without a look at the meta
 abbrev pub no_look : List Entry
@@ -50,7 +51,14 @@ report_without_source = join_with_byte 10 (
 -- ---- other answers to its query
 
 abbrev pub with_answer : List Triple → List ℕ → Answered
-with_answer samples sources = record { low = one.asked.low; high = one.asked.high; selector = one.selector; uses = one.used ∷ []; samples = samples; sources = sources }
+with_answer samples sources = record {
+  low = one.asked.low;
+  high = one.asked.high;
+  selector = one.selector;
+  uses = one.used ∷ [];
+  samples = samples;
+  sources = sources;
+}
 
 -- it names no block, and has no sample
 abbrev pub nothing_answered : Answered

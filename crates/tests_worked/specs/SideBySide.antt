@@ -52,7 +52,16 @@ tasks =
 
 abbrev pub script : Script
 script = record {
-  rules = record { consistency = minutes 0; ignore = hours 24; delete = hours 48; partial = hours 48; upload = minutes 30; tick = record { ms = 1 }; page_limit = 1_000; replicas = [] };
+  rules = record {
+    consistency = minutes 0;
+    ignore = hours 24;
+    delete = hours 48;
+    partial = hours 48;
+    upload = minutes 30;
+    tick = record { ms = 1 };
+    page_limit = 1_000;
+    replicas = [];
+  };
   gateways = codes "g" ∷ [];
   blocks = small.block ∷ small.block_of b ∷ [];
   selectors = [] ∷ [];
@@ -97,7 +106,8 @@ used = record { view = view; last = 12 }
 abbrev pub ends : List (List (List End))
 ends =
     (
-      (synced (fetched.View view) ∷ answered used (called.Answer (small.up ∷ []) (small.a ∷ [])) ∷ [])
+      (synced (fetched.View view)
+      ∷ answered used (called.Answer (small.up ∷ []) (small.a ∷ [])) ∷ [])
       ∷ (uploaded (shipped.Done 3) ∷ [])
       ∷ (uploaded (shipped.Done 3) ∷ [])
       ∷ []
@@ -106,14 +116,23 @@ ends =
 
 -- the answered query
 abbrev pub asked : Answered
-asked = record { low = pos 0; high = pos 5000; selector = []; uses = used ∷ []; samples = small.triple ∷ []; sources = small.a ∷ [] }
+asked = record {
+  low = pos 0;
+  high = pos 5000;
+  selector = [];
+  uses = used ∷ [];
+  samples = small.triple ∷ [];
+  sources = small.a ∷ [];
+}
 
 -- ---- what is not guaranteed
 
 -- each block that the answer names was complete before the sync began
 abbrev pub NamesEarlyUploads : Type 0
 NamesEarlyUploads =
-    All (λ ulid. (use : Use) × Contains asked.uses use × IsUploadedBefore script journal ulid use.view.first) asked.sources
+    All (λ ulid.
+    (use : Use) × Contains asked.uses use × IsUploadedBefore script journal ulid use.view.first)
+    asked.sources
 
 -- it names each block, old enough, that was complete before the sync ended
 abbrev pub NamesLateUploads : Type 0

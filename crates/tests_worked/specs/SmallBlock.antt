@@ -20,7 +20,10 @@ a_text = codes "0000000000000000000000000A"
 
 -- {__name__="up"} 1000:3ff0000000000000
 abbrev pub up : Series
-up = record { labels = record { name = codes "__name__"; value = codes "up" } ∷ []; samples = record { time = pos 1000; pattern = 0x3ff0_0000_0000_0000 } ∷ [] }
+up = record {
+  labels = record { name = codes "__name__"; value = codes "up" } ∷ [];
+  samples = record { time = pos 1000; pattern = 0x3ff0_0000_0000_0000 } ∷ [];
+}
 
 -- such a block under a ULID
 abbrev pub block_of : ℕ → Block
@@ -66,9 +69,16 @@ said_of ulid = record {
   labels = [];
   resolution = pos 0;
   source = codes "sidecar";
-  files = record { path = codes "chunks/000001"; bytes = 38 } ∷ record { path = codes "index"; bytes = 6 } ∷ [];
+  files =
+      record { path = codes "chunks/000001"; bytes = 38 }
+      ∷ record { path = codes "index"; bytes = 6 }
+      ∷ [];
   segment_files = codes "000001" ∷ [];
-  times = record { early = omega (arith, ints); ascend = omega (arith, ints); late = omega (arith, ints) };
+  times = record {
+    early = omega (arith, ints);
+    ascend = omega (arith, ints);
+    late = omega (arith, ints);
+  };
   distinct = λ k more. omega (arith, more);
 }
 
@@ -77,9 +87,18 @@ said = said_of a
 
 -- a sync that looked for its mark and read its meta at these moments
 abbrev pub found : ℕ → ℕ → Found
-found mark_read meta_read =
-    record { ulid = a; mark = None; mark_read = record { ms = mark_read }; meta = said; meta_read = record { ms = meta_read } }
+found mark_read meta_read = record {
+  ulid = a;
+  mark = None;
+  mark_read = record { ms = mark_read };
+  meta = said;
+  meta_read = record { ms = meta_read };
+}
 
 -- what a query that asks for all sees of it
 abbrev pub triple : Triple
-triple = record { labels = record { name = codes "__name__"; value = codes "up" } ∷ []; time = pos 1000; pattern = 0x3ff0_0000_0000_0000 }
+triple = record {
+  labels = record { name = codes "__name__"; value = codes "up" } ∷ [];
+  time = pos 1000;
+  pattern = 0x3ff0_0000_0000_0000;
+}

@@ -33,8 +33,13 @@ seen moment = small.found (moment + 1) (moment + 2)
 
 -- the view of a sync, by the number of its first entry, by its first and last moment, and by what it keeps
 abbrev pub view_of : ℕ → ℕ → ℕ → List Found → View
-view_of seq begin end kept =
-    record { first = seq; begin = record { ms = begin }; end = record { ms = end }; kept = kept; covered = [] }
+view_of seq begin end kept = record {
+  first = seq;
+  begin = record { ms = begin };
+  end = record { ms = end };
+  kept = kept;
+  covered = [];
+}
 
 -- the view of the sync above
 abbrev pub view : ℕ → ℕ → List Found → View

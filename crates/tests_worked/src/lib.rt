@@ -1,4 +1,5 @@
-//! Whole runs that are written out: that the definitions of `lifecycle_core` and `replay_cli` say of them what they should.
+//! Whole runs that are written out: that the definitions of `lifecycle_core` and `replay_cli` say of
+//! them what they should.
 #![tactic(auto)]
 
 mod late_upload;

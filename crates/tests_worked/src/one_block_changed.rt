@@ -42,7 +42,8 @@ pub fn absent_meta_is_a_lie()
 
 /// A law: without its source an answer is not reported.
 pub fn report_without_source_is_refused()
-    ensures { (as_asked : Bool) → ¬ IsReport script script.phases ends as_asked report_without_source }
+    ensures { (as_asked : Bool)
+        → ¬ IsReport script script.phases ends as_asked report_without_source }
 {}
 
 /// A law: an answer that names no block leaves out the one that was complete and old enough.
