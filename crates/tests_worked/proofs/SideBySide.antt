@@ -261,9 +261,28 @@ IsLate e = PutsMeta small.a e → 10 ≤ e.seq
 all_late : All IsLate side.journal
 all_late = All-from_recursion IsLate side.journal (
   λ p. absurd (cc (p.1)),
-  (λ p. absurd (cc (p.1)), (λ p. absurd (cc (p.1)), (λ p. absurd (cc (p.1)),
-  (λ p. absurd (cc (p.1)), (λ p. absurd (cc (p.1)), (λ p. absurd (cc (p.1)), (λ p. let same : key.Meta side.b ≡ key.Meta small.a = cc (p.1) in absurd (omega (arith, ap key_ulid same)),
-  (λ p. absurd (cc (p.1)), (λ p. lit≤ tt, (λ p. absurd (cc (p.1)), (λ p. absurd (cc (p.1)), (λ p. absurd (cc (p.1)), (λ p. absurd (cc (p.1)), tt)))))))))))))
+  (
+    λ p. absurd (cc (p.1)),
+    (
+      λ p. absurd (cc (p.1)),
+      (
+        λ p. absurd (cc (p.1)),
+        (
+          λ p. absurd (cc (p.1)),
+          (
+            λ p. absurd (cc (p.1)),
+            (
+              λ p. absurd (cc (p.1)),
+              (
+                λ p. let same : key.Meta side.b ≡ key.Meta small.a = cc (p.1) in absurd (omega (arith, ap key_ulid same)),
+                (λ p. absurd (cc (p.1)), (λ p. lit≤ tt, (λ p. absurd (cc (p.1)), (λ p. absurd (cc (p.1)), (λ p. absurd (cc (p.1)), (λ p. absurd (cc (p.1)), tt)))))),
+              ),
+            ),
+          ),
+        ),
+      ),
+    ),
+  ),
 )
 
 completed_late : (seq : ℕ) → IsCompletedAt side.journal small.a seq → 10 ≤ seq
@@ -274,9 +293,9 @@ completed_late seq done =
 
 pub not_early : ¬ side.NamesEarlyUploads
 not_early named =
-    let first = All-head (λ ulid. (use : Use) × Contains side.asked.uses use × IsUploadedBefore side.script side.journal ulid use.view.first) small.a [] named in
+    let first = All-head (λ ulid. (own : Use) × Contains side.asked.uses own × IsUploadedBefore side.script side.journal ulid own.view.first) small.a [] named in
     let same : side.used ≡ first.0 = only_one side.used first.0 first.1 in
-    let begin : 4 ≡ (first.0).view.first = ap (λ (use : Use). use.view.first) same in
+    let begin : 4 ≡ (first.0).view.first = ap (λ (own : Use). own.view.first) same in
     omega (arith, completed_late (first.2).seq (first.2).completed, (first.2).earlier, begin)
 
 -- the other block's meta lands at entry 8

@@ -106,11 +106,11 @@ used = record { view = view; last = 12 }
 abbrev pub ends : List (List (List End))
 ends =
     (
-      (synced (fetched.View view)
-      ∷ answered used (called.Answer (small.up ∷ []) (small.a ∷ [])) ∷ [])
-      ∷ (uploaded (shipped.Done 3) ∷ [])
-      ∷ (uploaded (shipped.Done 3) ∷ [])
-      ∷ []
+    (synced (fetched.View view)
+    ∷ answered used (called.Answer (small.up ∷ []) (small.a ∷ [])) ∷ [])
+    ∷ (uploaded (shipped.Done 3) ∷ [])
+    ∷ (uploaded (shipped.Done 3) ∷ [])
+    ∷ []
     )
     ∷ []
 
@@ -131,11 +131,11 @@ asked = record {
 abbrev pub NamesEarlyUploads : Type 0
 NamesEarlyUploads =
     All (λ ulid.
-    (use : Use) × Contains asked.uses use × IsUploadedBefore script journal ulid use.view.first)
+    (own : Use) × Contains asked.uses own × IsUploadedBefore script journal ulid own.view.first)
     asked.sources
 
 -- it names each block, old enough, that was complete before the sync ended
 abbrev pub NamesLateUploads : Type 0
 NamesLateUploads =
-    (use : Use) (ulid : ℕ) → Contains asked.uses use → IsUploadedBefore script journal ulid use.last
-    → time_of ulid + script.rules.consistency.ms ≤ use.view.begin.ms → Contains asked.sources ulid
+    (own : Use) (ulid : ℕ) → Contains asked.uses own → IsUploadedBefore script journal ulid own.last
+    → time_of ulid + script.rules.consistency.ms ≤ own.view.begin.ms → Contains asked.sources ulid

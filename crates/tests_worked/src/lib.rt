@@ -22,8 +22,9 @@ pub use one_block::{
 };
 pub use one_block_changed::{
     absent_meta_is_a_lie, answer_of_nothing_leaves_one_out, answer_without_sample_is_not_exact,
-    clock_that_stands_is_refused, index_before_segment_is_refused, missing_without_cause_is_refused, put_without_look_is_refused,
-    read_of_absent_block_is_refused, report_without_source_is_refused, strange_source_is_refused,
+    clock_that_stands_is_refused, index_before_segment_is_refused,
+    missing_without_cause_is_refused, put_without_look_is_refused, read_of_absent_block_is_refused,
+    report_without_source_is_refused, strange_source_is_refused,
     upload_at_gateways_seat_is_refused,
 };
 pub use one_strict::{late_mark_is_refused, strict_rules_are_broken};
@@ -33,6 +34,6 @@ pub use side_by_side::{
     side_by_side_runs,
 };
 pub use young_block::{
-    young_block_is_answered_later, young_block_is_left_out, young_block_is_not_answered, young_block_is_not_kept,
-    young_block_is_reported, young_block_is_spelled, young_block_runs,
+    young_block_is_answered_later, young_block_is_left_out, young_block_is_not_answered,
+    young_block_is_not_kept, young_block_is_reported, young_block_is_spelled, young_block_runs,
 };
