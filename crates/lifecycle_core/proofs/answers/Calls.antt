@@ -24,7 +24,7 @@ use Rattle.store_gateway.specs.declared.series_end.SeriesEnd.TheVariants as call
 use Rattle.script_core.specs.declared.block.Block.{Block}
 use Rattle.script_core.specs.declared.script.Script.{Script}
 use Rattle.lifecycle_core.specs.Held.{declared, given, held_by}
-use Rattle.lifecycle_core.proofs.answers.Objects.{index_found, segment_found}
+use Rattle.lifecycle_core.proofs.blocks.Objects.{index_found, segment_found}
 use Rattle.lifecycle_core.proofs.journals.Told.{IsTold, IsReadable, IsShippedObject}
 
 -- the block that is to be read is one that the script declares

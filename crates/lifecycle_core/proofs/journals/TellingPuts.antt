@@ -1,5 +1,6 @@
 -- The runs of a script put nothing but objects with which the script's blocks are shipped.
 use Rattle.lifecycle_core.proofs.blocks.Declared.{declared_ulid}
+use Rattle.lifecycle_core.proofs.blocks.Objects.{built_ulid}
 use Rattle.std.proofs.Common.{◌≡◌, inl, inr, ℕ, ◌+◌, ◌==◌, Bool, true, false, List, [], ◌∷◌, ◌++◌, map, length, Contains, Option, Some, None, refl, sym, ◌∙◌, ap, subst, arith}
 use Rattle.std.specs.Prelude.{find}
 use Rattle.std.specs.List.{All, AllByRecursion}
@@ -97,30 +98,10 @@ upload_own ulid objects (e ∷ entries) end run = (λ k bytes is. absurd (cc (ru
 
 -- ---- the objects of a declared block
 
-abbrev AreUnder : ℕ → List Object → Type 0
-AreUnder ulid objects = All (λ (object : Object). key_ulid object.key ≡ ulid) objects
-
-segments_under : (ulid number : ℕ) (segments : List (List ℕ)) → AreUnder ulid (segment_objects ulid number segments)
-unfolding segment_objects
-segments_under ulid number [] = All-nil (λ (object : Object). key_ulid object.key ≡ ulid)
-segments_under ulid number (bytes ∷ segments) =
-    All-cons (λ (object : Object). key_ulid object.key ≡ ulid) (record { key = key.Segment ulid number; bytes = bytes }) (segment_objects ulid (number + 1) segments) refl (segments_under ulid (number + 1) segments)
-
-objects_under : (ulid : ℕ) (segments : List (List ℕ)) (index meta : List ℕ) → AreUnder ulid (objects_of ulid segments index meta)
-unfolding objects_of
-objects_under ulid segments index meta =
-    let P : Object → Type 0 = λ object. key_ulid object.key ≡ ulid in
-    let one : Object = record { key = key.Index ulid; bytes = index } in
-    let other : Object = record { key = key.Meta ulid; bytes = meta } in
-    All-append P (segment_objects ulid 1 segments) (one ∷ other ∷ []) (segments_under ulid 1 segments) (All-cons P one (other ∷ []) refl (All-cons P other [] refl (All-nil P)))
-
-built_under : (block : Block) (body : Body) (objects : List Object) → AreBuilt block body objects → AreUnder block.ulid objects
-built_under block (Inline low high series) objects (plan, is, are) = subst (AreUnder block.ulid) (sym are) (objects_under block.ulid (segments_of series) plain_index (meta_text (built_meta plan series)))
-
 -- an object that is shipped for a declared block
 shipped_object : (script : Script) (ulid : ℕ) (block : Block) (objects : List Object) (k : Key) (bytes : List ℕ) → declared script ulid ≡ Some block → IsShipped block objects → Contains objects (record { key = k; bytes = bytes }) → IsShippedObject script k bytes
 shipped_object script ulid block objects k bytes is shipped among =
-    let under : key_ulid k ≡ block.ulid = All-contains (λ (object : Object). key_ulid object.key ≡ block.ulid) objects (record { key = k; bytes = bytes }) (built_under block block.body objects shipped) among in
+    let under : key_ulid k ≡ block.ulid = built_ulid block block.body objects k bytes shipped among in
     record { block = block; is = ap (declared script) (under ∙ declared_ulid script ulid block is) ∙ is; objects = objects; shipped = shipped; among = among }
 
 -- ---- tasks and phases

@@ -206,9 +206,6 @@ call_cut view query = blocks query (sources_of view.kept) (to_read query view.ke
 
 -- ---- tasks
 
-shorter : (xs : List Entry) (y : Entry) (rest : List Entry) (n : ℕ) → length (xs ++ y ∷ rest) < n + 1 → length xs < n
-shorter xs y rest n below = omega (arith, below, length-append xs (y ∷ rest))
-
 before_stop : (stop : Option ℕ) (xs : List Entry) (y : Entry) (rest : List Entry) (own : Option End) (end : Option End)
     → ((end ≡ own) × IsBefore stop (xs ++ y ∷ rest)) ⊎ IsStop stop (xs ++ y ∷ rest) end → IsBefore stop xs
 before_stop stop xs y rest own end (inl (is, early)) = λ n same above. let below = early n same above in omega (arith, below, length-append xs (y ∷ rest))

@@ -1,6 +1,7 @@
 -- What is found under the key of a block's meta, where it is an object with which the script's block is shipped; and that no such
 -- object is under the key of a mark.
 use Rattle.lifecycle_core.proofs.blocks.Declared.{declared_ulid}
+use Rattle.lifecycle_core.proofs.blocks.Objects.{built_object}
 use Rattle.std.proofs.Common.{◌≡◌, ℕ, suc, zero, ◌+◌, ◌==◌, eqb, Bool, true, false, List, [], ◌∷◌, ◌++◌, Contains, Some, None, Result, Ok, ℤ, refl, sym, ◌∙◌, ap, subst, arith}
 use Rattle.std.specs.Prelude.{find}
 use Rattle.std.proofs.lemmas.Bool.{eq-eqb, eqb-true, cond-true}
@@ -23,46 +24,6 @@ use Rattle.script_core.specs.declared.script.Script.{Script}
 use Rattle.lifecycle_core.specs.Held.{declared}
 use Rattle.lifecycle_core.specs.Shipped.{AreBuilt, IsPlanOf}
 use Rattle.lifecycle_core.proofs.journals.Told.{IsReadable, IsShippedObject, Spans}
-
--- ---- the objects of a block
-
--- a key of a segment or of an index
-abbrev IsOther : Key → Type 0
-IsOther (key.Meta ulid) = ⊥
-IsOther (key.Index ulid) = Unit {0}
-IsOther (key.Segment ulid number) = Unit {0}
-IsOther (key.Mark ulid) = ⊥
-
-of_two : (P : Object → Type 0) (x y z : Object) → P x → P y → Contains (x ∷ y ∷ []) z → P z
-of_two P x y z one other (zero, below, at) = subst P at one
-of_two P x y z one other (suc zero, below, at) = subst P at other
-of_two P x y z one other (suc (suc k), below, at) = absurd (omega (arith, below))
-
-of_first : (P : Object → Type 0) (x z : Object) (xs : List Object) → P x → (Contains xs z → P z) → Contains (x ∷ xs) z → P z
-of_first P x z xs one later (zero, below, at) = subst P at one
-of_first P x z xs one later (suc k, below, at) = later (k, omega (arith, below), at)
-
-of_segments : (P : Object → Type 0) (ulid number : ℕ) (segments : List (List ℕ)) (others : List Object) (z : Object) → ((n : ℕ) (bytes : List ℕ) → P (record { key = key.Segment ulid n; bytes = bytes }))
-    → (Contains others z → P z) → Contains (segment_objects ulid number segments ++ others) z → P z
-unfolding segment_objects
-of_segments P ulid number [] others z each later among = later among
-of_segments P ulid number (bytes ∷ segments) others z each later among =
-    of_first P (record { key = key.Segment ulid number; bytes = bytes }) z _ (each number bytes) (of_segments P ulid (number + 1) segments others z each later) among
-
-of_objects : (P : Object → Type 0) (ulid : ℕ) (segments : List (List ℕ)) (index meta : List ℕ) (z : Object) → ((n : ℕ) (bytes : List ℕ) → P (record { key = key.Segment ulid n; bytes = bytes }))
-    → P (record { key = key.Index ulid; bytes = index }) → P (record { key = key.Meta ulid; bytes = meta }) → Contains (objects_of ulid segments index meta) z → P z
-unfolding objects_of
-of_objects P ulid segments index meta z each one other among = of_segments P ulid 1 segments _ z each (of_two P _ _ z one other) among
-
--- what is under the key of a meta is the meta, and no object is under the key of a mark
-abbrev HasKind : List ℕ → Key → List ℕ → Type 0
-HasKind meta (key.Meta ulid) bytes = bytes ≡ meta
-HasKind meta (key.Index ulid) bytes = Unit {0}
-HasKind meta (key.Segment ulid number) bytes = Unit {0}
-HasKind meta (key.Mark ulid) bytes = ⊥
-
-of_built : (ulid : ℕ) (segments : List (List ℕ)) (index meta : List ℕ) (z : Object) → Contains (objects_of ulid segments index meta) z → HasKind meta z.key z.bytes
-of_built ulid segments index meta z among = of_objects (λ (o : Object). HasKind meta o.key o.bytes) ulid segments index meta z (λ n bytes. tt) tt refl among
 
 -- ---- metas
 
@@ -99,19 +60,14 @@ read_as script readable ulid block low high series plan bytes is body of_plan wr
 built_meta_read : (script : Script) → IsReadable script → (ulid : ℕ) (block : Block) (body : Body) (objects : List Object) (bytes : List ℕ) → declared script ulid ≡ Some block → block.body ≡ body
     → AreBuilt block body objects → Contains objects (record { key = key.Meta ulid; bytes = bytes }) → IsReadAsMeta script ulid bytes
 built_meta_read script readable ulid block (Inline low high series) objects bytes is body (plan, of_plan, are) among =
-    let written : bytes ≡ meta_text (built_meta plan series) =
-    of_built block.ulid (segments_of series) plain_index (meta_text (built_meta plan series)) (record { key = key.Meta ulid; bytes = bytes })
-    (subst (λ (os : List Object). Contains os (record { key = key.Meta ulid; bytes = bytes })) are among) in
-    read_as script readable ulid block low high series plan bytes is body of_plan written
+    read_as script readable ulid block low high series plan bytes is body of_plan (built_object block low high series objects (key.Meta ulid) bytes (plan, of_plan, are) among).1
 
 -- a shipped object under the key of a meta is read as the block's meta
 meta_read_as : (script : Script) → IsReadable script → (ulid : ℕ) (bytes : List ℕ) → IsShippedObject script (key.Meta ulid) bytes → IsReadAsMeta script ulid bytes
 meta_read_as script readable ulid bytes o = built_meta_read script readable ulid o.block o.block.body o.objects bytes o.is refl o.shipped o.among
 
 no_mark_built : (block : Block) (body : Body) (objects : List Object) (ulid : ℕ) (bytes : List ℕ) → AreBuilt block body objects → Contains objects (record { key = key.Mark ulid; bytes = bytes }) → ⊥
-no_mark_built block (Inline low high series) objects ulid bytes (plan, of_plan, are) among =
-    of_built block.ulid (segments_of series) plain_index (meta_text (built_meta plan series)) (record { key = key.Mark ulid; bytes = bytes })
-    (subst (λ (os : List Object). Contains os (record { key = key.Mark ulid; bytes = bytes })) are among)
+no_mark_built block (Inline low high series) objects ulid bytes built among = built_object block low high series objects (key.Mark ulid) bytes built among
 
 -- no shipped object is under the key of a mark
 pub no_mark : (script : Script) (ulid : ℕ) (bytes : List ℕ) → IsShippedObject script (key.Mark ulid) bytes → ⊥
