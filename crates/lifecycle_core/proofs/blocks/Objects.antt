@@ -30,8 +30,8 @@ AreObjectsOf ulid series meta objects = All (λ (o : Object). IsObjectOf ulid se
 
 objects_are : (ulid : ℕ) (series : List Series) (meta : List ℕ) → AreObjectsOf ulid series meta (objects_of ulid (segments_of series) plain_index meta)
 unfolding objects_of segments_of segment_objects
-objects_are ulid [] meta = All-from_recursion (λ (o : Object). IsObjectOf ulid [] meta o.key o.bytes) _ ((refl, refl), ((refl, refl), tt))
-objects_are ulid (s ∷ ss) meta = All-from_recursion (λ (o : Object). IsObjectOf ulid (s ∷ ss) meta o.key o.bytes) _ ((refl, refl), ((refl, refl), ((refl, refl), tt)))
+objects_are ulid [] meta = All-from_recursion (λ (o : Object). IsObjectOf ulid [] meta o.key o.bytes) (objects_of ulid (segments_of []) plain_index meta) ((refl, refl), ((refl, refl), tt))
+objects_are ulid (s ∷ ss) meta = All-from_recursion (λ (o : Object). IsObjectOf ulid (s ∷ ss) meta o.key o.bytes) (objects_of ulid (segments_of (s ∷ ss)) plain_index meta) ((refl, refl), ((refl, refl), ((refl, refl), tt)))
 
 module _ (block : Block) (low high : ℤ) (series : List Series) (objects : List Object) (k : Key) (bytes : List ℕ) (built : AreBuilt block (Inline low high series) objects)
     (among : Contains objects (record { key = k; bytes = bytes })) where

@@ -272,7 +272,7 @@ labels_once line one other a b =
     let right : drop (length b.set) line ≡ 32 ∷ b.samples = ap (drop (length b.set)) b.written ∙ drop_at b.set (32 ∷ b.samples) (length b.set) refl in
     let sizes : length a.set ≡ length b.set = ap (λ x. x.1) same in
     let rest : 32 ∷ a.samples ≡ 32 ∷ b.samples = sym left ∙ ap (λ n. drop n line) sizes ∙ right in
-    (ap (λ x. x.0) same, cc (rest))
+    (ap (λ x. x.0) same, ap (λ (l : List ℕ). drop 1 l) rest)
 
 series_once : (line : List ℕ) (one other : Series) → IsSeriesLine line one → IsSeriesLine line other → one ≡ other
 series_once line one other a b =
