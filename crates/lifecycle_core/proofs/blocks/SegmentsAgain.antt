@@ -1,15 +1,15 @@
 -- The segment of a block that a lawful script declares is text that has the block's series, and no others.
 use Rattle.std.proofs.Common.{◌≡◌, ◌≢◌, ◌⊎◌, ℕ, zero, suc, ◌+◌, ◌/◌, ◌%◌, ◌^◌, ◌<◌, ℤ, pos, negsuc, neg_ℤ, ◌≤ℤ◌, ◌<ℤ◌, Bool, true, false, cond, ◌==◌, nat_lt, List, [], ◌∷◌, ◌++◌, length, drop, map, Some, Result, Ok, refl, sym, ap, ◌∙◌, subst, inl, inr, arith, append_assoc, append-nil}
-use Rattle.std.specs.Prelude.{IsTrue, find}
+use Rattle.std.specs.Prelude.{IsTrue}
 use Rattle.std.specs.Int.Digits.{digits_of, AllBelowBase}
-use Rattle.std.specs.List.{All, Contains, flat_map, list_all}
+use Rattle.std.specs.List.{All, flat_map, list_all}
 use Rattle.std.specs.Str.{IsUtf8, IsAscii}
 use Rattle.std.proofs.lemmas.Bool.{and_parts}
 use Rattle.std.proofs.lemmas.Bool.Decides.{nat_tests}
 use Rattle.std.proofs.lemmas.Int.{ints}
 use Rattle.std.proofs.lemmas.Int.Digits.{all_below_base_digits_of}
 use Rattle.std.proofs.lemmas.List.{drop_at}
-use Rattle.std.proofs.lemmas.List.Elements.{All-nil, All-cons, All-head, All-tail, All-contains}
+use Rattle.std.proofs.lemmas.List.Elements.{All-nil, All-cons, All-head, All-tail}
 use Rattle.std.proofs.lemmas.Str.{IsUtf8-nil, IsUtf8-append, IsUtf8-from_ascii, IsAscii-append}
 use Rattle.std.proofs.lemmas.Str.Ascii.{IsAscii-nil, IsAscii-cons}
 use Rattle.label_sets.specs.Decimal.{decimal_text, signed_text}
@@ -29,7 +29,7 @@ use Rattle.script_core.specs.declared.block.Block.{Block}
 use Rattle.script_core.specs.declared.body.Body.{Body}
 use Rattle.script_core.specs.declared.body.Body.TheVariants.{Inline}
 use Rattle.script_core.specs.declared.script.Script.{Script}
-use Rattle.script_core.specs.Lawful.{AreLawfulLabels, HasLawfulSamples, IsLawfulBody, IsLawfulBlock, IsLawfulScript}
+use Rattle.script_core.specs.Lawful.{AreLawfulLabels, HasLawfulSamples, IsLawfulBody, IsLawfulScript}
 use Rattle.script_core.specs.Spelling.{IsNear, IsWithin, TimesRise}
 use Rattle.script_core.proofs.SpelledValues.{near_tested, rise_spelled, within_spelled}
 use Rattle.script_core.proofs.ValueLaws.{time_fits}

@@ -12,7 +12,6 @@ use Rattle.std.proofs.lemmas.List.Elements.{All-contains, Contains-append_cases}
 use Rattle.std.proofs.lemmas.Map.Text.{is_eq-slice_cmp}
 use Rattle.std.proofs.lemmas.Slice.Eq.{bytes_eq-Decides}
 use Rattle.std.specs.Ordering.{is_eq, ordering_reverse}
-use Rattle.block_keys.specs.declared.key.Key.{Key}
 use Rattle.block_keys.specs.KeyText.{key_text}
 use Rattle.bucket_core.specs.Contents.{Contents, range_of}
 use Rattle.bucket_core.specs.Pages.{Ascends, Before, IsName, IsPage}

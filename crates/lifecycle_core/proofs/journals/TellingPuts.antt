@@ -1,18 +1,13 @@
 -- The runs of a script put nothing but objects with which the script's blocks are shipped.
 use Rattle.lifecycle_core.proofs.blocks.Declared.{declared_ulid}
 use Rattle.lifecycle_core.proofs.blocks.Objects.{built_ulid}
-use Rattle.std.proofs.Common.{◌≡◌, inl, inr, ℕ, ◌+◌, ◌==◌, Bool, true, false, List, [], ◌∷◌, ◌++◌, map, length, Contains, Option, Some, None, refl, sym, ◌∙◌, ap, subst, arith}
-use Rattle.std.specs.Prelude.{find}
+use Rattle.std.proofs.Common.{◌≡◌, inl, inr, ℕ, ◌+◌, ◌==◌, true, List, [], ◌∷◌, ◌++◌, map, length, Contains, Option, Some, None, sym, ◌∙◌, ap, subst, arith}
 use Rattle.std.specs.List.{All, AllByRecursion}
 use Rattle.std.proofs.lemmas.Bool.Decides.{nat_tests}
 use Rattle.std.proofs.lemmas.List.Elements.{All-append, All-cons, All-contains, All-contains_itself, All-from_recursion, All-nil, All-weaker}
 use Rattle.block_keys.specs.Keys.{key_ulid}
 use Rattle.block_keys.specs.declared.key.Key.{Key}
-use Rattle.block_keys.specs.declared.key.Key.TheVariants as key
 use Rattle.block_keys.specs.declared.object.Object.{Object}
-use Rattle.block_meta.specs.MetaValue.{meta_text}
-use Rattle.block_files.specs.Built.{built_meta, objects_of, segment_objects, segments_of}
-use Rattle.block_files.specs.PlainForm.{plain_index}
 use Rattle.world_core.specs.declared.entry.Entry.{Entry}
 use Rattle.world_core.specs.declared.op.Op.TheVariants as op
 use Rattle.world_core.specs.declared.reply.Reply.{Reply}
@@ -22,8 +17,6 @@ use Rattle.shipper.specs.declared.upload_end.UploadEnd.{UploadEnd}
 use Rattle.store_gateway.specs.SeriesRuns.{Query as Question}
 use Rattle.script_core.specs.Hands.{workers_of}
 use Rattle.script_core.specs.declared.block.Block.{Block}
-use Rattle.script_core.specs.declared.body.Body.{Body}
-use Rattle.script_core.specs.declared.body.Body.TheVariants.{Inline}
 use Rattle.script_core.specs.declared.phase.Phase.{Phase}
 use Rattle.script_core.specs.declared.script.Script.{Script}
 use Rattle.script_core.specs.declared.task.Task.{Task}
@@ -32,7 +25,7 @@ use Rattle.script_core.specs.declared.work.Work.TheVariants.{Upload, Sync, Query
 use Rattle.script_core.specs.declared.worker.Worker.{Worker}
 use Rattle.lifecycle_core.specs.Held.{declared}
 use Rattle.lifecycle_core.specs.Phases.{IsRunOf, PhaseRun, PhasesRun, TasksRun, WorkerRun, of_seat}
-use Rattle.lifecycle_core.specs.Shipped.{AreBuilt, IsShipped}
+use Rattle.lifecycle_core.specs.Shipped.{IsShipped}
 use Rattle.lifecycle_core.specs.Tasks.{End, QueryTask, TaskRun, asked_by, sync_rules, view_after}
 use Rattle.lifecycle_core.specs.Views.{Use, Views, no_views, view_of}
 use Rattle.lifecycle_core.proofs.misses.Explaining.{parted}

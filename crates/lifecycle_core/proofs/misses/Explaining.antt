@@ -5,12 +5,10 @@ use Rattle.std.specs.Prelude.{slice_get}
 use Rattle.std.specs.List.{fold}
 use Rattle.std.specs.Str.{bytes_eq}
 use Rattle.std.proofs.lemmas.Bool.Decides.{nat_tests}
-use Rattle.std.proofs.lemmas.List.{append_cancel_right, length-append, length-map}
+use Rattle.std.proofs.lemmas.List.{append_cancel_right, length-append}
 use Rattle.std.proofs.lemmas.List.Elements.{All-contains, Contains-append_cases, Contains-append_left, Contains-append_right}
 use Rattle.std.proofs.lemmas.Slice.Eq.{bytes_eq-Decides}
-use Rattle.ulid_core.proofs.Positional.{length-fixed_digits}
-use Rattle.ulid_core.specs.FixedDigits.{fixed_digits}
-use Rattle.ulid_core.specs.UlidText.{character, text_of}
+use Rattle.ulid_core.specs.UlidText.{text_of}
 use Rattle.block_keys.specs.KeyText.{key_text, name_of}
 use Rattle.block_keys.specs.declared.key.Key.{Key}
 use Rattle.block_keys.specs.declared.key.Key.TheVariants as key

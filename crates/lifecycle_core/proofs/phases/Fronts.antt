@@ -1,12 +1,11 @@
 -- Fronts of lawful journals are lawful.
 use Rattle.std.proofs.lemmas.Bool.{or_parts}
-use Rattle.std.proofs.Common.{◌≡◌, ◌≢◌, ◌⊎◌, inl, inr, ℕ, ◌+◌, ◌==◌, Bool, true, false, ◌||◌, cond, List, [], ◌∷◌, ◌++◌, length, map, Contains, Option, Some, None, refl, sym, ◌∙◌, ap, subst, arith, append_assoc, append-nil}
-use Rattle.std.specs.Prelude.{get_or, slice_get, ◌<◌, ◌≤◌, ◌^◌}
+use Rattle.std.proofs.Common.{◌≡◌, ◌≢◌, ◌⊎◌, inl, inr, ℕ, ◌+◌, ◌==◌, true, false, List, [], ◌∷◌, ◌++◌, length, map, Contains, Option, Some, None, refl, sym, ◌∙◌, ap, subst, arith, append-nil}
+use Rattle.std.specs.Prelude.{get_or, slice_get, ◌<◌, ◌^◌}
 use Rattle.std.proofs.lemmas.List.{length-append}
-use Rattle.std.specs.List.{All, AllByRecursion, AllZip, filter, list_any}
+use Rattle.std.specs.List.{All, AllZip, list_any}
 use Rattle.std.proofs.lemmas.Bool.Decides.{nat_tests}
 use Rattle.std.proofs.lemmas.List.Elements.{All-cons, All-contains, All-contains_itself, All-head, All-nil, All-tail, Contains-append_left, filter-append}
-use Rattle.world_core.specs.Journals.{Each}
 use Rattle.world_core.specs.Moments.{moment_after, last_moment}
 use Rattle.world_core.specs.Operations.{IsLawful, IsReplyTo}
 use Rattle.world_core.specs.Worlds.{IsJournal}
@@ -19,11 +18,11 @@ use Rattle.script_core.specs.declared.phase.Phase.{Phase}
 use Rattle.script_core.specs.declared.script.Script.{Script}
 use Rattle.script_core.specs.declared.task.Task.{Task}
 use Rattle.script_core.specs.declared.worker.Worker.{Worker}
-use Rattle.lifecycle_core.specs.Phases.{AreDone, IsLawfulJournal, IsRunOf, PhaseRun, PhasesRun, TasksAt, TasksRun, WorkerRun, of_seat}
+use Rattle.lifecycle_core.specs.Phases.{IsLawfulJournal, PhaseRun, PhasesRun, TasksAt, TasksRun, WorkerRun, of_seat}
 use Rattle.lifecycle_core.specs.Tasks.{End, TaskRun, view_after}
 use Rattle.lifecycle_core.specs.Views.{Use, Views, no_views, view_of, with_view}
 use Rattle.lifecycle_core.proofs.phases.HandLists.{Apart, joins_from}
-use Rattle.lifecycle_core.proofs.phases.RunFronts.{not_nil, task_cut}
+use Rattle.lifecycle_core.proofs.phases.RunFronts.{task_cut}
 
 -- ---- two ways to part a list
 

@@ -1,6 +1,6 @@
 -- Fronts of runs: what was cut off before its last entry is a run without an end.
-use Rattle.std.proofs.Common.{◌≡◌, ◌⊎◌, inl, inr, ℕ, ◌+◌, ◌<◌, Bool, true, false, List, [], ◌∷◌, ◌++◌, length, Option, Some, None, refl, sym, ◌∙◌, ap, subst, arith}
-use Rattle.std.specs.Prelude.{MatchBool, MatchOption, option_map}
+use Rattle.std.proofs.Common.{◌≡◌, ◌⊎◌, inl, inr, ℕ, Bool, true, false, List, [], ◌∷◌, ◌++◌, length, Option, Some, None, refl, arith}
+use Rattle.std.specs.Prelude.{MatchBool, MatchOption}
 use Rattle.std.proofs.lemmas.List.{length-append}
 use Rattle.block_keys.specs.declared.key.Key.{Key}
 use Rattle.block_keys.specs.declared.key.Key.TheVariants as key
@@ -21,13 +21,12 @@ use Rattle.meta_fetcher.specs.Syncs.{AfterMark, AfterMeta, EndsInView, MetaRead,
 use Rattle.meta_fetcher.specs.declared.rules.SyncRules.{SyncRules}
 use Rattle.meta_fetcher.specs.declared.sync_end.SyncEnd.{SyncEnd}
 use Rattle.meta_fetcher.specs.declared.view.View.{View}
-use Rattle.store_gateway.specs.SeriesRuns.{Query as Question, Reads as CallReads, Onward as CallOnward, SeriesRun, ToRead, AfterGet, AfterIndex, AfterSegment, Answers, Gets, SegmentRead, BlockRead, stopped, damaged, read, to_read, sources_of, wanted}
+use Rattle.store_gateway.specs.SeriesRuns.{Query as Question, Reads as CallReads, Onward as CallOnward, SeriesRun, ToRead, AfterGet, AfterIndex, AfterSegment, Gets, SegmentRead, BlockRead, stopped, damaged, read, to_read, sources_of, wanted}
 use Rattle.store_gateway.specs.declared.series_end.SeriesEnd.{SeriesEnd}
-use Rattle.script_core.specs.declared.block.Block.{Block}
 use Rattle.script_core.specs.declared.script.Script.{Script}
 use Rattle.script_core.specs.declared.work.Work.{Work}
 use Rattle.script_core.specs.declared.work.Work.TheVariants.{Upload, Sync, Query}
-use Rattle.lifecycle_core.specs.Tasks.{BlockUpload, End, IsBefore, IsStop, QueryTask, TaskRun, asked_by, sync_rules}
+use Rattle.lifecycle_core.specs.Tasks.{End, IsBefore, IsStop, QueryTask, TaskRun, asked_by, sync_rules}
 use Rattle.lifecycle_core.specs.Views.{Use}
 
 pub not_nil : {X : Type 0} (xs : List X) (y : X) (rest : List X) → xs ++ y ∷ rest ≡ [] → ⊥
