@@ -1,4 +1,5 @@
 -- All that is guaranteed of a run, from what its entries tell, its views and its answers.
+use Rattle.list_core.proofs.Membership.{contains_first}
 use Rattle.std.proofs.Common.{◌≡◌, ◌≢◌, ◌↔◌, inl, inr, ℕ, zero, suc, ℤ, Bool, List, [], ◌∷◌, ◌++◌, length, All, Contains, Option, Some, None, refl, sym, ◌∙◌, ap, subst, arith}
 use Rattle.std.specs.Prelude.{option_map, slice_get, count_by, get_or}
 use Rattle.std.specs.List.{filter}
@@ -38,7 +39,6 @@ use Rattle.lifecycle_core.specs.Views.{Use}
 use Rattle.lifecycle_core.proofs.misses.Explaining.{honest_misses_nothing, misses_explained, parted, the_entry}
 use Rattle.lifecycle_core.proofs.answers.ExactAnswers.{answer_is_exact, calls_undamaged, sources_are}
 use Rattle.lifecycle_core.proofs.phases.FirstPhases.{none_run}
-use Rattle.lifecycle_core.proofs.Lists.{contains_first}
 use Rattle.lifecycle_core.proofs.misses.Faults.{ShowsFault, call_shows, sync_shows, upload_shows}
 use Rattle.lifecycle_core.proofs.journals.Positions.{filtered}
 use Rattle.lifecycle_core.proofs.views.FewNames.{none_found_many}

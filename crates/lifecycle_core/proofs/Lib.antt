@@ -1,4 +1,3 @@
-pub mod Lists
 pub mod phases
 pub mod journals
 pub mod misses

@@ -1,4 +1,3 @@
 -- That an answer over a true view is exact.
-pub mod Members
 pub mod Calls
 pub mod ExactAnswers

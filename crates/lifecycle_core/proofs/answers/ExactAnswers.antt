@@ -1,5 +1,6 @@
 -- An answer over a view of true blocks is exact: it is the deduplication of the samples of the blocks that it names which the query
 -- asks for. No object of such a call is damaged, and the answer names the blocks of the view.
+use Rattle.list_core.proofs.Membership.{contains_first, of_map, into_filter, into_flat_map, into_map, member_cases, member_passes, no_member, of_flat_map}
 use Rattle.lifecycle_core.proofs.blocks.Declared.{declared_lawful}
 use Rattle.std.proofs.Common.{◌≡◌, inl, inr, ℕ, ℤ, ◌≤ℤ◌, ◌<ℤ◌, Bool, true, false, ◌&&◌, List, [], ◌∷◌, map, Contains, Option, Some, refl, sym, ap, subst, arith, is_le, is_lt, int_cmp, ◌↔◌}
 use Rattle.std.specs.List.{All, AllByRecursion, filter, flat_map}
@@ -10,7 +11,7 @@ use Rattle.label_sets.specs.declared.label.Label.{Label}
 use Rattle.label_sets.specs.declared.sample.Sample.{Sample}
 use Rattle.label_sets.specs.declared.series.Series.{Series}
 use Rattle.label_sets.specs.Finals.{final_of}
-use Rattle.label_sets.specs.Triples.{Triple, triples_of, triples_under}
+use Rattle.label_sets.specs.Triples.{Triple, triples_of, triples_under, IsOneToOne, has_same_key}
 use Rattle.matchers.specs.Selected.{IsAnswer, is_selected, is_within, selected}
 use Rattle.matchers.specs.Selectors.{is_match}
 use Rattle.matchers.specs.declared.matcher.Matcher.{Matcher}
@@ -31,10 +32,20 @@ use Rattle.script_core.specs.declared.script.Script.{Script}
 use Rattle.script_core.proofs.SpelledValues.{within_spelled}
 use Rattle.lifecycle_core.specs.Held.{given_by, held, held_by}
 use Rattle.lifecycle_core.proofs.answers.Calls.{IsDeclared, IsTrueEnd, asked_of, held_under, true_end}
-use Rattle.lifecycle_core.proofs.answers.Members.{into_filter, into_flat_map, into_map, member_cases, member_passes, no_member, of_flat_map, same_one_to_one}
-use Rattle.lifecycle_core.proofs.Lists.{contains_first, of_map}
 use Rattle.lifecycle_core.proofs.journals.Positions.{of_filter}
 use Rattle.lifecycle_core.proofs.journals.Told.{IsPart, IsReadable, IsTold, IsTrueFound, Spans}
+
+-- ---- deduplications
+
+-- a deduplication depends on the members alone
+same_one_to_one : (kept one other : List Triple) → ((t : Triple) → Contains one t → Contains other t) → ((t : Triple) → Contains other t → Contains one t)
+    → IsOneToOne kept one → IsOneToOne kept other
+same_one_to_one kept one other into from is = record {
+  once = is.once;
+  taken = All-weaker (Contains one) (Contains other) into kept is.taken;
+  complete = All-weaker (Contains other) (λ t. list_any (has_same_key t) kept ≡ true)
+      (λ t among. All-contains (λ (x : Triple). list_any (has_same_key x) kept ≡ true) one t is.complete (from t among)) other (All-contains_itself other);
+}
 
 -- ---- times
 

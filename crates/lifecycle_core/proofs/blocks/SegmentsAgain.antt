@@ -1,4 +1,5 @@
 -- The segment of a block that a lawful script declares is text that has the block's series, and no others.
+use Rattle.list_core.proofs.Lists.{nil_not_middle}
 use Rattle.std.proofs.Common.{◌≡◌, ◌≢◌, ◌⊎◌, ℕ, zero, suc, ◌+◌, ◌/◌, ◌%◌, ◌^◌, ◌<◌, ℤ, pos, negsuc, neg_ℤ, ◌≤ℤ◌, ◌<ℤ◌, Bool, true, false, cond, ◌==◌, nat_lt, List, [], ◌∷◌, ◌++◌, length, drop, map, Some, Result, Ok, refl, sym, ap, ◌∙◌, subst, inl, inr, arith, append_assoc, append-nil}
 use Rattle.std.specs.Prelude.{IsTrue}
 use Rattle.std.specs.Int.Digits.{digits_of, AllBelowBase}
@@ -280,15 +281,11 @@ series_once line one other a b =
     let samples : one.samples ≡ other.samples = samples_once a.samples one.samples other.samples a.samples_are (subst (λ (text : List ℕ). AreSamples text other.samples) (sym same.1) b.samples_are) in
     λ i. record { labels = same.0 i; samples = samples i }
 
-not_empty : (line more : List ℕ) → [] ≡ line ++ 10 ∷ more → ⊥
-not_empty [] more e = cc
-not_empty (b ∷ bs) more e = cc
-
 -- a text has the lines of one list of series at most
 lines_once : (text : List ℕ) (one other : List Series) → AreLines text one → AreLines text other → one ≡ other
 lines_once text [] [] is others = refl
-lines_once text [] (t ∷ ts) is others = absurd (not_empty others.0 others.1 (sym is ∙ others.2))
-lines_once text (s ∷ ss) [] is others = absurd (not_empty is.0 is.1 (sym others ∙ is.2))
+lines_once text [] (t ∷ ts) is others = absurd (nil_not_middle 10 others.0 others.1 (sym is ∙ others.2))
+lines_once text (s ∷ ss) [] is others = absurd (nil_not_middle 10 is.0 is.1 (sym others ∙ is.2))
 lines_once text (s ∷ ss) (t ∷ ts) is others =
     let same : (is.0 ≡ others.0) × (is.1 ≡ others.1) = same_parts 10 is.0 others.0 is.1 others.1 (line_without is.0 s is.3) (line_without others.0 t others.3) (sym is.2 ∙ others.2) in
     let first : s ≡ t = series_once is.0 s t is.3 (subst (λ (line : List ℕ). IsSeriesLine line t) (sym same.0) others.3) in

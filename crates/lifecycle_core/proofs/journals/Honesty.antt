@@ -1,4 +1,5 @@
 -- An honest journal tells no lie: what an operation owes is one thing.
+use Rattle.list_core.proofs.Membership.{contains_first}
 use Rattle.std.proofs.Common.{◌≡◌, ◌⊎◌, inl, inr, ℕ, zero, suc, ◌≤◌, List, [], ◌∷◌, ◌++◌, length, codes, Contains, Option, Some, None, refl, sym, ◌∙◌, ap, subst, append_assoc, append-nil, arith}
 use Rattle.std.specs.Prelude.{option_map}
 use Rattle.std.specs.List.{All, flat_map}
@@ -24,7 +25,6 @@ use Rattle.world_core.specs.declared.op.Op.TheVariants.{Clock, Put, Get, GetRang
 use Rattle.world_core.specs.declared.reply.Reply.{Reply}
 use Rattle.world_core.specs.declared.reply.Reply.TheVariants.{Clocked, Stored, Found, Absent, Deleted, Names, Failed}
 use Rattle.lifecycle_core.specs.Breaches.{FirstDiffer, IsLie, next_byte, shown_by}
-use Rattle.lifecycle_core.proofs.Lists.{contains_first}
 use Rattle.lifecycle_core.proofs.journals.Positions.{stands_in}
 
 -- ---- the order of names

@@ -1,4 +1,5 @@
 -- The runs of a script put nothing but objects with which the script's blocks are shipped.
+use Rattle.list_core.proofs.Membership.{contains_first, contains_later, of_map}
 use Rattle.lifecycle_core.proofs.blocks.Declared.{declared_ulid}
 use Rattle.lifecycle_core.proofs.blocks.Objects.{built_ulid}
 use Rattle.std.proofs.Common.{◌≡◌, inl, inr, ℕ, ◌+◌, ◌==◌, true, List, [], ◌∷◌, ◌++◌, map, length, Contains, Option, Some, None, sym, ◌∙◌, ap, subst, arith}
@@ -30,7 +31,6 @@ use Rattle.lifecycle_core.specs.Tasks.{End, QueryTask, TaskRun, asked_by, sync_r
 use Rattle.lifecycle_core.specs.Views.{Use, Views, no_views, view_of}
 use Rattle.lifecycle_core.proofs.misses.Explaining.{parted}
 use Rattle.lifecycle_core.proofs.misses.GatewayEntries.{calls, syncs}
-use Rattle.lifecycle_core.proofs.Lists.{contains_first, contains_later, of_map}
 use Rattle.lifecycle_core.proofs.journals.Positions.{filtered, stands_in, zip_right}
 use Rattle.lifecycle_core.proofs.journals.RunEntries.{IsRead}
 use Rattle.lifecycle_core.proofs.journals.Told.{IsShippedObject}

@@ -1,4 +1,5 @@
 -- A call that misses an object reads what was put, so that the bucket lied: in every lawful journal of a script.
+use Rattle.list_core.proofs.Membership.{contains_first, of_map}
 use Rattle.ulid_core.proofs.UlidLaws.{length-text_of}
 use Rattle.std.proofs.Common.{◌≡◌, ◌≢◌, ◌⊎◌, inl, inr, ℕ, zero, suc, ◌+◌, ◌-◌, ◌≤◌, ◌==◌, Bool, true, false, cond, IsTrue, List, [], ◌∷◌, ◌++◌, map, length, get_or, codes, Contains, Option, Some, None, refl, sym, ◌∙◌, ap, subst, append_assoc, append-nil, arith}
 use Rattle.std.specs.Prelude.{slice_get}
@@ -33,7 +34,6 @@ use Rattle.lifecycle_core.specs.Causes.{AreFound, AreMissesExplained, IsExplaine
 use Rattle.lifecycle_core.specs.Phases.{IsRunOf, PhaseRun, PhasesRun, WorkerRun, of_seat}
 use Rattle.lifecycle_core.specs.Tasks.{End, answered}
 use Rattle.lifecycle_core.specs.Views.{Use, Views, no_views, view_of}
-use Rattle.lifecycle_core.proofs.Lists.{contains_first, of_map}
 use Rattle.lifecycle_core.proofs.misses.Misses.{Leaves, MissesAt, ViewSeen, misses_within, seen_among, tasks_in_order, tasks_leave, view_among}
 use Rattle.lifecycle_core.proofs.phases.PhaseViews.{views_left}
 use Rattle.lifecycle_core.proofs.journals.Positions.{filtered, of_filter, split, stands_in, unfilter, zip_left, zip_right}

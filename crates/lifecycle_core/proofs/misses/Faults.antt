@@ -1,4 +1,5 @@
 -- A run that ended with a failed call has an entry of that number which was answered so.
+use Rattle.list_core.proofs.Membership.{contains_first, contains_later}
 use Rattle.std.proofs.Common.{◌≡◌, inl, inr, ℕ, Bool, IsTrue, List, [], ◌∷◌, ◌++◌, length, Contains, Option, Some, None, refl, ap}
 use Rattle.std.specs.Prelude.{MatchOption}
 use Rattle.block_keys.specs.declared.key.Key.{Key}
@@ -27,7 +28,6 @@ use Rattle.store_gateway.specs.SeriesRuns.{Query as Question, Reads as CallReads
 use Rattle.store_gateway.specs.declared.series_end.SeriesEnd.{SeriesEnd}
 use Rattle.store_gateway.specs.declared.series_end.SeriesEnd.TheVariants as called
 use Rattle.lifecycle_core.proofs.misses.GatewayEntries.{match_bool}
-use Rattle.lifecycle_core.proofs.Lists.{contains_first, contains_later}
 
 -- an entry of this number was answered that its call failed
 abbrev pub ShowsFault : List Entry → ℕ → Type 0

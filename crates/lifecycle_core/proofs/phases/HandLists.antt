@@ -1,4 +1,5 @@
 -- The hands of a phase: each duty's hand is among them, each once, and there are no more than duties.
+use Rattle.list_core.proofs.Lists.{AllByRecursion-push}
 use Rattle.std.proofs.lemmas.Bool.{or_from, or_left, or_parts, or_right}
 use Rattle.std.proofs.Common.{◌≡◌, ℕ, ◌+◌, ◌≤◌, Bool, true, false, ◌||◌, cond, List, [], ◌∷◌, ◌++◌, length, map, refl, sym, ◌∙◌, ap, subst, arith}
 use Rattle.std.specs.Prelude.{fold}
@@ -35,10 +36,6 @@ apart_more (x ∷ xs) hand apart none =
       apart_more xs hand apart.1 parts.1,
     )
 
-all_more : (P : Hand → Type 0) (others : List Hand) (hand : Hand) → AllByRecursion P others → P hand → AllByRecursion P (others ++ hand ∷ [])
-all_more P [] hand all p = (p, tt)
-all_more P (x ∷ xs) hand all p = (all.0, all_more P xs hand all.1 p)
-
 -- what one hand adds to others
 record Joins (P : Hand → Type 0) (others : List Hand) (hand : Hand) (all : List Hand) : Type 0 where
   pub kept : (x : Hand) → list_any (same_hand x) others ≡ true → list_any (same_hand x) all ≡ true
@@ -65,7 +62,7 @@ joins_new P others hand none = record {
   added = λ x s. list_any-append (same_hand x) others (hand ∷ []) ∙ or_right (list_any (same_hand x) others) (same_hand x hand || false) (or_left (same_hand x hand) false s);
   apart = λ a. apart_more others hand a none;
   few = omega (arith, length-append others (hand ∷ []));
-  each = λ p all. all_more P others hand all p;
+  each = λ p all. AllByRecursion-push P others hand all p;
 }
 
 joins_by : (P : Hand → Type 0) (others : List Hand) (hand : Hand) → ((x : Hand) → same_hand x hand ≡ true → x ≡ hand) → (b : Bool) → list_any (same_hand hand) others ≡ b → Joins P others hand (cond b others (others ++ hand ∷ []))

@@ -1,4 +1,5 @@
 -- A phase whose tasks are done in line is a run of the phase.
+use Rattle.list_core.proofs.Membership.{contains_first, contains_later}
 use Rattle.std.proofs.lemmas.Bool.{or_left, or_right}
 use Rattle.std.proofs.Common.{◌≡◌, ◌≢◌, ℕ, suc, ◌+◌, ◌<◌, ◌≤◌, Bool, true, false, ◌||◌, cond, List, [], ◌∷◌, length, map, refl, sym, ◌∙◌, ap, subst, inl, inr, arith}
 use Rattle.std.specs.Prelude.{◌==◌, Option, Some, slice_get}
@@ -20,7 +21,6 @@ use Rattle.lifecycle_core.specs.Tasks.{End, view_after}
 use Rattle.lifecycle_core.specs.Views.{Use, Views, view_of, with_view}
 use Rattle.lifecycle_core.proofs.phases.Duties.{same_is, same_self, part, ends_by, tasks_of}
 use Rattle.lifecycle_core.proofs.phases.HandLists.{JoinsAll, joins_from, hands_in}
-use Rattle.lifecycle_core.proofs.Lists.{contains_first, contains_later}
 use Rattle.lifecycle_core.proofs.phases.Places.{IsDuty, all_duties, places_are, places_in, tasks_at, upload_place}
 use Rattle.lifecycle_core.proofs.phases.Workers.{IsPlaced, IsWorkerOf, each_worker, seat_among}
 use Rattle.lifecycle_core.proofs.phases.TaskRuns.{MayBegin}

@@ -1,11 +1,18 @@
 -- The entries of a seat, among entries that were all made by one.
+use Rattle.std.proofs.lemmas.List.Elements.{filter-append}
+use Rattle.list_core.proofs.Lists.{filter_all, filter_none}
 use Rattle.std.proofs.Common.{◌≡◌, ◌≢◌, ℕ, true, false, List, ◌++◌, get_or, sym, ◌∙◌, arith}
 use Rattle.std.specs.Prelude.{◌==◌}
 use Rattle.std.specs.List.{All}
 use Rattle.std.proofs.lemmas.Bool.Decides.{nat_tests}
 use Rattle.world_core.specs.declared.entry.Entry.{Entry}
 use Rattle.lifecycle_core.specs.Phases.{of_seat}
-use Rattle.lifecycle_core.proofs.Lists.{filter_front, filter_back}
+
+filter_front : {X : Type 0} (p : X → Bool) (xs ys : List X) → All (λ x. p x ≡ true) xs → filter p (xs ++ ys) ≡ xs ++ filter p ys
+filter_front p xs ys all = filter-append p xs ys ∙ ap (λ l. l ++ filter p ys) (filter_all p xs all)
+
+filter_back : {X : Type 0} (p : X → Bool) (xs ys : List X) → All (λ x. p x ≡ false) xs → filter p (xs ++ ys) ≡ filter p ys
+filter_back p xs ys all = filter-append p xs ys ∙ ap (λ l. l ++ filter p ys) (filter_none p xs all)
 
 is_own : (a s : ℕ) → a ≡ s → (a == s) ≡ true
 is_own a s e = grind (arith, nat_tests)

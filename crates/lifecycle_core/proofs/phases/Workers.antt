@@ -1,4 +1,5 @@
 -- The workers of a phase by their hands, and that no two of them have one seat.
+use Rattle.list_core.proofs.Membership.{contains_first, contains_later}
 use Rattle.std.proofs.lemmas.Bool.{or_parts}
 use Rattle.std.proofs.Common.{◌≡◌, ◌≢◌, ◌⊎◌, ℕ, ◌+◌, ◌<◌, ◌≤◌, Bool, true, false, ◌||◌, cond, List, [], ◌∷◌, length, map, refl, sym, ◌∙◌, ap, subst, inl, inr, arith}
 use Rattle.std.specs.Prelude.{◌==◌}
@@ -11,7 +12,6 @@ use Rattle.script_core.specs.declared.worker.Worker.{Worker}
 use Rattle.lifecycle_core.specs.InLine.{serves, seat_of}
 use Rattle.lifecycle_core.proofs.phases.Duties.{same_is}
 use Rattle.lifecycle_core.proofs.phases.HandLists.{Apart, same_turned}
-use Rattle.lifecycle_core.proofs.Lists.{contains_first, contains_later}
 
 module _ (gateways : ℕ) (tasks : List Task) where
   -- an upload's hand has the one place

@@ -1,5 +1,6 @@
 -- A sync of a journal that tells of a script's blocks does not find too many names: each name that its pages list is that of a
 -- declared block, they strictly ascend, and a script declares fewer blocks.
+use Rattle.list_core.proofs.Membership.{contains_first, contains_later, into_map}
 use Rattle.lifecycle_core.proofs.blocks.Declared.{declared_among, declared_ulid}
 use Rattle.std.proofs.Common.{◌≡◌, inl, inr, ℕ, suc, zero, ◌≤◌, true, List, [], ◌∷◌, ◌++◌, map, length, Contains, Option, Some, None, sym, ◌∙◌, ap, subst, arith}
 use Rattle.std.specs.Prelude.{nat_le, unwrap_or}
@@ -24,9 +25,7 @@ use Rattle.lifecycle_core.specs.Causes.{SomeCame}
 use Rattle.lifecycle_core.specs.Phases.{IsRunOf}
 use Rattle.lifecycle_core.specs.Tasks.{End, QueryTask, TaskRun, asked_by, sync_rules, synced}
 use Rattle.lifecycle_core.specs.Views.{Use}
-use Rattle.lifecycle_core.proofs.answers.Members.{into_map}
 use Rattle.lifecycle_core.proofs.misses.Explaining.{parted}
-use Rattle.lifecycle_core.proofs.Lists.{contains_first, contains_later}
 use Rattle.lifecycle_core.proofs.phases.TasksMade.{ends_are_made}
 use Rattle.lifecycle_core.proofs.journals.Told.{IsDeclaredName, IsPart, IsReadable, IsTold, Rises}
 use Rattle.lifecycle_core.proofs.views.TrueViews.{not_in_view, own_entries}

@@ -1,4 +1,5 @@
 -- The sync that gave a view: what it found, told of by an honest journal, and that it found each block whose meta was put before.
+use Rattle.list_core.proofs.Membership.{contains_first, contains_later}
 use Rattle.std.proofs.Common.{◌≡◌, ◌⊎◌, inl, inr, ℕ, ◌<◌, ◌≤◌, ◌^◌, suc, zero, List, [], ◌∷◌, ◌++◌, map, length, Contains, Some, refl, sym, ◌∙◌, ap, subst, arith}
 use Rattle.std.specs.Prelude.{unwrap_or}
 use Rattle.std.specs.List.{All, AllByRecursion}
@@ -19,7 +20,6 @@ use Rattle.meta_fetcher.specs.declared.rules.SyncRules.{SyncRules}
 use Rattle.meta_fetcher.specs.declared.sync_end.SyncEnd.TheVariants as fetched
 use Rattle.meta_fetcher.specs.declared.view.View.{View}
 use Rattle.script_core.specs.declared.script.Script.{Script}
-use Rattle.lifecycle_core.proofs.Lists.{contains_first, contains_later}
 use Rattle.lifecycle_core.proofs.journals.Told.{IsTold, WasPutBefore}
 use Rattle.lifecycle_core.proofs.views.Pages.{AreSmall, IsToBeListed, before_first_page, listed_at_last, listed_on, ulid_listed, ulids_small}
 use Rattle.lifecycle_core.proofs.views.Walk.{IsNextPage, KeptByPages, KeptByReads, sighting_at, synced}

@@ -1,4 +1,5 @@
 -- What the pages of a walk list: a name that each page has to show is listed in the end, and the names of blocks are read again.
+use Rattle.list_core.proofs.Membership.{contains_first, contains_later}
 use Rattle.std.proofs.Common.{◌≡◌, ◌⊎◌, inl, inr, ℕ, ◌<◌, ◌^◌, suc, zero, true, List, [], ◌∷◌, ◌++◌, length, Contains, Option, Some, None, Result, Ok, Err, refl, sym, ◌∙◌, ap, subst, arith}
 use Rattle.std.specs.Prelude.{unwrap_or}
 use Rattle.std.specs.List.{All, AllByRecursion, cons_option, last_or}
@@ -12,7 +13,6 @@ use Rattle.ulid_core.proofs.UlidLaws.{IsUlidText-text_of, length-text_of, ulid_o
 use Rattle.bucket_core.specs.Pages.{Ascends, Before}
 use Rattle.world_core.specs.Walks.{ascends, is_after, last_listed}
 use Rattle.meta_fetcher.specs.Syncs.{ulids_in}
-use Rattle.lifecycle_core.proofs.Lists.{contains_first, contains_later}
 
 -- ---- the order of names
 

@@ -1,5 +1,6 @@
 -- A view whose sync is told of by an honest journal is true of the script: it keeps blocks that the script declares, which were
 -- complete before the sync's last entry, and each one that was settled before the sync began. And no sync finds anything damaged.
+use Rattle.list_core.proofs.Membership.{contains_first, contains_later}
 use Rattle.lifecycle_core.proofs.blocks.Declared.{declared_lawful}
 use Rattle.std.proofs.Common.{◌≡◌, ◌≢◌, inl, inr, ℕ, ◌+◌, ◌<◌, ◌≤◌, ◌^◌, ◌-◌, suc, zero, Bool, true, false, ◌&&◌, cond, List, [], ◌∷◌, Contains, Option, Some, None, ℤ, pos, negsuc, refl, sym, ◌∙◌, ap, subst, arith}
 use Rattle.std.specs.Prelude.{int_le, is_some, neg_ℤ, ◌≤ℤ◌, ◌<ℤ◌}
@@ -27,7 +28,6 @@ use Rattle.lifecycle_core.specs.Completed.{IsUploadedBefore}
 use Rattle.lifecycle_core.specs.Held.{declared}
 use Rattle.lifecycle_core.specs.Tasks.{all_times, last_number, sync_rules}
 use Rattle.lifecycle_core.specs.Views.{Use}
-use Rattle.lifecycle_core.proofs.Lists.{contains_first, contains_later}
 use Rattle.lifecycle_core.proofs.journals.Told.{IsOrigin, IsPart, IsReadable, IsTold, IsTrueFound, IsTrueView, Rises, Spans}
 use Rattle.lifecycle_core.proofs.views.Finds.{FindsPast, IsOwn, IsPast, IsSighted, finds_past}
 use Rattle.lifecycle_core.proofs.views.Metas.{IsMetaOf, meta_found, no_mark}

@@ -1,5 +1,6 @@
 -- Whoever is asked has a view: in a lawful script each gateway has a sync before each query, and a phase begins only when
 -- all syncs of the one before have come to their ends.
+use Rattle.list_core.proofs.Membership.{contains_first, contains_later}
 use Rattle.std.proofs.Common.{◌≡◌, ◌≢◌, ◌⊎◌, inl, inr, ℕ, ℤ, zero, suc, ◌+◌, ◌<◌, ◌≤◌, ◌==◌, ◌||◌, Bool, true, false, cond, List, [], ◌∷◌, ◌++◌, length, Contains, Option, Some, None, refl, sym, ◌∙◌, ap, subst, arith}
 use Rattle.std.specs.Prelude.{slice_get, option_map}
 use Rattle.std.specs.List.{All, AllByRecursion, AllZip, list_any}
@@ -33,7 +34,6 @@ use Rattle.lifecycle_core.specs.Phases.{AreDone, IsRunOf, PhaseRun, PhasesRun, T
 use Rattle.lifecycle_core.specs.Tasks.{End, QueryTask, TaskRun, asked_by, stopped, synced, uploaded, view_after, without_view}
 use Rattle.lifecycle_core.specs.Views.{Use, Views, no_views, view_of}
 use Rattle.lifecycle_core.proofs.phases.Duties.{same_is}
-use Rattle.lifecycle_core.proofs.Lists.{contains_first, contains_later}
 use Rattle.lifecycle_core.proofs.journals.Positions.{zip_left, zip_right}
 use Rattle.lifecycle_core.proofs.phases.TaskRuns.{task_leaves}
 
