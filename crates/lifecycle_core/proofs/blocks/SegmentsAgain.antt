@@ -1,4 +1,5 @@
 -- The segment of a block that a lawful script declares is text that has the block's series, and no others.
+use Rattle.reading_core.proofs.Binds.{one_answer}
 use Rattle.list_core.proofs.Lists.{nil_not_middle}
 use Rattle.std.proofs.Common.{◌≡◌, ◌≢◌, ◌⊎◌, ℕ, zero, suc, ◌+◌, ◌/◌, ◌%◌, ◌^◌, ◌<◌, ℤ, pos, negsuc, neg_ℤ, ◌≤ℤ◌, ◌<ℤ◌, Bool, true, false, cond, ◌==◌, nat_lt, List, [], ◌∷◌, ◌++◌, length, drop, map, Some, Result, Ok, refl, sym, ap, ◌∙◌, subst, inl, inr, arith, append_assoc, append-nil}
 use Rattle.std.specs.Prelude.{IsTrue}
@@ -245,12 +246,9 @@ body_again (Inline low high series) lawful = record {
 
 -- ---- no other series
 
-ok_same : {A E : Type 0} (x y : A) (r : Result A E) → r ≡ Ok x → r ≡ Ok y → x ≡ y
-ok_same x y r h k = cc
-
 sample_once : (text : List ℕ) (one other : Sample) → text ≡ sample_text one → FitsSample one → text ≡ sample_text other → FitsSample other → one ≡ other
 sample_once text one other is fits others fit =
-    ok_same one other (sample_of text) (sample_of-only text one fits.0 fits.1 is) (sample_of-only text other fit.0 fit.1 others)
+    one_answer one other (sample_of text) (sample_of-only text one fits.0 fits.1 is) (sample_of-only text other fit.0 fit.1 others)
 
 samples_once : (text : List ℕ) (one other : List Sample) → AreSamples text one → AreSamples text other → one ≡ other
 samples_once text [] other is others = absurd is
@@ -267,7 +265,7 @@ samples_once text (s ∷ u ∷ us) (t ∷ v ∷ vs) is others =
 -- the label set of a line, and what follows it
 labels_once : (line : List ℕ) (one other : Series) → (a : IsSeriesLine line one) → (b : IsSeriesLine line other) → (one.labels ≡ other.labels) × (a.samples ≡ b.samples)
 labels_once line one other a b =
-    let same : (one.labels, length a.set) ≡ (other.labels, length b.set) = ok_same (one.labels, length a.set) (other.labels, length b.set) (read_set line)
+    let same : (one.labels, length a.set) ≡ (other.labels, length b.set) = one_answer (one.labels, length a.set) (other.labels, length b.set) (read_set line)
     (ap read_set a.written ∙ set_text_again a.set (32 ∷ a.samples) one.labels a.labels_are) (ap read_set b.written ∙ set_text_again b.set (32 ∷ b.samples) other.labels b.labels_are) in
     let left : drop (length a.set) line ≡ 32 ∷ a.samples = ap (drop (length a.set)) a.written ∙ drop_at a.set (32 ∷ a.samples) (length a.set) refl in
     let right : drop (length b.set) line ≡ 32 ∷ b.samples = ap (drop (length b.set)) b.written ∙ drop_at b.set (32 ∷ b.samples) (length b.set) refl in
