@@ -18,7 +18,7 @@ use Rattle.tests_worked.specs.Entries.{clock, stored, absent, found, listed}
 use Rattle.tests_worked.specs.OneBlock as one
 use Rattle.tests_worked.specs.OneBlockChanged as changed
 use Rattle.tests_worked.proofs.OneLater.{no_read_after_absent}
-use Rattle.tests_worked.proofs.OneOutcomes.{only_one}
+use Rattle.list_core.proofs.Membership.{only_member}
 use Rattle.tests_worked.proofs.OneUpload.{BeginsAnew, FirstPhase, second, first_phase_of, stays, upload_of, uploads_of, Uploads, first_is_look, second_is_put}
 
 pub no_look_refused : (rest : List Entry) → ¬ IsLawfulJournal one.script (changed.no_look ++ rest)
@@ -51,7 +51,7 @@ seat_refused rest lawful =
     let phase = first_phase_of (clock 1 0) (look ∷ puts) lawful in
     let one = stays phase.1 phase.0 look puts phase.3.parts phase.3.anew (λ moment is. cc (is)) in
     let first : Contains (1 ∷ []) 2 = All-head (λ (e : Entry). Contains (1 ∷ []) e.seat) look one.0 (subst (All (λ (e : Entry). Contains (1 ∷ []) e.seat)) one.1 phase.3.run.seats) in
-    omega (arith, only_one 1 2 first)
+    omega (arith, only_member 1 2 first)
 
 pub clock_refused : (rest : List Entry) → ¬ IsLawfulJournal one.script (changed.clock_stands ++ rest)
 clock_refused rest lawful =
@@ -66,7 +66,7 @@ no_clock : (left others : List Entry) (tail : List Entry) → clock 6 1_800_000 
 no_clock [] others tail is seats = refl
 no_clock (x ∷ left) others tail is seats =
     let same : clock 6 1_800_000 ≡ x = cc (is) in
-    let seat : 1 ≡ x.seat = only_one 1 x.seat (All-head (λ (e : Entry). Contains (1 ∷ []) e.seat) x left seats) in
+    let seat : 1 ≡ x.seat = only_member 1 x.seat (All-head (λ (e : Entry). Contains (1 ∷ []) e.seat) x left seats) in
     absurd (omega (arith, seat, ap (λ (e : Entry). e.seat) same))
 
 -- the entry sets no clock

@@ -35,7 +35,7 @@ use Rattle.tests_worked.specs.SideBySide as side
 use Rattle.tests_worked.proofs.Bucket.{segment_key, index_key, meta_key, mark_key, first_part, one_folder, page_of, segment_folder, shows_meta}
 use Rattle.tests_worked.proofs.Bytes.{meta_is}
 use Rattle.tests_worked.proofs.Each.{each_of}
-use Rattle.tests_worked.proofs.OneOutcomes.{only_one}
+use Rattle.list_core.proofs.Membership.{only_member}
 use Rattle.tests_worked.proofs.SmallTasks.{upload_task_by, sync_run_by, question, merge_all, query_run}
 use Rattle.tests_worked.proofs.YoungBlock.{with, kept_else}
 
@@ -294,7 +294,7 @@ completed_late seq done =
 pub not_early : ¬ side.NamesEarlyUploads
 not_early named =
     let first = All-head (λ ulid. (own : Use) × Contains side.asked.uses own × IsUploadedBefore side.script side.journal ulid own.view.first) small.a [] named in
-    let same : side.used ≡ first.0 = only_one side.used first.0 first.1 in
+    let same : side.used ≡ first.0 = only_member side.used first.0 first.1 in
     let begin : 4 ≡ (first.0).view.first = ap (λ (own : Use). own.view.first) same in
     omega (arith, completed_late (first.2).seq (first.2).completed, (first.2).earlier, begin)
 
@@ -319,4 +319,4 @@ other_uploaded = record {
 }
 
 pub not_late : ¬ side.NamesLateUploads
-not_late names = omega (arith, only_one small.a side.b (names side.used side.b (0, lit< tt, refl) other_uploaded (lit≤ tt)))
+not_late names = omega (arith, only_member small.a side.b (names side.used side.b (0, lit< tt, refl) other_uploaded (lit≤ tt)))

@@ -3,7 +3,7 @@
 use Rattle.list_core.proofs.Membership.{contains_first, of_map, into_filter, into_flat_map, into_map, member_cases, member_passes, no_member, of_flat_map}
 use Rattle.lifecycle_core.proofs.blocks.Declared.{declared_lawful}
 use Rattle.std.proofs.Common.{◌≡◌, inl, inr, ℕ, ℤ, ◌≤ℤ◌, ◌<ℤ◌, Bool, true, false, ◌&&◌, List, [], ◌∷◌, map, Contains, Option, Some, refl, sym, ap, subst, arith, is_le, is_lt, int_cmp, ◌↔◌}
-use Rattle.std.specs.List.{All, AllByRecursion, filter, flat_map}
+use Rattle.std.specs.List.{All, AllByRecursion, filter, flat_map, list_any}
 use Rattle.std.specs.Option.{option_map_or}
 use Rattle.std.proofs.lemmas.Int.{ints}
 use Rattle.std.proofs.lemmas.List.Elements.{All-contains, All-contains_itself, All-filter, All-weaker, recursion_from_All}
