@@ -1,5 +1,5 @@
 -- Journals that are no run of the script of one block.
-use Rattle.std.proofs.Common.{◌≡◌, ◌≢◌, inl, inr, List, [], ◌∷◌, ◌++◌, All, Contains, Some, None, refl, sym, ap, subst, ◌∙◌, arith}
+use Rattle.std.proofs.Common.{◌≡◌, ◌≢◌, inl, inr, ℕ, List, [], ◌∷◌, ◌++◌, All, Contains, Some, None, refl, sym, ap, subst, ◌∙◌, arith}
 use Rattle.std.proofs.lemmas.List.Elements.{All-nil, All-cons, All-head, All-tail}
 use Rattle.block_keys.specs.declared.key.Key.TheVariants as key
 use Rattle.world_core.specs.declared.entry.Entry.{Entry}
@@ -50,8 +50,9 @@ seat_refused rest lawful =
     let puts : List Entry = stored 3 2 2 (key.Segment small.a 1) small.segment ∷ stored 4 2 3 (key.Index small.a) small.index ∷ stored 5 2 4 (key.Meta small.a) small.meta ∷ rest in
     let phase = first_phase_of (clock 1 0) (look ∷ puts) lawful in
     let one = stays phase.1 phase.0 look puts phase.3.parts phase.3.anew (λ moment is. cc (is)) in
-    let first : Contains (1 ∷ []) 2 = All-head (λ (e : Entry). Contains (1 ∷ []) e.seat) look one.0 (subst (All (λ (e : Entry). Contains (1 ∷ []) e.seat)) one.1 phase.3.run.seats) in
-    omega (arith, only_member 1 2 first)
+    let first : Contains {X = ℕ} (1 ∷ []) 2 = All-head (λ (e : Entry). Contains (1 ∷ []) e.seat) look one.0 (subst (All (λ (e : Entry). Contains (1 ∷ []) e.seat)) one.1 phase.3.run.seats) in
+    let same : 1 ≡ 2 = only_member 1 2 first in
+    omega (arith, same)
 
 pub clock_refused : (rest : List Entry) → ¬ IsLawfulJournal one.script (changed.clock_stands ++ rest)
 clock_refused rest lawful =

@@ -2,7 +2,6 @@
 use Rattle.std.proofs.Common.{◌≡◌, ℕ, ◌+◌, ◌^◌, ◌<◌, List, [], ◌∷◌, length, Contains, All, Some, false, inr, refl, lit<, lit≤}
 use Rattle.std.proofs.lemmas.List.Elements.{All-from_recursion}
 use Rattle.block_keys.specs.declared.key.Key.TheVariants as key
-use Rattle.block_files.specs.PlainForm.{plain_index}
 use Rattle.world_core.specs.Moments.{moment_after, last_moment}
 use Rattle.world_core.specs.Operations.{IsLawful, IsReplyTo}
 use Rattle.world_core.specs.Standing.{stands, Tells, IsHonest}
@@ -53,7 +52,6 @@ query_came came = (_, _, (1, lit< tt, refl), (0, lit< tt, refl), (1, lit< tt, re
 -- ---- where it is spoiled
 
 spoiled_task : Came (reply.Found []) (called.Damaged 10)
-unfolding plain_index
 spoiled_task = (Some (called.Damaged 10), (refl, (refl, inr refl)), refl)
 
 pub spoiled_run : IsRunOf one.script other.spoiled other.spoiled_ends

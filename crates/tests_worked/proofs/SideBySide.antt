@@ -11,6 +11,8 @@ use Rattle.bucket_core.specs.Contents.{Contents, nothing, with_object}
 use Rattle.bucket_core.specs.Pages.{IsPage, IsName}
 use Rattle.label_sets.specs.Triples.{triples_of, triples_under}
 use Rattle.moment_core.specs.StandardRules.{minutes, hours}
+use Rattle.block_meta.specs.MetaFields.{fields_of}
+use Rattle.block_meta.specs.MetaValue.{meta_text}
 use Rattle.world_core.specs.Moments.{moment_after, last_moment}
 use Rattle.world_core.specs.Operations.{IsLawful, IsReplyTo}
 use Rattle.world_core.specs.Standing.{stands, Tells, IsHonest}
@@ -122,16 +124,19 @@ other_run = record {
 
 -- ---- the run
 
-abbrev IsSeat : Entry → Type 0
-IsSeat e = Contains (1 ∷ 2 ∷ 3 ∷ []) e.seat
+abbrev seats : List ℕ
+seats = 1 ∷ 2 ∷ 3 ∷ []
 
-abbrev by_gateway : Contains (1 ∷ 2 ∷ 3 ∷ []) 1
+abbrev IsSeat : Entry → Type 0
+IsSeat e = Contains seats e.seat
+
+by_gateway : Contains seats 1
 by_gateway = (0, lit< tt, refl)
 
-abbrev by_upload : Contains (1 ∷ 2 ∷ 3 ∷ []) 2
+by_upload : Contains seats 2
 by_upload = (1, lit< tt, refl)
 
-abbrev by_other : Contains (1 ∷ 2 ∷ 3 ∷ []) 3
+by_other : Contains seats 3
 by_other = (2, lit< tt, refl)
 
 phase : PhaseRun side.script side.tasks workers no_views side.made phase_ends (with side.used)
@@ -299,15 +304,19 @@ not_early named =
     omega (arith, completed_late (first.2).seq (first.2).completed, (first.2).earlier, begin)
 
 -- the other block's meta lands at entry 8
-other_first : All (λ e. ¬ PutsMeta side.b e) (clock 1 0 ∷ side.begun ++ absent 5 3 4 (key.Meta side.b) ∷ stored 6 3 5 (key.Segment side.b 1) small.segment ∷ stored 7 3 6 (key.Index side.b) small.index ∷ [])
-other_first = All-from_recursion (λ (e : Entry). ¬ PutsMeta side.b e) _ (λ put. cc (put.1), (λ put. cc (put.1), (λ put. cc (put.1), (λ put. cc (put.1), (λ put. cc (put.1), (λ put. cc (put.1), (λ put. cc (put.1), tt)))))))
+abbrev before_other : List Entry
+before_other = clock 1 0 ∷ side.begun ++ absent 5 3 4 (key.Meta side.b) ∷ stored 6 3 5 (key.Segment side.b 1) small.segment ∷ stored 7 3 6 (key.Index side.b) small.index ∷ []
+
+other_first : All (λ e. ¬ PutsMeta side.b e) before_other
+other_first = All-from_recursion (λ (e : Entry). ¬ PutsMeta side.b e) before_other
+    (λ put. cc (put.1), (λ put. cc (put.1), (λ put. cc (put.1), (λ put. cc (put.1), (λ put. cc (put.1), (λ put. cc (put.1), (λ put. cc (put.1), tt)))))))
 
 other_uploaded : IsUploadedBefore side.script side.journal side.b 12
 other_uploaded = record {
   is_declared = refl;
   seq = 8;
   completed = record {
-    before = clock 1 0 ∷ side.begun ++ absent 5 3 4 (key.Meta side.b) ∷ stored 6 3 5 (key.Segment side.b 1) small.segment ∷ stored 7 3 6 (key.Index side.b) small.index ∷ [];
+    before = before_other;
     entry = stored 8 3 7 (key.Meta side.b) side.other_meta;
     after = side.completed ++ side.query;
     is = refl;
