@@ -19,7 +19,7 @@ use Rattle.script_core.specs.declared.work.Work.{Work}
 use Rattle.script_core.specs.declared.work.Work.TheVariants as works
 use Rattle.lifecycle_core.specs.Tasks.{End, answered, sync_rules, synced}
 use Rattle.lifecycle_core.specs.Views.{Use}
-use Rattle.lifecycle_core.proofs.TaskRuns.{reads_none}
+use Rattle.lifecycle_core.proofs.phases.TaskRuns.{reads_none}
 use Rattle.replay_cli.specs.Drives.{Came, came_by, driven_end}
 use Rattle.replay_cli.specs.Outcomes.{IsOutcome}
 use Rattle.replay_cli.specs.Progress.{Adds, CameBy, IsDueAfter, WhenFull, view_by}

@@ -5,7 +5,9 @@ use Rattle.block_keys.specs.declared.key.Key.{Key}
 use Rattle.block_keys.specs.declared.key.Key.TheVariants as key
 use Rattle.world_core.specs.declared.op.Op.TheVariants as op
 use Rattle.lifecycle_core.specs.Breaches.{upload_time, mark_time, sync_time, view_time}
-use Rattle.lifecycle_core.specs.Causes.{AreWell, IsBlamed, SomeCame}
+use Rattle.lifecycle_core.specs.Causes.{AreWell, IsBlamed}
+use Rattle.store_gateway.specs.declared.series_end.SeriesEnd.TheVariants as called
+use Rattle.tests_worked.proofs.OtherReads.{query_came}
 use Rattle.lifecycle_core.specs.Tasks.{End, synced}
 use Rattle.meta_fetcher.specs.declared.sync_end.SyncEnd.TheVariants as fetched
 use Rattle.tests_worked.specs.Entries.{stored}
@@ -13,11 +15,8 @@ use Rattle.tests_worked.specs.LostIndex as lost
 use Rattle.tests_worked.specs.OneBlock as one
 use Rattle.tests_worked.specs.SmallBlock as small
 
-missing_came : SomeCame lost.ends lost.missing
-missing_came = ((synced (fetched.View one.view) ∷ lost.missing ∷ []) ∷ [], synced (fetched.View one.view) ∷ lost.missing ∷ [], (1, lit< tt, refl), (0, lit< tt, refl), (1, lit< tt, refl))
-
 pub not_well : ¬ AreWell lost.ends
-not_well well = well lost.missing missing_came
+not_well well = well lost.missing (query_came (called.Missing 10))
 
 pub other_put : ¬ IsBlamed small.a 10 upload_time (stored 2 1 1 (key.Index 11) [])
 other_put (k, bytes, is, own, object) = let same : key.Index 11 ≡ k = cc (is) in omega (arith, ap key_ulid same, own)
