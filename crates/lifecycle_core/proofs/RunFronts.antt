@@ -25,8 +25,8 @@ use Rattle.store_gateway.specs.SeriesRuns.{Query as Question, Reads as CallReads
 use Rattle.store_gateway.specs.declared.series_end.SeriesEnd.{SeriesEnd}
 use Rattle.script_core.specs.declared.block.Block.{Block}
 use Rattle.script_core.specs.declared.script.Script.{Script}
-use Rattle.script_core.specs.declared.work.Work.{Work}
-use Rattle.script_core.specs.declared.work.Work.TheVariants.{Upload, Sync, Query}
+use Rattle.script_workers.specs.declared.work.Work.{Work}
+use Rattle.script_workers.specs.declared.work.Work.TheVariants.{Upload, Sync, Query}
 use Rattle.lifecycle_core.specs.Tasks.{BlockUpload, End, IsBefore, IsStop, QueryTask, TaskRun, asked_by, sync_rules}
 use Rattle.lifecycle_core.specs.Views.{Use}
 

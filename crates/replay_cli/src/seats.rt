@@ -1,7 +1,7 @@
 ghost use Rattle.std.specs.Prelude.{◌≡◌, ◌-◌, ◌==◌, ◌^◌, min, length, IfOk};
 ghost use Rattle.std.specs.List.{list_any};
-ghost use Rattle.script_core.specs.Hands.{seats_before, workers_of};
-ghost use Rattle.script_core.specs.declared.hand.Hand.TheVariants as hands;
+ghost use Rattle.script_core.specs.Workers.{seats_before, workers_of};
+ghost use Rattle.script_workers.specs.declared.hand.Hand.TheVariants as hands;
 ghost use Rattle.lifecycle_core.specs.InLine.{seat_of};
 
 use list_core::NoMemory;

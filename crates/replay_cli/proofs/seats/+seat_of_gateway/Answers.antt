@@ -1,5 +1,5 @@
 use Rattle.std.proofs.Common.{refl, sym, ◌∙◌}
-use Rattle.script_core.specs.declared.hand.Hand.TheVariants as hands
+use Rattle.script_workers.specs.declared.hand.Hand.TheVariants as hands
 use Rattle.replay_cli.proofs.SeatLists.{seat_none, seat_first, seat_later, serves_gateway}
 use Rattle.replay_cli.proofs.seats.+seat_of_gateway.Goals as goal
 

@@ -2,7 +2,7 @@ use Rattle.std.proofs.Common.{◌≡◌, ℕ, List, true, false, refl, sym, ◌�
 use Rattle.std.specs.Prelude.{◌==◌, not}
 use Rattle.std.specs.List.{list_any}
 use Rattle.lifecycle_core.specs.InLine.{serves}
-use Rattle.script_core.specs.declared.hand.Hand.TheVariants as hands
+use Rattle.script_workers.specs.declared.hand.Hand.TheVariants as hands
 use Rattle.replay_cli.proofs.SeatLists.{seat_none, seat_first, seat_later, serves_none, serves_upload}
 use Rattle.replay_cli.proofs.seats.+seat_of_upload.Goals as goal
 use Rattle.replay_cli.proofs.seats.+seat_of_upload.Goals.{else-is_none-via-then-is_none+else-has, else-is_none-via-else-is_none}
