@@ -12,7 +12,7 @@ use Rattle.std.proofs.lemmas.Str.Parse.{IsNumeralModel, numerals_by_value, parse
 use Rattle.std.proofs.lemmas.Str.Pattern.{IsSplitOnceResult, split_once_first}
 use Rattle.std.proofs.Math.ListN.{drop_of_length-le}
 use Rattle.std.proofs.Math.Nat.{div-div-eq-div-mul}
-use Rattle.ulid_core.specs.FixedDigits.{fixed_digits}
+use Rattle.reading_core.specs.FixedDigits.{fixed_digits}
 use Rattle.block_keys.specs.KeyText.{six_digits, number_of, segment_of, is_slash, IsSegmentName}
 
 -- six digits one by one

@@ -10,8 +10,8 @@ use Rattle.std.proofs.lemmas.Int.Digits.{digits_value_is, digits_value-lt, all_b
 use Rattle.std.proofs.lemmas.List.{length-map}
 use Rattle.std.proofs.lemmas.Map.Lookups.{exact_bytes}
 use Rattle.std.proofs.lemmas.Str.Parse.{digit_from_value}
-use Rattle.ulid_core.specs.FixedDigits.{fixed_digits}
-use Rattle.ulid_core.proofs.Positional.{length-fixed_digits, below-fixed_digits, number-fixed_digits, cmp-digits}
+use Rattle.reading_core.specs.FixedDigits.{fixed_digits}
+use Rattle.reading_core.proofs.Positional.{length-fixed_digits, below-fixed_digits, number-fixed_digits, cmp-digits}
 use Rattle.block_keys.specs.KeyText.{IsSegmentName, six_digits}
 
 -- the character of a decimal digit

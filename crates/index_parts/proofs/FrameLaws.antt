@@ -13,7 +13,8 @@ use Rattle.wire_bytes.specs.Fields.{bytes_at, number_at, uvarint_at}
 use Rattle.wire_bytes.specs.FieldTexts.{IsFixed, IsUvarint}
 use Rattle.wire_bytes.specs.Crc.{crc}
 use Rattle.wire_bytes.proofs.FieldLaws.{left-further}
-use Rattle.wire_bytes.proofs.FixedLaws.{IsBytes-take, wide32, number_found, number_again}
+use Rattle.reading_core.proofs.Fronts.{IsBytes-take}
+use Rattle.wire_bytes.proofs.FixedLaws.{wide32, number_found, number_again}
 use Rattle.index_parts.specs.declared.refusal.PartRefusal.{PartRefusal}
 use Rattle.index_parts.specs.declared.refusal.PartRefusal.TheVariants.{Short, BadSum}
 use Rattle.index_parts.specs.Placed.{at_place, field}

@@ -7,7 +7,7 @@ use Rattle.std.specs.Int.Digits.{AllBelowBase}
 use Rattle.std.proofs.lemmas.Bool.Decides.{nat_tests}
 use Rattle.std.proofs.lemmas.List.{length-append}
 use Rattle.std.proofs.lemmas.List.Elements.{All-cons, All-contains, All-contains_itself, All-nil, All-weaker, Contains-append_left}
-use Rattle.ulid_core.proofs.Positional.{below-fixed_digits}
+use Rattle.reading_core.proofs.Positional.{below-fixed_digits}
 use Rattle.ulid_core.proofs.Tables.{character-range}
 use Rattle.ulid_core.proofs.UlidLaws.{IsUlidText-text_of}
 use Rattle.ulid_core.specs.FixedDigits.{fixed_digits}

@@ -1,5 +1,6 @@
 -- What a step of a reading function gave, taken apart.
-use Rattle.std.proofs.Common.{◌≡◌, Bool, true, false, cond, Result, Ok, Err, refl, ◌⊎◌, inl, inr}
+use Rattle.std.proofs.Common.{◌≡◌, Bool, true, false, cond, Option, Some, None, Result, Ok, Err, refl, ◌⊎◌, inl, inr}
+use Rattle.std.specs.Option.{ok_or}
 use Rattle.reading_core.specs.Reading.{◌>>=◌, ◌>>◌, unless, refused_as}
 
 -- what was read in the end was read by each step
@@ -16,10 +17,19 @@ pub bind-assoc : {A B C E : Type 0} (r : Result A E) (f : A → Result B E) (g :
 bind-assoc (Ok x) f g = refl
 bind-assoc (Err d) f g = refl
 
+-- what was read behind a step that gives nothing on
+pub then_ok : {A B E : Type 0} (r : Result A E) (s : Result B E) (y : B) → (r >> s) ≡ Ok y → (x : A) × (r ≡ Ok x) × (s ≡ Ok y)
+then_ok (Ok x) s y e = (x, refl, e)
+then_ok (Err d) s y e = absurd cc
+
 -- a test that let the reading go on
 pub unless_ok : {B E : Type 0} (b : Bool) (d : E) (r : Result B E) (y : B) → (unless b d >> r) ≡ Ok y → (b ≡ true) × (r ≡ Ok y)
 unless_ok true d r y e = (refl, e)
 unless_ok false d r y e = absurd cc
+
+pub unless_is : {E : Type 0} (b : Bool) (d : E) → unless b d ≡ Ok tt → b ≡ true
+unless_is true d e = refl
+unless_is false d e = absurd cc
 
 -- a choice that refused in its first branch, or in its second
 pub cond_ok : {A E : Type 0} (b : Bool) (d : E) (r : Result A E) (y : A) → cond b (Err d) r ≡ Ok y → (b ≡ false) × (r ≡ Ok y)
@@ -49,3 +59,15 @@ refused_as_ok f (Err d) y e = absurd cc
 pub refused_as_err : {A D E : Type 0} (f : D → E) (r : Result A D) (e : E) → refused_as f r ≡ Err e → (d : D) × (r ≡ Err d) × (f d ≡ e)
 refused_as_err f (Ok x) e h = absurd cc
 refused_as_err f (Err d) e h = (d, refl, cc)
+
+-- an option that was asked for a value
+pub ok_or_ok : {A E : Type 0} (o : Option A) (e : E) (x : A) → ok_or o e ≡ Ok x → o ≡ Some x
+ok_or_ok None e x h = absurd cc
+ok_or_ok (Some y) e x h = cc
+
+-- a result is one thing
+pub one_answer : {A E : Type 0} (x y : A) (r : Result A E) → r ≡ Ok x → r ≡ Ok y → x ≡ y
+one_answer x y r e f = cc
+
+pub ok_not_err : {A E : Type 0} (x : A) (d : E) (r : Result A E) → r ≡ Ok x → r ≡ Err d → ⊥
+ok_not_err x d r e f = absurd cc

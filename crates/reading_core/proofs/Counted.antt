@@ -1,10 +1,10 @@
 -- A loop over a count keeps `members_at read i start ≡ Ok (what was read so far, what is left)`. It holds at 0 by refl,
 -- `members_more` is its step and `members_stop` its early end; after the last member it is what the loop is to give.
-use Rattle.std.proofs.Common.{◌≡◌, ℕ, zero, suc, ◌+◌, ◌<◌, List, [], ◌∷◌, ◌++◌, length, Result, Ok, Err, ◌⊎◌, inl, inr, refl, sym, ap, subst, ◌∙◌, arith, add-one, zero-add}
+use Rattle.std.proofs.Common.{◌≡◌, ℕ, zero, suc, ◌+◌, ◌<◌, List, [], ◌∷◌, ◌++◌, length, Result, Ok, Err, ◌⊎◌, inl, inr, refl, sym, ap, ◌∙◌, arith, add-one}
 use Rattle.std.specs.Prelude.{IsErrAnd}
 use Rattle.reading_core.specs.Reading.{◌>>=◌, Gives}
 use Rattle.reading_core.specs.Members.{members_at}
-use Rattle.reading_core.proofs.Binds.{bind_ok, bind_err, ok_is}
+use Rattle.reading_core.proofs.Binds.{bind_ok, ok_is}
 
 module _ {A S E : Type 0} (read : S → Result (A × S) E) where
   -- what the members but the first give is put behind the first

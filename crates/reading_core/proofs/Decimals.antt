@@ -1,5 +1,5 @@
 -- Decimal texts: the text of a number is digits that have its value, and such digits are the text of their value.
-use Rattle.std.proofs.Common.{◌≡◌, ℕ, zero, suc, ◌+◌, ◌*◌, ◌/◌, ◌%◌, ◌^◌, ◌<◌, ◌≤◌, Bool, true, false, cond, ltb, eqb, List, [], ◌∷◌, ◌++◌, length, get_or, map, refl, sym, ap, ◌∙◌, arith, rules, tests, ◌≢◌, append_assoc, ◌⊎◌, inl, inr}
+use Rattle.std.proofs.Common.{◌≡◌, ℕ, zero, suc, ◌+◌, ◌*◌, ◌/◌, ◌%◌, ◌<◌, Bool, true, false, ltb, eqb, List, [], ◌∷◌, ◌++◌, length, get_or, map, refl, sym, ap, ◌∙◌, arith, rules, tests, ◌≢◌, append_assoc, ◌⊎◌, inl, inr}
 use Rattle.std.specs.Prelude.{not, ◌||◌, ◌&&◌}
 use Rattle.std.specs.Char.{digit_value, is_ascii_digit}
 use Rattle.std.specs.Int.{IsInRange}
@@ -20,8 +20,8 @@ AreDigits text = list_all is_ascii_digit text ≡ true
 tells : IsDigitsTest AreDigits
 tells = search rules
 
-pub own : IsNumeralModel AreDigits (digits_value 10)
-own = numerals_by_value AreDigits tells
+pub digits_are_numerals : IsNumeralModel AreDigits (digits_value 10)
+digits_are_numerals = numerals_by_value AreDigits tells
 
 -- digits that follow those of a number
 digits_after : (n : ℕ) (ds : List ℕ) → 0 < n → AllBelowBase 10 ds → digits_of 10 (number_from_digits_after 10 n ds) ≡ digits_of 10 n ++ ds

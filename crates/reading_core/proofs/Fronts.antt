@@ -1,6 +1,7 @@
 -- Grammars against reading functions: what is read stands in front, and what stands in front is read.
-use Rattle.std.proofs.Common.{◌≡◌, ℕ, zero, suc, ◌+◌, ◌<◌, List, [], ◌∷◌, ◌++◌, length, get_or, drop, Result, Ok, Err, refl, sym, ap, subst, ◌∙◌, append_assoc}
-use Rattle.std.proofs.lemmas.List.{get_or-drop, drop_at}
+use Rattle.std.proofs.Common.{◌≡◌, ℕ, zero, suc, ◌+◌, List, [], ◌∷◌, ◌++◌, length, take, drop, inl, inr, arith, Result, Ok, refl, sym, ap, subst, ◌∙◌, append_assoc}
+use Rattle.std.proofs.lemmas.List.{get_or-drop, get_or-take, get_or_past, length-take, drop_at}
+use Rattle.std.proofs.lemmas.Bool.{cases_lt}
 use Rattle.reading_core.specs.Members.{members_at}
 use Rattle.reading_core.specs.Grammar.{IsBytes, HasFront, AreTexts}
 use Rattle.reading_core.proofs.Binds.{ok_is}
@@ -9,6 +10,13 @@ use Rattle.reading_core.proofs.Counted.{members_first, members_parts}
 -- what is left of bytes is bytes
 pub IsBytes-drop : (n : ℕ) (bytes : List ℕ) → IsBytes bytes → IsBytes (drop n bytes)
 IsBytes-drop n bytes are i = rw get_or-drop (are (n + i))
+
+pub IsBytes-take : (n : ℕ) (bytes : List ℕ) → IsBytes bytes → IsBytes (take n bytes)
+IsBytes-take n bytes are i =
+    elim (cases_lt i n) [
+      | inl lt ↦ rw (get_or-take n bytes i 0 lt) (are i)
+      | inr le ↦ rw (get_or_past (take n bytes) i 0 (omega (arith, length-take n bytes))) (omega arith)
+    ]
 
 pub IsBytes-after : (text after bytes : List ℕ) → bytes ≡ text ++ after → IsBytes bytes → IsBytes after
 IsBytes-after text after bytes e are = rw (← drop_at text after (length text) refl, ← e) (IsBytes-drop (length text) bytes are)

@@ -1,4 +1,6 @@
 pub mod Binds
+pub mod Positional
+pub mod SignedRanges
 pub mod Counted
 pub mod Fronts
 pub mod Decimals

@@ -1,17 +1,15 @@
 -- What `parse` gives at a decimal text is what reading gives, and reading gives each number at its text alone.
-use Rattle.std.proofs.Common.{◌≡◌, ◌≢◌, ℕ, zero, suc, ◌+◌, ◌^◌, ◌<◌, ◌≤◌, Bool, true, false, cond, eqb, ltb, List, [], ◌∷◌, length, get_or, drop, Result, Ok, Err, refl, sym, ap, subst, ◌∙◌, arith, ◌⊎◌, inl, inr, ℤ, pos, negsuc, neg_ℤ}
-use Rattle.std.specs.Prelude.{IfOk, ◌↔◌}
+use Rattle.std.proofs.Common.{◌≡◌, ◌≢◌, ℕ, ◌^◌, ◌<◌, ◌≤◌, Bool, true, false, ltb, List, length, Result, Ok, Err, refl, sym, ap, ◌∙◌, arith, ◌⊎◌, inl, inr}
+use Rattle.std.specs.Prelude.{IfOk}
 use Rattle.std.specs.Result.{OkIff, result_or}
-use Rattle.std.specs.Int.{w64}
-use Rattle.std.specs.Int.RustNames.{FitsSigned}
-use Rattle.std.specs.Str.Parse.{digits_value, signed_digits_value, ParsesUnsigned, ParsesSigned, IsNumeral, without_leading_sign}
+use Rattle.std.specs.Str.Parse.{digits_value, ParsesUnsigned}
 use Rattle.std.specs.declared.num.ParseIntError.{ParseIntError}
-use Rattle.std.proofs.lemmas.Bool.{cases_lt, lt-ltb, le-ltb, ltb-true, ltb-false}
+use Rattle.std.proofs.lemmas.Bool.{cases_lt, lt-ltb, le-ltb}
 use Rattle.std.proofs.lemmas.Str.Parse.{parse_digits}
 use Rattle.reading_core.specs.declared.refusal.NumberRefusal.{NumberRefusal}
 use Rattle.reading_core.specs.declared.refusal.NumberRefusal.TheVariants.{NotANumber, TooLarge}
-use Rattle.reading_core.specs.Decimal.{decimal_text, signed_text, is_decimal, is_signed_decimal, unsigned_of, signed_of, fits_signed}
-use Rattle.reading_core.proofs.Decimals.{own, AreDigits, decimal_digits, decimal_found, decimal_again}
+use Rattle.reading_core.specs.Decimal.{decimal_text, is_decimal, unsigned_of}
+use Rattle.reading_core.proofs.Decimals.{digits_are_numerals, decimal_digits, decimal_found, decimal_again}
 
 pub true_or_false : (b : Bool) → (b ≡ true) ⊎ (b ≡ false)
 true_or_false true = inl refl
@@ -41,7 +39,7 @@ given_unsigned text (Err f) e some h =
 
 -- what `parse` gives
 pub parsed_unsigned : (text : List ℕ) (r : Result ℕ ParseIntError) → is_decimal text ≡ true → ParsesUnsigned 64 10 text r → result_or r (Err TooLarge) ≡ unsigned_of text
-parsed_unsigned text r e h = let d = decimal_digits text e in given_unsigned text r e d.0 (parse_digits own 64 text r h d.1)
+parsed_unsigned text r e h = let d = decimal_digits text e in given_unsigned text r e d.0 (parse_digits digits_are_numerals 64 text r h d.1)
 
 -- a text of a number is read
 pub unsigned_again : (n : ℕ) → n < 2 ^ 64 → unsigned_of (decimal_text n) ≡ Ok n

@@ -1,25 +1,18 @@
 -- The same for numbers on either side of zero.
-use Rattle.std.proofs.Common.{◌≡◌, ◌≢◌, ℕ, ◌+◌, ◌^◌, ◌<◌, Bool, true, false, ltb, List, length, Result, Ok, Err, refl, sym, ap, ◌∙◌, arith, ◌⊎◌, inl, inr, ℤ, pos, negsuc}
+use Rattle.std.proofs.Common.{◌≡◌, ◌≢◌, ℕ, true, false, List, Result, Ok, Err, refl, sym, ap, ◌∙◌, ◌⊎◌, inl, inr, ℤ}
 use Rattle.std.specs.Prelude.{IfOk}
-use Rattle.std.specs.Result.{OkIff, result_or}
+use Rattle.std.specs.Result.{result_or}
 use Rattle.std.specs.Int.{w64}
 use Rattle.std.specs.Int.RustNames.{FitsSigned}
-use Rattle.std.specs.Str.Parse.{signed_digits_value, ParsesSigned, IsNumeral, without_leading_sign}
+use Rattle.std.specs.Str.Parse.{signed_digits_value, ParsesSigned}
 use Rattle.std.specs.declared.num.ParseIntError.{ParseIntError}
-use Rattle.std.proofs.lemmas.Bool.{lt-ltb, ltb-true, false_from_ne_true}
+use Rattle.std.proofs.lemmas.Bool.{false_from_ne_true}
 use Rattle.reading_core.specs.declared.refusal.NumberRefusal.{NumberRefusal}
 use Rattle.reading_core.specs.declared.refusal.NumberRefusal.TheVariants.{NotANumber, TooLarge}
 use Rattle.reading_core.specs.Decimal.{signed_text, is_signed_decimal, signed_of, fits_signed}
 use Rattle.reading_core.proofs.Parsed.{true_or_false}
+use Rattle.reading_core.proofs.SignedRanges.{fits_from_test, test_from_fits}
 use Rattle.reading_core.proofs.SignedDecimals.{signed_text_of_value, signed_texts, signed_numeral}
-
-fits_from_test : (n : ℤ) → fits_signed n ≡ true → FitsSigned w64 n
-fits_from_test (pos n) e = record { sfits = ltb-true _ _ e }
-fits_from_test (negsuc n) e = record { sfits = ltb-true _ _ e }
-
-test_from_fits : (n : ℤ) → FitsSigned w64 n → fits_signed n ≡ true
-test_from_fits (pos n) fits = lt-ltb _ _ fits.sfits
-test_from_fits (negsuc n) fits = lt-ltb _ _ fits.sfits
 
 fits_or_not : (n : ℤ) → (FitsSigned w64 n) ⊎ (¬ FitsSigned w64 n)
 fits_or_not n =

@@ -1,10 +1,10 @@
 -- The same for numbers on either side of zero.
-use Rattle.std.proofs.Common.{◌≡◌, ◌≢◌, ℕ, zero, suc, ◌+◌, ◌<◌, ◌≤◌, Bool, true, false, cond, eqb, List, [], ◌∷◌, length, get_or, drop, refl, sym, ap, subst, ◌∙◌, arith, ◌⊎◌, inl, inr, ℤ, pos, negsuc, neg_ℤ}
-use Rattle.std.specs.Prelude.{not, ◌&&◌}
+use Rattle.std.proofs.Common.{◌≡◌, ◌≢◌, ℕ, zero, suc, Bool, true, false, eqb, List, [], ◌∷◌, get_or, refl, sym, ap, ◌∙◌, arith, ◌⊎◌, inl, inr, ℤ, pos, negsuc, neg_ℤ}
+use Rattle.std.specs.Prelude.{not}
 use Rattle.std.specs.Str.Parse.{digits_value, signed_digits_value, IsNumeral, without_leading_sign}
 use Rattle.std.proofs.lemmas.Bool.{cases_eq, ne_eqb, eqb-false}
 use Rattle.reading_core.specs.Decimal.{decimal_text, signed_text, is_decimal, is_signed_decimal}
-use Rattle.reading_core.proofs.Decimals.{both, nothing_read, decimal_found, decimal_again, decimal_first, decimal_leads, decimal_digits, own}
+use Rattle.reading_core.proofs.Decimals.{both, nothing_read, decimal_found, decimal_again, decimal_first, decimal_leads, decimal_digits, digits_are_numerals}
 
 -- the value of a text without a sign
 plain_value : (text : List ℕ) → get_or text 0 0 ≢ 45 → get_or text 0 0 ≢ 43 → signed_digits_value 10 text ≡ pos (digits_value 10 text)
@@ -82,7 +82,7 @@ signed_texts (negsuc n) =
     (minus_again (decimal_text (suc n)) first again.0, ap (λ (k : ℕ). neg_ℤ (pos k)) again.1)
 
 numeral : (text : List ℕ) → is_decimal text ≡ true → IsNumeral 10 text
-numeral text e = let d = decimal_digits text e in (d.0, own.to text d.1)
+numeral text e = let d = decimal_digits text e in (d.0, digits_are_numerals.to text d.1)
 
 behind_minus : (c : ℕ) (cs : List ℕ) → c ≡ 45 → is_decimal cs ≡ true → IsNumeral 10 (without_leading_sign (c ∷ cs))
 behind_minus c cs minus e = rw minus (numeral cs e)

@@ -2,3 +2,4 @@ pub mod Reading
 pub mod Members
 pub mod Grammar
 pub mod Decimal
+pub mod FixedDigits

@@ -5,7 +5,7 @@ use Rattle.std.specs.Str.{is_utf8}
 use Rattle.std.proofs.lemmas.Bool.Decides.{nat_tests}
 use Rattle.std.proofs.lemmas.Option.{same_Some}
 use Rattle.reading_core.specs.Reading.{◌>>=◌, ◌>>◌, refused_as}
-use Rattle.reading_core.proofs.Binds.{bind_ok, ok_is, refused_as_ok}
+use Rattle.reading_core.proofs.Binds.{bind_ok, ok_is, refused_as_ok, then_ok}
 use Rattle.moment_core.specs.StandardRules.{standard_rules}
 use Rattle.script_core.specs.declared.cause.LineCause.TheVariants as causes
 use Rattle.script_core.specs.declared.line_kind.LineKind.{LineKind}
@@ -21,7 +21,7 @@ use Rattle.script_core.specs.Spelling as spelling
 use Rattle.script_core.specs.Spelling.{SoFar, HasEnded, Says, Say, Spells}
 use Rattle.script_core.proofs.FieldLaws.{cut_found}
 use Rattle.script_core.proofs.Kept.{Kept, so_far_of, start_kept, start_is}
-use Rattle.script_core.proofs.LineTools.{cut_rest, line_word, kind_found, ended_found, then_ok, unit_is}
+use Rattle.script_core.proofs.LineTools.{cut_rest, line_word, kind_found, ended_found, unit_is}
 use Rattle.script_core.proofs.FoundSetup.{Starts, closed, rule_line_found, gateway_line_found, block_line_found}
 use Rattle.script_core.proofs.FoundSeries.{series_line_found}
 use Rattle.script_core.proofs.FoundPhases.{at_line_found, upload_line_found, sync_line_found, query_line_found}

@@ -7,7 +7,7 @@ use Rattle.std.proofs.lemmas.Int.{ints}
 use Rattle.std.proofs.lemmas.Option.{same_Some}
 use Rattle.std.proofs.Math.Bool.{or-false}
 use Rattle.reading_core.specs.Reading.{◌>>=◌, refused_as}
-use Rattle.reading_core.proofs.Binds.{bind_ok, unless_ok, ok_is, refused_as_ok}
+use Rattle.reading_core.proofs.Binds.{bind_ok, unless_ok, ok_is, refused_as_ok, unless_is, then_ok, ok_or_ok}
 use Rattle.std.proofs.lemmas.Bool.{and_parts, not-true}
 use Rattle.reading_core.proofs.Parsed.{true_or_false}
 use Rattle.matchers.specs.Selectors.{read_selector}
@@ -28,9 +28,9 @@ use Rattle.script_core.specs.State.{State, all_phases, begin_phase, add_task, ad
 use Rattle.script_workers.specs.Works.{is_sync_of}
 use Rattle.script_core.specs.Spelling.{AtLine, AddsTask, UploadLine, SyncLine, QueryLine}
 use Rattle.script_core.proofs.FieldLaws.{cut_found}
-use Rattle.script_core.proofs.ValueLaws.{ok_or_ok, is_none_is, time_found, ulid_found, moment_found}
+use Rattle.script_core.proofs.ValueLaws.{is_none_is, time_found, ulid_found, moment_found}
 use Rattle.script_core.proofs.Kept.{Kept, KeepsTasks, at, so_far_of, phase_kept, task_kept, sync_noted, hands_of-append}
-use Rattle.script_core.proofs.LineTools.{is_field, cut_rest, cut_end, only_found, last_phase, no_end, then_ok, unless_is, unit_is}
+use Rattle.script_core.proofs.LineTools.{is_field, cut_rest, cut_end, only_found, last_phase, no_end, unit_is}
 use Rattle.script_core.proofs.FoundSetup.{Starts, closed}
 use Rattle.script_core.proofs.SpelledValues.{near_spelled, free_spelled, agree_spelled, selector_spelled}
 use Rattle.script_workers.proofs.HandLaws.{few_spelled}

@@ -8,7 +8,7 @@ use Rattle.std.proofs.lemmas.List.Splits.{length-slice_split, join_with_byte-sli
 use Rattle.reading_core.specs.Decimal.{signed_of}
 use Rattle.reading_core.specs.declared.refusal.NumberRefusal.{NumberRefusal}
 use Rattle.reading_core.specs.declared.refusal.NumberRefusal.TheVariants.{NotANumber, TooLarge}
-use Rattle.reading_core.proofs.Binds.{bind_ok, unless_ok, ok_is, refused_as_ok}
+use Rattle.reading_core.proofs.Binds.{bind_ok, unless_ok, ok_is, refused_as_ok, unless_is, then_ok}
 use Rattle.std.proofs.lemmas.Bool.{and_parts, not-true}
 use Rattle.label_sets.proofs.SampleTexts.{sample_of-found, sample_of-fits, uncut}
 use Rattle.label_sets.proofs.SetLaws.{set_text_found}
@@ -31,7 +31,7 @@ use Rattle.script_core.specs.State.{State, Last, block_of, all_blocks, add_serie
 use Rattle.script_core.specs.Spelling.{spaced, inside, IsSampleField, AreSampleFields, SeriesLine}
 use Rattle.script_core.proofs.FieldLaws.{no_space, space_is}
 use Rattle.script_core.proofs.Kept.{Kept, at, so_far_of, series_kept}
-use Rattle.script_core.proofs.LineTools.{is_field, then_ok, unless_is, unit_is}
+use Rattle.script_core.proofs.LineTools.{is_field, unit_is}
 use Rattle.script_core.proofs.FoundSetup.{Starts}
 use Rattle.std.specs.List.Sorted.{IsStrictlySortedBy}
 use Rattle.label_sets.specs.Labels.{compare_sets}

@@ -3,7 +3,7 @@ use Rattle.std.proofs.Common.{◌≡◌, ℕ, ◌%◌, ◌^◌, ◌<◌, ℤ, �
 use Rattle.std.proofs.lemmas.Bool.Decides.{nat_tests}
 use Rattle.std.proofs.lemmas.Int.{ints}
 use Rattle.std.proofs.lemmas.Option.{same_Some}
-use Rattle.reading_core.proofs.Binds.{bind_ok, unless_ok, ok_is, refused_as_ok}
+use Rattle.reading_core.proofs.Binds.{bind_ok, unless_ok, ok_is, refused_as_ok, ok_or_ok}
 use Rattle.std.proofs.lemmas.Bool.{and_parts, not-true}
 use Rattle.std.proofs.lemmas.List.{take_all}
 use Rattle.label_sets.proofs.SetLaws.{set_text_found}
@@ -19,7 +19,7 @@ use Rattle.script_core.specs.Lines.{rule_line, gateway_line, block_line, whole_l
 use Rattle.script_core.specs.State.{State, add_gateway, begin_block, is_declared}
 use Rattle.script_core.specs.Spelling.{rule_word, Sets, RuleLine, GatewayLine, BlockLine}
 use Rattle.script_core.proofs.FieldLaws.{cut_found}
-use Rattle.script_core.proofs.ValueLaws.{ok_or_ok, is_none_is, time_found, ulid_found, value_found}
+use Rattle.script_core.proofs.ValueLaws.{is_none_is, time_found, ulid_found, value_found}
 use Rattle.script_core.proofs.Kept.{Kept, so_far_of, gateway_kept, block_kept}
 use Rattle.script_core.proofs.LineTools.{is_field, cut_rest, only_found, name_found, early_found}
 use Rattle.script_core.proofs.SpelledValues.{near_spelled, free_spelled}

@@ -16,6 +16,8 @@ use Rattle.std.specs.List.Sorted.{IsStrictlySortedBy}
 use Rattle.label_sets.specs.Labels.{compare_sets}
 use Rattle.label_sets.specs.declared.series.Series.{Series}
 use Rattle.moment_core.specs.declared.moment.Moment.{Moment}
+use Rattle.list_core.proofs.Bools.{same-from_Equal}
+use Rattle.list_core.proofs.Order.{sorted_nil}
 use Rattle.script_core.specs.declared.block.Block.{Block}
 use Rattle.script_workers.specs.declared.hand.Hand.{Hand}
 use Rattle.script_workers.specs.declared.phase.Phase.{Phase}
@@ -75,13 +77,6 @@ start_is = refl
 abbrev Ascend : List Series → Type 0
 Ascend series = IsStrictlySortedBy compare_sets (labels_of series)
 
-none_ascend : Ascend []
-unfolding IsStrictlySortedBy
-none_ascend = tt
-
-same_number : (a b : ℕ) → nat_cmp a b ≡ Equal → a ≡ b
-same_number a b e = grind (arith, nat_tests)
-
 equal_number : (a b : ℕ) → is_eq (nat_cmp a b) ≡ (b == a)
 equal_number a b = grind (arith, nat_tests)
 
@@ -94,7 +89,7 @@ insert_by : (ulid new first : ℕ) (ulids : List ℕ) (o : Ordering) → nat_cmp
 insert_by ulid new first ulids Less is later =
     ap (λ b. b || among (first ∷ ulids) ulid) (equal_number ulid new) ∙ or_comm (new == ulid) (among (first ∷ ulids) ulid)
 insert_by ulid new first ulids Equal is later =
-    let same : first ≡ new = sym (same_number new first is) in
+    let same : first ≡ new = sym (same-from_Equal new first is) in
     let e : is_eq (nat_cmp ulid first) ≡ (new == ulid) = equal_number ulid first ∙ ap (λ n. n == ulid) same in
     rw e (twice (new == ulid) (among ulids ulid))
 insert_by ulid new first ulids Greater is later =
@@ -127,7 +122,7 @@ module _ (blocks : List Block) (last : Option Last) (ulids : List ℕ) (kept : K
         no_last = λ none. absurd cc;
         declared = λ ulid. among-insert ulid new.ulid ulids ∙ ap (λ b. b || (new.ulid == ulid)) (kept.declared ulid) ∙ sym (declares-append (all_blocks blocks last) (block_of new) ulid);
         count = length-insert new.ulid ulids fresh ∙ ap (λ n. n + 1) kept.count ∙ sym (length-append (all_blocks blocks last) (block_of new ∷ []));
-        ascend = λ block is. subst Ascend (sym none ∙ ap (λ (l : Last). l.series) (same_Some new block is)) none_ascend;
+        ascend = λ block is. subst Ascend (sym none ∙ ap (λ (l : Last). l.series) (same_Some new block is)) (sorted_nil compare_sets);
       }
 
 -- one more series of the last block

@@ -13,6 +13,7 @@ use Rattle.label_sets.specs.Labels.{compare_sets}
 use Rattle.label_sets.specs.declared.sample.Sample.{Sample}
 use Rattle.label_sets.specs.declared.series.Series.{Series}
 use Rattle.moment_core.specs.declared.rules.Rules.{Rules}
+use Rattle.list_core.proofs.Order.{sorted_nil}
 use Rattle.script_core.specs.declared.block.Block.{Block}
 use Rattle.script_core.specs.declared.body.Body.TheVariants.{Inline}
 use Rattle.script_workers.specs.declared.phase.Phase.{Phase}
@@ -84,10 +85,6 @@ all_full blocks full ended =
       | inr more ↦ subst (All (λ (b : Block). HasSeries b.body)) (sym more.2) (All-push (λ (b : Block). HasSeries b.body) more.0 more.1 (full more.0 more.1 more.2) (ended more.0 more.1 more.2))
     ]
 
-none_sorted : IsStrictlySortedBy compare_sets (map (λ (one : Series). one.labels) [])
-unfolding IsStrictlySortedBy
-none_sorted = tt
-
 some_samples : (texts : List (List ℕ)) (samples : List Sample) → texts ≢ [] → AreSampleFields texts samples → samples ≢ []
 some_samples [] samples some are none = some refl
 some_samples (text ∷ texts) [] some are none = are
@@ -126,7 +123,7 @@ module _ (before after : SoFar) (line : List ℕ) (order : InOrder before) where
       let new : Block = record { ulid = says.ulid; labels = says.labels; body = Inline says.min_time says.max_time [] } in
       let size = length-append before.script.blocks (new ∷ []) in
       let few = says.few in
-      let inline : IsLawfulInline says.min_time says.max_time [] = record { early = says.is_min.near.early; ascend = says.times; late = says.is_max.near.late; labels = All-nil (λ (one : Series). AreLawfulLabels one.labels); ordered = none_sorted; samples = All-nil (HasLawfulSamples says.min_time says.max_time) } in
+      let inline : IsLawfulInline says.min_time says.max_time [] = record { early = says.is_min.near.early; ascend = says.times; late = says.is_max.near.late; labels = All-nil (λ (one : Series). AreLawfulLabels one.labels); ordered = sorted_nil compare_sets; samples = All-nil (HasLawfulSamples says.min_time says.max_time) } in
       subst InOrder (sym says.adds) (record {
         rules = order.rules;
         agreed = order.agreed;

@@ -9,8 +9,10 @@ use Rattle.std.proofs.lemmas.Slice.Eq.{bytes_eq-Decides}
 use Rattle.std.specs.List.{All}
 use Rattle.std.specs.Map.{lookup}
 use Rattle.reading_core.specs.Reading.{◌>>◌, unless}
-use Rattle.reading_core.proofs.Binds.{unless_ok, ok_is}
-use Rattle.std.proofs.lemmas.Bool.{and_parts}
+use Rattle.reading_core.proofs.Binds.{unless_ok, ok_is, unless_is}
+use Rattle.std.proofs.lemmas.Bool.{and_parts, not-true, not_from_false}
+use Rattle.list_core.proofs.Bools.{bytes_eq-same}
+use Rattle.list_core.proofs.Lists.{nil_not_middle, some-from_length, length-some}
 use Rattle.script_core.specs.declared.block.Block.{Block}
 use Rattle.script_core.specs.declared.cause.LineCause.TheVariants.{BadShape}
 use Rattle.script_core.specs.declared.line_kind.LineKind.{LineKind}
@@ -27,14 +29,6 @@ use Rattle.script_core.proofs.FieldLaws.{no_space, Cut, cut_nothing, cut_whole, 
 use Rattle.script_core.proofs.ValueLaws.{is_none_is}
 
 -- ---- steps
-
-pub unless_is : {E : Type 0} (b : Bool) (e : E) → unless b e ≡ Ok tt → b ≡ true
-unless_is true e h = refl
-unless_is false e h = absurd cc
-
-pub then_ok : {A B E : Type 0} (r : Result A E) (s : Result B E) (y : B) → (r >> s) ≡ Ok y → (x : A) × (r ≡ Ok x) × (s ≡ Ok y)
-then_ok (Ok x) s y h = (x, refl, h)
-then_ok (Err e) s y h = absurd cc
 
 -- there is one unit
 pub unit_is : {E : Type 0} (x : Unit {0}) → ◌≡◌ {A = Result (Unit {0}) E} (Ok x) (Ok tt)
@@ -94,13 +88,10 @@ line_word kinds.Upload = codes "upload"
 line_word kinds.Sync = codes "sync"
 line_word kinds.Query = codes "query"
 
-pub same_bytes : (xs ys : List ℕ) → bytes_eq xs ys ≡ true → xs ≡ ys
-same_bytes xs ys e = grind (arith, nat_tests, bytes_eq-Decides)
-
 -- what is found in a table of words has the word that was sought
 word_found : {K : Type 0} (word_of : K → List ℕ) (table : List (List ℕ × K)) (word : List ℕ) (found : K) → All (λ (e : List ℕ × K). e.0 ≡ word_of e.1) table → lookup (bytes_eq word) table ≡ Some found → word ≡ word_of found
 word_found {K} word_of table word found all h =
-    All-contains (λ (e : List ℕ × K). e.0 ≡ word_of e.1) table (word, found) all (Contains-from_lookup same_bytes word found table h)
+    All-contains (λ (e : List ℕ × K). e.0 ≡ word_of e.1) table (word, found) all (Contains-from_lookup bytes_eq-same word found table h)
 
 pub kind_found : (word : List ℕ) (found : LineKind) → line_kind word ≡ Some found → word ≡ line_word found
 kind_found word found =
@@ -128,31 +119,21 @@ name_free name = refl
 
 -- ---- ends of lists
 
-not_empty : {A : Type 0} (xs : List A) (x : A) → [] ≡ xs ++ x ∷ [] → ⊥
-not_empty xs x e = omega (arith, ap length e, length-append xs (x ∷ []))
-
 pub no_end : {A : Type 0} (xs : List A) (x : A) → xs ++ x ∷ [] ≡ [] → ⊥
-no_end xs x e = not_empty xs x (sym e)
+no_end xs x e = nil_not_middle x xs [] (sym e)
 
 -- ---- the last block and the last phase
 
-no_series : (series_count : ℕ) → not (series_count == 0) ≡ true → series_count ≡ 0 → ⊥
-no_series n some none = grind (arith, nat_tests)
-
-some_series : (series : List Series) → series ≢ [] → not (length series == 0) ≡ true
-some_series [] some = absurd (some refl)
-some_series (one ∷ series) some = grind (arith, nat_tests)
-
 ended_by : (last : Last) → last.series ≢ [] → has_ended (Some last) ≡ Ok tt
-ended_by last some = let test : not (length last.series == 0) ≡ true = some_series last.series some in rw test refl
+ended_by last some = let test : not (length last.series == 0) ≡ true = not_from_false (length last.series == 0) (length-some last.series some) in rw test refl
 
 pub ended_found : (blocks : List Block) (last : Option Last) → (last ≡ None → blocks ≡ []) → has_ended last ≡ Ok tt → HasEnded (all_blocks blocks last)
-ended_found blocks None first h = λ others block is. absurd (not_empty others block (sym (first refl) ∙ is))
+ended_found blocks None first h = λ others block is. absurd (nil_not_middle block others [] (sym (first refl) ∙ is))
 ended_found blocks (Some last) first h =
     let test = unless_is (not (length last.series == 0)) _ h in
     λ others block is.
     let same : block_of last ≡ block = (same_from_push blocks others (block_of last) block is).1 in
-    subst (λ (b : Block). HasSeries b.body) same (λ e. no_series (length last.series) test (ap length e))
+    subst (λ (b : Block). HasSeries b.body) same (some-from_length last.series (not-true (length last.series == 0) test))
 
 pub ended_again : (blocks : List Block) (last : Option Last) → HasEnded (all_blocks blocks last) → has_ended last ≡ Ok tt
 ended_again blocks None ended = refl
@@ -168,6 +149,6 @@ early_again phases (Some phase) early = absurd (no_end phases phase early)
 
 -- the last phase
 pub last_phase : (phases : List Phase) (phase : Option Phase) (others : List Phase) (last : Phase) → (phase ≡ None → phases ≡ []) → all_phases phases phase ≡ others ++ last ∷ [] → (phase ≡ Some last) × (phases ≡ others)
-last_phase phases None others last first is = absurd (not_empty others last (sym (first refl) ∙ is))
+last_phase phases None others last first is = absurd (nil_not_middle last others [] (sym (first refl) ∙ is))
 last_phase phases (Some phase) others last first is =
     let same = same_from_push phases others phase last is in (ap Some same.1, same.0)

@@ -17,11 +17,11 @@ use Rattle.matchers.specs.declared.matcher.Matcher.{Matcher}
 use Rattle.matchers.specs.declared.selector_refusal.SelectorRefusal.{SelectorRefusal}
 use Rattle.matchers.specs.declared.selector_refusal.SelectorRefusal.TheVariants.{NotBuilt}
 use Rattle.moment_core.specs.declared.rules.Rules.{Rules}
+use Rattle.list_core.proofs.Bools.{bytes_eq-same}
 use Rattle.script_core.specs.Samples.{is_within, are_within, times_of, rise_after, are_rising}
 use Rattle.script_core.specs.Values.{is_time, agree}
 use Rattle.script_core.specs.Spelling.{IsNear, IsWithin, IsSelectorText, DoAgree}
 use Rattle.script_core.proofs.LawfulParts.{near_low, near_high}
-use Rattle.script_core.proofs.LineTools.{same_bytes}
 
 -- ---- times and ULIDs
 
@@ -132,7 +132,7 @@ agree_tested set is =
 
 selector_by : (text : List ℕ) (selector : List Matcher) (empty metric : Bool) → bytes_eq text (codes "{}") ≡ empty → is_metric_name text ≡ metric → cond {A = Result (List Matcher) SelectorRefusal} empty (Ok []) (cond metric (Ok (metric_matcher text ∷ [])) (Err NotBuilt)) ≡ Ok selector → IsSelectorText text selector
 unfolding metric_matcher
-selector_by text selector true metric is name h = inl (same_bytes text (codes "{}") is, sym (ok_is _ _ h))
+selector_by text selector true metric is name h = inl (bytes_eq-same text (codes "{}") is, sym (ok_is _ _ h))
 selector_by text selector false true is name h = inr (name, sym (ok_is _ _ h))
 selector_by text selector false false is name h = absurd cc
 
@@ -146,7 +146,7 @@ no_braces = refl
 
 metric_by : (text : List ℕ) (empty : Bool) → bytes_eq text (codes "{}") ≡ empty → is_metric_name text ≡ true → cond {A = Result (List Matcher) SelectorRefusal} empty (Ok []) (cond (is_metric_name text) (Ok (metric_matcher text ∷ [])) (Err NotBuilt)) ≡ Ok (metric_matcher text ∷ [])
 metric_by text true is name =
-    let none : is_metric_name text ≡ false = ap is_metric_name (same_bytes text (codes "{}") is) ∙ no_braces in absurd cc
+    let none : is_metric_name text ≡ false = ap is_metric_name (bytes_eq-same text (codes "{}") is) ∙ no_braces in absurd cc
 metric_by text false is name = rw name refl
 
 braces_read : read_selector (codes "{}") ≡ Ok []

@@ -4,7 +4,7 @@ use Rattle.std.specs.Int.{w64}
 use Rattle.std.specs.Int.RustNames.{FitsSigned}
 use Rattle.std.proofs.lemmas.Bool.Decides.{nat_tests}
 use Rattle.reading_core.specs.Decimal.{decimal_text, signed_text, unsigned_of, signed_of}
-use Rattle.reading_core.proofs.Binds.{bind_ok, unless_ok, ok_is, refused_as_ok}
+use Rattle.reading_core.proofs.Binds.{bind_ok, unless_ok, ok_is, refused_as_ok, ok_or_ok}
 use Rattle.std.proofs.lemmas.Bool.{and_parts}
 use Rattle.reading_core.proofs.Parsed.{unsigned_again, unsigned_found}
 use Rattle.reading_core.proofs.ParsedSigned.{signed_again, signed_found}
@@ -21,10 +21,6 @@ use Rattle.script_core.specs.declared.rule_name.RuleName.{RuleName}
 use Rattle.script_core.specs.declared.rule_name.RuleName.TheVariants as names
 use Rattle.script_core.specs.Values.{is_time, time_field, page_limit_field, span_from, span_field, tick_field, moment_from, moment_field, ulid_field, value_field}
 use Rattle.script_core.specs.Spelling.{IsValueText}
-
-pub ok_or_ok : {A E : Type 0} (o : Option A) (e : E) (x : A) → ok_or o e ≡ Ok x → o ≡ Some x
-ok_or_ok None e x h = absurd cc
-ok_or_ok (Some y) e x h = cc
 
 pub is_none_is : {A : Type 0} (o : Option A) → is_none o ≡ true → o ≡ None
 is_none_is None h = refl

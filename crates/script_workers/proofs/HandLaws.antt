@@ -1,15 +1,16 @@
 -- Who is among the hands of a phase: whoever does one of its tasks, each once, and nobody else.
-use Rattle.std.proofs.Common.{◌≡◌, ℕ, zero, suc, ◌+◌, ◌<◌, ◌≤◌, Bool, true, false, ◌||◌, nat_lt, get_or, List, [], ◌∷◌, ◌++◌, length, fold, refl, sym, ap, ◌∙◌, subst, arith, ◌⊎◌, inl, inr, Option, Some}
+use Rattle.std.proofs.Common.{◌≡◌, ℕ, zero, suc, ◌+◌, ◌<◌, ◌≤◌, Bool, true, false, ◌||◌, nat_lt, List, [], ◌∷◌, ◌++◌, length, fold, refl, sym, ap, ◌∙◌, subst, arith, ◌⊎◌, inl, inr, Option, Some}
 use Rattle.std.specs.Cmp.{IsEquivalence}
 use Rattle.std.specs.List.{Contains, list_any, range_with_len, IsDistinct}
 use Rattle.std.specs.Prelude.{slice_get}
 use Rattle.std.proofs.lemmas.Bool.{cond_both, or_cases}
 use Rattle.std.proofs.lemmas.Bool.Decides.{nat_tests}
-use Rattle.std.proofs.lemmas.List.Elements.{Contains-append_left, Contains-append_right, Contains-push, Contains-push_cases}
+use Rattle.std.proofs.lemmas.List.Elements.{Contains-append_left, Contains-push, Contains-push_cases}
 use Rattle.std.proofs.lemmas.Map.Keys.{IsDistinct-push}
 use Rattle.std.proofs.lemmas.Map.Made.{length-le_from_is_member}
 use Rattle.std.proofs.lemmas.Map.Views.{Contains-from_any, list_any-from_Contains}
 use Rattle.std.proofs.lemmas.Option.{same_Some}
+use Rattle.list_core.proofs.Membership.{contains_first, contains_later, member_cases, no_member}
 use Rattle.script_workers.specs.declared.hand.Hand.{Hand}
 use Rattle.script_workers.specs.declared.hand.Hand.TheVariants.{Upload, Gateway}
 use Rattle.script_workers.specs.declared.task.Task.{Task}
@@ -101,19 +102,15 @@ with_once others new once =
 
 -- ---- the hands of a task join others
 
-first_or_later : (first hand : Hand) (more : List Hand) (k : ℕ) → k < length (first ∷ more) → get_or (first ∷ more) k hand ≡ hand → (first ≡ hand) ⊎ Contains more hand
-first_or_later first hand more zero inside is = inl is
-first_or_later first hand more (suc k) inside is = inr (k, omega (arith, inside), is)
-
 pub fold_keeps : (others more : List Hand) (hand : Hand) → Contains others hand → Contains (fold with_hand others more) hand
 fold_keeps others [] hand h = h
 fold_keeps others (new ∷ more) hand h =
     fold_keeps (with_hand others new) more hand (with_keeps others new hand h)
 
 pub fold_has : (others more : List Hand) (hand : Hand) → Contains more hand → Contains (fold with_hand others more) hand
-fold_has others [] hand h = absurd (omega (arith, h.1))
+fold_has others [] hand h = absurd (no_member hand h)
 fold_has others (new ∷ more) hand h =
-    elim (first_or_later new hand more h.0 h.1 h.2) [
+    elim (member_cases new hand more h) [
       | inl same ↦ fold_keeps (with_hand others new) more hand (subst (Contains (with_hand others new)) same (with_has others new))
       | inr later ↦ fold_has (with_hand others new) more hand later
     ]
@@ -125,9 +122,9 @@ fold_only others (new ∷ more) hand h =
       | inl before ↦
           elim (with_only others new hand before) [
             | inl old ↦ inl old
-            | inr same ↦ inr (0, omega arith, same)
+            | inr same ↦ inr (subst (Contains (new ∷ more)) same (contains_first new more))
           ]
-      | inr later ↦ inr (Contains-append_right (new ∷ []) more hand later)
+      | inr later ↦ inr (contains_later new hand more later)
     ]
 
 fold_once : (others more : List Hand) → IsDistinct same_hand others → IsDistinct same_hand (fold with_hand others more)
@@ -191,7 +188,7 @@ module _ (gateways : ℕ) (tasks : List Task) where
   pub is_needed : (hand : Hand) → Contains (hands_of gateways tasks) hand → (place : ℕ) × IsTaskOf gateways tasks hand place
   is_needed hand h =
       elim (from_only gateways [] 0 tasks hand h) [
-        | inl none ↦ absurd (omega (arith, none.1))
+        | inl none ↦ absurd (no_member hand none)
         | inr some ↦
             let at : some.0 ≡ some.1 = let e = some.4 in omega (arith, e) in
             (some.1, record { task = some.2; is = ap (slice_get tasks) (sym at) ∙ some.3; whose = does_for gateways hand some.1 some.2.work some.5 })

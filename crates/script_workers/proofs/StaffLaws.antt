@@ -7,8 +7,9 @@ use Rattle.std.specs.Ordering.{nat_cmp}
 use Rattle.std.specs.declared.cmp.Ordering.TheVariants.{Less}
 use Rattle.std.proofs.lemmas.Bool.{cond_both, false_from_ne_true}
 use Rattle.std.proofs.lemmas.Bool.Decides.{nat_tests}
-use Rattle.std.proofs.lemmas.List.Elements.{All-nil, All-cons, All-head, All-tail, All-push, All-weaker, All-from_recursion, All-contains_itself, Contains-append_left, Contains-append_right}
+use Rattle.std.proofs.lemmas.List.Elements.{All-nil, All-cons, All-head, All-tail, All-push, All-weaker, All-from_recursion, All-contains_itself, Contains-append_left}
 use Rattle.std.proofs.lemmas.List.Quantifiers.{all_pairs_push}
+use Rattle.list_core.proofs.Membership.{contains_first, contains_later}
 use Rattle.script_workers.specs.declared.hand.Hand.{Hand}
 use Rattle.script_workers.specs.declared.hand.Hand.TheVariants.{Upload, Gateway}
 use Rattle.script_workers.specs.declared.task.Task.{Task}
@@ -48,7 +49,7 @@ each_from gateways hand base (first ∷ tasks) zero place task is at does_it =
 each_from gateways hand base (first ∷ tasks) (suc k) place task is at does_it =
     let later = places_from gateways hand (base + 1) tasks in
     let held = each_from gateways hand (base + 1) tasks k place task is (omega (arith, at)) does_it in
-    cond_both (does gateways hand base first.work) (base ∷ later) later (λ places. Contains places place) (λ _. Contains-append_right (base ∷ []) later place held) (λ _. held)
+    cond_both (does gateways hand base first.work) (base ∷ later) later (λ places. Contains places place) (λ _. contains_later base place later held) (λ _. held)
 
 less : (one other : ℕ) → one < other → nat_cmp one other ≡ Less
 less one other below = grind (arith, nat_tests)
@@ -145,15 +146,15 @@ module _ (own : Hand → List ℕ) where
         pairs = ready.pairs;
         ahead = ahead;
         in_order = ready.in_order.1;
-        fresh = λ hand h missing. ready.fresh hand (Contains-append_right (new ∷ []) more hand h) missing;
+        fresh = λ hand h missing. ready.fresh hand (contains_later new hand more h) missing;
       })
       (λ no.
-      let begins : Begins new place = ready.fresh new (0, omega arith, refl) (λ old. let clash : true ≡ false = sym (tested current new old) ∙ no in absurd cc) in
+      let begins : Begins new place = ready.fresh new (contains_first new more) (λ old. let clash : true ≡ false = sym (tested current new old) ∙ no in absurd cc) in
       record {
         pairs = all_pairs_push Before current new ready.pairs (All-weaker (IsAhead place (new ∷ more)) (λ hand. Before hand new) (is_before place new more begins) current ready.ahead);
         ahead = All-push (IsAhead place more) current new ahead (place, begins, inr (refl, ready.in_order.0));
         in_order = ready.in_order.1;
-        fresh = λ hand h missing. ready.fresh hand (Contains-append_right (new ∷ []) more hand h) (λ old. missing (Contains-append_left current (new ∷ []) hand old));
+        fresh = λ hand h missing. ready.fresh hand (contains_later new hand more h) (λ old. missing (Contains-append_left current (new ∷ []) hand old));
       })
 
   ready_fold : (place : ℕ) (current more : List Hand) → Ready place current more → Ready place (fold with_hand current more) []

@@ -3,3 +3,4 @@ pub mod Positional
 pub mod UlidLaws
 pub mod NumberLoop
 pub mod TextLoop
+pub mod AsciiTexts

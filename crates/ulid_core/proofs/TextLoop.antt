@@ -2,7 +2,7 @@
 use Rattle.std.proofs.Common.{◌≡◌, ℕ, zero, suc, ◌-◌, ◌/◌, ◌%◌, ◌<◌, ◌≤◌, List, [], ◌∷◌, ◌++◌, map, length, drop, refl, sym, ap, ◌∙◌, arith, append_assoc, add-one}
 use Rattle.std.proofs.lemmas.List.{map-append, drop-set, append-nil}
 use Rattle.std.proofs.Math.ListN.{set}
-use Rattle.ulid_core.specs.FixedDigits.{fixed_digits}
+use Rattle.reading_core.specs.FixedDigits.{fixed_digits}
 use Rattle.ulid_core.specs.UlidText.{character, text_of}
 
 pub text_of-none : (ulid number : ℕ) → number ≡ ulid → map character (fixed_digits 32 26 number) ++ [] ≡ text_of ulid

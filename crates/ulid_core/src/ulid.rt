@@ -1,5 +1,6 @@
 ghost use Rattle.std.specs.Prelude.{◌≡◌, ◌≢◌, ◌↔◌, ℕ, ◌+◌, ◌*◌, ◌/◌, ◌%◌, ◌^◌, ◌<◌, ◌++◌, length, slice_index, Some, None, Ok, Err, IfOk, OnOk, OnErr};
 ghost use Rattle.std.specs.Str.{byte};
+ghost use Rattle.std.specs.String.{string_bytes};
 ghost use Rattle.std.specs.Cmp.Lexicographic.{slice_cmp};
 ghost use Rattle.std.specs.Ordering.{nat_cmp};
 ghost use Rattle.ulid_core.specs.UlidText.{IsUlidText, text_of, bad_place, ulid_of};
@@ -7,6 +8,7 @@ ghost use Rattle.ulid_core.specs.UlidText.{IsUlidText, text_of, bad_place, ulid_
 use crate::UlidRefusal;
 use crate::characters::{character, read_number};
 use list_core::{List, NoMemory, TryCopy};
+use std::alloc::Global;
 use std::marker::Model;
 
 /// A ULID: 48 bits of milliseconds, then 80 bits of entropy.
@@ -56,6 +58,15 @@ impl Ulid {
             rest /= 32;
         }
         text
+    }
+
+    /// The 26 characters as a string.
+    pub fn to_string(self, alloc: Global) -> Result<String, NoMemory>
+        ensures value { IfOk result (λ text. string_bytes text ≡ text_of self) }
+        ensures written { IfOk result (λ text. IsUlidText (string_bytes text) self) }
+    {
+        let bytes = Vec::from_slice(alloc, &self.text())?;
+        Ok(String::from_utf8(bytes).unwrap())
     }
 
     /// Appends the 26 characters.

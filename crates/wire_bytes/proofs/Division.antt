@@ -11,8 +11,7 @@ use Rattle.std.proofs.lemmas.List.Sums.{fold-append}
 use Rattle.std.proofs.lemmas.List.Concat.{flat_map-cons}
 use Rattle.std.proofs.lemmas.Grind.{flat_map-append}
 use Rattle.reading_core.specs.Grammar.{IsBytes}
-use Rattle.reading_core.proofs.Fronts.{IsBytes-drop}
-use Rattle.wire_bytes.proofs.FixedLaws.{IsBytes-take}
+use Rattle.reading_core.proofs.Fronts.{IsBytes-drop, IsBytes-take}
 use Rattle.wire_bytes.specs.Crc.{castagnoli, times_x, times_x_to, with_bit, coefficients, remainder}
 
 -- ---- sums of polynomials

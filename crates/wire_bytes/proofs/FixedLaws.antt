@@ -1,11 +1,13 @@
 -- Numbers of fixed width at a position against their grammar.
-use Rattle.std.proofs.Common.{◌≡◌, ℕ, ◌*◌, ◌%◌, ◌^◌, ◌<◌, ◌≤◌, ltb, false, List, [], ◌∷◌, ◌++◌, length, take, drop, Result, Ok, Err, refl, sym, ap, subst, ◌∙◌, arith, inl, inr}
+use Rattle.std.proofs.Common.{◌≡◌, ℕ, ◌*◌, ◌%◌, ◌^◌, ◌<◌, ◌≤◌, ltb, false, List, [], ◌∷◌, ◌++◌, length, take, Result, Ok, Err, refl, sym, ap, subst, ◌∙◌, arith, inl, inr}
 use Rattle.std.specs.Prelude.{◌↔◌, IfOk}
 use Rattle.std.specs.Borrow.{Bor}
 use Rattle.reading_core.specs.Reading.{Steps}
 use Rattle.std.specs.Int.{Width, w8, w16, w32, w64, byte_len, from_be_bytes, to_be_bytes}
+use Rattle.std.specs.List.{flat_map}
+use Rattle.std.proofs.lemmas.List.Concat.{flat_map-cons}
 use Rattle.std.proofs.lemmas.Bool.{cases_lt, ltb-false, le-ltb, lt-ltb}
-use Rattle.std.proofs.lemmas.List.{take_at, take-append-drop, length-append, length-take, get_or-take, get_or_past}
+use Rattle.std.proofs.lemmas.List.{take_at, take-append-drop, length-append, length-take}
 use Rattle.std.proofs.lemmas.Nat.{be_bytes_2, be_bytes_4, be_bytes_8, from_be_bytes-to_be_bytes_2, from_be_bytes-to_be_bytes_4, from_be_bytes-to_be_bytes_8}
 use Rattle.reading_core.specs.Grammar.{IsBytes, HasFront}
 use Rattle.reading_core.proofs.Binds.{cond_ok, ok_is}
@@ -15,13 +17,8 @@ use Rattle.wire_bytes.specs.Position.{Position, left, further}
 use Rattle.wire_bytes.specs.Fields.{number_at, bytes_at}
 use Rattle.wire_bytes.specs.FieldTexts.{IsFixed}
 use Rattle.wire_bytes.proofs.FieldLaws.{left-further}
-
-pub IsBytes-take : (n : ℕ) (bytes : List ℕ) → IsBytes bytes → IsBytes (take n bytes)
-IsBytes-take n bytes are i =
-    elim (cases_lt i n) [
-      | inl lt ↦ rw (get_or-take n bytes i 0 lt) (are i)
-      | inr le ↦ rw (get_or_past (take n bytes) i 0 (omega (arith, length-take n bytes))) (omega arith)
-    ]
+use Rattle.wire_bytes.proofs.ByteFields.{bytes_parts, bytes_split}
+use Rattle.reading_core.proofs.Fronts.{IsBytes-take}
 
 -- bytes and their number, both ways
 pub record IsWide (w : Width) : Type 0 where
@@ -106,14 +103,12 @@ module _ (w : Width) (wide : IsWide w) where
     λ short. rw (lt-ltb _ _ short) refl,
   )
 
--- ---- bytes that are lent
+-- numbers of four bytes, one behind the other
+pub length-four_each : (numbers : List ℕ) → length (flat_map (to_be_bytes w32) numbers) ≡ 4 * length numbers
+length-four_each [] = refl
+length-four_each (n ∷ numbers) = omega (arith, length-four_each numbers, ap length (flat_map-cons (to_be_bytes w32) n numbers), length-append (to_be_bytes w32 n) (flat_map (to_be_bytes w32) numbers), wide32.len n)
 
-bytes_parts : (count : ℕ) (p q : Position) (bytes : List ℕ) → bytes_at count p ≡ Ok (bytes, q) → (count ≤ length (left p)) × (take count (left p) ≡ bytes) × (further count p ≡ q)
-unfolding bytes_at
-bytes_parts count p q bytes e =
-    let g = cond_ok (ltb (length (left p)) count) Short (Ok (take count (left p), further count p)) (bytes, q) e in
-    let same : ◌≡◌ {A = List ℕ × Position} (take count (left p), further count p) (bytes, q) = ok_is {E = WireRefusal} _ _ g.1 in
-    (ltb-false _ _ g.0, ap (λ (y : List ℕ × Position). y.0) same, ap (λ (y : List ℕ × Position). y.1) same)
+-- ---- bytes that are lent
 
 bytes_enough : (count : ℕ) (p : Position) → count ≤ length (left p) → bytes_at count p ≡ Ok (take count (left p), further count p)
 unfolding bytes_at
@@ -124,11 +119,7 @@ unfolding bytes_at
 bytes_too_few count p short = rw (lt-ltb _ _ short) refl
 
 pub bytes_found : (count : ℕ) (p q : Position) (r : Result (Bor (List ℕ)) WireRefusal) → Steps (λ bytes. bytes.now) p q r (bytes_at count p) → IfOk r (λ bytes. (length bytes.now ≡ count) × (left p ≡ bytes.now ++ left q))
-bytes_found count p q (Ok bytes) e =
-    let x = bytes_parts count p q bytes.now e in (
-      omega (arith, ap length x.1, length-take count (left p), x.0),
-      sym (take-append-drop count (left p)) ∙ ap (λ (front : List ℕ). front ++ drop count (left p)) x.1 ∙ ap (λ (others : List ℕ). bytes.now ++ others) (sym (left-further count p) ∙ ap left x.2),
-    )
+bytes_found count p q (Ok bytes) e = bytes_split count p q bytes.now e
 bytes_found count p q (Err d) e = tt
 
 pub bytes_short : (count : ℕ) (p q : Position) (r : Result (Bor (List ℕ)) WireRefusal) → Steps (λ bytes. bytes.now) p q r (bytes_at count p) → (r ≡ Err Short) ↔ (length (left p) < count)

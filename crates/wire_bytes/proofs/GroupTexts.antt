@@ -29,7 +29,7 @@ groups_text_is (suc more) n small =
       | inr large ↦ rw (group_and_more more n large) (more_groups (128 + n % 128) n (n / 128) (groups_text more (n / 128)) (omega arith) (omega arith) (omega arith) (groups_text_is more (n / 128) (omega arith)))
     ]
 
-few_groups : (more n : ℕ) → length (groups_text more n) ≤ suc more
+pub few_groups : (more n : ℕ) → length (groups_text more n) ≤ suc more
 few_groups zero n = rw (top_group n) (omega arith)
 few_groups (suc more) n =
     elim (cases_lt n 128) [

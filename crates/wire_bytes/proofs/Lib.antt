@@ -2,6 +2,7 @@ pub mod Groups
 pub mod GroupsWritten
 pub mod GroupLaws
 pub mod FieldLaws
+pub mod ByteFields
 pub mod FixedLaws
 pub mod GroupTexts
 pub mod ShortNumbers

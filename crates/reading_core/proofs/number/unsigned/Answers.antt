@@ -1,4 +1,4 @@
-use Rattle.std.proofs.Common.{◌∙◌, sym, ap, rules}
+use Rattle.std.proofs.Common.{◌∙◌, sym}
 use Rattle.reading_core.proofs.Parsed.{parsed_unsigned, unsigned_not}
 use Rattle.reading_core.proofs.number.unsigned.Goals as goal
 

@@ -1,0 +1,66 @@
+-- Booleans and orderings, where the standard library has no lemma.
+use Rattle.std.proofs.Common.{◌≡◌, ℕ, ◌<◌, Bool, true, false, cond, ◌||◌, List, refl, arith}
+use Rattle.std.specs.declared.cmp.Ordering.{Ordering}
+use Rattle.std.specs.declared.cmp.Ordering.TheVariants.{Less, Equal, Greater}
+use Rattle.std.specs.Ordering.{is_lt, nat_cmp, ordering_then}
+use Rattle.std.specs.Str.{bytes_eq}
+use Rattle.std.proofs.lemmas.Bool.Decides.{nat_tests}
+use Rattle.std.proofs.lemmas.Slice.Eq.{bytes_eq-Decides}
+
+-- ---- a Boolean is one or the other
+
+pub by_bool : {P : Type 0} (b : Bool) → (b ≡ true → P) → (b ≡ false → P) → P
+by_bool true f g = f refl
+by_bool false f g = g refl
+
+pub or_swap : (a b c : Bool) → (a || (b || c)) ≡ (b || (a || c))
+or_swap true true c = refl
+or_swap true false c = refl
+or_swap false b c = refl
+
+-- two tests that never hold together may change places
+pub swap_tests : {A : Type 0} (a b : Bool) (x y z : A) → (a ≡ true → b ≡ true → ⊥) → cond a x (cond b y z) ≡ cond b y (cond a x z)
+swap_tests true true x y z apart = absurd (apart refl refl)
+swap_tests true false x y z apart = refl
+swap_tests false b x y z apart = refl
+
+-- ---- orderings
+
+pub Less-from_is_lt : (o : Ordering) → is_lt o ≡ true → o ≡ Less
+Less-from_is_lt Less e = refl
+Less-from_is_lt Equal e = absurd cc
+Less-from_is_lt Greater e = absurd cc
+
+pub is_lt-from_Less : (o : Ordering) → o ≡ Less → is_lt o ≡ true
+is_lt-from_Less o e = rw e refl
+
+pub Equal-from_then : (a b : Ordering) → ordering_then a b ≡ Equal → (a ≡ Equal) × (b ≡ Equal)
+Equal-from_then Less b e = absurd cc
+Equal-from_then Equal b e = (refl, e)
+Equal-from_then Greater b e = absurd cc
+
+pub nat_cmp-Less : (n m : ℕ) → n < m → nat_cmp n m ≡ Less
+nat_cmp-Less n m lt = grind (arith, nat_tests)
+
+pub nat_cmp-Equal : (n : ℕ) → nat_cmp n n ≡ Equal
+nat_cmp-Equal n = grind (arith, nat_tests)
+
+pub nat_cmp-Greater : (n m : ℕ) → m < n → nat_cmp n m ≡ Greater
+nat_cmp-Greater n m lt = grind (arith, nat_tests)
+
+pub lt-from_Less : (n m : ℕ) → nat_cmp n m ≡ Less → n < m
+lt-from_Less n m e = grind (arith, nat_tests)
+
+pub same-from_Equal : (n m : ℕ) → nat_cmp n m ≡ Equal → n ≡ m
+same-from_Equal n m e = grind (arith, nat_tests)
+
+pub gt-from_Greater : (n m : ℕ) → nat_cmp n m ≡ Greater → m < n
+gt-from_Greater n m e = grind (arith, nat_tests)
+
+-- ---- texts
+
+pub bytes_eq-same : (a b : List ℕ) → bytes_eq a b ≡ true → a ≡ b
+bytes_eq-same a b e = let d = bytes_eq-Decides a b in grind (arith, d)
+
+pub bytes_eq-itself : (a : List ℕ) → bytes_eq a a ≡ true
+bytes_eq-itself a = let d = bytes_eq-Decides a a in grind (arith, d)

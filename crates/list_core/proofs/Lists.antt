@@ -1,0 +1,144 @@
+-- Lists, where the standard library has no lemma: parts at a place, filters, pairs, and what holds of each member.
+use Rattle.std.proofs.Common.{◌≡◌, ◌≢◌, ℕ, zero, suc, ◌+◌, Bool, true, false, cond, List, [], ◌∷◌, ◌++◌, length, take, drop, map, zip, Some, refl, ap, ◌∙◌, subst, arith}
+use Rattle.std.specs.Prelude.{slice_get, ◌==◌}
+use Rattle.std.specs.List.{All, AllByRecursion, filter, find}
+use Rattle.std.proofs.lemmas.Bool.{eqb-false, ne_eqb}
+use Rattle.std.proofs.lemmas.List.{drop_more, take_more, nil_from_length}
+use Rattle.std.proofs.lemmas.List.Elements.{All-head, All-tail}
+use Rattle.std.proofs.lemmas.Option.{slice_get_within, get_or_from_slice_get}
+
+-- ---- the first member and the others
+
+pub cons_parts : {A : Type 0} (x y : A) (xs ys : List A) → x ∷ xs ≡ y ∷ ys → (x ≡ y) × (xs ≡ ys)
+cons_parts x y xs ys e = (cc, cc)
+
+pub cons_same : {A : Type 0} (x y : A) (xs ys : List A) → x ≡ y → xs ≡ ys → x ∷ xs ≡ y ∷ ys
+cons_same x y xs ys e f = cc
+
+pub nil_not_cons : {A : Type 0} (x : A) (xs : List A) → [] ≡ x ∷ xs → ⊥
+nil_not_cons x xs e = absurd cc
+
+pub nil_not_middle : {A : Type 0} (x : A) (xs ys : List A) → [] ≡ xs ++ x ∷ ys → ⊥
+nil_not_middle x [] ys e = absurd cc
+nil_not_middle x (y ∷ xs) ys e = absurd cc
+
+-- that a list is empty, by its length
+pub some-from_length : {A : Type 0} (xs : List A) → (length xs == 0) ≡ false → xs ≢ []
+some-from_length xs e none = eqb-false (length xs) 0 e (ap length none)
+
+pub length-some : {A : Type 0} (xs : List A) → xs ≢ [] → (length xs == 0) ≡ false
+length-some xs some = ne_eqb (length xs) 0 (λ e. some (nil_from_length xs e))
+
+-- ---- parts at a place
+
+pub take_none : {A : Type 0} (xs : List A) → take 0 xs ≡ []
+take_none [] = refl
+take_none (x ∷ xs) = refl
+
+pub drop_none : {A : Type 0} (xs : List A) → drop 0 xs ≡ xs
+drop_none [] = refl
+drop_none (x ∷ xs) = refl
+
+-- the member at a place is the first of what lies behind, and the last of the front that ends with it
+pub drop_place : {A : Type 0} (xs : List A) (place : ℕ) (x : A) → slice_get xs place ≡ Some x → drop place xs ≡ x ∷ drop (place + 1) xs
+drop_place xs place x at =
+    drop_more xs place x (slice_get_within xs place x at) ∙ ap (λ (y : _). y ∷ drop (place + 1) xs) (get_or_from_slice_get xs place x x at)
+
+pub take_place : {A : Type 0} (xs : List A) (place : ℕ) (x : A) → slice_get xs place ≡ Some x → take (place + 1) xs ≡ take place xs ++ x ∷ []
+take_place xs place x at =
+    take_more xs place x (slice_get_within xs place x at) ∙ ap (λ (y : _). take place xs ++ y ∷ []) (get_or_from_slice_get xs place x x at)
+
+-- a member of a front stands at the same place of the list
+pub slice_get-take : {A : Type 0} (xs : List A) (count place : ℕ) (x : A) → slice_get (take count xs) place ≡ Some x → slice_get xs place ≡ Some x
+slice_get-take [] zero place x at = absurd cc
+slice_get-take [] (suc count) place x at = absurd cc
+slice_get-take (y ∷ ys) zero place x at = absurd cc
+slice_get-take (y ∷ ys) (suc count) zero x at = at
+slice_get-take (y ∷ ys) (suc count) (suc place) x at = slice_get-take ys count place x at
+
+pub slice_get-drop : {A : Type 0} (xs : List A) (count place : ℕ) → slice_get (drop count xs) place ≡ slice_get xs (count + place)
+slice_get-drop xs zero place = let e : 0 + place ≡ place = omega arith in rw (e, drop_none xs) refl
+slice_get-drop [] (suc count) place = refl
+slice_get-drop (x ∷ xs) (suc count) place = let e : suc count + place ≡ suc (count + place) = omega arith in rw e (slice_get-drop xs count place)
+
+-- ---- filters and finds
+
+pub filter_hit : {A : Type 0} (p : A → Bool) (x : A) (xs : List A) → p x ≡ true → filter p (x ∷ xs) ≡ x ∷ filter p xs
+filter_hit p x xs h = ap (λ b. cond b (x ∷ filter p xs) (filter p xs)) h
+
+pub filter_miss : {A : Type 0} (p : A → Bool) (x : A) (xs : List A) → p x ≡ false → filter p (x ∷ xs) ≡ filter p xs
+filter_miss p x xs h = ap (λ b. cond b (x ∷ filter p xs) (filter p xs)) h
+
+-- where every member passes, and where none does
+pub filter_all : {A : Type 0} (p : A → Bool) (xs : List A) → All (λ x. p x ≡ true) xs → filter p xs ≡ xs
+filter_all p [] all = refl
+filter_all p (x ∷ xs) all =
+    filter_hit p x xs (All-head (λ x. p x ≡ true) x xs all) ∙ ap (λ l. x ∷ l) (filter_all p xs (All-tail (λ x. p x ≡ true) x xs all))
+
+pub filter_none : {A : Type 0} (p : A → Bool) (xs : List A) → All (λ x. p x ≡ false) xs → filter p xs ≡ []
+filter_none p [] all = refl
+filter_none p (x ∷ xs) all =
+    filter_miss p x xs (All-head (λ x. p x ≡ false) x xs all) ∙ filter_none p xs (All-tail (λ x. p x ≡ false) x xs all)
+
+-- what is found passes, and has what every member has
+found_first : {A : Type 0} (P : A → Type 0) (p : A → Bool) (x : A) (xs : List A) (y : A) (b : Bool) → p x ≡ b → (p x ≡ true → P x) → (find p xs ≡ Some y → P y) → find p (x ∷ xs) ≡ Some y → P y
+found_first P p x xs y true test own later is = let same : x ≡ y = cc (rw test at is) in subst P same (own test)
+found_first P p x xs y false test own later is = later (rw test at is)
+
+pub find_passes : {A : Type 0} (p : A → Bool) (xs : List A) (y : A) → find p xs ≡ Some y → p y ≡ true
+find_passes p [] y is = absurd cc
+find_passes p (x ∷ xs) y is = found_first (λ z. p z ≡ true) p x xs y (p x) refl (λ test. test) (find_passes p xs y) is
+
+pub find_holds : {A : Type 0} (P : A → Type 0) (p : A → Bool) (xs : List A) (y : A) → All P xs → find p xs ≡ Some y → P y
+find_holds P p [] y all is = absurd cc
+find_holds P p (x ∷ xs) y all is = found_first P p x xs y (p x) refl (λ _. All-head P x xs all) (find_holds P p xs y (All-tail P x xs all)) is
+
+-- ---- pairs
+
+pub zip_firsts : {A B : Type 0} (xs : List A) (ys : List B) → length xs ≡ length ys → map (λ (p : A × B). p.0) (zip xs ys) ≡ xs
+zip_firsts [] ys e = refl
+zip_firsts (x ∷ xs) [] e = absurd (omega arith)
+zip_firsts {A} (x ∷ xs) (y ∷ ys) e = ap (λ (zs : List A). x ∷ zs) (zip_firsts xs ys (omega arith))
+
+pub zip_seconds : {A B : Type 0} (xs : List A) (ys : List B) → length xs ≡ length ys → map (λ (p : A × B). p.1) (zip xs ys) ≡ ys
+zip_seconds [] [] e = refl
+zip_seconds [] (y ∷ ys) e = absurd (omega arith)
+zip_seconds (x ∷ xs) [] e = absurd (omega arith)
+zip_seconds {A} {B} (x ∷ xs) (y ∷ ys) e = ap (λ (zs : List B). y ∷ zs) (zip_seconds xs ys (omega arith))
+
+pub zip_parts : {A B : Type 0} (ps : List (A × B)) → zip (map (λ p. p.0) ps) (map (λ p. p.1) ps) ≡ ps
+zip_parts [] = refl
+zip_parts {A} {B} (p ∷ ps) = ap (λ (qs : List (A × B)). p ∷ qs) (zip_parts ps)
+
+pub length-zip : {A B : Type 0} (xs : List A) (ys : List B) → length xs ≡ length ys → length (zip xs ys) ≡ length xs
+length-zip [] ys e = refl
+length-zip (x ∷ xs) [] e = absurd (omega arith)
+length-zip (x ∷ xs) (y ∷ ys) e = ap suc (length-zip xs ys (omega arith))
+
+-- ---- what holds of each member, member by member
+
+pub AllByRecursion-append : {A : Type 0} (P : A → Type 0) (xs ys : List A) → AllByRecursion P xs → AllByRecursion P ys → AllByRecursion P (xs ++ ys)
+AllByRecursion-append P [] ys all more = more
+AllByRecursion-append P (x ∷ xs) ys all more = (all.0, AllByRecursion-append P xs ys all.1 more)
+
+pub AllByRecursion-push : {A : Type 0} (P : A → Type 0) (xs : List A) (x : A) → AllByRecursion P xs → P x → AllByRecursion P (xs ++ x ∷ [])
+AllByRecursion-push P xs x all one = AllByRecursion-append P xs (x ∷ []) all (one, tt)
+
+pub AllByRecursion-weaker : {A : Type 0} (P Q : A → Type 0) → ((x : A) → P x → Q x) → (xs : List A) → AllByRecursion P xs → AllByRecursion Q xs
+AllByRecursion-weaker P Q each [] all = tt
+AllByRecursion-weaker P Q each (x ∷ xs) all = (each x all.0, AllByRecursion-weaker P Q each xs all.1)
+
+pub AllByRecursion-map : {A B : Type 0} (P : A → Type 0) (Q : B → Type 0) (f : A → B) → ((x : A) → P x → Q (f x)) → (xs : List A) → AllByRecursion P xs → AllByRecursion Q (map f xs)
+AllByRecursion-map P Q f each [] all = tt
+AllByRecursion-map P Q f each (x ∷ xs) all = (each x all.0, AllByRecursion-map P Q f each xs all.1)
+
+-- ---- and at both sides of `++`
+
+pub All-append_left : {A : Type 0} (P : A → Type 0) (xs ys : List A) → All P (xs ++ ys) → All P xs
+All-append_left P [] ys all k d lt = absurd (omega arith)
+All-append_left P (x ∷ xs) ys all zero d lt = all 0 d (omega arith)
+All-append_left P (x ∷ xs) ys all (suc k) d lt = All-append_left P xs ys (All-tail P x (xs ++ ys) all) k d (omega arith)
+
+pub All-append_right : {A : Type 0} (P : A → Type 0) (xs ys : List A) → All P (xs ++ ys) → All P ys
+All-append_right P [] ys all = all
+All-append_right P (x ∷ xs) ys all = All-append_right P xs ys (All-tail P x (xs ++ ys) all)

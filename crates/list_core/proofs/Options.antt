@@ -1,0 +1,19 @@
+-- Options, where the standard library has no lemma.
+use Rattle.std.proofs.Common.{◌≡◌, Bool, true, false, cond, Option, Some, None, refl}
+use Rattle.std.specs.Prelude.{is_some}
+
+-- what an option has is one value
+pub one_value : {A : Type 0} (x y : A) (o : Option A) → o ≡ Some x → o ≡ Some y → x ≡ y
+one_value x y o e f = cc
+
+pub some_not_none : {A : Type 0} (x : A) (o : Option A) → o ≡ Some x → o ≡ None → ⊥
+some_not_none x o e f = absurd cc
+
+pub None-from_is_some : {A : Type 0} (o : Option A) → is_some o ≡ false → o ≡ None
+None-from_is_some None e = refl
+None-from_is_some (Some x) e = absurd cc
+
+-- a value behind a test was let through
+pub tested_some : {A : Type 0} (b : Bool) (o : Option A) (x : A) → cond b o None ≡ Some x → (b ≡ true) × (o ≡ Some x)
+tested_some true o x e = (refl, e)
+tested_some false o x e = absurd cc

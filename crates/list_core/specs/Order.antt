@@ -1,0 +1,14 @@
+-- Members of a list that are told from the member before them.
+use Rattle.std.specs.Prelude.{◌≡◌, List, [], ◌∷◌, Option, Some, None}
+use Rattle.std.specs.declared.cmp.Ordering.{Ordering}
+use Rattle.std.specs.declared.cmp.Ordering.TheVariants.{Less}
+
+-- Each member may follow the one before it; the first one follows what came before the list, if anything did.
+abbrev pub InOrderAfter : {A : Type 0} → (Option A → A → Type 0) → Option A → List A → Type 0
+InOrderAfter MayFollow before [] = Unit {0}
+InOrderAfter MayFollow before (member ∷ members) = MayFollow before member × InOrderAfter MayFollow (Some member) members
+
+-- one is greater than the one before it, if there is one
+abbrev pub ComesAfter : {A : Type 0} → (A → A → Ordering) → Option A → A → Type 0
+ComesAfter cmp None one = Unit {0}
+ComesAfter cmp (Some before) one = cmp before one ≡ Less
