@@ -31,7 +31,7 @@ use Rattle.script_core.specs.declared.rule_name.RuleName.TheVariants as names
 use Rattle.script_core.specs.declared.script.Script.{Script}
 use Rattle.script_workers.specs.declared.work.Work.{Work}
 use Rattle.script_workers.specs.declared.work.Work.TheVariants.{Upload, Sync, Query}
-use Rattle.script_core.specs.Fields.{lines_of, is_silent, is_space, is_name}
+use Rattle.script_core.specs.Fields.{lines_of, is_silent, space, is_space, is_name}
 use Rattle.script_workers.specs.Hands.{gateway_count}
 use Rattle.script_workers.specs.Whose.{FewWorkers}
 use Rattle.script_workers.specs.Works.{works_of, has_sync}
@@ -43,7 +43,7 @@ use Rattle.script_core.specs.Samples.{times_of}
 
 -- texts with one space between each and the next
 abbrev pub spaced : List (List ℕ) → List ℕ
-spaced = join_with_byte 32
+spaced = join_with_byte space
 
 -- a field: something, and no space
 pub record IsField (field : List ℕ) : Type 0 where
