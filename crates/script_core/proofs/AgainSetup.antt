@@ -1,5 +1,5 @@
 -- What a rule line, a gateway line or a block line spells is read of it.
-use Rattle.std.proofs.Common.{◌≡◌, ℕ, ◌%◌, ◌^◌, ℤ, ◌<ℤ◌, Bool, true, false, not, ◌==◌, nat_lt, int_lt, List, [], ◌∷◌, ◌++◌, length, Option, Some, is_none, Ok, refl, sym, ap, ◌∙◌, subst, arith, append-nil}
+use Rattle.std.proofs.Common.{◌≡◌, ℕ, ◌%◌, ◌^◌, ℤ, ◌<ℤ◌, true, false, not, ◌==◌, nat_lt, int_lt, List, [], ◌∷◌, ◌++◌, length, Option, Some, is_none, Ok, refl, sym, ap, ◌∙◌, subst, arith, append-nil}
 use Rattle.std.proofs.lemmas.Bool.Decides.{nat_tests}
 use Rattle.std.proofs.lemmas.Int.{ints}
 use Rattle.std.specs.BTreeSet.{insert_key}
@@ -15,7 +15,7 @@ use Rattle.script_core.specs.Values.{is_reserved, with_rule, set_rule}
 use Rattle.script_core.specs.Lines.{fields_line, rule_line, gateway_line, block_line, last_labels}
 use Rattle.script_core.specs.State.{State, Last, add_gateway, begin_block, is_declared, all_blocks, script_of_state}
 use Rattle.script_core.specs.Spelling.{SoFar, outside, rule_word, RuleLine, GatewayLine, BlockLine}
-use Rattle.script_core.proofs.FieldLaws.{no_space, cut_again}
+use Rattle.script_core.proofs.FieldLaws.{cut_again}
 use Rattle.script_core.proofs.ValueLaws.{time_again, ulid_again, value_again}
 use Rattle.script_core.proofs.Kept.{Kept, so_far_of}
 use Rattle.script_core.proofs.LineTools.{is_some_field, only_again, line_word, word_free, name_again, name_free, early_again}

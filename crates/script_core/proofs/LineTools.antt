@@ -1,14 +1,12 @@
 -- What the laws of lines share: first words, what follows them, ends of lists, and the ends of blocks.
-use Rattle.std.proofs.Common.{◌≡◌, ◌≢◌, ℕ, Bool, true, false, not, ◌==◌, ◌&&◌, cond, List, [], ◌∷◌, ◌++◌, length, Option, Some, None, is_none, Result, Ok, Err, refl, sym, ap, ◌∙◌, subst, arith, ◌⊎◌, inl, inr, codes}
+use Rattle.std.proofs.Common.{◌≡◌, ◌≢◌, ℕ, true, false, not, ◌==◌, ◌&&◌, List, [], ◌∷◌, ◌++◌, length, Option, Some, None, is_none, Result, Ok, refl, sym, ap, ◌∙◌, subst, arith, codes}
 use Rattle.std.specs.Str.{bytes_eq}
 use Rattle.std.proofs.lemmas.Bool.Decides.{nat_tests}
-use Rattle.std.proofs.lemmas.List.{length-append, same_from_push}
+use Rattle.std.proofs.lemmas.List.{same_from_push}
 use Rattle.std.proofs.lemmas.List.Elements.{All-contains, All-from_recursion}
 use Rattle.std.proofs.lemmas.Map.Views.{Contains-from_lookup}
-use Rattle.std.proofs.lemmas.Slice.Eq.{bytes_eq-Decides}
 use Rattle.std.specs.List.{All}
 use Rattle.std.specs.Map.{lookup}
-use Rattle.reading_core.specs.Reading.{◌>>◌, unless}
 use Rattle.reading_core.proofs.Binds.{unless_ok, ok_is, unless_is}
 use Rattle.std.proofs.lemmas.Bool.{and_parts, not-true, not_from_false}
 use Rattle.list_core.proofs.Bools.{bytes_eq-same}
@@ -22,7 +20,6 @@ use Rattle.script_core.specs.declared.rule_name.RuleName.{RuleName}
 use Rattle.script_core.specs.declared.rule_name.RuleName.TheVariants as names
 use Rattle.script_core.specs.Fields.{is_empty, next_field, only_field, line_words, rule_words, line_kind, rule_name}
 use Rattle.script_core.specs.State.{Last, block_of, all_blocks, all_phases, has_ended}
-use Rattle.label_sets.specs.declared.series.Series.{Series}
 use Rattle.script_core.specs.Lawful.{HasSeries}
 use Rattle.script_core.specs.Spelling.{IsField, rule_word, HasEnded}
 use Rattle.script_core.proofs.FieldLaws.{no_space, Cut, cut_nothing, cut_whole, cut_front, cut_found, cut_last}

@@ -4,7 +4,6 @@ use Rattle.std.specs.Prelude.{slice_get}
 use Rattle.std.proofs.Math.Seq.{take-suc}
 use Rattle.std.proofs.lemmas.List.{length-append}
 use Rattle.std.proofs.lemmas.Option.{slice_get_within, slice_get-get_or}
-use Rattle.script_workers.specs.declared.hand.Hand.{Hand}
 use Rattle.script_workers.specs.declared.phase.Phase.{Phase}
 use Rattle.script_workers.specs.declared.worker.Worker.{Worker}
 use Rattle.script_workers.specs.Hands.{gateway_count, greatest, hands_of, seats_after, seats_from, workers_from}

@@ -1,5 +1,5 @@
 -- The hands of a phase stand in the order of their first tasks, and have their tasks.
-use Rattle.std.proofs.Common.{◌≡◌, ℕ, zero, suc, ◌+◌, ◌<◌, Bool, true, false, cond, List, [], ◌∷◌, ◌++◌, map, fold, refl, sym, ap, ◌∙◌, subst, arith, ◌⊎◌, inl, inr, Some}
+use Rattle.std.proofs.Common.{◌≡◌, ℕ, zero, suc, ◌+◌, ◌<◌, Bool, true, false, cond, List, [], ◌∷◌, map, fold, refl, sym, ap, ◌∙◌, subst, arith, ◌⊎◌, inl, inr, Some}
 use Rattle.std.specs.Prelude.{slice_get}
 use Rattle.std.specs.List.{All, AllByRecursion, AllPairs, Contains, range_with_len}
 use Rattle.std.specs.List.Sorted.{IsStrictlySortedBy}
@@ -18,7 +18,7 @@ use Rattle.script_workers.specs.declared.work.Work.TheVariants as works
 use Rattle.script_workers.specs.Hands.{hands_of_task, with_hand, with_hands, hands_from, hands_of, does, places_from}
 use Rattle.script_workers.specs.Staff.{ArePlacesOf, IsGatewayBefore, BeginsBefore, IsStaff}
 use Rattle.script_workers.specs.Whose.{IsTaskOf}
-use Rattle.script_workers.proofs.HandLaws.{has, tested, contained, does_for, for_does, with_by, fold_keeps, fold_has, does_here, are_enough, is_needed, are_once}
+use Rattle.script_workers.proofs.HandLaws.{tested, contained, does_for, for_does, with_by, fold_keeps, fold_has, does_here, are_enough, is_needed, are_once}
 use Rattle.script_workers.proofs.HandLists.{places_from-cons}
 
 -- ---- the places of a hand's tasks
