@@ -5,10 +5,10 @@ use Rattle.label_sets.specs.declared.series.Series.{Series}
 use Rattle.world_core.specs.Standing.{IsHonest}
 use Rattle.world_core.specs.Worlds.{failed_count}
 use Rattle.store_gateway.specs.declared.series_end.SeriesEnd.TheVariants as ended
-use Rattle.script_core.specs.Hands.{workers_of}
-use Rattle.script_core.specs.declared.phase.Phase.{Phase}
-use Rattle.script_core.specs.declared.task.Task.{Task}
-use Rattle.script_core.specs.declared.work.Work.TheVariants as work
+use Rattle.script_core.specs.Workers.{workers_of}
+use Rattle.script_workers.specs.declared.phase.Phase.{Phase}
+use Rattle.script_workers.specs.declared.task.Task.{Task}
+use Rattle.script_workers.specs.declared.work.Work.TheVariants as work
 use Rattle.lifecycle_core.specs.Causes.{AreFaultsShown, AreMissesExplained, AreUndamaged, AreWell}
 use Rattle.lifecycle_core.specs.Phases.{CameTo, IsRunOf}
 use Rattle.lifecycle_core.specs.Tasks.{End, answered}

@@ -7,11 +7,11 @@ use Rattle.world_core.specs.declared.entry.Entry.{Entry}
 use Rattle.world_core.specs.declared.op.Op.{Op}
 use Rattle.world_core.specs.declared.op.Op.TheVariants.{Clock}
 use Rattle.world_core.specs.declared.seen.Seen.{Seen}
-use Rattle.script_core.specs.Hands.{workers_of}
-use Rattle.script_core.specs.declared.phase.Phase.{Phase}
+use Rattle.script_core.specs.Workers.{workers_of}
+use Rattle.script_workers.specs.declared.phase.Phase.{Phase}
 use Rattle.script_core.specs.declared.script.Script.{Script}
-use Rattle.script_core.specs.declared.task.Task.{Task}
-use Rattle.script_core.specs.declared.worker.Worker.{Worker}
+use Rattle.script_workers.specs.declared.task.Task.{Task}
+use Rattle.script_workers.specs.declared.worker.Worker.{Worker}
 use Rattle.lifecycle_core.specs.Tasks.{End, TaskRun, view_after}
 use Rattle.lifecycle_core.specs.Views.{Use, Views, no_views, view_of}
 

@@ -15,8 +15,8 @@ use Rattle.store_gateway.specs.SeriesRuns.{Query as Question, SeriesRun, asking}
 use Rattle.lifecycle_core.specs.Shipped.{IsShipped}
 use Rattle.script_core.specs.declared.block.Block.{Block}
 use Rattle.script_core.specs.declared.script.Script.{Script}
-use Rattle.script_core.specs.declared.work.Work.{Work}
-use Rattle.script_core.specs.declared.work.Work.TheVariants.{Upload, Sync, Query}
+use Rattle.script_workers.specs.declared.work.Work.{Work}
+use Rattle.script_workers.specs.declared.work.Work.TheVariants.{Upload, Sync, Query}
 use Rattle.lifecycle_core.specs.Held.{declared}
 use Rattle.lifecycle_core.specs.Views.{Use}
 

@@ -6,7 +6,7 @@ ghost use Rattle.world_core.specs.Worlds.{IsJournal};
 ghost use Rattle.world_core.specs.declared.entry.Entry.{Entry};
 ghost use Rattle.meta_fetcher.specs.declared.sync_end.SyncEnd.{SyncEnd};
 ghost use Rattle.meta_fetcher.specs.declared.view.View.{View};
-ghost use Rattle.script_core.specs.declared.phase.Phase.{Phase};
+ghost use Rattle.script_workers.specs.declared.phase.Phase.{Phase};
 ghost use Rattle.script_core.specs.declared.script.Script.{Script};
 ghost use Rattle.script_core.specs.Lawful.{IsLawfulScript};
 ghost use Rattle.lifecycle_core.specs.Breaches.{IsBreach, IsCallRead, IsLie, IsSyncIn, IsUnbroken, IsViewAt, Rule};

@@ -10,13 +10,14 @@ use Rattle.world_core.specs.Operations.{entry_of}
 use Rattle.world_core.specs.Worlds.{IsJournal}
 use Rattle.world_core.specs.declared.entry.Entry.{Entry}
 use Rattle.store_gateway.specs.declared.gateway.Gateway.{Gateway}
-use Rattle.script_core.specs.Hands.{gateway_count, hands_of, seats_after, seats_before, seats_from, workers_from, workers_of}
+use Rattle.script_workers.specs.Hands.{gateway_count, hands_of, seats_after, seats_from, workers_from}
+use Rattle.script_core.specs.Workers.{seats_before, workers_of}
 use Rattle.script_core.specs.Lawful.{IsLawfulPhase, IsLawfulScript}
-use Rattle.script_core.specs.declared.hand.Hand.{Hand}
-use Rattle.script_core.specs.declared.worker.Worker.{Worker}
-use Rattle.script_core.specs.declared.phase.Phase.{Phase}
+use Rattle.script_workers.specs.declared.hand.Hand.{Hand}
+use Rattle.script_workers.specs.declared.worker.Worker.{Worker}
+use Rattle.script_workers.specs.declared.phase.Phase.{Phase}
 use Rattle.script_core.specs.declared.script.Script.{Script}
-use Rattle.script_core.specs.declared.task.Task.{Task}
+use Rattle.script_workers.specs.declared.task.Task.{Task}
 use Rattle.lifecycle_core.specs.InLine.{InLine, IsInLine, PhasesInLine, duties_from, seat_of}
 use Rattle.lifecycle_core.specs.Phases.{AreUnfinished, BeginsPhase, IsOperationDue, PhasesRun}
 use Rattle.lifecycle_core.specs.Guarantees.{IsGuaranteedJournal}

@@ -6,10 +6,10 @@ use Rattle.std.specs.Prelude.{Result, Ok, Err, OnOk}
 use Rattle.std.specs.Result.{is_err}
 use Rattle.std.proofs.lemmas.List.{append-nil, take_more}
 use Rattle.script_core.specs.declared.script.Script.{Script}
-use Rattle.script_core.specs.declared.task.Task.{Task}
+use Rattle.script_workers.specs.declared.task.Task.{Task}
 use Rattle.replay_cli.specs.Reports.{activity_text, is_as_asked}
 use Rattle.replay_cli.specs.Verdicts.{report_of, tasks_of}
-use Rattle.script_core.specs.declared.phase.Phase.{Phase}
+use Rattle.script_workers.specs.declared.phase.Phase.{Phase}
 use Rattle.replay_cli.specs.declared.outcome.Outcome.{Outcome}
 
 pub all_append : (one other : List Outcome) → list_all is_as_asked (one ++ other) ≡ list_all is_as_asked one && list_all is_as_asked other

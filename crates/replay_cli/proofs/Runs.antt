@@ -10,9 +10,10 @@ use Rattle.world_core.specs.declared.entry.Entry.{Entry}
 use Rattle.world_core.specs.declared.open_refusal.OpenRefusal.{OpenRefusal}
 use Rattle.world_core.specs.declared.open_refusal.OpenRefusal.TheVariants as unopened
 use Rattle.store_gateway.specs.declared.gateway.Gateway.{Gateway}
-use Rattle.script_core.specs.Hands.{gateway_count, seats_before, seats_from}
+use Rattle.script_workers.specs.Hands.{gateway_count, seats_from}
+use Rattle.script_core.specs.Workers.{seats_before}
 use Rattle.script_core.specs.Lawful.{IsLawfulScript}
-use Rattle.script_core.specs.declared.phase.Phase.{Phase}
+use Rattle.script_workers.specs.declared.phase.Phase.{Phase}
 use Rattle.script_core.specs.declared.script.Script.{Script}
 use Rattle.lifecycle_core.specs.InLine.{IsInLine}
 use Rattle.lifecycle_core.specs.Guarantees.{IsGuaranteedJournal}

@@ -1,8 +1,8 @@
 -- The seat of a hand, worker by worker.
 use Rattle.std.proofs.Common.{◌≡◌, ℕ, ◌-◌, ◌<◌, ◌≤◌, Bool, true, false, List, [], ◌∷◌, length, take, drop, get_or, refl, sym, ◌∙◌, ap, arith, eqb}
 use Rattle.std.proofs.lemmas.List.{take_all}
-use Rattle.script_core.specs.declared.hand.Hand.{Hand}
-use Rattle.script_core.specs.declared.worker.Worker.{Worker}
+use Rattle.script_workers.specs.declared.hand.Hand.{Hand}
+use Rattle.script_workers.specs.declared.worker.Worker.{Worker}
 use Rattle.lifecycle_core.specs.InLine.{seat_of, serves}
 
 pub seat_none : (workers : List Worker) (hand : Hand) → length workers < 1 → 0 ≡ seat_of workers hand

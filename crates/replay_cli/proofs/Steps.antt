@@ -20,14 +20,14 @@ use Rattle.matchers.specs.declared.matcher.Matcher.{Matcher}
 use Rattle.store_gateway.specs.SeriesRuns.{Query as Question, SeriesRun, asking}
 use Rattle.store_gateway.specs.declared.gateway.Gateway.{Gateway}
 use Rattle.store_gateway.specs.declared.series_end.SeriesEnd.{SeriesEnd}
-use Rattle.script_core.specs.Hands.{gateway_count, gateway_of, hands_of_task}
+use Rattle.script_workers.specs.Hands.{gateway_count, gateway_of, hands_of_task}
 use Rattle.script_core.specs.declared.block.Block.{Block}
-use Rattle.script_core.specs.declared.hand.Hand.{Hand}
-use Rattle.script_core.specs.declared.hand.Hand.TheVariants as hands
+use Rattle.script_workers.specs.declared.hand.Hand.{Hand}
+use Rattle.script_workers.specs.declared.hand.Hand.TheVariants as hands
 use Rattle.script_core.specs.declared.script.Script.{Script}
-use Rattle.script_core.specs.declared.task.Task.{Task}
-use Rattle.script_core.specs.declared.work.Work.{Work}
-use Rattle.script_core.specs.declared.work.Work.TheVariants as works
+use Rattle.script_workers.specs.declared.task.Task.{Task}
+use Rattle.script_workers.specs.declared.work.Work.{Work}
+use Rattle.script_workers.specs.declared.work.Work.TheVariants as works
 use Rattle.lifecycle_core.specs.Held.{declared}
 use Rattle.lifecycle_core.specs.InLine.{Duty, duties_from, InLine}
 use Rattle.lifecycle_core.specs.Tasks.{End, BlockUpload, QueryTask, SyncTask, TaskRun, answered, asked_by, sync_rules, synced, view_after, without_view}

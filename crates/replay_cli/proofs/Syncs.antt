@@ -15,8 +15,8 @@ use Rattle.meta_fetcher.specs.declared.view.View.{View}
 use Rattle.matchers.specs.declared.matcher.Matcher.{Matcher}
 use Rattle.store_gateway.specs.SeriesRuns.{Query as Question, SeriesRun, asking, sources_of, to_read}
 use Rattle.store_gateway.specs.declared.series_end.SeriesEnd.{SeriesEnd}
-use Rattle.script_core.specs.declared.work.Work.{Work}
-use Rattle.script_core.specs.declared.work.Work.TheVariants as works
+use Rattle.script_workers.specs.declared.work.Work.{Work}
+use Rattle.script_workers.specs.declared.work.Work.TheVariants as works
 use Rattle.lifecycle_core.specs.Tasks.{End, answered, sync_rules, synced}
 use Rattle.lifecycle_core.specs.Views.{Use}
 use Rattle.lifecycle_core.proofs.phases.TaskRuns.{reads_none}

@@ -14,7 +14,7 @@ use Rattle.shipper.specs.declared.upload_end.UploadEnd.{UploadEnd}
 use Rattle.shipper.specs.Uploads.{UploadRun}
 use Rattle.script_core.specs.Lawful.{IsLawfulBlock}
 use Rattle.script_core.specs.declared.block.Block.{Block}
-use Rattle.script_core.specs.declared.work.Work.TheVariants as works
+use Rattle.script_workers.specs.declared.work.Work.TheVariants as works
 use Rattle.lifecycle_core.specs.Shipped.{IsShipped}
 use Rattle.lifecycle_core.specs.Tasks.{End, BlockUpload, IsBefore, IsStop, stopped, uploaded}
 use Rattle.lifecycle_core.proofs.phases.TaskRuns.{built_by}

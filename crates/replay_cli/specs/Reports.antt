@@ -7,8 +7,8 @@ use Rattle.ulid_core.specs.UlidText.{text_of}
 use Rattle.label_sets.specs.SampleText.{series_text}
 use Rattle.label_sets.specs.declared.series.Series.{Series}
 use Rattle.script_core.specs.declared.script.Script.{Script}
-use Rattle.script_core.specs.declared.work.Work.{Work}
-use Rattle.script_core.specs.declared.work.Work.TheVariants as work
+use Rattle.script_workers.specs.declared.work.Work.{Work}
+use Rattle.script_workers.specs.declared.work.Work.TheVariants as work
 use Rattle.replay_cli.specs.declared.outcome.Outcome.{Outcome}
 use Rattle.replay_cli.specs.declared.outcome.Outcome.TheVariants as outcome
 use Rattle.replay_cli.specs.declared.outcome.UploadOutcome.{UploadOutcome}

@@ -4,10 +4,10 @@ use Rattle.label_sets.specs.Triples.{triples_of}
 use Rattle.label_sets.specs.declared.series.Series.{Series}
 use Rattle.matchers.specs.declared.matcher.Matcher.{Matcher}
 use Rattle.world_core.specs.declared.entry.Entry.{Entry}
-use Rattle.script_core.specs.declared.phase.Phase.{Phase}
+use Rattle.script_workers.specs.declared.phase.Phase.{Phase}
 use Rattle.script_core.specs.declared.script.Script.{Script}
-use Rattle.script_core.specs.declared.task.Task.{Task}
-use Rattle.script_core.specs.declared.work.Work.TheVariants as work
+use Rattle.script_workers.specs.declared.task.Task.{Task}
+use Rattle.script_workers.specs.declared.work.Work.TheVariants as work
 use Rattle.lifecycle_core.specs.Guarantees.{Answered, IsGiven, IsSound}
 use Rattle.lifecycle_core.specs.Tasks.{End}
 use Rattle.lifecycle_core.specs.Views.{Use}

@@ -6,7 +6,7 @@ ghost use Rattle.meta_fetcher.specs.Syncs.{SyncRun};
 ghost use Rattle.store_gateway.specs.declared.series_end.SeriesEnd.{SeriesEnd};
 ghost use Rattle.store_gateway.specs.SeriesRuns.{SeriesRun, asking};
 ghost use Rattle.script_core.specs.Lawful.{IsLawfulBlock};
-ghost use Rattle.script_core.specs.declared.work.Work.TheVariants as works;
+ghost use Rattle.script_workers.specs.declared.work.Work.TheVariants as works;
 ghost use Rattle.lifecycle_core.specs.Tasks.{End, BlockUpload, answered, sync_rules, synced};
 ghost use Rattle.lifecycle_core.specs.Views.{Use};
 ghost use Rattle.replay_cli.specs.Outcomes.{call_outcome, sync_outcome, upload_outcome};

@@ -1,7 +1,7 @@
 ghost use Rattle.std.specs.Prelude.{◌≡◌, ◌==◌, Some, IsTrue, find, slice_get, map, nat_eq};
 ghost use Rattle.std.specs.List.{All, IsDistinct};
 ghost use Rattle.script_core.specs.Lawful.{IsLawfulScript, IsLawfulBlock};
-ghost use Rattle.script_core.specs.Works.{declares};
+ghost use Rattle.script_core.specs.Blocks.{declares};
 ghost use Rattle.lifecycle_core.specs.Held.{declared};
 
 use list_core::NoMemory;

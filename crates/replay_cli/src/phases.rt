@@ -3,7 +3,7 @@ ghost use Rattle.std.specs.List.{All};
 ghost use Rattle.world_core.specs.Keeping.{IsFull};
 ghost use Rattle.world_core.specs.declared.entry.Entry.{Entry};
 ghost use Rattle.store_gateway.specs.declared.gateway.Gateway.{Gateway};
-ghost use Rattle.script_core.specs.Hands.{seats_before};
+ghost use Rattle.script_core.specs.Workers.{seats_before};
 ghost use Rattle.script_core.specs.Lawful.{IsLawfulScript};
 ghost use Rattle.lifecycle_core.specs.InLine.{seat_of};
 ghost use Rattle.lifecycle_core.specs.Phases.{BeginsPhase};

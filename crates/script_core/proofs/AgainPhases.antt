@@ -8,12 +8,12 @@ use Rattle.matchers.specs.declared.matcher.Matcher.{Matcher}
 use Rattle.moment_core.specs.declared.moment.Moment.{Moment}
 use Rattle.moment_core.specs.declared.rules.Rules.{Rules}
 use Rattle.script_core.specs.declared.line_kind.LineKind.TheVariants as kinds
-use Rattle.script_core.specs.declared.phase.Phase.{Phase}
+use Rattle.script_workers.specs.declared.phase.Phase.{Phase}
 use Rattle.script_core.specs.declared.script.Script.{Script}
-use Rattle.script_core.specs.declared.work.Work.{Work}
-use Rattle.script_core.specs.declared.work.Work.TheVariants as works
+use Rattle.script_workers.specs.declared.work.Work.{Work}
+use Rattle.script_workers.specs.declared.work.Work.TheVariants as works
 use Rattle.script_core.specs.Fields.{is_empty, next_field}
-use Rattle.script_core.specs.Hands.{gateway_count, with_hands, hands_of}
+use Rattle.script_workers.specs.Hands.{gateway_count, with_hands, hands_of}
 use Rattle.script_core.specs.Values.{is_reserved, agree, moment_from}
 use Rattle.script_core.specs.Lines.{fields_line, may_begin, at_line, upload_line, sync_line, last_selector, query_line}
 use Rattle.script_core.specs.State.{State, all_phases, begin_phase, add_task, add_query, note_sync, is_declared, is_synced, script_of_state, are_all_synced}
@@ -25,7 +25,7 @@ use Rattle.script_core.proofs.LineTools.{is_some_field, only_again, last_phase}
 use Rattle.script_core.proofs.FoundSetup.{closed}
 use Rattle.script_core.proofs.AgainSetup.{IsRead, starts_again}
 use Rattle.script_core.proofs.SpelledValues.{near_tested, free_tested, agree_tested, selector_read}
-use Rattle.script_core.proofs.SpelledHands.{few_counted}
+use Rattle.script_workers.proofs.HandLaws.{few_counted}
 
 may_again : (rules : Rules) (phases : List Phase) (phase : Option Phase) (moment : Moment) → (phase ≡ None → phases ≡ []) → (all_phases phases phase ≡ [] → agree rules ≡ true) → ((others : List Phase) (last : Phase) → all_phases phases phase ≡ others ++ last ∷ [] → last.moment.ms ≤ moment.ms) → may_begin rules phase moment ≡ Ok tt
 may_again rules phases None moment first agreed later = let agrees = agreed (first refl) in rw agrees refl

@@ -2,7 +2,7 @@
 use Rattle.std.proofs.Common.{◌≡◌, ◌≢◌, ℕ, ℤ, Bool, true, false, not, cond, nat_lt, List, [], ◌∷◌, ◌++◌, length, drop, Option, Some, None, option_map, Ok, refl, sym, ap, ◌∙◌, arith}
 use Rattle.std.specs.List.{list_all, slice_split, join_with_byte, position_or_len, before_first, after_first}
 use Rattle.std.proofs.lemmas.Bool.Decides.{nat_tests}
-use Rattle.std.proofs.lemmas.List.{length-append, drop_at}
+use Rattle.std.proofs.lemmas.List.{length-append, drop_at, same_from_push}
 use Rattle.std.proofs.lemmas.List.Splits.{slice_split_at, slice_split_none}
 use Rattle.reading_core.specs.Decimal.{signed_of}
 use Rattle.label_sets.proofs.SampleTexts.{sample_of-only}
@@ -22,11 +22,11 @@ use Rattle.script_core.specs.Samples.{is_colon, texts_of, are_whole, is_small_nu
 use Rattle.script_core.specs.Lines.{fields_line, first_labels, series_line}
 use Rattle.script_core.specs.State.{State, Last, block_of, all_blocks, add_series, test_block, with_series, has_series, insert_series, script_of_state}
 use Rattle.script_core.specs.Spelling.{SoFar, inside, spaced, IsSampleField, AreSampleFields, SeriesLine}
-use Rattle.reading_core.proofs.Decimals.{both}
+use Rattle.std.proofs.lemmas.Bool.{and_parts}
 use Rattle.script_core.proofs.FieldLaws.{no_space, spaceless}
 use Rattle.script_core.proofs.ValueLaws.{time_fits}
 use Rattle.script_core.proofs.Kept.{Kept, so_far_of}
-use Rattle.script_core.proofs.LineTools.{is_some_field, snoc_is, no_end}
+use Rattle.script_core.proofs.LineTools.{is_some_field, no_end}
 use Rattle.script_core.proofs.FoundSeries.{sample_time, added}
 use Rattle.script_core.proofs.AgainSetup.{IsRead, starts_again}
 use Rattle.script_core.proofs.SpelledValues.{near_tested, rise_tested, within_tested}
@@ -37,9 +37,9 @@ use Rattle.script_core.proofs.SpelledSeries.{place_fresh, place_inserted}
 pub cut_joined : (texts : List (List ℕ)) → texts ≢ [] → list_all no_space texts ≡ true → slice_split is_space (join_with_byte 32 texts) ≡ texts
 cut_joined [] some free = absurd (some refl)
 cut_joined (text ∷ []) some free =
-    let parts = both (no_space text) true free in slice_split_none is_space text (λ k d below. spaceless text parts.0 k d below)
+    let parts = and_parts (no_space text) true free in slice_split_none is_space text (λ k d below. spaceless text parts.0 k d below)
 cut_joined (text ∷ next ∷ texts) some free =
-    let parts = both (no_space text) (list_all no_space (next ∷ texts)) free in
+    let parts = and_parts (no_space text) (list_all no_space (next ∷ texts)) free in
     slice_split_at is_space text 32 (join_with_byte 32 (next ∷ texts)) (λ k d below. spaceless text parts.0 k d below) refl
     ∙ ap (λ rest. text ∷ rest) (cut_joined (next ∷ texts) (λ none. cc) parts.1)
 
@@ -127,7 +127,7 @@ unfolding min_of max_of series_of_body
 last_by st None others ulid labels min_time max_time series kept is all =
     absurd (no_end others (record { ulid = ulid; labels = labels; body = Inline min_time max_time series }) (sym (sym (kept.blocks.no_last is) ∙ all)))
 last_by st (Some block) others ulid labels min_time max_time series kept is all =
-    let p = snoc_is st.blocks others (block_of block) (record { ulid = ulid; labels = labels; body = Inline min_time max_time series }) all in
+    let p = same_from_push st.blocks others (block_of block) (record { ulid = ulid; labels = labels; body = Inline min_time max_time series }) all in
     record {
       block = block;
       is = is;

@@ -1,5 +1,5 @@
 -- What a rule line, a gateway line or a block line spells is read of it.
-use Rattle.std.proofs.Common.{◌≡◌, ℕ, ◌%◌, ◌^◌, ℤ, ◌<ℤ◌, Bool, true, false, not, ◌==◌, nat_lt, int_lt, List, [], ◌∷◌, ◌++◌, length, Option, Some, is_none, Ok, refl, sym, ap, ◌∙◌, subst, arith, append-nil}
+use Rattle.std.proofs.Common.{◌≡◌, ℕ, ◌%◌, ◌^◌, ℤ, ◌<ℤ◌, true, false, not, ◌==◌, nat_lt, int_lt, List, [], ◌∷◌, ◌++◌, length, Option, Some, is_none, Ok, refl, sym, ap, ◌∙◌, subst, arith, append-nil}
 use Rattle.std.proofs.lemmas.Bool.Decides.{nat_tests}
 use Rattle.std.proofs.lemmas.Int.{ints}
 use Rattle.std.specs.BTreeSet.{insert_key}
@@ -11,12 +11,12 @@ use Rattle.label_sets.specs.declared.label.Label.{Label}
 use Rattle.script_core.specs.declared.line_kind.LineKind.{LineKind}
 use Rattle.script_core.specs.declared.line_kind.LineKind.TheVariants as kinds
 use Rattle.script_core.specs.Fields.{is_empty, next_field, only_field, rule_name}
-use Rattle.script_core.specs.Values.{is_reserved, with_rule}
+use Rattle.script_core.specs.Values.{is_reserved, with_rule, set_rule}
 use Rattle.script_core.specs.Lines.{fields_line, rule_line, gateway_line, block_line, last_labels}
 use Rattle.script_core.specs.State.{State, Last, add_gateway, begin_block, is_declared, all_blocks, script_of_state}
-use Rattle.script_core.specs.Spelling.{SoFar, outside, RuleLine, GatewayLine, BlockLine}
-use Rattle.script_core.proofs.FieldLaws.{no_space, cut_again}
-use Rattle.script_core.proofs.ValueLaws.{time_again, ulid_again, rule_with, rule_again}
+use Rattle.script_core.specs.Spelling.{SoFar, outside, rule_word, RuleLine, GatewayLine, BlockLine}
+use Rattle.script_core.proofs.FieldLaws.{cut_again}
+use Rattle.script_core.proofs.ValueLaws.{time_again, ulid_again, value_again}
 use Rattle.script_core.proofs.Kept.{Kept, so_far_of}
 use Rattle.script_core.proofs.LineTools.{is_some_field, only_again, line_word, word_free, name_again, name_free, early_again}
 use Rattle.script_core.proofs.FoundSetup.{closed}
@@ -40,9 +40,6 @@ starts_again line kind rest is =
 below_again : (a b : ℤ) → a <ℤ b → int_lt a b ≡ true
 below_again a b below = grind (arith, ints)
 
-pub not_false : (b : Bool) → b ≡ false → not b ≡ true
-not_false b e = ap not e
-
 labels_by : (text : List ℕ) (labels : List Label) → not (is_empty text) ≡ true → read_set text ≡ Ok (labels, length text) → last_labels (Some text) ≡ Ok (Some labels)
 unfolding last_labels
 labels_by text labels some read =
@@ -59,18 +56,18 @@ labels_again text labels is =
 
 module _ (st : State) (number : ℕ) (line : List ℕ) (next : SoFar) (kept : Kept st) where
   pub rule_line_again : RuleLine (so_far_of st) line next → IsRead (closed st) number line kinds.Rule next
-  unfolding fields_line rule_line
+  unfolding fields_line rule_line set_rule
   rule_line_again says =
-      let rule = rule_again says.word says.text says.name says.value says.is_rule in
-      let text : List ℕ = says.word ++ 32 ∷ says.text in
-      let cut : next_field (Some text) ≡ (says.word, Some says.text) = cut_again says.word says.text (subst (λ w. no_space w ≡ true) (sym rule.word_is) (name_free says.name)) in
-      let named : rule_name says.word ≡ Some says.name = ap rule_name rule.word_is ∙ name_again says.name in
+      let word = rule_word says.name in
+      let text : List ℕ = word ++ 32 ∷ says.text in
+      let cut : next_field (Some text) ≡ (word, Some says.text) = cut_again word says.text (name_free says.name) in
+      let named : rule_name word ≡ Some says.name = name_again says.name in
       let only : only_field (Some says.text) ≡ Ok says.text = only_again says.text says.field in
       let early : is_none st.phase ≡ true = early_again st.phases st.phase says.early in
-      let valued = rule.read in
+      let valued = value_again says.name says.text says.value says.is_value in
       record {
         left = Some text;
-        after = record (closed st) { rules = with_rule st.rules (rule_with says.name says.value) };
+        after = record (closed st) { rules = with_rule says.name says.value st.rules };
         cut = starts_again line kinds.Rule text says.spelled;
         read = rw (cut, named, only, valued, early) refl;
         next_is = ap (λ (set : Rules). outside (record (script_of_state st) { rules = set })) (sym (rule_set says.name says.value st.rules says.set says.sets)) ∙ sym says.adds;

@@ -1,6 +1,7 @@
 -- Fields that are cut off a line, and fields that are joined to one.
 use Rattle.std.proofs.Common.{◌≡◌, ℕ, ◌+◌, ◌<◌, ◌≤◌, Bool, true, false, not, cond, nat_lt, List, [], ◌∷◌, ◌++◌, length, get_or, take, drop, Option, Some, None, refl, sym, ap, ◌∙◌, arith, append_assoc}
 use Rattle.std.specs.List.{list_all, position_or_len, before_first, after_first}
+use Rattle.std.proofs.lemmas.Bool.{not-true, not_from_false}
 use Rattle.std.proofs.lemmas.Bool.Decides.{nat_tests}
 use Rattle.std.proofs.lemmas.List.{length-append, length-take, take_at, drop_at, get_or_at, get_or-take, get_or_append_left}
 use Rattle.std.proofs.lemmas.List.Sums.{split_at_first, passes_at_first, position_or_len_is, fails_before_first, AllPass-from_list_all, list_all-from_AllPass}
@@ -10,27 +11,20 @@ use Rattle.script_core.specs.Fields.{is_space, next_field}
 abbrev pub no_space : List ℕ → Bool
 no_space field = list_all (λ byte. not (is_space byte)) field
 
-not_false : (b : Bool) → b ≡ false → not b ≡ true
-not_false b e = ap not e
-
-not_true : (b : Bool) → not b ≡ true → b ≡ false
-not_true true e = sym e
-not_true false e = refl
-
 -- each byte of such a field
 pub spaceless : (field : List ℕ) → no_space field ≡ true → (k : ℕ) (d : ℕ) → k < length field → is_space (get_or field k d) ≡ false
-spaceless field free k d below = not_true _ (AllPass-from_list_all (λ byte. not (is_space byte)) field free k d below)
+spaceless field free k d below = not-true _ (AllPass-from_list_all (λ byte. not (is_space byte)) field free k d below)
 
 -- before the first space there is none
 no_space-before : (text : List ℕ) → no_space (before_first is_space text) ≡ true
 no_space-before text =
     list_all-from_AllPass (λ byte. not (is_space byte)) (before_first is_space text) (λ k d below.
     let inside : k < position_or_len is_space text = omega (arith, length-take (position_or_len is_space text) text) in
-    not_false _ (ap is_space (get_or-take (position_or_len is_space text) text k d inside) ∙ fails_before_first is_space text k d inside))
+    not_from_false _ (ap is_space (get_or-take (position_or_len is_space text) text k d inside) ∙ fails_before_first is_space text k d inside))
 
 no_space-whole : (text : List ℕ) → length text ≤ position_or_len is_space text → no_space text ≡ true
 no_space-whole text none =
-    list_all-from_AllPass (λ byte. not (is_space byte)) text (λ k d below. not_false _ (fails_before_first is_space text k d (omega arith)))
+    list_all-from_AllPass (λ byte. not (is_space byte)) text (λ k d below. not_from_false _ (fails_before_first is_space text k d (omega arith)))
 
 -- the byte that is a space
 pub space_is : (byte : ℕ) → is_space byte ≡ true → byte ≡ 32

@@ -3,8 +3,9 @@ use Rattle.std.proofs.Common.{◌≡◌, ℕ, ◌+◌, Bool, true, false, cond, 
 use Rattle.std.specs.Bool.{MatchBool}
 use Rattle.std.specs.Str.{is_utf8}
 use Rattle.std.proofs.lemmas.Bool.Decides.{nat_tests}
+use Rattle.std.proofs.lemmas.Option.{same_Some}
 use Rattle.reading_core.specs.Reading.{◌>>=◌, ◌>>◌, refused_as}
-use Rattle.reading_core.proofs.Binds.{bind_ok, ok_is, refused_as_ok}
+use Rattle.reading_core.proofs.Binds.{bind_ok, ok_is, refused_as_ok, then_ok}
 use Rattle.moment_core.specs.StandardRules.{standard_rules}
 use Rattle.script_core.specs.declared.cause.LineCause.TheVariants as causes
 use Rattle.script_core.specs.declared.line_kind.LineKind.{LineKind}
@@ -20,8 +21,8 @@ use Rattle.script_core.specs.Spelling as spelling
 use Rattle.script_core.specs.Spelling.{SoFar, HasEnded, Says, Say, Spells}
 use Rattle.script_core.proofs.FieldLaws.{cut_found}
 use Rattle.script_core.proofs.Kept.{Kept, so_far_of, start_kept, start_is}
-use Rattle.script_core.proofs.LineTools.{cut_rest, line_word, kind_found, ended_found, then_ok, unit_is}
-use Rattle.script_core.proofs.FoundSetup.{Starts, closed, some_is, rule_line_found, gateway_line_found, block_line_found}
+use Rattle.script_core.proofs.LineTools.{cut_rest, line_word, kind_found, ended_found, unit_is}
+use Rattle.script_core.proofs.FoundSetup.{Starts, closed, rule_line_found, gateway_line_found, block_line_found}
 use Rattle.script_core.proofs.FoundSeries.{series_line_found}
 use Rattle.script_core.proofs.FoundPhases.{at_line_found, upload_line_found, sync_line_found, query_line_found}
 
@@ -35,7 +36,7 @@ end_found st before kept h =
 starts_of : (line : List ℕ) (kind : LineKind) → line_kind (next_field (Some line)).0 ≡ Some kind → Starts line (line_word kind) (next_field (Some line)).1
 starts_of line kind is rest left =
     let word : (next_field (Some line)).0 ≡ line_word kind = kind_found (next_field (Some line)).0 kind is in
-    some_is _ _ (cut_rest (Some line) (next_field (Some line)).0 (next_field (Some line)).1 rest (cut_found (Some line)) left).0 ∙ ap (λ w. w ++ 32 ∷ rest) word
+    same_Some _ _ (cut_rest (Some line) (next_field (Some line)).0 (next_field (Some line)).1 rest (cut_found (Some line)) left).0 ∙ ap (λ w. w ++ 32 ∷ rest) word
 
 -- what a line says, and what is kept
 abbrev pub SaysKept : State → ℕ → List ℕ → State → Type 0
@@ -67,15 +68,9 @@ module _ (st after : State) (number : ℕ) (line : List ℕ) (left : Option (Lis
       let a = bind_ok (end_block st) (λ before. refused_as (of_line number) (kind_line before number None left)) after h in
       let b = refused_as_ok (of_line number) (kind_line a.0 number None left) after a.2 in
       absurd cc
-  kind_by (Some kinds.Rule) starts h = ends_found kinds.Rule (starts kinds.Rule refl) refl h
-  kind_by (Some kinds.Gateway) starts h = ends_found kinds.Gateway (starts kinds.Gateway refl) refl h
-  kind_by (Some kinds.Block) starts h = ends_found kinds.Block (starts kinds.Block refl) refl h
   kind_by (Some kinds.Series) starts h =
       let p = series_line_found st after line left kept (starts kinds.Series refl) (refused_as_ok (of_line number) (fields_line st number kinds.Series left) after h) in (spelling.series p.0, p.1)
-  kind_by (Some kinds.At) starts h = ends_found kinds.At (starts kinds.At refl) refl h
-  kind_by (Some kinds.Upload) starts h = ends_found kinds.Upload (starts kinds.Upload refl) refl h
-  kind_by (Some kinds.Sync) starts h = ends_found kinds.Sync (starts kinds.Sync refl) refl h
-  kind_by (Some kinds.Query) starts h = ends_found kinds.Query (starts kinds.Query refl) refl h
+  kind_by (Some kind) starts h = ends_found kind (starts kind refl) refl h
 
 pub text_found : (st after : State) (number : ℕ) (line : List ℕ) → Kept st → text_line st number line ≡ Ok after → SaysKept st number line after
 unfolding text_line

@@ -4,9 +4,11 @@ use Rattle.std.specs.List.{list_all, range_with_len}
 use Rattle.std.specs.Str.{bytes_eq}
 use Rattle.std.proofs.lemmas.Bool.Decides.{nat_tests}
 use Rattle.std.proofs.lemmas.Int.{ints}
+use Rattle.std.proofs.lemmas.Option.{same_Some}
+use Rattle.std.proofs.Math.Bool.{or-false}
 use Rattle.reading_core.specs.Reading.{◌>>=◌, refused_as}
-use Rattle.reading_core.proofs.Binds.{bind_ok, unless_ok, ok_is, refused_as_ok}
-use Rattle.reading_core.proofs.Decimals.{both}
+use Rattle.reading_core.proofs.Binds.{bind_ok, unless_ok, ok_is, refused_as_ok, unless_is, then_ok, ok_or_ok}
+use Rattle.std.proofs.lemmas.Bool.{and_parts, not-true}
 use Rattle.reading_core.proofs.Parsed.{true_or_false}
 use Rattle.matchers.specs.Selectors.{read_selector}
 use Rattle.matchers.specs.declared.matcher.Matcher.{Matcher}
@@ -15,23 +17,23 @@ use Rattle.moment_core.specs.declared.rules.Rules.{Rules}
 use Rattle.script_core.specs.declared.cause.LineCause.TheVariants as causes
 use Rattle.script_core.specs.declared.line_refusal.LineRefusal.{LineRefusal}
 use Rattle.script_core.specs.declared.line_refusal.LineRefusal.TheVariants.{Bad, BadRules, FallingMoment}
-use Rattle.script_core.specs.declared.phase.Phase.{Phase}
-use Rattle.script_core.specs.declared.work.Work.{Work}
-use Rattle.script_core.specs.declared.work.Work.TheVariants as works
+use Rattle.script_workers.specs.declared.phase.Phase.{Phase}
+use Rattle.script_workers.specs.declared.work.Work.{Work}
+use Rattle.script_workers.specs.declared.work.Work.TheVariants as works
 use Rattle.script_core.specs.Fields.{is_empty, next_field}
-use Rattle.script_core.specs.Hands.{gateway_count, with_hands}
+use Rattle.script_workers.specs.Hands.{gateway_count, with_hands}
 use Rattle.script_core.specs.Values.{agree}
 use Rattle.script_core.specs.Lines.{may_begin, at_line, upload_line, sync_line, last_selector, query_line}
 use Rattle.script_core.specs.State.{State, all_phases, begin_phase, add_task, add_query, note_sync, is_declared, is_synced, script_of_state, are_all_synced}
-use Rattle.script_core.specs.Works.{is_sync_of}
+use Rattle.script_workers.specs.Works.{is_sync_of}
 use Rattle.script_core.specs.Spelling.{AtLine, AddsTask, UploadLine, SyncLine, QueryLine}
 use Rattle.script_core.proofs.FieldLaws.{cut_found}
-use Rattle.script_core.proofs.ValueLaws.{ok_or_ok, is_none_is, not_is, time_found, ulid_found, moment_found}
-use Rattle.script_core.proofs.Kept.{Kept, KeepsTasks, at, so_far_of, phase_kept, task_kept, sync_noted, hands_of-append, or_same}
-use Rattle.script_core.proofs.LineTools.{is_field, cut_rest, cut_end, only_found, last_phase, no_end, then_ok, unless_is, unit_is}
-use Rattle.script_core.proofs.FoundSetup.{Starts, closed, some_is}
+use Rattle.script_core.proofs.ValueLaws.{is_none_is, time_found, ulid_found, moment_found}
+use Rattle.script_core.proofs.Kept.{Kept, KeepsTasks, at, so_far_of, phase_kept, task_kept, sync_noted, hands_of-append}
+use Rattle.script_core.proofs.LineTools.{is_field, cut_rest, cut_end, only_found, last_phase, no_end, unit_is}
+use Rattle.script_core.proofs.FoundSetup.{Starts, closed}
 use Rattle.script_core.proofs.SpelledValues.{near_spelled, free_spelled, agree_spelled, selector_spelled}
-use Rattle.script_core.proofs.SpelledHands.{few_spelled}
+use Rattle.script_workers.proofs.HandLaws.{few_spelled}
 
 -- ---- moments
 
@@ -85,7 +87,7 @@ module _ (st after : State) (number : ℕ) (work : Work) (kept : Kept st) (task 
   -- nothing is noted
   pub same_kept : ((gateway : ℕ) → is_sync_of gateway work ≡ false) → Kept after
   same_kept never =
-      let all = more_kept st.synced (λ gateway. or_same (is_synced st.synced gateway) ∙ ap (λ b. is_synced st.synced gateway || b) (sym (never gateway))) in
+      let all = more_kept st.synced (λ gateway. sym (or-false (is_synced st.synced gateway)) ∙ ap (λ b. is_synced st.synced gateway || b) (sym (never gateway))) in
       subst (λ (s : State). Kept (record s { synced = st.synced }) → Kept s) task.is (λ k. k) all
 
 -- ---- queries
@@ -94,7 +96,7 @@ selector_by : (text : List ℕ) (selector : List Matcher) (b : Bool) → cond {A
 selector_by text selector true h = absurd cc
 selector_by text selector false h =
     let a = bind_ok _ _ _ h in
-    let same : a.0 ≡ selector = some_is _ _ (ok_is _ _ a.2) in
+    let same : a.0 ≡ selector = same_Some _ _ (ok_is _ _ a.2) in
     refused_as_ok _ _ _ a.1 ∙ ap Ok same
 
 selector_found : (left : Option (List ℕ)) (selector : List Matcher) → last_selector left ≡ Ok (Some selector) → (text : List ℕ) × (left ≡ Some text) × (read_selector text ≡ Ok selector)
@@ -106,14 +108,14 @@ selector_found (Some text) selector h = (text, refl, selector_by text selector (
 pub all_in_range : (p : ℕ → Bool) (first count : ℕ) → list_all p (range_with_len first count) ≡ true → (n : ℕ) → first ≤ n → n < first + count → p n ≡ true
 all_in_range p first zero h n low high = absurd (omega arith)
 all_in_range p first (suc count) h n low high =
-    let parts = both (p first) (list_all p (range_with_len (first + 1) count)) h in
+    let parts = and_parts (p first) (list_all p (range_with_len (first + 1) count)) h in
     elim (true_or_false (first == n)) [
       | inl same ↦ let e : first ≡ n = grind (arith, nat_tests) in ap p (sym e) ∙ parts.0
       | inr other ↦ let later : first + 1 ≤ n = grind (arith, nat_tests) in all_in_range p (first + 1) count parts.1 n later (omega arith)
     ]
 
 not_below : (low high : ℤ) → not (int_lt high low) ≡ true → low ≤ℤ high
-not_below low high h = let test = not_is (int_lt high low) h in grind (arith, ints)
+not_below low high h = let test = not-true (int_lt high low) h in grind (arith, ints)
 
 -- ---- lines
 
@@ -154,7 +156,7 @@ module _ (st after : State) (number : ℕ) (line : List ℕ) (left : Option (Lis
       let d = unless_ok _ _ _ _ c.2 in
       let e = unless_ok _ _ _ _ d.1 in
       let f = unless_ok _ _ _ _ e.1 in
-      let tests = both (not (is_empty text)) (is_none rest) b.0 in
+      let tests = and_parts (not (is_empty text)) (is_none rest) b.0 in
       let end = cut_end left text rest (cut_found left) (is_none_is rest tests.1) tests.0 in
       let task = added (closed st) after number (works.Upload c.0 None) f.1 in
       let declared : is_declared st c.0 ≡ true = f.0 in (
@@ -162,7 +164,7 @@ module _ (st after : State) (number : ℕ) (line : List ℕ) (left : Option (Lis
           text = text;
           ulid = c.0;
           spelled = starts text end.0;
-          is_ulid = record { field = is_field text tests.0 end.1; written = ulid_found text c.0 (refused_as_ok _ _ _ c.1); not_reserved = free_spelled (c.0 % 2 ^ 80) (not_is _ e.0) };
+          is_ulid = record { field = is_field text tests.0 end.1; written = ulid_found text c.0 (refused_as_ok _ _ _ c.1); not_reserved = free_spelled (c.0 % 2 ^ 80) (not-true _ e.0) };
           declared = sym (kept.blocks.declared c.0) ∙ declared;
           script = script_of_state after;
           task = adds_task (closed st) after number (works.Upload c.0 None) kept_closed task;
@@ -216,7 +218,7 @@ module _ (st after : State) (number : ℕ) (line : List ℕ) (left : Option (Lis
       let j = bind_ok _ _ _ i.1 in
       let same = ok_is _ _ j.2 in
       let work : Work = works.Query d.0 e.0 (length st.selectors) in
-      let fields = both (not (is_empty low_text)) (not (is_empty high_text)) b.0 in
+      let fields = and_parts (not (is_empty low_text)) (not (is_empty high_text)) b.0 in
       let selector = selector_found after_high c.0 (a.1 ∙ ap Ok (ok_or_ok a.0 (Bad causes.BadShape) c.0 c.1)) in
       let second = cut_rest after_low high_text after_high selector.0 (cut_found after_low) selector.1 in
       let first = cut_rest left low_text after_low (high_text ++ 32 ∷ selector.0) (cut_found left) second.0 in

@@ -8,8 +8,8 @@ use Rattle.std.proofs.lemmas.List.Splits.{length-slice_split, join_with_byte-sli
 use Rattle.reading_core.specs.Decimal.{signed_of}
 use Rattle.reading_core.specs.declared.refusal.NumberRefusal.{NumberRefusal}
 use Rattle.reading_core.specs.declared.refusal.NumberRefusal.TheVariants.{NotANumber, TooLarge}
-use Rattle.reading_core.proofs.Binds.{bind_ok, unless_ok, ok_is, refused_as_ok}
-use Rattle.reading_core.proofs.Decimals.{both}
+use Rattle.reading_core.proofs.Binds.{bind_ok, unless_ok, ok_is, refused_as_ok, unless_is, then_ok}
+use Rattle.std.proofs.lemmas.Bool.{and_parts, not-true}
 use Rattle.label_sets.proofs.SampleTexts.{sample_of-found, sample_of-fits, uncut}
 use Rattle.label_sets.proofs.SetLaws.{set_text_found}
 use Rattle.label_sets.specs.Notation.{read_set}
@@ -30,9 +30,8 @@ use Rattle.script_core.specs.Lines.{first_labels, series_line}
 use Rattle.script_core.specs.State.{State, Last, block_of, all_blocks, add_series, test_block, with_series, has_series, script_of_state}
 use Rattle.script_core.specs.Spelling.{spaced, inside, IsSampleField, AreSampleFields, SeriesLine}
 use Rattle.script_core.proofs.FieldLaws.{no_space, space_is}
-use Rattle.script_core.proofs.ValueLaws.{not_is}
 use Rattle.script_core.proofs.Kept.{Kept, at, so_far_of, series_kept}
-use Rattle.script_core.proofs.LineTools.{is_field, then_ok, unless_is, unit_is}
+use Rattle.script_core.proofs.LineTools.{is_field, unit_is}
 use Rattle.script_core.proofs.FoundSetup.{Starts}
 use Rattle.std.specs.List.Sorted.{IsStrictlySortedBy}
 use Rattle.label_sets.specs.Labels.{compare_sets}
@@ -127,9 +126,9 @@ samples_found (text ∷ texts) samples free whole small h =
     let a = bind_ok _ _ _ h in
     let b = bind_ok _ _ _ a.2 in
     let read : sample_of text ≡ Ok a.0 = refused_as_ok _ _ _ a.1 in
-    let f = both (no_space text) (list_all no_space texts) free in
-    let w = both (not (is_empty text)) (list_all (λ t. not (is_empty t)) texts) whole in
-    let s = both (has_small_number text) (list_all has_small_number texts) small in
+    let f = and_parts (no_space text) (list_all no_space texts) free in
+    let w = and_parts (not (is_empty text)) (list_all (λ t. not (is_empty t)) texts) whole in
+    let s = and_parts (has_small_number text) (list_all has_small_number texts) small in
     let first : IsSampleField text a.0 = record { field = is_field text w.0 f.0; written = sample_of-found text a.0 read; near = near_spelled a.0.time (near_found text a.0 s.0 read); pattern = (sample_of-fits text a.0 read).1 } in
     let all : AreSampleFields (text ∷ texts) (a.0 ∷ b.0) = (first, samples_found texts b.0 f.1 w.1 s.1 b.1) in
     subst (AreSampleFields (text ∷ texts)) (ok_is _ _ b.2) all
@@ -155,7 +154,7 @@ in_last blocks continues None series h = absurd cc
 in_last blocks continues (Some block) series h =
     let a = unless_ok (are_within block.min_time block.max_time series.samples) (Bad causes.OutsideBlock) _ _ h in
     let b = unless_ok (not (has_series block.series series.labels)) (Bad causes.RepeatedSeries) _ _ a.1 in
-    record { block = block; is = refl; within = a.0; new = not_is _ b.0; follows = unless_is continues _ b.1 }
+    record { block = block; is = refl; within = a.0; new = not-true _ b.0; follows = unless_is continues _ b.1 }
 
 -- the last block with these series
 abbrev block_with : Last → List Series → Block

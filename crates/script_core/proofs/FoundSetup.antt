@@ -2,8 +2,9 @@
 use Rattle.std.proofs.Common.{◌≡◌, ℕ, ◌%◌, ◌^◌, ◌<◌, ℤ, ◌<ℤ◌, true, false, not, ◌==◌, ◌&&◌, ltb-true, int_lt, List, [], ◌∷◌, ◌++◌, length, Option, Some, None, Result, Ok, Err, refl, sym, ap, ◌∙◌, subst, arith, codes}
 use Rattle.std.proofs.lemmas.Bool.Decides.{nat_tests}
 use Rattle.std.proofs.lemmas.Int.{ints}
-use Rattle.reading_core.proofs.Binds.{bind_ok, unless_ok, ok_is, refused_as_ok}
-use Rattle.reading_core.proofs.Decimals.{both}
+use Rattle.std.proofs.lemmas.Option.{same_Some}
+use Rattle.reading_core.proofs.Binds.{bind_ok, unless_ok, ok_is, refused_as_ok, ok_or_ok}
+use Rattle.std.proofs.lemmas.Bool.{and_parts, not-true}
 use Rattle.std.proofs.lemmas.List.{take_all}
 use Rattle.label_sets.proofs.SetLaws.{set_text_found}
 use Rattle.label_sets.specs.Notation.{read_set}
@@ -13,12 +14,12 @@ use Rattle.label_sets.specs.declared.label_refusal.LabelRefusal.{LabelRefusal}
 use Rattle.script_core.specs.declared.cause.LineCause.TheVariants as causes
 use Rattle.script_core.specs.declared.line_refusal.LineRefusal.TheVariants.{Bad}
 use Rattle.script_core.specs.Fields.{is_empty, next_field}
-use Rattle.script_core.specs.Values.{with_rule}
+use Rattle.script_core.specs.Values.{set_rule}
 use Rattle.script_core.specs.Lines.{rule_line, gateway_line, block_line, whole_labels, last_labels}
 use Rattle.script_core.specs.State.{State, add_gateway, begin_block, is_declared}
-use Rattle.script_core.specs.Spelling.{IsRuleText, Sets, RuleLine, GatewayLine, BlockLine}
+use Rattle.script_core.specs.Spelling.{rule_word, Sets, RuleLine, GatewayLine, BlockLine}
 use Rattle.script_core.proofs.FieldLaws.{cut_found}
-use Rattle.script_core.proofs.ValueLaws.{ok_or_ok, is_none_is, not_is, time_found, ulid_found, rule_word, rule_found, amount_of}
+use Rattle.script_core.proofs.ValueLaws.{is_none_is, time_found, ulid_found, value_found}
 use Rattle.script_core.proofs.Kept.{Kept, so_far_of, gateway_kept, block_kept}
 use Rattle.script_core.proofs.LineTools.{is_field, cut_rest, only_found, name_found, early_found}
 use Rattle.script_core.proofs.SpelledValues.{near_spelled, free_spelled}
@@ -32,9 +33,6 @@ Starts line word left = (rest : List ℕ) → left ≡ Some rest → line ≡ wo
 abbrev pub closed : State → State
 closed st = record st { continues = false }
 
-pub some_is : {A : Type 0} (x y : A) → ◌≡◌ {A = Option A} (Some x) (Some y) → x ≡ y
-some_is x y e = cc
-
 pub below_is : (a b : ℤ) → int_lt a b ≡ true → a <ℤ b
 below_is a b e = grind (arith, ints)
 
@@ -44,7 +42,7 @@ whole_found count (Err refusal) labels h = absurd cc
 whole_found count (Ok found) labels h =
     let a = unless_ok (found.1 == count) (Bad causes.BadShape) (Ok (Some found.0)) (Some labels) h in
     let size : found.1 ≡ count = let test = a.0 in grind (arith, nat_tests) in
-    let set : found.0 ≡ labels = some_is _ _ (ok_is _ _ a.1) in
+    let set : found.0 ≡ labels = same_Some _ _ (ok_is _ _ a.1) in
     λ i. Ok (set i, size i)
 
 pub labels_found : (left : Option (List ℕ)) (labels : List Label) → last_labels left ≡ Ok (Some labels) → (text : List ℕ) × (left ≡ Some text) × IsSetText text labels
@@ -56,7 +54,7 @@ labels_found (Some text) labels h =
 
 module _ (st after : State) (line : List ℕ) (left : Option (List ℕ)) (kept : Kept st) where
   pub rule_line_found : Starts line (codes "rule") left → rule_line (closed st) left ≡ Ok after → RuleLine (so_far_of st) line (so_far_of after) × Kept after
-  unfolding rule_line
+  unfolding rule_line set_rule
   rule_line_found starts h =
       let a = bind_ok _ _ _ h in
       let b = bind_ok _ _ _ a.2 in
@@ -65,21 +63,20 @@ module _ (st after : State) (line : List ℕ) (left : Option (List ℕ)) (kept :
       let e = unless_ok _ _ _ _ d.2 in
       let same = ok_is _ _ e.1 in
       let name = (next_field (Some a.0)).0 in
-      let value = only_found (next_field (Some a.0)).1 c.0 (refused_as_ok _ _ _ c.1) in
-      let cut = cut_rest (Some a.0) name (next_field (Some a.0)).1 c.0 (cut_found (Some a.0)) value.0 in
-      let word : name ≡ rule_word b.0 = name_found name b.0 (ok_or_ok _ _ _ b.1) in
-      let found = rule_found b.0 c.0 d.0 (refused_as_ok _ _ _ d.1) in (
+      let text = only_found (next_field (Some a.0)).1 c.0 (refused_as_ok _ _ _ c.1) in
+      let value = bind_ok _ _ _ (refused_as_ok _ _ _ d.1) in
+      let cut = cut_rest (Some a.0) name (next_field (Some a.0)).1 c.0 (cut_found (Some a.0)) text.0 in
+      let word : name ≡ rule_word b.0 = name_found name b.0 (ok_or_ok _ _ _ b.1) in (
         record {
-          word = name;
-          text = c.0;
           name = b.0;
-          value = amount_of d.0;
-          spelled = starts a.0 (ok_or_ok _ _ _ a.1) ∙ ap (λ rest. codes "rule" ++ 32 ∷ rest) (some_is a.0 (name ++ 32 ∷ c.0) cut.0);
-          field = value.1;
-          is_rule = subst (λ w. IsRuleText w c.0 b.0 (amount_of d.0)) (sym word) found.1;
+          text = c.0;
+          value = value.0;
+          spelled = starts a.0 (ok_or_ok _ _ _ a.1) ∙ ap (λ rest. codes "rule" ++ 32 ∷ rest) (same_Some a.0 (name ++ 32 ∷ c.0) cut.0 ∙ ap (λ w. w ++ 32 ∷ c.0) word);
+          field = text.1;
+          is_value = value_found b.0 c.0 value.0 value.1;
           early = early_found st.phases st.phase kept.tasks.no_phase e.0;
-          set = with_rule st.rules d.0;
-          sets = subst (λ n. Sets n (amount_of d.0) st.rules (with_rule st.rules d.0)) found.0 (rule_sets st.rules d.0);
+          set = d.0;
+          sets = subst (Sets b.0 value.0 st.rules) (ok_is _ _ value.2) (rule_sets b.0 value.0 st.rules);
           adds = ap so_far_of (sym same);
         },
         subst Kept same (record { blocks = kept.blocks; tasks = kept.tasks }),
@@ -129,15 +126,15 @@ module _ (st after : State) (line : List ℕ) (left : Option (List ℕ)) (kept :
       let k = unless_ok _ _ _ _ j.1 in
       let l = unless_ok _ _ _ _ k.1 in
       let same = ok_is _ _ l.1 in
-      let front = both (not (is_empty ulid_text) && not (is_empty min_text)) (not (is_empty max_text)) a.0 in
-      let fields = both (not (is_empty ulid_text)) (not (is_empty min_text)) front.0 in
+      let front = and_parts (not (is_empty ulid_text) && not (is_empty min_text)) (not (is_empty max_text)) a.0 in
+      let fields = and_parts (not (is_empty ulid_text)) (not (is_empty min_text)) front.0 in
       let set = labels_found after_max f.0 (subst (λ o. last_labels after_max ≡ Ok o) (ok_or_ok b.0 _ f.0 f.1) b.1) in
       let third = cut_rest after_min max_text after_max set.0 (cut_found after_min) set.1 in
       let second = cut_rest after_ulid min_text after_min (max_text ++ 32 ∷ set.0) (cut_found after_ulid) third.0 in
       let first = cut_rest left ulid_text after_ulid (min_text ++ 32 ∷ (max_text ++ 32 ∷ set.0)) (cut_found left) second.0 in
       let min_is = time_found min_text c.0 (refused_as_ok _ _ _ c.1) in
       let max_is = time_found max_text d.0 (refused_as_ok _ _ _ d.1) in
-      let fresh : is_declared st e.0 ≡ false = not_is _ k.0 in
+      let fresh : is_declared st e.0 ≡ false = not-true _ k.0 in
       let few : length st.ulids < 4_096 = ltb-true _ _ l.0 in (
         record {
           ulid_text = ulid_text;
@@ -149,7 +146,7 @@ module _ (st after : State) (line : List ℕ) (left : Option (List ℕ)) (kept :
           max_time = d.0;
           labels = f.0;
           spelled = starts (ulid_text ++ 32 ∷ (min_text ++ 32 ∷ (max_text ++ 32 ∷ set.0))) first.0;
-          is_ulid = record { field = is_field ulid_text fields.0 first.1; written = ulid_found ulid_text e.0 (refused_as_ok _ _ _ e.1); not_reserved = free_spelled (e.0 % 2 ^ 80) (not_is _ j.0) };
+          is_ulid = record { field = is_field ulid_text fields.0 first.1; written = ulid_found ulid_text e.0 (refused_as_ok _ _ _ e.1); not_reserved = free_spelled (e.0 % 2 ^ 80) (not-true _ j.0) };
           is_min = record { field = is_field min_text fields.1 second.1; written = min_is.0; near = near_spelled c.0 min_is.1 };
           is_max = record { field = is_field max_text front.1 third.1; written = max_is.0; near = near_spelled d.0 max_is.1 };
           are_labels = set.2;

@@ -6,7 +6,9 @@ use Rattle.std.specs.declared.cmp.Ordering.{Ordering}
 use Rattle.std.specs.declared.cmp.Ordering.TheVariants.{Less, Equal, Greater}
 use Rattle.std.specs.BTreeMap.{is_at}
 use Rattle.std.specs.BTreeSet.{insert_key}
+use Rattle.std.proofs.Math.Bool.{or-false, or_assoc, or_comm}
 use Rattle.std.proofs.lemmas.Bool.Decides.{nat_tests}
+use Rattle.std.proofs.lemmas.Option.{same_Some}
 use Rattle.std.proofs.lemmas.List.{length-append, map-append}
 use Rattle.std.proofs.lemmas.List.Concat.{flat_map-append}
 use Rattle.std.proofs.lemmas.List.Folds.{list_any-append}
@@ -14,16 +16,19 @@ use Rattle.std.specs.List.Sorted.{IsStrictlySortedBy}
 use Rattle.label_sets.specs.Labels.{compare_sets}
 use Rattle.label_sets.specs.declared.series.Series.{Series}
 use Rattle.moment_core.specs.declared.moment.Moment.{Moment}
+use Rattle.list_core.proofs.Bools.{same-from_Equal}
+use Rattle.list_core.proofs.Order.{sorted_nil}
 use Rattle.script_core.specs.declared.block.Block.{Block}
-use Rattle.script_core.specs.declared.hand.Hand.{Hand}
-use Rattle.script_core.specs.declared.phase.Phase.{Phase}
+use Rattle.script_workers.specs.declared.hand.Hand.{Hand}
+use Rattle.script_workers.specs.declared.phase.Phase.{Phase}
 use Rattle.script_core.specs.declared.script.Script.{Script}
-use Rattle.script_core.specs.declared.task.Task.{Task}
-use Rattle.script_core.specs.declared.work.Work.{Work}
-use Rattle.script_core.specs.Hands.{gateway_count, with_hands, hands_of, hands_from}
+use Rattle.script_workers.specs.declared.task.Task.{Task}
+use Rattle.script_workers.specs.declared.work.Work.{Work}
+use Rattle.script_workers.specs.Hands.{gateway_count, with_hands, hands_of, hands_from}
 use Rattle.script_core.specs.State.{State, Last, start, block_of, all_blocks, all_phases, is_synced, with_series, script_of_state}
 use Rattle.script_core.specs.Spelling.{SoFar, nothing}
-use Rattle.script_core.specs.Works.{works_in, works_of, is_sync_of, has_sync, declares}
+use Rattle.script_workers.specs.Works.{works_in, works_of, is_sync_of, has_sync}
+use Rattle.script_core.specs.Blocks.{declares}
 use Rattle.moment_core.specs.StandardRules.{standard_rules}
 use Rattle.script_core.proofs.LawfulParts.{labels_of, sorted_insert}
 
@@ -69,35 +74,11 @@ start_is = refl
 
 -- ---- blocks
 
-some_same : {A : Type 0} (x y : A) → ◌≡◌ {A = Option A} (Some x) (Some y) → x ≡ y
-some_same x y e = cc
-
 abbrev Ascend : List Series → Type 0
 Ascend series = IsStrictlySortedBy compare_sets (labels_of series)
 
-none_ascend : Ascend []
-unfolding IsStrictlySortedBy
-none_ascend = tt
-
-same_number : (a b : ℕ) → nat_cmp a b ≡ Equal → a ≡ b
-same_number a b e = grind (arith, nat_tests)
-
 equal_number : (a b : ℕ) → is_eq (nat_cmp a b) ≡ (b == a)
 equal_number a b = grind (arith, nat_tests)
-
-pub or_same : (b : Bool) → b ≡ (b || false)
-or_same true = refl
-or_same false = refl
-
-or_swap : (a b c : Bool) → (a || (b || c)) ≡ ((a || b) || c)
-or_swap true b c = refl
-or_swap false b c = refl
-
-or_last : (a b : Bool) → (a || b) ≡ (b || a)
-or_last true true = refl
-or_last true false = refl
-or_last false true = refl
-or_last false false = refl
 
 twice : (a b : Bool) → (a || b) ≡ ((a || b) || a)
 twice true b = refl
@@ -106,16 +87,16 @@ twice false false = refl
 
 insert_by : (ulid new first : ℕ) (ulids : List ℕ) (o : Ordering) → nat_cmp new first ≡ o → among (insert_key nat_cmp ulids new) ulid ≡ (among ulids ulid || (new == ulid)) → among (match_ordering o (new ∷ first ∷ ulids) (first ∷ ulids) (first ∷ insert_key nat_cmp ulids new)) ulid ≡ (among (first ∷ ulids) ulid || (new == ulid))
 insert_by ulid new first ulids Less is later =
-    ap (λ b. b || among (first ∷ ulids) ulid) (equal_number ulid new) ∙ or_last (new == ulid) (among (first ∷ ulids) ulid)
+    ap (λ b. b || among (first ∷ ulids) ulid) (equal_number ulid new) ∙ or_comm (new == ulid) (among (first ∷ ulids) ulid)
 insert_by ulid new first ulids Equal is later =
-    let same : first ≡ new = sym (same_number new first is) in
+    let same : first ≡ new = sym (same-from_Equal new first is) in
     let e : is_eq (nat_cmp ulid first) ≡ (new == ulid) = equal_number ulid first ∙ ap (λ n. n == ulid) same in
     rw e (twice (new == ulid) (among ulids ulid))
 insert_by ulid new first ulids Greater is later =
-    ap (λ b. is_eq (nat_cmp ulid first) || b) later ∙ or_swap (is_eq (nat_cmp ulid first)) (among ulids ulid) (new == ulid)
+    ap (λ b. is_eq (nat_cmp ulid first) || b) later ∙ sym (or_assoc (is_eq (nat_cmp ulid first)) (among ulids ulid) (new == ulid))
 
 among-insert : (ulid new : ℕ) (ulids : List ℕ) → among (insert_key nat_cmp ulids new) ulid ≡ (among ulids ulid || (new == ulid))
-among-insert ulid new [] = ap (λ b. b || false) (equal_number ulid new) ∙ sym (or_same (new == ulid))
+among-insert ulid new [] = ap (λ b. b || false) (equal_number ulid new) ∙ or-false (new == ulid)
 among-insert ulid new (first ∷ ulids) = insert_by ulid new first ulids (nat_cmp new first) refl (among-insert ulid new ulids)
 
 longer_by : (new first : ℕ) (ulids : List ℕ) (o : Ordering) → nat_cmp new first ≡ o → among (first ∷ ulids) new ≡ false → (among ulids new ≡ false → length (insert_key nat_cmp ulids new) ≡ length ulids + 1) → length (match_ordering o (new ∷ first ∷ ulids) (first ∷ ulids) (first ∷ insert_key nat_cmp ulids new)) ≡ length (first ∷ ulids) + 1
@@ -131,7 +112,7 @@ length-insert new (first ∷ ulids) fresh = longer_by new first ulids (nat_cmp n
 
 pub declares-append : (blocks : List Block) (block : Block) (ulid : ℕ) → declares (blocks ++ block ∷ []) ulid ≡ (declares blocks ulid || (block.ulid == ulid))
 declares-append blocks block ulid =
-    list_any-append (λ (b : Block). b.ulid == ulid) blocks (block ∷ []) ∙ ap (λ b. declares blocks ulid || b) (sym (or_same (block.ulid == ulid)))
+    list_any-append (λ (b : Block). b.ulid == ulid) blocks (block ∷ []) ∙ ap (λ b. declares blocks ulid || b) (or-false (block.ulid == ulid))
 
 module _ (blocks : List Block) (last : Option Last) (ulids : List ℕ) (kept : KeepsBlocks blocks last ulids) where
   -- one more block
@@ -141,7 +122,7 @@ module _ (blocks : List Block) (last : Option Last) (ulids : List ℕ) (kept : K
         no_last = λ none. absurd cc;
         declared = λ ulid. among-insert ulid new.ulid ulids ∙ ap (λ b. b || (new.ulid == ulid)) (kept.declared ulid) ∙ sym (declares-append (all_blocks blocks last) (block_of new) ulid);
         count = length-insert new.ulid ulids fresh ∙ ap (λ n. n + 1) kept.count ∙ sym (length-append (all_blocks blocks last) (block_of new ∷ []));
-        ascend = λ block is. subst Ascend (sym none ∙ ap (λ (l : Last). l.series) (some_same new block is)) none_ascend;
+        ascend = λ block is. subst Ascend (sym none ∙ ap (λ (l : Last). l.series) (same_Some new block is)) (sorted_nil compare_sets);
       }
 
 -- one more series of the last block
@@ -152,7 +133,7 @@ series_kept blocks (Some last) ulids series kept =
       no_last = λ none. absurd cc;
       declared = λ ulid. kept.declared ulid ∙ declares-append blocks (block_of last) ulid ∙ sym (declares-append blocks (block_of (with_series series last)) ulid);
       count = kept.count ∙ length-append blocks (block_of last ∷ []) ∙ sym (length-append blocks (block_of (with_series series last) ∷ []));
-      ascend = λ block is. subst Ascend (ap (λ (l : Last). l.series) (some_same (with_series series last) block is)) (sorted_insert last.series series (kept.ascend last refl));
+      ascend = λ block is. subst Ascend (ap (λ (l : Last). l.series) (same_Some (with_series series last) block is)) (sorted_insert last.series series (kept.ascend last refl));
     }
 
 -- ---- phases and tasks
@@ -171,7 +152,7 @@ works_of-more phases phase task =
 
 pub has_sync-append : (works : List Work) (work : Work) (gateway : ℕ) → has_sync (works ++ work ∷ []) gateway ≡ (has_sync works gateway || is_sync_of gateway work)
 has_sync-append works work gateway =
-    list_any-append (is_sync_of gateway) works (work ∷ []) ∙ ap (λ b. has_sync works gateway || b) (sym (or_same (is_sync_of gateway work)))
+    list_any-append (is_sync_of gateway) works (work ∷ []) ∙ ap (λ b. has_sync works gateway || b) (or-false (is_sync_of gateway work))
 
 add_none : (n : ℕ) → n ≡ n + 0
 add_none n = omega arith
@@ -197,7 +178,7 @@ hands_of-append gateways tasks task =
 no_hands : (gateways : ℕ) (last : Phase) (line : ℕ) (moment : Moment) → ◌≡◌ {A = Option Phase} (Some (record { line = line; moment = moment; tasks = [] })) (Some last) → [] ≡ hands_of gateways last.tasks
 unfolding hands_from
 no_hands gateways last line moment is =
-    ap (λ (p : Phase). hands_of gateways p.tasks) (some_same (record { line = line; moment = moment; tasks = [] }) last is)
+    ap (λ (p : Phase). hands_of gateways p.tasks) (same_Some (record { line = line; moment = moment; tasks = [] }) last is)
 
 module _ (gateways : List (List ℕ)) (phases : List Phase) (phase : Option Phase) (synced : List ℕ) (hands : List Hand) (activities : ℕ) (kept : KeepsTasks gateways phases phase synced hands activities) where
   -- another gateway before the first phase
@@ -223,7 +204,7 @@ task_kept gateways phases phase synced noted hands activities task kept notes =
     record {
       no_phase = λ none. absurd cc;
       are_synced = λ gateway. notes gateway ∙ ap (λ b. b || is_sync_of gateway task.work) (kept.are_synced gateway) ∙ sym (has_sync-append (works_of (phases ++ phase ∷ [])) task.work gateway) ∙ ap (λ works. has_sync works gateway) (sym more);
-      are_hands = λ last is. ap (λ hs. with_hands (gateway_count gateways) hs (length phase.tasks) task.work) (kept.are_hands phase refl) ∙ sym (hands_of-append (gateway_count gateways) phase.tasks task) ∙ ap (λ (p : Phase). hands_of (gateway_count gateways) p.tasks) (some_same _ _ is);
+      are_hands = λ last is. ap (λ hs. with_hands (gateway_count gateways) hs (length phase.tasks) task.work) (kept.are_hands phase refl) ∙ sym (hands_of-append (gateway_count gateways) phase.tasks task) ∙ ap (λ (p : Phase). hands_of (gateway_count gateways) p.tasks) (same_Some _ _ is);
       are_counted = ap (λ n. n + 1) kept.are_counted ∙ sym (length-append (works_of (phases ++ phase ∷ [])) (task.work ∷ [])) ∙ ap length (sym more);
     }
 
@@ -232,14 +213,14 @@ is_synced-same synced own gateway same is = ap (is_synced synced) (sym same) ∙
 
 noted_in : (synced : List ℕ) (own gateway : ℕ) (b : Bool) → is_synced synced own ≡ true → (own == gateway) ≡ b → is_synced synced gateway ≡ (is_synced synced gateway || b)
 noted_in synced own gateway true is same =
-    let e : own ≡ gateway = grind (arith, nat_tests) in is_synced-same synced own gateway e is ∙ sym (or_last (is_synced synced gateway) true)
-noted_in synced own gateway false is same = or_same (is_synced synced gateway)
+    let e : own ≡ gateway = grind (arith, nat_tests) in is_synced-same synced own gateway e is ∙ or_comm true (is_synced synced gateway)
+noted_in synced own gateway false is same = sym (or-false (is_synced synced gateway))
 
 noted_by : (synced : List ℕ) (own gateway : ℕ) (b : Bool) → is_synced synced own ≡ b → is_synced (cond b synced (synced ++ own ∷ [])) gateway ≡ (is_synced synced gateway || (own == gateway))
 noted_by synced own gateway true is =
     noted_in synced own gateway (own == gateway) is refl
 noted_by synced own gateway false is =
-    list_any-append (λ place. place == gateway) synced (own ∷ []) ∙ ap (λ b. is_synced synced gateway || b) (sym (or_same (own == gateway)))
+    list_any-append (λ place. place == gateway) synced (own ∷ []) ∙ ap (λ b. is_synced synced gateway || b) (or-false (own == gateway))
 
 -- a sync line is noted
 pub sync_noted : (synced : List ℕ) (own gateway : ℕ) → is_synced (cond (is_synced synced own) synced (synced ++ own ∷ [])) gateway ≡ (is_synced synced gateway || (own == gateway))

@@ -1,24 +1,25 @@
 -- The parts of a lawful script stay lawful as lines are added.
-use Rattle.std.proofs.Common.{◌≡◌, ℕ, ◌+◌, ◌^◌, ◌<◌, ◌≤◌, ℤ, pos, negsuc, neg_ℤ, ◌≤ℤ◌, Bool, true, false, ◌==◌, ◌||◌, nat_eq, nat_lt, List, [], ◌∷◌, ◌++◌, length, map, get_or, refl, sym, ap, ◌∙◌, subst, arith, ◌⊎◌, inl, inr}
-use Rattle.std.specs.List.{All, AllByRecursion, IsDistinct}
+use Rattle.std.proofs.Common.{◌≡◌, ℕ, ◌+◌, ◌^◌, ◌<◌, ◌≤◌, ℤ, pos, negsuc, neg_ℤ, ◌≤ℤ◌, true, false, ◌==◌, ◌||◌, nat_eq, List, [], ◌∷◌, ◌++◌, length, map, get_or, refl, sym, ap, ◌∙◌, subst, arith, ◌⊎◌, inl, inr}
+use Rattle.std.specs.List.{All, AllByRecursion, IsDistinct, list_any}
 use Rattle.std.specs.List.Sorted.{IsStrictlySortedBy, IsNonDecreasingBy}
 use Rattle.std.specs.Cmp.{IsTotalOrder}
 use Rattle.std.specs.Ordering.{match_ordering, ordering_reverse}
 use Rattle.std.specs.declared.cmp.Ordering.{Ordering}
 use Rattle.std.specs.declared.cmp.Ordering.TheVariants.{Less, Equal, Greater}
+use Rattle.std.proofs.lemmas.Bool.{cases_lt}
 use Rattle.std.proofs.lemmas.Bool.Decides.{nat_tests}
-use Rattle.std.proofs.lemmas.Cmp.{lists_total, then_total, on_total, nat_list_cmp_total}
+use Rattle.std.proofs.lemmas.Cmp.{lists_total, nat_eq_equiv, then_total, on_total, nat_list_cmp_total}
 use Rattle.std.proofs.lemmas.Int.{ints}
 use Rattle.std.proofs.lemmas.List.{length-append, get_or_at, get_or_append_left, map-append}
-use Rattle.reading_core.proofs.Parsed.{true_or_false}
+use Rattle.std.proofs.lemmas.Map.Keys.{IsDistinct-push}
 use Rattle.label_sets.specs.Labels.{compare_sets}
 use Rattle.label_sets.specs.declared.label.Label.{Label}
 use Rattle.label_sets.specs.declared.series.Series.{Series}
 use Rattle.script_core.specs.declared.block.Block.{Block}
-use Rattle.script_core.specs.declared.phase.Phase.{Phase}
+use Rattle.script_workers.specs.declared.phase.Phase.{Phase}
 use Rattle.script_core.specs.Values.{is_time}
 use Rattle.script_core.specs.State.{insert_series}
-use Rattle.script_core.specs.Works.{declares}
+use Rattle.script_core.specs.Blocks.{declares}
 
 -- ---- ends of lists
 
@@ -87,29 +88,22 @@ sorted_insert [] new sorted = (tt, tt)
 sorted_insert (first ∷ series) new sorted =
     sorted_by series new first (compare_sets new.labels first.labels) refl sorted (sorted_insert series new sorted.1)
 
-pub neither : (a b : Bool) → (a || b) ≡ false → (a ≡ false) × (b ≡ false)
-neither true b h = absurd cc
-neither false b h = (refl, h)
-
 -- ---- ULIDs
 
 abbrev pub ulids_of : List Block → List ℕ
 ulids_of blocks = map (λ (block : Block). block.ulid) blocks
 
-fresh_each : (blocks : List Block) (ulid : ℕ) (new : ℕ) → AllByRecursion (λ y. nat_eq ulid y ≡ false) (ulids_of blocks) → nat_eq ulid new ≡ false → AllByRecursion (λ y. nat_eq ulid y ≡ false) (ulids_of blocks ++ new ∷ [])
-fresh_each [] ulid new all other = (other, tt)
-fresh_each (block ∷ blocks) ulid new all other = (all.0, fresh_each blocks ulid new all.1 other)
-
-distinct_push : (blocks : List Block) (new : ℕ) → IsDistinct nat_eq (ulids_of blocks) → declares blocks new ≡ false → IsDistinct nat_eq (ulids_of blocks ++ new ∷ [])
-unfolding IsDistinct
-distinct_push [] new once fresh = (tt, tt)
-distinct_push (block ∷ blocks) new once fresh =
-    let parts = neither (block.ulid == new) (declares blocks new) fresh in
-    (fresh_each blocks block.ulid new once.0 parts.0, distinct_push blocks new once.1 parts.1)
+-- the test of a declared ULID, as that of a member
+declared_among : (blocks : List Block) (ulid : ℕ) → list_any (nat_eq ulid) (ulids_of blocks) ≡ declares blocks ulid
+declared_among [] ulid = refl
+declared_among (block ∷ blocks) ulid =
+    let same : nat_eq ulid block.ulid ≡ (block.ulid == ulid) = grind (arith, nat_tests) in
+    λ i. same i || declared_among blocks ulid i
 
 pub once_push : (blocks : List Block) (block : Block) → IsDistinct nat_eq (ulids_of blocks) → declares blocks block.ulid ≡ false → IsDistinct nat_eq (ulids_of (blocks ++ block ∷ []))
 once_push blocks block once fresh =
-    subst (IsDistinct nat_eq) (sym (map-append (λ (b : Block). b.ulid) blocks (block ∷ []))) (distinct_push blocks block.ulid once fresh)
+    subst (IsDistinct nat_eq) (sym (map-append (λ (b : Block). b.ulid) blocks (block ∷ [])))
+    (IsDistinct-push nat_eq_equiv (ulids_of blocks) block.ulid once (declared_among blocks block.ulid ∙ fresh))
 
 pub same_ulids : (blocks : List Block) (one other : Block) → one.ulid ≡ other.ulid → ulids_of (blocks ++ one ∷ []) ≡ ulids_of (blocks ++ other ∷ [])
 same_ulids blocks one other same =
@@ -136,26 +130,24 @@ to_new phases new moments later i d inside =
 
 to_last : (phases : List Phase) (new : Phase) → Moments phases → ((others : List Phase) (last : Phase) → phases ≡ others ++ last ∷ [] → last.moment.ms ≤ new.moment.ms) → (i : ℕ) (d : Phase) → i ≤ length phases → (get_or (phases ++ new ∷ []) i d).moment.ms ≤ new.moment.ms
 to_last phases new moments later i d inside =
-    elim (true_or_false (nat_lt i (length phases))) [
-      | inl test ↦
-          let within : i < length phases = grind (arith, nat_tests) in
+    elim (cases_lt i (length phases)) [
+      | inl within ↦
           subst (λ (p : Phase). p.moment.ms ≤ new.moment.ms) (sym (get_or_append_left phases (new ∷ []) d i within)) (to_new phases new moments later i d within)
       | inr past ↦
-          let at_end : length phases ≡ i = grind (arith, nat_tests) in
+          let at_end : length phases ≡ i = omega (arith, past) in
           subst (λ (p : Phase). p.moment.ms ≤ new.moment.ms) (sym (get_or_at phases new [] d i at_end)) (omega arith)
     ]
 
 -- one more phase, not sooner than the last
 pub moments_push : (phases : List Phase) (new : Phase) → Moments phases → ((others : List Phase) (last : Phase) → phases ≡ others ++ last ∷ [] → last.moment.ms ≤ new.moment.ms) → Moments (phases ++ new ∷ [])
 moments_push phases new moments later i j d below inside =
-    elim (true_or_false (nat_lt j (length phases))) [
-      | inl test ↦
-          let within : j < length phases = grind (arith, nat_tests) in
+    elim (cases_lt j (length phases)) [
+      | inl within ↦
           let first : i < length phases = omega arith in
           subst (λ (p : Phase). p.moment.ms ≤ (get_or (phases ++ new ∷ []) j d).moment.ms) (sym (get_or_append_left phases (new ∷ []) d i first)) (subst (λ (p : Phase). (get_or phases i d).moment.ms ≤ p.moment.ms) (sym (get_or_append_left phases (new ∷ []) d j within)) (moments i j d below within))
       | inr past ↦
           let size = length-append phases (new ∷ []) in
-          let at_end : length phases ≡ j = grind (arith, nat_tests) in
+          let at_end : length phases ≡ j = omega (arith, past) in
           let last_is : get_or (phases ++ new ∷ []) j d ≡ new = get_or_at phases new [] d j at_end in
           subst (λ (p : Phase). (get_or (phases ++ new ∷ []) i d).moment.ms ≤ p.moment.ms) (sym last_is) (to_last phases new moments later i d (omega arith))
     ]

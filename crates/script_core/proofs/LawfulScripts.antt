@@ -1,43 +1,43 @@
 -- What is spelled is lawful.
-use Rattle.std.proofs.Common.{◌≡◌, ◌≢◌, ℕ, ◌+◌, ◌%◌, ◌^◌, ◌<◌, ◌≤◌, ℤ, Bool, true, false, cond, nat_eq, nat_lt, List, [], ◌∷◌, ◌++◌, length, map, get_or, Some, None, refl, sym, ap, ◌∙◌, subst, arith, inl, inr, append_assoc, append-nil}
+use Rattle.std.proofs.Common.{◌≡◌, ◌≢◌, ℕ, ◌+◌, ◌%◌, ◌^◌, ◌<◌, ◌≤◌, ℤ, Bool, true, false, cond, nat_eq, nat_lt, List, [], ◌∷◌, ◌++◌, length, get_or, Some, None, refl, sym, ap, ◌∙◌, subst, arith, inl, inr, append_assoc, append-nil}
 use Rattle.std.specs.Bool.{MatchBool}
 use Rattle.std.specs.List.{All, IsDistinct, position_or_len}
-use Rattle.std.specs.List.Sorted.{IsStrictlySortedBy, IsNonDecreasingBy}
+use Rattle.std.specs.List.Sorted.{IsNonDecreasingBy}
 use Rattle.std.specs.Str.{IsUtf8, is_utf8, bytes_eq}
+use Rattle.std.proofs.lemmas.Bool.{cases_lt}
 use Rattle.std.proofs.lemmas.Bool.Decides.{nat_tests}
-use Rattle.std.proofs.lemmas.List.{length-append, get_or_at, get_or_append_left}
+use Rattle.std.proofs.lemmas.List.{length-append, get_or_at, get_or_append_left, same_from_push}
 use Rattle.std.proofs.lemmas.List.Elements.{All-nil, All-push, All-weaker}
 use Rattle.std.proofs.lemmas.Str.{IsUtf8-from_is_utf8}
-use Rattle.reading_core.proofs.Parsed.{true_or_false}
 use Rattle.label_sets.specs.Labels.{compare_sets}
 use Rattle.label_sets.specs.declared.sample.Sample.{Sample}
 use Rattle.label_sets.specs.declared.series.Series.{Series}
 use Rattle.moment_core.specs.declared.rules.Rules.{Rules}
+use Rattle.list_core.proofs.Order.{sorted_nil}
 use Rattle.script_core.specs.declared.block.Block.{Block}
 use Rattle.script_core.specs.declared.body.Body.TheVariants.{Inline}
-use Rattle.script_core.specs.declared.phase.Phase.{Phase}
+use Rattle.script_workers.specs.declared.phase.Phase.{Phase}
 use Rattle.script_core.specs.declared.rule_name.RuleName.{RuleName}
 use Rattle.script_core.specs.declared.rule_name.RuleName.TheVariants as names
 use Rattle.script_core.specs.declared.script.Script.{Script}
-use Rattle.script_core.specs.declared.task.Task.{Task}
-use Rattle.script_core.specs.declared.work.Work.{Work}
-use Rattle.script_core.specs.declared.work.Work.TheVariants.{Upload, Sync, Query}
+use Rattle.script_workers.specs.declared.task.Task.{Task}
+use Rattle.script_workers.specs.declared.work.Work.{Work}
+use Rattle.script_workers.specs.declared.work.Work.TheVariants.{Upload, Sync, Query}
 use Rattle.script_core.specs.Fields.{lines_of, is_silent, is_name}
-use Rattle.script_core.specs.Hands.{gateway_count, hands_of, hands_from}
+use Rattle.script_workers.specs.Hands.{gateway_count, hands_of, hands_from}
 use Rattle.script_core.specs.State.{gateway_named}
 use Rattle.script_core.specs.Values.{with_rule, agree}
-use Rattle.script_core.specs.Works.{works_in, works_of, has_sync}
+use Rattle.script_workers.specs.Works.{works_in, works_of, has_sync}
 use Rattle.script_core.specs.Lawful.{AreLawfulRules, AreLawfulLabels, HasLawfulSamples, IsLawfulInline, HasSeries, IsLawfulBlock, AreLawfulBlocks, IsLawfulWork, IsLawfulPhase, AreLawfulPhases, IsLawfulScript}
 use Rattle.script_core.specs.Spelling as spelling
-use Rattle.script_core.specs.Spelling.{SoFar, HasEnded, IsRuleText, AreSampleFields, RuleLine, GatewayLine, BlockLine, SeriesLine, AtLine, AddsTask, UploadLine, SyncLine, QueryLine, Says, Say, Spells}
+use Rattle.script_core.specs.Spelling.{SoFar, HasEnded, IsValueText, AreSampleFields, RuleLine, GatewayLine, BlockLine, SeriesLine, AtLine, AddsTask, UploadLine, SyncLine, QueryLine, Says, Say, Spells}
 use Rattle.script_core.proofs.Kept.{works_of-append, works_of-more}
-use Rattle.script_core.proofs.LineTools.{snoc_is, no_end}
+use Rattle.script_core.proofs.LineTools.{no_end}
 use Rattle.script_core.proofs.LawfulLabels.{block_labels, series_labels, small_patterns}
 use Rattle.script_core.proofs.LawfulParts.{ends, All-front, All-last, once_push, same_ulids, ulids_of, moments_push}
-use Rattle.script_core.proofs.ValueLaws.{rule_with}
-use Rattle.script_core.proofs.SpelledValues.{free_tested, agree_tested, rise_tested, within_tested}
+use Rattle.script_core.proofs.SpelledValues.{free_tested, agree_tested, within_tested}
 use Rattle.script_core.proofs.SpelledSeries.{each_placed}
-use Rattle.script_core.proofs.SpelledHands.{few_counted}
+use Rattle.script_workers.proofs.HandLaws.{few_counted}
 use Rattle.script_core.proofs.SpelledRules.{rule_set}
 
 -- what is lawful so far: all but the last block have series
@@ -68,14 +68,14 @@ early_phases gateways blocks selectors phases early =
 
 -- ---- rules, gateways and blocks
 
-lawful_rule : (set : Rules) (word text : List ℕ) (name : RuleName) (value : ℕ) → IsRuleText word text name value → AreLawfulRules set → AreLawfulRules (with_rule set (rule_with name value))
-lawful_rule set word text names.Consistency value is lawful = record { consistency = is.1.at_most; ignore = lawful.ignore; delete = lawful.delete; partial = lawful.partial; upload = lawful.upload; tick = lawful.tick; page_limit_low = lawful.page_limit_low; page_limit_high = lawful.page_limit_high; replicas = lawful.replicas }
-lawful_rule set word text names.Ignore value is lawful = record { consistency = lawful.consistency; ignore = is.1.at_most; delete = lawful.delete; partial = lawful.partial; upload = lawful.upload; tick = lawful.tick; page_limit_low = lawful.page_limit_low; page_limit_high = lawful.page_limit_high; replicas = lawful.replicas }
-lawful_rule set word text names.Delete value is lawful = record { consistency = lawful.consistency; ignore = lawful.ignore; delete = is.1.at_most; partial = lawful.partial; upload = lawful.upload; tick = lawful.tick; page_limit_low = lawful.page_limit_low; page_limit_high = lawful.page_limit_high; replicas = lawful.replicas }
-lawful_rule set word text names.Partial value is lawful = record { consistency = lawful.consistency; ignore = lawful.ignore; delete = lawful.delete; partial = is.1.at_most; upload = lawful.upload; tick = lawful.tick; page_limit_low = lawful.page_limit_low; page_limit_high = lawful.page_limit_high; replicas = lawful.replicas }
-lawful_rule set word text names.Upload value is lawful = record { consistency = lawful.consistency; ignore = lawful.ignore; delete = lawful.delete; partial = lawful.partial; upload = is.1.at_most; tick = lawful.tick; page_limit_low = lawful.page_limit_low; page_limit_high = lawful.page_limit_high; replicas = lawful.replicas }
-lawful_rule set word text names.Tick value is lawful = record { consistency = lawful.consistency; ignore = lawful.ignore; delete = lawful.delete; partial = lawful.partial; upload = lawful.upload; tick = is.2; page_limit_low = lawful.page_limit_low; page_limit_high = lawful.page_limit_high; replicas = lawful.replicas }
-lawful_rule set word text names.PageLimit value is lawful = record { consistency = lawful.consistency; ignore = lawful.ignore; delete = lawful.delete; partial = lawful.partial; upload = lawful.upload; tick = lawful.tick; page_limit_low = is.2; page_limit_high = is.3; replicas = lawful.replicas }
+lawful_rule : (name : RuleName) (text : List ℕ) (value : ℕ) (rules : Rules) → IsValueText name text value → AreLawfulRules rules → AreLawfulRules (with_rule name value rules)
+lawful_rule names.Consistency text value rules is lawful = record { consistency = is.at_most; ignore = lawful.ignore; delete = lawful.delete; partial = lawful.partial; upload = lawful.upload; tick = lawful.tick; page_limit_low = lawful.page_limit_low; page_limit_high = lawful.page_limit_high; replicas = lawful.replicas }
+lawful_rule names.Ignore text value rules is lawful = record { consistency = lawful.consistency; ignore = is.at_most; delete = lawful.delete; partial = lawful.partial; upload = lawful.upload; tick = lawful.tick; page_limit_low = lawful.page_limit_low; page_limit_high = lawful.page_limit_high; replicas = lawful.replicas }
+lawful_rule names.Delete text value rules is lawful = record { consistency = lawful.consistency; ignore = lawful.ignore; delete = is.at_most; partial = lawful.partial; upload = lawful.upload; tick = lawful.tick; page_limit_low = lawful.page_limit_low; page_limit_high = lawful.page_limit_high; replicas = lawful.replicas }
+lawful_rule names.Partial text value rules is lawful = record { consistency = lawful.consistency; ignore = lawful.ignore; delete = lawful.delete; partial = is.at_most; upload = lawful.upload; tick = lawful.tick; page_limit_low = lawful.page_limit_low; page_limit_high = lawful.page_limit_high; replicas = lawful.replicas }
+lawful_rule names.Upload text value rules is lawful = record { consistency = lawful.consistency; ignore = lawful.ignore; delete = lawful.delete; partial = lawful.partial; upload = is.at_most; tick = lawful.tick; page_limit_low = lawful.page_limit_low; page_limit_high = lawful.page_limit_high; replicas = lawful.replicas }
+lawful_rule names.Tick text value rules is lawful = record { consistency = lawful.consistency; ignore = lawful.ignore; delete = lawful.delete; partial = lawful.partial; upload = lawful.upload; tick = is.1; page_limit_low = lawful.page_limit_low; page_limit_high = lawful.page_limit_high; replicas = lawful.replicas }
+lawful_rule names.PageLimit text value rules is lawful = record { consistency = lawful.consistency; ignore = lawful.ignore; delete = lawful.delete; partial = lawful.partial; upload = lawful.upload; tick = lawful.tick; page_limit_low = is.1; page_limit_high = is.2; replicas = lawful.replicas }
 
 -- with the last block complete, all blocks are
 all_full : (blocks : List Block) → ((others : List Block) (block : Block) → blocks ≡ others ++ block ∷ [] → All (λ (b : Block). HasSeries b.body) others) → HasEnded blocks → All (λ (b : Block). HasSeries b.body) blocks
@@ -85,10 +85,6 @@ all_full blocks full ended =
       | inr more ↦ subst (All (λ (b : Block). HasSeries b.body)) (sym more.2) (All-push (λ (b : Block). HasSeries b.body) more.0 more.1 (full more.0 more.1 more.2) (ended more.0 more.1 more.2))
     ]
 
-none_sorted : IsStrictlySortedBy compare_sets (map (λ (one : Series). one.labels) [])
-unfolding IsStrictlySortedBy
-none_sorted = tt
-
 some_samples : (texts : List (List ℕ)) (samples : List Sample) → texts ≢ [] → AreSampleFields texts samples → samples ≢ []
 some_samples [] samples some are none = some refl
 some_samples (text ∷ texts) [] some are none = are
@@ -97,7 +93,7 @@ some_samples (text ∷ texts) (sample ∷ samples) some are none = cc
 module _ (before after : SoFar) (line : List ℕ) (order : InOrder before) where
   rule_in_order : RuleLine before line after → InOrder after
   rule_in_order says = subst InOrder (sym says.adds) (record {
-    rules = subst AreLawfulRules (sym (rule_set says.name says.value before.script.rules says.set says.sets)) (lawful_rule before.script.rules says.word says.text says.name says.value says.is_rule order.rules);
+    rules = subst AreLawfulRules (sym (rule_set says.name says.value before.script.rules says.set says.sets)) (lawful_rule says.name says.text says.value before.script.rules says.is_value order.rules);
     agreed = λ some. absurd (some says.early);
     few_gateways = order.few_gateways;
     names = order.names;
@@ -127,7 +123,7 @@ module _ (before after : SoFar) (line : List ℕ) (order : InOrder before) where
       let new : Block = record { ulid = says.ulid; labels = says.labels; body = Inline says.min_time says.max_time [] } in
       let size = length-append before.script.blocks (new ∷ []) in
       let few = says.few in
-      let inline : IsLawfulInline says.min_time says.max_time [] = record { early = says.is_min.near.early; ascend = says.times; late = says.is_max.near.late; labels = All-nil (λ (one : Series). AreLawfulLabels one.labels); ordered = none_sorted; samples = All-nil (HasLawfulSamples says.min_time says.max_time) } in
+      let inline : IsLawfulInline says.min_time says.max_time [] = record { early = says.is_min.near.early; ascend = says.times; late = says.is_max.near.late; labels = All-nil (λ (one : Series). AreLawfulLabels one.labels); ordered = sorted_nil compare_sets; samples = All-nil (HasLawfulSamples says.min_time says.max_time) } in
       subst InOrder (sym says.adds) (record {
         rules = order.rules;
         agreed = order.agreed;
@@ -143,7 +139,7 @@ module _ (before after : SoFar) (line : List ℕ) (order : InOrder before) where
           });
           once = once_push before.script.blocks new order.blocks.once says.new;
         };
-        full = λ others block is. subst (All (λ (b : Block). HasSeries b.body)) (snoc_is before.script.blocks others new block is).0 (all_full before.script.blocks order.full ended);
+        full = λ others block is. subst (All (λ (b : Block). HasSeries b.body)) (same_from_push before.script.blocks others new block is).0 (all_full before.script.blocks order.full ended);
         phases = early_phases before.script.gateways _ (length before.script.selectors) before.script.phases says.early;
         early = λ e. says.early;
       })
@@ -167,7 +163,7 @@ module _ (before after : SoFar) (line : List ℕ) (order : InOrder before) where
         ordered = says.ascend;
         samples = each_placed (HasLawfulSamples says.min_time says.max_time) says.lesser says.greater new old.body.samples (record {
           some = some_samples says.texts says.samples says.some says.are_samples;
-          rising = rise_tested says.samples says.rising;
+          rising = says.rising;
           within = within_tested says.min_time says.max_time says.samples says.within;
           patterns = small_patterns says.texts says.samples says.are_samples;
         });
@@ -182,7 +178,7 @@ module _ (before after : SoFar) (line : List ℕ) (order : InOrder before) where
           each = All-push IsLawfulBlock says.others more (All-front IsLawfulBlock says.others last each) (record { ulid = old.ulid; not_reserved = old.not_reserved; labels = old.labels; body = inline });
           once = subst (IsDistinct nat_eq) (ap ulids_of says.last ∙ same_ulids says.others last more refl) order.blocks.once;
         };
-        full = λ others block is. subst (All (λ (b : Block). HasSeries b.body)) (snoc_is says.others others more block is).0 (order.full says.others last says.last);
+        full = λ others block is. subst (All (λ (b : Block). HasSeries b.body)) (same_from_push says.others others more block is).0 (order.full says.others last says.last);
         phases = early_phases before.script.gateways _ (length before.script.selectors) before.script.phases early;
         early = λ e. early;
       })
@@ -210,13 +206,12 @@ phase_in_order gateways blocks selectors phases phase lawful none below later =
 -- phases whose last has another list of tasks have the same moments
 same_moment : (others : List Phase) (one other : Phase) → one.moment.ms ≡ other.moment.ms → (i : ℕ) (d : Phase) → i < length (others ++ one ∷ []) → (get_or (others ++ one ∷ []) i d).moment.ms ≡ (get_or (others ++ other ∷ []) i d).moment.ms
 same_moment others one other same i d inside =
-    elim (true_or_false (nat_lt i (length others))) [
-      | inl test ↦
-          let within : i < length others = grind (arith, nat_tests) in
+    elim (cases_lt i (length others)) [
+      | inl within ↦
           ap (λ (p : Phase). p.moment.ms) (get_or_append_left others (one ∷ []) d i within ∙ sym (get_or_append_left others (other ∷ []) d i within))
       | inr past ↦
           let size = length-append others (one ∷ []) in
-          let at_end : length others ≡ i = grind (arith, nat_tests) in
+          let at_end : length others ≡ i = omega (arith, past) in
           ap (λ (p : Phase). p.moment.ms) (get_or_at others one [] d i at_end) ∙ same ∙ ap (λ (p : Phase). p.moment.ms) (sym (get_or_at others other [] d i at_end))
     ]
 
@@ -232,11 +227,11 @@ sync_by : (gateways : ℕ) (works : List Work) (work : Work) → ((before after 
 sync_by gateways works work old new before after low high selector gateway is inside =
     elim (ends after) [
       | inl none ↦
-          let p = snoc_is works before work (Query low high selector) (is ∙ ap (λ rest. before ++ Query low high selector ∷ rest) none) in
+          let p = same_from_push works before work (Query low high selector) (is ∙ ap (λ rest. before ++ Query low high selector ∷ rest) none) in
           subst (λ (ws : List Work). has_sync ws gateway ≡ true) p.0 (new low high selector gateway p.1 inside)
       | inr more ↦
           let regrouped : before ++ Query low high selector ∷ after ≡ (before ++ Query low high selector ∷ more.0) ++ more.1 ∷ [] = ap (λ rest. before ++ Query low high selector ∷ rest) more.2 ∙ sym (append_assoc before (Query low high selector ∷ more.0) (more.1 ∷ [])) in
-          let p = snoc_is works (before ++ Query low high selector ∷ more.0) work more.1 (is ∙ regrouped) in
+          let p = same_from_push works (before ++ Query low high selector ∷ more.0) work more.1 (is ∙ regrouped) in
           old before more.0 low high selector gateway p.0 inside
     ]
 

@@ -1,4 +1,3 @@
-pub mod HandLists
 pub mod SeriesLists
 pub mod Finishing
 pub mod LineLists
@@ -9,8 +8,6 @@ pub mod Kept
 pub mod LineTools
 pub mod SpelledValues
 pub mod SpelledSeries
-pub mod SpelledHands
-pub mod StaffLaws
 pub mod SeatLaws
 pub mod SpelledRules
 pub mod FoundSetup

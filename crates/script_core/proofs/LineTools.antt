@@ -1,36 +1,31 @@
 -- What the laws of lines share: first words, what follows them, ends of lists, and the ends of blocks.
-use Rattle.std.proofs.Common.{◌≡◌, ◌≢◌, ℕ, Bool, true, false, not, ◌==◌, ◌&&◌, cond, List, [], ◌∷◌, ◌++◌, length, Option, Some, None, is_none, Result, Ok, Err, refl, sym, ap, ◌∙◌, subst, arith, ◌⊎◌, inl, inr, codes}
+use Rattle.std.proofs.Common.{◌≡◌, ◌≢◌, ℕ, true, false, not, ◌==◌, ◌&&◌, List, [], ◌∷◌, ◌++◌, length, Option, Some, None, is_none, Result, Ok, refl, sym, ap, ◌∙◌, subst, arith, codes}
 use Rattle.std.specs.Str.{bytes_eq}
 use Rattle.std.proofs.lemmas.Bool.Decides.{nat_tests}
-use Rattle.std.proofs.lemmas.List.{length-append}
-use Rattle.std.proofs.lemmas.Slice.Eq.{bytes_eq-Decides}
-use Rattle.reading_core.specs.Reading.{◌>>◌, unless}
-use Rattle.reading_core.proofs.Binds.{unless_ok, ok_is}
-use Rattle.reading_core.proofs.Decimals.{both}
+use Rattle.std.proofs.lemmas.List.{same_from_push}
+use Rattle.std.proofs.lemmas.List.Elements.{All-contains, All-from_recursion}
+use Rattle.std.proofs.lemmas.Map.Views.{Contains-from_lookup}
+use Rattle.std.specs.List.{All}
+use Rattle.std.specs.Map.{lookup}
+use Rattle.reading_core.proofs.Binds.{unless_ok, ok_is, unless_is}
+use Rattle.std.proofs.lemmas.Bool.{and_parts, not-true, not_from_false}
+use Rattle.list_core.proofs.Bools.{bytes_eq-same}
+use Rattle.list_core.proofs.Lists.{nil_not_middle, some-from_length, length-some}
 use Rattle.script_core.specs.declared.block.Block.{Block}
 use Rattle.script_core.specs.declared.cause.LineCause.TheVariants.{BadShape}
 use Rattle.script_core.specs.declared.line_kind.LineKind.{LineKind}
 use Rattle.script_core.specs.declared.line_kind.LineKind.TheVariants as kinds
-use Rattle.script_core.specs.declared.phase.Phase.{Phase}
+use Rattle.script_workers.specs.declared.phase.Phase.{Phase}
 use Rattle.script_core.specs.declared.rule_name.RuleName.{RuleName}
 use Rattle.script_core.specs.declared.rule_name.RuleName.TheVariants as names
-use Rattle.script_core.specs.Fields.{is_empty, next_field, only_field, line_kind, rule_name}
+use Rattle.script_core.specs.Fields.{is_empty, next_field, only_field, line_words, rule_words, line_kind, rule_name}
 use Rattle.script_core.specs.State.{Last, block_of, all_blocks, all_phases, has_ended}
-use Rattle.label_sets.specs.declared.series.Series.{Series}
 use Rattle.script_core.specs.Lawful.{HasSeries}
-use Rattle.script_core.specs.Spelling.{IsField, HasEnded}
+use Rattle.script_core.specs.Spelling.{IsField, rule_word, HasEnded}
 use Rattle.script_core.proofs.FieldLaws.{no_space, Cut, cut_nothing, cut_whole, cut_front, cut_found, cut_last}
-use Rattle.script_core.proofs.ValueLaws.{is_none_is, rule_word}
+use Rattle.script_core.proofs.ValueLaws.{is_none_is}
 
 -- ---- steps
-
-pub unless_is : {E : Type 0} (b : Bool) (e : E) → unless b e ≡ Ok tt → b ≡ true
-unless_is true e h = refl
-unless_is false e h = absurd cc
-
-pub then_ok : {A B E : Type 0} (r : Result A E) (s : Result B E) (y : B) → (r >> s) ≡ Ok y → (x : A) × (r ≡ Ok x) × (s ≡ Ok y)
-then_ok (Ok x) s y h = (x, refl, h)
-then_ok (Err e) s y h = absurd cc
 
 -- there is one unit
 pub unit_is : {E : Type 0} (x : Unit {0}) → ◌≡◌ {A = Result (Unit {0}) E} (Ok x) (Ok tt)
@@ -69,7 +64,7 @@ only_found left field h =
     let first = (next_field left).0 in
     let rest = (next_field left).1 in
     let a = unless_ok (not (is_empty first) && is_none rest) BadShape (Ok first) field h in
-    let tests = both (not (is_empty first)) (is_none rest) a.0 in
+    let tests = and_parts (not (is_empty first)) (is_none rest) a.0 in
     let end = cut_end left first rest (cut_found left) (is_none_is rest tests.1) tests.0 in
     let same : first ≡ field = ok_is first field a.1 in
     (end.0 ∙ ap Some same, subst IsField same (is_field first tests.0 end.1))
@@ -90,101 +85,52 @@ line_word kinds.Upload = codes "upload"
 line_word kinds.Sync = codes "sync"
 line_word kinds.Query = codes "query"
 
-pub same_bytes : (xs ys : List ℕ) → bytes_eq xs ys ≡ true → xs ≡ ys
-same_bytes xs ys e = grind (arith, nat_tests, bytes_eq-Decides)
-
-chosen_by : {K : Type 0} (word text : List ℕ) (kind found : K) (later : Option K) (b : Bool) → bytes_eq word text ≡ b → cond b (Some kind) later ≡ Some found → ((word ≡ text) × (kind ≡ found)) ⊎ (later ≡ Some found)
-chosen_by word text kind found later true same h = inl (same_bytes word text same, cc)
-chosen_by word text kind found later false same h = inr h
-
--- the first entry of a table, or a later one
-chosen : {K : Type 0} (word text : List ℕ) (kind found : K) (later : Option K) → cond (bytes_eq word text) (Some kind) later ≡ Some found → ((word ≡ text) × (kind ≡ found)) ⊎ (later ≡ Some found)
-chosen word text kind found later h = chosen_by word text kind found later (bytes_eq word text) refl h
+-- what is found in a table of words has the word that was sought
+word_found : {K : Type 0} (word_of : K → List ℕ) (table : List (List ℕ × K)) (word : List ℕ) (found : K) → All (λ (e : List ℕ × K). e.0 ≡ word_of e.1) table → lookup (bytes_eq word) table ≡ Some found → word ≡ word_of found
+word_found {K} word_of table word found all h =
+    All-contains (λ (e : List ℕ × K). e.0 ≡ word_of e.1) table (word, found) all (Contains-from_lookup bytes_eq-same word found table h)
 
 pub kind_found : (word : List ℕ) (found : LineKind) → line_kind word ≡ Some found → word ≡ line_word found
-kind_found word found h0 =
-    elim (chosen word (codes "rule") kinds.Rule found (cond (bytes_eq word (codes "gateway")) (Some kinds.Gateway) (cond (bytes_eq word (codes "block")) (Some kinds.Block) (cond (bytes_eq word (codes "series")) (Some kinds.Series) (cond (bytes_eq word (codes "at")) (Some kinds.At) (cond (bytes_eq word (codes "upload")) (Some kinds.Upload) (cond (bytes_eq word (codes "sync")) (Some kinds.Sync) (cond (bytes_eq word (codes "query")) (Some kinds.Query) None))))))) h0) [ inl p0 ↦ p0.0 ∙ ap line_word p0.1 | inr h1 ↦ elim (chosen word (codes "gateway") kinds.Gateway found (cond (bytes_eq word (codes "block")) (Some kinds.Block) (cond (bytes_eq word (codes "series")) (Some kinds.Series) (cond (bytes_eq word (codes "at")) (Some kinds.At) (cond (bytes_eq word (codes "upload")) (Some kinds.Upload) (cond (bytes_eq word (codes "sync")) (Some kinds.Sync) (cond (bytes_eq word (codes "query")) (Some kinds.Query) None)))))) h1) [ inl p1 ↦ p1.0 ∙ ap line_word p1.1 | inr h2 ↦ elim (chosen word (codes "block") kinds.Block found (cond (bytes_eq word (codes "series")) (Some kinds.Series) (cond (bytes_eq word (codes "at")) (Some kinds.At) (cond (bytes_eq word (codes "upload")) (Some kinds.Upload) (cond (bytes_eq word (codes "sync")) (Some kinds.Sync) (cond (bytes_eq word (codes "query")) (Some kinds.Query) None))))) h2) [ inl p2 ↦ p2.0 ∙ ap line_word p2.1 | inr h3 ↦ elim (chosen word (codes "series") kinds.Series found (cond (bytes_eq word (codes "at")) (Some kinds.At) (cond (bytes_eq word (codes "upload")) (Some kinds.Upload) (cond (bytes_eq word (codes "sync")) (Some kinds.Sync) (cond (bytes_eq word (codes "query")) (Some kinds.Query) None)))) h3) [ inl p3 ↦ p3.0 ∙ ap line_word p3.1 | inr h4 ↦ elim (chosen word (codes "at") kinds.At found (cond (bytes_eq word (codes "upload")) (Some kinds.Upload) (cond (bytes_eq word (codes "sync")) (Some kinds.Sync) (cond (bytes_eq word (codes "query")) (Some kinds.Query) None))) h4) [ inl p4 ↦ p4.0 ∙ ap line_word p4.1 | inr h5 ↦ elim (chosen word (codes "upload") kinds.Upload found (cond (bytes_eq word (codes "sync")) (Some kinds.Sync) (cond (bytes_eq word (codes "query")) (Some kinds.Query) None)) h5) [ inl p5 ↦ p5.0 ∙ ap line_word p5.1 | inr h6 ↦ elim (chosen word (codes "sync") kinds.Sync found (cond (bytes_eq word (codes "query")) (Some kinds.Query) None) h6) [ inl p6 ↦ p6.0 ∙ ap line_word p6.1 | inr h7 ↦ elim (chosen word (codes "query") kinds.Query found None h7) [ inl p7 ↦ p7.0 ∙ ap line_word p7.1 | inr h8 ↦ absurd cc ] ] ] ] ] ] ] ]
+kind_found word found =
+    word_found line_word line_words word found (All-from_recursion (λ (e : List ℕ × LineKind). e.0 ≡ line_word e.1) line_words (refl, (refl, (refl, (refl, (refl, (refl, (refl, (refl, tt)))))))))
 
 pub name_found : (word : List ℕ) (found : RuleName) → rule_name word ≡ Some found → word ≡ rule_word found
-name_found word found h0 =
-    elim (chosen word (codes "consistency-delay") names.Consistency found (cond (bytes_eq word (codes "ignore-delay")) (Some names.Ignore) (cond (bytes_eq word (codes "delete-delay")) (Some names.Delete) (cond (bytes_eq word (codes "partial-delay")) (Some names.Partial) (cond (bytes_eq word (codes "upload-limit")) (Some names.Upload) (cond (bytes_eq word (codes "tick")) (Some names.Tick) (cond (bytes_eq word (codes "page-limit")) (Some names.PageLimit) None)))))) h0) [ inl p0 ↦ p0.0 ∙ ap rule_word p0.1 | inr h1 ↦ elim (chosen word (codes "ignore-delay") names.Ignore found (cond (bytes_eq word (codes "delete-delay")) (Some names.Delete) (cond (bytes_eq word (codes "partial-delay")) (Some names.Partial) (cond (bytes_eq word (codes "upload-limit")) (Some names.Upload) (cond (bytes_eq word (codes "tick")) (Some names.Tick) (cond (bytes_eq word (codes "page-limit")) (Some names.PageLimit) None))))) h1) [ inl p1 ↦ p1.0 ∙ ap rule_word p1.1 | inr h2 ↦ elim (chosen word (codes "delete-delay") names.Delete found (cond (bytes_eq word (codes "partial-delay")) (Some names.Partial) (cond (bytes_eq word (codes "upload-limit")) (Some names.Upload) (cond (bytes_eq word (codes "tick")) (Some names.Tick) (cond (bytes_eq word (codes "page-limit")) (Some names.PageLimit) None)))) h2) [ inl p2 ↦ p2.0 ∙ ap rule_word p2.1 | inr h3 ↦ elim (chosen word (codes "partial-delay") names.Partial found (cond (bytes_eq word (codes "upload-limit")) (Some names.Upload) (cond (bytes_eq word (codes "tick")) (Some names.Tick) (cond (bytes_eq word (codes "page-limit")) (Some names.PageLimit) None))) h3) [ inl p3 ↦ p3.0 ∙ ap rule_word p3.1 | inr h4 ↦ elim (chosen word (codes "upload-limit") names.Upload found (cond (bytes_eq word (codes "tick")) (Some names.Tick) (cond (bytes_eq word (codes "page-limit")) (Some names.PageLimit) None)) h4) [ inl p4 ↦ p4.0 ∙ ap rule_word p4.1 | inr h5 ↦ elim (chosen word (codes "tick") names.Tick found (cond (bytes_eq word (codes "page-limit")) (Some names.PageLimit) None) h5) [ inl p5 ↦ p5.0 ∙ ap rule_word p5.1 | inr h6 ↦ elim (chosen word (codes "page-limit") names.PageLimit found None h6) [ inl p6 ↦ p6.0 ∙ ap rule_word p6.1 | inr h7 ↦ absurd cc ] ] ] ] ] ] ]
+name_found word found =
+    word_found rule_word rule_words word found (All-from_recursion (λ (e : List ℕ × RuleName). e.0 ≡ rule_word e.1) rule_words (refl, (refl, (refl, (refl, (refl, (refl, (refl, tt))))))))
 
 pub kind_again : (kind : LineKind) → line_kind (line_word kind) ≡ Some kind
 kind_again kinds.Rule = refl
-kind_again kinds.Gateway = refl
-kind_again kinds.Block = refl
-kind_again kinds.Series = refl
-kind_again kinds.At = refl
-kind_again kinds.Upload = refl
-kind_again kinds.Sync = refl
-kind_again kinds.Query = refl
+kind_again kind = refl
 
 pub word_free : (kind : LineKind) → no_space (line_word kind) ≡ true
 word_free kinds.Rule = refl
-word_free kinds.Gateway = refl
-word_free kinds.Block = refl
-word_free kinds.Series = refl
-word_free kinds.At = refl
-word_free kinds.Upload = refl
-word_free kinds.Sync = refl
-word_free kinds.Query = refl
+word_free kind = refl
 
 pub name_again : (name : RuleName) → rule_name (rule_word name) ≡ Some name
 name_again names.Consistency = refl
-name_again names.Ignore = refl
-name_again names.Delete = refl
-name_again names.Partial = refl
-name_again names.Upload = refl
-name_again names.Tick = refl
-name_again names.PageLimit = refl
+name_again name = refl
 
 pub name_free : (name : RuleName) → no_space (rule_word name) ≡ true
 name_free names.Consistency = refl
-name_free names.Ignore = refl
-name_free names.Delete = refl
-name_free names.Partial = refl
-name_free names.Upload = refl
-name_free names.Tick = refl
-name_free names.PageLimit = refl
+name_free name = refl
 
 -- ---- ends of lists
 
-not_empty : {A : Type 0} (xs : List A) (x : A) → [] ≡ xs ++ x ∷ [] → ⊥
-not_empty xs x e = omega (arith, ap length e, length-append xs (x ∷ []))
-
 pub no_end : {A : Type 0} (xs : List A) (x : A) → xs ++ x ∷ [] ≡ [] → ⊥
-no_end xs x e = not_empty xs x (sym e)
-
--- a list has one last member
-pub snoc_is : {A : Type 0} (xs ys : List A) (x y : A) → xs ++ x ∷ [] ≡ ys ++ y ∷ [] → (xs ≡ ys) × (x ≡ y)
-snoc_is [] [] x y e = (refl, cc)
-snoc_is [] (z ∷ ys) x y e = let tail : [] ≡ ys ++ y ∷ [] = cc in absurd (not_empty ys y tail)
-snoc_is (z ∷ xs) [] x y e = let tail : xs ++ x ∷ [] ≡ [] = cc in absurd (no_end xs x tail)
-snoc_is (z ∷ xs) (w ∷ ys) x y e =
-    let tail : xs ++ x ∷ [] ≡ ys ++ y ∷ [] = cc in
-    let head : z ≡ w = cc in
-    let p = snoc_is xs ys x y tail in
-    ((λ i. head i ∷ p.0 i), p.1)
+no_end xs x e = nil_not_middle x xs [] (sym e)
 
 -- ---- the last block and the last phase
 
-no_series : (series_count : ℕ) → not (series_count == 0) ≡ true → series_count ≡ 0 → ⊥
-no_series n some none = grind (arith, nat_tests)
-
-some_series : (series : List Series) → series ≢ [] → not (length series == 0) ≡ true
-some_series [] some = absurd (some refl)
-some_series (one ∷ series) some = grind (arith, nat_tests)
-
 ended_by : (last : Last) → last.series ≢ [] → has_ended (Some last) ≡ Ok tt
-ended_by last some = let test : not (length last.series == 0) ≡ true = some_series last.series some in rw test refl
+ended_by last some = let test : not (length last.series == 0) ≡ true = not_from_false (length last.series == 0) (length-some last.series some) in rw test refl
 
 pub ended_found : (blocks : List Block) (last : Option Last) → (last ≡ None → blocks ≡ []) → has_ended last ≡ Ok tt → HasEnded (all_blocks blocks last)
-ended_found blocks None first h = λ others block is. absurd (not_empty others block (sym (first refl) ∙ is))
+ended_found blocks None first h = λ others block is. absurd (nil_not_middle block others [] (sym (first refl) ∙ is))
 ended_found blocks (Some last) first h =
     let test = unless_is (not (length last.series == 0)) _ h in
     λ others block is.
-    let same : block_of last ≡ block = (snoc_is blocks others (block_of last) block is).1 in
-    subst (λ (b : Block). HasSeries b.body) same (λ e. no_series (length last.series) test (ap length e))
+    let same : block_of last ≡ block = (same_from_push blocks others (block_of last) block is).1 in
+    subst (λ (b : Block). HasSeries b.body) same (some-from_length last.series (not-true (length last.series == 0) test))
 
 pub ended_again : (blocks : List Block) (last : Option Last) → HasEnded (all_blocks blocks last) → has_ended last ≡ Ok tt
 ended_again blocks None ended = refl
@@ -200,6 +146,6 @@ early_again phases (Some phase) early = absurd (no_end phases phase early)
 
 -- the last phase
 pub last_phase : (phases : List Phase) (phase : Option Phase) (others : List Phase) (last : Phase) → (phase ≡ None → phases ≡ []) → all_phases phases phase ≡ others ++ last ∷ [] → (phase ≡ Some last) × (phases ≡ others)
-last_phase phases None others last first is = absurd (not_empty others last (sym (first refl) ∙ is))
+last_phase phases None others last first is = absurd (nil_not_middle last others [] (sym (first refl) ∙ is))
 last_phase phases (Some phase) others last first is =
-    let same = snoc_is phases others phase last is in (ap Some same.1, same.0)
+    let same = same_from_push phases others phase last is in (ap Some same.1, same.0)

@@ -5,12 +5,13 @@ use Rattle.std.specs.List.Sorted.{IsStrictlySortedBy}
 use Rattle.std.specs.Ordering.{is_eq, match_ordering, ordering_reverse}
 use Rattle.std.specs.declared.cmp.Ordering.{Ordering}
 use Rattle.std.specs.declared.cmp.Ordering.TheVariants.{Less, Equal, Greater}
+use Rattle.std.proofs.lemmas.Bool.{or_parts}
 use Rattle.std.proofs.lemmas.List.Elements.{All-cons, All-head, All-tail}
 use Rattle.label_sets.specs.Labels.{compare_sets}
 use Rattle.label_sets.specs.declared.label.Label.{Label}
 use Rattle.label_sets.specs.declared.series.Series.{Series}
 use Rattle.script_core.specs.State.{has_series, insert_series}
-use Rattle.script_core.proofs.LawfulParts.{labels_of, sets_total, neither}
+use Rattle.script_core.proofs.LawfulParts.{labels_of, sets_total}
 
 -- where a new series stands, and the list that comes of it
 pub record Placed (series : List Series) (new : Series) (more : List Series) : Type 0 where
@@ -28,7 +29,7 @@ place_by series new first Greater other later =
 pub place_spelled : (series : List Series) (new : Series) → has_series series new.labels ≡ false → Placed series new (insert_series series new)
 place_spelled [] new fresh = record { lesser = []; greater = []; parted = refl; put = refl }
 place_spelled (first ∷ series) new fresh =
-    let parts = neither (is_eq (compare_sets new.labels first.labels)) (has_series series new.labels) fresh in
+    let parts = or_parts (is_eq (compare_sets new.labels first.labels)) (has_series series new.labels) fresh in
     place_by series new first (compare_sets new.labels first.labels) parts.0 (place_spelled series new parts.1)
 
 -- a fact on each label set holds of the one in the middle
@@ -39,23 +40,17 @@ at_middle P (first ∷ lesser) greater new all = at_middle P lesser greater new 
 above : (first new : Series) → compare_sets first.labels new.labels ≡ Less → compare_sets new.labels first.labels ≡ Greater
 above first new below = sets_total.antisymm new.labels first.labels ∙ ap ordering_reverse below
 
-put_after : (series : List Series) (new first : Series) (o : Ordering) → o ≡ Greater → match_ordering o (new ∷ first ∷ series) (record first { samples = new.samples } ∷ series) (first ∷ insert_series series new) ≡ first ∷ insert_series series new
-put_after series new first Less is = absurd cc
-put_after series new first Equal is = absurd cc
-put_after series new first Greater is = refl
-
-put_before : (series : List Series) (new first : Series) (o : Ordering) → o ≡ Less → match_ordering o (new ∷ first ∷ series) (record first { samples = new.samples } ∷ series) (first ∷ insert_series series new) ≡ new ∷ first ∷ series
-put_before series new first Less is = refl
-put_before series new first Equal is = absurd cc
-put_before series new first Greater is = absurd cc
+abbrev placed_by : List Series → Series → Series → Ordering → List Series
+placed_by series new first o =
+    match_ordering o (new ∷ first ∷ series) (record first { samples = new.samples } ∷ series) (first ∷ insert_series series new)
 
 pub place_inserted : (lesser greater : List Series) (new : Series) → IsStrictlySortedBy compare_sets (labels_of (lesser ++ new ∷ greater)) → insert_series (lesser ++ greater) new ≡ lesser ++ new ∷ greater
 unfolding IsStrictlySortedBy
 place_inserted [] [] new sorted = refl
 place_inserted [] (first ∷ greater) new sorted =
-    put_before greater new first (compare_sets new.labels first.labels) sorted.0.0
+    ap (placed_by greater new first) sorted.0.0
 place_inserted (first ∷ lesser) greater new sorted =
-    put_after (lesser ++ greater) new first (compare_sets new.labels first.labels) (above first new (at_middle (λ y. compare_sets first.labels y ≡ Less) lesser greater new sorted.0))
+    ap (placed_by (lesser ++ greater) new first) (above first new (at_middle (λ y. compare_sets first.labels y ≡ Less) lesser greater new sorted.0))
     ∙ ap (λ s. first ∷ s) (place_inserted lesser greater new sorted.1)
 
 no_equal : (o : Ordering) (b : Bool) → o ≡ Less → b ≡ false → (is_eq o || b) ≡ false

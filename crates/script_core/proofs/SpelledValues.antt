@@ -1,5 +1,5 @@
 -- The reader's tests, in the words of the grammar.
-use Rattle.std.proofs.Common.{◌≡◌, ℕ, ◌+◌, ◌-◌, ◌^◌, ◌<◌, ◌≤◌, ℤ, pos, negsuc, ◌≤ℤ◌, Bool, true, false, not, ◌&&◌, cond, nat_le, leb-true, int_lt, List, [], ◌∷◌, map, Result, Ok, Err, refl, sym, ap, ◌∙◌, arith, inl, inr, codes}
+use Rattle.std.proofs.Common.{◌≡◌, ℕ, ◌+◌, ◌-◌, ◌^◌, ◌<◌, ◌≤◌, ℤ, pos, negsuc, ◌≤ℤ◌, Bool, true, false, not, ◌&&◌, cond, nat_le, leb-true, int_lt, List, [], ◌∷◌, Result, Ok, Err, refl, sym, ap, ◌∙◌, arith, inl, inr, codes}
 use Rattle.std.specs.Cmp.{int_cmp_total}
 use Rattle.std.specs.List.{All, AllByRecursion}
 use Rattle.std.specs.List.Sorted.{IsStrictlySortedBy}
@@ -10,19 +10,18 @@ use Rattle.std.proofs.lemmas.Bool.Decides.{nat_tests}
 use Rattle.std.proofs.lemmas.Int.{ints}
 use Rattle.std.proofs.lemmas.List.Elements.{All-nil, All-cons, All-head, All-tail}
 use Rattle.reading_core.proofs.Binds.{ok_is}
-use Rattle.reading_core.proofs.Decimals.{both}
+use Rattle.std.proofs.lemmas.Bool.{and_parts, not-true}
 use Rattle.label_sets.specs.declared.sample.Sample.{Sample}
 use Rattle.matchers.specs.Selectors.{is_metric_name, metric_matcher, read_selector}
 use Rattle.matchers.specs.declared.matcher.Matcher.{Matcher}
 use Rattle.matchers.specs.declared.selector_refusal.SelectorRefusal.{SelectorRefusal}
 use Rattle.matchers.specs.declared.selector_refusal.SelectorRefusal.TheVariants.{NotBuilt}
 use Rattle.moment_core.specs.declared.rules.Rules.{Rules}
-use Rattle.script_core.specs.Samples.{is_within, are_within, rise_after, are_rising}
+use Rattle.list_core.proofs.Bools.{bytes_eq-same}
+use Rattle.script_core.specs.Samples.{is_within, are_within, times_of, rise_after, are_rising}
 use Rattle.script_core.specs.Values.{is_time, agree}
-use Rattle.script_core.specs.Spelling.{IsNear, TimesRise, IsWithin, IsSelectorText, DoAgree}
+use Rattle.script_core.specs.Spelling.{IsNear, IsWithin, IsSelectorText, DoAgree}
 use Rattle.script_core.proofs.LawfulParts.{near_low, near_high}
-use Rattle.script_core.proofs.LineTools.{same_bytes}
-use Rattle.script_core.proofs.ValueLaws.{not_is}
 
 -- ---- times and ULIDs
 
@@ -57,27 +56,27 @@ above_all [] one other below all = tt
 above_all (first ∷ times) one other below all =
     (int_cmp_total.trans one other first below all.0, above_all times one other below all.1)
 
-rise_from : (last : Sample) (samples : List Sample) → rise_after last samples ≡ true → TimesRise (last ∷ samples)
+rise_from : (last : Sample) (samples : List Sample) → rise_after last samples ≡ true → IsStrictlySortedBy int_cmp (times_of (last ∷ samples))
 unfolding IsStrictlySortedBy
 rise_from last [] h = (tt, tt)
 rise_from last (sample ∷ samples) h =
-    let parts = both (int_lt last.time sample.time) (rise_after sample samples) h in
+    let parts = and_parts (int_lt last.time sample.time) (rise_after sample samples) h in
     let later = rise_from sample samples parts.1 in
     let below = below_compared last.time sample.time parts.0 in
-    ((below, above_all (map (λ (s : Sample). s.time) samples) last.time sample.time below later.0), later)
+    ((below, above_all (times_of samples) last.time sample.time below later.0), later)
 
-pub rise_spelled : (samples : List Sample) → are_rising samples ≡ true → TimesRise samples
+pub rise_spelled : (samples : List Sample) → are_rising samples ≡ true → IsStrictlySortedBy int_cmp (times_of samples)
 unfolding IsStrictlySortedBy
 rise_spelled [] h = tt
 rise_spelled (sample ∷ samples) h = rise_from sample samples h
 
-rise_after_tested : (last : Sample) (samples : List Sample) → TimesRise (last ∷ samples) → rise_after last samples ≡ true
+rise_after_tested : (last : Sample) (samples : List Sample) → IsStrictlySortedBy int_cmp (times_of (last ∷ samples)) → rise_after last samples ≡ true
 unfolding IsStrictlySortedBy
 rise_after_tested last [] h = refl
 rise_after_tested last (sample ∷ samples) h =
     let below = compared_below last.time sample.time h.0.0 in rw below (rise_after_tested sample samples h.1)
 
-pub rise_tested : (samples : List Sample) → TimesRise samples → are_rising samples ≡ true
+pub rise_tested : (samples : List Sample) → IsStrictlySortedBy int_cmp (times_of samples) → are_rising samples ≡ true
 rise_tested [] h = refl
 rise_tested (sample ∷ samples) h = rise_after_tested sample samples h
 
@@ -85,15 +84,15 @@ rise_tested (sample ∷ samples) h = rise_after_tested sample samples h
 
 one_within : (first last : ℤ) (sample : Sample) → is_within first last sample ≡ true → IsWithin first last sample
 one_within first last sample h =
-    let parts = both (not (int_lt sample.time first)) (int_lt sample.time last) h in
-    let low : int_lt sample.time first ≡ false = not_is (int_lt sample.time first) parts.0 in
+    let parts = and_parts (not (int_lt sample.time first)) (int_lt sample.time last) h in
+    let low : int_lt sample.time first ≡ false = not-true (int_lt sample.time first) parts.0 in
     let high : int_lt sample.time last ≡ true = parts.1 in
     record { from = grind (arith, ints); below = grind (arith, ints) }
 
 pub within_spelled : (first last : ℤ) (samples : List Sample) → are_within first last samples ≡ true → All (IsWithin first last) samples
 within_spelled first last [] h = All-nil (IsWithin first last)
 within_spelled first last (sample ∷ samples) h =
-    let parts = both (is_within first last sample) (are_within first last samples) h in
+    let parts = and_parts (is_within first last sample) (are_within first last samples) h in
     All-cons (IsWithin first last) sample samples (one_within first last sample parts.0) (within_spelled first last samples parts.1)
 
 not_before : (first time : ℤ) → first ≤ℤ time → int_lt time first ≡ false
@@ -115,8 +114,8 @@ within_tested first last (sample ∷ samples) all =
 
 pub agree_spelled : (set : Rules) → agree set ≡ true → DoAgree set
 agree_spelled set h =
-    let all = both (nat_le set.upload.ms set.partial.ms && nat_le (set.upload.ms + 1000) set.delete.ms) (nat_le set.ignore.ms set.delete.ms) h in
-    let two = both (nat_le set.upload.ms set.partial.ms) (nat_le (set.upload.ms + 1000) set.delete.ms) all.0 in
+    let all = and_parts (nat_le set.upload.ms set.partial.ms && nat_le (set.upload.ms + 1000) set.delete.ms) (nat_le set.ignore.ms set.delete.ms) h in
+    let two = and_parts (nat_le set.upload.ms set.partial.ms) (nat_le (set.upload.ms + 1000) set.delete.ms) all.0 in
     record { partial = leb-true _ _ two.0; delete = leb-true _ _ two.1; ignore = leb-true _ _ all.1 }
 
 le_tested : (a b : ℕ) → a ≤ b → nat_le a b ≡ true
@@ -133,7 +132,7 @@ agree_tested set is =
 
 selector_by : (text : List ℕ) (selector : List Matcher) (empty metric : Bool) → bytes_eq text (codes "{}") ≡ empty → is_metric_name text ≡ metric → cond {A = Result (List Matcher) SelectorRefusal} empty (Ok []) (cond metric (Ok (metric_matcher text ∷ [])) (Err NotBuilt)) ≡ Ok selector → IsSelectorText text selector
 unfolding metric_matcher
-selector_by text selector true metric is name h = inl (same_bytes text (codes "{}") is, sym (ok_is _ _ h))
+selector_by text selector true metric is name h = inl (bytes_eq-same text (codes "{}") is, sym (ok_is _ _ h))
 selector_by text selector false true is name h = inr (name, sym (ok_is _ _ h))
 selector_by text selector false false is name h = absurd cc
 
@@ -147,7 +146,7 @@ no_braces = refl
 
 metric_by : (text : List ℕ) (empty : Bool) → bytes_eq text (codes "{}") ≡ empty → is_metric_name text ≡ true → cond {A = Result (List Matcher) SelectorRefusal} empty (Ok []) (cond (is_metric_name text) (Ok (metric_matcher text ∷ [])) (Err NotBuilt)) ≡ Ok (metric_matcher text ∷ [])
 metric_by text true is name =
-    let none : is_metric_name text ≡ false = ap is_metric_name (same_bytes text (codes "{}") is) ∙ no_braces in absurd cc
+    let none : is_metric_name text ≡ false = ap is_metric_name (bytes_eq-same text (codes "{}") is) ∙ no_braces in absurd cc
 metric_by text false is name = rw name refl
 
 braces_read : read_selector (codes "{}") ≡ Ok []

@@ -1,11 +1,11 @@
 -- The values of fields are read from their texts, and from no others.
-use Rattle.std.proofs.Common.{◌≡◌, ℕ, ◌^◌, ◌<◌, ◌≤◌, ℤ, pos, negsuc, leb-true, Bool, true, false, not, ◌&&◌, nat_le, List, Option, Some, None, is_none, option_map, ok_or, Ok, refl, sym, ap, ◌∙◌, subst, arith, codes}
+use Rattle.std.proofs.Common.{◌≡◌, ℕ, ◌^◌, ◌<◌, ◌≤◌, ℤ, pos, negsuc, leb-true, true, ◌&&◌, nat_le, List, Option, Some, None, is_none, option_map, Ok, refl, sym, ap, ◌∙◌, subst, arith}
 use Rattle.std.specs.Int.{w64}
 use Rattle.std.specs.Int.RustNames.{FitsSigned}
 use Rattle.std.proofs.lemmas.Bool.Decides.{nat_tests}
 use Rattle.reading_core.specs.Decimal.{decimal_text, signed_text, unsigned_of, signed_of}
-use Rattle.reading_core.proofs.Binds.{bind_ok, unless_ok, ok_is, refused_as_ok}
-use Rattle.reading_core.proofs.Decimals.{both}
+use Rattle.reading_core.proofs.Binds.{bind_ok, unless_ok, ok_is, refused_as_ok, ok_or_ok}
+use Rattle.std.proofs.lemmas.Bool.{and_parts}
 use Rattle.reading_core.proofs.Parsed.{unsigned_again, unsigned_found}
 use Rattle.reading_core.proofs.ParsedSigned.{signed_again, signed_found}
 use Rattle.moment_core.proofs.MomentLaws.{moment_of-found, moment_of-only}
@@ -17,24 +17,14 @@ use Rattle.moment_core.specs.declared.span.Span.{Span}
 use Rattle.ulid_core.proofs.UlidLaws.{ulid_of-found, ulid_of-only}
 use Rattle.ulid_core.specs.UlidText.{IsUlidText}
 use Rattle.script_core.specs.declared.cause.LineCause.TheVariants.{BadNumber}
-use Rattle.script_core.specs.declared.rule.Rule.{Rule}
-use Rattle.script_core.specs.declared.rule.Rule.TheVariants as rules
 use Rattle.script_core.specs.declared.rule_name.RuleName.{RuleName}
 use Rattle.script_core.specs.declared.rule_name.RuleName.TheVariants as names
-use Rattle.script_core.specs.Values.{is_time, time_field, page_limit_field, span_from, span_field, tick_field, moment_from, moment_field, ulid_field, rule_of}
-use Rattle.script_core.specs.Spelling.{IsRuleText}
-
-pub ok_or_ok : {A E : Type 0} (o : Option A) (e : E) (x : A) → ok_or o e ≡ Ok x → o ≡ Some x
-ok_or_ok None e x h = absurd cc
-ok_or_ok (Some y) e x h = cc
+use Rattle.script_core.specs.Values.{is_time, time_field, page_limit_field, span_from, span_field, tick_field, moment_from, moment_field, ulid_field, value_field}
+use Rattle.script_core.specs.Spelling.{IsValueText}
 
 pub is_none_is : {A : Type 0} (o : Option A) → is_none o ≡ true → o ≡ None
 is_none_is None h = refl
 is_none_is (Some x) h = absurd cc
-
-pub not_is : (b : Bool) → not b ≡ true → b ≡ false
-not_is true h = sym h
-not_is false h = refl
 
 some_from : {A B : Type 0} (f : A → B) (o : Option A) (y : B) → option_map f o ≡ Some y → (x : A) × (o ≡ Some x) × (f x ≡ y)
 some_from f None y h = absurd cc
@@ -92,7 +82,7 @@ page_limit_found text limit h =
     let a = bind_ok _ _ _ h in
     let b = unless_ok (nat_le 1 a.0 && nat_le a.0 10_000) BadNumber _ _ a.2 in
     let same : a.0 ≡ limit = ok_is _ _ b.1 in
-    let tests = both (nat_le 1 a.0) (nat_le a.0 10_000) b.0 in
+    let tests = and_parts (nat_le 1 a.0) (nat_le a.0 10_000) b.0 in
     let low : 1 ≤ a.0 = leb-true 1 a.0 tests.0 in
     let high : a.0 ≤ 10_000 = leb-true a.0 10_000 tests.1 in
     ((unsigned_found text a.0 (refused_as_ok _ _ _ a.1)).0 ∙ ap decimal_text same, omega (arith, same), omega (arith, same))
@@ -126,90 +116,17 @@ ulid_again text ulid is = rw (ulid_of-only text ulid is) refl
 
 -- ---- rules
 
-abbrev pub rule_word : RuleName → List ℕ
-rule_word names.Consistency = codes "consistency-delay"
-rule_word names.Ignore = codes "ignore-delay"
-rule_word names.Delete = codes "delete-delay"
-rule_word names.Partial = codes "partial-delay"
-rule_word names.Upload = codes "upload-limit"
-rule_word names.Tick = codes "tick"
-rule_word names.PageLimit = codes "page-limit"
-
--- the name and the value of a rule that was read
-abbrev pub kind_of : Rule → RuleName
-kind_of (rules.Consistency span) = names.Consistency
-kind_of (rules.Ignore span) = names.Ignore
-kind_of (rules.Delete span) = names.Delete
-kind_of (rules.Partial span) = names.Partial
-kind_of (rules.Upload span) = names.Upload
-kind_of (rules.Tick span) = names.Tick
-kind_of (rules.PageLimit limit) = names.PageLimit
-
-abbrev pub amount_of : Rule → ℕ
-amount_of (rules.Consistency span) = span.ms
-amount_of (rules.Ignore span) = span.ms
-amount_of (rules.Delete span) = span.ms
-amount_of (rules.Partial span) = span.ms
-amount_of (rules.Upload span) = span.ms
-amount_of (rules.Tick span) = span.ms
-amount_of (rules.PageLimit limit) = limit
-
-abbrev pub rule_with : RuleName → ℕ → Rule
-rule_with names.Consistency value = rules.Consistency (span_from value)
-rule_with names.Ignore value = rules.Ignore (span_from value)
-rule_with names.Delete value = rules.Delete (span_from value)
-rule_with names.Partial value = rules.Partial (span_from value)
-rule_with names.Upload value = rules.Upload (span_from value)
-rule_with names.Tick value = rules.Tick (span_from value)
-rule_with names.PageLimit value = rules.PageLimit value
-
-abbrev pub RuleFound : RuleName → List ℕ → Rule → Type 0
-RuleFound name text rule = (kind_of rule ≡ name) × IsRuleText (rule_word name) text name (amount_of rule)
-
-pub rule_found : (name : RuleName) (text : List ℕ) (rule : Rule) → rule_of name text ≡ Ok rule → RuleFound name text rule
-unfolding rule_of
-rule_found names.Consistency text rule h =
+pub value_found : (name : RuleName) (text : List ℕ) (value : ℕ) → value_field name text ≡ Ok value → IsValueText name text value
+unfolding value_field
+value_found names.PageLimit text value h = page_limit_found text value h
+value_found names.Tick text value h =
     let a = bind_ok _ _ _ h in
-    let is : RuleFound names.Consistency text (rules.Consistency a.0) = (refl, (refl, span_found text a.0 a.1)) in
-    subst (RuleFound names.Consistency text) (ok_is _ _ a.2) is
-rule_found names.Ignore text rule h =
-    let a = bind_ok _ _ _ h in
-    let is : RuleFound names.Ignore text (rules.Ignore a.0) = (refl, (refl, span_found text a.0 a.1)) in
-    subst (RuleFound names.Ignore text) (ok_is _ _ a.2) is
-rule_found names.Delete text rule h =
-    let a = bind_ok _ _ _ h in
-    let is : RuleFound names.Delete text (rules.Delete a.0) = (refl, (refl, span_found text a.0 a.1)) in
-    subst (RuleFound names.Delete text) (ok_is _ _ a.2) is
-rule_found names.Partial text rule h =
-    let a = bind_ok _ _ _ h in
-    let is : RuleFound names.Partial text (rules.Partial a.0) = (refl, (refl, span_found text a.0 a.1)) in
-    subst (RuleFound names.Partial text) (ok_is _ _ a.2) is
-rule_found names.Upload text rule h =
-    let a = bind_ok _ _ _ h in
-    let is : RuleFound names.Upload text (rules.Upload a.0) = (refl, (refl, span_found text a.0 a.1)) in
-    subst (RuleFound names.Upload text) (ok_is _ _ a.2) is
-rule_found names.Tick text rule h =
-    let a = bind_ok _ _ _ h in
-    let tick = tick_found text a.0 a.1 in
-    let is : RuleFound names.Tick text (rules.Tick a.0) = (refl, (refl, tick.0, tick.1)) in
-    subst (RuleFound names.Tick text) (ok_is _ _ a.2) is
-rule_found names.PageLimit text rule h =
-    let a = bind_ok _ _ _ h in
-    let limit = page_limit_found text a.0 a.1 in
-    let is : RuleFound names.PageLimit text (rules.PageLimit a.0) = (refl, (refl, limit.0, limit.1, limit.2)) in
-    subst (RuleFound names.PageLimit text) (ok_is _ _ a.2) is
+    subst (IsValueText names.Tick text) (ok_is _ _ a.2) (tick_found text a.0 a.1)
+value_found name text value h =
+    let a = bind_ok _ _ _ h in subst (IsSpanText text) (ok_is _ _ a.2) (span_found text a.0 a.1)
 
--- a rule that is read from its text
-pub record RuleAgain (word text : List ℕ) (name : RuleName) (value : ℕ) : Type 0 where
-  pub word_is : word ≡ rule_word name
-  pub read : rule_of name text ≡ Ok (rule_with name value)
-
-pub rule_again : (word text : List ℕ) (name : RuleName) (value : ℕ) → IsRuleText word text name value → RuleAgain word text name value
-unfolding rule_of
-rule_again word text names.Consistency value is = record { word_is = is.0; read = rw (span_again text (span_from value) is.1) refl }
-rule_again word text names.Ignore value is = record { word_is = is.0; read = rw (span_again text (span_from value) is.1) refl }
-rule_again word text names.Delete value is = record { word_is = is.0; read = rw (span_again text (span_from value) is.1) refl }
-rule_again word text names.Partial value is = record { word_is = is.0; read = rw (span_again text (span_from value) is.1) refl }
-rule_again word text names.Upload value is = record { word_is = is.0; read = rw (span_again text (span_from value) is.1) refl }
-rule_again word text names.Tick value is = record { word_is = is.0; read = rw (tick_again text (span_from value) is.1 is.2) refl }
-rule_again word text names.PageLimit value is = record { word_is = is.0; read = rw (page_limit_again text value is.1 is.2 is.3) refl }
+pub value_again : (name : RuleName) (text : List ℕ) (value : ℕ) → IsValueText name text value → value_field name text ≡ Ok value
+unfolding value_field
+value_again names.PageLimit text value is = page_limit_again text value is.0 is.1 is.2
+value_again names.Tick text value is = rw (tick_again text (span_from value) is.0 is.1) refl
+value_again name text value is = rw (span_again text (span_from value) is) refl

@@ -12,11 +12,17 @@ use Rattle.script_core.specs.declared.line_kind.LineKind.TheVariants as kinds
 use Rattle.script_core.specs.declared.rule_name.RuleName.{RuleName}
 use Rattle.script_core.specs.declared.rule_name.RuleName.TheVariants as names
 
+abbrev pub newline : ℕ
+newline = 10
+
+abbrev pub space : ℕ
+space = 32
+
 abbrev pub is_newline : ℕ → Bool
-is_newline b = b == 10
+is_newline b = b == newline
 
 abbrev pub is_space : ℕ → Bool
-is_space b = b == 32
+is_space b = b == space
 
 -- The lines of a text. A newline ends a line, so after the last one an empty line is left, which says nothing.
 abbrev pub lines_of : List ℕ → List (List ℕ)

@@ -2,6 +2,7 @@
 use Rattle.std.specs.Prelude.{◌≡◌, ◌≢◌, ℕ, ◌^◌, ◌<◌, ◌≤◌, ℤ, pos, neg_ℤ, ◌<ℤ◌, ◌≤ℤ◌, List, [], ◌∷◌, ◌++◌, length, map, IsTrue, IsFalse, nat_eq}
 use Rattle.std.specs.List.{All, IsDistinct}
 use Rattle.std.specs.List.Sorted.{IsStrictlySortedBy, IsNonDecreasingBy}
+use Rattle.std.specs.Ordering.{int_cmp}
 use Rattle.std.specs.Str.{IsUtf8}
 use Rattle.label_sets.specs.Labels.{IsLabelSet, compare_sets}
 use Rattle.label_sets.specs.SetText.{AreNamed}
@@ -11,15 +12,16 @@ use Rattle.moment_core.specs.declared.rules.Rules.{Rules}
 use Rattle.script_core.specs.declared.block.Block.{Block}
 use Rattle.script_core.specs.declared.body.Body.{Body}
 use Rattle.script_core.specs.declared.body.Body.TheVariants.{Inline}
-use Rattle.script_core.specs.declared.phase.Phase.{Phase}
+use Rattle.script_workers.specs.declared.phase.Phase.{Phase}
 use Rattle.script_core.specs.declared.script.Script.{Script}
-use Rattle.script_core.specs.declared.work.Work.{Work}
-use Rattle.script_core.specs.declared.work.Work.TheVariants.{Upload, Sync, Query}
+use Rattle.script_workers.specs.declared.work.Work.{Work}
+use Rattle.script_workers.specs.declared.work.Work.TheVariants.{Upload, Sync, Query}
 use Rattle.script_core.specs.Fields.{is_name}
 use Rattle.script_core.specs.Values.{is_reserved, agree}
-use Rattle.script_core.specs.Samples.{are_rising, are_within}
-use Rattle.script_core.specs.Hands.{gateway_count, hands_of}
-use Rattle.script_core.specs.Works.{works_of, has_sync, declares}
+use Rattle.script_core.specs.Samples.{times_of, are_within}
+use Rattle.script_workers.specs.Hands.{gateway_count, hands_of}
+use Rattle.script_workers.specs.Works.{works_of, has_sync}
+use Rattle.script_core.specs.Blocks.{declares}
 
 -- spans of at most 2^46 milliseconds, a tick of at most a day, and pages of 1 to 10,000 names
 pub record AreLawfulRules (rules : Rules) : Type 0 where
@@ -42,7 +44,7 @@ pub record AreLawfulLabels (labels : List Label) : Type 0 where
 -- a series with samples, whose times rise within a range, each with a pattern of 64 bits
 pub record HasLawfulSamples (min_time max_time : ℤ) (series : Series) : Type 0 where
   pub some : series.samples ≢ []
-  pub rising : IsTrue (are_rising series.samples)
+  pub rising : IsStrictlySortedBy int_cmp (times_of series.samples)
   pub within : IsTrue (are_within min_time max_time series.samples)
   pub patterns : All (λ s. s.pattern < 2 ^ 64) series.samples
 

@@ -14,10 +14,10 @@ use Rattle.script_core.specs.declared.line_kind.LineKind.{LineKind}
 use Rattle.script_core.specs.declared.line_kind.LineKind.TheVariants as kinds
 use Rattle.script_core.specs.declared.line_refusal.LineRefusal.{LineRefusal}
 use Rattle.script_core.specs.declared.line_refusal.LineRefusal.TheVariants.{Bad, FallingMoment, UnknownBlock, BadRules, NeverSynced}
-use Rattle.script_core.specs.declared.phase.Phase.{Phase}
-use Rattle.script_core.specs.declared.work.Work.TheVariants as works
+use Rattle.script_workers.specs.declared.phase.Phase.{Phase}
+use Rattle.script_workers.specs.declared.work.Work.TheVariants as works
 use Rattle.script_core.specs.Fields.{is_empty, next_field, only_field, after_space, is_name, rule_name}
-use Rattle.script_core.specs.Values.{time_field, moment_field, ulid_field, is_reserved, rule_of, with_rule, agree}
+use Rattle.script_core.specs.Values.{time_field, moment_field, ulid_field, is_reserved, set_rule, agree}
 use Rattle.script_core.specs.Samples.{are_whole, have_small_numbers, samples_of, are_rising}
 use Rattle.script_core.specs.State.{State, gateway_named, add_gateway, is_declared, begin_block, add_series, begin_phase, add_task, add_query, note_sync, are_all_synced}
 use Rattle.matchers.specs.Selectors.{read_selector}
@@ -40,9 +40,9 @@ rule_line st left = do
   text ← ok_or left (Bad causes.BadShape)
   name ← ok_or (rule_name (next_field (Some text)).0) (Bad causes.UnknownWord)
   value ← bad (only_field (next_field (Some text)).1)
-  rule ← bad (rule_of name value)
+  set ← bad (set_rule name value st.rules)
   unless (is_early st) (Bad causes.LateLine)
-  Ok (record st { rules = with_rule st.rules rule })
+  Ok (record st { rules = set })
 
 -- gateway NAME
 unfoldable pub gateway_line : State → Option (List ℕ) → Result State LineRefusal

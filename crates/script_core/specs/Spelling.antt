@@ -4,7 +4,7 @@
 -- script is read.
 use Rattle.std.specs.Prelude.{◌≡◌, ◌≢◌, ◌⊎◌, ℕ, ◌+◌, ◌-◌, ◌%◌, ◌^◌, ◌<◌, ◌≤◌, ℤ, pos, neg_ℤ, ◌<ℤ◌, ◌≤ℤ◌, List, [], ◌∷◌, ◌++◌, length, map, Bool, true, false, not, IsTrue, IsFalse, None, Some, All, position, codes}
 use Rattle.std.specs.Bool.{MatchBool}
-use Rattle.std.specs.List.{list_all, list_any, join_with_byte}
+use Rattle.std.specs.List.{list_all, join_with_byte}
 use Rattle.std.specs.List.Sorted.{IsStrictlySortedBy}
 use Rattle.std.specs.Ordering.{int_cmp}
 use Rattle.std.specs.Str.{is_utf8, bytes_eq}
@@ -25,25 +25,25 @@ use Rattle.moment_core.specs.declared.rules.Rules.{Rules}
 use Rattle.ulid_core.specs.UlidText.{IsUlidText}
 use Rattle.script_core.specs.declared.block.Block.{Block}
 use Rattle.script_core.specs.declared.body.Body.TheVariants.{Inline}
-use Rattle.script_core.specs.declared.phase.Phase.{Phase}
-use Rattle.script_core.specs.declared.hand.Hand.{Hand}
+use Rattle.script_workers.specs.declared.phase.Phase.{Phase}
 use Rattle.script_core.specs.declared.rule_name.RuleName.{RuleName}
 use Rattle.script_core.specs.declared.rule_name.RuleName.TheVariants as names
 use Rattle.script_core.specs.declared.script.Script.{Script}
-use Rattle.script_core.specs.declared.task.Task.{Task}
-use Rattle.script_core.specs.declared.work.Work.{Work}
-use Rattle.script_core.specs.declared.work.Work.TheVariants.{Upload, Sync, Query}
-use Rattle.script_core.specs.Fields.{lines_of, is_silent, is_space, is_name}
-use Rattle.script_core.specs.Hands.{same_hand, gateway_count}
-use Rattle.script_core.specs.Whose.{IsFor}
-use Rattle.script_core.specs.Works.{works_of, has_sync, declares}
+use Rattle.script_workers.specs.declared.work.Work.{Work}
+use Rattle.script_workers.specs.declared.work.Work.TheVariants.{Upload, Sync, Query}
+use Rattle.script_core.specs.Fields.{lines_of, is_silent, space, is_space, is_name}
+use Rattle.script_workers.specs.Hands.{gateway_count}
+use Rattle.script_workers.specs.Whose.{FewWorkers}
+use Rattle.script_workers.specs.Works.{works_of, has_sync}
+use Rattle.script_core.specs.Blocks.{declares}
 use Rattle.script_core.specs.Lawful.{HasSeries}
+use Rattle.script_core.specs.Samples.{times_of}
 
 -- ---- fields and values
 
 -- texts with one space between each and the next
 abbrev pub spaced : List (List ℕ) → List ℕ
-spaced = join_with_byte 32
+spaced = join_with_byte space
 
 -- a field: something, and no space
 pub record IsField (field : List ℕ) : Type 0 where
@@ -81,10 +81,6 @@ AreSampleFields [] (sample ∷ samples) = ⊥
 AreSampleFields (text ∷ texts) [] = ⊥
 AreSampleFields (text ∷ texts) (sample ∷ samples) = IsSampleField text sample × AreSampleFields texts samples
 
--- each time is below those after it
-abbrev pub TimesRise : List Sample → Type 0
-TimesRise samples = IsStrictlySortedBy int_cmp (map (λ sample. sample.time) samples)
-
 -- a time from the first on and below the last
 pub record IsWithin (first last : ℤ) (sample : Sample) : Type 0 where
   pub from : first ≤ℤ sample.time
@@ -98,15 +94,21 @@ IsSelectorText text selector =
 
 -- ---- rules
 
--- The word of a rule and the text of its value. Spans are in milliseconds.
-abbrev pub IsRuleText : List ℕ → List ℕ → RuleName → ℕ → Type 0
-IsRuleText word text names.Consistency value = (word ≡ codes "consistency-delay") × IsSpanText text value
-IsRuleText word text names.Ignore value = (word ≡ codes "ignore-delay") × IsSpanText text value
-IsRuleText word text names.Delete value = (word ≡ codes "delete-delay") × IsSpanText text value
-IsRuleText word text names.Partial value = (word ≡ codes "partial-delay") × IsSpanText text value
-IsRuleText word text names.Upload value = (word ≡ codes "upload-limit") × IsSpanText text value
-IsRuleText word text names.Tick value = (word ≡ codes "tick") × IsSpanText text value × (value ≤ 86_400_000)
-IsRuleText word text names.PageLimit value = (word ≡ codes "page-limit") × (text ≡ decimal_text value) × (1 ≤ value) × (value ≤ 10_000)
+-- the word by which a line names a rule
+abbrev pub rule_word : RuleName → List ℕ
+rule_word names.Consistency = codes "consistency-delay"
+rule_word names.Ignore = codes "ignore-delay"
+rule_word names.Delete = codes "delete-delay"
+rule_word names.Partial = codes "partial-delay"
+rule_word names.Upload = codes "upload-limit"
+rule_word names.Tick = codes "tick"
+rule_word names.PageLimit = codes "page-limit"
+
+-- The text of a rule's value. Spans are in milliseconds.
+abbrev pub IsValueText : RuleName → List ℕ → ℕ → Type 0
+IsValueText names.Tick text value = IsSpanText text value × (value ≤ 86_400_000)
+IsValueText names.PageLimit text value = (text ≡ decimal_text value) × (1 ≤ value) × (value ≤ 10_000)
+IsValueText name text value = IsSpanText text value
 
 -- the value of the rule with this name
 abbrev pub rule_value : RuleName → Rules → ℕ
@@ -130,21 +132,6 @@ pub record DoAgree (rules : Rules) : Type 0 where
   pub partial : rules.upload.ms ≤ rules.partial.ms
   pub delete : rules.upload.ms + 1000 ≤ rules.delete.ms
   pub ignore : rules.ignore.ms ≤ rules.delete.ms
-
--- ---- the workers of a phase
-
--- These hands are enough for the tasks, the first of which has this place: whoever has to do one of them is among the hands.
-abbrev pub AreEnough : ℕ → List Hand → ℕ → List Task → Type 0
-AreEnough gateways hands place [] = Unit {0}
-AreEnough gateways hands place (task ∷ tasks) =
-    ((hand : Hand) → IsFor gateways hand place task.work → IsTrue (list_any (same_hand hand) hands))
-    × AreEnough gateways hands (place + 1) tasks
-
--- Some 64 hands are enough.
-pub record FewWorkers (gateways : ℕ) (tasks : List Task) : Type 0 where
-  pub hands : List Hand
-  pub enough : AreEnough gateways hands 0 tasks
-  pub few : length hands ≤ 64
 
 -- ---- the script so far
 
@@ -177,13 +164,12 @@ HasEnded blocks = (others : List Block) (block : Block) → blocks ≡ others ++
 
 -- rule NAME VALUE
 pub record RuleLine (before : SoFar) (line : List ℕ) (after : SoFar) : Type 0 where
-  pub word : List ℕ
-  pub text : List ℕ
   pub name : RuleName
+  pub text : List ℕ
   pub value : ℕ
-  pub spelled : line ≡ spaced (codes "rule" ∷ word ∷ text ∷ [])
+  pub spelled : line ≡ spaced (codes "rule" ∷ rule_word name ∷ text ∷ [])
   pub field : IsField text
-  pub is_rule : IsRuleText word text name value
+  pub is_value : IsValueText name text value
   pub early : IsEarly before
   pub set : Rules
   pub sets : Sets name value before.script.rules set
@@ -231,7 +217,7 @@ pub record SeriesLine (before : SoFar) (line : List ℕ) (after : SoFar) : Type 
   pub are_labels : IsSetText labels_text labels
   pub some : texts ≢ []
   pub are_samples : AreSampleFields texts samples
-  pub rising : TimesRise samples
+  pub rising : IsStrictlySortedBy int_cmp (times_of samples)
   pub in_block : IsTrue before.in_block
   -- the last block, and its series with lesser and with greater labels, none of which has these labels
   pub others : List Block

@@ -17,16 +17,16 @@ use Rattle.script_core.specs.declared.line_refusal.LineRefusal.{LineRefusal}
 use Rattle.script_core.specs.declared.line_refusal.LineRefusal.TheVariants.{Bad, BlockChanged, TooMany}
 use Rattle.script_core.specs.declared.block.Block.{Block}
 use Rattle.script_core.specs.declared.body.Body.TheVariants.{Inline}
-use Rattle.script_core.specs.declared.phase.Phase.{Phase}
-use Rattle.script_core.specs.declared.work.Work.{Work}
-use Rattle.script_core.specs.declared.work.Work.TheVariants.{Query}
+use Rattle.script_workers.specs.declared.phase.Phase.{Phase}
+use Rattle.script_workers.specs.declared.work.Work.{Work}
+use Rattle.script_workers.specs.declared.work.Work.TheVariants.{Query}
 use Rattle.script_core.specs.declared.script.Script.{Script}
 use Rattle.script_core.specs.declared.script_refusal.ScriptRefusal.{ScriptRefusal}
 use Rattle.script_core.specs.declared.script_refusal.ScriptRefusal.TheVariants.{BadLine}
 use Rattle.script_core.specs.declared.inline_block.InlineBlock.{InlineBlock}
 use Rattle.script_core.specs.Samples.{are_within}
-use Rattle.script_core.specs.Hands.{gateway_count, with_hands}
-use Rattle.script_core.specs.declared.hand.Hand.{Hand}
+use Rattle.script_workers.specs.Hands.{gateway_count, with_hands}
+use Rattle.script_workers.specs.declared.hand.Hand.{Hand}
 
 -- the last declared block, with the number of its line
 pub record Last : Type 0 where
@@ -87,6 +87,14 @@ all_blocks blocks (Some last) = blocks ++ block_of last ∷ []
 abbrev pub all_phases : List Phase → Option Phase → List Phase
 all_phases phases None = phases
 all_phases phases (Some phase) = phases ++ phase ∷ []
+
+-- the last block joins those before it
+abbrev pub store_block : State → State
+store_block st = record st { blocks = all_blocks st.blocks st.last; last = None }
+
+-- the last phase joins those before it
+abbrev pub store_phase : State → State
+store_phase st = record st { phases = all_phases st.phases st.phase; phase = None; hands = [] }
 
 abbrev pub is_declared : State → ℕ → Bool
 is_declared st ulid = list_any (is_at (nat_cmp ulid)) st.ulids

@@ -5,8 +5,6 @@ use Rattle.reading_core.specs.Decimal.{unsigned_of, signed_of}
 use Rattle.ulid_core.specs.UlidText.{ulid_of}
 use Rattle.moment_core.specs.declared.span.Span.{Span}
 use Rattle.moment_core.specs.declared.rules.Rules.{Rules}
-use Rattle.script_core.specs.declared.rule.Rule.{Rule}
-use Rattle.script_core.specs.declared.rule.Rule.TheVariants as rules
 use Rattle.script_core.specs.declared.rule_name.RuleName.{RuleName}
 use Rattle.script_core.specs.declared.rule_name.RuleName.TheVariants as names
 use Rattle.moment_core.specs.SpanText.{span_of}
@@ -58,39 +56,31 @@ ulid_field field = refused_as (λ _. BadUlidText) (ulid_of field)
 abbrev pub is_reserved : ℕ → Bool
 is_reserved ulid = nat_le (2 ^ 80 - 2 ^ 20) (ulid % 2 ^ 80)
 
--- what a rule line sets
-unfoldable pub rule_of : RuleName → List ℕ → Result Rule LineCause
-rule_of names.Consistency value = do
-  span ← span_field value
-  Ok (rules.Consistency span)
-rule_of names.Ignore value = do
-  span ← span_field value
-  Ok (rules.Ignore span)
-rule_of names.Delete value = do
-  span ← span_field value
-  Ok (rules.Delete span)
-rule_of names.Partial value = do
-  span ← span_field value
-  Ok (rules.Partial span)
-rule_of names.Upload value = do
-  span ← span_field value
-  Ok (rules.Upload span)
-rule_of names.Tick value = do
-  span ← tick_field value
-  Ok (rules.Tick span)
-rule_of names.PageLimit value = do
-  limit ← page_limit_field value
-  Ok (rules.PageLimit limit)
+-- what a text says of a rule's value, a span by its milliseconds
+unfoldable pub value_field : RuleName → List ℕ → Result ℕ LineCause
+value_field names.PageLimit text = page_limit_field text
+value_field names.Tick text = do
+  tick ← tick_field text
+  Ok tick.ms
+value_field name text = do
+  span ← span_field text
+  Ok span.ms
 
--- a rule takes the place of what was set before
-abbrev pub with_rule : Rules → Rule → Rules
-with_rule set (rules.Consistency span) = record set { consistency = span }
-with_rule set (rules.Ignore span) = record set { ignore = span }
-with_rule set (rules.Delete span) = record set { delete = span }
-with_rule set (rules.Partial span) = record set { partial = span }
-with_rule set (rules.Upload span) = record set { upload = span }
-with_rule set (rules.Tick span) = record set { tick = span }
-with_rule set (rules.PageLimit limit) = record set { page_limit = limit }
+-- the rules with another value of one
+abbrev pub with_rule : RuleName → ℕ → Rules → Rules
+with_rule names.Consistency value rules = record rules { consistency = span_from value }
+with_rule names.Ignore value rules = record rules { ignore = span_from value }
+with_rule names.Delete value rules = record rules { delete = span_from value }
+with_rule names.Partial value rules = record rules { partial = span_from value }
+with_rule names.Upload value rules = record rules { upload = span_from value }
+with_rule names.Tick value rules = record rules { tick = span_from value }
+with_rule names.PageLimit value rules = record rules { page_limit = value }
+
+-- what a rule's name and the text of its value make of the rules
+unfoldable pub set_rule : RuleName → List ℕ → Rules → Result Rules LineCause
+set_rule name text rules = do
+  value ← value_field name text
+  Ok (with_rule name value rules)
 
 -- An upload has its time before a partial block is deleted, and a second more before a marked one is. A mark is heeded
 -- no later than it deletes.

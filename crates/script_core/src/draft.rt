@@ -1,16 +1,15 @@
 ghost use Rattle.std.specs.Prelude.{◌≤◌, length};
 
-use crate::hand::Hand;
-use crate::hands::{add_hands, gateway_count};
 use crate::inline_block::InlineBlock;
 use crate::line_refusal::LineRefusal;
 use crate::samples::are_within;
 use crate::texts::text_place;
-use crate::{BlockList, LineCause, Phase, PhaseList, Script, ScriptRefusal, Task, Work};
+use crate::{BlockList, LineCause, Script, ScriptRefusal};
 use label_sets::{LabelSet, Sample, SampleList, Text, TextList};
 use list_core::NoMemory;
 use matchers::{Selector, SelectorList};
 use moment_core::Rules;
+use script_workers::{Hand, Phase, PhaseList, Task, Work, add_hands, gateway_count};
 use std::alloc::Global;
 use std::collections::BTreeSet;
 use ulid_core::Ulid;
@@ -59,7 +58,7 @@ impl Draft {
     ghost use Rattle.script_core.specs.declared.cause.LineCause.TheVariants as causes;
     ghost use Rattle.script_core.specs.declared.line_refusal.LineRefusal.TheVariants as line_refusals;
     ghost use Rattle.script_core.specs.declared.script_refusal.ScriptRefusal.TheVariants as script_refusals;
-    ghost use Rattle.script_core.specs.State.{start, end_block, gateway_named, add_gateway, is_declared, begin_block, test_series, add_series, begin_phase, add_task, add_query, note_sync, are_all_synced, finish, all_blocks, all_phases, last_of};
+    ghost use Rattle.script_core.specs.State.{start, end_block, gateway_named, add_gateway, is_declared, begin_block, test_series, add_series, begin_phase, add_task, add_query, note_sync, are_all_synced, finish, store_block, store_phase, last_of};
     ghost use Rattle.script_core.specs.View.{state_of};
 
     /// What is there before the first line.
@@ -86,7 +85,8 @@ impl Draft {
     /// What is left after the last line, as a script.
     #[tactic(auto, unfolding(crate::specs::View::state_of, crate::specs::State::finish))]
     pub(crate) fn finish(mut self, alloc: Global) -> Result<Script, ScriptRefusal>
-        ensures { Gives script_refusals.NoMemory (λ script. script) result (finish (state_of self)) }
+        ensures { Gives script_refusals.NoMemory (λ script. script) result
+            (finish (state_of self)) }
     {
         self.end_block()?;
         self.store_block(alloc)?;
@@ -103,7 +103,8 @@ impl Draft {
     /// No series line follows the last block's lines.
     #[tactic(auto, unfolding(crate::specs::View::state_of, crate::specs::State::end_block))]
     pub(crate) fn end_block(&mut self) -> Result<(), ScriptRefusal>
-        ensures { Gives script_refusals.NoMemory (λ _. state_of self.new) result (end_block (state_of self.old)) }
+        ensures { Gives script_refusals.NoMemory (λ _. state_of self.new) result
+            (end_block (state_of self.old)) }
     {
         if let Some(block) = &self.last {
             if block.series.is_empty() {
@@ -118,7 +119,7 @@ impl Draft {
     /// The last block joins those before it.
     #[tactic(auto, unfolding(crate::specs::View::state_of))]
     fn store_block(&mut self, alloc: Global) -> Result<(), NoMemory>
-        ensures { OnOk result (state_of self.new ≡ record (state_of self.old) { blocks = all_blocks (state_of self.old).blocks (state_of self.old).last; last = None }) }
+        ensures { OnOk result (state_of self.new ≡ store_block (state_of self.old)) }
     {
         if let Some(block) = self.last.take() {
             self.blocks.push(block.into_block(alloc)?)?;
@@ -129,7 +130,7 @@ impl Draft {
     /// The last phase joins those before it.
     #[tactic(auto, unfolding(crate::specs::View::state_of))]
     fn store_phase(&mut self, alloc: Global) -> Result<(), NoMemory>
-        ensures { OnOk result (state_of self.new ≡ record (state_of self.old) { phases = all_phases (state_of self.old).phases (state_of self.old).phase; phase = None; hands = [] }) }
+        ensures { OnOk result (state_of self.new ≡ store_phase (state_of self.old)) }
     {
         self.hands = Vec::new(alloc);
         if let Some(phase) = self.phase.take() {
@@ -149,7 +150,8 @@ impl Draft {
 
     #[tactic(auto, unfolding(crate::specs::View::state_of, crate::specs::State::add_gateway))]
     pub(crate) fn add_gateway(&mut self, name: Text) -> Result<(), LineRefusal>
-        ensures { Gives line_refusals.NoMemory (λ _. state_of self.new) result (add_gateway (state_of self.old) name) }
+        ensures { Gives line_refusals.NoMemory (λ _. state_of self.new) result
+            (add_gateway (state_of self.old) name) }
     {
         LineRefusal::TooMany.unless(self.gateways.len() < GATEWAYS)?;
         self.gateways.push(name)?;
@@ -169,7 +171,8 @@ impl Draft {
         alloc: Global,
         block: InlineBlock,
     ) -> Result<(), LineRefusal>
-        ensures { Gives line_refusals.NoMemory (λ _. state_of self.new) result (begin_block (state_of self.old) (last_of block)) }
+        ensures { Gives line_refusals.NoMemory (λ _. state_of self.new) result
+            (begin_block (state_of self.old) (last_of block)) }
     {
         LineRefusal::BlockChanged.unless(!self.is_declared(block.ulid))?;
         LineRefusal::TooMany.unless(self.ulids.len() < BLOCKS)?;
@@ -187,7 +190,8 @@ impl Draft {
         labels: LabelSet,
         samples: SampleList,
     ) -> Result<(), LineRefusal>
-        ensures { Gives line_refusals.NoMemory (λ _. state_of self.new) result (add_series (state_of self.old) (record { labels = labels; samples = samples })) }
+        ensures { Gives line_refusals.NoMemory (λ _. state_of self.new) result
+            (add_series (state_of self.old) (record { labels = labels; samples = samples })) }
     {
         self.test_series(&labels, samples.members())?;
         if let Some(block) = &mut self.last {
@@ -222,7 +226,8 @@ impl Draft {
     /// Adds a task to the last phase.
     #[tactic(auto, unfolding(crate::specs::View::state_of, crate::specs::State::add_task))]
     pub(crate) fn add_task(&mut self, line: u32, work: Work) -> Result<(), LineRefusal>
-        ensures gives { Gives line_refusals.NoMemory (λ _. state_of self.new) result (add_task (state_of self.old) line work) }
+        ensures gives { Gives line_refusals.NoMemory (λ _. state_of self.new) result
+            (add_task (state_of self.old) line work) }
         ensures selectors { self.new.selectors ≡ self.old.selectors }
         ensures counted { OnOk result (self.new.activities ≡ self.old.activities + 1) }
     {
@@ -240,7 +245,8 @@ impl Draft {
 
     /// The place of the next task in the last phase.
     fn next_place(&self) -> Result<u64, LineCause>
-        ensures { result ≡ ok_or (option_map (λ phase. length phase.tasks) self.now.phase) causes.NoPhase }
+        ensures { result
+            ≡ ok_or (option_map (λ phase. length phase.tasks) self.now.phase) causes.NoPhase }
     {
         let phase = self.phase.as_ref().ok_or(LineCause::NoPhase)?;
         Ok(phase.tasks.len() as u64)
@@ -254,7 +260,8 @@ impl Draft {
         high: i64,
         selector: Selector,
     ) -> Result<(), LineRefusal>
-        ensures { Gives line_refusals.NoMemory (λ _. state_of self.new) result (add_query (state_of self.old) line low high selector) }
+        ensures { Gives line_refusals.NoMemory (λ _. state_of self.new) result
+            (add_query (state_of self.old) line low high selector) }
     {
         let place = self.selectors.len() as u32;
         let work = Work::Query {

@@ -20,7 +20,7 @@ pub(crate) struct InlineBlock {
 
 impl InlineBlock {
     ghost use Rattle.std.specs.Prelude.{◌≡◌, [], IfOk, OnOk};
-    ghost use Rattle.script_core.specs.State.{last_of, block_of, has_series, insert_series, series_of};
+    ghost use Rattle.script_core.specs.State.{last_of, block_of, has_series, with_series, series_of};
 
     pub(crate) fn new(
         alloc: Global,
@@ -30,7 +30,14 @@ impl InlineBlock {
         min_time: i64,
         max_time: i64,
     ) -> InlineBlock
-        ensures { last_of result ≡ record { line = line; ulid = ulid; labels = labels; min_time = min_time; max_time = max_time; series = [] } }
+        ensures { last_of result ≡ record {
+          line = line;
+          ulid = ulid;
+          labels = labels;
+          min_time = min_time;
+          max_time = max_time;
+          series = [];
+        } }
     {
         InlineBlock {
             line,
@@ -55,7 +62,7 @@ impl InlineBlock {
         labels: LabelSet,
         samples: SampleList,
     ) -> Result<(), NoMemory>
-        ensures { OnOk result (last_of self.new ≡ record (last_of self.old) { series = insert_series (last_of self.old).series (series_of (labels, samples)) }) }
+        ensures { OnOk result (last_of self.new ≡ with_series (series_of (labels, samples)) (last_of self.old)) }
     {
         self.series.insert(labels, samples)?;
         Ok(())

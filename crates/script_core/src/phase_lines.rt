@@ -7,13 +7,14 @@ ghost use Rattle.script_core.specs.Values.{agree, moment_field};
 ghost use Rattle.script_core.specs.Lines.{bad, may_begin, at_line, upload_line, sync_line, query_line, last_selector};
 ghost use Rattle.script_core.specs.View.{state_of};
 
+use crate::LineCause;
 use crate::draft::Draft;
 use crate::fields::{is_name, next_field, only_field};
 use crate::line_refusal::LineRefusal;
 use crate::values::{is_reserved, time, ulid};
-use crate::{LineCause, Phase, TaskList, Work};
 use matchers::{Selector, SelectorRefusal};
 use moment_core::{Moment, MomentRefusal, Rules};
+use script_workers::{Phase, TaskList, Work};
 use std::alloc::Global;
 
 /// `at MOMENT`
@@ -24,7 +25,8 @@ pub(crate) fn at_line(
     number: u32,
     fields: Option<&str>,
 ) -> Result<(), LineRefusal>
-    ensures { Gives line_refusals.NoMemory (λ _. state_of draft.new) result (at_line (state_of draft.old) number (option_copied fields.entry)) }
+    ensures { Gives line_refusals.NoMemory (λ _. state_of draft.new) result
+        (at_line (state_of draft.old) number (option_copied fields.entry)) }
 {
     let moment = moment(alloc, only_field(fields)?)?;
     may_begin(&draft.rules, &draft.phase, moment)?;
@@ -39,7 +41,8 @@ pub(crate) fn at_line(
 
 #[tactic(auto, unfolding(crate::specs::Values::moment_field))]
 fn moment(alloc: Global, field: &str) -> Result<Moment, LineRefusal>
-    ensures { Gives line_refusals.NoMemory (λ moment. moment) result (bad (moment_field field.now)) }
+    ensures { Gives line_refusals.NoMemory (λ moment. moment) result
+        (bad (moment_field field.now)) }
 {
     match Moment::read(alloc, field) {
         Ok(moment) => Ok(moment),
@@ -78,7 +81,8 @@ pub(crate) fn upload_line(
     number: u32,
     fields: Option<&str>,
 ) -> Result<(), LineRefusal>
-    ensures { Gives line_refusals.NoMemory (λ _. state_of draft.new) result (upload_line (state_of draft.old) number (option_copied fields.entry)) }
+    ensures { Gives line_refusals.NoMemory (λ _. state_of draft.new) result
+        (upload_line (state_of draft.old) number (option_copied fields.entry)) }
 {
     let (ulid_text, rest) = next_field(fields);
     let (option, _) = next_field(rest);
@@ -98,7 +102,8 @@ pub(crate) fn sync_line(
     number: u32,
     fields: Option<&str>,
 ) -> Result<(), LineRefusal>
-    ensures { Gives line_refusals.NoMemory (λ _. state_of draft.new) result (sync_line (state_of draft.old) number (option_copied fields.entry)) }
+    ensures { Gives line_refusals.NoMemory (λ _. state_of draft.new) result
+        (sync_line (state_of draft.old) number (option_copied fields.entry)) }
 {
     let name = only_field(fields)?;
     LineCause::BadName.unless(is_name(name))?;
@@ -117,7 +122,8 @@ pub(crate) fn query_line(
     number: u32,
     fields: Option<&str>,
 ) -> Result<(), LineRefusal>
-    ensures { Gives line_refusals.NoMemory (λ _. state_of draft.new) result (query_line (state_of draft.old) number (option_copied fields.entry)) }
+    ensures { Gives line_refusals.NoMemory (λ _. state_of draft.new) result
+        (query_line (state_of draft.old) number (option_copied fields.entry)) }
 {
     let (low_text, rest) = next_field(fields);
     let (high_text, rest) = next_field(rest);
@@ -135,7 +141,8 @@ pub(crate) fn query_line(
 /// The selector that is left of a line, or none where nothing is left.
 #[tactic(auto, unfolding(crate::specs::Lines::last_selector))]
 fn last_selector(alloc: Global, left: Option<&str>) -> Result<Option<Selector>, LineRefusal>
-    ensures { Gives line_refusals.NoMemory (λ selector. selector) result (last_selector (option_copied left.entry)) }
+    ensures { Gives line_refusals.NoMemory (λ selector. selector) result
+        (last_selector (option_copied left.entry)) }
 {
     let text = left.unwrap_or("");
     if text.is_empty() {

@@ -38,7 +38,8 @@ pub(crate) fn read_script(alloc: Global, text: &[u8]) -> Result<Script, ScriptRe
 /// Reads the lines of a text in order, and answers what they leave.
 fn read_lines(alloc: Global, text: &[u8]) -> Result<Draft, ScriptRefusal>
     requires { length text.now ≤ 67108864 }
-    ensures { Gives script_refusals.NoMemory state_of result (lines_at (start standard_rules) 1 (lines_of text.now)) }
+    ensures { Gives script_refusals.NoMemory state_of result
+        (lines_at (start standard_rules) 1 (lines_of text.now)) }
 {
     let mut draft = Draft::new(alloc, Rules::standard(alloc));
     let mut number = 0u32;
@@ -59,7 +60,8 @@ fn read_line(
     number: u32,
     line: &[u8],
 ) -> Result<(), ScriptRefusal>
-    ensures { Gives script_refusals.NoMemory (λ _. state_of draft.new) result (line_at (state_of draft.old) number line.now) }
+    ensures { Gives script_refusals.NoMemory (λ _. state_of draft.new) result
+        (line_at (state_of draft.old) number line.now) }
 {
     if is_silent(line) {
         return Ok(());
@@ -85,7 +87,8 @@ fn text_of(line: &[u8]) -> Option<&str>
 
 #[tactic(auto, unfolding(crate::specs::Reading::text_line))]
 fn read_text(draft: &mut Draft, alloc: Global, number: u32, text: &str) -> Result<(), ScriptRefusal>
-    ensures { Gives script_refusals.NoMemory (λ _. state_of draft.new) result (text_line (state_of draft.old) number text.now) }
+    ensures { Gives script_refusals.NoMemory (λ _. state_of draft.new) result
+        (text_line (state_of draft.old) number text.now) }
 {
     let (word, fields) = next_field(Some(text));
     let kind = LineKind::of_word(word);
@@ -112,7 +115,8 @@ fn read_fields(
     kind: Option<LineKind>,
     fields: Option<&str>,
 ) -> Result<(), LineRefusal>
-    ensures { Gives line_refusals.NoMemory (λ _. state_of draft.new) result (kind_line (state_of draft.old) number kind (option_copied fields.entry)) }
+    ensures { Gives line_refusals.NoMemory (λ _. state_of draft.new) result
+        (kind_line (state_of draft.old) number kind (option_copied fields.entry)) }
 {
     match kind.ok_or(LineCause::UnknownWord)? {
         LineKind::Rule => rule_line(draft, fields),

@@ -1,3 +1,7 @@
+use crate::LineCause;
+use crate::values::{page_limit, span, tick};
+use moment_core::Rules;
+
 /// What a rule line sets, by the rule's name.
 #[derive(Clone, Copy, Debug, PartialEq, Eq)]
 pub(crate) enum RuleName {
@@ -12,7 +16,9 @@ pub(crate) enum RuleName {
 
 impl RuleName {
     ghost use Rattle.std.specs.Prelude.{◌≡◌};
+    ghost use Rattle.reading_core.specs.Reading.{Answers};
     ghost use Rattle.script_core.specs.Fields.{rule_name};
+    ghost use Rattle.script_core.specs.Values.{set_rule};
 
     pub(crate) fn of_word(word: &str) -> Option<RuleName>
         ensures { result ≡ rule_name word.now }
@@ -27,5 +33,21 @@ impl RuleName {
             "page-limit" => Some(RuleName::PageLimit),
             _ => None,
         }
+    }
+    /// The rule takes the value that a text says, in place of what was set before.
+    #[tactic(auto, unfolding(crate::specs::Values::value_field, crate::specs::Values::set_rule))]
+    pub(crate) fn set(self, rules: &mut Rules, text: &str) -> Result<(), LineCause>
+        ensures { Answers (λ _. rules.new) result (set_rule self text.now rules.old) }
+    {
+        match self {
+            RuleName::Consistency => rules.consistency = span(text)?,
+            RuleName::Ignore => rules.ignore = span(text)?,
+            RuleName::Delete => rules.delete = span(text)?,
+            RuleName::Partial => rules.partial = span(text)?,
+            RuleName::Upload => rules.upload = span(text)?,
+            RuleName::Tick => rules.tick = tick(text)?,
+            RuleName::PageLimit => rules.page_limit = page_limit(text)?,
+        }
+        Ok(())
     }
 }

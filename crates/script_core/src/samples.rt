@@ -46,7 +46,8 @@ fn has_small_number(text: &str) -> bool
 
 /// The samples, each of which is a field.
 pub(crate) fn read_samples(alloc: Global, texts: &str) -> Result<SampleList, LineRefusal>
-    ensures { Gives line_refusals.NoMemory (λ samples. samples) result (bad (samples_of texts.now)) }
+    ensures { Gives line_refusals.NoMemory (λ samples. samples) result
+        (bad (samples_of texts.now)) }
 {
     let mut samples = SampleList::new(alloc);
     let mut left = Some(texts);

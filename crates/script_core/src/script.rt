@@ -1,11 +1,10 @@
-use crate::hands::gateway_count;
 use crate::reader::read_script;
-use crate::workers::{phase_workers, seats_of};
-use crate::{BlockList, PhaseList, ScriptRefusal, WorkerList};
+use crate::{BlockList, ScriptRefusal};
 use label_sets::TextList;
 use list_core::NoMemory;
 use matchers::SelectorList;
 use moment_core::Rules;
+use script_workers::{PhaseList, WorkerList, gateway_count, phase_workers, seats_of};
 use std::alloc::Global;
 
 /// What a run does: by which rules, with which gateways and blocks, and in which phases.
@@ -22,16 +21,15 @@ pub struct Script {
 }
 
 impl Script {
-    ghost use Rattle.std.specs.Prelude.{◌≡◌, Some, IfOk, length, slice_get};
+    ghost use Rattle.std.specs.Prelude.{◌≡◌, Some, IfOk, slice_get};
     ghost use Rattle.reading_core.specs.Reading.{Gives};
+    ghost use Rattle.script_workers.specs.declared.phase.Phase.{Phase};
     ghost use Rattle.script_core.specs.declared.script.Script.{Script};
     ghost use Rattle.script_core.specs.declared.script_refusal.ScriptRefusal.TheVariants as script_refusals;
-    ghost use Rattle.script_core.specs.declared.phase.Phase.{Phase};
-    ghost use Rattle.script_core.specs.Hands.{gateway_count, hands_of, workers_of, workers_after};
     ghost use Rattle.script_core.specs.Lawful.{IsLawfulScript};
     ghost use Rattle.script_core.specs.Reading.{script_of};
     ghost use Rattle.script_core.specs.Spelling.{Spells};
-    ghost use Rattle.script_core.specs.Staff.{IsStaff, AreSeated, workers_before};
+    ghost use Rattle.script_core.specs.Workers.{workers_of, workers_after, HasStaff, HasSeats};
 
     /// Reads a script.
     pub fn read(alloc: Global, text: &[u8]) -> Result<Script, ScriptRefusal>
@@ -44,7 +42,8 @@ impl Script {
         ensures lawful { IfOk result (λ script. IsLawfulScript script) }
 
         // Which refusal it is: the first that the lines in order give.
-        ensures gives { Gives script_refusals.NoMemory (λ script. script) result (script_of text.now) }
+        ensures gives { Gives script_refusals.NoMemory (λ script. script) result
+            (script_of text.now) }
     {
         read_script(alloc, text)
     }
@@ -64,7 +63,7 @@ impl Script {
     /// stand in the order of their first tasks, and the places in `Worker::tasks` are those of all the worker's tasks.
     pub fn workers_are_staff(&self, phase: usize)
         ensures { (one : Phase) → slice_get self.now.phases phase ≡ Some one
-            → IsStaff (gateway_count self.now.gateways) one.tasks (hands_of (gateway_count self.now.gateways) one.tasks) }
+            → HasStaff self.now one }
     {
         let _phase = phase;
     }
@@ -72,20 +71,21 @@ impl Script {
     /// A law: in a lawful script a worker's seat is the number of workers of the phases before, its place in its own phase,
     /// and one. So seats count from 1 over the whole script, and no two workers share one.
     pub fn workers_are_seated(&self, phase: usize)
-        ensures { IsLawfulScript self.now → (one : Phase) → slice_get self.now.phases phase ≡ Some one
-            → AreSeated (gateway_count self.now.gateways) one.tasks (hands_of (gateway_count self.now.gateways) one.tasks) (length (workers_before self.now phase)) (workers_of self.now phase) }
+        ensures { IsLawfulScript self.now → (one : Phase)
+            → slice_get self.now.phases phase ≡ Some one → HasSeats self.now phase one }
     {
         let _phase = phase;
     }
 
-    /// The same where the phases before need so many workers, which are then not counted again.
+    /// Who does the tasks of a phase, where the phases before need `before` workers, which are then not counted again.
     pub fn workers_after(
         &self,
         alloc: Global,
         phase: usize,
         before: u32,
     ) -> Result<WorkerList, NoMemory>
-        ensures { IfOk result (λ workers. workers ≡ workers_after self.now before (slice_get self.now.phases phase)) }
+        ensures { IfOk result
+            (λ workers. workers ≡ workers_after self.now before (slice_get self.now.phases phase)) }
     {
         match self.phases.get(phase) {
             Some(phase) => {

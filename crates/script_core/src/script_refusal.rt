@@ -85,7 +85,8 @@ fn of_line(alloc: Global, line: u32, words: &[u8]) -> Result<Vec<u8>, NoMemory>
 }
 
 fn bad_line(alloc: Global, line: u32, cause: LineCause) -> Result<Vec<u8>, NoMemory>
-    ensures { IfOk result (λ text. text.items ≡ line_text line (codes "bad line " ++ decimal_text (cause_number cause))) }
+    ensures { IfOk result (λ text. text.items
+        ≡ line_text line (codes "bad line " ++ decimal_text (cause_number cause))) }
 {
     let mut text = of_line(alloc, line, b"bad line ")?;
     put_unsigned(&mut text, u64::from(cause.number()))?;

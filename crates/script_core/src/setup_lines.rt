@@ -11,7 +11,6 @@ use crate::draft::Draft;
 use crate::fields::{after_space, is_name, next_field, only_field};
 use crate::inline_block::InlineBlock;
 use crate::line_refusal::LineRefusal;
-use crate::rule::Rule;
 use crate::rule_name::RuleName;
 use crate::samples::{are_rising, are_whole, have_small_numbers, read_samples};
 use crate::values::{is_reserved, time, ulid};
@@ -21,15 +20,14 @@ use std::alloc::Global;
 /// `rule NAME VALUE`
 #[tactic(auto, unfolding(crate::specs::View::state_of, crate::specs::Lines::rule_line))]
 pub(crate) fn rule_line(draft: &mut Draft, fields: Option<&str>) -> Result<(), LineRefusal>
-    ensures { Gives line_refusals.NoMemory (λ _. state_of draft.new) result (rule_line (state_of draft.old) (option_copied fields.entry)) }
+    ensures { Gives line_refusals.NoMemory (λ _. state_of draft.new) result
+        (rule_line (state_of draft.old) (option_copied fields.entry)) }
 {
     let fields = fields.ok_or(LineCause::BadShape)?;
     let (name, value) = next_field(Some(fields));
     let name = RuleName::of_word(name).ok_or(LineCause::UnknownWord)?;
-    let rule = Rule::read(name, only_field(value)?)?;
-    LineCause::LateLine.unless(draft.phase.is_none())?;
-    rule.set(&mut draft.rules);
-    Ok(())
+    name.set(&mut draft.rules, only_field(value)?)?;
+    LineCause::LateLine.unless(draft.phase.is_none())
 }
 
 /// `gateway NAME`
@@ -39,7 +37,8 @@ pub(crate) fn gateway_line(
     alloc: Global,
     fields: Option<&str>,
 ) -> Result<(), LineRefusal>
-    ensures { Gives line_refusals.NoMemory (λ _. state_of draft.new) result (gateway_line (state_of draft.old) (option_copied fields.entry)) }
+    ensures { Gives line_refusals.NoMemory (λ _. state_of draft.new) result
+        (gateway_line (state_of draft.old) (option_copied fields.entry)) }
 {
     let name = only_field(fields)?;
     LineCause::BadName.unless(is_name(name))?;
@@ -56,7 +55,8 @@ pub(crate) fn block_line(
     number: u32,
     fields: Option<&str>,
 ) -> Result<(), LineRefusal>
-    ensures { Gives line_refusals.NoMemory (λ _. state_of draft.new) result (block_line (state_of draft.old) number (option_copied fields.entry)) }
+    ensures { Gives line_refusals.NoMemory (λ _. state_of draft.new) result
+        (block_line (state_of draft.old) number (option_copied fields.entry)) }
 {
     let (ulid_text, rest) = next_field(fields);
     let (min_text, rest) = next_field(rest);
@@ -80,7 +80,8 @@ pub(crate) fn block_line(
 /// The label set that is left of a line, or none where the text is no label set.
 #[tactic(auto, unfolding(crate::specs::Lines::last_labels))]
 fn last_labels(alloc: Global, left: Option<&str>) -> Result<Option<LabelSet>, LineRefusal>
-    ensures { Gives line_refusals.NoMemory (λ set. set) result (last_labels (option_copied left.entry)) }
+    ensures { Gives line_refusals.NoMemory (λ set. set) result
+        (last_labels (option_copied left.entry)) }
 {
     let text = left.unwrap_or("");
     LineCause::BadShape.unless(!text.is_empty())?;
@@ -101,7 +102,8 @@ pub(crate) fn series_line(
     alloc: Global,
     fields: Option<&str>,
 ) -> Result<(), LineRefusal>
-    ensures { Gives line_refusals.NoMemory (λ _. state_of draft.new) result (series_line (state_of draft.old) (option_copied fields.entry)) }
+    ensures { Gives line_refusals.NoMemory (λ _. state_of draft.new) result
+        (series_line (state_of draft.old) (option_copied fields.entry)) }
 {
     let (labels, texts) = first_labels(alloc, fields)?;
     LineCause::BadShape.unless(are_whole(texts))?;
@@ -117,7 +119,8 @@ fn first_labels<'a>(
     alloc: Global,
     left: Option<&'a str>,
 ) -> Result<(LabelSet, &'a str), LineRefusal>
-    ensures { Gives line_refusals.NoMemory (λ found. (found.0, found.1.now)) result (first_labels (option_copied left.entry)) }
+    ensures { Gives line_refusals.NoMemory (λ found. (found.0, found.1.now)) result
+        (first_labels (option_copied left.entry)) }
 {
     let text = left.unwrap_or("");
     LineCause::BadShape.unless(!text.is_empty())?;

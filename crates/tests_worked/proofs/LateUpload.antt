@@ -6,10 +6,11 @@ use Rattle.world_core.specs.Operations.{IsLawful, IsReplyTo}
 use Rattle.world_core.specs.Worlds.{IsJournal}
 use Rattle.world_core.specs.declared.entry.Entry.{Entry}
 use Rattle.shipper.specs.declared.upload_end.UploadEnd.TheVariants as shipped
-use Rattle.script_core.specs.Hands.{hands_of_task, with_hands, hands_from, places_from, workers_from, seats_from, workers_of}
-use Rattle.script_core.specs.declared.task.Task.{Task}
-use Rattle.script_core.specs.declared.work.Work.TheVariants as works
-use Rattle.script_core.specs.declared.worker.Worker.{Worker}
+use Rattle.script_workers.specs.Hands.{hands_of_task, with_hands, hands_from, places_from, workers_from, seats_from}
+use Rattle.script_core.specs.Workers.{workers_of}
+use Rattle.script_workers.specs.declared.task.Task.{Task}
+use Rattle.script_workers.specs.declared.work.Work.TheVariants as works
+use Rattle.script_workers.specs.declared.worker.Worker.{Worker}
 use Rattle.lifecycle_core.specs.Phases.{IsRunOf, PhaseRun, PhasesRun}
 use Rattle.lifecycle_core.specs.Tasks.{End, uploaded}
 use Rattle.lifecycle_core.specs.Views.{no_views}

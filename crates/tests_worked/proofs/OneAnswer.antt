@@ -12,8 +12,8 @@ use Rattle.matchers.specs.Selectors.{is_match, accepts, is_accepted, value_or_em
 use Rattle.block_keys.specs.declared.key.Key.TheVariants as key
 use Rattle.world_core.specs.declared.entry.Entry.{Entry}
 use Rattle.store_gateway.specs.declared.series_end.SeriesEnd.TheVariants as called
-use Rattle.script_core.specs.declared.worker.Worker.{Worker}
-use Rattle.script_core.specs.declared.work.Work.TheVariants as works
+use Rattle.script_workers.specs.declared.worker.Worker.{Worker}
+use Rattle.script_workers.specs.declared.work.Work.TheVariants as works
 use Rattle.lifecycle_core.specs.Completed.{PutsMeta, IsCompletedAt, IsUploadedBefore, IsSettled}
 use Rattle.lifecycle_core.specs.Guarantees.{IsExact, NamesUploads, IsGiven}
 use Rattle.lifecycle_core.specs.Held.{held_by, held}

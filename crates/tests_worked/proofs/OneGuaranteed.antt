@@ -11,11 +11,11 @@ use Rattle.store_gateway.specs.declared.series_end.SeriesEnd.TheVariants as call
 use Rattle.block_keys.specs.KeyText.{key_text}
 use Rattle.world_core.specs.Standing.{IsHonest}
 use Rattle.world_core.specs.declared.entry.Entry.{Entry}
-use Rattle.script_core.specs.Hands.{workers_of}
-use Rattle.script_core.specs.declared.worker.Worker.{Worker}
-use Rattle.script_core.specs.declared.phase.Phase.{Phase}
-use Rattle.script_core.specs.declared.task.Task.{Task}
-use Rattle.script_core.specs.declared.work.Work.TheVariants as works
+use Rattle.script_core.specs.Workers.{workers_of}
+use Rattle.script_workers.specs.declared.worker.Worker.{Worker}
+use Rattle.script_workers.specs.declared.phase.Phase.{Phase}
+use Rattle.script_workers.specs.declared.task.Task.{Task}
+use Rattle.script_workers.specs.declared.work.Work.TheVariants as works
 use Rattle.lifecycle_core.specs.Breaches.{honesty}
 use Rattle.lifecycle_core.specs.Causes.{IsDamaged, IsExplained, IsFault, IsWell}
 use Rattle.lifecycle_core.specs.Guarantees.{Answered, IsGiven, IsGuaranteed, IsSound}

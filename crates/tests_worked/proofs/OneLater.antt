@@ -12,9 +12,9 @@ use Rattle.meta_fetcher.specs.declared.sync_end.SyncEnd.{SyncEnd}
 use Rattle.meta_fetcher.specs.declared.sync_end.SyncEnd.TheVariants as fetched
 use Rattle.store_gateway.specs.SeriesRuns.{Query, SeriesRun, Reads, sources_of, to_read}
 use Rattle.store_gateway.specs.declared.series_end.SeriesEnd.{SeriesEnd}
-use Rattle.script_core.specs.declared.task.Task.{Task}
-use Rattle.script_core.specs.declared.work.Work.TheVariants as works
-use Rattle.script_core.specs.declared.worker.Worker.{Worker}
+use Rattle.script_workers.specs.declared.task.Task.{Task}
+use Rattle.script_workers.specs.declared.work.Work.TheVariants as works
+use Rattle.script_workers.specs.declared.worker.Worker.{Worker}
 use Rattle.lifecycle_core.specs.Phases.{PhasesRun, PhaseRun, WorkerRun, TasksRun, TasksAt, of_seat}
 use Rattle.lifecycle_core.specs.Tasks.{End, synced, view_after, last_number}
 use Rattle.lifecycle_core.specs.Views.{Use, Views}

@@ -7,7 +7,7 @@ use Rattle.moment_core.specs.declared.moment.Moment.{Moment}
 use Rattle.std.specs.List.{AllByRecursion}
 use Rattle.world_core.specs.Standing.{IsHonest}
 use Rattle.world_core.specs.declared.op.Op.TheVariants as op
-use Rattle.script_core.specs.declared.worker.Worker.{Worker}
+use Rattle.script_workers.specs.declared.worker.Worker.{Worker}
 use Rattle.lifecycle_core.specs.Phases.{IsLawfulJournal, PhasesRun, of_seat}
 use Rattle.lifecycle_core.specs.Tasks.{End}
 use Rattle.lifecycle_core.specs.Views.{Views}

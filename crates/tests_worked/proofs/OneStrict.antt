@@ -6,8 +6,9 @@ use Rattle.block_keys.specs.declared.key.Key.TheVariants as key
 use Rattle.block_meta.specs.MetaFields.{MarkFields}
 use Rattle.block_meta.specs.MetaText.{IsMarkText}
 use Rattle.world_core.specs.declared.entry.Entry.{Entry}
-use Rattle.script_core.specs.Hands.{hands_of_task, with_hands, hands_from, places_from, workers_from, seats_from, workers_of}
-use Rattle.script_core.specs.declared.worker.Worker.{Worker}
+use Rattle.script_workers.specs.Hands.{hands_of_task, with_hands, hands_from, places_from, workers_from, seats_from}
+use Rattle.script_core.specs.Workers.{workers_of}
+use Rattle.script_workers.specs.declared.worker.Worker.{Worker}
 use Rattle.meta_fetcher.specs.Syncs.{SyncRun}
 use Rattle.meta_fetcher.specs.declared.sync_end.SyncEnd.TheVariants as fetched
 use Rattle.lifecycle_core.specs.Tasks.{sync_rules}

@@ -11,11 +11,11 @@ use Rattle.world_core.specs.declared.reply.Reply.TheVariants as reply
 use Rattle.shipper.specs.Uploads.{UploadRun, PutsRun, AfterLook}
 use Rattle.shipper.specs.declared.upload_end.UploadEnd.{UploadEnd}
 use Rattle.script_core.specs.declared.block.Block.{Block}
-use Rattle.script_core.specs.declared.phase.Phase.{Phase}
+use Rattle.script_workers.specs.declared.phase.Phase.{Phase}
 use Rattle.script_core.specs.declared.script.Script.{Script}
-use Rattle.script_core.specs.declared.task.Task.{Task}
-use Rattle.script_core.specs.declared.work.Work.TheVariants as works
-use Rattle.script_core.specs.declared.worker.Worker.{Worker}
+use Rattle.script_workers.specs.declared.task.Task.{Task}
+use Rattle.script_workers.specs.declared.work.Work.TheVariants as works
+use Rattle.script_workers.specs.declared.worker.Worker.{Worker}
 use Rattle.lifecycle_core.specs.Shipped.{IsShipped}
 use Rattle.lifecycle_core.specs.Phases.{IsLawfulJournal, PhasesRun, PhaseRun, WorkerRun, TasksRun, TasksAt, of_seat}
 use Rattle.lifecycle_core.specs.Tasks.{End, TaskRun, UploadTask}

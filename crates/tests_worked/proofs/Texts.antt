@@ -13,7 +13,7 @@ use Rattle.moment_core.specs.MomentText.{moment_of}
 use Rattle.script_core.specs.Fields.{next_field, only_field, after_space}
 use Rattle.script_core.specs.Samples.{has_small_number, samples_from}
 use Rattle.script_core.specs.Values.{time_field, moment_field, ulid_field}
-use Rattle.script_core.specs.Hands.{hands_of_task, with_hands}
+use Rattle.script_workers.specs.Hands.{hands_of_task, with_hands}
 use Rattle.script_core.specs.State.{start, end_block, add_gateway, begin_block, add_series, begin_phase, add_task, add_query, note_sync, finish}
 use Rattle.script_core.specs.Lines.{gateway_line, last_labels, block_line, first_labels, series_line, at_line, upload_line, sync_line, last_selector, query_line, fields_line}
 use Rattle.script_core.specs.Reading.{kind_line, text_line, spoken_line, line_at, lines_at, script_of}

@@ -9,10 +9,11 @@ use Rattle.world_core.specs.declared.entry.Entry.{Entry}
 use Rattle.shipper.specs.declared.upload_end.UploadEnd.TheVariants as shipped
 use Rattle.meta_fetcher.specs.declared.sync_end.SyncEnd.TheVariants as fetched
 use Rattle.store_gateway.specs.declared.series_end.SeriesEnd.TheVariants as called
-use Rattle.script_core.specs.Hands.{hands_of_task, with_hands, hands_from, places_from, workers_from, seats_from, workers_of}
-use Rattle.script_core.specs.declared.task.Task.{Task}
-use Rattle.script_core.specs.declared.worker.Worker.{Worker}
-use Rattle.script_core.specs.declared.work.Work.TheVariants as works
+use Rattle.script_workers.specs.Hands.{hands_of_task, with_hands, hands_from, places_from, workers_from, seats_from}
+use Rattle.script_core.specs.Workers.{workers_of}
+use Rattle.script_workers.specs.declared.task.Task.{Task}
+use Rattle.script_workers.specs.declared.worker.Worker.{Worker}
+use Rattle.script_workers.specs.declared.work.Work.TheVariants as works
 use Rattle.lifecycle_core.specs.Phases.{TasksRun, of_seat, PhaseRun, PhasesRun, AreDone, AreFinished, IsRunOf}
 use Rattle.lifecycle_core.specs.Tasks.{End, TaskRun, uploaded, synced}
 use Rattle.lifecycle_core.specs.Views.{Use, Views, no_views}

@@ -4,7 +4,7 @@ use Rattle.moment_core.specs.StandardRules.{standard_rules}
 use Rattle.world_core.specs.declared.entry.Entry.{Entry}
 use Rattle.shipper.specs.declared.upload_end.UploadEnd.TheVariants as shipped
 use Rattle.script_core.specs.declared.script.Script.{Script}
-use Rattle.script_core.specs.declared.work.Work.TheVariants.{Upload}
+use Rattle.script_workers.specs.declared.work.Work.TheVariants.{Upload}
 use Rattle.lifecycle_core.specs.Tasks.{End, uploaded}
 use Rattle.tests_worked.specs.SmallBlock as small
 use Rattle.tests_worked.specs.SmallRuns as runs

@@ -32,8 +32,10 @@ use Rattle.script_core.specs.declared.body.Body.{Body}
 use Rattle.script_core.specs.declared.body.Body.TheVariants.{Inline}
 use Rattle.script_core.specs.declared.script.Script.{Script}
 use Rattle.script_core.specs.Lawful.{AreLawfulLabels, HasLawfulSamples, IsLawfulBody, IsLawfulScript}
-use Rattle.script_core.specs.Spelling.{IsNear, IsWithin, TimesRise}
-use Rattle.script_core.proofs.SpelledValues.{near_tested, rise_spelled, within_spelled}
+use Rattle.script_core.specs.Spelling.{IsNear, IsWithin}
+use Rattle.std.specs.List.Sorted.{IsStrictlySortedBy}
+use Rattle.std.specs.Ordering.{int_cmp}
+use Rattle.script_core.proofs.SpelledValues.{near_tested, within_spelled}
 use Rattle.script_core.proofs.ValueLaws.{time_fits}
 use Rattle.lifecycle_core.specs.Held.{declared, given, given_by}
 use Rattle.lifecycle_core.proofs.blocks.Declared.{declared_lawful}
@@ -197,7 +199,7 @@ samples_again s [] fit = (append-nil (sample_text s), All-head FitsSample s [] f
 samples_again s (t ∷ ss) fit =
     (sample_text t ++ flat_map spaced_sample_text ss, refl, All-head FitsSample s (t ∷ ss) fit, samples_again t ss (All-tail FitsSample s (t ∷ ss) fit))
 
-line_by : (labels : List Label) (samples : List Sample) → AreLawfulLabels labels → samples ≢ [] → All FitsSample samples → TimesRise samples
+line_by : (labels : List Label) (samples : List Sample) → AreLawfulLabels labels → samples ≢ [] → All FitsSample samples → IsStrictlySortedBy int_cmp (map (λ (s : Sample). s.time) samples)
     → IsSeriesLine (series_text (record { labels = labels; samples = samples })) (record { labels = labels; samples = samples })
 unfolding series_text spaced_sample_text
 line_by labels [] lawful some fit rising = absurd (some refl)
@@ -224,7 +226,7 @@ samples_fit low high (s ∷ ss) early late within small =
 
 line_again : (low high : ℤ) (s : Series) → neg_ℤ (pos (2 ^ 62)) ≤ℤ low → high ≤ℤ pos (2 ^ 62) → AreLawfulLabels s.labels → HasLawfulSamples low high s → IsSeriesLine (series_text s) s
 line_again low high s early late labels samples =
-    line_by s.labels s.samples labels samples.some (samples_fit low high s.samples early late (within_spelled low high s.samples samples.within) samples.patterns) (rise_spelled s.samples samples.rising)
+    line_by s.labels s.samples labels samples.some (samples_fit low high s.samples early late (within_spelled low high s.samples samples.within) samples.patterns) samples.rising
 
 lines_again : (low high : ℤ) (series : List Series) → neg_ℤ (pos (2 ^ 62)) ≤ℤ low → high ≤ℤ pos (2 ^ 62) → All HasLawfulLabels series → All (HasLawfulSamples low high) series → AreLines (segment_text series) series
 unfolding segment_text

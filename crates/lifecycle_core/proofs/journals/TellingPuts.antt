@@ -16,14 +16,14 @@ use Rattle.world_core.specs.declared.reply.Reply.TheVariants as reply
 use Rattle.shipper.specs.Uploads.{AfterLook, AfterPut, EndsAt, PutsRun, UploadRun}
 use Rattle.shipper.specs.declared.upload_end.UploadEnd.{UploadEnd}
 use Rattle.store_gateway.specs.SeriesRuns.{Query as Question}
-use Rattle.script_core.specs.Hands.{workers_of}
+use Rattle.script_core.specs.Workers.{workers_of}
 use Rattle.script_core.specs.declared.block.Block.{Block}
-use Rattle.script_core.specs.declared.phase.Phase.{Phase}
+use Rattle.script_workers.specs.declared.phase.Phase.{Phase}
 use Rattle.script_core.specs.declared.script.Script.{Script}
-use Rattle.script_core.specs.declared.task.Task.{Task}
-use Rattle.script_core.specs.declared.work.Work.{Work}
-use Rattle.script_core.specs.declared.work.Work.TheVariants.{Upload, Sync, Query}
-use Rattle.script_core.specs.declared.worker.Worker.{Worker}
+use Rattle.script_workers.specs.declared.task.Task.{Task}
+use Rattle.script_workers.specs.declared.work.Work.{Work}
+use Rattle.script_workers.specs.declared.work.Work.TheVariants.{Upload, Sync, Query}
+use Rattle.script_workers.specs.declared.worker.Worker.{Worker}
 use Rattle.lifecycle_core.specs.Held.{declared}
 use Rattle.lifecycle_core.specs.Phases.{IsRunOf, PhaseRun, PhasesRun, TasksRun, WorkerRun, of_seat}
 use Rattle.lifecycle_core.specs.Shipped.{IsShipped}

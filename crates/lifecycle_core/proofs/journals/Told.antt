@@ -24,7 +24,7 @@ use Rattle.script_core.specs.declared.block.Block.{Block}
 use Rattle.script_core.specs.declared.body.Body.{Body}
 use Rattle.script_core.specs.declared.body.Body.TheVariants.{Inline}
 use Rattle.script_core.specs.declared.script.Script.{Script}
-use Rattle.script_core.specs.declared.task.Task.{Task}
+use Rattle.script_workers.specs.declared.task.Task.{Task}
 use Rattle.lifecycle_core.specs.Completed.{IsSettled, IsUploadedBefore}
 use Rattle.lifecycle_core.specs.Held.{declared, given}
 use Rattle.lifecycle_core.specs.Shipped.{IsPlanOf, IsShipped}

@@ -1,10 +1,10 @@
 -- The duties of one hand among those of a phase, and the ends to which they came.
 use Rattle.std.proofs.Common.{◌≡◌, true, false, cond, List, [], ◌∷◌, map, refl, ap, arith}
 use Rattle.std.proofs.lemmas.Bool.Decides.{nat_tests}
-use Rattle.script_core.specs.Hands.{same_hand}
-use Rattle.script_core.specs.declared.hand.Hand.{Hand}
-use Rattle.script_core.specs.declared.hand.Hand.TheVariants as hands
-use Rattle.script_core.specs.declared.task.Task.{Task}
+use Rattle.script_workers.specs.Hands.{same_hand}
+use Rattle.script_workers.specs.declared.hand.Hand.{Hand}
+use Rattle.script_workers.specs.declared.hand.Hand.TheVariants as hands
+use Rattle.script_workers.specs.declared.task.Task.{Task}
 use Rattle.lifecycle_core.specs.InLine.{Duty}
 use Rattle.lifecycle_core.specs.Tasks.{End}
 

@@ -5,7 +5,7 @@ use Rattle.world_core.specs.Moments.{moment_after, last_moment}
 use Rattle.world_core.specs.Worlds.{IsJournal}
 use Rattle.world_core.specs.declared.entry.Entry.{Entry}
 use Rattle.world_core.proofs.Growing.{Each-none}
-use Rattle.script_core.specs.declared.phase.Phase.{Phase}
+use Rattle.script_workers.specs.declared.phase.Phase.{Phase}
 use Rattle.script_core.specs.declared.script.Script.{Script}
 use Rattle.lifecycle_core.specs.InLine.{IsInLine}
 use Rattle.lifecycle_core.specs.Phases.{IsLawfulJournal, IsRunOf, PhasesRun, BeginsPhase}

@@ -11,13 +11,14 @@ use Rattle.world_core.specs.Operations.{IsLawful, IsReplyTo}
 use Rattle.world_core.specs.Worlds.{IsJournal}
 use Rattle.world_core.specs.declared.entry.Entry.{Entry}
 use Rattle.world_core.proofs.LastLanded.{Each-front}
-use Rattle.script_core.specs.Hands.{gateway_count, gateway_of, hands_of, same_hand, seats_after, seats_before, worker_of, workers_after, workers_from, workers_of}
-use Rattle.script_core.specs.declared.hand.Hand.{Hand}
-use Rattle.script_core.specs.declared.hand.Hand.TheVariants as hands
-use Rattle.script_core.specs.declared.phase.Phase.{Phase}
+use Rattle.script_workers.specs.Hands.{gateway_count, gateway_of, hands_of, same_hand, seats_after, worker_of, workers_from}
+use Rattle.script_core.specs.Workers.{seats_before, workers_after, workers_of}
+use Rattle.script_workers.specs.declared.hand.Hand.{Hand}
+use Rattle.script_workers.specs.declared.hand.Hand.TheVariants as hands
+use Rattle.script_workers.specs.declared.phase.Phase.{Phase}
 use Rattle.script_core.specs.declared.script.Script.{Script}
-use Rattle.script_core.specs.declared.task.Task.{Task}
-use Rattle.script_core.specs.declared.worker.Worker.{Worker}
+use Rattle.script_workers.specs.declared.task.Task.{Task}
+use Rattle.script_workers.specs.declared.worker.Worker.{Worker}
 use Rattle.lifecycle_core.specs.Phases.{IsLawfulJournal, PhaseRun, PhasesRun, TasksAt, TasksRun, WorkerRun, of_seat}
 use Rattle.lifecycle_core.specs.Tasks.{End, TaskRun, view_after}
 use Rattle.lifecycle_core.specs.Views.{Use, Views, no_views, view_of, with_view}

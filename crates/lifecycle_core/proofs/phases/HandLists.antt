@@ -8,12 +8,12 @@ use Rattle.std.proofs.lemmas.Bool.Decides.{nat_tests}
 use Rattle.std.proofs.lemmas.List.{length-append, length-map}
 use Rattle.std.proofs.lemmas.List.Folds.{list_any-append}
 use Rattle.std.proofs.lemmas.List.FromFn.{length-map-range_with_len}
-use Rattle.script_core.specs.Hands.{same_hand, with_hand, with_hands, hands_from, hands_of_task}
-use Rattle.script_core.specs.declared.hand.Hand.{Hand}
-use Rattle.script_core.specs.declared.hand.Hand.TheVariants as hands
-use Rattle.script_core.specs.declared.work.Work.{Work}
-use Rattle.script_core.specs.declared.work.Work.TheVariants as works
-use Rattle.script_core.specs.declared.task.Task.{Task}
+use Rattle.script_workers.specs.Hands.{same_hand, with_hand, with_hands, hands_from, hands_of_task}
+use Rattle.script_workers.specs.declared.hand.Hand.{Hand}
+use Rattle.script_workers.specs.declared.hand.Hand.TheVariants as hands
+use Rattle.script_workers.specs.declared.work.Work.{Work}
+use Rattle.script_workers.specs.declared.work.Work.TheVariants as works
+use Rattle.script_workers.specs.declared.task.Task.{Task}
 use Rattle.lifecycle_core.specs.InLine.{Duty, duties_from}
 use Rattle.lifecycle_core.proofs.phases.Duties.{same_is}
 

@@ -9,12 +9,12 @@ use Rattle.std.proofs.lemmas.List.Elements.{All-append, All-head, All-nil, All-t
 use Rattle.std.proofs.lemmas.List.{length-map}
 use Rattle.std.proofs.lemmas.Option.{slice_get_within, get_or_from_slice_get}
 use Rattle.world_core.specs.declared.entry.Entry.{Entry}
-use Rattle.script_core.specs.Hands.{same_hand, gateway_of, hands_of, places_from, workers_from, greatest}
-use Rattle.script_core.specs.declared.hand.Hand.{Hand}
-use Rattle.script_core.specs.declared.hand.Hand.TheVariants as hands
+use Rattle.script_workers.specs.Hands.{same_hand, gateway_of, hands_of, places_from, workers_from, greatest}
+use Rattle.script_workers.specs.declared.hand.Hand.{Hand}
+use Rattle.script_workers.specs.declared.hand.Hand.TheVariants as hands
 use Rattle.script_core.specs.declared.script.Script.{Script}
-use Rattle.script_core.specs.declared.task.Task.{Task}
-use Rattle.script_core.specs.declared.worker.Worker.{Worker}
+use Rattle.script_workers.specs.declared.task.Task.{Task}
+use Rattle.script_workers.specs.declared.worker.Worker.{Worker}
 use Rattle.lifecycle_core.specs.InLine.{Duty, duties_from, seat_of, InLine}
 use Rattle.lifecycle_core.specs.Phases.{TasksAt, TasksRun, WorkerRun, PhaseRun, AreDone, CameTo, of_seat}
 use Rattle.lifecycle_core.specs.Tasks.{End, view_after}

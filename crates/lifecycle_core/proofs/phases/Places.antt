@@ -3,13 +3,13 @@ use Rattle.std.proofs.Common.{◌≡◌, ◌≢◌, ℕ, zero, suc, ◌+◌, ◌
 use Rattle.std.specs.Prelude.{Option, Some, slice_get}
 use Rattle.std.specs.List.{AllByRecursion, list_any, range_with_len}
 use Rattle.std.proofs.lemmas.Bool.Decides.{nat_tests}
-use Rattle.script_core.specs.Hands.{same_hand, hands_of_task, does, places_from}
-use Rattle.script_core.specs.declared.hand.Hand.{Hand}
-use Rattle.script_core.specs.declared.hand.Hand.TheVariants as hands
-use Rattle.script_core.specs.declared.work.Work.{Work}
-use Rattle.script_core.specs.declared.work.Work.TheVariants as works
-use Rattle.script_core.specs.declared.task.Task.{Task}
-use Rattle.script_core.proofs.HandLists.{no_upload_among}
+use Rattle.script_workers.specs.Hands.{same_hand, hands_of_task, does, places_from}
+use Rattle.script_workers.specs.declared.hand.Hand.{Hand}
+use Rattle.script_workers.specs.declared.hand.Hand.TheVariants as hands
+use Rattle.script_workers.specs.declared.work.Work.{Work}
+use Rattle.script_workers.specs.declared.work.Work.TheVariants as works
+use Rattle.script_workers.specs.declared.task.Task.{Task}
+use Rattle.script_workers.proofs.HandLists.{no_upload_among}
 use Rattle.lifecycle_core.specs.InLine.{Duty, duties_from}
 use Rattle.lifecycle_core.specs.Phases.{TasksAt}
 use Rattle.lifecycle_core.proofs.phases.Duties.{part, tasks_of}

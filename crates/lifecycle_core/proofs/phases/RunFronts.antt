@@ -24,8 +24,8 @@ use Rattle.meta_fetcher.specs.declared.view.View.{View}
 use Rattle.store_gateway.specs.SeriesRuns.{Query as Question, Reads as CallReads, Onward as CallOnward, SeriesRun, ToRead, AfterGet, AfterIndex, AfterSegment, Gets, SegmentRead, BlockRead, stopped, damaged, read, to_read, sources_of, wanted}
 use Rattle.store_gateway.specs.declared.series_end.SeriesEnd.{SeriesEnd}
 use Rattle.script_core.specs.declared.script.Script.{Script}
-use Rattle.script_core.specs.declared.work.Work.{Work}
-use Rattle.script_core.specs.declared.work.Work.TheVariants.{Upload, Sync, Query}
+use Rattle.script_workers.specs.declared.work.Work.{Work}
+use Rattle.script_workers.specs.declared.work.Work.TheVariants.{Upload, Sync, Query}
 use Rattle.lifecycle_core.specs.Tasks.{End, IsBefore, IsStop, QueryTask, TaskRun, asked_by, sync_rules}
 use Rattle.lifecycle_core.specs.Views.{Use}
 

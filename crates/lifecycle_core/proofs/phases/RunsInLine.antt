@@ -5,14 +5,15 @@ use Rattle.std.specs.List.{All, AllZip}
 use Rattle.std.proofs.lemmas.List.{length-append, length-map}
 use Rattle.std.proofs.lemmas.Option.{slice_get_within, get_or_from_slice_get}
 use Rattle.world_core.specs.declared.entry.Entry.{Entry}
-use Rattle.script_core.specs.Hands.{gateway_count, gateway_of, hands_of, seats_after, seats_before, seats_from, workers_after, workers_from, workers_of, greatest}
+use Rattle.script_workers.specs.Hands.{gateway_count, gateway_of, hands_of, seats_after, seats_from, workers_from, greatest}
+use Rattle.script_core.specs.Workers.{seats_before, workers_after, workers_of}
 use Rattle.script_core.specs.Lawful.{IsLawfulPhase, IsLawfulScript, IsLawfulWork}
-use Rattle.script_core.specs.Works.{works_in, works_of}
-use Rattle.script_core.specs.declared.hand.Hand.{Hand}
-use Rattle.script_core.specs.declared.phase.Phase.{Phase}
+use Rattle.script_workers.specs.Works.{works_in, works_of}
+use Rattle.script_workers.specs.declared.hand.Hand.{Hand}
+use Rattle.script_workers.specs.declared.phase.Phase.{Phase}
 use Rattle.script_core.specs.declared.script.Script.{Script}
-use Rattle.script_core.specs.declared.task.Task.{Task}
-use Rattle.script_core.specs.declared.worker.Worker.{Worker}
+use Rattle.script_workers.specs.declared.task.Task.{Task}
+use Rattle.script_workers.specs.declared.worker.Worker.{Worker}
 use Rattle.lifecycle_core.specs.InLine.{duties_from, seat_of, InLine, PhasesInLine, IsRunInLine}
 use Rattle.lifecycle_core.specs.Phases.{AreDone, AreFinished, CameTo, IsRunOf, PhaseRun, PhasesRun}
 use Rattle.lifecycle_core.specs.Tasks.{End}

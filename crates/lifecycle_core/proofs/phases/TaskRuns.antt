@@ -23,8 +23,8 @@ use Rattle.script_core.specs.declared.block.Block.{Block}
 use Rattle.script_core.specs.declared.body.Body.{Body}
 use Rattle.script_core.specs.declared.body.Body.TheVariants.{Inline}
 use Rattle.script_core.specs.declared.script.Script.{Script}
-use Rattle.script_core.specs.declared.work.Work.{Work}
-use Rattle.script_core.specs.declared.work.Work.TheVariants.{Upload, Sync, Query}
+use Rattle.script_workers.specs.declared.work.Work.{Work}
+use Rattle.script_workers.specs.declared.work.Work.TheVariants.{Upload, Sync, Query}
 use Rattle.lifecycle_core.specs.Shipped.{AreBuilt}
 use Rattle.lifecycle_core.specs.Tasks.{End, uploaded, stopped, synced, answered, without_view, TaskRun, QueryTask, asked_by, last_number, sync_rules, view_after}
 use Rattle.lifecycle_core.specs.Views.{Use}

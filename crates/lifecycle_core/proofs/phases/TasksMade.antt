@@ -8,12 +8,12 @@ use Rattle.meta_fetcher.specs.Syncs.{SyncRun}
 use Rattle.meta_fetcher.specs.declared.view.View.{View}
 use Rattle.meta_fetcher.specs.declared.sync_end.SyncEnd.{SyncEnd}
 use Rattle.meta_fetcher.specs.declared.sync_end.SyncEnd.TheVariants as fetched
-use Rattle.script_core.specs.Hands.{workers_of}
-use Rattle.script_core.specs.declared.phase.Phase.{Phase}
+use Rattle.script_core.specs.Workers.{workers_of}
+use Rattle.script_workers.specs.declared.phase.Phase.{Phase}
 use Rattle.script_core.specs.declared.script.Script.{Script}
-use Rattle.script_core.specs.declared.task.Task.{Task}
-use Rattle.script_core.specs.declared.work.Work.{Work}
-use Rattle.script_core.specs.declared.worker.Worker.{Worker}
+use Rattle.script_workers.specs.declared.task.Task.{Task}
+use Rattle.script_workers.specs.declared.work.Work.{Work}
+use Rattle.script_workers.specs.declared.worker.Worker.{Worker}
 use Rattle.lifecycle_core.specs.Causes.{SomeCame}
 use Rattle.lifecycle_core.specs.Phases.{CameTo, IsRunOf, PhaseRun, PhasesRun, TasksAt, TasksRun, WorkerRun, of_seat}
 use Rattle.lifecycle_core.specs.Tasks.{End, TaskRun, last_number, sync_rules, view_after}

@@ -4,12 +4,12 @@ use Rattle.std.specs.Prelude.{◌==◌, Option, Some, None}
 use Rattle.std.specs.List.{All, AllByRecursion}
 use Rattle.std.proofs.lemmas.Bool.Decides.{nat_tests}
 use Rattle.world_core.specs.declared.entry.Entry.{Entry}
-use Rattle.script_core.specs.Hands.{same_hand, gateway_of}
-use Rattle.script_core.specs.declared.hand.Hand.{Hand}
-use Rattle.script_core.specs.declared.hand.Hand.TheVariants as hands
+use Rattle.script_workers.specs.Hands.{same_hand, gateway_of}
+use Rattle.script_workers.specs.declared.hand.Hand.{Hand}
+use Rattle.script_workers.specs.declared.hand.Hand.TheVariants as hands
 use Rattle.script_core.specs.declared.script.Script.{Script}
-use Rattle.script_core.specs.declared.work.Work.{Work}
-use Rattle.script_core.specs.declared.work.Work.TheVariants as works
+use Rattle.script_workers.specs.declared.work.Work.{Work}
+use Rattle.script_workers.specs.declared.work.Work.TheVariants as works
 use Rattle.lifecycle_core.specs.InLine.{Duty, InLine}
 use Rattle.lifecycle_core.specs.Phases.{TasksRun, of_seat}
 use Rattle.lifecycle_core.specs.Tasks.{End, TaskRun, view_after}

@@ -6,6 +6,7 @@ use Rattle.std.specs.Prelude.{slice_get, option_map}
 use Rattle.std.specs.List.{All, AllByRecursion, AllZip, list_any}
 use Rattle.std.proofs.Math.Bool.{or-false, or_assoc}
 use Rattle.std.proofs.Math.Nat.{min-le_left}
+use Rattle.std.proofs.lemmas.Bool.{or_cases}
 use Rattle.std.proofs.lemmas.Bool.Decides.{nat_tests}
 use Rattle.std.proofs.lemmas.List.Elements.{All-cons, All-head, All-nil, All-tail}
 use Rattle.world_core.specs.declared.entry.Entry.{Entry}
@@ -14,21 +15,21 @@ use Rattle.meta_fetcher.specs.declared.view.View.{View}
 use Rattle.meta_fetcher.specs.declared.sync_end.SyncEnd.{SyncEnd}
 use Rattle.meta_fetcher.specs.declared.sync_end.SyncEnd.TheVariants as fetched
 use Rattle.store_gateway.specs.SeriesRuns.{Query as Question}
-use Rattle.script_core.specs.Hands.{does, gateway_count, gateway_of, greatest, hands_of, places_from, same_hand, seats_after, seats_before, worker_of, workers_after, workers_from, workers_of}
+use Rattle.script_workers.specs.Hands.{does, gateway_count, gateway_of, greatest, hands_of, places_from, same_hand, seats_after, worker_of, workers_from}
+use Rattle.script_core.specs.Workers.{seats_before, workers_after, workers_of}
 use Rattle.script_core.specs.Lawful.{IsLawfulScript}
-use Rattle.script_core.specs.Spelling.{AreEnough}
-use Rattle.script_core.specs.Whose.{IsFor, ships, syncs, asks}
-use Rattle.script_core.specs.Works.{has_sync, is_sync_of, works_in, works_of}
-use Rattle.script_core.specs.declared.hand.Hand.{Hand}
-use Rattle.script_core.specs.declared.hand.Hand.TheVariants as hands
-use Rattle.script_core.specs.declared.phase.Phase.{Phase}
+use Rattle.script_workers.specs.Whose.{AreEnough, IsFor, ships, syncs, asks}
+use Rattle.script_workers.specs.Works.{has_sync, is_sync_of, works_in, works_of}
+use Rattle.script_workers.specs.declared.hand.Hand.{Hand}
+use Rattle.script_workers.specs.declared.hand.Hand.TheVariants as hands
+use Rattle.script_workers.specs.declared.phase.Phase.{Phase}
 use Rattle.script_core.specs.declared.script.Script.{Script}
-use Rattle.script_core.specs.declared.task.Task.{Task}
-use Rattle.script_core.specs.declared.work.Work.{Work}
-use Rattle.script_core.specs.declared.work.Work.TheVariants.{Upload, Sync, Query}
-use Rattle.script_core.specs.declared.worker.Worker.{Worker}
-use Rattle.script_core.proofs.SpelledHands.{does_for, either, for_does}
-use Rattle.script_core.proofs.StaffLaws.{is_staff, next_place}
+use Rattle.script_workers.specs.declared.task.Task.{Task}
+use Rattle.script_workers.specs.declared.work.Work.{Work}
+use Rattle.script_workers.specs.declared.work.Work.TheVariants.{Upload, Sync, Query}
+use Rattle.script_workers.specs.declared.worker.Worker.{Worker}
+use Rattle.script_workers.proofs.HandLaws.{does_for, for_does, tested}
+use Rattle.script_workers.proofs.StaffLaws.{is_staff, next_place}
 use Rattle.lifecycle_core.specs.Causes.{SomeCame}
 use Rattle.lifecycle_core.specs.Phases.{AreDone, IsRunOf, PhaseRun, PhasesRun, TasksAt, TasksRun, WorkerRun, of_seat}
 use Rattle.lifecycle_core.specs.Tasks.{End, QueryTask, TaskRun, asked_by, stopped, synced, uploaded, view_after, without_view}
@@ -262,13 +263,22 @@ sync_for gateways g place (Upload ulid stop) is = absurd (cc (is))
 sync_for gateways g place (Sync own) is = let same : g ≡ own = grind (arith, nat_tests, is) in syncs own refl (ap (λ n. hands.Gateway n) same)
 sync_for gateways g place (Query low high selector) is = absurd (cc (is))
 
--- a gateway that has a sync is among the hands
-sync_hand : (gateways g : ℕ) (hs : List Hand) (base : ℕ) (tasks : List Task) → AreEnough gateways hs base tasks → has_sync (works_in tasks) g ≡ true → list_any (same_hand (hands.Gateway g)) hs ≡ true
-sync_hand gateways g hs base [] enough h = absurd (cc (h))
-sync_hand gateways g hs base (task ∷ tasks) enough h = elim (either (is_sync_of g task.work) (has_sync (works_in tasks) g) h) [
-  | inl here ↦ enough.0 (hands.Gateway g) (sync_for gateways g base task.work here)
-  | inr later ↦ sync_hand gateways g hs (base + 1) tasks enough.1 later
+-- a sync that is among the tasks
+sync_task : (gateways g base : ℕ) (tasks : List Task) → has_sync (works_in tasks) g ≡ true → (k : ℕ) × (task : Task) × (slice_get tasks k ≡ Some task) × IsFor gateways (hands.Gateway g) (base + k) task.work
+sync_task gateways g base [] h = absurd (cc (h))
+sync_task gateways g base (task ∷ tasks) h = elim (or_cases (is_sync_of g task.work) (has_sync (works_in tasks) g) h) [
+  | inl here ↦ (0, task, refl, sync_for gateways g (base + 0) task.work here)
+  | inr later ↦
+      let found = sync_task gateways g (base + 1) tasks later in
+      (suc found.0, found.1, found.2, subst (λ n. IsFor gateways (hands.Gateway g) n (found.1).work) (sym (next_place base found.0)) found.3)
 ]
+
+-- a gateway that has a sync is among the hands
+sync_hand : (gateways g : ℕ) (hs : List Hand) (tasks : List Task) → AreEnough gateways hs tasks → has_sync (works_in tasks) g ≡ true → list_any (same_hand (hands.Gateway g)) hs ≡ true
+sync_hand gateways g hs tasks enough h =
+    let found = sync_task gateways g 0 tasks h in
+    let at : 0 + found.0 ≡ found.0 = omega arith in
+    tested hs (hands.Gateway g) (enough (hands.Gateway g) found.0 (record { task = found.1; is = found.2; whose = subst (λ n. IsFor gateways (hands.Gateway g) n (found.1).work) at found.3 }))
 
 abbrev is_gateway : ℕ → Option ℕ → Bool
 is_gateway g None = false
@@ -308,7 +318,7 @@ module _ (gateways : ℕ) (tasks : List Task) where
 
   -- a gateway that has a sync has a worker
   sync_there : (before g : ℕ) → All (λ (w : Worker). w.gateway ≢ Some g) (workers_from gateways before tasks (hands_of gateways tasks)) → has_sync (works_in tasks) g ≡ true → ⊥
-  sync_there before g none h = worker_there before g (hands_of gateways tasks) none (sync_hand gateways g (hands_of gateways tasks) 0 tasks (is_staff gateways tasks).enough h)
+  sync_there before g none h = worker_there before g (hands_of gateways tasks) none (sync_hand gateways g (hands_of gateways tasks) tasks (is_staff gateways tasks).enough h)
 
 with_hands : (Of : Worker → Type 0) (Own : Worker → List End → Type 0) (ws : List Worker) (es : List (List End)) → AllByRecursion Of ws → AllZip Own ws es → AllZip (λ w e. Of w × Own w e) ws es
 with_hands Of Own [] [] of all = tt
@@ -372,7 +382,7 @@ module _ (script : Script) (gateways : ℕ) (few : gateways ≤ length script.ga
     | inl found ↦
         let own = zip_right (λ w e. Own w e × (length w.tasks ≡ length e)) workers ends found.0 (with_done Own workers ends owns done) found.1 in
         worker_has g found.0 own.0 (own.2).0 found.2 (own.2).1 (gives own.0 own.1) h
-    | inr none ↦ elim (either (seen g) (has_sync (works_in tasks) g) h) [
+    | inr none ↦ elim (or_cases (seen g) (has_sync (works_in tasks) g) h) [
       | inl old ↦ subst HasView (sym (run.kept g none)) (known g old)
       | inr new ↦ absurd (there none new)
     ]

@@ -1,6 +1,6 @@
 use Rattle.std.proofs.Common.{refl}
 use Rattle.meta_fetcher.specs.Syncs.{SyncRun}
-use Rattle.script_core.specs.declared.work.Work.TheVariants as works
+use Rattle.script_workers.specs.declared.work.Work.TheVariants as works
 use Rattle.lifecycle_core.specs.Tasks.{sync_rules, synced}
 use Rattle.replay_cli.specs.Outcomes.{sync_outcome}
 use Rattle.replay_cli.specs.declared.outcome.Outcome.TheVariants as outcome

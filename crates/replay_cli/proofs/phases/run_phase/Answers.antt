@@ -5,7 +5,7 @@ use Rattle.replay_cli.specs.declared.phases.Lines.{Lines}
 use Rattle.std.specs.List.{All}
 use Rattle.world_core.specs.declared.entry.Entry.{Entry}
 use Rattle.script_core.specs.Lawful.{IsLawfulWork}
-use Rattle.script_core.specs.declared.task.Task.{Task}
+use Rattle.script_workers.specs.declared.task.Task.{Task}
 use Rattle.lifecycle_core.specs.InLine.{seat_of}
 use Rattle.lifecycle_core.specs.Phases.{BeginsPhase}
 use Rattle.replay_cli.specs.Progress.{TasksBroken, TasksDone}

@@ -1,7 +1,7 @@
 use Rattle.std.proofs.Common.{◌+◌, take, refl, ◌∙◌, subst, arith, List}
 use Rattle.std.proofs.lemmas.Result.{MatchResult-at_err, MatchResult-at_ok}
 use Rattle.lifecycle_core.specs.InLine.{seat_of}
-use Rattle.script_core.specs.declared.task.Task.{Task}
+use Rattle.script_workers.specs.declared.task.Task.{Task}
 use Rattle.replay_cli.specs.Progress.{TasksBroken, TasksDone}
 use Rattle.replay_cli.proofs.Told.{done_none, take_whole}
 use Rattle.replay_cli.proofs.phases.run_tasks.Goals as goal

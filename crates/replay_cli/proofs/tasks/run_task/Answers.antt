@@ -5,8 +5,8 @@ use Rattle.meta_fetcher.specs.Syncs.{SyncRun}
 use Rattle.meta_fetcher.specs.declared.sync_end.SyncEnd.{SyncEnd}
 use Rattle.store_gateway.specs.declared.gateway.Gateway.{Gateway}
 use Rattle.script_core.specs.Lawful.{IsLawfulWork}
-use Rattle.script_core.specs.declared.work.Work.{Work}
-use Rattle.script_core.specs.declared.work.Work.TheVariants as works
+use Rattle.script_workers.specs.declared.work.Work.{Work}
+use Rattle.script_workers.specs.declared.work.Work.TheVariants as works
 use Rattle.lifecycle_core.specs.InLine.{seat_of}
 use Rattle.lifecycle_core.specs.Tasks.{End, BlockUpload, sync_rules, synced}
 use Rattle.replay_cli.specs.Progress.{Adds, CameBy, Shows, view_by}

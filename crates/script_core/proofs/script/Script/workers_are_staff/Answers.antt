@@ -1,5 +1,5 @@
-use Rattle.script_core.specs.Hands.{gateway_count}
-use Rattle.script_core.proofs.StaffLaws.{is_staff}
+use Rattle.script_workers.specs.Hands.{gateway_count}
+use Rattle.script_workers.proofs.StaffLaws.{is_staff}
 use Rattle.script_core.proofs.script.Script.workers_are_staff.Goals as goal
 
 pub returns : goal.returns

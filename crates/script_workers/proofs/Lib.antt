@@ -1,0 +1,4 @@
+pub mod HandLists
+pub mod HandLaws
+pub mod StaffLaws
+pub mod PhaseCounts

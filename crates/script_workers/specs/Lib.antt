@@ -1,0 +1,4 @@
+pub mod Hands
+pub mod Whose
+pub mod Works
+pub mod Staff

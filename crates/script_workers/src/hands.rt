@@ -1,0 +1,110 @@
+//! Which workers the tasks of a phase need.
+
+ghost use Rattle.std.specs.Prelude.{◌≡◌, OnOk, IfOk, map, min};
+ghost use Rattle.std.specs.List.{list_any, fold, range_with_len};
+ghost use Rattle.script_workers.specs.declared.hand.Hand.TheVariants as hand_kinds;
+ghost use Rattle.script_workers.specs.Hands.{greatest, gateway_count, same_hand, with_hand, with_hands, hands_of, does, places_from};
+
+use crate::hand::Hand;
+use crate::{Task, Work};
+use label_sets::TextList;
+use list_core::NoMemory;
+use std::alloc::Global;
+use wire_bytes::NumberList;
+
+/// How many gateways there are, as far as a place can name them.
+pub fn gateway_count(gateways: &TextList) -> u32
+    ensures { result ≡ gateway_count gateways.now }
+{
+    small_count(gateways.len())
+}
+
+/// A count, or the greatest number of 32 bits where the count is greater.
+pub(crate) fn small_count(count: usize) -> u32
+    ensures { result ≡ min count greatest }
+{
+    u32::try_from(count).unwrap_or(u32::MAX)
+}
+
+/// Adds the hands that a task needs and that are not there yet, at the end.
+#[tactic(auto, unfolding(crate::specs::Hands::with_hands, crate::specs::Hands::hands_of_task))]
+pub fn add_hands(
+    hands: &mut Vec<Hand>,
+    gateways: u32,
+    place: u64,
+    work: &Work,
+) -> Result<(), NoMemory>
+    ensures { OnOk result (hands.new.items ≡ with_hands gateways hands.old.items place work.now) }
+{
+    match work {
+        Work::Upload(..) => add_hand(hands, Hand::Upload(place)),
+        Work::Sync(gateway) => add_hand(hands, Hand::Gateway(*gateway)),
+        Work::Query { .. } => add_gateways(hands, gateways),
+    }
+}
+
+fn add_gateways(hands: &mut Vec<Hand>, gateways: u32) -> Result<(), NoMemory>
+    ensures { OnOk result (hands.new.items
+        ≡ fold with_hand hands.old.items (map hand_kinds.Gateway (range_with_len 0 gateways))) }
+{
+    for gateway in 0..gateways {
+        add_hand(hands, Hand::Gateway(gateway))?;
+    }
+    Ok(())
+}
+
+fn add_hand(hands: &mut Vec<Hand>, hand: Hand) -> Result<(), NoMemory>
+    ensures { OnOk result (hands.new.items ≡ with_hand hands.old.items hand) }
+{
+    if !has_hand(hands.as_slice(), hand) {
+        hands.push(hand)?;
+    }
+    Ok(())
+}
+
+fn has_hand(hands: &[Hand], hand: Hand) -> bool
+    ensures { result ≡ list_any (same_hand hand) hands.now }
+{
+    hands.iter().any(|other| hand.is(*other))
+}
+
+/// Whether the task at a place is one of those that a hand does.
+#[tactic(auto, unfolding(crate::specs::Hands::hands_of_task))]
+pub(crate) fn does(gateways: u32, hand: Hand, place: u64, work: &Work) -> bool
+    ensures { result ≡ does gateways hand place work.now }
+{
+    match work {
+        Work::Upload(..) => hand.is(Hand::Upload(place)),
+        Work::Sync(gateway) => hand.is(Hand::Gateway(*gateway)),
+        Work::Query { .. } => hand.is_among(gateways),
+    }
+}
+
+/// Who does the tasks of a phase, each once, in the order of their first tasks.
+pub(crate) fn hands_of(alloc: Global, gateways: u32, tasks: &[Task]) -> Result<Vec<Hand>, NoMemory>
+    ensures { IfOk result (λ hands. hands.items ≡ hands_of gateways tasks.now) }
+{
+    let mut hands = Vec::new(alloc);
+    for (place, task) in tasks.iter().enumerate() {
+        add_hands(&mut hands, gateways, place as u64, &task.work)?;
+    }
+    Ok(hands)
+}
+
+/// The places of the tasks that a hand does.
+pub(crate) fn places_of(
+    alloc: Global,
+    gateways: u32,
+    hand: Hand,
+    tasks: &[Task],
+) -> Result<NumberList, NoMemory>
+    ensures { IfOk result (λ places. places ≡ places_from gateways hand 0 tasks.now) }
+{
+    let mut places = NumberList::new(alloc);
+    for (place, task) in tasks.iter().enumerate() {
+        if does(gateways, hand, place as u64, &task.work) {
+            places.push(place as u64)?;
+        }
+    }
+    Ok(places)
+}
