@@ -36,6 +36,11 @@ pub cond_ok_second : {A E : Type 0} (b : Bool) (r : Result A E) (d : E) (y : A) 
 cond_ok_second true r d y e = (refl, e)
 cond_ok_second false r d y e = absurd cc
 
+-- which way a choice went
+pub cond_is : {A : Type 0} (b : Bool) (x y z : A) → cond b x y ≡ z → ((b ≡ true) × (x ≡ z)) ⊎ ((b ≡ false) × (y ≡ z))
+cond_is true x y z e = inl (refl, e)
+cond_is false x y z e = inr (refl, e)
+
 -- the value is what was read
 pub ok_is : {A E : Type 0} (x y : A) → ◌≡◌ {A = Result A E} (Ok x) (Ok y) → x ≡ y
 ok_is x y e = cc
