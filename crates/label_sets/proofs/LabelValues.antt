@@ -1,5 +1,5 @@
 -- What `value_of` finds in a list of labels, and that a label set is determined by it.
-use Rattle.std.proofs.Common.{◌≡◌, ◌≢◌, ℕ, Bool, true, false, cond, List, [], ◌∷◌, Option, Some, None, refl, sym, ap, ◌∙◌, subst}
+use Rattle.std.proofs.Common.{◌≡◌, ◌≢◌, ℕ, Bool, true, false, cond, List, [], ◌∷◌, Some, None, refl, sym, ap, ◌∙◌, subst}
 pub use Rattle.list_core.proofs.Bools.{by_bool}
 pub use Rattle.list_core.proofs.Options.{one_value, some_not_none}
 use Rattle.std.specs.declared.cmp.Ordering.{Ordering}

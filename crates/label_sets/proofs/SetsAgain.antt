@@ -2,7 +2,7 @@
 use Rattle.std.proofs.Common.{◌≡◌, ◌≢◌, ℕ, zero, suc, ◌+◌, ◌-◌, ◌≤◌, Bool, true, false, cond, eqb, ◌||◌, ◌&&◌, List, [], ◌∷◌, ◌++◌, length, take, drop, Some, Result, Ok, Err, refl, sym, ap, ◌∙◌, subst, arith, append_assoc, nat_lt}
 use Rattle.std.proofs.lemmas.Bool.Decides.{nat_tests}
 use Rattle.std.proofs.lemmas.List.{length-append, take_at, drop_at}
-use Rattle.std.specs.Prelude.{IsTrue, IsErr}
+use Rattle.std.specs.Prelude.{IsErr}
 use Rattle.std.specs.Result.{is_err}
 use Rattle.std.specs.List.{flat_map, prefix_len, list_all}
 use Rattle.label_sets.specs.declared.label.Label.{Label}

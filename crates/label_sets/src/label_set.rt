@@ -63,7 +63,8 @@ impl LabelSet {
     /// Adds a label at its place.
     #[tactic(auto, unfolding(crate::specs::Labels::added))]
     pub fn add(&mut self, name: &str, value: &str) -> Result<(), LabelRefusal>
-        ensures gives { Gives LabelRefusal.NoMemory (λ _. self.new) result (added self.old name.now value.now) }
+        ensures gives { Gives LabelRefusal.NoMemory (λ _. self.new) result
+            (added self.old name.now value.now) }
         ensures err { OnErr result (self.new ≡ self.old) }
     {
         if name.is_empty() {
@@ -85,15 +86,18 @@ impl LabelSet {
     pub fn read(alloc: Global, text: &str) -> Result<(LabelSet, usize), LabelRefusal>
         // What is read is a text of the set, and each text of a set is read, whatever follows, unless memory runs out.
         ensures found { IfOk result (λ read. IsSetText (take read.1 text.now) read.0) }
-        ensures only { (front after : List ℕ) (set : List Label) → IsSetText front set → text.now ≡ front ++ after
-            → MatchResult result (λ read. (read.0 ≡ set) × (read.1 ≡ length front)) (λ e. e ≡ LabelRefusal.NoMemory) }
+        ensures only { (front after : List ℕ) (set : List Label) → IsSetText front set
+            → text.now ≡ front ++ after
+            → MatchResult result (λ read. (read.0 ≡ set) × (read.1 ≡ length front))
+            (λ e. e ≡ LabelRefusal.NoMemory) }
 
         // Which refusal it is.
         ensures refused { IfErr result (λ e. (e ≡ LabelRefusal.NoMemory) ⊎ IsRefused text.now e) }
         ensures exact { (refusal : LabelRefusal) → IsRefused text.now refusal
             → IsErrAnd result (λ e. (e ≡ LabelRefusal.NoMemory) ⊎ (e ≡ refusal)) }
 
-        ensures gives { Gives LabelRefusal.NoMemory (λ read. (read.0, read.1)) result (read_set text.now) }
+        ensures gives { Gives LabelRefusal.NoMemory (λ read. (read.0, read.1)) result
+            (read_set text.now) }
         ensures cut { IfOk result (λ read. IsCharBoundary text.now read.1) }
     {
         read_front(alloc, text)
@@ -219,7 +223,8 @@ pub fn reduced(
 }
 
 fn read_front(alloc: Global, text: &str) -> Result<(LabelSet, usize), LabelRefusal>
-    ensures gives { Gives LabelRefusal.NoMemory (λ read. (read.0, read.1)) result (read_set text.now) }
+    ensures gives { Gives LabelRefusal.NoMemory (λ read. (read.0, read.1)) result
+        (read_set text.now) }
     ensures cut { IfOk result (λ read. IsCharBoundary text.now read.1) }
 {
     let (labels, end) = read_labels(alloc, text.as_bytes())?;
@@ -242,7 +247,8 @@ fn place_of(labels: &[Label], name: &str) -> Result<usize, usize>
         × ((d : Label) → value_of labels.now name.now ≡ Some (slice_index_or labels.now i d).value)) }
     ensures absent { IfErr result (λ i. (i ≤ length labels.now)
         × (value_of labels.now name.now ≡ None)
-        × ((l : Label) → l.name ≡ name.now → insert labels.now i l ≡ placed has_lesser_name l labels.now)) }
+        × ((l : Label) → l.name ≡ name.now
+        → insert labels.now i l ≡ placed has_lesser_name l labels.now)) }
 {
     labels.binary_search_by(|label| label.name.as_str().cmp(name))
 }
@@ -270,7 +276,8 @@ fn copy_kept(
     replicas: &[Text],
 ) -> Result<(), NoMemory>
     requires { IsLabelSet external.now }
-    ensures { OnOk result (kept.new.items ≡ kept.old.items ++ reduced_of labels.now external.now replicas.now) }
+    ensures { OnOk result (kept.new.items
+        ≡ kept.old.items ++ reduced_of labels.now external.now replicas.now) }
 {
     for label in labels {
         if is_kept(label, external, replicas) {
@@ -283,7 +290,8 @@ fn copy_kept(
 /// Tells whether the label's name is neither that of an external label nor a replica label.
 fn is_kept(label: &Label, external: &[Label], replicas: &[Text]) -> bool
     requires { IsLabelSet external.now }
-    ensures { reduced_of (label.now ∷ []) external.now replicas.now ≡ (if result then label.now ∷ [] else []) }
+    ensures { reduced_of (label.now ∷ []) external.now replicas.now
+        ≡ (if result then label.now ∷ [] else []) }
 {
     let name = label.name.as_str();
     match place_of(external, name) {

@@ -33,7 +33,8 @@ struct Walk<'a> {
 #[tactic(auto, unfolding(crate::specs::Notation::read_set))]
 pub(crate) fn read_labels(alloc: Global, text: &[u8]) -> Result<(Vec<Label>, usize), LabelRefusal>
     requires { IsUtf8 text.now }
-    ensures { Gives LabelRefusal.NoMemory (λ read. (read.0.items, read.1)) result (read_set text.now) }
+    ensures { Gives LabelRefusal.NoMemory (λ read. (read.0.items, read.1)) result
+        (read_set text.now) }
 {
     let Walk { labels, end } = read_braces(alloc, text);
     match end {
@@ -49,7 +50,8 @@ fn whole_set(
     after: &[u8],
     total: usize,
 ) -> Result<(Vec<Label>, usize), LabelRefusal>
-    ensures { Gives LabelRefusal.NoMemory (λ read. (read.0.items, read.1)) result (conclusion total labels.items (Ok after.now)) }
+    ensures { Gives LabelRefusal.NoMemory (λ read. (read.0.items, read.1)) result
+        (conclusion total labels.items (Ok after.now)) }
 {
     let mut labels = labels;
     sort_by_name(&mut labels)?;
@@ -62,7 +64,8 @@ fn whole_set(
 /// The first refusal, where reading stopped: a name that stands twice was refused before.
 fn first_refusal(labels: Vec<Label>, stop: Stop<'_>, total: usize) -> Result<LabelRefusal, NoMemory>
     ensures memory { stop.entry.refusal ≡ LabelRefusal.NoMemory → IsErr result }
-    ensures first { IfOk result (λ refusal. conclusion total labels.items (Err (stop.entry.refusal, stop.entry.pair.now)) ≡ Err refusal) }
+    ensures first { IfOk result (λ refusal.
+        conclusion total labels.items (Err (stop.entry.refusal, stop.entry.pair.now)) ≡ Err refusal) }
 {
     if stop.refusal == LabelRefusal::NoMemory {
         return Err(NoMemory);
@@ -121,9 +124,11 @@ fn read_braces(alloc: Global, text: &[u8]) -> Walk<'_>
 /// Reads the labels of the pairs up to the closing brace.
 fn read_pairs(alloc: Global, text: &[u8]) -> Walk<'_>
     requires { IsUtf8 text.now }
-    ensures read { IfOk result.end (λ after. pairs_at (length text.now + 1) text.now ≡ (result.labels.items, Ok after.now)) }
+    ensures read { IfOk result.end (λ after.
+        pairs_at (length text.now + 1) text.now ≡ (result.labels.items, Ok after.now)) }
     ensures refused { IfErr result.end (λ stop. (stop.refusal ≡ LabelRefusal.NoMemory)
-        ⊎ (pairs_at (length text.now + 1) text.now ≡ (result.labels.items, Err (stop.refusal, stop.pair.now)))) }
+        ⊎ (pairs_at (length text.now + 1) text.now
+        ≡ (result.labels.items, Err (stop.refusal, stop.pair.now)))) }
 {
     let mut labels = Vec::new(alloc);
     let mut pair = text;
@@ -153,7 +158,8 @@ fn read_pairs(alloc: Global, text: &[u8]) -> Walk<'_>
 #[tactic(auto, unfolding(crate::specs::Notation::end_at, crate::specs::Notation::at_end, crate::specs::Notation::stopped_at))]
 fn end_at(text: &[u8]) -> Result<&[u8], Stop<'_>>
     ensures read { IfOk result (λ after. end_at text.now ≡ ([], Ok after.now)) }
-    ensures refused { IfErr result (λ stop. end_at text.now ≡ ([], Err (stop.refusal, stop.pair.now))) }
+    ensures refused { IfErr result (λ stop.
+        end_at text.now ≡ ([], Err (stop.refusal, stop.pair.now))) }
 {
     match past(b'}', text) {
         Ok(after) => Ok(after),
@@ -168,7 +174,8 @@ fn add_pair<'a>(
     labels: &mut Vec<Label>,
 ) -> Result<&'a [u8], LabelRefusal>
     requires { IsUtf8 text.now }
-    ensures added { IfOk result (λ rest. (label : Label) × (pair_at text.now ≡ Ok (label, rest.now)) × (labels.new.items ≡ labels.old.items ++ label ∷ [])) }
+    ensures added { IfOk result (λ rest. (label : Label) × (pair_at text.now ≡ Ok (label, rest.now))
+        × (labels.new.items ≡ labels.old.items ++ label ∷ [])) }
     ensures refused { IfErr result (λ e. (e ≡ LabelRefusal.NoMemory) ⊎ (pair_at text.now ≡ Err e)) }
     ensures unchanged { OnErr result (labels.new.items ≡ labels.old.items) }
     ensures shorter { IfOk result (λ rest. length rest.now < length text.now) }
@@ -194,7 +201,8 @@ fn stop_at(rest: &[u8]) -> Stop<'_>
 #[tactic(auto, unfolding(crate::specs::Notation::pair_at, crate::specs::Notation::name_at))]
 fn read_pair(alloc: Global, text: &[u8]) -> Result<(Label, &[u8]), LabelRefusal>
     requires { IsUtf8 text.now }
-    ensures gives { Gives LabelRefusal.NoMemory (λ read. (read.0, read.1.now)) result (pair_at text.now) }
+    ensures gives { Gives LabelRefusal.NoMemory (λ read. (read.0, read.1.now)) result
+        (pair_at text.now) }
     ensures shorter { IfOk result (λ read. length read.1.now < length text.now) }
     ensures utf8 { IfOk result (λ read. IsUtf8 read.1.now) }
 {
@@ -228,7 +236,8 @@ fn past(byte: u8, text: &[u8]) -> Result<&[u8], LabelRefusal>
 
 /// Reads the value in front of a closing quote, and gives what follows the quote.
 fn read_value(alloc: Global, text: &[u8]) -> Result<(Vec<u8>, &[u8]), LabelRefusal>
-    ensures { Gives LabelRefusal.NoMemory (λ read. (read.0.items, read.1.now)) result (value_at false text.now) }
+    ensures { Gives LabelRefusal.NoMemory (λ read. (read.0.items, read.1.now)) result
+        (value_at false text.now) }
 {
     let mut value = Vec::new(alloc);
     let mut rest = text;
@@ -245,8 +254,10 @@ fn read_value(alloc: Global, text: &[u8]) -> Result<(Vec<u8>, &[u8]), LabelRefus
 /// The next byte of the value, or none at the closing quote, and what follows.
 #[tactic(auto, unfolding(crate::specs::Notation::value_at))]
 fn value_byte(text: &[u8]) -> Result<(Option<u8>, &[u8]), LabelRefusal>
-    ensures ended { IfOk result (λ read. IfNone read.0 (value_at false text.now ≡ Ok ([], read.1.now))) }
-    ensures more { IfOk result (λ read. IfSome read.0 (λ byte. value_at false text.now ≡ with_byte byte (value_at false read.1.now))) }
+    ensures ended { IfOk result (λ read.
+        IfNone read.0 (value_at false text.now ≡ Ok ([], read.1.now))) }
+    ensures more { IfOk result (λ read. IfSome read.0 (λ byte.
+        value_at false text.now ≡ with_byte byte (value_at false read.1.now))) }
     ensures shorter { IfOk result (λ read. length read.1.now < length text.now) }
     ensures refused { IfErr result (λ e. value_at false text.now ≡ Err e) }
 {
@@ -267,7 +278,9 @@ fn value_byte(text: &[u8]) -> Result<(Option<u8>, &[u8]), LabelRefusal>
 /// The byte for which a backslash and what follows it stand.
 #[tactic(auto, unfolding(crate::specs::Notation::value_at))]
 fn unescaped(text: &[u8]) -> Result<(u8, &[u8]), LabelRefusal>
-    ensures read { IfOk result (λ read. (value_at true text.now ≡ with_byte read.0 (value_at false read.1.now)) × (length read.1.now < length text.now)) }
+    ensures read { IfOk result (λ read.
+        (value_at true text.now ≡ with_byte read.0 (value_at false read.1.now))
+        × (length read.1.now < length text.now)) }
     ensures refused { IfErr result (λ e. value_at true text.now ≡ Err e) }
 {
     let [first, after @ ..] = text else {

@@ -36,7 +36,8 @@ impl Sample {
 
         // Which refusal it is.
         ensures out_of_range { (result ≡ Err SampleRefusal.OutOfRange)
-            ↔ ((time : ℤ) × (pattern : ℕ) × (¬ FitsSigned w64 time) × (pattern < 2 ^ 64) × (text.now ≡ timed_text time pattern)) }
+            ↔ ((time : ℤ) × (pattern : ℕ) × (¬ FitsSigned w64 time) × (pattern < 2 ^ 64)
+            × (text.now ≡ timed_text time pattern)) }
         ensures no_sample { (result ≡ Err SampleRefusal.NotASample)
             ↔ ((time : ℤ) (pattern : ℕ) → pattern < 2 ^ 64 → text.now ≢ timed_text time pattern) }
 

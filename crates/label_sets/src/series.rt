@@ -44,7 +44,8 @@ impl Series {
 
 /// Appends a label set and samples, or a part of it where memory runs out.
 fn put_series(out: &mut Vec<u8>, labels: &LabelSet, samples: &[Sample]) -> Result<(), NoMemory>
-    ensures ok { OnOk result (out.new.items ≡ out.old.items ++ set_text labels.now ++ flat_map spaced_sample_text samples.now) }
+    ensures ok { OnOk result (out.new.items
+        ≡ out.old.items ++ set_text labels.now ++ flat_map spaced_sample_text samples.now) }
     ensures kept { take (length out.old.items) out.new.items ≡ out.old.items }
 {
     labels.write(out)?;

@@ -65,7 +65,8 @@ impl Merger {
         ensures merged { IfOk result (IsMerge self) }
         ensures deduplicated { IfOk result (λ series. IsDeduplication (triples_of series) self) }
         // where no two patterns differ at a key, there is one deduplication
-        ensures only { IfOk result (λ series. PatternsAgree self → (kept : List Triple) → IsDeduplication kept self → kept ≡ triples_of series) }
+        ensures only { IfOk result (λ series. PatternsAgree self → (kept : List Triple)
+            → IsDeduplication kept self → kept ≡ triples_of series) }
     {
         merge(self.added)
     }
@@ -84,7 +85,8 @@ fn merge(added: Vec<Series>) -> Result<SeriesList, NoMemory>
 fn sort_by_labels(series: &mut Vec<Series>) -> Result<(), NoMemory>
     ensures sorted { OnOk result (IsSortedBy has_lesser_labels series.new.items) }
     ensures stable { OnOk result (IsStableBy has_lesser_labels series.old.items series.new.items) }
-    ensures inhabited { All (λ s. s.samples ≢ []) series.old.items → All (λ s. s.samples ≢ []) series.new.items }
+    ensures inhabited { All (λ s. s.samples ≢ []) series.old.items
+        → All (λ s. s.samples ≢ []) series.new.items }
 {
     series.sort_by(|one, other| one.labels.cmp(&other.labels))?;
     Ok(())
@@ -119,7 +121,8 @@ fn join(made: &mut Vec<Series>, next: Series) -> Result<(), NoMemory>
 }
 
 fn with_samples(series: Series, more: SampleList) -> Result<Series, NoMemory>
-    ensures { IfOk result (λ made. made ≡ record { labels = series.labels; samples = series.samples ++ more }) }
+    ensures { IfOk result (λ made. made
+        ≡ record { labels = series.labels; samples = series.samples ++ more }) }
 {
     let Series { labels, samples } = series;
     let mut samples = samples.into_vec();
@@ -132,7 +135,8 @@ fn with_samples(series: Series, more: SampleList) -> Result<Series, NoMemory>
 
 /// The series with the first pattern at each time.
 fn first_of_each(series: Vec<Series>) -> Result<SeriesList, NoMemory>
-    ensures { IfOk result (λ made. made ≡ map (λ s. record { labels = s.labels; samples = first_samples s.samples }) series.items) }
+    ensures { IfOk result (λ made. made
+        ≡ map (λ s. record { labels = s.labels; samples = first_samples s.samples }) series.items) }
 {
     let mut made = SeriesList::new(*series.allocator());
     for one in series {
