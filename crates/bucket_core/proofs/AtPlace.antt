@@ -1,5 +1,6 @@
 -- The edits at a place of a list.
-use Rattle.std.proofs.Common.{◌≡◌, ℕ, ◌≤◌, ◌<◌, zero, suc, Bool, true, false, cond, List, [], ◌∷◌, ◌++◌, length, take, drop, set, get_or, refl, sym, ◌∙◌, ap, subst, inl, inr, arith, Some, None}
+use Rattle.std.proofs.Common.{◌≡◌, ℕ, ◌<◌, zero, suc, Bool, true, false, cond, List, [], ◌∷◌, ◌++◌, length, take, drop, set, get_or, sym, ◌∙◌, ap, subst, inl, inr, arith, Some, None}
+use Rattle.std.proofs.lemmas.List.{drop_all, set_split}
 use Rattle.std.specs.List.{insert, remove, list_all, AllByRecursion}
 use Rattle.std.specs.Str.{bytes_eq}
 use Rattle.std.proofs.lemmas.Bool.{and_from, cases_lt, cases_Bool, false_from_ne_true}
@@ -9,17 +10,6 @@ use Rattle.bucket_core.specs.Contents.{is_key}
 use Rattle.bucket_core.specs.declared.stored.Stored.{Stored}
 use Rattle.bucket_core.specs.Stored.{is_before, in_order, have_keys, object_in, updated, IsPlace, IsUpdated, StandsAt}
 use Rattle.bucket_core.proofs.Edits.{replaced_behind, inserted_behind, removed_behind, in_order-drop, found_behind, nothing_here, same_text, eq_refl, after_all, comes_after}
-
-set_is : {X : Type 0} (xs : List X) (i : ℕ) (v : X) → i < length xs → set xs i v ≡ take i xs ++ v ∷ drop (suc i) xs
-set_is [] i v lt = absurd (omega arith)
-set_is (x ∷ xs) zero v lt = refl
-set_is (x ∷ xs) (suc i) v lt = ap (λ r. x ∷ r) (set_is xs i v (omega arith))
-
-drop_past : {X : Type 0} (xs : List X) (i : ℕ) → length xs ≤ i → drop i xs ≡ []
-drop_past [] zero le = refl
-drop_past [] (suc i) le = refl
-drop_past (x ∷ xs) zero le = absurd (omega arith)
-drop_past (x ∷ xs) (suc i) le = drop_past xs i (omega arith)
 
 -- a list around the element at a place
 around : {X : Type 0} (xs : List X) (i : ℕ) (d : X) → i < length xs → take i xs ++ get_or xs i d ∷ drop (suc i) xs ≡ xs
@@ -33,7 +23,7 @@ replaced_at key objects place v ordered keys at stands vk =
     let P : List Stored → Type 0 = λ old. IsUpdated key (Some v.bytes) old (set objects place v) in
     let Q : List Stored → Type 0 = λ new. IsUpdated key (Some v.bytes) (take place objects ++ o ∷ drop (suc place) objects) new in
     subst P whole
-    (subst Q (sym (set_is objects place v stands.0))
+    (subst Q (sym (set_split objects place v stands.0))
     (replaced_behind key (take place objects) o v (drop (suc place) objects)
     (ap in_order whole ∙ ordered) (ap have_keys whole ∙ keys)
     (ap in_order (sym (drop-cons objects place v stands.0)) ∙ in_order-drop place objects ordered)
@@ -73,7 +63,7 @@ behind_free v objects place ordered at free =
           let after = comes_after o v.key (head_fails (is_before v.key) objects place v lt at.back) (first_differs v.key objects place v lt free) in
           ap (λ l. list_all (λ l'. is_before l'.key v) l) here
           ∙ and_from (is_before o.key v) (list_all (λ l. is_before l.key v) (drop (suc place) objects)) after (after_all v.key o (drop (suc place) objects) there after))
-      | inr past ↦ ap (λ l. list_all (λ l'. is_before l'.key v) l) (drop_past objects place past)
+      | inr past ↦ ap (λ l. list_all (λ l'. is_before l'.key v) l) (drop_all place objects past)
     ]
 
 pub inserted_at : (v : Stored) (objects : List Stored) (place : ℕ) → in_order objects ≡ true → have_keys objects ≡ true
@@ -96,7 +86,7 @@ none_behind key objects place ordered at free =
           let there : in_order (o ∷ drop (suc place) objects) ≡ true = ap in_order (sym here) ∙ in_order-drop place objects ordered in
           ap (λ l. object_in l key) here
           ∙ nothing_here key o (drop (suc place) objects) there (head_fails (is_before key) objects place d lt at.back) (first_differs key objects place d lt free))
-      | inr past ↦ ap (λ l. object_in l key) (drop_past objects place past)
+      | inr past ↦ ap (λ l. object_in l key) (drop_all place objects past)
     ]
 
 unmoved : (key : List ℕ) (objects : List Stored) → object_in objects key ≡ None → (q : List ℕ)

@@ -5,7 +5,7 @@ use Rattle.std.specs.Str.Pattern.{FindsTextPrefix, LacksTextAt}
 use Rattle.std.proofs.lemmas.Bool.{eqb-true, eq-eqb, cases_Bool}
 use Rattle.std.specs.Bool.{◌==◌}
 use denote.Ref.{Bor}
-use Rattle.bucket_core.specs.Stored.{text_after, name_of}
+use Rattle.bucket_core.specs.Stored.{text_after}
 
 eq_self : (n : ℕ) → (n == n) ≡ true
 eq_self n = eq-eqb n n refl
@@ -66,8 +66,3 @@ pub stripped_slash : (text : List ℕ) (r : Option (Bor (List ℕ))) → MatchOp
     → option_map (λ x. x.now) r ≡ text_after (47 ∷ []) text
 stripped_slash text None lacks = text_after_is (47 ∷ []) text None lacks
 stripped_slash text (Some x) found = text_after_is (47 ∷ []) text (Some x) found
-
--- a folder's names
-pub name_of-folder : (within key : List ℕ) → (within ≡ [] → ⊥) → name_of within key ≡ text_after (within ++ 47 ∷ []) key
-name_of-folder [] key given = absurd (given refl)
-name_of-folder (b ∷ within) key given = refl

@@ -1,5 +1,6 @@
 -- What is picked behind the cursor's place is the page.
 use Rattle.std.proofs.Common.{◌≡◌, ◌⊎◌, ℕ, zero, suc, Bool, true, false, cond, List, [], ◌∷◌, ◌++◌, length, take, drop, refl, sym, ◌∙◌, ap, subst, inl, inr, arith, Option, Some, None}
+use Rattle.std.proofs.lemmas.List.Elements.{All-from_recursion}
 use Rattle.std.specs.Prelude.{◌==◌, IsSome, is_some}
 use Rattle.std.specs.List.{list_all, AllByRecursion}
 use Rattle.std.specs.Option.{option_map_or}
@@ -15,7 +16,7 @@ use Rattle.bucket_core.specs.declared.stored.Stored.{Stored}
 use Rattle.bucket_core.specs.Stored.{first_part, key_cmp, is_before, in_order, object_in, is_below, name_of, names_of, text_after, picked, IsPlace, IsStart}
 use Rattle.bucket_core.proofs.Edits.{same_text, eq_refl, in_order-drop}
 use Rattle.bucket_core.proofs.Order.{root_skipped, folder_cmp, folder_key, folder_name, names_rise, key_between, not_below}
-use Rattle.bucket_core.proofs.Picks.{Among, contains_among, all_of, at_among, Rises, picked_ascends, picked_few, picked_within, picked_whole}
+use Rattle.bucket_core.proofs.Picks.{Among, contains_among, at_among, Rises, picked_ascends, picked_few, picked_within, picked_whole}
 use Rattle.bucket_core.proofs.Places.{lt_less}
 
 -- what stands, stands for a member
@@ -106,7 +107,7 @@ page_is objects within after limit place ordered skipped behind =
     record {
       ascend = picked_ascends after limit names;
       few = picked_few after limit names;
-      stand = all_of (IsName (object_in objects) within) page
+      stand = All-from_recursion (IsName (object_in objects) within) page
           (picked_within (IsName (object_in objects) within) after limit names
           (names_stand within (object_in objects) back (λ o among. member_stands objects o (among_drop o place objects among))));
       whole = λ name is due. (let found : (p : Stored) × Among p objects × (p.key ≡ is.0) = stands_for objects is.0 is.1 in
@@ -117,7 +118,7 @@ page_is objects within after limit place ordered skipped behind =
                 let t : is_below after name ≡ true = ap is_lt due in cc)
             | inr there ↦ elim (picked_whole after limit names name (names_in_order within back (in_order-drop place objects ordered)) (behind found.0 name there named) (ap is_lt due)) [
               | inl among ↦ inl (contains_among name page among)
-              | inr full ↦ inr (full.0, all_of (λ listed. Before listed name) page full.1)
+              | inr full ↦ inr (full.0, All-from_recursion (λ listed. Before listed name) page full.1)
             ]
           ]);
     }

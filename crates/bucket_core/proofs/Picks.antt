@@ -1,6 +1,6 @@
 -- What is picked from a rising list of names.
 use Rattle.std.proofs.Common.{◌≡◌, ◌⊎◌, ℕ, ◌≤◌, ◌-◌, zero, suc, true, false, cond, List, [], ◌∷◌, length, refl, sym, ◌∙◌, ap, subst, inl, inr, arith}
-use Rattle.std.specs.Prelude.{◌==◌, All, Contains}
+use Rattle.std.specs.Prelude.{◌==◌, Contains}
 use Rattle.std.specs.List.{AllByRecursion}
 use Rattle.std.specs.Ordering.{nat_cmp, is_lt, ordering_reverse}
 use Rattle.std.specs.Cmp.Lexicographic.{slice_cmp}
@@ -21,11 +21,6 @@ pub contains_among : {X : Type 0} (x : X) (xs : List X) → Among x xs → Conta
 contains_among x [] among = absurd among
 contains_among x (y ∷ xs) (inl same) = (0, omega arith, same)
 contains_among x (y ∷ xs) (inr among) = let found : Contains xs x = contains_among x xs among in (suc found.0, omega arith, found.2)
-
-pub all_of : {X : Type 0} (P : X → Type 0) (xs : List X) → AllByRecursion P xs → All P xs
-all_of P [] all k d lt = absurd (omega arith)
-all_of P (x ∷ xs) all zero d lt = all.0
-all_of P (x ∷ xs) all (suc k) d lt = all_of P xs all.1 k d (omega arith)
 
 pub at_among : {X : Type 0} (P : X → Type 0) (x : X) (xs : List X) → AllByRecursion P xs → Among x xs → P x
 at_among P x [] all among = absurd among

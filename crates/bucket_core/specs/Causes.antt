@@ -1,5 +1,5 @@
 -- Counts of faults: a failure is answered only where the count rose in the call.
-use Rattle.std.specs.Prelude.{ℕ, ◌+◌, ◌-◌, ◌^◌, ◌≤◌, min, Bool, true, false}
+use Rattle.std.specs.Prelude.{◌≡◌, ℕ, ◌+◌, ◌-◌, ◌^◌, ◌≤◌, min, Bool, true, false, IsTrue}
 use Rattle.bucket_core.specs.declared.answer.PutAnswer.{PutAnswer}
 use Rattle.bucket_core.specs.declared.answer.PutAnswer.TheVariants as put
 use Rattle.bucket_core.specs.declared.answer.GetAnswer.{GetAnswer}
@@ -16,6 +16,13 @@ use Rattle.bucket_core.specs.declared.answer.WriteAnswer.TheVariants as write
 -- the count went up by one at least, or stands at the end of its type
 abbrev pub Rose : ℕ → ℕ → Type 0
 Rose before now = min (before + 1) (2 ^ 64 - 1) ≤ now
+
+-- A call took a bucket from `old` to `new`, and failed or not: the count of faults does not fall, a failure makes it rise, and
+-- a quiet bucket does not fail and stays quiet.
+pub record KeepsFaults {B : Type 0} (faults : B → ℕ) (quiet : B → Type 0) (old new : B) (failed : Bool) : Type 0 where
+  pub later : faults old ≤ faults new
+  pub cause : IsTrue failed → Rose (faults old) (faults new)
+  pub calm : quiet old → quiet new × (failed ≡ false)
 
 -- whether a call failed, by its answer
 abbrev pub put_failed : PutAnswer → Bool

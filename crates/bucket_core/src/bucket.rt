@@ -1,5 +1,5 @@
 ghost use Rattle.std.specs.Prelude.{◌≡◌, ℕ, ◌≤◌, List, Option, Some, IsSome, IfSome, option_map, IsTrue, false};
-ghost use Rattle.bucket_core.specs.Causes.{Rose, put_failed, get_failed, delete_failed, page_failed};
+ghost use Rattle.bucket_core.specs.Causes.{KeepsFaults, put_failed, get_failed, delete_failed, page_failed};
 ghost use Rattle.bucket_core.specs.Contents.{Contents, IsKey, after_put, after_delete, range_of, Shows};
 ghost use Rattle.bucket_core.specs.Pages.{ShowsPage};
 
@@ -19,44 +19,39 @@ pub trait Bucket {
     /// Puts an object in the place of what stands under the key.
     fn put(&mut self, key: &str, bytes: &[u8]) -> PutAnswer
         requires { IsKey key.now }
-        ensures left { contents self.new ≡ option_map (after_put key.now bytes.now result) (contents self.old) }
-        ensures later { faults self.old ≤ faults self.new }
-        ensures cause { IsTrue (put_failed result) → Rose (faults self.old) (faults self.new) }
-        ensures calm { quiet self.old → quiet self.new × (put_failed result ≡ false) };
+        ensures left { contents self.new
+            ≡ option_map (after_put key.now bytes.now result) (contents self.old) }
+        ensures kept { KeepsFaults faults quiet self.old self.new (put_failed result) };
 
     /// The whole object under the key.
     fn get(&mut self, key: &str) -> GetAnswer
         ensures shown { IfSome (contents self.old) (λ c. Shows (c key.now) result) }
         ensures left { contents self.new ≡ contents self.old }
-        ensures later { faults self.old ≤ faults self.new }
-        ensures cause { IsTrue (get_failed result) → Rose (faults self.old) (faults self.new) }
-        ensures calm { quiet self.old → quiet self.new × (get_failed result ≡ false) };
+        ensures kept { KeepsFaults faults quiet self.old self.new (get_failed result) };
 
     /// The object's bytes from a place on, at most `len` of them, and none where the place is past the end.
     fn get_range(&mut self, key: &str, from: u64, len: u64) -> GetAnswer
-        ensures shown { IfSome (contents self.old) (λ c. Shows (option_map (range_of from len) (c key.now)) result) }
+        ensures shown { IfSome (contents self.old)
+            (λ c. Shows (option_map (range_of from len) (c key.now)) result) }
         ensures left { contents self.new ≡ contents self.old }
-        ensures later { faults self.old ≤ faults self.new }
-        ensures cause { IsTrue (get_failed result) → Rose (faults self.old) (faults self.new) }
-        ensures calm { quiet self.old → quiet self.new × (get_failed result ≡ false) };
+        ensures kept { KeepsFaults faults quiet self.old self.new (get_failed result) };
 
     /// Takes away what stands under the key.
     fn delete(&mut self, key: &str) -> DeleteAnswer
-        ensures left { contents self.new ≡ option_map (after_delete key.now result) (contents self.old) }
-        ensures later { faults self.old ≤ faults self.new }
-        ensures cause { IsTrue (delete_failed result) → Rose (faults self.old) (faults self.new) }
-        ensures calm { quiet self.old → quiet self.new × (delete_failed result ≡ false) };
+        ensures left { contents self.new
+            ≡ option_map (after_delete key.now result) (contents self.old) }
+        ensures kept { KeepsFaults faults quiet self.old self.new (delete_failed result) };
 
     /// The least names greater than `after`, at most `limit` of them. Without `within` a name is a key's part before
     /// its first slash; else it is the text after `within` and a slash.
     fn page(&mut self, within: &str, after: &str, limit: u32) -> PageAnswer
         requires { 1 ≤ limit }
-        ensures shown { IfSome (contents self.old) (λ c. ShowsPage c within.now after.now limit result) }
+        ensures shown { IfSome (contents self.old)
+            (λ c. ShowsPage c within.now after.now limit result) }
         ensures left { contents self.new ≡ contents self.old }
-        ensures later { faults self.old ≤ faults self.new }
-        ensures cause { IsTrue (page_failed result) → Rose (faults self.old) (faults self.new) }
-        ensures calm { quiet self.old → quiet self.new × (page_failed result ≡ false) };
+        ensures kept { KeepsFaults faults quiet self.old self.new (page_failed result) };
 
     /// Objects stand under keys alone.
-    ghost only_keys: { (bucket : Self) (c : Contents) (key : List ℕ) → contents bucket ≡ Some c → IsSome (c key) → IsKey key };
+    ghost only_keys: { (bucket : Self) (c : Contents) (key : List ℕ) → contents bucket ≡ Some c
+        → IsSome (c key) → IsKey key };
 }

@@ -51,7 +51,8 @@ fn pick_names(
     after: &str,
     limit: usize,
 ) -> Result<TextList, NoMemory>
-    ensures { IfOk result (λ names. names ≡ picked after.now limit (names_of within.now objects.now)) }
+    ensures { IfOk result
+        (λ names. names ≡ picked after.now limit (names_of within.now objects.now)) }
 {
     let mut names = List::new(alloc);
     let mut last = after;
@@ -101,7 +102,8 @@ pub(crate) fn page_of(
     limit: usize,
 ) -> Result<TextList, NoMemory>
     requires { IsTrue (in_order objects.now) }
-    ensures { IfOk result (λ names. IsPage (object_in objects.now) within.now after.now limit names) }
+    ensures { IfOk result
+        (λ names. IsPage (object_in objects.now) within.now after.now limit names) }
 {
     let start = start_of(alloc, objects, within, after)?;
     pick_names(alloc, &objects[start..], within, after, limit)

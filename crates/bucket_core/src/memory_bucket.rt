@@ -1,6 +1,6 @@
 ghost use Rattle.std.specs.Prelude.{◌≡◌, ◌≤◌, [], option_map, IsTrue, false, OnOk, OnErr};
 ghost use Rattle.bucket_core.specs.Calls.{next_call, failure_of};
-ghost use Rattle.bucket_core.specs.Causes.{Rose, put_failed, get_failed, delete_failed, page_failed};
+ghost use Rattle.bucket_core.specs.Causes.{KeepsFaults, put_failed, get_failed, delete_failed, page_failed};
 ghost use Rattle.bucket_core.specs.Contents.{Contents, IsKey, nothing, with_object, without_object, range_of, Shows};
 ghost use Rattle.bucket_core.specs.Stored.{in_order, have_keys, object_in};
 
@@ -57,7 +57,8 @@ impl MemoryBucket {
     /// Puts an object, and counts nothing.
     fn store(&mut self, key: &str, bytes: &[u8]) -> Result<(), NoMemory>
         requires { IsKey key.now }
-        ensures ok { OnOk result (objects_held self.new ≡ with_object key.now bytes.now (objects_held self.old)) }
+        ensures ok { OnOk result
+            (objects_held self.new ≡ with_object key.now bytes.now (objects_held self.old)) }
         ensures err { OnErr result (objects_held self.new ≡ objects_held self.old) }
         ensures calls { calls_made self.new ≡ calls_made self.old }
         ensures list { calls_to_fail self.new ≡ calls_to_fail self.old }
@@ -123,7 +124,7 @@ fn answer_of(alloc: Global, bytes: Option<&[u8]>) -> GetAnswer
 
 impl Bucket for MemoryBucket {
     ghost use Rattle.std.specs.Prelude.{◌≡◌, ◌≤◌, Some, IsSome, option_map, IsTrue, false};
-    ghost use Rattle.bucket_core.specs.Causes.{Rose, put_failed, get_failed, delete_failed, page_failed};
+    ghost use Rattle.bucket_core.specs.Causes.{KeepsFaults, put_failed, get_failed, delete_failed, page_failed};
     ghost use Rattle.bucket_core.specs.Contents.{IsKey, after_put, after_delete, range_of, Shows};
     ghost use Rattle.bucket_core.specs.Pages.{ShowsPage};
     ghost use Rattle.bucket_core.specs.KeyLaw.{told_is_key};
@@ -135,14 +136,14 @@ impl Bucket for MemoryBucket {
 
     ghost quiet = { IsQuiet };
 
-    ghost only_keys = { λ bucket c key told some. told_is_key bucket.objects.items bucket.keys c key told some };
+    ghost only_keys = { λ bucket c key told some. told_is_key bucket.objects.items bucket.keys c key
+        told some };
 
     fn put(&mut self, key: &str, bytes: &[u8]) -> PutAnswer
         requires { IsKey key.now }
-        ensures left { objects_held self.new ≡ after_put key.now bytes.now result (objects_held self.old) }
-        ensures later { faults_counted self.old ≤ faults_counted self.new }
-        ensures cause { IsTrue (put_failed result) → Rose (faults_counted self.old) (faults_counted self.new) }
-        ensures calm { IsQuiet self.old → IsQuiet self.new × (put_failed result ≡ false) }
+        ensures left { objects_held self.new
+            ≡ after_put key.now bytes.now result (objects_held self.old) }
+        ensures kept { KeepsFaults faults_counted IsQuiet self.old self.new (put_failed result) }
         ensures fails { PutsBy (next_failure self.old) result }
         ensures counted { CallCounted (put_failed result) self.old self.new }
     {
@@ -164,9 +165,7 @@ impl Bucket for MemoryBucket {
     fn get(&mut self, key: &str) -> GetAnswer
         ensures shown { Shows (objects_held self.old key.now) result }
         ensures left { objects_held self.new ≡ objects_held self.old }
-        ensures later { faults_counted self.old ≤ faults_counted self.new }
-        ensures cause { IsTrue (get_failed result) → Rose (faults_counted self.old) (faults_counted self.new) }
-        ensures calm { IsQuiet self.old → IsQuiet self.new × (get_failed result ≡ false) }
+        ensures kept { KeepsFaults faults_counted IsQuiet self.old self.new (get_failed result) }
         ensures fails { GetsBy (next_failure self.old) result }
         ensures counted { CallCounted (get_failed result) self.old self.new }
     {
@@ -179,11 +178,10 @@ impl Bucket for MemoryBucket {
     }
 
     fn get_range(&mut self, key: &str, from: u64, len: u64) -> GetAnswer
-        ensures shown { Shows (option_map (range_of from len) (objects_held self.old key.now)) result }
+        ensures shown { Shows
+            (option_map (range_of from len) (objects_held self.old key.now)) result }
         ensures left { objects_held self.new ≡ objects_held self.old }
-        ensures later { faults_counted self.old ≤ faults_counted self.new }
-        ensures cause { IsTrue (get_failed result) → Rose (faults_counted self.old) (faults_counted self.new) }
-        ensures calm { IsQuiet self.old → IsQuiet self.new × (get_failed result ≡ false) }
+        ensures kept { KeepsFaults faults_counted IsQuiet self.old self.new (get_failed result) }
         ensures fails { GetsBy (next_failure self.old) result }
         ensures counted { CallCounted (get_failed result) self.old self.new }
     {
@@ -200,9 +198,7 @@ impl Bucket for MemoryBucket {
 
     fn delete(&mut self, key: &str) -> DeleteAnswer
         ensures left { objects_held self.new ≡ after_delete key.now result (objects_held self.old) }
-        ensures later { faults_counted self.old ≤ faults_counted self.new }
-        ensures cause { IsTrue (delete_failed result) → Rose (faults_counted self.old) (faults_counted self.new) }
-        ensures calm { IsQuiet self.old → IsQuiet self.new × (delete_failed result ≡ false) }
+        ensures kept { KeepsFaults faults_counted IsQuiet self.old self.new (delete_failed result) }
         ensures fails { DeletesBy (next_failure self.old) result }
         ensures counted { CallCounted (delete_failed result) self.old self.new }
     {
@@ -223,9 +219,7 @@ impl Bucket for MemoryBucket {
         requires { 1 ≤ limit }
         ensures shown { ShowsPage (objects_held self.old) within.now after.now limit result }
         ensures left { objects_held self.new ≡ objects_held self.old }
-        ensures later { faults_counted self.old ≤ faults_counted self.new }
-        ensures cause { IsTrue (page_failed result) → Rose (faults_counted self.old) (faults_counted self.new) }
-        ensures calm { IsQuiet self.old → IsQuiet self.new × (page_failed result ≡ false) }
+        ensures kept { KeepsFaults faults_counted IsQuiet self.old self.new (page_failed result) }
         ensures fails { PagesBy (next_failure self.old) result }
         ensures counted { CallCounted (page_failed result) self.old self.new }
     {

@@ -64,10 +64,13 @@ impl Sink for MemorySink {
     fn write(&mut self, bytes: &[u8]) -> WriteAnswer
         ensures fits { count_taken result ≤ length bytes.now }
         ensures some { TakesSome result bytes.now }
-        ensures added { bytes_written self.new ≡ bytes_written self.old ++ take (count_taken result) bytes.now }
+        ensures added { bytes_written self.new
+            ≡ bytes_written self.old ++ take (count_taken result) bytes.now }
         ensures later { faults_counted self.old ≤ faults_counted self.new }
-        ensures cause { IsTrue (write_failed result) → Rose (faults_counted self.old) (faults_counted self.new) }
-        ensures fails { failing_call self.old ≡ Some (next_call (calls_made self.old)) → IsTrue (write_failed result) }
+        ensures cause { IsTrue (write_failed result)
+            → Rose (faults_counted self.old) (faults_counted self.new) }
+        ensures fails { failing_call self.old ≡ Some (next_call (calls_made self.old))
+            → IsTrue (write_failed result) }
         ensures counted { calls_made self.new ≡ next_call (calls_made self.old) }
         ensures same { failing_call self.new ≡ failing_call self.old }
     {

@@ -50,10 +50,13 @@ impl Site for MemorySite {
     fn open_bucket(&mut self, _name: &str) -> Result<MemoryBucket, SiteRefusal>
         ensures fresh { IfOk result (λ store. bucket_faults store ≡ 0) }
         ensures told { IfOk result (λ store. bucket_left self.old ≡ Some store) }
-        ensures counted { handed_out self.new ≡ (if is_ok result then handed_out self.old + 1 else handed_out self.old) }
+        ensures counted { handed_out self.new
+            ≡ (if is_ok result then handed_out self.old + 1 else handed_out self.old) }
         ensures later { faults_counted self.old ≤ faults_counted self.new }
-        ensures cause { result ≡ Err SiteRefusal.Failed → Rose (faults_counted self.old) (faults_counted self.new) }
-        ensures fails { result ≡ Err SiteRefusal.Failed ↔ (IsTrue (is_failing self.old) ⊎ (bucket_left self.old ≡ None)) }
+        ensures cause { result ≡ Err SiteRefusal.Failed
+            → Rose (faults_counted self.old) (faults_counted self.new) }
+        ensures fails { result ≡ Err SiteRefusal.Failed
+            ↔ (IsTrue (is_failing self.old) ⊎ (bucket_left self.old ≡ None)) }
         ensures only { result ≡ Err SiteRefusal.NoMemory → ⊥ }
         ensures same { is_failing self.new ≡ is_failing self.old }
     {

@@ -51,11 +51,14 @@ impl Source for MemorySource {
     fn read(&mut self, into: &mut [u8]) -> ReadAnswer
         requires { 0 < length into.old }
         ensures fits { count_got result ≤ length into.new }
-        ensures taken { bytes_left self.old ≡ take (count_got result) into.new ++ bytes_left self.new }
+        ensures taken { bytes_left self.old
+            ≡ take (count_got result) into.new ++ bytes_left self.new }
         ensures end { EndsWhereNone result (Some (bytes_left self.old)) }
         ensures later { faults_counted self.old ≤ faults_counted self.new }
-        ensures cause { IsTrue (read_failed result) → Rose (faults_counted self.old) (faults_counted self.new) }
-        ensures fails { IsTrue (read_failed result) ↔ (failing_call self.old ≡ Some (next_call (calls_made self.old))) }
+        ensures cause { IsTrue (read_failed result)
+            → Rose (faults_counted self.old) (faults_counted self.new) }
+        ensures fails { IsTrue (read_failed result)
+            ↔ (failing_call self.old ≡ Some (next_call (calls_made self.old))) }
         ensures counted { calls_made self.new ≡ next_call (calls_made self.old) }
         ensures same { failing_call self.new ≡ failing_call self.old }
     {

@@ -86,7 +86,8 @@ fn insert_at(objects: &mut Vec<Stored>, place: usize, object: Stored) -> Result<
     requires key { IsKey object.key }
     requires place { IsPlace object.key objects.old.items place }
     requires free { StandsAt object.key objects.old.items place → ⊥ }
-    ensures ok { OnOk result (IsUpdated object.key (Some object.bytes) objects.old.items objects.new.items) }
+    ensures ok { OnOk result
+        (IsUpdated object.key (Some object.bytes) objects.old.items objects.new.items) }
     ensures err { OnErr result (objects.new.items ≡ objects.old.items) }
 {
     objects.insert(place, object)?;
@@ -103,7 +104,8 @@ pub(crate) fn put_in(
     requires ordered { IsTrue (in_order objects.old.items) }
     requires keys { IsTrue (have_keys objects.old.items) }
     requires key { IsKey key.now }
-    ensures ok { OnOk result (IsUpdated key.now (Some bytes.now) objects.old.items objects.new.items) }
+    ensures ok { OnOk result
+        (IsUpdated key.now (Some bytes.now) objects.old.items objects.new.items) }
     ensures err { OnErr result (objects.new.items ≡ objects.old.items) }
 {
     let place = place_of(objects.as_slice(), key);

@@ -16,7 +16,9 @@ pub trait Sink {
     fn write(&mut self, bytes: &[u8]) -> WriteAnswer
         ensures fits { count_taken result ≤ length bytes.now }
         ensures some { TakesSome result bytes.now }
-        ensures added { written self.new ≡ option_map (λ before. before ++ take (count_taken result) bytes.now) (written self.old) }
+        ensures added { written self.new
+            ≡ option_map (λ before. before ++ take (count_taken result) bytes.now)
+            (written self.old) }
         ensures later { faults self.old ≤ faults self.new }
         ensures cause { IsTrue (write_failed result) → Rose (faults self.old) (faults self.new) };
 }

@@ -20,8 +20,11 @@ pub trait Site {
     /// Hands out a bucket that has not failed yet.
     fn open_bucket(&mut self, name: &str) -> Result<Self::Store, SiteRefusal>
         ensures fresh { IfOk result (λ store. Self.Store.faults store ≡ 0) }
-        ensures told { IfOk result (λ store. IfSome (next self.old) (λ c. Self.Store.contents store ≡ Some c)) }
-        ensures counted { opened self.new ≡ (if is_ok result then opened self.old + 1 else opened self.old) }
+        ensures told { IfOk result
+            (λ store. IfSome (next self.old) (λ c. Self.Store.contents store ≡ Some c)) }
+        ensures counted { opened self.new
+            ≡ (if is_ok result then opened self.old + 1 else opened self.old) }
         ensures later { faults self.old ≤ faults self.new }
-        ensures cause { result ≡ Err SiteRefusal.Failed → Rose (faults self.old) (faults self.new) };
+        ensures cause { result ≡ Err SiteRefusal.Failed
+            → Rose (faults self.old) (faults self.new) };
 }

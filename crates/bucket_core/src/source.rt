@@ -16,7 +16,8 @@ pub trait Source {
     fn read(&mut self, into: &mut [u8]) -> ReadAnswer
         requires { 0 < length into.old }
         ensures fits { count_got result ≤ length into.new }
-        ensures taken { left self.old ≡ option_map (λ rest. take (count_got result) into.new ++ rest) (left self.new) }
+        ensures taken { left self.old
+            ≡ option_map (λ rest. take (count_got result) into.new ++ rest) (left self.new) }
         ensures end { EndsWhereNone result (left self.old) }
         ensures later { faults self.old ≤ faults self.new }
         ensures cause { IsTrue (read_failed result) → Rose (faults self.old) (faults self.new) };

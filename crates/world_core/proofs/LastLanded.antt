@@ -1,15 +1,14 @@
 -- What stands after the last landed put or delete of a key, and fronts of journals.
-use Rattle.std.proofs.Common.{◌≡◌, ◌≢◌, ℕ, ◌+◌, Bool, true, false, cond, IsTrue, Option, Some, None, List, [], ◌∷◌, ◌++◌, length, refl, sym, ap, ◌∙◌, subst, append_assoc}
-use Rattle.std.specs.List.{fold, AllByRecursion}
+use Rattle.std.proofs.Common.{◌≡◌, ◌≢◌, ℕ, Bool, true, false, cond, IsTrue, Some, None, List, [], ◌∷◌, ◌++◌, refl, ap, ◌∙◌, append_assoc}
+use Rattle.std.specs.List.{fold}
 use Rattle.std.specs.Str.{bytes_eq}
 use Rattle.std.proofs.lemmas.List.Sums.{fold-append}
 use Rattle.std.proofs.lemmas.Slice.Eq.{bytes_eq-Decides}
 use Rattle.block_keys.specs.KeyText.{key_text}
 use Rattle.block_keys.specs.declared.key.Key.{Key}
 use Rattle.bucket_core.specs.Contents.{Contents, nothing, with_object, without_object}
-use Rattle.world_core.specs.Journals.{Each, IsNumbered}
-use Rattle.world_core.specs.Moments.{moment_after, last_moment, HasMoments}
-use Rattle.world_core.specs.Standing.{has_landed, left_by, stands, Tells, IsHonest, changed_by, IsUnchanged}
+use Rattle.world_core.specs.Journals.{Each}
+use Rattle.world_core.specs.Standing.{has_landed, left_by, stands, changed_by, IsUnchanged}
 use Rattle.world_core.specs.declared.op.Op.{Op}
 use Rattle.world_core.specs.declared.op.Op.TheVariants.{Clock, Put, Get, GetRange, Delete, RootPage, BlockPage}
 use Rattle.world_core.specs.declared.reply.Reply.{Reply}

@@ -3,3 +3,4 @@ pub mod Growing
 pub mod Opening
 pub mod BlockNames
 pub mod LastLanded
+pub mod Replies

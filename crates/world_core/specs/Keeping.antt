@@ -1,5 +1,6 @@
 -- How much a journal keeps, and when it is full.
 use Rattle.std.specs.Prelude.{ℕ, ◌+◌, ◌≤◌, ◌⊎◌, List, length, sum_by}
+use Rattle.world_core.specs.Limits.{most_entries, most_kept}
 use Rattle.world_core.specs.declared.op.Op.{Op}
 use Rattle.world_core.specs.declared.op.Op.TheVariants.{Put}
 use Rattle.world_core.specs.declared.reply.Reply.{Reply}
@@ -23,4 +24,4 @@ kept_bytes entries = sum_by (λ e. bytes_put e.op + bytes_told e.reply) entries
 
 -- a journal takes no more entries: it has as many as it may, or keeps as many bytes as it may
 abbrev pub IsFull : List Entry → Type 0
-IsFull entries = (1_048_576 ≤ length entries) ⊎ (1_073_741_824 ≤ kept_bytes entries)
+IsFull entries = (most_entries ≤ length entries) ⊎ (most_kept ≤ kept_bytes entries)

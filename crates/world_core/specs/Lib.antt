@@ -1,3 +1,4 @@
+pub mod Limits
 pub mod Operations
 pub mod Journals
 pub mod Moments

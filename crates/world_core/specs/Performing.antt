@@ -1,7 +1,7 @@
 -- What doing an operation on a bucket means.
-use Rattle.std.specs.Prelude.{◌≡◌, ℕ, ◌≤◌, false, IsTrue, Option, IfSome, option_map, Result, Ok, Err, IfOk}
+use Rattle.std.specs.Prelude.{◌≡◌, ℕ, Bool, false, Option, IfSome, option_map, Result, Ok, Err, IfOk}
 use Rattle.list_core.specs.declared.memory.NoMemory.{NoMemory}
-use Rattle.bucket_core.specs.Causes.{Rose}
+use Rattle.bucket_core.specs.Causes.{KeepsFaults}
 use Rattle.bucket_core.specs.Contents.{Contents}
 use Rattle.bucket_core.specs.declared.answer.PutAnswer.{PutAnswer}
 use Rattle.bucket_core.specs.declared.answer.PutAnswer.TheVariants as put
@@ -44,16 +44,18 @@ abbrev pub left_after : Op → Result Reply NoMemory → Contents → Contents
 left_after op (Ok reply) contents = left_by op reply contents
 left_after op (Err none) contents = contents
 
+-- whether the call failed
+abbrev pub is_failure : Result Reply NoMemory → Bool
+is_failure (Ok reply) = has_failed reply
+is_failure (Err none) = false
+
 -- An operation took a bucket from `old` to `new`.
 pub record IsPerformed {B : Type 0} (contents : B → Option Contents) (faults : B → ℕ) (quiet : B → Type 0) (old : B) (op : Op) (result : Result Reply NoMemory) (new : B) : Type 0 where
   pub kind : IfOk result (λ reply. IsReplyTo op reply)
   -- where the bucket tells what it holds, the reply shows it
   pub told : IfSome (contents old) (λ c. IfOk result (λ reply. Tells c op reply))
   pub left : contents new ≡ option_map (left_after op result) (contents old)
-  -- a failure has its cause in the bucket
-  pub later : faults old ≤ faults new
-  pub cause : IfOk result (λ reply. IsTrue (has_failed reply) → Rose (faults old) (faults new))
-  pub calm : quiet old → quiet new × IfOk result (λ reply. has_failed reply ≡ false)
+  pub kept : KeepsFaults faults quiet old new (is_failure result)
 
 -- the reply that was told, if one was
 abbrev pub reply_seen : Result Seen NoMemory → Result Reply NoMemory

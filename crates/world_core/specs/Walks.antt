@@ -4,6 +4,7 @@ use Rattle.std.specs.Prelude.{◌≡◌, ◌⊎◌, ℕ, Bool, true, ◌&&◌, n
 use Rattle.std.specs.List.{last_or}
 use Rattle.std.specs.Ordering.{is_lt, nat_cmp}
 use Rattle.std.specs.Cmp.Lexicographic.{slice_cmp}
+use Rattle.world_core.specs.Limits.{most_listed}
 use Rattle.world_core.specs.declared.op.Op.{Op}
 use Rattle.world_core.specs.declared.reply.Reply.{Reply}
 use Rattle.world_core.specs.declared.reply.Reply.TheVariants.{Names, Failed}
@@ -33,7 +34,7 @@ pub record WalkEnds (E : Type 0) : Type 0 where
   pub fault : ℕ → E
   -- a name is not greater than the one before it
   pub damaged : ℕ → E
-  -- 1,000,000 names were listed, and the last page was not a short one
+  -- as many names were listed as may be, and the last page was not a short one
   pub too_many : E
 
 -- What follows a page: its names are tested first, then its length, and then how many names were listed. `next` follows
@@ -43,7 +44,7 @@ AfterPage ends limit listed seq (Names names) next more entries end =
     MatchBool (ascends (last_listed listed) names)
     (MatchBool (nat_lt (length names) limit)
     (next (listed ++ names))
-    (MatchBool (nat_le 1_000_000 (length (listed ++ names))) (EndsWith ends.too_many entries end) (more (listed ++ names))))
+    (MatchBool (nat_le most_listed (length (listed ++ names))) (EndsWith ends.too_many entries end) (more (listed ++ names))))
     (EndsWith (ends.damaged seq) entries end)
 AfterPage ends limit listed seq (Failed landed) next more entries end = EndsWith (ends.fault seq) entries end
 AfterPage ends limit listed seq reply next more entries end = ⊥

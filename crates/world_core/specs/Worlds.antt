@@ -5,6 +5,7 @@ use Rattle.bucket_core.specs.Contents.{Contents}
 use Rattle.world_core.specs.Operations.{IsLawful, IsReplyTo, has_failed}
 use Rattle.world_core.specs.Journals.{Each, IsNumbered}
 use Rattle.world_core.specs.Keeping.{kept_bytes}
+use Rattle.world_core.specs.Limits.{longest_tick, most_entries}
 use Rattle.world_core.specs.Moments.{HasMoments, last_moment}
 use Rattle.world_core.specs.Standing.{stands, left_by, IsHonest}
 use Rattle.world_core.specs.declared.op.Op.{Op}
@@ -24,7 +25,7 @@ failed_count entries = count_by (λ e. has_failed e.reply) entries
 
 -- what holds of a world's journal
 pub record IsJournal (tick : ℕ) (journal : List Entry) : Type 0 where
-  pub few : length journal ≤ 1_048_576
+  pub few : length journal ≤ most_entries
   pub numbered : IsNumbered journal
   pub lawful : Each (λ before e. IsLawful e.op) journal
   pub kinds : Each (λ before e. IsReplyTo e.op e.reply) journal
@@ -46,9 +47,9 @@ pub record IsWorld {B : Type 0} (contents : B → Option Contents) (faults : B �
 
 -- what a world keeps beside: the moment of the last entry, and how many bytes the journal keeps
 pub record IsCounted (tick : ℕ) (journal : List Entry) (last kept : ℕ) : Type 0 where
-  pub short : tick ≤ 86_400_000
+  pub short : tick ≤ longest_tick
   pub latest : last ≡ last_moment journal
-  pub bound : last ≤ 2 ^ 47 + 86_400_000 * length journal
+  pub bound : last ≤ 2 ^ 47 + longest_tick * length journal
   pub size : kept ≡ min (kept_bytes journal) (2 ^ 64 - 1)
 
 pub record IsSound {B : Type 0} (contents : B → Option Contents) (faults : B → ℕ) (bucket : B) (journal : List Entry) (tick last kept : ℕ) : Type 0 where

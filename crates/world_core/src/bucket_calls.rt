@@ -31,7 +31,8 @@ pub(crate) fn perform<B: Bucket>(alloc: Global, bucket: &mut B, op: &Op) -> Resu
 
 fn put<B: Bucket>(alloc: Global, bucket: &mut B, key: Key, bytes: &Blob) -> Result<Reply, NoMemory>
     requires { IsLawfulKey key }
-    ensures { IsPerformed B.contents B.faults B.quiet bucket.old (Op.Put key bytes.now) result bucket.new }
+    ensures { IsPerformed B.contents B.faults B.quiet bucket.old
+        (Op.Put key bytes.now) result bucket.new }
 {
     let name = key.text(alloc)?;
     put_reply(bucket.put(name.as_str(), bytes.bytes()))
@@ -53,7 +54,8 @@ fn get_range<B: Bucket>(
     len: u64,
 ) -> Result<Reply, NoMemory>
     requires { IsLawfulKey key }
-    ensures { IsPerformed B.contents B.faults B.quiet bucket.old (Op.GetRange key from len) result bucket.new }
+    ensures { IsPerformed B.contents B.faults B.quiet bucket.old
+        (Op.GetRange key from len) result bucket.new }
 {
     let name = key.text(alloc)?;
     get_reply(bucket.get_range(name.as_str(), from, len))
@@ -69,7 +71,8 @@ fn delete<B: Bucket>(alloc: Global, bucket: &mut B, key: Key) -> Result<Reply, N
 
 fn root_page<B: Bucket>(bucket: &mut B, after: &Text, limit: u32) -> Result<Reply, NoMemory>
     requires { 1 ≤ limit }
-    ensures { IsPerformed B.contents B.faults B.quiet bucket.old (Op.RootPage after.now limit) result bucket.new }
+    ensures { IsPerformed B.contents B.faults B.quiet bucket.old
+        (Op.RootPage after.now limit) result bucket.new }
 {
     page_reply(bucket.page("", after.as_str(), limit))
 }
@@ -82,7 +85,8 @@ fn block_page<B: Bucket>(
     limit: u32,
 ) -> Result<Reply, NoMemory>
     requires { 1 ≤ limit }
-    ensures { IsPerformed B.contents B.faults B.quiet bucket.old (Op.BlockPage ulid after.now limit) result bucket.new }
+    ensures { IsPerformed B.contents B.faults B.quiet bucket.old
+        (Op.BlockPage ulid after.now limit) result bucket.new }
 {
     let name = block_name(alloc, ulid)?;
     page_reply(bucket.page(name.as_str(), after.as_str(), limit))

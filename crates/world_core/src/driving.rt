@@ -1,8 +1,10 @@
 ghost use Rattle.std.specs.Prelude.{◌≡◌, ◌||◌, IfSome};
 ghost use Rattle.world_core.specs.Keeping.{IsFull};
 ghost use Rattle.world_core.specs.Machines.{Drives, is_driven_full};
+ghost use Rattle.world_core.specs.Worlds.{WorldGoesOn};
 
-use crate::{Act, Acted, Driven, Hand, Machine};
+use crate::{Act, Acted, Driven, Hand, Machine, World, WorldHand};
+use bucket_core::Bucket;
 use list_core::NoMemory;
 
 /// Runs a machine to its end, or until as many operations are answered as `stop` says.
@@ -14,8 +16,8 @@ pub fn drive<M: Machine, H: Hand>(
     stop: Option<u32>,
 ) -> Driven<M::End>
     requires { M.fresh machine.old }
-    ensures run { Drives (λ made end. M.may machine.old made end machine.new) (H.seat hand.old) stop result
-        (H.entries hand.old) (H.entries hand.new) }
+    ensures run { Drives (λ made end. M.may machine.old made end machine.new)
+        (H.seat hand.old) stop result (H.entries hand.old) (H.entries hand.new) }
     ensures seat { H.seat hand.new ≡ H.seat hand.old }
     ensures keeps { H.keeps hand.old hand.new }
     ensures refused { H.refused hand.new ≡ (H.refused hand.old || is_driven_full result) }
@@ -44,4 +46,23 @@ pub fn drive<M: Machine, H: Hand>(
             Err(NoMemory) => return Driven::NoMemory,
         };
     }
+}
+
+/// Drives a machine over a world from one seat, and hands the world back.
+pub fn drive_over<M: Machine, B: Bucket>(
+    machine: &mut M,
+    world: World<B>,
+    seat: u32,
+    stop: Option<u32>,
+) -> (Driven<M::End>, World<B>)
+    requires { M.fresh machine.old }
+    ensures run { Drives
+        (λ made end. M.may machine.old made end machine.new) seat stop result.0 world.journal
+        result.1.journal }
+    ensures keeps { WorldGoesOn B.faults B.quiet world result.1 }
+    ensures full { result.0 ≡ Driven.Full → IsFull result.1.journal }
+{
+    let mut hand = WorldHand::new(world, seat);
+    let driven = drive(machine, &mut hand, stop);
+    (driven, hand.into_world())
 }

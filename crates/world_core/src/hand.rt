@@ -39,5 +39,6 @@ pub trait Hand {
     ghost keeps_none: { (hand : Self) → keeps hand hand };
 
     /// What is kept by one operation after another is kept by both.
-    ghost keeps_more: { (first next last : Self) → keeps first next → keeps next last → keeps first last };
+    ghost keeps_more: { (first next last : Self) → keeps first next → keeps next last
+        → keeps first last };
 }

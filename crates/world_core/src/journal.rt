@@ -1,6 +1,7 @@
 ghost use Rattle.std.specs.Prelude.{◌≡◌, ◌↔◌, ℕ, ◌+◌, ◌≤◌, ◌<◌, IsTrue, List, [], ◌∷◌, ◌++◌, length, IfOk, OnErr};
 ghost use Rattle.std.specs.Option.{option_copied};
 ghost use Rattle.world_core.specs.Journals.{entry_at};
+ghost use Rattle.world_core.specs.Limits.{most_entries};
 ghost use Rattle.world_core.specs.Operations.{IsLawful, entry_of};
 ghost use Rattle.world_core.specs.Performing.{IsPerformed, reply_seen};
 
@@ -77,13 +78,14 @@ impl Journal {
         moment: Moment,
         op: Op,
     ) -> Result<Seen, NoMemory>
-        requires few { length self.old < 1048576 }
+        requires few { length self.old < most_entries }
         requires lawful { IsLawful op }
         ensures added { IfOk result (λ seen. self.new ≡ self.old ++ entry_of seat op seen ∷ []) }
         ensures seq { IfOk result (λ seen. seen.seq ≡ length self.old + 1) }
         ensures moment { IfOk result (λ seen. seen.moment ≡ moment) }
         ensures err { OnErr result (self.new ≡ self.old) }
-        ensures performed { IsPerformed B.contents B.faults B.quiet bucket.old op (reply_seen result) bucket.new }
+        ensures performed { IsPerformed B.contents B.faults B.quiet bucket.old op
+            (reply_seen result) bucket.new }
     {
         self.entries.reserve(1)?;
         let seq = self.entries.len() as u64 + 1;

@@ -15,12 +15,15 @@ pub fn last_landed_stands()
     ensures deleted { (before after : List Entry) (e : Entry) (key : Key) →
         e.op ≡ Delete key → IsTrue (has_landed e.reply) → IsUnchanged (key_text key) after →
         stands (before ++ e ∷ after) (key_text key) ≡ None }
-    ensures never_put { (entries : List Entry) (text : List ℕ) → IsUnchanged text entries → stands entries text ≡ None }
+    ensures never_put { (entries : List Entry) (text : List ℕ) → IsUnchanged text entries
+        → stands entries text ≡ None }
 {}
 
 /// A law: each front of a journal is one, with its numbers and its moments, and each front of an honest journal is honest.
 pub fn fronts_are_journals()
-    ensures numbers { (front others : List Entry) → IsNumbered (front ++ others) → IsNumbered front }
-    ensures moments { (tick : ℕ) (front others : List Entry) → HasMoments tick (front ++ others) → HasMoments tick front }
+    ensures numbers { (front others : List Entry) → IsNumbered (front ++ others)
+        → IsNumbered front }
+    ensures moments { (tick : ℕ) (front others : List Entry) → HasMoments tick (front ++ others)
+        → HasMoments tick front }
     ensures honest { (front others : List Entry) → IsHonest (front ++ others) → IsHonest front }
 {}

@@ -22,7 +22,7 @@ mod world_hand;
 pub use act::Act;
 pub use acted::Acted;
 pub use driven::Driven;
-pub use driving::drive;
+pub use driving::{drive, drive_over};
 pub use entry::{Entry, EntryList};
 pub use hand::Hand;
 pub use journal::Journal;

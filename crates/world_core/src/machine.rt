@@ -37,6 +37,7 @@ pub trait Machine {
     /// Goes on with the reply to the operation that it asked for.
     fn step(&mut self, seen: Seen) -> Result<Act<Self::End>, NoMemory>
         requires { IsSomeAnd (asked self.old) (λ op. IsAnswer op seen) }
-        ensures goes_on { (seat : ℕ) (op : Op) → asked self.old ≡ Some op → GoesOn may asked self.old (entry_of seat op seen ∷ []) result self.new }
+        ensures goes_on { (seat : ℕ) (op : Op) → asked self.old ≡ Some op
+            → GoesOn may asked self.old (entry_of seat op seen ∷ []) result self.new }
         ensures falls { Falls (measure self.old) result (measure self.new) };
 }

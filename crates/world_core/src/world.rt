@@ -3,6 +3,7 @@ ghost use Rattle.bucket_core.specs.Contents.{nothing};
 ghost use Rattle.bucket_core.specs.Pages.{IsPage};
 ghost use Rattle.world_core.specs.Standing.{Tells};
 ghost use Rattle.world_core.specs.Keeping.{IsFull};
+ghost use Rattle.world_core.specs.Limits.{longest_tick, most_entries};
 ghost use Rattle.world_core.specs.Operations.{IsLawful, IsAnswer, has_failed};
 ghost use Rattle.bucket_core.specs.Causes.{Rose};
 ghost use Rattle.world_core.specs.Machines.{gained, IfDone, IfNotDone};
@@ -36,7 +37,8 @@ impl<B: Bucket> Model for World<B> {
 
     ghost view = { λ w. record { bucket = w.bucket; journal = w.journal; tick = w.tick.ms } };
 
-    ghost invariant = { λ w. IsSound B.contents B.faults w.bucket w.journal w.tick.ms w.last.ms w.kept };
+    ghost invariant = { λ w. IsSound B.contents B.faults w.bucket w.journal w.tick.ms w.last.ms
+        w.kept };
 }
 
 impl<B: Bucket> World<B> {
@@ -44,10 +46,11 @@ impl<B: Bucket> World<B> {
 
     /// Opens an empty bucket. It asks for one page of names, which is no entry. Each operation takes a tick of time.
     pub fn open(alloc: Global, mut bucket: B, tick: Span) -> Result<World<B>, (OpenRefusal, B)>
-        requires { tick.ms ≤ 86400000 }
+        requires { tick.ms ≤ longest_tick }
         ensures journal { IfOk result (λ world. world.journal ≡ []) }
         ensures tick { IfOk result (λ world. world.tick ≡ tick.ms) }
-        ensures kept { MatchResult result (λ world. B.contents world.bucket ≡ B.contents bucket) (λ e. B.contents e.1 ≡ B.contents bucket) }
+        ensures kept { MatchResult result (λ world. B.contents world.bucket ≡ B.contents bucket)
+            (λ e. B.contents e.1 ≡ B.contents bucket) }
 
         // A bucket that tells what it holds is opened where nothing stands, and else names its least name.
         ensures empty { IfOk result (λ world. IfSome (B.contents bucket) (λ c. c ≡ nothing)) }
@@ -55,9 +58,13 @@ impl<B: Bucket> World<B> {
             IfSome (B.contents bucket) (λ c. IsPage c [] [] 1 (name ∷ []))) }
 
         // A failure has its cause in the bucket.
-        ensures later { MatchResult result (λ world. B.faults bucket ≤ B.faults world.bucket) (λ e. B.faults bucket ≤ B.faults e.1) }
-        ensures failed { IfErr result (λ e. e.0 ≡ OpenRefusal.Failed → Rose (B.faults bucket) (B.faults e.1)) }
-        ensures calm { B.quiet bucket → MatchResult result (λ world. B.quiet world.bucket) (λ e. B.quiet e.1 × (e.0 ≢ OpenRefusal.Failed)) }
+        ensures later { MatchResult result (λ world. B.faults bucket ≤ B.faults world.bucket)
+            (λ e. B.faults bucket ≤ B.faults e.1) }
+        ensures failed { IfErr result
+            (λ e. e.0 ≡ OpenRefusal.Failed → Rose (B.faults bucket) (B.faults e.1)) }
+        ensures calm { B.quiet bucket
+            → MatchResult result (λ world. B.quiet world.bucket)
+            (λ e. B.quiet e.1 × (e.0 ≢ OpenRefusal.Failed)) }
         ensures holds { IfOk result (λ world. IsWorld B.contents B.faults world) }
     {
         let refusal = match bucket.page("", "", 1) {
@@ -87,20 +94,28 @@ impl<B: Bucket> World<B> {
         ensures added { self.new.journal ≡ self.old.journal ++ gained seat op result }
         ensures answer { IfDone result (IsAnswer op) }
         ensures seq { IfDone result (λ seen. seen.seq ≡ length self.old.journal + 1) }
-        ensures moment { IfDone result (λ seen. seen.moment.ms ≡ moment_after self.old.tick (last_moment self.old.journal) op) }
+        ensures moment { IfDone result
+            (λ seen. seen.moment.ms
+            ≡ moment_after self.old.tick (last_moment self.old.journal) op) }
         ensures tick { self.new.tick ≡ self.old.tick }
         ensures unchanged { result ≡ Acted.Full → self.new ≡ self.old }
         ensures as_before { IfNotDone result
-            ((self.new.journal ≡ self.old.journal) × (B.contents self.new.bucket ≡ B.contents self.old.bucket)) }
+            ((self.new.journal ≡ self.old.journal)
+            × (B.contents self.new.bucket ≡ B.contents self.old.bucket)) }
 
         // Where the bucket tells what it holds, the reply shows it, and what is left follows from the reply.
-        ensures told { IfSome (B.contents self.old.bucket) (λ c. IfDone result (λ seen. Tells c op seen.reply)) }
-        ensures left { B.contents self.new.bucket ≡ option_map (left_by_act op result) (B.contents self.old.bucket) }
+        ensures told { IfSome (B.contents self.old.bucket)
+            (λ c. IfDone result (λ seen. Tells c op seen.reply)) }
+        ensures left { B.contents self.new.bucket
+            ≡ option_map (left_by_act op result) (B.contents self.old.bucket) }
 
         // A failure has its cause in the bucket.
         ensures later { B.faults self.old.bucket ≤ B.faults self.new.bucket }
-        ensures cause { IfDone result (λ seen. IsTrue (has_failed seen.reply) → Rose (B.faults self.old.bucket) (B.faults self.new.bucket)) }
-        ensures calm { B.quiet self.old.bucket → B.quiet self.new.bucket × IfDone result (λ seen. has_failed seen.reply ≡ false) }
+        ensures cause { IfDone result
+            (λ seen. IsTrue (has_failed seen.reply)
+            → Rose (B.faults self.old.bucket) (B.faults self.new.bucket)) }
+        ensures calm { B.quiet self.old.bucket → B.quiet self.new.bucket
+            × IfDone result (λ seen. has_failed seen.reply ≡ false) }
         ensures holds { IsWorld B.contents B.faults self.new }
     {
         if self.is_full() {
@@ -149,9 +164,10 @@ impl<B: Bucket> World<B> {
 
     /// The moment of the next entry.
     fn moment_of(&self, op: &Op) -> Moment
-        requires room { length self.now.journal < 1048576 }
+        requires room { length self.now.journal < most_entries }
         requires lawful { IsLawful op.now }
-        ensures value { result.ms ≡ moment_after self.now.tick (last_moment self.now.journal) op.now }
+        ensures value { result.ms
+            ≡ moment_after self.now.tick (last_moment self.now.journal) op.now }
         ensures bound { result.ms < 2 ^ 48 }
     {
         match op {

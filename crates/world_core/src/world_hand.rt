@@ -48,7 +48,8 @@ impl<B: Bucket> Hand for WorldHand<B> {
 
     ghost keeps_none = { λ hand. goes_on-none B.faults B.quiet hand.world };
 
-    ghost keeps_more = { λ first next last. goes_on-more B.faults B.quiet first.world next.world last.world };
+    ghost keeps_more = { λ first next last. goes_on-more B.faults B.quiet first.world next.world
+        last.world };
 
     fn act(&mut self, op: Op) -> Acted {
         let acted = self.world.act(self.seat, op);
