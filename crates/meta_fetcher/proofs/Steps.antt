@@ -1,5 +1,6 @@
 -- A sync's steps are those of its run.
 use Rattle.std.proofs.Common.{◌≡◌, ℕ, Bool, true, false, List, [], ◌∷◌, ◌++◌, length, refl, sym, ◌∙◌, ap, subst, inl, inr, Option, Some, None, unwrap_or, Result, Ok, Err}
+use Rattle.world_core.proofs.Replies.{answer_of, kind_of}
 use Rattle.std.specs.Prelude.{IsSomeAnd, MatchBool, MatchOption, nat_lt, nat_le}
 use Rattle.list_core.specs.declared.memory.NoMemory.{NoMemory}
 use Rattle.block_keys.specs.declared.key.Key.{Key}
@@ -79,9 +80,6 @@ meta_stops k ulid mark_read meta_read seq reply.Stored next onward kind n o = ab
 meta_stops k ulid mark_read meta_read seq reply.Deleted next onward kind n o = absurd kind
 meta_stops k ulid mark_read meta_read seq (reply.Names ns) next onward kind n o = absurd kind
 
-kind_of : (p o : Op) (r : Reply) → Some p ≡ Some o → IsReplyTo o r → IsReplyTo p r
-kind_of p o r is kind = let same : o ≡ p = cc in subst (λ q. IsReplyTo q r) same kind
-
 -- and as soon as its operation was answered
 pub stops_after : (stage : Stage) (s : Sync) (o : Op) (seen : Seen) → asked_at stage s ≡ Some o → IsReplyTo o seen.reply
     → after_at stage s seen.seq seen.moment seen.reply [] None
@@ -107,9 +105,6 @@ entry_at Listing s seat o seen entries end asks after =
     λ names last listed. (let cursor : unwrap_or (last_listed names) [] ≡ s.after = ap (λ l. unwrap_or l []) last in cc, after names last listed)
 entry_at (Marking ulid) s seat o seen entries end asks after = (cc, after)
 entry_at (Reading ulid) s seat o seen entries end asks after = (cc, after)
-
-answer_of : (seen : Seen) (asked : Option Op) (o : Op) → IsSomeAnd asked (λ p. IsAnswer p seen) → asked ≡ Some o → IsAnswer o seen
-answer_of seen asked o some is = subst (λ a. IsSomeAnd a (λ p. IsAnswer p seen)) is some
 
 asks_as : (s new : Sync) (made : List Entry) (o : Op) → IsLawful o → asked_sync new ≡ Some o
     → ((entries : List Entry) (end : Option SyncEnd) (last : Sync) → may_sync new entries end last → may_sync s (made ++ entries) end last)

@@ -3,6 +3,7 @@ use Rattle.std.specs.Prelude.{◌≡◌, ℕ, ◌+◌, ◌-◌, ◌*◌, ◌^◌
 use Rattle.block_keys.specs.declared.key.Key.TheVariants as key
 use Rattle.list_core.specs.declared.memory.NoMemory.{NoMemory}
 use Rattle.moment_core.specs.declared.moment.Moment.{Moment}
+use Rattle.world_core.specs.Limits.{most_listed}
 use Rattle.world_core.specs.Operations.{IsLawful}
 use Rattle.world_core.specs.Walks.{AfterPage, EndsWith, last_listed}
 use Rattle.world_core.specs.declared.op.Op.{Op}
@@ -83,9 +84,9 @@ may_sync sync entries end last = may_at sync.stage sync entries end
 
 -- at most so many operations are still asked for, and one more
 abbrev pub left_at : Stage → Sync → ℕ
-left_at Fresh sync = 2 * length sync.waiting.items + 3 * (1_000_000 - sync.listed) + 2 ^ 34 + 1
-left_at Opening sync = 2 * length sync.waiting.items + 3 * (1_000_000 - sync.listed) + 2 ^ 34
-left_at Listing sync = 2 * length sync.waiting.items + 3 * (1_000_000 - sync.listed) + 2 ^ 34
+left_at Fresh sync = 2 * length sync.waiting.items + 3 * (most_listed - sync.listed) + 2 ^ 34 + 1
+left_at Opening sync = 2 * length sync.waiting.items + 3 * (most_listed - sync.listed) + 2 ^ 34
+left_at Listing sync = 2 * length sync.waiting.items + 3 * (most_listed - sync.listed) + 2 ^ 34
 left_at (Marking ulid) sync = 2 * length sync.waiting.items + 2
 left_at (Reading ulid) sync = 2 * length sync.waiting.items + 1
 
@@ -98,7 +99,7 @@ after_names sync more entries end =
     (names : List (List ℕ)) → HasListed sync names
     → MatchBool (nat_lt (length more) sync.rules.page_limit)
     (Reads (views sync sync.last entries) [] (ulids_in (names ++ more)) entries end)
-    (MatchBool (nat_le 1_000_000 (length (names ++ more))) (EndsWith TooMany entries end)
+    (MatchBool (nat_le most_listed (length (names ++ more))) (EndsWith TooMany entries end)
     (SyncsFrom sync.rules sync.first sync.begin sync.last (names ++ more) entries end))
 
 -- what may follow the page after the name `before`, if there is one, where the first entry has that number and moment

@@ -17,7 +17,8 @@ pub(crate) fn kept_blocks(mut found: Vec<Found>, rules: SyncRules) -> FoundList
 }
 
 fn keep_in_partition(found: &mut Vec<Found>, partition: Partition)
-    ensures { found.new.items ≡ filter (λ block. is_in_partition block.meta partition) found.old.items }
+    ensures { found.new.items
+        ≡ filter (λ block. is_in_partition block.meta partition) found.old.items }
 {
     found.retain(|block| in_partition(&block.meta, &partition));
 }

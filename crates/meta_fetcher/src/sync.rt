@@ -54,7 +54,9 @@ impl Sync {
     pub fn start(alloc: Global, rules: SyncRules) -> Result<Sync, NoMemory>
         requires { 1 ≤ rules.page_limit }
         ensures begun { IfOk result IsFresh }
-        ensures run { IfOk result (λ sync. (entries : List Entry) (end : Option SyncEnd) (last : _) → may_sync sync entries end last → SyncRun rules entries end) }
+        ensures run { IfOk result
+            (λ sync. (entries : List Entry) (end : Option SyncEnd) (last : _)
+            → may_sync sync entries end last → SyncRun rules entries end) }
     {
         let none = Moment { ms: 0 };
         Ok(Sync {
@@ -72,10 +74,11 @@ impl Sync {
     }
 
     /// Goes on after the first page of names.
-    fn opened(&mut self, seen: Seen) -> Result<Act<SyncEnd>, NoMemory>
+    fn after_first_page(&mut self, seen: Seen) -> Result<Act<SyncEnd>, NoMemory>
         requires stage { self.old.stage ≡ Stage.Opening }
         requires answer { IsSomeAnd (asked_sync self.old) (λ op. IsAnswer op seen) }
-        ensures leads { Leads (after_at Stage.Opening self.old seen.seq seen.moment seen.reply) result self.new }
+        ensures leads { Leads
+            (after_at Stage.Opening self.old seen.seq seen.moment seen.reply) result self.new }
         ensures falls { Falls (left_at Stage.Opening self.old) result (left_sync self.new) }
     {
         let Seen { seq, moment, reply } = seen;
@@ -94,10 +97,11 @@ impl Sync {
     }
 
     /// Goes on after a further page of names.
-    fn listed_more(&mut self, seen: Seen) -> Result<Act<SyncEnd>, NoMemory>
+    fn after_next_page(&mut self, seen: Seen) -> Result<Act<SyncEnd>, NoMemory>
         requires stage { self.old.stage ≡ Stage.Listing }
         requires answer { IsSomeAnd (asked_sync self.old) (λ op. IsAnswer op seen) }
-        ensures leads { Leads (after_at Stage.Listing self.old seen.seq seen.moment seen.reply) result self.new }
+        ensures leads { Leads
+            (after_at Stage.Listing self.old seen.seq seen.moment seen.reply) result self.new }
         ensures falls { Falls (left_at Stage.Listing self.old) result (left_sync self.new) }
     {
         let Seen { seq, moment, reply } = seen;
@@ -147,7 +151,8 @@ impl Sync {
 
     /// The view of what was found.
     fn take_view(&mut self) -> View
-        ensures { IsView self.old.rules self.old.first self.old.begin self.old.last (map sighting_of self.old.found.items) result }
+        ensures { IsView self.old.rules self.old.first self.old.begin self.old.last
+            (map sighting_of self.old.found.items) result }
     {
         let found = mem::replace(&mut self.found, Vec::new(self.alloc));
         View {
@@ -160,10 +165,12 @@ impl Sync {
     }
 
     /// Goes on after the look for the mark of a block.
-    fn marked(&mut self, ulid: Ulid, seen: Seen) -> Result<Act<SyncEnd>, NoMemory>
+    fn after_mark(&mut self, ulid: Ulid, seen: Seen) -> Result<Act<SyncEnd>, NoMemory>
         requires stage { self.old.stage ≡ Stage.Marking ulid }
         requires answer { IsSomeAnd (asked_sync self.old) (λ op. IsAnswer op seen) }
-        ensures leads { Leads (after_at (Stage.Marking ulid) self.old seen.seq seen.moment seen.reply) result self.new }
+        ensures leads { Leads
+            (after_at (Stage.Marking ulid) self.old seen.seq seen.moment seen.reply) result
+            self.new }
         ensures falls { Falls (left_at (Stage.Marking ulid) self.old) result (left_sync self.new) }
     {
         let Seen { seq, moment, reply } = seen;
@@ -187,10 +194,12 @@ impl Sync {
     }
 
     /// Goes on after the read of the meta of a block.
-    fn meta_read(&mut self, ulid: Ulid, seen: Seen) -> Result<Act<SyncEnd>, NoMemory>
+    fn after_meta(&mut self, ulid: Ulid, seen: Seen) -> Result<Act<SyncEnd>, NoMemory>
         requires stage { self.old.stage ≡ Stage.Reading ulid }
         requires answer { IsSomeAnd (asked_sync self.old) (λ op. IsAnswer op seen) }
-        ensures leads { Leads (after_at (Stage.Reading ulid) self.old seen.seq seen.moment seen.reply) result self.new }
+        ensures leads { Leads
+            (after_at (Stage.Reading ulid) self.old seen.seq seen.moment seen.reply) result
+            self.new }
         ensures falls { Falls (left_at (Stage.Reading ulid) self.old) result (left_sync self.new) }
     {
         let Seen { seq, moment, reply } = seen;
@@ -241,10 +250,10 @@ impl Machine for Sync {
         let stage = self.stage;
         match stage {
             Stage::Fresh => unreachable!(),
-            Stage::Opening => self.opened(seen),
-            Stage::Listing => self.listed_more(seen),
-            Stage::Marking(ulid) => self.marked(ulid, seen),
-            Stage::Reading(ulid) => self.meta_read(ulid, seen),
+            Stage::Opening => self.after_first_page(seen),
+            Stage::Listing => self.after_next_page(seen),
+            Stage::Marking(ulid) => self.after_mark(ulid, seen),
+            Stage::Reading(ulid) => self.after_meta(ulid, seen),
         }
     }
 }

@@ -1,5 +1,7 @@
 -- An upload's steps are those of its run.
 use Rattle.std.proofs.Common.{◌≡◌, ℕ, ◌≤◌, ◌<◌, ◌+◌, ◌-◌, zero, suc, Bool, true, List, [], ◌∷◌, ◌++◌, length, drop, refl, sym, ◌∙◌, ap, subst, inl, inr, arith, Option, Some, None, option_map, Result, Ok, Err}
+use Rattle.world_core.proofs.Replies.{answer_of}
+use Rattle.std.proofs.lemmas.List.{drop_all}
 use Rattle.std.specs.List.{slice_get}
 use Rattle.std.specs.Prelude.{IsSomeAnd, IfOk, OnOk, nat_le}
 use Rattle.list_core.specs.declared.memory.NoMemory.{NoMemory}
@@ -164,9 +166,6 @@ look_entry u seat o seen entries end looking asks after =
     (let e : Some (op.Get (key.Meta u.ulid)) ≡ Some o = sym (ap (λ s. asked_at s u.ulid u.objects.items u.place) looking) ∙ asks in cc) in
     subst (λ s. may_at s u.ulid u.objects.items u.place (entry_of seat o seen ∷ entries) end) (sym looking) (sym is, after)
 
-answer_of : (seen : Seen) (asked : Option Op) (o : Op) → IsSomeAnd asked (λ p. IsAnswer p seen) → asked ≡ Some o → IsAnswer o seen
-answer_of seen asked o some is = subst (λ a. IsSomeAnd a (λ p. IsAnswer p seen)) is some
-
 -- a call that asks for the put at the place, or finds no memory
 pub goes_put : (old new : Upload) (objects : List Object) (place : ℕ) (made : List Entry) (r : Result (Act UploadEnd) NoMemory)
     → IfOk r (PutsNext objects place) → OnOk r (new.stage ≡ Putting) → new.objects.items ≡ objects → new.place ≡ place
@@ -212,11 +211,6 @@ look_goes u new seat o seen r looking answer found failed puts waits same_object
     (subst (λ (l : List Object). PutsRun (length u.objects.items) l entries end) (drop_none u.objects.items) run)))
     (look_entry u seat o seen [] None looking asks (look_answered u.objects.items u.ulid seen.seq seen.reply kind))
 
--- a look that ends the run
-pub look_ends : (u : Upload) (seat : ℕ) (o : Op) (seen : Seen) (end : UploadEnd) → u.stage ≡ Looking → asked_upload u ≡ Some o
-    → AfterLook u.objects.items seen.seq seen.reply [] (Some end) → may_upload u (entry_of seat o seen ∷ []) (Some end) u
-look_ends u seat o seen end looking asks after = look_entry u seat o seen [] (Some end) looking asks after
-
 -- a put's entry, by its reply
 put_entry_of : (u : Upload) (seat : ℕ) (o : Op) (seen : Seen) (entries : List Entry) (end : Option UploadEnd) → u.stage ≡ Putting → asked_upload u ≡ Some o
     → AfterPut (PutsRun (length u.objects.items) (drop (u.place + 1) u.objects.items)) seen.seq seen.reply entries end
@@ -246,12 +240,6 @@ put_fails u seat o seen landed putting asks failed =
     put_entry_of u seat o seen [] (Some (Fault seen.seq)) putting asks
     (subst (λ p. AfterPut (PutsRun (length u.objects.items) (drop (u.place + 1) u.objects.items)) seen.seq p [] (Some (Fault seen.seq))) (sym failed) (refl, inr refl))
 
-drop_all : {X : Type 0} (xs : List X) (n : ℕ) → length xs ≤ n → drop n xs ≡ []
-drop_all [] zero le = refl
-drop_all [] (suc n) le = refl
-drop_all (x ∷ xs) zero le = absurd (omega arith)
-drop_all (x ∷ xs) (suc n) le = drop_all xs n (omega arith)
-
 -- the last put was stored
 pub put_last : (u : Upload) (seat : ℕ) (o : Op) (seen : Seen) → u.stage ≡ Putting → IsSomeAnd (asked_upload u) (λ p. IsAnswer p seen) → asked_upload u ≡ Some o
     → ((l : Bool) → seen.reply ≡ reply.Failed l → ⊥) → u.place + 1 ≡ length u.objects.items
@@ -261,7 +249,7 @@ put_last u seat o seen putting answer asks failed last =
     let stored : seen.reply ≡ reply.Stored = stored_reply kind.0.key kind.0.bytes seen.reply kind.1 failed in
     put_entry_of u seat o seen [] (Some (Done (u.place + 1))) putting asks
     (subst (λ p. AfterPut (PutsRun (length u.objects.items) (drop (u.place + 1) u.objects.items)) seen.seq p [] (Some (Done (u.place + 1)))) (sym stored)
-    (subst (λ (l : List Object). PutsRun (length u.objects.items) l [] (Some (Done (u.place + 1)))) (sym (drop_all u.objects.items (u.place + 1) (omega arith)))
+    (subst (λ (l : List Object). PutsRun (length u.objects.items) l [] (Some (Done (u.place + 1)))) (sym (drop_all (u.place + 1) u.objects.items (omega arith)))
     (refl, inr (ap (λ n. Some (Done n)) last))))
 
 -- the next put follows one that was stored

@@ -1,3 +1,4 @@
+pub mod Limits
 pub mod UploadStates
 pub mod Uploads
 pub mod Waiting

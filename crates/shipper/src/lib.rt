@@ -7,6 +7,3 @@ mod upload_end;
 
 pub use upload::Upload;
 pub use upload_end::UploadEnd;
-
-#[cfg(test)]
-mod tests;

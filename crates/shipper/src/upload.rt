@@ -5,6 +5,7 @@ ghost use Rattle.world_core.specs.declared.op.Op.{Op};
 ghost use Rattle.world_core.specs.declared.entry.Entry.{Entry};
 ghost use Rattle.shipper.specs.declared.upload_end.UploadEnd.{UploadEnd};
 ghost use Rattle.block_keys.specs.Blocks.{IsBlock};
+ghost use Rattle.shipper.specs.Limits.{most_objects};
 ghost use Rattle.shipper.specs.Waiting.{have_lawful_keys, asked_at, left_at, PutsNext};
 ghost use Rattle.shipper.specs.Uploads.{UploadRun};
 
@@ -23,7 +24,7 @@ pub struct Upload {
     place: usize,
     stage: Stage,
     ghost keys: { IsTrue (have_lawful_keys objects.items) },
-    ghost few: { length objects.items ≤ 1_000_001 },
+    ghost few: { length objects.items ≤ most_objects },
     ghost within: { place < length objects.items },
 }
 
@@ -34,7 +35,10 @@ impl Upload {
     pub fn start(objects: ObjectList) -> Result<Upload, NoMemory>
         requires { (ulid : ℕ) × IsBlock ulid objects }
         ensures begun { IfOk result IsFresh }
-        ensures run { (ulid : ℕ) → IsBlock ulid objects → IfOk result (λ upload. (entries : List Entry) (end : Option UploadEnd) (last : _) → may_upload upload entries end last → UploadRun ulid objects entries end) }
+        ensures run { (ulid : ℕ) → IsBlock ulid objects
+            → IfOk result
+            (λ upload. (entries : List Entry) (end : Option UploadEnd) (last : _)
+            → may_upload upload entries end last → UploadRun ulid objects entries end) }
     {
         let objects = objects.into_vec();
         let ulid = objects[0].key.ulid();
@@ -63,8 +67,10 @@ impl Upload {
     fn after_look(&mut self, seen: Seen) -> Result<Act<UploadEnd>, NoMemory>
         requires stage { self.old.stage ≡ Stage.Looking }
         requires answer { IsSomeAnd (asked_upload self.old) (λ op. IsAnswer op seen) }
-        ensures goes_on { (seat : ℕ) (op : Op) → asked_upload self.old ≡ Some op → GoesOn may_upload asked_upload self.old (entry_of seat op seen ∷ []) result self.new }
-        ensures falls { Falls (left_at self.old.stage self.old.objects.items self.old.place) result (left_at self.new.stage self.new.objects.items self.new.place) }
+        ensures goes_on { (seat : ℕ) (op : Op) → asked_upload self.old ≡ Some op
+            → GoesOn may_upload asked_upload self.old (entry_of seat op seen ∷ []) result self.new }
+        ensures falls { Falls (left_at self.old.stage self.old.objects.items self.old.place) result
+            (left_at self.new.stage self.new.objects.items self.new.place) }
     {
         match seen.reply {
             Reply::Found(_) => Ok(Act::Done(UploadEnd::Already)),
@@ -80,8 +86,10 @@ impl Upload {
     fn after_put(&mut self, seen: Seen) -> Result<Act<UploadEnd>, NoMemory>
         requires stage { self.old.stage ≡ Stage.Putting }
         requires answer { IsSomeAnd (asked_upload self.old) (λ op. IsAnswer op seen) }
-        ensures goes_on { (seat : ℕ) (op : Op) → asked_upload self.old ≡ Some op → GoesOn may_upload asked_upload self.old (entry_of seat op seen ∷ []) result self.new }
-        ensures falls { Falls (left_at self.old.stage self.old.objects.items self.old.place) result (left_at self.new.stage self.new.objects.items self.new.place) }
+        ensures goes_on { (seat : ℕ) (op : Op) → asked_upload self.old ≡ Some op
+            → GoesOn may_upload asked_upload self.old (entry_of seat op seen ∷ []) result self.new }
+        ensures falls { Falls (left_at self.old.stage self.old.objects.items self.old.place) result
+            (left_at self.new.stage self.new.objects.items self.new.place) }
     {
         if let Reply::Failed(_) = seen.reply {
             return Ok(Act::Done(UploadEnd::Fault(seen.seq)));

@@ -3,7 +3,8 @@ use Rattle.std.proofs.Common.{◌≡◌, ℕ, zero, suc, ◌+◌, ◌*◌, ◌-�
 use Rattle.std.specs.Prelude.{nat_lt}
 use Rattle.std.specs.List.{filter, position, position_or_len}
 use Rattle.std.proofs.lemmas.Bool.Decides.{nat_tests}
-use Rattle.std.proofs.lemmas.List.{length-drop}
+use Rattle.std.proofs.lemmas.Bool.{ltb-false}
+use Rattle.std.proofs.lemmas.List.{drop_all, nil_from_length, take_rest}
 use Rattle.list_core.specs.declared.memory.NoMemory.{NoMemory}
 use Rattle.world_core.specs.declared.act.Act.{Act}
 use Rattle.world_core.specs.Machines.{Falls}
@@ -53,10 +54,6 @@ starts query (b ∷ bs) place is = by_bool (meets query b)
 pub first_meets : (query : Query) (blocks : List Found) → StartsMeeting query blocks → 1 ≤ length blocks → FirstMeets query blocks
 first_meets query [] met some = absurd (omega arith)
 first_meets query (b ∷ bs) met some = met
-
-pub none_left : (blocks : List Found) → length blocks ≡ 0 → blocks ≡ []
-none_left [] e = refl
-none_left (b ∷ bs) e = absurd (omega arith)
 
 -- the first of the blocks that are left, and those after it
 pub record HeadOf (query : Query) (blocks : List Found) (block : Found) : Type 0 where
@@ -114,15 +111,6 @@ fewer query blocks block first = let e : length (to_read query blocks) ≡ suc (
 
 -- ---- the place of the first block
 
-take_all : {X : Type 0} (xs : List X) (n : ℕ) → length xs ≤ n → take n xs ≡ xs
-take_all [] zero le = refl
-take_all [] (suc n) le = refl
-take_all (x ∷ xs) zero le = absurd (omega arith)
-take_all (x ∷ xs) (suc n) le = ap (λ ys. x ∷ ys) (take_all xs n (omega arith))
-
-pub rest_is : {X : Type 0} (xs : List X) (n : ℕ) → take (length xs - n) (drop n xs) ≡ drop n xs
-rest_is xs n = take_all (drop n xs) (length xs - n) (let e : length (drop n xs) ≡ length xs - n = length-drop n xs in omega (arith, e))
-
 some_place : (b : Bool) (place first : ℕ) → Some place ≡ cond b (Some first) None → place ≡ first
 some_place true place first e = cc
 some_place false place first e = absurd cc
@@ -138,27 +126,20 @@ none_meets query (b ∷ bs) le = by_bool (meets query b)
     (λ f. let e : position_or_len (meets query) (b ∷ bs) ≡ suc (position_or_len (meets query) bs) = place_later query b bs f in
     passed_over query b bs f ∙ none_meets query bs (omega (arith, e, le)))
 
-not_below : (m n : ℕ) → nat_lt m n ≡ false → n ≤ m
-not_below m n e = grind (arith, nat_tests)
-
 pub from_place : (query : Query) (blocks : List Found) (place : ℕ) → Some place ≡ position (meets query) blocks
     → (to_read query (take (length blocks - place) (drop place blocks)) ≡ to_read query blocks) × StartsMeeting query (take (length blocks - place) (drop place blocks))
 from_place query blocks place e =
     let is : place ≡ position_or_len (meets query) blocks = some_place (nat_lt (position_or_len (meets query) blocks) (length blocks)) place (position_or_len (meets query) blocks) e in (
-      ap (to_read query) (rest_is blocks place) ∙ skipped query blocks place is,
-      subst (StartsMeeting query) (sym (rest_is blocks place)) (starts query blocks place is),
+      ap (to_read query) (take_rest blocks place) ∙ skipped query blocks place is,
+      subst (StartsMeeting query) (sym (take_rest blocks place)) (starts query blocks place is),
     )
-
-drop_end : {X : Type 0} (xs : List X) → drop (length xs) xs ≡ []
-drop_end [] = refl
-drop_end (x ∷ xs) = drop_end xs
 
 pub from_none : (query : Query) (blocks : List Found) → None ≡ position (meets query) blocks
     → (to_read query (take (length blocks - length blocks) (drop (length blocks) blocks)) ≡ to_read query blocks) × StartsMeeting query (take (length blocks - length blocks) (drop (length blocks) blocks))
 from_none query blocks e =
     let beyond : length blocks ≤ position_or_len (meets query) blocks =
-    not_below (position_or_len (meets query) blocks) (length blocks) (no_place (nat_lt (position_or_len (meets query) blocks) (length blocks)) (position_or_len (meets query) blocks) e) in
-    let none : take (length blocks - length blocks) (drop (length blocks) blocks) ≡ [] = rest_is blocks (length blocks) ∙ drop_end blocks in (
+    ltb-false (position_or_len (meets query) blocks) (length blocks) (no_place (nat_lt (position_or_len (meets query) blocks) (length blocks)) (position_or_len (meets query) blocks) e) in
+    let none : take (length blocks - length blocks) (drop (length blocks) blocks) ≡ [] = take_rest blocks (length blocks) ∙ drop_all (length blocks) blocks (omega arith) in (
       ap (to_read query) none ∙ sym (none_meets query blocks beyond),
       subst (StartsMeeting query) (sym none) tt,
     )
@@ -169,7 +150,7 @@ from_none query blocks e =
 pub answers_none : (query own : Query) (sources : List ℕ) (taken : List Triple) (rest blocks : List Found) (r : Result (Act SeriesEnd) NoMemory) (new : Calling)
     → own ≡ query → to_read own rest ≡ to_read own blocks → length rest < 1 → Leads (Answers taken sources) r new → Leads (Reads query sources taken (to_read query blocks)) r new
 answers_none query own sources taken rest blocks r new is same none leads =
-    let empty : rest ≡ [] = none_left rest (omega arith) in
+    let empty : rest ≡ [] = nil_from_length rest (omega arith) in
     let nothing : to_read query blocks ≡ [] = ap (λ q. to_read q blocks) (sym is) ∙ sym same ∙ ap (to_read own) empty in
     subst (λ left. Leads (Reads query sources taken left) r new) (sym nothing) leads
 

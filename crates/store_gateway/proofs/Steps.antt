@@ -1,5 +1,6 @@
 -- A series call's steps are those of its run.
 use Rattle.std.proofs.Common.{◌≡◌, ◌⊎◌, ℕ, Bool, true, false, List, [], ◌∷◌, ◌++◌, refl, sym, ◌∙◌, ap, subst, inl, inr, Option, Some, None, Result, Ok, Err}
+use Rattle.world_core.proofs.Replies.{answer_of, kind_of}
 use Rattle.std.specs.Prelude.{IsSomeAnd, MatchBool}
 use Rattle.std.specs.Str.{bytes_eq}
 use Rattle.list_core.specs.declared.memory.NoMemory.{NoMemory}
@@ -41,9 +42,6 @@ either : (b : Bool) (X Y : Type 0) → X → Y → MatchBool b X Y
 either true X Y x y = x
 either false X Y x y = y
 
-kind_of : (p o : Op) (r : Reply) → Some p ≡ Some o → IsReplyTo o r → IsReplyTo p r
-kind_of p o r is kind = let same : o ≡ p = cc in subst (λ q. IsReplyTo q r) same kind
-
 -- a call that waits may be stopped before its operation
 pub stops : (stage : Stage) (left : List ToRead) (call : Calling) (o : Op) → asked_at stage left ≡ Some o → may_at stage left call [] None
 stops Indexing (b ∷ bs) call o asks = refl
@@ -74,9 +72,6 @@ entry_at Fresh left call seat o seen entries end asks after = absurd after
 entry_at Over left call seat o seen entries end asks after = absurd after
 entry_at Indexing [] call seat o seen entries end asks after = absurd after
 entry_at Reading [] call seat o seen entries end asks after = absurd after
-
-answer_of : (seen : Seen) (asked : Option Op) (o : Op) → IsSomeAnd asked (λ p. IsAnswer p seen) → asked ≡ Some o → IsAnswer o seen
-answer_of seen asked o some is = subst (λ a. IsSomeAnd a (λ p. IsAnswer p seen)) is some
 
 asks_as : (call new : Calling) (made : List Entry) (o : Op) → IsLawful o → asked_call new ≡ Some o
     → ((entries : List Entry) (end : Option SeriesEnd) (last : Calling) → may_call new entries end last → may_call call (made ++ entries) end last)

@@ -4,4 +4,5 @@ pub use Rattle.vertical_merge.specs.Merged
 pub use Rattle.matchers.specs.Selected
 pub use Rattle.block_files.specs.PlainForm
 pub mod SeriesRuns
+pub mod Queries
 pub mod Calls

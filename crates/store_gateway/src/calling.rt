@@ -7,6 +7,7 @@ ghost use Rattle.world_core.specs.declared.entry.Entry.{Entry};
 ghost use Rattle.store_gateway.specs.declared.series_end.SeriesEnd.{SeriesEnd};
 ghost use Rattle.store_gateway.specs.declared.stage.Stage.TheVariants as stage;
 ghost use Rattle.store_gateway.specs.SeriesRuns.{asking, meets, to_read, Answers, AfterIndex, Reads, SeriesRun};
+ghost use Rattle.store_gateway.specs.Queries.{query_of};
 ghost use Rattle.store_gateway.specs.Calls.{Calling, StartsMeeting, IsFresh, asked_call, may_call, may_at, after_at, after_bytes, after_series, left_at, left_call, Leads};
 
 use crate::select::{Wanted, add_wanted, all_sources, meets};
@@ -36,7 +37,9 @@ impl<'a> SeriesCall<'a> {
         high: i64,
     ) -> Result<SeriesCall<'a>, NoMemory>
         ensures begun { IfOk result IsFresh }
-        ensures run { IfOk result (λ call. (entries : List Entry) (end : Option SeriesEnd) (last : Calling) → may_call call entries end last
+        ensures run { IfOk result
+            (λ call. (entries : List Entry) (end : Option SeriesEnd) (last : Calling)
+            → may_call call entries end last
             → SeriesRun view.now (asking selector.now replicas.now low high) entries end) }
     {
         let kept = view.kept.members();
@@ -57,8 +60,11 @@ impl<'a> SeriesCall<'a> {
 
     /// Asks for the index of the first of these blocks that meets the range, or answers where there is none.
     fn read_from(&mut self, blocks: &'a [Found]) -> Result<Act<SeriesEnd>, NoMemory>
-        ensures leads { Leads (Reads self.old.query self.old.sources self.old.taken (to_read self.old.query blocks.now)) result self.new }
-        ensures falls { Falls (2 * length (to_read self.old.query blocks.now) + 1) result (left_call self.new) }
+        ensures leads { Leads
+            (Reads self.old.query self.old.sources self.old.taken
+            (to_read self.old.query blocks.now)) result self.new }
+        ensures falls { Falls (2 * length (to_read self.old.query blocks.now) + 1) result
+            (left_call self.new) }
     {
         let blocks = from_first_meeting(blocks, self.wanted);
         match blocks {
@@ -84,10 +90,11 @@ impl<'a> SeriesCall<'a> {
     }
 
     /// Goes on after the read of an index.
-    fn indexed(&mut self, seen: Seen) -> Result<Act<SeriesEnd>, NoMemory>
+    fn after_index(&mut self, seen: Seen) -> Result<Act<SeriesEnd>, NoMemory>
         requires stage { self.old.stage ≡ stage.Indexing }
         requires answer { IsSomeAnd (asked_call self.old) (λ op. IsAnswer op seen) }
-        ensures leads { Leads (after_at stage.Indexing self.old.left self.old seen.seq seen.reply) result self.new }
+        ensures leads { Leads
+            (after_at stage.Indexing self.old.left self.old seen.seq seen.reply) result self.new }
         ensures falls { Falls (left_at stage.Indexing self.old.left) result (left_call self.new) }
     {
         let Seen {
@@ -105,7 +112,9 @@ impl<'a> SeriesCall<'a> {
 
     fn take_index(&mut self, seq: u64, bytes: &Blob) -> Result<Act<SeriesEnd>, NoMemory>
         requires { self.old.stage ≡ stage.Indexing }
-        ensures leads { Leads (AfterIndex seq bytes.now (may_at stage.Reading self.old.left self.old)) result self.new }
+        ensures leads { Leads
+            (AfterIndex seq bytes.now (may_at stage.Reading self.old.left self.old)) result
+            self.new }
         ensures falls { Falls (left_at stage.Indexing self.old.left) result (left_call self.new) }
     {
         match read_plain_index(bytes.bytes()) {
@@ -130,10 +139,11 @@ impl<'a> SeriesCall<'a> {
     }
 
     /// Goes on after the read of a segment.
-    fn read(&mut self, seen: Seen) -> Result<Act<SeriesEnd>, NoMemory>
+    fn after_segment(&mut self, seen: Seen) -> Result<Act<SeriesEnd>, NoMemory>
         requires stage { self.old.stage ≡ stage.Reading }
         requires answer { IsSomeAnd (asked_call self.old) (λ op. IsAnswer op seen) }
-        ensures leads { Leads (after_at stage.Reading self.old.left self.old seen.seq seen.reply) result self.new }
+        ensures leads { Leads
+            (after_at stage.Reading self.old.left self.old seen.seq seen.reply) result self.new }
         ensures falls { Falls (left_at stage.Reading self.old.left) result (left_call self.new) }
     {
         let Seen {
@@ -180,8 +190,9 @@ impl<'a> SeriesCall<'a> {
 
 /// The blocks from the first one on that meets the range.
 fn from_first_meeting<'a>(blocks: &'a [Found], asked: Wanted<'_>) -> &'a [Found]
-    ensures same { let query = asking asked.entry.selector.now asked.entry.replicas.now asked.entry.low asked.entry.high in to_read query result.now ≡ to_read query blocks.now }
-    ensures first { StartsMeeting (asking asked.entry.selector.now asked.entry.replicas.now asked.entry.low asked.entry.high) result.now }
+    ensures same { to_read (query_of asked.entry) result.now
+        ≡ to_read (query_of asked.entry) blocks.now }
+    ensures first { StartsMeeting (query_of asked.entry) result.now }
 {
     match place_meeting(blocks, asked) {
         Some(place) => &blocks[place..],
@@ -190,7 +201,7 @@ fn from_first_meeting<'a>(blocks: &'a [Found], asked: Wanted<'_>) -> &'a [Found]
 }
 
 fn place_meeting(blocks: &[Found], asked: Wanted<'_>) -> Option<usize>
-    ensures place { result ≡ position (meets (asking asked.entry.selector.now asked.entry.replicas.now asked.entry.low asked.entry.high)) blocks.now }
+    ensures place { result ≡ position (meets (query_of asked.entry)) blocks.now }
     ensures within { IfSome result (λ place. place < length blocks.now) }
 {
     blocks.iter().position(|block| meets(block, asked))
@@ -214,8 +225,8 @@ impl<'a> Machine for SeriesCall<'a> {
 
     fn step(&mut self, seen: Seen) -> Result<Act<SeriesEnd>, NoMemory> {
         match self.stage {
-            Stage::Indexing => self.indexed(seen),
-            Stage::Reading => self.read(seen),
+            Stage::Indexing => self.after_index(seen),
+            Stage::Reading => self.after_segment(seen),
             Stage::Fresh | Stage::Over => unreachable!(),
         }
     }

@@ -1,7 +1,8 @@
 ghost use Rattle.std.specs.Prelude.{◌≡◌, [], ◌∷◌, ◌++◌, IfOk, OnOk};
 ghost use Rattle.std.specs.List.{filter};
 ghost use Rattle.matchers.specs.Selected.{is_within};
-ghost use Rattle.store_gateway.specs.SeriesRuns.{asking, wanted, IsSetOf, sources_of, meets};
+ghost use Rattle.store_gateway.specs.SeriesRuns.{wanted, IsSetOf, sources_of, meets};
+ghost use Rattle.store_gateway.specs.Queries.{query_of};
 
 use label_sets::{LabelSet, Sample, SampleList, Series, SeriesList, TextList, final_labels};
 use list_core::NoMemory;
@@ -28,7 +29,8 @@ pub(crate) fn add_wanted(
     series: SeriesList,
     merger: &mut Merger,
 ) -> Result<(), NoMemory>
-    ensures { OnOk result (merger.new ≡ merger.old ++ wanted (asking asked.entry.selector.now asked.entry.replicas.now asked.entry.low asked.entry.high) external.now series) }
+    ensures { OnOk result
+        (merger.new ≡ merger.old ++ wanted (query_of asked.entry) external.now series) }
 {
     for one in series.into_vec() {
         add_series(alloc, asked, external, one, merger)?;
@@ -43,7 +45,8 @@ fn add_series(
     series: Series,
     merger: &mut Merger,
 ) -> Result<(), NoMemory>
-    ensures { OnOk result (merger.new ≡ merger.old ++ wanted (asking asked.entry.selector.now asked.entry.replicas.now asked.entry.low asked.entry.high) external.now (series ∷ [])) }
+    ensures { OnOk result
+        (merger.new ≡ merger.old ++ wanted (query_of asked.entry) external.now (series ∷ [])) }
 {
     let labels = final_labels(alloc, &series.labels, external, asked.replicas)?;
     if asked.selector.matches(&labels)? {
@@ -65,7 +68,7 @@ fn samples_between(samples: SampleList, asked: Wanted<'_>) -> SampleList
 
 /// Whether a block may have samples from `low` to `high`.
 pub(crate) fn meets(block: &Found, asked: Wanted<'_>) -> bool
-    ensures { result ≡ meets (asking asked.entry.selector.now asked.entry.replicas.now asked.entry.low asked.entry.high) block.now }
+    ensures { result ≡ meets (query_of asked.entry) block.now }
 {
     block.meta.min_time <= asked.high && asked.low < block.meta.max_time
 }

@@ -20,12 +20,19 @@ pub struct SeriesCall<'a> {
 }
 
 impl<'a> Model for SeriesCall<'a> {
-    ghost use Rattle.store_gateway.specs.SeriesRuns.{asking, to_read, sources_of};
+    ghost use Rattle.store_gateway.specs.SeriesRuns.{to_read, sources_of};
+    ghost use Rattle.store_gateway.specs.Queries.{query_of};
     ghost use Rattle.store_gateway.specs.Calls.{Calling, IsAt};
 
     ghost Value = { Calling };
 
-    ghost view = { λ s. record { stage = s.stage; query = asking s.wanted.selector.now s.wanted.replicas.now s.wanted.low s.wanted.high; sources = sources_of s.kept.now; left = to_read (asking s.wanted.selector.now s.wanted.replicas.now s.wanted.low s.wanted.high) s.left.now; taken = s.merger } };
+    ghost view = { λ s. record {
+        stage = s.stage;
+        query = query_of s.wanted;
+        sources = sources_of s.kept.now;
+        left = to_read (query_of s.wanted) s.left.now;
+        taken = s.merger
+    } };
 
-    ghost invariant = { λ s. IsAt s.stage (asking s.wanted.selector.now s.wanted.replicas.now s.wanted.low s.wanted.high) s.left.now };
+    ghost invariant = { λ s. IsAt s.stage (query_of s.wanted) s.left.now };
 }

@@ -86,8 +86,10 @@ fn split(
     covered: &[bool],
 ) -> Result<(FoundList, FoundList), NoMemory>
     requires { covered.now ≡ map (is_covered_by listed.items) listed.items }
-    ensures kept { IfOk result (λ split. split.0 ≡ filter (λ block. not (is_covered_by listed.items block)) listed.items) }
-    ensures covered { IfOk result (λ split. split.1 ≡ filter (is_covered_by listed.items) listed.items) }
+    ensures kept { IfOk result
+        (λ split. split.0 ≡ filter (λ block. not (is_covered_by listed.items block)) listed.items) }
+    ensures covered { IfOk result
+        (λ split. split.1 ≡ filter (is_covered_by listed.items) listed.items) }
 {
     let mut kept = FoundList::new(alloc);
     let mut left = FoundList::new(alloc);

@@ -1,11 +1,11 @@
-use Rattle.store_gateway.specs.SeriesRuns.{asking}
+use Rattle.store_gateway.specs.Queries.{query_of}
 use Rattle.std.proofs.Common.{ap}
 use Rattle.store_gateway.specs.Calls.{Calling}
 use Rattle.store_gateway.proofs.Meeting.{answers_none, index_asked, falls_next, first_meets}
 use Rattle.store_gateway.proofs.series_call.SeriesCall.read_from.Goals as goal
 
 pub invariant_of-self : goal.invariant_of-self
-invariant_of-self c = first_meets (asking c.self.inside.wanted.selector.now c.self.inside.wanted.replicas.now c.self.inside.wanted.low c.self.inside.wanted.high) _ c.from_first_meeting-blocks.ensures.first c.in-len1-up.len_at_least
+invariant_of-self c = first_meets (query_of c.self.inside.wanted) _ c.from_first_meeting-blocks.ensures.first c.in-len1-up.len_at_least
 
 pub returns-in-empty-clause-leads : goal.returns-in-empty-clause-leads
 returns-in-empty-clause-leads c = answers_none _ _ _ _ _ c.args.blocks.now c.answer.result c.answer.new.self (ap (λ (s : Calling). s.query) c.self.view_is)

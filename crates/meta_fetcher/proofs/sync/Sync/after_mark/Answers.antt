@@ -2,8 +2,8 @@ use Rattle.world_core.specs.declared.reply.Reply.TheVariants.{Absent}
 use Rattle.meta_fetcher.specs.SyncStates.{after_at}
 use Rattle.meta_fetcher.specs.declared.stage.Stage.TheVariants.{Marking}
 use Rattle.meta_fetcher.proofs.Metas.{leads_joined, leads_by_reply, mark_found, mark_failed}
-use Rattle.meta_fetcher.proofs.sync.Sync.marked.Goals as goal
-use Rattle.meta_fetcher.proofs.sync.Sync.marked.Goals.{in-Found, in-Failed, in-Absent}
+use Rattle.meta_fetcher.proofs.sync.Sync.after_mark.Goals as goal
+use Rattle.meta_fetcher.proofs.sync.Sync.after_mark.Goals.{in-Found, in-Failed, in-Absent}
 
 pub returns-clause-leads : goal.returns-clause-leads
 returns-clause-leads c =

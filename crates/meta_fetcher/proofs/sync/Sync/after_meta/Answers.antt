@@ -4,7 +4,7 @@ use Rattle.block_meta.specs.MetaFields.{fields_of}
 use Rattle.meta_fetcher.specs.Sightings.{block_meta}
 use Rattle.meta_fetcher.specs.declared.stage.Stage.TheVariants.{Reading}
 use Rattle.meta_fetcher.proofs.Metas.{leads_by_reply, leads_found}
-use Rattle.meta_fetcher.proofs.sync.Sync.meta_read.Goals as goal
+use Rattle.meta_fetcher.proofs.sync.Sync.after_meta.Goals as goal
 
 pub returns-in-Some-clause-leads : goal.returns-in-Some-clause-leads
 returns-in-Some-clause-leads c =
