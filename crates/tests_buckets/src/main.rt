@@ -1,7 +1,6 @@
-//! Makes calls on buckets and operations on worlds, and prints what each is answered. Each file of the folder `data` begins
-//! with a line that says which calls fail: their numbers, each with `+` where the call is done all the same, and with `-`
-//! where it is not. The lines behind it are calls of one bucket, or operations of one world. What is to be printed was
-//! worked out by hand.
+//! Makes calls on buckets and operations on worlds, and prints what each is answered. Each file of the folder `data` has calls
+//! of one bucket, or operations of one world, in the notation that standard input explains. What is to be printed was worked
+//! out by hand.
 #![tactic(auto)]
 
 mod bucket_calls;
@@ -25,6 +24,9 @@ const BUCKETS: [&str; 4] = ["names", "cursor", "objects", "failing"];
 const WORLDS: [&str; 3] = ["replies", "pages", "failed-page"];
 
 fn main(rt: HostRuntime) -> io::Result<()> {
+    for line in rt.lines(rt.alloc()) {
+        println!(rt; "{}", line?.as_str())?;
+    }
     for name in BUCKETS {
         println!(rt; "= {name}")?;
         print_bucket(&rt, fs::read_to_string(&rt, name)?.as_str())?;

@@ -1,4 +1,5 @@
 use crate::metas::read_meta;
+use crate::uploads::print_uploads;
 use block_meta::{DeletionMark, MetaRefusal};
 use list_core::TryCopy;
 use moment_core::{Moment, Span};
@@ -15,9 +16,7 @@ const MARK_DELAY: Span = Span { ms: 86_400_000 };
 /// A mark half an hour after 1970.
 const MARK: &str = r#"{"id":"00000000000000000000000001","version":1,"deletion_time":1800}"#;
 
-/// Prints a row, and what the filter says. `young PROGRAM READ` is a block of 1970 by that program, `.` for none, whose meta was
-/// read then; `marked READ` a block whose mark was read then, and `unmarked` one without; `split` is blocks to be told apart,
-/// each by its name, its sources and its resolution.
+/// Prints a row, and what is answered. The head of standard input says what the rows mean.
 pub(crate) fn print_row(rt: &HostRuntime, row: &str) -> io::Result<()> {
     if row.starts_with("= ") {
         return println!(rt; "{row}");
@@ -29,6 +28,7 @@ pub(crate) fn print_row(rt: &HostRuntime, row: &str) -> io::Result<()> {
         "marked" => print_kept(rt, is_kept(rt.alloc(), Some(MARK), text)),
         "unmarked" => print_kept(rt, is_kept(rt.alloc(), None, text)),
         "split" => print_split(rt, split_of(rt.alloc(), text)),
+        "upload" => print_uploads(rt, text),
         _ => println!(rt; "no row"),
     }
 }

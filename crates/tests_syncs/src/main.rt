@@ -1,12 +1,13 @@
-//! Asks the filters of a view about blocks, and runs syncs over a world, and prints what comes of it. A line of standard
-//! input is one question, in the notation of `filters`; one that begins with `= ` is a heading. What is to be printed was
-//! worked out by hand.
+//! Asks the filters of a view about blocks, runs uploads and syncs over a world, and prints what comes of it. A line of
+//! standard input is one question, in the notation that its head explains; one that begins with `= ` is a heading. What is to
+//! be printed was worked out by hand.
 #![tactic(auto)]
 
 mod filters;
 mod metas;
 mod syncs;
 mod turns;
+mod uploads;
 
 use crate::filters::print_row;
 use crate::syncs::{print_fault, print_two_syncs};

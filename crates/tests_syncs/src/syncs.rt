@@ -12,7 +12,7 @@ use std::alloc::Global;
 use std::io;
 use ulid_core::Ulid;
 use wire_bytes::Blob;
-use world_core::{Act, Acted, Driven, Machine, Op, World, WorldHand, drive};
+use world_core::{Act, Acted, Driven, Machine, Op, World, drive_over};
 
 /// A world whose bucket fails at this call.
 fn world(alloc: Global, failing_call: u64) -> Result<World<MemoryBucket>, NoMemory> {
@@ -94,9 +94,9 @@ fn print_sync(rt: &HostRuntime, world: World<MemoryBucket>) -> io::Result<()> {
 }
 
 fn driven(alloc: Global, world: World<MemoryBucket>) -> Result<Driven<SyncEnd>, NoMemory> {
-    let mut hand = WorldHand::new(world, 3);
     let mut sync = Sync::start(alloc, rules())?;
-    Ok(drive(&mut sync, &mut hand, None))
+    let (driven, _world) = drive_over(&mut sync, world, 3, None);
+    Ok(driven)
 }
 
 fn print_end(rt: &HostRuntime, end: &SyncEnd) -> io::Result<()> {

@@ -1,0 +1,112 @@
+ghost use Rattle.std.specs.Prelude.{IfOk};
+ghost use Rattle.block_keys.specs.Blocks.{IsBlock};
+
+use block_keys::{Key, Object, ObjectList};
+use bucket_core::{Fail, FailList, MemoryBucket};
+use list_core::NoMemory;
+use moment_core::Span;
+use shipper::{Upload, UploadEnd};
+use std::alloc::Global;
+use std::io;
+use ulid_core::Ulid;
+use wire_bytes::Blob;
+use world_core::{Driven, Entry, Op, World, WorldHand, drive};
+
+/// Prints what becomes of uploads of one block over one bucket, and which operations they did. A word says which call of the
+/// bucket fails, by its number with `+` where it is done all the same and `-` where it is not, or `.`; each further word is one
+/// upload, by the number of operations after which it is stopped, or `.`.
+pub(crate) fn print_uploads(rt: &HostRuntime, text: &str) -> io::Result<()> {
+    let (fail, stops) = text.split_once(' ').unwrap_or((text, ""));
+    match hand_of(rt.alloc(), fail) {
+        Ok(hand) => print_stops(rt, hand, stops),
+        Err(_) => println!(rt; "not opened"),
+    }
+}
+
+fn print_stops(
+    rt: &HostRuntime,
+    mut hand: WorldHand<MemoryBucket>,
+    stops: &str,
+) -> io::Result<()> {
+    for stop in stops.split(' ') {
+        print_end(rt, uploaded(rt.alloc(), &mut hand, stop.parse().ok()))?;
+    }
+    print_letters(rt, hand.into_world().journal().entries())
+}
+
+fn hand_of(alloc: Global, fail: &str) -> Result<WorldHand<MemoryBucket>, NoMemory> {
+    let mut failing = FailList::new(alloc);
+    if let Some(fail) = fail_of(fail) {
+        failing.push(fail)?;
+    }
+    match World::open(alloc, MemoryBucket::new(alloc, failing), Span { ms: 1 }) {
+        Ok(world) => Ok(WorldHand::new(world, 1)),
+        Err(_) => Err(NoMemory),
+    }
+}
+
+fn fail_of(word: &str) -> Option<Fail> {
+    let (number, landed) = match word.strip_suffix('+') {
+        Some(number) => (number, true),
+        None => (word.strip_suffix('-')?, false),
+    };
+    Some(Fail {
+        call: number.parse().ok()?,
+        landed,
+    })
+}
+
+fn uploaded(
+    alloc: Global,
+    hand: &mut WorldHand<MemoryBucket>,
+    stop: Option<u32>,
+) -> Result<Driven<UploadEnd>, NoMemory> {
+    let mut upload = Upload::start(block(alloc, Ulid::from_parts(0, 10))?)?;
+    Ok(drive(&mut upload, hand, stop))
+}
+
+/// A block of one segment.
+fn block(alloc: Global, ulid: Ulid) -> Result<ObjectList, NoMemory>
+    ensures { IfOk result (IsBlock ulid) }
+{
+    let mut objects = ObjectList::new(alloc);
+    objects.push(Object {
+        key: Key::Segment(ulid, 1),
+        bytes: Blob::from_bytes(alloc, b"segment")?,
+    })?;
+    objects.push(Object {
+        key: Key::Index(ulid),
+        bytes: Blob::from_bytes(alloc, b"index")?,
+    })?;
+    objects.push(Object {
+        key: Key::Meta(ulid),
+        bytes: Blob::from_bytes(alloc, b"meta")?,
+    })?;
+    Ok(objects)
+}
+
+fn print_end(rt: &HostRuntime, driven: Result<Driven<UploadEnd>, NoMemory>) -> io::Result<()> {
+    match driven {
+        Ok(Driven::Ended(end)) => print!(rt; "{end:?}, "),
+        Ok(Driven::Stopped(count)) => print!(rt; "Stopped({count}), "),
+        _ => print!(rt; "no end, "),
+    }
+}
+
+/// Prints a letter for each operation.
+fn print_letters(rt: &HostRuntime, entries: &[Entry]) -> io::Result<()> {
+    for entry in entries {
+        print!(rt; "{}", letter_of(&entry.op))?;
+    }
+    println!(rt; "")
+}
+
+fn letter_of(op: &Op) -> char {
+    match op {
+        Op::Get(Key::Meta(_)) => 'm',
+        Op::Put(Key::Segment(_, _), _) => 'S',
+        Op::Put(Key::Index(_), _) => 'I',
+        Op::Put(Key::Meta(_), _) => 'M',
+        _ => '?',
+    }
+}
