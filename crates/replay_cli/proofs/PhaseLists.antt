@@ -1,5 +1,6 @@
 -- Phases that were done one after another.
 use Rattle.std.proofs.Common.{◌≡◌, ℕ, zero, suc, ◌+◌, ◌-◌, ◌<◌, Bool, true, ◌&&◌, List, [], ◌∷◌, ◌++◌, length, take, drop, refl, sym, ◌∙◌, ap, subst, inl, inr, ◌⊎◌, append_assoc, take-append-drop, arith}
+use Rattle.std.proofs.Math.Seq.{take-length}
 use Rattle.std.specs.Prelude.{◌≢◌, ◌^◌, min, Some, None, Result, Ok, Err, OnOk, slice_get}
 use Rattle.std.specs.List.{All, list_all}
 use Rattle.std.proofs.lemmas.List.{append-nil, length-append}
@@ -57,10 +58,6 @@ front_at (p ∷ ps) (suc n) (suc k) phase at = front_at ps n k phase at
 -- the ends of one phase by worker, from those by duty
 abbrev last_by : ℕ → Phase → List End → List (List End)
 last_by gateways phase own = ends_of (duties_from gateways 0 phase.tasks) own (hands_of gateways phase.tasks)
-
-whole_front : (phases : List Phase) → take (length phases) phases ≡ phases
-whole_front [] = refl
-whole_front (p ∷ ps) = ap (λ l. p ∷ l) (whole_front ps)
 
 -- ---- what phases told
 
@@ -235,7 +232,7 @@ whole_run script gateways journal as_asked text lawful kept r =
     let run : PhasesInLine script 0 no_views script.phases journal r.ends =
     subst (λ (l : List (List End)). PhasesInLine script 0 no_views script.phases journal l) (append-nil r.ends)
     (subst (λ (es : List Entry). PhasesInLine script 0 no_views script.phases es (r.ends ++ [])) (append-nil journal) (r.onward [] [] (no_phase_yet script (length script.phases) r.views (drop (length script.phases) script.phases)))) in
-    let told : PhasesTold script script.phases r.ends r.outcomes = subst (λ (ps : List Phase). PhasesTold script ps r.ends r.outcomes) (whole_front script.phases) r.told in
+    let told : PhasesTold script script.phases r.ends r.outcomes = subst (λ (ps : List Phase). PhasesTold script ps r.ends r.outcomes) (take-length script.phases) r.told in
     let same : (k : ℕ) (p : Phase) → slice_get script.phases k ≡ Some p → slice_get script.phases (0 + k) ≡ Some p = λ k p own. ap (slice_get script.phases) (omega arith) ∙ own in
     record {
       ends = by_workers (gateway_count script.gateways) script.phases r.ends;
@@ -245,7 +242,7 @@ whole_run script gateways journal as_asked text lawful kept r =
       report = record {
         outcomes = r.outcomes;
         came = phases_came script lawful 0 script.phases r.ends r.outcomes same told;
-        lines = r.lines ∙ ap (λ (ps : List Phase). report_of script (tasks_of ps) r.outcomes) (whole_front script.phases);
+        lines = r.lines ∙ ap (λ (ps : List Phase). report_of script (tasks_of ps) r.outcomes) (take-length script.phases);
         flag = r.flag;
       };
     }
@@ -388,11 +385,6 @@ seats_next script place phase workers before count after at are is counted next 
     ap (seats_from gateways 0) (take_at script.phases place phase at) ∙ seats_append gateways 0 (take place script.phases) phase in
     let f : after ≡ seats_after (seats_before script place) (length (hands_of gateways phase.tasks)) = omega (arith, n, is, counted, next) in
     f ∙ sym e
-
-pub ended_step : (script : Script) (place : ℕ) (gateways : List Gateway) (journal : List Entry) (as_asked : Bool) (text : List ℕ) (b : Broken) → place < length script.phases → PhaseStep script place gateways journal as_asked text (Err b)
-    → RunCame script gateways journal as_asked text (Err b)
-ended_step script place gateways journal as_asked text broken.Full below step = (place, below, step)
-ended_step script place gateways journal as_asked text broken.NoMemory below step = step
 
 pub done_from : (script : Script) (place : ℕ) (phase : Phase) (shown gateways : List Gateway) (journal mid new : List Entry) (asked : Bool) (own : List ℕ) (workers : List Worker) (tasks : List Task) (clock : Entry)
     → workers ≡ workers_of script place → tasks ≡ phase.tasks → mid ≡ journal ++ clock ∷ []

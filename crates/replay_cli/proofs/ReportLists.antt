@@ -1,5 +1,6 @@
 -- Reports of tasks one after another.
 use Rattle.std.proofs.Common.{◌≡◌, ℕ, ◌+◌, ◌<◌, Bool, true, false, ◌&&◌, List, [], ◌∷◌, ◌++◌, length, get_or, take, refl, sym, ◌∙◌, ap, append_assoc, arith}
+use Rattle.std.proofs.Math.Bool.{and_assoc}
 use Rattle.std.specs.List.{list_all}
 use Rattle.std.specs.Prelude.{Result, Ok, Err, OnOk}
 use Rattle.std.specs.Result.{is_err}
@@ -10,10 +11,6 @@ use Rattle.replay_cli.specs.Reports.{activity_text, is_as_asked}
 use Rattle.replay_cli.specs.Verdicts.{report_of, tasks_of}
 use Rattle.script_core.specs.declared.phase.Phase.{Phase}
 use Rattle.replay_cli.specs.declared.outcome.Outcome.{Outcome}
-
-and_assoc : (a b c : Bool) → (a && b) && c ≡ a && (b && c)
-and_assoc true b c = refl
-and_assoc false b c = refl
 
 pub all_append : (one other : List Outcome) → list_all is_as_asked (one ++ other) ≡ list_all is_as_asked one && list_all is_as_asked other
 all_append [] other = refl
@@ -33,15 +30,3 @@ pub tasks_append : (one other : List Phase) → tasks_of (one ++ other) ≡ task
 tasks_append [] other = refl
 tasks_append (phase ∷ phases) other =
     ap (λ (l : List Task). phase.tasks ++ l) (tasks_append phases other) ∙ sym (append_assoc phase.tasks (tasks_of phases) (tasks_of other))
-
--- the tasks of one phase more
-pub tasks_more : (phases : List Phase) (place : ℕ) (phase : Phase) → phase ≡ get_or phases place phase → place < length phases
-    → tasks_of (take (place + 1) phases) ≡ tasks_of (take place phases) ++ phase.tasks
-tasks_more phases place phase is less =
-    ap tasks_of (take_more phases place phase less ∙ ap (λ (p : Phase). take place phases ++ p ∷ []) (sym is))
-    ∙ (tasks_append (take place phases) (phase ∷ []) ∙ ap (λ (l : List Task). tasks_of (take place phases) ++ l) (append-nil phase.tasks))
-
--- what holds where a call succeeded holds, where it did
-pub ok_fact : {E : Type 0} (r : Result (Unit {0}) E) (P : Type 0) → is_err r ≡ false → OnOk r P → P
-ok_fact (Ok x) P e h = h
-ok_fact (Err x) P e h = absurd (cc (e))

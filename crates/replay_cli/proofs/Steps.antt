@@ -4,7 +4,7 @@ use Rattle.std.specs.Prelude.{neg_ℤ}
 use Rattle.std.specs.Int.{w64}
 use Rattle.std.proofs.lemmas.Int.{ints}
 use mir.Val.{SFits}
-use Rattle.std.specs.Prelude.{◌==◌, Option, Some, None, option_map, slice_get}
+use Rattle.std.specs.Prelude.{◌==◌, Option, Some, None, option_map, slice_get, Ok, Err}
 use Rattle.std.specs.List.{All, range_with_len}
 use Rattle.std.proofs.Math.ListN.{set}
 use Rattle.std.proofs.lemmas.List.Elements.{All-nil, All-push}
@@ -35,8 +35,8 @@ use Rattle.lifecycle_core.specs.Views.{Use, Views, view_of, with_view}
 use Rattle.replay_cli.specs.Outcomes.{IsOutcome}
 use Rattle.world_core.specs.Operations.{entry_of}
 use Rattle.replay_cli.specs.Progress.{Adds, CameBy, IsDueAfter, IsDueInLine, IsWhole, Shows, TaskStep, WhenFull, duties_at, view_by}
-use Rattle.replay_cli.specs.declared.came.Came.{Came}
-use Rattle.replay_cli.specs.declared.came.Came.TheVariants as came
+use Rattle.replay_cli.specs.Drives.{Came}
+use Rattle.replay_cli.specs.declared.came.Broken.TheVariants as broken
 use Rattle.replay_cli.specs.declared.outcome.Outcome.TheVariants as outcome
 use Rattle.replay_cli.specs.declared.outcome.QueryOutcome.TheVariants as query
 use Rattle.replay_cli.specs.declared.outcome.NoAnswer.TheVariants as none
@@ -57,19 +57,19 @@ one_run script seat views duty made None seats run = inr (seats, run, refl, refl
 
 whole_by : (script : Script) (place : ℕ) (task : Task) (duty : Duty) (end : Option End) (came : Came) → duties_at script place (task ∷ []) ≡ duty ∷ [] → CameBy task.work end came
     → IsWhole script place task (one_end end) came
-whole_by script place task duty (Some end) (came.To o) are by = (sym (ap (length {A = Duty}) are), by)
-whole_by script place task duty (Some end) came.Full are by = absurd by
-whole_by script place task duty (Some end) came.NoMemory are by = tt
-whole_by script place task duty None (came.To o) are by = absurd by
-whole_by script place task duty None came.Full are by = omega (arith, ap (length {A = Duty}) are)
-whole_by script place task duty None came.NoMemory are by = tt
+whole_by script place task duty (Some end) (Ok o) are by = (sym (ap (length {A = Duty}) are), by)
+whole_by script place task duty (Some end) (Err broken.Full) are by = absurd by
+whole_by script place task duty (Some end) (Err broken.NoMemory) are by = tt
+whole_by script place task duty None (Ok o) are by = absurd by
+whole_by script place task duty None (Err broken.Full) are by = omega (arith, ap (length {A = Duty}) are)
+whole_by script place task duty None (Err broken.NoMemory) are by = tt
 
 -- ---- what is due where the journal was full
 
 when_full : (came : Came) (P Q : Type 0) → (P → Q) → WhenFull came P → WhenFull came Q
-when_full (came.To o) P Q f holds = tt
-when_full came.Full P Q f holds = f holds
-when_full came.NoMemory P Q f holds = tt
+when_full (Ok o) P Q f holds = tt
+when_full (Err broken.Full) P Q f holds = f holds
+when_full (Err broken.NoMemory) P Q f holds = tt
 
 due_by : {E F : Type 0} (one : List Entry → E → Type 0) (other : List Entry → F → Type 0) (seat : ℕ) (made : List Entry) → ((es : List Entry) (e : E) → one es e → (f : F) × other es f)
     → IsDueAfter one seat made → IsDueAfter other seat made
@@ -223,7 +223,7 @@ no_gateway script place task low high selector w none =
 -- without a gateway a query answers nothing
 pub unasked_step : (script : Script) (seat : Hand → ℕ) (place : ℕ) (task : Task) (views : Views) (gateways : List Gateway) (journal : List Entry) (low high : ℤ) (selector : ℕ)
     → task.work ≡ works.Query low high selector → gateway_count script.gateways ≡ 0 → Shows views gateways
-    → TaskStep script seat place task views gateways journal journal (came.To (outcome.Query (query.Answer [] [])))
+    → TaskStep script seat place task views gateways journal journal (Ok (outcome.Query (query.Answer [] [])))
 unasked_step script seat place task views gateways journal low high selector w none shows =
     let are = no_gateway script place task low high selector w none in
     record {
@@ -266,16 +266,16 @@ kept_after script views made (Some e) keeps gateways shows = λ place x at. kept
 
 pub blind_step : (script : Script) (seat : Hand → ℕ) (place : ℕ) (task : Task) (views : Views) (gateways : List Gateway) (journal : List Entry) (low high : ℤ) (selector : ℕ) (gateway : Gateway)
     → task.work ≡ works.Query low high selector → gateway_count script.gateways ≡ 1 → slice_get gateways 0 ≡ Some gateway → gateway.view ≡ None → Shows views gateways
-    → TaskStep script seat place task views gateways journal journal (came.To (outcome.Query (query.NoAnswer 0 none.NoView)))
+    → TaskStep script seat place task views gateways journal journal (Ok (outcome.Query (query.NoAnswer 0 none.NoView)))
 blind_step script seat place task views gateways journal low high selector gateway w one at blind shows =
     let unseen : views 0 ≡ None = no_view (views 0) (shows 0 gateway at ∙ blind) in
-    let a : Adds (λ made end. (made ≡ []) × (end ≡ Some without_view)) (seat (hands.Gateway 0)) journal journal (Some without_view) (came.To (outcome.Query (query.NoAnswer 0 none.NoView))) =
+    let a : Adds (λ made end. (made ≡ []) × (end ≡ Some without_view)) (seat (hands.Gateway 0)) journal journal (Some without_view) (Ok (outcome.Query (query.NoAnswer 0 none.NoView))) =
     record { made = []; entries = sym (append-nil journal); seats = All-nil (λ e. e.seat ≡ seat (hands.Gateway 0)); run = (refl, refl); due = tt } in
-    one_step script seat place task (hands.Gateway 0) views gateways journal journal (λ made end. (made ≡ []) × (end ≡ Some without_view)) (Some without_view) (came.To (outcome.Query (query.NoAnswer 0 none.NoView)))
+    one_step script seat place task (hands.Gateway 0) views gateways journal journal (λ made end. (made ≡ []) × (end ≡ Some without_view)) (Some without_view) (Ok (outcome.Query (query.NoAnswer 0 none.NoView)))
     (one_asked script place task low high selector w one) a
     (λ made e run. subst (λ (x : Work). TaskRun script (views 0) x made e) (sym w) (subst (λ (v : Option Use). TaskRun script v (works.Query low high selector) made e) (sym unseen) (run.0, inr run.1)))
     (kept_after script views [] (Some without_view) (λ e is. let q : without_view ≡ e = cc (is) in ap (view_after (views 0) []) (sym q)) gateways shows)
-    (subst (λ (x : Work). CameBy x (Some without_view) (came.To (outcome.Query (query.NoAnswer 0 none.NoView)))) (sym w) refl)
+    (subst (λ (x : Work). CameBy x (Some without_view) (Ok (outcome.Query (query.NoAnswer 0 none.NoView)))) (sym w) refl)
 
 answered_keeps : (view : Option Use) (made : List Entry) (used : Use) (own : Option SeriesEnd) (e : End) → option_map (answered used) own ≡ Some e → view_after view made e ≡ view
 answered_keeps view made used None e is = absurd (cc (is))
@@ -331,10 +331,10 @@ one_count script (g ∷ gs) gateway few same at = omega (arith, few, same)
 
 -- an answer of nothing is one
 pub answered_nothing : (script : Script) (seat : Hand → ℕ) (place : ℕ) (task : Task) (views : Views) (gateways : List Gateway) (journal : List Entry) (series : List Series) (sources : List ℕ) → series ≡ [] → sources ≡ []
-    → TaskStep script seat place task views gateways journal journal (came.To (outcome.Query (query.Answer [] []))) → TaskStep script seat place task views gateways journal journal (came.To (outcome.Query (query.Answer series sources)))
+    → TaskStep script seat place task views gateways journal journal (Ok (outcome.Query (query.Answer [] []))) → TaskStep script seat place task views gateways journal journal (Ok (outcome.Query (query.Answer series sources)))
 answered_nothing script seat place task views gateways journal series sources one other step =
-    subst (λ (s : List Series). TaskStep script seat place task views gateways journal journal (came.To (outcome.Query (query.Answer s sources)))) (sym one)
-    (subst (λ (s : List ℕ). TaskStep script seat place task views gateways journal journal (came.To (outcome.Query (query.Answer [] s)))) (sym other) step)
+    subst (λ (s : List Series). TaskStep script seat place task views gateways journal journal (Ok (outcome.Query (query.Answer s sources)))) (sym one)
+    (subst (λ (s : List ℕ). TaskStep script seat place task views gateways journal journal (Ok (outcome.Query (query.Answer [] s)))) (sym other) step)
 
 -- numbers that were passed on are the same
 pub asked_told : (view : View) (matchers : List Matcher) (replicas : List (List ℕ)) (low low' high high' : ℤ) (seat seat' : ℕ) (old new : List Entry) (used : Use) (line_low line_high : ℤ) (number : ℕ) (came : Came) → low ≡ low' → high ≡ high' → seat ≡ seat'

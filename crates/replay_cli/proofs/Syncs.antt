@@ -1,6 +1,6 @@
 -- What drives of a sync and of a gateway's call leave.
 use Rattle.std.proofs.Common.{◌≡◌, ℕ, ℤ, List, [], ◌∷◌, ◌++◌, refl, sym, subst}
-use Rattle.std.specs.Prelude.{Option, None, option_map}
+use Rattle.std.specs.Prelude.{Option, None, option_map, Ok, Err}
 use Rattle.std.proofs.lemmas.List.{append-nil}
 use Rattle.std.proofs.lemmas.List.Elements.{All-nil}
 use Rattle.moment_core.specs.declared.rules.Rules.{Rules}
@@ -15,14 +15,16 @@ use Rattle.meta_fetcher.specs.declared.view.View.{View}
 use Rattle.matchers.specs.declared.matcher.Matcher.{Matcher}
 use Rattle.store_gateway.specs.SeriesRuns.{Query as Question, SeriesRun, asking, sources_of, to_read}
 use Rattle.store_gateway.specs.declared.series_end.SeriesEnd.{SeriesEnd}
+use Rattle.script_core.specs.declared.work.Work.{Work}
 use Rattle.script_core.specs.declared.work.Work.TheVariants as works
-use Rattle.lifecycle_core.specs.Tasks.{answered, sync_rules, synced}
+use Rattle.lifecycle_core.specs.Tasks.{End, answered, sync_rules, synced}
 use Rattle.lifecycle_core.specs.Views.{Use}
 use Rattle.lifecycle_core.proofs.TaskRuns.{reads_none}
-use Rattle.replay_cli.specs.Drives.{call_came, sync_came}
+use Rattle.replay_cli.specs.Drives.{Came, came_by, driven_end}
+use Rattle.replay_cli.specs.Outcomes.{IsOutcome}
 use Rattle.replay_cli.specs.Progress.{Adds, CameBy, IsDueAfter, WhenFull, view_by}
-use Rattle.replay_cli.specs.declared.came.Came.{Came}
-use Rattle.replay_cli.specs.declared.came.Came.TheVariants as came
+use Rattle.replay_cli.specs.declared.came.Broken.TheVariants as broken
+use Rattle.replay_cli.specs.declared.outcome.Outcome.{Outcome}
 
 -- a drive without a stop is never stopped
 never : {E : Type 0} (is_run : List Entry → Option E → Type 0) (seat : ℕ) (driven : Driven E) (old new : List Entry) → Drives is_run seat None driven old new → (n : ℕ) → driven ≡ Stopped n → ⊥
@@ -36,76 +38,38 @@ adds is_run other seat stop driven old new came runs d due = record { made = d.m
 due_in : {E : Type 0} (is_run other : List Entry → Option E → Type 0) (seat : ℕ) (made : List Entry) → ((es : List Entry) (end : Option E) → is_run es end → other es end) → Awaits is_run seat made → IsDueAfter other seat made
 due_in is_run other seat made runs d = (d.op, d.lawful, λ seen answer. (None, runs (made ++ entry_of seat d.op seen ∷ []) None (d.more seen answer)))
 
-sync_due : (is_run other : List Entry → Option SyncEnd → Type 0) (seat : ℕ) (made : List Entry) (driven : Driven SyncEnd) → ((es : List Entry) (end : Option SyncEnd) → is_run es end → other es end)
-    → (driven ≡ Full → Awaits is_run seat made) → WhenFull (sync_came driven) (IsDueAfter other seat made)
-sync_due is_run other seat made (Ended end) runs due = tt
-sync_due is_run other seat made (Stopped n) runs due = tt
-sync_due is_run other seat made Full runs due = due_in is_run other seat made runs (due refl)
-sync_due is_run other seat made NoMemory runs due = tt
+due : {E : Type 0} (is_run other : List Entry → Option E → Type 0) (seat : ℕ) (made : List Entry) (out : E → Outcome) (driven : Driven E) → ((es : List Entry) (end : Option E) → is_run es end → other es end)
+    → (driven ≡ Full → Awaits is_run seat made) → WhenFull (came_by out (driven_end driven)) (IsDueAfter other seat made)
+due is_run other seat made out (Ended end) runs waits = tt
+due is_run other seat made out (Stopped n) runs waits = tt
+due is_run other seat made out Full runs waits = due_in is_run other seat made runs (waits refl)
+due is_run other seat made out NoMemory runs waits = tt
 
-call_due : (is_run other : List Entry → Option SeriesEnd → Type 0) (seat : ℕ) (made : List Entry) (driven : Driven SeriesEnd) → ((es : List Entry) (end : Option SeriesEnd) → is_run es end → other es end)
-    → (driven ≡ Full → Awaits is_run seat made) → WhenFull (call_came driven) (IsDueAfter other seat made)
-call_due is_run other seat made (Ended end) runs due = tt
-call_due is_run other seat made (Stopped n) runs due = tt
-call_due is_run other seat made Full runs due = due_in is_run other seat made runs (due refl)
-call_due is_run other seat made NoMemory runs due = tt
+comes_by : {E : Type 0} (work : Work) (as_end : E → End) (out : E → Outcome) (driven : Driven E) → ((end : E) → IsOutcome work (as_end end ∷ []) (out end)) → ((n : ℕ) → driven ≡ Stopped n → ⊥)
+    → CameBy work (option_map as_end (end_of driven)) (came_by out (driven_end driven))
+comes_by work as_end out (Ended end) is never = is end
+comes_by work as_end out (Stopped n) is never = absurd (never n refl)
+comes_by work as_end out Full is never = tt
+comes_by work as_end out NoMemory is never = tt
 
-sync_by : (place : ℕ) (driven : Driven SyncEnd) → ((n : ℕ) → driven ≡ Stopped n → ⊥) → CameBy (works.Sync place) (option_map synced (end_of driven)) (sync_came driven)
-sync_by place (Ended end) never = refl
-sync_by place (Stopped n) never = absurd (never n refl)
-sync_by place Full never = tt
-sync_by place NoMemory never = tt
+-- A drive that nothing stops is a run, by whose end the task comes out.
+pub driven_told : {E : Type 0} (is_run other : List Entry → Option E → Type 0) (seat : ℕ) (driven : Driven E) (old new : List Entry) (work : Work) (as_end : E → End) (out : E → Outcome) (came : Came)
+    → came ≡ came_by out (driven_end driven) → ((end : E) → IsOutcome work (as_end end ∷ []) (out end)) → ((made : List Entry) (end : Option E) → is_run made end → other made end)
+    → Drives is_run seat None driven old new → Adds other seat old new (end_of driven) came × CameBy work (option_map as_end (end_of driven)) came
+driven_told is_run other seat driven old new work as_end out came c is runs d =
+    subst (λ (x : Came). Adds other seat old new (end_of driven) x × CameBy work (option_map as_end (end_of driven)) x) (sym c)
+    (adds is_run other seat None driven old new (came_by out (driven_end driven)) runs d (due is_run other seat d.made out driven runs d.waits), comes_by work as_end out driven is (never is_run seat driven old new d))
 
-call_by : (used : Use) (low high : ℤ) (selector : ℕ) (driven : Driven SeriesEnd) → ((n : ℕ) → driven ≡ Stopped n → ⊥) → CameBy (works.Query low high selector) (option_map (answered used) (end_of driven)) (call_came driven)
-call_by used low high selector (Ended end) never = refl
-call_by used low high selector (Stopped n) never = absurd (never n refl)
-call_by used low high selector Full never = tt
-call_by used low high selector NoMemory never = tt
-
-pub sync_driven : (is_run : List Entry → Option SyncEnd → Type 0) (rules : Rules) (seat : ℕ) (driven : Driven SyncEnd) (old new : List Entry) (before after : Option View) (place : ℕ)
-    → ((made : List Entry) (end : Option SyncEnd) → is_run made end → SyncRun (sync_rules rules) made end) → Drives is_run seat None driven old new → after ≡ view_by before (end_of driven)
-    → (end : Option SyncEnd) × Adds (SyncRun (sync_rules rules)) seat old new end (sync_came driven) × CameBy (works.Sync place) (option_map synced end) (sync_came driven) × (after ≡ view_by before end)
-sync_driven is_run rules seat driven old new before after place runs d is =
-    (end_of driven, adds is_run (SyncRun (sync_rules rules)) seat None driven old new (sync_came driven) runs d (sync_due is_run (SyncRun (sync_rules rules)) seat d.made driven runs d.waits), sync_by place driven (never is_run seat driven old new d), is)
-
+-- where nothing was done
 pub nothing_synced : (rules : Rules) (seat : ℕ) (journal : List Entry) (view : Option View) (place : ℕ)
-    → (end : Option SyncEnd) × Adds (SyncRun (sync_rules rules)) seat journal journal end came.NoMemory × CameBy (works.Sync place) (option_map synced end) came.NoMemory × (view ≡ view_by view end)
+    → (end : Option SyncEnd) × Adds (SyncRun (sync_rules rules)) seat journal journal end (Err broken.NoMemory) × CameBy (works.Sync place) (option_map synced end) (Err broken.NoMemory) × (view ≡ view_by view end)
 nothing_synced rules seat journal view place =
     (None, record { made = []; entries = sym (append-nil journal); seats = All-nil (λ e. e.seat ≡ seat); run = refl; due = tt }, tt, refl)
 
-pub call_driven : (is_run : List Entry → Option SeriesEnd → Type 0) (view : View) (asked : Question) (seat : ℕ) (driven : Driven SeriesEnd) (old new : List Entry) (used : Use) (low high : ℤ) (selector : ℕ)
-    → ((made : List Entry) (end : Option SeriesEnd) → is_run made end → SeriesRun view asked made end) → Drives is_run seat None driven old new
-    → (end : Option SeriesEnd) × Adds (SeriesRun view asked) seat old new end (call_came driven) × CameBy (works.Query low high selector) (option_map (answered used) end) (call_came driven)
-call_driven is_run view asked seat driven old new used low high selector runs d =
-    (end_of driven, adds is_run (SeriesRun view asked) seat None driven old new (call_came driven) runs d (call_due is_run (SeriesRun view asked) seat d.made driven runs d.waits), call_by used low high selector driven (never is_run seat driven old new d))
-
 pub nothing_asked : (view : View) (asked : Question) (seat : ℕ) (journal : List Entry) (used : Use) (low high : ℤ) (selector : ℕ)
-    → (end : Option SeriesEnd) × Adds (SeriesRun view asked) seat journal journal end came.NoMemory × CameBy (works.Query low high selector) (option_map (answered used) end) came.NoMemory
+    → (end : Option SeriesEnd) × Adds (SeriesRun view asked) seat journal journal end (Err broken.NoMemory) × CameBy (works.Query low high selector) (option_map (answered used) end) (Err broken.NoMemory)
 nothing_asked view asked seat journal used low high selector =
     (None, record { made = []; entries = sym (append-nil journal); seats = All-nil (λ e. e.seat ≡ seat); run = reads_none asked (sources_of view.kept) [] (to_read asked view.kept); due = tt }, tt)
-
--- ---- the same, as a call's values tell it
-
-drives_told : {E : Type 0} (is_run : List Entry → Option E → Type 0) (seat seat' : ℕ) (driven : Driven E) (old old' new new' : List Entry) → seat' ≡ seat → old' ≡ old → new ≡ new'
-    → Drives is_run seat' None driven old' new' → Drives is_run seat None driven old new
-drives_told is_run seat seat' driven old old' new new' s o n d =
-    subst (λ (x : ℕ). Drives is_run x None driven old new) s (subst (λ (x : List Entry). Drives is_run seat' None driven x new) o (subst (λ (x : List Entry). Drives is_run seat' None driven old' x) (sym n) d))
-
-pub sync_told : (is_run : List Entry → Option SyncEnd → Type 0) (rules : Rules) (seat seat' : ℕ) (driven : Driven SyncEnd) (old old' new new' : List Entry) (came : Came) (before after : Option View) (place : ℕ)
-    → seat' ≡ seat → old' ≡ old → new ≡ new' → came ≡ sync_came driven
-    → ((made : List Entry) (end : Option SyncEnd) → is_run made end → SyncRun (sync_rules rules) made end) → Drives is_run seat' None driven old' new' → after ≡ view_by before (end_of driven)
-    → (end : Option SyncEnd) × Adds (SyncRun (sync_rules rules)) seat old new end came × CameBy (works.Sync place) (option_map synced end) came × (after ≡ view_by before end)
-sync_told is_run rules seat seat' driven old old' new new' came before after place s o n c runs d is =
-    subst (λ (x : Came). (end : Option SyncEnd) × Adds (SyncRun (sync_rules rules)) seat old new end x × CameBy (works.Sync place) (option_map synced end) x × (after ≡ view_by before end)) (sym c)
-    (sync_driven is_run rules seat driven old new before after place runs (drives_told is_run seat seat' driven old old' new new' s o n d) is)
-
-pub call_told : (is_run : List Entry → Option SeriesEnd → Type 0) (view : View) (asked : Question) (seat seat' : ℕ) (driven : Driven SeriesEnd) (old old' new new' : List Entry) (came : Came) (used : Use) (low high : ℤ) (selector : ℕ)
-    → seat' ≡ seat → old' ≡ old → new ≡ new' → came ≡ call_came driven
-    → ((made : List Entry) (end : Option SeriesEnd) → is_run made end → SeriesRun view asked made end) → Drives is_run seat' None driven old' new'
-    → (end : Option SeriesEnd) × Adds (SeriesRun view asked) seat old new end came × CameBy (works.Query low high selector) (option_map (answered used) end) came
-call_told is_run view asked seat seat' driven old old' new new' came used low high selector s o n c runs d =
-    subst (λ (x : Came). (end : Option SeriesEnd) × Adds (SeriesRun view asked) seat old new end x × CameBy (works.Query low high selector) (option_map (answered used) end) x) (sym c)
-    (call_driven is_run view asked seat driven old new used low high selector runs (drives_told is_run seat seat' driven old old' new new' s o n d))
 
 -- numbers that were passed on are the same
 pub asked_same : (view : View) (matchers : List Matcher) (replicas : List (List ℕ)) (low low' high high' : ℤ) (made : List Entry) (end : Option SeriesEnd) → low ≡ low' → high ≡ high'

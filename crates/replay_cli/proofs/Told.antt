@@ -19,14 +19,14 @@ use Rattle.lifecycle_core.specs.Views.{Views}
 use Rattle.lifecycle_core.proofs.Joined.{both, cut, duties_begin, duties_more, duties_parts}
 use Rattle.lifecycle_core.proofs.RunsInLine.{may_begin}
 use Rattle.lifecycle_core.proofs.TaskRuns.{MayBegin}
-use Rattle.std.proofs.lemmas.List.Elements.{All-tail}
+use Rattle.std.proofs.lemmas.List.Elements.{All-drop, All-tail}
 use Rattle.replay_cli.specs.Outcomes.{IsOutcome, TasksCame}
 use Rattle.replay_cli.specs.Progress.{IsDueInLine, Shows, TaskStep, TasksBroken, TasksDone, TasksTold, duties_at}
 use Rattle.replay_cli.specs.Reports.{activity_text, is_as_asked}
 use Rattle.replay_cli.specs.Verdicts.{report_of}
+use Rattle.replay_cli.specs.declared.came.Broken.{Broken}
 use Rattle.replay_cli.specs.declared.came.Broken.TheVariants as broken
-use Rattle.replay_cli.specs.declared.came.Came.{Came}
-use Rattle.replay_cli.specs.declared.came.Came.TheVariants as came
+use Rattle.replay_cli.specs.Drives.{Came}
 use Rattle.replay_cli.specs.declared.outcome.Outcome.{Outcome}
 use Rattle.replay_cli.proofs.ReportLists.{all_append, report_append}
 
@@ -123,7 +123,7 @@ module _ (script : Script) (seat : Hand → ℕ) (place : ℕ) (tasks : List Tas
       ∙ ap (λ (l : List ℕ). report_of script (take place tasks) outcomes ++ l) (append-nil (activity_text script task.work o))
 
   pub done_more : (o : Outcome) (asked : Bool) (lines : List ℕ) → (d : TasksDone script seat (take place tasks) views shown start mid as_asked text)
-      → ((v : Views) → Shows v shown → TaskStep script seat place task v gateways mid new (came.To o))
+      → ((v : Views) → Shows v shown → TaskStep script seat place task v gateways mid new (Ok o))
       → lines ≡ text ++ activity_text script task.work o → asked ≡ as_asked && is_as_asked o → TasksDone script seat (take (place + 1) tasks) views gateways start new asked lines
   done_more o asked lines d step lines_are flag =
       let s = step d.after d.shows in
@@ -188,11 +188,17 @@ module _ (script : Script) (seat : Hand → ℕ) (place : ℕ) (tasks : List Tas
       )
 
   -- broken off by the full journal
-  pub cut_full : All (λ t. MayBegin script t.work) (drop (place + 1) tasks) → (d : TasksDone script seat (take place tasks) views shown start mid as_asked text)
-      → ((v : Views) → Shows v shown → TaskStep script seat place task v gateways mid new came.Full) → TasksBroken script seat tasks views start new broken.Full
+  cut_full : All (λ t. MayBegin script t.work) (drop (place + 1) tasks) → (d : TasksDone script seat (take place tasks) views shown start mid as_asked text)
+      → ((v : Views) → Shows v shown → TaskStep script seat place task v gateways mid new (Err broken.Full)) → TasksBroken script seat tasks views start new broken.Full
   cut_full begin d step =
       let s = step d.after d.shows in
       record { made = d.made ++ s.made; entries = both_entries d.made s.made d.entries s.entries; ends = d.ends ++ s.ends; after = s.after; run = cut_run begin d s.made s.ends s.after s.run; short = (too_few d s.ends s.whole, cut_due begin d s.made s.due) }
+
+  -- broken off, for whatever cause
+  pub cut_off : (why : Broken) → All (λ t. MayBegin script t.work) (drop (place + 1) tasks) → (d : TasksDone script seat (take place tasks) views shown start mid as_asked text)
+      → ((v : Views) → Shows v shown → TaskStep script seat place task v gateways mid new (Err why)) → TasksBroken script seat tasks views start new why
+  cut_off broken.Full begin d step = cut_full begin d step
+  cut_off broken.NoMemory begin d step = cut_short (Err broken.NoMemory) begin d step
 
 take_none : (tasks : List Task) → take 0 tasks ≡ []
 take_none [] = refl
@@ -245,30 +251,15 @@ tasks_came script workers all place (task ∷ tasks) ends outcomes told zipped =
       tasks_came script workers all (place + 1) tasks told.1 told.3 told.8 parts.1,
     )
 
-all_drop : {X : Type 0} (P : X → Type 0) (n : ℕ) (xs : List X) → All P xs → All P (drop n xs)
-all_drop P zero [] all = all
-all_drop P (suc n) [] all = all
-all_drop P zero (x ∷ xs) all = all
-all_drop P (suc n) (x ∷ xs) all = all_drop P n xs (All-tail P x xs all)
-
 -- the tasks from a place on may begin, where the script is lawful
 pub later_begin : (script : Script) (n : ℕ) (tasks : List Task) → IsLawfulScript script → All (λ t. IsLawfulWork script.gateways script.blocks (length script.selectors) t.work) tasks → All (λ t. MayBegin script t.work) (drop n tasks)
-later_begin script n tasks lawful all = all_drop (λ t. MayBegin script t.work) n tasks (may_begin script tasks lawful all)
+later_begin script n tasks lawful all = All-drop (λ t. MayBegin script t.work) n tasks (may_begin script tasks lawful all)
 
 pub take_whole : (tasks : List Task) (n : ℕ) → length tasks ≤ n → take n tasks ≡ tasks
 take_whole [] zero below = refl
 take_whole [] (suc n) below = refl
 take_whole (t ∷ ts) zero below = absurd (omega (arith, below))
 take_whole (t ∷ ts) (suc n) below = ap (λ l. t ∷ l) (take_whole ts n (omega (arith, below)))
-
--- what is said of a call, by how it came out
-pub ok_told : {T E : Type 0} (P : T → Type 0) (Q : E → Type 0) (r : Result T E) (x : T) → r ≡ Ok x → MatchResult r P Q → P x
-ok_told P Q (Ok y) x is m = let same : y ≡ x = cc (is) in subst P same m
-ok_told P Q (Err y) x is m = absurd (cc (is))
-
-pub err_told : {T E : Type 0} (P : T → Type 0) (Q : E → Type 0) (r : Result T E) (x : E) → r ≡ Err x → MatchResult r P Q → Q x
-err_told P Q (Ok y) x is m = absurd (cc (is))
-err_told P Q (Err y) x is m = let same : y ≡ x = cc (is) in subst Q same m
 
 pub on_ok : {T E : Type 0} (P : Type 0) (r : Result T E) (x : T) → r ≡ Ok x → OnOk r P → P
 on_ok P (Ok y) x is m = m

@@ -1,6 +1,6 @@
 -- What a drive of an upload leaves.
 use Rattle.std.proofs.Common.{◌≡◌, ◌≢◌, ◌⊎◌, ℕ, ◌+◌, ◌<◌, ◌≤◌, Bool, true, false, List, [], ◌∷◌, ◌++◌, length, length-append, refl, sym, subst, inl, inr, arith}
-use Rattle.std.specs.Prelude.{◌↔◌, ◌==◌, Option, Some, None, option_map}
+use Rattle.std.specs.Prelude.{◌↔◌, ◌==◌, Option, Some, None, option_map, Ok, Err}
 use Rattle.std.proofs.lemmas.Bool.Decides.{nat_tests}
 use Rattle.std.proofs.lemmas.List.{append-nil}
 use Rattle.std.proofs.lemmas.List.Elements.{All-nil}
@@ -18,10 +18,9 @@ use Rattle.script_core.specs.declared.work.Work.TheVariants as works
 use Rattle.lifecycle_core.specs.Shipped.{IsShipped}
 use Rattle.lifecycle_core.specs.Tasks.{End, BlockUpload, IsBefore, IsStop, stopped, uploaded}
 use Rattle.lifecycle_core.proofs.TaskRuns.{built_by}
-use Rattle.replay_cli.specs.Drives.{upload_came}
+use Rattle.replay_cli.specs.Drives.{Came, upload_came}
 use Rattle.replay_cli.specs.Progress.{Adds, CameBy, IsDueAfter, WhenFull}
-use Rattle.replay_cli.specs.declared.came.Came.{Came}
-use Rattle.replay_cli.specs.declared.came.Came.TheVariants as came
+use Rattle.replay_cli.specs.declared.came.Broken.TheVariants as broken
 
 abbrev upload_end : Driven UploadEnd → Option End
 upload_end (Ended end) = Some (uploaded end)
@@ -89,34 +88,25 @@ full_before : (stop : Option ℕ) (driven : Driven UploadEnd) (made : List Entry
 full_before stop driven made stops within full = before_stop stop driven made (λ n e. absurd (cc (e, full))) stops within
 
 -- An upload of a block's objects that was driven is a run of the block's upload.
-pub upload_driven : (is_run : List Entry → Option UploadEnd → Type 0) (block : Block) (objects : List Object) (stop : Option ℕ) (seat : ℕ) (driven : Driven UploadEnd) (old new : List Entry) (ulid : ℕ)
-    → IsShipped block objects → ((made : List Entry) (end : Option UploadEnd) → is_run made end → UploadRun block.ulid objects made end) → Drives is_run seat stop driven old new
-    → (end : Option End) × Adds (BlockUpload block stop) seat old new end (upload_came driven) × CameBy (works.Upload ulid stop) end (upload_came driven)
-upload_driven is_run block objects stop seat driven old new ulid shipped runs d = (
-  upload_end driven,
-  record {
-    made = d.made;
-    entries = d.entries;
-    seats = d.seats;
-    run = (objects, end_of driven, shipped, runs d.made (end_of driven) d.run, stops_at stop driven d.made d.stopped d.within);
-    due = upload_due is_run block objects stop seat driven d.made shipped runs d.waits (full_before stop driven d.made d.stopped d.within);
-  },
-  came_by ulid stop driven,
-)
+pub upload_told : (is_run : List Entry → Option UploadEnd → Type 0) (block : Block) (objects : List Object) (stop : Option ℕ) (seat : ℕ) (driven : Driven UploadEnd) (old new : List Entry) (came : Came) (ulid : ℕ)
+    → came ≡ upload_came driven → IsShipped block objects → ((made : List Entry) (end : Option UploadEnd) → is_run made end → UploadRun block.ulid objects made end) → Drives is_run seat stop driven old new
+    → (end : Option End) × Adds (BlockUpload block stop) seat old new end came × CameBy (works.Upload ulid stop) end came
+upload_told is_run block objects stop seat driven old new came ulid c shipped runs d =
+    subst (λ (x : Came). (end : Option End) × Adds (BlockUpload block stop) seat old new end x × CameBy (works.Upload ulid stop) end x) (sym c) (
+      upload_end driven,
+      record {
+        made = d.made;
+        entries = d.entries;
+        seats = d.seats;
+        run = (objects, end_of driven, shipped, runs d.made (end_of driven) d.run, stops_at stop driven d.made d.stopped d.within);
+        due = upload_due is_run block objects stop seat driven d.made shipped runs d.waits (full_before stop driven d.made d.stopped d.within);
+      },
+      came_by ulid stop driven,
+    )
 
 -- where nothing was done
 pub nothing_shipped : (block : Block) (stop : Option ℕ) (seat : ℕ) (journal : List Entry) (ulid : ℕ) → IsLawfulBlock block
-    → (end : Option End) × Adds (BlockUpload block stop) seat journal journal end came.NoMemory × CameBy (works.Upload ulid stop) end came.NoMemory
+    → (end : Option End) × Adds (BlockUpload block stop) seat journal journal end (Err broken.NoMemory) × CameBy (works.Upload ulid stop) end (Err broken.NoMemory)
 nothing_shipped block stop seat journal ulid lawful =
     let b = built_by block block.body lawful.body in
     (None, record { made = []; entries = sym (append-nil journal); seats = All-nil (λ e. e.seat ≡ seat); run = (b.0, None, b.1, refl, inl (refl, λ n s above. above)); due = tt }, tt)
-
--- the same, as a call's values tell it
-pub upload_told : (is_run : List Entry → Option UploadEnd → Type 0) (block : Block) (objects : List Object) (stop : Option ℕ) (seat seat' : ℕ) (driven : Driven UploadEnd) (old old' new new' : List Entry) (came : Came) (ulid : ℕ)
-    → seat' ≡ seat → old' ≡ old → new ≡ new' → came ≡ upload_came driven
-    → IsShipped block objects → ((made : List Entry) (end : Option UploadEnd) → is_run made end → UploadRun block.ulid objects made end) → Drives is_run seat' stop driven old' new'
-    → (end : Option End) × Adds (BlockUpload block stop) seat old new end came × CameBy (works.Upload ulid stop) end came
-upload_told is_run block objects stop seat seat' driven old old' new new' came ulid s o n c shipped runs d =
-    subst (λ (x : Came). (end : Option End) × Adds (BlockUpload block stop) seat old new end x × CameBy (works.Upload ulid stop) end x) (sym c)
-    (upload_driven is_run block objects stop seat driven old new ulid shipped runs
-    (subst (λ (x : ℕ). Drives is_run x stop driven old new) s (subst (λ (x : List Entry). Drives is_run seat' stop driven x new) o (subst (λ (x : List Entry). Drives is_run seat' stop driven old' x) (sym n) d))))

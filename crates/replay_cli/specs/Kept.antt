@@ -1,5 +1,5 @@
 -- What a call of the program leaves of a bucket that the site handed out, and of the journal over it.
-use Rattle.std.specs.Prelude.{◌≡◌, ◌≢◌, ◌≤◌, ℕ, List, [], Option, Some, None, IfSome}
+use Rattle.std.specs.Prelude.{◌≡◌, ◌≢◌, ◌≤◌, ◌+◌, ℕ, List, [], Option, Some, None, IfSome, is_some, if◌then◌else◌}
 use Rattle.bucket_core.specs.Contents.{Contents, nothing}
 use Rattle.world_core.specs.declared.entry.Entry.{Entry}
 use Rattle.world_core.specs.Standing.{stands, IsHonest}
@@ -23,6 +23,10 @@ IsHandedBack contents faults journal store = ⊥
 abbrev pub IsUntouched : {B : Type 0} → (B → Option Contents) → Contents → Option (List Entry) → Option B → Type 0
 IsUntouched contents before (Some journal) (Some store) = journal ≡ [] → IfSome (contents store) (λ c. c ≡ before)
 IsUntouched contents before journal store = Unit {0}
+
+-- a site counts a bucket that it handed out
+abbrev pub IsHandedOut : {S B : Type 0} → (S → ℕ) → S → S → Option B → Type 0
+IsHandedOut opened old new store = opened new ≡ (if is_some store then opened old + 1 else opened old)
 
 abbrev pub HoldsNothing : Contents → Type 0
 HoldsNothing contents = contents ≡ nothing

@@ -10,6 +10,7 @@ use Rattle.meta_fetcher.specs.declared.sync_end.SyncEnd.TheVariants as fetched
 use Rattle.meta_fetcher.specs.declared.view.View.{View}
 use Rattle.store_gateway.specs.declared.gateway.Gateway.{Gateway}
 use Rattle.script_core.specs.Hands.{gateway_count}
+use Rattle.script_core.specs.Lawful.{IsLawfulWork}
 use Rattle.script_core.specs.declared.hand.Hand.{Hand}
 use Rattle.script_core.specs.declared.phase.Phase.{Phase}
 use Rattle.script_core.specs.declared.script.Script.{Script}
@@ -23,17 +24,20 @@ use Rattle.replay_cli.specs.Reports.{is_as_asked}
 use Rattle.replay_cli.specs.Verdicts.{report_of, tasks_of}
 use Rattle.replay_cli.specs.declared.came.Broken.{Broken}
 use Rattle.replay_cli.specs.declared.came.Broken.TheVariants as broken
-use Rattle.replay_cli.specs.declared.came.Came.{Came}
-use Rattle.replay_cli.specs.declared.came.Came.TheVariants as came
+use Rattle.replay_cli.specs.Drives.{Came}
 use Rattle.replay_cli.specs.declared.outcome.Outcome.{Outcome}
+
+-- the script allows the work
+abbrev pub Allows : Script → Work → Type 0
+Allows script work = IsLawfulWork script.gateways script.blocks (length script.selectors) work
 
 -- ---- one task
 
 -- what holds where an operation was answered that the journal is full
 abbrev pub WhenFull : Came → Type 0 → Type 0
-WhenFull (came.To o) P = Unit {0}
-WhenFull came.Full P = P
-WhenFull came.NoMemory P = Unit {0}
+WhenFull (Ok o) P = Unit {0}
+WhenFull (Err broken.Full) P = P
+WhenFull (Err broken.NoMemory) P = Unit {0}
 
 -- An operation of the seat is due in a run that made these entries: whatever the reply to it, its entry goes on with the run.
 abbrev pub IsDueAfter : {E : Type 0} → (List Entry → E → Type 0) → ℕ → List Entry → Type 0
@@ -49,12 +53,12 @@ pub record Adds {E : Type 0} (is_run : List Entry → E → Type 0) (seat : ℕ)
 
 -- A task that one worker does comes to its end, or breaks off without one.
 abbrev pub CameBy : Work → Option End → Came → Type 0
-CameBy work (Some end) (came.To o) = IsOutcome work (end ∷ []) o
-CameBy work (Some end) came.Full = ⊥
-CameBy work (Some end) came.NoMemory = ⊥
-CameBy work None (came.To o) = ⊥
-CameBy work None came.Full = Unit {0}
-CameBy work None came.NoMemory = Unit {0}
+CameBy work (Some end) (Ok o) = IsOutcome work (end ∷ []) o
+CameBy work (Some end) (Err broken.Full) = ⊥
+CameBy work (Some end) (Err broken.NoMemory) = ⊥
+CameBy work None (Ok o) = ⊥
+CameBy work None (Err broken.Full) = Unit {0}
+CameBy work None (Err broken.NoMemory) = Unit {0}
 
 -- the view that a sync leaves
 abbrev pub view_by : Option View → Option SyncEnd → Option View
@@ -71,9 +75,9 @@ duties_at script place tasks = duties_from (gateway_count script.gateways) place
 
 -- the task has come to all its ends, or the full journal left one out
 abbrev pub IsWhole : Script → ℕ → Task → List End → Came → Type 0
-IsWhole script place task ends (came.To o) = (length ends ≡ length (duties_at script place (task ∷ []))) × IsOutcome task.work ends o
-IsWhole script place task ends came.Full = length ends < length (duties_at script place (task ∷ []))
-IsWhole script place task ends came.NoMemory = Unit {0}
+IsWhole script place task ends (Ok o) = (length ends ≡ length (duties_at script place (task ∷ []))) × IsOutcome task.work ends o
+IsWhole script place task ends (Err broken.Full) = length ends < length (duties_at script place (task ∷ []))
+IsWhole script place task ends (Err broken.NoMemory) = Unit {0}
 
 -- An operation is due after these entries of duties: whatever the reply to it, its entry goes on with them.
 abbrev pub IsDueInLine : Script → (Hand → ℕ) → Views → List Duty → List Entry → Type 0

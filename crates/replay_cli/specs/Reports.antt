@@ -1,5 +1,5 @@
 -- The lines of a report: one for each activity, and more for an answered query.
-use Rattle.std.specs.Prelude.{ℕ, Bool, true, false, List, [], ◌∷◌, ◌++◌, ◌-◌, ◌^◌, min, length, codes, slice_get, sum_by}
+use Rattle.std.specs.Prelude.{ℕ, ℤ, Bool, true, false, List, [], ◌∷◌, ◌++◌, ◌-◌, ◌^◌, min, length, codes, slice_get, sum_by}
 use Rattle.std.specs.List.{flat_map}
 use Rattle.std.specs.Option.{option_map_or}
 use Rattle.reading_core.specs.Decimal.{decimal_text, signed_text}
@@ -83,10 +83,19 @@ is_as_asked (outcome.Sync sync.TooMany) = false
 is_as_asked (outcome.Query (query.Answer series sources)) = true
 is_as_asked (outcome.Query (query.NoAnswer gateway why)) = false
 
+abbrev pub upload_line : ℕ → UploadOutcome → List ℕ
+upload_line ulid end = codes "upload " ++ text_of ulid ++ codes ": " ++ upload_words end ++ newline
+
+abbrev pub sync_line : List ℕ → SyncOutcome → List ℕ
+sync_line name end = codes "sync " ++ name ++ codes ": " ++ sync_words end ++ newline
+
+abbrev pub query_line : Script → ℤ → ℤ → QueryOutcome → List ℕ
+query_line script low high end =
+    codes "query " ++ signed_text low ++ codes " " ++ signed_text high ++ codes ": " ++ query_text script end
+
 -- the lines of one activity
 unfoldable pub activity_text : Script → Work → Outcome → List ℕ
-activity_text script (work.Upload ulid stop) (outcome.Upload end) = codes "upload " ++ text_of ulid ++ codes ": " ++ upload_words end ++ newline
-activity_text script (work.Sync gateway) (outcome.Sync end) = codes "sync " ++ gateway_name script gateway ++ codes ": " ++ sync_words end ++ newline
-activity_text script (work.Query low high selector) (outcome.Query end) =
-    codes "query " ++ signed_text low ++ codes " " ++ signed_text high ++ codes ": " ++ query_text script end
+activity_text script (work.Upload ulid stop) (outcome.Upload end) = upload_line ulid end
+activity_text script (work.Sync gateway) (outcome.Sync end) = sync_line (gateway_name script gateway) end
+activity_text script (work.Query low high selector) (outcome.Query end) = query_line script low high end
 activity_text script other end = []

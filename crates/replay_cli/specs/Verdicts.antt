@@ -1,5 +1,5 @@
 -- What a call of the program comes to, why, and what it then writes.
-use Rattle.std.specs.Prelude.{◌≡◌, ◌≢◌, ◌⊎◌, ℕ, List, [], ◌∷◌, ◌++◌, length, Bool, true, false, Option, Some, None, option_map, IfSome, IsSomeAnd, Ok, Err, codes}
+use Rattle.std.specs.Prelude.{◌≡◌, ◌≢◌, ◌⊎◌, ◌<◌, ℕ, List, [], ◌∷◌, ◌++◌, length, Bool, true, false, Option, Some, None, option_map, IfSome, IsSomeAnd, Ok, Err, codes}
 use Rattle.std.specs.List.{flat_map, list_all}
 use Rattle.bucket_core.specs.Causes.{Rose}
 use Rattle.bucket_core.specs.Contents.{Contents}
@@ -119,6 +119,22 @@ pub record Around : Type 1 where
   -- the journal that is handed back
   pub journal : Option (List Entry)
 
+-- the bucket could not be opened, or a bucket that was handed out has failed
+abbrev pub SiteFailed : {S B : Type 0} → (S → ℕ) → S → S → (B → ℕ) → Option B → Type 0
+SiteFailed site_faults old new faults store = Rose (site_faults old) (site_faults new) ⊎ IsSomeAnd store (λ bucket. 0 < faults bucket)
+
+-- The world around a call that took a source from `script` to `read` and a site from `site` to `asked`, and handed back a bucket
+-- and a journal, or neither.
+abbrev pub around_call : {R S B : Type 0} → (R → Option (List ℕ)) → (R → ℕ) → R → R → (S → Option Contents) → (S → ℕ) → S → S → (B → ℕ) → Option B → Option (List Entry) → Around
+around_call left source_faults script read next site_faults site asked faults store journal = record {
+  text = left script;
+  left = left read;
+  source_failed = Rose (source_faults script) (source_faults read);
+  before = next site;
+  site_failed = SiteFailed site_faults site asked faults store;
+  journal = journal;
+}
+
 -- Why a script's run comes to a verdict: by what the bucket held before, where that is told; by whether the bucket could not
 -- be opened or listed; and by the journal that is handed back. Whatever it comes to, the journal is lawful
 -- for the script, and its tasks were done in the order of their lines.
@@ -163,6 +179,10 @@ pub record Saying : Type 0 where
   pub faults_after : ℕ
   pub written_before : Option (List ℕ)
   pub written_after : Option (List ℕ)
+
+-- a sink by its counts and what was written, before a call and after it
+abbrev pub saying_to : {K : Type 0} → (K → ℕ) → (K → Option (List ℕ)) → K → K → Saying
+saying_to faults written old new = record { faults_before = faults old; faults_after = faults new; written_before = written old; written_after = written new }
 
 -- the text was added to what was written
 abbrev pub IsAdded : List ℕ → Saying → Type 0

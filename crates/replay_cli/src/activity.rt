@@ -1,4 +1,4 @@
-ghost use Rattle.std.specs.Prelude.{◌≡◌, ◌≤◌, ℕ, ℤ, Option, Some, option_map};
+ghost use Rattle.std.specs.Prelude.{◌≡◌, ◌≤◌, ℕ, ℤ, Option, Some, Err, option_map};
 ghost use Rattle.world_core.specs.Machines.{end_of};
 ghost use Rattle.world_core.specs.Keeping.{IsFull};
 ghost use Rattle.meta_fetcher.specs.declared.sync_end.SyncEnd.{SyncEnd};
@@ -10,10 +10,10 @@ ghost use Rattle.script_core.specs.declared.work.Work.TheVariants as works;
 ghost use Rattle.lifecycle_core.specs.Tasks.{End, BlockUpload, answered, sync_rules, synced};
 ghost use Rattle.lifecycle_core.specs.Views.{Use};
 ghost use Rattle.replay_cli.specs.Outcomes.{call_outcome, sync_outcome, upload_outcome};
-ghost use Rattle.replay_cli.specs.Drives.{call_came, sync_came, upload_came};
+ghost use Rattle.replay_cli.specs.Drives.{call_came, driven_end, sync_came, upload_came};
 ghost use Rattle.replay_cli.specs.Progress.{Adds, CameBy, view_by};
 
-use crate::came::Came;
+use crate::came::{Broken, Came};
 use crate::outcome::{NoAnswer, Outcome, QueryOutcome, SyncOutcome, UploadOutcome};
 use crate::plan::objects_of;
 use bucket_core::Bucket;
@@ -24,7 +24,7 @@ use script_core::Block;
 use shipper::{Upload, UploadEnd};
 use std::alloc::Global;
 use store_gateway::{Gateway, SeriesCall, SeriesEnd};
-use world_core::{Driven, World, WorldHand, drive};
+use world_core::{Driven, World, drive_over};
 
 /// Ships a declared block, and stops after so many operations where the script says so.
 #[tactic(auto, using(crate::proofs::Uploads::nothing_shipped))]
@@ -36,19 +36,20 @@ pub(crate) fn upload<B: Bucket>(
     seat: u32,
 ) -> (Came, World<B>)
     requires { IsLawfulBlock block.now }
-    ensures full { result.0 ≡ Came.Full → IsFull result.1.journal }
-    ensures ran { (ulid : ℕ) → (end : Option End) × Adds (BlockUpload block.now stop) seat world.journal result.1.journal end result.0 × CameBy (works.Upload ulid stop) end result.0 }
+    ensures full { result.0 ≡ Err Broken.Full → IsFull result.1.journal }
+    ensures ran { (ulid : ℕ) → (end : Option End)
+        × Adds (BlockUpload block.now stop) seat world.journal result.1.journal end result.0
+        × CameBy (works.Upload ulid stop) end result.0 }
     ensures tick { result.1.tick ≡ world.tick }
 {
     let Ok(objects) = objects_of(alloc, block) else {
-        return (Came::NoMemory, world);
+        return (Err(Broken::NoMemory), world);
     };
     let Ok(mut machine) = Upload::start(objects) else {
-        return (Came::NoMemory, world);
+        return (Err(Broken::NoMemory), world);
     };
-    let mut hand = WorldHand::new(world, seat);
-    let came = upload_came(drive(&mut machine, &mut hand, stop));
-    (came, hand.into_world())
+    let (driven, world) = drive_over(&mut machine, world, seat, stop);
+    (upload_came(driven), world)
 }
 
 /// What a drive of an upload came to.
@@ -56,10 +57,10 @@ fn upload_came(driven: Driven<UploadEnd>) -> Came
     ensures { result ≡ upload_came driven }
 {
     match driven {
-        Driven::Ended(end) => Came::To(Outcome::Upload(upload_outcome(end))),
-        Driven::Stopped(count) => Came::To(Outcome::Upload(UploadOutcome::Stopped(count))),
-        Driven::Full => Came::Full,
-        Driven::NoMemory => Came::NoMemory,
+        Driven::Ended(end) => Ok(Outcome::Upload(upload_outcome(end))),
+        Driven::Stopped(count) => Ok(Outcome::Upload(UploadOutcome::Stopped(count))),
+        Driven::Full => Err(Broken::Full),
+        Driven::NoMemory => Err(Broken::NoMemory),
     }
 }
 
@@ -83,9 +84,11 @@ pub(crate) fn sync<B: Bucket>(
     seat: u32,
 ) -> (Came, World<B>)
     requires { 1 ≤ rules.now.page_limit }
-    ensures full { result.0 ≡ Came.Full → IsFull result.1.journal }
-    ensures ran { (place : ℕ) → (end : Option SyncEnd) × Adds (SyncRun (sync_rules rules.now)) seat world.journal result.1.journal end result.0
-        × CameBy (works.Sync place) (option_map synced end) result.0 × (gateway.new.view ≡ view_by gateway.old.view end) }
+    ensures full { result.0 ≡ Err Broken.Full → IsFull result.1.journal }
+    ensures ran { (place : ℕ) → (end : Option SyncEnd)
+        × Adds (SyncRun (sync_rules rules.now)) seat world.journal result.1.journal end result.0
+        × CameBy (works.Sync place) (option_map synced end) result.0
+        × (gateway.new.view ≡ view_by gateway.old.view end) }
     ensures tick { result.1.tick ≡ world.tick }
 {
     let asked = SyncRules {
@@ -98,11 +101,10 @@ pub(crate) fn sync<B: Bucket>(
         },
     };
     let Ok(mut machine) = Sync::start(alloc, asked) else {
-        return (Came::NoMemory, world);
+        return (Err(Broken::NoMemory), world);
     };
-    let mut hand = WorldHand::new(world, seat);
-    let driven = drive(&mut machine, &mut hand, None);
-    (take_view(driven, gateway), hand.into_world())
+    let (driven, world) = drive_over(&mut machine, world, seat, None);
+    (take_view(driven, gateway), world)
 }
 
 /// What a drive of a sync came to. A view that it gave is the gateway's from now on.
@@ -110,11 +112,7 @@ fn take_view(driven: Driven<SyncEnd>, gateway: &mut Gateway) -> Came
     ensures came { result ≡ sync_came driven }
     ensures view { gateway.new.view ≡ view_by gateway.old.view (end_of driven) }
 {
-    match driven {
-        Driven::Ended(end) => Came::To(Outcome::Sync(sync_outcome(end, gateway))),
-        Driven::Full => Came::Full,
-        Driven::Stopped(_) | Driven::NoMemory => Came::NoMemory,
-    }
+    Ok(Outcome::Sync(sync_outcome(driven_end(driven)?, gateway)))
 }
 
 fn sync_outcome(end: SyncEnd, gateway: &mut Gateway) -> SyncOutcome
@@ -144,30 +142,26 @@ pub(crate) fn call<B: Bucket>(
     world: World<B>,
     seat: u32,
 ) -> (Came, World<B>)
-    ensures full { result.0 ≡ Came.Full → IsFull result.1.journal }
+    ensures full { result.0 ≡ Err Broken.Full → IsFull result.1.journal }
     ensures ran { (used : Use) (line_low line_high : ℤ) (number : ℕ) → (end : Option SeriesEnd)
-        × Adds (SeriesRun view.now (asking selector.now rules.now.replicas low high)) seat world.journal result.1.journal end result.0
+        × Adds (SeriesRun view.now (asking selector.now rules.now.replicas low high)) seat
+        world.journal result.1.journal end result.0
         × CameBy (works.Query line_low line_high number) (option_map (answered used) end) result.0 }
     ensures tick { result.1.tick ≡ world.tick }
 {
     let Ok(mut machine) = SeriesCall::start(alloc, view, selector, &rules.replicas, low, high)
     else {
-        return (Came::NoMemory, world);
+        return (Err(Broken::NoMemory), world);
     };
-    let mut hand = WorldHand::new(world, seat);
-    let came = call_came(drive(&mut machine, &mut hand, None));
-    (came, hand.into_world())
+    let (driven, world) = drive_over(&mut machine, world, seat, None);
+    (call_came(driven), world)
 }
 
 /// What a drive of a gateway's call came to.
 fn call_came(driven: Driven<SeriesEnd>) -> Came
     ensures { result ≡ call_came driven }
 {
-    match driven {
-        Driven::Ended(end) => Came::To(Outcome::Query(call_outcome(end))),
-        Driven::Full => Came::Full,
-        Driven::Stopped(_) | Driven::NoMemory => Came::NoMemory,
-    }
+    Ok(Outcome::Query(call_outcome(driven_end(driven)?)))
 }
 
 fn call_outcome(end: SeriesEnd) -> QueryOutcome
@@ -178,5 +172,16 @@ fn call_outcome(end: SeriesEnd) -> QueryOutcome
         SeriesEnd::Missing(entry) => QueryOutcome::NoAnswer(0, NoAnswer::Missing(entry)),
         SeriesEnd::Damaged(entry) => QueryOutcome::NoAnswer(0, NoAnswer::Damaged(entry)),
         SeriesEnd::Fault(entry) => QueryOutcome::NoAnswer(0, NoAnswer::Fault(entry)),
+    }
+}
+
+/// The end to which a machine was driven that nothing stops, or why it was broken off.
+fn driven_end<E: Drop>(driven: Driven<E>) -> Result<E, Broken>
+    ensures { result ≡ driven_end driven }
+{
+    match driven {
+        Driven::Ended(end) => Ok(end),
+        Driven::Full => Err(Broken::Full),
+        Driven::Stopped(_) | Driven::NoMemory => Err(Broken::NoMemory),
     }
 }

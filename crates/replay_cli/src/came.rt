@@ -1,13 +1,7 @@
 use crate::outcome::Outcome;
 
 /// What an activity came to.
-#[derive(Drop)]
-pub(crate) enum Came {
-    To(Outcome),
-    /// An operation was answered that the journal is full.
-    Full,
-    NoMemory,
-}
+pub(crate) type Came = Result<Outcome, Broken>;
 
 /// Why a run was broken off.
 #[derive(Clone, Copy, Debug, PartialEq, Eq)]

@@ -1,5 +1,6 @@
 ghost use Rattle.std.specs.Prelude.{◌≡◌, ◌≤◌, ◌<◌, ◌++◌, [], List, ℕ, Option, Some, Err, IfOk, IfSome, length, option_map};
 ghost use Rattle.bucket_core.specs.Causes.{Rose};
+ghost use Rattle.replay_cli.specs.Limits.{script_limit};
 
 use crate::InputRefusal;
 use bucket_core::{ReadAnswer, Source};
@@ -12,11 +13,15 @@ const PIECE: usize = 65_536;
 
 /// Reads a source to its end, or to the first byte past the limit.
 pub fn read_all<R: Source>(alloc: Global, source: &mut R) -> Result<Vec<u8>, InputRefusal>
-    ensures whole { IfOk result (λ bytes. IfSome (R.left source.old) (λ all. (bytes.items ≡ all) × (R.left source.new ≡ Some []))) }
-    ensures small { IfOk result (λ bytes. length bytes.items ≤ 67108864) }
-    ensures long { result ≡ Err InputRefusal.TooLong → IfSome (R.left source.old) (λ all. 67108864 < length all) }
+    ensures whole { IfOk result
+        (λ bytes. IfSome (R.left source.old)
+        (λ all. (bytes.items ≡ all) × (R.left source.new ≡ Some []))) }
+    ensures small { IfOk result (λ bytes. length bytes.items ≤ script_limit) }
+    ensures long { result ≡ Err InputRefusal.TooLong
+        → IfSome (R.left source.old) (λ all. script_limit < length all) }
     ensures later { R.faults source.old ≤ R.faults source.new }
-    ensures cause { result ≡ Err InputRefusal.Fault → Rose (R.faults source.old) (R.faults source.new) }
+    ensures cause { result ≡ Err InputRefusal.Fault
+        → Rose (R.faults source.old) (R.faults source.new) }
 {
     let mut bytes = Vec::new(alloc);
     let mut piece = zeros(alloc, PIECE)?;

@@ -10,14 +10,22 @@ ghost use Rattle.replay_cli.specs.Verdicts.{IsFullRun, IsWholeRun};
 /// A law: each answer that the report of a whole run tells was given in it and is sound, where the journal is honest; and so is
 /// each that is told of a run which the full journal broke off.
 pub fn told_answers_are_sound()
-    ensures whole { (script : Script) (as_asked : Bool) (text : List ℕ) (journal : List Entry) (run : IsWholeRun script as_asked text journal) → IsLawfulScript script → IsHonest journal
-        → (place : ℕ) (answer : ToldAnswer) → IsTold script script.phases run.report.outcomes place answer → IsWorth script journal run.ends answer }
-    ensures full { (script : Script) (text : List ℕ) (journal : List Entry) (run : IsFullRun script text journal) → IsLawfulScript script → IsHonest journal
-        → (place : ℕ) (answer : ToldAnswer) → IsTold script run.done run.report.outcomes place answer → IsWorth script journal run.ends answer }
+    ensures whole { (script : Script) (as_asked : Bool) (text : List ℕ) (journal : List Entry)
+        (run : IsWholeRun script as_asked text journal) → IsLawfulScript script → IsHonest journal
+        → (place : ℕ) (answer : ToldAnswer)
+        → IsTold script script.phases run.report.outcomes place answer
+        → IsWorth script journal run.ends answer }
+    ensures full { (script : Script) (text : List ℕ) (journal : List Entry)
+        (run : IsFullRun script text journal) → IsLawfulScript script → IsHonest journal
+        → (place : ℕ) (answer : ToldAnswer)
+        → IsTold script run.done run.report.outcomes place answer
+        → IsWorth script journal run.ends answer }
 {}
 
 /// A law: where the bucket is honest and no call to it failed, a whole run ends as asked: no line tells of a fault, of something
 /// missing, damaged or too many, or of a view that is not there.
 pub fn calm_runs_end_as_asked()
-    ensures { (script : Script) (as_asked : Bool) (text : List ℕ) (journal : List Entry) → IsWholeRun script as_asked text journal → IsHonest journal → failed_count journal ≡ 0 → as_asked ≡ true }
+    ensures { (script : Script) (as_asked : Bool) (text : List ℕ) (journal : List Entry)
+        → IsWholeRun script as_asked text journal → IsHonest journal → failed_count journal ≡ 0
+        → as_asked ≡ true }
 {}

@@ -10,7 +10,8 @@ pub struct SinkFault;
 
 /// Writes all of the text, piece by piece.
 pub fn write_all<K: Sink>(out: &mut K, text: &[u8]) -> Result<(), SinkFault>
-    ensures whole { OnOk result (K.written out.new ≡ option_map (λ before. before ++ text.now) (K.written out.old)) }
+    ensures whole { OnOk result
+        (K.written out.new ≡ option_map (λ before. before ++ text.now) (K.written out.old)) }
     ensures part { OnErr result (IsWrittenInPart text.now (K.written out.old) (K.written out.new)) }
     ensures later { K.faults out.old ≤ K.faults out.new }
     ensures cause { OnErr result (Rose (K.faults out.old) (K.faults out.new)) }

@@ -4,14 +4,14 @@ ghost use Rattle.world_core.specs.Keeping.{IsFull};
 ghost use Rattle.world_core.specs.declared.entry.Entry.{Entry};
 ghost use Rattle.store_gateway.specs.declared.gateway.Gateway.{Gateway};
 ghost use Rattle.script_core.specs.Hands.{seats_before};
-ghost use Rattle.script_core.specs.Lawful.{IsLawfulScript, IsLawfulWork};
+ghost use Rattle.script_core.specs.Lawful.{IsLawfulScript};
 ghost use Rattle.lifecycle_core.specs.InLine.{seat_of};
 ghost use Rattle.lifecycle_core.specs.Phases.{BeginsPhase};
 ghost use Rattle.lifecycle_core.specs.Views.{Views};
-ghost use Rattle.replay_cli.specs.Progress.{PhaseStep, Reached, RunCame, Shows, TasksBroken, TasksDone};
+ghost use Rattle.replay_cli.specs.Progress.{Allows, PhaseStep, Reached, RunCame, Shows, TasksBroken, TasksDone};
 ghost use Rattle.replay_cli.specs.Reports.{activity_text, is_as_asked};
 
-use crate::came::{Broken, Came};
+use crate::came::Broken;
 use crate::declared::Places;
 use crate::outcome::Outcome;
 use crate::report::put_activity;
@@ -45,8 +45,10 @@ pub(crate) struct Progress {
 impl Progress {
     /// Nothing was done yet.
     pub(crate) fn new(alloc: Global, script: &Script) -> Result<Progress, NoMemory>
-        ensures unseen { IfOk result (λ progress. All (λ (gateway : Gateway). gateway.view ≡ None) progress.gateways.items) }
-        ensures ready { IfOk result (λ progress. length progress.gateways.items ≡ length script.now.gateways) }
+        ensures unseen { IfOk result
+            (λ progress. All (λ (gateway : Gateway). gateway.view ≡ None) progress.gateways.items) }
+        ensures ready { IfOk result
+            (λ progress. length progress.gateways.items ≡ length script.now.gateways) }
         ensures workers { IfOk result (λ progress. progress.workers ≡ 0) }
         ensures empty { IfOk result (λ progress. progress.report.text.items ≡ []) }
         ensures asked { IfOk result (λ progress. progress.report.as_asked ≡ true) }
@@ -86,10 +88,12 @@ pub(crate) fn run_phases<B: Bucket>(
     requires lawful { IsLawfulScript script.now }
     requires ready { length progress.old.gateways.items ≡ length script.now.gateways }
     requires workers { progress.old.workers ≡ seats_before script.now 0 }
-    requires reached { Reached script.now 0 progress.old.gateways.items world.journal progress.old.report.as_asked progress.old.report.text.items }
+    requires reached { Reached script.now 0 progress.old.gateways.items world.journal
+        progress.old.report.as_asked progress.old.report.text.items }
     ensures full { result.0 ≡ Err Broken.Full → IsFull result.1.journal }
     ensures tick { result.1.tick ≡ world.tick }
-    ensures came { RunCame script.now progress.new.gateways.items result.1.journal progress.new.report.as_asked progress.new.report.text.items result.0 }
+    ensures came { RunCame script.now progress.new.gateways.items result.1.journal
+        progress.new.report.as_asked progress.new.report.text.items result.0 }
 {
     let mut world = world;
     for (place, phase) in script.phases.members().iter().enumerate() {
@@ -115,12 +119,15 @@ fn run_phase<B: Bucket>(
     requires at { slice_get script.now.phases place ≡ Some phase.now }
     requires ready { length progress.old.gateways.items ≡ length script.now.gateways }
     requires workers { progress.old.workers ≡ seats_before script.now place }
-    requires reached { Reached script.now place progress.old.gateways.items world.journal progress.old.report.as_asked progress.old.report.text.items }
+    requires reached { Reached script.now place progress.old.gateways.items world.journal
+        progress.old.report.as_asked progress.old.report.text.items }
     ensures full { result.0 ≡ Err Broken.Full → IsFull result.1.journal }
     ensures tick { result.1.tick ≡ world.tick }
     ensures ready { length progress.new.gateways.items ≡ length script.now.gateways }
-    ensures workers { result.0 ≡ Ok tt → progress.new.workers ≡ seats_before script.now (place + 1) }
-    ensures step { PhaseStep script.now place progress.new.gateways.items result.1.journal progress.new.report.as_asked progress.new.report.text.items result.0 }
+    ensures workers { result.0 ≡ Ok tt
+        → progress.new.workers ≡ seats_before script.now (place + 1) }
+    ensures step { PhaseStep script.now place progress.new.gateways.items result.1.journal
+        progress.new.report.as_asked progress.new.report.text.items result.0 }
 {
     let Ok(seats) = Seats::new(alloc, script, place, progress.workers) else {
         return (Err(Broken::NoMemory), world);
@@ -143,7 +150,9 @@ fn run_phase<B: Bucket>(
 /// Sets the clock to the moment of the phase.
 fn begin_phase<B: Bucket>(phase: &Phase, world: World<B>) -> (Result<(), Broken>, World<B>)
     requires { phase.now.moment.ms < 2 ^ 47 }
-    ensures begun { OnOk result.0 ((clock : Entry) × BeginsPhase phase.now clock × (result.1.journal ≡ world.journal ++ clock ∷ [])) }
+    ensures begun { OnOk result.0
+        ((clock : Entry) × BeginsPhase phase.now clock
+        × (result.1.journal ≡ world.journal ++ clock ∷ [])) }
     ensures unbegun { OnErr result.0 (result.1.journal ≡ world.journal) }
     ensures full { result.0 ≡ Err Broken.Full → IsFull result.1.journal }
     ensures tick { result.1.tick ≡ world.tick }
@@ -175,8 +184,11 @@ impl Lines {
 
     /// Adds the lines of one activity.
     fn tell(&mut self, script: &Script, task: &Task, outcome: &Outcome) -> Result<(), NoMemory>
-        ensures text { OnOk result (self.new.text.items ≡ self.old.text.items ++ activity_text script.now task.now.work outcome.now) }
-        ensures asked { OnOk result (self.new.as_asked ≡ self.old.as_asked && is_as_asked outcome.now) }
+        ensures text { OnOk result
+            (self.new.text.items
+            ≡ self.old.text.items ++ activity_text script.now task.now.work outcome.now) }
+        ensures asked { OnOk result
+            (self.new.as_asked ≡ self.old.as_asked && is_as_asked outcome.now) }
     {
         put_activity(&mut self.text, script, task, outcome)?;
         self.as_asked = self.as_asked && outcome.is_as_asked();
@@ -194,13 +206,17 @@ fn run_tasks<B: Bucket>(
     world: World<B>,
 ) -> (Result<Lines, Broken>, World<B>)
     requires lawful { IsLawfulScript script.now }
-    requires tasks { All (λ task. IsLawfulWork script.now.gateways script.now.blocks (length script.now.selectors) task.work) tasks.now }
+    requires tasks { All (λ task. Allows script.now task.work) tasks.now }
     requires ready { length progress.old.gateways.items ≡ length script.now.gateways }
     ensures full { result.0 ≡ Err Broken.Full → IsFull result.1.journal }
     ensures tick { result.1.tick ≡ world.tick }
-    ensures came { (views : Views) → Shows views progress.old.gateways.items → MatchResult result.0
-        (λ lines. TasksDone script.now (seat_of seats.now.workers) tasks.now views progress.new.gateways.items world.journal result.1.journal lines.as_asked lines.text.items)
-        (λ broken. TasksBroken script.now (seat_of seats.now.workers) tasks.now views world.journal result.1.journal broken) }
+    ensures came { (views : Views) → Shows views progress.old.gateways.items
+        → MatchResult result.0
+        (λ lines. TasksDone script.now
+        (seat_of seats.now.workers) tasks.now views progress.new.gateways.items world.journal
+        result.1.journal lines.as_asked lines.text.items)
+        (λ broken. TasksBroken script.now
+        (seat_of seats.now.workers) tasks.now views world.journal result.1.journal broken) }
     ensures report { progress.new.report ≡ progress.old.report }
     ensures workers { progress.new.workers ≡ progress.old.workers }
     ensures ready { length progress.new.gateways.items ≡ length script.now.gateways }
@@ -234,16 +250,21 @@ fn next_task<B: Bucket>(
     world: World<B>,
 ) -> (Result<(), Broken>, World<B>)
     requires lawful { IsLawfulScript script.now }
-    requires tasks { All (λ task. IsLawfulWork script.now.gateways script.now.blocks (length script.now.selectors) task.work) tasks.now }
+    requires tasks { All (λ task. Allows script.now task.work) tasks.now }
     requires within { place < length tasks.now }
     requires ready { length progress.old.gateways.items ≡ length script.now.gateways }
     ensures full { result.0 ≡ Err Broken.Full → IsFull result.1.journal }
     ensures tick { result.1.tick ≡ world.tick }
     ensures came { (views : Views) (start : List Entry)
-        → TasksDone script.now (seat_of seats.now.workers) (take place tasks.now) views progress.old.gateways.items start world.journal lines.old.as_asked lines.old.text.items
+        → TasksDone script.now (seat_of seats.now.workers)
+        (take place tasks.now) views progress.old.gateways.items start world.journal
+        lines.old.as_asked lines.old.text.items
         → MatchResult result.0
-        (λ done. TasksDone script.now (seat_of seats.now.workers) (take (place + 1) tasks.now) views progress.new.gateways.items start result.1.journal lines.new.as_asked lines.new.text.items)
-        (λ broken. TasksBroken script.now (seat_of seats.now.workers) tasks.now views start result.1.journal broken) }
+        (λ done. TasksDone script.now (seat_of seats.now.workers)
+        (take (place + 1) tasks.now) views progress.new.gateways.items start result.1.journal
+        lines.new.as_asked lines.new.text.items)
+        (λ broken. TasksBroken script.now
+        (seat_of seats.now.workers) tasks.now views start result.1.journal broken) }
     ensures report { progress.new.report ≡ progress.old.report }
     ensures workers { progress.new.workers ≡ progress.old.workers }
     ensures ready { length progress.new.gateways.items ≡ length script.now.gateways }
@@ -251,11 +272,10 @@ fn next_task<B: Bucket>(
     let task = &tasks[place];
     let (came, world) = run_task(alloc, script, task, place, seats, progress, world);
     match came {
-        Came::To(outcome) => match lines.tell(script, task, &outcome) {
+        Ok(outcome) => match lines.tell(script, task, &outcome) {
             Ok(()) => (Ok(()), world),
             Err(_) => (Err(Broken::NoMemory), world),
         },
-        Came::Full => (Err(Broken::Full), world),
-        Came::NoMemory => (Err(Broken::NoMemory), world),
+        Err(broken) => (Err(broken), world),
     }
 }

@@ -7,12 +7,11 @@ ghost use Rattle.lifecycle_core.specs.Shipped.{IsPlanOf, IsShipped};
 
 use block_files::{BuildRefusal, build, files_objects};
 use block_keys::ObjectList;
-use block_meta::{BlockPlan, ParentList};
+use block_meta::{BlockPlan, ParentList, own_sources};
 use label_sets::{SeriesList, Text};
 use list_core::{NoMemory, TryCopy};
 use script_core::{Block, Body};
 use std::alloc::Global;
-use ulid_core::UlidList;
 
 /// The objects of a declared block, in the order of their upload.
 pub(crate) fn objects_of(alloc: Global, block: &Block) -> Result<ObjectList, NoMemory>
@@ -60,14 +59,12 @@ fn plan_of(
     requires { AreLawfulTimes min_time max_time }
     ensures { IfOk result (λ plan. IsPlanOf block.now min_time max_time plan) }
 {
-    let mut sources = UlidList::new(alloc);
-    sources.push(block.ulid)?;
     Ok(BlockPlan {
         ulid: block.ulid,
         min_time,
         max_time,
         level: 1,
-        sources,
+        sources: own_sources(alloc, block.ulid)?,
         parents: ParentList::new(alloc),
         labels: block.labels.copy()?,
         source: Text::from_str(alloc, "sidecar")?,

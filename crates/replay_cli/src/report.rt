@@ -2,7 +2,7 @@ ghost use Rattle.std.specs.Prelude.{◌≡◌, ◌++◌, ◌∷◌, [], codes, l
 ghost use Rattle.std.specs.List.{flat_map};
 ghost use Rattle.reading_core.specs.Decimal.{decimal_text, signed_text};
 ghost use Rattle.ulid_core.specs.UlidText.{text_of};
-ghost use Rattle.replay_cli.specs.Reports.{activity_text, gateway_name, upload_words, sync_words, query_text, no_answer_words, answer_text, counts_text, source_line, series_line, sample_count, newline};
+ghost use Rattle.replay_cli.specs.Reports.{activity_text, gateway_name, upload_line, sync_line, query_line, query_text, no_answer_words, answer_text, counts_text, source_line, series_line, sample_count, newline};
 
 use crate::outcome::{NoAnswer, Outcome, QueryOutcome, SyncOutcome, UploadOutcome};
 use label_sets::{Series, SeriesList};
@@ -19,7 +19,8 @@ pub(crate) fn put_activity(
     task: &Task,
     outcome: &Outcome,
 ) -> Result<(), NoMemory>
-    ensures { OnOk result (out.new.items ≡ out.old.items ++ activity_text script.now task.now.work outcome.now) }
+    ensures { OnOk result
+        (out.new.items ≡ out.old.items ++ activity_text script.now task.now.work outcome.now) }
 {
     match (&task.work, outcome) {
         (Work::Upload(ulid, _), Outcome::Upload(end)) => put_upload(out, *ulid, end),
@@ -51,7 +52,8 @@ fn put_text(out: &mut Vec<u8>, text: &str) -> Result<(), NoMemory>
 }
 
 fn put_numbered(out: &mut Vec<u8>, before: &str, number: u64, after: &str) -> Result<(), NoMemory>
-    ensures { OnOk result (out.new.items ≡ out.old.items ++ before.now ++ decimal_text number ++ after.now) }
+    ensures { OnOk result
+        (out.new.items ≡ out.old.items ++ before.now ++ decimal_text number ++ after.now) }
 {
     put_text(out, before)?;
     put_unsigned(out, number)?;
@@ -60,10 +62,10 @@ fn put_numbered(out: &mut Vec<u8>, before: &str, number: u64, after: &str) -> Re
 
 #[tactic(auto, unfolding(crate::specs::Reports::upload_words))]
 fn put_upload(out: &mut Vec<u8>, ulid: Ulid, end: &UploadOutcome) -> Result<(), NoMemory>
-    ensures { OnOk result (out.new.items ≡ out.old.items ++ codes "upload " ++ text_of ulid ++ codes ": " ++ upload_words end.now ++ newline) }
+    ensures { OnOk result (out.new.items ≡ out.old.items ++ upload_line ulid end.now) }
 {
     put_text(out, "upload ")?;
-    put_text_of_ulid(out, ulid)?;
+    ulid.put_text(out)?;
     put_text(out, ": ")?;
     match end {
         UploadOutcome::Done(count) => put_numbered(out, "ok ", u64::from(*count), " objects")?,
@@ -74,16 +76,9 @@ fn put_upload(out: &mut Vec<u8>, ulid: Ulid, end: &UploadOutcome) -> Result<(), 
     put_text(out, "\n")
 }
 
-fn put_text_of_ulid(out: &mut Vec<u8>, ulid: Ulid) -> Result<(), NoMemory>
-    ensures { OnOk result (out.new.items ≡ out.old.items ++ text_of ulid) }
-{
-    out.extend_from_slice(&ulid.text())?;
-    Ok(())
-}
-
 #[tactic(auto, unfolding(crate::specs::Reports::sync_words))]
 fn put_sync(out: &mut Vec<u8>, name: &str, end: &SyncOutcome) -> Result<(), NoMemory>
-    ensures { OnOk result (out.new.items ≡ out.old.items ++ codes "sync " ++ name.now ++ codes ": " ++ sync_words end.now ++ newline) }
+    ensures { OnOk result (out.new.items ≡ out.old.items ++ sync_line name.now end.now) }
 {
     put_text(out, "sync ")?;
     put_text(out, name)?;
@@ -104,7 +99,8 @@ fn put_query(
     high: i64,
     end: &QueryOutcome,
 ) -> Result<(), NoMemory>
-    ensures { OnOk result (out.new.items ≡ out.old.items ++ codes "query " ++ signed_text low ++ codes " " ++ signed_text high ++ codes ": " ++ query_text script.now end.now) }
+    ensures { OnOk result
+        (out.new.items ≡ out.old.items ++ query_line script.now low high end.now) }
 {
     put_text(out, "query ")?;
     put_signed(out, low)?;
@@ -181,7 +177,7 @@ fn put_source(out: &mut Vec<u8>, source: Ulid) -> Result<(), NoMemory>
     ensures { OnOk result (out.new.items ≡ out.old.items ++ source_line source) }
 {
     put_text(out, "source ")?;
-    put_text_of_ulid(out, source)?;
+    source.put_text(out)?;
     put_text(out, "\n")
 }
 

@@ -1,11 +1,10 @@
 ghost use Rattle.std.specs.Prelude.{◌≡◌, ◌-◌, ◌==◌, ◌^◌, min, length, IfOk};
 ghost use Rattle.std.specs.List.{list_any};
 ghost use Rattle.script_core.specs.Hands.{seats_before, workers_of};
-ghost use Rattle.script_core.specs.declared.hand.Hand.TheVariants as hands;
-ghost use Rattle.lifecycle_core.specs.InLine.{seat_of};
+ghost use Rattle.lifecycle_core.specs.InLine.{seat_of, serves};
 
 use list_core::NoMemory;
-use script_core::{Script, Worker, WorkerList};
+use script_core::{Hand, Script, Worker, WorkerList};
 use std::alloc::Global;
 
 /// The seats of one phase's workers. A phase has at most 64, so a seat is looked up in their list.
@@ -37,47 +36,39 @@ impl Seats {
         u32::try_from(self.workers.len()).unwrap_or(u32::MAX)
     }
 
-    /// The seat of the upload at a place of the phase.
-    pub(crate) fn of_task(&self, place: usize) -> u32
-        ensures { result ≡ seat_of self.now.workers (hands.Upload place) }
+    /// The seat of the worker that does the hand's tasks.
+    pub(crate) fn seat_of(&self, hand: Hand) -> u32
+        ensures { result ≡ seat_of self.now.workers hand }
     {
-        seat_of_upload(self.workers.members(), place as u64)
-    }
-
-    pub(crate) fn of_gateway(&self, gateway: u32) -> u32
-        ensures { result ≡ seat_of self.now.workers (hands.Gateway gateway) }
-    {
-        seat_of_gateway(self.workers.members(), gateway)
+        seat_among(self.workers.members(), hand)
     }
 }
 
-fn seat_of_upload(workers: &[Worker], place: u64) -> u32
-    ensures { result ≡ seat_of workers.now (hands.Upload place) }
+/// The seat of the worker that does the hand's tasks, and 0 where none does.
+fn seat_among(workers: &[Worker], hand: Hand) -> u32
+    ensures { result ≡ seat_of workers.now hand }
 {
     match workers {
         [] => 0,
         [worker, others @ ..] => {
-            if worker.gateway.is_none() && has(worker.tasks.members(), place) {
+            if serves(hand, worker) {
                 worker.seat
             } else {
-                seat_of_upload(others, place)
+                seat_among(others, hand)
             }
         }
     }
 }
 
-fn seat_of_gateway(workers: &[Worker], gateway: u32) -> u32
-    ensures { result ≡ seat_of workers.now (hands.Gateway gateway) }
+fn serves(hand: Hand, worker: &Worker) -> bool
+    ensures { result ≡ serves hand worker.now.gateway worker.now.tasks }
 {
-    match workers {
-        [] => 0,
-        [worker, others @ ..] => {
-            if worker.gateway == Some(gateway) {
-                worker.seat
-            } else {
-                seat_of_gateway(others, gateway)
-            }
-        }
+    match hand {
+        Hand::Upload(place) => match worker.gateway {
+            None => has(worker.tasks.members(), place),
+            Some(_) => false,
+        },
+        Hand::Gateway(gateway) => worker.gateway == Some(gateway),
     }
 }
 

@@ -1,15 +1,15 @@
 //! One task of a script, done by its worker.
 
-ghost use Rattle.std.specs.Prelude.{◌≡◌, ℕ, Some, length, slice_get};
+ghost use Rattle.std.specs.Prelude.{◌≡◌, ℕ, Some, Err, length, slice_get};
 ghost use Rattle.world_core.specs.Keeping.{IsFull};
-ghost use Rattle.script_core.specs.Lawful.{IsLawfulScript, IsLawfulWork};
+ghost use Rattle.script_core.specs.Lawful.{IsLawfulScript};
 ghost use Rattle.script_core.specs.declared.work.Work.TheVariants as works;
 ghost use Rattle.lifecycle_core.specs.InLine.{seat_of};
 ghost use Rattle.lifecycle_core.specs.Views.{Views};
-ghost use Rattle.replay_cli.specs.Progress.{Shows, TaskStep};
+ghost use Rattle.replay_cli.specs.Progress.{Allows, Shows, TaskStep};
 
 use crate::activity::{call, sync, upload};
-use crate::came::Came;
+use crate::came::{Broken, Came};
 use crate::declared::declared_block;
 use crate::outcome::{NoAnswer, Outcome, QueryOutcome};
 use crate::phases::Progress;
@@ -17,7 +17,7 @@ use crate::seats::Seats;
 use bucket_core::Bucket;
 use label_sets::SeriesList;
 use matchers::Selector;
-use script_core::{Script, Task, Work};
+use script_core::{Hand, Script, Task, Work};
 use std::alloc::Global;
 use store_gateway::Gateway;
 use ulid_core::UlidList;
@@ -34,12 +34,14 @@ pub(crate) fn run_task<B: Bucket>(
     world: World<B>,
 ) -> (Came, World<B>)
     requires lawful { IsLawfulScript script.now }
-    requires work { IsLawfulWork script.now.gateways script.now.blocks (length script.now.selectors) task.now.work }
+    requires work { Allows script.now task.now.work }
     requires ready { length progress.old.gateways.items ≡ length script.now.gateways }
-    ensures full { result.0 ≡ Came.Full → IsFull result.1.journal }
+    ensures full { result.0 ≡ Err Broken.Full → IsFull result.1.journal }
     ensures tick { result.1.tick ≡ world.tick }
     ensures step { (views : Views) → Shows views progress.old.gateways.items
-        → TaskStep script.now (seat_of seats.now.workers) place task.now views progress.new.gateways.items world.journal result.1.journal result.0 }
+        → TaskStep script.now
+        (seat_of seats.now.workers) place task.now views progress.new.gateways.items world.journal
+        result.1.journal result.0 }
     ensures report { progress.new.report ≡ progress.old.report }
     ensures workers { progress.new.workers ≡ progress.old.workers }
     ensures ready { length progress.new.gateways.items ≡ length script.now.gateways }
@@ -47,10 +49,11 @@ pub(crate) fn run_task<B: Bucket>(
     match &task.work {
         Work::Upload(ulid, stop) => {
             let block = declared_block(script, &progress.places, *ulid);
-            upload(alloc, block, *stop, world, seats.of_task(place))
+            let seat = seats.seat_of(Hand::Upload(place as u64));
+            upload(alloc, block, *stop, world, seat)
         }
         Work::Sync(number) => {
-            let seat = seats.of_gateway(*number);
+            let seat = seats.seat_of(Hand::Gateway(*number));
             let gateway = &mut progress.gateways[*number as usize];
             sync(alloc, &script.rules, gateway, world, seat)
         }
@@ -79,19 +82,22 @@ fn run_query<B: Bucket>(
 ) -> (Came, World<B>)
     requires lawful { IsLawfulScript script.now }
     requires ready { length gateways.now ≡ length script.now.gateways }
-    ensures full { result.0 ≡ Came.Full → IsFull result.1.journal }
+    ensures full { result.0 ≡ Err Broken.Full → IsFull result.1.journal }
     ensures tick { result.1.tick ≡ world.tick }
-    ensures step { (views : Views) (place line number : ℕ) → Shows views gateways.now → slice_get script.now.selectors number ≡ Some selector.now
-        → TaskStep script.now (seat_of seats.now.workers) place (record { line = line; work = works.Query low high number }) views gateways.now world.journal result.1.journal result.0 }
+    ensures step { (views : Views) (place line number : ℕ) → Shows views gateways.now
+        → slice_get script.now.selectors number ≡ Some selector.now
+        → TaskStep script.now (seat_of seats.now.workers) place
+        (record { line = line; work = works.Query low high number }) views gateways.now
+        world.journal result.1.journal result.0 }
 {
     let Some(gateway) = gateways.first() else {
         let nothing = QueryOutcome::Answer(SeriesList::new(alloc), UlidList::new(alloc));
-        return (Came::To(Outcome::Query(nothing)), world);
+        return (Ok(Outcome::Query(nothing)), world);
     };
     let Some(view) = &gateway.view else {
         let outcome = QueryOutcome::NoAnswer(0, NoAnswer::NoView);
-        return (Came::To(Outcome::Query(outcome)), world);
+        return (Ok(Outcome::Query(outcome)), world);
     };
-    let seat = seats.of_gateway(0);
+    let seat = seats.seat_of(Hand::Gateway(0));
     call(alloc, &script.rules, view, selector, low, high, world, seat)
 }

@@ -1,11 +1,11 @@
-ghost use Rattle.std.specs.Prelude.{◌≡◌, ◌⊎◌, ◌<◌, ◌+◌, ℕ, List, [], Ok, Err, Some, None, IfOk, IfErr, IfSome, IsSome, IsSomeAnd, is_some, if◌then◌else◌};
+ghost use Rattle.std.specs.Prelude.{◌≡◌, ◌⊎◌, ◌<◌, ℕ, List, [], Ok, Err, Some, None, IfOk, IfErr, IfSome, IsSome, IsSomeAnd, is_some};
 ghost use Rattle.bucket_core.specs.Causes.{Rose};
 ghost use Rattle.bucket_core.specs.Contents.{nothing};
 ghost use Rattle.script_core.specs.Reading.{script_of};
 ghost use Rattle.script_core.specs.Lawful.{IsLawfulScript};
-ghost use Rattle.replay_cli.specs.Kept.{IsHandedBack, IsUntouched};
+ghost use Rattle.replay_cli.specs.Kept.{IsHandedBack, IsHandedOut, IsUntouched};
 ghost use Rattle.replay_cli.specs.Statuses.{number_of};
-ghost use Rattle.replay_cli.specs.Verdicts.{IsCaused, IsWorked, IsUnread, IsRun, IsSaid};
+ghost use Rattle.replay_cli.specs.Verdicts.{IsCaused, IsWorked, IsUnread, IsRun, IsSaid, SiteFailed, around_call, saying_to};
 ghost use Rattle.replay_cli.specs.Words.{IsSerialOverMemory};
 
 use crate::came::Broken;
@@ -31,28 +31,19 @@ pub fn run_tool<S: Site, R: Source, K: Sink>(
     // The call comes to a verdict that has its cause, and says it: its status and its text, or that the sink failed or
     // memory ran out as it was said.
     ensures verdict { (verdict : Verdict) × (status : Status)
-        × IsCaused (IsSerialOverMemory words.now) (record {
-          text = R.left script.old;
-          left = R.left script.new;
-          source_failed = Rose (R.faults script.old) (R.faults script.new);
-          before = S.next site.old;
-          site_failed = Rose (S.faults site.old) (S.faults site.new) ⊎ IsSomeAnd result.store (λ store. 0 < S.Store.faults store);
-          journal = result.journal;
-        }) verdict
-        × IsSaid verdict (record {
-          faults_before = K.faults out.old;
-          faults_after = K.faults out.new;
-          written_before = K.written out.old;
-          written_after = K.written out.new;
-        }) status
+        × IsCaused (IsSerialOverMemory words.now)
+        (around_call R.left R.faults script.old script.new S.next S.faults site.old site.new
+        S.Store.faults result.store result.journal) verdict
+        × IsSaid verdict (saying_to K.faults K.written out.old out.new) status
         × (result.status ≡ number_of status) }
 
-    ensures handed { S.opened site.new ≡ (if is_some result.store then S.opened site.old + 1 else S.opened site.old) }
+    ensures handed { IsHandedOut S.opened site.old site.new result.store }
     ensures kept { is_some result.journal ≡ is_some result.store }
 
     // The journal is true of the bucket that is handed back, and without an entry that is as the site opened it.
     ensures back { IsHandedBack S.Store.contents S.Store.faults result.journal result.store }
-    ensures untouched { IfSome (S.next site.old) (λ c. IsUntouched S.Store.contents c result.journal result.store) }
+    ensures untouched { IfSome (S.next site.old)
+        (λ c. IsUntouched S.Store.contents c result.journal result.store) }
 {
     let came = come_to(alloc, words, site, script);
     let status = say(alloc, came.verdict, out);
@@ -71,18 +62,14 @@ fn come_to<S: Site, R: Source>(
     site: &mut S,
     script: &mut R,
 ) -> Conclusion<S::Store>
-    ensures cause { IsCaused (IsSerialOverMemory words.now) (record {
-      text = R.left script.old;
-      left = R.left script.new;
-      source_failed = Rose (R.faults script.old) (R.faults script.new);
-      before = S.next site.old;
-      site_failed = Rose (S.faults site.old) (S.faults site.new) ⊎ IsSomeAnd result.store (λ store. 0 < S.Store.faults store);
-      journal = result.journal;
-    }) result.verdict }
-    ensures handed { S.opened site.new ≡ (if is_some result.store then S.opened site.old + 1 else S.opened site.old) }
+    ensures cause { IsCaused (IsSerialOverMemory words.now)
+        (around_call R.left R.faults script.old script.new S.next S.faults site.old site.new
+        S.Store.faults result.store result.journal) result.verdict }
+    ensures handed { IsHandedOut S.opened site.old site.new result.store }
     ensures kept { is_some result.journal ≡ is_some result.store }
     ensures back { IsHandedBack S.Store.contents S.Store.faults result.journal result.store }
-    ensures untouched { IfSome (S.next site.old) (λ c. IsUntouched S.Store.contents c result.journal result.store) }
+    ensures untouched { IfSome (S.next site.old)
+        (λ c. IsUntouched S.Store.contents c result.journal result.store) }
 {
     if is_serial_over_memory(words) {
         read_and_run(alloc, site, script)
@@ -132,18 +119,14 @@ fn read_and_run<S: Site, R: Source>(
     site: &mut S,
     script: &mut R,
 ) -> Conclusion<S::Store>
-    ensures cause { IsWorked (record {
-      text = R.left script.old;
-      left = R.left script.new;
-      source_failed = Rose (R.faults script.old) (R.faults script.new);
-      before = S.next site.old;
-      site_failed = Rose (S.faults site.old) (S.faults site.new) ⊎ IsSomeAnd result.store (λ store. 0 < S.Store.faults store);
-      journal = result.journal;
-    }) result.verdict }
-    ensures handed { S.opened site.new ≡ (if is_some result.store then S.opened site.old + 1 else S.opened site.old) }
+    ensures cause { IsWorked
+        (around_call R.left R.faults script.old script.new S.next S.faults site.old site.new
+        S.Store.faults result.store result.journal) result.verdict }
+    ensures handed { IsHandedOut S.opened site.old site.new result.store }
     ensures kept { is_some result.journal ≡ is_some result.store }
     ensures back { IsHandedBack S.Store.contents S.Store.faults result.journal result.store }
-    ensures untouched { IfSome (S.next site.old) (λ c. IsUntouched S.Store.contents c result.journal result.store) }
+    ensures untouched { IfSome (S.next site.old)
+        (λ c. IsUntouched S.Store.contents c result.journal result.store) }
 {
     match read_script(alloc, script) {
         Ok(script) => over_site(alloc, &script, site),
@@ -154,10 +137,14 @@ fn read_and_run<S: Site, R: Source>(
 /// Reads the source to its end, and the script that its bytes spell.
 #[tactic(auto, using(crate::proofs::Verdicts::told_too_long))]
 fn read_script<R: Source>(alloc: Global, source: &mut R) -> Result<Script, Verdict>
-    ensures read { IfOk result (λ script. IfSome (R.left source.old) (λ text. script_of text ≡ Ok script)) }
-    ensures taken { IfOk result (λ _. IfSome (R.left source.old) (λ text. R.left source.new ≡ Some [])) }
+    ensures read { IfOk result
+        (λ script. IfSome (R.left source.old) (λ text. script_of text ≡ Ok script)) }
+    ensures taken { IfOk result
+        (λ _. IfSome (R.left source.old) (λ text. R.left source.new ≡ Some [])) }
     ensures lawful { IfOk result IsLawfulScript }
-    ensures refused { IfErr result (λ verdict. IsUnread (R.left source.old) (R.left source.new) (Rose (R.faults source.old) (R.faults source.new)) verdict) }
+    ensures refused { IfErr result
+        (IsUnread (R.left source.old) (R.left source.new)
+        (Rose (R.faults source.old) (R.faults source.new))) }
 {
     let text = match read_all(alloc, source) {
         Ok(text) => text,
@@ -176,11 +163,13 @@ fn read_script<R: Source>(alloc: Global, source: &mut R) -> Result<Script, Verdi
 fn over_site<S: Site>(alloc: Global, script: &Script, site: &mut S) -> Conclusion<S::Store>
     requires { IsLawfulScript script.now }
     ensures cause { IsRun script.now (S.next site.old)
-        (Rose (S.faults site.old) (S.faults site.new) ⊎ IsSomeAnd result.store (λ store. 0 < S.Store.faults store)) result.journal result.verdict }
-    ensures handed { S.opened site.new ≡ (if is_some result.store then S.opened site.old + 1 else S.opened site.old) }
+        (SiteFailed S.faults site.old site.new S.Store.faults result.store) result.journal
+        result.verdict }
+    ensures handed { IsHandedOut S.opened site.old site.new result.store }
     ensures kept { is_some result.journal ≡ is_some result.store }
     ensures back { IsHandedBack S.Store.contents S.Store.faults result.journal result.store }
-    ensures untouched { IfSome (S.next site.old) (λ c. IsUntouched S.Store.contents c result.journal result.store) }
+    ensures untouched { IfSome (S.next site.old)
+        (λ c. IsUntouched S.Store.contents c result.journal result.store) }
 {
     match site.open_bucket("memory") {
         Ok(bucket) => over_bucket(alloc, script, bucket),
@@ -192,11 +181,14 @@ fn over_site<S: Site>(alloc: Global, script: &Script, site: &mut S) -> Conclusio
 #[tactic(auto, using(crate::proofs::Verdicts::run_empty))]
 fn over_bucket<B: Bucket>(alloc: Global, script: &Script, bucket: B) -> Conclusion<B>
     requires { IsLawfulScript script.now }
-    ensures cause { IsRun script.now (B.contents bucket) (IsSomeAnd result.store (λ store. Rose (B.faults bucket) (B.faults store))) result.journal result.verdict }
+    ensures cause { IsRun script.now (B.contents bucket)
+        (IsSomeAnd result.store (λ store. Rose (B.faults bucket) (B.faults store))) result.journal
+        result.verdict }
     ensures store { IsSome result.store }
     ensures journal { IsSome result.journal }
     ensures back { IsHandedBack B.contents B.faults result.journal result.store }
-    ensures untouched { IfSome (B.contents bucket) (λ c. IsUntouched B.contents c result.journal result.store) }
+    ensures untouched { IfSome (B.contents bucket)
+        (λ c. IsUntouched B.contents c result.journal result.store) }
 {
     match World::open(alloc, bucket, script.rules.tick) {
         Ok(world) => over_world(alloc, script, world),
@@ -209,7 +201,8 @@ fn over_bucket<B: Bucket>(alloc: Global, script: &Script, bucket: B) -> Conclusi
 /// What a call comes to whose bucket is not opened.
 fn unopened(refusal: OpenRefusal) -> Verdict
     ensures failed { refusal ≡ OpenRefusal.Failed → result ≡ Verdict.SiteFault }
-    ensures not_empty { (name : List ℕ) → refusal ≡ OpenRefusal.NotEmpty name → result ≡ Verdict.NotEmpty name }
+    ensures not_empty { (name : List ℕ) → refusal ≡ OpenRefusal.NotEmpty name
+        → result ≡ Verdict.NotEmpty name }
     ensures none { refusal ≡ OpenRefusal.NoMemory → result ≡ Verdict.NoMemory }
 {
     match refusal {
@@ -258,12 +251,7 @@ fn verdict_of(came: Result<(), Broken>, report: Lines) -> Verdict
 
 /// Writes a verdict's text. Its status is that of the call, unless the sink failed or there was no memory for the text.
 fn say<K: Sink>(alloc: Global, verdict: Verdict, out: &mut K) -> Status
-    ensures { IsSaid verdict (record {
-      faults_before = K.faults out.old;
-      faults_after = K.faults out.new;
-      written_before = K.written out.old;
-      written_after = K.written out.new;
-    }) result }
+    ensures { IsSaid verdict (saying_to K.faults K.written out.old out.new) result }
 {
     let status = verdict.status();
     let Ok(text) = verdict.into_text(alloc) else {

@@ -74,7 +74,8 @@ fn line(alloc: Global, words: &str) -> Result<Vec<u8>, NoMemory>
 }
 
 fn refusal_line(alloc: Global, refusal: ScriptRefusal) -> Result<Vec<u8>, NoMemory>
-    ensures { IfOk result (λ text. text.items ≡ codes "script refused: " ++ refusal_text refusal ++ newline) }
+    ensures { IfOk result
+        (λ text. text.items ≡ codes "script refused: " ++ refusal_text refusal ++ newline) }
 {
     let mut text = Vec::from_slice(alloc, b"script refused: ")?;
     refusal.write(&mut text)?;

@@ -1,10 +1,16 @@
-use Rattle.std.proofs.Common.{ap}
-use Rattle.replay_cli.proofs.Syncs.{sync_told}
+use Rattle.std.proofs.Common.{refl}
+use Rattle.meta_fetcher.specs.Syncs.{SyncRun}
+use Rattle.script_core.specs.declared.work.Work.TheVariants as works
+use Rattle.lifecycle_core.specs.Tasks.{sync_rules, synced}
+use Rattle.replay_cli.specs.Outcomes.{sync_outcome}
+use Rattle.replay_cli.specs.declared.outcome.Outcome.TheVariants as outcome
+use Rattle.replay_cli.proofs.Syncs.{driven_told}
 use Rattle.replay_cli.proofs.activity.sync.Goals as goal
 
 pub returns-clause-ran : goal.returns-clause-ran
 returns-clause-ran g c = λ place.
-    sync_told _ c.args.rules.now c.args.seat c.new-hand.result.seat c.drive-driven.result
-    c.args.world.journal c.new-hand.result.world.journal c.into_world.result.journal c.drive-driven.new.hand.world.journal c.take_view.result c.args.gateway.now.view c.take_view.new.gateway.view place
-    c.new-hand.ensures.seat (ap (λ w. w.journal) c.new-hand.ensures.world) (ap (λ w. w.journal) c.into_world.ensures) c.take_view.ensures.came
-    (λ made end run. c.in-Ok.ensures.run made end c.drive-driven.new.machine run) c.drive-driven.ensures.run c.take_view.ensures.view
+    let told =
+    driven_told _ (SyncRun (sync_rules c.args.rules.now)) c.args.seat c.drive_over-driven.result.0 c.args.world.journal c.drive_over-driven.result.1.journal
+    (works.Sync place) synced (λ end. outcome.Sync (sync_outcome end)) c.take_view.result c.take_view.ensures.came (λ end. refl)
+    (λ made end run. c.in-Ok.ensures.run made end c.drive_over-driven.new.machine run) c.drive_over-driven.ensures.run in
+    (_, told.0, told.1, c.take_view.ensures.view)

@@ -1,5 +1,6 @@
 use Rattle.std.proofs.Common.{◌≡◌, ◌&&◌, ◌++◌, ◌∷◌, [], length, ap, sym, ◌∙◌, subst}
 use Rattle.std.specs.Prelude.{OnOk}
+use Rattle.std.proofs.lemmas.Result.{MatchResult-at_err, MatchResult-at_ok}
 use Rattle.replay_cli.specs.declared.phases.Lines.{Lines}
 use Rattle.std.specs.List.{All}
 use Rattle.world_core.specs.declared.entry.Entry.{Entry}
@@ -9,7 +10,7 @@ use Rattle.lifecycle_core.specs.InLine.{seat_of}
 use Rattle.lifecycle_core.specs.Phases.{BeginsPhase}
 use Rattle.replay_cli.specs.Progress.{TasksBroken, TasksDone}
 use Rattle.replay_cli.proofs.PhaseLists.{broken_from, broken_step, done_from, lawful_phase, reached_more, run_so_far, seats_next, taken_step, unbegun_step}
-use Rattle.replay_cli.proofs.Told.{err_told, ok_told, on_err, on_ok}
+use Rattle.replay_cli.proofs.Told.{on_err, on_ok}
 use Rattle.replay_cli.proofs.phases.run_phase.Goals as goal
 
 pub returns-in_default-clause-step : goal.returns-in_default-clause-step
@@ -37,7 +38,7 @@ returns-in-Ok-came-clause-step g c =
     let begun = on_ok ((clock : Entry) × BeginsPhase c.args.phase.now clock × (c.begin_phase-begun.result.1.journal ≡ c.args.world.journal ++ clock ∷ [])) c.begin_phase-begun.result.0 c.in_default-begun.field-0 c.in_default-begun.is c.begin_phase-begun.ensures.begun in
     let tasks = done_from c.args.script.now c.args.place c.args.phase.now c.args.progress.now.gateways.items c.run_tasks-came.new.progress.gateways.items c.args.world.journal c.begin_phase-begun.result.1.journal c.run_tasks-came.result.1.journal
     c.in-Ok-came.lines.as_asked c.in-Ok-came.lines.text.items c.in-Ok.seats.workers c.members-tasks.result.now begun.0 c.in-Ok.ensures c.members-tasks.ensures begun.2
-    (λ v shows. ok_told (λ lines. TasksDone c.args.script.now (seat_of c.in-Ok.seats.workers) c.members-tasks.result.now v c.run_tasks-came.new.progress.gateways.items c.begin_phase-begun.result.1.journal c.run_tasks-came.result.1.journal lines.as_asked lines.text.items) _ c.run_tasks-came.result.0 c.in-Ok-came.lines c.in-Ok-came.is (c.run_tasks-came.ensures.came v shows)) in
+    (λ v shows. MatchResult-at_ok (λ lines. TasksDone c.args.script.now (seat_of c.in-Ok.seats.workers) c.members-tasks.result.now v c.run_tasks-came.new.progress.gateways.items c.begin_phase-begun.result.1.journal c.run_tasks-came.result.1.journal lines.as_asked lines.text.items) _ c.in-Ok-came.lines c.in-Ok-came.is (c.run_tasks-came.ensures.came v shows)) in
     taken_step c.args.script.now c.args.place c.run_tasks-came.new.progress.gateways.items c.run_tasks-came.result.1.journal c.args.progress.now.report.as_asked c.in-Ok-came.lines.as_asked c.take.new.self.as_asked
     c.args.progress.now.report.text.items c.in-Ok-came.lines.text.items c.take.new.self.text.items c.take.result c.take.ensures.refusal
     (λ a l lines flag. reached_more c.args.script.now c.args.place c.args.phase.now c.args.progress.now.gateways.items c.args.world.journal c.args.progress.now.report.as_asked c.args.progress.now.report.text.items c.requires.at
@@ -50,7 +51,7 @@ returns-clause-step g c =
     let begun = on_ok ((clock : Entry) × BeginsPhase c.args.phase.now clock × (c.begin_phase-begun.result.1.journal ≡ c.args.world.journal ++ clock ∷ [])) c.begin_phase-begun.result.0 c.in_default-begun.field-0 c.in_default-begun.is c.begin_phase-begun.ensures.begun in
     let tasks = broken_from c.args.script.now c.args.place c.args.phase.now c.args.progress.now.gateways.items c.args.world.journal c.begin_phase-begun.result.1.journal c.run_tasks-came.result.1.journal c.in-Err-came.broken
     c.in-Ok.seats.workers c.members-tasks.result.now begun.0 c.in-Ok.ensures c.members-tasks.ensures begun.2
-    (λ v shows. err_told _ (λ broken. TasksBroken c.args.script.now (seat_of c.in-Ok.seats.workers) c.members-tasks.result.now v c.begin_phase-begun.result.1.journal c.run_tasks-came.result.1.journal broken) c.run_tasks-came.result.0 c.in-Err-came.broken c.in-Err-came.is (c.run_tasks-came.ensures.came v shows)) in
+    (λ v shows. MatchResult-at_err _ (λ broken. TasksBroken c.args.script.now (seat_of c.in-Ok.seats.workers) c.members-tasks.result.now v c.begin_phase-begun.result.1.journal c.run_tasks-came.result.1.journal broken) c.in-Err-came.broken c.in-Err-came.is (c.run_tasks-came.ensures.came v shows)) in
     broken_step c.args.script.now c.args.place c.args.phase.now c.args.progress.now.gateways.items c.run_tasks-came.new.progress.gateways.items c.args.world.journal c.run_tasks-came.result.1.journal c.args.progress.now.report.as_asked c.run_tasks-came.new.progress.report.as_asked
     c.args.progress.now.report.text.items c.run_tasks-came.new.progress.report.text.items c.in-Err-came.broken begun.0 c.requires.at (ap (λ r. r.as_asked) (sym c.run_tasks-came.ensures.report)) (ap (λ r. r.text.items) (sym c.run_tasks-came.ensures.report))
     begun.1 c.requires.reached tasks

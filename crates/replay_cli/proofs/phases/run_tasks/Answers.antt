@@ -1,8 +1,9 @@
 use Rattle.std.proofs.Common.{◌+◌, take, refl, ◌∙◌, subst, arith, List}
+use Rattle.std.proofs.lemmas.Result.{MatchResult-at_err, MatchResult-at_ok}
 use Rattle.lifecycle_core.specs.InLine.{seat_of}
 use Rattle.script_core.specs.declared.task.Task.{Task}
 use Rattle.replay_cli.specs.Progress.{TasksBroken, TasksDone}
-use Rattle.replay_cli.proofs.Told.{done_none, err_told, ok_told, take_whole}
+use Rattle.replay_cli.proofs.Told.{done_none, take_whole}
 use Rattle.replay_cli.proofs.phases.run_tasks.Goals as goal
 
 pub loop-place-init : goal.loop-place-init
@@ -16,13 +17,13 @@ loop-place-init g c = record {
 
 pub returns-in-Err-clause-came : goal.returns-in-Err-clause-came
 returns-in-Err-clause-came g c = λ views shows.
-    err_told _ (λ broken. TasksBroken c.args.script.now (seat_of c.args.seats.now.workers) c.args.tasks.now views c.args.world.journal c.next_task-came.result.1.journal broken)
-    c.next_task-came.result.0 c.in-Err.broken c.in-Err.is (c.next_task-came.ensures.came views c.args.world.journal (c.loop-place.invariant.done views shows))
+    MatchResult-at_err _ (λ broken. TasksBroken c.args.script.now (seat_of c.args.seats.now.workers) c.args.tasks.now views c.args.world.journal c.next_task-came.result.1.journal broken)
+    c.in-Err.broken c.in-Err.is (c.next_task-came.ensures.came views c.args.world.journal (c.loop-place.invariant.done views shows))
 
 pub loop-place-preserved : goal.loop-place-preserved
 loop-place-preserved g c = record {
-  done = λ views shows. ok_told (λ done. TasksDone c.args.script.now (seat_of c.args.seats.now.workers) (take (c.loop-place.place + 1) c.args.tasks.now) views c.next_task-came.new.progress.gateways.items c.args.world.journal c.next_task-came.result.1.journal c.next_task-came.new.lines.as_asked c.next_task-came.new.lines.text.items)
-      _ c.next_task-came.result.0 c.in_default.field-0 c.in_default.is (c.next_task-came.ensures.came views c.args.world.journal (c.loop-place.invariant.done views shows));
+  done = λ views shows. MatchResult-at_ok (λ done. TasksDone c.args.script.now (seat_of c.args.seats.now.workers) (take (c.loop-place.place + 1) c.args.tasks.now) views c.next_task-came.new.progress.gateways.items c.args.world.journal c.next_task-came.result.1.journal c.next_task-came.new.lines.as_asked c.next_task-came.new.lines.text.items)
+      _ c.in_default.field-0 c.in_default.is (c.next_task-came.ensures.came views c.args.world.journal (c.loop-place.invariant.done views shows));
   tick = c.next_task-came.ensures.tick ∙ c.loop-place.invariant.tick;
   report = c.next_task-came.ensures.report ∙ c.loop-place.invariant.report;
   workers = c.next_task-came.ensures.workers ∙ c.loop-place.invariant.workers;

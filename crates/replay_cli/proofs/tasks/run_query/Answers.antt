@@ -29,6 +29,6 @@ returns-clause-step g c = λ views place line number shows asked.
     c.args.world.journal c.call.result.1.journal c.call.result.0 c.args.low c.args.high number c.args.selector.now c.in-Some.gateway.now c.in-Some-view.view refl
     (one_count c.args.script.now c.args.gateways.now c.in-Some.gateway.now c.requires.lawful.few_gateways c.requires.ready at) at c.in-Some-view.is asked
     (λ used low high line_number. let from = to_z-of_z w64 c.args.low c.ranges.low in let upto = to_z-of_z w64 c.args.high c.ranges.high in
-    asked_told c.in-Some-view.view c.args.selector.now c.args.script.now.rules.replicas _ c.args.low _ c.args.high c.of_gateway-seat.result (seat_of c.args.seats.now.workers (hands.Gateway 0)) c.args.world.journal c.call.result.1.journal
-    used low high line_number c.call.result.0 from upto c.of_gateway-seat.ensures (c.call.ensures.ran used low high line_number))
+    asked_told c.in-Some-view.view c.args.selector.now c.args.script.now.rules.replicas _ c.args.low _ c.args.high c.seat_of-seat.result (seat_of c.args.seats.now.workers (hands.Gateway 0)) c.args.world.journal c.call.result.1.journal
+    used low high line_number c.call.result.0 from upto c.seat_of-seat.ensures (c.call.ensures.ran used low high line_number))
     shows

@@ -20,7 +20,7 @@ returns-in-Upload-clause-step g c = λ views shows.
     upload_step c.args.script.now (seat_of c.args.seats.now.workers) c.args.place c.args.task.now views c.args.progress.now.gateways.items c.args.world.journal c.upload.result.1.journal c.upload.result.0
     c.in-Upload.ulid c.in-Upload.stop c.declared_block-block.result.now c.in-Upload.is c.declared_block-block.ensures.found
     (subst (λ (s : ℕ). (end : Option End) × Adds (BlockUpload c.declared_block-block.result.now c.in-Upload.stop) s c.args.world.journal c.upload.result.1.journal end c.upload.result.0 × CameBy (works.Upload c.in-Upload.ulid c.in-Upload.stop) end c.upload.result.0)
-    c.of_task.ensures (c.upload.ensures.ran c.in-Upload.ulid))
+    c.seat_of-seat.ensures (c.upload.ensures.ran c.in-Upload.ulid))
     shows
 
 pub returns-in-Sync-clause-step : goal.returns-in-Sync-clause-step
@@ -33,7 +33,7 @@ returns-in-Sync-clause-step g c = λ views shows.
     (slice_get-get_or c.args.progress.now.gateways.items c.in-Sync.number c.index_mut-gateway.result.now within ∙ ap Some (sym c.index_mut-gateway.ensures.value))
     (subst (λ (s : ℕ). (end : Option SyncEnd) × Adds (SyncRun (sync_rules c.args.script.now.rules)) s c.args.world.journal c.sync.result.1.journal end c.sync.result.0 × CameBy (works.Sync c.in-Sync.number) (option_map synced end) c.sync.result.0
     × (c.sync.new.gateway.view ≡ view_by c.index_mut-gateway.result.now.view end))
-    c.of_gateway-seat.ensures (c.sync.ensures.ran c.in-Sync.number))
+    c.seat_of-seat-in-Sync.ensures (c.sync.ensures.ran c.in-Sync.number))
     shows
 
 pub returns-in-Query-clause-step : goal.returns-in-Query-clause-step
