@@ -1,11 +1,12 @@
 -- All that is guaranteed of a run, from what its entries tell, its views and its answers.
-use Rattle.std.proofs.Common.{◌≡◌, ◌≢◌, ◌⊎◌, ◌↔◌, inl, inr, ℕ, zero, suc, ◌+◌, ◌-◌, ◌≤◌, ℤ, Bool, true, false, IsTrue, List, [], ◌∷◌, ◌++◌, length, All, Contains, Option, Some, None, refl, sym, ◌∙◌, ap, subst, arith}
+use Rattle.list_core.proofs.Membership.{contains_first}
+use Rattle.std.proofs.Common.{◌≡◌, ◌≢◌, ◌↔◌, inl, inr, ℕ, zero, suc, ℤ, Bool, List, [], ◌∷◌, ◌++◌, length, All, Contains, Option, Some, None, refl, sym, ◌∙◌, ap, subst, arith}
 use Rattle.std.specs.Prelude.{option_map, slice_get, count_by, get_or}
 use Rattle.std.specs.List.{filter}
 use Rattle.std.proofs.lemmas.List.{length-append}
 use Rattle.std.proofs.lemmas.List.Elements.{All-contains, All-contains_itself}
 use Rattle.std.proofs.lemmas.List.Sums.{length-filter}
-use Rattle.label_sets.specs.Triples.{Triple, triples_of}
+use Rattle.label_sets.specs.Triples.{Triple}
 use Rattle.label_sets.specs.declared.series.Series.{Series}
 use Rattle.matchers.specs.Selected.{IsAnswer}
 use Rattle.matchers.specs.declared.matcher.Matcher.{Matcher}
@@ -26,7 +27,6 @@ use Rattle.store_gateway.specs.declared.series_end.SeriesEnd.{SeriesEnd}
 use Rattle.store_gateway.specs.declared.series_end.SeriesEnd.TheVariants as called
 use Rattle.script_core.specs.Lawful.{IsLawfulScript}
 use Rattle.script_core.specs.declared.script.Script.{Script}
-use Rattle.script_core.specs.declared.task.Task.{Task}
 use Rattle.script_core.specs.declared.work.Work.{Work}
 use Rattle.script_core.specs.declared.work.Work.TheVariants.{Upload, Sync, Query}
 use Rattle.lifecycle_core.specs.Causes.{AreFaultsShown, AreUndamaged, AreWell, IsDamaged, IsFault, IsWell, SomeCame}
@@ -34,21 +34,20 @@ use Rattle.lifecycle_core.specs.Completed.{IsSettled, IsUploadedBefore}
 use Rattle.lifecycle_core.specs.Guarantees.{Answered, IsExact, IsGiven, IsGuaranteed, IsGuaranteedJournal, IsSound, LeavesNoneOut, NamesUploads}
 use Rattle.lifecycle_core.specs.Held.{held}
 use Rattle.lifecycle_core.specs.Phases.{IsRunOf}
-use Rattle.lifecycle_core.specs.Tasks.{End, IsBefore, IsStop, QueryTask, TaskRun, asked_by, sync_rules, uploaded, synced, answered, without_view, stopped}
+use Rattle.lifecycle_core.specs.Tasks.{End, QueryTask, TaskRun, asked_by, sync_rules, uploaded, synced, answered, without_view, stopped}
 use Rattle.lifecycle_core.specs.Views.{Use}
-use Rattle.lifecycle_core.proofs.Explaining.{honest_misses_nothing, misses_explained, parted, the_entry}
-use Rattle.lifecycle_core.proofs.ExactAnswers.{answer_is_exact, calls_undamaged, sources_are}
-use Rattle.lifecycle_core.proofs.FirstPhases.{none_run}
-use Rattle.lifecycle_core.proofs.Lists.{contains_first}
-use Rattle.lifecycle_core.proofs.Faults.{ShowsFault, call_shows, sync_shows, upload_shows}
-use Rattle.lifecycle_core.proofs.Positions.{filtered}
-use Rattle.lifecycle_core.proofs.FewNames.{none_found_many}
-use Rattle.lifecycle_core.proofs.ViewsThere.{views_are_there}
-use Rattle.lifecycle_core.proofs.Readable.{is_readable}
-use Rattle.lifecycle_core.proofs.TasksMade.{answers_are_made, ends_are_made}
-use Rattle.lifecycle_core.proofs.Telling.{all_told, journal_rises}
-use Rattle.lifecycle_core.proofs.Told.{IsMade, IsOrigin, IsPart, IsReadable, IsTold, IsTrueFound, IsTrueView, Rises}
-use Rattle.lifecycle_core.proofs.TrueViews.{origin_is_true, syncs_undamaged}
+use Rattle.lifecycle_core.proofs.misses.Explaining.{honest_misses_nothing, misses_explained, parted, the_entry}
+use Rattle.lifecycle_core.proofs.answers.ExactAnswers.{answer_is_exact, calls_undamaged, sources_are}
+use Rattle.lifecycle_core.proofs.phases.FirstPhases.{none_run}
+use Rattle.lifecycle_core.proofs.misses.Faults.{ShowsFault, call_shows, sync_shows, upload_shows}
+use Rattle.lifecycle_core.proofs.journals.Positions.{filtered}
+use Rattle.lifecycle_core.proofs.views.FewNames.{none_found_many}
+use Rattle.lifecycle_core.proofs.views.ViewsThere.{views_are_there}
+use Rattle.lifecycle_core.proofs.blocks.Readable.{is_readable}
+use Rattle.lifecycle_core.proofs.phases.TasksMade.{answers_are_made, ends_are_made}
+use Rattle.lifecycle_core.proofs.journals.Telling.{all_told, journal_rises}
+use Rattle.lifecycle_core.proofs.journals.Told.{IsMade, IsOrigin, IsReadable, IsTold, IsTrueView, Rises}
+use Rattle.lifecycle_core.proofs.views.TrueViews.{origin_is_true, syncs_undamaged}
 
 -- ---- failed calls
 

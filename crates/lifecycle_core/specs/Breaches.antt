@@ -62,24 +62,29 @@ next_byte (byte ∷ bytes) = byte
 abbrev pub FirstDiffer : List ℕ → List ℕ → ℕ → ℕ → Type 0
 FirstDiffer one other x y =
     (front : List ℕ) × (left : List ℕ) × (right : List ℕ)
-    × (one ≡ front ++ left) × (other ≡ front ++ right) × (next_byte left ≡ x) × (next_byte right ≡ y) × (x ≢ y)
+    × (one ≡ front ++ left) × (other ≡ front ++ right) × (next_byte left ≡ x)
+    × (next_byte right ≡ y) × (x ≢ y)
 
 -- The entry shows something else than what stands after those before it; the bytes are the first that differ, the one that it
 -- shows and the one that it owes.
 abbrev pub IsLie : List Entry → Entry → ℕ → ℕ → Type 0
 IsLie before e shown owed =
-    (reply : Reply) × (one : List ℕ) × (other : List ℕ) × IsReplyTo e.op reply × Tells (stands before) e.op reply
-    × (shown_by e.reply ≡ Some one) × (shown_by reply ≡ Some other) × FirstDiffer one other shown owed
+    (reply : Reply) × (one : List ℕ) × (other : List ℕ) × IsReplyTo e.op reply
+    × Tells (stands before) e.op reply
+    × (shown_by e.reply ≡ Some one) × (shown_by reply ≡ Some other)
+    × FirstDiffer one other shown owed
 
 -- ---- what gateways do
 
 -- a worker of the gateway has this seat
 abbrev pub IsSeatOf : Script → ℕ → ℕ → Type 0
 IsSeatOf script gateway seat =
-    (number : ℕ) × (worker : Worker) × Contains (workers_of script number) worker × (worker.gateway ≡ Some gateway) × (worker.seat ≡ seat)
+    (number : ℕ) × (worker : Worker) × Contains (workers_of script number) worker
+    × (worker.gateway ≡ Some gateway) × (worker.seat ≡ seat)
 
 -- The entries are one whole sync of a gateway, which came to this end. One without an end was broken off, and is its seat's last.
-pub record IsSyncIn (script : Script) (journal : List Entry) (gateway : ℕ) (entries : List Entry) (end : Option SyncEnd) : Type 0 where
+pub record IsSyncIn (script : Script) (journal : List Entry) (gateway : ℕ) (entries : List Entry)
+    (end : Option SyncEnd) : Type 0 where
   pub seat : ℕ
   pub sits : IsSeatOf script gateway seat
   pub before : List Entry
@@ -89,11 +94,14 @@ pub record IsSyncIn (script : Script) (journal : List Entry) (gateway : ℕ) (en
   pub whole : end ≡ None → after ≡ []
 
 -- the view that a gateway has at the entry of a number: that of its last sync before it which gave one
-pub record IsViewAt (script : Script) (journal : List Entry) (gateway number : ℕ) (view : View) : Type 0 where
+pub record IsViewAt (script : Script) (journal : List Entry) (gateway number : ℕ)
+    (view : View) : Type 0 where
   pub entries : List Entry
   pub gave : IsSyncIn script journal gateway entries (Some (fetched.View view))
   pub before : last_number entries < number
-  pub last : (others : List Entry) (other : View) → IsSyncIn script journal gateway others (Some (fetched.View other)) → last_number others < number → last_number others ≤ last_number entries
+  pub last : (others : List Entry) (other : View)
+      → IsSyncIn script journal gateway others (Some (fetched.View other))
+      → last_number others < number → last_number others ≤ last_number entries
 
 -- the key under which an operation reads
 abbrev pub read_key : Op → Option Key
@@ -110,7 +118,8 @@ HoldsSamples (Mark ulid) = ⊥
 
 -- the entry is a read of a gateway's series call
 abbrev pub IsCallRead : Script → ℕ → Entry → Type 0
-IsCallRead script gateway e = IsSeatOf script gateway e.seat × ((key : Key) × (read_key e.op ≡ Some key) × HoldsSamples key)
+IsCallRead script gateway e =
+    IsSeatOf script gateway e.seat × ((key : Key) × (read_key e.op ≡ Some key) × HoldsSamples key)
 
 -- ---- breaches
 
@@ -124,28 +133,35 @@ abbrev pub Refuses : Script → List Entry → Rule → List Entry → Entry →
 Refuses script journal honesty before e x y = IsLie before e x y
 Refuses script journal upload_time before e x y =
     (ulid : ℕ) × PutsObject ulid e
-    × (IsOver (time_of ulid) e.moment.ms x y ⊎ IsOver e.moment.ms (time_of ulid + script.rules.upload.ms) x y)
+    × (IsOver (time_of ulid) e.moment.ms x y
+    ⊎ IsOver e.moment.ms (time_of ulid + script.rules.upload.ms) x y)
 Refuses script journal mark_time before e x y =
-    (ulid : ℕ) × (second : ℕ) × PutsMark ulid second e × IsOver e.moment.ms (1000 * second + script.rules.ignore.ms) x y
+    (ulid : ℕ) × (second : ℕ) × PutsMark ulid second e
+    × IsOver e.moment.ms (1000 * second + script.rules.ignore.ms) x y
 -- the last read of a sync stands for it
 Refuses script journal sync_time before e x y =
-    (gateway : ℕ) × (entries : List Entry) × (end : Option SyncEnd) × (first : Entry) × (others : List Entry) × (front : List Entry)
-    × IsSyncIn script journal gateway entries end × (entries ≡ first ∷ others) × (entries ≡ front ++ e ∷ [])
+    (gateway : ℕ) × (entries : List Entry) × (end : Option SyncEnd) × (first : Entry)
+    × (others : List Entry) × (front : List Entry)
+    × IsSyncIn script journal gateway entries end × (entries ≡ first ∷ others)
+    × (entries ≡ front ++ e ∷ [])
     × IsOver (e.moment.ms + 1000) (first.moment.ms + script.rules.ignore.ms) x y
 Refuses script journal view_time before e x y =
-    (gateway : ℕ) × (view : View) × IsCallRead script gateway e × IsViewAt script journal gateway e.seq view
+    (gateway : ℕ) × (view : View) × IsCallRead script gateway e
+    × IsViewAt script journal gateway e.seq view
     × IsOver (e.moment.ms + script.rules.ignore.ms) (view.begin.ms + script.rules.delete.ms) x y
 
 -- no rule refuses the entry
 abbrev pub IsKept : Script → List Entry → List Entry → Entry → Type 0
-IsKept script journal before e = (rule : Rule) (x y : ℕ) → ¬ Refuses script journal rule before e x y
+IsKept script journal before e =
+    (rule : Rule) (x y : ℕ) → ¬ Refuses script journal rule before e x y
 
 -- no rule refuses an entry of the journal
 abbrev pub IsUnbroken : Script → List Entry → Type 0
 IsUnbroken script journal = Each (IsKept script journal) journal
 
 -- The journal's breach, if it has one: the first entry that a rule refuses, and the first rule that refuses it.
-pub record IsBreach (script : Script) (journal : List Entry) (rule : Rule) (number x y : ℕ) : Type 0 where
+pub record IsBreach (script : Script) (journal : List Entry) (rule : Rule)
+    (number x y : ℕ) : Type 0 where
   pub before : List Entry
   pub entry : Entry
   pub after : List Entry
@@ -153,4 +169,5 @@ pub record IsBreach (script : Script) (journal : List Entry) (rule : Rule) (numb
   pub is : entry.seq ≡ number
   pub refused : Refuses script journal rule before entry x y
   pub first : Each (IsKept script journal) before
-  pub foremost : (other : Rule) (one two : ℕ) → rank other < rank rule → ¬ Refuses script journal other before entry one two
+  pub foremost : (other : Rule) (one two : ℕ) → rank other < rank rule
+      → ¬ Refuses script journal other before entry one two

@@ -17,7 +17,9 @@ use Rattle.lifecycle_core.specs.Views.{Use}
 
 -- some worker came to this end
 abbrev pub SomeCame : List (List (List End)) → End → Type 0
-SomeCame ends end = (phase : List (List End)) × (own : List End) × Contains ends phase × Contains phase own × Contains own end
+SomeCame ends end =
+    (phase : List (List End)) × (own : List End) × Contains ends phase × Contains phase own
+    × Contains own end
 
 -- What may be blamed for an object of the block that the entry of this number did not find: any reply that is a lie, an object or
 -- a mark of this block that was put at another time than it might have been, or that this entry itself came too late.
@@ -48,7 +50,9 @@ pub record IsExplained (script : Script) (journal : List Entry) (number : ℕ) :
 
 -- Where a series call says that an object was missing, the journal shows why.
 abbrev pub AreMissesExplained : Script → List Entry → List (List (List End)) → Type 0
-AreMissesExplained script journal ends = (used : Use) (number : ℕ) → SomeCame ends (answered used (called.Missing number)) → IsExplained script journal number
+AreMissesExplained script journal ends =
+    (used : Use) (number : ℕ) → SomeCame ends (answered used (called.Missing number))
+    → IsExplained script journal number
 
 -- No series call says that an object was missing.
 abbrev pub AreFound : List (List (List End)) → Type 0
@@ -73,7 +77,9 @@ IsFault other number = ⊥
 
 -- Where a worker says that a call failed, the entry that it names was answered so.
 abbrev pub AreFaultsShown : List Entry → List (List (List End)) → Type 0
-AreFaultsShown journal ends = (end : End) (number : ℕ) → SomeCame ends end → IsFault end number → (e : Entry) × (entry_at journal number ≡ Some e) × IsTrue (has_failed e.reply)
+AreFaultsShown journal ends =
+    (end : End) (number : ℕ) → SomeCame ends end → IsFault end number
+    → (e : Entry) × (entry_at journal number ≡ Some e) × IsTrue (has_failed e.reply)
 
 -- The task came to what it is for, or to the stop of its line.
 abbrev pub IsWell : End → Type 0

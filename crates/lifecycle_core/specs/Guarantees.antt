@@ -33,21 +33,26 @@ pub record Answered : Type 0 where
 
 -- The answer has each matching sample of the blocks that it names once, and nothing else.
 abbrev pub IsExact : Script → Answered → Type 0
-IsExact script query = IsAnswer query.selector query.low query.high query.samples (held script query.sources)
+IsExact script query =
+    IsAnswer query.selector query.low query.high query.samples (held script query.sources)
 
 -- Each block that it names is declared, and was complete before the sync of a view that the query used had ended.
 abbrev pub NamesUploads : Script → List Entry → Answered → Type 0
 NamesUploads script journal query =
-    All (λ ulid. (used : Use) × Contains query.uses used × IsUploadedBefore script journal ulid used.last) query.sources
+    All (λ ulid.
+    (used : Use) × Contains query.uses used × IsUploadedBefore script journal ulid used.last)
+    query.sources
 
 -- It names each block that was complete, and old enough, before the sync of such a view began.
 abbrev pub LeavesNoneOut : Script → List Entry → Answered → Type 0
 LeavesNoneOut script journal query =
-    (used : Use) (ulid : ℕ) → Contains query.uses used → IsSettled script journal used ulid → Contains query.sources ulid
+    (used : Use) (ulid : ℕ) → Contains query.uses used → IsSettled script journal used ulid
+    → Contains query.sources ulid
 
 -- Some gateway's worker gave this answer, to the query at some place of some phase. Where a script has one gateway, it is the
 -- query's answer; where it has none, a query has no worker, and stands outside this.
-pub record IsGiven (script : Script) (ends : List (List (List End))) (query : Answered) : Type 0 where
+pub record IsGiven (script : Script) (ends : List (List (List End)))
+    (query : Answered) : Type 0 where
   pub phase_number : ℕ
   pub phase : Phase
   pub place : ℕ
@@ -62,7 +67,9 @@ pub record IsGiven (script : Script) (ends : List (List (List End))) (query : An
   pub used : Use
   pub series : List Series
   pub phase_came : slice_get ends phase_number ≡ Some phase_ends
-  pub answer : CameTo (workers_of script phase_number) phase_ends (Some gateway) place (answered used (ended.Answer series query.sources))
+  pub answer :
+      CameTo (workers_of script phase_number) phase_ends (Some gateway) place
+      (answered used (ended.Answer series query.sources))
   pub samples : query.samples ≡ triples_of series
   pub uses : query.uses ≡ used ∷ []
 
@@ -73,7 +80,10 @@ pub record IsSyncOf (journal : List Entry) (used : Use) (entries : List Entry) :
   pub begins : entries ≡ first ∷ others
   pub number : first.seq ≡ used.view.first
   pub seat : All (λ e. e.seat ≡ first.seat) entries
-  pub within : entries ≡ filter (λ e. (e.seat == first.seat) && (nat_le used.view.first e.seq && nat_le e.seq used.last)) journal
+  pub within :
+      entries
+      ≡ filter (λ e. (e.seat == first.seat) && (nat_le used.view.first e.seq && nat_le e.seq used.last))
+      journal
 
 -- What an answered query is worth: it is exact, it names complete uploads, and where blocks were uploaded in time, and the sync of a
 -- view that it used did not last too long, it names each block that this sync has to see.
@@ -82,19 +92,23 @@ pub record IsSound (script : Script) (journal : List Entry) (query : Answered) :
   pub named : NamesUploads script journal query
   pub covered : ((ulid : ℕ) → IsUploadedInTime script.rules ulid journal)
       → (used : Use) → Contains query.uses used
-      → ((entries : List Entry) → IsSyncOf journal used entries → IsSyncedInTime script.rules entries)
+      → ((entries : List Entry) → IsSyncOf journal used entries
+      → IsSyncedInTime script.rules entries)
       → (ulid : ℕ) → IsSettled script journal used ulid → Contains query.sources ulid
 
 -- What is guaranteed of a run that came to these ends. A missing object is explained by the journal, and a failed call shown by it,
 -- whatever the bucket does. Where the bucket is honest, nothing is found damaged and each answered query is sound; and where, besides,
 -- no call failed, every task ends well.
-pub record IsGuaranteed (script : Script) (journal : List Entry) (ends : List (List (List End))) : Type 0 where
+pub record IsGuaranteed (script : Script) (journal : List Entry)
+    (ends : List (List (List End))) : Type 0 where
   pub explained : AreMissesExplained script journal ends
   pub faults : AreFaultsShown journal ends
   pub undamaged : IsHonest journal → AreUndamaged ends
-  pub sound : IsHonest journal → (query : Answered) → IsGiven script ends query → IsSound script journal query
+  pub sound : IsHonest journal → (query : Answered) → IsGiven script ends query
+      → IsSound script journal query
   pub complete : IsHonest journal → failed_count journal ≡ 0 → AreWell ends
 
 -- a journal of the script's runs, of which all this is guaranteed
 abbrev pub IsGuaranteedJournal : Script → List Entry → Type 0
-IsGuaranteedJournal script journal = (ends : List (List (List End))) × IsRunOf script journal ends × IsGuaranteed script journal ends
+IsGuaranteedJournal script journal =
+    (ends : List (List (List End))) × IsRunOf script journal ends × IsGuaranteed script journal ends

@@ -19,7 +19,8 @@ given block = given_by block.body
 
 -- the samples of a declared block under their final labels
 unfoldable pub held_by : List (List ℕ) → Block → List Triple
-held_by replicas block = flat_map (λ s. triples_under (final_of s.labels block.labels replicas) s.samples) (given block)
+held_by replicas block =
+    flat_map (λ s. triples_under (final_of s.labels block.labels replicas) s.samples) (given block)
 
 -- the block that the script declares under this ULID
 abbrev pub declared : Script → ℕ → Option Block
@@ -27,4 +28,5 @@ declared script ulid = find (λ block. block.ulid == ulid) script.blocks
 
 -- What these blocks hold, one after another. A sample that two of them hold stands twice.
 unfoldable pub held : Script → List ℕ → List Triple
-held script ulids = flat_map (λ ulid. option_map_or (held_by script.rules.replicas) (declared script ulid) []) ulids
+held script ulids =
+    flat_map (λ ulid. option_map_or (held_by script.rules.replicas) (declared script ulid) []) ulids

@@ -25,7 +25,8 @@ pub record Duty : Type 0 where
 unfoldable pub duties_from : ℕ → ℕ → List Task → List Duty
 duties_from gateways place [] = []
 duties_from gateways place (task ∷ tasks) =
-    map (λ hand. record { place = place; hand = hand; task = task }) (hands_of_task gateways place task.work) ++ duties_from gateways (place + 1) tasks
+    map (λ hand. record { place = place; hand = hand; task = task })
+    (hands_of_task gateways place task.work) ++ duties_from gateways (place + 1) tasks
 
 -- whether the worker does what the hand is to do
 abbrev pub serves : Hand → Option ℕ → List ℕ → Bool
@@ -37,7 +38,8 @@ serves (hands.Gateway place) (Some gateway) tasks = gateway == place
 -- the seat of the worker who does it
 unfoldable pub seat_of : List Worker → Hand → ℕ
 seat_of [] hand = 0
-seat_of (worker ∷ workers) hand = if serves hand worker.gateway worker.tasks then worker.seat else seat_of workers hand
+seat_of (worker ∷ workers) hand =
+    if serves hand worker.gateway worker.tasks then worker.seat else seat_of workers hand
 
 -- The entries are the runs of the duties, one after another. These have come to these ends; the first one that has not may
 -- have broken off, and then nothing follows it.
@@ -46,10 +48,14 @@ InLine script seat views [] entries ends after = (entries ≡ []) × (ends ≡ [
 InLine script seat views (duty ∷ duties) entries ends after =
     ((made : List Entry) × (others : List Entry) × (end : End) × (later : List End)
     × (entries ≡ made ++ others) × All (λ e. e.seat ≡ seat duty.hand) made
-    × TaskRun script (view_of views (gateway_of duty.hand)) duty.task.work made (Some end) × (ends ≡ end ∷ later)
-    × InLine script seat (with_view views (gateway_of duty.hand) (view_after (view_of views (gateway_of duty.hand)) made end)) duties others later after)
+    × TaskRun script (view_of views (gateway_of duty.hand)) duty.task.work made (Some end)
+    × (ends ≡ end ∷ later)
+    × InLine script seat
+    (with_view views (gateway_of duty.hand) (view_after (view_of views (gateway_of duty.hand)) made end))
+    duties others later after)
     ⊎ (All (λ e. e.seat ≡ seat duty.hand) entries
-    × TaskRun script (view_of views (gateway_of duty.hand)) duty.task.work entries None × (ends ≡ []) × (after ≡ views))
+    × TaskRun script (view_of views (gateway_of duty.hand)) duty.task.work entries None
+    × (ends ≡ []) × (after ≡ views))
 
 -- The phases from a number on, each with the clock's setting and then its tasks in line. The ends are listed by phase and
 -- then by duty; a phase begins only when all those of the one before have come to their ends.
@@ -57,15 +63,19 @@ abbrev pub PhasesInLine : Script → ℕ → Views → List Phase → List Entry
 PhasesInLine script number views [] entries ends = (entries ≡ []) × (ends ≡ [])
 PhasesInLine script number views (phase ∷ phases) entries ends =
     ((entries ≡ []) × (ends ≡ []))
-    ⊎ ((clock : Entry) × (made : List Entry) × (others : List Entry) × (first : List End) × (later : List (List End)) × (after : Views)
+    ⊎ ((clock : Entry) × (made : List Entry) × (others : List Entry) × (first : List End)
+    × (later : List (List End)) × (after : Views)
     × (entries ≡ clock ∷ made ++ others) × BeginsPhase phase clock
-    × InLine script (seat_of (workers_of script number)) views (duties_from (gateway_count script.gateways) 0 phase.tasks) made first after
+    × InLine script (seat_of (workers_of script number)) views
+    (duties_from (gateway_count script.gateways) 0 phase.tasks) made first after
     × (ends ≡ first ∷ later)
     × (((others ≡ []) × (later ≡ []))
-    ⊎ ((length first ≡ length (duties_from (gateway_count script.gateways) 0 phase.tasks)) × PhasesInLine script (number + 1) after phases others later)))
+    ⊎ ((length first ≡ length (duties_from (gateway_count script.gateways) 0 phase.tasks))
+    × PhasesInLine script (number + 1) after phases others later)))
 
 -- a journal of a run that does a script's tasks in the order of their lines
-pub record IsRunInLine (script : Script) (journal : List Entry) (ends : List (List End)) : Type 0 where
+pub record IsRunInLine (script : Script) (journal : List Entry)
+    (ends : List (List End)) : Type 0 where
   pub kept : IsJournal script.rules.tick.ms journal
   pub phases : PhasesInLine script 0 no_views script.phases journal ends
 

@@ -24,7 +24,8 @@ pub record IsPlanOf (block : Block) (min_time max_time : ℤ) (plan : BlockPlan)
 abbrev pub AreBuilt : Block → Body → List Object → Type 0
 AreBuilt block (Inline min_time max_time series) objects =
     (plan : BlockPlan) × IsPlanOf block min_time max_time plan
-    × (objects ≡ objects_of block.ulid (segments_of series) plain_index (meta_text (built_meta plan series)))
+    × (objects
+    ≡ objects_of block.ulid (segments_of series) plain_index (meta_text (built_meta plan series)))
 
 abbrev pub IsShipped : Block → List Object → Type 0
 IsShipped block objects = AreBuilt block block.body objects

@@ -20,26 +20,33 @@ IsBlockObject key = Unit {0}
 
 -- the entry puts such an object of the block, landed or not
 abbrev pub PutsObject : ℕ → Entry → Type 0
-PutsObject ulid e = (key : Key) × (bytes : List ℕ) × (e.op ≡ Put key bytes) × (key_ulid key ≡ ulid) × IsBlockObject key
+PutsObject ulid e =
+    (key : Key) × (bytes : List ℕ) × (e.op ≡ Put key bytes) × (key_ulid key ≡ ulid)
+    × IsBlockObject key
 
 -- A block is uploaded within the upload limit from its own time on.
 abbrev pub IsUploadedInTime : Rules → ℕ → List Entry → Type 0
 IsUploadedInTime rules ulid journal =
-    All (λ e. PutsObject ulid e → (time_of ulid ≤ e.moment.ms) × (e.moment.ms ≤ time_of ulid + rules.upload.ms)) journal
+    All (λ e. PutsObject ulid e
+    → (time_of ulid ≤ e.moment.ms) × (e.moment.ms ≤ time_of ulid + rules.upload.ms)) journal
 
 -- the entry puts a deletion mark of the block that tells this second, and the put has landed
 abbrev pub PutsMark : ℕ → ℕ → Entry → Type 0
 PutsMark ulid second e =
-    (bytes : List ℕ) × (mark : MarkFields) × (e.op ≡ Put (Mark ulid) bytes) × IsTrue (has_landed e.reply) × IsMarkText bytes mark × (mark.deletion_time ≡ second)
+    (bytes : List ℕ) × (mark : MarkFields) × (e.op ≡ Put (Mark ulid) bytes)
+    × IsTrue (has_landed e.reply) × IsMarkText bytes mark × (mark.deletion_time ≡ second)
 
 -- A block's mark lands within the ignore delay from the second on that it tells.
 abbrev pub IsMarkedInTime : Rules → ℕ → List Entry → Type 0
-IsMarkedInTime rules ulid journal = All (λ e. (second : ℕ) → PutsMark ulid second e → e.moment.ms ≤ 1000 * second + rules.ignore.ms) journal
+IsMarkedInTime rules ulid journal =
+    All (λ e. (second : ℕ) → PutsMark ulid second e
+    → e.moment.ms ≤ 1000 * second + rules.ignore.ms) journal
 
 -- A sync reads no longer than the ignore delay, less the second to which marks are rounded.
 abbrev pub IsSyncedInTime : Rules → List Entry → Type 0
 IsSyncedInTime rules entries =
-    (first last : Entry) (others : List Entry) → entries ≡ first ∷ others → Contains entries last → last.moment.ms + 1000 ≤ first.moment.ms + rules.ignore.ms
+    (first last : Entry) (others : List Entry) → entries ≡ first ∷ others → Contains entries last
+    → last.moment.ms + 1000 ≤ first.moment.ms + rules.ignore.ms
 
 -- A series call reads the blocks of a view while the view is young: no mark that its sync passed over can have led to a deletion
 -- before the delete delay, less the ignore delay, has gone by from the sync's beginning.

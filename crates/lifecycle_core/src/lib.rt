@@ -1,4 +1,5 @@
-//! Definitions over whole journals of a script: its runs, its complete uploads, and what an answer is worth.
+//! Definitions over whole journals of a script: its runs, its complete uploads, and what an answer is
+//! worth.
 #![tactic(auto)]
 
 mod laws;

@@ -1,4 +1,4 @@
-use Rattle.lifecycle_core.proofs.Fronts.{front_is_lawful}
+use Rattle.lifecycle_core.proofs.phases.Fronts.{front_is_lawful}
 use Rattle.lifecycle_core.proofs.laws.fronts_are_lawful.Goals as goal
 
 pub returns : goal.returns

@@ -1,4 +1,4 @@
-use Rattle.lifecycle_core.proofs.Honesty.{no_lie}
+use Rattle.lifecycle_core.proofs.journals.Honesty.{no_lie}
 use Rattle.lifecycle_core.proofs.laws.honest_journals_tell_no_lie.Goals as goal
 
 pub returns : goal.returns

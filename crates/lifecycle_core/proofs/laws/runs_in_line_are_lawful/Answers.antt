@@ -1,5 +1,5 @@
 use Rattle.script_core.specs.Hands.{gateway_count}
-use Rattle.lifecycle_core.proofs.RunsInLine.{by_workers, run_of}
+use Rattle.lifecycle_core.proofs.phases.RunsInLine.{by_workers, run_of}
 use Rattle.lifecycle_core.proofs.laws.runs_in_line_are_lawful.Goals as goal
 
 pub returns : goal.returns

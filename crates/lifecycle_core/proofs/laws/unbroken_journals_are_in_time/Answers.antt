@@ -1,4 +1,4 @@
-use Rattle.lifecycle_core.proofs.Unbroken.{marked, read, synced, uploaded}
+use Rattle.lifecycle_core.proofs.journals.Unbroken.{marked, read, synced, uploaded}
 use Rattle.lifecycle_core.proofs.laws.unbroken_journals_are_in_time.Goals as goal
 
 pub returns : goal.returns

@@ -1,0 +1,3 @@
+-- That an answer over a true view is exact.
+pub mod Calls
+pub mod ExactAnswers

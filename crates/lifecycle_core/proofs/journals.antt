@@ -1,0 +1,8 @@
+-- What the entries of a journal show, and what they tell where the bucket is honest.
+pub mod Positions
+pub mod Honesty
+pub mod Unbroken
+pub mod Told
+pub mod RunEntries
+pub mod TellingPuts
+pub mod Telling

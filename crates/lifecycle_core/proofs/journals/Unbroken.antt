@@ -1,0 +1,130 @@
+-- What holds of an unbroken journal by the other words.
+use Rattle.std.proofs.Common.{◌≡◌, ◌<◌, ◌≤◌, ◌+◌, ◌*◌, ◌==◌, ℕ, zero, suc, List, [], ◌∷◌, ◌++◌, Contains, Option, inl, inr, refl, sym, ◌∙◌, ap, subst, append-nil, append_assoc, arith}
+use Rattle.std.specs.List.{All}
+use Rattle.std.proofs.lemmas.List.Elements.{All-cons, All-nil, Contains-append_cases, Contains-append_right}
+use Rattle.std.proofs.lemmas.List.Sums.{fold-append}
+use Rattle.sync_filters.specs.Filters.{time_of}
+use Rattle.world_core.specs.Journals.{Each}
+use Rattle.world_core.specs.Moments.{HasMoments, last_moment, moment_after}
+use Rattle.world_core.specs.declared.entry.Entry.{Entry}
+use Rattle.world_core.specs.declared.op.Op.{Op}
+use Rattle.world_core.specs.declared.op.Op.TheVariants as op
+use Rattle.meta_fetcher.specs.declared.sync_end.SyncEnd.{SyncEnd}
+use Rattle.meta_fetcher.specs.declared.view.View.{View}
+use Rattle.script_core.specs.declared.script.Script.{Script}
+use Rattle.lifecycle_core.specs.Breaches.{IsBreach, IsCallRead, IsKept, IsSyncIn, IsUnbroken, IsViewAt, Rule, mark_time, sync_time, upload_time, view_time}
+use Rattle.lifecycle_core.specs.Causes.{IsExplained}
+use Rattle.lifecycle_core.specs.Phases.{of_seat}
+use Rattle.lifecycle_core.specs.TimeRules.{IsMarkedInTime, IsReadInTime, IsSyncedInTime, IsUploadedInTime, PutsMark, PutsObject}
+use Rattle.lifecycle_core.proofs.journals.Positions.{of_filter, unfilter}
+
+pub explains_nothing : (script : Script) (journal : List Entry) (number : ℕ) → IsUnbroken script journal → ¬ IsExplained script journal number
+explains_nothing script journal number unbroken e = unbroken e.before e.after e.entry e.parts e.rule e.x e.y e.refused
+
+pub has_no_breach : (script : Script) (journal : List Entry) (rule : Rule) (number x y : ℕ) → IsUnbroken script journal → ¬ IsBreach script journal rule number x y
+has_no_breach script journal rule number x y unbroken b = unbroken b.before b.after b.entry b.parts rule x y b.refused
+
+-- what each entry gives by the entries before it, all give
+all_of_each : (P : List Entry → Entry → Type 0) (Q : Entry → Type 0) → ((before : List Entry) (e : Entry) → P before e → Q e) → (before entries journal : List Entry) → journal ≡ before ++ entries → Each P journal → All Q entries
+all_of_each P Q gives before [] journal is each = All-nil Q
+all_of_each P Q gives before (e ∷ entries) journal is each =
+    All-cons Q e entries (gives before e (each before entries e is)) (all_of_each P Q gives (before ++ e ∷ []) entries journal (is ∙ sym (append_assoc before (e ∷ []) entries)) each)
+
+not_over : (is most : ℕ) → ¬ (most < is) → is ≤ most
+not_over is most not = omega (arith, not)
+
+-- ---- moments
+
+pub after_more : (tick last : ℕ) (o : Op) → last ≤ moment_after tick last o
+after_more tick last (op.Clock moment) = omega arith
+after_more tick last (op.Put key bytes) = omega arith
+after_more tick last (op.Get key) = omega arith
+after_more tick last (op.GetRange key from len) = omega arith
+after_more tick last (op.Delete key) = omega arith
+after_more tick last (op.RootPage after limit) = omega arith
+after_more tick last (op.BlockPage ulid after limit) = omega arith
+
+pub last_is : (entries : List Entry) (e : Entry) → last_moment (entries ++ e ∷ []) ≡ e.moment.ms
+last_is entries e = fold-append (λ (last : ℕ) (x : Entry). x.moment.ms) 0 entries (e ∷ [])
+
+only : (y x : Entry) → Contains (y ∷ []) x → y ≡ x
+only y x (zero, below, is) = is
+only y x (suc k, below, is) = absurd (omega (arith, below))
+
+module _ (tick : ℕ) (journal : List Entry) (moments : HasMoments tick journal) where
+  abbrev AreBelow : List Entry → Type 0
+  AreBelow done = (x : Entry) → Contains done x → x.moment.ms ≤ last_moment done
+
+  own_rises : (done rest : List Entry) (e : Entry) → journal ≡ done ++ e ∷ rest → AreBelow done → (x : Entry) → Contains done x → x.moment.ms ≤ e.moment.ms
+  own_rises done rest e is below x among = omega (arith, below x among, after_more tick (last_moment done) e.op, moments done rest e is)
+
+  one_more : (done rest : List Entry) (e : Entry) → journal ≡ done ++ e ∷ rest → AreBelow done → AreBelow (done ++ e ∷ [])
+  one_more done rest e is below x among = elim (Contains-append_cases done (e ∷ []) x among) [
+    | inl there ↦ omega (arith, own_rises done rest e is below x there, last_is done e)
+    | inr here ↦ omega (arith, ap (λ (y : Entry). y.moment.ms) (only e x here), last_is done e)
+  ]
+
+  rises : (done rest : List Entry) → journal ≡ done ++ rest → AreBelow done → (front back : List Entry) (e : Entry) → rest ≡ front ++ e ∷ back → (x : Entry) → Contains (done ++ front) x → x.moment.ms ≤ e.moment.ms
+  rises done rest is below [] back e same x among =
+      own_rises done back e (is ∙ ap (λ (es : List Entry). done ++ es) same) below x (subst (λ (es : List Entry). Contains es x) (append-nil done) among)
+  rises done rest is below (y ∷ front) back e same x among =
+      let at : journal ≡ done ++ y ∷ (front ++ e ∷ back) = is ∙ ap (λ (es : List Entry). done ++ es) same in
+      rises (done ++ y ∷ []) (front ++ e ∷ back) (at ∙ sym (append_assoc done (y ∷ []) (front ++ e ∷ back))) (one_more done (front ++ e ∷ back) y at below) front back e refl x
+      (subst (λ (es : List Entry). Contains es x) (sym (append_assoc done (y ∷ []) front)) among)
+
+  -- an entry is no earlier than one before it
+  earlier : (front back : List Entry) (e : Entry) → journal ≡ front ++ e ∷ back → (x : Entry) → Contains front x → x.moment.ms ≤ e.moment.ms
+  earlier front back e is x among = rises [] journal refl (λ x none. absurd (omega (arith, none.1))) front back e is x among
+
+-- a list that has a first entry has a last one
+ends_with : (e : Entry) (entries : List Entry) → (front : List Entry) × (last : Entry) × (e ∷ entries ≡ front ++ last ∷ [])
+ends_with e [] = ([], e, refl)
+ends_with e (x ∷ entries) = let rest = ends_with x entries in (e ∷ rest.0, rest.1, ap (λ (es : List Entry). e ∷ es) rest.2)
+
+-- ---- the rules
+
+module _ (script : Script) (journal : List Entry) (unbroken : IsUnbroken script journal) where
+  pub uploaded : (ulid : ℕ) → IsUploadedInTime script.rules ulid journal
+  uploaded ulid = all_of_each (IsKept script journal) (λ e. PutsObject ulid e → (time_of ulid ≤ e.moment.ms) × (e.moment.ms ≤ time_of ulid + script.rules.upload.ms)) (λ before e kept puts. (
+    not_over (time_of ulid) e.moment.ms (λ over. kept upload_time (time_of ulid) e.moment.ms (ulid, puts, inl (refl, refl, over))),
+    not_over e.moment.ms (time_of ulid + script.rules.upload.ms) (λ over. kept upload_time e.moment.ms (time_of ulid + script.rules.upload.ms) (ulid, puts, inr (refl, refl, over))),
+  )) [] journal journal refl unbroken
+
+  pub marked : (ulid : ℕ) → IsMarkedInTime script.rules ulid journal
+  marked ulid = all_of_each (IsKept script journal) (λ e. (second : ℕ) → PutsMark ulid second e → e.moment.ms ≤ 1000 * second + script.rules.ignore.ms) (λ before e kept second puts.
+      not_over e.moment.ms (1000 * second + script.rules.ignore.ms)
+      (λ over. kept mark_time e.moment.ms (1000 * second + script.rules.ignore.ms) (ulid, second, puts, (refl, refl, over)))) [] journal journal refl unbroken
+
+  last_synced : (gateway : ℕ) (entries : List Entry) (end : Option SyncEnd) (first last : Entry) (others front : List Entry) → IsSyncIn script journal gateway entries end → entries ≡ first ∷ others → entries ≡ front ++ last ∷ []
+      → (last.moment.ms + 1000 ≤ first.moment.ms + script.rules.ignore.ms)
+      × ((one : List Entry) × (two : List Entry) × (journal ≡ one ++ last ∷ two) × ((x : Entry) → Contains front x → Contains one x))
+  last_synced gateway entries end first last others front sync begins ends =
+      let within : of_seat sync.seat journal ≡ (sync.before ++ (front ++ last ∷ [])) ++ sync.after = sync.parts ∙ ap (λ (es : List Entry). (sync.before ++ es) ++ sync.after) ends in
+      let moved : (sync.before ++ (front ++ last ∷ [])) ++ sync.after ≡ ((sync.before ++ front) ++ last ∷ []) ++ sync.after = ap (λ (es : List Entry). es ++ sync.after) (sym (append_assoc sync.before front (last ∷ []))) in
+      let parts : of_seat sync.seat journal ≡ (sync.before ++ front) ++ last ∷ sync.after = within ∙ moved ∙ append_assoc (sync.before ++ front) (last ∷ []) sync.after in
+      let at = unfilter (λ (e : Entry). e.seat == sync.seat) journal (sync.before ++ front) sync.after last parts in (
+        not_over (last.moment.ms + 1000) (first.moment.ms + script.rules.ignore.ms)
+            (λ over. unbroken at.0 at.1 last at.2 sync_time (last.moment.ms + 1000) (first.moment.ms + script.rules.ignore.ms) (gateway, entries, end, first, others, front, sync, begins, ends, (refl, refl, over))),
+        (
+          at.0,
+          at.1,
+          at.2,
+          λ x among. of_filter (λ (e : Entry). e.seat == sync.seat) at.0 x (subst (λ (es : List Entry). Contains es x) (sym at.3) (Contains-append_right sync.before front x among)),
+        ),
+      )
+
+  pub synced : (tick : ℕ) → HasMoments tick journal → (gateway : ℕ) (entries : List Entry) (end : Option SyncEnd) → IsSyncIn script journal gateway entries end → IsSyncedInTime script.rules entries
+  synced tick moments gateway entries end sync first read others begins among =
+      let tail = ends_with first others in
+      let ends : entries ≡ tail.0 ++ tail.1 ∷ [] = begins ∙ tail.2 in
+      let last = last_synced gateway entries end first tail.1 others tail.0 sync begins ends in
+      let at = last.1 in
+      elim (Contains-append_cases tail.0 (tail.1 ∷ []) read (subst (λ (es : List Entry). Contains es read) ends among)) [
+        | inl there ↦ omega (arith, last.0, earlier tick journal moments at.0 at.1 tail.1 at.2 read (at.3 read there))
+        | inr here ↦ omega (arith, last.0, ap (λ (e : Entry). e.moment.ms) (only tail.1 read here))
+      ]
+
+  pub read : (gateway : ℕ) (view : View) → Each (λ before e. IsCallRead script gateway e → IsViewAt script journal gateway e.seq view → IsReadInTime script.rules view e) journal
+  read gateway view before after e parts reads has =
+      not_over (e.moment.ms + script.rules.ignore.ms) (view.begin.ms + script.rules.delete.ms)
+      (λ over. unbroken before after e parts view_time (e.moment.ms + script.rules.ignore.ms) (view.begin.ms + script.rules.delete.ms) (gateway, view, reads, has, (refl, refl, over)))

@@ -1,0 +1,242 @@
+-- A run that ended with a failed call has an entry of that number which was answered so.
+use Rattle.list_core.proofs.Membership.{contains_first, contains_later}
+use Rattle.std.proofs.Common.{◌≡◌, inl, inr, ℕ, Bool, IsTrue, List, [], ◌∷◌, ◌++◌, length, Contains, Option, Some, None, refl, ap}
+use Rattle.std.specs.Prelude.{MatchOption}
+use Rattle.block_keys.specs.declared.key.Key.{Key}
+use Rattle.block_keys.specs.declared.key.Key.TheVariants as key
+use Rattle.block_keys.specs.declared.object.Object.{Object}
+use Rattle.block_meta.specs.MetaFields.{MetaFields}
+use Rattle.label_sets.specs.Triples.{Triple}
+use Rattle.label_sets.specs.declared.series.Series.{Series}
+use Rattle.moment_core.specs.declared.moment.Moment.{Moment}
+use Rattle.world_core.specs.Operations.{has_failed}
+use Rattle.world_core.specs.Walks.{AfterPage, EndsWith, Walks}
+use Rattle.world_core.specs.declared.entry.Entry.{Entry}
+use Rattle.world_core.specs.declared.op.Op.TheVariants as op
+use Rattle.world_core.specs.declared.reply.Reply.{Reply}
+use Rattle.world_core.specs.declared.reply.Reply.TheVariants as reply
+use Rattle.shipper.specs.Uploads.{AfterLook, AfterPut, EndsAt, PutsRun, UploadRun}
+use Rattle.shipper.specs.declared.upload_end.UploadEnd.{UploadEnd}
+use Rattle.shipper.specs.declared.upload_end.UploadEnd.TheVariants as shipped
+use Rattle.meta_fetcher.specs.Sightings.{IsView, Sighting, block_meta}
+use Rattle.meta_fetcher.specs.Syncs.{AfterMark, AfterMeta, EndsInView, MetaRead, Onward, Reads, SyncRun, moment_after, ulids_in, walk_ends}
+use Rattle.meta_fetcher.specs.declared.rules.SyncRules.{SyncRules}
+use Rattle.meta_fetcher.specs.declared.sync_end.SyncEnd.{SyncEnd}
+use Rattle.meta_fetcher.specs.declared.sync_end.SyncEnd.TheVariants as fetched
+use Rattle.meta_fetcher.specs.declared.view.View.{View}
+use Rattle.store_gateway.specs.SeriesRuns.{Query as Question, Reads as CallReads, Onward as CallOnward, SeriesRun, ToRead, AfterGet, AfterIndex, AfterSegment, Answers, Gets, SegmentRead, BlockRead, stopped, damaged, read, to_read, sources_of, wanted}
+use Rattle.store_gateway.specs.declared.series_end.SeriesEnd.{SeriesEnd}
+use Rattle.store_gateway.specs.declared.series_end.SeriesEnd.TheVariants as called
+use Rattle.lifecycle_core.proofs.misses.GatewayEntries.{match_bool}
+
+-- an entry of this number was answered that its call failed
+abbrev pub ShowsFault : List Entry → ℕ → Type 0
+ShowsFault entries number = (e : Entry) × Contains entries e × (e.seq ≡ number) × IsTrue (has_failed e.reply)
+
+shows_later : (e : Entry) (entries : List Entry) (number : ℕ) → ShowsFault entries number → ShowsFault (e ∷ entries) number
+shows_later e entries number (x, among, is, failed) = (x, contains_later e x entries among, is, failed)
+
+-- ---- runs whose ends are of one kind
+
+-- A fault is known by its number.
+abbrev IsKnown : {E : Type 0} → (ℕ → E) → Type 0
+IsKnown fault = (one other : ℕ) → fault one ≡ fault other → one ≡ other
+
+module _ {E : Type 0} (fault : ℕ → E) where
+  abbrev Shows : List Entry → Option E → Type 0
+  Shows entries end = (number : ℕ) → end ≡ Some (fault number) → ShowsFault entries number
+
+  no_end : (entries : List Entry) (end : Option E) → end ≡ None → Shows entries end
+  no_end entries end none = λ number is. absurd (cc (none, is))
+
+  goes_on : (e : Entry) (entries : List Entry) (end : Option E) → Shows entries end → Shows (e ∷ entries) end
+  goes_on e entries end own = λ number is. shows_later e entries number (own number is)
+
+  ends_else : (last : E) (entries : List Entry) (end : Option E) → ((number : ℕ) → last ≡ fault number → ⊥) → EndsWith last entries end → Shows entries end
+  ends_else last entries end other (nil, inl none) = no_end entries end none
+  ends_else last entries end other (nil, inr same) = λ number is. absurd (other number (cc (same, is)))
+
+  has_failed_here : IsKnown fault → (e : Entry) (landed : Bool) (entries : List Entry) (end : Option E) → e.reply ≡ reply.Failed landed → EndsWith (fault e.seq) entries end → Shows (e ∷ entries) end
+  has_failed_here known e landed entries end failed (nil, inl none) = no_end (e ∷ entries) end none
+  has_failed_here known e landed entries end failed (nil, inr same) = λ number is. (e, contains_first e entries, known e.seq number (cc (same, is)), ap has_failed failed)
+
+-- ---- uploads
+
+abbrev UploadShows : List Entry → Option UploadEnd → Type 0
+UploadShows = Shows shipped.Fault
+
+upload_on : (e : Entry) (entries : List Entry) (end : Option UploadEnd) → UploadShows entries end → UploadShows (e ∷ entries) end
+upload_on = goes_on shipped.Fault
+
+upload_failed : (e : Entry) (landed : Bool) (entries : List Entry) (end : Option UploadEnd) → e.reply ≡ reply.Failed landed → EndsAt (shipped.Fault e.seq) entries end → UploadShows (e ∷ entries) end
+upload_failed = has_failed_here shipped.Fault (λ one other is. cc (is))
+
+abbrev Puts : ℕ → List Object → Type 0
+Puts total objects = (entries : List Entry) (end : Option UploadEnd) → PutsRun total objects entries end → UploadShows entries end
+
+after_put : (total : ℕ) (objects : List Object) → Puts total objects → (e : Entry) (r : Reply) → e.reply ≡ r → (entries : List Entry) (end : Option UploadEnd) → AfterPut (PutsRun total objects) e.seq r entries end → UploadShows (e ∷ entries) end
+after_put total objects rest e reply.Stored same entries end run = upload_on e entries end (rest entries end run)
+after_put total objects rest e (reply.Failed landed) same entries end run = upload_failed e landed entries end same run
+after_put total objects rest e reply.Clocked same entries end run = absurd run
+after_put total objects rest e (reply.Found bytes) same entries end run = absurd run
+after_put total objects rest e reply.Absent same entries end run = absurd run
+after_put total objects rest e reply.Deleted same entries end run = absurd run
+after_put total objects rest e (reply.Names names) same entries end run = absurd run
+
+puts : (total : ℕ) (objects : List Object) → Puts total objects
+puts total [] entries end run = ends_else shipped.Fault (shipped.Done total) entries end (λ number is. cc (is)) run
+puts total (object ∷ objects) [] end run = λ number is. absurd (cc (run, is))
+puts total (object ∷ objects) (e ∷ entries) end run = after_put total objects (puts total objects) e e.reply refl entries end run.1
+
+after_look : (objects : List Object) (e : Entry) (r : Reply) → e.reply ≡ r → (entries : List Entry) (end : Option UploadEnd) → AfterLook objects e.seq r entries end → UploadShows (e ∷ entries) end
+after_look objects e (reply.Found bytes) same entries end run = upload_on e entries end (ends_else shipped.Fault shipped.Already entries end (λ number is. cc (is)) run)
+after_look objects e reply.Absent same entries end run = upload_on e entries end (puts (length objects) objects entries end run)
+after_look objects e (reply.Failed landed) same entries end run = upload_failed e landed entries end same run
+after_look objects e reply.Clocked same entries end run = absurd run
+after_look objects e reply.Stored same entries end run = absurd run
+after_look objects e reply.Deleted same entries end run = absurd run
+after_look objects e (reply.Names names) same entries end run = absurd run
+
+pub upload_shows : (ulid : ℕ) (objects : List Object) (entries : List Entry) (end : Option UploadEnd) → UploadRun ulid objects entries end → UploadShows entries end
+upload_shows ulid objects [] end run = λ number is. absurd (cc (run, is))
+upload_shows ulid objects (e ∷ entries) end run = after_look objects e e.reply refl entries end run.1
+
+-- ---- syncs
+
+abbrev SyncShows : List Entry → Option SyncEnd → Type 0
+SyncShows = Shows fetched.Fault
+
+sync_on : (e : Entry) (entries : List Entry) (end : Option SyncEnd) → SyncShows entries end → SyncShows (e ∷ entries) end
+sync_on = goes_on fetched.Fault
+
+sync_failed : (e : Entry) (landed : Bool) (entries : List Entry) (end : Option SyncEnd) → e.reply ≡ reply.Failed landed → EndsWith (fetched.Fault e.seq) entries end → SyncShows (e ∷ entries) end
+sync_failed = has_failed_here fetched.Fault (λ one other is. cc (is))
+
+abbrev Goes : Onward → Type 0
+Goes next = (entries : List Entry) (end : Option SyncEnd) → next entries end → SyncShows entries end
+
+in_view : (IsSuch : View → Type 0) → Goes (EndsInView IsSuch)
+in_view IsSuch entries end (nil, inl none) = λ number is. absurd (cc (none, is))
+in_view IsSuch entries end (nil, inr (view, same, such)) = λ number is. absurd (cc (same, is))
+
+module _ (next : List Sighting → Onward) (ends : (sightings : List Sighting) → Goes (next sightings)) where
+  abbrev Rest : List ℕ → Type 0
+  Rest ulids = (sightings : List Sighting) → Goes (Reads next sightings ulids)
+
+  meta_told : (ulids : List ℕ) (rest : Rest ulids) (sightings : List Sighting) (ulid seq : ℕ) (mark_read meta_read : Moment) (o : Option MetaFields) (entries : List Entry) (end : Option SyncEnd)
+      → MatchOption o (EndsWith (fetched.Damaged seq) entries end) (λ meta. Reads next (sightings ++ record { ulid = ulid; mark = None; mark_read = mark_read; meta = meta; meta_read = meta_read } ∷ []) ulids entries end) → SyncShows entries end
+  meta_told ulids rest sightings ulid seq mark_read meta_read None entries end run = ends_else fetched.Fault (fetched.Damaged seq) entries end (λ number is. cc (is)) run
+  meta_told ulids rest sightings ulid seq mark_read meta_read (Some meta) entries end run =
+      rest (sightings ++ record { ulid = ulid; mark = None; mark_read = mark_read; meta = meta; meta_read = meta_read } ∷ []) entries end run
+
+  after_meta : (ulids : List ℕ) (rest : Rest ulids) (sightings : List Sighting) (ulid : ℕ) (mark_read : Moment) (e : Entry) (r : Reply) → e.reply ≡ r → (entries : List Entry) (end : Option SyncEnd)
+      → AfterMeta ulid mark_read e.moment e.seq r (λ block. Reads next (sightings ++ block ∷ []) ulids) (Reads next sightings ulids) entries end → SyncShows (e ∷ entries) end
+  after_meta ulids rest sightings ulid mark_read e (reply.Found bytes) same entries end run = sync_on e entries end (meta_told ulids rest sightings ulid e.seq mark_read e.moment (block_meta ulid bytes) entries end run)
+  after_meta ulids rest sightings ulid mark_read e reply.Absent same entries end run = sync_on e entries end (rest sightings entries end run)
+  after_meta ulids rest sightings ulid mark_read e (reply.Failed landed) same entries end run = sync_failed e landed entries end same run
+  after_meta ulids rest sightings ulid mark_read e reply.Clocked same entries end run = absurd run
+  after_meta ulids rest sightings ulid mark_read e reply.Stored same entries end run = absurd run
+  after_meta ulids rest sightings ulid mark_read e reply.Deleted same entries end run = absurd run
+  after_meta ulids rest sightings ulid mark_read e (reply.Names names) same entries end run = absurd run
+
+  meta_reads : (ulids : List ℕ) (rest : Rest ulids) (sightings : List Sighting) (ulid : ℕ) (mark_read : Moment) → Goes (MetaRead ulid mark_read (λ block. Reads next (sightings ++ block ∷ []) ulids) (Reads next sightings ulids))
+  meta_reads ulids rest sightings ulid mark_read [] end run = λ number is. absurd (cc (run, is))
+  meta_reads ulids rest sightings ulid mark_read (e ∷ entries) end run = after_meta ulids rest sightings ulid mark_read e e.reply refl entries end run.1
+
+  after_mark : (ulids : List ℕ) (rest : Rest ulids) (sightings : List Sighting) (ulid : ℕ) (mark_read : Moment) (e : Entry) (r : Reply) → e.reply ≡ r → (entries : List Entry) (end : Option SyncEnd)
+      → AfterMark e.seq r (MetaRead ulid mark_read (λ block. Reads next (sightings ++ block ∷ []) ulids) (Reads next sightings ulids)) entries end → SyncShows (e ∷ entries) end
+  after_mark ulids rest sightings ulid mark_read e reply.Absent same entries end run = sync_on e entries end (meta_reads ulids rest sightings ulid mark_read entries end run)
+  after_mark ulids rest sightings ulid mark_read e (reply.Found bytes) same entries end run = sync_on e entries end (ends_else fetched.Fault (fetched.Damaged e.seq) entries end (λ number is. cc (is)) run)
+  after_mark ulids rest sightings ulid mark_read e (reply.Failed landed) same entries end run = sync_failed e landed entries end same run
+  after_mark ulids rest sightings ulid mark_read e reply.Clocked same entries end run = absurd run
+  after_mark ulids rest sightings ulid mark_read e reply.Stored same entries end run = absurd run
+  after_mark ulids rest sightings ulid mark_read e reply.Deleted same entries end run = absurd run
+  after_mark ulids rest sightings ulid mark_read e (reply.Names names) same entries end run = absurd run
+
+  block_reads : (ulids : List ℕ) → Rest ulids
+  block_reads [] sightings entries end run = ends sightings entries end run
+  block_reads (ulid ∷ ulids) sightings [] end run = λ number is. absurd (cc (run, is))
+  block_reads (ulid ∷ ulids) sightings (e ∷ entries) end run = after_mark ulids (block_reads ulids) sightings ulid e.moment e e.reply refl entries end run.1
+
+module _ (limit : ℕ) (next : List (List ℕ) → Onward) (goes : (names : List (List ℕ)) → Goes (next names)) where
+  abbrev PagesFrom : List (List ℕ) → Onward
+  PagesFrom listed = Walks walk_ends (λ cursor. op.RootPage cursor limit) limit next listed
+
+  after_page : (listed : List (List ℕ)) (page : Entry) (r : Reply) → page.reply ≡ r → (entries : List Entry) (end : Option SyncEnd) (more : (names : List (List ℕ)) → PagesFrom names entries end → SyncShows entries end)
+      → AfterPage walk_ends limit listed page.seq r (λ names. next names entries end) (λ names. PagesFrom names entries end) entries end → SyncShows (page ∷ entries) end
+  after_page listed page (reply.Names names) same entries end more run =
+      sync_on page entries end
+      (match_bool _ _ _ (SyncShows entries end)
+      (match_bool _ _ _ (SyncShows entries end) (goes (listed ++ names) entries end)
+      (match_bool _ _ _ (SyncShows entries end) (ends_else fetched.Fault fetched.TooMany entries end (λ number is. cc (is))) (more (listed ++ names))))
+      (ends_else fetched.Fault (fetched.Damaged page.seq) entries end (λ number is. cc (is))) run)
+  after_page listed page (reply.Failed landed) same entries end more run = sync_failed page landed entries end same run
+  after_page listed page reply.Clocked same entries end more run = absurd run
+  after_page listed page reply.Stored same entries end more run = absurd run
+  after_page listed page (reply.Found bytes) same entries end more run = absurd run
+  after_page listed page reply.Absent same entries end more run = absurd run
+  after_page listed page reply.Deleted same entries end more run = absurd run
+
+  pages : (entries : List Entry) (listed : List (List ℕ)) (end : Option SyncEnd) → PagesFrom listed entries end → SyncShows entries end
+  pages [] listed end run = λ number is. absurd (cc (run, is))
+  pages (page ∷ entries) listed end run = after_page listed page page.reply refl entries end (λ names. pages entries names end) run.1
+
+pub sync_shows : (rules : SyncRules) (entries : List Entry) (end : Option SyncEnd) → SyncRun rules entries end → SyncShows entries end
+sync_shows rules [] end run = λ number is. absurd (cc (run, is))
+sync_shows rules (first ∷ entries) end run =
+    let Ends : List Sighting → Onward = λ sightings. EndsInView (IsView rules first.seq first.moment (moment_after first.moment (first ∷ entries)) sightings) in
+    pages rules.page_limit (λ names. Reads Ends [] (ulids_in names)) (λ names. block_reads Ends (λ sightings. in_view (IsView rules first.seq first.moment (moment_after first.moment (first ∷ entries)) sightings)) (ulids_in names) [])
+    (first ∷ entries) [] end run
+
+-- ---- series calls
+
+abbrev CallShows : List Entry → Option SeriesEnd → Type 0
+CallShows = Shows called.Fault
+
+call_on : (e : Entry) (entries : List Entry) (end : Option SeriesEnd) → CallShows entries end → CallShows (e ∷ entries) end
+call_on = goes_on called.Fault
+
+call_failed : (e : Entry) (landed : Bool) (entries : List Entry) (end : Option SeriesEnd) → e.reply ≡ reply.Failed landed → EndsWith (called.Fault e.seq) entries end → CallShows (e ∷ entries) end
+call_failed = has_failed_here called.Fault (λ one other is. cc (is))
+
+abbrev CallGoes : CallOnward → Type 0
+CallGoes next = (entries : List Entry) (end : Option SeriesEnd) → next entries end → CallShows entries end
+
+after_get : (next : ℕ → List ℕ → CallOnward) → ((seq : ℕ) (bytes : List ℕ) → CallGoes (next seq bytes)) → (e : Entry) (r : Reply) → e.reply ≡ r → (entries : List Entry) (end : Option SeriesEnd) → AfterGet e.seq r (next e.seq) entries end → CallShows (e ∷ entries) end
+after_get next goes e (reply.Found bytes) same entries end run = call_on e entries end (goes e.seq bytes entries end run)
+after_get next goes e reply.Absent same entries end run = call_on e entries end (ends_else called.Fault (called.Missing e.seq) entries end (λ number is. cc (is)) run)
+after_get next goes e (reply.Failed landed) same entries end run = call_failed e landed entries end same run
+after_get next goes e reply.Clocked same entries end run = absurd run
+after_get next goes e reply.Stored same entries end run = absurd run
+after_get next goes e reply.Deleted same entries end run = absurd run
+after_get next goes e (reply.Names names) same entries end run = absurd run
+
+gets : (k : Key) (next : ℕ → List ℕ → CallOnward) → ((seq : ℕ) (bytes : List ℕ) → CallGoes (next seq bytes)) → CallGoes (Gets k next)
+gets k next goes [] end run = λ number is. absurd (cc (run, is))
+gets k next goes (e ∷ entries) end run = after_get next goes e e.reply refl entries end run.1
+
+module _ (ulid : ℕ) (next : List Series → CallOnward) (goes : (series : List Series) → CallGoes (next series)) where
+  after_segment : (seq : ℕ) (bytes : List ℕ) → CallGoes (AfterSegment seq bytes next)
+  after_segment seq bytes entries end (stopped nil none) = λ number is. absurd (cc (none, is))
+  after_segment seq bytes entries end (damaged never nil same) = λ number is. absurd (cc (same, is))
+  after_segment seq bytes entries end (read series is run) = goes series entries end run
+
+  after_index : (seq : ℕ) (bytes : List ℕ) → CallGoes (AfterIndex seq bytes (SegmentRead ulid next))
+  after_index seq bytes entries end run =
+      match_bool _ _ _ (CallShows entries end) (gets (key.Segment ulid 1) (λ seq' bytes'. AfterSegment seq' bytes' next) after_segment entries end)
+      (ends_else called.Fault (called.Damaged seq) entries end (λ number is. cc (is))) run
+
+  block_read : CallGoes (BlockRead ulid next)
+  block_read entries end run = gets (key.Index ulid) (λ seq bytes. AfterIndex seq bytes (SegmentRead ulid next)) after_index entries end run
+
+answers : (taken : List Triple) (sources : List ℕ) → CallGoes (Answers taken sources)
+answers taken sources entries end (nil, inl none) = λ number is. absurd (cc (none, is))
+answers taken sources entries end (nil, inr (series, set, same, merge, set_is)) = λ number is. absurd (cc (same, is))
+
+blocks : (query : Question) (sources : List ℕ) (to : List ToRead) (taken : List Triple) → CallGoes (CallReads query sources taken to)
+blocks query sources [] taken entries end run = answers taken sources entries end run
+blocks query sources (b ∷ to) taken entries end run =
+    block_read b.ulid (λ series. CallReads query sources (taken ++ wanted query b.external series) to) (λ series. blocks query sources to (taken ++ wanted query b.external series)) entries end run
+
+pub call_shows : (view : View) (query : Question) → CallGoes (SeriesRun view query)
+call_shows view query entries end run = blocks query (sources_of view.kept) (to_read query view.kept) [] entries end run

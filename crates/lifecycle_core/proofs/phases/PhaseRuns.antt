@@ -1,0 +1,348 @@
+-- A phase whose tasks are done in line is a run of the phase.
+use Rattle.list_core.proofs.Membership.{contains_first, contains_later}
+use Rattle.std.proofs.lemmas.Bool.{or_left, or_right}
+use Rattle.std.proofs.Common.{◌≡◌, ◌≢◌, ℕ, suc, ◌+◌, ◌<◌, ◌≤◌, Bool, true, false, ◌||◌, cond, List, [], ◌∷◌, length, map, refl, sym, ◌∙◌, ap, subst, inl, inr, arith}
+use Rattle.std.specs.Prelude.{◌==◌, Option, Some, slice_get}
+use Rattle.std.specs.List.{All, AllByRecursion, AllZip, Contains, zip, list_any}
+use Rattle.std.proofs.lemmas.Bool.Decides.{nat_tests}
+use Rattle.std.proofs.lemmas.List.Elements.{All-append, All-head, All-nil, All-tail}
+use Rattle.std.proofs.lemmas.List.{length-map}
+use Rattle.std.proofs.lemmas.Option.{slice_get_within, get_or_from_slice_get}
+use Rattle.world_core.specs.declared.entry.Entry.{Entry}
+use Rattle.script_core.specs.Hands.{same_hand, gateway_of, hands_of, places_from, workers_from, greatest}
+use Rattle.script_core.specs.declared.hand.Hand.{Hand}
+use Rattle.script_core.specs.declared.hand.Hand.TheVariants as hands
+use Rattle.script_core.specs.declared.script.Script.{Script}
+use Rattle.script_core.specs.declared.task.Task.{Task}
+use Rattle.script_core.specs.declared.worker.Worker.{Worker}
+use Rattle.lifecycle_core.specs.InLine.{Duty, duties_from, seat_of, InLine}
+use Rattle.lifecycle_core.specs.Phases.{TasksAt, TasksRun, WorkerRun, PhaseRun, AreDone, CameTo, of_seat}
+use Rattle.lifecycle_core.specs.Tasks.{End, view_after}
+use Rattle.lifecycle_core.specs.Views.{Use, Views, view_of, with_view}
+use Rattle.lifecycle_core.proofs.phases.Duties.{same_is, same_self, part, ends_by, tasks_of}
+use Rattle.lifecycle_core.proofs.phases.HandLists.{JoinsAll, joins_from, hands_in}
+use Rattle.lifecycle_core.proofs.phases.Places.{IsDuty, all_duties, places_are, places_in, tasks_at, upload_place}
+use Rattle.lifecycle_core.proofs.phases.Workers.{IsPlaced, IsWorkerOf, each_worker, seat_among}
+use Rattle.lifecycle_core.proofs.phases.TaskRuns.{MayBegin}
+use Rattle.lifecycle_core.proofs.phases.WorkerRuns.{Fits, did}
+
+pub zip_weaken : {A B : Type 0} (R S : A → B → Type 0) → ((a : A) (b : B) → R a b → S a b) → (xs : List A) (ys : List B) → AllZip R xs ys → AllZip S xs ys
+zip_weaken R S f [] [] all = tt
+zip_weaken R S f [] (y ∷ ys) all = absurd all
+zip_weaken R S f (x ∷ xs) [] all = absurd all
+zip_weaken R S f (x ∷ xs) (y ∷ ys) all = (f x y all.0, zip_weaken R S f xs ys all.1)
+
+all_zip : {A B : Type 0} (P : A → Type 0) (R S : A → B → Type 0) → ((a : A) (b : B) → P a → R a b → S a b) → (xs : List A) (ys : List B) → AllByRecursion P xs → AllZip R xs ys → AllZip S xs ys
+all_zip P R S f [] [] each all = tt
+all_zip P R S f [] (y ∷ ys) each all = absurd all
+all_zip P R S f (x ∷ xs) [] each all = absurd all
+all_zip P R S f (x ∷ xs) (y ∷ ys) each all = (f x y each.0 all.0, all_zip P R S f xs ys each.1 all.1)
+
+-- ---- what holds of every duty
+
+among_all : (ds : List Duty) (hs : List Hand) → ((x : Hand) → list_any (same_hand x) (hands_in ds) ≡ true → list_any (same_hand x) hs ≡ true)
+    → AllByRecursion (λ d. list_any (same_hand d.hand) hs ≡ true) ds
+among_all [] hs f = tt
+among_all (d ∷ ds) hs f = (
+  f d.hand (or_left (same_hand d.hand d.hand) (list_any (same_hand d.hand) (hands_in ds)) (same_self d.hand)),
+  among_all ds hs (λ x k. f x (or_right (same_hand x d.hand) (list_any (same_hand x) (hands_in ds)) k)),
+)
+
+placed_hands : (gateways : ℕ) (tasks : List Task) (ds : List Duty) → AllByRecursion (IsDuty tasks) ds → AllByRecursion (IsPlaced gateways tasks) (hands_in ds)
+placed_hands gateways tasks [] all = tt
+placed_hands gateways tasks (d ∷ ds) all = (
+  λ own e. let u = (all.0).upload own e in
+      let at = upload_place gateways 0 d.place tasks d.task (u.1).0 (u.1).1 (all.0).at (u.1).2 in
+      let same : own ≡ 0 + d.place = omega (arith, u.0) in
+      subst (λ (h : Hand). places_from gateways h 0 tasks ≡ own ∷ []) (sym e) (subst (λ (n : ℕ). places_from gateways (hands.Upload n) 0 tasks ≡ n ∷ []) (sym same) at),
+  placed_hands gateways tasks ds all.1,
+)
+
+begins_at : (script : Script) (tasks : List Task) (place : ℕ) (task : Task) → All (λ t. MayBegin script t.work) tasks → slice_get tasks place ≡ Some task
+    → MayBegin script task.work
+begins_at script tasks place task all at =
+    subst (λ (t : Task). MayBegin script t.work) (get_or_from_slice_get tasks place task task at) (all place task (slice_get_within tasks place task at))
+
+all_fit : (script : Script) (tasks : List Task) (gateways before : ℕ) (workers : List Worker) (hand : Hand) (worker : Worker) (ds : List Duty)
+    → All (λ t. MayBegin script t.work) tasks → IsWorkerOf gateways tasks before workers hand worker → AllByRecursion (IsDuty tasks) ds
+    → AllByRecursion (Fits script (seat_of workers) hand worker.seat) ds
+all_fit script tasks gateways before workers hand worker [] lawful is all = tt
+all_fit script tasks gateways before workers hand worker (d ∷ ds) lawful is all = (
+  record { same = is.same d.hand; other = is.other d.hand; upload = λ p e. ((all.0).upload p e).1; begins = begins_at script tasks d.place d.task lawful (all.0).at },
+  all_fit script tasks gateways before workers hand worker ds lawful is all.1,
+)
+
+-- ---- seats and views
+
+seated : (script : Script) (seat : Hand → ℕ) (seats : List ℕ) (views : Views) (ds : List Duty) (entries : List Entry) (ends : List End) (after : Views)
+    → AllByRecursion (λ d. Contains seats (seat d.hand)) ds → InLine script seat views ds entries ends after → All (λ e. Contains seats e.seat) entries
+seated script seat seats views [] entries ends after each run = subst (All (λ e. Contains seats e.seat)) (sym run.0) (All-nil (λ e. Contains seats e.seat))
+seated script seat seats views (d ∷ ds) entries ends after each (inl r) =
+    let rest = seated script seat seats (with_view views (gateway_of d.hand) (view_after (view_of views (gateway_of d.hand)) r.0 r.2)) ds r.1 r.3 after each.1 r.8 in
+    subst (All (λ e. Contains seats e.seat)) (sym r.4)
+    (All-append (λ e. Contains seats e.seat) r.0 r.1 (λ k x below. subst (Contains seats) (sym (r.5 k x below)) each.0) rest)
+seated script seat seats views (d ∷ ds) entries ends after each (inr r) = λ k x below. subst (Contains seats) (sym (r.0 k x below)) each.0
+
+same_view : (views : Views) (hand : Hand) (gateway : ℕ) (used : Option Use) → hand ≢ hands.Gateway gateway → with_view views (gateway_of hand) used gateway ≡ views gateway
+same_view views (hands.Upload p) gateway used differ = refl
+same_view views (hands.Gateway p) gateway used differ =
+    let apart : p ≢ gateway = λ e. differ (ap hands.Gateway e) in
+    let e : (gateway == p) ≡ false = grind (arith, nat_tests, apart) in rw e refl
+
+kept_view : (script : Script) (seat : Hand → ℕ) (gateway : ℕ) (views : Views) (ds : List Duty) (entries : List Entry) (ends : List End) (after : Views)
+    → AllByRecursion (λ d. d.hand ≢ hands.Gateway gateway) ds → InLine script seat views ds entries ends after → after gateway ≡ views gateway
+kept_view script seat gateway views [] entries ends after each run = ap (λ (v : Views). v gateway) run.2
+kept_view script seat gateway views (d ∷ ds) entries ends after each (inl r) =
+    kept_view script seat gateway (with_view views (gateway_of d.hand) (view_after (view_of views (gateway_of d.hand)) r.0 r.2)) ds r.1 r.3 after each.1 r.8
+    ∙ same_view views d.hand gateway (view_after (view_of views (gateway_of d.hand)) r.0 r.2) each.0
+kept_view script seat gateway views (d ∷ ds) entries ends after each (inr r) = ap (λ (v : Views). v gateway) r.3
+
+no_first : (gateways before gateway : ℕ) (tasks : List Task) (all : List Worker) (h : Hand) (w : Worker) (b c : Bool) → same_hand (hands.Gateway gateway) h ≡ b → IsWorkerOf gateways tasks before all h w
+    → w.gateway ≢ Some gateway → (c ≡ true → ⊥) → (same_hand (hands.Gateway gateway) h || c) ≡ true → ⊥
+no_first gateways before gateway tasks all h w true c is worker none later found =
+    none (worker.gateway ∙ ap gateway_of (sym (same_is (hands.Gateway gateway) h is)))
+no_first gateways before gateway tasks all h w false c is worker none later found = later (rw is at found)
+
+no_worker : (gateways before gateway : ℕ) (tasks : List Task) (all : List Worker) (hs : List Hand) (workers : List Worker) → AllZip (IsWorkerOf gateways tasks before all) hs workers
+    → All (λ (w : Worker). w.gateway ≢ Some gateway) workers → list_any (same_hand (hands.Gateway gateway)) hs ≡ true → ⊥
+no_worker gateways before gateway tasks all [] workers zipped none found = absurd (cc (found))
+no_worker gateways before gateway tasks all (h ∷ hs) [] zipped none found = absurd zipped
+no_worker gateways before gateway tasks all (h ∷ hs) (w ∷ ws) zipped none found =
+    no_first gateways before gateway tasks all h w (same_hand (hands.Gateway gateway) h) (list_any (same_hand (hands.Gateway gateway)) hs) refl zipped.0 (All-head (λ (x : Worker). x.gateway ≢ Some gateway) w ws none)
+    (no_worker gateways before gateway tasks all hs ws zipped.1 (All-tail (λ (x : Worker). x.gateway ≢ Some gateway) w ws none)) found
+
+apart_from : (gateways before gateway : ℕ) (tasks : List Task) (all : List Worker) (hs : List Hand) (workers : List Worker) (ds : List Duty) → AllZip (IsWorkerOf gateways tasks before all) hs workers
+    → All (λ (w : Worker). w.gateway ≢ Some gateway) workers → AllByRecursion (λ d. list_any (same_hand d.hand) hs ≡ true) ds → AllByRecursion (λ d. d.hand ≢ hands.Gateway gateway) ds
+apart_from gateways before gateway tasks all hs workers [] zipped none among = tt
+apart_from gateways before gateway tasks all hs workers (d ∷ ds) zipped none among = (
+  λ e. no_worker gateways before gateway tasks all hs workers zipped none (subst (λ (h : Hand). list_any (same_hand h) hs ≡ true) e among.0),
+  apart_from gateways before gateway tasks all hs workers ds zipped none among.1,
+)
+
+-- ---- the ends
+
+part_ends_first : (hand : Hand) (d : Duty) (e : End) (ds : List Duty) (es : List End) (b : Bool) → length (part hand ds) ≡ length (ends_by hand ds es)
+    → length (cond b (d ∷ part hand ds) (part hand ds)) ≡ length (cond b (e ∷ ends_by hand ds es) (ends_by hand ds es))
+part_ends_first hand d e ds es true same = ap suc same
+part_ends_first hand d e ds es false same = same
+
+part_ends : (hand : Hand) (ds : List Duty) (ends : List End) → length ends ≡ length ds → length (part hand ds) ≡ length (ends_by hand ds ends)
+unfolding part ends_by
+part_ends hand [] ends same = refl
+part_ends hand (d ∷ ds) [] same = absurd (omega (arith, same))
+part_ends hand (d ∷ ds) (e ∷ es) same = part_ends_first hand d e ds es (same_hand hand d.hand) (part_ends hand ds es (omega (arith, same)))
+
+-- the place and the end of each duty of a hand stand side by side
+abbrev Beside : Hand → List ℕ → List End → Duty → End → Type 0
+Beside hand places ends d e = same_hand hand d.hand ≡ true → Contains (zip places ends) (d.place, e)
+
+beside_first : (hand : Hand) (d : Duty) (e : End) (ps : List ℕ) (es : List End) (b : Bool) → same_hand hand d.hand ≡ b → Beside hand (cond b (d.place ∷ ps) ps) (cond b (e ∷ es) es) d e
+beside_first hand d e ps es true is = λ s. contains_first (d.place, e) (zip ps es)
+beside_first hand d e ps es false is = λ s. absurd (cc (s, is))
+
+beside_later : (hand : Hand) (d : Duty) (e : End) (ps : List ℕ) (es : List End) (b : Bool) (x : Duty) (y : End) → Beside hand ps es x y → Beside hand (cond b (d.place ∷ ps) ps) (cond b (e ∷ es) es) x y
+beside_later hand d e ps es true x y known = λ s. contains_later (d.place, e) (x.place, y) (zip ps es) (known s)
+beside_later hand d e ps es false x y known = known
+
+places_cond : (d : Duty) (ds : List Duty) (b : Bool) → cond b (d.place ∷ places_in ds) (places_in ds) ≡ places_in (cond b (d ∷ ds) ds)
+places_cond d ds true = refl
+places_cond d ds false = refl
+
+beside : (hand : Hand) (ds : List Duty) (ends : List End) → length ends ≡ length ds → AllZip (Beside hand (places_in (part hand ds)) (ends_by hand ds ends)) ds ends
+unfolding part ends_by
+beside hand [] [] same = tt
+beside hand [] (e ∷ es) same = absurd (omega (arith, same))
+beside hand (d ∷ ds) [] same = absurd (omega (arith, same))
+beside hand (d ∷ ds) (e ∷ es) same =
+    let b = same_hand hand d.hand in
+    let ps = places_in (part hand ds) in
+    let own = ends_by hand ds es in
+    subst (λ (l : List ℕ). AllZip (Beside hand l (cond b (e ∷ own) own)) (d ∷ ds) (e ∷ es)) (places_cond d (part hand ds) b)
+    (beside_first hand d e ps own b refl, zip_weaken (Beside hand ps own) (Beside hand (cond b (d.place ∷ ps) ps) (cond b (e ∷ own) own)) (λ x y k. beside_later hand d e ps own b x y k) ds es (beside hand ds es (omega (arith, same))))
+
+abbrev pub ends_of : List Duty → List End → List Hand → List (List End)
+ends_of ds ends hs = map (λ hand. ends_by hand ds ends) hs
+
+-- the worker of a hand, with its ends
+record Served (gateways : ℕ) (tasks : List Task) (workers : List Worker) (all : List (List End)) (ds : List Duty) (ends : List End) (hand : Hand) : Type 0 where
+  pub worker : Worker
+  pub gateway : worker.gateway ≡ gateway_of hand
+  pub places : worker.tasks ≡ places_from gateways hand 0 tasks
+  pub among : Contains (zip workers all) (worker, ends_by hand ds ends)
+
+served_later : (gateways : ℕ) (tasks : List Task) (w : Worker) (own : List End) (workers : List Worker) (all : List (List End)) (ds : List Duty) (ends : List End) (hand : Hand)
+    → Served gateways tasks workers all ds ends hand → Served gateways tasks (w ∷ workers) (own ∷ all) ds ends hand
+served_later gateways tasks w own workers all ds ends hand s = record {
+  worker = s.worker;
+  gateway = s.gateway;
+  places = s.places;
+  among = contains_later (w, own) (s.worker, ends_by hand ds ends) (zip workers all) s.among;
+}
+
+served_first : (gateways before : ℕ) (tasks : List Task) (all : List Worker) (h : Hand) (w : Worker) (hs : List Hand) (ws : List Worker) (ds : List Duty) (ends : List End) (x : Hand) (b : Bool) → same_hand x h ≡ b
+    → IsWorkerOf gateways tasks before all h w → (list_any (same_hand x) hs ≡ true → Served gateways tasks ws (ends_of ds ends hs) ds ends x) → list_any (same_hand x) (h ∷ hs) ≡ true
+    → Served gateways tasks (w ∷ ws) (ends_of ds ends (h ∷ hs)) ds ends x
+served_first gateways before tasks all h w hs ws ds ends x true is worker later found =
+    let e : x ≡ h = same_is x h is in
+    subst (Served gateways tasks (w ∷ ws) (ends_of ds ends (h ∷ hs)) ds ends) (sym e)
+    (record { worker = w; gateway = worker.gateway; places = worker.places; among = contains_first (w, ends_by h ds ends) (zip ws (ends_of ds ends hs)) })
+served_first gateways before tasks all h w hs ws ds ends x false is worker later found =
+    served_later gateways tasks w (ends_by h ds ends) ws (ends_of ds ends hs) ds ends x (later (rw is at found))
+
+served : (gateways before : ℕ) (tasks : List Task) (all : List Worker) (hs : List Hand) (ws : List Worker) (ds : List Duty) (ends : List End) (x : Hand) → AllZip (IsWorkerOf gateways tasks before all) hs ws
+    → list_any (same_hand x) hs ≡ true → Served gateways tasks ws (ends_of ds ends hs) ds ends x
+served gateways before tasks all [] ws ds ends x zipped found = absurd (cc (found))
+served gateways before tasks all (h ∷ hs) [] ds ends x zipped found = absurd zipped
+served gateways before tasks all (h ∷ hs) (w ∷ ws) ds ends x zipped found =
+    served_first gateways before tasks all h w hs ws ds ends x (same_hand x h) refl zipped.0 (served gateways before tasks all hs ws ds ends x zipped.1) found
+
+done_by : (gateways before : ℕ) (tasks : List Task) (all : List Worker) (hs : List Hand) (ws : List Worker) (ds : List Duty) (ends : List End) → gateways ≤ 1 → ds ≡ duties_from gateways 0 tasks → length ends ≡ length ds
+    → AllZip (IsWorkerOf gateways tasks before all) hs ws → AreDone ws (ends_of ds ends hs)
+done_by gateways before tasks all [] [] ds ends few are same zipped = refl
+done_by gateways before tasks all [] (w ∷ ws) ds ends few are same zipped = absurd zipped
+done_by gateways before tasks all (h ∷ hs) [] ds ends few are same zipped = absurd zipped
+done_by gateways before tasks all (h ∷ hs) (w ∷ ws) ds ends few are same zipped =
+    let n : length w.tasks ≡ length (ends_by h ds ends) =
+    ap length ((zipped.0).places ∙ places_are gateways h 0 tasks few ∙ ap (λ (l : List Duty). places_in (part h l)) (sym are))
+    ∙ length-map (part h ds) (λ (d : Duty). d.place) ∙ part_ends h ds ends same in
+    let rest : AreDone ws (ends_of ds ends hs) = done_by gateways before tasks all hs ws ds ends few are same zipped.1 in
+    ap (λ (k : ℕ). k ∷ map (λ (x : Worker). length x.tasks) ws) n ∙ ap (λ (l : List ℕ). length (ends_by h ds ends) ∷ l) rest
+
+-- where some duty has no end, some hand has fewer ends than tasks
+short_first : (hand : Hand) (d : Duty) (e : End) (ds : List Duty) (es : List End) (b : Bool) → length (ends_by hand ds es) < length (part hand ds)
+    → length (cond b (e ∷ ends_by hand ds es) (ends_by hand ds es)) < length (cond b (d ∷ part hand ds) (part hand ds))
+short_first hand d e ds es true less = omega (arith, less)
+short_first hand d e ds es false less = less
+
+short_own : (d : Duty) (ds : List Duty) (b : Bool) → same_hand d.hand d.hand ≡ b → length {A = End} [] < length (cond b (d ∷ part d.hand ds) (part d.hand ds))
+short_own d ds true is = omega arith
+short_own d ds false is = absurd (cc (is, same_self d.hand))
+
+short_hand : (hs : List Hand) (ds : List Duty) (ends : List End) → length ends < length ds → AllByRecursion (λ d. list_any (same_hand d.hand) hs ≡ true) ds
+    → (hand : Hand) × (list_any (same_hand hand) hs ≡ true) × (length (ends_by hand ds ends) < length (part hand ds))
+unfolding part ends_by
+short_hand hs [] ends less among = absurd (omega (arith, less))
+short_hand hs (d ∷ ds) [] less among = (d.hand, among.0, short_own d ds (same_hand d.hand d.hand) refl)
+short_hand hs (d ∷ ds) (e ∷ es) less among =
+    let rest = short_hand hs ds es (omega (arith, less)) among.1 in
+    (rest.0, rest.1, short_first rest.0 d e ds es (same_hand rest.0 d.hand) rest.2)
+
+undone_first : (gateways before : ℕ) (tasks : List Task) (all : List Worker) (hand h : Hand) (w : Worker) (ds : List Duty) (ends : List End) (b c : Bool) → gateways ≤ 1 → ds ≡ duties_from gateways 0 tasks
+    → length (ends_by hand ds ends) < length (part hand ds) → IsWorkerOf gateways tasks before all h w → same_hand hand h ≡ b → length w.tasks ≡ length (ends_by h ds ends) → (c ≡ true → ⊥) → (same_hand hand h || c) ≡ true → ⊥
+undone_first gateways before tasks all hand h w ds ends true c few are less worker is first later found =
+    let same : hand ≡ h = same_is hand h is in
+    let less' : length (ends_by h ds ends) < length (part h ds) = subst (λ (x : Hand). length (ends_by x ds ends) < length (part x ds)) same less in
+    let n : length w.tasks ≡ length (part h ds) =
+    ap length (worker.places ∙ places_are gateways h 0 tasks few ∙ ap (λ (l : List Duty). places_in (part h l)) (sym are)) ∙ length-map (part h ds) (λ (d : Duty). d.place) in
+    absurd (omega (arith, less', n, first))
+undone_first gateways before tasks all hand h w ds ends false c few are less worker is first later found = later (rw is at found)
+
+undone_by : (gateways before : ℕ) (tasks : List Task) (all : List Worker) (hand : Hand) (hs : List Hand) (ws : List Worker) (ds : List Duty) (ends : List End) → gateways ≤ 1 → ds ≡ duties_from gateways 0 tasks
+    → length (ends_by hand ds ends) < length (part hand ds) → AllZip (IsWorkerOf gateways tasks before all) hs ws → list_any (same_hand hand) hs ≡ true → AreDone ws (ends_of ds ends hs) → ⊥
+undone_by gateways before tasks all hand [] ws ds ends few are less zipped found done = absurd (cc (found))
+undone_by gateways before tasks all hand (h ∷ hs) [] ds ends few are less zipped found done = absurd zipped
+undone_by gateways before tasks all hand (h ∷ hs) (w ∷ ws) ds ends few are less zipped found done =
+    let first : length w.tasks ≡ length (ends_by h ds ends) = cc (done) in
+    let later : AreDone ws (ends_of ds ends hs) = cc (done) in
+    undone_first gateways before tasks all hand h w ds ends (same_hand hand h) (list_any (same_hand hand) hs) few are less zipped.0 refl first
+    (λ more. undone_by gateways before tasks all hand hs ws ds ends few are less zipped.1 more later) found
+
+-- ---- the phase
+
+module _ (script : Script) (gateways before : ℕ) (tasks : List Task) (views after : Views) (entries : List Entry) (ends : List End) where
+  abbrev own_hands : List Hand
+  own_hands = hands_of gateways tasks
+
+  abbrev own_workers : List Worker
+  own_workers = workers_from gateways before tasks (hands_of gateways tasks)
+
+  abbrev own_duties : List Duty
+  own_duties = duties_from gateways 0 tasks
+
+  duties_are : AllByRecursion (IsDuty tasks) own_duties
+  duties_are = all_duties tasks gateways 0 tasks (λ k. ap (slice_get tasks) (omega arith))
+
+  hands_join : (P : Hand → Type 0) → JoinsAll P [] (hands_in own_duties) own_hands
+  hands_join P = joins_from P gateways [] 0 tasks
+
+  hands_placed : AllByRecursion (IsPlaced gateways tasks) own_hands
+  hands_placed = (hands_join (IsPlaced gateways tasks)).each (placed_hands gateways tasks own_duties duties_are) tt
+
+  hands_among : AllByRecursion (λ d. list_any (same_hand d.hand) own_hands ≡ true) own_duties
+  hands_among = among_all own_duties own_hands (λ x k. (hands_join (IsPlaced gateways tasks)).added x k)
+
+  workers_are : before + length own_hands ≤ greatest → AllZip (IsWorkerOf gateways tasks before own_workers) own_hands own_workers
+  workers_are room = each_worker gateways tasks before own_hands hands_placed ((hands_join (IsPlaced gateways tasks)).apart tt) room
+
+  worker_run : gateways ≤ 1 → All (λ t. MayBegin script t.work) tasks
+      → InLine script (seat_of own_workers) views own_duties entries ends after → (hand : Hand) (worker : Worker) → IsWorkerOf gateways tasks before own_workers hand worker
+      → WorkerRun script tasks views entries after worker (ends_by hand own_duties ends)
+  worker_run few lawful run hand worker is =
+      let places : places_in (part hand own_duties) ≡ worker.tasks = sym (is.places ∙ places_are gateways hand 0 tasks few) in
+      let runs = did script (seat_of own_workers) hand worker.seat views own_duties entries ends after (all_fit script tasks gateways before own_workers hand worker own_duties lawful is duties_are) run in
+      record {
+        own = tasks_of (part hand own_duties);
+        are = subst (λ (ps : List ℕ). TasksAt tasks ps (tasks_of (part hand own_duties))) places (tasks_at hand tasks own_duties duties_are);
+        last = view_of after (gateway_of hand);
+        runs = subst (λ (g : Option ℕ). TasksRun script (view_of views g) (tasks_of (part hand own_duties)) (of_seat worker.seat entries) (ends_by hand own_duties ends) (view_of after (gateway_of hand))) (sym is.gateway) runs;
+        leaves = λ g e. sym (ap (view_of after) (sym is.gateway ∙ e));
+      }
+
+  all_runs : gateways ≤ 1 → All (λ t. MayBegin script t.work) tasks
+      → InLine script (seat_of own_workers) views own_duties entries ends after → (hs : List Hand) (ws : List Worker) → AllZip (IsWorkerOf gateways tasks before own_workers) hs ws
+      → AllZip (WorkerRun script tasks views entries after) ws (ends_of own_duties ends hs)
+  all_runs few lawful run [] [] zipped = tt
+  all_runs few lawful run [] (w ∷ ws) zipped = absurd zipped
+  all_runs few lawful run (h ∷ hs) [] zipped = absurd zipped
+  all_runs few lawful run (h ∷ hs) (w ∷ ws) zipped = (worker_run few lawful run h w zipped.0, all_runs few lawful run hs ws zipped.1)
+
+  seats_known : (ds : List Duty) → AllByRecursion (λ d. list_any (same_hand d.hand) own_hands ≡ true) ds
+      → AllByRecursion (λ d. Contains (map (λ (w : Worker). w.seat) own_workers) (seat_of own_workers d.hand)) ds
+  seats_known [] among = tt
+  seats_known (d ∷ ds) among = (seat_among gateways tasks before own_hands d.hand hands_placed among.0, seats_known ds among.1)
+
+  came_one : gateways ≤ 1 → before + length own_hands ≤ greatest → (d : Duty) (e : End) → list_any (same_hand d.hand) own_hands ≡ true
+      → ((hand : Hand) → Beside hand (places_in (part hand own_duties)) (ends_by hand own_duties ends) d e)
+      → CameTo own_workers (ends_of own_duties ends own_hands) (gateway_of d.hand) d.place e
+  came_one few room d e among near =
+      let s = served gateways before tasks own_workers own_hands own_workers own_duties ends d.hand (workers_are room) among in
+      let places : places_in (part d.hand own_duties) ≡ (s.worker).tasks = sym (s.places ∙ places_are gateways d.hand 0 tasks few) in
+      record {
+        worker = s.worker;
+        own = ends_by d.hand own_duties ends;
+        among = s.among;
+        is = s.gateway;
+        came = subst (λ (ps : List ℕ). Contains (zip ps (ends_by d.hand own_duties ends)) (d.place, e)) places (near d.hand (same_self d.hand));
+      }
+
+  came_all : gateways ≤ 1 → before + length own_hands ≤ greatest → (ds : List Duty) (es : List End) → AllByRecursion (λ d. list_any (same_hand d.hand) own_hands ≡ true) ds
+      → ((hand : Hand) → AllZip (Beside hand (places_in (part hand own_duties)) (ends_by hand own_duties ends)) ds es)
+      → AllZip (λ d e. CameTo own_workers (ends_of own_duties ends own_hands) (gateway_of d.hand) d.place e) ds es
+  came_all few room [] [] among near = tt
+  came_all few room [] (e ∷ es) among near = absurd (near (hands.Upload 0))
+  came_all few room (d ∷ ds) [] among near = absurd (near (hands.Upload 0))
+  came_all few room (d ∷ ds) (e ∷ es) among near = (came_one few room d e among.0 (λ h. (near h).0), came_all few room ds es among.1 (λ h. (near h).1))
+
+  -- the phase's run, by its workers
+  pub phase_run : gateways ≤ 1 → before + length own_hands ≤ greatest → All (λ t. MayBegin script t.work) tasks
+      → InLine script (seat_of own_workers) views own_duties entries ends after
+      → PhaseRun script tasks own_workers views entries (ends_of own_duties ends own_hands) after
+  phase_run few room lawful run = record {
+    seats = seated script (seat_of own_workers) (map (λ (w : Worker). w.seat) own_workers) views own_duties entries ends after (seats_known own_duties hands_among) run;
+    runs = all_runs few lawful run own_hands own_workers (workers_are room);
+    kept = λ g none. kept_view script (seat_of own_workers) g views own_duties entries ends after (apart_from gateways before g tasks own_workers own_hands own_workers own_duties (workers_are room) none hands_among) run;
+  }
+
+  -- each duty's end is one to which its worker came
+  pub phase_came : gateways ≤ 1 → before + length own_hands ≤ greatest → length ends ≡ length own_duties
+      → AllZip (λ d e. CameTo own_workers (ends_of own_duties ends own_hands) (gateway_of d.hand) d.place e) own_duties ends
+  phase_came few room same = came_all few room own_duties ends hands_among (λ hand. beside hand own_duties ends same)
+
+  pub phase_done : gateways ≤ 1 → before + length own_hands ≤ greatest → length ends ≡ length own_duties → AreDone own_workers (ends_of own_duties ends own_hands)
+  phase_done few room same = done_by gateways before tasks own_workers own_hands own_workers own_duties ends few refl same (workers_are room)
+
+  -- where some duty has no end, the phase is not done
+  pub phase_undone : gateways ≤ 1 → before + length own_hands ≤ greatest → length ends < length own_duties → AreDone own_workers (ends_of own_duties ends own_hands) → ⊥
+  phase_undone few room less done =
+      let short = short_hand own_hands own_duties ends less hands_among in
+      undone_by gateways before tasks own_workers short.0 own_hands own_workers own_duties ends few refl short.2 (workers_are room) short.1 done

@@ -1,0 +1,121 @@
+-- Where the tasks of a hand stand in a phase.
+use Rattle.std.proofs.Common.{◌≡◌, ◌≢◌, ℕ, zero, suc, ◌+◌, ◌<◌, ◌≤◌, Bool, true, false, ◌||◌, cond, List, [], ◌∷◌, ◌++◌, length, map, refl, sym, ◌∙◌, ap, arith}
+use Rattle.std.specs.Prelude.{Option, Some, slice_get}
+use Rattle.std.specs.List.{AllByRecursion, list_any, range_with_len}
+use Rattle.std.proofs.lemmas.Bool.Decides.{nat_tests}
+use Rattle.script_core.specs.Hands.{same_hand, hands_of_task, does, places_from}
+use Rattle.script_core.specs.declared.hand.Hand.{Hand}
+use Rattle.script_core.specs.declared.hand.Hand.TheVariants as hands
+use Rattle.script_core.specs.declared.work.Work.{Work}
+use Rattle.script_core.specs.declared.work.Work.TheVariants as works
+use Rattle.script_core.specs.declared.task.Task.{Task}
+use Rattle.script_core.proofs.HandLists.{no_upload_among}
+use Rattle.lifecycle_core.specs.InLine.{Duty, duties_from}
+use Rattle.lifecycle_core.specs.Phases.{TasksAt}
+use Rattle.lifecycle_core.proofs.phases.Duties.{part, tasks_of}
+use Rattle.lifecycle_core.proofs.phases.HandLists.{one_hand}
+
+abbrev pub places_in : List Duty → List ℕ
+places_in duties = map (λ duty. duty.place) duties
+
+abbrev duties_at : ℕ → Task → List Hand → List Duty
+duties_at place task hs = map (λ hand. record { place = place; hand = hand; task = task }) hs
+
+place_first : (hand x : Hand) (place : ℕ) (task : Task) (ps : List ℕ) (rest : List Duty) (b : Bool) → same_hand hand x ≡ b → ps ≡ places_in (part hand rest)
+    → cond (same_hand hand x || false) (place ∷ ps) ps ≡ places_in (part hand (record { place = place; hand = x; task = task } ∷ rest))
+unfolding part
+place_first hand x place task ps rest true is same = rw is (ap (λ l. place ∷ l) same)
+place_first hand x place task ps rest false is same = rw is same
+
+place_more : (hand : Hand) (place : ℕ) (task : Task) (hs : List Hand) (ps : List ℕ) (rest : List Duty) → length hs ≤ 1 → ps ≡ places_in (part hand rest)
+    → cond (list_any (same_hand hand) hs) (place ∷ ps) ps ≡ places_in (part hand (duties_at place task hs ++ rest))
+place_more hand place task [] ps rest few same = same
+place_more hand place task (x ∷ []) ps rest few same = place_first hand x place task ps rest (same_hand hand x) refl same
+place_more hand place task (x ∷ y ∷ hs) ps rest few same = absurd (omega (arith, few))
+
+-- the places of a hand's tasks are those of its duties
+pub places_are : (gateways : ℕ) (hand : Hand) (place : ℕ) (tasks : List Task) → gateways ≤ 1 → places_from gateways hand place tasks ≡ places_in (part hand (duties_from gateways place tasks))
+unfolding places_from duties_from part
+places_are gateways hand place [] few = refl
+places_are gateways hand place (task ∷ tasks) few =
+    place_more hand place task (hands_of_task gateways place task.work) (places_from gateways hand (place + 1) tasks) (duties_from gateways (place + 1) tasks)
+    (one_hand gateways place task.work few) (places_are gateways hand (place + 1) tasks few)
+
+-- The duty is of the task at its place, and an upload's hand is that place's and has an upload.
+pub record IsDuty (whole : List Task) (duty : Duty) : Type 0 where
+  pub at : slice_get whole duty.place ≡ Some duty.task
+  pub upload : (place : ℕ) → duty.hand ≡ hands.Upload place → (place ≡ duty.place) × ((ulid : ℕ) × (stop : Option ℕ) × (duty.task.work ≡ works.Upload ulid stop))
+
+of_gateways : (whole : List Task) (place : ℕ) (task : Task) (gs : List ℕ) (rest : List Duty) → slice_get whole place ≡ Some task → AllByRecursion (IsDuty whole) rest
+    → AllByRecursion (IsDuty whole) (duties_at place task (map hands.Gateway gs) ++ rest)
+of_gateways whole place task [] rest is all = all
+of_gateways whole place task (g ∷ gs) rest is all = (record { at = is; upload = λ p e. absurd (cc (e)) }, of_gateways whole place task gs rest is all)
+
+of_task : (whole : List Task) (gateways place : ℕ) (task : Task) (w : Work) (rest : List Duty) → task.work ≡ w → slice_get whole place ≡ Some task → AllByRecursion (IsDuty whole) rest
+    → AllByRecursion (IsDuty whole) (duties_at place task (hands_of_task gateways place w) ++ rest)
+unfolding hands_of_task
+of_task whole gateways place task (works.Upload ulid stop) rest w is all = (record { at = is; upload = λ p e. let q : p ≡ place = cc (e) in (q, (ulid, stop, w)) }, all)
+of_task whole gateways place task (works.Sync gateway) rest w is all = (record { at = is; upload = λ p e. absurd (cc (e)) }, all)
+of_task whole gateways place task (works.Query low high selector) rest w is all = of_gateways whole place task (range_with_len 0 gateways) rest is all
+
+pub all_duties : (whole : List Task) (gateways place : ℕ) (tasks : List Task) → ((k : ℕ) → slice_get tasks k ≡ slice_get whole (place + k)) → AllByRecursion (IsDuty whole) (duties_from gateways place tasks)
+unfolding duties_from
+all_duties whole gateways place [] same = tt
+all_duties whole gateways place (task ∷ tasks) same =
+    let here : slice_get whole place ≡ Some task = ap (slice_get whole) (omega arith) ∙ sym (same 0) in
+    let later : (k : ℕ) → slice_get tasks k ≡ slice_get whole (place + 1 + k) = λ k. same (suc k) ∙ ap (slice_get whole) (omega arith) in
+    of_task whole gateways place task task.work (duties_from gateways (place + 1) tasks) refl here (all_duties whole gateways (place + 1) tasks later)
+
+part_tasks : (hand : Hand) (whole : List Task) (duty : Duty) (duties : List Duty) (b : Bool) → same_hand hand duty.hand ≡ b → slice_get whole duty.place ≡ Some duty.task
+    → TasksAt whole (places_in (part hand duties)) (tasks_of (part hand duties)) → TasksAt whole (places_in (part hand (duty ∷ duties))) (tasks_of (part hand (duty ∷ duties)))
+unfolding part
+part_tasks hand whole duty duties true e is later = rw e (is, later)
+part_tasks hand whole duty duties false e is later = rw e later
+
+-- the tasks of a hand stand at its places
+pub tasks_at : (hand : Hand) (whole : List Task) (duties : List Duty) → AllByRecursion (IsDuty whole) duties → TasksAt whole (places_in (part hand duties)) (tasks_of (part hand duties))
+unfolding part
+tasks_at hand whole [] all = refl
+tasks_at hand whole (duty ∷ duties) all = part_tasks hand whole duty duties (same_hand hand duty.hand) refl (all.0).at (tasks_at hand whole duties all.1)
+
+-- ---- the place of an upload
+
+no_upload : (gateways own place : ℕ) (w : Work) → own ≢ place → does gateways (hands.Upload own) place w ≡ false
+unfolding hands_of_task
+no_upload gateways own place (works.Upload ulid stop) differ = grind (arith, nat_tests, differ)
+no_upload gateways own place (works.Sync gateway) differ = refl
+no_upload gateways own place (works.Query low high selector) differ = no_upload_among own (range_with_len 0 gateways)
+
+an_upload : (gateways own : ℕ) (ulid : ℕ) (stop : Option ℕ) → does gateways (hands.Upload own) own (works.Upload ulid stop) ≡ true
+unfolding hands_of_task
+an_upload gateways own ulid stop = grind (arith, nat_tests)
+
+none_after : (gateways own place : ℕ) (tasks : List Task) → own < place → places_from gateways (hands.Upload own) place tasks ≡ []
+unfolding places_from
+none_after gateways own place [] below = refl
+none_after gateways own place (task ∷ tasks) below =
+    let e = no_upload gateways own place task.work (λ q. absurd (omega (arith, below, q))) in rw e (none_after gateways own (place + 1) tasks (omega (arith, below)))
+
+upload_first : (gateways own place : ℕ) (first : Task) (tasks : List Task) (ulid : ℕ) (stop : Option ℕ) → own ≡ place → first.work ≡ works.Upload ulid stop → places_from gateways (hands.Upload own) (place + 1) tasks ≡ []
+    → places_from gateways (hands.Upload own) place (first ∷ tasks) ≡ own ∷ []
+unfolding places_from
+upload_first gateways own place first tasks ulid stop is w none =
+    let d : does gateways (hands.Upload own) place first.work ≡ true =
+    ap (does gateways (hands.Upload own) place) w ∙ ap (λ p. does gateways (hands.Upload own) p (works.Upload ulid stop)) (sym is) ∙ an_upload gateways own ulid stop in
+    rw d (ap (λ l. place ∷ l) none ∙ ap (λ n. n ∷ []) (sym is))
+
+upload_own : (gateways own place k : ℕ) (tasks : List Task) (task : Task) (ulid : ℕ) (stop : Option ℕ) → own ≡ place + k → slice_get tasks k ≡ Some task → task.work ≡ works.Upload ulid stop
+    → places_from gateways (hands.Upload own) place tasks ≡ own ∷ []
+unfolding places_from
+upload_own gateways own place k [] task ulid stop at is w = absurd (cc (is))
+upload_own gateways own place zero (first ∷ tasks) task ulid stop at is w =
+    let same : first ≡ task = cc (is) in
+    upload_first gateways own place first tasks ulid stop (omega (arith, at)) (ap (λ (t : Task). t.work) same ∙ w) (none_after gateways own (place + 1) tasks (omega (arith, at)))
+upload_own gateways own place (suc k) (first ∷ tasks) task ulid stop at is w =
+    let d = no_upload gateways own place first.work (λ q. absurd (omega (arith, at, q))) in
+    rw d (upload_own gateways own (place + 1) k tasks task ulid stop (omega (arith, at)) is w)
+
+-- an upload's hand has the one place of the upload
+pub upload_place : (gateways place k : ℕ) (tasks : List Task) (task : Task) (ulid : ℕ) (stop : Option ℕ) → slice_get tasks k ≡ Some task → task.work ≡ works.Upload ulid stop
+    → places_from gateways (hands.Upload (place + k)) place tasks ≡ (place + k) ∷ []
+upload_place gateways place k tasks task ulid stop is w = upload_own gateways (place + k) place k tasks task ulid stop refl is w

@@ -1,0 +1,157 @@
+-- A sync of a journal that tells of a script's blocks does not find too many names: each name that its pages list is that of a
+-- declared block, they strictly ascend, and a script declares fewer blocks.
+use Rattle.list_core.proofs.Membership.{contains_first, contains_later, into_map}
+use Rattle.lifecycle_core.proofs.blocks.Declared.{declared_among, declared_ulid}
+use Rattle.std.proofs.Common.{◌≡◌, inl, inr, ℕ, suc, zero, ◌≤◌, true, List, [], ◌∷◌, ◌++◌, map, length, Contains, Option, Some, None, sym, ◌∙◌, ap, subst, arith}
+use Rattle.std.specs.Prelude.{nat_le, unwrap_or}
+use Rattle.std.specs.List.{All, last_or}
+use Rattle.std.proofs.lemmas.Bool.{leb-true}
+use Rattle.std.proofs.lemmas.Cmp.{nat_list_cmp_total, tied_itself}
+use Rattle.std.proofs.lemmas.List.{length-append, length-map}
+use Rattle.std.proofs.lemmas.List.Elements.{All-append, All-cons, All-contains, All-nil, All-weaker, Contains-append_cases, Contains-append_left, Contains-append_right}
+use Rattle.ulid_core.specs.UlidText.{text_of}
+use Rattle.bucket_core.specs.Pages.{Ascends, Before}
+use Rattle.world_core.specs.declared.entry.Entry.{Entry}
+use Rattle.meta_fetcher.specs.Syncs.{SyncRun}
+use Rattle.meta_fetcher.specs.declared.sync_end.SyncEnd.{SyncEnd}
+use Rattle.meta_fetcher.specs.declared.sync_end.SyncEnd.TheVariants as fetched
+use Rattle.store_gateway.specs.SeriesRuns.{Query as Question}
+use Rattle.script_core.specs.Lawful.{IsLawfulScript}
+use Rattle.script_core.specs.declared.block.Block.{Block}
+use Rattle.script_core.specs.declared.script.Script.{Script}
+use Rattle.script_core.specs.declared.work.Work.{Work}
+use Rattle.script_core.specs.declared.work.Work.TheVariants.{Upload, Sync, Query}
+use Rattle.lifecycle_core.specs.Causes.{SomeCame}
+use Rattle.lifecycle_core.specs.Phases.{IsRunOf}
+use Rattle.lifecycle_core.specs.Tasks.{End, QueryTask, TaskRun, asked_by, sync_rules, synced}
+use Rattle.lifecycle_core.specs.Views.{Use}
+use Rattle.lifecycle_core.proofs.misses.Explaining.{parted}
+use Rattle.lifecycle_core.proofs.phases.TasksMade.{ends_are_made}
+use Rattle.lifecycle_core.proofs.journals.Told.{IsDeclaredName, IsPart, IsReadable, IsTold, Rises}
+use Rattle.lifecycle_core.proofs.views.TrueViews.{not_in_view, own_entries}
+use Rattle.lifecycle_core.proofs.views.Finds.{IsOwn}
+use Rattle.lifecycle_core.proofs.views.Walk.{IsNextPage, KeptByPages, KeptByReads, synced as walked}
+
+-- ---- how many names ascend
+
+-- names that ascend after the last of others continue them
+ascends_joined : (before : Option (List ℕ)) (xs ys : List (List ℕ)) → Ascends (unwrap_or before []) xs → Ascends (unwrap_or (last_or before xs) []) ys → Ascends (unwrap_or before []) (xs ++ ys)
+ascends_joined before [] ys up next = next
+ascends_joined before (x ∷ xs) ys up next = (up.0, ascends_joined (Some x) xs ys up.1 next)
+
+-- a name is before each of those that ascend after it
+all_after : (name : List ℕ) (names : List (List ℕ)) → Ascends name names → All (Before name) names
+all_after name [] up = All-nil (Before name)
+all_after name (x ∷ names) up =
+    All-cons (Before name) x names up.0 (All-weaker (Before x) (Before name) (λ y later. nat_list_cmp_total.trans name x y up.0 later) names (all_after x names up.1))
+
+not_itself : (name : List ℕ) → Before name name → ⊥
+not_itself name less = cc (less, tied_itself nat_list_cmp_total name)
+
+-- another member is still one where that is taken out
+still_in : (front back : List (List ℕ)) (name x : List ℕ) → Before name x → Contains (front ++ name ∷ back) x → Contains (front ++ back) x
+still_in front back name x less among = elim (Contains-append_cases front (name ∷ back) x among) [
+  | inl first ↦ Contains-append_left front back x first
+  | inr (zero, below, is) ↦ absurd (not_itself name (subst (Before name) (sym is) less))
+  | inr (suc k, below, is) ↦ Contains-append_right front back x (k, omega (arith, below), is)
+]
+
+-- names that ascend are at most as many as the texts among which they are
+few_ascend : (after : List ℕ) (names texts : List (List ℕ)) → Ascends after names → ((x : List ℕ) → Contains names x → Contains texts x) → length names ≤ length texts
+few_ascend after [] texts up among = omega arith
+few_ascend after (name ∷ names) texts up among =
+    let at = parted texts name (among name (contains_first name names)) in
+    let front = at.0 in
+    let back = at.1 in
+    let others : (x : List ℕ) → Contains names x → Contains (front ++ back) x = λ x inside.
+    still_in front back name x (All-contains (Before name) names x (all_after name names up.1) inside) (subst (λ ts. Contains ts x) at.2 (among x (contains_later name x names inside))) in
+    let rest : length names ≤ length (front ++ back) = few_ascend name names (front ++ back) up.1 others in
+    omega (arith, rest, ap (length {A = List ℕ}) at.2, length-append front (name ∷ back), length-append front back)
+
+-- ---- names of declared blocks
+
+abbrev texts_of : Script → List (List ℕ)
+texts_of script = map (λ (b : Block). text_of b.ulid) script.blocks
+
+declared_text : (script : Script) (name : List ℕ) → IsDeclaredName script name → Contains (texts_of script) name
+declared_text script name (ulid, block, is, same) =
+    let among : Contains script.blocks block = declared_among script ulid block is in
+    subst (Contains (texts_of script)) (ap text_of (declared_ulid script ulid block is) ∙ sym same) (into_map (λ (b : Block). text_of b.ulid) script.blocks block among)
+
+-- what was listed: names of declared blocks, in order
+record AreListed (script : Script) (names : List (List ℕ)) : Type 0 where
+  pub ascend : Ascends [] names
+  pub declared_names : All (IsDeclaredName script) names
+
+listed_few : (script : Script) (names : List (List ℕ)) → IsLawfulScript script → AreListed script names → length names ≤ 4_096
+listed_few script names lawful listed =
+    let few : length names ≤ length (texts_of script) = few_ascend [] names (texts_of script) listed.ascend
+    (λ x inside. declared_text script x (All-contains (IsDeclaredName script) names x listed.declared_names inside)) in
+    omega (arith, few, length-map script.blocks (λ (b : Block). text_of b.ulid), lawful.blocks.few)
+
+too_few : (n : ℕ) → n ≤ 4_096 → nat_le 1_000_000 n ≡ true → ⊥
+too_few n few many = omega (arith, few, leb-true 1_000_000 n many)
+
+-- ---- the walk
+
+module _ (script : Script) (lawful : IsLawfulScript script) (journal : List Entry) (first : Entry) (entries : List Entry) where
+  more_listed : (limit : ℕ) (listed names : List (List ℕ)) (page : Entry) → AreListed script listed → IsOwn script journal first entries page → IsNextPage limit listed page names → AreListed script (listed ++ names)
+  more_listed limit listed names page i own next = record {
+    ascend = ascends_joined None listed names i.ascend (own.told.ascend _ limit names next.asks next.shows);
+    declared_names = All-append (IsDeclaredName script) listed names i.declared_names (own.told.only _ limit names next.asks next.shows);
+  }
+
+  few_reads : KeptByReads fetched.TooMany ⊥ (IsOwn script journal first entries) (λ sightings ulids. Unit {0})
+  few_reads = record {
+    fault = λ n is. cc (is);
+    marked = λ sightings ulid ulids e bytes j own asks found is. cc (is);
+    unread = λ sightings ulid ulids e bytes j own asks found none is. cc (is);
+    seen = λ sightings ulid ulids e bytes mark_read meta j own asks found read. tt;
+    missed = λ sightings ulid ulids e j own asks absent. tt;
+  }
+
+  few_pages : (limit : ℕ) → KeptByPages fetched.TooMany ⊥ (IsOwn script journal first entries) limit (AreListed script) (λ listed. Unit {0})
+  few_pages limit = record {
+    fault = λ n is. cc (is);
+    many = λ names i many is. too_few (length names) (listed_few script names lawful i) many;
+    unordered = λ listed names page i own next down is. cc (is);
+    short = λ listed names page i own next few. tt;
+    full = λ listed names page i own next many. more_listed limit listed names page i own next;
+  }
+
+-- no sync of the journal finds too many names
+pub syncs_find_few : (script : Script) (journal entries : List Entry) → IsLawfulScript script → IsReadable script → All (IsTold script journal) journal → IsPart journal entries
+    → ¬ SyncRun (sync_rules script.rules) entries (Some fetched.TooMany)
+syncs_find_few script journal [] lawful readable told part run = cc (run)
+syncs_find_few script journal (first ∷ entries) lawful readable told part run =
+    walked fetched.TooMany ⊥ (IsOwn script journal first entries) (sync_rules script.rules) (AreListed script) (λ listed. Unit {0}) (λ sightings ulids. Unit {0})
+    (few_pages script lawful journal first entries script.rules.page_limit) (few_reads script lawful journal first entries)
+    (record { ascend = tt; declared_names = All-nil (IsDeclaredName script) }) (λ names l. tt)
+    first entries (own_entries script journal first entries told part) (λ sightings j es run'. not_in_view fetched.TooMany es _ (λ view is. cc (is)) run') run
+
+-- ---- the ends
+
+query_finds_few : (script : Script) (view : Option Use) (asked : Option Question) (entries : List Entry) → ¬ QueryTask script view asked entries (Some (synced fetched.TooMany))
+query_finds_few script None asked entries (nil, inl none) = cc (none)
+query_finds_few script None asked entries (nil, inr same) = cc (same)
+query_finds_few script (Some used) None entries run = run
+query_finds_few script (Some used) (Some asked) entries (None, run, same) = cc (same)
+query_finds_few script (Some used) (Some asked) entries (Some own, run, same) = cc (same)
+
+task_finds_few : (script : Script) (view : Option Use) (w : Work) (entries : List Entry) → ¬ SyncRun (sync_rules script.rules) entries (Some fetched.TooMany) → ¬ TaskRun script view w entries (Some (synced fetched.TooMany))
+task_finds_few script view (Upload ulid stop) entries few (block, is, (objects, None, shipped, run, inl (same, early))) = cc (same)
+task_finds_few script view (Upload ulid stop) entries few (block, is, (objects, Some own, shipped, run, inl (same, early))) = cc (same)
+task_finds_few script view (Upload ulid stop) entries few (block, is, (objects, own, shipped, run, inr (n, stops, above, count, same))) = cc (same)
+task_finds_few script view (Sync gateway) entries few (None, run, same) = cc (same)
+task_finds_few script view (Sync gateway) entries few (Some own, run, same) =
+    let one : own ≡ fetched.TooMany = cc (same) in
+    few (subst (λ (x : SyncEnd). SyncRun (sync_rules script.rules) entries (Some x)) one run)
+task_finds_few script view (Query low high selector) entries few run = query_finds_few script view (asked_by script selector low high) entries run
+
+-- no worker says that a sync found too many names
+pub none_found_many : (script : Script) (journal : List Entry) (ends : List (List (List End))) → IsLawfulScript script → IsReadable script → Rises journal → All (IsTold script journal) journal → IsRunOf script journal ends
+    → ¬ SomeCame ends (synced fetched.TooMany)
+none_found_many script journal ends lawful readable rises told run came =
+    let made = ends_are_made script journal ends rises run (synced fetched.TooMany) came in
+    let m = made.1 in
+    task_finds_few script m.view (made.0).work m.entries (syncs_find_few script journal m.entries lawful readable told m.part) m.run

@@ -1,0 +1,81 @@
+-- What is found under the key of a block's meta, where it is an object with which the script's block is shipped; and that no such
+-- object is under the key of a mark.
+use Rattle.lifecycle_core.proofs.blocks.Declared.{declared_ulid}
+use Rattle.lifecycle_core.proofs.blocks.Objects.{built_object}
+use Rattle.std.proofs.Common.{◌≡◌, ℕ, eqb, List, [], ◌∷◌, Contains, Some, None, Result, Ok, ℤ, refl, sym, ◌∙◌, ap, subst}
+use Rattle.std.proofs.lemmas.Bool.{eq-eqb, cond-true}
+use Rattle.label_sets.specs.declared.series.Series.{Series}
+use Rattle.block_keys.specs.declared.key.Key.TheVariants as key
+use Rattle.block_keys.specs.declared.object.Object.{Object}
+use Rattle.block_meta.specs.declared.block_plan.BlockPlan.{BlockPlan}
+use Rattle.block_meta.specs.declared.refusal.MetaRefusal.{MetaRefusal}
+use Rattle.block_meta.specs.MetaFields.{MetaFields}
+use Rattle.block_meta.specs.MetaReading.{meta_of_text}
+use Rattle.block_meta.specs.MetaValue.{meta_text}
+use Rattle.block_files.specs.Built.{built_meta}
+use Rattle.meta_fetcher.specs.Sightings.{block_meta, named_meta}
+use Rattle.script_core.specs.declared.block.Block.{Block}
+use Rattle.script_core.specs.declared.body.Body.{Body}
+use Rattle.script_core.specs.declared.body.Body.TheVariants.{Inline}
+use Rattle.script_core.specs.declared.script.Script.{Script}
+use Rattle.lifecycle_core.specs.Held.{declared}
+use Rattle.lifecycle_core.specs.Shipped.{AreBuilt, IsPlanOf}
+use Rattle.lifecycle_core.proofs.journals.Told.{IsReadable, IsShippedObject, Spans}
+
+-- ---- metas
+
+-- the meta of a block that the script declares, with what was shipped of it
+pub record IsMetaOf (script : Script) (ulid : ℕ) (meta : MetaFields) : Type 0 where
+  pub block : Block
+  pub is : declared script ulid ≡ Some block
+  pub own : meta.ulid ≡ ulid
+  pub sources : meta.sources ≡ ulid ∷ []
+  pub labels : meta.labels ≡ block.labels
+  pub times : Spans block.body meta.min_time meta.max_time
+
+-- the bytes are read as such a meta
+abbrev pub IsReadAsMeta : Script → ℕ → List ℕ → Type 0
+IsReadAsMeta script ulid bytes = (meta : MetaFields) × (meta_of_text bytes ≡ Ok meta) × IsMetaOf script ulid meta
+
+read_as : (script : Script) → IsReadable script → (ulid : ℕ) (block : Block) (low high : ℤ) (series : List Series) (plan : BlockPlan) (bytes : List ℕ) → declared script ulid ≡ Some block
+    → block.body ≡ Inline low high series → IsPlanOf block low high plan → bytes ≡ meta_text (built_meta plan series) → IsReadAsMeta script ulid bytes
+unfolding built_meta
+read_as script readable ulid block low high series plan bytes is body of_plan written =
+    let same : block.ulid ≡ ulid = declared_ulid script ulid block is in (
+      built_meta plan series,
+      ap meta_of_text written ∙ readable.metas ulid block is low high series body plan of_plan,
+      record {
+        block = block;
+        is = is;
+        own = of_plan.ulid ∙ same;
+        sources = of_plan.sources ∙ ap (λ u. u ∷ []) same;
+        labels = of_plan.labels;
+        times = subst (λ b. Spans b plan.min_time plan.max_time) (sym body) (of_plan.early, of_plan.late);
+      },
+    )
+
+built_meta_read : (script : Script) → IsReadable script → (ulid : ℕ) (block : Block) (body : Body) (objects : List Object) (bytes : List ℕ) → declared script ulid ≡ Some block → block.body ≡ body
+    → AreBuilt block body objects → Contains objects (record { key = key.Meta ulid; bytes = bytes }) → IsReadAsMeta script ulid bytes
+built_meta_read script readable ulid block (Inline low high series) objects bytes is body (plan, of_plan, are) among =
+    read_as script readable ulid block low high series plan bytes is body of_plan (built_object block low high series objects (key.Meta ulid) bytes (plan, of_plan, are) among).1
+
+-- a shipped object under the key of a meta is read as the block's meta
+meta_read_as : (script : Script) → IsReadable script → (ulid : ℕ) (bytes : List ℕ) → IsShippedObject script (key.Meta ulid) bytes → IsReadAsMeta script ulid bytes
+meta_read_as script readable ulid bytes o = built_meta_read script readable ulid o.block o.block.body o.objects bytes o.is refl o.shipped o.among
+
+no_mark_built : (block : Block) (body : Body) (objects : List Object) (ulid : ℕ) (bytes : List ℕ) → AreBuilt block body objects → Contains objects (record { key = key.Mark ulid; bytes = bytes }) → ⊥
+no_mark_built block (Inline low high series) objects ulid bytes built among = built_object block low high series objects (key.Mark ulid) bytes built among
+
+-- no shipped object is under the key of a mark
+pub no_mark : (script : Script) (ulid : ℕ) (bytes : List ℕ) → IsShippedObject script (key.Mark ulid) bytes → ⊥
+no_mark script ulid bytes o = no_mark_built o.block o.block.body o.objects ulid bytes o.shipped o.among
+
+-- what is read as the block's meta names the block
+named : (ulid : ℕ) (r : Result MetaFields MetaRefusal) (meta : MetaFields) → r ≡ Ok meta → meta.ulid ≡ ulid → named_meta ulid r ≡ Some meta
+named ulid r meta read own = ap (named_meta ulid) read ∙ cond-true (eqb meta.ulid ulid) (Some meta) None (eq-eqb meta.ulid ulid own)
+
+pub meta_found : (script : Script) → IsReadable script → (ulid : ℕ) (bytes : List ℕ) → IsShippedObject script (key.Meta ulid) bytes
+    → (meta : MetaFields) × (block_meta ulid bytes ≡ Some meta) × IsMetaOf script ulid meta
+meta_found script readable ulid bytes o =
+    let found = meta_read_as script readable ulid bytes o in
+    (found.0, named ulid (meta_of_text bytes) found.0 found.1 found.2.own, found.2)
