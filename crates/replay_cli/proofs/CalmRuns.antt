@@ -25,7 +25,7 @@ use Rattle.lifecycle_core.specs.Causes.{AreWell, IsWell, SomeCame}
 use Rattle.lifecycle_core.specs.Phases.{CameTo}
 use Rattle.lifecycle_core.specs.Tasks.{End, uploaded, synced, answered, without_view, stopped}
 use Rattle.lifecycle_core.specs.Views.{Use}
-use Rattle.lifecycle_core.proofs.Lists.{contains_first, contains_later}
+use Rattle.list_core.proofs.Membership.{contains_first, contains_later}
 use Rattle.replay_cli.specs.Outcomes.{IsOutcome, PhasesCame, TaskCame, TasksCame, call_outcome, sync_outcome, upload_outcome}
 use Rattle.replay_cli.specs.Reports.{is_as_asked}
 use Rattle.replay_cli.specs.Verdicts.{IsWholeRun}

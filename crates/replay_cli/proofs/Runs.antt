@@ -16,7 +16,7 @@ use Rattle.script_core.specs.declared.phase.Phase.{Phase}
 use Rattle.script_core.specs.declared.script.Script.{Script}
 use Rattle.lifecycle_core.specs.InLine.{IsInLine}
 use Rattle.lifecycle_core.specs.Guarantees.{IsGuaranteedJournal}
-use Rattle.lifecycle_core.proofs.FirstPhases.{none_in_line}
+use Rattle.lifecycle_core.proofs.phases.FirstPhases.{none_in_line}
 use Rattle.lifecycle_core.proofs.Assembling.{none_guaranteed}
 use Rattle.replay_cli.specs.Progress.{RunCame}
 use Rattle.replay_cli.specs.Verdicts.{IsRun}

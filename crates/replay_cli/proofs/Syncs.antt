@@ -18,7 +18,7 @@ use Rattle.store_gateway.specs.declared.series_end.SeriesEnd.{SeriesEnd}
 use Rattle.script_core.specs.declared.work.Work.TheVariants as works
 use Rattle.lifecycle_core.specs.Tasks.{answered, sync_rules, synced}
 use Rattle.lifecycle_core.specs.Views.{Use}
-use Rattle.lifecycle_core.proofs.TaskRuns.{reads_none}
+use Rattle.lifecycle_core.proofs.phases.TaskRuns.{reads_none}
 use Rattle.replay_cli.specs.Drives.{call_came, sync_came}
 use Rattle.replay_cli.specs.Progress.{Adds, CameBy, IsDueAfter, WhenFull, view_by}
 use Rattle.replay_cli.specs.declared.came.Came.{Came}

@@ -16,9 +16,9 @@ use Rattle.lifecycle_core.specs.InLine.{Duty, duties_from, InLine}
 use Rattle.lifecycle_core.specs.Phases.{CameTo}
 use Rattle.lifecycle_core.specs.Tasks.{End}
 use Rattle.lifecycle_core.specs.Views.{Views}
-use Rattle.lifecycle_core.proofs.Joined.{both, cut, duties_begin, duties_more, duties_parts}
-use Rattle.lifecycle_core.proofs.RunsInLine.{may_begin}
-use Rattle.lifecycle_core.proofs.TaskRuns.{MayBegin}
+use Rattle.lifecycle_core.proofs.phases.Joined.{both, cut, duties_begin, duties_more, duties_parts}
+use Rattle.lifecycle_core.proofs.phases.RunsInLine.{may_begin}
+use Rattle.lifecycle_core.proofs.phases.TaskRuns.{MayBegin}
 use Rattle.std.proofs.lemmas.List.Elements.{All-tail}
 use Rattle.replay_cli.specs.Outcomes.{IsOutcome, TasksCame}
 use Rattle.replay_cli.specs.Progress.{IsDueInLine, Shows, TaskStep, TasksBroken, TasksDone, TasksTold, duties_at}

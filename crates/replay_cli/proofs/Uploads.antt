@@ -17,7 +17,7 @@ use Rattle.script_core.specs.declared.block.Block.{Block}
 use Rattle.script_core.specs.declared.work.Work.TheVariants as works
 use Rattle.lifecycle_core.specs.Shipped.{IsShipped}
 use Rattle.lifecycle_core.specs.Tasks.{End, BlockUpload, IsBefore, IsStop, stopped, uploaded}
-use Rattle.lifecycle_core.proofs.TaskRuns.{built_by}
+use Rattle.lifecycle_core.proofs.phases.TaskRuns.{built_by}
 use Rattle.replay_cli.specs.Drives.{upload_came}
 use Rattle.replay_cli.specs.Progress.{Adds, CameBy, IsDueAfter, WhenFull}
 use Rattle.replay_cli.specs.declared.came.Came.{Came}
