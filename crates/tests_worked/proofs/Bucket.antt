@@ -41,7 +41,7 @@ either_of false true segment m i s some = inr (inl refl)
 either_of false false true m i s some = inr (inr refl)
 either_of false false false m i s some = absurd (cc)
 
-first_part : List ℕ → List ℕ
+pub first_part : List ℕ → List ℕ
 first_part = before_first (λ byte. byte == 47)
 
 meta_folder : first_part (key_text (key.Meta small.a)) ≡ small.a_text
@@ -52,11 +52,11 @@ index_folder : first_part (key_text (key.Index small.a)) ≡ small.a_text
 unfolding first_part key_text name_of text_of character alphabet fixed_digits
 index_folder = refl
 
-segment_folder : first_part (key_text (key.Segment small.a 1)) ≡ small.a_text
+pub segment_folder : first_part (key_text (key.Segment small.a 1)) ≡ small.a_text
 unfolding first_part key_text name_of six_digits text_of character alphabet fixed_digits
 segment_folder = refl
 
-one_folder : (k text : List ℕ) → bytes_eq k text ≡ true → first_part k ≡ small.a_text → first_part text ≡ small.a_text
+pub one_folder : (k text : List ℕ) → bytes_eq k text ≡ true → first_part k ≡ small.a_text → first_part text ≡ small.a_text
 one_folder k text same folder = ap first_part (sym ((bytes_eq-Decides k text).0 same)) ∙ folder
 
 folder_of : (text : List ℕ) → is_some (full text) ≡ true → first_part text ≡ small.a_text
@@ -71,14 +71,18 @@ stands_there : IsName full [] small.a_text
 unfolding key_text name_of text_of character alphabet fixed_digits
 stands_there = (key_text (key.Meta small.a), refl, refl)
 
-pub page : IsPage full [] [] 1_000 (small.a_text ∷ [])
+-- the page of a bucket whose keys all lie in the small block's folder
+pub page_of : (contents : Contents) → IsName contents [] small.a_text → ((text : List ℕ) → is_some (contents text) ≡ true → first_part text ≡ small.a_text) → IsPage contents [] [] 1_000 (small.a_text ∷ [])
 unfolding first_part
-page = record {
+page_of contents there folder = record {
   ascend = (refl, tt);
   few = lit≤ tt;
-  stand = All-cons (IsName full []) small.a_text [] stands_there (All-nil (IsName full []));
-  whole = λ name is after. inl (0, lit< tt, sym (is.2 ∙ folder_of is.0 is.1));
+  stand = All-cons (IsName contents []) small.a_text [] there (All-nil (IsName contents []));
+  whole = λ name is after. inl (0, lit< tt, sym (is.2 ∙ folder is.0 is.1));
 }
+
+pub page : IsPage full [] [] 1_000 (small.a_text ∷ [])
+page = page_of full stands_there folder_of
 
 pub nothing_listed : IsPage nothing [] [] 1_000 []
 nothing_listed = record { ascend = tt; few = lit≤ tt; stand = All-nil (IsName nothing []); whole = λ name is after. absurd (cc (is.1)) }

@@ -27,10 +27,6 @@ use Rattle.block_files.specs.Built.{segment_text, segments_of, sample_count, siz
 use Rattle.block_files.specs.PlainForm.{plain_index, IsPlainSegment, AreLines, AreSamples}
 use Rattle.tests_worked.specs.SmallBlock as small
 
-a_text_is : text_of small.a ≡ small.a_text
-unfolding text_of character alphabet fixed_digits
-a_text_is = refl
-
 segment_is : segment_text (small.up ∷ []) ≡ small.segment
 unfolding small.segment segment_text series_text set_text pairs_text pair_text comma_pair_text quoted quoted_byte spaced_sample_text sample_text timed_text signed_text decimal_text pattern_text hex_text hex_sign
 segment_is = refl
@@ -39,7 +35,7 @@ index_is : plain_index ≡ small.index
 unfolding small.index
 index_is = refl
 
-meta_is : meta_text (fields_of small.said) ≡ small.meta
+pub meta_is : meta_text (fields_of small.said) ≡ small.meta
 unfolding small.meta meta_text meta_value thanos_value compaction_value stats_value label_members file_value items_value ulid_value text_of character alphabet fixed_digits digits serde_json_on_literals
 meta_is = refl
 
@@ -99,28 +95,29 @@ segment_reads = record { text_is_utf8 = IsUtf8-from_is_utf8 small.segment segmen
 
 -- ---- what is uploaded
 
-unfoldable pub plan : BlockPlan
-plan = record {
-  ulid = small.a;
+unfoldable pub plan_of : ℕ → BlockPlan
+plan_of ulid = record {
+  ulid = ulid;
   min_time = pos 1000;
   max_time = pos 2000;
   level = 1;
-  sources = small.a ∷ [];
+  sources = ulid ∷ [];
   parents = [];
   labels = [];
   source = codes "sidecar";
-  times = small.said.times;
-  distinct = small.said.distinct;
+  times = (small.said_of ulid).times;
+  distinct = (small.said_of ulid).distinct;
 }
 
-said_is : fields_of small.said ≡ built_meta plan (small.up ∷ [])
-unfolding plan built_meta sizes_of segments_of names_of_segments sample_count segment_text series_text set_text pairs_text pair_text comma_pair_text quoted quoted_byte spaced_sample_text sample_text timed_text signed_text decimal_text pattern_text hex_text hex_sign
-said_is = refl
+said_is : (ulid : ℕ) → fields_of (small.said_of ulid) ≡ built_meta (plan_of ulid) (small.up ∷ [])
+unfolding plan_of built_meta sizes_of segments_of names_of_segments sample_count segment_text series_text set_text pairs_text pair_text comma_pair_text quoted quoted_byte spaced_sample_text sample_text timed_text signed_text decimal_text pattern_text hex_text hex_sign
+said_is ulid = refl
 
-same_objects : (s i m : List ℕ) → small.segment ≡ s → small.index ≡ i → small.meta ≡ m → small.objects ≡ objects_of small.a (s ∷ []) i m
+same_objects : (ulid : ℕ) (s i m text : List ℕ) → small.segment ≡ s → small.index ≡ i → text ≡ m → small.objects_with ulid text ≡ objects_of ulid (s ∷ []) i m
 unfolding objects_of segment_objects
-same_objects s i m p q r = cc
+same_objects ulid s i m text p q r = cc
 
-pub objects_are : small.objects ≡ objects_of small.a (segments_of (small.up ∷ [])) plain_index (meta_text (built_meta plan (small.up ∷ [])))
+pub objects_are : (ulid : ℕ) (text : List ℕ) → meta_text (fields_of (small.said_of ulid)) ≡ text
+    → small.objects_with ulid text ≡ objects_of ulid (segments_of (small.up ∷ [])) plain_index (meta_text (built_meta (plan_of ulid) (small.up ∷ [])))
 unfolding segments_of
-objects_are = same_objects _ _ _ (sym segment_is) (sym index_is) (sym meta_is ∙ ap meta_text said_is)
+objects_are ulid text is = same_objects ulid _ _ _ text (sym segment_is) (sym index_is) (sym is ∙ ap meta_text (said_is ulid))

@@ -3,12 +3,14 @@ pub mod Each
 pub mod SmallTasks
 pub mod Bucket
 pub mod OneBlock
+pub mod OtherReads
 pub mod OneReport
 pub mod OneAnswer
 pub mod YoungBlock
 pub mod YoungReport
 pub mod YoungAnswers
 pub mod OneUpload
+pub mod SideBySide
 pub mod OneOutcomes
 pub mod Texts
 pub mod OneLater

@@ -1,23 +1,17 @@
 -- Where the index is lost: an end that is no good one, and entries that are not to blame.
-use Rattle.std.proofs.Common.{◌≡◌, ℕ, List, [], ◌∷◌, IsTrue, Contains, refl, sym, ◌∙◌, ap, arith, lit<}
+use Rattle.std.proofs.Common.{◌≡◌, [], ap, arith}
 use Rattle.block_keys.specs.Keys.{key_ulid}
-use Rattle.block_keys.specs.declared.key.Key.{Key}
 use Rattle.block_keys.specs.declared.key.Key.TheVariants as key
-use Rattle.world_core.specs.declared.op.Op.TheVariants as op
 use Rattle.lifecycle_core.specs.Breaches.{upload_time, mark_time, sync_time, view_time}
-use Rattle.lifecycle_core.specs.Causes.{AreWell, IsBlamed, SomeCame}
-use Rattle.lifecycle_core.specs.Tasks.{End, synced}
-use Rattle.meta_fetcher.specs.declared.sync_end.SyncEnd.TheVariants as fetched
+use Rattle.lifecycle_core.specs.Causes.{AreWell, IsBlamed}
+use Rattle.store_gateway.specs.declared.series_end.SeriesEnd.TheVariants as called
+use Rattle.tests_worked.proofs.OtherReads.{query_came}
 use Rattle.tests_worked.specs.Entries.{stored}
 use Rattle.tests_worked.specs.LostIndex as lost
-use Rattle.tests_worked.specs.OneBlock as one
 use Rattle.tests_worked.specs.SmallBlock as small
 
-missing_came : SomeCame lost.ends lost.missing
-missing_came = ((synced (fetched.View one.view) ∷ lost.missing ∷ []) ∷ [], synced (fetched.View one.view) ∷ lost.missing ∷ [], (1, lit< tt, refl), (0, lit< tt, refl), (1, lit< tt, refl))
-
 pub not_well : ¬ AreWell lost.ends
-not_well well = well lost.missing missing_came
+not_well well = well lost.missing (query_came (called.Missing 10))
 
 pub other_put : ¬ IsBlamed small.a 10 upload_time (stored 2 1 1 (key.Index 11) [])
 other_put (k, bytes, is, own, object) = let same : key.Index 11 ≡ k = cc (is) in omega (arith, ap key_ulid same, own)

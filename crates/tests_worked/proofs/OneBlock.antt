@@ -35,7 +35,7 @@ sync_end : SyncTask one.script one.sync (Some (synced (fetched.View one.view)))
 sync_end = (Some (fetched.View one.view), sync_run 7 2 1_800_001 (runs.seen 1_800_001 ∷ []) refl, refl)
 
 query_end : QueryTask one.script (Some one.used) (Some (question one.selector)) one.query (Some (answered one.used (called.Answer (small.up ∷ []) (small.a ∷ []))))
-query_end = (Some (called.Answer (small.up ∷ []) (small.a ∷ [])), query_run one.selector merge_up 7 1_800_001 1_800_001 10 2 1_800_004, refl)
+query_end = (Some (called.Answer (small.up ∷ []) (small.a ∷ [])), query_run one.selector merge_up 7 1_800_001 1_800_003 1_800_002 1_800_003 10 2 1_800_004, refl)
 
 -- ---- the phases
 

@@ -1,6 +1,6 @@
 -- All that is guaranteed of a run holds of that of the script of one block, and of the one that loses the index.
-use Rattle.std.proofs.Common.{◌≡◌, ℕ, ℤ, zero, suc, pos, List, [], ◌∷◌, All, Contains, Option, Some, None, inl, inr, refl, sym, ◌∙◌, ap, subst, arith, lit<, lit≤}
-use Rattle.std.proofs.Common.{◌⊎◌, ◌+◌, ◌<◌, ◌^◌, length}
+use Rattle.std.proofs.Common.{◌≡◌, ℕ, ℤ, zero, suc, pos, List, [], ◌∷◌, All, Option, Some, None, inl, inr, refl, sym, ◌∙◌, ap, subst, arith, lit≤}
+use Rattle.std.proofs.Common.{◌⊎◌}
 use Rattle.std.specs.Prelude.{slice_get}
 use Rattle.std.proofs.lemmas.List.Elements.{All-from_recursion}
 use Rattle.block_keys.specs.declared.key.Key.TheVariants as key
@@ -9,11 +9,7 @@ use Rattle.matchers.specs.declared.matcher.Matcher.{Matcher}
 use Rattle.meta_fetcher.specs.declared.sync_end.SyncEnd.TheVariants as fetched
 use Rattle.store_gateway.specs.declared.series_end.SeriesEnd.TheVariants as called
 use Rattle.block_keys.specs.KeyText.{key_text}
-use Rattle.world_core.specs.Moments.{moment_after, last_moment}
-use Rattle.world_core.specs.Operations.{IsLawful, IsReplyTo}
 use Rattle.world_core.specs.Standing.{IsHonest}
-use Rattle.world_core.specs.Worlds.{IsJournal}
-use Rattle.world_core.specs.declared.entry.Entry.{Entry}
 use Rattle.script_core.specs.Hands.{workers_of}
 use Rattle.script_core.specs.declared.worker.Worker.{Worker}
 use Rattle.script_core.specs.declared.phase.Phase.{Phase}
@@ -31,9 +27,10 @@ use Rattle.tests_worked.specs.SmallBlock as small
 use Rattle.tests_worked.proofs.Ends.{of_each}
 use Rattle.tests_worked.proofs.OneAnswer.{exact, names}
 use Rattle.tests_worked.proofs.Bucket.{full, shows_index}
-use Rattle.tests_worked.proofs.Each.{each_of}
 use Rattle.tests_worked.proofs.SmallTasks.{question}
-use Rattle.tests_worked.proofs.OneBlock.{finished_by, first_tasks, gateway, run_by, second_ends, second_tasks, second_workers}
+use Rattle.tests_worked.proofs.OneBlock.{first_tasks, gateway, second_ends, second_tasks, second_workers}
+use Rattle.tests_worked.proofs.OtherReads.{finished_with, run_with}
+use Rattle.world_core.specs.declared.reply.Reply.TheVariants.{Absent}
 use Rattle.tests_worked.proofs.OneInTime.{leaves_none_out}
 use Rattle.tests_worked.proofs.OneOutcomes.{came_among, one_of_two}
 use Rattle.tests_worked.proofs.OneUnbroken.{front, lost_is_lie}
@@ -137,24 +134,11 @@ guaranteed = record {
 missing_run : QueryTask one.script (Some one.used) (Some (question one.selector)) (lost.lost ∷ []) (Some lost.missing)
 missing_run = (Some (called.Missing 10), (refl, (refl, inr refl)), refl)
 
-lost_seats : All (λ (e : Entry). Contains (2 ∷ []) e.seat) (lost.lost ∷ [])
-lost_seats = All-from_recursion (λ (e : Entry). Contains (2 ∷ []) e.seat) (lost.lost ∷ []) ((0, lit< tt, refl), tt)
-
-lost_kept : IsJournal 1 lost.journal
-lost_kept = record {
-  few = lit≤ tt;
-  numbered = each_of (λ before e. e.seq ≡ length before + 1) lost.journal (refl, (refl, (refl, (refl, (refl, (refl, (refl, (refl, (refl, (refl, tt))))))))));
-  lawful = each_of (λ before e. IsLawful e.op) lost.journal (lit< tt, (tt, ((lit≤ tt, lit≤ tt), (tt, (tt, (lit< tt, (lit≤ tt, (tt, (tt, (tt, tt))))))))));
-  kinds = each_of (λ before e. IsReplyTo e.op e.reply) lost.journal (tt, (tt, (tt, (tt, (tt, (tt, (tt, (tt, (tt, (tt, tt))))))))));
-  moments = each_of (λ before e. e.moment.ms ≡ moment_after 1 (last_moment before) e.op) lost.journal (refl, (refl, (refl, (refl, (refl, (refl, (refl, (refl, (refl, (refl, tt))))))))));
-  small = each_of (λ before e. e.moment.ms < 2 ^ 48) lost.journal (lit< tt, (lit< tt, (lit< tt, (lit< tt, (lit< tt, (lit< tt, (lit< tt, (lit< tt, (lit< tt, (lit< tt, tt))))))))));
-}
-
 pub lost_run : IsRunOf one.script lost.journal lost.ends
-lost_run = run_by (lost.lost ∷ []) (called.Missing 10) lost_seats refl missing_run lost_kept
+lost_run = run_with Absent (called.Missing 10) tt missing_run
 
 pub lost_finished : AreFinished one.script 0 one.script.phases lost.ends
-lost_finished = finished_by (lost.lost ∷ []) (called.Missing 10) lost_seats refl missing_run
+lost_finished = finished_with Absent (called.Missing 10) missing_run
 
 pub lost_explained : IsExplained one.script lost.journal 10
 lost_explained = record {

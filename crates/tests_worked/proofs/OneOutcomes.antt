@@ -1,4 +1,5 @@
 -- The script of one block has one report at the ends of its run.
+use Rattle.list_core.proofs.Membership.{only_member}
 use Rattle.std.proofs.Common.{◌≡◌, ◌⊎◌, inl, inr, ℕ, zero, suc, pos, Bool, List, [], ◌∷◌, ◌++◌, length, Contains, Option, Some, None, refl, sym, ap, subst, ◌∙◌, arith}
 use Rattle.std.specs.List.{AllZip, zip}
 use Rattle.shipper.specs.declared.upload_end.UploadEnd.TheVariants as shipped
@@ -25,11 +26,7 @@ use Rattle.tests_worked.specs.OneBlockChanged as changed
 use Rattle.tests_worked.proofs.OneBlock.{uploader, gateway, first_workers, second_workers, first_tasks, second_tasks, first_ends, second_ends}
 use Rattle.tests_worked.proofs.OneReport.{outcomes, lines}
 
--- ---- lists of one and of two
-
-pub only_one : {X : Type 0} (x y : X) → Contains (x ∷ []) y → x ≡ y
-only_one x y (zero, below, is) = is
-only_one x y (suc k, below, is) = absurd (omega (arith, below))
+-- ---- lists of two
 
 pub one_of_two : {X : Type 0} (x z y : X) → Contains (x ∷ z ∷ []) y → (x ≡ y) ⊎ (z ≡ y)
 one_of_two x z y (zero, below, is) = inl is
@@ -40,11 +37,11 @@ one_of_two x z y (suc (suc k), below, is) = absurd (omega (arith, below))
 
 pub came_among : (worker : Worker) (own : List End) (hand : Option ℕ) (place : ℕ) (end : End) → CameTo (worker ∷ []) (own ∷ []) hand place end → Contains (zip worker.tasks own) (place, end)
 came_among worker own hand place end came =
-    let same : (worker, own) ≡ (came.worker, came.own) = only_one (worker, own) (came.worker, came.own) came.among in
+    let same : (worker, own) ≡ (came.worker, came.own) = only_member (worker, own) (came.worker, came.own) came.among in
     subst (λ (p : Worker × List End). Contains (zip p.0.tasks p.1) (place, end)) (sym same) came.came
 
 upload_came : (end : End) → CameTo (uploader ∷ []) first_ends None 0 end → uploaded (shipped.Done 3) ≡ end
-upload_came end came = ap (λ (p : ℕ × End). p.1) (only_one (0, uploaded (shipped.Done 3)) (0, end) (came_among uploader (uploaded (shipped.Done 3) ∷ []) None 0 end came))
+upload_came end came = ap (λ (p : ℕ × End). p.1) (only_member (0, uploaded (shipped.Done 3)) (0, end) (came_among uploader (uploaded (shipped.Done 3) ∷ []) None 0 end came))
 
 abbrev own_ends : List End
 own_ends = synced (fetched.View one.view) ∷ answered one.used (called.Answer (small.up ∷ []) (small.a ∷ [])) ∷ []

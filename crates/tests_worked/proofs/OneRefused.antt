@@ -1,5 +1,5 @@
 -- Journals that are no run of the script of one block.
-use Rattle.std.proofs.Common.{◌≡◌, ◌≢◌, inl, inr, List, [], ◌∷◌, ◌++◌, All, Contains, Some, None, refl, sym, ap, subst, ◌∙◌, arith}
+use Rattle.std.proofs.Common.{◌≡◌, ◌≢◌, inl, inr, ℕ, List, [], ◌∷◌, ◌++◌, All, Contains, Some, None, refl, sym, ap, subst, ◌∙◌, arith}
 use Rattle.std.proofs.lemmas.List.Elements.{All-nil, All-cons, All-head, All-tail}
 use Rattle.block_keys.specs.declared.key.Key.TheVariants as key
 use Rattle.world_core.specs.declared.entry.Entry.{Entry}
@@ -18,7 +18,7 @@ use Rattle.tests_worked.specs.Entries.{clock, stored, absent, found, listed}
 use Rattle.tests_worked.specs.OneBlock as one
 use Rattle.tests_worked.specs.OneBlockChanged as changed
 use Rattle.tests_worked.proofs.OneLater.{no_read_after_absent}
-use Rattle.tests_worked.proofs.OneOutcomes.{only_one}
+use Rattle.list_core.proofs.Membership.{only_member}
 use Rattle.tests_worked.proofs.OneUpload.{BeginsAnew, FirstPhase, second, first_phase_of, stays, upload_of, uploads_of, Uploads, first_is_look, second_is_put}
 
 pub no_look_refused : (rest : List Entry) → ¬ IsLawfulJournal one.script (changed.no_look ++ rest)
@@ -44,6 +44,22 @@ index_first_refused rest lawful =
     let segment = second_is_put look put (of_seat 1 two.0) refl (subst (λ es. Uploads (of_seat 1 es)) {y = look ∷ put ∷ two.0} made uploads) in
     cc (segment.1)
 
+pub seat_refused : (rest : List Entry) → ¬ IsLawfulJournal one.script (changed.at_gateways_seat ++ rest)
+seat_refused rest lawful =
+    let look : Entry = absent 2 2 1 (key.Meta small.a) in
+    let puts : List Entry = stored 3 2 2 (key.Segment small.a 1) small.segment ∷ stored 4 2 3 (key.Index small.a) small.index ∷ stored 5 2 4 (key.Meta small.a) small.meta ∷ rest in
+    let phase = first_phase_of (clock 1 0) (look ∷ puts) lawful in
+    let one = stays phase.1 phase.0 look puts phase.3.parts phase.3.anew (λ moment is. cc (is)) in
+    let first : Contains {X = ℕ} (1 ∷ []) 2 = All-head (λ (e : Entry). Contains (1 ∷ []) e.seat) look one.0 (subst (All (λ (e : Entry). Contains (1 ∷ []) e.seat)) one.1 phase.3.run.seats) in
+    let same : 1 ≡ 2 = only_member 1 2 first in
+    omega (arith, same)
+
+pub clock_refused : (rest : List Entry) → ¬ IsLawfulJournal one.script (changed.clock_stands ++ rest)
+clock_refused rest lawful =
+    let reads : List Entry = absent 8 2 1_800_001 (key.Mark small.a) ∷ found 9 2 1_800_002 (key.Meta small.a) small.meta ∷ rest in
+    let moves : 1_800_000 ≡ 1_800_001 = lawful.1.kept.moments (clock 1 0 ∷ one.upload ++ clock 6 1_800_000 ∷ []) reads (listed 7 2 1_800_000 (small.a_text ∷ [])) refl in
+    omega (arith, moves)
+
 -- ---- a query that reads a block whose meta was absent
 
 -- the clock's setting is no worker's
@@ -51,7 +67,7 @@ no_clock : (left others : List Entry) (tail : List Entry) → clock 6 1_800_000 
 no_clock [] others tail is seats = refl
 no_clock (x ∷ left) others tail is seats =
     let same : clock 6 1_800_000 ≡ x = cc (is) in
-    let seat : 1 ≡ x.seat = only_one 1 x.seat (All-head (λ (e : Entry). Contains (1 ∷ []) e.seat) x left seats) in
+    let seat : 1 ≡ x.seat = only_member 1 x.seat (All-head (λ (e : Entry). Contains (1 ∷ []) e.seat) x left seats) in
     absurd (omega (arith, seat, ap (λ (e : Entry). e.seat) same))
 
 -- the entry sets no clock

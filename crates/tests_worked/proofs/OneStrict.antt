@@ -1,41 +1,26 @@
 -- The rules on syncs and on views refuse entries of that run.
-use Rattle.std.proofs.Common.{◌≡◌, ℕ, List, [], ◌∷◌, Contains, Some, inr, refl, sym, subst, arith, lit<}
+use Rattle.std.proofs.Common.{◌≡◌, ℕ, List, [], ◌∷◌, Contains, Some, refl, sym, subst, arith, lit<}
 use Rattle.moment_core.specs.declared.span.Span.{Span}
-use Rattle.moment_core.specs.StandardRules.{hours}
+use Rattle.moment_core.specs.StandardRules.{minutes, hours}
 use Rattle.block_keys.specs.declared.key.Key.TheVariants as key
-use Rattle.block_meta.specs.MetaFields.{MarkFields, fields_of}
+use Rattle.block_meta.specs.MetaFields.{MarkFields}
 use Rattle.block_meta.specs.MetaText.{IsMarkText}
 use Rattle.world_core.specs.declared.entry.Entry.{Entry}
 use Rattle.script_core.specs.Hands.{hands_of_task, with_hands, hands_from, places_from, workers_from, seats_from, workers_of}
 use Rattle.script_core.specs.declared.worker.Worker.{Worker}
-use Rattle.meta_fetcher.specs.Sightings.{block_meta}
 use Rattle.meta_fetcher.specs.Syncs.{SyncRun}
 use Rattle.meta_fetcher.specs.declared.sync_end.SyncEnd.TheVariants as fetched
 use Rattle.lifecycle_core.specs.Tasks.{sync_rules}
 use Rattle.lifecycle_core.specs.Breaches.{IsSeatOf, IsSyncIn, IsViewAt, Refuses, mark_time, sync_time, view_time}
 use Rattle.tests_worked.specs.SmallBlock as small
-use Rattle.tests_worked.specs.SmallRuns as runs
 use Rattle.tests_worked.specs.Entries.{absent, listed, stored}
 use Rattle.tests_worked.specs.OneBlock as one
 use Rattle.tests_worked.specs.OneStrict.{rules_with, script_with, hasty, idle, last_read, first_call}
-use Rattle.tests_worked.proofs.Bytes.{meta_reads, a_reads}
+use Rattle.tests_worked.proofs.SmallTasks.{sync_run_by}
 use Rattle.tests_worked.proofs.OneBlock.{gateway}
 
-block_meta_reads : block_meta small.a small.meta ≡ Some (fields_of small.said)
-block_meta_reads = rw meta_reads refl
-
 sync_run : (ignore : Span) → SyncRun (sync_rules (rules_with ignore)) one.sync (Some (fetched.View one.view))
-sync_run ignore = (
-  refl,
-  rw a_reads (
-    refl,
-    (
-      refl,
-      rw block_meta_reads
-          (refl, inr (one.view, refl, record { first = refl; begin = refl; end = refl; found = runs.seen 1_800_001 ∷ []; sighted = refl; kept = refl; covered = refl })),
-    ),
-  ),
-)
+sync_run ignore = sync_run_by (minutes 30) ignore 2 7 1_800_001 8 1_800_002 9 1_800_003 one.view.kept refl
 
 workers : (ignore : Span) → workers_of (script_with ignore) 1 ≡ gateway ∷ []
 unfolding hands_of_task with_hands hands_from places_from workers_from seats_from

@@ -8,6 +8,8 @@ use Rattle.world_core.specs.Journals.{Each}
 use Rattle.world_core.specs.Operations.{IsReplyTo}
 use Rattle.world_core.specs.Standing.{stands, Tells}
 use Rattle.world_core.specs.declared.entry.Entry.{Entry}
+use Rattle.world_core.proofs.Growing.{Each-push}
+use Rattle.lifecycle_core.specs.Causes.{IsExplained}
 use Rattle.world_core.specs.declared.op.Op.TheVariants as op
 use Rattle.world_core.specs.declared.reply.Reply.TheVariants.{Found}
 use Rattle.lifecycle_core.specs.Breaches.{IsBreach, IsKept, IsLie, IsUnbroken, Refuses, Rule, rank, honesty, mark_time, sync_time, upload_time, view_time}
@@ -22,21 +24,28 @@ use Rattle.moment_core.specs.declared.rules.Rules.{Rules}
 use Rattle.script_core.specs.declared.script.Script.{Script}
 use Rattle.tests_worked.proofs.Bucket.{full, page, shows_meta, shows_index, shows_segment, shows_no_mark}
 use Rattle.tests_worked.proofs.Each.{EachAfter, each_after, each_of}
-use Rattle.lifecycle_core.proofs.Honesty.{no_lie}
+use Rattle.lifecycle_core.proofs.journals.Honesty.{no_lie}
 use Rattle.tests_worked.proofs.OneInTime.{InTime, in_time}
 
--- An entry of the first half hour breaks no rule, where it is no lie, puts objects in time, and no mark.
+-- An entry of the first half hour can only be a lie, where it puts objects in time, and no mark.
+only_lies : (script : Script) → script.rules ≡ standard_rules → (journal before : List Entry) (e : Entry) → e.moment.ms ≤ 1_800_005 → ((ulid : ℕ) → InTime ulid e) → ((ulid second : ℕ) → ¬ PutsMark ulid second e)
+    → (rule : Rule) (x y : ℕ) → Refuses script journal rule before e x y → rule ≡ honesty
+only_lies script standard journal before e early timely unmarked honesty x y lie = refl
+only_lies script standard journal before e early timely unmarked upload_time x y (ulid, puts, inl (is, most, over)) = let limits = timely ulid puts in absurd (omega (arith, limits.0, over))
+only_lies script standard journal before e early timely unmarked upload_time x y (ulid, puts, inr (is, most, over)) =
+    let limits = timely ulid puts in absurd (omega (arith, limits.1, over, ap (λ (r : Rules). r.upload.ms) standard))
+only_lies script standard journal before e early timely unmarked mark_time x y (ulid, second, puts, (is, most, over)) = absurd (unmarked ulid second puts)
+only_lies script standard journal before e early timely unmarked sync_time x y (gateway, entries, end, first, others, front, sync, begins, ends, (is, most, over)) =
+    absurd (omega (arith, early, over, ap (λ (r : Rules). r.ignore.ms) standard))
+only_lies script standard journal before e early timely unmarked view_time x y (gateway, view, reads, has, (is, most, over)) =
+    absurd (omega (arith, early, over, ap (λ (r : Rules). r.ignore.ms) standard, ap (λ (r : Rules). r.delete.ms) standard))
+
+-- so it breaks no rule where it is no lie
 keeps : (script : Script) → script.rules ≡ standard_rules → (journal before : List Entry) (e : Entry) → e.moment.ms ≤ 1_800_005 → ((x y : ℕ) → ¬ IsLie before e x y) → ((ulid : ℕ) → InTime ulid e) → ((ulid second : ℕ) → ¬ PutsMark ulid second e)
     → IsKept script journal before e
-keeps script standard journal before e early true_is timely unmarked honesty x y lie = true_is x y lie
-keeps script standard journal before e early true_is timely unmarked upload_time x y (ulid, puts, inl (is, most, over)) = let limits = timely ulid puts in omega (arith, limits.0, over)
-keeps script standard journal before e early true_is timely unmarked upload_time x y (ulid, puts, inr (is, most, over)) =
-    let limits = timely ulid puts in omega (arith, limits.1, over, ap (λ (r : Rules). r.upload.ms) standard)
-keeps script standard journal before e early true_is timely unmarked mark_time x y (ulid, second, puts, (is, most, over)) = unmarked ulid second puts
-keeps script standard journal before e early true_is timely unmarked sync_time x y (gateway, entries, end, first, others, front, sync, begins, ends, (is, most, over)) =
-    omega (arith, early, over, ap (λ (r : Rules). r.ignore.ms) standard)
-keeps script standard journal before e early true_is timely unmarked view_time x y (gateway, view, reads, has, (is, most, over)) =
-    omega (arith, early, over, ap (λ (r : Rules). r.ignore.ms) standard, ap (λ (r : Rules). r.delete.ms) standard)
+keeps script standard journal before e early true_is timely unmarked rule x y refused =
+    let lies = only_lies script standard journal before e early timely unmarked rule x y refused in
+    true_is x y (subst (λ (r : Rule). Refuses script journal r before e x y) lies refused)
 
 -- where it shows what stands
 true_keeps : (script : Script) → script.rules ≡ standard_rules → (journal before : List Entry) (e : Entry) → e.moment.ms ≤ 1_800_005 → IsReplyTo e.op e.reply → Tells (stands before) e.op e.reply → ((ulid : ℕ) → InTime ulid e)
@@ -120,6 +129,17 @@ lost_is_breach = record {
   first = front_is_kept lost.journal;
   foremost = λ other x y less. absurd (omega (arith, less));
 }
+
+-- no other rule refuses an entry
+abbrev OnlyLies : List Entry → Entry → Type 0
+OnlyLies before e = (rule : Rule) (x y : ℕ) → Refuses one.script lost.journal rule before e x y → rule ≡ honesty
+
+lost_entries : Each OnlyLies lost.journal
+lost_entries = Each-push OnlyLies front lost.lost (λ before after e parts rule x y refused. absurd (front_is_kept lost.journal before after e parts rule x y refused))
+    (only_lies one.script refl lost.journal front lost.lost (lit≤ tt) (λ ulid p. cc (p.2)) (λ ulid second p. cc (p.2)))
+
+pub lost_is_only_cause : (cause : IsExplained one.script lost.journal 10) → cause.rule ≡ honesty
+lost_is_only_cause cause = lost_entries cause.before cause.after cause.entry cause.parts cause.rule cause.x cause.y cause.refused
 
 -- ---- where the block is uploaded too late
 

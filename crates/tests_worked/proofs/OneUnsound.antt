@@ -9,13 +9,13 @@ use Rattle.label_sets.specs.Triples.{Triple, triples_under, has_same_key}
 use Rattle.matchers.specs.Selected.{is_selected, selected}
 use Rattle.matchers.specs.Selectors.{is_match, accepts, is_accepted, value_or_empty}
 use Rattle.store_gateway.specs.declared.series_end.SeriesEnd.TheVariants as called
-use Rattle.lifecycle_core.specs.Causes.{IsExplained, SomeCame}
+use Rattle.lifecycle_core.specs.Causes.{IsExplained}
+use Rattle.tests_worked.proofs.OtherReads.{query_came}
 use Rattle.lifecycle_core.specs.Completed.{IsUploadedBefore}
 use Rattle.lifecycle_core.specs.Guarantees.{IsExact, IsGuaranteed, LeavesNoneOut, NamesUploads}
 use Rattle.lifecycle_core.specs.Held.{held_by, held}
-use Rattle.lifecycle_core.specs.Tasks.{answered}
 use Rattle.lifecycle_core.specs.Views.{Use}
-use Rattle.lifecycle_core.proofs.Unbroken.{explains_nothing}
+use Rattle.lifecycle_core.proofs.journals.Unbroken.{explains_nothing}
 use Rattle.tests_worked.specs.LostIndex as lost
 use Rattle.tests_worked.specs.OneBlock as one
 use Rattle.tests_worked.specs.OneBlockChanged as changed
@@ -41,8 +41,5 @@ strange_refused named =
 pub no_cause : (number : ℕ) → ¬ IsExplained one.script one.journal number
 no_cause number = explains_nothing one.script one.journal number unbroken
 
-missing_came : SomeCame lost.ends (answered one.used (called.Missing 10))
-missing_came = (_, _, (1, lit< tt, refl), (0, lit< tt, refl), (1, lit< tt, refl))
-
 pub no_guarantee : ¬ IsGuaranteed one.script one.journal lost.ends
-no_guarantee guaranteed = no_cause 10 (guaranteed.explained one.used 10 missing_came)
+no_guarantee guaranteed = no_cause 10 (guaranteed.explained one.used 10 (query_came (called.Missing 10)))

@@ -1,5 +1,5 @@
 -- The tasks over the small block are done as the definitions say.
-use Rattle.std.proofs.Common.{◌≡◌, ◌≢◌, inl, inr, ℕ, pos, List, [], ◌∷◌, Some, None, refl, arith}
+use Rattle.std.proofs.Common.{◌≡◌, ◌≢◌, ◌+◌, inl, inr, ℕ, pos, List, [], ◌∷◌, Some, None, refl, arith}
 use Rattle.std.proofs.lemmas.List.Elements.{All-nil, All-cons}
 use Rattle.std.specs.List.Sorted.{IsStrictlySortedBy}
 use Rattle.label_sets.specs.declared.series.Series.{Series}
@@ -7,7 +7,11 @@ use Rattle.label_sets.specs.Finals.{is_among, without, final_of}
 use Rattle.label_sets.specs.Labels.{value_of}
 use Rattle.label_sets.specs.Ordered.{in_order, placed}
 use Rattle.label_sets.specs.Triples.{triples_under, triples_of, first_of}
-use Rattle.moment_core.specs.StandardRules.{standard_rules}
+use Rattle.moment_core.specs.StandardRules.{standard_rules, minutes, hours}
+use Rattle.moment_core.specs.declared.span.Span.{Span}
+use Rattle.block_keys.specs.declared.key.Key.TheVariants as key
+use Rattle.world_core.specs.declared.entry.Entry.{Entry}
+use Rattle.block_meta.specs.MetaValue.{meta_text}
 use Rattle.block_meta.specs.MetaFields.{fields_of}
 use Rattle.matchers.specs.declared.matcher.Matcher.{Matcher}
 use Rattle.matchers.specs.Selected.{is_selected, selected}
@@ -26,49 +30,62 @@ use Rattle.store_gateway.specs.declared.series_end.SeriesEnd.TheVariants as call
 use Rattle.script_core.specs.declared.script.Script.{Script}
 use Rattle.lifecycle_core.specs.Held.{declared}
 use Rattle.lifecycle_core.specs.Shipped.{IsShipped}
-use Rattle.lifecycle_core.specs.Tasks.{UploadTask, sync_rules, uploaded}
+use Rattle.lifecycle_core.specs.Tasks.{UploadTask, all_times, sync_rules, uploaded}
 use Rattle.tests_worked.specs.SmallBlock as small
 use Rattle.tests_worked.specs.SmallRuns as runs
-use Rattle.tests_worked.specs.Entries.{listed}
+use Rattle.tests_worked.specs.Entries.{absent, found, listed}
 use Rattle.tests_worked.specs.OneBlock as one
-use Rattle.tests_worked.proofs.Bytes.{plan, objects_are, meta_reads, a_reads, segment_reads}
+use Rattle.tests_worked.proofs.Bytes.{meta_is, plan_of, objects_are, meta_reads, a_reads, segment_reads}
 
 -- ---- uploads
 
-shipped_objects : IsShipped small.block small.objects
-unfolding plan
-shipped_objects =
-    (plan, record { ulid = refl; early = refl; late = refl; level = refl; sources = refl; parents = refl; labels = refl; source = refl }, objects_are)
+shipped_objects : (ulid : ℕ) (text : List ℕ) → meta_text (fields_of (small.said_of ulid)) ≡ text → IsShipped (small.block_of ulid) (small.objects_with ulid text)
+unfolding plan_of
+shipped_objects ulid text is =
+    (plan_of ulid, record { ulid = refl; early = refl; late = refl; level = refl; sources = refl; parents = refl; labels = refl; source = refl }, objects_are ulid text is)
 
-upload_run : (seq seat moment : ℕ) → UploadRun small.a small.objects (runs.upload seq seat moment) (Some (shipped.Done 3))
-upload_run seq seat moment = (refl, (refl, (refl, (refl, (refl, inr refl)))))
+-- the upload of such a block, by its entries
+pub upload_task_by : (script : Script) (ulid : ℕ) (text : List ℕ) → meta_text (fields_of (small.said_of ulid)) ≡ text → declared script ulid ≡ Some (small.block_of ulid)
+    → (entries : List Entry) → UploadRun ulid (small.objects_with ulid text) entries (Some (shipped.Done 3)) → UploadTask script ulid None entries (Some (uploaded (shipped.Done 3)))
+upload_task_by script ulid text is declares entries run =
+    (small.block_of ulid, declares, (small.objects_with ulid text, Some (shipped.Done 3), shipped_objects ulid text is, run, inl (refl, λ n no. absurd (cc))))
 
 pub upload_task : (script : Script) → declared script small.a ≡ Some small.block → (seq seat moment : ℕ)
     → UploadTask script small.a None (runs.upload seq seat moment) (Some (uploaded (shipped.Done 3)))
 upload_task script is seq seat moment =
-    (small.block, is, (small.objects, Some (shipped.Done 3), shipped_objects, upload_run seq seat moment, inl (refl, λ n no. absurd (cc))))
+    upload_task_by script small.a small.meta meta_is is (runs.upload seq seat moment) (refl, (refl, (refl, (refl, (refl, inr refl)))))
 
 -- ---- syncs
 
 abbrev pub rules : SyncRules
 rules = sync_rules standard_rules
 
+-- rules with this consistency delay, by which marks are passed over after this delay
+abbrev pub rules_by : Span → Span → SyncRules
+rules_by consistency delay = record { consistency = consistency; mark_delay = delay; page_limit = 1_000; partition = all_times }
+
 block_meta_reads : block_meta small.a small.meta ≡ Some (fields_of small.said)
 block_meta_reads = rw meta_reads refl
 
-pub sync_run : (seq seat moment : ℕ) (kept : List Found) → kept ≡ kept_by rules (runs.seen moment ∷ [])
-    → SyncRun rules (runs.sync seq seat moment) (Some (fetched.View (runs.view seq moment kept)))
-sync_run seq seat moment kept is = (
+-- the sync of the small block, by the numbers and moments of its entries
+pub sync_run_by : (consistency delay : Span) (seat first begin mark mark_read meta meta_read : ℕ) (kept : List Found) → kept ≡ kept_by (rules_by consistency delay) (small.found mark_read meta_read ∷ [])
+    → SyncRun (rules_by consistency delay) (listed first seat begin (small.a_text ∷ []) ∷ absent mark seat mark_read (key.Mark small.a) ∷ found meta seat meta_read (key.Meta small.a) small.meta ∷ [])
+    (Some (fetched.View (runs.view_of first begin meta_read kept)))
+sync_run_by consistency delay seat first begin mark mark_read meta meta_read kept is = (
   refl,
   rw a_reads (
     refl,
     (
       refl,
       rw block_meta_reads
-          (refl, inr (runs.view seq moment kept, refl, record { first = refl; begin = refl; end = refl; found = runs.seen moment ∷ []; sighted = refl; kept = is; covered = refl })),
+          (refl, inr (runs.view_of first begin meta_read kept, refl, record { first = refl; begin = refl; end = refl; found = small.found mark_read meta_read ∷ []; sighted = refl; kept = is; covered = refl })),
     ),
   ),
 )
+
+pub sync_run : (seq seat moment : ℕ) (kept : List Found) → kept ≡ kept_by rules (runs.seen moment ∷ [])
+    → SyncRun rules (runs.sync seq seat moment) (Some (fetched.View (runs.view seq moment kept)))
+sync_run seq seat moment kept is = sync_run_by (minutes 30) (hours 24) seat seq moment (seq + 1) (moment + 1) (seq + 2) (moment + 2) kept is
 
 pub empty_sync_run : (seq seat moment : ℕ)
     → SyncRun rules (listed seq seat moment [] ∷ []) (Some (fetched.View (record { first = seq; begin = record { ms = moment }; end = record { ms = moment }; kept = []; covered = [] })))
@@ -90,10 +107,10 @@ merge_all = record { ascending = (tt, tt); inhabited = All-cons (λ s. s.samples
 one_source : IsSetOf (small.a ∷ []) (small.a ∷ [])
 one_source = record { increasing = λ k more. omega (arith, more); members = λ x. (λ h. h, λ h. h) }
 
-pub query_run : (selector : List Matcher) → IsMerge (wanted (question selector) [] (small.up ∷ [])) (small.up ∷ []) → (first begun sighted seq seat moment : ℕ)
-    → SeriesRun (runs.view first begun (runs.seen sighted ∷ [])) (question selector) (runs.query seq seat moment) (Some (called.Answer (small.up ∷ []) (small.a ∷ [])))
+pub query_run : (selector : List Matcher) → IsMerge (wanted (question selector) [] (small.up ∷ [])) (small.up ∷ []) → (first begin end mark_read meta_read seq seat moment : ℕ)
+    → SeriesRun (runs.view_of first begin end (small.found mark_read meta_read ∷ [])) (question selector) (runs.query seq seat moment) (Some (called.Answer (small.up ∷ []) (small.a ∷ [])))
 unfolding small.index
-query_run selector merge first begun sighted seq seat moment =
+query_run selector merge first begin end mark_read meta_read seq seat moment =
     (refl, (refl, read (small.up ∷ []) segment_reads (refl, inr (small.up ∷ [], small.a ∷ [], refl, merge, one_source))))
 
 no_merge : IsMerge [] []

@@ -1,6 +1,6 @@
 -- The answered queries of the script of a young block.
-use Rattle.std.proofs.Common.{◌≡◌, ◌<◌, ℕ, pos, true, List, [], ◌∷◌, Contains, Some, refl, sym, subst, arith, lit<}
-use Rattle.std.proofs.lemmas.List.Elements.{All-nil, All-cons}
+use Rattle.std.proofs.Common.{◌≡◌, ◌<◌, ℕ, pos, true, List, [], ◌∷◌, ◌++◌, Contains, Some, refl, sym, subst, arith, lit<, lit≤}
+use Rattle.std.proofs.lemmas.List.Elements.{All-nil, All-cons, All-from_recursion}
 use Rattle.std.specs.List.{IsDistinct, list_any}
 use Rattle.std.specs.List.Sorted.{IsStrictlySortedBy}
 use Rattle.label_sets.specs.Triples.{Triple, triples_under, triples_of, has_same_key}
@@ -9,7 +9,7 @@ use Rattle.meta_fetcher.specs.declared.sync_end.SyncEnd.TheVariants as fetched
 use Rattle.script_core.specs.declared.worker.Worker.{Worker}
 use Rattle.script_core.specs.declared.work.Work.TheVariants as works
 use Rattle.world_core.specs.declared.entry.Entry.{Entry}
-use Rattle.lifecycle_core.specs.Completed.{IsSettled}
+use Rattle.lifecycle_core.specs.Completed.{IsSettled, IsUploadedBefore, PutsMeta}
 use Rattle.lifecycle_core.specs.Guarantees.{IsExact, IsGiven}
 use Rattle.lifecycle_core.specs.Held.{held, held_by}
 use Rattle.lifecycle_core.specs.Phases.{CameTo}
@@ -18,7 +18,10 @@ use Rattle.lifecycle_core.specs.Views.{Use}
 use Rattle.label_sets.specs.Finals.{is_among, without, final_of}
 use Rattle.label_sets.specs.Ordered.{in_order, placed}
 use Rattle.matchers.specs.Selectors.{is_match}
+use Rattle.block_keys.specs.declared.key.Key.TheVariants as key
 use Rattle.tests_worked.specs.SmallBlock as small
+use Rattle.tests_worked.specs.SmallRuns as runs
+use Rattle.tests_worked.specs.Entries.{clock, stored, absent}
 use Rattle.tests_worked.specs.YoungBlock as young
 use Rattle.tests_worked.proofs.YoungBlock.{first_gateway, uploader, second_gateway, first_workers, second_workers, first_tasks, second_tasks, first_ends, second_ends}
 
@@ -63,6 +66,29 @@ none_exact used = record {
 -- no block is old enough for a view that began in the first half hour
 pub not_settled : (journal : List Entry) (used : Use) → used.view.begin.ms < 1_800_000 → (ulid : ℕ) → ¬ IsSettled young.script journal used ulid
 not_settled journal used early ulid settled = omega (arith, settled.old)
+
+-- with the upload first, the block was complete before the first sync began
+abbrev before_meta : List Entry
+before_meta = clock 1 0 ∷ absent 2 2 1 (key.Meta small.a) ∷ stored 3 2 2 (key.Segment small.a 1) small.segment ∷ stored 4 2 3 (key.Index small.a) small.index ∷ []
+
+early_upload : IsUploadedBefore young.script young.journal_turned small.a 6
+early_upload = record {
+  is_declared = refl;
+  seq = 5;
+  completed = record {
+    before = before_meta;
+    entry = stored 5 2 4 (key.Meta small.a) small.meta;
+    after = runs.sync 6 1 5 ++ clock 9 1_800_000 ∷ young.second_journal_turned;
+    is = refl;
+    number = refl;
+    put = (small.meta, refl, refl);
+    first = All-from_recursion (λ (e : Entry). ¬ PutsMeta small.a e) before_meta (λ put. cc (put.1), (λ put. cc (put.1), (λ put. cc (put.1), (λ put. cc (put.1), tt))));
+  };
+  earlier = lit< tt;
+}
+
+pub young_left_out : ¬ young.NamesAll young.IsUploadedEarly (young.first_asked young.early_turned)
+young_left_out names = let among = names young.early_turned small.a (0, lit< tt, refl) (early_upload, lit≤ tt) in omega (arith, among.1)
 
 -- ---- the second query
 

@@ -72,7 +72,7 @@ abbrev pub second_ends : Use → List (List End)
 second_ends used = (synced (fetched.View used.view) ∷ young.block_answer used ∷ []) ∷ []
 
 -- the views after a phase
-abbrev with : Use → Views
+abbrev pub with : Use → Views
 with used zero = Some used
 with used (suc other) = None
 
@@ -81,7 +81,7 @@ with used (suc other) = None
 abbrev IsSeat : List ℕ → Entry → Type 0
 IsSeat seats e = Contains seats e.seat
 
-kept_else : (used : Use) (views : Views) → ((other : ℕ) → views (suc other) ≡ None) → (other : ℕ) → Some 0 ≢ Some other → with used other ≡ views other
+pub kept_else : (used : Use) (views : Views) → ((other : ℕ) → views (suc other) ≡ None) → (other : ℕ) → Some 0 ≢ Some other → with used other ≡ views other
 kept_else used views none zero differ = absurd (differ refl)
 kept_else used views none (suc other) differ = sym (none other)
 
@@ -187,7 +187,7 @@ second_lines = second_phase young.second_journal young.early young.late
       refl,
       (Some (fetched.View young.late.view), sync_run 8 3 1_800_001 (runs.seen 1_800_001 ∷ []) refl, refl),
       refl,
-      inl (runs.query 11 3 1_800_004, [], young.block_answer young.late, [], refl, (Some (called.Answer (small.up ∷ []) (small.a ∷ [])), query_run [] merge_all 8 1_800_001 1_800_001 11 3 1_800_004, refl), refl, (refl, refl, refl)),
+      inl (runs.query 11 3 1_800_004, [], young.block_answer young.late, [], refl, (Some (called.Answer (small.up ∷ []) (small.a ∷ [])), query_run [] merge_all 8 1_800_001 1_800_003 1_800_002 1_800_003 11 3 1_800_004, refl), refl, (refl, refl, refl)),
     ))
 
 kept : IsJournal 1 young.journal
@@ -235,7 +235,7 @@ second_turned = second_phase young.second_journal_turned young.early_turned youn
       refl,
       (Some (fetched.View young.late_turned.view), sync_run 10 3 1_800_001 (runs.seen 1_800_001 ∷ []) refl, refl),
       refl,
-      inl (runs.query 13 3 1_800_004, [], young.block_answer young.late_turned, [], refl, (Some (called.Answer (small.up ∷ []) (small.a ∷ [])), query_run [] merge_all 10 1_800_001 1_800_001 13 3 1_800_004, refl), refl, (refl, refl, refl)),
+      inl (runs.query 13 3 1_800_004, [], young.block_answer young.late_turned, [], refl, (Some (called.Answer (small.up ∷ []) (small.a ∷ [])), query_run [] merge_all 10 1_800_001 1_800_003 1_800_002 1_800_003 13 3 1_800_004, refl), refl, (refl, refl, refl)),
     ))
 
 kept_turned : IsJournal 1 young.journal_turned

@@ -9,7 +9,13 @@ use Rattle.world_core.specs.declared.reply.Reply.TheVariants as reply
 
 -- number, seat, moment, operation and reply
 abbrev pub entry : ℕ → ℕ → ℕ → Op → Reply → Entry
-entry seq seat moment op reply = record { seq = seq; seat = seat; moment = record { ms = moment }; op = op; reply = reply }
+entry seq seat moment op reply = record {
+  seq = seq;
+  seat = seat;
+  moment = record { ms = moment };
+  op = op;
+  reply = reply;
+}
 
 -- the clock is set to the moment
 abbrev pub clock : ℕ → ℕ → Entry

@@ -16,7 +16,13 @@ script = record {
   gateways = [];
   blocks = small.block ∷ [];
   selectors = [];
-  phases = record { line = 3; moment = record { ms = 1_800_000 }; tasks = record { line = 4; work = Upload small.a None } ∷ [] } ∷ [];
+  phases = record {
+    line = 3;
+    moment = record { ms = 1_800_000 };
+    tasks =
+        record { line = 4; work = Upload small.a None }
+        ∷ [];
+  } ∷ [];
 }
 
 abbrev pub upload : List Entry

@@ -3,7 +3,9 @@ pub mod Entries
 pub mod SmallRuns
 pub mod OneBlock
 pub mod OneBlockChanged
+pub mod OtherReads
 pub mod LostIndex
 pub mod LateUpload
 pub mod YoungBlock
+pub mod SideBySide
 pub mod OneStrict

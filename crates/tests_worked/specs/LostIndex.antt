@@ -1,27 +1,21 @@
 -- The script of one block over a bucket that loses the block's index after the sync: the query finds it absent.
-use Rattle.std.specs.Prelude.{List, [], ◌∷◌, ◌++◌}
-use Rattle.block_keys.specs.declared.key.Key.TheVariants as key
+use Rattle.std.specs.Prelude.{List}
 use Rattle.world_core.specs.declared.entry.Entry.{Entry}
-use Rattle.shipper.specs.declared.upload_end.UploadEnd.TheVariants as shipped
-use Rattle.meta_fetcher.specs.declared.sync_end.SyncEnd.TheVariants as fetched
+use Rattle.world_core.specs.declared.reply.Reply.TheVariants.{Absent}
 use Rattle.store_gateway.specs.declared.series_end.SeriesEnd.TheVariants as called
-use Rattle.lifecycle_core.specs.Tasks.{End, uploaded, synced, answered}
-use Rattle.tests_worked.specs.SmallBlock as small
+use Rattle.lifecycle_core.specs.Tasks.{End, answered}
 use Rattle.tests_worked.specs.OneBlock as one
-use Rattle.tests_worked.specs.Entries.{clock, absent}
+use Rattle.tests_worked.specs.OtherReads.{index_read, journal_with, ends_with}
 
 -- the read of the index, which stands and is not shown
 abbrev pub lost : Entry
-lost = absent 10 2 1_800_004 (key.Index small.a)
+lost = index_read Absent
 
 abbrev pub journal : List Entry
-journal = clock 1 0 ∷ one.upload ++ clock 6 1_800_000 ∷ one.sync ++ lost ∷ []
+journal = journal_with Absent
 
 abbrev pub missing : End
 missing = answered one.used (called.Missing 10)
 
 abbrev pub ends : List (List (List End))
-ends =
-    ((uploaded (shipped.Done 3) ∷ []) ∷ [])
-    ∷ ((synced (fetched.View one.view) ∷ missing ∷ []) ∷ [])
-    ∷ []
+ends = ends_with (called.Missing 10)

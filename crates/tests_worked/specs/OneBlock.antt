@@ -44,8 +44,21 @@ script = record {
   blocks = small.block ∷ [];
   selectors = selector ∷ [];
   phases =
-      record { line = 5; moment = record { ms = 0 }; tasks = record { line = 6; work = Upload small.a None } ∷ [] }
-      ∷ record { line = 7; moment = record { ms = 1_800_000 }; tasks = record { line = 8; work = Sync 0 } ∷ record { line = 9; work = Query (pos 0) (pos 5000) 0 } ∷ [] }
+      record {
+        line = 5;
+        moment = record { ms = 0 };
+        tasks =
+            record { line = 6; work = Upload small.a None }
+            ∷ [];
+      }
+      ∷ record {
+        line = 7;
+        moment = record { ms = 1_800_000 };
+        tasks =
+            record { line = 8; work = Sync 0 }
+            ∷ record { line = 9; work = Query (pos 0) (pos 5000) 0 }
+            ∷ [];
+      }
       ∷ [];
 }
 
@@ -74,7 +87,8 @@ used = record { view = view; last = 9 }
 abbrev pub ends : List (List (List End))
 ends =
     ((uploaded (shipped.Done 3) ∷ []) ∷ [])
-    ∷ ((synced (fetched.View view) ∷ answered used (called.Answer (small.up ∷ []) (small.a ∷ [])) ∷ []) ∷ [])
+    ∷ ((synced (fetched.View view)
+    ∷ answered used (called.Answer (small.up ∷ []) (small.a ∷ [])) ∷ []) ∷ [])
     ∷ []
 
 -- ---- what it prints
@@ -91,4 +105,11 @@ report = join_with_byte 10 (
 
 -- the answered query
 abbrev pub asked : Answered
-asked = record { low = pos 0; high = pos 5000; selector = selector; uses = used ∷ []; samples = small.triple ∷ []; sources = small.a ∷ [] }
+asked = record {
+  low = pos 0;
+  high = pos 5000;
+  selector = selector;
+  uses = used ∷ [];
+  samples = small.triple ∷ [];
+  sources = small.a ∷ [];
+}

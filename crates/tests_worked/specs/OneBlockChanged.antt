@@ -6,16 +6,26 @@ use Rattle.label_sets.specs.Triples.{Triple}
 use Rattle.world_core.specs.declared.entry.Entry.{Entry}
 use Rattle.lifecycle_core.specs.Guarantees.{Answered}
 use Rattle.tests_worked.specs.SmallBlock as small
+use Rattle.tests_worked.specs.SmallRuns as runs
 use Rattle.tests_worked.specs.OneBlock as one
 use Rattle.tests_worked.specs.Entries.{clock, stored, found, absent, listed}
 
 -- the index is put before the segment
 abbrev pub index_first : List Entry
-index_first = clock 1 0 ∷ absent 2 1 1 (key.Meta small.a) ∷ stored 3 1 2 (key.Index small.a) small.index ∷ []
+index_first =
+    clock 1 0 ∷ absent 2 1 1 (key.Meta small.a) ∷ stored 3 1 2 (key.Index small.a) small.index ∷ []
 
 -- the segment is put without a look at the meta
 abbrev pub no_look : List Entry
 no_look = clock 1 0 ∷ stored 2 1 1 (key.Segment small.a 1) small.segment ∷ []
+
+-- the upload's worker has the gateway's seat
+abbrev pub at_gateways_seat : List Entry
+at_gateways_seat = clock 1 0 ∷ runs.upload 2 2 1
+
+-- the sync begins at the very moment to which the clock was set
+abbrev pub clock_stands : List Entry
+clock_stands = clock 1 0 ∷ one.upload ++ clock 6 1_800_000 ∷ runs.sync 7 2 1_800_000
 
 -- the sync finds no meta, and the query reads the block all the same
 abbrev pub meta_absent : List Entry
@@ -41,7 +51,14 @@ report_without_source = join_with_byte 10 (
 -- ---- other answers to its query
 
 abbrev pub with_answer : List Triple → List ℕ → Answered
-with_answer samples sources = record { low = one.asked.low; high = one.asked.high; selector = one.selector; uses = one.used ∷ []; samples = samples; sources = sources }
+with_answer samples sources = record {
+  low = one.asked.low;
+  high = one.asked.high;
+  selector = one.selector;
+  uses = one.used ∷ [];
+  samples = samples;
+  sources = sources;
+}
 
 -- it names no block, and has no sample
 abbrev pub nothing_answered : Answered

@@ -1,21 +1,36 @@
 -- The script of one block with another ignore delay. Its run is the same.
-use Rattle.std.specs.Prelude.{[]}
+use Rattle.std.specs.Prelude.{ℕ, List, []}
 use Rattle.block_keys.specs.declared.key.Key.TheVariants as key
 use Rattle.moment_core.specs.StandardRules.{minutes, hours}
 use Rattle.moment_core.specs.declared.rules.Rules.{Rules}
 use Rattle.moment_core.specs.declared.span.Span.{Span}
 use Rattle.world_core.specs.declared.entry.Entry.{Entry}
 use Rattle.script_core.specs.declared.script.Script.{Script}
-use Rattle.tests_worked.specs.Entries.{found}
+use Rattle.tests_worked.specs.Entries.{found, stored}
 use Rattle.tests_worked.specs.OneBlock as one
 use Rattle.tests_worked.specs.SmallBlock as small
 
 -- the standard rules with this ignore delay
 abbrev pub rules_with : Span → Rules
-rules_with ignore = record { consistency = minutes 30; ignore = ignore; delete = hours 48; partial = hours 48; upload = minutes 30; tick = record { ms = 1 }; page_limit = 1_000; replicas = [] }
+rules_with ignore = record {
+  consistency = minutes 30;
+  ignore = ignore;
+  delete = hours 48;
+  partial = hours 48;
+  upload = minutes 30;
+  tick = record { ms = 1 };
+  page_limit = 1_000;
+  replicas = [];
+}
 
 abbrev pub script_with : Span → Script
-script_with ignore = record { rules = rules_with ignore; gateways = one.script.gateways; blocks = one.script.blocks; selectors = one.script.selectors; phases = one.script.phases }
+script_with ignore = record {
+  rules = rules_with ignore;
+  gateways = one.script.gateways;
+  blocks = one.script.blocks;
+  selectors = one.script.selectors;
+  phases = one.script.phases;
+}
 
 -- marks are ignored for a second
 abbrev pub hasty : Script
@@ -31,3 +46,7 @@ last_read = found 9 2 1_800_003 (key.Meta small.a) small.meta
 
 abbrev pub first_call : Entry
 first_call = found 10 2 1_800_004 (key.Index small.a) small.index
+
+-- a mark of these bytes is put a millisecond after the ignore delay
+abbrev pub late_mark : List ℕ → Entry
+late_mark bytes = stored 1 1 86_400_001 (key.Mark small.a) bytes

@@ -20,11 +20,18 @@ a_text = codes "0000000000000000000000000A"
 
 -- {__name__="up"} 1000:3ff0000000000000
 abbrev pub up : Series
-up = record { labels = record { name = codes "__name__"; value = codes "up" } ∷ []; samples = record { time = pos 1000; pattern = 0x3ff0_0000_0000_0000 } ∷ [] }
+up = record {
+  labels = record { name = codes "__name__"; value = codes "up" } ∷ [];
+  samples = record { time = pos 1000; pattern = 0x3ff0_0000_0000_0000 } ∷ [];
+}
+
+-- such a block under a ULID
+abbrev pub block_of : ℕ → Block
+block_of ulid = record { ulid = ulid; labels = []; body = Inline (pos 1000) (pos 2000) (up ∷ []) }
 
 -- block 0000000000000000000000000A 1000 2000 {}
 abbrev pub block : Block
-block = record { ulid = a; labels = []; body = Inline (pos 1000) (pos 2000) (up ∷ []) }
+block = block_of a
 
 -- ---- its objects
 
@@ -37,42 +44,61 @@ index = codes "plain\n"
 unfoldable pub meta : List ℕ
 meta = codes "{\"compaction\":{\"level\":1,\"sources\":[\"0000000000000000000000000A\"]},\"maxTime\":2000,\"minTime\":1000,\"stats\":{\"numChunks\":1,\"numSamples\":1,\"numSeries\":1},\"thanos\":{\"downsample\":{\"resolution\":0},\"files\":[{\"rel_path\":\"chunks/000001\",\"size_bytes\":38},{\"rel_path\":\"index\",\"size_bytes\":6}],\"labels\":{},\"segment_files\":[\"000001\"],\"source\":\"sidecar\",\"version\":1},\"ulid\":\"0000000000000000000000000A\",\"version\":1}"
 
--- in the order of their puts
-abbrev pub objects : List Object
-objects =
-    record { key = key.Segment a 1; bytes = segment }
-    ∷ record { key = key.Index a; bytes = index }
-    ∷ record { key = key.Meta a; bytes = meta }
+-- in the order of their puts, with this text of the meta
+abbrev pub objects_with : ℕ → List ℕ → List Object
+objects_with ulid text =
+    record { key = key.Segment ulid 1; bytes = segment }
+    ∷ record { key = key.Index ulid; bytes = index }
+    ∷ record { key = key.Meta ulid; bytes = text }
     ∷ []
 
 -- ---- what is seen of it
 
--- what its meta says
-abbrev pub said : Meta
-said = record {
-  ulid = a;
+-- what the meta of such a block says
+abbrev pub said_of : ℕ → Meta
+said_of ulid = record {
+  ulid = ulid;
   min_time = pos 1000;
   max_time = pos 2000;
   series = 1;
   samples = 1;
   chunks = 1;
   level = 1;
-  sources = a ∷ [];
+  sources = ulid ∷ [];
   parents = [];
   labels = [];
   resolution = pos 0;
   source = codes "sidecar";
-  files = record { path = codes "chunks/000001"; bytes = 38 } ∷ record { path = codes "index"; bytes = 6 } ∷ [];
+  files =
+      record { path = codes "chunks/000001"; bytes = 38 }
+      ∷ record { path = codes "index"; bytes = 6 }
+      ∷ [];
   segment_files = codes "000001" ∷ [];
-  times = record { early = omega (arith, ints); ascend = omega (arith, ints); late = omega (arith, ints) };
+  times = record {
+    early = omega (arith, ints);
+    ascend = omega (arith, ints);
+    late = omega (arith, ints);
+  };
   distinct = λ k more. omega (arith, more);
 }
 
+abbrev pub said : Meta
+said = said_of a
+
 -- a sync that looked for its mark and read its meta at these moments
 abbrev pub found : ℕ → ℕ → Found
-found mark_read meta_read =
-    record { ulid = a; mark = None; mark_read = record { ms = mark_read }; meta = said; meta_read = record { ms = meta_read } }
+found mark_read meta_read = record {
+  ulid = a;
+  mark = None;
+  mark_read = record { ms = mark_read };
+  meta = said;
+  meta_read = record { ms = meta_read };
+}
 
 -- what a query that asks for all sees of it
 abbrev pub triple : Triple
-triple = record { labels = record { name = codes "__name__"; value = codes "up" } ∷ []; time = pos 1000; pattern = 0x3ff0_0000_0000_0000 }
+triple = record {
+  labels = record { name = codes "__name__"; value = codes "up" } ∷ [];
+  time = pos 1000;
+  pattern = 0x3ff0_0000_0000_0000;
+}

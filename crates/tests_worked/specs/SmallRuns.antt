@@ -7,14 +7,17 @@ use Rattle.sync_filters.specs.declared.found.Found.{Found}
 use Rattle.tests_worked.specs.SmallBlock as small
 use Rattle.tests_worked.specs.Entries.{stored, found, absent, listed}
 
--- an upload of it into a bucket that does not have it
-abbrev pub upload : ℕ → ℕ → ℕ → List Entry
-upload seq seat moment =
-    absent seq seat moment (key.Meta small.a)
-    ∷ stored (seq + 1) seat (moment + 1) (key.Segment small.a 1) small.segment
-    ∷ stored (seq + 2) seat (moment + 2) (key.Index small.a) small.index
-    ∷ stored (seq + 3) seat (moment + 3) (key.Meta small.a) small.meta
+-- an upload of such a block into a bucket that does not have it, with this text of the meta
+abbrev pub upload_of : ℕ → List ℕ → ℕ → ℕ → ℕ → List Entry
+upload_of ulid meta seq seat moment =
+    absent seq seat moment (key.Meta ulid)
+    ∷ stored (seq + 1) seat (moment + 1) (key.Segment ulid 1) small.segment
+    ∷ stored (seq + 2) seat (moment + 2) (key.Index ulid) small.index
+    ∷ stored (seq + 3) seat (moment + 3) (key.Meta ulid) meta
     ∷ []
+
+abbrev pub upload : ℕ → ℕ → ℕ → List Entry
+upload seq seat moment = upload_of small.a small.meta seq seat moment
 
 -- a sync that finds it alone
 abbrev pub sync : ℕ → ℕ → ℕ → List Entry
@@ -28,10 +31,19 @@ sync seq seat moment =
 abbrev pub seen : ℕ → Found
 seen moment = small.found (moment + 1) (moment + 2)
 
--- the view of that sync, with what it keeps
+-- the view of a sync, by the number of its first entry, by its first and last moment, and by what it keeps
+abbrev pub view_of : ℕ → ℕ → ℕ → List Found → View
+view_of seq begin end kept = record {
+  first = seq;
+  begin = record { ms = begin };
+  end = record { ms = end };
+  kept = kept;
+  covered = [];
+}
+
+-- the view of the sync above
 abbrev pub view : ℕ → ℕ → List Found → View
-view seq moment kept =
-    record { first = seq; begin = record { ms = moment }; end = record { ms = moment + 2 }; kept = kept; covered = [] }
+view seq moment kept = view_of seq moment (moment + 2) kept
 
 -- a query over a view that keeps it
 abbrev pub query : ℕ → ℕ → ℕ → List Entry

@@ -1,6 +1,6 @@
 -- A block is not shown before it has been in the bucket for the consistency delay, which is half an hour. In the first phase a
 -- sync, an upload and a query stand, in the second one a sync and a query.
-use Rattle.std.specs.Prelude.{ℕ, pos, List, [], ◌∷◌, ◌++◌, codes, None}
+use Rattle.std.specs.Prelude.{◌≤◌, ℕ, pos, Contains, List, [], ◌∷◌, ◌++◌, codes, None}
 use Rattle.std.specs.List.{join_with_byte}
 use Rattle.moment_core.specs.StandardRules.{standard_rules}
 use Rattle.world_core.specs.declared.entry.Entry.{Entry}
@@ -11,6 +11,8 @@ use Rattle.script_core.specs.declared.script.Script.{Script}
 use Rattle.script_core.specs.declared.work.Work.TheVariants.{Upload, Sync, Query}
 use Rattle.lifecycle_core.specs.Tasks.{End, uploaded, synced, answered}
 use Rattle.lifecycle_core.specs.Views.{Use}
+use Rattle.lifecycle_core.specs.Completed.{IsUploadedBefore}
+use Rattle.sync_filters.specs.Filters.{time_of}
 use Rattle.lifecycle_core.specs.Guarantees.{Answered}
 use Rattle.tests_worked.specs.SmallBlock as small
 use Rattle.tests_worked.specs.SmallRuns as runs
@@ -40,8 +42,23 @@ script = record {
   blocks = small.block ∷ [];
   selectors = [] ∷ [] ∷ [];
   phases =
-      record { line = 5; moment = record { ms = 0 }; tasks = record { line = 6; work = Sync 0 } ∷ record { line = 7; work = Upload small.a None } ∷ record { line = 8; work = Query (pos 0) (pos 5000) 0 } ∷ [] }
-      ∷ record { line = 9; moment = record { ms = 1_800_000 }; tasks = record { line = 10; work = Sync 0 } ∷ record { line = 11; work = Query (pos 0) (pos 5000) 1 } ∷ [] }
+      record {
+        line = 5;
+        moment = record { ms = 0 };
+        tasks =
+            record { line = 6; work = Sync 0 }
+            ∷ record { line = 7; work = Upload small.a None }
+            ∷ record { line = 8; work = Query (pos 0) (pos 5000) 0 }
+            ∷ [];
+      }
+      ∷ record {
+        line = 9;
+        moment = record { ms = 1_800_000 };
+        tasks =
+            record { line = 10; work = Sync 0 }
+            ∷ record { line = 11; work = Query (pos 0) (pos 5000) 1 }
+            ∷ [];
+      }
       ∷ [];
 }
 
@@ -55,7 +72,8 @@ block_answer used = answered used (called.Answer (small.up ∷ []) (small.a ∷ 
 -- to what the workers came, where the syncs gave these views: in the first phase the gateway's and then the upload's
 abbrev pub ends_by : Use → Use → List (List (List End))
 ends_by early late =
-    ((synced (fetched.View early.view) ∷ no_answer early ∷ []) ∷ (uploaded (shipped.Done 3) ∷ []) ∷ [])
+    ((synced (fetched.View early.view) ∷ no_answer early ∷ []) ∷ (uploaded (shipped.Done 3) ∷ [])
+    ∷ [])
     ∷ ((synced (fetched.View late.view) ∷ block_answer late ∷ []) ∷ [])
     ∷ []
 
@@ -71,7 +89,7 @@ abbrev pub journal : List Entry
 journal = clock 1 0 ∷ first_journal ++ clock 7 1_800_000 ∷ second_journal
 
 abbrev pub early : Use
-early = record { view = record { first = 2; begin = record { ms = 1 }; end = record { ms = 1 }; kept = []; covered = [] }; last = 2 }
+early = record { view = runs.view_of 2 1 1 []; last = 2 }
 
 abbrev pub late : Use
 late = record { view = runs.view 8 1_800_001 (runs.seen 1_800_001 ∷ []); last = 10 }
@@ -113,9 +131,34 @@ report = join_with_byte 10 (
     ∷ [] ∷ []
     )
 
+-- with the upload first, the block was complete before the first sync began, however young
+abbrev pub IsUploadedEarly : Use → ℕ → Type 0
+IsUploadedEarly used ulid =
+    IsUploadedBefore script journal_turned ulid used.view.first
+    × (time_of ulid ≤ used.view.begin.ms)
+
+-- the answer names each block of which this holds
+abbrev pub NamesAll : (Use → ℕ → Type 0) → Answered → Type 0
+NamesAll Is query =
+    (used : Use) (ulid : ℕ) → Contains query.uses used → Is used ulid → Contains query.sources ulid
+
 -- the two answered queries
 abbrev pub first_asked : Use → Answered
-first_asked used = record { low = pos 0; high = pos 5000; selector = []; uses = used ∷ []; samples = []; sources = [] }
+first_asked used = record {
+  low = pos 0;
+  high = pos 5000;
+  selector = [];
+  uses = used ∷ [];
+  samples = [];
+  sources = [];
+}
 
 abbrev pub second_asked : Use → Answered
-second_asked used = record { low = pos 0; high = pos 5000; selector = []; uses = used ∷ []; samples = small.triple ∷ []; sources = small.a ∷ [] }
+second_asked used = record {
+  low = pos 0;
+  high = pos 5000;
+  selector = [];
+  uses = used ∷ [];
+  samples = small.triple ∷ [];
+  sources = small.a ∷ [];
+}

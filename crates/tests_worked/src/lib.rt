@@ -1,4 +1,5 @@
-//! Whole runs that are written out: that the definitions of `lifecycle_core` and `replay_cli` say of them what they should.
+//! Whole runs that are written out: that the definitions of `lifecycle_core` and `replay_cli` say of
+//! them what they should.
 #![tactic(auto)]
 
 mod late_upload;
@@ -6,6 +7,8 @@ mod lost_index;
 mod one_block;
 mod one_block_changed;
 mod one_strict;
+mod other_reads;
+mod side_by_side;
 mod young_block;
 
 pub use late_upload::{late_upload_is_the_breach, late_upload_runs};
@@ -19,11 +22,18 @@ pub use one_block::{
 };
 pub use one_block_changed::{
     absent_meta_is_a_lie, answer_of_nothing_leaves_one_out, answer_without_sample_is_not_exact,
-    index_before_segment_is_refused, missing_without_cause_is_refused, put_without_look_is_refused,
-    read_of_absent_block_is_refused, report_without_source_is_refused, strange_source_is_refused,
+    clock_that_stands_is_refused, index_before_segment_is_refused,
+    missing_without_cause_is_refused, put_without_look_is_refused, read_of_absent_block_is_refused,
+    report_without_source_is_refused, strange_source_is_refused,
+    upload_at_gateways_seat_is_refused,
 };
 pub use one_strict::{late_mark_is_refused, strict_rules_are_broken};
+pub use other_reads::{failed_read_ends_no_query, spoiled_index_is_damaged};
+pub use side_by_side::{
+    block_completed_during_the_sync_is_left_out, named_block_was_completed_during_the_sync,
+    side_by_side_runs,
+};
 pub use young_block::{
-    young_block_is_answered_later, young_block_is_not_answered, young_block_is_not_kept,
-    young_block_is_reported, young_block_is_spelled, young_block_runs,
+    young_block_is_answered_later, young_block_is_left_out, young_block_is_not_answered,
+    young_block_is_not_kept, young_block_is_reported, young_block_is_spelled, young_block_runs,
 };

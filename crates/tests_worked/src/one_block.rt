@@ -31,7 +31,8 @@ pub fn one_block_is_honest()
 pub fn one_block_is_reported()
     ensures finished { AreFinished script 0 script.phases ends }
     ensures report { IsReport script script.phases ends true report }
-    ensures only { (as_asked : Bool) (other : List ℕ) → IsReport script script.phases ends as_asked other → other ≡ report }
+    ensures only { (as_asked : Bool) (other : List ℕ)
+        → IsReport script script.phases ends as_asked other → other ≡ report }
     ensures whole { IsWholeRun script true report journal }
 {}
 

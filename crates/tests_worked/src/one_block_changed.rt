@@ -7,7 +7,8 @@ ghost use Rattle.lifecycle_core.specs.Phases.{IsLawfulJournal};
 ghost use Rattle.replay_cli.specs.Verdicts.{IsReport};
 ghost use Rattle.tests_worked.specs.LostIndex as lost;
 ghost use Rattle.tests_worked.specs.OneBlock.{script, journal, ends};
-ghost use Rattle.tests_worked.specs.OneBlockChanged.{index_first, meta_absent, no_look, nothing_answered, nothing_of_block, report_without_source, strange_source};
+ghost use Rattle.tests_worked.specs.OneBlockChanged.{at_gateways_seat, clock_stands, index_first, meta_absent, no_look};
+ghost use Rattle.tests_worked.specs.OneBlockChanged.{nothing_answered, nothing_of_block, report_without_source, strange_source};
 
 /// A law: no lawful journal puts the index before the segment, whatever follows.
 pub fn index_before_segment_is_refused()
@@ -17,6 +18,16 @@ pub fn index_before_segment_is_refused()
 /// A law: no lawful journal puts an object of the block before the look at its meta.
 pub fn put_without_look_is_refused()
     ensures { (rest : List Entry) → ¬ IsLawfulJournal script (no_look ++ rest) }
+{}
+
+/// A law: no lawful journal has the upload's entries at the gateway's seat.
+pub fn upload_at_gateways_seat_is_refused()
+    ensures { (rest : List Entry) → ¬ IsLawfulJournal script (at_gateways_seat ++ rest) }
+{}
+
+/// A law: no lawful journal has an operation that takes no time.
+pub fn clock_that_stands_is_refused()
+    ensures { (rest : List Entry) → ¬ IsLawfulJournal script (clock_stands ++ rest) }
 {}
 
 /// A law: no lawful journal has a query that reads a block whose meta its sync found absent, whatever the views are said to be.
@@ -31,7 +42,8 @@ pub fn absent_meta_is_a_lie()
 
 /// A law: without its source an answer is not reported.
 pub fn report_without_source_is_refused()
-    ensures { (as_asked : Bool) → ¬ IsReport script script.phases ends as_asked report_without_source }
+    ensures { (as_asked : Bool)
+        → ¬ IsReport script script.phases ends as_asked report_without_source }
 {}
 
 /// A law: an answer that names no block leaves out the one that was complete and old enough.

@@ -7,7 +7,7 @@ ghost use Rattle.lifecycle_core.specs.Guarantees.{IsExact, IsGiven};
 ghost use Rattle.lifecycle_core.specs.Phases.{IsRunOf, AreFinished};
 ghost use Rattle.lifecycle_core.specs.Views.{Use};
 ghost use Rattle.replay_cli.specs.Verdicts.{IsReport};
-ghost use Rattle.tests_worked.specs.YoungBlock.{text, script, report, first_asked, second_asked};
+ghost use Rattle.tests_worked.specs.YoungBlock.{IsUploadedEarly, NamesAll, text, script, report, first_asked, second_asked};
 ghost use Rattle.tests_worked.specs.YoungBlock.{journal, ends, early, late, journal_turned, ends_turned, early_turned, late_turned};
 
 /// A law: the script is what its text spells, and lawful.
@@ -45,6 +45,11 @@ pub fn young_block_is_not_answered()
     ensures turned_given { IsGiven script ends_turned (first_asked early_turned) }
     ensures turned_exact { IsExact script (first_asked early_turned) }
     ensures turned_unsettled { (ulid : ℕ) → ¬ IsSettled script journal_turned early_turned ulid }
+{}
+
+/// A law: a block that was complete before a sync began is not named where it was too young.
+pub fn young_block_is_left_out()
+    ensures { ¬ NamesAll IsUploadedEarly (first_asked early_turned) }
 {}
 
 /// A law: the second query answers the block in both, exactly.
