@@ -1,18 +1,13 @@
 -- Where the index is lost: an end that is no good one, and entries that are not to blame.
-use Rattle.std.proofs.Common.{◌≡◌, ℕ, List, [], ◌∷◌, IsTrue, Contains, refl, sym, ◌∙◌, ap, arith, lit<}
+use Rattle.std.proofs.Common.{◌≡◌, [], ap, arith}
 use Rattle.block_keys.specs.Keys.{key_ulid}
-use Rattle.block_keys.specs.declared.key.Key.{Key}
 use Rattle.block_keys.specs.declared.key.Key.TheVariants as key
-use Rattle.world_core.specs.declared.op.Op.TheVariants as op
 use Rattle.lifecycle_core.specs.Breaches.{upload_time, mark_time, sync_time, view_time}
 use Rattle.lifecycle_core.specs.Causes.{AreWell, IsBlamed}
 use Rattle.store_gateway.specs.declared.series_end.SeriesEnd.TheVariants as called
 use Rattle.tests_worked.proofs.OtherReads.{query_came}
-use Rattle.lifecycle_core.specs.Tasks.{End, synced}
-use Rattle.meta_fetcher.specs.declared.sync_end.SyncEnd.TheVariants as fetched
 use Rattle.tests_worked.specs.Entries.{stored}
 use Rattle.tests_worked.specs.LostIndex as lost
-use Rattle.tests_worked.specs.OneBlock as one
 use Rattle.tests_worked.specs.SmallBlock as small
 
 pub not_well : ¬ AreWell lost.ends

@@ -1,6 +1,6 @@
 -- All that is guaranteed of a run holds of that of the script of one block, and of the one that loses the index.
-use Rattle.std.proofs.Common.{◌≡◌, ℕ, ℤ, zero, suc, pos, List, [], ◌∷◌, All, Contains, Option, Some, None, inl, inr, refl, sym, ◌∙◌, ap, subst, arith, lit<, lit≤}
-use Rattle.std.proofs.Common.{◌⊎◌, ◌+◌, ◌<◌, ◌^◌, length}
+use Rattle.std.proofs.Common.{◌≡◌, ℕ, ℤ, zero, suc, pos, List, [], ◌∷◌, All, Option, Some, None, inl, inr, refl, sym, ◌∙◌, ap, subst, arith, lit≤}
+use Rattle.std.proofs.Common.{◌⊎◌}
 use Rattle.std.specs.Prelude.{slice_get}
 use Rattle.std.proofs.lemmas.List.Elements.{All-from_recursion}
 use Rattle.block_keys.specs.declared.key.Key.TheVariants as key
@@ -10,7 +10,6 @@ use Rattle.meta_fetcher.specs.declared.sync_end.SyncEnd.TheVariants as fetched
 use Rattle.store_gateway.specs.declared.series_end.SeriesEnd.TheVariants as called
 use Rattle.block_keys.specs.KeyText.{key_text}
 use Rattle.world_core.specs.Standing.{IsHonest}
-use Rattle.world_core.specs.declared.entry.Entry.{Entry}
 use Rattle.script_core.specs.Workers.{workers_of}
 use Rattle.script_workers.specs.declared.worker.Worker.{Worker}
 use Rattle.script_workers.specs.declared.phase.Phase.{Phase}

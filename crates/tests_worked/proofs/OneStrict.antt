@@ -1,5 +1,5 @@
 -- The rules on syncs and on views refuse entries of that run.
-use Rattle.std.proofs.Common.{◌≡◌, ℕ, List, [], ◌∷◌, Contains, Some, inr, refl, sym, subst, arith, lit<}
+use Rattle.std.proofs.Common.{◌≡◌, ℕ, List, [], ◌∷◌, Contains, Some, refl, sym, subst, arith, lit<}
 use Rattle.moment_core.specs.declared.span.Span.{Span}
 use Rattle.moment_core.specs.StandardRules.{minutes, hours}
 use Rattle.block_keys.specs.declared.key.Key.TheVariants as key

@@ -14,7 +14,6 @@ use Rattle.tests_worked.proofs.OtherReads.{query_came}
 use Rattle.lifecycle_core.specs.Completed.{IsUploadedBefore}
 use Rattle.lifecycle_core.specs.Guarantees.{IsExact, IsGuaranteed, LeavesNoneOut, NamesUploads}
 use Rattle.lifecycle_core.specs.Held.{held_by, held}
-use Rattle.lifecycle_core.specs.Tasks.{answered}
 use Rattle.lifecycle_core.specs.Views.{Use}
 use Rattle.lifecycle_core.proofs.journals.Unbroken.{explains_nothing}
 use Rattle.tests_worked.specs.LostIndex as lost

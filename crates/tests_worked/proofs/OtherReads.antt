@@ -1,5 +1,5 @@
 -- The runs of the script of one block in which the read of the index is answered otherwise.
-use Rattle.std.proofs.Common.{◌≡◌, ℕ, ◌+◌, ◌^◌, ◌<◌, List, [], ◌∷◌, length, Contains, All, Some, false, inr, refl, lit<, lit≤}
+use Rattle.std.proofs.Common.{◌≡◌, ◌+◌, ◌^◌, ◌<◌, [], ◌∷◌, length, Contains, All, Some, false, inr, refl, lit<, lit≤}
 use Rattle.std.proofs.lemmas.List.Elements.{All-from_recursion}
 use Rattle.block_keys.specs.declared.key.Key.TheVariants as key
 use Rattle.world_core.specs.Moments.{moment_after, last_moment}

@@ -5,7 +5,6 @@ use Rattle.ulid_core.specs.FixedDigits.{fixed_digits}
 use Rattle.ulid_core.specs.UlidText.{text_of, character, alphabet}
 use Rattle.block_keys.specs.Keys.{key_ulid}
 use Rattle.block_keys.specs.KeyText.{key_text, name_of, six_digits}
-use Rattle.block_keys.specs.declared.key.Key.{Key}
 use Rattle.block_keys.specs.declared.key.Key.TheVariants as key
 use Rattle.bucket_core.specs.Contents.{Contents, nothing, with_object}
 use Rattle.bucket_core.specs.Pages.{IsPage, IsName}
@@ -23,23 +22,21 @@ use Rattle.meta_fetcher.specs.declared.sync_end.SyncEnd.TheVariants as fetched
 use Rattle.store_gateway.specs.declared.series_end.SeriesEnd.TheVariants as called
 use Rattle.script_workers.specs.Hands.{hands_of_task, with_hands, hands_from, places_from, workers_from, seats_from}
 use Rattle.script_core.specs.Workers.{workers_of}
-use Rattle.script_workers.specs.declared.task.Task.{Task}
 use Rattle.script_workers.specs.declared.work.Work.TheVariants as works
 use Rattle.script_workers.specs.declared.worker.Worker.{Worker}
 use Rattle.lifecycle_core.specs.Completed.{IsCompletedAt, IsUploadedBefore, PutsMeta}
 use Rattle.lifecycle_core.specs.Guarantees.{IsGiven}
 use Rattle.lifecycle_core.specs.Phases.{CameTo, IsRunOf, PhaseRun, PhasesRun, WorkerRun}
 use Rattle.lifecycle_core.specs.Tasks.{End, uploaded, synced, answered}
-use Rattle.lifecycle_core.specs.Views.{Use, Views, no_views}
+use Rattle.lifecycle_core.specs.Views.{Use, no_views}
 use Rattle.tests_worked.specs.Entries.{clock, stored, found, absent, listed}
 use Rattle.tests_worked.specs.SmallBlock as small
-use Rattle.tests_worked.specs.SmallRuns as runs
 use Rattle.tests_worked.specs.SideBySide as side
-use Rattle.tests_worked.proofs.Bucket.{segment_key, index_key, meta_key, mark_key, first_part, one_folder, page_of, segment_folder, shows_meta}
+use Rattle.tests_worked.proofs.Bucket.{segment_key, index_key, meta_key, mark_key, one_folder, page_of, segment_folder}
 use Rattle.tests_worked.proofs.Bytes.{meta_is}
 use Rattle.tests_worked.proofs.Each.{each_of}
 use Rattle.list_core.proofs.Membership.{only_member}
-use Rattle.tests_worked.proofs.SmallTasks.{upload_task_by, sync_run_by, question, merge_all, query_run}
+use Rattle.tests_worked.proofs.SmallTasks.{upload_task_by, sync_run_by, merge_all, query_run}
 use Rattle.tests_worked.proofs.YoungBlock.{with, kept_else}
 
 -- ---- the workers and their tasks
@@ -125,19 +122,19 @@ other_run = record {
 
 -- ---- the run
 
-abbrev seats : List ℕ
-seats = 1 ∷ 2 ∷ 3 ∷ []
+abbrev all_seats : List ℕ
+all_seats = 1 ∷ 2 ∷ 3 ∷ []
 
 abbrev IsSeat : Entry → Type 0
-IsSeat e = Contains seats e.seat
+IsSeat e = Contains all_seats e.seat
 
-by_gateway : Contains seats 1
+by_gateway : Contains all_seats 1
 by_gateway = (0, lit< tt, refl)
 
-by_upload : Contains seats 2
+by_upload : Contains all_seats 2
 by_upload = (1, lit< tt, refl)
 
-by_other : Contains seats 3
+by_other : Contains all_seats 3
 by_other = (2, lit< tt, refl)
 
 phase : PhaseRun side.script side.tasks workers no_views side.made phase_ends (with side.used)
