@@ -27,11 +27,11 @@ impl<'a> Model for SeriesCall<'a> {
     ghost Value = { Calling };
 
     ghost view = { λ s. record {
-        stage = s.stage;
-        query = query_of s.wanted;
-        sources = sources_of s.kept.now;
-        left = to_read (query_of s.wanted) s.left.now;
-        taken = s.merger
+      stage = s.stage;
+      query = query_of s.wanted;
+      sources = sources_of s.kept.now;
+      left = to_read (query_of s.wanted) s.left.now;
+      taken = s.merger;
     } };
 
     ghost invariant = { λ s. IsAt s.stage (query_of s.wanted) s.left.now };

@@ -35,7 +35,10 @@ pub(crate) fn print_final(rt: &HostRuntime, text: &str) -> io::Result<()> {
 /// Prints bytes that were written, which are a text.
 pub(crate) fn print_text(rt: &HostRuntime, written: Result<Vec<u8>, NoMemory>) -> io::Result<()> {
     match written {
-        Ok(bytes) => println!(rt; "{}", std::str::from_utf8(bytes.as_slice()).unwrap_or("no text")),
+        Ok(bytes) => println!(rt;
+            "{}",
+            std::str::from_utf8(bytes.as_slice()).unwrap_or("no text")
+        ),
         Err(_) => println!(rt; "no memory"),
     }
 }

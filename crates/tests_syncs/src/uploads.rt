@@ -23,11 +23,7 @@ pub(crate) fn print_uploads(rt: &HostRuntime, text: &str) -> io::Result<()> {
     }
 }
 
-fn print_stops(
-    rt: &HostRuntime,
-    mut hand: WorldHand<MemoryBucket>,
-    stops: &str,
-) -> io::Result<()> {
+fn print_stops(rt: &HostRuntime, mut hand: WorldHand<MemoryBucket>, stops: &str) -> io::Result<()> {
     for stop in stops.split(' ') {
         print_end(rt, uploaded(rt.alloc(), &mut hand, stop.parse().ok()))?;
     }
