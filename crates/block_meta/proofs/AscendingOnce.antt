@@ -1,5 +1,5 @@
 -- The listed numbers ascending, each once: the one list that rises and has their members.
-use Rattle.std.proofs.Common.{◌≡◌, ◌↔◌, ℕ, zero, suc, ◌<◌, List, [], ◌∷◌, Less, Equal, Greater, Ordering, nat_cmp, fold, ◌⊎◌, inl, inr, Contains, refl, sym, ap₂, subst, ◌∙◌, arith}
+use Rattle.std.proofs.Common.{◌≡◌, ◌↔◌, ℕ, ◌<◌, List, [], ◌∷◌, Less, Equal, Greater, Ordering, nat_cmp, fold, ◌⊎◌, inl, inr, Contains, refl, sym, ap₂, subst, ◌∙◌, arith}
 use Rattle.std.specs.List.{AllByRecursion}
 use Rattle.std.specs.List.Sorted.{IsStrictlySortedBy, IsStrictlyIncreasing}
 use Rattle.std.specs.Ordering.{match_ordering}

@@ -1,13 +1,12 @@
 -- What is read stands in the text, and what stands there is read: members and kinds.
-use Rattle.std.proofs.Common.{◌≡◌, ◌≢◌, ℕ, ℤ, List, [], Bool, true, false, ◌==◌, cond, Option, Some, None, is_some, option_and_then, Ok, ◌⊎◌, inl, inr, refl, sym, ap, ◌∙◌, arith}
-use Rattle.std.specs.Option.{ok_or}
+use Rattle.std.proofs.Common.{◌≡◌, ◌≢◌, ℕ, ℤ, List, [], true, false, ◌==◌, Option, Some, None, is_some, option_and_then, Ok, ◌⊎◌, inl, inr, refl, ap, ◌∙◌, arith}
 use Rattle.std.proofs.lemmas.Bool.Decides.{nat_tests}
 use Rattle.reading_core.specs.Reading.{◌>>=◌}
 use Rattle.block_meta.proofs.Bound.{OfValue, of_ok, of_err, of_weaker, of_bind, of_test, of_refused}
 use Rattle.ulid_core.specs.UlidText as ulid
 use Rattle.ulid_core.proofs.UlidLaws.{ulid_of-found, ulid_of-only}
-use Rattle.serde_json.specs.Data.{Data, Num, null, boolean, number, unsigned, negative, float, string, array, object, Items, Members}
-use Rattle.serde_json.specs.Find.{get, as_null, as_number, as_str, as_array, as_object, as_u64, as_i64, as_integer}
+use Rattle.serde_json.specs.Data.{Data, Num, null, boolean, number, unsigned, negative, float, string, array, object}
+use Rattle.serde_json.specs.Find.{get, as_null, as_number, as_array, as_object, as_u64, as_i64, as_integer}
 use Rattle.block_meta.specs.Members.{Read, member_of, needed_of, of_kind, unsigned_of, signed_of, whole_of, text_of, ulid_of, version_from, version_of, or_absent, count_of}
 use Rattle.block_meta.specs.MetaReading.{text_or_empty}
 use Rattle.block_meta.specs.MetaText.{IsMember, Lacks, Has, HasOr, IsText, IsUlid, IsUnsigned, IsSigned, IsWhole, IsVersion, IsObject}

@@ -16,7 +16,7 @@ use Rattle.label_sets.proofs.OrderedLabels.{value_of-placed, IsLabelSet-placed}
 use Rattle.serde_json.specs.Data.{Data, string, Members, no_members, member}
 use Rattle.serde_json.specs.Find.{get_member, as_object}
 use Rattle.block_meta.specs.declared.refusal.MetaRefusal.{MetaRefusal}
-use Rattle.block_meta.specs.Members.{of_kind, text_of}
+use Rattle.block_meta.specs.Members.{of_kind}
 use Rattle.block_meta.specs.MetaReading.{label_added, labels_from}
 use Rattle.block_meta.specs.MetaText.{NamesDiffer, AreLabels}
 use Rattle.block_meta.proofs.Found.{IsReadAs, text, members_found as object_members_found}
@@ -81,11 +81,11 @@ more_found : (labels more : List Label) (name : List ℕ) (value : Data) → lab
 unfolding label_added added
 more_found labels more name value e lawful =
     let found : OfValue (label_added labels name value) (λ more. IsOneMore labels more name value) = of_bind _ ((text (codes "labels")).found value) (λ t is. of_refused _ (added labels name t) (λ more e.
-      let named = cond_ok (length name == 0) _ _ more e in
-      let valued = cond_ok (length t == 0) _ _ more named.1 in
-      let missed = cond_ok (is_some (value_of labels name)) _ _ more valued.1 in
-      let filled : IsFilled name value = record { text = t; is_text = is; named = filled_is name named.0; valued = filled_is t valued.0 } in
-      one_more labels more name value filled (none_is _ missed.0) (sym (ok_is {E = LabelRefusal} _ _ missed.1)) lawful)) in
+    let named = cond_ok (length name == 0) _ _ more e in
+    let valued = cond_ok (length t == 0) _ _ more named.1 in
+    let missed = cond_ok (is_some (value_of labels name)) _ _ more valued.1 in
+    let filled : IsFilled name value = record { text = t; is_text = is; named = filled_is name named.0; valued = filled_is t valued.0 } in
+    one_more labels more name value filled (none_is _ missed.0) (sym (ok_is {E = LabelRefusal} _ _ missed.1)) lawful)) in
     found.holds more e
 
 more_read : (labels : List Label) (name : List ℕ) (value : Data) → IsFilled name value → value_of labels name ≡ None → (more : List Label) × (label_added labels name value ≡ Ok more)

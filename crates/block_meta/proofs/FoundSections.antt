@@ -1,10 +1,10 @@
 -- What is read of a section stands in it, and what stands in it is read.
-use Rattle.std.proofs.Common.{◌≡◌, ℕ, ℤ, pos, ◌<◌, ◌^◌, List, [], Bool, true, false, ◌&&◌, ltb, Option, Some, None, is_some, Ok, inl, inr, refl, sym, ap, ◌∙◌, arith, codes}
+use Rattle.std.proofs.Common.{◌≡◌, ℕ, ℤ, pos, ◌<◌, ◌^◌, List, [], Bool, true, false, ltb, Option, Some, Ok, inl, inr, refl, ap, arith, codes}
 use Rattle.std.specs.Option.{ok_or}
 use Rattle.std.proofs.Math.Dec.{T}
 use Rattle.std.proofs.lemmas.Bool.{and_parts}
 use Rattle.std.proofs.lemmas.Bool.Decides.{nat_tests}
-use Rattle.reading_core.specs.Reading.{◌>>=◌, ◌>>◌}
+use Rattle.reading_core.specs.Reading.{◌>>=◌}
 use Rattle.block_meta.proofs.Bound.{OfValue, of_ok, of_err, of_weaker, of_bind, of_then, of_unless}
 use Rattle.serde_json.specs.Data.{Data, null, boolean, number, string, array, object}
 use Rattle.serde_json.specs.Find.{as_object}
@@ -115,7 +115,7 @@ stats_found : (value : Data) → IsObject value → OfValue (stats_members_of va
 unfolding stats_members_of
 stats_found value is =
     of_bind _ ((counted (codes "numSeries")).found value) (λ series a. of_bind _ ((counted (codes "numSamples")).found value) (λ samples b. of_bind _ ((counted (codes "numChunks")).found value) (λ chunks c.
-      of_ok (record { is_object = is; series = a; samples = b; chunks = c }))))
+    of_ok (record { is_object = is; series = a; samples = b; chunks = c }))))
 
 stats_only : (value : Data) (part : Stats) → AreStats value part → stats_members_of value ≡ Ok part
 unfolding stats_members_of
@@ -165,7 +165,7 @@ parent_found : (list : List ℕ) (value : Data) → OfValue (parent_of list valu
 unfolding parent_of
 parent_found list value =
     of_bind _ (members_found list value) (λ members is. of_bind _ ((named (codes "ulid")).found value) (λ ulid u. of_bind _ ((signed (codes "minTime")).found value) (λ min a. of_bind _ ((signed (codes "maxTime")).found value) (λ max b.
-      of_ok (record { is_object = (members, is); ulid = u; min_time = a; max_time = b })))))
+    of_ok (record { is_object = (members, is); ulid = u; min_time = a; max_time = b })))))
 
 parent_only : (list : List ℕ) (value : Data) (parent : Parent) → IsParent value parent → parent_of list value ≡ Ok parent
 unfolding parent_of of_kind
@@ -179,7 +179,7 @@ compaction_found : (value : Data) → IsObject value → OfValue (compaction_mem
 unfolding compaction_members_of
 compaction_found value is =
     of_bind _ (level_found value) (λ level l. of_bind _ (sources_found value) (λ sources s. of_bind _ (parents.found value) (λ parents p.
-      of_ok (record { is_object = is; level = l.0; fits = l.1; sources = s; parents = p }))))
+    of_ok (record { is_object = is; level = l.0; fits = l.1; sources = s; parents = p }))))
 
 compaction_only : (value : Data) (part : Compaction) → IsCompaction value part → compaction_members_of value ≡ Ok part
 unfolding compaction_members_of
@@ -195,7 +195,7 @@ file_found : (list : List ℕ) (value : Data) → OfValue (file_of list value) (
 unfolding file_of
 file_found list value =
     of_bind _ (members_found list value) (λ members is. of_bind _ ((needed (codes "rel_path") (text (codes "rel_path"))).found value) (λ path p. of_bind _ ((counted (codes "size_bytes")).found value) (λ bytes b.
-      of_ok (record { is_object = (members, is); path = p; bytes = b }))))
+    of_ok (record { is_object = (members, is); path = p; bytes = b }))))
 
 file_only : (list : List ℕ) (value : Data) (file : FileSize) → IsFile value file → file_of list value ≡ Ok file
 unfolding file_of of_kind
@@ -231,8 +231,8 @@ thanos_found : (value : Data) → IsObject value → OfValue (thanos_members_of 
 unfolding thanos_members_of
 thanos_found value is =
     of_then _ (thanos_version.found value) (λ _ v. of_bind _ (labels_part.found value) (λ labels l. of_bind _ (resolution.found value) (λ time r. of_bind _ ((optional_text (codes "source")).found value) (λ source s.
-      of_bind _ (segment_files.found value) (λ segments g. of_bind _ (files.found value) (λ sizes f.
-        of_ok (record { is_object = is; version = v; labels = l; resolution = r; source = s; segment_files = g; files = f })))))))
+    of_bind _ (segment_files.found value) (λ segments g. of_bind _ (files.found value) (λ sizes f.
+    of_ok (record { is_object = is; version = v; labels = l; resolution = r; source = s; segment_files = g; files = f })))))))
 
 thanos_only : (value : Data) (part : Thanos) → IsThanos value part → thanos_members_of value ≡ Ok part
 unfolding thanos_members_of

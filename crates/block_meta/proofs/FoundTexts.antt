@@ -1,24 +1,20 @@
 -- What is read of a text is the meta or the mark that it says, and such a text is read.
-use Rattle.std.proofs.Common.{◌≡◌, ℕ, ◌<◌, ◌^◌, List, Bool, true, false, cond, ltb, Option, Some, None, is_some, Result, Ok, Err, refl, subst, arith, codes}
+use Rattle.std.proofs.Common.{◌≡◌, ℕ, ◌<◌, ◌^◌, List, Bool, true, false, cond, ltb, Option, Some, None, is_some, Ok, Err, refl, arith, codes}
 use Rattle.std.specs.Option.{ok_or}
 use Rattle.std.specs.Str.{IsUtf8, is_utf8}
 use Rattle.std.proofs.lemmas.Bool.Decides.{nat_tests}
 use Rattle.std.proofs.lemmas.Str.{IsUtf8-from_is_utf8}
-use Rattle.reading_core.specs.Reading.{◌>>=◌, Gives}
+use Rattle.reading_core.specs.Reading.{◌>>=◌}
 use Rattle.block_meta.proofs.Bound.{OfValue, of_ok, of_err, of_weaker, of_bind, of_then, of_unless}
 use Rattle.serde_json.specs.Data.{Data}
 use Rattle.serde_json.specs.Read.{read}
 use Rattle.serde_json.specs.Find.{as_object}
 use Rattle.block_meta.specs.declared.refusal.MetaRefusal.{MetaRefusal}
 use Rattle.block_meta.specs.declared.refusal.MetaRefusal.TheVariants.{NotJson}
-use Rattle.block_meta.specs.declared.times.Times.{Times}
-use Rattle.block_meta.specs.declared.stats.Stats.{Stats}
-use Rattle.block_meta.specs.declared.compaction.Compaction.{Compaction}
-use Rattle.block_meta.specs.declared.thanos.Thanos.{Thanos}
-use Rattle.block_meta.specs.Members.{json_of, object_of, needed_of, unsigned_of, ulid_of, version_of}
-use Rattle.block_meta.specs.MetaFields.{MetaFields, MarkFields, stats_part, compaction_part, thanos_part, no_thanos}
-use Rattle.block_meta.specs.MetaReading.{times_of, stats_of, compaction_of, text_or_empty, thanos_of, meta_of, meta_of_text, deletion_time_of, mark_of, mark_of_text}
-use Rattle.block_meta.specs.MetaText.{Has, HasOr, IsUlid, IsUnsigned, IsVersion, IsObject, AreStats, IsCompaction, IsThanos, IsMeta, IsMetaText, IsMark, IsMarkText}
+use Rattle.block_meta.specs.Members.{json_of, object_of, needed_of, unsigned_of, version_of}
+use Rattle.block_meta.specs.MetaFields.{MetaFields, MarkFields, stats_part, compaction_part, thanos_part}
+use Rattle.block_meta.specs.MetaReading.{meta_of, meta_of_text, deletion_time_of, mark_of, mark_of_text}
+use Rattle.block_meta.specs.MetaText.{Has, IsUnsigned, IsVersion, IsObject, IsMeta, IsMetaText, IsMark, IsMarkText}
 use Rattle.block_meta.proofs.Found.{IsReadAs, needed, unsigned_number, version, optional_text, is_object_found, is_object_only}
 use Rattle.block_meta.proofs.Texts.{json_read}
 use Rattle.block_meta.proofs.FoundSections.{HasTimes, named, times_read, stats_read, compaction_read, thanos_read}
@@ -56,8 +52,8 @@ meta_found : (value : Data) → IsObject value → OfValue (meta_of value) (IsMe
 unfolding meta_of
 meta_found value is =
     of_then _ (version_member.found value) (λ _ v. of_bind _ ((named (codes "ulid")).found value) (λ ulid u. of_bind _ (times_read.found value) (λ times t.
-      of_bind _ (stats_read.found value) (λ stats s. of_bind _ (compaction_read.found value) (λ compaction c. of_bind _ (thanos_read.found value) (λ thanos h.
-        of_ok (record { is_object = is; version = v; ulid = u; min_time = t.min_time; max_time = t.max_time; times = t.lawful; stats = s; compaction = c; thanos = h })))))))
+    of_bind _ (stats_read.found value) (λ stats s. of_bind _ (compaction_read.found value) (λ compaction c. of_bind _ (thanos_read.found value) (λ thanos h.
+    of_ok (record { is_object = is; version = v; ulid = u; min_time = t.min_time; max_time = t.max_time; times = t.lawful; stats = s; compaction = c; thanos = h })))))))
 
 meta_only : (value : Data) (meta : MetaFields) → IsMeta value meta → meta_of value ≡ Ok meta
 unfolding meta_of
@@ -99,7 +95,7 @@ mark_found : (value : Data) → IsObject value → OfValue (mark_of value) (IsMa
 unfolding mark_of
 mark_found value is =
     of_then _ (version_member.found value) (λ _ v. of_bind _ ((named (codes "id")).found value) (λ id u. of_bind _ (deletion_time_found value) (λ time t. of_bind _ ((optional_text (codes "details")).found value) (λ details d.
-      of_ok (record { is_object = is; version = v; id = u; deletion_time = t.0; early = t.1; details = d })))))
+    of_ok (record { is_object = is; version = v; id = u; deletion_time = t.0; early = t.1; details = d })))))
 
 mark_only : (value : Data) (mark : MarkFields) → IsMark value mark → mark_of value ≡ Ok mark
 unfolding mark_of
