@@ -44,7 +44,7 @@ pub fn read_plain_segment(alloc: Global, bytes: &[u8]) -> Result<SeriesList, Pla
 fn read_lines(alloc: Global, text: &str) -> Result<Vec<Series>, PlainRefusal>
     ensures { MatchResult result
         (λ read. AreLines text.now read.items
-            × ((other : List Series) → AreLines text.now other → other ≡ read.items))
+        × ((other : List Series) → AreLines text.now other → other ≡ read.items))
         (λ e. (e ≡ PlainRefusal.NoMemory) ⊎ ((other : List Series) → AreLines text.now other → ⊥)) }
 {
     let mut series = Vec::new(alloc);
@@ -83,7 +83,7 @@ fn read_labels(alloc: Global, line: &str) -> Result<(LabelSet, usize), PlainRefu
     ensures only { (front after : List ℕ) (set : List Label)
         → IsSetText front set → line.now ≡ front ++ after
         → MatchResult result (λ read. (read.0 ≡ set) × (read.1 ≡ length front))
-            (λ e. e ≡ PlainRefusal.NoMemory) }
+        (λ e. e ≡ PlainRefusal.NoMemory) }
 {
     match LabelSet::read(alloc, line) {
         Ok(read) => Ok(read),
