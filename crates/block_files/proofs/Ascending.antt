@@ -2,7 +2,7 @@
 use Rattle.std.proofs.Common.{◌≡◌, ℕ, ◌+◌, ◌<◌, Bool, true, false, List, [], ◌∷◌, map, length, get_or, refl, sym, ap, ◌∙◌, arith}
 use Rattle.std.specs.Prelude.{IsTrue, ◌↔◌}
 use Rattle.std.specs.declared.cmp.Ordering.{Ordering}
-use Rattle.std.specs.declared.cmp.Ordering.TheVariants.{Less, Equal, Greater}
+use Rattle.std.specs.declared.cmp.Ordering.TheVariants.{Less}
 use Rattle.std.specs.Ordering.{is_lt}
 use Rattle.std.specs.Cmp.{IsTotalOrder}
 use Rattle.std.specs.List.{IsAllAdjacentAnswer, AllAdjacentBelow}
@@ -10,11 +10,7 @@ use Rattle.std.specs.List.Sorted.{IsStrictlySortedBy}
 use Rattle.std.proofs.lemmas.Bool.{true≢false}
 use Rattle.std.proofs.lemmas.List.{get_or-map, length-map}
 use Rattle.std.proofs.lemmas.Map.Keys.{sorted_from_all_adjacent, Less-from_sorted}
-
-less_from : (o : Ordering) → true ≡ is_lt o → o ≡ Less
-less_from Less e = refl
-less_from Equal e = absurd (true≢false e)
-less_from Greater e = absurd (true≢false e)
+use Rattle.list_core.proofs.Bools.{Less-from_is_lt}
 
 module _ {X K : Type 0} (R : K → K → Ordering) (o : IsTotalOrder R) (key : X → K) where
   next : (x : X) (xs : List X) → AllAdjacentBelow (λ a b. true ≡ is_lt (R (key a) (key b))) (x ∷ xs) (length (x ∷ xs)) → (k : ℕ) → k + 1 < length (map key (x ∷ xs))
@@ -24,7 +20,7 @@ module _ {X K : Type 0} (R : K → K → Ordering) (o : IsTotalOrder R) (key : X
       let within : k < length (x ∷ xs) = omega (arith, below) in
       ap (λ a. R a (get_or (map key (x ∷ xs)) (k + 1) (key x))) (get_or-map key (x ∷ xs) k x (key x) within)
       ∙ ap (R (key (get_or (x ∷ xs) k x))) (get_or-map key (x ∷ xs) (k + 1) x (key x) below)
-      ∙ less_from (R (key (get_or (x ∷ xs) k x)) (key (get_or (x ∷ xs) (k + 1) x))) (each k x below)
+      ∙ Less-from_is_lt (R (key (get_or (x ∷ xs) k x)) (key (get_or (x ∷ xs) (k + 1) x))) (sym (each k x below))
 
   ascend_from : (xs : List X) → AllAdjacentBelow (λ a b. true ≡ is_lt (R (key a) (key b))) xs (length xs) → IsStrictlySortedBy R (map key xs)
   unfolding IsStrictlySortedBy

@@ -3,6 +3,8 @@
 use Rattle.std.proofs.Common.{◌≡◌, ℕ, suc, max, pos, negsuc, ◌^◌, ◌<◌, ◌≤◌, Bool, true, false, List, [], ◌∷◌, Some, option_map, option_and_then, Less, Greater, nat_cmp, decimal, IsUtf8, refl, sym, ap, ap₂, ◌∙◌, subst, arith, append-nil}
 use Rattle.std.specs.Prelude.{⊤}
 use Rattle.std.specs.Cmp.Lexicographic.{slice_cmp}
+use Rattle.std.specs.List.{AllByRecursion}
+use Rattle.std.specs.List.Sorted.{IsStrictlySortedBy}
 use Rattle.std.specs.Ordering.{ordering_reverse}
 use Rattle.std.proofs.lemmas.Cmp.{nat_list_cmp_total}
 use Rattle.std.proofs.lemmas.Str.{IsUtf8-append, IsUtf8-nil}
@@ -33,14 +35,14 @@ FitsNumber (negative (pos n)) = ⊥
 FitsNumber (negative (negsuc n)) = n < 2 ^ 63
 FitsNumber (float x) = ⊥
 
--- the key stands before each of these
-abbrev pub StandsFirst : List ℕ → Members → Type 0
-StandsFirst key no_members = ⊤
-StandsFirst key (member k d ms) = (slice_cmp nat_cmp key k ≡ Less) × StandsFirst key ms
+-- the keys of an object, in its order
+abbrev pub keys : Members → List (List ℕ)
+keys no_members = []
+keys (member k d ms) = k ∷ keys ms
 
+-- each key is above those before it
 abbrev pub Ascend : Members → Type 0
-Ascend no_members = ⊤
-Ascend (member k d ms) = StandsFirst k ms × Ascend ms
+Ascend ms = IsStrictlySortedBy (slice_cmp nat_cmp) (keys ms)
 
 abbrev mutual
   pub IsPlain : Data → Type 0
@@ -104,12 +106,13 @@ joined-one : (k : List ℕ) (d : Data) (found ms : Members) → joined (joined f
 joined-one k d no_members ms = refl
 joined-one k d (member l e es) ms = ap (member l e) (joined-one k d es ms)
 
-among : (first k : List ℕ) (d : Data) (found ms : Members) → StandsFirst first (joined found (member k d ms)) → slice_cmp nat_cmp first k ≡ Less
+among : (first k : List ℕ) (d : Data) (found ms : Members) → AllByRecursion (λ key. slice_cmp nat_cmp first key ≡ Less) (keys (joined found (member k d ms))) → slice_cmp nat_cmp first k ≡ Less
 among first k d no_members ms h = h.0
 among first k d (member l e es) ms h = among first k d es ms h.1
 
 -- a key that comes after those found goes last
 put_last : (k : List ℕ) (d : Data) (found ms : Members) → Ascend (joined found (member k d ms)) → put k d found ≡ joined found (member k d no_members)
+unfolding IsStrictlySortedBy
 put_last k d no_members ms h = refl
 put_last k d (member l e es) ms h =
     let later : slice_cmp nat_cmp k l ≡ Greater = nat_list_cmp_total.antisymm k l ∙ ap ordering_reverse (among l k d es ms h.0) in

@@ -1,8 +1,9 @@
 -- The text of a meta is read as that meta, where its numbers fit and its texts are UTF-8.
-use Rattle.std.proofs.Common.{◌≡◌, ℕ, ℤ, pos, negsuc, ◌^◌, ◌<◌, true, nat_lt, List, [], ◌∷◌, get_or, All, Ok, FitsSigned, w64, IsUtf8, codes, rules, refl, sym, subst, arith}
+use Rattle.std.proofs.Common.{◌≡◌, ℕ, ℤ, pos, negsuc, ◌^◌, ◌<◌, true, nat_lt, List, [], ◌∷◌, get_or, All, Ok, Less, nat_cmp, FitsSigned, w64, IsUtf8, codes, rules, refl, sym, subst, arith}
 use Rattle.std.specs.Prelude.{IsTrue}
 use Rattle.std.specs.List.{AllByRecursion, list_all}
-use Rattle.std.specs.List.Sorted.{IsStrictlyIncreasing}
+use Rattle.std.specs.Cmp.Lexicographic.{slice_cmp}
+use Rattle.std.specs.List.Sorted.{IsStrictlyIncreasing, IsStrictlySortedBy}
 use Rattle.std.proofs.lemmas.Bool.{and_from, and_parts}
 use Rattle.std.proofs.lemmas.Bool.Decides.{nat_tests}
 use Rattle.std.proofs.lemmas.Int.{ints}
@@ -11,7 +12,6 @@ use Rattle.json.proofs.Printed.Utf8.{are_ascii, IsUtf8-are_ascii}
 use Rattle.serde_json.specs.Data.{Data, string}
 use Rattle.serde_json.specs.Find.{of_integer}
 use Rattle.serde_json.specs.Written.{compact_text}
-use Rattle.ulid_core.specs.UlidText.{text_of}
 use Rattle.ulid_core.proofs.UlidLaws.{IsUlidText-text_of}
 use Rattle.label_sets.specs.declared.label.Label.{Label}
 use Rattle.label_sets.specs.Labels.{IsLabelSet, StandsBefore}
@@ -29,8 +29,8 @@ use Rattle.block_meta.proofs.LabelMembers.{labels_again}
 use Rattle.block_meta.proofs.Lists.{each_again}
 use Rattle.block_meta.proofs.Rising.{ascending_already, lawful_passes}
 use Rattle.block_meta.proofs.Texts.{meta_reads}
-use Rattle.block_meta.proofs.UlidBytes.{IsUtf8-ulid_text}
-use Rattle.block_files.proofs.JsonAgain.{FitsNumber, StandsFirst, Ascend, IsPlain, ArePlainItems, ArePlainMembers, plain_read, plain_utf8}
+use Rattle.ulid_core.proofs.AsciiTexts.{IsUtf8-text_of}
+use Rattle.block_files.proofs.JsonAgain.{FitsNumber, keys, Ascend, IsPlain, ArePlainItems, ArePlainMembers, plain_read, plain_utf8}
 use Rattle.block_files.proofs.Unbroken.{name_bytes}
 
 -- What a meta's text needs to be read as the meta. A built meta has no parents and drops no samples.
@@ -68,10 +68,10 @@ items_plain P one plain (x ∷ xs) h = (plain x h.0, items_plain P one plain xs 
 
 ulid_plain : (u : ℕ) → u < 2 ^ 128 → IsPlain (ulid_value u)
 unfolding ulid_value
-ulid_plain u fits = IsUtf8-ulid_text (text_of u) u (IsUlidText-text_of u fits)
+ulid_plain u fits = IsUtf8-text_of u
 
 file_plain : (f : FileSize) → IsUtf8 f.path × (f.bytes < 2 ^ 64) → IsPlain (file_value f)
-unfolding file_value
+unfolding file_value IsStrictlySortedBy
 file_plain f h = search rules
 
 none_dropped : (m : MetaFields) → IsReadAgain m → FitsSigned w64 m.resolution
@@ -88,13 +88,13 @@ name_ascii (b ∷ bs) all =
     let p : _ = and_parts (is_name_byte b) (list_all is_name_byte bs) all in
     and_from (nat_lt b 128) (are_ascii bs) (name_byte_ascii b p.0) (name_ascii bs p.1)
 
-label_stands : (name : List ℕ) (labels : List Label) → StandsBefore name labels → StandsFirst name (label_members labels)
+label_stands : (name : List ℕ) (labels : List Label) → StandsBefore name labels → AllByRecursion (λ key. slice_cmp nat_cmp name key ≡ Less) (keys (label_members labels))
 unfolding label_members
 label_stands name [] h = tt
 label_stands name (l ∷ ls) h = (h.0, label_stands name ls h.1)
 
 labels_ascend : (labels : List Label) → IsLabelSet labels → Ascend (label_members labels)
-unfolding label_members
+unfolding label_members IsStrictlySortedBy
 labels_ascend [] h = tt
 labels_ascend (l ∷ ls) h = (label_stands l.name ls h.2, labels_ascend ls h.3)
 
@@ -106,17 +106,17 @@ labels_plain (l ∷ ls) named values = (IsUtf8-are_ascii l.name (name_ascii l.na
 -- ---- sections
 
 stats_plain : (series samples chunks : ℕ) → series < 2 ^ 64 → samples < 2 ^ 64 → chunks < 2 ^ 64 → IsPlain (stats_value series samples chunks)
-unfolding stats_value
+unfolding stats_value IsStrictlySortedBy
 stats_plain series samples chunks p q r = search rules
 
 compaction_plain : (level : ℕ) (sources : List ℕ) (parents : List Parent) → level < 2 ^ 64 → All (λ u. u < 2 ^ 128) sources → parents ≡ [] → IsPlain (compaction_value level sources parents)
-unfolding compaction_value
+unfolding compaction_value IsStrictlySortedBy
 compaction_plain level sources parents fits small none =
     let listed : ArePlainItems (items_value ulid_value sources) = items_plain _ ulid_value ulid_plain sources (recursion_from_All _ sources small) in
     subst (λ ps. IsPlain (compaction_value level sources ps)) (sym none) (search rules)
 
 thanos_plain : (m : MetaFields) → IsReadAgain m → IsPlain (thanos_value m)
-unfolding thanos_value
+unfolding thanos_value IsStrictlySortedBy
 thanos_plain m h =
     let files : ArePlainItems (items_value file_value m.files) = items_plain _ file_value file_plain m.files (recursion_from_All _ m.files h.files) in
     let segments : ArePlainItems (items_value string m.segment_files) = items_plain _ string (λ text utf8. utf8) m.segment_files (recursion_from_All _ m.segment_files h.segment_files) in
@@ -126,7 +126,7 @@ thanos_plain m h =
     search rules
 
 meta_plain : (m : MetaFields) → IsReadAgain m → IsPlain (meta_value m)
-unfolding meta_value
+unfolding meta_value IsStrictlySortedBy
 meta_plain m h =
     let times : FitsSigned w64 m.min_time × FitsSigned w64 m.max_time = lawful_fits m.min_time m.max_time h.times in
     let early : FitsNumber (of_integer m.min_time) = signed_fits m.min_time times.0 in

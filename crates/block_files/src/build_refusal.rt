@@ -1,8 +1,6 @@
 ghost use Rattle.std.specs.Prelude.{◌≡◌};
 ghost use Rattle.block_files.specs.declared.build_refusal.BuildRefusal.TheVariants.{NoMemory as WithoutMemory};
 
-use std::alloc::{AllocError, AllocFailed};
-
 /// Why no files were built.
 #[derive(Clone, Copy, Debug, PartialEq, Eq)]
 pub enum BuildRefusal {
@@ -15,22 +13,6 @@ impl From<list_core::NoMemory> for BuildRefusal {
     ghost from_gives = { λ _ e. e ≡ WithoutMemory };
 
     fn from(_: list_core::NoMemory) -> Self {
-        BuildRefusal::NoMemory
-    }
-}
-
-impl From<AllocError> for BuildRefusal {
-    ghost from_gives = { λ _ e. e ≡ WithoutMemory };
-
-    fn from(_: AllocError) -> Self {
-        BuildRefusal::NoMemory
-    }
-}
-
-impl<T: Drop> From<AllocFailed<T>> for BuildRefusal {
-    ghost from_gives = { λ _ e. e ≡ WithoutMemory };
-
-    fn from(_: AllocFailed<T>) -> Self {
         BuildRefusal::NoMemory
     }
 }

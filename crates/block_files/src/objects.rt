@@ -15,7 +15,8 @@ use wire_bytes::Blob;
 #[tactic(auto, using(crate::proofs::Blocks::block_of), unfolding(crate::specs::Built::objects_of))]
 pub fn files_objects(alloc: Global, files: BlockFiles) -> Result<ObjectList, NoMemory>
     ensures block { IfOk result (IsBlock files.meta.ulid) }
-    ensures objects { IfOk result (λ objects. objects ≡ objects_of files.meta.ulid files.segments files.index (meta_text (fields_of files.meta))) }
+    ensures objects { IfOk result (λ objects. objects ≡ objects_of files.meta.ulid
+        files.segments files.index (meta_text (fields_of files.meta))) }
 {
     let BlockFiles {
         meta,
@@ -63,7 +64,8 @@ fn push_segment(
     requires before { All (λ object. IsSegmentOf ulid object.key) objects.old }
     ensures keys { OnOk result (All (λ object. IsSegmentOf ulid object.key) objects.new) }
     ensures count { OnOk result (length objects.new ≡ length objects.old + 1) }
-    ensures value { OnOk result (objects.new ≡ objects.old ++ record { key = Key.Segment ulid number; bytes = bytes } ∷ []) }
+    ensures value { OnOk result (objects.new
+        ≡ objects.old ++ record { key = Key.Segment ulid number; bytes = bytes } ∷ []) }
 {
     objects.push(Object {
         key: Key::Segment(ulid, number),

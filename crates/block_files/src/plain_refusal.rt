@@ -1,7 +1,7 @@
 ghost use Rattle.std.specs.Prelude.{◌≡◌};
 ghost use Rattle.block_files.specs.declared.plain_refusal.PlainRefusal.TheVariants.{NoMemory as WithoutMemory};
 
-use std::alloc::{AllocError, AllocFailed};
+use std::alloc::AllocFailed;
 
 /// Why the bytes are no index or no segment of the plain form.
 #[derive(Clone, Copy, Debug, PartialEq, Eq)]
@@ -14,14 +14,6 @@ impl From<list_core::NoMemory> for PlainRefusal {
     ghost from_gives = { λ _ e. e ≡ WithoutMemory };
 
     fn from(_: list_core::NoMemory) -> Self {
-        PlainRefusal::NoMemory
-    }
-}
-
-impl From<AllocError> for PlainRefusal {
-    ghost from_gives = { λ _ e. e ≡ WithoutMemory };
-
-    fn from(_: AllocError) -> Self {
         PlainRefusal::NoMemory
     }
 }

@@ -16,7 +16,8 @@ use std::alloc::Global;
 
 /// Reads an index of the plain form, which holds nothing.
 pub fn read_plain_index(bytes: &[u8]) -> Result<(), PlainRefusal>
-    ensures { result ≡ (if bytes_eq bytes.now plain_index then Ok tt else Err PlainRefusal.Damaged) }
+    ensures { result
+        ≡ (if bytes_eq bytes.now plain_index then Ok tt else Err PlainRefusal.Damaged) }
 {
     if bytes == PLAIN_INDEX.as_slice() {
         Ok(())
@@ -41,7 +42,10 @@ pub fn read_plain_segment(alloc: Global, bytes: &[u8]) -> Result<SeriesList, Pla
 }
 
 fn read_lines(alloc: Global, text: &str) -> Result<Vec<Series>, PlainRefusal>
-    ensures { MatchResult result (λ read. AreLines text.now read.items × ((other : List Series) → AreLines text.now other → other ≡ read.items)) (λ e. (e ≡ PlainRefusal.NoMemory) ⊎ ((other : List Series) → AreLines text.now other → ⊥)) }
+    ensures { MatchResult result
+        (λ read. AreLines text.now read.items
+        × ((other : List Series) → AreLines text.now other → other ≡ read.items))
+        (λ e. (e ≡ PlainRefusal.NoMemory) ⊎ ((other : List Series) → AreLines text.now other → ⊥)) }
 {
     let mut series = Vec::new(alloc);
     let mut left = text;
@@ -76,8 +80,10 @@ fn read_line(alloc: Global, line: &str) -> Result<Series, PlainRefusal>
 fn read_labels(alloc: Global, line: &str) -> Result<(LabelSet, usize), PlainRefusal>
     ensures cut { IfOk result (λ read. IsCharBoundary line.now read.1) }
     ensures found { IfOk result (λ read. IsSetText (take read.1 line.now) read.0) }
-    ensures only { (front after : List ℕ) (set : List Label) → IsSetText front set → line.now ≡ front ++ after
-        → MatchResult result (λ read. (read.0 ≡ set) × (read.1 ≡ length front)) (λ e. e ≡ PlainRefusal.NoMemory) }
+    ensures only { (front after : List ℕ) (set : List Label)
+        → IsSetText front set → line.now ≡ front ++ after
+        → MatchResult result (λ read. (read.0 ≡ set) × (read.1 ≡ length front))
+        (λ e. e ≡ PlainRefusal.NoMemory) }
 {
     match LabelSet::read(alloc, line) {
         Ok(read) => Ok(read),
@@ -94,10 +100,11 @@ fn plain_refusal(refusal: LabelRefusal) -> PlainRefusal
     }
 }
 
-/// What stands behind the space that follows so many bytes.
+/// What stands behind the space that follows `count` bytes.
 fn after_space(line: &str, count: usize) -> Option<&str>
     requires { IsCharBoundary line.now count }
-    ensures { MatchOption result ((more : List ℕ) → drop count line.now ≢ 32 ∷ more) (λ text. drop count line.now ≡ 32 ∷ text.now) }
+    ensures { MatchOption result ((more : List ℕ) → drop count line.now ≢ 32 ∷ more)
+        (λ text. drop count line.now ≡ 32 ∷ text.now) }
 {
     line[count..].strip_prefix(' ')
 }

@@ -1,124 +1,124 @@
--- What is read stands in the text: members and kinds.
-use Rattle.std.proofs.Common.{◌≡◌, ◌≢◌, ℕ, ℤ, List, Bool, true, false, ◌==◌, cond, Option, Some, None, is_some, option_and_then, Ok, ◌⊎◌, inl, inr, refl, sym, ap, ◌∙◌, arith}
-use Rattle.std.specs.Option.{ok_or}
+-- What is read stands in the text, and what stands there is read: members and kinds.
+use Rattle.std.proofs.Common.{◌≡◌, ◌≢◌, ℕ, ℤ, List, [], true, false, ◌==◌, Option, Some, None, is_some, option_and_then, Ok, ◌⊎◌, inl, inr, refl, ap, ◌∙◌, arith}
 use Rattle.std.proofs.lemmas.Bool.Decides.{nat_tests}
-use Rattle.reading_core.specs.Reading.{◌>>=◌, unless}
-use Rattle.reading_core.proofs.Binds.{bind_ok, ok_is, refused_as_ok}
+use Rattle.reading_core.specs.Reading.{◌>>=◌}
+use Rattle.block_meta.proofs.Bound.{OfValue, of_ok, of_err, of_weaker, of_bind, of_test, of_refused}
 use Rattle.ulid_core.specs.UlidText as ulid
 use Rattle.ulid_core.proofs.UlidLaws.{ulid_of-found, ulid_of-only}
-use Rattle.serde_json.specs.Data.{Data, Num, null, boolean, number, unsigned, negative, float, string, array, object, Items, Members}
-use Rattle.serde_json.specs.Find.{get, as_null, as_number, as_str, as_array, as_object, as_u64, as_i64, as_integer}
-use Rattle.block_meta.specs.declared.refusal.MetaRefusal.{MetaRefusal}
-use Rattle.block_meta.specs.Members.{Read, member_of, needed_of, of_kind, unsigned_of, signed_of, whole_of, text_of, ulid_of, version_from, version_of, or_absent}
+use Rattle.serde_json.specs.Data.{Data, Num, null, boolean, number, unsigned, negative, float, string, array, object}
+use Rattle.serde_json.specs.Find.{get, as_null, as_number, as_array, as_object, as_u64, as_i64, as_integer}
+use Rattle.block_meta.specs.Members.{Read, member_of, needed_of, of_kind, unsigned_of, signed_of, whole_of, text_of, ulid_of, version_from, version_of, or_absent, count_of}
+use Rattle.block_meta.specs.MetaReading.{text_or_empty}
 use Rattle.block_meta.specs.MetaText.{IsMember, Lacks, Has, HasOr, IsText, IsUlid, IsUnsigned, IsSigned, IsWhole, IsVersion, IsObject}
+
+-- a way to read a value, and what it reads
+pub record IsReadAs {A : Type 0} (read : Data → Read A) (Is : Data → A → Type 0) : Type 0 where
+  pub found : (value : Data) → OfValue (read value) (Is value)
+  pub only : (value : Data) (x : A) → Is value x → read value ≡ Ok x
 
 -- ---- members
 
-kept_some : (value found : Data) → cond (is_some (as_null value)) None (Some value) ≡ Some found → (value ≡ found) × (found ≢ null)
-kept_some null found e = absurd cc
-kept_some (boolean b) found e = (cc, λ n. absurd cc)
-kept_some (number n) found e = (cc, λ n. absurd cc)
-kept_some (string s) found e = (cc, λ n. absurd cc)
-kept_some (array ds) found e = (cc, λ n. absurd cc)
-kept_some (object ms) found e = (cc, λ n. absurd cc)
-
-kept_none : (value : Data) → ◌≡◌ {A = Option Data} (cond (is_some (as_null value)) None (Some value)) None → value ≡ null
-kept_none null e = refl
-kept_none (boolean b) e = absurd cc
-kept_none (number n) e = absurd cc
-kept_none (string s) e = absurd cc
-kept_none (array ds) e = absurd cc
-kept_none (object ms) e = absurd cc
-
-kept_same : (value : Data) → value ≢ null → cond (is_some (as_null value)) None (Some value) ≡ Some value
-kept_same null h = absurd (h refl)
-kept_same (boolean b) h = refl
-kept_same (number n) h = refl
-kept_same (string s) h = refl
-kept_same (array ds) h = refl
-kept_same (object ms) h = refl
-
-some_member : (o : Option Data) (found : Data) → option_and_then (λ value. cond (is_some (as_null value)) None (Some value)) o ≡ Some found → (o ≡ Some found) × (found ≢ null)
-some_member None found e = absurd cc
-some_member (Some value) found e = let both = kept_some value found e in (ap (λ (v : Data). Some v) both.0, both.1)
-
-no_member : (o : Option Data) → option_and_then (λ value. cond (is_some (as_null value)) None (Some value)) o ≡ None → (o ≡ None) ⊎ (o ≡ Some null)
-no_member None e = inl refl
-no_member (Some value) e = inr (ap (λ (v : Data). Some v) (kept_none value e))
-
-pub member_found : (name : List ℕ) (within value : Data) → member_of name within ≡ Some value → IsMember name within value
-unfolding member_of
-member_found name within value e = let both = some_member (get name within) value e in record { there = both.0; not_null = both.1 }
-
-pub member_lacks : (name : List ℕ) (within : Data) → member_of name within ≡ None → Lacks name within
-unfolding member_of
-member_lacks name within e = no_member (get name within) e
+-- a null is passed over, and nothing else
+null_cases : (value : Data) → ((value ≡ null) × (is_some (as_null value) ≡ true)) ⊎ ((value ≢ null) × (is_some (as_null value) ≡ false))
+null_cases null = inl (refl, refl)
+null_cases (boolean b) = inr (λ n. absurd cc, refl)
+null_cases (number n) = inr (λ n. absurd cc, refl)
+null_cases (string s) = inr (λ n. absurd cc, refl)
+null_cases (array ds) = inr (λ n. absurd cc, refl)
+null_cases (object ms) = inr (λ n. absurd cc, refl)
 
 pub member_only : (name : List ℕ) (within value : Data) → IsMember name within value → member_of name within ≡ Some value
 unfolding member_of
-member_only name within value is = rw is.there (kept_same value is.not_null)
+member_only name within value is =
+    elim (null_cases value) [
+      | inl p ↦ absurd (is.not_null p.0)
+      | inr p ↦ rw (is.there, p.1) refl
+    ]
 
 pub lacks_only : (name : List ℕ) (within : Data) → Lacks name within → member_of name within ≡ None
 unfolding member_of
 lacks_only name within (inl e) = rw e refl
 lacks_only name within (inr e) = rw e refl
 
+cases_at : (name : List ℕ) (within : Data) (o : Option Data) → get name within ≡ o → ((value : Data) × IsMember name within value) ⊎ Lacks name within
+cases_at name within None e = inr (inl e)
+cases_at name within (Some value) e =
+    elim (null_cases value) [
+      | inl p ↦ inr (inr (e ∙ ap (λ (v : Data). Some v) p.0))
+      | inr p ↦ inl (value, record { there = e; not_null = p.0 })
+    ]
+
+-- the member stands there, or there is none
+pub member_cases : (name : List ℕ) (within : Data) → ((value : Data) × IsMember name within value) ⊎ Lacks name within
+member_cases name within = cases_at name within (get name within) refl
+
 -- ---- a member that has to be there, and one that may be absent
 
-module _ {A : Type 0} (read : Data → Read A) (Is : Data → A → Type 0) where
-  found_at : (name : List ℕ) (within : Data) (e : MetaRefusal) (x : A) (o : Option Data) → member_of name within ≡ o → ((value : Data) (y : A) → read value ≡ Ok y → Is value y) → (ok_or o e >>= read) ≡ Ok x → Has Is name within x
-  found_at name within e x None is found r = absurd cc
-  found_at name within e x (Some value) is found r = (value, member_found name within value is, found value x r)
-
-  pub needed_found : (name : List ℕ) (within : Data) (x : A) → ((value : Data) (y : A) → read value ≡ Ok y → Is value y) → (needed_of name within >>= read) ≡ Ok x → Has Is name within x
+module _ {A : Type 0} {read : Data → Read A} {Is : Data → A → Type 0} (name : List ℕ) (r : IsReadAs read Is) where
+  needed_found : (within : Data) → OfValue (needed_of name within >>= read) (Has Is name within)
   unfolding needed_of
-  needed_found name within x found r = found_at name within _ x (member_of name within) refl found r
+  needed_found within =
+      elim (member_cases name within) [
+        | inl m ↦ rw (member_only name within m.0 m.1) (of_weaker (λ x is. (m.0, m.1, is)) (r.found m.0))
+        | inr lacks ↦ rw (lacks_only name within lacks) of_err
+      ]
 
-  pub needed_only : (name : List ℕ) (within : Data) (x : A) → ((value : Data) (y : A) → Is value y → read value ≡ Ok y) → Has Is name within x → (needed_of name within >>= read) ≡ Ok x
+  needed_only : (within : Data) (x : A) → Has Is name within x → (needed_of name within >>= read) ≡ Ok x
   unfolding needed_of
-  needed_only name within x only has = rw (member_only name within has.0 has.1) (only has.0 x has.2)
+  needed_only within x has = rw (member_only name within has.0 has.1) (r.only has.0 x has.2)
 
-  optional_at : (default : A) (name : List ℕ) (within : Data) (x : A) (o : Option Data) → member_of name within ≡ o → ((value : Data) (y : A) → read value ≡ Ok y → Is value y) → or_absent default read o ≡ Ok x → HasOr default Is name within x
-  optional_at default name within x None is found r = inl (member_lacks name within is, sym (ok_is {E = MetaRefusal} _ _ r))
-  optional_at default name within x (Some value) is found r = inr (value, member_found name within value is, found value x r)
+  pub needed : IsReadAs (λ within. needed_of name within >>= read) (Has Is name)
+  needed = record { found = needed_found; only = needed_only }
 
-  pub optional_found : (default : A) (name : List ℕ) (within : Data) (x : A) → ((value : Data) (y : A) → read value ≡ Ok y → Is value y) → or_absent default read (member_of name within) ≡ Ok x → HasOr default Is name within x
-  optional_found default name within x found r = optional_at default name within x (member_of name within) refl found r
+  optional_found : (default : A) (within : Data) → OfValue (or_absent default read (member_of name within)) (HasOr default Is name within)
+  optional_found default within =
+      elim (member_cases name within) [
+        | inl m ↦ rw (member_only name within m.0 m.1) (of_weaker (λ x is. inr (m.0, m.1, is)) (r.found m.0))
+        | inr lacks ↦ rw (lacks_only name within lacks) (of_ok (inl (lacks, refl)))
+      ]
 
-  pub optional_only : (default : A) (name : List ℕ) (within : Data) (x : A) → ((value : Data) (y : A) → Is value y → read value ≡ Ok y) → HasOr default Is name within x → or_absent default read (member_of name within) ≡ Ok x
-  optional_only default name within x only (inl (lacks, is)) = rw (lacks_only name within lacks, is) refl
-  optional_only default name within x only (inr has) = rw (member_only name within has.0 has.1) (only has.0 x has.2)
+  optional_only : (default : A) (within : Data) (x : A) → HasOr default Is name within x → or_absent default read (member_of name within) ≡ Ok x
+  optional_only default within x (inl (lacks, is)) = rw (lacks_only name within lacks, is) refl
+  optional_only default within x (inr has) = rw (member_only name within has.0 has.1) (r.only has.0 x has.2)
+
+  pub optional : (default : A) → IsReadAs (λ within. or_absent default read (member_of name within)) (HasOr default Is name)
+  optional default = record { found = optional_found default; only = optional_only default }
 
 -- ---- kinds
 
-pub kind_found : {A : Type 0} (name : List ℕ) (o : Option A) (x : A) → of_kind name o ≡ Ok x → o ≡ Some x
+text_found : (name : List ℕ) (value : Data) → OfValue (text_of name value) (IsText value)
+unfolding text_of of_kind
+text_found name null = of_err
+text_found name (boolean b) = of_err
+text_found name (number n) = of_err
+text_found name (string s) = of_ok refl
+text_found name (array ds) = of_err
+text_found name (object ms) = of_err
+
+text_only : (name : List ℕ) (value : Data) (text : List ℕ) → IsText value text → text_of name value ≡ Ok text
+unfolding text_of of_kind
+text_only name value text is = rw is refl
+
+pub text : (name : List ℕ) → IsReadAs (text_of name) IsText
+text name = record { found = text_found name; only = text_only name }
+
+pub items_found : (name : List ℕ) (value : Data) → OfValue (of_kind name (as_array value)) (λ items. value ≡ array items)
 unfolding of_kind
-kind_found name None x e = absurd cc
-kind_found name (Some y) x e = cc
+items_found name null = of_err
+items_found name (boolean b) = of_err
+items_found name (number n) = of_err
+items_found name (string s) = of_err
+items_found name (array ds) = of_ok refl
+items_found name (object ms) = of_err
 
-str_found : (value : Data) (text : List ℕ) → as_str value ≡ Some text → value ≡ string text
-str_found null text e = absurd cc
-str_found (boolean b) text e = absurd cc
-str_found (number n) text e = absurd cc
-str_found (string s) text e = cc
-str_found (array ds) text e = absurd cc
-str_found (object ms) text e = absurd cc
-
-pub array_found : (value : Data) (items : Items) → as_array value ≡ Some items → value ≡ array items
-array_found null items e = absurd cc
-array_found (boolean b) items e = absurd cc
-array_found (number n) items e = absurd cc
-array_found (string s) items e = absurd cc
-array_found (array ds) items e = cc
-array_found (object ms) items e = absurd cc
-
-pub object_found : (value : Data) (members : Members) → as_object value ≡ Some members → value ≡ object members
-object_found null xs e = absurd cc
-object_found (boolean b) xs e = absurd cc
-object_found (number n) xs e = absurd cc
-object_found (string s) xs e = absurd cc
-object_found (array ds) xs e = absurd cc
-object_found (object ms) xs e = cc
+pub members_found : (name : List ℕ) (value : Data) → OfValue (of_kind name (as_object value)) (λ members. value ≡ object members)
+unfolding of_kind
+members_found name null = of_err
+members_found name (boolean b) = of_err
+members_found name (number n) = of_err
+members_found name (string s) = of_err
+members_found name (array ds) = of_err
+members_found name (object ms) = of_ok refl
 
 pub is_object_found : (value : Data) → is_some (as_object value) ≡ true → IsObject value
 is_object_found null e = absurd cc
@@ -139,73 +139,84 @@ number_found f (string s) x e = absurd cc
 number_found f (array ds) x e = absurd cc
 number_found f (object ms) x e = absurd cc
 
+kind_found : {A : Type 0} (name : List ℕ) (o : Option A) → OfValue (of_kind name o) (λ x. o ≡ Some x)
+unfolding of_kind
+kind_found name None = of_err
+kind_found name (Some x) = of_ok refl
+
 u64_found : (n : Num) (x : ℕ) → as_u64 n ≡ Some x → n ≡ unsigned x
 u64_found (unsigned m) x e = cc
 u64_found (negative z) x e = absurd cc
 u64_found (float f) x e = absurd cc
 
-pub text_found : (name : List ℕ) (value : Data) (text : List ℕ) → text_of name value ≡ Ok text → IsText value text
-unfolding text_of
-text_found name value text e = str_found value text (kind_found name _ text e)
+unsigned_is : (value : Data) (n : ℕ) → option_and_then as_u64 (as_number value) ≡ Some n → IsUnsigned value n
+unsigned_is value n e = let p = number_found as_u64 value n e in p.1 ∙ ap number (u64_found p.0 n p.2)
 
-pub text_only : (name : List ℕ) (value : Data) (text : List ℕ) → IsText value text → text_of name value ≡ Ok text
-unfolding text_of of_kind
-text_only name value text is = rw is refl
-
-pub ulid_found : (name : List ℕ) (value : Data) (u : ℕ) → ulid_of name value ≡ Ok u → IsUlid value u
-unfolding ulid_of
-ulid_found name value u e =
-    let p = bind_ok (text_of name value) _ u e in
-    (p.0, text_found name value p.0 p.1, ulid_of-found p.0 u (refused_as_ok _ (ulid.ulid_of p.0) u p.2))
-
-pub ulid_only : (name : List ℕ) (value : Data) (u : ℕ) → IsUlid value u → ulid_of name value ≡ Ok u
-unfolding ulid_of
-ulid_only name value u is = rw (text_only name value is.0 is.1, ulid_of-only is.0 u is.2) refl
-
-pub unsigned_found : (name : List ℕ) (value : Data) (n : ℕ) → unsigned_of name value ≡ Ok n → IsUnsigned value n
+unsigned_found : (name : List ℕ) (value : Data) → OfValue (unsigned_of name value) (IsUnsigned value)
 unfolding unsigned_of
-unsigned_found name value n e =
-    let p = number_found as_u64 value n (kind_found name _ n e) in
-    p.1 ∙ ap number (u64_found p.0 n p.2)
+unsigned_found name value = of_weaker (unsigned_is value) (kind_found name (option_and_then as_u64 (as_number value)))
 
-pub unsigned_only : (name : List ℕ) (value : Data) (n : ℕ) → IsUnsigned value n → unsigned_of name value ≡ Ok n
+unsigned_only : (name : List ℕ) (value : Data) (n : ℕ) → IsUnsigned value n → unsigned_of name value ≡ Ok n
 unfolding unsigned_of of_kind
 unsigned_only name value n is = rw is refl
 
-pub signed_found : (name : List ℕ) (value : Data) (z : ℤ) → signed_of name value ≡ Ok z → IsSigned value z
-unfolding signed_of
-signed_found name value z e = number_found as_i64 value z (kind_found name _ z e)
+pub unsigned_number : (name : List ℕ) → IsReadAs (unsigned_of name) IsUnsigned
+unsigned_number name = record { found = unsigned_found name; only = unsigned_only name }
 
-pub signed_only : (name : List ℕ) (value : Data) (z : ℤ) → IsSigned value z → signed_of name value ≡ Ok z
+signed_found : (name : List ℕ) (value : Data) → OfValue (signed_of name value) (IsSigned value)
+unfolding signed_of
+signed_found name value = of_weaker (number_found as_i64 value) (kind_found name (option_and_then as_i64 (as_number value)))
+
+signed_only : (name : List ℕ) (value : Data) (z : ℤ) → IsSigned value z → signed_of name value ≡ Ok z
 unfolding signed_of of_kind
 signed_only name value z is = rw (is.1, is.2) refl
 
-pub whole_found : (name : List ℕ) (value : Data) (z : ℤ) → whole_of name value ≡ Ok z → IsWhole value z
-unfolding whole_of
-whole_found name value z e = number_found as_integer value z (kind_found name _ z e)
+pub signed_number : (name : List ℕ) → IsReadAs (signed_of name) IsSigned
+signed_number name = record { found = signed_found name; only = signed_only name }
 
-pub whole_only : (name : List ℕ) (value : Data) (z : ℤ) → IsWhole value z → whole_of name value ≡ Ok z
+whole_found : (name : List ℕ) (value : Data) → OfValue (whole_of name value) (IsWhole value)
+unfolding whole_of
+whole_found name value = of_weaker (number_found as_integer value) (kind_found name (option_and_then as_integer (as_number value)))
+
+whole_only : (name : List ℕ) (value : Data) (z : ℤ) → IsWhole value z → whole_of name value ≡ Ok z
 unfolding whole_of of_kind
 whole_only name value z is = rw (is.1, is.2) refl
 
-one_at : (b : Bool) (x : Unit {0}) (e : MetaRefusal) → unless b e ≡ Ok x → b ≡ true
-one_at true x e h = refl
-one_at false x e h = absurd cc
+pub whole_number : (name : List ℕ) → IsReadAs (whole_of name) IsWhole
+whole_number name = record { found = whole_found name; only = whole_only name }
 
-one_only : (n : ℕ) (x : Unit {0}) → version_from (Some n) ≡ Ok x → n ≡ 1
-one_only n x e = let b = one_at (n == 1) x _ e in grind (arith, nat_tests)
+ulid_found : (name : List ℕ) (value : Data) → OfValue (ulid_of name value) (IsUlid value)
+unfolding ulid_of
+ulid_found name value = of_bind _ (text_found name value) (λ t is. of_refused _ (ulid.ulid_of t) (λ u e. (t, is, ulid_of-found t u e)))
 
-version_found_at : (value : Data) (o : Option ℕ) → option_and_then as_u64 (as_number value) ≡ o → (x : Unit {0}) → version_from o ≡ Ok x → value ≡ number (unsigned 1)
-version_found_at value None is x e = absurd cc
-version_found_at value (Some n) is x e =
-    let p = number_found as_u64 value n is in
-    let one = one_only n x e in
-    p.1 ∙ ap number (u64_found p.0 n p.2) ∙ ap (λ (m : ℕ). number (unsigned m)) one
+ulid_only : (name : List ℕ) (value : Data) (u : ℕ) → IsUlid value u → ulid_of name value ≡ Ok u
+unfolding ulid_of
+ulid_only name value u is = rw (text_only name value is.0 is.1, ulid_of-only is.0 u is.2) refl
 
-pub version_found : (value : Data) (x : Unit {0}) → version_of value ≡ Ok x → IsVersion value x
+pub ulid_text : (name : List ℕ) → IsReadAs (ulid_of name) IsUlid
+ulid_text name = record { found = ulid_found name; only = ulid_only name }
+
+version_at : (value : Data) (o : Option ℕ) → option_and_then as_u64 (as_number value) ≡ o → OfValue (version_from o) (IsVersion value)
+version_at value None is = of_err
+version_at value (Some n) is = of_test (n == 1) _ (λ one. let same : n ≡ 1 = grind (arith, nat_tests) in unsigned_is value n is ∙ ap (λ (m : ℕ). number (unsigned m)) same)
+
+version_found : (value : Data) → OfValue (version_of value) (IsVersion value)
 unfolding version_of
-version_found value x e = version_found_at value _ refl x e
+version_found value = version_at value _ refl
 
-pub version_only : (value : Data) (x : Unit {0}) → IsVersion value x → version_of value ≡ Ok x
+version_only : (value : Data) (x : Unit {0}) → IsVersion value x → version_of value ≡ Ok x
 unfolding version_of
 version_only value x is = rw is refl
+
+pub version : IsReadAs version_of IsVersion
+version = record { found = version_found; only = version_only }
+
+-- ---- numbers that count, and texts that may be absent
+
+pub counted : (name : List ℕ) → IsReadAs (count_of name) (HasOr 0 IsUnsigned name)
+unfolding count_of
+counted name = optional name (unsigned_number name) 0
+
+pub optional_text : (name : List ℕ) → IsReadAs (text_or_empty name) (HasOr [] IsText name)
+unfolding text_or_empty
+optional_text name = optional name (text name) []

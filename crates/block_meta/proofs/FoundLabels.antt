@@ -5,7 +5,8 @@ use Rattle.std.specs.declared.cmp.Ordering.TheVariants.{Less, Equal, Greater}
 use Rattle.std.specs.Ordering.{match_ordering}
 use Rattle.std.proofs.lemmas.Bool.Decides.{nat_tests}
 use Rattle.reading_core.specs.Reading.{◌>>=◌}
-use Rattle.reading_core.proofs.Binds.{bind_ok, ok_is, refused_as_ok, cond_ok}
+use Rattle.reading_core.proofs.Binds.{bind_ok, ok_is, cond_ok}
+use Rattle.block_meta.proofs.Bound.{OfValue, of_bind, of_refused}
 use Rattle.label_sets.specs.declared.label.Label.{Label}
 use Rattle.label_sets.specs.declared.label_refusal.LabelRefusal.{LabelRefusal}
 use Rattle.label_sets.specs.Labels.{compare_texts, IsLabelSet, has_lesser_name, value_of, added}
@@ -15,10 +16,10 @@ use Rattle.label_sets.proofs.OrderedLabels.{value_of-placed, IsLabelSet-placed}
 use Rattle.serde_json.specs.Data.{Data, string, Members, no_members, member}
 use Rattle.serde_json.specs.Find.{get_member, as_object}
 use Rattle.block_meta.specs.declared.refusal.MetaRefusal.{MetaRefusal}
-use Rattle.block_meta.specs.Members.{of_kind, text_of}
+use Rattle.block_meta.specs.Members.{of_kind}
 use Rattle.block_meta.specs.MetaReading.{label_added, labels_from}
 use Rattle.block_meta.specs.MetaText.{NamesDiffer, AreLabels}
-use Rattle.block_meta.proofs.Found.{object_found, kind_found, text_found, text_only}
+use Rattle.block_meta.proofs.Found.{IsReadAs, text, members_found as object_members_found}
 
 -- ---- members by name
 
@@ -76,26 +77,22 @@ one_more labels more name value filled missed is lawful =
       lawful = subst IsLabelSet (sym is) (IsLabelSet-placed l labels filled.named filled.valued missed lawful);
     }
 
-added_found : (labels more : List Label) (name : List ℕ) (value : Data) (text : List ℕ) → value ≡ string text → added labels name text ≡ Ok more → IsLabelSet labels → IsOneMore labels more name value
-unfolding added
-added_found labels more name value text is e lawful =
-    let named = cond_ok (length name == 0) _ _ more e in
-    let valued = cond_ok (length text == 0) _ _ more named.1 in
-    let missed = cond_ok (is_some (value_of labels name)) _ _ more valued.1 in
-    let filled : IsFilled name value = record { text = text; is_text = is; named = filled_is name named.0; valued = filled_is text valued.0 } in
-    one_more labels more name value filled (none_is _ missed.0) (sym (ok_is {E = LabelRefusal} _ _ missed.1)) lawful
-
 more_found : (labels more : List Label) (name : List ℕ) (value : Data) → label_added labels name value ≡ Ok more → IsLabelSet labels → IsOneMore labels more name value
-unfolding label_added
+unfolding label_added added
 more_found labels more name value e lawful =
-    let p = bind_ok (text_of (codes "labels") value) _ more e in
-    added_found labels more name value p.0 (text_found (codes "labels") value p.0 p.1) (refused_as_ok _ (added labels name p.0) more p.2) lawful
+    let found : OfValue (label_added labels name value) (λ more. IsOneMore labels more name value) = of_bind _ ((text (codes "labels")).found value) (λ t is. of_refused _ (added labels name t) (λ more e.
+    let named = cond_ok (length name == 0) _ _ more e in
+    let valued = cond_ok (length t == 0) _ _ more named.1 in
+    let missed = cond_ok (is_some (value_of labels name)) _ _ more valued.1 in
+    let filled : IsFilled name value = record { text = t; is_text = is; named = filled_is name named.0; valued = filled_is t valued.0 } in
+    one_more labels more name value filled (none_is _ missed.0) (sym (ok_is {E = LabelRefusal} _ _ missed.1)) lawful)) in
+    found.holds more e
 
 more_read : (labels : List Label) (name : List ℕ) (value : Data) → IsFilled name value → value_of labels name ≡ None → (more : List Label) × (label_added labels name value ≡ Ok more)
 unfolding label_added added
 more_read labels name value filled missed = (
   placed has_lesser_name (record { name = name; value = filled.text }) labels,
-  rw (text_only (codes "labels") value filled.text filled.is_text, is_filled name filled.named, is_filled filled.text filled.valued, missed) refl,
+  rw ((text (codes "labels")).only value filled.text filled.is_text, is_filled name filled.named, is_filled filled.text filled.valued, missed) refl,
 )
 
 -- ---- all labels
@@ -183,19 +180,14 @@ texts_same None (Some t) e = absurd cc
 texts_same (Some t) None e = absurd cc
 texts_same (Some t) (Some u) e = cc
 
-pub labels_found : (value : Data) (labels : List Label) → (of_kind (codes "labels") (as_object value) >>= labels_from []) ≡ Ok labels → AreLabels value labels
-labels_found value labels e =
-    let p = bind_ok (of_kind (codes "labels") (as_object value)) _ labels e in
-    let read = members_found p.0 [] labels tt p.2 in
-    record {
-      members = p.0;
-      is_object = object_found value p.0 (kind_found (codes "labels") _ p.0 p.1);
-      differ = read.differ;
-      lawful = read.lawful;
-      same = λ name. read.same name (value_nil name);
-    }
+labels_found : (value : Data) → OfValue (of_kind (codes "labels") (as_object value) >>= labels_from []) (AreLabels value)
+labels_found value = of_bind _ (object_members_found (codes "labels") value) (λ members is. record {
+  holds = λ labels e.
+      let read = members_found members [] labels tt e in
+      record { members = members; is_object = is; differ = read.differ; lawful = read.lawful; same = λ name. read.same name (value_nil name) };
+})
 
-pub labels_only : (value : Data) (labels : List Label) → AreLabels value labels → (of_kind (codes "labels") (as_object value) >>= labels_from []) ≡ Ok labels
+labels_only : (value : Data) (labels : List Label) → AreLabels value labels → (of_kind (codes "labels") (as_object value) >>= labels_from []) ≡ Ok labels
 unfolding of_kind
 labels_only value labels are =
     let filled = λ (name : List ℕ) (v : Data) (e : get_member name are.members ≡ Some v).
@@ -206,3 +198,6 @@ labels_only value labels are =
     let read = members_found are.members [] made.0 tt made.1 in
     let is : made.0 ≡ labels = same_sets made.0 labels read.lawful are.lawful (λ name. texts_same _ _ (sym (read.same name (value_nil name)) ∙ are.same name)) in
     rw are.is_object (made.1 ∙ ap (λ (ls : List Label). Ok ls) is)
+
+pub labels_read : IsReadAs (λ value. of_kind (codes "labels") (as_object value) >>= labels_from []) AreLabels
+labels_read = record { found = labels_found; only = labels_only }

@@ -1,7 +1,7 @@
+pub mod Bound
 pub mod Plain
 pub mod Texts
 pub mod Lists
-pub mod UlidBytes
 pub mod Again
 pub mod Rising
 pub mod LabelMembers

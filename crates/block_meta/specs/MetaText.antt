@@ -32,7 +32,7 @@ Lacks name within = (get name within ≡ None) ⊎ (get name within ≡ Some nul
 abbrev pub Has : {A : Type 0} → (Data → A → Type 0) → List ℕ → Data → A → Type 0
 Has Is name within x = (value : Data) × IsMember name within value × Is value x
 
--- The same, or x is the default and there is no such member.
+-- The object's member of that name is a value of x, or there is none and x is the default.
 abbrev pub HasOr : {A : Type 0} → A → (Data → A → Type 0) → List ℕ → Data → A → Type 0
 HasOr default Is name within x = (Lacks name within × (x ≡ default)) ⊎ Has Is name within x
 

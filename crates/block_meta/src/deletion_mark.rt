@@ -67,7 +67,8 @@ impl DeletionMark {
 
     #[tactic(auto, unfolding(crate::specs::MetaReading::deletion_time_of))]
     fn read_time(alloc: Global, mark: &Value) -> Result<u64, MetaRefusal>
-        ensures gives { Gives WithoutMemory (λ time. time) result (deletion_time_of (view mark.now)) }
+        ensures gives { Gives WithoutMemory (λ time. time) result
+            (deletion_time_of (view mark.now)) }
         ensures early { IfOk result (λ time. time < 2 ^ 46) }
     {
         let time = unsigned(
@@ -87,7 +88,8 @@ impl DeletionMark {
         ensures text { IfOk result (λ blob. blob ≡ mark_text (mark_fields_of self.now)) }
         ensures again { OnOk result (mark_of_text (mark_text (mark_fields_of self.now))
             ≡ Ok (mark_fields_of self.now)) }
-        ensures lawful { OnOk result (IsMarkText (mark_text (mark_fields_of self.now)) (mark_fields_of self.now)) }
+        ensures lawful { OnOk result
+            (IsMarkText (mark_text (mark_fields_of self.now)) (mark_fields_of self.now)) }
     {
         let value = self.to_value(alloc)?;
         Ok(Blob::from_vec(value.to_vec(alloc)?))

@@ -106,7 +106,8 @@ impl Meta {
         ensures text { IfOk result (λ blob. blob ≡ meta_text (fields_of self.now)) }
         ensures again { OnOk result (meta_of_text (meta_text (fields_of self.now))
             ≡ Ok (fields_of self.now)) }
-        ensures lawful { OnOk result (IsMetaText (meta_text (fields_of self.now)) (fields_of self.now)) }
+        ensures lawful { OnOk result
+            (IsMetaText (meta_text (fields_of self.now)) (fields_of self.now)) }
     {
         let value = self.to_value(alloc)?;
         Ok(Blob::from_vec(value.to_vec(alloc)?))

@@ -2,7 +2,6 @@ ghost use Rattle.std.specs.Prelude.{◌≡◌};
 ghost use Rattle.block_meta.specs.declared.refusal.MetaRefusal.TheVariants.{NoMemory as WithoutMemory};
 
 use label_sets::Text;
-use std::alloc::{AllocError, AllocFailed};
 
 /// Why a text is no meta or no deletion mark. A field is named by the last part of its path.
 #[derive(Debug, PartialEq, Eq, Drop)]
@@ -28,22 +27,6 @@ impl From<list_core::NoMemory> for MetaRefusal {
     ghost from_gives = { λ _ e. e ≡ WithoutMemory };
 
     fn from(_: list_core::NoMemory) -> Self {
-        MetaRefusal::NoMemory
-    }
-}
-
-impl From<AllocError> for MetaRefusal {
-    ghost from_gives = { λ _ e. e ≡ WithoutMemory };
-
-    fn from(_: AllocError) -> Self {
-        MetaRefusal::NoMemory
-    }
-}
-
-impl<T: Drop> From<AllocFailed<T>> for MetaRefusal {
-    ghost from_gives = { λ _ e. e ≡ WithoutMemory };
-
-    fn from(_: AllocFailed<T>) -> Self {
         MetaRefusal::NoMemory
     }
 }

@@ -17,4 +17,4 @@ pub returns-clause-lawful : goal.returns-clause-lawful
 returns-clause-lawful c =
     let m = mark_fields_of c.args.self.now in
     let text = mark_written _ _ m c.in_ok-value.ensures.value c.in_ok-to_vec.ensures.text in
-    mark_text_found _ m (mark_reads c.in_ok-to_vec.field-0.items _ m c.in_ok-value.ensures.value text c.in_ok-to_vec.ensures.utf8 c.in_ok-to_vec.ensures.reads_back c.in_ok-value.ensures.again)
+    (mark_text_found _).holds m (mark_reads c.in_ok-to_vec.field-0.items _ m c.in_ok-value.ensures.value text c.in_ok-to_vec.ensures.utf8 c.in_ok-to_vec.ensures.reads_back c.in_ok-value.ensures.again)

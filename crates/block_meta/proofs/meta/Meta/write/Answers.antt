@@ -17,4 +17,4 @@ pub returns-clause-lawful : goal.returns-clause-lawful
 returns-clause-lawful c =
     let m = fields_of c.args.self.now in
     let text = meta_written _ _ m c.in_ok-value.ensures.value c.in_ok-to_vec.ensures.text in
-    meta_text_found _ m (meta_reads c.in_ok-to_vec.field-0.items _ m c.in_ok-value.ensures.value text c.in_ok-to_vec.ensures.utf8 c.in_ok-to_vec.ensures.reads_back c.in_ok-value.ensures.again)
+    (meta_text_found _).holds m (meta_reads c.in_ok-to_vec.field-0.items _ m c.in_ok-value.ensures.value text c.in_ok-to_vec.ensures.utf8 c.in_ok-to_vec.ensures.reads_back c.in_ok-value.ensures.again)
