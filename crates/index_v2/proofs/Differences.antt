@@ -2,18 +2,21 @@
 use Rattle.std.proofs.Common.{◌≡◌, ◌≢◌, ℕ, zero, suc, ◌+◌, ◌<◌, ◌≤◌, Bool, true, false, cond, List, [], ◌∷◌, length, zip, drop, get_or, min, Option, Some, None, Result, Ok, Err, refl, sym, ap, subst, ◌∙◌, arith, add-one, drop-cons, eqb, inl, inr}
 use Rattle.std.specs.Prelude.{slice_get, is_ok, IfSome, ◌&&◌, ◌||◌}
 use Rattle.std.specs.List.{list_any, list_all}
-use Rattle.std.specs.List.Sorted.{IsBinarySearchResult}
+use Rattle.std.specs.List.Sorted.{IsBinarySearchResult, IsStrictlyIncreasing, IsStrictlySortedBy}
 use Rattle.std.specs.Ordering.{nat_cmp}
 use Rattle.std.specs.declared.cmp.Ordering.{Ordering}
 use Rattle.std.specs.declared.cmp.Ordering.TheVariants.{Less, Equal, Greater}
 use Rattle.std.proofs.lemmas.Bool.{ne_eqb, eq-eqb, cases_lt}
 use Rattle.std.proofs.lemmas.List.{drop_all}
 use Rattle.std.proofs.lemmas.List.Sorted.{searched}
-use Rattle.std.proofs.lemmas.Option.{slice_get_within, slice_get-get_or}
+use Rattle.std.proofs.lemmas.Map.Keys.{below_from_sorted, sorted_from_strictly_increasing}
+use Rattle.std.proofs.lemmas.Option.{same_Some, slice_get_within, slice_get-get_or}
 use Rattle.label_sets.specs.declared.label.Label.{Label}
 use Rattle.index_parts.specs.declared.postings_row.PostingsRow.{PostingsRow}
-use Rattle.index_v2.specs.declared.index_series.IndexSeries.{IndexSeries}
-use Rattle.index_v2.specs.RowOrder.{compare_row, AreAscending, IsRowAt, StandsAt, DoRise}
+use Rattle.index_file.specs.declared.index_series.IndexSeries.{IndexSeries}
+use Rattle.index_parts.specs.Rows.{compare_rows}
+use Rattle.index_file.proofs.Members.{less_at}
+use Rattle.index_v2.specs.RowOrder.{compare_row, IsRowAt, StandsAt}
 use Rattle.index_v2.specs.WholeReading.{belongs, is_of_row, stray_from, gap_from, gap_of, gap_among, earlier, by_order}
 use Rattle.std.proofs.lemmas.Cmp.{tied_itself}
 use Rattle.index_v2.proofs.RowPlaces.{rows_total, stands_behind}
@@ -22,9 +25,12 @@ use Rattle.index_v2.proofs.WholeLoops.{drop_at}
 
 -- ---- a number among others that ascend
 
-rise_le : (numbers : List ℕ) → DoRise numbers → (i j : ℕ) → i ≤ j → j < length numbers → get_or numbers i 0 ≤ get_or numbers j 0
-rise_le numbers r i j le lt = elim (cases_lt i j) [
-  | inl less ↦ let h = r.rise i j less lt in omega arith
+rise_less : (numbers : List ℕ) → IsStrictlyIncreasing numbers → (i j : ℕ) → i < j → j < length numbers → get_or numbers i 0 < get_or numbers j 0
+rise_less numbers rises i j lt within = below_from_sorted numbers i j 0 (sorted_from_strictly_increasing numbers rises) lt within
+
+rise_le : (numbers : List ℕ) → IsStrictlyIncreasing numbers → (i j : ℕ) → i ≤ j → j < length numbers → get_or numbers i 0 ≤ get_or numbers j 0
+rise_le numbers rises i j le lt = elim (cases_lt i j) [
+  | inl less ↦ let h = rise_less numbers rises i j less lt in omega arith
   | inr ge ↦ let same : i ≡ j = omega arith in let e = ap (λ (k : ℕ). get_or numbers k 0) same in omega arith
 ]
 
@@ -33,14 +39,14 @@ abbrev pub Among : List ℕ → ℕ → Result ℕ ℕ → Type 0
 Among numbers number (Ok place) = (place < length numbers) × (get_or numbers place 0 ≡ number) × ((k : ℕ) → k < length numbers → k ≢ place → get_or numbers k 0 ≢ number)
 Among numbers number (Err place) = (k : ℕ) → k < length numbers → get_or numbers k 0 ≢ number
 
-pub among : (numbers : List ℕ) (number : ℕ) (r : Result ℕ ℕ) → DoRise numbers → IsBinarySearchResult (λ y. nat_cmp y number) numbers r → Among numbers number r
+pub among : (numbers : List ℕ) (number : ℕ) (r : Result ℕ ℕ) → IsStrictlyIncreasing numbers → IsBinarySearchResult (λ y. nat_cmp y number) numbers r → Among numbers number r
 among numbers number (Ok place) rising is =
     let h : (place < length numbers) × (get_or numbers place 0 ≡ number) = searched numbers number (Ok place) is (rise_le numbers rising) in (
       h.0,
       h.1,
       λ k lt other e. elim (cases_lt k place) [
-        | inl less ↦ let x = rising.rise k place less h.0 in let same = h.1 in omega arith
-        | inr ge ↦ let x = rising.rise place k (omega arith) lt in let same = h.1 in omega arith
+        | inl less ↦ let x = rise_less numbers rising k place less h.0 in let same = h.1 in omega arith
+        | inr ge ↦ let x = rise_less numbers rising place k (omega arith) lt in let same = h.1 in omega arith
       ],
     )
 among numbers number (Err place) rising is =
@@ -90,7 +96,7 @@ has number [] place lt is = absurd (omega arith)
 has number (n ∷ list) zero lt is = rw (eq-eqb n number is) refl
 has number (n ∷ list) (suc place) lt is = rw (has number list place (omega arith) is) (any_true (eqb n number))
 
-pub has_number_is : (number : ℕ) (list : List ℕ) (r : Result ℕ ℕ) (found : Bool) → DoRise list → IsBinarySearchResult (λ y. nat_cmp y number) list r → found ≡ is_ok r → found ≡ list_any (λ n. eqb n number) list
+pub has_number_is : (number : ℕ) (list : List ℕ) (r : Result ℕ ℕ) (found : Bool) → IsStrictlyIncreasing list → IsBinarySearchResult (λ y. nat_cmp y number) list r → found ≡ is_ok r → found ≡ list_any (λ n. eqb n number) list
 has_number_is number list (Ok place) found rising is e = let a = among list number (Ok place) rising is in e ∙ sym (has number list place a.0 a.1)
 has_number_is number list (Err place) found rising is e = e ∙ sym (lacks number list (among list number (Err place) rising is))
 
@@ -132,9 +138,6 @@ stray_end rows lists listed place far le = sym (far.whole ∙ rw (drop_all place
 
 -- ---- the gap of a label
 
-some_is : {A : Type 0} (x y : A) → ◌≡◌ {A = Option A} (Some x) (Some y) → x ≡ y
-some_is x y e = cc
-
 gap_less : (from : ℕ) (row : PostingsRow) (rows : List PostingsRow) (list : List ℕ) (lists : List (List ℕ)) (number : ℕ) (label : Label) → compare_row row label.name label.value ≡ Less → gap_from from (row ∷ rows) (list ∷ lists) number label ≡ gap_from (from + 1) rows lists number label
 unfolding gap_from
 gap_less from row rows list lists number label e = rw e refl
@@ -169,21 +172,21 @@ found_from : (from place to : ℕ) (rows : List PostingsRow) (lists : List (List
 found_from from place to [] lists number label list e many below row at same here = absurd cc
 found_from from place to (r ∷ rows) [] number label list e many below row at same here = absurd cc
 found_from from zero to (r ∷ rows) (l ∷ lists) number label list e many below row at same here =
-    let first : r ≡ row = some_is r row at in
-    let is_list : l ≡ list = some_is l list here in
+    let first : r ≡ row = same_Some r row at in
+    let is_list : l ≡ list = same_Some l list here in
     let is_to : from ≡ to = omega arith in
     gap_equal from r rows l lists number label (ap (λ (x : PostingsRow). compare_row x label.name label.value) first ∙ same) ∙ rw (is_list, is_to) refl
 found_from from (suc place) to (r ∷ rows) (l ∷ lists) number label list e many below row at same here =
     gap_less from r rows l lists number label (below 0 r (omega arith) refl) ∙ found_from (from + 1) place to rows lists number label list (omega arith) (omega arith) (λ k other lt stands. below (suc k) other (omega arith) stands) row at same here
 
-pub gap_found : (rows : List PostingsRow) (lists : List (List ℕ)) (number place : ℕ) (name value : List ℕ) (label : Label) (list seen : List ℕ) (test : Bool) → AreAscending rows → name ≡ label.name → value ≡ label.value → length rows ≡ length lists → IsRowAt rows name value place
+pub gap_found : (rows : List PostingsRow) (lists : List (List ℕ)) (number place : ℕ) (name value : List ℕ) (label : Label) (list seen : List ℕ) (test : Bool) → IsStrictlySortedBy compare_rows rows → name ≡ label.name → value ≡ label.value → length rows ≡ length lists → IsRowAt rows name value place
     → list ≡ get_or lists place list → seen ≡ list → test ≡ list_any (λ n. eqb n number) seen → gap_from 0 rows lists number label ≡ cond test None (Some place)
 gap_found rows lists number place name value label list seen test ascend n v many is here s e =
     let lt = slice_get_within rows place is.row is.stands in
     let row_name : is.row.name ≡ label.name = is.name_is ∙ n in
     let row_value : is.row.value ≡ label.value = is.value_is ∙ v in
     let equal : compare_row is.row label.name label.value ≡ Equal = same_compare is.row is.row label.name label.value row_name row_value ∙ tied_itself rows_total is.row in
-    let below : (k : ℕ) (row : PostingsRow) → k < place → slice_get rows k ≡ Some row → compare_row row label.name label.value ≡ Less = λ k row less at. same_compare row is.row label.name label.value row_name row_value ∙ ascend.ascend k place row is.row less at is.stands in
+    let below : (k : ℕ) (row : PostingsRow) → k < place → slice_get rows k ≡ Some row → compare_row row label.name label.value ≡ Less = λ k row less at. same_compare row is.row label.name label.value row_name row_value ∙ less_at compare_rows rows k place row is.row ascend less at is.stands in
     let list_is : slice_get lists place ≡ Some list = slice_get-get_or lists place list (omega arith) ∙ ap Some (sym here) in
     found_from 0 place place rows lists number label list (omega arith) many below is.row is.stands equal list_is
     ∙ ap (λ (b : Bool). cond b None (Some place)) (ap (list_any (λ n. eqb n number)) (sym s) ∙ sym e)

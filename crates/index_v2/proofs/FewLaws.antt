@@ -1,6 +1,7 @@
 -- How many members the lists have that an index gives, at most.
 use Rattle.std.proofs.Common.{◌≡◌, ℕ, zero, suc, ◌+◌, ◌*◌, ◌<◌, ◌≤◌, Bool, true, false, List, [], ◌∷◌, length, map, Option, Some, Result, Ok, Err, refl, sym, ap, subst, ◌∙◌, arith}
 use Rattle.std.proofs.lemmas.List.{length-map}
+use Rattle.std.proofs.lemmas.List.Sums.{length-filter, count_by-le-length}
 use Rattle.std.specs.Prelude.{slice_get, slice_index_or, ◌==◌, MatchBool, IfOk, if◌then◌else◌}
 use Rattle.std.specs.List.{All, filter}
 use Rattle.std.specs.Str.{bytes_eq}
@@ -15,10 +16,11 @@ use Rattle.index_parts.proofs.SymbolLaws.{symbol_size}
 use Rattle.index_parts.proofs.PostingsLaws.{posting_size}
 use Rattle.index_parts.proofs.RowLaws.{row_size}
 use Rattle.index_parts.proofs.SeriesLaws as parts
-use Rattle.index_v2.specs.declared.index_series.IndexSeries.{IndexSeries}
-use Rattle.index_v2.specs.Opened.{Opened}
+use Rattle.index_file.specs.declared.index_series.IndexSeries.{IndexSeries}
+use Rattle.index_file.specs.Opened.{Opened}
+use Rattle.index_file.proofs.Members.{member_at}
 use Rattle.index_v2.specs.PostingsLists.{values_of}
-use Rattle.index_v2.specs.IndexFile.{Holds, StandFor, IsOpened, IsSeriesOf, IsIndex, AreListed}
+use Rattle.index_file.specs.IndexFile.{Holds, StandFor, IsOpened, IsSeriesOf, IsIndex, AreListed}
 
 module _ {A : Type 0} (IsNext : Option A → List ℕ → A → Type 0) (least : ℕ) (size : (before : Option A) (text : List ℕ) (x : A) → IsNext before text x → least ≤ length text) (index : List ℕ) (reference : ℕ) (members : List A) where
   few_by : (absent : Bool) → MatchBool absent (members ≡ []) (IsList IsNext index reference members) → least * length members ≤ length index
@@ -45,17 +47,9 @@ series_few index symbols number series is =
     let values = as_many symbols is.values (map (λ (l : Label). l.value) series.labels) is.values_are in
     omega (arith, length-map series.labels (λ (l : Label). l.name), length-map series.labels (λ (l : Label). l.value))
 
-filtered_more : {A : Type 0} (b : Bool) (p : A → Bool) (x : A) (xs : List A) → p x ≡ b → length (filter p xs) ≤ length xs → length (filter p (x ∷ xs)) ≤ suc (length xs)
-filtered_more true p x xs e few = rw e (omega arith)
-filtered_more false p x xs e few = rw e (omega arith)
-
-filtered_few : {A : Type 0} (p : A → Bool) (xs : List A) → length (filter p xs) ≤ length xs
-filtered_few p [] = omega arith
-filtered_few p (x ∷ xs) = filtered_more (p x) p x xs refl (filtered_few p xs)
-
 values_few_by : (b : Bool) (rows : List PostingsRow) (name : List ℕ) → length (if b then [] else map (λ (row : PostingsRow). row.value) (filter (λ (row : PostingsRow). bytes_eq row.name name) rows)) ≤ length rows
 values_few_by true rows name = omega arith
-values_few_by false rows name = omega (arith, length-map (filter (λ (row : PostingsRow). bytes_eq row.name name) rows) (λ (row : PostingsRow). row.value), filtered_few (λ (row : PostingsRow). bytes_eq row.name name) rows)
+values_few_by false rows name = omega (arith, length-map (filter (λ (row : PostingsRow). bytes_eq row.name name) rows) (λ (row : PostingsRow). row.value), length-filter (λ (row : PostingsRow). bytes_eq row.name name) rows, count_by-le-length (λ (row : PostingsRow). bytes_eq row.name name) rows)
 
 pub values_few : (rows : List PostingsRow) (name : List ℕ) → length (values_of rows name) ≤ length rows
 unfolding values_of
@@ -77,12 +71,13 @@ IsFew index series = 2 * length series.labels + 3 * length series.chunks ≤ len
 
 pub whole_few : (index : List ℕ) (list : List IndexSeries) → IsIndex index list → (4 * length list ≤ length index) × All (IsFew index) list
 whole_few index list is =
-    let numbers = listed_few index is.opened.rows (map (λ (one : ℕ × IndexSeries). one.0) is.listed) is.numbers_are in
-    let same = ap length is.list_is in (
+    let numbers = listed_few is.opened.bytes is.opened.rows (map (λ (one : ℕ × IndexSeries). one.0) is.listed) is.series_are.numbers_are in
+    let same = ap length is.list_is in
+    let size = ap length is.bytes_are in (
       omega (arith, length-map is.listed (λ (one : ℕ × IndexSeries). one.0), length-map is.listed (λ (one : ℕ × IndexSeries). one.1)),
       subst (All (IsFew index)) is.list_is (λ k d lt.
           let at = listed_at is.listed k d lt in
-          subst (IsFew index) (sym at.2) (series_few index is.opened.symbols at.0.0 at.0.1 (is.series_are at.0.0 at.0.1 (k, at.1)))),
+          subst (IsFew index) (sym at.2) (subst (λ (bytes : List ℕ). IsFew bytes at.0.1) is.bytes_are (series_few is.opened.bytes is.opened.symbols at.0.0 at.0.1 (is.series_are.stand at.0.0 at.0.1 (member_at is.listed k at.0 at.1))))),
     )
 
 -- ---- from a call's clauses

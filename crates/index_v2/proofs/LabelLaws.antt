@@ -12,11 +12,11 @@ use Rattle.index_parts.specs.declared.refusal.PartRefusal.{PartRefusal}
 use Rattle.index_parts.specs.declared.raw_series.RawSeries.{RawSeries}
 use Rattle.index_parts.specs.SeriesReading.{series_at, label_places_at}
 use Rattle.index_parts.proofs.SeriesLaws.{series_found, series_again}
-use Rattle.index_v2.specs.declared.index_series.IndexSeries.{IndexSeries}
+use Rattle.index_file.specs.declared.index_series.IndexSeries.{IndexSeries}
 use Rattle.index_v2.specs.declared.label_fault.LabelFault.{LabelFault}
 use Rattle.index_v2.specs.Opening.{refused_of}
 use Rattle.index_v2.specs.SeriesLabels.{label_of, labels_of, texts_at, fault_at, labelled_at, numbered_at}
-use Rattle.index_v2.specs.IndexFile.{StandFor, IsSeriesOf}
+use Rattle.index_file.specs.IndexFile.{StandFor, IsSeriesOf}
 use Rattle.wire_bytes.specs.Position.{Position}
 use Rattle.index_v2.proofs.LabelReading.{label_parts, lt_from_less}
 use Rattle.index_v2.proofs.LabelTexts.{texts_read}

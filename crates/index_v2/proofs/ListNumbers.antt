@@ -1,33 +1,30 @@
--- The numbers of a postings list.
-use Rattle.std.proofs.Common.{ℕ, zero, suc, ◌^◌, ◌<◌, List, [], ◌∷◌, length, get_or, Option, Some, None, arith, lit<}
+-- The numbers of a postings list ascend, and each has 32 bits.
+use Rattle.std.proofs.Common.{ℕ, zero, suc, ◌+◌, ◌^◌, ◌<◌, List, [], ◌∷◌, length, get_or, Option, Some, None, subst, arith}
+use Rattle.std.specs.List.{All, AllByRecursion}
+use Rattle.std.specs.List.Sorted.{IsStrictlyIncreasing}
+use Rattle.std.proofs.lemmas.List.Elements.{All-from_recursion}
 use Rattle.index_parts.specs.Turns.{AreInTurn}
 use Rattle.index_parts.specs.Postings.{IsNextPosting, IsPostings}
-use Rattle.index_v2.specs.RowOrder.{DoRise, AreSmall}
 
-above : (before : ℕ) (text numbers : List ℕ) → AreInTurn IsNextPosting (Some before) text numbers → (k : ℕ) → k < length numbers → before < get_or numbers k 0
-above before text [] are k lt = absurd (omega arith)
-above before text (n ∷ numbers) are zero lt = are.2.rises
-above before text (n ∷ numbers) are (suc k) lt = let here = are.2.rises in let more = above n are.1 numbers are.3 k (omega arith) in omega arith
+rising : (before : Option ℕ) (text numbers : List ℕ) → AreInTurn IsNextPosting before text numbers → IsStrictlyIncreasing numbers
+rising before text [] are k lt = absurd (omega arith)
+rising before text (n ∷ []) are k lt = absurd (omega arith)
+rising before text (n ∷ m ∷ numbers) are zero lt = are.3.2.rises
+rising before text (n ∷ m ∷ numbers) are (suc k) lt =
+    subst (λ (i : ℕ). get_or (m ∷ numbers) k 0 < get_or (n ∷ m ∷ numbers) i 0) {x = suc (k + 1)} {y = suc k + 1} (omega arith) (rising (Some n) are.1 (m ∷ numbers) are.3 k (omega arith))
 
-rising : (before : Option ℕ) (text numbers : List ℕ) → AreInTurn IsNextPosting before text numbers → (j k : ℕ) → j < k → k < length numbers → get_or numbers j 0 < get_or numbers k 0
-rising before text [] are j k lt within = absurd (omega arith)
-rising before text (n ∷ numbers) are j zero lt within = absurd (omega arith)
-rising before text (n ∷ numbers) are zero (suc k) lt within = above n are.1 numbers are.3 k (omega arith)
-rising before text (n ∷ numbers) are (suc j) (suc k) lt within = rising (Some n) are.1 numbers are.3 j k (omega arith) (omega arith)
+smaller : (before : Option ℕ) (text numbers : List ℕ) → AreInTurn IsNextPosting before text numbers → AllByRecursion (λ n. n < 2 ^ 32) numbers
+smaller before text [] are = tt
+smaller before text (n ∷ numbers) are = (are.2.text_is.fits, smaller (Some n) are.1 numbers are.3)
 
-smaller : (before : Option ℕ) (text numbers : List ℕ) → AreInTurn IsNextPosting before text numbers → (i : ℕ) → get_or numbers i 0 < 2 ^ 32
-smaller before text [] are i = lit< tt
-smaller before text (n ∷ numbers) are zero = are.2.text_is.fits
-smaller before text (n ∷ numbers) are (suc i) = smaller (Some n) are.1 numbers are.3 i
+pub numbers_rise : (index : List ℕ) (at : ℕ) (numbers : List ℕ) → IsPostings index at numbers → IsStrictlyIncreasing numbers
+numbers_rise index at numbers is = rising None is.texts numbers is.texts_are
 
-pub numbers_rise : (index : List ℕ) (at : ℕ) (numbers : List ℕ) → IsPostings index at numbers → DoRise numbers
-numbers_rise index at numbers is = record { rise = rising None is.texts numbers is.texts_are }
+pub numbers_small : (index : List ℕ) (at : ℕ) (numbers : List ℕ) → IsPostings index at numbers → All (λ n. n < 2 ^ 32) numbers
+numbers_small index at numbers is = All-from_recursion (λ n. n < 2 ^ 32) numbers (smaller None is.texts numbers is.texts_are)
 
-pub numbers_small : (index : List ℕ) (at : ℕ) (numbers : List ℕ) → IsPostings index at numbers → AreSmall numbers
-numbers_small index at numbers is = record { small = smaller None is.texts numbers is.texts_are }
+pub none_rise : IsStrictlyIncreasing []
+none_rise = λ k lt. absurd (omega arith)
 
-pub none_rise : DoRise []
-none_rise = record { rise = λ j k lt within. absurd (omega arith) }
-
-pub none_small : AreSmall []
-none_small = record { small = λ i. lit< tt }
+pub none_small : All (λ n. n < 2 ^ 32) []
+none_small = λ k d lt. absurd (omega arith)

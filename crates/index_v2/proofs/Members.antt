@@ -1,62 +1,49 @@
--- Members of lists, tests of them, and pairs of two lists.
-use Rattle.std.proofs.Common.{◌≡◌, ℕ, zero, suc, Bool, true, false, List, [], ◌∷◌, length, map, zip, Option, Some, refl, sym, ap, ◌∙◌, arith, ◌⊎◌, inl, inr}
-use Rattle.std.specs.Prelude.{slice_get, ◌&&◌, ◌||◌}
-use Rattle.std.specs.List.{list_any, list_all}
-use Rattle.index_v2.specs.IndexFile.{Has}
+-- Tests of a list's members, and pairs of two lists.
+use Rattle.std.proofs.Common.{◌≡◌, zero, suc, Bool, true, List, [], ◌∷◌, length, map, zip, refl, sym, ap, ◌∙◌, arith, inl, inr}
+use Rattle.std.specs.Prelude.{◌||◌}
+use Rattle.std.specs.List.{list_any, list_all, Contains}
+use Rattle.std.proofs.lemmas.Bool.{and_parts, or_cases}
+use Rattle.std.proofs.lemmas.Map.Keys.{any_passes_from_place}
+use Rattle.index_file.proofs.Members.{first_member, later_member, place_of}
 
-pub same_some : {A : Type 0} (x y : A) → ◌≡◌ {A = Option A} (Some x) (Some y) → x ≡ y
-same_some x y e = cc
+module _ {A : Type 0} (p : A → Bool) where
+  pub any_has : (xs : List A) → list_any p xs ≡ true → (x : A) × Contains xs x × (p x ≡ true)
+  any_has [] e = absurd cc
+  any_has (x ∷ xs) e = elim (or_cases (p x) (list_any p xs) e) [
+    | inl here ↦ (x, first_member x xs, here)
+    | inr there ↦ let m = any_has xs there in (m.0, later_member x xs m.0 m.1, m.2)
+  ]
 
-pub and_both : (a b : Bool) → (a && b) ≡ true → (a ≡ true) × (b ≡ true)
-and_both true b e = (refl, e)
-and_both false b e = absurd cc
+  pub has_any : (xs : List A) (x : A) → Contains xs x → p x ≡ true → list_any p xs ≡ true
+  has_any xs x has e = any_passes_from_place p xs has.0 x (place_of xs x has) e
 
-or_either : (a b : Bool) → (a || b) ≡ true → (a ≡ true) ⊎ (b ≡ true)
-or_either true b e = inl refl
-or_either false b e = inr e
+  pub all_has : (xs : List A) (x : A) → list_all p xs ≡ true → Contains xs x → p x ≡ true
+  all_has [] x e has = absurd (omega (arith, has.1))
+  all_has (y ∷ ys) x e (zero, lt, is) = ap p (sym is) ∙ (and_parts (p y) (list_all p ys) e).0
+  all_has (y ∷ ys) x e (suc k, lt, is) = all_has ys x (and_parts (p y) (list_all p ys) e).1 (k, omega arith, is)
 
-or_second : (a b : Bool) → b ≡ true → (a || b) ≡ true
-or_second true b e = refl
-or_second false b e = e
-
-pub any_has : {A : Type 0} (p : A → Bool) (xs : List A) → list_any p xs ≡ true → (x : A) × Has xs x × (p x ≡ true)
-any_has p [] e = absurd cc
-any_has p (x ∷ xs) e = elim (or_either (p x) (list_any p xs) e) [
-  | inl here ↦ (x, (0, refl), here)
-  | inr there ↦ let m = any_has p xs there in (m.0, (suc m.1.0, m.1.1), m.2)
-]
-
-pub has_any : {A : Type 0} (p : A → Bool) (xs : List A) (place : ℕ) (x : A) → slice_get xs place ≡ Some x → p x ≡ true → list_any p xs ≡ true
-has_any p [] place x at e = absurd cc
-has_any p (y ∷ ys) zero x at e = rw (ap p (same_some y x at), e) refl
-has_any p (y ∷ ys) (suc place) x at e = or_second (p y) (list_any p ys) (has_any p ys place x at e)
-
-pub all_has : {A : Type 0} (p : A → Bool) (xs : List A) (place : ℕ) (x : A) → list_all p xs ≡ true → slice_get xs place ≡ Some x → p x ≡ true
-all_has p [] place x e at = absurd cc
-all_has p (y ∷ ys) zero x e at = ap p (sym (same_some y x at)) ∙ (and_both (p y) (list_all p ys) e).0
-all_has p (y ∷ ys) (suc place) x e at = all_has p ys place x (and_both (p y) (list_all p ys) e).1 at
-
-pub has_all : {A : Type 0} (p : A → Bool) (xs : List A) → ((place : ℕ) (x : A) → slice_get xs place ≡ Some x → p x ≡ true) → list_all p xs ≡ true
-has_all p [] each = refl
-has_all p (y ∷ ys) each = rw (each 0 y refl, has_all p ys (λ k x at. each (suc k) x at)) refl
+  pub has_all : (xs : List A) → ((x : A) → Contains xs x → p x ≡ true) → list_all p xs ≡ true
+  has_all [] each = refl
+  has_all (y ∷ ys) each = rw (each y (first_member y ys), has_all ys (λ x has. each x (later_member y ys x has))) refl
 
 -- ---- pairs
 
-pub firsts : {A B : Type 0} (xs : List A) (ys : List B) → length xs ≡ length ys → map (λ (p : A × B). p.0) (zip xs ys) ≡ xs
-firsts [] ys e = refl
-firsts (x ∷ xs) [] e = absurd (omega arith)
-firsts {A} (x ∷ xs) (y ∷ ys) e = ap (λ (zs : List A). x ∷ zs) (firsts xs ys (omega arith))
+module _ {A B : Type 0} where
+  pub firsts : (xs : List A) (ys : List B) → length xs ≡ length ys → map (λ (p : A × B). p.0) (zip xs ys) ≡ xs
+  firsts [] ys e = refl
+  firsts (x ∷ xs) [] e = absurd (omega arith)
+  firsts (x ∷ xs) (y ∷ ys) e = ap (λ (zs : List A). x ∷ zs) (firsts xs ys (omega arith))
 
-pub seconds : {A B : Type 0} (xs : List A) (ys : List B) → length xs ≡ length ys → map (λ (p : A × B). p.1) (zip xs ys) ≡ ys
-seconds [] [] e = refl
-seconds [] (y ∷ ys) e = absurd (omega arith)
-seconds (x ∷ xs) [] e = absurd (omega arith)
-seconds {A} {B} (x ∷ xs) (y ∷ ys) e = ap (λ (zs : List B). y ∷ zs) (seconds xs ys (omega arith))
+  pub seconds : (xs : List A) (ys : List B) → length xs ≡ length ys → map (λ (p : A × B). p.1) (zip xs ys) ≡ ys
+  seconds [] [] e = refl
+  seconds [] (y ∷ ys) e = absurd (omega arith)
+  seconds (x ∷ xs) [] e = absurd (omega arith)
+  seconds (x ∷ xs) (y ∷ ys) e = ap (λ (zs : List B). y ∷ zs) (seconds xs ys (omega arith))
 
-pub zipped : {A B : Type 0} (ps : List (A × B)) → zip (map (λ p. p.0) ps) (map (λ p. p.1) ps) ≡ ps
-zipped [] = refl
-zipped {A} {B} (p ∷ ps) = ap (λ (qs : List (A × B)). p ∷ qs) (zipped ps)
+  pub zipped : (ps : List (A × B)) → zip (map (λ p. p.0) ps) (map (λ p. p.1) ps) ≡ ps
+  zipped [] = refl
+  zipped (p ∷ ps) = ap (λ (qs : List (A × B)). p ∷ qs) (zipped ps)
 
-pub length_firsts : {A B : Type 0} (ps : List (A × B)) → length (map (λ (p : A × B). p.0) ps) ≡ length (map (λ (p : A × B). p.1) ps)
-length_firsts [] = refl
-length_firsts (p ∷ ps) = ap suc (length_firsts ps)
+  pub length_firsts : (ps : List (A × B)) → length (map (λ (p : A × B). p.0) ps) ≡ length (map (λ (p : A × B). p.1) ps)
+  length_firsts [] = refl
+  length_firsts (p ∷ ps) = ap suc (length_firsts ps)

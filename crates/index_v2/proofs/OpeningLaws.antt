@@ -22,9 +22,9 @@ use Rattle.index_parts.proofs.SymbolLaws.{symbol_turn}
 use Rattle.index_parts.proofs.RowLaws.{row_turn}
 use Rattle.index_v2.specs.declared.refusal.IndexRefusal.{IndexRefusal}
 use Rattle.index_v2.specs.declared.refusal.IndexRefusal.TheVariants.{BadMagic, BadVersion, BadSection}
-use Rattle.index_v2.specs.Opened.{Opened}
-use Rattle.index_v2.specs.Opening.{refused_in, refused_contents, magic, contents_at, held_at, opened_at}
-use Rattle.index_v2.specs.IndexFile.{header, Holds, IsOpened}
+use Rattle.index_file.specs.Opened.{Opened}
+use Rattle.index_v2.specs.Opening.{refused_in, refused_contents, contents_at, held_at, opened_at}
+use Rattle.index_file.specs.IndexFile.{magic, header, Holds, IsOpened}
 
 -- ---- the header
 

@@ -1,20 +1,24 @@
 -- The search for a row in a postings table whose rows ascend.
-use Rattle.std.proofs.Common.{◌≡◌, ℕ, zero, suc, ◌+◌, ◌^◌, ◌<◌, ◌≤◌, List, [], ◌∷◌, length, Option, Some, None, refl, sym, ap, ◌∙◌, arith, inl, inr}
-use Rattle.std.specs.Prelude.{slice_get}
+use Rattle.std.proofs.Common.{◌≡◌, ℕ, zero, suc, ◌+◌, ◌^◌, ◌<◌, ◌≤◌, Bool, true, false, List, [], ◌∷◌, length, Option, Some, None, refl, sym, ap, ◌∙◌, arith, inl, inr}
+use Rattle.std.specs.Prelude.{slice_get, ◌==◌, MatchBool}
 use Rattle.std.specs.declared.cmp.Ordering.{Ordering}
 use Rattle.std.specs.declared.cmp.Ordering.TheVariants.{Less, Equal, Greater}
 use Rattle.std.specs.Ordering.{ordering_reverse, ordering_then}
+use Rattle.std.specs.List.{AllByRecursion}
+use Rattle.std.specs.List.Sorted.{IsStrictlySortedBy}
 use Rattle.std.specs.Cmp.{IsTotalOrder}
 use Rattle.std.specs.Cmp.Lexicographic.{on_texts}
 use Rattle.std.proofs.lemmas.Cmp.{then_total}
 use Rattle.std.proofs.lemmas.Bool.{cases_lt}
-use Rattle.std.proofs.lemmas.Option.{slice_get_past, slice_get_cases}
+use Rattle.std.proofs.lemmas.Option.{same_Some, slice_get_past, slice_get_cases}
 use Rattle.label_sets.specs.Labels.{compare_texts}
 use Rattle.label_sets.proofs.LabelValues.{same_text}
 use Rattle.index_parts.specs.declared.postings_row.PostingsRow.{PostingsRow}
 use Rattle.index_parts.specs.Turns.{AreInTurn}
 use Rattle.index_parts.specs.Rows.{compare_rows, IsNextRow, IsPostingsTable}
-use Rattle.index_v2.specs.RowOrder.{compare_row, AreAscending, IsRowAt, StandsAt}
+use Rattle.index_file.specs.IndexFile.{Holds}
+use Rattle.index_file.proofs.Members.{less_at, all_behind}
+use Rattle.index_v2.specs.RowOrder.{compare_row, IsRowAt, StandsAt}
 
 pub rows_total : IsTotalOrder compare_rows
 rows_total = then_total (on_texts (λ (row : PostingsRow). row.name)) (on_texts (λ (row : PostingsRow). row.value))
@@ -25,9 +29,6 @@ pub record IsBetween (rows : List PostingsRow) (name value : List ℕ) (low high
   pub within : high ≤ length rows
   pub below : (k : ℕ) (row : PostingsRow) → k < low → slice_get rows k ≡ Some row → compare_row row name value ≡ Less
   pub above : (k : ℕ) (row : PostingsRow) → high ≤ k → slice_get rows k ≡ Some row → compare_row row name value ≡ Greater
-
-some_is : {A : Type 0} (x y : A) → ◌≡◌ {A = Option A} (Some x) (Some y) → x ≡ y
-some_is x y e = cc
 
 no_row : (rows : List PostingsRow) (n k : ℕ) (row : PostingsRow) → n ≡ length rows → n ≤ k → slice_get rows k ≡ Some row → ⊥
 no_row rows n k row e le h = let past = slice_get_past rows k (omega arith) in cc
@@ -54,29 +55,29 @@ both_equal Greater b e = absurd cc
 key : List ℕ → List ℕ → PostingsRow
 key name value = record { name = name; value = value; offset = 0 }
 
-less_below : (rows : List PostingsRow) (name value : List ℕ) (middle k : ℕ) (here row : PostingsRow) → AreAscending rows → slice_get rows middle ≡ Some here → compare_row here name value ≡ Less → k < middle + 1 → slice_get rows k ≡ Some row → compare_row row name value ≡ Less
+less_below : (rows : List PostingsRow) (name value : List ℕ) (middle k : ℕ) (here row : PostingsRow) → IsStrictlySortedBy compare_rows rows → slice_get rows middle ≡ Some here → compare_row here name value ≡ Less → k < middle + 1 → slice_get rows k ≡ Some row → compare_row row name value ≡ Less
 unfolding key
 less_below rows name value middle k here row ascend at less lt stands =
     elim (cases_lt k middle) [
-      | inl before ↦ rows_total.trans row here (key name value) (ascend.ascend k middle row here before stands at) less
+      | inl before ↦ rows_total.trans row here (key name value) (less_at compare_rows rows k middle row here ascend before stands at) less
       | inr other ↦
           let same_place : k ≡ middle = omega arith in
-          let same : row ≡ here = some_is row here (sym stands ∙ ap (λ (i : ℕ). slice_get rows i) same_place ∙ at) in
+          let same : row ≡ here = same_Some row here (sym stands ∙ ap (λ (i : ℕ). slice_get rows i) same_place ∙ at) in
           ap (λ (r : PostingsRow). compare_row r name value) same ∙ less
     ]
 
-pub greater_above : (rows : List PostingsRow) (name value : List ℕ) (middle k : ℕ) (here row : PostingsRow) → AreAscending rows → slice_get rows middle ≡ Some here → compare_row here name value ≡ Greater → middle ≤ k → slice_get rows k ≡ Some row → compare_row row name value ≡ Greater
+pub greater_above : (rows : List PostingsRow) (name value : List ℕ) (middle k : ℕ) (here row : PostingsRow) → IsStrictlySortedBy compare_rows rows → slice_get rows middle ≡ Some here → compare_row here name value ≡ Greater → middle ≤ k → slice_get rows k ≡ Some row → compare_row row name value ≡ Greater
 unfolding key
 greater_above rows name value middle k here row ascend at greater le stands =
     elim (cases_lt middle k) [
-      | inl behind ↦ reversed (key name value) row (rows_total.trans (key name value) here row (unreversed here (key name value) greater) (ascend.ascend middle k here row behind at stands))
+      | inl behind ↦ reversed (key name value) row (rows_total.trans (key name value) here row (unreversed here (key name value) greater) (less_at compare_rows rows middle k here row ascend behind at stands))
       | inr other ↦
           let same_place : k ≡ middle = omega arith in
-          let same : row ≡ here = some_is row here (sym stands ∙ ap (λ (i : ℕ). slice_get rows i) same_place ∙ at) in
+          let same : row ≡ here = same_Some row here (sym stands ∙ ap (λ (i : ℕ). slice_get rows i) same_place ∙ at) in
           ap (λ (r : PostingsRow). compare_row r name value) same ∙ greater
     ]
 
-pub between_raised : (rows : List PostingsRow) (name value : List ℕ) (low high middle new : ℕ) (here : PostingsRow) → AreAscending rows → IsBetween rows name value low high → middle < high → slice_get rows middle ≡ Some here → compare_row here name value ≡ Less → new ≡ middle + 1 → IsBetween rows name value new high
+pub between_raised : (rows : List PostingsRow) (name value : List ℕ) (low high middle new : ℕ) (here : PostingsRow) → IsStrictlySortedBy compare_rows rows → IsBetween rows name value low high → middle < high → slice_get rows middle ≡ Some here → compare_row here name value ≡ Less → new ≡ middle + 1 → IsBetween rows name value new high
 between_raised rows name value low high middle new here ascend b lt at less e = record {
   ordered = omega arith;
   within = b.within;
@@ -84,7 +85,7 @@ between_raised rows name value low high middle new here ascend b lt at less e = 
   above = b.above;
 }
 
-pub between_lowered : (rows : List PostingsRow) (name value : List ℕ) (low high middle : ℕ) (here : PostingsRow) → AreAscending rows → IsBetween rows name value low high → low ≤ middle → middle < high → slice_get rows middle ≡ Some here → compare_row here name value ≡ Greater → IsBetween rows name value low middle
+pub between_lowered : (rows : List PostingsRow) (name value : List ℕ) (low high middle : ℕ) (here : PostingsRow) → IsStrictlySortedBy compare_rows rows → IsBetween rows name value low high → low ≤ middle → middle < high → slice_get rows middle ≡ Some here → compare_row here name value ≡ Greater → IsBetween rows name value low middle
 between_lowered rows name value low high middle here ascend b le lt at greater = let w = b.within in record {
   ordered = le;
   within = omega arith;
@@ -120,9 +121,6 @@ equal_row rows name value place row stands e =
 
 -- ---- without the first row
 
-pub ascend_behind : (row : PostingsRow) (rows : List PostingsRow) → AreAscending (row ∷ rows) → AreAscending rows
-ascend_behind row rows ascend = record { ascend = λ j k one other lt a b. ascend.ascend (suc j) (suc k) one other (omega arith) a b }
-
 pub stands_behind : (first : PostingsRow) (rows : List PostingsRow) (name value : List ℕ) (place : ℕ) → StandsAt (first ∷ rows) name value (suc place) → StandsAt rows name value place
 stands_behind first rows name value place stands = let w = stands.within in record {
   within = omega arith;
@@ -132,23 +130,32 @@ stands_behind first rows name value place stands = let w = stands.within in reco
 
 -- ---- rows of a table that is in the grammar ascend
 
-above_all : (before : PostingsRow) (text : List ℕ) (rows : List PostingsRow) → AreInTurn IsNextRow (Some before) text rows → (k : ℕ) (row : PostingsRow) → slice_get rows k ≡ Some row → compare_rows before row ≡ Less
-above_all before text [] are k row at = absurd cc
-above_all before text (r ∷ rows) are zero row at = ap (compare_rows before) (sym (some_is r row at)) ∙ are.2.ascends
-above_all before text (r ∷ rows) are (suc k) row at = rows_total.trans before r row are.2.ascends (above_all r are.1 rows are.3 k row at)
+rows_behind : (before : PostingsRow) (text : List ℕ) (rows : List PostingsRow) → AreInTurn IsNextRow (Some before) text rows → AllByRecursion (λ row. compare_rows before row ≡ Less) rows × IsStrictlySortedBy compare_rows rows
+unfolding IsStrictlySortedBy
+rows_behind before text [] are = (tt, tt)
+rows_behind before text (r ∷ rows) are =
+    let others = rows_behind r are.1 rows are.3 in
+    ((are.2.ascends, all_behind compare_rows before r rows rows_total are.2.ascends others.0), others)
 
-ascending : (before : Option PostingsRow) (text : List ℕ) (rows : List PostingsRow) → AreInTurn IsNextRow before text rows → (j k : ℕ) (one other : PostingsRow) → j < k → slice_get rows j ≡ Some one → slice_get rows k ≡ Some other → compare_rows one other ≡ Less
-ascending before text [] are j k one other lt a b = absurd cc
-ascending before text (r ∷ rows) are zero zero one other lt a b = absurd (omega arith)
-ascending before text (r ∷ rows) are (suc j) zero one other lt a b = absurd (omega arith)
-ascending before text (r ∷ rows) are zero (suc k) one other lt a b = ap (λ (x : PostingsRow). compare_rows x other) (sym (some_is r one a)) ∙ above_all r are.1 rows are.3 k other b
-ascending before text (r ∷ rows) are (suc j) (suc k) one other lt a b = ascending (Some r) are.1 rows are.3 j k one other (omega arith) a b
+ascending : (text : List ℕ) (rows : List PostingsRow) → AreInTurn IsNextRow None text rows → IsStrictlySortedBy compare_rows rows
+unfolding IsStrictlySortedBy
+ascending text [] are = tt
+ascending text (r ∷ rows) are = rows_behind r are.1 rows are.3
 
-pub table_ascends : (index : List ℕ) (at : ℕ) (rows : List PostingsRow) → IsPostingsTable index at rows → AreAscending rows
-table_ascends index at rows is = record { ascend = ascending None is.texts rows is.texts_are }
+pub table_ascends : (index : List ℕ) (at : ℕ) (rows : List PostingsRow) → IsPostingsTable index at rows → IsStrictlySortedBy compare_rows rows
+table_ascends index at rows is = ascending is.texts rows is.texts_are
 
-pub no_rows_ascend : AreAscending []
-no_rows_ascend = record { ascend = λ j k one other lt a b. absurd cc }
+held_by : (index : List ℕ) (reference : ℕ) (rows : List PostingsRow) (absent : Bool) → MatchBool absent (rows ≡ []) (IsPostingsTable index reference rows) → IsStrictlySortedBy compare_rows rows
+unfolding IsStrictlySortedBy
+held_by index reference rows true none = rw none tt
+held_by index reference rows false is = table_ascends index reference rows is
+
+pub held_ascends : (index : List ℕ) (reference : ℕ) (rows : List PostingsRow) → Holds IsPostingsTable index reference rows → IsStrictlySortedBy compare_rows rows
+held_ascends index reference rows holds = held_by index reference rows (reference == 0) holds
+
+pub no_rows_ascend : IsStrictlySortedBy compare_rows []
+unfolding IsStrictlySortedBy
+no_rows_ascend = tt
 
 pub no_row_stands : (name value : List ℕ) → StandsAt [] name value 0
 no_row_stands name value = record { within = omega arith; below = λ k row lt at. absurd cc; above = λ k row le at. absurd cc }

@@ -5,38 +5,35 @@ use Rattle.std.specs.Str.{bytes_eq}
 use Rattle.std.specs.declared.cmp.Ordering.TheVariants.{Less, Equal}
 use Rattle.std.proofs.lemmas.Cmp.{tied_itself}
 use Rattle.std.specs.Cmp.Lexicographic.{bytes_decides}
-use Rattle.std.proofs.lemmas.Bool.{cases_lt}
+use Rattle.std.specs.List.Sorted.{IsStrictlySortedBy}
+use Rattle.std.proofs.lemmas.Bool.{and_parts, cases_lt}
+use Rattle.std.proofs.lemmas.Option.{same_Some}
+use Rattle.std.proofs.lemmas.Map.Keys.{sorted_tail}
+use Rattle.index_file.proofs.Members.{less_at}
 use Rattle.label_sets.proofs.LabelValues.{by_bool, bytes_eq_self}
 use Rattle.index_parts.specs.declared.postings_row.PostingsRow.{PostingsRow}
 use Rattle.index_parts.specs.Rows.{compare_rows}
-use Rattle.index_v2.specs.RowOrder.{compare_row, AreAscending, IsRowAt, StandsAt}
+use Rattle.index_v2.specs.RowOrder.{compare_row, IsRowAt, StandsAt}
 use Rattle.index_parts.specs.PostingsReading.{postings_at}
 use Rattle.reading_core.specs.Reading.{Gives, refused_as}
 use Rattle.index_v2.specs.declared.refusal.IndexRefusal.{IndexRefusal}
 use Rattle.index_v2.specs.declared.refusal.IndexRefusal.TheVariants.{NoMemory}
 use Rattle.index_v2.specs.Opening.{refused_in}
 use Rattle.index_v2.specs.PostingsLists.{is_row_of, row_of, list_of}
-use Rattle.index_v2.proofs.RowPlaces.{rows_total, ascend_behind}
-
-both_true : (a b : Bool) → (a && b) ≡ true → (a ≡ true) × (b ≡ true)
-both_true true b e = (refl, e)
-both_true false b e = absurd cc
+use Rattle.index_v2.proofs.RowPlaces.{rows_total}
 
 row_test : (name value : List ℕ) (row : PostingsRow) → row.name ≡ name → row.value ≡ value → is_row_of name value row ≡ true
 row_test name value row n v = rw (n, v, bytes_eq_self name, bytes_eq_self value) refl
 
 equal_key : (name value : List ℕ) (row : PostingsRow) → is_row_of name value row ≡ true → compare_row row name value ≡ Equal
 equal_key name value row e =
-    let b = both_true (bytes_eq row.name name) (bytes_eq row.value value) e in
+    let b = and_parts (bytes_eq row.name name) (bytes_eq row.value value) e in
     let n : row.name ≡ name = (bytes_decides row.name name).0 b.0 in
     let v : row.value ≡ value = (bytes_decides row.value value).0 b.1 in
     rw (← n, ← v) (tied_itself rows_total row)
 
 not_row : (name value : List ℕ) (row : PostingsRow) → compare_row row name value ≢ Equal → is_row_of name value row ≡ false
 not_row name value row other = by_bool (is_row_of name value row) (λ yes. absurd (other (equal_key name value row yes))) (λ no. no)
-
-some_row : {one other : PostingsRow} → ◌≡◌ {A = Option PostingsRow} (Some one) (Some other) → one ≡ other
-some_row e = cc
 
 find_none : (name value : List ℕ) (rows : List PostingsRow) → ((k : ℕ) (row : PostingsRow) → slice_get rows k ≡ Some row → compare_row row name value ≢ Equal) → find (is_row_of name value) rows ≡ None
 find_none name value [] none = refl
@@ -53,23 +50,23 @@ row_absent rows name value place stands = find_none name value rows (λ k row at
 -- a row before the row of a name and a value is not that row
 before_key : (name value : List ℕ) (first row : PostingsRow) → compare_rows first row ≡ Less → is_row_of name value row ≡ true → compare_row first name value ≢ Equal
 before_key name value first row less is e =
-    let b = both_true (bytes_eq row.name name) (bytes_eq row.value value) is in
+    let b = and_parts (bytes_eq row.name name) (bytes_eq row.value value) is in
     let n : row.name ≡ name = (bytes_decides row.name name).0 b.0 in
     let v : row.value ≡ value = (bytes_decides row.value value).0 b.1 in
     let same : compare_rows first row ≡ compare_row first name value = rw (n, v) refl in
     cc
 
-find_some : (name value : List ℕ) (rows : List PostingsRow) (place : ℕ) (row : PostingsRow) → AreAscending rows → slice_get rows place ≡ Some row → is_row_of name value row ≡ true → find (is_row_of name value) rows ≡ Some row
+find_some : (name value : List ℕ) (rows : List PostingsRow) (place : ℕ) (row : PostingsRow) → IsStrictlySortedBy compare_rows rows → slice_get rows place ≡ Some row → is_row_of name value row ≡ true → find (is_row_of name value) rows ≡ Some row
 find_some name value [] place row ascend at is = absurd cc
 find_some name value (first ∷ rows) zero row ascend at is = let same : first ≡ row = cc in rw (ap (is_row_of name value) same, is, same) refl
 find_some name value (first ∷ rows) (suc place) row ascend at is =
-    let less : compare_rows first row ≡ Less = ascend.ascend 0 (suc place) first row (omega arith) refl at in
-    rw (not_row name value first (before_key name value first row less is)) (find_some name value rows place row (ascend_behind first rows ascend) at is)
+    let less : compare_rows first row ≡ Less = less_at compare_rows (first ∷ rows) 0 (suc place) first row ascend (omega arith) refl at in
+    rw (not_row name value first (before_key name value first row less is)) (find_some name value rows place row (sorted_tail compare_rows first rows ascend) at is)
 
-pub row_found : (rows : List PostingsRow) (name value : List ℕ) (place : ℕ) (row : PostingsRow) → AreAscending rows → IsRowAt rows name value place → slice_get rows place ≡ Some row → row_of rows name value ≡ Some row
+pub row_found : (rows : List PostingsRow) (name value : List ℕ) (place : ℕ) (row : PostingsRow) → IsStrictlySortedBy compare_rows rows → IsRowAt rows name value place → slice_get rows place ≡ Some row → row_of rows name value ≡ Some row
 unfolding row_of
 row_found rows name value place row ascend is at =
-    let same : is.row ≡ row = some_row (sym is.stands ∙ at) in
+    let same : is.row ≡ row = same_Some is.row row (sym is.stands ∙ at) in
     find_some name value rows place row ascend at (row_test name value row (ap (λ (r : PostingsRow). r.name) (sym same) ∙ is.name_is) (ap (λ (r : PostingsRow). r.value) (sym same) ∙ is.value_is))
 
 pub row_not_none : (rows : List PostingsRow) (name value : List ℕ) (place : ℕ) {P : Type 0} → IsRowAt rows name value place → slice_get rows place ≡ None → P
@@ -77,7 +74,7 @@ row_not_none rows name value place is none = let some = is.stands in absurd cc
 
 -- ---- the list of the row that was found
 
-pub list_found : {X : Type 0} (view : X → List ℕ) (r : Result X IndexRefusal) (index : List ℕ) (rows : List PostingsRow) (name value : List ℕ) (place : ℕ) (row : PostingsRow) → AreAscending rows → IsRowAt rows name value place → slice_get rows place ≡ Some row
+pub list_found : {X : Type 0} (view : X → List ℕ) (r : Result X IndexRefusal) (index : List ℕ) (rows : List PostingsRow) (name value : List ℕ) (place : ℕ) (row : PostingsRow) → IsStrictlySortedBy compare_rows rows → IsRowAt rows name value place → slice_get rows place ≡ Some row
     → Gives NoMemory view r (refused_as (refused_in 5) (postings_at index row.offset)) → Gives NoMemory view r (list_of index (row_of rows name value))
 list_found view r index rows name value place row ascend is at given = rw (row_found rows name value place row ascend is at) given
 

@@ -1,6 +1,7 @@
 -- The values of the rows of a name.
 use Rattle.std.proofs.Common.{◌≡◌, ◌≢◌, ℕ, zero, suc, ◌+◌, ◌<◌, ◌≤◌, Bool, true, false, List, [], ◌∷◌, ◌++◌, length, map, drop, Option, Some, None, refl, sym, ap, ◌∙◌, append_assoc, add-one, drop-cons, arith, ◌⊎◌, inl, inr}
 use Rattle.std.specs.Prelude.{slice_get, ◌==◌, not}
+use Rattle.std.specs.List.Sorted.{IsStrictlySortedBy}
 use Rattle.std.specs.Cmp.Lexicographic.{bytes_decides}
 use Rattle.std.specs.List.{filter}
 use Rattle.std.specs.Str.{bytes_eq}
@@ -9,12 +10,13 @@ use Rattle.std.specs.declared.cmp.Ordering.TheVariants.{Less, Equal, Greater}
 use Rattle.std.specs.Ordering.{ordering_then}
 use Rattle.std.proofs.lemmas.Bool.{cases_lt}
 use Rattle.std.proofs.lemmas.List.{append-nil, drop_all}
-use Rattle.std.proofs.lemmas.Option.{slice_get_within, get_or_from_slice_get, slice_get_cases}
+use Rattle.std.proofs.lemmas.Option.{same_Some, slice_get_within, get_or_from_slice_get, slice_get_cases}
 use Rattle.label_sets.specs.Labels.{compare_texts}
 use Rattle.label_sets.proofs.LabelValues.{bytes_eq_self, bytes_eq_differs, compare_self, before_trans, same_text}
 use Rattle.index_parts.specs.declared.postings_row.PostingsRow.{PostingsRow}
 use Rattle.index_parts.specs.Rows.{compare_rows}
-use Rattle.index_v2.specs.RowOrder.{compare_row, AreAscending, IsRowAt, StandsAt, BeginsAt}
+use Rattle.index_v2.specs.RowOrder.{compare_row, IsRowAt, StandsAt, BeginsAt}
+use Rattle.index_file.proofs.Members.{less_at}
 use Rattle.index_v2.specs.PostingsLists.{values_of}
 
 -- a row before another of two has no greater name
@@ -43,9 +45,6 @@ begins_missing rows name place stands = record {
   above = λ k row le at. greater_name row name (stands.above k row le at);
 }
 
-some_is : {A : Type 0} (x y : A) → ◌≡◌ {A = Option A} (Some x) (Some y) → x ≡ y
-some_is x y e = cc
-
 -- what stands behind a row of a name has no lesser name
 not_less : (one other : PostingsRow) (name : List ℕ) → compare_rows one other ≡ Less → compare_texts one.name name ≢ Less → compare_texts other.name name ≢ Less
 not_less one other name less not_here lesser =
@@ -61,13 +60,13 @@ pub same_compare : (row other : PostingsRow) (name value : List ℕ) → other.n
 same_compare row other name value n v = rw (← n, ← v) refl
 
 here : (rows : List PostingsRow) (place k : ℕ) (one other : PostingsRow) → k ≡ place → slice_get rows k ≡ Some one → slice_get rows place ≡ Some other → one ≡ other
-here rows place k one other e a b = some_is one other (sym a ∙ ap (λ (i : ℕ). slice_get rows i) e ∙ b)
+here rows place k one other e a b = same_Some one other (sym a ∙ ap (λ (i : ℕ). slice_get rows i) e ∙ b)
 
-pub begins_found : (rows : List PostingsRow) (name : List ℕ) (place : ℕ) → AreAscending rows → IsRowAt rows name [] place → BeginsAt rows name place
+pub begins_found : (rows : List PostingsRow) (name : List ℕ) (place : ℕ) → IsStrictlySortedBy compare_rows rows → IsRowAt rows name [] place → BeginsAt rows name place
 begins_found rows name place ascend is = record {
-  below = λ k row lt at. less_name row name (same_compare row is.row name [] is.name_is is.value_is ∙ ascend.ascend k place row is.row lt at is.stands);
+  below = λ k row lt at. less_name row name (same_compare row is.row name [] is.name_is is.value_is ∙ less_at compare_rows rows k place row is.row ascend lt at is.stands);
   above = λ k row le at. elim (cases_lt place k) [
-    | inl lt ↦ not_less is.row row name (ascend.ascend place k is.row row lt is.stands at) (λ less. equal_not_less name (ap (λ (n : List ℕ). compare_texts n name) (sym is.name_is) ∙ less))
+    | inl lt ↦ not_less is.row row name (less_at compare_rows rows place k is.row row ascend lt is.stands at) (λ less. equal_not_less name (ap (λ (n : List ℕ). compare_texts n name) (sym is.name_is) ∙ less))
     | inr ge ↦ λ less. equal_not_less name (ap (λ (n : List ℕ). compare_texts n name) (sym (ap (λ (r : PostingsRow). r.name) (here rows place k row is.row (omega arith) at is.stands) ∙ is.name_is)) ∙ less)
   ];
 }
@@ -82,11 +81,17 @@ not_not false e = absurd cc
 
 -- ---- filters
 
-not_named : (rows : List PostingsRow) (name : List ℕ) → ((k : ℕ) (row : PostingsRow) → slice_get rows k ≡ Some row → row.name ≢ name) → filter (λ (row : PostingsRow). bytes_eq row.name name) rows ≡ []
+abbrev pub is_named : List ℕ → PostingsRow → Bool
+is_named name row = bytes_eq row.name name
+
+abbrev pub value_in : PostingsRow → List ℕ
+value_in row = row.value
+
+not_named : (rows : List PostingsRow) (name : List ℕ) → ((k : ℕ) (row : PostingsRow) → slice_get rows k ≡ Some row → row.name ≢ name) → filter (is_named name) rows ≡ []
 not_named [] name none = refl
 not_named (row ∷ rows) name none = rw (bytes_eq_differs row.name name (none 0 row refl)) (not_named rows name (λ k other at. none (suc k) other at))
 
-passed : (n : ℕ) (rows : List PostingsRow) (name : List ℕ) → ((k : ℕ) (row : PostingsRow) → k < n → slice_get rows k ≡ Some row → row.name ≢ name) → filter (λ (row : PostingsRow). bytes_eq row.name name) rows ≡ filter (λ (row : PostingsRow). bytes_eq row.name name) (drop n rows)
+passed : (n : ℕ) (rows : List PostingsRow) (name : List ℕ) → ((k : ℕ) (row : PostingsRow) → k < n → slice_get rows k ≡ Some row → row.name ≢ name) → filter (is_named name) rows ≡ filter (is_named name) (drop n rows)
 passed zero rows name none = refl
 passed (suc n) [] name none = refl
 passed (suc n) (row ∷ rows) name none = rw (bytes_eq_differs row.name name (none 0 row (omega arith) refl)) (passed n rows name (λ k other lt at. none (suc k) other (omega arith) at))
@@ -100,7 +105,7 @@ slice_get-drop (suc n) k (suc m) (row ∷ rows) e = slice_get-drop n k m rows (o
 -- what was listed of the front, and the values that are left
 pub record AreListed (rows : List PostingsRow) (name : List ℕ) (first place : ℕ) (values : List (List ℕ)) : Type 0 where
   pub from : first ≤ place
-  pub whole : values_of rows name ≡ values ++ map (λ (row : PostingsRow). row.value) (filter (λ (row : PostingsRow). bytes_eq row.name name) (drop place rows))
+  pub whole : values_of rows name ≡ values ++ map value_in (filter (is_named name) (drop place rows))
 
 differs : (one other : List ℕ) → compare_texts one other ≡ Less → one ≢ other
 differs one other less same = equal_not_less other (ap (λ (n : List ℕ). compare_texts n other) (sym same) ∙ less)
@@ -109,7 +114,7 @@ pub listed_start : (rows : List PostingsRow) (name : List ℕ) (first : ℕ) (va
 unfolding values_of
 listed_start rows name first values none some begins = rw none (record {
   from = omega arith;
-  whole = rw some (ap (map (λ (row : PostingsRow). row.value)) (passed first rows name (λ k row lt at. differs row.name name (begins.below k row lt at))));
+  whole = rw some (ap (map value_in) (passed first rows name (λ k row lt at. differs row.name name (begins.below k row lt at))));
 })
 
 drop_at : (rows : List PostingsRow) (place : ℕ) (row : PostingsRow) → slice_get rows place ≡ Some row → drop place rows ≡ row ∷ drop (place + 1) rows
@@ -119,28 +124,28 @@ pub listed_more : (rows : List PostingsRow) (name : List ℕ) (first place : ℕ
 listed_more rows name first place values new row value listed at named v e =
     let from = listed.from in
     let test : bytes_eq row.name name ≡ true = rw named (bytes_eq_self name) in
-    let step : map (λ (row : PostingsRow). row.value) (filter (λ (row : PostingsRow). bytes_eq row.name name) (drop place rows)) ≡ row.value ∷ map (λ (row : PostingsRow). row.value) (filter (λ (row : PostingsRow). bytes_eq row.name name) (drop (place + 1) rows)) = rw (drop_at rows place row at, test) refl in
+    let step : map value_in (filter (is_named name) (drop place rows)) ≡ row.value ∷ map value_in (filter (is_named name) (drop (place + 1) rows)) = rw (drop_at rows place row at, test) refl in
     rw (e, v) (record {
       from = omega arith;
-      whole = listed.whole ∙ ap (λ (xs : List (List ℕ)). values ++ xs) step ∙ sym (append_assoc values (row.value ∷ []) (map (λ (row : PostingsRow). row.value) (filter (λ (row : PostingsRow). bytes_eq row.name name) (drop (place + 1) rows))));
+      whole = listed.whole ∙ ap (λ (xs : List (List ℕ)). values ++ xs) step ∙ sym (append_assoc values (row.value ∷ []) (map value_in (filter (is_named name) (drop (place + 1) rows))));
     })
 
 pub listed_end : (rows : List PostingsRow) (name : List ℕ) (first place : ℕ) (values : List (List ℕ)) → AreListed rows name first place values → length rows ≤ place → values_of rows name ≡ values
-listed_end rows name first place values listed le = listed.whole ∙ ap (λ (xs : List PostingsRow). values ++ map (λ (row : PostingsRow). row.value) (filter (λ (row : PostingsRow). bytes_eq row.name name) xs)) (drop_all place rows le) ∙ append-nil values
+listed_end rows name first place values listed le = listed.whole ∙ ap (λ (xs : List PostingsRow). values ++ map value_in (filter (is_named name) xs)) (drop_all place rows le) ∙ append-nil values
 
-behind : (rows : List PostingsRow) (name : List ℕ) (place k : ℕ) (first row : PostingsRow) → AreAscending rows → slice_get rows place ≡ Some first → compare_texts first.name name ≢ Less → first.name ≢ name → place ≤ k → slice_get rows k ≡ Some row → row.name ≢ name
+behind : (rows : List PostingsRow) (name : List ℕ) (place k : ℕ) (first row : PostingsRow) → IsStrictlySortedBy compare_rows rows → slice_get rows place ≡ Some first → compare_texts first.name name ≢ Less → first.name ≢ name → place ≤ k → slice_get rows k ≡ Some row → row.name ≢ name
 behind rows name place k first row ascend at not_below other le there same =
     elim (cases_lt place k) [
-      | inl lt ↦ elim (name_le (compare_texts first.name row.name) (compare_texts first.value row.value) (ascend.ascend place k first row lt at there)) [
+      | inl lt ↦ elim (name_le (compare_texts first.name row.name) (compare_texts first.value row.value) (less_at compare_rows rows place k first row ascend lt at there)) [
         | inl less ↦ not_below (ap (λ (n : List ℕ). compare_texts first.name n) (sym same) ∙ less)
         | inr p ↦ other (same_text first.name row.name p.0 ∙ same)
       ]
       | inr ge ↦ other (ap (λ (r : PostingsRow). r.name) (sym (here rows place k row first (omega arith) there at)) ∙ same)
     ]
 
-pub listed_stop : (rows : List PostingsRow) (name : List ℕ) (first place : ℕ) (values : List (List ℕ)) (row : PostingsRow) → AreAscending rows → BeginsAt rows name first → AreListed rows name first place values → slice_get rows place ≡ Some row → row.name ≢ name → values_of rows name ≡ values
+pub listed_stop : (rows : List PostingsRow) (name : List ℕ) (first place : ℕ) (values : List (List ℕ)) (row : PostingsRow) → IsStrictlySortedBy compare_rows rows → BeginsAt rows name first → AreListed rows name first place values → slice_get rows place ≡ Some row → row.name ≢ name → values_of rows name ≡ values
 listed_stop rows name first place values row ascend begins listed at other =
-    listed.whole ∙ ap (λ (xs : List PostingsRow). values ++ map (λ (row : PostingsRow). row.value) xs) (not_named (drop place rows) name (λ k r there. behind rows name place (place + k) row r ascend at (begins.above place row listed.from at) other (omega arith) (sym (slice_get-drop place k (place + k) rows refl) ∙ there))) ∙ append-nil values
+    listed.whole ∙ ap (λ (xs : List PostingsRow). values ++ map value_in xs) (not_named (drop place rows) name (λ k r there. behind rows name place (place + k) row r ascend at (begins.above place row listed.from at) other (omega arith) (sym (slice_get-drop place k (place + k) rows refl) ∙ there))) ∙ append-nil values
 
 pub no_values : (rows : List PostingsRow) (name : List ℕ) → (length name == 0) ≡ true → values_of rows name ≡ []
 unfolding values_of

@@ -1,15 +1,17 @@
 -- The loops over listed series and over rows: what was read of the front, and what is left, is the whole.
 use Rattle.std.proofs.Common.{◌≡◌, ℕ, zero, suc, ◌+◌, ◌-◌, ◌<◌, ◌≤◌, List, [], ◌∷◌, ◌++◌, length, take, drop, get_or, Option, Some, None, Result, Ok, Err, refl, sym, ap, subst, ◌∙◌, arith, add-one, drop-cons, ◌⊎◌, inl, inr}
 use Rattle.std.specs.Prelude.{slice_get, IsErrAnd}
+use Rattle.std.specs.List.{All}
+use Rattle.std.specs.List.Sorted.{IsStrictlyIncreasing}
+use Rattle.std.proofs.lemmas.List.Elements.{All-nil, All-push}
 use Rattle.std.proofs.lemmas.List.{append-nil, drop_all, take_more, length-append}
 use Rattle.std.proofs.lemmas.Option.{slice_get_within, get_or_from_slice_get, slice_get_cases}
 use Rattle.reading_core.specs.Reading.{◌>>=◌, refused_as, Gives}
 use Rattle.index_parts.specs.declared.postings_row.PostingsRow.{PostingsRow}
 use Rattle.index_parts.specs.PostingsReading.{postings_at}
-use Rattle.index_v2.specs.declared.index_series.IndexSeries.{IndexSeries}
+use Rattle.index_file.specs.declared.index_series.IndexSeries.{IndexSeries}
 use Rattle.index_v2.specs.declared.refusal.IndexRefusal.{IndexRefusal}
 use Rattle.index_v2.specs.Opening.{refused_in}
-use Rattle.index_v2.specs.RowOrder.{DoRise, AllRise}
 use Rattle.index_v2.specs.WholeReading.{behind_at, all_at, lists_at}
 use Rattle.index_v2.proofs.LabelReading.{again, moved}
 
@@ -77,11 +79,11 @@ series_end index symbols numbers place made far le =
 
 pub record ListsSoFar (index : List ℕ) (rows : List PostingsRow) (place : ℕ) (lists : List (List ℕ)) : Type 0 where
   pub many : length lists ≡ place
-  pub rise : AllRise lists
+  pub rise : All IsStrictlyIncreasing lists
   pub whole : lists_at index rows ≡ (lists_at index (drop place rows) >>= λ others. Ok (lists ++ others))
 
 pub lists_start : (index : List ℕ) (rows : List PostingsRow) → ListsSoFar index rows 0 []
-lists_start index rows = record { many = refl; rise = record { each = λ k list at. absurd cc }; whole = again (lists_at index rows) }
+lists_start index rows = record { many = refl; rise = All-nil IsStrictlyIncreasing; whole = again (lists_at index rows) }
 
 pub drop_at : (rows : List PostingsRow) (place : ℕ) (row : PostingsRow) → slice_get rows place ≡ Some row → drop place rows ≡ row ∷ drop (place + 1) rows
 drop_at rows place row at = rw (add-one, ← get_or_from_slice_get rows place row row at) (drop-cons rows place row (slice_get_within rows place row at))
@@ -98,20 +100,11 @@ no_lists : (index : List ℕ) → lists_at index [] ≡ Ok []
 unfolding lists_at
 no_lists index = refl
 
-slice_get_pushed : (lists : List (List ℕ)) (list one : List ℕ) (k : ℕ) → slice_get (lists ++ list ∷ []) k ≡ Some one → (slice_get lists k ≡ Some one) ⊎ (list ≡ one)
-slice_get_pushed [] list one zero e = inr cc
-slice_get_pushed [] list one (suc k) e = absurd cc
-slice_get_pushed (l ∷ lists) list one zero e = inl e
-slice_get_pushed (l ∷ lists) list one (suc k) e = slice_get_pushed lists list one k e
-
-rise_pushed : (lists : List (List ℕ)) (list : List ℕ) → AllRise lists → DoRise list → AllRise (lists ++ list ∷ [])
-rise_pushed lists list all one = record { each = λ k l at. elim (slice_get_pushed lists list l k at) [ inl before ↦ all.each k l before | inr same ↦ subst DoRise same one ] }
-
 pub lists_step : (index : List ℕ) (rows : List PostingsRow) (place : ℕ) (row : PostingsRow) (lists new : List (List ℕ)) (list : List ℕ)
-    → ListsSoFar index rows place lists → slice_get rows place ≡ Some row → refused_as (refused_in 5) (postings_at index row.offset) ≡ Ok list → DoRise list → new ≡ lists ++ list ∷ [] → ListsSoFar index rows (place + 1) new
+    → ListsSoFar index rows place lists → slice_get rows place ≡ Some row → refused_as (refused_in 5) (postings_at index row.offset) ≡ Ok list → IsStrictlyIncreasing list → new ≡ lists ++ list ∷ [] → ListsSoFar index rows (place + 1) new
 lists_step index rows place row lists new list far at read rises pushed =
     let front : lists_at index (drop place rows) ≡ (lists_at index (drop (place + 1) rows) >>= λ others. Ok (list ∷ others)) = rw (drop_at rows place row at) (one_list index row (drop (place + 1) rows) list read) in
-    rw pushed (record { many = (let m = far.many in omega (arith, length-append lists (list ∷ []))); rise = rise_pushed lists list far.rise rises; whole = far.whole ∙ ap (λ (r : Result (List (List ℕ)) IndexRefusal). r >>= λ others. Ok (lists ++ others)) front ∙ moved (lists_at index (drop (place + 1) rows)) list lists })
+    rw pushed (record { many = (let m = far.many in omega (arith, length-append lists (list ∷ []))); rise = All-push IsStrictlyIncreasing lists list far.rise rises; whole = far.whole ∙ ap (λ (r : Result (List (List ℕ)) IndexRefusal). r >>= λ others. Ok (lists ++ others)) front ∙ moved (lists_at index (drop (place + 1) rows)) list lists })
 
 pub lists_stop : (index : List ℕ) (rows : List PostingsRow) (place : ℕ) (row : PostingsRow) (lists : List (List ℕ)) (refusal : IndexRefusal)
     → ListsSoFar index rows place lists → slice_get rows place ≡ Some row → refused_as (refused_in 5) (postings_at index row.offset) ≡ Err refusal → lists_at index rows ≡ Err refusal

@@ -1,12 +1,13 @@
 -- The first place of a postings table at which the lists are not those of the series.
-use Rattle.std.specs.Prelude.{◌≡◌, ◌≢◌, ◌⊎◌, ℕ, ◌<◌, List, [], map, slice_get, Some, None}
+use Rattle.std.specs.Prelude.{◌≡◌, ◌⊎◌, ℕ, ◌<◌, List, slice_get, Some}
+use Rattle.std.specs.List.{Contains}
 use Rattle.label_sets.specs.declared.label.Label.{Label}
 use Rattle.index_parts.specs.declared.postings_row.PostingsRow.{PostingsRow}
 use Rattle.index_parts.specs.Postings.{IsPostings}
-use Rattle.index_v2.specs.declared.index_series.IndexSeries.{IndexSeries}
-use Rattle.index_v2.specs.Opened.{Opened}
+use Rattle.index_file.specs.declared.index_series.IndexSeries.{IndexSeries}
+use Rattle.index_file.specs.Opened.{Opened}
 use Rattle.index_v2.specs.RowOrder.{StandsAt}
-use Rattle.index_v2.specs.IndexFile.{Has, IsSeriesOf, Ascend, IsListOf, AreListed}
+use Rattle.index_file.specs.IndexFile.{AreSeriesOf, IsListOf}
 
 -- the row at a place does not list exactly its series
 abbrev pub ListsOthersAt : List ℕ → List PostingsRow → List (ℕ × IndexSeries) → ℕ → Type 0
@@ -14,20 +15,17 @@ ListsOthersAt index rows listed place = (row : PostingsRow) × (slice_get rows p
 
 -- the row of a listed series' label is missing, and would stand at a place
 abbrev pub LacksRowAt : List PostingsRow → List (ℕ × IndexSeries) → ℕ → Type 0
-LacksRowAt rows listed place = (number : ℕ) × (series : IndexSeries) × (label : Label) × Has listed (number, series) × Has series.labels label × StandsAt rows label.name label.value place
+LacksRowAt rows listed place = (number : ℕ) × (series : IndexSeries) × (label : Label) × Contains listed (number, series) × Contains series.labels label × StandsAt rows label.name label.value place
 
 -- at this place the lists are not those of the series
 abbrev pub DiffersAt : List ℕ → List PostingsRow → List (ℕ × IndexSeries) → ℕ → Type 0
 DiffersAt index rows listed place = ListsOthersAt index rows listed place ⊎ LacksRowAt rows listed place
 
--- The series that the table's first row lists stand at their numbers and ascend by their labels, the sections that they need
--- are there, each row of the table has a list, and this is the first place of the table at which the lists are not theirs.
+-- These are the listed series, each row of the table has a list, and this is the first place of the table at which the lists
+-- are not those of the series.
 pub record DifferFirstAt (opened : Opened) (place : ℕ) : Type 0 where
   pub listed : List (ℕ × IndexSeries)
-  pub numbers_are : AreListed opened.bytes opened.rows (map (λ one. one.0) listed)
-  pub present : (listed ≡ []) ⊎ ((opened.toc.symbols ≢ 0) × (opened.toc.series ≢ 0) × (opened.toc.postings ≢ 0))
-  pub series_are : (number : ℕ) (series : IndexSeries) → Has listed (number, series) → IsSeriesOf opened.bytes opened.symbols number series
-  pub ascend : Ascend None (map (λ one. one.1) listed)
-  pub lists_stand : (row : PostingsRow) → Has opened.rows row → (numbers : List ℕ) × IsPostings opened.bytes row.offset numbers
+  pub series_are : AreSeriesOf opened listed
+  pub lists_stand : (row : PostingsRow) → Contains opened.rows row → (numbers : List ℕ) × IsPostings opened.bytes row.offset numbers
   pub differs : DiffersAt opened.bytes opened.rows listed place
   pub first : (k : ℕ) → k < place → DiffersAt opened.bytes opened.rows listed k → ⊥

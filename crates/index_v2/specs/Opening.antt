@@ -1,5 +1,5 @@
 -- What opening an index gives, or the first refusal.
-use Rattle.std.specs.Prelude.{ℕ, List, [], ◌∷◌, length, nat_eq, slice_index, Result, Ok, ◌==◌, nat_le, if◌then◌else◌}
+use Rattle.std.specs.Prelude.{ℕ, List, [], length, nat_eq, slice_index, Result, Ok, ◌==◌, nat_le, if◌then◌else◌}
 use Rattle.std.specs.List.{starts_with}
 use Rattle.reading_core.specs.Reading.{◌>>=◌, ◌>>◌, unless, refused_as}
 use Rattle.index_parts.specs.declared.refusal.PartRefusal.{PartRefusal}
@@ -10,7 +10,8 @@ use Rattle.index_parts.specs.SymbolsReading.{symbols_at}
 use Rattle.index_parts.specs.RowsReading.{postings_table_at}
 use Rattle.index_v2.specs.declared.refusal.IndexRefusal.{IndexRefusal}
 use Rattle.index_v2.specs.declared.refusal.IndexRefusal.TheVariants.{BadMagic, BadVersion, BadTocSum, BadSection, BadSeries, NoMemory}
-use Rattle.index_v2.specs.Opened.{Opened}
+use Rattle.index_file.specs.Opened.{Opened}
+use Rattle.index_file.specs.IndexFile.{magic}
 
 -- a refusal of a part, as that of its section
 abbrev pub refused_in : ℕ → PartRefusal → IndexRefusal
@@ -26,10 +27,6 @@ refused_of number refusal = BadSeries number refusal
 abbrev pub refused_contents : PartRefusal → IndexRefusal
 refused_contents (part.BadSum kept computed) = BadTocSum kept computed
 refused_contents refusal = refused_in 0 refusal
-
--- the magic number
-abbrev pub magic : List ℕ
-magic = 186 ∷ 170 ∷ 215 ∷ 0 ∷ []
 
 -- a section at its reference, which is absent where the reference is 0
 abbrev pub held_at : {A : Type 0} → ℕ → (List ℕ → ℕ → Result (List A) PartRefusal) → List ℕ → ℕ → Result (List A) IndexRefusal

@@ -6,7 +6,7 @@ use Rattle.reading_core.specs.Reading.{refused_as}
 use Rattle.index_parts.specs.declared.postings_row.PostingsRow.{PostingsRow}
 use Rattle.index_parts.specs.PostingsReading.{postings_at}
 use Rattle.index_v2.specs.declared.refusal.IndexRefusal.{IndexRefusal}
-use Rattle.index_v2.specs.Opened.{Opened}
+use Rattle.index_file.specs.Opened.{Opened}
 use Rattle.index_v2.specs.Opening.{refused_in}
 
 -- a row of this name and this value

@@ -1,5 +1,5 @@
 -- Where rows stand in a postings table.
-use Rattle.std.specs.Prelude.{◌≡◌, ◌≢◌, ℕ, ◌^◌, ◌<◌, ◌≤◌, List, length, slice_get, slice_index, Some}
+use Rattle.std.specs.Prelude.{◌≡◌, ◌≢◌, ℕ, ◌<◌, ◌≤◌, List, length, slice_get, Some}
 use Rattle.std.specs.declared.cmp.Ordering.{Ordering}
 use Rattle.std.specs.declared.cmp.Ordering.TheVariants.{Less, Greater}
 use Rattle.label_sets.specs.Labels.{compare_texts}
@@ -9,10 +9,6 @@ use Rattle.index_parts.specs.Rows.{compare_rows}
 -- how a row stands to a name and a value
 abbrev pub compare_row : PostingsRow → List ℕ → List ℕ → Ordering
 compare_row row name value = compare_rows row (record { name = name; value = value; offset = 0 })
-
--- each row stands before those behind it
-pub record AreAscending (rows : List PostingsRow) : Type 0 where
-  pub ascend : (j k : ℕ) (one other : PostingsRow) → j < k → slice_get rows j ≡ Some one → slice_get rows k ≡ Some other → compare_rows one other ≡ Less
 
 -- the row of this name and value stands at a place
 pub record IsRowAt (rows : List PostingsRow) (name value : List ℕ) (place : ℕ) : Type 0 where
@@ -31,15 +27,3 @@ pub record StandsAt (rows : List PostingsRow) (name value : List ℕ) (place : �
 pub record BeginsAt (rows : List PostingsRow) (name : List ℕ) (place : ℕ) : Type 0 where
   pub below : (k : ℕ) (row : PostingsRow) → k < place → slice_get rows k ≡ Some row → compare_texts row.name name ≡ Less
   pub above : (k : ℕ) (row : PostingsRow) → place ≤ k → slice_get rows k ≡ Some row → compare_texts row.name name ≢ Less
-
--- numbers strictly ascend
-pub record DoRise (numbers : List ℕ) : Type 0 where
-  pub rise : (j k : ℕ) → j < k → k < length numbers → slice_index numbers j < slice_index numbers k
-
--- numbers of 32 bits
-pub record AreSmall (numbers : List ℕ) : Type 0 where
-  pub small : (i : ℕ) → slice_index numbers i < 2 ^ 32
-
--- the numbers of each list ascend
-pub record AllRise (lists : List (List ℕ)) : Type 0 where
-  pub each : (k : ℕ) (list : List ℕ) → slice_get lists k ≡ Some list → DoRise list

@@ -10,7 +10,7 @@ use Rattle.index_parts.specs.declared.refusal.PartRefusal.{PartRefusal}
 use Rattle.index_parts.specs.declared.refusal.PartRefusal.TheVariants as part
 use Rattle.wire_bytes.specs.Position.{Position}
 use Rattle.index_parts.specs.SeriesReading.{labels_at, series_at, label_places_at}
-use Rattle.index_v2.specs.declared.index_series.IndexSeries.{IndexSeries}
+use Rattle.index_file.specs.declared.index_series.IndexSeries.{IndexSeries}
 use Rattle.index_v2.specs.declared.label_fault.LabelFault.{LabelFault}
 use Rattle.index_v2.specs.declared.label_fault.LabelFault.TheVariants.{Name, Value}
 use Rattle.index_v2.specs.declared.refusal.IndexRefusal.{IndexRefusal}

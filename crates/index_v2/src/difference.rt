@@ -1,7 +1,7 @@
-ghost use Rattle.std.specs.Prelude.{◌≡◌, ◌==◌, ◌*◌, ◌+◌, ◌^◌, ◌<◌, ◌≤◌, ◌&&◌, ℕ, List, length, map, zip, drop, slice_get, slice_index, Option, Some, None, IsTrue, IfSome};
+ghost use Rattle.std.specs.Prelude.{◌≡◌, ◌==◌, ◌^◌, ◌<◌, ◌≤◌, All, length, zip, IfSome};
 ghost use Rattle.std.specs.List.{list_any, list_all};
 ghost use Rattle.index_v2.specs.WholeReading.{belongs, is_of_row, stray_from, gap_from, gap_of, gap_among, earlier, difference};
-ghost use Rattle.index_v2.specs.RowOrder.{DoRise, AllRise};
+ghost use Rattle.std.specs.List.Sorted.{IsStrictlyIncreasing};
 
 use crate::IndexSeries;
 use crate::rows::Rows;
@@ -35,9 +35,11 @@ fn belongs(name: &str, value: &str, series: &IndexSeries) -> bool
 
 /// Whether this is the number of a listed series that stands in the row.
 fn is_of_row(numbers: &[u64], series: &[IndexSeries], row: (&str, &str, u64), number: u64) -> bool
-    requires rise { DoRise numbers.now }
+    requires rise { IsStrictlyIncreasing numbers.now }
     requires as_many { length numbers.now ≡ length series.now }
-    ensures { result ≡ is_of_row (zip numbers.now series.now) (record { name = row.entry.0.now; value = row.entry.1.now; offset = row.entry.2 }) number }
+    ensures { result
+        ≡ is_of_row (zip numbers.now series.now)
+        (record { name = row.entry.0.now; value = row.entry.1.now; offset = row.entry.2 }) number }
 {
     match numbers.binary_search(&number) {
         Ok(place) => belongs(row.0, row.1, &series[place]),
@@ -47,9 +49,12 @@ fn is_of_row(numbers: &[u64], series: &[IndexSeries], row: (&str, &str, u64), nu
 
 /// Whether all numbers of a list are of series that stand in the row.
 fn are_of_row(numbers: &[u64], series: &[IndexSeries], row: (&str, &str, u64), list: &[u64]) -> bool
-    requires rise { DoRise numbers.now }
+    requires rise { IsStrictlyIncreasing numbers.now }
     requires as_many { length numbers.now ≡ length series.now }
-    ensures { result ≡ list_all (is_of_row (zip numbers.now series.now) (record { name = row.entry.0.now; value = row.entry.1.now; offset = row.entry.2 })) list.now }
+    ensures { result
+        ≡ list_all (is_of_row (zip numbers.now series.now)
+        (record { name = row.entry.0.now; value = row.entry.1.now; offset = row.entry.2 }))
+        list.now }
 {
     for number in list {
         if !is_of_row(numbers, series, row, *number) {
@@ -61,7 +66,7 @@ fn are_of_row(numbers: &[u64], series: &[IndexSeries], row: (&str, &str, u64), l
 
 /// Whether a list, whose numbers ascend, has a number.
 fn has_number(list: &[u64], number: u64) -> bool
-    requires { DoRise list.now }
+    requires { IsStrictlyIncreasing list.now }
     ensures { result ≡ list_any (λ n. n == number) list.now }
 {
     list.binary_search(&number).is_ok()
@@ -74,7 +79,7 @@ pub(crate) fn first_stray(
     numbers: &[u64],
     series: &[IndexSeries],
 ) -> Option<usize>
-    requires rise { DoRise numbers.now }
+    requires rise { IsStrictlyIncreasing numbers.now }
     requires as_many { length numbers.now ≡ length series.now }
     requires one_each { length rows.now ≡ length lists.now }
     ensures few { length rows.now < 2 ^ 32 }
@@ -93,7 +98,7 @@ pub(crate) fn first_stray(
 
 /// The place of a label's row where its list lacks the number, or the place where the row would stand.
 fn gap_at(rows: &Rows<'_>, lists: &[NumberList], number: u64, label: &Label) -> Option<usize>
-    requires rise { AllRise lists.now }
+    requires rise { All IsStrictlyIncreasing lists.now }
     requires one_each { length rows.now ≡ length lists.now }
     ensures { result ≡ gap_from 0 rows.now lists.now number label.now }
 {
@@ -106,7 +111,7 @@ fn gap_at(rows: &Rows<'_>, lists: &[NumberList], number: u64, label: &Label) -> 
 
 /// The least of these places for the labels of a series.
 fn gap_of(rows: &Rows<'_>, lists: &[NumberList], number: u64, labels: &[Label]) -> Option<usize>
-    requires rise { AllRise lists.now }
+    requires rise { All IsStrictlyIncreasing lists.now }
     requires one_each { length rows.now ≡ length lists.now }
     ensures { result ≡ gap_of rows.now lists.now number labels.now }
 {
@@ -124,7 +129,7 @@ pub(crate) fn first_gap(
     numbers: &[u64],
     series: &[IndexSeries],
 ) -> Option<usize>
-    requires rise { AllRise lists.now }
+    requires rise { All IsStrictlyIncreasing lists.now }
     requires as_many { length numbers.now ≡ length series.now }
     requires one_each { length rows.now ≡ length lists.now }
     ensures { result ≡ gap_among rows.now lists.now (zip numbers.now series.now) }
@@ -144,8 +149,8 @@ pub(crate) fn difference(
     numbers: &[u64],
     series: &[IndexSeries],
 ) -> Option<usize>
-    requires rises { DoRise numbers.now }
-    requires rise { AllRise lists.now }
+    requires rises { IsStrictlyIncreasing numbers.now }
+    requires rise { All IsStrictlyIncreasing lists.now }
     requires as_many { length numbers.now ≡ length series.now }
     requires one_each { length rows.now ≡ length lists.now }
     ensures within { IfSome result (λ place. place ≤ length rows.now) }

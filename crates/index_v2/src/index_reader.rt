@@ -8,7 +8,7 @@ ghost use Rattle.index_v2.specs.SeriesLabels.{numbered_at};
 ghost use Rattle.index_v2.specs.Budget.{members_of, text_bytes};
 ghost use Rattle.index_v2.specs.WholeReading.{whole_at};
 ghost use Rattle.index_v2.specs.PostingsLists.{postings_of, values_of};
-ghost use Rattle.index_v2.specs.RowOrder.{DoRise};
+ghost use Rattle.std.specs.List.Sorted.{IsStrictlyIncreasing};
 
 use crate::numbered::{lent_series_of, series_of};
 use crate::opening::contents_of;
@@ -34,7 +34,7 @@ pub struct IndexReader<'a> {
 
 impl<'a> Model for IndexReader<'a> {
     ghost use Rattle.std.specs.Prelude.{◌≡◌, Ok};
-    ghost use Rattle.index_v2.specs.Opened.{Opened};
+    ghost use Rattle.index_file.specs.Opened.{Opened};
     ghost use Rattle.reading_core.specs.Grammar.{IsBytes};
     ghost use Rattle.index_v2.specs.Opening.{opened_at};
 
@@ -47,22 +47,28 @@ impl<'a> Model for IndexReader<'a> {
 
 impl<'a> IndexReader<'a> {
     ghost use Rattle.std.specs.Prelude.{List, ℕ};
-    ghost use Rattle.index_v2.specs.Opened.{Opened};
+    ghost use Rattle.index_file.specs.Opened.{Opened};
     ghost use Rattle.index_v2.specs.Differing.{DifferFirstAt};
-    ghost use Rattle.index_v2.specs.IndexFile.{Has, IsOpened, IsSeriesOf, IsIndex, AreNumbersOf, AreValuesOf};
-    ghost use Rattle.index_v2.specs.declared.index_series.IndexSeries.{IndexSeries};
+    ghost use Rattle.std.specs.List.{Contains};
+    ghost use Rattle.index_file.specs.IndexFile.{IsOpened, IsSeriesOf, IsIndex, AreNumbersOf, AreValuesOf};
+    ghost use Rattle.index_file.specs.declared.index_series.IndexSeries.{IndexSeries};
     ghost use Rattle.index_v2.specs.declared.refusal.IndexRefusal.{IndexRefusal};
 
     /// Reads what an index begins and ends with, its symbols and its postings table.
     pub fn open(alloc: Global, bytes: &'a [u8]) -> Result<IndexReader<'a>, IndexRefusal>
         // What is opened begins and ends as an index, and what does so is opened.
         ensures found { IfOk result (λ reader. (reader.bytes ≡ bytes.now) × IsOpened reader) }
-        ensures only { (opened : Opened) → opened.bytes ≡ bytes.now → IsOpened opened → IsOkAnd result (λ reader. reader ≡ opened) ⊎ (result ≡ Err IndexRefusal.NoMemory) }
+        ensures only { (opened : Opened) → opened.bytes ≡ bytes.now → IsOpened opened
+            → IsOkAnd result (λ reader. reader ≡ opened) ⊎ (result ≡ Err IndexRefusal.NoMemory) }
 
         // The first refusal. One of the header or of the table of contents comes whatever memory there is.
-        ensures exact { Gives IndexRefusal.NoMemory (λ reader. reader) result (opened_at bytes.now) }
-        ensures contents { (refusal : IndexRefusal) → contents_at bytes.now ≡ Err refusal → result ≡ Err refusal }
-        ensures few { IfOk result (λ reader. (length reader.symbols ≤ length bytes.now) × (4 * length reader.rows ≤ length bytes.now)) }
+        ensures exact { Gives IndexRefusal.NoMemory
+            (λ reader. reader) result (opened_at bytes.now) }
+        ensures contents { (refusal : IndexRefusal) → contents_at bytes.now ≡ Err refusal
+            → result ≡ Err refusal }
+        ensures few { IfOk result
+            (λ reader. (length reader.symbols ≤ length bytes.now)
+            × (4 * length reader.rows ≤ length bytes.now)) }
     {
         IndexReader::read(alloc, bytes)
     }
@@ -70,8 +76,10 @@ impl<'a> IndexReader<'a> {
     #[tactic(auto, unfolding(crate::specs::Opening::opened_at))]
     fn read(alloc: Global, bytes: &'a [u8]) -> Result<IndexReader<'a>, IndexRefusal>
         ensures bytes { IsBytes bytes.now }
-        ensures exact { Gives IndexRefusal.NoMemory (λ reader. reader) result (opened_at bytes.now) }
-        ensures contents { (refusal : IndexRefusal) → contents_at bytes.now ≡ Err refusal → result ≡ Err refusal }
+        ensures exact { Gives IndexRefusal.NoMemory
+            (λ reader. reader) result (opened_at bytes.now) }
+        ensures contents { (refusal : IndexRefusal) → contents_at bytes.now ≡ Err refusal
+            → result ≡ Err refusal }
     {
         let toc = contents_of(bytes)?;
         // The symbols are read last, though their refusal is the first: they are what is wanted next, and still in the caches.
@@ -90,7 +98,8 @@ impl<'a> IndexReader<'a> {
         ensures value { option_copied result ≡ slice_get self.now.symbols number }
 
         // In an index of a list these are the index's symbols.
-        ensures agrees { (list : List IndexSeries) (is : IsIndex self.now.bytes list) → option_copied result ≡ slice_get is.opened.symbols number }
+        ensures agrees { (list : List IndexSeries) (is : IsIndex self.now.bytes list)
+            → option_copied result ≡ slice_get is.opened.symbols number }
     {
         self.symbols.get(u64::from(number))
     }
@@ -98,16 +107,24 @@ impl<'a> IndexReader<'a> {
     /// Reads the series of a number, which need not be listed. Its labels' texts come to 64 bytes for each byte of the index at most.
     pub fn series(&self, alloc: Global, number: u32) -> Result<IndexSeries, IndexRefusal>
         // What is read is what stands there, and what stands there is read.
-        ensures found { IfOk result (λ series. IsSeriesOf self.now.bytes self.now.symbols number series) }
-        ensures only { (series : IndexSeries) → IsSeriesOf self.now.bytes self.now.symbols number series → (result ≡ Ok series) ⊎ (result ≡ Err IndexRefusal.NoMemory) }
+        ensures found { IfOk result
+            (λ series. IsSeriesOf self.now.bytes self.now.symbols number series) }
+        ensures only { (series : IndexSeries)
+            → IsSeriesOf self.now.bytes self.now.symbols number series → (result ≡ Ok series)
+            ⊎ (result ≡ Err IndexRefusal.NoMemory) }
 
         // In an index of a list the series that is listed under the number is read.
-        ensures agrees { (list : List IndexSeries) (is : IsIndex self.now.bytes list) (series : IndexSeries) → Has is.listed (number, series) → (result ≡ Ok series) ⊎ (result ≡ Err IndexRefusal.NoMemory) }
+        ensures agrees { (list : List IndexSeries) (is : IsIndex self.now.bytes list)
+            (series : IndexSeries) → Contains is.listed (number, series) → (result ≡ Ok series)
+            ⊎ (result ≡ Err IndexRefusal.NoMemory) }
 
         // The first refusal.
-        ensures exact { Gives IndexRefusal.NoMemory (λ series. series) result (numbered_at self.now.bytes self.now.symbols number) }
+        ensures exact { Gives IndexRefusal.NoMemory
+            (λ series. series) result (numbered_at self.now.bytes self.now.symbols number) }
         ensures texts { IfOk result (λ series. text_bytes series ≤ 64 * length self.now.bytes) }
-        ensures few { IfOk result (λ series. 2 * length series.labels + 3 * length series.chunks ≤ length self.now.bytes) }
+        ensures few { IfOk result
+            (λ series. 2 * length series.labels + 3 * length series.chunks ≤ length
+            self.now.bytes) }
     {
         series_of(alloc, self.bytes, &self.symbols, number)
     }
@@ -125,15 +142,23 @@ impl<'a> IndexReader<'a> {
         room: LentSeries<'a>,
     ) -> Result<LentSeries<'a>, IndexRefusal>
         // What is read is what stands there, and what stands there is read.
-        ensures found { IfOk result (λ series. IsSeriesOf self.now.bytes self.now.symbols number series) }
-        ensures only { (series : IndexSeries) → IsSeriesOf self.now.bytes self.now.symbols number series → IsOkAnd result (λ found. found ≡ series) ⊎ (result ≡ Err IndexRefusal.NoMemory) }
+        ensures found { IfOk result
+            (λ series. IsSeriesOf self.now.bytes self.now.symbols number series) }
+        ensures only { (series : IndexSeries)
+            → IsSeriesOf self.now.bytes self.now.symbols number series
+            → IsOkAnd result (λ found. found ≡ series) ⊎ (result ≡ Err IndexRefusal.NoMemory) }
 
         // In an index of a list the series that is listed under the number is read.
-        ensures agrees { (list : List IndexSeries) (is : IsIndex self.now.bytes list) (series : IndexSeries) → Has is.listed (number, series) → IsOkAnd result (λ found. found ≡ series) ⊎ (result ≡ Err IndexRefusal.NoMemory) }
+        ensures agrees { (list : List IndexSeries) (is : IsIndex self.now.bytes list)
+            (series : IndexSeries) → Contains is.listed (number, series)
+            → IsOkAnd result (λ found. found ≡ series) ⊎ (result ≡ Err IndexRefusal.NoMemory) }
 
         // The first refusal.
-        ensures exact { Gives IndexRefusal.NoMemory (λ series. series) result (numbered_at self.now.bytes self.now.symbols number) }
-        ensures few { IfOk result (λ series. 2 * length series.labels + 3 * length series.chunks ≤ length self.now.bytes) }
+        ensures exact { Gives IndexRefusal.NoMemory
+            (λ series. series) result (numbered_at self.now.bytes self.now.symbols number) }
+        ensures few { IfOk result
+            (λ series. 2 * length series.labels + 3 * length series.chunks ≤ length
+            self.now.bytes) }
     {
         lent_series_of(self.bytes, &self.symbols, number, room)
     }
@@ -146,13 +171,16 @@ impl<'a> IndexReader<'a> {
         value: &str,
     ) -> Result<NumberList, IndexRefusal>
         // In an index of a list these are exactly the numbers of its series with this label, and nothing but memory is wanting.
-        ensures agrees { (list : List IndexSeries) (is : IsIndex self.now.bytes list) → MatchResult result (λ numbers. AreNumbersOf is.listed name.now value.now numbers) (λ e. e ≡ IndexRefusal.NoMemory) }
+        ensures agrees { (list : List IndexSeries) (is : IsIndex self.now.bytes list)
+            → MatchResult result (λ numbers. AreNumbersOf is.listed name.now value.now numbers)
+            (λ e. e ≡ IndexRefusal.NoMemory) }
 
         // They ascend, whatever the index.
-        ensures rises { IfOk result (λ numbers. DoRise numbers) }
+        ensures rises { IfOk result IsStrictlyIncreasing }
 
         // The first refusal.
-        ensures exact { Gives IndexRefusal.NoMemory (λ numbers. numbers) result (postings_of self.now name.now value.now) }
+        ensures exact { Gives IndexRefusal.NoMemory
+            (λ numbers. numbers) result (postings_of self.now name.now value.now) }
         ensures few { IfOk result (λ numbers. 4 * length numbers ≤ length self.now.bytes) }
     {
         list_of(alloc, self.bytes, &self.rows, name, value)
@@ -161,9 +189,11 @@ impl<'a> IndexReader<'a> {
     /// The values that the table lists under a name, ascending.
     pub fn label_values(&self, alloc: Global, name: &str) -> Result<TextList, IndexRefusal>
         // In an index of a list each value that a series has under the name is among them.
-        ensures agrees { (list : List IndexSeries) → IsIndex self.now.bytes list → IfOk result (λ values. AreValuesOf self.now.rows list name.now values) }
+        ensures agrees { (list : List IndexSeries) → IsIndex self.now.bytes list
+            → IfOk result (λ values. AreValuesOf self.now.rows list name.now values) }
 
-        ensures exact { MatchResult result (λ values. values ≡ values_of self.now.rows name.now) (λ e. e ≡ IndexRefusal.NoMemory) }
+        ensures exact { MatchResult result (λ values. values ≡ values_of self.now.rows name.now)
+            (λ e. e ≡ IndexRefusal.NoMemory) }
         ensures few { IfOk result (λ values. 4 * length values ≤ length self.now.bytes) }
     {
         Ok(values_of(alloc, &self.rows, name)?)
@@ -181,13 +211,17 @@ impl<'a> IndexReader<'a> {
     pub fn whole(&self, alloc: Global) -> Result<IndexSeriesList, IndexRefusal>
         // It is read exactly where the bytes are an index of the list.
         ensures found { IfOk result (λ list. IsIndex self.now.bytes list) }
-        ensures only { (list : List IndexSeries) → IsIndex self.now.bytes list → IsOkAnd result (λ found. found ≡ list) ⊎ (result ≡ Err IndexRefusal.NoMemory) }
+        ensures only { (list : List IndexSeries) → IsIndex self.now.bytes list
+            → IsOkAnd result (λ found. found ≡ list) ⊎ (result ≡ Err IndexRefusal.NoMemory) }
 
         // The lists are said to differ at a place exactly where the series that the first row lists and the lists of all rows
         // stand, and it is the first place of the table at which the lists are not exactly those of the series. Only memory may
         // run out first.
-        ensures differs { (place : ℕ) → result ≡ Err (IndexRefusal.PostingsDiffer place) → DifferFirstAt self.now place }
-        ensures differing { (place : ℕ) → DifferFirstAt self.now place → (result ≡ Err (IndexRefusal.PostingsDiffer place)) ⊎ (result ≡ Err IndexRefusal.NoMemory) }
+        ensures differs { (place : ℕ) → result ≡ Err (IndexRefusal.PostingsDiffer place)
+            → DifferFirstAt self.now place }
+        ensures differing { (place : ℕ) → DifferFirstAt self.now place
+            → (result ≡ Err (IndexRefusal.PostingsDiffer place))
+            ⊎ (result ≡ Err IndexRefusal.NoMemory) }
 
         // The first refusal.
         ensures exact { Gives IndexRefusal.NoMemory (λ list. list) result (whole_at self.now) }

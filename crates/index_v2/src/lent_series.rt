@@ -24,7 +24,7 @@ pub struct LentSeries<'a> {
 impl<'a> Model for LentSeries<'a> {
     ghost use Rattle.std.specs.Prelude.{map};
     ghost use Rattle.label_sets.specs.Labels.{IsLabelSet};
-    ghost use Rattle.index_v2.specs.declared.index_series.IndexSeries.{IndexSeries};
+    ghost use Rattle.index_file.specs.declared.index_series.IndexSeries.{IndexSeries};
     ghost use Rattle.index_v2.specs.LentLabels.{as_label};
 
     ghost Value = { IndexSeries };
@@ -79,7 +79,8 @@ impl<'a> LentSeries<'a> {
         at: u64,
         room: LentSeries<'a>,
     ) -> Result<LentSeries<'a>, PartRefusal>
-        ensures { Gives PartRefusal.NoMemory (λ series. series) result (labelled_at index.now symbols.now at) }
+        ensures { Gives PartRefusal.NoMemory
+            (λ series. series) result (labelled_at index.now symbols.now at) }
     {
         let LentSeries { labels, chunks } = room;
         let (count, cursor) = before_labels(index, at)?;

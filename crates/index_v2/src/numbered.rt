@@ -2,9 +2,9 @@ ghost use Rattle.std.specs.Prelude.{◌≡◌, ◌⊎◌, ◌*◌, ◌≤◌, le
 ghost use Rattle.std.specs.Result.{IsOkAnd};
 ghost use Rattle.reading_core.specs.Reading.{Gives};
 ghost use Rattle.reading_core.specs.Grammar.{IsBytes};
-ghost use Rattle.index_v2.specs.declared.index_series.IndexSeries.{IndexSeries};
+ghost use Rattle.index_file.specs.declared.index_series.IndexSeries.{IndexSeries};
 ghost use Rattle.index_v2.specs.Budget.{text_bytes};
-ghost use Rattle.index_v2.specs.IndexFile.{IsSeriesOf};
+ghost use Rattle.index_file.specs.IndexFile.{IsSeriesOf};
 ghost use Rattle.index_v2.specs.SeriesLabels.{labelled_at, numbered_at};
 
 use crate::budget::{lent_text_bytes, spend, text_budget_of};
@@ -15,14 +15,15 @@ use index_parts::PartRefusal;
 use std::alloc::Global;
 
 #[inline(always)]
-fn lent<'a>(
+fn lent_at<'a>(
     index: &[u8],
     symbols: &Symbols<'a>,
     number: u32,
     room: LentSeries<'a>,
 ) -> Result<LentSeries<'a>, IndexRefusal>
     ensures bytes { IsBytes index.now }
-    ensures exact { Gives IndexRefusal.NoMemory (λ series. series) result (numbered_at index.now symbols.now number) }
+    ensures exact { Gives IndexRefusal.NoMemory
+        (λ series. series) result (numbered_at index.now symbols.now number) }
 {
     match LentSeries::read(index, symbols, 16 * u64::from(number), room) {
         Ok(series) => Ok(series),
@@ -39,21 +40,24 @@ pub(crate) fn lent_series_of<'a>(
     room: LentSeries<'a>,
 ) -> Result<LentSeries<'a>, IndexRefusal>
     ensures found { IfOk result (λ series. IsSeriesOf index.now symbols.now number series) }
-    ensures only { (series : IndexSeries) → IsSeriesOf index.now symbols.now number series → IsOkAnd result (λ found. found ≡ series) ⊎ (result ≡ Err IndexRefusal.NoMemory) }
-    ensures exact { Gives IndexRefusal.NoMemory (λ series. series) result (numbered_at index.now symbols.now number) }
+    ensures only { (series : IndexSeries) → IsSeriesOf index.now symbols.now number series
+        → IsOkAnd result (λ found. found ≡ series) ⊎ (result ≡ Err IndexRefusal.NoMemory) }
+    ensures exact { Gives IndexRefusal.NoMemory
+        (λ series. series) result (numbered_at index.now symbols.now number) }
 {
-    lent(index, symbols, number, room)
+    lent_at(index, symbols, number, room)
 }
 
 /// Reads the series at a place of the index, and copies its texts, where these are within their budget.
-pub(crate) fn labelled(
+pub(crate) fn series_at(
     alloc: Global,
     index: &[u8],
     symbols: &Symbols<'_>,
     at: u64,
 ) -> Result<IndexSeries, PartRefusal>
     ensures texts { IfOk result (λ series. text_bytes series ≤ 64 * length index.now) }
-    ensures exact { Gives PartRefusal.NoMemory (λ series. series) result (labelled_at index.now symbols.now at) }
+    ensures exact { Gives PartRefusal.NoMemory
+        (λ series. series) result (labelled_at index.now symbols.now at) }
 {
     match LentSeries::read(index, symbols, at, LentSeries::new(alloc)) {
         Ok(series) => {
@@ -64,7 +68,7 @@ pub(crate) fn labelled(
     }
 }
 
-fn numbered(
+fn numbered_series(
     alloc: Global,
     index: &[u8],
     symbols: &Symbols<'_>,
@@ -72,9 +76,10 @@ fn numbered(
 ) -> Result<IndexSeries, IndexRefusal>
     ensures bytes { IsBytes index.now }
     ensures texts { IfOk result (λ series. text_bytes series ≤ 64 * length index.now) }
-    ensures exact { Gives IndexRefusal.NoMemory (λ series. series) result (numbered_at index.now symbols.now number) }
+    ensures exact { Gives IndexRefusal.NoMemory
+        (λ series. series) result (numbered_at index.now symbols.now number) }
 {
-    match labelled(alloc, index, symbols, 16 * u64::from(number)) {
+    match series_at(alloc, index, symbols, 16 * u64::from(number)) {
         Ok(series) => Ok(series),
         Err(refusal) => Err(refused_of(number, refusal)),
     }
@@ -88,9 +93,11 @@ pub(crate) fn series_of(
     number: u32,
 ) -> Result<IndexSeries, IndexRefusal>
     ensures found { IfOk result (λ series. IsSeriesOf index.now symbols.now number series) }
-    ensures only { (series : IndexSeries) → IsSeriesOf index.now symbols.now number series → (result ≡ Ok series) ⊎ (result ≡ Err IndexRefusal.NoMemory) }
+    ensures only { (series : IndexSeries) → IsSeriesOf index.now symbols.now number series
+        → (result ≡ Ok series) ⊎ (result ≡ Err IndexRefusal.NoMemory) }
     ensures texts { IfOk result (λ series. text_bytes series ≤ 64 * length index.now) }
-    ensures exact { Gives IndexRefusal.NoMemory (λ series. series) result (numbered_at index.now symbols.now number) }
+    ensures exact { Gives IndexRefusal.NoMemory
+        (λ series. series) result (numbered_at index.now symbols.now number) }
 {
-    numbered(alloc, index, symbols, number)
+    numbered_series(alloc, index, symbols, number)
 }

@@ -3,12 +3,8 @@ ghost use Rattle.reading_core.specs.Reading.{Answers};
 ghost use Rattle.index_v2.specs.Opening.{refused_in, refused_of, refused_contents, contents_at};
 
 use crate::IndexRefusal;
+use index_file::{MAGIC, VERSION};
 use index_parts::{PartRefusal, Toc, read_toc};
-
-/// What an index begins with.
-pub(crate) const MAGIC: [u8; 4] = [0xBA, 0xAA, 0xD7, 0];
-
-pub(crate) const VERSION: u8 = 2;
 
 /// The least length of an index: magic, version and table of contents.
 const LEAST: usize = 57;

@@ -1,8 +1,8 @@
-ghost use Rattle.std.specs.Prelude.{◌≡◌, ◌*◌, ◌≤◌, ℕ, List, length, Some, None, Ok, Err, MatchResult, IfOk};
+ghost use Rattle.std.specs.Prelude.{◌≡◌, ◌*◌, ◌^◌, ◌<◌, ◌≤◌, All, length, IfOk};
 ghost use Rattle.reading_core.specs.Reading.{Gives, refused_as};
 ghost use Rattle.index_parts.specs.PostingsReading.{postings_at};
 ghost use Rattle.index_v2.specs.Opening.{refused_in};
-ghost use Rattle.index_v2.specs.RowOrder.{DoRise, AreSmall};
+ghost use Rattle.std.specs.List.Sorted.{IsStrictlyIncreasing};
 ghost use Rattle.index_v2.specs.PostingsLists.{row_of, list_of, values_of};
 
 use crate::IndexRefusal;
@@ -19,10 +19,11 @@ pub(crate) const POSTINGS: u8 = 5;
 
 /// The postings list at a place of the index.
 pub(crate) fn list_at(alloc: Global, index: &[u8], at: u64) -> Result<NumberList, IndexRefusal>
-    ensures rise { IfOk result (λ numbers. DoRise numbers) }
-    ensures small { IfOk result (λ numbers. AreSmall numbers) }
+    ensures rise { IfOk result IsStrictlyIncreasing }
+    ensures small { IfOk result (All (λ n. n < 2 ^ 32)) }
     ensures few { IfOk result (λ numbers. 4 * length numbers ≤ length index.now) }
-    ensures exact { Gives IndexRefusal.NoMemory (λ numbers. numbers) result (refused_as (refused_in 5) (postings_at index.now at)) }
+    ensures exact { Gives IndexRefusal.NoMemory
+        (λ numbers. numbers) result (refused_as (refused_in 5) (postings_at index.now at)) }
 {
     match read_postings(alloc, index, at) {
         Ok(numbers) => Ok(numbers),
@@ -38,10 +39,11 @@ pub(crate) fn list_of(
     name: &str,
     value: &str,
 ) -> Result<NumberList, IndexRefusal>
-    ensures rise { IfOk result (λ numbers. DoRise numbers) }
-    ensures small { IfOk result (λ numbers. AreSmall numbers) }
+    ensures rise { IfOk result IsStrictlyIncreasing }
+    ensures small { IfOk result (All (λ n. n < 2 ^ 32)) }
     ensures few { IfOk result (λ numbers. 4 * length numbers ≤ length index.now) }
-    ensures exact { Gives IndexRefusal.NoMemory (λ numbers. numbers) result (list_of index.now (row_of rows.now name.now value.now)) }
+    ensures exact { Gives IndexRefusal.NoMemory
+        (λ numbers. numbers) result (list_of index.now (row_of rows.now name.now value.now)) }
 {
     match rows.place_of(name, value) {
         Ok(place) => match rows.get(place) {

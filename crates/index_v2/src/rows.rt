@@ -2,7 +2,9 @@ ghost use Rattle.std.specs.Prelude.{◌≡◌, ◌≤◌, ◌<◌, ◌^◌, leng
 ghost use Rattle.reading_core.specs.Reading.{Gives};
 ghost use Rattle.index_parts.specs.RowsReading.{postings_table_at};
 ghost use Rattle.index_v2.specs.Opening.{held_at};
-ghost use Rattle.index_v2.specs.RowOrder.{AreAscending, compare_row, IsRowAt, StandsAt, BeginsAt};
+ghost use Rattle.std.specs.List.Sorted.{IsStrictlySortedBy};
+ghost use Rattle.index_parts.specs.Rows.{compare_rows};
+ghost use Rattle.index_v2.specs.RowOrder.{compare_row, IsRowAt, StandsAt, BeginsAt};
 
 use crate::IndexRefusal;
 use crate::opening::refused_in;
@@ -23,13 +25,14 @@ pub(crate) struct Rows<'a> {
 impl<'a> Model for Rows<'a> {
     ghost use Rattle.std.specs.Prelude.{List, [], unwrap_or, length, ◌<◌, ◌^◌};
     ghost use Rattle.index_parts.specs.declared.postings_row.PostingsRow.{PostingsRow};
-    ghost use Rattle.index_v2.specs.RowOrder.{AreAscending};
+    ghost use Rattle.std.specs.List.Sorted.{IsStrictlySortedBy};
+    ghost use Rattle.index_parts.specs.Rows.{compare_rows};
 
     ghost Value = { List PostingsRow };
 
     ghost view = { λ r. unwrap_or r.table [] };
 
-    ghost invariant = { λ r. AreAscending (unwrap_or r.table []) × (length (unwrap_or r.table []) < 2 ^ 32) };
+    ghost invariant = { λ r. IsStrictlySortedBy compare_rows (unwrap_or r.table []) × (length (unwrap_or r.table []) < 2 ^ 32) };
 }
 
 impl<'a> Rows<'a> {
@@ -46,7 +49,9 @@ impl<'a> Rows<'a> {
     /// The name, the value and the place of a row.
     #[inline(always)]
     pub(crate) fn get(&self, place: usize) -> Option<(&'a str, &'a str, u64)>
-        ensures { option_map (λ row. record { name = row.0.now; value = row.1.now; offset = row.2 }) result ≡ slice_get self.now place }
+        ensures { option_map
+            (λ row. record { name = row.0.now; value = row.1.now; offset = row.2 }) result
+            ≡ slice_get self.now place }
     {
         match &self.table {
             None => None,
@@ -58,7 +63,7 @@ impl<'a> Rows<'a> {
     pub(crate) fn place_of(&self, name: &str, value: &str) -> Result<usize, usize>
         ensures found { IfOk result (λ place. IsRowAt self.now name.now value.now place) }
         ensures absent { IfErr result (λ place. StandsAt self.now name.now value.now place) }
-        ensures ascending { AreAscending self.now }
+        ensures ascending { IsStrictlySortedBy compare_rows self.now }
     {
         match &self.table {
             None => Err(0),
@@ -69,7 +74,7 @@ impl<'a> Rows<'a> {
     /// The place at which the rows of a name begin, or would begin.
     pub(crate) fn first_of(&self, name: &str) -> usize
         ensures begins { BeginsAt self.now name.now result }
-        ensures ascending { AreAscending self.now }
+        ensures ascending { IsStrictlySortedBy compare_rows self.now }
     {
         match self.place_of(name, "") {
             Ok(place) => place,
@@ -83,7 +88,8 @@ impl<'a> Rows<'a> {
         index: &'a [u8],
         reference: u64,
     ) -> Result<Rows<'a>, IndexRefusal>
-        ensures { Gives IndexRefusal.NoMemory (λ rows. rows) result (held_at 6 postings_table_at index.now reference) }
+        ensures { Gives IndexRefusal.NoMemory
+            (λ rows. rows) result (held_at 6 postings_table_at index.now reference) }
     {
         if reference == 0 {
             return Ok(Rows { table: None });
@@ -98,7 +104,10 @@ impl<'a> Rows<'a> {
 /// The order of rows: by name and then by value.
 #[inline(always)]
 fn compare_row(row: (&str, &str, u64), name: &str, value: &str) -> Ordering
-    ensures { result ≡ compare_row (record { name = row.entry.0.now; value = row.entry.1.now; offset = row.entry.2 }) name.now value.now }
+    ensures { result
+        ≡ compare_row
+        (record { name = row.entry.0.now; value = row.entry.1.now; offset = row.entry.2 }) name.now
+        value.now }
 {
     match row.0.cmp(name) {
         Ordering::Equal => row.1.cmp(value),
@@ -108,7 +117,7 @@ fn compare_row(row: (&str, &str, u64), name: &str, value: &str) -> Ordering
 
 /// The place of the row of a name and a value, or the place where it would stand.
 fn place_of(rows: &PostingsTable<'_>, name: &str, value: &str) -> Result<usize, usize>
-    requires { AreAscending rows.now }
+    requires { IsStrictlySortedBy compare_rows rows.now }
     ensures found { IfOk result (λ place. IsRowAt rows.now name.now value.now place) }
     ensures absent { IfErr result (λ place. StandsAt rows.now name.now value.now place) }
 {

@@ -60,7 +60,9 @@ pub(crate) fn texts_of<'a, 'b>(
     mut cursor: Cursor<'b>,
     mut labels: Vec<LentLabel<'a>>,
 ) -> Result<(Result<Vec<LentLabel<'a>>, LabelFault>, Cursor<'b>), PartRefusal>
-    ensures { Gives PartRefusal.NoMemory (λ x. (result_map_both (λ labels. map as_label labels.items) (λ fault. fault) x.0, x.1)) result (texts_at symbols.now [] 0 count cursor.entry) }
+    ensures { Gives PartRefusal.NoMemory
+        (λ x. (result_map_both (λ labels. map as_label labels.items) (λ fault. fault) x.0, x.1))
+        result (texts_at symbols.now [] 0 count cursor.entry) }
 {
     labels.clear();
     let mut before = "";
@@ -85,7 +87,9 @@ fn after_fault<'a, 'b>(
     count: u64,
     mut cursor: Cursor<'b>,
 ) -> Result<(Result<Vec<LentLabel<'a>>, LabelFault>, Cursor<'b>), PartRefusal>
-    ensures { Answers (λ x. (result_map_both (λ labels. map as_label labels.items) (λ fault. fault) x.0, x.1)) result (faulty_at fault count cursor.entry) }
+    ensures { Answers
+        (λ x. (result_map_both (λ labels. map as_label labels.items) (λ fault. fault) x.0, x.1))
+        result (faulty_at fault count cursor.entry) }
 {
     for _ in 0..count {
         (_, cursor) = next_label(cursor)?;
@@ -95,7 +99,8 @@ fn after_fault<'a, 'b>(
 
 /// The refusal of the symbol number that is at fault.
 pub(crate) fn fault_at(index: &[u8], at: u64, fault: LabelFault) -> PartRefusal
-    ensures { (places : List (ℕ × ℕ)) → label_places_at index.now at ≡ Ok places → result ≡ fault_at places fault }
+    ensures { (places : List (ℕ × ℕ)) → label_places_at index.now at ≡ Ok places
+        → result ≡ fault_at places fault }
 {
     match fault {
         LabelFault::Name(label) => {

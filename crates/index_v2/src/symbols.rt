@@ -45,7 +45,8 @@ impl<'a> Symbols<'a> {
         index: &'a [u8],
         reference: u64,
     ) -> Result<Symbols<'a>, IndexRefusal>
-        ensures { Gives IndexRefusal.NoMemory (λ symbols. symbols) result (held_at 1 symbols_at index.now reference) }
+        ensures { Gives IndexRefusal.NoMemory
+            (λ symbols. symbols) result (held_at 1 symbols_at index.now reference) }
     {
         if reference == 0 {
             return Ok(Symbols { table: None });

@@ -1,14 +1,14 @@
-ghost use Rattle.std.specs.Prelude.{◌≡◌, ◌⊎◌, ◌+◌, ◌*◌, ◌-◌, ◌^◌, ◌<◌, ◌≤◌, ℕ, List, [], length, sum_by, slice_get, slice_index, map, zip, Option, Some, None, Ok, Err, MatchResult, IfOk, IfSome};
+ghost use Rattle.std.specs.Prelude.{◌≡◌, ◌⊎◌, ◌+◌, ◌*◌, ◌-◌, ◌^◌, ◌<◌, ◌≤◌, ℕ, List, All, length, sum_by, slice_get, None, Ok, Err, IfOk};
 ghost use Rattle.std.specs.Option.{option_copied};
 ghost use Rattle.reading_core.specs.Reading.{Gives, Answers};
 ghost use Rattle.index_parts.specs.declared.toc.Toc.{Toc};
-ghost use Rattle.index_v2.specs.RowOrder.{AreSmall, AllRise};
+ghost use Rattle.std.specs.List.Sorted.{IsStrictlyIncreasing};
 ghost use Rattle.std.specs.Result.{IsOkAnd};
 ghost use Rattle.reading_core.specs.Grammar.{IsBytes};
-ghost use Rattle.index_v2.specs.declared.index_series.IndexSeries.{IndexSeries};
+ghost use Rattle.index_file.specs.declared.index_series.IndexSeries.{IndexSeries};
 ghost use Rattle.index_v2.specs.Opening.{opened_at};
 ghost use Rattle.index_v2.specs.Budget.{members_of, series_bytes, list_bytes, text_bytes};
-ghost use Rattle.index_v2.specs.IndexFile.{IsIndex};
+ghost use Rattle.index_file.specs.IndexFile.{IsIndex};
 ghost use Rattle.index_v2.specs.Differing.{DifferFirstAt};
 ghost use Rattle.index_v2.specs.WholeReading.{present_at, may_stand_behind, behind_at, all_at, lists_at, whole_at};
 
@@ -16,7 +16,7 @@ use crate::budget::{
     budget_of, members_of, section_bytes, series_bytes, spend, text_budget_of, text_bytes,
 };
 use crate::difference::difference;
-use crate::numbered::labelled;
+use crate::numbered::series_at;
 use crate::opening::refused_of;
 use crate::postings::{POSTINGS, list_at, list_of};
 use crate::rows::Rows;
@@ -71,9 +71,11 @@ fn series_behind(
     number: u64,
 ) -> Result<IndexSeries, IndexRefusal>
     requires { number < 2 ^ 32 }
-    ensures { Gives IndexRefusal.NoMemory (λ series. series) result (behind_at index.now symbols.now (slice_get before.now (length before.now - 1)) number) }
+    ensures { Gives IndexRefusal.NoMemory
+        (λ series. series) result
+        (behind_at index.now symbols.now (slice_get before.now (length before.now - 1)) number) }
 {
-    match labelled(alloc, index, symbols, 16 * number) {
+    match series_at(alloc, index, symbols, 16 * number) {
         Ok(series) if may_stand_behind(before, &series) => Ok(series),
         Ok(_) => Err(IndexRefusal::BadSeries(number as u32, PartRefusal::Unordered(16 * number))),
         Err(refusal) => Err(refused_of(number as u32, refusal)),
@@ -88,11 +90,14 @@ pub(crate) fn all_series(
     symbols: &Symbols<'_>,
     numbers: &[u64],
 ) -> Result<Vec<IndexSeries>, IndexRefusal>
-    requires { AreSmall numbers.now }
+    requires { All (λ n. n < 2 ^ 32) numbers.now }
     ensures as_many { IfOk result (λ series. length series.items ≡ length numbers.now) }
-    ensures bounded { IfOk result (λ series. sum_by members_of series.items + sum_by (series_bytes index.now) numbers.now ≤ 8 * length index.now) }
+    ensures bounded { IfOk result
+        (λ series. sum_by members_of series.items + sum_by
+        (series_bytes index.now) numbers.now ≤ 8 * length index.now) }
     ensures texts { IfOk result (λ series. sum_by text_bytes series.items ≤ 64 * length index.now) }
-    ensures exact { Gives IndexRefusal.NoMemory (λ series. series.items) result (all_at index.now symbols.now None numbers.now) }
+    ensures exact { Gives IndexRefusal.NoMemory
+        (λ series. series.items) result (all_at index.now symbols.now None numbers.now) }
 {
     let mut made = Vec::new(alloc);
     let mut left = budget_of(index);
@@ -114,10 +119,13 @@ pub(crate) fn all_lists(
     index: &[u8],
     rows: &Rows<'_>,
 ) -> Result<Vec<NumberList>, IndexRefusal>
-    ensures rise { IfOk result (λ lists. AllRise lists.items) }
+    ensures rise { IfOk result (λ lists. All IsStrictlyIncreasing lists.items) }
     ensures one_each { IfOk result (λ lists. length lists.items ≡ length rows.now) }
-    ensures bounded { IfOk result (λ lists. sum_by length lists.items + sum_by (list_bytes index.now) rows.now ≤ 8 * length index.now) }
-    ensures exact { Gives IndexRefusal.NoMemory (λ lists. lists.items) result (lists_at index.now rows.now) }
+    ensures bounded { IfOk result
+        (λ lists. sum_by length lists.items + sum_by
+        (list_bytes index.now) rows.now ≤ 8 * length index.now) }
+    ensures exact { Gives IndexRefusal.NoMemory
+        (λ lists. lists.items) result (lists_at index.now rows.now) }
 {
     let mut lists = Vec::new(alloc);
     let mut left = budget_of(index);
@@ -145,7 +153,10 @@ fn read_whole(
     ensures bytes { IsBytes index.now }
     ensures bounded { IfOk result (λ list. sum_by members_of list ≤ 8 * length index.now) }
     ensures texts { IfOk result (λ list. sum_by text_bytes list ≤ 64 * length index.now) }
-    ensures exact { Gives IndexRefusal.NoMemory (λ list. list) result (whole_at (record { bytes = index.now; toc = toc.now; symbols = symbols.now; rows = rows.now })) }
+    ensures exact { Gives IndexRefusal.NoMemory
+        (λ list. list) result
+        (whole_at (record
+        { bytes = index.now; toc = toc.now; symbols = symbols.now; rows = rows.now })) }
 {
     let numbers = list_of(alloc, index, rows, "", "")?;
     test_present(toc, numbers.members())?;
@@ -165,14 +176,26 @@ pub(crate) fn whole(
     symbols: &Symbols<'_>,
     rows: &Rows<'_>,
 ) -> Result<IndexSeriesList, IndexRefusal>
-    requires { opened_at index.now ≡ Ok (record { bytes = index.now; toc = toc.now; symbols = symbols.now; rows = rows.now }) }
+    requires { opened_at index.now
+        ≡ Ok (record { bytes = index.now; toc = toc.now; symbols = symbols.now; rows = rows.now }) }
     ensures found { IfOk result (λ list. IsIndex index.now list) }
-    ensures only { (list : List IndexSeries) → IsIndex index.now list → IsOkAnd result (λ found. found ≡ list) ⊎ (result ≡ Err IndexRefusal.NoMemory) }
-    ensures differs { (place : ℕ) → result ≡ Err (IndexRefusal.PostingsDiffer place) → DifferFirstAt (record { bytes = index.now; toc = toc.now; symbols = symbols.now; rows = rows.now }) place }
-    ensures differing { (place : ℕ) → DifferFirstAt (record { bytes = index.now; toc = toc.now; symbols = symbols.now; rows = rows.now }) place → (result ≡ Err (IndexRefusal.PostingsDiffer place)) ⊎ (result ≡ Err IndexRefusal.NoMemory) }
+    ensures only { (list : List IndexSeries) → IsIndex index.now list
+        → IsOkAnd result (λ found. found ≡ list) ⊎ (result ≡ Err IndexRefusal.NoMemory) }
+    ensures differs { (place : ℕ) → result ≡ Err (IndexRefusal.PostingsDiffer place)
+        → DifferFirstAt
+        (record { bytes = index.now; toc = toc.now; symbols = symbols.now; rows = rows.now })
+        place }
+    ensures differing { (place : ℕ)
+        → DifferFirstAt
+        (record { bytes = index.now; toc = toc.now; symbols = symbols.now; rows = rows.now }) place
+        → (result ≡ Err (IndexRefusal.PostingsDiffer place))
+        ⊎ (result ≡ Err IndexRefusal.NoMemory) }
     ensures bounded { IfOk result (λ list. sum_by members_of list ≤ 8 * length index.now) }
     ensures texts { IfOk result (λ list. sum_by text_bytes list ≤ 64 * length index.now) }
-    ensures exact { Gives IndexRefusal.NoMemory (λ list. list) result (whole_at (record { bytes = index.now; toc = toc.now; symbols = symbols.now; rows = rows.now })) }
+    ensures exact { Gives IndexRefusal.NoMemory
+        (λ list. list) result
+        (whole_at (record
+        { bytes = index.now; toc = toc.now; symbols = symbols.now; rows = rows.now })) }
 {
     read_whole(alloc, index, toc, symbols, rows)
 }

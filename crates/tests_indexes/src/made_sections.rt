@@ -5,7 +5,7 @@
 
 use crate::calls::print_hex;
 use crate::chunk_notation::chunks_of;
-use crate::order::are_in_order;
+use index_v2::are_in_order;
 use crate::texts::{numbers_of, rows_of, texts_of};
 use index_parts::{
     RawSeries, Toc, write_label_index, write_label_offsets, write_postings, write_postings_table,
@@ -52,7 +52,7 @@ fn put_series(out: &mut Vec<u8>, text: &str) -> Result<(), NoMemory> {
 }
 
 fn put_raw(out: &mut Vec<u8>, series: &RawSeries) -> Result<(), NoMemory> {
-    if series.names.len() == series.values.len() && are_in_order(None, series.chunks.members()) {
+    if series.names.len() == series.values.len() && are_in_order(series.chunks.members()) {
         write_series(out, series)?;
     }
     Ok(())

@@ -9,7 +9,6 @@
 mod calls;
 mod chunk_notation;
 mod made_sections;
-mod order;
 mod pieces;
 mod reader_calls;
 mod section_calls;

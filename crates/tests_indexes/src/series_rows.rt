@@ -1,10 +1,7 @@
 //! The notation of series to be written: `LABELS CHUNK CHUNK; LABELS CHUNK`, with chunks in the notation of `chunk_notation`.
 //! `+COUNT` right behind labels is one more, `a`, whose value is so many letters.
-ghost use Rattle.std.specs.Prelude.{◌≡◌, OnOk};
-
 use crate::chunk_notation::chunks_of;
-use crate::order::{are_in_order, is_behind};
-use index_v2::{IndexSeries, IndexWriteRefusal, IndexWriter};
+use index_v2::{IndexSeries, IndexWriteRefusal, IndexWriter, are_in_order};
 use label_sets::{LabelRefusal, LabelSet};
 use list_core::NoMemory;
 use std::alloc::Global;
@@ -14,27 +11,18 @@ use wire_bytes::Blob;
 /// The index that is written of series. A text that is none is passed over.
 pub(crate) fn written(alloc: Global, text: &str) -> Result<Blob, IndexWriteRefusal> {
     let mut writer = IndexWriter::new(alloc);
-    let mut before = Vec::new(alloc);
     for part in text.split("; ") {
         if let Some(series) = series_of(alloc, part) {
-            add(&mut writer, &mut before, series)?;
+            add(&mut writer, &series)?;
         }
     }
     writer.finish()
 }
 
-/// Adds a series behind these, where it may stand there.
-fn add(
-    writer: &mut IndexWriter,
-    before: &mut Vec<IndexSeries>,
-    series: IndexSeries,
-) -> Result<(), NoMemory>
-    requires { writer.old ≡ before.old.items }
-    ensures { OnOk result (writer.new ≡ before.new.items) }
-{
-    if is_behind(before.as_slice(), &series.labels) && are_in_order(None, series.chunks.members()) {
+/// Adds a series, where it may stand behind those that were added.
+fn add(writer: &mut IndexWriter, series: &IndexSeries) -> Result<(), NoMemory> {
+    if writer.may_add(&series.labels) && are_in_order(series.chunks.members()) {
         writer.add(&series.labels, &series.chunks)?;
-        before.push(series)?;
     }
     Ok(())
 }

@@ -1,5 +1,5 @@
 use Rattle.std.proofs.Common.{arith, ap, length}
-use Rattle.index_v2.specs.Opened.{Opened}
+use Rattle.index_file.specs.Opened.{Opened}
 use Rattle.index_v2.proofs.OpeningLaws.{opened_found}
 use Rattle.index_v2.proofs.FewLaws.{opened_few_of, values_few}
 use Rattle.index_v2.proofs.ValuesAgree.{values_agree}

@@ -1,6 +1,6 @@
 use Rattle.std.proofs.Common.{subst}
-use Rattle.index_v2.specs.Opened.{Opened}
-use Rattle.index_v2.specs.IndexFile.{IsSeriesOf}
+use Rattle.index_file.specs.Opened.{Opened}
+use Rattle.index_file.specs.IndexFile.{IsSeriesOf}
 use Rattle.index_v2.proofs.PostingsLaws.{opened_is}
 use Rattle.index_v2.proofs.FewLaws.{if_ok, series_few}
 use Rattle.index_v2.proofs.index_reader.IndexReader.lent_series.Goals as goal
@@ -15,4 +15,4 @@ pub returns-clause-agrees : goal.returns-clause-agrees
 returns-clause-agrees c =
     let o : Opened = record { bytes = c.self.inside.bytes.now; toc = c.self.inside.toc; symbols = c.self.inside.symbols; rows = c.self.inside.rows } in
     rw (← c.self.view_is) (λ list is series has. c.lent_series_of.ensures.only series
-    (subst (λ (x : Opened). IsSeriesOf o.bytes x.symbols c.args.number series) (opened_is o c.self.invariant.0 list is) (is.series_are c.args.number series has)))
+    (subst (λ (x : Opened). IsSeriesOf x.bytes x.symbols c.args.number series) (opened_is o c.self.invariant.0 list is) (is.series_are.stand c.args.number series has)))

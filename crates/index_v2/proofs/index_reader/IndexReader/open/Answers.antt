@@ -1,9 +1,9 @@
 use Rattle.std.proofs.Common.{◌≡◌, ◌*◌, ◌≤◌, length}
 use Rattle.index_parts.proofs.ListLaws.{found_from, only_from}
 use Rattle.index_v2.specs.declared.refusal.IndexRefusal.TheVariants.{NoMemory}
-use Rattle.index_v2.specs.Opened.{Opened}
+use Rattle.index_file.specs.Opened.{Opened}
 use Rattle.index_v2.specs.Opening.{opened_at}
-use Rattle.index_v2.specs.IndexFile.{IsOpened}
+use Rattle.index_file.specs.IndexFile.{IsOpened}
 use Rattle.index_v2.proofs.OpeningLaws.{opened_found, opened_again}
 use Rattle.index_v2.proofs.FewLaws.{opened_few_of}
 use Rattle.index_v2.proofs.index_reader.IndexReader.open.Goals as goal

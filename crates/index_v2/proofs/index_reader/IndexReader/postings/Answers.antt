@@ -1,7 +1,7 @@
 use Rattle.index_v2.specs.declared.refusal.IndexRefusal.TheVariants.{NoMemory}
-use Rattle.index_v2.specs.Opened.{Opened}
+use Rattle.index_file.specs.Opened.{Opened}
 use Rattle.index_v2.specs.PostingsLists.{postings_of}
-use Rattle.index_v2.specs.IndexFile.{AreNumbersOf}
+use Rattle.index_file.specs.IndexFile.{AreNumbersOf}
 use Rattle.index_v2.proofs.PostingsLaws.{postings_agree, read_or_none}
 use Rattle.index_v2.proofs.index_reader.IndexReader.postings.Goals as goal
 

@@ -1,6 +1,6 @@
 use Rattle.std.proofs.Common.{sym, ap, ◌∙◌}
 use Rattle.std.specs.Prelude.{slice_get}
-use Rattle.index_v2.specs.Opened.{Opened}
+use Rattle.index_file.specs.Opened.{Opened}
 use Rattle.index_v2.proofs.PostingsLaws.{opened_is}
 use Rattle.index_v2.proofs.index_reader.IndexReader.symbol.Goals as goal
 

@@ -1,5 +1,9 @@
-use Rattle.index_v2.proofs.RowPlaces.{table_ascends, table_small}
+use Rattle.std.proofs.Common.{arith}
+use Rattle.index_v2.proofs.RowPlaces.{no_rows_ascend, table_ascends, table_small}
 use Rattle.index_v2.proofs.rows.Rows.read.Goals as goal
+
+pub invariant_of-result : goal.invariant_of-result
+invariant_of-result c = (no_rows_ascend, omega arith)
 
 pub invariant_of-result-in-Ok : goal.invariant_of-result-in-Ok
 invariant_of-result-in-Ok c = (table_ascends _ _ _ c.in-Ok.ensures.found, table_small _ _ _ c.in-Ok.ensures.found)

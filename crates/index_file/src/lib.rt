@@ -1,0 +1,8 @@
+//! What an index of version 2 is, apart from reading and writing it: which bytes hold which list of series.
+#![tactic(auto)]
+
+mod header;
+mod index_series;
+
+pub use header::{MAGIC, VERSION};
+pub use index_series::{IndexSeries, IndexSeriesList};

@@ -1,6 +1,0 @@
-use Rattle.std.proofs.Common.{◌≡◌, ◌++◌, drop}
-use Rattle.index_v2.specs.LabelGroups.{all_entries}
-use Rattle.index_v2.proofs.label_groups.entries_of.Given as goal
-
-abbrev pub invariant-loop-place : goal.invariant-loop-place
-invariant-loop-place l = l.entries.items ++ all_entries (drop l.place l.series) (drop l.place l.numbers) ≡ all_entries l.series l.numbers

@@ -1,5 +1,0 @@
-use Rattle.index_v2.proofs.Entries.{entries_sorted}
-use Rattle.index_v2.proofs.label_groups.sort_entries.Goals as goal
-
-pub returns : goal.returns
-returns c = entries_sorted _ _ c.in_ok-sort.ensures.sorted c.in_ok-sort.ensures.stable

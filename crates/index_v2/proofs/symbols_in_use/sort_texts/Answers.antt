@@ -1,5 +1,0 @@
-use Rattle.index_v2.proofs.SortedTexts.{texts_sorted}
-use Rattle.index_v2.proofs.symbols_in_use.sort_texts.Goals as goal
-
-pub returns : goal.returns
-returns c = texts_sorted _ _ c.in_ok-sort.ensures.sorted c.in_ok-sort.ensures.stable

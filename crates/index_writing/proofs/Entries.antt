@@ -1,0 +1,95 @@
+-- The labels of series as entries, and their order.
+use Rattle.std.proofs.Common.{◌≡◌, ℕ, ◌<◌, length, get_or, subst, List, [], ◌∷◌, ◌++◌, map, zip, Bool, true, false, ◌&&◌, refl, sym, ap, ◌∙◌, append_assoc, arith}
+use Rattle.std.proofs.lemmas.Bool.Decides.{nat_tests}
+use Rattle.std.specs.Prelude.{◌==◌}
+use Rattle.std.specs.Cmp.{IsTotalOrder, IsStrictWeakOrder}
+use Rattle.std.specs.List.Sorted.{IsSorted, IsStable}
+use Rattle.std.proofs.lemmas.List.Sorted.{ranks_by}
+use Rattle.std.proofs.lemmas.Cmp.{then_total, on_total, nat_cmp_total}
+use Rattle.label_sets.specs.Ordered.{in_order}
+use Rattle.label_sets.proofs.StableSorts.{in_order-from_sort}
+use Rattle.index_parts.specs.declared.raw_series.RawSeries.{RawSeries}
+use Rattle.index_writing.specs.declared.label_groups.Entry.{Entry}
+use Rattle.index_writing.specs.declared.label_groups.LabelRow.{LabelRow}
+use Rattle.index_writing.specs.declared.label_groups.NameValues.{NameValues}
+use Rattle.index_writing.specs.LabelGroups.{entries_of, all_entries, compare_entries, is_lesser_entry, have_same_label, join_series, have_same_name, join_values}
+use Rattle.std.specs.List.{AllByRecursion}
+use Rattle.index_writing.specs.WriteSteps.{IsStorable}
+use Rattle.index_writing.proofs.SortedTexts.{all_at}
+use Rattle.index_writing.proofs.Groups.{AreKinds}
+
+abbrev pub labels_with : ℕ → List ℕ → List ℕ → List Entry
+labels_with series names values = map (λ (label : ℕ × ℕ). record { name = label.0; value = label.1; series = series }) (zip names values)
+
+abbrev pub entry_with : ℕ → ℕ → ℕ → List Entry
+entry_with series name value = record { name = name; value = value; series = series } ∷ []
+
+pub labels_law : (series name value : ℕ) (names values : List ℕ) → labels_with series (name ∷ names) (value ∷ values) ≡ entry_with series name value ++ labels_with series names values
+labels_law series name value names values = refl
+
+pub no_labels : (series : ℕ) (values : List ℕ) → labels_with series [] values ≡ []
+no_labels series values = refl
+
+pub all_law : (one : RawSeries) (number : ℕ) (series : List RawSeries) (numbers : List ℕ) → all_entries (one ∷ series) (number ∷ numbers) ≡ entries_of one number ++ all_entries series numbers
+unfolding all_entries
+all_law one number series numbers = refl
+
+pub none_law : (numbers : List ℕ) → all_entries [] numbers ≡ []
+unfolding all_entries
+none_law numbers = refl
+
+pub entry_is : (one : RawSeries) (number : ℕ) → entries_of one number ≡ labels_with number one.names one.values
+unfolding entries_of
+entry_is one number = refl
+
+pub entries_added : (one : RawSeries) (number : ℕ) (names values : List ℕ) (old new : List Entry) → names ≡ one.names → values ≡ one.values → new ≡ old ++ labels_with number names values → new ≡ old ++ entries_of one number
+entries_added one number names values old new names_are values_are is =
+    is ∙ ap (λ (l : List ℕ). old ++ labels_with number l values) names_are ∙ ap (λ (l : List ℕ). old ++ labels_with number one.names l) values_are ∙ ap (λ (l : List Entry). old ++ l) (sym (entry_is one number))
+
+pub as_many_at : (series : List RawSeries) (i : ℕ) (one : RawSeries) → AllByRecursion IsStorable series → i < length series → one ≡ get_or series i one → length one.names ≡ length one.values
+as_many_at series i one all lt at = subst (λ (s : RawSeries). length s.names ≡ length s.values) (sym at) (all_at IsStorable series i one all lt).0
+
+-- ---- their order
+
+pub entries_total : IsTotalOrder compare_entries
+entries_total = then_total (on_total (λ (e : Entry). e.name) nat_cmp_total) (then_total (on_total (λ (e : Entry). e.value) nat_cmp_total) (on_total (λ (e : Entry). e.series) nat_cmp_total))
+
+pub entries_order : IsStrictWeakOrder is_lesser_entry
+entries_order = ranks_by entries_total (λ (e : Entry). e)
+
+pub entries_sorted : (xs ys : List Entry) → IsSorted compare_entries ys → IsStable compare_entries xs ys → ys ≡ in_order is_lesser_entry xs
+entries_sorted xs ys sorted stable = in_order-from_sort is_lesser_entry entries_order xs ys sorted stable
+
+-- ---- their kinds
+
+and_true : (a b : Bool) → a && b ≡ true → (a ≡ true) × (b ≡ true)
+and_true true b e = (refl, e)
+and_true false b e = absurd cc
+
+same_label : (a b c : LabelRow) → have_same_label a b ≡ true → have_same_label b c ≡ have_same_label a c
+same_label a b c e =
+    let parts = and_true (a.name == b.name) (a.value == b.value) e in
+    let name : a.name ≡ b.name = grind (arith, nat_tests) in
+    let value : a.value ≡ b.value = grind (arith, nat_tests) in
+    ap (λ n. (n == c.name) && (b.value == c.value)) (sym name) ∙ ap (λ n. (a.name == c.name) && (n == c.value)) (sym value)
+
+pub label_kinds : AreKinds have_same_label join_series
+label_kinds = record {
+  left = λ a b c. refl;
+  right = λ a b c. refl;
+  assoc = λ a b c. ap (λ (l : List ℕ). record { name = a.name; value = a.value; series = l }) (append_assoc a.series b.series c.series);
+  alike = same_label;
+}
+
+same_name : (a b c : NameValues) → have_same_name a b ≡ true → have_same_name b c ≡ have_same_name a c
+same_name a b c e =
+    let name : a.name ≡ b.name = grind (arith, nat_tests) in
+    ap (λ n. n == c.name) (sym name)
+
+pub name_kinds : AreKinds have_same_name join_values
+name_kinds = record {
+  left = λ a b c. refl;
+  right = λ a b c. refl;
+  assoc = λ a b c. ap (λ (l : List ℕ). record { name = a.name; values = l }) (append_assoc a.values b.values c.values);
+  alike = same_name;
+}

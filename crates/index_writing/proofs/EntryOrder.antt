@@ -1,0 +1,97 @@
+-- The entries of series stand once each, and in order they strictly ascend.
+use Rattle.std.proofs.Common.{◌≡◌, ℕ, ◌<◌, List, [], ◌∷◌, ◌++◌, refl, sym, ap, subst, arith, inl, inr, ◌⊎◌}
+use Rattle.std.specs.declared.cmp.Ordering.{Ordering}
+use Rattle.std.specs.declared.cmp.Ordering.TheVariants.{Less, Equal, Greater}
+use Rattle.std.specs.Ordering.{nat_cmp, ordering_then}
+use Rattle.std.proofs.lemmas.Cmp.{ranked}
+use Rattle.std.specs.List.{AllByRecursion}
+use Rattle.index_parts.specs.declared.raw_series.RawSeries.{RawSeries}
+use Rattle.index_writing.specs.declared.label_groups.Entry.{Entry}
+use Rattle.index_writing.specs.LabelGroups.{entries_of, all_entries, compare_entries, is_lesser_entry}
+use Rattle.index_writing.proofs.OrderedEntries.{In, all_in, in_all, Rise, IsStrict, strict_order, Once, in_either}
+use Rattle.index_writing.proofs.LabelRows.{Before}
+use Rattle.index_writing.proofs.Entries.{labels_with, entries_total}
+
+-- ---- their order as a relation
+
+cmp_less : (n m : ℕ) → nat_cmp n m ≡ Less → n < m
+cmp_less n m e = ranked n m Less (sym e)
+
+cmp_equal : (n m : ℕ) → nat_cmp n m ≡ Equal → n ≡ m
+cmp_equal n m e = ranked n m Equal (sym e)
+
+then_less : (a b : Ordering) → ordering_then a b ≡ Less → (a ≡ Less) ⊎ ((a ≡ Equal) × (b ≡ Less))
+then_less Less b e = inl refl
+then_less Equal b e = inr (refl, e)
+then_less Greater b e = absurd cc
+
+then_equal : (a b : Ordering) → ordering_then a b ≡ Equal → (a ≡ Equal) × (b ≡ Equal)
+then_equal Less b e = absurd cc
+then_equal Equal b e = (refl, e)
+then_equal Greater b e = absurd cc
+
+before_from : (x y : Entry) → compare_entries x y ≡ Less → Before x y
+before_from x y e =
+    let inner = ordering_then (nat_cmp x.value y.value) (nat_cmp x.series y.series) in
+    elim (then_less (nat_cmp x.name y.name) inner e) [
+      | inl l ↦ record { is = inl (inl (cmp_less x.name y.name l)) }
+      | inr r ↦ elim (then_less (nat_cmp x.value y.value) (nat_cmp x.series y.series) r.1) [
+        | inl l ↦ record { is = inl (inr (cmp_equal x.name y.name r.0, cmp_less x.value y.value l)) }
+        | inr s ↦ record { is = inr (cmp_equal x.name y.name r.0, cmp_equal x.value y.value s.0, cmp_less x.series y.series s.1) }
+      ]
+    ]
+
+same_entry : (x y : Entry) → compare_entries x y ≡ Equal → x ≡ y
+same_entry x y e =
+    let one = then_equal (nat_cmp x.name y.name) (ordering_then (nat_cmp x.value y.value) (nat_cmp x.series y.series)) e in
+    let two = then_equal (nat_cmp x.value y.value) (nat_cmp x.series y.series) one.1 in
+    let name = cmp_equal x.name y.name one.0 in
+    let value = cmp_equal x.value y.value two.0 in
+    let series = cmp_equal x.series y.series two.1 in
+    λ i. record { name = name i; value = value i; series = series i }
+
+pub entries_strict : IsStrict is_lesser_entry (λ x y. compare_entries x y ≡ Less)
+entries_strict = strict_order compare_entries entries_total same_entry
+
+pub before_all : (entries : List Entry) → Rise (λ x y. compare_entries x y ≡ Less) entries → Rise Before entries
+before_all [] up = tt
+before_all (x ∷ entries) up = (all_in (Before x) entries (λ y h. before_from x y (in_all (λ z. compare_entries x z ≡ Less) entries y up.0 h)), before_all entries up.1)
+
+-- ---- each stands once
+
+in_labels : (series : ℕ) (names values : List ℕ) (e : Entry) → In e (labels_with series names values) → (e.series ≡ series) × In e.name names
+in_labels series [] values e h = absurd h
+in_labels series (name ∷ names) [] e h = absurd h
+in_labels series (name ∷ names) (value ∷ values) e (inl is) = (ap (λ (x : Entry). x.series) is, inl (ap (λ (x : Entry). x.name) is))
+in_labels series (name ∷ names) (value ∷ values) e (inr h) = let others = in_labels series names values e h in (others.0, inr others.1)
+
+once_labels : (series : ℕ) (names values : List ℕ) → Rise (λ n m. n < m) names → Once (labels_with series names values)
+once_labels series [] values up = tt
+once_labels series (name ∷ names) [] up = tt
+once_labels series (name ∷ names) (value ∷ values) up =
+    (λ h. let later : name < name = in_all (λ m. name < m) names name up.0 (in_labels series names values (record { name = name; value = value; series = series }) h).1 in omega arith, once_labels series names values up.1)
+
+once_append : {A : Type 0} (xs ys : List A) → Once xs → Once ys → ((x : A) → In x xs → In x ys → ⊥) → Once (xs ++ ys)
+once_append [] ys a b apart = b
+once_append (x ∷ xs) ys a b apart =
+    (λ h. elim (in_either x xs ys h) [ inl i ↦ a.0 i | inr i ↦ apart x (inl refl) i ], once_append xs ys a.1 b (λ y i j. apart y (inr i) j))
+
+in_series : (series : List RawSeries) (numbers : List ℕ) (e : Entry) → In e (all_entries series numbers) → In e.series numbers
+unfolding all_entries entries_of
+in_series [] numbers e h = absurd h
+in_series (one ∷ series) [] e h = absurd h
+in_series (one ∷ series) (number ∷ numbers) e h = elim (in_either e (entries_of one number) (all_entries series numbers) h) [
+  | inl i ↦ inl (in_labels number one.names one.values e i).0
+  | inr i ↦ inr (in_series series numbers e i)
+]
+
+pub once_entries : (series : List RawSeries) (numbers : List ℕ) → AllByRecursion (λ one. Rise (λ n m. n < m) one.names) series → Rise (λ n m. n < m) numbers → Once (all_entries series numbers)
+unfolding all_entries entries_of
+once_entries [] numbers names up = tt
+once_entries (one ∷ series) [] names up = tt
+once_entries (one ∷ series) (number ∷ numbers) names up =
+    once_append (entries_of one number) (all_entries series numbers) (once_labels number one.names one.values names.0) (once_entries series numbers names.1 up.1)
+    (λ e i j.
+    let here = (in_labels number one.names one.values e i).0 in
+    let later : number < e.series = in_all (λ m. number < m) numbers e.series up.0 (in_series series numbers e j) in
+    omega arith)

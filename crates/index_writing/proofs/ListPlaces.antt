@@ -1,0 +1,115 @@
+-- Postings lists and label indices stand at their places in a text that is not too long.
+use Rattle.std.proofs.Common.{◌≡◌, ℕ, ◌/◌, ◌%◌, ◌^◌, ◌<◌, ◌≤◌, Bool, true, false, cond, List, [], ◌∷◌, ◌++◌, length, zip, fold, Option, Some, None, sym, ap, ◌∙◌, subst, arith, inl, inr, length-append, append_assoc}
+use Rattle.std.specs.Prelude.{bit_xor, ◌==◌}
+use Rattle.std.specs.Int.{w32, to_be_bytes}
+use Rattle.std.specs.List.{All, AllByRecursion, flat_map}
+use Rattle.std.proofs.lemmas.Nat.{xor_of_32}
+use Rattle.wire_bytes.specs.Crc.{crc, remainder, with_bit, castagnoli, coefficients, ones}
+use Rattle.index_parts.specs.Framed.{section_text, IsSection}
+use Rattle.index_parts.specs.Lists.{list_content}
+use Rattle.index_parts.specs.LabelIndices.{IsLabelIndex, label_index_content, label_index_text}
+use Rattle.index_parts.specs.Turns.{InOrderAfter, InOrder}
+use Rattle.index_parts.specs.Postings.{Rises, IsPostings, postings_text}
+use Rattle.index_parts.proofs.Stands.{section_stands}
+use Rattle.index_parts.proofs.Writing.{postings_stand, values_stand}
+use Rattle.index_writing.specs.Aligned.{padded, each_at, places_at}
+use Rattle.index_writing.specs.WriteSteps.{greatest}
+use Rattle.index_writing.proofs.OrderedEntries.{In, Rise}
+use Rattle.index_writing.proofs.SmallNumbers.{all_from}
+use Rattle.index_writing.proofs.Standing.{each_begins}
+
+-- ---- sums have 32 bits
+
+halved : (b : Bool) (r : ℕ) → r < 2 ^ 32 → cond b (bit_xor (r / 2) castagnoli) (r / 2) < 2 ^ 32
+halved true r lt = xor_of_32 (r / 2) castagnoli (omega arith) (omega arith)
+halved false r lt = omega arith
+
+bit_fits : (r bit : ℕ) → r < 2 ^ 32 → bit < 2 → with_bit r bit < 2 ^ 32
+bit_fits r bit lt small = halved (bit_xor r bit % 2 == 1) (bit_xor r bit) (xor_of_32 r bit lt (omega arith))
+
+abbrev Bits : List ℕ → Type 0
+Bits bits = AllByRecursion (λ bit. bit < 2) bits
+
+fold_fits : (bits : List ℕ) (r : ℕ) → r < 2 ^ 32 → Bits bits → fold with_bit r bits < 2 ^ 32
+fold_fits [] r lt all = lt
+fold_fits (bit ∷ bits) r lt all = fold_fits bits (with_bit r bit) (bit_fits r bit lt all.0) all.1
+
+all_append : {A : Type 0} (P : A → Type 0) (xs ys : List A) → AllByRecursion P xs → AllByRecursion P ys → AllByRecursion P (xs ++ ys)
+all_append P [] ys all more = more
+all_append P (x ∷ xs) ys all more = (all.0, all_append P xs ys all.1 more)
+
+bits_of : (byte : ℕ) → Bits (coefficients byte)
+bits_of byte = (omega arith, (omega arith, (omega arith, (omega arith, (omega arith, (omega arith, (omega arith, (omega arith, tt))))))))
+
+all_bits : (bytes : List ℕ) → Bits (flat_map coefficients bytes)
+all_bits [] = tt
+all_bits (byte ∷ bytes) = all_append (λ bit. bit < 2) (coefficients byte) (flat_map coefficients bytes) (bits_of byte) (all_bits bytes)
+
+pub crc_fits : (bytes : List ℕ) → crc bytes < 2 ^ 32
+unfolding crc remainder
+crc_fits bytes = xor_of_32 (fold with_bit ones (flat_map coefficients bytes)) ones (fold_fits (flat_map coefficients bytes) ones (omega arith) (all_bits bytes)) (omega arith)
+
+-- ---- places
+
+-- A text stands at a place of a whole.
+pub record StandsAt (whole : List ℕ) (place : ℕ) (text : List ℕ) : Type 0 where
+  pub before : List ℕ
+  pub after : List ℕ
+  pub is : whole ≡ (before ++ text) ++ after
+  pub at : length before ≡ place
+
+pub each_stands : (unit : ℕ) (start : List ℕ) (texts : List (List ℕ)) (place : ℕ) (text : List ℕ) → In (place, text) (zip (places_at unit start texts) texts) → StandsAt (each_at unit start texts) place text
+unfolding each_at places_at
+each_stands unit start [] place text h = absurd h
+each_stands unit start (next ∷ texts) place text (inl is) =
+    let more = each_begins unit (padded unit start ++ next) texts in
+    record {
+      before = padded unit start;
+      after = more.0;
+      is = more.1 ∙ ap (λ (l : List ℕ). (padded unit start ++ l) ++ more.0) (sym (ap (λ (x : ℕ × List ℕ). x.1) is));
+      at = sym (ap (λ (x : ℕ × List ℕ). x.0) is);
+    }
+each_stands unit start (next ∷ texts) place text (inr h) = each_stands unit (padded unit start ++ next) texts place text h
+
+pub stands_on : (whole more : List ℕ) (place : ℕ) (text longer : List ℕ) → StandsAt whole place text → longer ≡ whole ++ more → StandsAt longer place text
+stands_on whole more place text longer stands is = record {
+  before = stands.before;
+  after = stands.after ++ more;
+  is = is ∙ ap (λ (l : List ℕ). l ++ more) stands.is ∙ append_assoc (stands.before ++ text) stands.after more;
+  at = stands.at;
+}
+
+-- ---- lists of numbers
+
+order_after : (before : Option ℕ) (numbers : List ℕ) → AllByRecursion (Rises before) numbers → Rise (λ n m. n < m) numbers → InOrderAfter Rises before numbers
+order_after before [] all up = tt
+order_after before (n ∷ numbers) all up = (all.0, order_after (Some n) numbers up.0 up.1)
+
+any_first : (numbers : List ℕ) → AllByRecursion (Rises None) numbers
+any_first [] = tt
+any_first (n ∷ numbers) = (tt, any_first numbers)
+
+content_shorter : (content before after : List ℕ) → length content ≤ length ((before ++ section_text content) ++ after)
+unfolding section_text
+content_shorter content before after =
+    omega (arith, length-append (before ++ section_text content) after, length-append before (section_text content), length-append (to_be_bytes w32 (length content) ++ content) (to_be_bytes w32 (crc content)), length-append (to_be_bytes w32 (length content)) content)
+
+-- numbers that rise are in order
+pub in_order : (numbers : List ℕ) → Rise (λ n m. n < m) numbers → InOrder Rises numbers
+in_order numbers up = order_after None numbers (any_first numbers) up
+
+pub list_stands : (whole : List ℕ) (place : ℕ) (numbers : List ℕ) → length whole ≤ greatest → StandsAt whole place (postings_text numbers) → AllByRecursion (λ n. n < 2 ^ 32) numbers → Rise (λ n m. n < m) numbers → IsPostings whole place numbers
+list_stands whole place numbers room stands small up =
+    let content = list_content (to_be_bytes w32) numbers in
+    let fits : length content < 2 ^ 32 = omega (arith, room, ap length stands.is, content_shorter content stands.before stands.after) in
+    let section : IsSection ((stands.before ++ section_text content) ++ stands.after) (length stands.before) content = section_stands stands.before content stands.after fits (crc_fits content) in
+    subst (λ (n : ℕ). IsPostings whole n numbers) stands.at (subst (λ (l : List ℕ). IsPostings l (length stands.before) numbers) (sym stands.is)
+    (postings_stand ((stands.before ++ section_text content) ++ stands.after) (length stands.before) numbers fits (all_from (λ n. n < 2 ^ 32) numbers small) (in_order numbers up) section))
+
+pub index_stands : (whole : List ℕ) (place : ℕ) (values : List ℕ) → length whole ≤ greatest → StandsAt whole place (label_index_text values) → All (λ n. n < 2 ^ 32) values → IsLabelIndex whole place values
+index_stands whole place values room stands small =
+    let content = label_index_content values in
+    let fits : length content < 2 ^ 32 = omega (arith, room, ap length stands.is, content_shorter content stands.before stands.after) in
+    let section : IsSection ((stands.before ++ section_text content) ++ stands.after) (length stands.before) content = section_stands stands.before content stands.after fits (crc_fits content) in
+    subst (λ (n : ℕ). IsLabelIndex whole n values) stands.at (subst (λ (l : List ℕ). IsLabelIndex l (length stands.before) values) (sym stands.is)
+    (values_stand ((stands.before ++ section_text content) ++ stands.after) (length stands.before) values fits small section))

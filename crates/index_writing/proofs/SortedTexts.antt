@@ -1,0 +1,78 @@
+-- What sorting texts and dropping repeats leave, and the number of a text among them.
+use Rattle.std.proofs.Common.{◌≡◌, ℕ, zero, suc, ◌+◌, ◌<◌, ◌≤◌, Bool, true, false, cond, List, [], ◌∷◌, length, get_or, refl, sym, ap, subst, arith}
+use Rattle.std.specs.declared.cmp.Ordering.{Ordering}
+use Rattle.std.specs.declared.cmp.Ordering.TheVariants.{Less, Equal, Greater}
+use Rattle.std.specs.List.{prefix_len, AllByRecursion}
+use Rattle.std.specs.List.Sorted.{IsSortedBy, IsSorted, IsStable, IsStrictlySortedBy, IsPartitionedBy, IsPartitionPoint}
+use Rattle.std.specs.Ordering.{is_lt}
+use Rattle.std.specs.Cmp.{IsStrictWeakOrder}
+use Rattle.std.specs.Cmp.Lexicographic.{nat_list_cmp_total, texts_ties}
+use Rattle.std.proofs.lemmas.List.Sorted.{ranks_by}
+use Rattle.std.proofs.lemmas.List.Kept.{IsStrictlySortedBy-dedup}
+use Rattle.label_sets.specs.Labels.{compare_texts}
+use Rattle.label_sets.specs.Ordered.{in_order}
+use Rattle.label_sets.proofs.StableSorts.{NoneLess, Rises, in_order-from_sort, Rises-in_order}
+use Rattle.index_file.specs.declared.index_series.IndexSeries.{IndexSeries}
+use Rattle.index_writing.specs.SymbolsInUse.{is_lesser_text, texts_of, symbols_of, number_of}
+
+pub texts_order : IsStrictWeakOrder is_lesser_text
+texts_order = ranks_by nat_list_cmp_total (λ (text : List ℕ). text)
+
+pub texts_sorted : (xs ys : List (List ℕ)) → IsSorted compare_texts ys → IsStable compare_texts xs ys → ys ≡ in_order is_lesser_text xs
+texts_sorted xs ys sorted stable = in_order-from_sort is_lesser_text texts_order xs ys sorted stable
+
+-- ---- in order
+
+none_less_at : {A : Type 0} (less : A → A → Bool) (x : A) (ys : List A) (k : ℕ) (d : A) → NoneLess less x ys → k < length ys → less (get_or ys k d) x ≡ false
+none_less_at less x [] k d none lt = absurd (omega arith)
+none_less_at less x (y ∷ ys) zero d none lt = none.0
+none_less_at less x (y ∷ ys) (suc k) d none lt = none_less_at less x ys k d none.1 (omega arith)
+
+pub sorted_from_rises : {A : Type 0} (less : A → A → Bool) (xs : List A) → Rises less xs → IsSortedBy less xs
+sorted_from_rises less [] rises k d low high = absurd (omega arith)
+sorted_from_rises less (x ∷ xs) rises zero d low high = none_less_at less x xs 0 d rises.0 (omega arith)
+sorted_from_rises less (x ∷ xs) rises (suc k) d low high =
+    let next : suc k + 1 ≡ suc (k + 1) = omega arith in
+    subst (λ (n : ℕ). less (get_or (x ∷ xs) n d) (get_or xs k d) ≡ false) (sym next) (sorted_from_rises less xs rises.1 k d (omega arith) (omega arith))
+
+pub symbols_strict : (list : List IndexSeries) → IsStrictlySortedBy compare_texts (symbols_of list)
+unfolding symbols_of
+symbols_strict list =
+    IsStrictlySortedBy-dedup nat_list_cmp_total texts_ties (in_order is_lesser_text (texts_of list))
+    (sorted_from_rises is_lesser_text (in_order is_lesser_text (texts_of list)) (Rises-in_order is_lesser_text texts_order (texts_of list)))
+
+-- ---- the number of a text
+
+pub lt_less : (o : Ordering) → is_lt o ≡ true → o ≡ Less
+lt_less Less e = refl
+lt_less Equal e = absurd cc
+lt_less Greater e = absurd cc
+
+pub less_lt : (o : Ordering) → o ≡ Less → is_lt o ≡ true
+less_lt o e = ap is_lt e
+
+pub all_at : {A : Type 0} (P : A → Type 0) (xs : List A) (k : ℕ) (d : A) → AllByRecursion P xs → k < length xs → P (get_or xs k d)
+all_at P [] k d all lt = absurd (omega arith)
+all_at P (x ∷ xs) zero d all lt = all.0
+all_at P (x ∷ xs) (suc k) d all lt = all_at P xs k d all.1 (omega arith)
+
+pub partitioned : (symbols : List (List ℕ)) (text : List ℕ) → IsStrictlySortedBy compare_texts symbols → IsPartitionedBy (λ symbol. is_lesser_text symbol text) symbols
+unfolding IsStrictlySortedBy
+partitioned [] text strict i j d le lt less = absurd (omega arith)
+partitioned (x ∷ xs) text strict zero zero d le lt less = less
+partitioned (x ∷ xs) text strict zero (suc j) d le lt less =
+    less_lt (compare_texts x text) (nat_list_cmp_total.trans x (get_or xs j d) text (all_at (λ y. compare_texts x y ≡ Less) xs j d strict.0 (omega arith)) (lt_less (compare_texts (get_or xs j d) text) less))
+partitioned (x ∷ xs) text strict (suc i) zero d le lt less = absurd (omega arith)
+partitioned (x ∷ xs) text strict (suc i) (suc j) d le lt less = partitioned xs text strict.1 i j d (omega arith) (omega arith) less
+
+prefix_at : {A : Type 0} (p : A → Bool) (xs : List A) (i : ℕ) → i ≤ length xs → ((k : ℕ) (d : A) → k < i → p (get_or xs k d) ≡ true) → ((k : ℕ) (d : A) → i ≤ k → k < length xs → p (get_or xs k d) ≡ false) → i ≡ prefix_len p xs
+prefix_at p [] i within below above = omega arith
+prefix_at p (x ∷ xs) zero within below above = sym (ap (λ b. cond b (1 + prefix_len p xs) 0) (above 0 x (omega arith) (omega arith)))
+prefix_at p (x ∷ xs) (suc i) within below above =
+    let others : i ≡ prefix_len p xs = prefix_at p xs i (omega arith) (λ k d lt. below (suc k) d (omega arith)) (λ k d le lt. above (suc k) d (omega arith) (omega arith)) in
+    let here : prefix_len p (x ∷ xs) ≡ 1 + prefix_len p xs = ap (λ b. cond b (1 + prefix_len p xs) 0) (below 0 x (omega arith)) in
+    omega arith
+
+pub number_found : (symbols : List (List ℕ)) (text : List ℕ) (i : ℕ) → i ≤ length symbols → IsPartitionPoint (λ symbol. is_lesser_text symbol text ≡ true) (λ symbol. is_lesser_text symbol text ≡ false) symbols i → i ≡ number_of symbols text
+unfolding number_of
+number_found symbols text i within point = prefix_at (λ symbol. is_lesser_text symbol text) symbols i within (λ k d lt. point.0 k d (omega arith) lt) (λ k d le lt. point.1 k d le lt)

@@ -1,0 +1,195 @@
+-- The rows of the postings table of a list of series: their texts, their order, and whose lists they have.
+use Rattle.std.proofs.Common.{◌≡◌, ◌≢◌, ℕ, ◌<◌, List, [], ◌∷◌, map, zip, Some, refl, sym, ap, ◌∙◌, subst, arith, inl, inr}
+use Rattle.std.specs.declared.cmp.Ordering.{Ordering}
+use Rattle.std.specs.declared.cmp.Ordering.TheVariants.{Less, Equal, Greater}
+use Rattle.std.specs.Ordering.{ordering_then, ordering_reverse}
+use Rattle.std.specs.List.{AllByRecursion}
+use Rattle.std.specs.Cmp.Lexicographic.{nat_list_cmp_total}
+use Rattle.label_sets.specs.declared.label.Label.{Label}
+use Rattle.label_sets.specs.Labels.{compare_texts, IsLabelSet}
+use Rattle.label_sets.specs.Ordered.{in_order}
+use Rattle.label_sets.proofs.LabelValues.{same_text, compare_self}
+use Rattle.index_parts.specs.declared.postings_row.PostingsRow.{PostingsRow}
+use Rattle.index_parts.specs.Turns.{InOrderAfter, InOrder}
+use Rattle.index_parts.specs.Rows.{compare_rows, MayComeAfter}
+use Rattle.index_file.specs.declared.index_series.IndexSeries.{IndexSeries}
+use Rattle.index_writing.specs.declared.label_groups.Entry.{Entry}
+use Rattle.index_writing.specs.declared.label_groups.LabelRow.{LabelRow}
+use Rattle.index_writing.specs.SymbolsInUse.{symbols_of, number_of, symbol_of, raw_of}
+use Rattle.index_writing.specs.LabelGroups.{all_entries, compare_entries, is_lesser_entry, rows_of}
+use Rattle.index_writing.specs.Written.{label_rows, table_rows}
+use Rattle.index_writing.proofs.OrderedEntries.{In, in_all, Rise, from_order, to_order, rise_order}
+use Rattle.index_writing.proofs.LabelRows.{Before, RowBefore, entry_in, AreRowsOf, grouped_rows, row_entry, one_row}
+use Rattle.index_writing.proofs.EntryOrder.{entries_strict, before_all, once_entries}
+use Rattle.index_writing.proofs.SortedTexts.{symbols_strict}
+use Rattle.index_writing.proofs.SymbolNumbers.{label_in, symbol_at, number_less}
+use Rattle.index_writing.proofs.SeriesNumbers.{all_names, entry_from, entry_to}
+use Rattle.index_writing.proofs.TableRows.{row_with}
+
+-- what is known of a list of series and of their numbers
+pub record IsNumbered (list : List IndexSeries) (numbers : List ℕ) : Type 0 where
+  pub lawful : AllByRecursion (λ one. IsLabelSet one.labels) list
+  pub rise : Rise (λ n m. n < m) numbers
+
+abbrev pub entries : List IndexSeries → List ℕ → List Entry
+entries list numbers = all_entries (map (raw_of (symbols_of list)) list) numbers
+
+pub are_rows : (list : List IndexSeries) (numbers : List ℕ) → IsNumbered list numbers → AreRowsOf (in_order is_lesser_entry (entries list numbers)) (rows_of (entries list numbers))
+unfolding rows_of
+are_rows list numbers known =
+    grouped_rows (in_order is_lesser_entry (entries list numbers))
+    (before_all (in_order is_lesser_entry (entries list numbers)) (rise_order is_lesser_entry (λ x y. compare_entries x y ≡ Less) entries_strict (entries list numbers) (once_entries (map (raw_of (symbols_of list)) list) numbers (all_names list known.lawful) known.rise)))
+
+-- ---- the label of a row
+
+pub in_zip : (numbers : List ℕ) (list : List IndexSeries) (n : ℕ) (s : IndexSeries) → In (n, s) (zip numbers list) → In s list
+in_zip [] list n s h = absurd h
+in_zip (m ∷ numbers) [] n s h = absurd h
+in_zip (m ∷ numbers) (t ∷ list) n s (inl is) = inl (ap (λ (x : ℕ × IndexSeries). x.1) is)
+in_zip (m ∷ numbers) (t ∷ list) n s (inr h) = inr (in_zip numbers list n s h)
+
+named : (labels : List Label) (l : Label) → IsLabelSet labels → In l labels → l.name ≢ []
+named [] l lawful h = absurd h
+named (x ∷ labels) l lawful (inl is) = λ e. lawful.0 (ap (λ (y : Label). y.name) (sym is) ∙ e)
+named (x ∷ labels) l lawful (inr h) = named labels l lawful.3 h
+
+-- a label of a listed series that has these symbol numbers
+pub record HasLabel (list : List IndexSeries) (name value : ℕ) : Type 0 where
+  pub label : Label
+  pub name_in : In label.name (symbols_of list)
+  pub value_in : In label.value (symbols_of list)
+  pub named : label.name ≢ []
+  pub name_is : name ≡ number_of (symbols_of list) label.name
+  pub value_is : value ≡ number_of (symbols_of list) label.value
+
+entry_label : (list : List IndexSeries) (numbers : List ℕ) (e : Entry) → IsNumbered list numbers → In e (entries list numbers) → HasLabel list e.name e.value
+entry_label list numbers e known h =
+    let found = entry_from (symbols_of list) list numbers e h in
+    let s = found.0 in
+    let member : In s list = in_zip numbers list e.series s found.1 in
+    let texts = label_in list s found.2 member found.3 in
+    record {
+      label = found.2;
+      name_in = texts.0;
+      value_in = texts.1;
+      named = named s.labels found.2 (in_all (λ (one : IndexSeries). IsLabelSet one.labels) list s known.lawful member) found.3;
+      name_is = found.4;
+      value_is = found.5;
+    }
+
+pub row_label : (list : List IndexSeries) (numbers : List ℕ) (row : LabelRow) → IsNumbered list numbers → In row (rows_of (entries list numbers)) → HasLabel list row.name row.value
+row_label list numbers row known h =
+    let are = are_rows list numbers known in
+    let one = are.some row h in
+    entry_label list numbers (entry_in row one.0) known (from_order is_lesser_entry (entry_in row one.0) (entries list numbers) (row_entry (in_order is_lesser_entry (entries list numbers)) (rows_of (entries list numbers)) row one.0 are h one.1))
+
+pub name_text : (list : List IndexSeries) (name value : ℕ) (has : HasLabel list name value) → symbol_of (symbols_of list) name ≡ has.label.name
+name_text list name value has = ap (symbol_of (symbols_of list)) has.name_is ∙ symbol_at (symbols_of list) has.label.name (symbols_strict list) has.name_in
+
+pub value_text : (list : List IndexSeries) (name value : ℕ) (has : HasLabel list name value) → symbol_of (symbols_of list) value ≡ has.label.value
+value_text list name value has = ap (symbol_of (symbols_of list)) has.value_is ∙ symbol_at (symbols_of list) has.label.value (symbols_strict list) has.value_in
+
+-- ---- rows in order
+
+by_order : {P : Type 0} (o : Ordering) (r : Ordering) → o ≡ r → (o ≡ Less → P) → (o ≡ Equal → P) → (o ≡ Greater → P) → P
+by_order o Less e less equal greater = less e
+by_order o Equal e less equal greater = equal e
+by_order o Greater e less equal greater = greater e
+
+equal_less : (list : List IndexSeries) (text other : List ℕ) → compare_texts text other ≡ Equal → number_of (symbols_of list) text < number_of (symbols_of list) other → ⊥
+equal_less list text other e lt = let same = ap (number_of (symbols_of list)) (same_text text other e) in omega arith
+
+greater_less : (list : List IndexSeries) (text other : List ℕ) → In other (symbols_of list) → compare_texts text other ≡ Greater → number_of (symbols_of list) text < number_of (symbols_of list) other → ⊥
+greater_less list text other h e lt =
+    let back : compare_texts other text ≡ Less = nat_list_cmp_total.antisymm other text ∙ ap ordering_reverse e in
+    omega (arith, number_less (symbols_of list) other text (symbols_strict list) h back)
+
+first_less : (a b : Ordering) → a ≡ Less → ordering_then a b ≡ Less
+first_less a b e = ap (λ o. ordering_then o b) e
+
+second_less : (a b : Ordering) → a ≡ Equal → b ≡ Less → ordering_then a b ≡ Less
+second_less a b e f = ap (λ o. ordering_then o b) e ∙ f
+
+same_name : (list : List IndexSeries) (one other : LabelRow) (a : HasLabel list one.name one.value) (b : HasLabel list other.name other.value) → one.name ≡ other.name → compare_texts a.label.name b.label.name ≡ Equal
+same_name list one other a b e =
+    let same : a.label.name ≡ b.label.name = sym (name_text list one.name one.value a) ∙ ap (symbol_of (symbols_of list)) e ∙ name_text list other.name other.value b in
+    ap (compare_texts a.label.name) (sym same) ∙ compare_self a.label.name
+
+-- what compares as less by numbers is less
+pub text_less : (list : List IndexSeries) (text other : List ℕ) → In text (symbols_of list) → In other (symbols_of list) → number_of (symbols_of list) text < number_of (symbols_of list) other → compare_texts text other ≡ Less
+text_less list text other h i lt = by_order (compare_texts text other) (compare_texts text other) refl
+    (λ e. e) (λ e. absurd (equal_less list text other e lt)) (λ e. absurd (greater_less list text other i e lt))
+
+rows_less : (list : List IndexSeries) (one other : LabelRow) (p q : ℕ) → HasLabel list one.name one.value → HasLabel list other.name other.value → RowBefore one other → compare_rows (row_with (symbols_of list) one p) (row_with (symbols_of list) other q) ≡ Less
+rows_less list one other p q a b before =
+    let symbols = symbols_of list in
+    let by_texts : compare_rows (row_with symbols one p) (row_with symbols other q) ≡ ordering_then (compare_texts a.label.name b.label.name) (compare_texts a.label.value b.label.value) =
+    ap (λ t. ordering_then (compare_texts t (symbol_of symbols other.name)) (compare_texts (symbol_of symbols one.value) (symbol_of symbols other.value))) (name_text list one.name one.value a)
+    ∙ ap (λ t. ordering_then (compare_texts a.label.name t) (compare_texts (symbol_of symbols one.value) (symbol_of symbols other.value))) (name_text list other.name other.value b)
+    ∙ ap (λ t. ordering_then (compare_texts a.label.name b.label.name) (compare_texts t (symbol_of symbols other.value))) (value_text list one.name one.value a)
+    ∙ ap (λ t. ordering_then (compare_texts a.label.name b.label.name) (compare_texts a.label.value t)) (value_text list other.name other.value b) in
+    by_texts ∙ elim before.is [
+      | inl lt ↦ first_less (compare_texts a.label.name b.label.name) (compare_texts a.label.value b.label.value) (text_less list a.label.name b.label.name a.name_in b.name_in (let x = a.name_is in let y = b.name_is in omega arith))
+      | inr same ↦ second_less (compare_texts a.label.name b.label.name) (compare_texts a.label.value b.label.value) (same_name list one other a b same.0) (text_less list a.label.value b.label.value a.value_in b.value_in (let x = a.value_is in let y = b.value_is in let z = same.1 in omega arith))
+    ]
+
+ordered_rows : (symbols : List (List ℕ)) (rows : List LabelRow) (places : List ℕ) (before : PostingsRow) → ((row : LabelRow) (p : ℕ) → In row rows → compare_rows before (row_with symbols row p) ≡ Less) → ((one other : LabelRow) (p q : ℕ) → In one rows → In other rows → RowBefore one other → compare_rows (row_with symbols one p) (row_with symbols other q) ≡ Less) → Rise RowBefore rows
+    → InOrderAfter MayComeAfter (Some before) (label_rows symbols rows places)
+unfolding label_rows
+ordered_rows symbols [] places before behind less up = tt
+ordered_rows symbols (row ∷ rows) [] before behind less up = tt
+ordered_rows symbols (row ∷ rows) (place ∷ places) before behind less up =
+    (behind row place (inl refl), ordered_rows symbols rows places (row_with symbols row place) (λ other p h. less row other place p (inl refl) (inr h) (in_all (RowBefore row) rows other up.0 h)) (λ one other p q h i. less one other p q (inr h) (inr i)) up.1)
+
+empty_less : (text : List ℕ) → text ≢ [] → compare_texts [] text ≡ Less
+empty_less [] some = absurd (some refl)
+empty_less (x ∷ text) some = refl
+
+-- the table is in order, whatever the places are
+pub table_in_order : (list : List IndexSeries) (numbers places : List ℕ) → IsNumbered list numbers → InOrder MayComeAfter (table_rows (symbols_of list) (rows_of (entries list numbers)) places)
+unfolding table_rows
+table_in_order list numbers [] known = tt
+table_in_order list numbers (place ∷ places) known =
+    let rows = rows_of (entries list numbers) in
+    let first : PostingsRow = record { name = []; value = []; offset = place } in (
+      (refl, refl),
+      ordered_rows (symbols_of list) rows places first
+          (λ row p h. let has = row_label list numbers row known h in first_less (compare_texts [] (symbol_of (symbols_of list) row.name)) (compare_texts [] (symbol_of (symbols_of list) row.value)) (ap (compare_texts []) (name_text list row.name row.value has) ∙ empty_less has.label.name has.named))
+          (λ one other p q h i before. rows_less list one other p q (row_label list numbers one known h) (row_label list numbers other known i) before)
+          (are_rows list numbers known).ascend,
+    )
+
+-- ---- whose lists they have
+
+-- a row's numbers are those of the series with its label
+pub row_only : (list : List IndexSeries) (numbers : List ℕ) (row : LabelRow) (n : ℕ) → IsNumbered list numbers → In row (rows_of (entries list numbers)) → In n row.series
+    → (s : IndexSeries) × In (n, s) (zip numbers list) × In (record { name = symbol_of (symbols_of list) row.name; value = symbol_of (symbols_of list) row.value }) s.labels
+row_only list numbers row n known h i =
+    let symbols = symbols_of list in
+    let e = from_order is_lesser_entry (entry_in row n) (entries list numbers) (row_entry (in_order is_lesser_entry (entries list numbers)) (rows_of (entries list numbers)) row n (are_rows list numbers known) h i) in
+    let found = entry_from symbols list numbers (entry_in row n) e in
+    let s = found.0 in
+    let l = found.2 in
+    let texts = label_in list s l (in_zip numbers list n s found.1) found.3 in
+    let name : symbol_of symbols row.name ≡ l.name = ap (symbol_of symbols) found.4 ∙ symbol_at symbols l.name (symbols_strict list) texts.0 in
+    let value : symbol_of symbols row.value ≡ l.value = ap (symbol_of symbols) found.5 ∙ symbol_at symbols l.value (symbols_strict list) texts.1 in
+    (s, found.1, subst (λ (x : Label). In x s.labels) (λ j. record { name = sym name j; value = sym value j }) found.3)
+
+-- each label of a series has its row, with the series' number
+pub label_row : (list : List IndexSeries) (numbers : List ℕ) (n : ℕ) (s : IndexSeries) (l : Label) → IsNumbered list numbers → In (n, s) (zip numbers list) → In l s.labels
+    → (row : LabelRow) × In row (rows_of (entries list numbers)) × (row.name ≡ number_of (symbols_of list) l.name) × (row.value ≡ number_of (symbols_of list) l.value) × In n row.series
+label_row list numbers n s l known h i =
+    let e : Entry = record { name = number_of (symbols_of list) l.name; value = number_of (symbols_of list) l.value; series = n } in
+    let found = (are_rows list numbers known).all e (to_order is_lesser_entry e (entries list numbers) (entry_to (symbols_of list) list numbers n s l h i)) in
+    (found.0, found.1, ap (λ (k : ℕ × ℕ). k.0) found.2, ap (λ (k : ℕ × ℕ). k.1) found.2, found.3)
+
+pub row_all : (list : List IndexSeries) (numbers : List ℕ) (row : LabelRow) (n : ℕ) (s : IndexSeries) → IsNumbered list numbers → In row (rows_of (entries list numbers)) → In (n, s) (zip numbers list) → In (record { name = symbol_of (symbols_of list) row.name; value = symbol_of (symbols_of list) row.value }) s.labels → In n row.series
+row_all list numbers row n s known h i j =
+    let symbols = symbols_of list in
+    let has = row_label list numbers row known h in
+    let l : Label = record { name = symbol_of symbols row.name; value = symbol_of symbols row.value } in
+    let found = label_row list numbers n s l known i j in
+    let name : found.0.name ≡ row.name = found.2 ∙ ap (number_of symbols) (name_text list row.name row.value has) ∙ sym has.name_is in
+    let value : found.0.value ≡ row.value = found.3 ∙ ap (number_of symbols) (value_text list row.name row.value has) ∙ sym has.value_is in
+    let same : found.0 ≡ row = one_row (rows_of (entries list numbers)) found.0 row (are_rows list numbers known).ascend found.1 h name value in
+    subst (λ (r : LabelRow). In n r.series) same found.4

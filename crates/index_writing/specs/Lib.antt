@@ -1,0 +1,9 @@
+pub use Rattle.index_parts.specs
+pub use Rattle.index_file.specs.Opened
+pub use Rattle.index_file.specs.IndexFile
+pub use Rattle.index_file.specs.LabelTable
+pub mod SymbolsInUse
+pub mod LabelGroups
+pub mod Aligned
+pub mod WriteSteps
+pub mod Written
