@@ -93,6 +93,19 @@ pub(crate) fn put_all_series(
     Ok(numbers)
 }
 
+/// Appends zero bytes up to the next place of a section of so many numbers, and gives the place.
+fn begin_section(out: &mut Vec<u8>, count: usize) -> Result<u64, IndexWriteRefusal>
+    requires room { length out.old.items ≤ greatest }
+    ensures few { OnOk result (count ≤ 2 ^ 24) }
+    ensures begun { OnOk result (out.new.items ≡ padded 4 out.old.items) }
+    ensures place { IfOk result (λ place. place ≡ length (padded 4 out.old.items)) }
+    ensures large { IfErr result (λ e. e ≡ IndexWriteRefusal.TooLarge → 2 ^ 24 < count) }
+{
+    test_count(count)?;
+    pad(out, LIST_UNIT)?;
+    Ok(out.len() as u64)
+}
+
 /// Appends a label index at the next place, and gives the place.
 fn put_label_index(out: &mut Vec<u8>, values: &NumberList) -> Result<u64, IndexWriteRefusal>
     requires room { length out.old.items ≤ greatest }
@@ -101,9 +114,7 @@ fn put_label_index(out: &mut Vec<u8>, values: &NumberList) -> Result<u64, IndexW
         (padded 4 out.old.items ++ label_index_text values.now) }
     ensures place { IfOk result (λ place. place ≡ length (padded 4 out.old.items)) }
 {
-    test_count(values.len())?;
-    pad(out, LIST_UNIT)?;
-    let place = out.len() as u64;
+    let place = begin_section(out, values.len())?;
     write_label_index(out, values)?;
     test_size(out)?;
     Ok(place)
@@ -137,9 +148,7 @@ fn put_list(out: &mut Vec<u8>, numbers: &NumberList) -> Result<u64, IndexWriteRe
         (padded 4 out.old.items ++ postings_text numbers.now) }
     ensures place { IfOk result (λ place. place ≡ length (padded 4 out.old.items)) }
 {
-    test_count(numbers.len())?;
-    pad(out, LIST_UNIT)?;
-    let place = out.len() as u64;
+    let place = begin_section(out, numbers.len())?;
     write_postings(out, numbers)?;
     test_size(out)?;
     Ok(place)
