@@ -10,11 +10,11 @@ ghost use Rattle.index_file.specs.LabelTable.{HasLabelIndices};
 ghost use Rattle.index_writing.specs.WriteSteps.{greatest, Makes};
 ghost use Rattle.index_writing.specs.Written.{AreWritable, IsBehind, HaveSmallNumbers, first_or, up_to_symbols, with_series, with_label_indices, with_lists, with_label_offsets, with_table, table_rows, offset_rows, label_index_places, list_places, toc_of, written, parts_of};
 
+use crate::IndexWriteRefusal;
 use crate::order::is_behind;
 use crate::parts::{Parts, put_parts};
 use crate::section_places::{put_label_indices, put_lists};
 use crate::section_tables::{put_label_offsets, put_table, put_toc};
-use crate::IndexWriteRefusal;
 use index_file::IndexSeries;
 use index_parts::{ChunkList, Toc};
 use label_sets::LabelSet;

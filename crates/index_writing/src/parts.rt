@@ -8,11 +8,11 @@ ghost use Rattle.index_writing.specs.SymbolsInUse.{symbols_of};
 ghost use Rattle.index_writing.specs.WriteSteps.{greatest, Makes, EachStands};
 ghost use Rattle.index_writing.specs.Written.{AreWritable, up_to_symbols, with_series, parts_of};
 
+use crate::IndexWriteRefusal;
 use crate::label_groups::{LabelRow, NameValues, names_of, rows_of};
 use crate::section_places::put_all_series;
 use crate::section_tables::put_symbols;
 use crate::symbols_in_use::{raws_of, symbols_of};
-use crate::IndexWriteRefusal;
 use index_file::{IndexSeries, MAGIC, VERSION};
 use index_parts::RawSeries;
 use label_sets::TextList;

@@ -96,8 +96,11 @@ fn label_row(
 ) -> Result<PostingsRow, NoMemory>
     ensures { IfOk result
         (λ made. made
-        ≡ record { name = symbol_of symbols.now row.now.name;
-        value = symbol_of symbols.now row.now.value; offset = place }) }
+        ≡ record {
+          name = symbol_of symbols.now row.now.name;
+          value = symbol_of symbols.now row.now.value;
+          offset = place;
+        }) }
 {
     Ok(PostingsRow {
         name: Text::from_str(alloc, symbol_of(symbols, row.name))?,
