@@ -1,5 +1,5 @@
 -- The least place at which the lists that were read are not those of the series.
-use Rattle.std.proofs.Common.{◌≡◌, ℕ, zero, suc, ◌+◌, ◌<◌, ◌≤◌, Bool, true, false, cond, eqb, List, [], ◌∷◌, length, Option, Some, None, Ok, refl, sym, ap, subst, ◌∙◌, arith, ◌⊎◌, inl, inr}
+use Rattle.std.proofs.Common.{◌≡◌, ℕ, zero, suc, ◌+◌, ◌<◌, ◌≤◌, true, false, cond, eqb, List, [], ◌∷◌, length, Some, None, Ok, refl, sym, ap, subst, ◌∙◌, arith, ◌⊎◌, inl, inr}
 use Rattle.std.specs.Prelude.{slice_get}
 use Rattle.std.specs.List.{list_any, list_all, Contains}
 use Rattle.std.specs.List.Sorted.{IsStrictlySortedBy}
@@ -8,7 +8,6 @@ use Rattle.std.proofs.lemmas.Cmp.{tied_itself, alike_right}
 use Rattle.std.proofs.lemmas.Option.{same_Some}
 use Rattle.std.proofs.lemmas.Map.Keys.{sorted_tail}
 use Rattle.label_sets.specs.declared.label.Label.{Label}
-use Rattle.label_sets.specs.Labels.{IsLabelSet}
 use Rattle.label_sets.proofs.LabelValues.{by_bool}
 use Rattle.index_parts.specs.declared.postings_row.PostingsRow.{PostingsRow}
 use Rattle.index_parts.specs.Rows.{compare_rows}
@@ -17,15 +16,14 @@ use Rattle.index_parts.specs.PostingsReading.{posting_at, postings_at}
 use Rattle.index_parts.proofs.ListLaws.{list_again}
 use Rattle.index_parts.proofs.PostingsLaws.{posting_turn}
 use Rattle.index_file.specs.declared.index_series.IndexSeries.{IndexSeries}
-use Rattle.index_file.specs.IndexFile.{BelongsTo, IsListOf}
-use Rattle.index_file.proofs.Members.{member_at, place_of, less_at}
+use Rattle.index_file.specs.IndexFile.{IsListOf}
+use Rattle.index_file.proofs.Members.{less_at}
 use Rattle.index_v2.specs.RowOrder.{compare_row, StandsAt}
 use Rattle.index_v2.specs.WholeReading.{is_of_row, stray_from, gap_from, gap_of, gap_among, difference}
-use Rattle.index_v2.specs.Differing.{ListsOthersAt, DiffersAt}
+use Rattle.index_v2.specs.Differing.{DiffersAt}
 use Rattle.index_v2.proofs.RowPlaces.{rows_total, greater_above, no_row_stands, equal_texts, stands_behind}
 use Rattle.index_v2.proofs.ValuesListed.{same_compare}
 use Rattle.index_v2.proofs.Members.{has_all}
-use Rattle.index_v2.proofs.WholeParts.{AreLists}
 use Rattle.index_v2.proofs.WholeLaws.{AreTaken, taken_listed, of_row_again, belongs_again, number_has, ok_same}
 use Rattle.index_v2.proofs.LeastPlaces.{IsLeast, IsLeastFrom, HasSuch, least_as, earlier_least, least_from, from_here, from_next, by_test_from, by_order_from, such_least, such_none}
 

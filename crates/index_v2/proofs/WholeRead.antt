@@ -1,8 +1,7 @@
 -- A whole index is read exactly where the bytes are an index of the list, and where the lists differ the first place is told.
-use Rattle.std.proofs.Common.{◌≡◌, ◌≢◌, ℕ, ◌*◌, ◌<◌, Bool, true, false, List, [], ◌∷◌, map, zip, Option, Some, None, Result, Ok, Err, refl, sym, ap, subst, ◌∙◌, ◌⊎◌, inl, inr}
-use Rattle.std.specs.Prelude.{slice_get, nat_lt}
-use Rattle.std.specs.List.{Contains}
-use Rattle.std.specs.declared.cmp.Ordering.TheVariants.{Less, Equal, Greater}
+use Rattle.std.proofs.Common.{◌≡◌, ◌≢◌, ℕ, ◌*◌, Bool, true, false, List, [], ◌∷◌, map, zip, Option, Some, None, Result, Ok, Err, refl, sym, ap, subst, ◌∙◌, ◌⊎◌, inl, inr}
+use Rattle.std.specs.Prelude.{nat_lt}
+use Rattle.std.specs.declared.cmp.Ordering.TheVariants.{Equal}
 use Rattle.std.proofs.lemmas.Bool.{cases_lt}
 use Rattle.std.proofs.lemmas.Cmp.{tied_itself}
 use Rattle.reading_core.specs.Reading.{◌>>=◌, ◌>>◌, unless, refused_as, Gives}
@@ -36,7 +35,7 @@ use Rattle.index_v2.proofs.Members.{zipped}
 use Rattle.index_v2.proofs.LeastPlaces.{IsLeast, least_is}
 use Rattle.index_v2.proofs.WholeParts.{both_none, gaps_found}
 use Rattle.index_v2.proofs.WholeLaws.{HasRead, AreTaken, series_known, as_listed, are_taken, read_again, ok_same}
-use Rattle.index_v2.proofs.Faults.{FaultAt, fault_differs, no_fault_listed, faults_least, differs_least}
+use Rattle.index_v2.proofs.Faults.{FaultAt, no_fault_listed, faults_least, differs_least}
 
 -- ---- only the last step of reading tells a difference
 

@@ -19,7 +19,7 @@ use Rattle.index_writing.specs.SymbolsInUse.{symbols_of, number_of, symbol_of, r
 use Rattle.index_writing.specs.LabelGroups.{all_entries, compare_entries, is_lesser_entry, rows_of}
 use Rattle.index_writing.specs.Written.{label_rows, table_rows}
 use Rattle.index_writing.proofs.OrderedEntries.{In, in_all, Rise, from_order, to_order, rise_order}
-use Rattle.index_writing.proofs.LabelRows.{Before, RowBefore, entry_in, AreRowsOf, grouped_rows, row_entry, one_row}
+use Rattle.index_writing.proofs.LabelRows.{RowBefore, entry_in, AreRowsOf, grouped_rows, row_entry, one_row}
 use Rattle.index_writing.proofs.EntryOrder.{entries_strict, before_all, once_entries}
 use Rattle.index_writing.proofs.SortedTexts.{symbols_strict}
 use Rattle.index_writing.proofs.SymbolNumbers.{label_in, symbol_at, number_less}
