@@ -34,6 +34,8 @@ pub(crate) fn read_meta(
     resolution: &str,
     program: &str,
 ) -> Result<Meta, MetaRefusal> {
-    let text = meta_text(alloc, block, sources, resolution, program)?;
-    Meta::read(alloc, text.as_bytes())
+    match meta_text(alloc, block, sources, resolution, program) {
+        Ok(text) => Meta::read(alloc, text.as_bytes()),
+        Err(AllocError) => Err(MetaRefusal::NoMemory),
+    }
 }
