@@ -5,12 +5,12 @@
 
 use crate::calls::print_hex;
 use crate::chunk_notation::chunks_of;
-use index_v2::are_in_order;
 use crate::texts::{numbers_of, rows_of, texts_of};
 use index_parts::{
     RawSeries, Toc, write_label_index, write_label_offsets, write_postings, write_postings_table,
     write_series, write_symbols, write_toc,
 };
+use index_v2::are_in_order;
 use list_core::NoMemory;
 use std::io;
 
