@@ -10,6 +10,7 @@ use Rattle.std.specs.List.{list_any}
 use Rattle.std.specs.List.Sorted.{IsSortedBy}
 use Rattle.std.specs.Option.{is_some}
 use Rattle.std.proofs.lemmas.Bool.{true≢false, or_parts, or_left, or_from}
+use Rattle.std.proofs.lemmas.List.Folds.{list_any-append}
 use Rattle.std.proofs.lemmas.List.Sorted.{ranks_by}
 use Rattle.std.proofs.lemmas.List.{get_or_default}
 use Rattle.label_sets.specs.declared.label.Label.{Label}
@@ -19,7 +20,7 @@ use Rattle.label_sets.specs.Finals.{is_among}
 use Rattle.label_sets.specs.Notation.{is_name, repeats}
 use Rattle.label_sets.specs.SetText.{ArePairs}
 use Rattle.label_sets.proofs.LabelValues.{by_bool, by_ordering, before_differs, before_trans, bytes_eq_differs, same_text}
-use Rattle.label_sets.proofs.OrderedLabels.{value_of-in_order}
+use Rattle.label_sets.proofs.OrderedLabels.{value_of-placed, value_of-in_order}
 use Rattle.label_sets.proofs.FinalLabels.{among_names}
 use Rattle.list_core.proofs.StableSorts.{NoneLess, Rises, Rises-from_sorted}
 
@@ -95,24 +96,21 @@ middle_or true b c d = refl
 middle_or false true c d = sym (or-true c)
 middle_or false false c d = refl
 
-same_either_way : (one other : List ℕ) → bytes_eq one other ≡ bytes_eq other one
-same_either_way one other = nat_list_eq_equiv.symm one other
+among-placed : (l : Label) (ls : List Label) (name : List ℕ) → is_among (names_of (placed has_lesser_name l ls)) name ≡ is_among (names_of (l ∷ ls)) name
+among-placed l ls name = among_names (placed has_lesser_name l ls) name ∙ ap is_some (value_of-placed l ls name) ∙ sym (among_names (l ∷ ls) name)
 
-among-placed : (l : Label) (ls : List Label) (name : List ℕ) → is_among (names_of (placed has_lesser_name l ls)) name ≡ (bytes_eq l.name name || is_among (names_of ls) name)
-unfolding placed is_among
-among-placed l [] name = refl
-among-placed l (m ∷ ms) name = elim (has_lesser_name m l) as (λ b. is_among (names_of (cond b (m ∷ placed has_lesser_name l ms) (l ∷ m ∷ ms))) name ≡ (bytes_eq l.name name || (bytes_eq m.name name || is_among (names_of ms) name))) [
-  | true ↦ ap (λ b. bytes_eq m.name name || b) (among-placed l ms name) ∙ or_swap (bytes_eq m.name name) (bytes_eq l.name name) (is_among (names_of ms) name)
-  | false ↦ refl
-]
+-- the first two may change places
+repeats-swap : (l m : Label) (ls : List Label) → repeats (names_of (m ∷ l ∷ ls)) ≡ repeats (names_of (l ∷ m ∷ ls))
+unfolding repeats is_among
+repeats-swap l m ls =
+    ap (λ b. (b || is_among (names_of ls) m.name) || (is_among (names_of ls) l.name || repeats (names_of ls))) (nat_list_eq_equiv.symm l.name m.name)
+    ∙ middle_or (bytes_eq m.name l.name) (is_among (names_of ls) m.name) (is_among (names_of ls) l.name) (repeats (names_of ls))
 
-repeats-placed : (l : Label) (ls : List Label) → repeats (names_of (placed has_lesser_name l ls)) ≡ (is_among (names_of ls) l.name || repeats (names_of ls))
-unfolding placed repeats is_among
+repeats-placed : (l : Label) (ls : List Label) → repeats (names_of (placed has_lesser_name l ls)) ≡ repeats (names_of (l ∷ ls))
+unfolding placed repeats
 repeats-placed l [] = refl
-repeats-placed l (m ∷ ms) = elim (has_lesser_name m l) as (λ b. repeats (names_of (cond b (m ∷ placed has_lesser_name l ms) (l ∷ m ∷ ms))) ≡ ((bytes_eq m.name l.name || is_among (names_of ms) l.name) || (is_among (names_of ms) m.name || repeats (names_of ms)))) [
-  | true ↦ (λ i. among-placed l ms m.name i || repeats-placed l ms i)
-      ∙ ap (λ b. (b || is_among (names_of ms) m.name) || (is_among (names_of ms) l.name || repeats (names_of ms))) (same_either_way l.name m.name)
-      ∙ middle_or (bytes_eq m.name l.name) (is_among (names_of ms) m.name) (is_among (names_of ms) l.name) (repeats (names_of ms))
+repeats-placed l (m ∷ ms) = elim (has_lesser_name m l) as (λ b. repeats (names_of (cond b (m ∷ placed has_lesser_name l ms) (l ∷ m ∷ ms))) ≡ repeats (names_of (l ∷ m ∷ ms))) [
+  | true ↦ (λ i. among-placed l ms m.name i || repeats-placed l ms i) ∙ repeats-swap l m ms
   | false ↦ refl
 ]
 
@@ -167,19 +165,12 @@ among-last (x ∷ xs) l name = ap (λ b. bytes_eq x.name name || b) (among-last 
 pub repeats-last : (labels : List Label) (l : Label) → repeats (names_of (labels ++ l ∷ [])) ≡ repeats (l.name ∷ names_of labels)
 unfolding repeats is_among
 repeats-last [] l = refl
-repeats-last (x ∷ xs) l =
-    (λ i. among-last xs l x.name i || repeats-last xs l i)
-    ∙ ap (λ b. (b || is_among (names_of xs) x.name) || (is_among (names_of xs) l.name || repeats (names_of xs))) (same_either_way l.name x.name)
-    ∙ middle_or (bytes_eq x.name l.name) (is_among (names_of xs) x.name) (is_among (names_of xs) l.name) (repeats (names_of xs))
-
-either_more : (a b c : Bool) → (a || b) ≡ true → (b ≡ true → c ≡ true) → (a || c) ≡ true
-either_more true b c t h = refl
-either_more false b c t h = h t
+repeats-last (x ∷ xs) l = (λ i. among-last xs l x.name i || repeats-last xs l i) ∙ repeats-swap l x xs
 
 among-more : (labels more : List Label) (name : List ℕ) → is_among (names_of labels) name ≡ true → is_among (names_of (labels ++ more)) name ≡ true
-unfolding is_among
-among-more [] more name t = absurd (true≢false (sym t))
-among-more (x ∷ xs) more name t = either_more (bytes_eq x.name name) (is_among (names_of xs) name) (is_among (names_of (xs ++ more)) name) t (among-more xs more name)
+among-more labels more name t =
+    let has : Label → Bool = λ l. bytes_eq l.name name in
+    sym (among_labels (labels ++ more) name) ∙ list_any-append has labels more ∙ ap (λ b. b || list_any has more) (among_labels labels name ∙ t)
 
 -- what stands twice does so whatever follows
 pub repeats-more : (labels more : List Label) → repeats (names_of labels) ≡ true → repeats (names_of (labels ++ more)) ≡ true
