@@ -113,6 +113,13 @@ past_same : (front : List ℕ) (c : ℕ) (others more : List ℕ) → IsErr (pas
 past_same [] c others more h = past_first 125 c others more h
 past_same (x ∷ front) c others more h = past_first 125 x (front ++ c ∷ others) (front ++ c ∷ more) h
 
+-- behind pairs with commas, where with this byte every walk is refused
+stops_after : (text : List ℕ) (labels : List Label) (front after : List ℕ) (left : ℕ) → HasPairs text labels (front ++ after) → length after ≡ left → BeginsASet (123 ∷ (commas labels ++ front))
+    → ((c : ℕ) (others behind : List ℕ) → after ≡ c ∷ others → IsErr (walk_at (123 ∷ (commas labels ++ (front ++ c ∷ behind)))).1) → GoesOnTo text (length text - left)
+stops_after text labels front after left p left_is b bad =
+    reaches text (123 ∷ (commas labels ++ front)) after left (p.begins ∙ ap (λ t. 123 ∷ t) (sym (append_assoc (commas labels) front after))) left_is b
+    (λ c others g. no_beginning ((123 ∷ (commas labels ++ front)) ++ c ∷ []) (λ behind. subst (λ t. IsErr (walk_at t).1) (sym (join_front (commas labels) front behind c)) (bad c others behind g)))
+
 -- within a pair
 in_pair_reaches : (text : List ℕ) (labels : List Label) (pair : List ℕ) (left : ℕ) → HasPairs text labels pair → (labels ≡ [] → IsErr (past 125 pair)) → repeats (name_at pair ∷ names_of labels) ≡ false
     → Stops pair_at (HasName (name_at pair) (fresh labels)) pair left → GoesOnTo text (length text - left)
@@ -124,29 +131,23 @@ in_pair_reaches text labels pair left p closed once s =
       | inl own ↦ ap (λ n. repeats (n ∷ names_of labels)) own ∙ once
       | inr its ↦ ap (λ n. repeats (n ∷ names_of labels)) its ∙ fresh_new labels (or_parts (is_among (names_of labels) (name_at pair)) (repeats (names_of labels)) once).1
     ] in
-    let front : List ℕ = 123 ∷ (commas labels ++ s.front) in
-    reaches text front s.after left (p.begins ∙ ap (λ t. 123 ∷ t) (ap (λ t. commas labels ++ t) s.whole ∙ sym (append_assoc (commas labels) s.front s.after))) s.left_is
+    stops_after text labels s.front s.after left (subst (HasPairs text labels) s.whole p) s.left_is
     (begun_pair labels more.1.0 s.front more.0 p.lawful (pair_written (s.front ++ more.0) more.1.0 more.1.1 more.2) new found)
-    (λ c others g. no_beginning (front ++ c ∷ []) (λ behind.
+    (λ c others behind g.
     let other : List ℕ = s.front ++ c ∷ behind in
-    let unclosed : labels ≡ [] → IsErr (past 125 other) = λ none. past_same s.front c others behind (subst (λ t. IsErr (past 125 t)) (s.whole ∙ ap (λ t. s.front ++ t) g) (closed none)) in
-    let walk = walk_goes_on labels other p.lawful unclosed in
-    subst (λ t. IsErr (walk_at t).1) (sym (join_front (commas labels) s.front behind c))
-    (subst (λ (w : Walk). IsErr w.1) (sym walk.1) (on_pair_bad (pairs_at walk.0) other (pair_at other) (s.here c others behind g)))))
+    let walk = walk_goes_on labels other p.lawful (λ none. past_same s.front c others behind (subst (λ t. IsErr (past 125 t)) (s.whole ∙ ap (λ t. s.front ++ t) g) (closed none))) in
+    subst (λ (w : Walk). IsErr w.1) (sym walk.1) (on_pair_bad (pairs_at walk.0) other (pair_at other) (s.here c others behind g)))
 
 -- behind a pair
 behind_reaches : (text : List ℕ) (labels : List Label) (stop : LabelRefusal × List ℕ) (s : StopsBehind text labels stop) → repeats (names_of labels) ≡ false → GoesOnTo text (length text - length s.rest)
 unfolding end_at
 behind_reaches text labels stop s once =
     let b = s.behind in
-    let pairs : List ℕ = commas b.front ++ pair_text b.last in
-    let front : List ℕ = 123 ∷ pairs in
-    reaches text front s.rest (length s.rest) (b.pairs.begins ∙ ap (λ t. 123 ∷ t) (sym (append_assoc (commas b.front) (pair_text b.last) s.rest))) refl
+    stops_after text b.front (pair_text b.last) s.rest (length s.rest) b.pairs refl
     (subst (λ t. BeginsASet (123 ∷ t)) (ap pairs_text b.labels_are ∙ pairs_and_last b.front b.last) (begun labels b.lawful once))
-    (λ c others g. no_beginning (front ++ c ∷ []) (λ behind.
+    (λ c others behind g.
     let first : (byte : ℕ) → IsErr (past byte s.rest) → IsErr (past byte (c ∷ behind)) = λ byte bad. past_first byte c others behind (subst (λ t. IsErr (past byte t)) g bad) in
-    subst (λ t. IsErr (walk_at t).1) (sym (join_front (commas b.front) (pair_text b.last) behind c))
-    (subst (λ (w : Walk). IsErr w.1) (sym (walk_ends_behind b.front b.last (c ∷ behind) (subst ArePairs b.labels_are b.lawful) (first 44 s.no_comma))) (end_bad (c ∷ behind) (past 125 (c ∷ behind)) (first 125 s.no_end)))))
+    subst (λ (w : Walk). IsErr w.1) (sym (walk_ends_behind b.front b.last (c ∷ behind) (subst ArePairs b.labels_are b.lawful) (first 44 s.no_comma))) (end_bad (c ∷ behind) (past 125 (c ∷ behind)) (first 125 s.no_end)))
 
 -- at the start of a text without the opening brace
 start_reaches : (text : List ℕ) → IsErr (past 123 text) → GoesOnTo text (length text - length text)
@@ -306,9 +307,9 @@ stops_from : (text : List ℕ) (place : ℕ) → read_set text ≡ Err (BadText 
 stops_from text place h r = record {
   goes_on = r;
   no_set = λ front after set is e. ok_not_err (set, length front) (BadText place) (read_set text) (ap read_set e ∙ set_text_again front after set is) h;
-  no_lack = λ t. let e = one_refusal EmptyName (BadText place) (read_set text) (lacks_name_again text t) h in absurd cc;
-  no_empty = λ t. let e = one_refusal EmptyValue (BadText place) (read_set text) (lacks_value_again text t) h in absurd cc;
-  no_repeat = λ t. let e = one_refusal Repeated (BadText place) (read_set text) (repeats_again text t) h in absurd cc;
+  no_lack = λ t. absurd (cc (sym (lacks_name_again text t) ∙ h));
+  no_empty = λ t. absurd (cc (sym (lacks_value_again text t) ∙ h));
+  no_repeat = λ t. absurd (cc (sym (repeats_again text t) ∙ h));
 }
 
 -- each refusal has its cause

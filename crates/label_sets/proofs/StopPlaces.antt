@@ -156,6 +156,10 @@ PairRefused fresh text Repeated = ⊥
 PairRefused fresh text (BadText left) = Stops pair_at (HasName (name_at text) fresh) text left
 PairRefused fresh text NoMemory = ⊥
 
+-- a pair of this name that was read to its end
+abbrev IsWhole : List ℕ → Label × List ℕ → Type 0
+IsWhole name read = (read.1 ≡ []) × (read.0.name ≡ name)
+
 -- what follows the equals sign
 abbrev after_sign : List ℕ → List ℕ → Result (Label × List ℕ) LabelRefusal
 after_sign name after = past 34 after >>= after_quote name
@@ -169,13 +173,13 @@ nothing_in [] none = refl
 nothing_in (v ∷ value) none = absurd (true≢false (sym (value_some (v ∷ value) (λ e. absurd cc)) ∙ none))
 
 sign_refused : (name after : List ℕ) (e : LabelRefusal) → after_sign name after ≡ Err e
-    → ((e ≡ EmptyValue) × ((rest : List ℕ) × (after ≡ 34 ∷ 34 ∷ rest))) ⊎ ((left : ℕ) × (e ≡ BadText left) × Stops (after_sign name) (λ x. (x.1 ≡ []) × (x.0.name ≡ name)) after left)
+    → ((e ≡ EmptyValue) × ((rest : List ℕ) × (after ≡ 34 ∷ 34 ∷ rest))) ⊎ ((left : ℕ) × (e ≡ BadText left) × Stops (after_sign name) (IsWhole name) after left)
 unfolding after_quote with_value past value_at with_byte quoted
 sign_refused name after e h = elim (bind_err (past 34 after) (after_quote name) e h) [
   | inl stop ↦ inr (
     length after,
     past_bad 34 after e stop,
-    at_once (after_sign name) (λ x. (x.1 ≡ []) × (x.0.name ≡ name)) after (34 ∷ 120 ∷ 34 ∷ []) (record { name = name; value = 120 ∷ [] }, []) refl (refl, refl)
+    at_once (after_sign name) (IsWhole name) after (34 ∷ 120 ∷ 34 ∷ []) (record { name = name; value = 120 ∷ [] }, []) refl (refl, refl)
         (λ c others more n. bind_bad (past 34 (c ∷ more)) (after_quote name) (past_first 34 c others more (subst (λ t. IsErr (past 34 t)) n (ap is_err stop)))),
   )
   | inr x ↦
@@ -186,8 +190,8 @@ sign_refused name after e h = elim (bind_err (past 34 after) (after_quote name) 
             inr (
               v.0,
               v.1,
-              subst (λ t. Stops (after_sign name) (λ x. (x.1 ≡ []) × (x.0.name ≡ name)) t v.0) (sym shape)
-                  (later (after_sign name) (value_at false) (λ x. (x.1 ≡ []) × (x.0.name ≡ name)) IsValue (34 ∷ []) x.0 v.0
+              subst (λ t. Stops (after_sign name) (IsWhole name) t v.0) (sym shape)
+                  (later (after_sign name) (value_at false) (IsWhole name) IsValue (34 ∷ []) x.0 v.0
                   (λ t y r w. (
                     (record { name = name; value = y.0 }, y.1),
                     ap (λ r. r >>= with_value name) r ∙ ap (λ b. unless b EmptyValue >> Ok (record { name = name; value = y.0 }, y.1)) (value_some y.0 w.0),
@@ -259,7 +263,7 @@ named_refused fresh text after e is shape h = elim (sign_refused (name_at text) 
   | inr stop ↦
       let used : List ℕ = name_at text ++ 61 ∷ [] in
       let step : (t : List ℕ) → pair_at (used ++ t) ≡ after_sign (name_at text) t = λ t. ap pair_at (append_assoc (name_at text) (61 ∷ []) t) ∙ named_pair (name_at text) t is in
-      let s = later pair_at (after_sign (name_at text)) (HasName (name_at text) fresh) (λ x. (x.1 ≡ []) × (x.0.name ≡ name_at text)) used after stop.0
+      let s = later pair_at (after_sign (name_at text)) (HasName (name_at text) fresh) (IsWhole (name_at text)) used after stop.0
       (λ t y r w. (y, step t ∙ r, (w.0, inl w.1))) (λ t bad. subst IsErr (sym (step t)) bad) stop.2 in
       subst (PairRefused fresh text) (sym stop.1) (subst (λ t. Stops pair_at (HasName (name_at text) fresh) t stop.0) (append_assoc (name_at text) (61 ∷ []) after ∙ sym shape) s)
 ]
