@@ -273,14 +273,13 @@ lacks_value_again text t =
 -- a name that stands twice among what was read is refused whatever the end
 repeated_whole : (total : ℕ) (labels : List Label) (end : Result (List ℕ) (LabelRefusal × List ℕ)) → repeats (names_of labels) ≡ true → conclusion total labels end ≡ Err Repeated
 unfolding conclusion repeats
-repeated_whole total labels (Ok after) t = ap (λ b. cond b (Err Repeated) (Ok (in_order has_lesser_name labels, total - length after))) t
-repeated_whole total labels (Err stop) t =
-    ap (λ b. cond b (Err Repeated) (Err (placed_at total stop.0))) (ap (λ b. is_among (names_of labels) (name_at stop.1) || b) t ∙ or-true (is_among (names_of labels) (name_at stop.1)))
+repeated_whole total labels (Ok after) t = rw t
+repeated_whole total labels (Err stop) t = rw (t, or-true (is_among (names_of labels) (name_at stop.1)))
 
 repeated_pair : (text : List ℕ) (labels : List Label) (pair : List ℕ) (r : Result (Label × List ℕ) LabelRefusal) → pair_at pair ≡ r → HasPairs text labels pair → (labels ≡ [] → IsErr (past 125 pair))
     → repeats (name_at pair ∷ names_of labels) ≡ true → read_set text ≡ Err Repeated
 unfolding on_pair with_label
-repeated_pair text labels pair (Err d) h p unclosed t = refused_behind text labels pair d p unclosed h ∙ ap (λ b. cond b (Err Repeated) (Err (placed_at (length text) d))) t
+repeated_pair text labels pair (Err d) h p unclosed t = refused_behind text labels pair d p unclosed h ∙ rw t
 repeated_pair text labels pair (Ok read) h p unclosed t =
     let w = walk_goes_on labels pair p.lawful unclosed in
     let more : Walk = after_pair (pairs_at w.0) read.1 in

@@ -1,5 +1,5 @@
 -- Names that stand twice among labels, before and after the labels are put in order.
-use Rattle.std.proofs.Common.{◌≡◌, ◌≢◌, ℕ, zero, suc, ◌+◌, ◌-◌, ◌<◌, ◌≤◌, Bool, true, false, cond, ◌||◌, List, [], ◌∷◌, ◌++◌, length, get_or, refl, sym, ap, ◌∙◌, subst, arith}
+use Rattle.std.proofs.Common.{◌≡◌, ◌≢◌, ℕ, zero, suc, ◌+◌, ◌-◌, ◌<◌, ◌≤◌, Bool, true, false, cond, ◌||◌, List, [], ◌∷◌, ◌++◌, length, get_or, refl, sym, ap, ◌∙◌, subst, arith, inl, inr}
 use Rattle.list_core.proofs.Bools.{or_swap}
 use Rattle.list_core.proofs.Options.{None-from_is_some}
 use Rattle.std.proofs.Math.Bool.{or-true}
@@ -9,7 +9,7 @@ use Rattle.std.specs.Str.{bytes_eq}
 use Rattle.std.specs.List.{list_any}
 use Rattle.std.specs.List.Sorted.{IsSortedBy}
 use Rattle.std.specs.Option.{is_some}
-use Rattle.std.proofs.lemmas.Bool.{true≢false, or_parts, or_left, or_from}
+use Rattle.std.proofs.lemmas.Bool.{true≢false, cases_Bool, or_parts, or_left, or_from}
 use Rattle.std.proofs.lemmas.List.Folds.{list_any-append}
 use Rattle.std.proofs.lemmas.List.Sorted.{ranks_by}
 use Rattle.std.proofs.lemmas.List.{get_or_default}
@@ -37,8 +37,7 @@ repeats_at (x ∷ []) k d l e = absurd (omega arith)
 repeats_at (x ∷ y ∷ ys) zero d l e =
     or_left (is_among (names_of (y ∷ ys)) x.name) (repeats (names_of (y ∷ ys)))
     (or_left (bytes_eq y.name x.name) (is_among (names_of ys) x.name) ((bytes_decides y.name x.name).1 (sym ((bytes_decides x.name y.name).0 e))))
-repeats_at (x ∷ y ∷ ys) (suc k) d l e =
-    ap (λ b. is_among (names_of (y ∷ ys)) x.name || b) (repeats_at (y ∷ ys) k d (omega arith) e) ∙ or-true (is_among (names_of (y ∷ ys)) x.name)
+repeats_at (x ∷ y ∷ ys) (suc k) d l e = rw (repeats_at (y ∷ ys) k d (omega arith) e, or-true (is_among (names_of (y ∷ ys)) x.name))
 
 not_less : (one other : List ℕ) → is_lt (compare_texts one other) ≡ false → ComesBefore one other → ⊥
 not_less one other f b = true≢false (sym (ap is_lt b) ∙ f)
@@ -176,9 +175,10 @@ among-more labels more name t =
 pub repeats-more : (labels more : List Label) → repeats (names_of labels) ≡ true → repeats (names_of (labels ++ more)) ≡ true
 unfolding repeats
 repeats-more [] more t = absurd (true≢false (sym t))
-repeats-more (x ∷ xs) more t = by_bool (is_among (names_of xs) x.name)
-    (λ here. or_left (is_among (names_of (xs ++ more)) x.name) (repeats (names_of (xs ++ more))) (among-more xs more x.name here))
-    (λ f. ap (λ b. is_among (names_of (xs ++ more)) x.name || b) (repeats-more xs more (ap (λ b. b || repeats (names_of xs)) (sym f) ∙ t)) ∙ or-true (is_among (names_of (xs ++ more)) x.name))
+repeats-more (x ∷ xs) more t = elim (cases_Bool (is_among (names_of xs) x.name)) [
+  | inl here ↦ rw (among-more xs more x.name here)
+  | inr f ↦ rw (repeats-more xs more (rw f at t), or-true (is_among (names_of (xs ++ more)) x.name))
+]
 
 -- the name that is added is among the others, or only the others decide
 pub repeats_found : (labels : List Label) (name : List ℕ) (r : Bool) → r ≡ list_any (λ l. bytes_eq l.name name) labels → r ≡ true → r ≡ repeats (name ∷ names_of labels)

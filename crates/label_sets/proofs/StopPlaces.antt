@@ -194,7 +194,7 @@ sign_refused name after e h = elim (bind_err (past 34 after) (after_quote name) 
                   (later (after_sign name) (value_at false) (IsWhole name) IsValue (34 ∷ []) x.0 v.0
                   (λ t y r w. (
                     (record { name = name; value = y.0 }, y.1),
-                    ap (λ r. r >>= with_value name) r ∙ ap (λ b. unless b EmptyValue >> Ok (record { name = name; value = y.0 }, y.1)) (value_some y.0 w.0),
+                    rw (r, value_some y.0 w.0),
                     (w.1, refl),
                   ))
                   (λ t bad. bind_bad (value_at false t) (with_value name) bad) v.2),
