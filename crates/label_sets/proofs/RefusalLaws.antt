@@ -248,15 +248,12 @@ refused_behind text labels pair d p unclosed h =
     concluded_as text (labels, Err (d, pair)) (cond (repeats (name_at pair ∷ names_of labels)) (Err Repeated) (Err (placed_at (length text) d)))
     (ap walk_at p.begins ∙ w.1 ∙ ap (λ (x : Walk). (labels ++ x.0, x.1)) (ap (on_pair (pairs_at w.0) pair) h) ∙ ap (λ ls. (ls, Err (d, pair))) (append-nil labels)) refl
 
-not_refused : {A : Type 0} (b : Bool) (d e : LabelRefusal) → b ≡ false → ◌≡◌ {A = Result A LabelRefusal} (cond b (Err d) (Err e)) (Err e)
-not_refused b d e f = ap (λ b. cond b (Err d) (Err e)) f
-
 -- the equals sign, and the empty value
 lacks_name_again : (text : List ℕ) → LacksName text → read_set text ≡ Err EmptyName
 unfolding placed_at name_at name_length pair_at past after_equals after_quote with_value
 lacks_name_again text t =
     refused_behind text t.listed (61 ∷ t.after) EmptyName t.pairs (λ none. refl) refl
-    ∙ not_refused (repeats ([] ∷ names_of t.listed)) Repeated EmptyName (repeats-nameless t.listed t.pairs.lawful ∙ t.once)
+    ∙ rw (repeats-nameless t.listed t.pairs.lawful ∙ t.once)
 
 named_at : (name rest : List ℕ) → is_name name ≡ true → name_at (name ++ 61 ∷ rest) ≡ name
 unfolding name_at
@@ -268,7 +265,7 @@ lacks_value_again text t =
     let pair : List ℕ = t.name ++ 61 ∷ 34 ∷ 34 ∷ t.after in
     refused_behind text t.listed pair EmptyValue (subst (HasPairs text t.listed) (append_assoc t.name (61 ∷ 34 ∷ 34 ∷ []) t.after) t.pairs)
     (λ none. begins_no_end t.name (61 ∷ 34 ∷ 34 ∷ t.after) t.named) (pair_named pair t.name (34 ∷ 34 ∷ t.after) t.named refl)
-    ∙ not_refused (repeats (name_at pair ∷ names_of t.listed)) Repeated EmptyValue (ap (λ n. repeats (n ∷ names_of t.listed)) (named_at t.name (34 ∷ 34 ∷ t.after) t.named) ∙ t.once)
+    ∙ rw (named_at t.name (34 ∷ 34 ∷ t.after) t.named, t.once)
 
 -- a name that stands twice among what was read is refused whatever the end
 repeated_whole : (total : ℕ) (labels : List Label) (end : Result (List ℕ) (LabelRefusal × List ℕ)) → repeats (names_of labels) ≡ true → conclusion total labels end ≡ Err Repeated

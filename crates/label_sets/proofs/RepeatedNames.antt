@@ -34,9 +34,7 @@ pub repeats_at : (labels : List Label) (k : ℕ) (d : Label) → suc k < length 
 unfolding repeats is_among
 repeats_at [] k d l e = absurd (omega arith)
 repeats_at (x ∷ []) k d l e = absurd (omega arith)
-repeats_at (x ∷ y ∷ ys) zero d l e =
-    or_left (is_among (names_of (y ∷ ys)) x.name) (repeats (names_of (y ∷ ys)))
-    (or_left (bytes_eq y.name x.name) (is_among (names_of ys) x.name) ((bytes_decides y.name x.name).1 (sym ((bytes_decides x.name y.name).0 e))))
+repeats_at (x ∷ y ∷ ys) zero d l e = rw ((bytes_decides y.name x.name).1 (sym ((bytes_decides x.name y.name).0 e)))
 repeats_at (x ∷ y ∷ ys) (suc k) d l e = rw (repeats_at (y ∷ ys) k d (omega arith) e, or-true (is_among (names_of (y ∷ ys)) x.name))
 
 not_less : (one other : List ℕ) → is_lt (compare_texts one other) ≡ false → ComesBefore one other → ⊥
@@ -58,9 +56,7 @@ still_before a b c p f = by_ordering (compare_texts b c)
 not_among_later : (name : List ℕ) (y : Label) (ys : List Label) → ComesBefore name y.name → NoneLess has_lesser_name y ys → is_among (names_of ys) name ≡ false
 unfolding is_among
 not_among_later name y [] b n = refl
-not_among_later name y (w ∷ ws) b n = or_from (bytes_eq w.name name) (is_among (names_of ws) name)
-    (bytes_eq_differs w.name name (λ e. before_differs name w.name (still_before name y.name w.name b n.0) (sym e)))
-    (not_among_later name y ws b n.1)
+not_among_later name y (w ∷ ws) b n = rw (bytes_eq_differs w.name name (λ e. before_differs name w.name (still_before name y.name w.name b n.0) (sym e)), not_among_later name y ws b n.1)
 
 no_repeats : (labels : List Label) → Rises has_lesser_name labels → ((k : ℕ) (d : Label) → suc k < length labels → bytes_eq (get_or labels k d).name (get_or labels (suc k) d).name ≡ false) → repeats (names_of labels) ≡ false
 unfolding repeats is_among
@@ -68,9 +64,7 @@ no_repeats [] r h = refl
 no_repeats (x ∷ []) r h = refl
 no_repeats (x ∷ y ∷ ys) r h =
     let b : ComesBefore x.name y.name = goes_after x.name y.name r.0.0 (h 0 x (omega arith)) in
-    or_from (is_among (names_of (y ∷ ys)) x.name) (repeats (names_of (y ∷ ys)))
-    (or_from (bytes_eq y.name x.name) (is_among (names_of ys) x.name) (bytes_eq_differs y.name x.name (λ e. before_differs x.name y.name b (sym e))) (not_among_later x.name y ys b r.1.0))
-    (no_repeats (y ∷ ys) r.1 (λ k d l. h (suc k) d (omega arith)))
+    rw (bytes_eq_differs y.name x.name (λ e. before_differs x.name y.name b (sym e)), not_among_later x.name y ys b r.1.0, no_repeats (y ∷ ys) r.1 (λ k d l. h (suc k) d (omega arith)))
 
 pub no_repeats-sorted : (labels : List Label) → IsSortedBy has_lesser_name labels → ((k : ℕ) (d : Label) → suc k < length labels → bytes_eq (get_or labels k d).name (get_or labels (suc k) d).name ≡ false) → repeats (names_of labels) ≡ false
 no_repeats-sorted labels up h = no_repeats labels (Rises-from_sorted has_lesser_name (ranks_by nat_list_cmp_total (λ (l : Label). l.name)) labels up) h
@@ -149,11 +143,11 @@ once_from_able (l ∷ ls) able = (λ i. among_names ls l.name i || once_from_abl
 nameless : (labels : List Label) → ArePairs labels → is_among (names_of labels) [] ≡ false
 unfolding is_among
 nameless [] are = refl
-nameless (l ∷ ls) are = or_from (bytes_eq l.name []) (is_among (names_of ls) []) (bytes_eq_differs l.name [] (named_some l.name (are 0 l (omega arith)).0)) (nameless ls (λ k d lt. are (suc k) d (omega arith)))
+nameless (l ∷ ls) are = rw (bytes_eq_differs l.name [] (named_some l.name (are 0 l (omega arith)).0), nameless ls (λ k d lt. are (suc k) d (omega arith)))
 
 pub repeats-nameless : (labels : List Label) → ArePairs labels → repeats ([] ∷ names_of labels) ≡ repeats (names_of labels)
 unfolding repeats is_among
-repeats-nameless labels are = ap (λ b. b || repeats (names_of labels)) (nameless labels are)
+repeats-nameless labels are = rw (nameless labels are)
 
 among-last : (labels : List Label) (l : Label) (name : List ℕ) → is_among (names_of (labels ++ l ∷ [])) name ≡ (bytes_eq l.name name || is_among (names_of labels) name)
 unfolding is_among
@@ -183,8 +177,8 @@ repeats-more (x ∷ xs) more t = elim (cases_Bool (is_among (names_of xs) x.name
 -- the name that is added is among the others, or only the others decide
 pub repeats_found : (labels : List Label) (name : List ℕ) (r : Bool) → r ≡ list_any (λ l. bytes_eq l.name name) labels → r ≡ true → r ≡ repeats (name ∷ names_of labels)
 unfolding repeats
-repeats_found labels name r e t = t ∙ sym (ap (λ b. b || repeats (names_of labels)) (sym (among_labels labels name) ∙ sym e ∙ t))
+repeats_found labels name r e t = t ∙ sym (rw (sym (among_labels labels name) ∙ sym e ∙ t))
 
 pub repeats_others : (labels : List Label) (name : List ℕ) (a r : Bool) → a ≡ list_any (λ l. bytes_eq l.name name) labels → a ≡ false → r ≡ repeats (names_of labels) → r ≡ repeats (name ∷ names_of labels)
 unfolding repeats
-repeats_others labels name a r e f h = h ∙ sym (ap (λ b. b || repeats (names_of labels)) (sym (among_labels labels name) ∙ sym e ∙ f))
+repeats_others labels name a r e f h = h ∙ sym (rw (sym (among_labels labels name) ∙ sym e ∙ f))
