@@ -128,8 +128,8 @@ in_pair_reaches text labels pair left p closed once s =
     let more = s.so_far in
     let found : s.front ++ more.0 ≡ pair_text more.1.0 = pair_found (s.front ++ more.0) more.1.0 more.1.1 more.2 ∙ ap (λ t. pair_text more.1.0 ++ t) more.3.0 ∙ append-nil (pair_text more.1.0) in
     let new : repeats (more.1.0.name ∷ names_of labels) ≡ false = elim more.3.1 [
-      | inl own ↦ ap (λ n. repeats (n ∷ names_of labels)) own ∙ once
-      | inr its ↦ ap (λ n. repeats (n ∷ names_of labels)) its ∙ fresh_new labels (or_parts (is_among (names_of labels) (name_at pair)) (repeats (names_of labels)) once).1
+      | inl own ↦ rw (own, once)
+      | inr its ↦ rw its (fresh_new labels (or_parts (is_among (names_of labels) (name_at pair)) (repeats (names_of labels)) once).1)
     ] in
     stops_after text labels s.front s.after left (subst (HasPairs text labels) s.whole p) s.left_is
     (begun_pair labels more.1.0 s.front more.0 p.lawful (pair_written (s.front ++ more.0) more.1.0 more.1.1 more.2) new found)
@@ -176,7 +176,7 @@ repeated_pairs text labels rest b t =
       listed = b.front;
       after = pair_text b.last ++ rest;
       pairs = b.pairs;
-      again = ap (λ n. repeats (n ∷ names_of b.front)) (name_of_pair b.last rest parts.1) ∙ sym (repeats-last b.front b.last) ∙ ap (λ ls. repeats (names_of ls)) (sym b.labels_are) ∙ t;
+      again = rw (name_of_pair b.last rest parts.1, ← repeats-last b.front b.last, ← b.labels_are, t);
     }
 
 -- where a walk stopped and no name stands twice
@@ -246,7 +246,7 @@ unfolding on_pair conclusion
 refused_behind text labels pair d p unclosed h =
     let w = walk_goes_on labels pair p.lawful unclosed in
     concluded_as text (labels, Err (d, pair)) (cond (repeats (name_at pair ∷ names_of labels)) (Err Repeated) (Err (placed_at (length text) d)))
-    (ap walk_at p.begins ∙ w.1 ∙ ap (λ (x : Walk). (labels ++ x.0, x.1)) (ap (on_pair (pairs_at w.0) pair) h) ∙ ap (λ ls. (ls, Err (d, pair))) (append-nil labels)) refl
+    (rw (p.begins, w.1, h, append-nil labels)) refl
 
 -- the equals sign, and the empty value
 lacks_name_again : (text : List ℕ) → LacksName text → read_set text ≡ Err EmptyName
@@ -280,18 +280,15 @@ repeated_pair text labels pair (Err d) h p unclosed t = refused_behind text labe
 repeated_pair text labels pair (Ok read) h p unclosed t =
     let w = walk_goes_on labels pair p.lawful unclosed in
     let more : Walk = after_pair (pairs_at w.0) read.1 in
-    let once : repeats (names_of (labels ++ read.0 ∷ [])) ≡ true = repeats-last labels read.0 ∙ ap (λ n. repeats (n ∷ names_of labels)) (pair_steps pair read.0 read.1 h).name_is ∙ t in
+    let once : repeats (names_of (labels ++ read.0 ∷ [])) ≡ true = rw (repeats-last labels read.0, (pair_steps pair read.0 read.1 h).name_is, t) in
     concluded_as text (labels ++ read.0 ∷ more.0, more.1) (Err Repeated)
-    (ap walk_at p.begins ∙ w.1 ∙ ap (λ (x : Walk). (labels ++ x.0, x.1)) (ap (on_pair (pairs_at w.0) pair) h))
+    (rw (p.begins, w.1, h))
     (repeated_whole (length text) (labels ++ read.0 ∷ more.0) more.1
     (ap (λ ls. repeats (names_of ls)) (sym (append_assoc labels (read.0 ∷ []) more.0)) ∙ repeats-more (labels ++ read.0 ∷ []) more.0 once))
 
-nothing_repeats : (labels : List Label) (name : List ℕ) → repeats (name ∷ names_of labels) ≡ true → labels ≡ [] → ⊥
-unfolding repeats is_among
-nothing_repeats labels name t none = true≢false (sym t ∙ ap (λ ls. repeats (name ∷ names_of ls)) none)
-
 repeats_again : (text : List ℕ) → RepeatsName text → read_set text ≡ Err Repeated
-repeats_again text t = repeated_pair text t.listed t.after (pair_at t.after) refl t.pairs (λ none. absurd (nothing_repeats t.listed (name_at t.after) t.again none)) t.again
+unfolding repeats is_among
+repeats_again text t = repeated_pair text t.listed t.after (pair_at t.after) refl t.pairs (λ none. absurd (true≢false (sym (rw none at t.again)))) t.again
 
 -- ---- the laws
 
