@@ -67,7 +67,7 @@ shorter_begins front more b = record { after = more ++ b.after; set = b.set; is_
 begun_pair : (labels : List Label) (l : Label) (front more : List ℕ) → ArePairs labels → (is_name l.name ≡ true) × (l.value ≢ []) → repeats (l.name ∷ names_of labels) ≡ false → front ++ more ≡ pair_text l → BeginsASet (123 ∷ (commas labels ++ front))
 begun_pair labels l front more are one once shape =
     shorter_begins (123 ∷ (commas labels ++ front)) more
-    (subst (λ t. BeginsASet (123 ∷ t)) (pairs_and_last labels l ∙ ap (λ t. commas labels ++ t) (sym shape) ∙ sym (append_assoc (commas labels) front more))
+    (rw (append_assoc (commas labels) front more, shape, ← pairs_and_last labels l)
     (begun (labels ++ l ∷ []) (All-push (λ (l : Label). (is_name l.name ≡ true) × (l.value ≢ [])) labels l are one) (repeats-last labels l ∙ once)))
 
 -- what is refused whatever follows begins none
@@ -90,11 +90,11 @@ further front (c ∷ others) h l =
 reaches : (text front after : List ℕ) (left : ℕ) → text ≡ front ++ after → length after ≡ left → BeginsASet front → ((c : ℕ) (others : List ℕ) → after ≡ c ∷ others → ¬ BeginsASet (front ++ c ∷ [])) → GoesOnTo text (length text - left)
 reaches text front after left e p b h =
     let at : length front ≡ length text - left = omega (arith, p, ap length e, length-append front after) in
-    subst (GoesOnTo text) at (subst (λ t. GoesOnTo t (length front)) (sym e) (record {
+    rw (← at, e) (record {
       within = omega (arith, length-append front after);
-      so_far = subst BeginsASet (sym (take_at front after (length front) refl)) b;
+      so_far = rw (take_at front after (length front) refl) b;
       no_further = further front after h;
-    }))
+    })
 
 join_front : (pairs front more : List ℕ) (c : ℕ) → ((123 ∷ (pairs ++ front)) ++ c ∷ []) ++ more ≡ 123 ∷ (pairs ++ (front ++ c ∷ more))
 join_front pairs front more c = simp append_assoc
@@ -118,7 +118,7 @@ stops_after : (text : List ℕ) (labels : List Label) (front after : List ℕ) (
     → ((c : ℕ) (others behind : List ℕ) → after ≡ c ∷ others → IsErr (walk_at (123 ∷ (commas labels ++ (front ++ c ∷ behind)))).1) → GoesOnTo text (length text - left)
 stops_after text labels front after left p left_is b bad =
     reaches text (123 ∷ (commas labels ++ front)) after left (p.begins ∙ ap (λ t. 123 ∷ t) (sym (append_assoc (commas labels) front after))) left_is b
-    (λ c others g. no_beginning ((123 ∷ (commas labels ++ front)) ++ c ∷ []) (λ behind. subst (λ t. IsErr (walk_at t).1) (sym (join_front (commas labels) front behind c)) (bad c others behind g)))
+    (λ c others g. no_beginning ((123 ∷ (commas labels ++ front)) ++ c ∷ []) (λ behind. rw (join_front (commas labels) front behind c) (bad c others behind g)))
 
 -- within a pair
 in_pair_reaches : (text : List ℕ) (labels : List Label) (pair : List ℕ) (left : ℕ) → HasPairs text labels pair → (labels ≡ [] → IsErr (past 125 pair)) → repeats (name_at pair ∷ names_of labels) ≡ false
@@ -136,7 +136,7 @@ in_pair_reaches text labels pair left p closed once s =
     (λ c others behind g.
     let other : List ℕ = s.front ++ c ∷ behind in
     let walk = walk_goes_on labels other p.lawful (λ none. past_same s.front c others behind (subst (λ t. IsErr (past 125 t)) (s.whole ∙ ap (λ t. s.front ++ t) g) (closed none))) in
-    subst (λ (w : Walk). IsErr w.1) (sym walk.1) (on_pair_bad (pairs_at walk.0) other (pair_at other) (s.here c others behind g)))
+    rw walk.1 (on_pair_bad (pairs_at walk.0) other (pair_at other) (s.here c others behind g)))
 
 -- behind a pair
 behind_reaches : (text : List ℕ) (labels : List Label) (stop : LabelRefusal × List ℕ) (s : StopsBehind text labels stop) → repeats (names_of labels) ≡ false → GoesOnTo text (length text - length s.rest)
@@ -147,7 +147,7 @@ behind_reaches text labels stop s once =
     (subst (λ t. BeginsASet (123 ∷ t)) (ap pairs_text b.labels_are ∙ pairs_and_last b.front b.last) (begun labels b.lawful once))
     (λ c others behind g.
     let first : (byte : ℕ) → IsErr (past byte s.rest) → IsErr (past byte (c ∷ behind)) = λ byte bad. past_first byte c others behind (subst (λ t. IsErr (past byte t)) g bad) in
-    subst (λ (w : Walk). IsErr w.1) (sym (walk_ends_behind b.front b.last (c ∷ behind) (subst ArePairs b.labels_are b.lawful) (first 44 s.no_comma))) (end_bad (c ∷ behind) (past 125 (c ∷ behind)) (first 125 s.no_end)))
+    rw (walk_ends_behind b.front b.last (c ∷ behind) (subst ArePairs b.labels_are b.lawful) (first 44 s.no_comma)) (end_bad (c ∷ behind) (past 125 (c ∷ behind)) (first 125 s.no_end)))
 
 -- at the start of a text without the opening brace
 start_reaches : (text : List ℕ) → IsErr (past 123 text) → GoesOnTo text (length text - length text)
@@ -225,8 +225,8 @@ braces_cause text labels (Err stop) e b h =
 walk_cause : (text : List ℕ) (w : Walk) (e : LabelRefusal) → IsWalk text w → conclusion (length text) w.0 w.1 ≡ Err e → Cause text e
 unfolding conclusion stopped_at placed_at repeats name_at name_length is_among
 walk_cause text w e (inl stop) h =
-    subst (Cause text) (err_is (BadText (length text - length text)) e (ap (λ (w : Walk). conclusion (length text) w.0 w.1) (sym stop.1) ∙ h)) (start_reaches text stop.0)
-walk_cause text w e (inr (inl empty)) h = absurd (true≢false (sym (ap is_err (ap (λ (w : Walk). conclusion (length text) w.0 w.1) (sym empty.2) ∙ h))))
+    subst (Cause text) (err_is (BadText (length text - length text)) e (rw stop.1 at h)) (start_reaches text stop.0)
+walk_cause text w e (inr (inl empty)) h = absurd (true≢false (sym (ap is_err (rw empty.2 at h))))
 walk_cause text w e (inr (inr braces)) h = braces_cause text w.0 w.1 e braces h
 
 cause_of : (text : List ℕ) (e : LabelRefusal) → read_set text ≡ Err e → Cause text e

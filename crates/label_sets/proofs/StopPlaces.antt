@@ -190,7 +190,7 @@ sign_refused name after e h = elim (bind_err (past 34 after) (after_quote name) 
             inr (
               v.0,
               v.1,
-              subst (λ t. Stops (after_sign name) (IsWhole name) t v.0) (sym shape)
+              rw shape
                   (later (after_sign name) (value_at false) (IsWhole name) IsValue (34 ∷ []) x.0 v.0
                   (λ t y r w. (
                     (record { name = name; value = y.0 }, y.1),
@@ -259,13 +259,13 @@ whole_name text = sym (take-append-drop (name_length text) text)
 -- with a name
 named_refused : (fresh text after : List ℕ) (e : LabelRefusal) → is_name (name_at text) ≡ true → text ≡ name_at text ++ 61 ∷ after → after_sign (name_at text) after ≡ Err e → PairRefused fresh text e
 named_refused fresh text after e is shape h = elim (sign_refused (name_at text) after e h) [
-  | inl empty ↦ subst (PairRefused fresh text) (sym empty.0) (empty.1.0, shape ∙ ap (λ t. name_at text ++ 61 ∷ t) empty.1.1, is)
+  | inl empty ↦ rw empty.0 (empty.1.0, shape ∙ ap (λ t. name_at text ++ 61 ∷ t) empty.1.1, is)
   | inr stop ↦
       let used : List ℕ = name_at text ++ 61 ∷ [] in
       let step : (t : List ℕ) → pair_at (used ++ t) ≡ after_sign (name_at text) t = λ t. ap pair_at (append_assoc (name_at text) (61 ∷ []) t) ∙ named_pair (name_at text) t is in
       let s = later pair_at (after_sign (name_at text)) (HasName (name_at text) fresh) (IsWhole (name_at text)) used after stop.0
       (λ t y r w. (y, step t ∙ r, (w.0, inl w.1))) (λ t bad. subst IsErr (sym (step t)) bad) stop.2 in
-      subst (PairRefused fresh text) (sym stop.1) (subst (λ t. Stops pair_at (HasName (name_at text) fresh) t stop.0) (append_assoc (name_at text) (61 ∷ []) after ∙ sym shape) s)
+      rw stop.1 (subst (λ t. Stops pair_at (HasName (name_at text) fresh) t stop.0) (append_assoc (name_at text) (61 ∷ []) after ∙ sym shape) s)
 ]
 
 no_more : (n : ℕ) → nat_lt 0 n ≡ false → n ≡ 0
@@ -279,7 +279,7 @@ pair_refused fresh text e is h =
     elim (bind_err (past 61 rest) (after_equals (name_at text) n) e h) [
       | inl stop ↦
           let bad : IsErr (past 61 rest) = ap is_err stop in
-          subst (PairRefused fresh text) (sym (past_bad 61 rest e stop)) (by_bool (nat_lt 0 n)
+          rw (past_bad 61 rest e stop) (by_bool (nat_lt 0 n)
           (λ some. let named = name_read text some in record {
             front = name_at text;
             after = rest;
