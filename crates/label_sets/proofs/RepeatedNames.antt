@@ -9,7 +9,7 @@ use Rattle.std.specs.Str.{bytes_eq}
 use Rattle.std.specs.List.{list_any}
 use Rattle.std.specs.List.Sorted.{IsSortedBy}
 use Rattle.std.specs.Option.{is_some}
-use Rattle.std.proofs.lemmas.Bool.{true≢false, cases_Bool, or_parts, or_left, or_from}
+use Rattle.std.proofs.lemmas.Bool.{true≢false, cases_Bool, or_parts}
 use Rattle.std.proofs.lemmas.List.Folds.{list_any-append}
 use Rattle.std.proofs.lemmas.List.Sorted.{ranks_by}
 use Rattle.std.proofs.lemmas.List.{get_or_default}
@@ -19,7 +19,7 @@ use Rattle.label_sets.specs.Ordered.{placed, in_order}
 use Rattle.label_sets.specs.Finals.{is_among}
 use Rattle.label_sets.specs.Notation.{is_name, repeats}
 use Rattle.label_sets.specs.SetText.{ArePairs}
-use Rattle.label_sets.proofs.LabelValues.{by_bool, by_ordering, before_differs, before_trans, bytes_eq_differs, same_text}
+use Rattle.label_sets.proofs.LabelValues.{by_ordering, before_differs, before_trans, bytes_eq_differs, same_text}
 use Rattle.label_sets.proofs.OrderedLabels.{value_of-placed, value_of-in_order}
 use Rattle.label_sets.proofs.FinalLabels.{among_names}
 use Rattle.list_core.proofs.StableSorts.{NoneLess, Rises, Rises-from_sorted}

@@ -6,7 +6,6 @@ use Rattle.std.proofs.lemmas.Bool.Decides.{nat_tests}
 use Rattle.std.proofs.lemmas.List.{take-append-drop, drop_at}
 use Rattle.std.specs.Prelude.{IsErr}
 use Rattle.std.specs.Result.{is_err}
-use Rattle.std.specs.Char.{is_ascii_digit}
 use Rattle.std.specs.List.{prefix_len}
 use Rattle.reading_core.specs.Reading.{◌>>=◌, ◌>>◌, unless}
 use Rattle.reading_core.proofs.Binds.{bind_err, err_is}
