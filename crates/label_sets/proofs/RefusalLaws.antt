@@ -1,5 +1,5 @@
 -- Each refusal of a label set has its cause, and each cause its refusal.
-use Rattle.std.proofs.Common.{◌≡◌, ◌≢◌, ℕ, zero, suc, true, false, Bool, cond, ◌||◌, ◌+◌, ◌-◌, ◌<◌, ◌≤◌, List, [], ◌∷◌, ◌++◌, length, take, drop, replicate, Some, Result, Ok, Err, refl, sym, ap, ◌∙◌, subst, arith, append_assoc, append-nil, ◌⊎◌, inl, inr}
+use Rattle.std.proofs.Common.{◌≡◌, ◌≢◌, ℕ, zero, suc, true, false, cond, ◌||◌, ◌+◌, ◌-◌, ◌<◌, ◌≤◌, List, [], ◌∷◌, ◌++◌, length, take, drop, replicate, Some, Result, Ok, Err, refl, sym, ap, ◌∙◌, subst, arith, append_assoc, append-nil, ◌⊎◌, inl, inr}
 use Rattle.std.proofs.Math.Bool.{or-true}
 use Rattle.std.proofs.lemmas.Bool.{true≢false, cases_order, or_parts}
 use Rattle.std.proofs.lemmas.List.{length-append, length-replicate, take_at, take-take, take-append-drop}
@@ -17,11 +17,11 @@ use Rattle.label_sets.specs.Ordered.{in_order}
 use Rattle.label_sets.specs.Finals.{is_among}
 use Rattle.label_sets.specs.Notation.{is_name, is_name_byte, Walk, name_length, name_at, past, pair_at, pairs_at, on_pair, with_label, value_at, at_end, end_at, after_pair, stopped_at, walk_at, repeats, placed_at, conclusion, read_set, pair_text, pairs_text, set_text}
 use Rattle.label_sets.specs.SetText.{ArePairs, IsSetText}
-use Rattle.label_sets.specs.SetRefusals.{pair_comma_text, LacksName, LacksValue, RepeatsName, BeginsASet, StopsAt, IsRefused}
+use Rattle.label_sets.specs.SetRefusals.{pair_comma_text, HasPairs, LacksName, LacksValue, RepeatsName, BeginsASet, GoesOnTo, StopsAt, IsRefused}
 use Rattle.label_sets.proofs.LabelValues.{bytes_eq_differs}
 use Rattle.label_sets.proofs.RepeatedNames.{repeats-nameless, repeats-last, repeats-more}
 use Rattle.label_sets.proofs.ReadSets.{pair_steps, after_equals, after_quote, with_value}
-use Rattle.label_sets.proofs.SetsFound.{pair_found, pair_written, pairs_and_last, BehindPairs, InBraces, IsWalk, walk_is, concluded}
+use Rattle.label_sets.proofs.SetsFound.{pair_found, pair_written, pairs_and_last, BehindPairs, StopsBehind, InBraces, IsWalk, walk_is, concluded}
 use Rattle.label_sets.proofs.SetsAgain.{name_again, past_it, pair_again, begins_no_end, pair_named, walk_goes_on, walk_ends_behind}
 use Rattle.label_sets.proofs.SetLaws.{pairs_make_text, set_text_found, set_text_again}
 use Rattle.label_sets.proofs.StopPlaces.{Stops, past_first, HasName, PairRefused, pair_refused}
@@ -67,7 +67,7 @@ shorter_begins front more b = record { after = more ++ b.after; set = b.set; is_
 begun_pair : (labels : List Label) (l : Label) (front more : List ℕ) → ArePairs labels → (is_name l.name ≡ true) × (l.value ≢ []) → repeats (l.name ∷ names_of labels) ≡ false → front ++ more ≡ pair_text l → BeginsASet (123 ∷ (commas labels ++ front))
 begun_pair labels l front more are one once shape =
     shorter_begins (123 ∷ (commas labels ++ front)) more
-    (subst (λ t. BeginsASet (123 ∷ t)) (pairs_and_last labels l ∙ ap (λ t. commas labels ++ t) (sym shape) ∙ sym (append_assoc (commas labels) front more))
+    (rw (append_assoc (commas labels) front more, shape, ← pairs_and_last labels l)
     (begun (labels ++ l ∷ []) (All-push (λ (l : Label). (is_name l.name ≡ true) × (l.value ≢ [])) labels l are one) (repeats-last labels l ∙ once)))
 
 -- what is refused whatever follows begins none
@@ -80,12 +80,6 @@ no_beginning front bad b =
 
 -- ---- a place where it stops
 
--- what is read up to a place, and no further
-record Reaches (text : List ℕ) (place : ℕ) : Type 0 where
-  within : place ≤ length text
-  so_far : BeginsASet (take place text)
-  no_further : place < length text → ¬ BeginsASet (take (suc place) text)
-
 further : (front after : List ℕ) → ((c : ℕ) (others : List ℕ) → after ≡ c ∷ others → ¬ BeginsASet (front ++ c ∷ [])) → length front < length (front ++ after) → ¬ BeginsASet (take (suc (length front)) (front ++ after))
 further front [] h l = absurd (omega (arith, l, length-append front []))
 further front (c ∷ others) h l =
@@ -93,14 +87,14 @@ further front (c ∷ others) h l =
     let cut : take (suc (length front)) (front ++ c ∷ others) ≡ front ++ c ∷ [] = ap (take (suc (length front))) (sym (append_assoc front (c ∷ []) others)) ∙ take_at (front ++ c ∷ []) others (suc (length front)) one in
     λ b. h c others refl (subst BeginsASet cut b)
 
-reaches : (text front after : List ℕ) (left : ℕ) → text ≡ front ++ after → length after ≡ left → BeginsASet front → ((c : ℕ) (others : List ℕ) → after ≡ c ∷ others → ¬ BeginsASet (front ++ c ∷ [])) → Reaches text (length text - left)
+reaches : (text front after : List ℕ) (left : ℕ) → text ≡ front ++ after → length after ≡ left → BeginsASet front → ((c : ℕ) (others : List ℕ) → after ≡ c ∷ others → ¬ BeginsASet (front ++ c ∷ [])) → GoesOnTo text (length text - left)
 reaches text front after left e p b h =
     let at : length front ≡ length text - left = omega (arith, p, ap length e, length-append front after) in
-    subst (Reaches text) at (subst (λ t. Reaches t (length front)) (sym e) (record {
+    rw (← at, e) (record {
       within = omega (arith, length-append front after);
-      so_far = subst BeginsASet (sym (take_at front after (length front) refl)) b;
+      so_far = rw (take_at front after (length front) refl) b;
       no_further = further front after h;
-    }))
+    })
 
 join_front : (pairs front more : List ℕ) (c : ℕ) → ((123 ∷ (pairs ++ front)) ++ c ∷ []) ++ more ≡ 123 ∷ (pairs ++ (front ++ c ∷ more))
 join_front pairs front more c = simp append_assoc
@@ -119,43 +113,44 @@ past_same : (front : List ℕ) (c : ℕ) (others more : List ℕ) → IsErr (pas
 past_same [] c others more h = past_first 125 c others more h
 past_same (x ∷ front) c others more h = past_first 125 x (front ++ c ∷ others) (front ++ c ∷ more) h
 
+-- behind pairs with commas, where with this byte every walk is refused
+stops_after : (text : List ℕ) (labels : List Label) (front after : List ℕ) (left : ℕ) → HasPairs text labels (front ++ after) → length after ≡ left → BeginsASet (123 ∷ (commas labels ++ front))
+    → ((c : ℕ) (others behind : List ℕ) → after ≡ c ∷ others → IsErr (walk_at (123 ∷ (commas labels ++ (front ++ c ∷ behind)))).1) → GoesOnTo text (length text - left)
+stops_after text labels front after left p left_is b bad =
+    reaches text (123 ∷ (commas labels ++ front)) after left (p.begins ∙ ap (λ t. 123 ∷ t) (sym (append_assoc (commas labels) front after))) left_is b
+    (λ c others g. no_beginning ((123 ∷ (commas labels ++ front)) ++ c ∷ []) (λ behind. rw (join_front (commas labels) front behind c) (bad c others behind g)))
+
 -- within a pair
-in_pair_reaches : (text inside : List ℕ) (labels : List Label) (pair : List ℕ) (left : ℕ) → text ≡ 123 ∷ inside → IsErr (past 125 inside) → inside ≡ commas labels ++ pair → ArePairs labels → repeats (name_at pair ∷ names_of labels) ≡ false
-    → Stops pair_at (HasName (name_at pair) (fresh labels)) pair left → Reaches text (length text - left)
+in_pair_reaches : (text : List ℕ) (labels : List Label) (pair : List ℕ) (left : ℕ) → HasPairs text labels pair → (labels ≡ [] → IsErr (past 125 pair)) → repeats (name_at pair ∷ names_of labels) ≡ false
+    → Stops pair_at (HasName (name_at pair) (fresh labels)) pair left → GoesOnTo text (length text - left)
 unfolding repeats
-in_pair_reaches text inside labels pair left shape closed whole are once s =
+in_pair_reaches text labels pair left p closed once s =
     let more = s.so_far in
     let found : s.front ++ more.0 ≡ pair_text more.1.0 = pair_found (s.front ++ more.0) more.1.0 more.1.1 more.2 ∙ ap (λ t. pair_text more.1.0 ++ t) more.3.0 ∙ append-nil (pair_text more.1.0) in
     let new : repeats (more.1.0.name ∷ names_of labels) ≡ false = elim more.3.1 [
-      | inl own ↦ ap (λ n. repeats (n ∷ names_of labels)) own ∙ once
-      | inr its ↦ ap (λ n. repeats (n ∷ names_of labels)) its ∙ fresh_new labels (or_parts (is_among (names_of labels) (name_at pair)) (repeats (names_of labels)) once).1
+      | inl own ↦ rw (own, once)
+      | inr its ↦ rw its (fresh_new labels (or_parts (is_among (names_of labels) (name_at pair)) (repeats (names_of labels)) once).1)
     ] in
-    let front : List ℕ = 123 ∷ (commas labels ++ s.front) in
-    reaches text front s.after left (shape ∙ ap (λ t. 123 ∷ t) (whole ∙ ap (λ t. commas labels ++ t) s.whole ∙ sym (append_assoc (commas labels) s.front s.after))) s.left_is
-    (begun_pair labels more.1.0 s.front more.0 are (pair_written (s.front ++ more.0) more.1.0 more.1.1 more.2) new found)
-    (λ c others g. no_beginning (front ++ c ∷ []) (λ behind.
+    stops_after text labels s.front s.after left (subst (HasPairs text labels) s.whole p) s.left_is
+    (begun_pair labels more.1.0 s.front more.0 p.lawful (pair_written (s.front ++ more.0) more.1.0 more.1.1 more.2) new found)
+    (λ c others behind g.
     let other : List ℕ = s.front ++ c ∷ behind in
-    let unclosed : labels ≡ [] → IsErr (past 125 other) = λ none.
-    past_same s.front c others behind (subst (λ t. IsErr (past 125 t)) (whole ∙ ap (λ ls. commas ls ++ pair) none ∙ s.whole ∙ ap (λ t. s.front ++ t) g) closed) in
-    let walk = walk_goes_on labels other are unclosed in
-    subst (λ t. IsErr (walk_at t).1) (sym (join_front (commas labels) s.front behind c))
-    (subst (λ (w : Walk). IsErr w.1) (sym walk.1) (on_pair_bad (pairs_at walk.0) other (pair_at other) (s.here c others behind g)))))
+    let walk = walk_goes_on labels other p.lawful (λ none. past_same s.front c others behind (subst (λ t. IsErr (past 125 t)) (s.whole ∙ ap (λ t. s.front ++ t) g) (closed none))) in
+    rw walk.1 (on_pair_bad (pairs_at walk.0) other (pair_at other) (s.here c others behind g)))
 
 -- behind a pair
-behind_reaches : (text inside : List ℕ) (labels : List Label) (rest : List ℕ) → text ≡ 123 ∷ inside → BehindPairs inside labels rest → IsErr (past 44 rest) → IsErr (past 125 rest) → repeats (names_of labels) ≡ false → Reaches text (length text - length rest)
+behind_reaches : (text : List ℕ) (labels : List Label) (stop : LabelRefusal × List ℕ) (s : StopsBehind text labels stop) → repeats (names_of labels) ≡ false → GoesOnTo text (length text - length s.rest)
 unfolding end_at
-behind_reaches text inside labels rest shape b no_comma no_end once =
-    let pairs : List ℕ = commas b.front ++ pair_text b.last in
-    let front : List ℕ = 123 ∷ pairs in
-    reaches text front rest (length rest) (shape ∙ ap (λ t. 123 ∷ t) (b.whole ∙ sym (append_assoc (commas b.front) (pair_text b.last) rest))) refl
+behind_reaches text labels stop s once =
+    let b = s.behind in
+    stops_after text b.front (pair_text b.last) s.rest (length s.rest) b.pairs refl
     (subst (λ t. BeginsASet (123 ∷ t)) (ap pairs_text b.labels_are ∙ pairs_and_last b.front b.last) (begun labels b.lawful once))
-    (λ c others g. no_beginning (front ++ c ∷ []) (λ behind.
-    let first : (byte : ℕ) → IsErr (past byte rest) → IsErr (past byte (c ∷ behind)) = λ byte bad. past_first byte c others behind (subst (λ t. IsErr (past byte t)) g bad) in
-    subst (λ t. IsErr (walk_at t).1) (sym (join_front (commas b.front) (pair_text b.last) behind c))
-    (subst (λ (w : Walk). IsErr w.1) (sym (walk_ends_behind b.front b.last (c ∷ behind) (subst ArePairs b.labels_are b.lawful) (first 44 no_comma))) (end_bad (c ∷ behind) (past 125 (c ∷ behind)) (first 125 no_end)))))
+    (λ c others behind g.
+    let first : (byte : ℕ) → IsErr (past byte s.rest) → IsErr (past byte (c ∷ behind)) = λ byte bad. past_first byte c others behind (subst (λ t. IsErr (past byte t)) g bad) in
+    rw (walk_ends_behind b.front b.last (c ∷ behind) (subst ArePairs b.labels_are b.lawful) (first 44 s.no_comma)) (end_bad (c ∷ behind) (past 125 (c ∷ behind)) (first 125 s.no_end)))
 
 -- at the start of a text without the opening brace
-start_reaches : (text : List ℕ) → IsErr (past 123 text) → Reaches text (length text - length text)
+start_reaches : (text : List ℕ) → IsErr (past 123 text) → GoesOnTo text (length text - length text)
 unfolding set_text repeats pairs_text
 start_reaches text bad =
     reaches text [] text (length text) refl refl (shorter_begins [] (123 ∷ []) (begun [] (λ k d lt. absurd (omega arith)) refl))
@@ -167,72 +162,71 @@ abbrev Cause : List ℕ → LabelRefusal → Type 0
 Cause text EmptyName = LacksName text
 Cause text EmptyValue = LacksValue text
 Cause text Repeated = RepeatsName text
-Cause text (BadText place) = Reaches text place
+Cause text (BadText place) = GoesOnTo text place
 Cause text NoMemory = ⊥
 
 name_of_pair : (l : Label) (rest : List ℕ) → (is_name l.name ≡ true) × (l.value ≢ []) → name_at (pair_text l ++ rest) ≡ l.name
 name_of_pair l rest one = sym (pair_steps (pair_text l ++ rest) l rest (pair_again l rest one.0 one.1)).name_is
 
 -- a name that stands twice among whole pairs
-repeated_pairs : (text inside : List ℕ) (labels : List Label) (rest : List ℕ) → text ≡ 123 ∷ inside → BehindPairs inside labels rest → repeats (names_of labels) ≡ true → RepeatsName text
-repeated_pairs text inside labels rest shape b t =
+repeated_pairs : (text : List ℕ) (labels : List Label) (rest : List ℕ) → BehindPairs text labels rest → repeats (names_of labels) ≡ true → RepeatsName text
+repeated_pairs text labels rest b t =
     let parts = All-pop (λ (l : Label). (is_name l.name ≡ true) × (l.value ≢ [])) labels b.front (Some b.last) b.labels_are b.lawful in
     record {
       listed = b.front;
       after = pair_text b.last ++ rest;
-      pairs = record { begins = shape ∙ ap (λ t. 123 ∷ t) b.whole; lawful = parts.0 };
-      again = ap (λ n. repeats (n ∷ names_of b.front)) (name_of_pair b.last rest parts.1) ∙ sym (repeats-last b.front b.last) ∙ ap (λ ls. repeats (names_of ls)) (sym b.labels_are) ∙ t;
+      pairs = b.pairs;
+      again = rw (name_of_pair b.last rest parts.1, ← repeats-last b.front b.last, ← b.labels_are, t);
     }
 
 -- where a walk stopped and no name stands twice
-stop_cause : (text : List ℕ) (labels : List Label) (inside pair : List ℕ) (d : LabelRefusal) → text ≡ 123 ∷ inside → IsErr (past 125 inside) → inside ≡ commas labels ++ pair → ArePairs labels → repeats (name_at pair ∷ names_of labels) ≡ false
+stop_cause : (text : List ℕ) (labels : List Label) (pair : List ℕ) (d : LabelRefusal) → HasPairs text labels pair → (labels ≡ [] → IsErr (past 125 pair)) → repeats (name_at pair ∷ names_of labels) ≡ false
     → PairRefused (fresh labels) pair d → Cause text (placed_at (length text) d)
 unfolding placed_at name_at name_length
-stop_cause text labels inside pair EmptyName shape closed whole are once why = record {
+stop_cause text labels pair EmptyName p closed once why = record {
   listed = labels;
   after = why.0;
-  pairs = record { begins = shape ∙ ap (λ t. 123 ∷ t) (whole ∙ ap (λ t. commas labels ++ t) why.1); lawful = are };
-  once = sym (repeats-nameless labels are) ∙ ap (λ t. repeats (name_at t ∷ names_of labels)) (sym why.1) ∙ once;
+  pairs = subst (HasPairs text labels) why.1 p;
+  once = sym (repeats-nameless labels p.lawful) ∙ ap (λ t. repeats (name_at t ∷ names_of labels)) (sym why.1) ∙ once;
 }
-stop_cause text labels inside pair EmptyValue shape closed whole are once why = record {
+stop_cause text labels pair EmptyValue p closed once why = record {
   listed = labels;
   name = name_at pair;
   after = why.0;
-  pairs = record {
-    begins = shape ∙ ap (λ t. 123 ∷ t) (whole ∙ ap (λ t. commas labels ++ t) (why.1 ∙ sym (append_assoc (name_at pair) (61 ∷ 34 ∷ 34 ∷ []) why.0)));
-    lawful = are;
-  };
+  pairs = subst (HasPairs text labels) (why.1 ∙ sym (append_assoc (name_at pair) (61 ∷ 34 ∷ 34 ∷ []) why.0)) p;
   named = why.2;
   once = once;
 }
-stop_cause text labels inside pair Repeated shape closed whole are once why = absurd why
-stop_cause text labels inside pair (BadText left) shape closed whole are once why = in_pair_reaches text inside labels pair left shape closed whole are once why
-stop_cause text labels inside pair NoMemory shape closed whole are once why = absurd why
+stop_cause text labels pair Repeated p closed once why = absurd why
+stop_cause text labels pair (BadText left) p closed once why = in_pair_reaches text labels pair left p closed once why
+stop_cause text labels pair NoMemory p closed once why = absurd why
 
 -- where a walk behind the opening brace came to its end
 braces_cause : (text : List ℕ) (labels : List Label) (end : Result (List ℕ) (LabelRefusal × List ℕ)) (e : LabelRefusal) → InBraces text labels end → conclusion (length text) labels end ≡ Err e → Cause text e
 unfolding conclusion name_at name_length placed_at
 braces_cause text labels (Ok after) e b h = elim (cond_is (repeats (names_of labels)) (Err Repeated) (Ok (in_order has_lesser_name labels, length text - length after)) (Err e) h) [
-  | inl t ↦ subst (Cause text) (err_is Repeated e t.1) (repeated_pairs text b.inside labels (125 ∷ after) b.whole b.ends t.0)
+  | inl t ↦ subst (Cause text) (err_is Repeated e t.1) (repeated_pairs text labels (125 ∷ after) b.1 t.0)
   | inr f ↦ absurd (true≢false (sym (ap is_err f.1)))
 ]
-braces_cause text labels (Err stop) e b h = elim (cond_is (repeats (name_at stop.1 ∷ names_of labels)) (Err Repeated) (Err (placed_at (length text) stop.0)) (Err e) h) [
-  | inl t ↦ subst (Cause text) (err_is Repeated e t.1) (elim b.ends [
-    | inl s ↦ record { listed = labels; after = stop.1; pairs = record { begins = b.whole ∙ ap (λ t. 123 ∷ t) s.whole; lawful = s.lawful }; again = t.0 }
-    | inr s ↦ repeated_pairs text b.inside labels s.rest b.whole s.pairs (sym (repeats-nameless labels s.pairs.lawful) ∙ ap (λ x. repeats (name_at x.1 ∷ names_of labels)) (sym s.stop_is) ∙ t.0)
-  ])
-  | inr f ↦ subst (Cause text) (err_is (placed_at (length text) stop.0) e f.1) (elim b.ends [
-    | inl s ↦ stop_cause text labels b.inside stop.1 stop.0 b.whole b.unclosed s.whole s.lawful f.0 (pair_refused (fresh labels) stop.1 stop.0 (fresh_named labels) s.refused)
-    | inr s ↦ subst (λ (x : LabelRefusal × List ℕ). Cause text (placed_at (length text) x.0)) (sym s.stop_is)
-        (behind_reaches text b.inside labels s.rest b.whole s.pairs s.no_comma s.no_end (sym (repeats-nameless labels s.pairs.lawful) ∙ ap (λ x. repeats (name_at x.1 ∷ names_of labels)) (sym s.stop_is) ∙ f.0))
-  ])
-]
+braces_cause text labels (Err stop) e b h =
+    let whole : StopsBehind text labels stop → repeats (names_of labels) ≡ repeats (name_at stop.1 ∷ names_of labels) = λ s. sym (repeats-nameless labels s.behind.lawful) ∙ ap (λ x. repeats (name_at x.1 ∷ names_of labels)) (sym s.stop_is) in
+    elim (cond_is (repeats (name_at stop.1 ∷ names_of labels)) (Err Repeated) (Err (placed_at (length text) stop.0)) (Err e) h) [
+      | inl t ↦ subst (Cause text) (err_is Repeated e t.1) (elim b.1 [
+        | inl s ↦ record { listed = labels; after = stop.1; pairs = s.0; again = t.0 }
+        | inr s ↦ repeated_pairs text labels s.rest s.behind (whole s ∙ t.0)
+      ])
+      | inr f ↦ subst (Cause text) (err_is (placed_at (length text) stop.0) e f.1) (elim b.1 [
+        | inl s ↦ stop_cause text labels stop.1 stop.0 s.0 (λ none. subst (λ ls. IsErr (past 125 (commas ls ++ stop.1))) none (b.0 (commas labels ++ stop.1) s.0.begins)) f.0
+            (pair_refused (fresh labels) stop.1 stop.0 (fresh_named labels) s.1)
+        | inr s ↦ subst (λ (x : LabelRefusal × List ℕ). Cause text (placed_at (length text) x.0)) (sym s.stop_is) (behind_reaches text labels stop s (whole s ∙ f.0))
+      ])
+    ]
 
 walk_cause : (text : List ℕ) (w : Walk) (e : LabelRefusal) → IsWalk text w → conclusion (length text) w.0 w.1 ≡ Err e → Cause text e
 unfolding conclusion stopped_at placed_at repeats name_at name_length is_among
 walk_cause text w e (inl stop) h =
-    subst (Cause text) (err_is (BadText (length text - length text)) e (ap (λ (w : Walk). conclusion (length text) w.0 w.1) (sym stop.1) ∙ h)) (start_reaches text stop.0)
-walk_cause text w e (inr (inl empty)) h = absurd (true≢false (sym (ap is_err (ap (λ (w : Walk). conclusion (length text) w.0 w.1) (sym empty.2) ∙ h))))
+    subst (Cause text) (err_is (BadText (length text - length text)) e (rw stop.1 at h)) (start_reaches text stop.0)
+walk_cause text w e (inr (inl empty)) h = absurd (true≢false (sym (ap is_err (rw empty.2 at h))))
 walk_cause text w e (inr (inr braces)) h = braces_cause text w.0 w.1 e braces h
 
 cause_of : (text : List ℕ) (e : LabelRefusal) → read_set text ≡ Err e → Cause text e
@@ -246,23 +240,20 @@ unfolding read_set
 concluded_as text w r e h = ap (λ (w : Walk). conclusion (length text) w.0 w.1) e ∙ h
 
 -- a pair that is refused behind others
-refused_behind : (text : List ℕ) (labels : List Label) (pair : List ℕ) (d : LabelRefusal) → text ≡ 123 ∷ (commas labels ++ pair) → ArePairs labels → (labels ≡ [] → IsErr (past 125 pair)) → pair_at pair ≡ Err d
+refused_behind : (text : List ℕ) (labels : List Label) (pair : List ℕ) (d : LabelRefusal) → HasPairs text labels pair → (labels ≡ [] → IsErr (past 125 pair)) → pair_at pair ≡ Err d
     → read_set text ≡ cond (repeats (name_at pair ∷ names_of labels)) (Err Repeated) (Err (placed_at (length text) d))
 unfolding on_pair conclusion
-refused_behind text labels pair d shape are unclosed h =
-    let w = walk_goes_on labels pair are unclosed in
+refused_behind text labels pair d p unclosed h =
+    let w = walk_goes_on labels pair p.lawful unclosed in
     concluded_as text (labels, Err (d, pair)) (cond (repeats (name_at pair ∷ names_of labels)) (Err Repeated) (Err (placed_at (length text) d)))
-    (ap walk_at shape ∙ w.1 ∙ ap (λ (x : Walk). (labels ++ x.0, x.1)) (ap (on_pair (pairs_at w.0) pair) h) ∙ ap (λ ls. (ls, Err (d, pair))) (append-nil labels)) refl
-
-not_refused : {A : Type 0} (b : Bool) (d e : LabelRefusal) → b ≡ false → ◌≡◌ {A = Result A LabelRefusal} (cond b (Err d) (Err e)) (Err e)
-not_refused b d e f = ap (λ b. cond b (Err d) (Err e)) f
+    (rw (p.begins, w.1, h, append-nil labels)) refl
 
 -- the equals sign, and the empty value
 lacks_name_again : (text : List ℕ) → LacksName text → read_set text ≡ Err EmptyName
 unfolding placed_at name_at name_length pair_at past after_equals after_quote with_value
 lacks_name_again text t =
-    refused_behind text t.listed (61 ∷ t.after) EmptyName t.pairs.begins t.pairs.lawful (λ none. refl) refl
-    ∙ not_refused (repeats ([] ∷ names_of t.listed)) Repeated EmptyName (repeats-nameless t.listed t.pairs.lawful ∙ t.once)
+    refused_behind text t.listed (61 ∷ t.after) EmptyName t.pairs (λ none. refl) refl
+    ∙ rw (repeats-nameless t.listed t.pairs.lawful ∙ t.once)
 
 named_at : (name rest : List ℕ) → is_name name ≡ true → name_at (name ++ 61 ∷ rest) ≡ name
 unfolding name_at
@@ -272,36 +263,32 @@ lacks_value_again : (text : List ℕ) → LacksValue text → read_set text ≡ 
 unfolding placed_at past after_quote with_value value_at
 lacks_value_again text t =
     let pair : List ℕ = t.name ++ 61 ∷ 34 ∷ 34 ∷ t.after in
-    refused_behind text t.listed pair EmptyValue (t.pairs.begins ∙ ap (λ x. 123 ∷ (commas t.listed ++ x)) (append_assoc t.name (61 ∷ 34 ∷ 34 ∷ []) t.after)) t.pairs.lawful
+    refused_behind text t.listed pair EmptyValue (subst (HasPairs text t.listed) (append_assoc t.name (61 ∷ 34 ∷ 34 ∷ []) t.after) t.pairs)
     (λ none. begins_no_end t.name (61 ∷ 34 ∷ 34 ∷ t.after) t.named) (pair_named pair t.name (34 ∷ 34 ∷ t.after) t.named refl)
-    ∙ not_refused (repeats (name_at pair ∷ names_of t.listed)) Repeated EmptyValue (ap (λ n. repeats (n ∷ names_of t.listed)) (named_at t.name (34 ∷ 34 ∷ t.after) t.named) ∙ t.once)
+    ∙ rw (named_at t.name (34 ∷ 34 ∷ t.after) t.named, t.once)
 
 -- a name that stands twice among what was read is refused whatever the end
 repeated_whole : (total : ℕ) (labels : List Label) (end : Result (List ℕ) (LabelRefusal × List ℕ)) → repeats (names_of labels) ≡ true → conclusion total labels end ≡ Err Repeated
 unfolding conclusion repeats
-repeated_whole total labels (Ok after) t = ap (λ b. cond b (Err Repeated) (Ok (in_order has_lesser_name labels, total - length after))) t
-repeated_whole total labels (Err stop) t =
-    ap (λ b. cond b (Err Repeated) (Err (placed_at total stop.0))) (ap (λ b. is_among (names_of labels) (name_at stop.1) || b) t ∙ or-true (is_among (names_of labels) (name_at stop.1)))
+repeated_whole total labels (Ok after) t = rw t
+repeated_whole total labels (Err stop) t = rw (t, or-true (is_among (names_of labels) (name_at stop.1)))
 
-repeated_pair : (text : List ℕ) (labels : List Label) (pair : List ℕ) (r : Result (Label × List ℕ) LabelRefusal) → pair_at pair ≡ r → text ≡ 123 ∷ (commas labels ++ pair) → ArePairs labels → (labels ≡ [] → IsErr (past 125 pair))
+repeated_pair : (text : List ℕ) (labels : List Label) (pair : List ℕ) (r : Result (Label × List ℕ) LabelRefusal) → pair_at pair ≡ r → HasPairs text labels pair → (labels ≡ [] → IsErr (past 125 pair))
     → repeats (name_at pair ∷ names_of labels) ≡ true → read_set text ≡ Err Repeated
 unfolding on_pair with_label
-repeated_pair text labels pair (Err d) h shape are unclosed t = refused_behind text labels pair d shape are unclosed h ∙ ap (λ b. cond b (Err Repeated) (Err (placed_at (length text) d))) t
-repeated_pair text labels pair (Ok read) h shape are unclosed t =
-    let w = walk_goes_on labels pair are unclosed in
+repeated_pair text labels pair (Err d) h p unclosed t = refused_behind text labels pair d p unclosed h ∙ rw t
+repeated_pair text labels pair (Ok read) h p unclosed t =
+    let w = walk_goes_on labels pair p.lawful unclosed in
     let more : Walk = after_pair (pairs_at w.0) read.1 in
-    let once : repeats (names_of (labels ++ read.0 ∷ [])) ≡ true = repeats-last labels read.0 ∙ ap (λ n. repeats (n ∷ names_of labels)) (pair_steps pair read.0 read.1 h).name_is ∙ t in
+    let once : repeats (names_of (labels ++ read.0 ∷ [])) ≡ true = rw (repeats-last labels read.0, (pair_steps pair read.0 read.1 h).name_is, t) in
     concluded_as text (labels ++ read.0 ∷ more.0, more.1) (Err Repeated)
-    (ap walk_at shape ∙ w.1 ∙ ap (λ (x : Walk). (labels ++ x.0, x.1)) (ap (on_pair (pairs_at w.0) pair) h))
+    (rw (p.begins, w.1, h))
     (repeated_whole (length text) (labels ++ read.0 ∷ more.0) more.1
     (ap (λ ls. repeats (names_of ls)) (sym (append_assoc labels (read.0 ∷ []) more.0)) ∙ repeats-more (labels ++ read.0 ∷ []) more.0 once))
 
-nothing_repeats : (labels : List Label) (name : List ℕ) → repeats (name ∷ names_of labels) ≡ true → labels ≡ [] → ⊥
-unfolding repeats is_among
-nothing_repeats labels name t none = true≢false (sym t ∙ ap (λ ls. repeats (name ∷ names_of ls)) none)
-
 repeats_again : (text : List ℕ) → RepeatsName text → read_set text ≡ Err Repeated
-repeats_again text t = repeated_pair text t.listed t.after (pair_at t.after) refl t.pairs.begins t.pairs.lawful (λ none. absurd (nothing_repeats t.listed (name_at t.after) t.again none)) t.again
+unfolding repeats is_among
+repeats_again text t = repeated_pair text t.listed t.after (pair_at t.after) refl t.pairs (λ none. absurd (true≢false (sym (rw none at t.again)))) t.again
 
 -- ---- the laws
 
@@ -309,15 +296,13 @@ repeats_again text t = repeated_pair text t.listed t.after (pair_at t.after) ref
 one_refusal : {A : Type 0} (d e : LabelRefusal) (r : Result A LabelRefusal) → r ≡ Err d → r ≡ Err e → d ≡ e
 one_refusal d e r h k = err_is d e (sym h ∙ k)
 
-stops_from : (text : List ℕ) (place : ℕ) → read_set text ≡ Err (BadText place) → Reaches text place → StopsAt text place
+stops_from : (text : List ℕ) (place : ℕ) → read_set text ≡ Err (BadText place) → GoesOnTo text place → StopsAt text place
 stops_from text place h r = record {
-  within = r.within;
-  so_far = r.so_far;
-  no_further = r.no_further;
+  goes_on = r;
   no_set = λ front after set is e. ok_not_err (set, length front) (BadText place) (read_set text) (ap read_set e ∙ set_text_again front after set is) h;
-  no_lack = λ t. let e = one_refusal EmptyName (BadText place) (read_set text) (lacks_name_again text t) h in absurd cc;
-  no_empty = λ t. let e = one_refusal EmptyValue (BadText place) (read_set text) (lacks_value_again text t) h in absurd cc;
-  no_repeat = λ t. let e = one_refusal Repeated (BadText place) (read_set text) (repeats_again text t) h in absurd cc;
+  no_lack = λ t. absurd (cc (sym (lacks_name_again text t) ∙ h));
+  no_empty = λ t. absurd (cc (sym (lacks_value_again text t) ∙ h));
+  no_repeat = λ t. absurd (cc (sym (repeats_again text t) ∙ h));
 }
 
 -- each refusal has its cause
@@ -333,7 +318,7 @@ begins_before text p q l b =
     let cut : take q text ≡ take p text ++ drop p (take q text) = sym (take-append-drop p (take q text)) ∙ ap (λ t. t ++ drop p (take q text)) (take-take p q text l) in
     shorter_begins (take p text) (drop p (take q text)) (subst BeginsASet cut b)
 
-same_place : (text : List ℕ) (p q : ℕ) → StopsAt text p → StopsAt text q → p ≡ q
+same_place : (text : List ℕ) (p q : ℕ) → GoesOnTo text p → GoesOnTo text q → p ≡ q
 same_place text p q s r = elim (cases_order p q) [
   | inl same ↦ same
   | inr differs ↦ elim differs [
@@ -347,7 +332,7 @@ stop_again text place (Ok read) s h = absurd (s.no_set (take read.1 text) (drop 
 stop_again text place (Err EmptyName) s h = absurd (s.no_lack (refused_is text EmptyName h))
 stop_again text place (Err EmptyValue) s h = absurd (s.no_empty (refused_is text EmptyValue h))
 stop_again text place (Err Repeated) s h = absurd (s.no_repeat (refused_is text Repeated h))
-stop_again text place (Err (BadText other)) s h = ap (λ p. Err (BadText p)) (same_place text other place (refused_is text (BadText other) h) s)
+stop_again text place (Err (BadText other)) s h = ap (λ p. Err (BadText p)) (same_place text other place (cause_of text (BadText other) h) s.goes_on)
 stop_again text place (Err NoMemory) s h = absurd (refused_is text NoMemory h)
 
 -- and each cause its refusal

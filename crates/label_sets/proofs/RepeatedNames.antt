@@ -1,5 +1,5 @@
 -- Names that stand twice among labels, before and after the labels are put in order.
-use Rattle.std.proofs.Common.{◌≡◌, ◌≢◌, ℕ, zero, suc, ◌+◌, ◌-◌, ◌<◌, ◌≤◌, Bool, true, false, cond, ◌||◌, List, [], ◌∷◌, ◌++◌, length, get_or, refl, sym, ap, ◌∙◌, subst, arith}
+use Rattle.std.proofs.Common.{◌≡◌, ◌≢◌, ℕ, zero, suc, ◌+◌, ◌-◌, ◌<◌, ◌≤◌, Bool, true, false, cond, ◌||◌, List, [], ◌∷◌, ◌++◌, length, get_or, refl, sym, ap, ◌∙◌, subst, arith, inl, inr}
 use Rattle.list_core.proofs.Bools.{or_swap}
 use Rattle.list_core.proofs.Options.{None-from_is_some}
 use Rattle.std.proofs.Math.Bool.{or-true}
@@ -9,7 +9,8 @@ use Rattle.std.specs.Str.{bytes_eq}
 use Rattle.std.specs.List.{list_any}
 use Rattle.std.specs.List.Sorted.{IsSortedBy}
 use Rattle.std.specs.Option.{is_some}
-use Rattle.std.proofs.lemmas.Bool.{true≢false, or_parts, or_left, or_from}
+use Rattle.std.proofs.lemmas.Bool.{true≢false, cases_Bool, or_parts}
+use Rattle.std.proofs.lemmas.List.Folds.{list_any-append}
 use Rattle.std.proofs.lemmas.List.Sorted.{ranks_by}
 use Rattle.std.proofs.lemmas.List.{get_or_default}
 use Rattle.label_sets.specs.declared.label.Label.{Label}
@@ -18,8 +19,8 @@ use Rattle.label_sets.specs.Ordered.{placed, in_order}
 use Rattle.label_sets.specs.Finals.{is_among}
 use Rattle.label_sets.specs.Notation.{is_name, repeats}
 use Rattle.label_sets.specs.SetText.{ArePairs}
-use Rattle.label_sets.proofs.LabelValues.{by_bool, by_ordering, before_differs, before_trans, bytes_eq_differs, same_text}
-use Rattle.label_sets.proofs.OrderedLabels.{value_of-in_order}
+use Rattle.label_sets.proofs.LabelValues.{by_ordering, before_differs, before_trans, bytes_eq_differs, same_text}
+use Rattle.label_sets.proofs.OrderedLabels.{value_of-placed, value_of-in_order}
 use Rattle.label_sets.proofs.FinalLabels.{among_names}
 use Rattle.list_core.proofs.StableSorts.{NoneLess, Rises, Rises-from_sorted}
 
@@ -33,11 +34,8 @@ pub repeats_at : (labels : List Label) (k : ℕ) (d : Label) → suc k < length 
 unfolding repeats is_among
 repeats_at [] k d l e = absurd (omega arith)
 repeats_at (x ∷ []) k d l e = absurd (omega arith)
-repeats_at (x ∷ y ∷ ys) zero d l e =
-    or_left (is_among (names_of (y ∷ ys)) x.name) (repeats (names_of (y ∷ ys)))
-    (or_left (bytes_eq y.name x.name) (is_among (names_of ys) x.name) ((bytes_decides y.name x.name).1 (sym ((bytes_decides x.name y.name).0 e))))
-repeats_at (x ∷ y ∷ ys) (suc k) d l e =
-    ap (λ b. is_among (names_of (y ∷ ys)) x.name || b) (repeats_at (y ∷ ys) k d (omega arith) e) ∙ or-true (is_among (names_of (y ∷ ys)) x.name)
+repeats_at (x ∷ y ∷ ys) zero d l e = rw ((bytes_decides y.name x.name).1 (sym ((bytes_decides x.name y.name).0 e)))
+repeats_at (x ∷ y ∷ ys) (suc k) d l e = rw (repeats_at (y ∷ ys) k d (omega arith) e, or-true (is_among (names_of (y ∷ ys)) x.name))
 
 not_less : (one other : List ℕ) → is_lt (compare_texts one other) ≡ false → ComesBefore one other → ⊥
 not_less one other f b = true≢false (sym (ap is_lt b) ∙ f)
@@ -58,9 +56,7 @@ still_before a b c p f = by_ordering (compare_texts b c)
 not_among_later : (name : List ℕ) (y : Label) (ys : List Label) → ComesBefore name y.name → NoneLess has_lesser_name y ys → is_among (names_of ys) name ≡ false
 unfolding is_among
 not_among_later name y [] b n = refl
-not_among_later name y (w ∷ ws) b n = or_from (bytes_eq w.name name) (is_among (names_of ws) name)
-    (bytes_eq_differs w.name name (λ e. before_differs name w.name (still_before name y.name w.name b n.0) (sym e)))
-    (not_among_later name y ws b n.1)
+not_among_later name y (w ∷ ws) b n = rw (bytes_eq_differs w.name name (λ e. before_differs name w.name (still_before name y.name w.name b n.0) (sym e)), not_among_later name y ws b n.1)
 
 no_repeats : (labels : List Label) → Rises has_lesser_name labels → ((k : ℕ) (d : Label) → suc k < length labels → bytes_eq (get_or labels k d).name (get_or labels (suc k) d).name ≡ false) → repeats (names_of labels) ≡ false
 unfolding repeats is_among
@@ -68,9 +64,7 @@ no_repeats [] r h = refl
 no_repeats (x ∷ []) r h = refl
 no_repeats (x ∷ y ∷ ys) r h =
     let b : ComesBefore x.name y.name = goes_after x.name y.name r.0.0 (h 0 x (omega arith)) in
-    or_from (is_among (names_of (y ∷ ys)) x.name) (repeats (names_of (y ∷ ys)))
-    (or_from (bytes_eq y.name x.name) (is_among (names_of ys) x.name) (bytes_eq_differs y.name x.name (λ e. before_differs x.name y.name b (sym e))) (not_among_later x.name y ys b r.1.0))
-    (no_repeats (y ∷ ys) r.1 (λ k d l. h (suc k) d (omega arith)))
+    rw (bytes_eq_differs y.name x.name (λ e. before_differs x.name y.name b (sym e)), not_among_later x.name y ys b r.1.0, no_repeats (y ∷ ys) r.1 (λ k d l. h (suc k) d (omega arith)))
 
 pub no_repeats-sorted : (labels : List Label) → IsSortedBy has_lesser_name labels → ((k : ℕ) (d : Label) → suc k < length labels → bytes_eq (get_or labels k d).name (get_or labels (suc k) d).name ≡ false) → repeats (names_of labels) ≡ false
 no_repeats-sorted labels up h = no_repeats labels (Rises-from_sorted has_lesser_name (ranks_by nat_list_cmp_total (λ (l : Label). l.name)) labels up) h
@@ -95,24 +89,21 @@ middle_or true b c d = refl
 middle_or false true c d = sym (or-true c)
 middle_or false false c d = refl
 
-same_either_way : (one other : List ℕ) → bytes_eq one other ≡ bytes_eq other one
-same_either_way one other = nat_list_eq_equiv.symm one other
+among-placed : (l : Label) (ls : List Label) (name : List ℕ) → is_among (names_of (placed has_lesser_name l ls)) name ≡ is_among (names_of (l ∷ ls)) name
+among-placed l ls name = among_names (placed has_lesser_name l ls) name ∙ ap is_some (value_of-placed l ls name) ∙ sym (among_names (l ∷ ls) name)
 
-among-placed : (l : Label) (ls : List Label) (name : List ℕ) → is_among (names_of (placed has_lesser_name l ls)) name ≡ (bytes_eq l.name name || is_among (names_of ls) name)
-unfolding placed is_among
-among-placed l [] name = refl
-among-placed l (m ∷ ms) name = elim (has_lesser_name m l) as (λ b. is_among (names_of (cond b (m ∷ placed has_lesser_name l ms) (l ∷ m ∷ ms))) name ≡ (bytes_eq l.name name || (bytes_eq m.name name || is_among (names_of ms) name))) [
-  | true ↦ ap (λ b. bytes_eq m.name name || b) (among-placed l ms name) ∙ or_swap (bytes_eq m.name name) (bytes_eq l.name name) (is_among (names_of ms) name)
-  | false ↦ refl
-]
+-- the first two may change places
+repeats-swap : (l m : Label) (ls : List Label) → repeats (names_of (m ∷ l ∷ ls)) ≡ repeats (names_of (l ∷ m ∷ ls))
+unfolding repeats is_among
+repeats-swap l m ls =
+    ap (λ b. (b || is_among (names_of ls) m.name) || (is_among (names_of ls) l.name || repeats (names_of ls))) (nat_list_eq_equiv.symm l.name m.name)
+    ∙ middle_or (bytes_eq m.name l.name) (is_among (names_of ls) m.name) (is_among (names_of ls) l.name) (repeats (names_of ls))
 
-repeats-placed : (l : Label) (ls : List Label) → repeats (names_of (placed has_lesser_name l ls)) ≡ (is_among (names_of ls) l.name || repeats (names_of ls))
-unfolding placed repeats is_among
+repeats-placed : (l : Label) (ls : List Label) → repeats (names_of (placed has_lesser_name l ls)) ≡ repeats (names_of (l ∷ ls))
+unfolding placed repeats
 repeats-placed l [] = refl
-repeats-placed l (m ∷ ms) = elim (has_lesser_name m l) as (λ b. repeats (names_of (cond b (m ∷ placed has_lesser_name l ms) (l ∷ m ∷ ms))) ≡ ((bytes_eq m.name l.name || is_among (names_of ms) l.name) || (is_among (names_of ms) m.name || repeats (names_of ms)))) [
-  | true ↦ (λ i. among-placed l ms m.name i || repeats-placed l ms i)
-      ∙ ap (λ b. (b || is_among (names_of ms) m.name) || (is_among (names_of ms) l.name || repeats (names_of ms))) (same_either_way l.name m.name)
-      ∙ middle_or (bytes_eq m.name l.name) (is_among (names_of ms) m.name) (is_among (names_of ms) l.name) (repeats (names_of ms))
+repeats-placed l (m ∷ ms) = elim (has_lesser_name m l) as (λ b. repeats (names_of (cond b (m ∷ placed has_lesser_name l ms) (l ∷ m ∷ ms))) ≡ repeats (names_of (l ∷ m ∷ ms))) [
+  | true ↦ (λ i. among-placed l ms m.name i || repeats-placed l ms i) ∙ repeats-swap l m ms
   | false ↦ refl
 ]
 
@@ -152,11 +143,11 @@ once_from_able (l ∷ ls) able = (λ i. among_names ls l.name i || once_from_abl
 nameless : (labels : List Label) → ArePairs labels → is_among (names_of labels) [] ≡ false
 unfolding is_among
 nameless [] are = refl
-nameless (l ∷ ls) are = or_from (bytes_eq l.name []) (is_among (names_of ls) []) (bytes_eq_differs l.name [] (named_some l.name (are 0 l (omega arith)).0)) (nameless ls (λ k d lt. are (suc k) d (omega arith)))
+nameless (l ∷ ls) are = rw (bytes_eq_differs l.name [] (named_some l.name (are 0 l (omega arith)).0), nameless ls (λ k d lt. are (suc k) d (omega arith)))
 
 pub repeats-nameless : (labels : List Label) → ArePairs labels → repeats ([] ∷ names_of labels) ≡ repeats (names_of labels)
 unfolding repeats is_among
-repeats-nameless labels are = ap (λ b. b || repeats (names_of labels)) (nameless labels are)
+repeats-nameless labels are = rw (nameless labels are)
 
 among-last : (labels : List Label) (l : Label) (name : List ℕ) → is_among (names_of (labels ++ l ∷ [])) name ≡ (bytes_eq l.name name || is_among (names_of labels) name)
 unfolding is_among
@@ -167,33 +158,27 @@ among-last (x ∷ xs) l name = ap (λ b. bytes_eq x.name name || b) (among-last 
 pub repeats-last : (labels : List Label) (l : Label) → repeats (names_of (labels ++ l ∷ [])) ≡ repeats (l.name ∷ names_of labels)
 unfolding repeats is_among
 repeats-last [] l = refl
-repeats-last (x ∷ xs) l =
-    (λ i. among-last xs l x.name i || repeats-last xs l i)
-    ∙ ap (λ b. (b || is_among (names_of xs) x.name) || (is_among (names_of xs) l.name || repeats (names_of xs))) (same_either_way l.name x.name)
-    ∙ middle_or (bytes_eq x.name l.name) (is_among (names_of xs) x.name) (is_among (names_of xs) l.name) (repeats (names_of xs))
-
-either_more : (a b c : Bool) → (a || b) ≡ true → (b ≡ true → c ≡ true) → (a || c) ≡ true
-either_more true b c t h = refl
-either_more false b c t h = h t
+repeats-last (x ∷ xs) l = (λ i. among-last xs l x.name i || repeats-last xs l i) ∙ repeats-swap l x xs
 
 among-more : (labels more : List Label) (name : List ℕ) → is_among (names_of labels) name ≡ true → is_among (names_of (labels ++ more)) name ≡ true
-unfolding is_among
-among-more [] more name t = absurd (true≢false (sym t))
-among-more (x ∷ xs) more name t = either_more (bytes_eq x.name name) (is_among (names_of xs) name) (is_among (names_of (xs ++ more)) name) t (among-more xs more name)
+among-more labels more name t =
+    let has : Label → Bool = λ l. bytes_eq l.name name in
+    sym (among_labels (labels ++ more) name) ∙ list_any-append has labels more ∙ ap (λ b. b || list_any has more) (among_labels labels name ∙ t)
 
 -- what stands twice does so whatever follows
 pub repeats-more : (labels more : List Label) → repeats (names_of labels) ≡ true → repeats (names_of (labels ++ more)) ≡ true
 unfolding repeats
 repeats-more [] more t = absurd (true≢false (sym t))
-repeats-more (x ∷ xs) more t = by_bool (is_among (names_of xs) x.name)
-    (λ here. or_left (is_among (names_of (xs ++ more)) x.name) (repeats (names_of (xs ++ more))) (among-more xs more x.name here))
-    (λ f. ap (λ b. is_among (names_of (xs ++ more)) x.name || b) (repeats-more xs more (ap (λ b. b || repeats (names_of xs)) (sym f) ∙ t)) ∙ or-true (is_among (names_of (xs ++ more)) x.name))
+repeats-more (x ∷ xs) more t = elim (cases_Bool (is_among (names_of xs) x.name)) [
+  | inl here ↦ rw (among-more xs more x.name here)
+  | inr f ↦ rw (repeats-more xs more (rw f at t), or-true (is_among (names_of (xs ++ more)) x.name))
+]
 
 -- the name that is added is among the others, or only the others decide
 pub repeats_found : (labels : List Label) (name : List ℕ) (r : Bool) → r ≡ list_any (λ l. bytes_eq l.name name) labels → r ≡ true → r ≡ repeats (name ∷ names_of labels)
 unfolding repeats
-repeats_found labels name r e t = t ∙ sym (ap (λ b. b || repeats (names_of labels)) (sym (among_labels labels name) ∙ sym e ∙ t))
+repeats_found labels name r e t = t ∙ sym (rw (sym (among_labels labels name) ∙ sym e ∙ t))
 
 pub repeats_others : (labels : List Label) (name : List ℕ) (a r : Bool) → a ≡ list_any (λ l. bytes_eq l.name name) labels → a ≡ false → r ≡ repeats (names_of labels) → r ≡ repeats (name ∷ names_of labels)
 unfolding repeats
-repeats_others labels name a r e f h = h ∙ sym (ap (λ b. b || repeats (names_of labels)) (sym (among_labels labels name) ∙ sym e ∙ f))
+repeats_others labels name a r e f h = h ∙ sym (rw (sym (among_labels labels name) ∙ sym e ∙ f))

@@ -16,7 +16,7 @@ use Rattle.label_sets.specs.declared.label_refusal.LabelRefusal.TheVariants.{Rep
 use Rattle.label_sets.specs.Labels.{names_of, has_lesser_name}
 use Rattle.label_sets.specs.Ordered.{in_order}
 use Rattle.label_sets.specs.SetText.{ArePairs}
-use Rattle.label_sets.specs.SetRefusals.{pair_comma_text}
+use Rattle.label_sets.specs.SetRefusals.{pair_comma_text, HasPairs}
 use Rattle.label_sets.specs.Notation.{is_name, is_name_start, is_name_byte, Walk, past, pair_at, pairs_at, on_pair, with_label, after_pair, at_comma, end_at, at_end, at_brace, after_brace, stopped_at, walk_at, repeats, name_at, name_length, placed_at, conclusion, read_set, pair_text, comma_pair_text, pairs_text, set_text}
 use Rattle.label_sets.proofs.ReadPairs.{past-only, pair_shape}
 use Rattle.label_sets.proofs.ReadSets.{pair_steps}
@@ -84,83 +84,85 @@ pairs_and_last (x ∷ xs) l = ap (λ t. pair_text x ++ t) (comma_after xs l ∙ 
 -- ---- where a walk over pairs ends
 
 -- these pairs, with commas between them, and then the rest
-pub record BehindPairs (inside : List ℕ) (labels : List Label) (rest : List ℕ) : Type 0 where
+pub record BehindPairs (text : List ℕ) (labels : List Label) (rest : List ℕ) : Type 0 where
   pub front : List Label
   pub last : Label
   pub labels_are : labels ≡ front ++ last ∷ []
-  pub whole : inside ≡ flat_map pair_comma_text front ++ (pair_text last ++ rest)
+  pub pairs : HasPairs text front (pair_text last ++ rest)
   pub lawful : ArePairs labels
 
 -- in a pair, before which each has a comma after it
-pub record StopsInPair (inside : List ℕ) (labels : List Label) (stop : LabelRefusal × List ℕ) : Type 0 where
-  pub whole : inside ≡ flat_map pair_comma_text labels ++ stop.1
-  pub refused : pair_at stop.1 ≡ Err stop.0
-  pub lawful : ArePairs labels
+abbrev pub StopsInPair : List ℕ → List Label → LabelRefusal × List ℕ → Type 0
+StopsInPair text labels stop = HasPairs text labels stop.1 × (pair_at stop.1 ≡ Err stop.0)
 
 -- behind a pair, at what is neither a comma nor the closing brace
-pub record StopsBehind (inside : List ℕ) (labels : List Label) (stop : LabelRefusal × List ℕ) : Type 0 where
+pub record StopsBehind (text : List ℕ) (labels : List Label) (stop : LabelRefusal × List ℕ) : Type 0 where
   pub rest : List ℕ
-  pub pairs : BehindPairs inside labels rest
+  pub behind : BehindPairs text labels rest
   pub stop_is : stop ≡ (BadText (length rest), [])
   pub no_comma : IsErr (past 44 rest)
   pub no_end : IsErr (past 125 rest)
 
 abbrev pub WalkEnds : List ℕ → List Label → Result (List ℕ) (LabelRefusal × List ℕ) → Type 0
-WalkEnds inside labels (Ok after) = BehindPairs inside labels (125 ∷ after)
-WalkEnds inside labels (Err stop) = StopsInPair inside labels stop ⊎ StopsBehind inside labels stop
+WalkEnds text labels (Ok after) = BehindPairs text labels (125 ∷ after)
+WalkEnds text labels (Err stop) = StopsInPair text labels stop ⊎ StopsBehind text labels stop
 
-end_ends : (inside : List ℕ) (labels : List Label) (rest : List ℕ) (r : Result (List ℕ) LabelRefusal) → BehindPairs inside labels rest → IsErr (past 44 rest) → past 125 rest ≡ r → WalkEnds inside (labels ++ (at_end rest r).0) (at_end rest r).1
+end_ends : (text : List ℕ) (labels : List Label) (rest : List ℕ) (r : Result (List ℕ) LabelRefusal) → BehindPairs text labels rest → IsErr (past 44 rest) → past 125 rest ≡ r → WalkEnds text (labels ++ (at_end rest r).0) (at_end rest r).1
 unfolding at_end stopped_at
-end_ends inside labels rest (Ok after) b c p = subst (λ ls. BehindPairs inside ls (125 ∷ after)) (sym (append-nil labels)) (subst (BehindPairs inside labels) (past-only 125 rest after p) b)
-end_ends inside labels rest (Err d) b c p = subst (λ ls. WalkEnds inside ls (Err (BadText (length rest), []))) (sym (append-nil labels)) (inr (record { rest = rest; pairs = b; stop_is = refl; no_comma = c; no_end = ap is_err p }))
+end_ends text labels rest (Ok after) b c p = subst (λ ls. BehindPairs text ls (125 ∷ after)) (sym (append-nil labels)) (subst (BehindPairs text labels) (past-only 125 rest after p) b)
+end_ends text labels rest (Err d) b c p = subst (λ ls. WalkEnds text ls (Err (BadText (length rest), []))) (sym (append-nil labels)) (inr (record { rest = rest; behind = b; stop_is = refl; no_comma = c; no_end = ap is_err p }))
 
 -- a walk goes on from what is left, behind these labels
 abbrev GoesOn : (List ℕ → Walk) → List ℕ → ℕ → Type 0
-GoesOn more inside n = (labels : List Label) (next : List ℕ) → length next < n → inside ≡ flat_map pair_comma_text labels ++ next → ArePairs labels → WalkEnds inside (labels ++ (more next).0) (more next).1
+GoesOn more text n = (labels : List Label) (next : List ℕ) → length next < n → HasPairs text labels next → WalkEnds text (labels ++ (more next).0) (more next).1
 
-comma_ends : (more : List ℕ → Walk) (inside : List ℕ) (front : List Label) (l : Label) (rest : List ℕ) (r : Result (List ℕ) LabelRefusal) → inside ≡ flat_map pair_comma_text front ++ (pair_text l ++ rest) → ArePairs (front ++ l ∷ []) → GoesOn more inside (length rest)
-    → past 44 rest ≡ r → WalkEnds inside ((front ++ l ∷ []) ++ (at_comma more rest r).0) (at_comma more rest r).1
+comma_ends : (more : List ℕ → Walk) (text : List ℕ) (front : List Label) (l : Label) (rest : List ℕ) (r : Result (List ℕ) LabelRefusal) → HasPairs text front (pair_text l ++ rest) → ArePairs (front ++ l ∷ []) → GoesOn more text (length rest)
+    → past 44 rest ≡ r → WalkEnds text ((front ++ l ∷ []) ++ (at_comma more rest r).0) (at_comma more rest r).1
 unfolding at_comma end_at
-comma_ends more inside front l rest (Ok next) shape are go p =
-    let is = past-only 44 rest next p in
-    go (front ++ l ∷ []) next (omega (arith, ap length is)) (shape ∙ ap (λ t. flat_map pair_comma_text front ++ (pair_text l ++ t)) is ∙ sym (commas_more front l next)) are
-comma_ends more inside front l rest (Err d) shape are go p =
-    end_ends inside (front ++ l ∷ []) rest (past 125 rest) (record { front = front; last = l; labels_are = refl; whole = shape; lawful = are }) (ap is_err p) refl
+comma_ends more text front l rest (Ok next) p are go e =
+    let is = past-only 44 rest next e in
+    go (front ++ l ∷ []) next (omega (arith, ap length is)) (record {
+      begins = p.begins ∙ ap (λ t. 123 ∷ t) (ap (λ t. flat_map pair_comma_text front ++ (pair_text l ++ t)) is ∙ sym (commas_more front l next));
+      lawful = are;
+    })
+comma_ends more text front l rest (Err d) p are go e =
+    end_ends text (front ++ l ∷ []) rest (past 125 rest) (record { front = front; last = l; labels_are = refl; pairs = p; lawful = are }) (ap is_err e) refl
 
-on_pair_ends : (more : List ℕ → Walk) (inside : List ℕ) (labels : List Label) (text : List ℕ) (r : Result (Label × List ℕ) LabelRefusal) → inside ≡ flat_map pair_comma_text labels ++ text → ArePairs labels → GoesOn more inside (length text)
-    → pair_at text ≡ r → WalkEnds inside (labels ++ (on_pair more text r).0) (on_pair more text r).1
+on_pair_ends : (more : List ℕ → Walk) (text : List ℕ) (labels : List Label) (pair : List ℕ) (r : Result (Label × List ℕ) LabelRefusal) → HasPairs text labels pair → GoesOn more text (length pair)
+    → pair_at pair ≡ r → WalkEnds text (labels ++ (on_pair more pair r).0) (on_pair more pair r).1
 unfolding on_pair with_label after_pair
-on_pair_ends more inside labels text (Ok read) shape are go p =
+on_pair_ends more text labels pair (Ok read) p go e =
     let w : Walk = at_comma more read.1 (past 44 read.1) in
-    let found = pair_found text read.0 read.1 p in
-    let lawful = All-push (λ (l : Label). (is_name l.name ≡ true) × (l.value ≢ [])) labels read.0 are (pair_written text read.0 read.1 p) in
-    subst (λ ls. WalkEnds inside ls w.1) (append_assoc labels (read.0 ∷ []) w.0)
-    (comma_ends more inside labels read.0 read.1 (past 44 read.1) (shape ∙ ap (λ t. flat_map pair_comma_text labels ++ t) found) lawful
+    let found = pair_found pair read.0 read.1 e in
+    let lawful = All-push (λ (l : Label). (is_name l.name ≡ true) × (l.value ≢ [])) labels read.0 p.lawful (pair_written pair read.0 read.1 e) in
+    subst (λ ls. WalkEnds text ls w.1) (append_assoc labels (read.0 ∷ []) w.0)
+    (comma_ends more text labels read.0 read.1 (past 44 read.1) (subst (HasPairs text labels) found p) lawful
     (λ ls next few. go ls next (omega (arith, few, ap length found, length-append (pair_text read.0) read.1))) refl)
-on_pair_ends more inside labels text (Err e) shape are go p = subst (λ ls. WalkEnds inside ls (Err (e, text))) (sym (append-nil labels)) (inl (record { whole = shape; refused = p; lawful = are }))
+on_pair_ends more text labels pair (Err d) p go e = subst (λ ls. WalkEnds text ls (Err (d, pair))) (sym (append-nil labels)) (inl (p, e))
 
-pairs_end : (n : ℕ) (inside : List ℕ) → GoesOn (pairs_at n) inside n
+pairs_end : (n : ℕ) (text : List ℕ) → GoesOn (pairs_at n) text n
 unfolding pairs_at
-pairs_end zero inside labels text few shape are = absurd (omega arith)
-pairs_end (suc n) inside labels text few shape are =
-    on_pair_ends (pairs_at n) inside labels text (pair_at text) shape are (λ ls next l. pairs_end n inside ls next (omega arith)) refl
+pairs_end zero text labels pair few p = absurd (omega arith)
+pairs_end (suc n) text labels pair few p = on_pair_ends (pairs_at n) text labels pair (pair_at pair) p (λ ls next l. pairs_end n text ls next (omega arith)) refl
 
 -- pairs behind the opening brace
-pub record InBraces (text : List ℕ) (labels : List Label) (end : Result (List ℕ) (LabelRefusal × List ℕ)) : Type 0 where
-  pub inside : List ℕ
-  pub whole : text ≡ 123 ∷ inside
-  pub unclosed : IsErr (past 125 inside)
-  pub ends : WalkEnds inside labels end
+abbrev pub InBraces : List ℕ → List Label → Result (List ℕ) (LabelRefusal × List ℕ) → Type 0
+InBraces text labels end = ((inside : List ℕ) → text ≡ 123 ∷ inside → IsErr (past 125 inside)) × WalkEnds text labels end
 
 -- what a walk comes to: no opening brace, a set without labels, or pairs
 abbrev pub IsWalk : List ℕ → Walk → Type 0
 IsWalk text w = (IsErr (past 123 text) × (w ≡ stopped_at text)) ⊎ (((after : List ℕ) × (text ≡ 123 ∷ 125 ∷ after) × (w ≡ ([], Ok after))) ⊎ InBraces text w.0 w.1)
 
+same_inside : (inside other : List ℕ) → 123 ∷ inside ≡ 123 ∷ other → inside ≡ other
+same_inside inside other e = cc
+
 brace_walk : (text inside : List ℕ) (r : Result (List ℕ) LabelRefusal) → text ≡ 123 ∷ inside → past 125 inside ≡ r → IsWalk text (after_brace inside r)
 unfolding after_brace
 brace_walk text inside (Ok after) shape p = inr (inl (after, shape ∙ ap (λ t. 123 ∷ t) (past-only 125 inside after p), refl))
-brace_walk text inside (Err d) shape p =
-    inr (inr (record { inside = inside; whole = shape; unclosed = ap is_err p; ends = pairs_end (suc (length inside)) inside [] inside (omega arith) refl (All-nil (λ (l : Label). (is_name l.name ≡ true) × (l.value ≢ []))) }))
+brace_walk text inside (Err d) shape p = inr (inr (
+  (λ other e. subst (λ t. IsErr (past 125 t)) (same_inside inside other (sym shape ∙ e)) (ap is_err p)),
+  pairs_end (suc (length inside)) text [] inside (omega arith) (record { begins = shape; lawful = All-nil (λ (l : Label). (is_name l.name ≡ true) × (l.value ≢ [])) }),
+))
 
 start_walk : (text : List ℕ) (r : Result (List ℕ) LabelRefusal) → past 123 text ≡ r → IsWalk text (at_brace text r)
 unfolding at_brace
@@ -179,9 +181,9 @@ ReadsSet text w = IfOk w.1 (λ after. (text ≡ set_text w.0 ++ after) × ArePai
 braces_read : (text : List ℕ) (labels : List Label) (end : Result (List ℕ) (LabelRefusal × List ℕ)) → InBraces text labels end → ReadsSet text (labels, end)
 unfolding set_text
 braces_read text labels (Ok after) b =
-    let p : BehindPairs b.inside labels (125 ∷ after) = b.ends in
+    let p : BehindPairs text labels (125 ∷ after) = b.1 in
     let pairs : pairs_text labels ≡ flat_map pair_comma_text p.front ++ pair_text p.last = ap pairs_text p.labels_are ∙ pairs_and_last p.front p.last in
-    (b.whole ∙ ap (λ t. 123 ∷ t) (p.whole ∙ sym (append_assoc (flat_map pair_comma_text p.front) (pair_text p.last) (125 ∷ after)) ∙ ap (λ t. t ++ 125 ∷ after) (sym pairs) ∙ sym (append_assoc (pairs_text labels) (125 ∷ []) after)), p.lawful)
+    (p.pairs.begins ∙ ap (λ t. 123 ∷ t) (sym (append_assoc (flat_map pair_comma_text p.front) (pair_text p.last) (125 ∷ after)) ∙ ap (λ t. t ++ 125 ∷ after) (sym pairs) ∙ sym (append_assoc (pairs_text labels) (125 ∷ []) after)), p.lawful)
 braces_read text labels (Err stop) b = tt
 
 walk_reads : (text : List ℕ) (w : Walk) → IsWalk text w → ReadsSet text w

@@ -1,12 +1,11 @@
 -- Where the reading of a value or a pair stops: what stands before the place can go on to one, and with another byte than
 -- a good one at the place nothing can, whatever follows.
 use Rattle.std.proofs.Common.{◌≡◌, ◌≢◌, ℕ, suc, Bool, true, false, cond, eqb, ◌||◌, nat_lt, ◌+◌, List, [], ◌∷◌, ◌++◌, length, drop, Result, Ok, Err, refl, sym, ap, ◌∙◌, subst, arith, append_assoc, ◌⊎◌, inl, inr}
-use Rattle.std.proofs.lemmas.Bool.{true≢false}
+use Rattle.std.proofs.lemmas.Bool.{true≢false, cases_Bool}
 use Rattle.std.proofs.lemmas.Bool.Decides.{nat_tests}
 use Rattle.std.proofs.lemmas.List.{take-append-drop, drop_at}
 use Rattle.std.specs.Prelude.{IsErr}
 use Rattle.std.specs.Result.{is_err}
-use Rattle.std.specs.Char.{is_ascii_digit}
 use Rattle.std.specs.List.{prefix_len}
 use Rattle.reading_core.specs.Reading.{◌>>=◌, ◌>>◌, unless}
 use Rattle.reading_core.proofs.Binds.{bind_err, err_is}
@@ -15,7 +14,7 @@ use Rattle.label_sets.specs.declared.label_refusal.LabelRefusal.{LabelRefusal}
 use Rattle.label_sets.specs.declared.label_refusal.LabelRefusal.TheVariants.{EmptyName, EmptyValue, Repeated, BadText, NoMemory}
 use Rattle.label_sets.specs.Notation.{is_name, is_name_start, is_name_byte, name_length, name_at, past, with_byte, value_at, pair_at, quoted}
 use Rattle.label_sets.proofs.LabelValues.{by_bool}
-use Rattle.label_sets.proofs.ReadPairs.{past-only, value_is_quoted, two_ways, three_ways}
+use Rattle.label_sets.proofs.ReadPairs.{past-only, value_is_quoted}
 use Rattle.label_sets.proofs.ReadSets.{with_value, after_quote, after_equals}
 use Rattle.label_sets.proofs.SetsFound.{name_read}
 use Rattle.label_sets.proofs.SetsAgain.{name_again, value_some, pair_named}
@@ -62,9 +61,10 @@ past_first byte c others more = elim (eqb c byte) as (λ b. IsErr (cond b (Ok ot
 past_bad : (byte : ℕ) (text : List ℕ) (e : LabelRefusal) → past byte text ≡ Err e → e ≡ BadText (length text)
 unfolding past
 past_bad byte [] e h = sym (err_is (BadText 0) e h)
-past_bad byte (c ∷ text) e h = by_bool (eqb c byte)
-    (λ t. absurd (true≢false (sym (ap is_err h) ∙ ap (λ b. is_err (cond b (Ok text) (Err (BadText (length (c ∷ text)))))) t)))
-    (λ f. sym (err_is (BadText (length (c ∷ text))) e (ap (λ b. cond b (Ok text) (Err (BadText (length (c ∷ text))))) (sym f) ∙ h)))
+past_bad byte (c ∷ text) e h = elim (cases_Bool (eqb c byte)) [
+  | inl t ↦ absurd (true≢false (sym (ap is_err (rw t at h))))
+  | inr f ↦ sym (err_is (BadText (length (c ∷ text))) e (rw f at h))
+]
 
 bind_bad : {A B : Type 0} (r : Result A LabelRefusal) (f : A → Result B LabelRefusal) → IsErr r → IsErr (r >>= f)
 bind_bad (Ok x) f h = absurd (true≢false (sym h))
@@ -116,35 +116,30 @@ one_more false = (120 ∷ 34 ∷ [], (120 ∷ [], []), refl, (λ none. absurd cc
 refused_here : (escaping : Bool) (text : List ℕ) (e : LabelRefusal) → ◌≡◌ {A = Result (List ℕ × List ℕ) LabelRefusal} (Err (BadText (length text))) (Err e) → ((c : ℕ) (others more : List ℕ) → text ≡ c ∷ others → IsErr (value_at escaping (c ∷ more))) → ValueRefused escaping text e
 refused_here escaping text e h bad = let w = one_more escaping in (length text, sym (err_is (BadText (length text)) e h), at_once (value_at escaping) IsValue text w.0 w.1 w.2 w.3 bad)
 
-no_letter : (byte : ℕ) → (eqb byte 92 || eqb byte 34) ≡ true → eqb byte 110 ≡ false
-no_letter byte t = grind (arith, nat_tests)
-
-no_other : (byte one other : ℕ) → eqb byte one ≡ true → one ≢ other → eqb byte other ≡ false
-no_other byte one other t differs = grind (arith, nat_tests)
+refused_byte : (escaping : Bool) (byte : ℕ) (text : List ℕ) (e : LabelRefusal) → ◌≡◌ {A = Result (List ℕ × List ℕ) LabelRefusal} (Err (BadText (length (byte ∷ text)))) (Err e) → ((more : List ℕ) → IsErr (value_at escaping (byte ∷ more))) → ValueRefused escaping (byte ∷ text) e
+refused_byte escaping byte text e h bad = refused_here escaping (byte ∷ text) e h (λ c others more n. subst (λ x. IsErr (value_at escaping (x ∷ more))) (first_is byte c text others n) (bad more))
 
 value_refused : (escaping : Bool) (text : List ℕ) (e : LabelRefusal) → value_at escaping text ≡ Err e → ValueRefused escaping text e
 unfolding value_at
 value_refused true [] e h = refused_here true [] e h (λ c others more n. nothing_first c others n)
 value_refused false [] e h = refused_here false [] e h (λ c others more n. nothing_first c others n)
-value_refused true (byte ∷ text) e h = two_ways (eqb byte 110) (eqb byte 92 || eqb byte 34) (with_byte 10 (value_at false text)) (with_byte byte (value_at false text)) (Err (BadText (length (byte ∷ text)))) (Err e) h
-    (λ t r. behind_byte true byte 10 text e
-    (λ more. λ i. cond (t i) (with_byte 10 (value_at false more)) (cond (eqb byte 92 || eqb byte 34) (with_byte byte (value_at false more)) (Err (BadText (length (byte ∷ more))))))
-    (value_refused false text e (with_byte_refused 10 e (value_at false text) r)))
-    (λ t r. behind_byte true byte byte text e
-    (λ more. λ i. cond (no_letter byte t i) (with_byte 10 (value_at false more)) (cond (t i) (with_byte byte (value_at false more)) (Err (BadText (length (byte ∷ more))))))
-    (value_refused false text e (with_byte_refused byte e (value_at false text) r)))
-    (λ a b r. refused_here true (byte ∷ text) e r (λ c others more n. subst (λ x. IsErr (value_at true (x ∷ more))) (first_is byte c text others n)
-    (ap is_err (λ i. cond (a i) (with_byte 10 (value_at false more)) (cond (b i) (with_byte byte (value_at false more)) (Err (BadText (length (byte ∷ more)))))))))
-value_refused false (byte ∷ text) e h = three_ways (eqb byte 34) (eqb byte 10) (eqb byte 92) (Ok ([], text)) (Err (BadText (length (byte ∷ text)))) (value_at true text) (with_byte byte (value_at false text)) (Err e) h
-    (λ t r. absurd (true≢false (sym (ap is_err r))))
-    (λ t r. refused_here false (byte ∷ text) e r (λ c others more n. subst (λ x. IsErr (value_at false (x ∷ more))) (first_is byte c text others n)
-    (ap is_err (λ i. cond (no_other byte 10 34 t (omega arith) i) (Ok ([], more)) (cond (t i) (Err (BadText (length (byte ∷ more)))) (cond (eqb byte 92) (value_at true more) (with_byte byte (value_at false more))))))))
-    (λ t r. behind_backslash byte text e
-    (λ more. λ i. cond (no_other byte 92 34 t (omega arith) i) (Ok ([], more)) (cond (no_other byte 92 10 t (omega arith) i) (Err (BadText (length (byte ∷ more)))) (cond (t i) (value_at true more) (with_byte byte (value_at false more)))))
-    (value_refused true text e r))
-    (λ q n b r. behind_byte false byte byte text e
-    (λ more. λ i. cond (q i) (Ok ([], more)) (cond (n i) (Err (BadText (length (byte ∷ more)))) (cond (b i) (value_at true more) (with_byte byte (value_at false more)))))
-    (value_refused false text e (with_byte_refused byte e (value_at false text) r)))
+value_refused true (byte ∷ text) e h = elim (cases_Bool (eqb byte 110)) [
+  | inl n ↦ behind_byte true byte 10 text e (λ more. rw n) (value_refused false text e (with_byte_refused 10 e (value_at false text) (rw n at h)))
+  | inr n ↦ elim (cases_Bool (eqb byte 92 || eqb byte 34)) [
+    | inl s ↦ behind_byte true byte byte text e (λ more. rw (n, s)) (value_refused false text e (with_byte_refused byte e (value_at false text) (rw (n, s) at h)))
+    | inr s ↦ refused_byte true byte text e (rw (n, s) at h) (λ more. rw (n, s))
+  ]
+]
+value_refused false (byte ∷ text) e h = elim (cases_Bool (eqb byte 34)) [
+  | inl q ↦ absurd (true≢false (sym (ap is_err (rw q at h))))
+  | inr q ↦ elim (cases_Bool (eqb byte 10)) [
+    | inl n ↦ refused_byte false byte text e (rw (q, n) at h) (λ more. rw (q, n))
+    | inr n ↦ elim (cases_Bool (eqb byte 92)) [
+      | inl b ↦ behind_backslash byte text e (λ more. rw (q, n, b)) (value_refused true text e (rw (q, n, b) at h))
+      | inr b ↦ behind_byte false byte byte text e (λ more. rw (q, n, b)) (value_refused false text e (with_byte_refused byte e (value_at false text) (rw (q, n, b) at h)))
+    ]
+  ]
+]
 
 -- ---- a pair
 
@@ -160,6 +155,10 @@ PairRefused fresh text Repeated = ⊥
 PairRefused fresh text (BadText left) = Stops pair_at (HasName (name_at text) fresh) text left
 PairRefused fresh text NoMemory = ⊥
 
+-- a pair of this name that was read to its end
+abbrev IsWhole : List ℕ → Label × List ℕ → Type 0
+IsWhole name read = (read.1 ≡ []) × (read.0.name ≡ name)
+
 -- what follows the equals sign
 abbrev after_sign : List ℕ → List ℕ → Result (Label × List ℕ) LabelRefusal
 after_sign name after = past 34 after >>= after_quote name
@@ -173,13 +172,13 @@ nothing_in [] none = refl
 nothing_in (v ∷ value) none = absurd (true≢false (sym (value_some (v ∷ value) (λ e. absurd cc)) ∙ none))
 
 sign_refused : (name after : List ℕ) (e : LabelRefusal) → after_sign name after ≡ Err e
-    → ((e ≡ EmptyValue) × ((rest : List ℕ) × (after ≡ 34 ∷ 34 ∷ rest))) ⊎ ((left : ℕ) × (e ≡ BadText left) × Stops (after_sign name) (λ x. (x.1 ≡ []) × (x.0.name ≡ name)) after left)
+    → ((e ≡ EmptyValue) × ((rest : List ℕ) × (after ≡ 34 ∷ 34 ∷ rest))) ⊎ ((left : ℕ) × (e ≡ BadText left) × Stops (after_sign name) (IsWhole name) after left)
 unfolding after_quote with_value past value_at with_byte quoted
 sign_refused name after e h = elim (bind_err (past 34 after) (after_quote name) e h) [
   | inl stop ↦ inr (
     length after,
     past_bad 34 after e stop,
-    at_once (after_sign name) (λ x. (x.1 ≡ []) × (x.0.name ≡ name)) after (34 ∷ 120 ∷ 34 ∷ []) (record { name = name; value = 120 ∷ [] }, []) refl (refl, refl)
+    at_once (after_sign name) (IsWhole name) after (34 ∷ 120 ∷ 34 ∷ []) (record { name = name; value = 120 ∷ [] }, []) refl (refl, refl)
         (λ c others more n. bind_bad (past 34 (c ∷ more)) (after_quote name) (past_first 34 c others more (subst (λ t. IsErr (past 34 t)) n (ap is_err stop)))),
   )
   | inr x ↦
@@ -190,11 +189,11 @@ sign_refused name after e h = elim (bind_err (past 34 after) (after_quote name) 
             inr (
               v.0,
               v.1,
-              subst (λ t. Stops (after_sign name) (λ x. (x.1 ≡ []) × (x.0.name ≡ name)) t v.0) (sym shape)
-                  (later (after_sign name) (value_at false) (λ x. (x.1 ≡ []) × (x.0.name ≡ name)) IsValue (34 ∷ []) x.0 v.0
+              rw shape
+                  (later (after_sign name) (value_at false) (IsWhole name) IsValue (34 ∷ []) x.0 v.0
                   (λ t y r w. (
                     (record { name = name; value = y.0 }, y.1),
-                    ap (λ r. r >>= with_value name) r ∙ ap (λ b. unless b EmptyValue >> Ok (record { name = name; value = y.0 }, y.1)) (value_some y.0 w.0),
+                    rw (r, value_some y.0 w.0),
                     (w.1, refl),
                   ))
                   (λ t bad. bind_bad (value_at false t) (with_value name) bad) v.2),
@@ -213,23 +212,26 @@ one_longer n = omega arith
 
 prefix_ends : (p : ℕ → Bool) (xs : List ℕ) (c : ℕ) (others : List ℕ) → drop (prefix_len p xs) xs ≡ c ∷ others → p c ≡ false
 prefix_ends p [] c others e = nothing_first c others e
-prefix_ends p (x ∷ xs) c others e = by_bool (p x)
-    (λ t. prefix_ends p xs c others (ap (λ n. drop n (x ∷ xs)) (sym (one_longer (prefix_len p xs))) ∙ ap (λ b. drop (cond b (1 + prefix_len p xs) 0) (x ∷ xs)) (sym t) ∙ e))
-    (λ f. ap p (sym (first_is x c xs others (ap (λ b. drop (cond b (1 + prefix_len p xs) 0) (x ∷ xs)) (sym f) ∙ e))) ∙ f)
+prefix_ends p (x ∷ xs) c others e = elim (cases_Bool (p x)) [
+  | inl t ↦ prefix_ends p xs c others (ap (λ n. drop n (x ∷ xs)) (sym (one_longer (prefix_len p xs))) ∙ rw t at e)
+  | inr f ↦ ap p (sym (first_is x c xs others (rw f at e))) ∙ f
+]
 
 -- the byte after a name is no part of one
 name_ends : (text : List ℕ) (c : ℕ) (others : List ℕ) → nat_lt 0 (name_length text) ≡ true → drop (name_length text) text ≡ c ∷ others → is_name_byte c ≡ false
 unfolding name_length
 name_ends [] c others some e = nothing_first c others e
-name_ends (x ∷ xs) c others some e = by_bool (is_name_start x)
-    (λ t. prefix_ends is_name_byte (x ∷ xs) c others (ap (λ b. drop (cond b (prefix_len is_name_byte (x ∷ xs)) 0) (x ∷ xs)) (sym t) ∙ e))
-    (λ f. let none : nat_lt 0 0 ≡ true = ap (λ b. nat_lt 0 (cond b (prefix_len is_name_byte (x ∷ xs)) 0)) (sym f) ∙ some in absurd (cc none))
+name_ends (x ∷ xs) c others some e = elim (cases_Bool (is_name_start x)) [
+  | inl t ↦ prefix_ends is_name_byte (x ∷ xs) c others (ap (λ b. drop (cond b (prefix_len is_name_byte (x ∷ xs)) 0) (x ∷ xs)) (sym t) ∙ e)
+  | inr f ↦ absurd (cc (rw f at some))
+]
 
 no_start : (c : ℕ) (others more : List ℕ) → name_length (c ∷ others) ≡ 0 → name_length (c ∷ more) ≡ 0
 unfolding name_length
-no_start c others more z = by_bool (is_name_start c)
-    (λ t. let none : 1 + prefix_len is_name_byte others ≡ 0 = ap (λ b. cond b (cond (b || is_ascii_digit c) (1 + prefix_len is_name_byte others) 0) 0) (sym t) ∙ z in absurd (omega arith))
-    (λ f. ap (λ b. cond b (prefix_len is_name_byte (c ∷ more)) 0) f)
+no_start c others more z = elim (cases_Bool (is_name_start c)) [
+  | inl t ↦ let none : 1 + prefix_len is_name_byte others ≡ 0 = rw t at z in absurd (omega arith)
+  | inr f ↦ rw f
+]
 
 -- a text without an equals sign after its name
 unequal : (text name : List ℕ) (c : ℕ) (others more : List ℕ) → name_length text ≡ length name → text ≡ name ++ c ∷ more → IsErr (past 61 (c ∷ others)) → IsErr (pair_at text)
@@ -256,13 +258,13 @@ whole_name text = sym (take-append-drop (name_length text) text)
 -- with a name
 named_refused : (fresh text after : List ℕ) (e : LabelRefusal) → is_name (name_at text) ≡ true → text ≡ name_at text ++ 61 ∷ after → after_sign (name_at text) after ≡ Err e → PairRefused fresh text e
 named_refused fresh text after e is shape h = elim (sign_refused (name_at text) after e h) [
-  | inl empty ↦ subst (PairRefused fresh text) (sym empty.0) (empty.1.0, shape ∙ ap (λ t. name_at text ++ 61 ∷ t) empty.1.1, is)
+  | inl empty ↦ rw empty.0 (empty.1.0, shape ∙ ap (λ t. name_at text ++ 61 ∷ t) empty.1.1, is)
   | inr stop ↦
       let used : List ℕ = name_at text ++ 61 ∷ [] in
       let step : (t : List ℕ) → pair_at (used ++ t) ≡ after_sign (name_at text) t = λ t. ap pair_at (append_assoc (name_at text) (61 ∷ []) t) ∙ named_pair (name_at text) t is in
-      let s = later pair_at (after_sign (name_at text)) (HasName (name_at text) fresh) (λ x. (x.1 ≡ []) × (x.0.name ≡ name_at text)) used after stop.0
+      let s = later pair_at (after_sign (name_at text)) (HasName (name_at text) fresh) (IsWhole (name_at text)) used after stop.0
       (λ t y r w. (y, step t ∙ r, (w.0, inl w.1))) (λ t bad. subst IsErr (sym (step t)) bad) stop.2 in
-      subst (PairRefused fresh text) (sym stop.1) (subst (λ t. Stops pair_at (HasName (name_at text) fresh) t stop.0) (append_assoc (name_at text) (61 ∷ []) after ∙ sym shape) s)
+      rw stop.1 (subst (λ t. Stops pair_at (HasName (name_at text) fresh) t stop.0) (append_assoc (name_at text) (61 ∷ []) after ∙ sym shape) s)
 ]
 
 no_more : (n : ℕ) → nat_lt 0 n ≡ false → n ≡ 0
@@ -276,7 +278,7 @@ pair_refused fresh text e is h =
     elim (bind_err (past 61 rest) (after_equals (name_at text) n) e h) [
       | inl stop ↦
           let bad : IsErr (past 61 rest) = ap is_err stop in
-          subst (PairRefused fresh text) (sym (past_bad 61 rest e stop)) (by_bool (nat_lt 0 n)
+          rw (past_bad 61 rest e stop) (by_bool (nat_lt 0 n)
           (λ some. let named = name_read text some in record {
             front = name_at text;
             after = rest;

@@ -46,11 +46,15 @@ pub record BeginsASet (front : List ℕ) : Type 0 where
   pub set : List Label
   pub is_text : IsSetText (front ++ after) set
 
--- A label set goes on up to this place and not to the next, and none of the other causes is there.
-pub record StopsAt (text : List ℕ) (place : ℕ) : Type 0 where
+-- A label set goes on up to this place and not to the next.
+pub record GoesOnTo (text : List ℕ) (place : ℕ) : Type 0 where
   pub within : place ≤ length text
   pub so_far : BeginsASet (take place text)
   pub no_further : place < length text → ¬ BeginsASet (take (suc place) text)
+
+-- It goes on to this place, and none of the other causes is there, nor a whole set at the front.
+pub record StopsAt (text : List ℕ) (place : ℕ) : Type 0 where
+  pub goes_on : GoesOnTo text place
   pub no_set : (front after : List ℕ) (set : List Label) → IsSetText front set → text ≢ front ++ after
   pub no_lack : ¬ LacksName text
   pub no_empty : ¬ LacksValue text
