@@ -12,7 +12,6 @@ ghost use Rattle.replay_cli.specs.Progress.{Allows, PhaseStep, Reached, RunCame,
 ghost use Rattle.replay_cli.specs.Reports.{activity_text, is_as_asked};
 
 use crate::came::Broken;
-use crate::declared::Places;
 use crate::outcome::Outcome;
 use crate::report::put_activity;
 use crate::seats::Seats;
@@ -35,7 +34,6 @@ pub(crate) struct Lines {
 #[derive(Drop)]
 pub(crate) struct Progress {
     pub gateways: Vec<Gateway>,
-    pub places: Places,
     /// How many workers the phases so far have had.
     pub workers: u32,
     /// The report of the finished phases.
@@ -62,7 +60,6 @@ impl Progress {
         }
         Ok(Progress {
             gateways,
-            places: Places::new(alloc, script.blocks.members())?,
             workers: 0,
             report: Lines {
                 text: Vec::new(alloc),

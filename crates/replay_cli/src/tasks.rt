@@ -48,7 +48,7 @@ pub(crate) fn run_task<B: Bucket>(
 {
     match &task.work {
         Work::Upload(ulid, stop) => {
-            let block = declared_block(script, &progress.places, *ulid);
+            let block = declared_block(script, *ulid);
             let seat = seats.seat_of(Hand::Upload(place as u64));
             upload(alloc, block, *stop, world, seat)
         }
