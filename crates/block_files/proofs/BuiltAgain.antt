@@ -4,13 +4,14 @@ use Rattle.std.proofs.lemmas.List.Elements.{All-nil, All-cons}
 use Rattle.json.proofs.Printed.Utf8.{IsUtf8-are_ascii}
 use Rattle.label_sets.specs.declared.label.Label.{Label}
 use Rattle.label_sets.specs.declared.series.Series.{Series}
+use Rattle.label_sets.specs.Counts.{sample_count}
 use Rattle.label_sets.specs.Labels.{IsLabelSet}
 use Rattle.label_sets.specs.SetText.{AreNamed}
 use Rattle.block_meta.specs.declared.block_plan.BlockPlan.{BlockPlan}
 use Rattle.block_meta.specs.declared.file_size.FileSize.{FileSize}
 use Rattle.block_meta.specs.MetaReading.{meta_of_text}
 use Rattle.block_meta.specs.MetaValue.{meta_text}
-use Rattle.block_files.specs.Built.{fitted, sample_count, index_size, segment_size, sizes_of, names_of_segments, segments_of, built_meta}
+use Rattle.block_files.specs.Built.{fitted, index_size, segment_size, sizes_of, names_of_segments, segments_of, built_meta}
 use Rattle.block_files.proofs.MetaTexts.{IsReadAgain, meta_read_again}
 
 -- What a plan needs for the meta that is built of it to be read again.

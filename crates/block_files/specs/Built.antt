@@ -1,8 +1,9 @@
 -- The block that is built of a plan and series, in the plain form, and its objects.
-use Rattle.std.specs.Prelude.{◌≡◌, ℕ, ◌+◌, ◌-◌, ◌^◌, pos, min, List, [], ◌∷◌, ◌++◌, length, sum_by}
+use Rattle.std.specs.Prelude.{◌≡◌, ℕ, ◌+◌, ◌-◌, ◌^◌, pos, min, List, [], ◌∷◌, ◌++◌, length}
 use Rattle.std.specs.List.{flat_map}
 use lib.Chars.{codes}
 use Rattle.label_sets.specs.declared.series.Series.{Series}
+use Rattle.label_sets.specs.Counts.{sample_count}
 use Rattle.label_sets.specs.SampleText.{series_text}
 use Rattle.block_keys.specs.declared.key.Key.TheVariants as key
 use Rattle.block_keys.specs.declared.object.Object.{Object}
@@ -24,10 +25,6 @@ segments_of (s ∷ ss) = segment_text (s ∷ ss) ∷ []
 -- a count or a size, as it fits a number of a meta: at most 2^64 - 1
 abbrev pub fitted : ℕ → ℕ
 fitted count = min count (2 ^ 64 - 1)
-
--- how many samples there are
-unfoldable pub sample_count : List Series → ℕ
-sample_count series = fitted (sum_by (λ s. length s.samples) series)
 
 abbrev pub index_size : FileSize
 index_size = record { path = codes "index"; bytes = length plain_index }

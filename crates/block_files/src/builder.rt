@@ -1,12 +1,12 @@
-ghost use Rattle.std.specs.Prelude.{◌≡◌, ◌≢◌, ◌≤◌, ◌^◌, ◌-◌, min, length, sum_by, Err, IfOk};
+ghost use Rattle.std.specs.Prelude.{◌≡◌, ◌≢◌, ◌≤◌, ◌^◌, ◌-◌, min, length, Err, IfOk};
 ghost use lib.Chars.{codes};
 ghost use Rattle.block_meta.specs.MetaFields.{fields_of};
 ghost use Rattle.block_files.specs.PlainForm.{plain_index};
-ghost use Rattle.block_files.specs.Built.{IsBuilt, built_meta, segment_text, segments_of, sample_count, sizes_of, names_of_segments};
+ghost use Rattle.block_files.specs.Built.{IsBuilt, built_meta, segment_text, segments_of, sizes_of, names_of_segments};
 
 use crate::{BlobList, BlockFiles, BuildRefusal};
 use block_meta::{BlockPlan, FileSize, FileSizeList, Meta};
-use label_sets::{Series, SeriesList, Text, TextList};
+use label_sets::{Series, SeriesList, Text, TextList, sample_count};
 use list_core::{NoMemory, TryCopy};
 use std::alloc::Global;
 use wire_bytes::Blob;
@@ -76,7 +76,7 @@ fn build_meta(
         min_time: plan.min_time,
         max_time: plan.max_time,
         series: series.len() as u64,
-        samples: count_samples(series.members()),
+        samples: sample_count(series.members()),
         chunks: series.len() as u64,
         level: plan.level,
         sources: plan.sources.copy()?,
@@ -87,17 +87,6 @@ fn build_meta(
         files: file_sizes(alloc, segments, index)?,
         segment_files: segment_files(alloc, segments)?,
     })
-}
-
-#[tactic(auto, unfolding(crate::specs::Built::sample_count))]
-fn count_samples(series: &[Series]) -> u64
-    ensures { result ≡ sample_count series.now }
-{
-    let mut count = 0u64;
-    for one in series {
-        count = count.saturating_add(one.samples.len() as u64);
-    }
-    count
 }
 
 #[tactic(auto, unfolding(crate::specs::Built::sizes_of))]

@@ -1,9 +1,10 @@
 -- The lines of a report: one for each activity, and more for an answered query.
-use Rattle.std.specs.Prelude.{ℕ, ℤ, Bool, true, false, List, [], ◌∷◌, ◌++◌, ◌-◌, ◌^◌, min, length, codes, slice_get, sum_by}
+use Rattle.std.specs.Prelude.{ℕ, ℤ, Bool, true, false, List, [], ◌∷◌, ◌++◌, length, codes, slice_get}
 use Rattle.std.specs.List.{flat_map}
 use Rattle.std.specs.Option.{option_map_or}
 use Rattle.reading_core.specs.Decimal.{decimal_text, signed_text}
 use Rattle.ulid_core.specs.UlidText.{text_of}
+use Rattle.label_sets.specs.Counts.{sample_count}
 use Rattle.label_sets.specs.SampleText.{series_text}
 use Rattle.label_sets.specs.declared.series.Series.{Series}
 use Rattle.script_core.specs.declared.script.Script.{Script}
@@ -51,10 +52,6 @@ source_line ulid = codes "source " ++ text_of ulid ++ newline
 
 unfoldable pub series_line : Series → List ℕ
 series_line series = codes "series " ++ series_text series ++ newline
-
--- how many samples these series have; a count stands still at the end of 64 bits
-abbrev pub sample_count : List Series → ℕ
-sample_count series = min (sum_by (λ s. length s.samples) series) (2 ^ 64 - 1)
 
 -- how many series, samples and sources an answer has
 unfoldable pub counts_text : List Series → List ℕ → List ℕ

@@ -2,10 +2,10 @@ ghost use Rattle.std.specs.Prelude.{◌≡◌, ◌++◌, ◌∷◌, [], codes, l
 ghost use Rattle.std.specs.List.{flat_map};
 ghost use Rattle.reading_core.specs.Decimal.{decimal_text, signed_text};
 ghost use Rattle.ulid_core.specs.UlidText.{text_of};
-ghost use Rattle.replay_cli.specs.Reports.{activity_text, gateway_name, upload_line, sync_line, query_line, query_text, no_answer_words, answer_text, counts_text, source_line, series_line, sample_count, newline};
+ghost use Rattle.replay_cli.specs.Reports.{activity_text, gateway_name, upload_line, sync_line, query_line, query_text, no_answer_words, answer_text, counts_text, source_line, series_line, newline};
 
 use crate::outcome::{NoAnswer, Outcome, QueryOutcome, SyncOutcome, UploadOutcome};
-use label_sets::{Series, SeriesList};
+use label_sets::{Series, SeriesList, sample_count};
 use list_core::NoMemory;
 use reading_core::{put_signed, put_unsigned};
 use script_core::{Script, Task, Work};
@@ -151,7 +151,7 @@ fn put_counts(out: &mut Vec<u8>, series: &SeriesList, sources: &UlidList) -> Res
     ensures { OnOk result (out.new.items ≡ out.old.items ++ counts_text series.now sources.now) }
 {
     put_count(out, series.len() as u64, " series ")?;
-    put_count(out, count_samples(series.members()), " samples ")?;
+    put_count(out, sample_count(series.members()), " samples ")?;
     put_count(out, sources.len() as u64, " sources")?;
     put_text(out, "\n")
 }
@@ -197,15 +197,4 @@ fn put_series(out: &mut Vec<u8>, series: &Series) -> Result<(), NoMemory>
     put_text(out, "series ")?;
     series.write(out)?;
     put_text(out, "\n")
-}
-
-/// How many samples the series have, or the greatest number of 64 bits.
-fn count_samples(series: &[Series]) -> u64
-    ensures { result ≡ sample_count series.now }
-{
-    let mut count = 0u64;
-    for one in series {
-        count = count.saturating_add(one.samples.len() as u64);
-    }
-    count
 }

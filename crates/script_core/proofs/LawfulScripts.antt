@@ -10,6 +10,7 @@ use Rattle.std.proofs.lemmas.List.{length-append, get_or_at, get_or_append_left,
 use Rattle.std.proofs.lemmas.List.Elements.{All-nil, All-push, All-weaker}
 use Rattle.std.proofs.lemmas.Str.{IsUtf8-from_is_utf8}
 use Rattle.label_sets.specs.Labels.{compare_sets}
+use Rattle.label_sets.specs.Notation.{is_name}
 use Rattle.label_sets.specs.declared.sample.Sample.{Sample}
 use Rattle.label_sets.specs.declared.series.Series.{Series}
 use Rattle.moment_core.specs.declared.rules.Rules.{Rules}
@@ -23,7 +24,7 @@ use Rattle.script_core.specs.declared.script.Script.{Script}
 use Rattle.script_workers.specs.declared.task.Task.{Task}
 use Rattle.script_workers.specs.declared.work.Work.{Work}
 use Rattle.script_workers.specs.declared.work.Work.TheVariants.{Upload, Sync, Query}
-use Rattle.script_core.specs.Fields.{lines_of, is_silent, is_name}
+use Rattle.script_core.specs.Fields.{lines_of, is_silent}
 use Rattle.script_workers.specs.Hands.{gateway_count, hands_of, hands_from}
 use Rattle.script_core.specs.State.{gateway_named}
 use Rattle.script_core.specs.Values.{with_rule, agree}

@@ -1,7 +1,6 @@
 -- The lines of a text, and the fields of a line: what stands between single spaces.
 use Rattle.std.specs.Prelude.{ℕ, List, [], ◌∷◌, length, Bool, not, ◌&&◌, ◌||◌, ◌==◌, nat_lt, slice_index, Option, None, Some, is_none, Result, Ok, Err, if◌then◌else◌, codes}
-use Rattle.std.specs.List.{slice_split, position_or_len, before_first, after_first, list_all}
-use Rattle.std.specs.Char.{is_ascii_digit, is_ascii_alphanumeric}
+use Rattle.std.specs.List.{slice_split, position_or_len, before_first, after_first}
 use Rattle.std.specs.Str.{byte as code, bytes_eq}
 use Rattle.std.specs.Map.{lookup}
 use Rattle.reading_core.specs.Reading.{◌>>◌, unless}
@@ -55,13 +54,6 @@ only_field left = do
 unfoldable pub after_space : List ℕ → Result (List ℕ) LineCause
 after_space [] = Err BadShape
 after_space (byte ∷ rest) = if is_space byte then Ok rest else Err BadShape
-
-abbrev pub is_name_byte : ℕ → Bool
-is_name_byte b = is_ascii_alphanumeric b || b == code "_"
-
--- a letter or `_`, and then letters, digits and `_`, all ASCII
-abbrev pub is_name : List ℕ → Bool
-is_name text = not (is_empty text) && not (is_ascii_digit (slice_index text 0)) && list_all is_name_byte text
 
 -- the first words of lines
 abbrev pub line_words : List (List ℕ × LineKind)

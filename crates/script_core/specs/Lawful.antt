@@ -5,6 +5,7 @@ use Rattle.std.specs.List.Sorted.{IsStrictlySortedBy, IsNonDecreasingBy}
 use Rattle.std.specs.Ordering.{int_cmp}
 use Rattle.std.specs.Str.{IsUtf8}
 use Rattle.label_sets.specs.Labels.{IsLabelSet, compare_sets}
+use Rattle.label_sets.specs.Notation.{is_name}
 use Rattle.label_sets.specs.SetText.{AreNamed}
 use Rattle.label_sets.specs.declared.label.Label.{Label}
 use Rattle.label_sets.specs.declared.series.Series.{Series}
@@ -16,7 +17,6 @@ use Rattle.script_workers.specs.declared.phase.Phase.{Phase}
 use Rattle.script_core.specs.declared.script.Script.{Script}
 use Rattle.script_workers.specs.declared.work.Work.{Work}
 use Rattle.script_workers.specs.declared.work.Work.TheVariants.{Upload, Sync, Query}
-use Rattle.script_core.specs.Fields.{is_name}
 use Rattle.script_core.specs.Values.{is_reserved, agree}
 use Rattle.script_core.specs.Samples.{times_of, are_within}
 use Rattle.script_workers.specs.Hands.{gateway_count, hands_of}

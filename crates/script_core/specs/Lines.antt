@@ -16,12 +16,12 @@ use Rattle.script_core.specs.declared.line_refusal.LineRefusal.{LineRefusal}
 use Rattle.script_core.specs.declared.line_refusal.LineRefusal.TheVariants.{Bad, FallingMoment, UnknownBlock, BadRules, NeverSynced}
 use Rattle.script_workers.specs.declared.phase.Phase.{Phase}
 use Rattle.script_workers.specs.declared.work.Work.TheVariants as works
-use Rattle.script_core.specs.Fields.{is_empty, next_field, only_field, after_space, is_name, rule_name}
+use Rattle.script_core.specs.Fields.{is_empty, next_field, only_field, after_space, rule_name}
 use Rattle.script_core.specs.Values.{time_field, moment_field, ulid_field, is_reserved, set_rule, agree}
 use Rattle.script_core.specs.Samples.{are_whole, have_small_numbers, samples_of, are_rising}
 use Rattle.script_core.specs.State.{State, gateway_named, add_gateway, is_declared, begin_block, add_series, begin_phase, add_task, add_query, note_sync, are_all_synced}
 use Rattle.matchers.specs.Selectors.{read_selector}
-use Rattle.label_sets.specs.Notation.{read_set}
+use Rattle.label_sets.specs.Notation.{is_name, read_set}
 
 -- a cause of `BadLine` as a refusal
 abbrev pub bad : {A : Type 0} → Result A LineCause → Result A LineRefusal

@@ -10,6 +10,7 @@ use Rattle.std.specs.Ordering.{int_cmp}
 use Rattle.std.specs.Str.{is_utf8, bytes_eq}
 use Rattle.reading_core.specs.Decimal.{decimal_text, signed_text}
 use Rattle.label_sets.specs.Labels.{compare_sets}
+use Rattle.label_sets.specs.Notation.{is_name}
 use Rattle.label_sets.specs.SetText.{IsSetText}
 use Rattle.label_sets.specs.SampleText.{sample_text}
 use Rattle.label_sets.specs.declared.label.Label.{Label}
@@ -31,7 +32,7 @@ use Rattle.script_core.specs.declared.rule_name.RuleName.TheVariants as names
 use Rattle.script_core.specs.declared.script.Script.{Script}
 use Rattle.script_workers.specs.declared.work.Work.{Work}
 use Rattle.script_workers.specs.declared.work.Work.TheVariants.{Upload, Sync, Query}
-use Rattle.script_core.specs.Fields.{lines_of, is_silent, space, is_space, is_name}
+use Rattle.script_core.specs.Fields.{lines_of, is_silent, space, is_space}
 use Rattle.script_workers.specs.Hands.{gateway_count}
 use Rattle.script_workers.specs.Whose.{FewWorkers}
 use Rattle.script_workers.specs.Works.{works_of, has_sync}

@@ -1,9 +1,9 @@
 //! Lines of a text, and the fields of a line, which single spaces keep apart.
 
 ghost use Rattle.std.specs.Prelude.{◌≡◌, ◌<◌, length, drop, position, option_copied};
-ghost use Rattle.std.specs.List.{before_first, after_first, list_all};
+ghost use Rattle.std.specs.List.{before_first, after_first};
 ghost use Rattle.reading_core.specs.Reading.{Answers};
-ghost use Rattle.script_core.specs.Fields.{is_newline, is_silent, next_field, only_field, after_space, is_name, is_name_byte};
+ghost use Rattle.script_core.specs.Fields.{is_newline, is_silent, next_field, only_field, after_space};
 
 use crate::LineCause;
 
@@ -69,24 +69,4 @@ pub(crate) fn after_space(text: &str, place: usize) -> Result<&str, LineCause>
         Some(b' ') => Ok(&text[place + 1..]),
         _ => Err(LineCause::BadShape),
     }
-}
-
-/// Whether a text is a letter or `_`, and then letters, digits or `_`, all ASCII.
-pub(crate) fn is_name(text: &str) -> bool
-    ensures { result ≡ is_name text.now }
-{
-    let bytes = text.as_bytes();
-    !bytes.is_empty() && !bytes[0].is_ascii_digit() && are_name_bytes(bytes)
-}
-
-fn are_name_bytes(bytes: &[u8]) -> bool
-    ensures { result ≡ list_all is_name_byte bytes.now }
-{
-    bytes.iter().all(|byte| is_name_byte(*byte))
-}
-
-fn is_name_byte(byte: u8) -> bool
-    ensures { result ≡ is_name_byte byte }
-{
-    byte.is_ascii_alphanumeric() || byte == b'_'
 }

@@ -9,9 +9,10 @@ ghost use Rattle.script_core.specs.View.{state_of};
 
 use crate::LineCause;
 use crate::draft::Draft;
-use crate::fields::{is_name, next_field, only_field};
+use crate::fields::{next_field, only_field};
 use crate::line_refusal::LineRefusal;
 use crate::values::{is_reserved, time, ulid};
+use label_sets::is_name;
 use matchers::{Selector, SelectorRefusal};
 use moment_core::{Moment, MomentRefusal, Rules};
 use script_workers::{Phase, TaskList, Work};

@@ -8,13 +8,13 @@ ghost use Rattle.script_core.specs.View.{state_of};
 
 use crate::LineCause;
 use crate::draft::Draft;
-use crate::fields::{after_space, is_name, next_field, only_field};
+use crate::fields::{after_space, next_field, only_field};
 use crate::inline_block::InlineBlock;
 use crate::line_refusal::LineRefusal;
 use crate::rule_name::RuleName;
 use crate::samples::{are_rising, are_whole, have_small_numbers, read_samples};
 use crate::values::{is_reserved, time, ulid};
-use label_sets::{LabelRefusal, LabelSet, Text};
+use label_sets::{LabelRefusal, LabelSet, Text, is_name};
 use std::alloc::Global;
 
 /// `rule NAME VALUE`

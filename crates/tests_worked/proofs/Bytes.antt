@@ -15,6 +15,7 @@ use Rattle.reading_core.specs.Decimal.{decimal_text, signed_text}
 use Rattle.ulid_core.specs.FixedDigits.{fixed_digits}
 use Rattle.ulid_core.specs.UlidText.{alphabet, character, digit_of, text_of, number_of, bad_place, ulid_of}
 use Rattle.label_sets.specs.SampleText.{hex_sign, hex_text, pattern_text, timed_text, sample_text, spaced_sample_text, series_text}
+use Rattle.label_sets.specs.Counts.{sample_count}
 use Rattle.label_sets.specs.Notation.{is_name, quoted_byte, quoted, pair_text, comma_pair_text, pairs_text, set_text}
 use Rattle.label_sets.specs.SetText.{IsSetText}
 use Rattle.block_meta.specs.MetaFields.{fields_of}
@@ -23,7 +24,7 @@ use Rattle.block_meta.specs.Members as members
 use Rattle.block_meta.specs.Lawful.{are_lawful_times}
 use Rattle.block_meta.specs.MetaReading.{meta_of_text, meta_of, times_of, stats_of, stats_members_of, compaction_of, compaction_members_of, level_of, sources_of, thanos_of, thanos_members_of, labels_of, labels_from, resolution_of, text_or_empty, file_of, parent_of}
 use Rattle.block_meta.specs.MetaValue.{ulid_value, items_value, file_value, label_members, stats_value, compaction_value, thanos_value, meta_value, meta_text}
-use Rattle.block_files.specs.Built.{segment_text, segments_of, sample_count, sizes_of, names_of_segments, built_meta, segment_objects, objects_of}
+use Rattle.block_files.specs.Built.{segment_text, segments_of, sizes_of, names_of_segments, built_meta, segment_objects, objects_of}
 use Rattle.block_files.specs.PlainForm.{plain_index, IsPlainSegment, AreLines, AreSamples}
 use Rattle.tests_worked.specs.SmallBlock as small
 

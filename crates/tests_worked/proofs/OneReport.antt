@@ -3,6 +3,7 @@ use Rattle.std.proofs.Common.{◌≡◌, true, List, [], ◌∷◌, ◌++◌, re
 use Rattle.reading_core.specs.Decimal.{decimal_text, signed_text}
 use Rattle.ulid_core.specs.FixedDigits.{fixed_digits}
 use Rattle.ulid_core.specs.UlidText.{text_of, character, alphabet}
+use Rattle.label_sets.specs.Counts.{sample_count}
 use Rattle.label_sets.specs.Notation.{quoted_byte, quoted, pair_text, comma_pair_text, pairs_text, set_text}
 use Rattle.label_sets.specs.SampleText.{hex_sign, hex_text, pattern_text, timed_text, sample_text, spaced_sample_text, series_text}
 use Rattle.shipper.specs.declared.upload_end.UploadEnd.TheVariants as shipped
@@ -71,7 +72,7 @@ came = (
 )
 
 pub lines : one.report ≡ report_of one.script (first_tasks ++ second_tasks) outcomes
-unfolding one.report report_of activity_text upload_words sync_words source_line series_line counts_text answer_text query_text text_of character alphabet fixed_digits decimal_text signed_text set_text pairs_text pair_text comma_pair_text quoted quoted_byte spaced_sample_text series_text sample_text timed_text pattern_text hex_text hex_sign
+unfolding one.report report_of activity_text upload_words sync_words source_line series_line counts_text sample_count answer_text query_text text_of character alphabet fixed_digits decimal_text signed_text set_text pairs_text pair_text comma_pair_text quoted quoted_byte spaced_sample_text series_text sample_text timed_text pattern_text hex_text hex_sign
 lines = refl
 
 pub reports : IsReport one.script one.script.phases one.ends true one.report

@@ -3,6 +3,7 @@ use Rattle.std.proofs.Common.{◌≡◌, ℕ, true, List, [], ◌∷◌, ◌++�
 use Rattle.reading_core.specs.Decimal.{decimal_text, signed_text}
 use Rattle.ulid_core.specs.FixedDigits.{fixed_digits}
 use Rattle.ulid_core.specs.UlidText.{text_of, character, alphabet}
+use Rattle.label_sets.specs.Counts.{sample_count}
 use Rattle.label_sets.specs.Notation.{quoted_byte, quoted, pair_text, comma_pair_text, pairs_text, set_text}
 use Rattle.label_sets.specs.SampleText.{hex_sign, hex_text, pattern_text, timed_text, sample_text, spaced_sample_text, series_text}
 use Rattle.shipper.specs.declared.upload_end.UploadEnd.TheVariants as shipped
@@ -76,7 +77,7 @@ second_came used one = (
 )
 
 lines : young.report ≡ report_of young.script (first_tasks ++ second_tasks) (first_outcomes ++ second_outcomes)
-unfolding young.report report_of activity_text upload_words sync_words source_line series_line counts_text answer_text query_text text_of character alphabet fixed_digits decimal_text signed_text set_text pairs_text pair_text comma_pair_text quoted quoted_byte spaced_sample_text series_text sample_text timed_text pattern_text hex_text hex_sign
+unfolding young.report report_of activity_text upload_words sync_words source_line series_line counts_text sample_count answer_text query_text text_of character alphabet fixed_digits decimal_text signed_text set_text pairs_text pair_text comma_pair_text quoted quoted_byte spaced_sample_text series_text sample_text timed_text pattern_text hex_text hex_sign
 lines = refl
 
 pub reports : (early late : Use) → length early.view.kept ≡ 0 → length late.view.kept ≡ 1 → IsReport young.script young.script.phases (young.ends_by early late) true young.report
