@@ -1,4 +1,3 @@
-pub mod Ascending
 pub mod Blocks
 pub mod Unbroken
 pub mod Lines

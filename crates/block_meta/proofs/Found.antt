@@ -2,7 +2,7 @@
 use Rattle.std.proofs.Common.{◌≡◌, ◌≢◌, ℕ, ℤ, List, [], true, false, ◌==◌, Option, Some, None, is_some, option_and_then, Ok, ◌⊎◌, inl, inr, refl, ap, ◌∙◌, arith}
 use Rattle.std.proofs.lemmas.Bool.Decides.{nat_tests}
 use Rattle.reading_core.specs.Reading.{◌>>=◌}
-use Rattle.block_meta.proofs.Bound.{OfValue, of_ok, of_err, of_weaker, of_bind, of_test, of_refused}
+use Rattle.reading_core.proofs.Bound.{OfValue, of_ok, of_err, of_weaker, of_bind, of_test, of_refused}
 use Rattle.ulid_core.specs.UlidText as ulid
 use Rattle.ulid_core.proofs.UlidLaws.{ulid_of-found, ulid_of-only}
 use Rattle.serde_json.specs.Data.{Data, Num, null, boolean, number, unsigned, negative, float, string, array, object}

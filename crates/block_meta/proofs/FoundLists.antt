@@ -1,7 +1,7 @@
 -- What is read of a list stands in it, and what stands in it is read.
 use Rattle.std.proofs.Common.{◌≡◌, ℕ, List, [], ◌∷◌, Ok, refl}
 use Rattle.reading_core.specs.Reading.{◌>>=◌}
-use Rattle.block_meta.proofs.Bound.{OfValue, of_ok, of_weaker, of_bind}
+use Rattle.reading_core.proofs.Bound.{OfValue, of_ok, of_weaker, of_bind}
 use Rattle.serde_json.specs.Data.{Data, Items, no_items, item}
 use Rattle.serde_json.specs.Find.{as_array}
 use Rattle.block_meta.specs.Members.{Read, of_kind, each, list_of}

@@ -5,7 +5,7 @@ use Rattle.std.specs.Str.{IsUtf8, is_utf8}
 use Rattle.std.proofs.lemmas.Bool.Decides.{nat_tests}
 use Rattle.std.proofs.lemmas.Str.{IsUtf8-from_is_utf8}
 use Rattle.reading_core.specs.Reading.{◌>>=◌}
-use Rattle.block_meta.proofs.Bound.{OfValue, of_ok, of_err, of_weaker, of_bind, of_then, of_unless}
+use Rattle.reading_core.proofs.Bound.{OfValue, of_ok, of_err, of_weaker, of_bind, of_then, of_unless}
 use Rattle.serde_json.specs.Data.{Data}
 use Rattle.serde_json.specs.Read.{read}
 use Rattle.serde_json.specs.Find.{as_object}

@@ -1,4 +1,3 @@
-pub mod Bound
 pub mod Plain
 pub mod Texts
 pub mod Lists

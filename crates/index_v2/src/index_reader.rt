@@ -40,7 +40,8 @@ impl<'a> Model for IndexReader<'a> {
 
     ghost Value = { Opened };
 
-    ghost view = { λ r. record { bytes = r.bytes.now; toc = r.toc; symbols = r.symbols; rows = r.rows } };
+    ghost view = { λ r.
+        record { bytes = r.bytes.now; toc = r.toc; symbols = r.symbols; rows = r.rows } };
 
     ghost invariant = { λ r. (opened_at r.bytes.now ≡ Ok (record { bytes = r.bytes.now; toc = r.toc; symbols = r.symbols; rows = r.rows })) × IsBytes r.bytes.now };
 }

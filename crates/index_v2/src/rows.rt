@@ -32,7 +32,9 @@ impl<'a> Model for Rows<'a> {
 
     ghost view = { λ r. unwrap_or r.table [] };
 
-    ghost invariant = { λ r. IsStrictlySortedBy compare_rows (unwrap_or r.table []) × (length (unwrap_or r.table []) < 2 ^ 32) };
+    ghost invariant = { λ r.
+        IsStrictlySortedBy compare_rows (unwrap_or r.table [])
+        × (length (unwrap_or r.table []) < 2 ^ 32) };
 }
 
 impl<'a> Rows<'a> {

@@ -1,31 +1,17 @@
 -- What the readers of values and pairs have read is in the notation.
-use Rattle.std.proofs.Common.{◌≡◌, ℕ, ◌<◌, Bool, true, false, cond, ◌||◌, List, [], ◌∷◌, ◌++◌, length, take, drop, Result, Ok, Err, refl, sym, ap, ◌∙◌, subst, arith, append_assoc, eqb}
-use Rattle.reading_core.proofs.Binds.{one_answer}
+use Rattle.std.proofs.Common.{◌≡◌, ℕ, ◌<◌, Bool, true, false, ◌||◌, List, [], ◌∷◌, ◌++◌, length, take, drop, Result, Ok, Err, refl, sym, ap, ◌∙◌, subst, arith, append_assoc, eqb, inl, inr}
+use Rattle.reading_core.proofs.Binds.{one_answer, ok_is}
+use Rattle.std.proofs.lemmas.Bool.{cases_Bool}
 use Rattle.std.proofs.lemmas.Bool.Decides.{Decides-eqb}
 use Rattle.std.proofs.lemmas.List.{take-append-drop, length-append}
 use Rattle.std.specs.Str.{IsUtf8}
 use Rattle.label_sets.specs.declared.label_refusal.LabelRefusal.{LabelRefusal}
 use Rattle.label_sets.specs.declared.label_refusal.LabelRefusal.TheVariants.{BadText}
 use Rattle.label_sets.specs.Notation.{past, with_byte, value_at, quoted, quoted_byte}
-use Rattle.label_sets.proofs.LabelValues.{by_bool}
 use Rattle.label_sets.proofs.Utf8Parts.{cut_front, cut_rest, unquoted}
-
-pub two_ways : {A G : Type 0} (a b : Bool) (p q r t : A) → cond a p (cond b q r) ≡ t → (a ≡ true → p ≡ t → G) → (b ≡ true → q ≡ t → G) → (a ≡ false → b ≡ false → r ≡ t → G) → G
-two_ways true b p q r t e f g h = f refl e
-two_ways false true p q r t e f g h = g refl e
-two_ways false false p q r t e f g h = h refl refl e
-
-pub three_ways : {A G : Type 0} (a b c : Bool) (p q r s t : A) → cond a p (cond b q (cond c r s)) ≡ t → (a ≡ true → p ≡ t → G) → (b ≡ true → q ≡ t → G) → (c ≡ true → r ≡ t → G) → (a ≡ false → b ≡ false → c ≡ false → s ≡ t → G) → G
-three_ways true b c p q r s t e f g h k = f refl e
-three_ways false true c p q r s t e f g h k = g refl e
-three_ways false false true p q r s t e f g h k = h refl e
-three_ways false false false p q r s t e f g h k = k refl refl refl e
 
 not_err : {A : Type 0} (e : LabelRefusal) (x : A) → Err e ≡ Ok x → ⊥
 not_err e x h = cc
-
-not_ok : {A : Type 0} (e : LabelRefusal) (x : A) → Ok x ≡ Err e → ⊥
-not_ok e x h = cc
 
 same_pair : (x : List ℕ × List ℕ) (w after : List ℕ) (r : Result (List ℕ × List ℕ) LabelRefusal) → r ≡ Ok x → r ≡ Ok (w, after) → (x.0 ≡ w) × (x.1 ≡ after)
 same_pair x w after r h k = let e = one_answer x (w, after) r h k in (ap (λ p. p.0) e, ap (λ p. p.1) e)
@@ -36,10 +22,10 @@ is_byte byte n t = (Decides-eqb byte n).0 t
 pub past-only : (byte : ℕ) (text rest : List ℕ) → past byte text ≡ Ok rest → text ≡ byte ∷ rest
 unfolding past
 past-only byte [] rest e = absurd (not_err (BadText 0) rest e)
-past-only byte (first ∷ text) rest e = by_bool (eqb first byte)
-    (λ t. let h : text ≡ rest = one_answer text rest (past byte (first ∷ text)) (ap (λ b. cond b (Ok text) (Err (BadText (length (first ∷ text))))) t) e in
-    λ i. is_byte first byte t i ∷ h i)
-    (λ f. absurd (not_err (BadText (length (first ∷ text))) rest (sym (ap (λ b. cond b (Ok text) (Err (BadText (length (first ∷ text))))) f) ∙ e)))
+past-only byte (first ∷ text) rest e = elim (cases_Bool (eqb first byte)) [
+  | inl t ↦ let h : text ≡ rest = ok_is text rest (rw t at e) in λ i. is_byte first byte t i ∷ h i
+  | inr f ↦ absurd (not_err (BadText (length (first ∷ text))) rest (rw f at e))
+]
 
 with_byte-ok : (byte : ℕ) (r : Result (List ℕ × List ℕ) LabelRefusal) (value rest : List ℕ) → with_byte byte r ≡ Ok (value, rest) → (w : List ℕ) × (r ≡ Ok (w, rest)) × (value ≡ byte ∷ w)
 unfolding with_byte
@@ -51,14 +37,14 @@ with_byte-ok byte (Err refusal) value rest e = absurd (not_err refusal (value, r
 -- a backslash or a quote
 pub escaped_sign : (byte : ℕ) → (eqb byte 92 || eqb byte 34) ≡ true → quoted_byte byte ≡ 92 ∷ byte ∷ []
 unfolding quoted_byte
-escaped_sign byte t = by_bool (eqb byte 92)
-    (λ a. ap (λ b. cond b (92 ∷ 92 ∷ []) (cond (eqb byte 34) (92 ∷ 34 ∷ []) (cond (eqb byte 10) (92 ∷ 110 ∷ []) (byte ∷ [])))) a ∙ ap (λ n. 92 ∷ n ∷ []) (sym (is_byte byte 92 a)))
-    (λ a. let q : eqb byte 34 ≡ true = sym (ap (λ b. b || eqb byte 34) a) ∙ t in
-    (λ i. cond (a i) (92 ∷ 92 ∷ []) (cond (q i) (92 ∷ 34 ∷ []) (cond (eqb byte 10) (92 ∷ 110 ∷ []) (byte ∷ [])))) ∙ ap (λ n. 92 ∷ n ∷ []) (sym (is_byte byte 34 q)))
+escaped_sign byte t = elim (cases_Bool (eqb byte 92)) [
+  | inl a ↦ rw (is_byte byte 92 a)
+  | inr a ↦ rw (is_byte byte 34 (rw a at t))
+]
 
 pub plain_byte : (byte : ℕ) → eqb byte 34 ≡ false → eqb byte 10 ≡ false → eqb byte 92 ≡ false → quoted_byte byte ≡ byte ∷ []
 unfolding quoted_byte
-plain_byte byte q n b = λ i. cond (b i) (92 ∷ 92 ∷ []) (cond (q i) (92 ∷ 34 ∷ []) (cond (n i) (92 ∷ 110 ∷ []) (byte ∷ [])))
+plain_byte byte q n b = rw (b, q, n)
 
 pub newline : quoted_byte 10 ≡ 92 ∷ 110 ∷ []
 unfolding quoted_byte
@@ -79,19 +65,31 @@ value-only : (escaping : Bool) (text value rest : List ℕ) → value_at escapin
 unfolding value_at quoted
 value-only true [] value rest e = absurd (not_err (BadText 0) (value, rest) e)
 value-only false [] value rest e = absurd (not_err (BadText 0) (value, rest) e)
-value-only true (byte ∷ text) value rest e = two_ways (eqb byte 110) (eqb byte 92 || eqb byte 34) (with_byte 10 (value_at false text)) (with_byte byte (value_at false text)) (Err (BadText (length (byte ∷ text)))) (Ok (value, rest)) e
-    (λ t r. let w = with_byte-ok 10 (value_at false text) value rest r in
-    ap (λ n. 92 ∷ n ∷ text) (is_byte byte 110 t) ∙ one_more [] (92 ∷ 110 ∷ []) text value w.0 rest 10 newline w.2 (value-only false text w.0 rest w.1))
-    (λ t r. let w = with_byte-ok byte (value_at false text) value rest r in
-    one_more [] (92 ∷ byte ∷ []) text value w.0 rest byte (escaped_sign byte t) w.2 (value-only false text w.0 rest w.1))
-    (λ a b r. absurd (not_err (BadText (length (byte ∷ text))) (value, rest) r))
-value-only false (byte ∷ text) value rest e = three_ways (eqb byte 34) (eqb byte 10) (eqb byte 92) (Ok ([], text)) (Err (BadText (length (byte ∷ text)))) (value_at true text) (with_byte byte (value_at false text)) (Ok (value, rest)) e
-    (λ t r. let p = same_pair ([], text) value rest (Ok (value, rest)) (sym r) refl in
-    (λ i. is_byte byte 34 t i ∷ p.1 i) ∙ ap (λ v. quoted v ++ 34 ∷ rest) p.0)
-    (λ t r. absurd (not_err (BadText (length (byte ∷ text))) (value, rest) r))
-    (λ t r. ap (λ n. n ∷ text) (is_byte byte 92 t) ∙ value-only true text value rest r)
-    (λ q n b r. let w = with_byte-ok byte (value_at false text) value rest r in
-    one_more [] (byte ∷ []) text value w.0 rest byte (plain_byte byte q n b) w.2 (value-only false text w.0 rest w.1))
+value-only true (byte ∷ text) value rest e = elim (cases_Bool (eqb byte 110)) [
+  | inl t ↦
+      let w = with_byte-ok 10 (value_at false text) value rest (rw t at e) in
+      ap (λ n. 92 ∷ n ∷ text) (is_byte byte 110 t) ∙ one_more [] (92 ∷ 110 ∷ []) text value w.0 rest 10 newline w.2 (value-only false text w.0 rest w.1)
+  | inr t ↦ elim (cases_Bool (eqb byte 92 || eqb byte 34)) [
+    | inl s ↦
+        let w = with_byte-ok byte (value_at false text) value rest (rw (t, s) at e) in
+        one_more [] (92 ∷ byte ∷ []) text value w.0 rest byte (escaped_sign byte s) w.2 (value-only false text w.0 rest w.1)
+    | inr s ↦ absurd (not_err (BadText (length (byte ∷ text))) (value, rest) (rw (t, s) at e))
+  ]
+]
+value-only false (byte ∷ text) value rest e = elim (cases_Bool (eqb byte 34)) [
+  | inl q ↦
+      let p = same_pair ([], text) value rest (Ok (value, rest)) (sym (rw q at e)) refl in
+      (λ i. is_byte byte 34 q i ∷ p.1 i) ∙ ap (λ v. quoted v ++ 34 ∷ rest) p.0
+  | inr q ↦ elim (cases_Bool (eqb byte 10)) [
+    | inl n ↦ absurd (not_err (BadText (length (byte ∷ text))) (value, rest) (rw (q, n) at e))
+    | inr n ↦ elim (cases_Bool (eqb byte 92)) [
+      | inl b ↦ ap (λ n. n ∷ text) (is_byte byte 92 b) ∙ value-only true text value rest (rw (q, n, b) at e)
+      | inr b ↦
+          let w = with_byte-ok byte (value_at false text) value rest (rw (q, n, b) at e) in
+          one_more [] (byte ∷ []) text value w.0 rest byte (plain_byte byte q n b) w.2 (value-only false text w.0 rest w.1)
+    ]
+  ]
+]
 
 pub value_is_quoted : (text value rest : List ℕ) → value_at false text ≡ Ok (value, rest) → text ≡ quoted value ++ 34 ∷ rest
 value_is_quoted text value rest e = value-only false text value rest e

@@ -87,17 +87,14 @@ further front (c ∷ others) h l =
     let cut : take (suc (length front)) (front ++ c ∷ others) ≡ front ++ c ∷ [] = ap (take (suc (length front))) (sym (append_assoc front (c ∷ []) others)) ∙ take_at (front ++ c ∷ []) others (suc (length front)) one in
     λ b. h c others refl (subst BeginsASet cut b)
 
-reaches : (text front after : List ℕ) (left : ℕ) → text ≡ front ++ after → length after ≡ left → BeginsASet front → ((c : ℕ) (others : List ℕ) → after ≡ c ∷ others → ¬ BeginsASet (front ++ c ∷ [])) → GoesOnTo text (length text - left)
-reaches text front after left e p b h =
-    let at : length front ≡ length text - left = omega (arith, p, ap length e, length-append front after) in
+reaches : (text front after : List ℕ) → text ≡ front ++ after → BeginsASet front → ((c : ℕ) (others : List ℕ) → after ≡ c ∷ others → ¬ BeginsASet (front ++ c ∷ [])) → GoesOnTo text (length text - length after)
+reaches text front after e b h =
+    let at : length front ≡ length text - length after = omega (arith, ap length e, length-append front after) in
     rw (← at, e) (record {
       within = omega (arith, length-append front after);
       so_far = rw (take_at front after (length front) refl) b;
       no_further = further front after h;
     })
-
-join_front : (pairs front more : List ℕ) (c : ℕ) → ((123 ∷ (pairs ++ front)) ++ c ∷ []) ++ more ≡ 123 ∷ (pairs ++ (front ++ c ∷ more))
-join_front pairs front more c = simp append_assoc
 
 on_pair_bad : (more : List ℕ → Walk) (text : List ℕ) (r : Result (Label × List ℕ) LabelRefusal) → IsErr r → IsErr (on_pair more text r).1
 unfolding on_pair
@@ -114,24 +111,24 @@ past_same [] c others more h = past_first 125 c others more h
 past_same (x ∷ front) c others more h = past_first 125 x (front ++ c ∷ others) (front ++ c ∷ more) h
 
 -- behind pairs with commas, where with this byte every walk is refused
-stops_after : (text : List ℕ) (labels : List Label) (front after : List ℕ) (left : ℕ) → HasPairs text labels (front ++ after) → length after ≡ left → BeginsASet (123 ∷ (commas labels ++ front))
-    → ((c : ℕ) (others behind : List ℕ) → after ≡ c ∷ others → IsErr (walk_at (123 ∷ (commas labels ++ (front ++ c ∷ behind)))).1) → GoesOnTo text (length text - left)
-stops_after text labels front after left p left_is b bad =
-    reaches text (123 ∷ (commas labels ++ front)) after left (p.begins ∙ ap (λ t. 123 ∷ t) (sym (append_assoc (commas labels) front after))) left_is b
-    (λ c others g. no_beginning ((123 ∷ (commas labels ++ front)) ++ c ∷ []) (λ behind. rw (join_front (commas labels) front behind c) (bad c others behind g)))
+stops_after : (text : List ℕ) (labels : List Label) (front after : List ℕ) → HasPairs text labels (front ++ after) → BeginsASet (123 ∷ (commas labels ++ front))
+    → ((c : ℕ) (others behind : List ℕ) → after ≡ c ∷ others → IsErr (walk_at (123 ∷ (commas labels ++ (front ++ c ∷ behind)))).1) → GoesOnTo text (length text - length after)
+stops_after text labels front after p b bad =
+    reaches text (123 ∷ (commas labels ++ front)) after (p.begins ∙ ap (λ t. 123 ∷ t) (sym (append_assoc (commas labels) front after))) b
+    (λ c others g. no_beginning ((123 ∷ (commas labels ++ front)) ++ c ∷ []) (λ behind. simp append_assoc (bad c others behind g)))
 
 -- within a pair
-in_pair_reaches : (text : List ℕ) (labels : List Label) (pair : List ℕ) (left : ℕ) → HasPairs text labels pair → (labels ≡ [] → IsErr (past 125 pair)) → repeats (name_at pair ∷ names_of labels) ≡ false
-    → Stops pair_at (HasName (name_at pair) (fresh labels)) pair left → GoesOnTo text (length text - left)
+in_pair_reaches : (text : List ℕ) (labels : List Label) (pair : List ℕ) (e : LabelRefusal) → HasPairs text labels pair → (labels ≡ [] → IsErr (past 125 pair)) → repeats (name_at pair ∷ names_of labels) ≡ false
+    → (s : Stops pair_at (HasName (name_at pair) (fresh labels)) pair e) → GoesOnTo text (length text - length s.after)
 unfolding repeats
-in_pair_reaches text labels pair left p closed once s =
+in_pair_reaches text labels pair e p closed once s =
     let more = s.so_far in
     let found : s.front ++ more.0 ≡ pair_text more.1.0 = pair_found (s.front ++ more.0) more.1.0 more.1.1 more.2 ∙ ap (λ t. pair_text more.1.0 ++ t) more.3.0 ∙ append-nil (pair_text more.1.0) in
     let new : repeats (more.1.0.name ∷ names_of labels) ≡ false = elim more.3.1 [
       | inl own ↦ rw (own, once)
       | inr its ↦ rw its (fresh_new labels (or_parts (is_among (names_of labels) (name_at pair)) (repeats (names_of labels)) once).1)
     ] in
-    stops_after text labels s.front s.after left (subst (HasPairs text labels) s.whole p) s.left_is
+    stops_after text labels s.front s.after (subst (HasPairs text labels) s.whole p)
     (begun_pair labels more.1.0 s.front more.0 p.lawful (pair_written (s.front ++ more.0) more.1.0 more.1.1 more.2) new found)
     (λ c others behind g.
     let other : List ℕ = s.front ++ c ∷ behind in
@@ -143,7 +140,7 @@ behind_reaches : (text : List ℕ) (labels : List Label) (stop : LabelRefusal ×
 unfolding end_at
 behind_reaches text labels stop s once =
     let b = s.behind in
-    stops_after text b.front (pair_text b.last) s.rest (length s.rest) b.pairs refl
+    stops_after text b.front (pair_text b.last) s.rest b.pairs
     (subst (λ t. BeginsASet (123 ∷ t)) (ap pairs_text b.labels_are ∙ pairs_and_last b.front b.last) (begun labels b.lawful once))
     (λ c others behind g.
     let first : (byte : ℕ) → IsErr (past byte s.rest) → IsErr (past byte (c ∷ behind)) = λ byte bad. past_first byte c others behind (subst (λ t. IsErr (past byte t)) g bad) in
@@ -153,7 +150,7 @@ behind_reaches text labels stop s once =
 start_reaches : (text : List ℕ) → IsErr (past 123 text) → GoesOnTo text (length text - length text)
 unfolding set_text repeats pairs_text
 start_reaches text bad =
-    reaches text [] text (length text) refl refl (shorter_begins [] (123 ∷ []) (begun [] (λ k d lt. absurd (omega arith)) refl))
+    reaches text [] text refl (shorter_begins [] (123 ∷ []) (begun [] (λ k d lt. absurd (omega arith)) refl))
     (λ c others g b. true≢false (sym (past_first 123 c others b.after (subst (λ t. IsErr (past 123 t)) g bad)) ∙ ap (λ t. is_err (past 123 t)) b.is_text.written ∙ ap is_err (past_it 123 (pairs_text b.is_text.listed ++ 125 ∷ []))))
 
 -- ---- each refusal has its cause
@@ -165,41 +162,37 @@ Cause text Repeated = RepeatsName text
 Cause text (BadText place) = GoesOnTo text place
 Cause text NoMemory = ⊥
 
-name_of_pair : (l : Label) (rest : List ℕ) → (is_name l.name ≡ true) × (l.value ≢ []) → name_at (pair_text l ++ rest) ≡ l.name
-name_of_pair l rest one = sym (pair_steps (pair_text l ++ rest) l rest (pair_again l rest one.0 one.1)).name_is
-
 -- a name that stands twice among whole pairs
 repeated_pairs : (text : List ℕ) (labels : List Label) (rest : List ℕ) → BehindPairs text labels rest → repeats (names_of labels) ≡ true → RepeatsName text
 repeated_pairs text labels rest b t =
     let parts = All-pop (λ (l : Label). (is_name l.name ≡ true) × (l.value ≢ [])) labels b.front (Some b.last) b.labels_are b.lawful in
+    let name_is = (pair_steps (pair_text b.last ++ rest) b.last rest (pair_again b.last rest parts.1.0 parts.1.1)).name_is in
     record {
       listed = b.front;
       after = pair_text b.last ++ rest;
       pairs = b.pairs;
-      again = rw (name_of_pair b.last rest parts.1, ← repeats-last b.front b.last, ← b.labels_are, t);
+      again = rw (← name_is, ← repeats-last b.front b.last, ← b.labels_are, t);
     }
 
 -- where a walk stopped and no name stands twice
 stop_cause : (text : List ℕ) (labels : List Label) (pair : List ℕ) (d : LabelRefusal) → HasPairs text labels pair → (labels ≡ [] → IsErr (past 125 pair)) → repeats (name_at pair ∷ names_of labels) ≡ false
     → PairRefused (fresh labels) pair d → Cause text (placed_at (length text) d)
 unfolding placed_at name_at name_length
-stop_cause text labels pair EmptyName p closed once why = record {
+stop_cause text labels pair d p closed once (inl why) = rw why.0 (record {
   listed = labels;
-  after = why.0;
-  pairs = subst (HasPairs text labels) why.1 p;
-  once = sym (repeats-nameless labels p.lawful) ∙ ap (λ t. repeats (name_at t ∷ names_of labels)) (sym why.1) ∙ once;
-}
-stop_cause text labels pair EmptyValue p closed once why = record {
+  after = why.1.0;
+  pairs = subst (HasPairs text labels) why.1.1 p;
+  once = sym (repeats-nameless labels p.lawful) ∙ ap (λ t. repeats (name_at t ∷ names_of labels)) (sym why.1.1) ∙ once;
+})
+stop_cause text labels pair d p closed once (inr (inl why)) = rw why.0 (record {
   listed = labels;
   name = name_at pair;
-  after = why.0;
-  pairs = subst (HasPairs text labels) (why.1 ∙ sym (append_assoc (name_at pair) (61 ∷ 34 ∷ 34 ∷ []) why.0)) p;
-  named = why.2;
+  after = why.1.0;
+  pairs = subst (HasPairs text labels) (why.1.1 ∙ sym (append_assoc (name_at pair) (61 ∷ 34 ∷ 34 ∷ []) why.1.0)) p;
+  named = why.1.2;
   once = once;
-}
-stop_cause text labels pair Repeated p closed once why = absurd why
-stop_cause text labels pair (BadText left) p closed once why = in_pair_reaches text labels pair left p closed once why
-stop_cause text labels pair NoMemory p closed once why = absurd why
+})
+stop_cause text labels pair d p closed once (inr (inr s)) = rw s.place_is (in_pair_reaches text labels pair d p closed once s)
 
 -- where a walk behind the opening brace came to its end
 braces_cause : (text : List ℕ) (labels : List Label) (end : Result (List ℕ) (LabelRefusal × List ℕ)) (e : LabelRefusal) → InBraces text labels end → conclusion (length text) labels end ≡ Err e → Cause text e
@@ -235,18 +228,11 @@ cause_of text e h = walk_cause text (walk_at text) e (walk_is text) h
 
 -- ---- and back
 
-concluded_as : (text : List ℕ) (w : Walk) (r : Result (List Label × ℕ) LabelRefusal) → walk_at text ≡ w → conclusion (length text) w.0 w.1 ≡ r → read_set text ≡ r
-unfolding read_set
-concluded_as text w r e h = ap (λ (w : Walk). conclusion (length text) w.0 w.1) e ∙ h
-
 -- a pair that is refused behind others
 refused_behind : (text : List ℕ) (labels : List Label) (pair : List ℕ) (d : LabelRefusal) → HasPairs text labels pair → (labels ≡ [] → IsErr (past 125 pair)) → pair_at pair ≡ Err d
     → read_set text ≡ cond (repeats (name_at pair ∷ names_of labels)) (Err Repeated) (Err (placed_at (length text) d))
-unfolding on_pair conclusion
-refused_behind text labels pair d p unclosed h =
-    let w = walk_goes_on labels pair p.lawful unclosed in
-    concluded_as text (labels, Err (d, pair)) (cond (repeats (name_at pair ∷ names_of labels)) (Err Repeated) (Err (placed_at (length text) d)))
-    (rw (p.begins, w.1, h, append-nil labels)) refl
+unfolding on_pair conclusion read_set
+refused_behind text labels pair d p unclosed h = let w = walk_goes_on labels pair p.lawful unclosed in rw (p.begins, w.1, h, append-nil labels)
 
 -- the equals sign, and the empty value
 lacks_name_again : (text : List ℕ) → LacksName text → read_set text ≡ Err EmptyName
@@ -257,7 +243,7 @@ lacks_name_again text t =
 
 named_at : (name rest : List ℕ) → is_name name ≡ true → name_at (name ++ 61 ∷ rest) ≡ name
 unfolding name_at
-named_at name rest is = ap (λ n. take n (name ++ 61 ∷ rest)) (name_again name rest 61 is refl) ∙ take_at name (61 ∷ rest) (length name) refl
+named_at name rest is = rw (name_again name rest 61 is refl) (take_at name (61 ∷ rest) (length name) refl)
 
 lacks_value_again : (text : List ℕ) → LacksValue text → read_set text ≡ Err EmptyValue
 unfolding placed_at past after_quote with_value value_at
@@ -275,15 +261,13 @@ repeated_whole total labels (Err stop) t = rw (t, or-true (is_among (names_of la
 
 repeated_pair : (text : List ℕ) (labels : List Label) (pair : List ℕ) (r : Result (Label × List ℕ) LabelRefusal) → pair_at pair ≡ r → HasPairs text labels pair → (labels ≡ [] → IsErr (past 125 pair))
     → repeats (name_at pair ∷ names_of labels) ≡ true → read_set text ≡ Err Repeated
-unfolding on_pair with_label
+unfolding on_pair with_label read_set
 repeated_pair text labels pair (Err d) h p unclosed t = refused_behind text labels pair d p unclosed h ∙ rw t
 repeated_pair text labels pair (Ok read) h p unclosed t =
     let w = walk_goes_on labels pair p.lawful unclosed in
     let more : Walk = after_pair (pairs_at w.0) read.1 in
     let once : repeats (names_of (labels ++ read.0 ∷ [])) ≡ true = rw (repeats-last labels read.0, (pair_steps pair read.0 read.1 h).name_is, t) in
-    concluded_as text (labels ++ read.0 ∷ more.0, more.1) (Err Repeated)
-    (rw (p.begins, w.1, h))
-    (repeated_whole (length text) (labels ++ read.0 ∷ more.0) more.1
+    rw (p.begins, w.1, h) (repeated_whole _ (labels ++ read.0 ∷ more.0) more.1
     (ap (λ ls. repeats (names_of ls)) (sym (append_assoc labels (read.0 ∷ []) more.0)) ∙ repeats-more (labels ++ read.0 ∷ []) more.0 once))
 
 repeats_again : (text : List ℕ) → RepeatsName text → read_set text ≡ Err Repeated
@@ -291,10 +275,6 @@ unfolding repeats is_among
 repeats_again text t = repeated_pair text t.listed t.after (pair_at t.after) refl t.pairs (λ none. absurd (true≢false (sym (rw none at t.again)))) t.again
 
 -- ---- the laws
-
--- a text is refused for one cause
-one_refusal : {A : Type 0} (d e : LabelRefusal) (r : Result A LabelRefusal) → r ≡ Err d → r ≡ Err e → d ≡ e
-one_refusal d e r h k = err_is d e (sym h ∙ k)
 
 stops_from : (text : List ℕ) (place : ℕ) → read_set text ≡ Err (BadText place) → GoesOnTo text place → StopsAt text place
 stops_from text place h r = record {
@@ -352,4 +332,4 @@ refused_of view (Err e) text (inr h) = inr (refused_is text e h)
 pub exact_of : {X : Type 0} (view : X → List Label × ℕ) (r : Result X LabelRefusal) (text : List ℕ) (refusal : LabelRefusal) → Gives NoMemory view r (read_set text) → IsRefused text refusal → IsErrAnd r (λ e. (e ≡ NoMemory) ⊎ (e ≡ refusal))
 exact_of view (Ok x) text refusal h t = absurd (ok_not_err (view x) refusal (read_set text) h (refused_exactly text refusal t))
 exact_of view (Err e) text refusal (inl none) t = inl none
-exact_of view (Err e) text refusal (inr h) t = inr (one_refusal e refusal (read_set text) h (refused_exactly text refusal t))
+exact_of view (Err e) text refusal (inr h) t = inr (err_is e refusal (sym h ∙ refused_exactly text refusal t))

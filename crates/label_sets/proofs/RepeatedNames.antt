@@ -1,10 +1,12 @@
 -- Names that stand twice among labels, before and after the labels are put in order.
-use Rattle.std.proofs.Common.{◌≡◌, ◌≢◌, ℕ, zero, suc, ◌+◌, ◌-◌, ◌<◌, ◌≤◌, Bool, true, false, cond, ◌||◌, List, [], ◌∷◌, ◌++◌, length, get_or, refl, sym, ap, ◌∙◌, subst, arith, inl, inr}
+use Rattle.std.proofs.Common.{◌≡◌, ◌≢◌, ℕ, zero, suc, ◌+◌, ◌-◌, ◌<◌, ◌≤◌, Bool, true, false, ◌||◌, List, [], ◌∷◌, ◌++◌, length, get_or, refl, sym, ap, ◌∙◌, subst, arith, inl, inr}
 use Rattle.list_core.proofs.Bools.{or_swap}
 use Rattle.list_core.proofs.Options.{None-from_is_some}
 use Rattle.std.proofs.Math.Bool.{or-true}
-use Rattle.std.specs.Ordering.{ordering_reverse, is_lt}
-use Rattle.std.specs.Cmp.Lexicographic.{nat_list_cmp_total, nat_list_eq_equiv, bytes_decides}
+use Rattle.std.specs.declared.cmp.Ordering.{Ordering}
+use Rattle.std.specs.declared.cmp.Ordering.TheVariants.{Less, Equal, Greater}
+use Rattle.std.specs.Ordering.{ordering_reverse, is_lt, is_eq}
+use Rattle.std.specs.Cmp.Lexicographic.{nat_list_cmp_total, nat_list_eq_equiv, texts_ties}
 use Rattle.std.specs.Str.{bytes_eq}
 use Rattle.std.specs.List.{list_any}
 use Rattle.std.specs.List.Sorted.{IsSortedBy}
@@ -14,60 +16,53 @@ use Rattle.std.proofs.lemmas.List.Folds.{list_any-append}
 use Rattle.std.proofs.lemmas.List.Sorted.{ranks_by}
 use Rattle.std.proofs.lemmas.List.{get_or_default}
 use Rattle.label_sets.specs.declared.label.Label.{Label}
-use Rattle.label_sets.specs.Labels.{compare_texts, ComesBefore, MakeASet, value_of, names_of, has_lesser_name}
+use Rattle.label_sets.specs.Labels.{compare_texts, MakeASet, value_of, names_of, has_lesser_name}
 use Rattle.label_sets.specs.Ordered.{placed, in_order}
 use Rattle.label_sets.specs.Finals.{is_among}
 use Rattle.label_sets.specs.Notation.{is_name, repeats}
 use Rattle.label_sets.specs.SetText.{ArePairs}
-use Rattle.label_sets.proofs.LabelValues.{by_ordering, before_differs, before_trans, bytes_eq_differs, same_text}
+use Rattle.label_sets.proofs.LabelValues.{bytes_eq_differs}
 use Rattle.label_sets.proofs.OrderedLabels.{value_of-placed, value_of-in_order}
 use Rattle.label_sets.proofs.FinalLabels.{among_names}
 use Rattle.list_core.proofs.StableSorts.{NoneLess, Rises, Rises-from_sorted}
 
-pub among_labels : (labels : List Label) (name : List ℕ) → list_any (λ l. bytes_eq l.name name) labels ≡ is_among (names_of labels) name
+among_labels : (labels : List Label) (name : List ℕ) → list_any (λ l. bytes_eq l.name name) labels ≡ is_among (names_of labels) name
 unfolding is_among
 among_labels [] name = refl
 among_labels (l ∷ ls) name = ap (λ b. bytes_eq l.name name || b) (among_labels ls name)
 
 -- two neighbours with one name
-pub repeats_at : (labels : List Label) (k : ℕ) (d : Label) → suc k < length labels → bytes_eq (get_or labels k d).name (get_or labels (suc k) d).name ≡ true → repeats (names_of labels) ≡ true
+repeats_at : (labels : List Label) (k : ℕ) (d : Label) → suc k < length labels → bytes_eq (get_or labels k d).name (get_or labels (suc k) d).name ≡ true → repeats (names_of labels) ≡ true
 unfolding repeats is_among
 repeats_at [] k d l e = absurd (omega arith)
 repeats_at (x ∷ []) k d l e = absurd (omega arith)
-repeats_at (x ∷ y ∷ ys) zero d l e = rw ((bytes_decides y.name x.name).1 (sym ((bytes_decides x.name y.name).0 e)))
+repeats_at (x ∷ y ∷ ys) zero d l e = rw (nat_list_eq_equiv.symm y.name x.name ∙ e)
 repeats_at (x ∷ y ∷ ys) (suc k) d l e = rw (repeats_at (y ∷ ys) k d (omega arith) e, or-true (is_among (names_of (y ∷ ys)) x.name))
 
-not_less : (one other : List ℕ) → is_lt (compare_texts one other) ≡ false → ComesBefore one other → ⊥
-not_less one other f b = true≢false (sym (ap is_lt b) ∙ f)
+-- of two texts that are not less than one another
+tied : (o : Ordering) → is_lt o ≡ false → is_lt (ordering_reverse o) ≡ false → is_eq o ≡ true
+tied Less f g = sym f
+tied Equal f g = refl
+tied Greater f g = sym g
 
--- what is not less than y, and not its equal, stands after it
-goes_after : (one other : List ℕ) → is_lt (compare_texts other one) ≡ false → bytes_eq one other ≡ false → ComesBefore one other
-goes_after one other f n = by_ordering (compare_texts one other)
-    (λ e. e)
-    (λ e. absurd (true≢false (sym ((bytes_decides one other).1 (same_text one other e)) ∙ n)))
-    (λ e. absurd (not_less other one f (nat_list_cmp_total.antisymm other one ∙ ap ordering_reverse e)))
-
-still_before : (a b c : List ℕ) → ComesBefore a b → is_lt (compare_texts c b) ≡ false → ComesBefore a c
-still_before a b c p f = by_ordering (compare_texts b c)
-    (λ e. before_trans a b c p e)
-    (λ e. subst (λ n. ComesBefore a n) (same_text b c e) p)
-    (λ e. absurd (not_less c b f (nat_list_cmp_total.antisymm c b ∙ ap ordering_reverse e)))
-
-not_among_later : (name : List ℕ) (y : Label) (ys : List Label) → ComesBefore name y.name → NoneLess has_lesser_name y ys → is_among (names_of ys) name ≡ false
+-- a name that y does not stand before, and that is not y's, is none of those behind y
+not_among_later : (name : List ℕ) (y : Label) (ys : List Label) → is_lt (compare_texts y.name name) ≡ false → bytes_eq y.name name ≡ false → NoneLess has_lesser_name y ys → is_among (names_of ys) name ≡ false
 unfolding is_among
-not_among_later name y [] b n = refl
-not_among_later name y (w ∷ ws) b n = rw (bytes_eq_differs w.name name (λ e. before_differs name w.name (still_before name y.name w.name b n.0) (sym e)), not_among_later name y ws b n.1)
+not_among_later name y [] low apart n = refl
+not_among_later name y (w ∷ ws) low apart n = rw (
+  bytes_eq_differs w.name name (λ e.
+      let high : is_lt (ordering_reverse (compare_texts y.name name)) ≡ false = ap is_lt (sym (nat_list_cmp_total.antisymm name y.name) ∙ ap (λ t. compare_texts t y.name) (sym e)) ∙ n.0 in
+      true≢false (sym (texts_ties y.name name ∙ tied (compare_texts y.name name) low high) ∙ apart)),
+  not_among_later name y ws low apart n.1,
+)
 
 no_repeats : (labels : List Label) → Rises has_lesser_name labels → ((k : ℕ) (d : Label) → suc k < length labels → bytes_eq (get_or labels k d).name (get_or labels (suc k) d).name ≡ false) → repeats (names_of labels) ≡ false
 unfolding repeats is_among
 no_repeats [] r h = refl
 no_repeats (x ∷ []) r h = refl
 no_repeats (x ∷ y ∷ ys) r h =
-    let b : ComesBefore x.name y.name = goes_after x.name y.name r.0.0 (h 0 x (omega arith)) in
-    rw (bytes_eq_differs y.name x.name (λ e. before_differs x.name y.name b (sym e)), not_among_later x.name y ys b r.1.0, no_repeats (y ∷ ys) r.1 (λ k d l. h (suc k) d (omega arith)))
-
-pub no_repeats-sorted : (labels : List Label) → IsSortedBy has_lesser_name labels → ((k : ℕ) (d : Label) → suc k < length labels → bytes_eq (get_or labels k d).name (get_or labels (suc k) d).name ≡ false) → repeats (names_of labels) ≡ false
-no_repeats-sorted labels up h = no_repeats labels (Rises-from_sorted has_lesser_name (ranks_by nat_list_cmp_total (λ (l : Label). l.name)) labels up) h
+    let apart : bytes_eq y.name x.name ≡ false = nat_list_eq_equiv.symm y.name x.name ∙ h 0 x (omega arith) in
+    rw (apart, not_among_later x.name y ys r.0.0 apart r.1.0, no_repeats (y ∷ ys) r.1 (λ k d l. h (suc k) d (omega arith)))
 
 -- the same at a place of a loop
 pub repeats_before : (labels : List Label) (i : ℕ) (d e : Label) → 1 ≤ i → i < length labels → true ≡ bytes_eq (get_or labels (i - 1) d).name (get_or labels i e).name → true ≡ repeats (names_of labels)
@@ -78,33 +73,30 @@ repeats_before labels i d e low l h =
 
 pub no_repeats_before : (labels : List Label) (i : ℕ) → length labels ≤ i → IsSortedBy has_lesser_name labels
     → ((k : ℕ) (d : Label) → k + 1 < i → bytes_eq (get_or labels k d).name (get_or labels (k + 1) d).name ≡ false) → false ≡ repeats (names_of labels)
-no_repeats_before labels i end up h = sym (no_repeats-sorted labels up
+no_repeats_before labels i end up h = sym (no_repeats labels (Rises-from_sorted has_lesser_name (ranks_by nat_list_cmp_total (λ (l : Label). l.name)) labels up)
     (λ k d l. subst (λ (n : ℕ). bytes_eq (get_or labels k d).name (get_or labels n d).name ≡ false) {x = k + 1} {y = suc k} (omega arith) (h k d (omega arith))))
 
-pub among-in_order : (labels : List Label) (name : List ℕ) → is_among (names_of (in_order has_lesser_name labels)) name ≡ is_among (names_of labels) name
-among-in_order labels name = among_names (in_order has_lesser_name labels) name ∙ ap is_some (value_of-in_order labels name) ∙ sym (among_names labels name)
+-- a list that has the same value under a name has the name too
+among_same : (labels others : List Label) (name : List ℕ) → value_of labels name ≡ value_of others name → is_among (names_of labels) name ≡ is_among (names_of others) name
+among_same labels others name e = among_names labels name ∙ ap is_some e ∙ sym (among_names others name)
 
-middle_or : (a b c d : Bool) → ((a || b) || (c || d)) ≡ ((a || c) || (b || d))
-middle_or true b c d = refl
-middle_or false true c d = sym (or-true c)
-middle_or false false c d = refl
-
-among-placed : (l : Label) (ls : List Label) (name : List ℕ) → is_among (names_of (placed has_lesser_name l ls)) name ≡ is_among (names_of (l ∷ ls)) name
-among-placed l ls name = among_names (placed has_lesser_name l ls) name ∙ ap is_some (value_of-placed l ls name) ∙ sym (among_names (l ∷ ls) name)
+among-in_order : (labels : List Label) (name : List ℕ) → is_among (names_of (in_order has_lesser_name labels)) name ≡ is_among (names_of labels) name
+among-in_order labels name = among_same (in_order has_lesser_name labels) labels name (value_of-in_order labels name)
 
 -- the first two may change places
 repeats-swap : (l m : Label) (ls : List Label) → repeats (names_of (m ∷ l ∷ ls)) ≡ repeats (names_of (l ∷ m ∷ ls))
 unfolding repeats is_among
-repeats-swap l m ls =
-    ap (λ b. (b || is_among (names_of ls) m.name) || (is_among (names_of ls) l.name || repeats (names_of ls))) (nat_list_eq_equiv.symm l.name m.name)
-    ∙ middle_or (bytes_eq m.name l.name) (is_among (names_of ls) m.name) (is_among (names_of ls) l.name) (repeats (names_of ls))
+repeats-swap l m ls = rw (nat_list_eq_equiv.symm l.name m.name) (elim (cases_Bool (bytes_eq m.name l.name)) [
+  | inl t ↦ rw t
+  | inr f ↦ rw f (or_swap (is_among (names_of ls) m.name) (is_among (names_of ls) l.name) (repeats (names_of ls)))
+])
 
 repeats-placed : (l : Label) (ls : List Label) → repeats (names_of (placed has_lesser_name l ls)) ≡ repeats (names_of (l ∷ ls))
 unfolding placed repeats
 repeats-placed l [] = refl
-repeats-placed l (m ∷ ms) = elim (has_lesser_name m l) as (λ b. repeats (names_of (cond b (m ∷ placed has_lesser_name l ms) (l ∷ m ∷ ms))) ≡ repeats (names_of (l ∷ m ∷ ms))) [
-  | true ↦ (λ i. among-placed l ms m.name i || repeats-placed l ms i) ∙ repeats-swap l m ms
-  | false ↦ refl
+repeats-placed l (m ∷ ms) = elim (cases_Bool (has_lesser_name m l)) [
+  | inl t ↦ rw t ((λ i. among_same (placed has_lesser_name l ms) (l ∷ ms) m.name (value_of-placed l ms m.name) i || repeats-placed l ms i) ∙ repeats-swap l m ms)
+  | inr f ↦ rw f
 ]
 
 pub repeats-in_order : (labels : List Label) → repeats (names_of (in_order has_lesser_name labels)) ≡ repeats (names_of labels)
@@ -114,17 +106,16 @@ repeats-in_order (l ∷ ls) = repeats-placed l (in_order has_lesser_name ls) ∙
 
 -- in a form that takes what a sort ensures
 pub repeats_sorted : (labels sorted : List Label) → sorted ≡ in_order has_lesser_name labels → repeats (names_of sorted) ≡ repeats (names_of labels)
-repeats_sorted labels sorted e = ap (λ ls. repeats (names_of ls)) e ∙ repeats-in_order labels
+repeats_sorted labels sorted e = rw e (repeats-in_order labels)
 
 pub repeats_sorted_with : (labels sorted : List Label) (name : List ℕ) → sorted ≡ in_order has_lesser_name labels → repeats (name ∷ names_of sorted) ≡ repeats (name ∷ names_of labels)
 unfolding repeats
-repeats_sorted_with labels sorted name e = ap (λ ls. is_among (names_of ls) name || repeats (names_of ls)) e ∙ (λ i. among-in_order labels name i || repeats-in_order labels i)
+repeats_sorted_with labels sorted name e = rw (e, among-in_order labels name, repeats-in_order labels)
 
 -- labels that can stand as pairs, no two of one name, make a set
-pub named_some : (name : List ℕ) → is_name name ≡ true → name ≢ []
+named_some : (name : List ℕ) → is_name name ≡ true → name ≢ []
 unfolding is_name
-named_some [] is e = true≢false (sym is)
-named_some (x ∷ name) is e = absurd cc
+named_some name is e = true≢false (sym is ∙ ap is_name e)
 
 pub MakeASet-from_pairs : (labels : List Label) → ArePairs labels → repeats (names_of labels) ≡ false → MakeASet labels
 unfolding repeats
@@ -137,7 +128,7 @@ MakeASet-from_pairs (l ∷ ls) are once =
 pub once_from_able : (labels : List Label) → MakeASet labels → repeats (names_of labels) ≡ false
 unfolding repeats
 once_from_able [] able = refl
-once_from_able (l ∷ ls) able = (λ i. among_names ls l.name i || once_from_able ls able.3 i) ∙ ap (λ o. is_some o || false) able.2
+once_from_able (l ∷ ls) able = rw (among_names ls l.name, able.2, once_from_able ls able.3)
 
 -- no label lacks its name
 nameless : (labels : List Label) → ArePairs labels → is_among (names_of labels) [] ≡ false

@@ -209,7 +209,8 @@ pub fn reduced(
     ensures value { IfOk result (λ made. made ≡ reduced_of labels.now external.now replicas.now) }
 
     // The final labels can be taken from the reduced ones.
-    ensures joined { IfOk result (λ made. final_of made (without replicas.now external.now) replicas.now
+    ensures joined { IfOk result (λ made.
+        final_of made (without replicas.now external.now) replicas.now
         ≡ final_of labels.now external.now replicas.now) }
 {
     let mut kept = Vec::new(alloc);

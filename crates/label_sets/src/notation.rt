@@ -102,7 +102,8 @@ fn placed_at(refusal: LabelRefusal, total: usize) -> LabelRefusal
 #[tactic(auto, unfolding(crate::specs::Notation::walk_at, crate::specs::Notation::at_brace, crate::specs::Notation::after_brace, crate::specs::Notation::stopped_at))]
 fn read_braces(alloc: Global, text: &[u8]) -> Walk<'_>
     requires { IsUtf8 text.now }
-    ensures read { IfOk result.end (λ after. walk_at text.now ≡ (result.labels.items, Ok after.now)) }
+    ensures read { IfOk result.end (λ after.
+        walk_at text.now ≡ (result.labels.items, Ok after.now)) }
     ensures refused { IfErr result.end (λ stop. (stop.refusal ≡ LabelRefusal.NoMemory)
         ⊎ (walk_at text.now ≡ (result.labels.items, Err (stop.refusal, stop.pair.now)))) }
 {

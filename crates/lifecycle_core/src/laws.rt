@@ -101,7 +101,8 @@ pub fn runs_are_guaranteed()
 /// A law: where the bucket is honest, an answered query leaves no settled upload out, whatever the rules of time, since no script
 /// deletes anything yet.
 pub fn settled_uploads_are_named()
-    ensures { (script : Script) (journal : List Entry) (ends : List (List (List End))) (query : Answered)
+    ensures { (script : Script) (journal : List Entry) (ends : List (List (List End)))
+        (query : Answered)
         → IsLawfulScript script → IsRunOf script journal ends → IsHonest journal
         → IsGiven script ends query → LeavesNoneOut script journal query }
 {}

@@ -4,3 +4,4 @@ pub mod Lists
 pub mod Membership
 pub mod Order
 pub mod StableSorts
+pub mod Ascending

@@ -31,7 +31,8 @@ impl Selector {
     /// Reads `{}`, which matches every label set, or a metric name.
     #[tactic(auto, unfolding(crate::specs::Selectors::read_selector))]
     pub fn read(alloc: Global, text: &str) -> Result<Selector, SelectorRefusal>
-        ensures { Gives SelectorRefusal.NoMemory (λ selector. selector) result (read_selector text.now) }
+        ensures { Gives SelectorRefusal.NoMemory (λ selector. selector) result
+            (read_selector text.now) }
     {
         let mut matchers = Vec::new(alloc);
         if text == "{}" {

@@ -9,3 +9,4 @@ pub mod Parsed
 pub mod ParsedSigned
 pub mod Printed
 pub mod DigitLoop
+pub mod Bound

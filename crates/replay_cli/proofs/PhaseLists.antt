@@ -26,7 +26,8 @@ use Rattle.lifecycle_core.specs.Views.{Views, no_views}
 use Rattle.lifecycle_core.proofs.Assembling.{all_guaranteed}
 use Rattle.lifecycle_core.proofs.phases.Joined.{no_phase_yet}
 use Rattle.lifecycle_core.proofs.phases.PhaseRuns.{ends_of}
-use Rattle.lifecycle_core.proofs.phases.RunsInLine.{AreWhole, by_none, by_parts, by_workers, finished, own_came, own_undone, run_of, runs, workers_at}
+use Rattle.script_core.proofs.SeatLaws.{workers_at}
+use Rattle.lifecycle_core.proofs.phases.RunsInLine.{AreWhole, by_none, by_parts, by_workers, finished, own_came, own_undone, run_of, runs}
 use Rattle.replay_cli.specs.Outcomes.{PhasesCame}
 use Rattle.replay_cli.specs.Progress.{HasRun, IsBrokenAt, IsDueAt, IsDueInLine, IsUnfinished, PhaseStep, PhasesTold, Reached, Shows, RunCame, TasksBroken, TasksDone, TasksTold, duties_at}
 use Rattle.replay_cli.specs.Reports.{is_as_asked}

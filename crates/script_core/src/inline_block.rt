@@ -62,7 +62,8 @@ impl InlineBlock {
         labels: LabelSet,
         samples: SampleList,
     ) -> Result<(), NoMemory>
-        ensures { OnOk result (last_of self.new ≡ with_series (series_of (labels, samples)) (last_of self.old)) }
+        ensures { OnOk result
+            (last_of self.new ≡ with_series (series_of (labels, samples)) (last_of self.old)) }
     {
         self.series.insert(labels, samples)?;
         Ok(())

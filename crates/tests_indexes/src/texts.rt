@@ -34,7 +34,8 @@ fn short_text(alloc: Global, text: &str) -> Result<Text, NoMemory>
 /// At most eight of these, with commas between.
 pub(crate) fn texts_of(alloc: Global, text: &str) -> Result<TextList, NoMemory>
     ensures few { IfOk result (λ list. length list ≤ 8) }
-    ensures short { IfOk result (λ list. sum_by (λ text. 21 + length text) list ≤ 121 * length list) }
+    ensures short { IfOk result (λ list.
+        sum_by (λ text. 21 + length text) list ≤ 121 * length list) }
 {
     let mut list = TextList::new(alloc);
     for word in text.split(',') {
@@ -62,7 +63,8 @@ fn row_of(alloc: Global, word: &str) -> Result<PostingsRow, NoMemory>
 /// At most eight of these, with blanks between.
 pub(crate) fn rows_of(alloc: Global, text: &str) -> Result<PostingsRowList, NoMemory>
     ensures few { IfOk result (λ list. length list ≤ 8) }
-    ensures short { IfOk result (λ list. sum_by (λ row. 31 + length row.name + length row.value) list ≤ 231 * length list) }
+    ensures short { IfOk result (λ list.
+        sum_by (λ row. 31 + length row.name + length row.value) list ≤ 231 * length list) }
 {
     let mut list = PostingsRowList::new(alloc);
     for word in text.split(' ') {

@@ -61,7 +61,7 @@ const SERIAL: [&str; 3] = ["serial", "memory", "none"];
 #[test]
 fn scripts_print_their_reports(rt: HostRuntime) -> Result<(), Failed> {
     let alloc = rt.alloc();
-    let rows: [(&str, u8, &str); 4] = [
+    let rows: [(&str, u8, &str); 5] = [
         (
             "at 0\nupload 0000000000000000000000000A\nat 1800000\nsync g\nquery 0 5000 up\n",
             0,
@@ -81,6 +81,12 @@ fn scripts_print_their_reports(rt: HostRuntime) -> Result<(), Failed> {
             "at 0\nupload 0000000000000000000000000A\nat 1800000\nsync g\nquery 0 999 up\nquery 0 5000 down\n",
             0,
             "upload 0000000000000000000000000A: ok 3 objects\nsync g: 1 blocks\nquery 0 999: 0 series 0 samples 1 sources\nsource 0000000000000000000000000A\nquery 0 5000: 0 series 0 samples 1 sources\nsource 0000000000000000000000000A\n",
+        ),
+        // a view is used in a later phase
+        (
+            "at 0\nupload 0000000000000000000000000A\nat 1800000\nsync g\nat 1900000\nquery 0 5000 up\n",
+            0,
+            "upload 0000000000000000000000000A: ok 3 objects\nsync g: 1 blocks\nquery 0 5000: 1 series 1 samples 1 sources\nsource 0000000000000000000000000A\nseries {__name__=\"up\"} 1000:3ff0000000000000\n",
         ),
     ];
     for (lines, status, report) in rows {

@@ -16,7 +16,8 @@ pub(crate) fn turn(
 ) -> Result<Act<SyncEnd>, NoMemory>
     requires asked { asked_sync sync.old ≡ Some op }
     requires lawful { IsLawful op }
-    ensures asks { IfOk result (λ act. (next : Op) → act ≡ Act.Do next → asked_sync sync.new ≡ Some next) }
+    ensures asks { IfOk result (λ act.
+        (next : Op) → act ≡ Act.Do next → asked_sync sync.new ≡ Some next) }
     ensures lawful { IfOk result (λ act. (next : Op) → act ≡ Act.Do next → IsLawful next) }
 {
     match world.act(2, op) {

@@ -2,7 +2,7 @@
 -- lists the names of blocks, and is complete before the sync reads its meta. The other block's upload lies wholly between the
 -- two. The script is
 --
---     rule consistency 0s
+--     rule consistency-delay 0s
 --     gateway g
 --     block 0000000000000000000000000A 1000 2000 {}
 --     series {__name__="up"} 1000:3ff0000000000000

@@ -51,7 +51,8 @@ impl Merger {
 
     /// Adds a series.
     pub fn take(&mut self, series: Series) -> Result<(), NoMemory>
-        ensures ok { OnOk result (self.new ≡ self.old ++ triples_under series.labels series.samples) }
+        ensures ok { OnOk result
+            (self.new ≡ self.old ++ triples_under series.labels series.samples) }
         ensures err { OnErr result (self.new ≡ self.old) }
     {
         if !series.samples.is_empty() {

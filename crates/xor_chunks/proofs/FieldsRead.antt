@@ -9,7 +9,7 @@ use Rattle.xor_chunks.specs.Steps.{field_at, field_value, whole_field_at, change
 use Rattle.xor_chunks.specs.Window.{Window, width_of, IsInside}
 use Rattle.xor_chunks.specs.Grammar.{StandsFor, IsRow, IsLongRow, IsChange, unchanged, row_14, row_17, row_20, row_64, IsWithin, IsOpened, IsValue, same_pattern, in_window, opens}
 use Rattle.xor_chunks.proofs.Takes.{take_again, taken}
-use Rattle.xor_chunks.proofs.Bound.{OfValue, of_ok, of_err, of_weaker, of_bind}
+use Rattle.reading_core.proofs.Bound.{OfValue, of_ok, of_err, of_weaker, of_bind}
 use Rattle.xor_chunks.proofs.BitLists.{bits_of-high}
 
 -- The bits begin with a text of the value, and these are left after it.

@@ -1,5 +1,3 @@
-pub mod Bound
-pub mod Ascending
 pub mod BitLists
 pub mod Buffers
 pub mod Crossings

@@ -16,7 +16,7 @@ use Rattle.xor_chunks.specs.Samples.{sample_of}
 use Rattle.xor_chunks.specs.Data.{start, gap_at, sample_at}
 use Rattle.xor_chunks.specs.Window.{Window, IsInside, is_inside}
 use Rattle.xor_chunks.specs.Grammar.{IsChange, unchanged, row_14, row_17, row_20, row_64, IsValue, same_pattern, in_window, opens, Follows, IsNext, AreOthers}
-use Rattle.xor_chunks.proofs.Bound.{OfValue, of_ok, of_err, of_weaker, of_bind, of_unless, of_bind_as}
+use Rattle.reading_core.proofs.Bound.{OfValue, of_ok, of_err, of_weaker, of_bind, of_unless, of_bind_as}
 use Rattle.reading_core.proofs.SignedRanges.{fits_from_test, test_from_fits}
 use Rattle.xor_chunks.proofs.FieldsRead.{HasText, Finds, change_found, change_again, value_found, value_again, value_inside}
 

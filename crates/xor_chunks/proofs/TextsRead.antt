@@ -25,7 +25,7 @@ use Rattle.xor_chunks.specs.Samples.{begun}
 use Rattle.xor_chunks.specs.Data.{start, count_at, first_at, sample_at, others_at, rest_at, samples_at, is_filling, data_at}
 use Rattle.xor_chunks.specs.Grammar.{AreOthers, AreRest, AreSamples, IsText}
 use Rattle.xor_chunks.specs.Window.{whole, IsInside}
-use Rattle.xor_chunks.proofs.Bound.{OfValue, of_ok, of_bind, of_unless, of_bind_as, of_gives}
+use Rattle.reading_core.proofs.Bound.{OfValue, of_ok, of_bind, of_unless, of_bind_as, of_gives}
 use Rattle.xor_chunks.proofs.FieldsRead.{HasText, value_inside}
 use Rattle.xor_chunks.proofs.BitLists.{bits_of-number_of, bits_of-zero, length-bits_in}
 use Rattle.xor_chunks.proofs.Takes.{number_of-zeros}

@@ -1,14 +1,12 @@
 -- Runs in the order of the lines are lawful journals.
-use Rattle.std.proofs.Common.{◌≡◌, ℕ, zero, suc, ◌+◌, ◌<◌, ◌≤◌, List, [], ◌∷◌, ◌++◌, length, take, get_or, refl, sym, ◌∙◌, ap, subst, inl, inr, arith}
+use Rattle.std.proofs.Common.{◌≡◌, ℕ, suc, ◌+◌, ◌<◌, ◌≤◌, List, [], ◌∷◌, ◌++◌, length, get_or, refl, sym, ◌∙◌, ap, subst, inl, inr, arith}
 use Rattle.std.specs.Prelude.{Some, slice_get}
 use Rattle.std.specs.List.{All, AllZip}
-use Rattle.std.proofs.lemmas.List.{length-append, length-map}
 use Rattle.std.proofs.lemmas.Option.{slice_get_within, get_or_from_slice_get}
 use Rattle.world_core.specs.declared.entry.Entry.{Entry}
-use Rattle.script_workers.specs.Hands.{gateway_count, gateway_of, hands_of, seats_after, seats_from, workers_from, greatest}
-use Rattle.script_core.specs.Workers.{seats_before, workers_after, workers_of}
+use Rattle.script_workers.specs.Hands.{gateway_count, gateway_of, hands_of}
+use Rattle.script_core.specs.Workers.{seats_before, workers_of}
 use Rattle.script_core.specs.Lawful.{IsLawfulPhase, IsLawfulScript, IsLawfulWork}
-use Rattle.script_workers.specs.Works.{works_in, works_of}
 use Rattle.script_workers.specs.declared.hand.Hand.{Hand}
 use Rattle.script_workers.specs.declared.phase.Phase.{Phase}
 use Rattle.script_core.specs.declared.script.Script.{Script}
@@ -18,41 +16,9 @@ use Rattle.lifecycle_core.specs.InLine.{duties_from, seat_of, InLine, PhasesInLi
 use Rattle.lifecycle_core.specs.Phases.{AreDone, AreFinished, CameTo, IsRunOf, PhaseRun, PhasesRun}
 use Rattle.lifecycle_core.specs.Tasks.{End}
 use Rattle.lifecycle_core.specs.Views.{Views, no_views}
-use Rattle.lifecycle_core.proofs.phases.HandLists.{few_duties, joins_from}
+use Rattle.script_core.proofs.SeatLaws.{few_gateways, room, workers_at}
 use Rattle.lifecycle_core.proofs.phases.PhaseRuns.{ends_of, phase_came, phase_run, phase_done, phase_undone}
 use Rattle.lifecycle_core.proofs.phases.TaskRuns.{MayBegin, none_yet}
-
-pub few_hands : (gateways : ℕ) (tasks : List Task) → gateways ≤ 1 → length (hands_of gateways tasks) ≤ length tasks
-few_hands gateways tasks few =
-    let joins = joins_from (λ (h : Hand). Unit {0}) gateways [] 0 tasks in
-    omega (arith, joins.few, length-map (duties_from gateways 0 tasks) (λ d. d.hand), few_duties gateways 0 tasks few)
-
-works_more : (phase : Phase) (phases : List Phase) → length (works_of (phase ∷ phases)) ≡ length phase.tasks + length (works_of phases)
-works_more phase phases = length-append (works_in phase.tasks) (works_of phases) ∙ ap (λ n. n + length (works_of phases)) (length-map phase.tasks (λ (t : Task). t.work))
-
-seats_bound : (gateways before : ℕ) (phases : List Phase) → gateways ≤ 1 → seats_from gateways before phases ≤ before + length (works_of phases)
-unfolding seats_from
-seats_bound gateways before [] few = omega arith
-seats_bound gateways before (phase ∷ phases) few =
-    let rest = seats_bound gateways (seats_after before (length (hands_of gateways phase.tasks))) phases few in
-    omega (arith, rest, works_more phase phases, few_hands gateways phase.tasks few)
-
-works_upto : (phases : List Phase) (number : ℕ) (phase : Phase) → slice_get phases number ≡ Some phase → length (works_of (take number phases)) + length phase.tasks ≤ length (works_of phases)
-works_upto [] number phase at = absurd (cc (at))
-works_upto (first ∷ phases) zero phase at =
-    let same : first ≡ phase = cc (at) in
-    omega (arith, works_more first phases, ap (λ (p : Phase). length p.tasks) same)
-works_upto (first ∷ phases) (suc number) phase at =
-    omega (arith, works_upto phases number phase at, works_more first phases, works_more first (take number phases))
-
-few_gateways : (script : Script) → IsLawfulScript script → gateway_count script.gateways ≤ 1
-few_gateways script lawful = omega (arith, lawful.few_gateways)
-
-pub room : (script : Script) (number : ℕ) (phase : Phase) → IsLawfulScript script → slice_get script.phases number ≡ Some phase
-    → seats_before script number + length (hands_of (gateway_count script.gateways) phase.tasks) ≤ greatest
-room script number phase lawful at =
-    let few = few_gateways script lawful in
-    omega (arith, seats_bound (gateway_count script.gateways) 0 (take number script.phases) few, works_upto script.phases number phase at, few_hands (gateway_count script.gateways) phase.tasks few, (lawful.phases).few_tasks)
 
 pub lawful_tasks : (script : Script) (number : ℕ) (phase : Phase) → IsLawfulScript script → slice_get script.phases number ≡ Some phase
     → All (λ t. IsLawfulWork script.gateways script.blocks (length script.selectors) t.work) phase.tasks
@@ -63,10 +29,6 @@ lawful_tasks script number phase lawful at =
 -- lawful tasks may begin
 pub may_begin : (script : Script) (tasks : List Task) → IsLawfulScript script → All (λ t. IsLawfulWork script.gateways script.blocks (length script.selectors) t.work) tasks → All (λ t. MayBegin script t.work) tasks
 may_begin script tasks lawful all = λ k d below. none_yet script (get_or tasks k d).work (lawful.blocks).each (all k d below)
-
-pub workers_at : (script : Script) (number : ℕ) (phase : Phase) → slice_get script.phases number ≡ Some phase
-    → workers_of script number ≡ workers_from (gateway_count script.gateways) (seats_before script number) phase.tasks (hands_of (gateway_count script.gateways) phase.tasks)
-workers_at script number phase at = ap (workers_after script (seats_before script number)) at
 
 -- the ends of phases by worker, from those by duty
 unfoldable pub by_workers : ℕ → List Phase → List (List End) → List (List (List End))

@@ -3,7 +3,7 @@ use Rattle.std.specs.Ordering.{int_cmp, is_lt}
 use Rattle.std.proofs.lemmas.Cmp.{int_cmp_total}
 use Rattle.std.proofs.lemmas.List.Sorted.{answers_always}
 use Rattle.label_sets.specs.declared.sample.Sample.{Sample}
-use Rattle.block_files.proofs.Ascending.{ascends_answer}
+use Rattle.list_core.proofs.Ascending.{ascends_answer}
 use Rattle.block_files.proofs.read.rise.Goals as goal
 
 pub returns : goal.returns

@@ -1,4 +1,4 @@
-use Rattle.block_meta.proofs.Bound.{of_gives}
+use Rattle.reading_core.proofs.Bound.{of_gives}
 use Rattle.block_meta.proofs.FoundTexts.{meta_text_found, meta_text_only}
 use Rattle.block_meta.proofs.meta.Meta.read.Goals as goal
 
