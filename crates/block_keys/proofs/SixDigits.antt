@@ -11,7 +11,7 @@ use Rattle.std.proofs.lemmas.List.{length-map}
 use Rattle.std.proofs.lemmas.Map.Lookups.{exact_bytes}
 use Rattle.std.proofs.lemmas.Str.Parse.{digit_from_value}
 use Rattle.reading_core.specs.FixedDigits.{fixed_digits}
-use Rattle.reading_core.proofs.Positional.{length-fixed_digits, below-fixed_digits, number-fixed_digits, cmp-digits}
+use Rattle.reading_core.proofs.Positional.{length-fixed_digits, below-fixed_digits, number-fixed_digits, fixed_digits-only, cmp-digits}
 use Rattle.block_keys.specs.KeyText.{IsSegmentName, six_digits}
 use Rattle.list_core.proofs.Bools.{nat_cmp-Equal}
 
@@ -91,10 +91,8 @@ slice_cmp-six_digits m n low_m low_n =
 pub IsSegmentName-unique : (name : List ℕ) (n : ℕ) → IsSegmentName name n → name ≡ codes "chunks/" ++ six_digits n
 unfolding six_digits
 IsSegmentName-unique name n is =
-    let low = IsSegmentName-small name n is in
     let values : number_from_digits 10 (map digit_value is.digits) ≡ n = sym (digits_value_is 10 is.digits) ∙ sym is.number_is in
-    let order : slice_cmp nat_cmp (map digit_value is.digits) (fixed_digits 10 6 n) ≡ nat_cmp n n =
-    cmp-six (map digit_value is.digits) (fixed_digits 10 6 n) n n (length-map is.digits digit_value ∙ is.count) (length-fixed_digits 10 6 n)
-    (all_below_base_from_digits 10 is.digits is.decimal) (below-fixed_digits 10 6 n (omega arith)) values (number-fixed_digits 10 6 n (omega arith) (omega arith)) in
-    let same : map digit_value is.digits ≡ fixed_digits 10 6 n = exact_bytes (map digit_value is.digits) (fixed_digits 10 6 n) (order ∙ nat_cmp-Equal n) in
+    let same : map digit_value is.digits ≡ fixed_digits 10 6 n =
+    fixed_digits-only 10 n (map digit_value is.digits) (omega arith) (all_below_base_from_digits 10 is.digits is.decimal) values
+    ∙ ap (λ count. fixed_digits 10 count n) (length-map is.digits digit_value ∙ is.count) in
     is.name_is ∙ ap (λ (t : List ℕ). codes "chunks/" ++ t) (shown-values is.digits is.decimal ∙ ap (map shown) same)

@@ -14,6 +14,5 @@ pub mod SetsAgain
 pub mod SetLaws
 pub mod StopPlaces
 pub mod RefusalLaws
-pub mod HexNumbers
 pub mod HexTexts
 pub mod SampleTexts

@@ -1,8 +1,11 @@
 -- Samples and series as text: `TIME:PATTERN`, and a label set with its samples after it, each after a space.
-use Rattle.std.specs.Prelude.{ℕ, zero, suc, ◌+◌, ◌-◌, ◌*◌, ◌/◌, ◌%◌, ℤ, List, [], ◌∷◌, ◌++◌, length, Bool, ◌&&◌, ◌||◌, ◌==◌, nat_lt, Option, Some, None, Result, Ok, Err, fold, if◌then◌else◌}
+use Rattle.std.specs.Prelude.{ℕ, ℤ, List, [], ◌∷◌, ◌++◌, map, length, Bool, ◌&&◌, ◌||◌, ◌==◌, Option, Some, None, Result, Ok, Err, if◌then◌else◌}
+use Rattle.std.specs.Char.{digit_char}
 use Rattle.std.specs.Int.{is_in_range}
 use Rattle.std.specs.List.{flat_map, list_all, before_first, after_first}
+use Rattle.std.specs.Str.Parse.{digits_value}
 use Rattle.reading_core.specs.Decimal.{signed_text, signed_of}
+use Rattle.reading_core.specs.FixedDigits.{fixed_digits}
 use Rattle.reading_core.specs.declared.refusal.NumberRefusal.{NumberRefusal}
 use Rattle.reading_core.specs.declared.refusal.NumberRefusal.TheVariants.{NotANumber, TooLarge}
 use Rattle.label_sets.specs.declared.sample.Sample.{Sample}
@@ -13,12 +16,11 @@ use Rattle.label_sets.specs.Notation.{set_text}
 
 -- the sign of a hexadecimal digit, in lower case
 unfoldable pub hex_sign : ℕ → ℕ
-hex_sign digit = if nat_lt digit 10 then 48 + digit else 87 + digit
+hex_sign digit = digit_char digit
 
--- the last digits of a number in base 16, so many of them, the most significant first
+-- the last digits of a number in base 16, so many of them
 unfoldable pub hex_text : ℕ → ℕ → List ℕ
-hex_text zero n = []
-hex_text (suc count) n = hex_text count (n / 16) ++ hex_sign (n % 16) ∷ []
+hex_text count number = map hex_sign (fixed_digits 16 count number)
 
 -- a pattern of 64 bits
 unfoldable pub pattern_text : ℕ → List ℕ
@@ -44,11 +46,8 @@ series_text series = set_text series.labels ++ flat_map spaced_sample_text serie
 unfoldable pub is_hex_sign : ℕ → Bool
 is_hex_sign byte = is_in_range 48 57 byte || is_in_range 97 102 byte
 
-unfoldable pub hex_digit : ℕ → ℕ
-hex_digit byte = if nat_lt byte 58 then byte - 48 else byte - 87
-
 unfoldable pub hex_number : List ℕ → ℕ
-hex_number digits = fold (λ value byte. value * 16 + hex_digit byte) 0 digits
+hex_number digits = digits_value 16 digits
 
 -- the pattern of 16 digits
 unfoldable pub pattern_of : List ℕ → Option ℕ

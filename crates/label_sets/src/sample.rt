@@ -2,7 +2,7 @@ ghost use Rattle.std.specs.Prelude.{◌≡◌, ◌≢◌, ◌↔◌, ◌+◌, �
 ghost use Rattle.std.specs.Int.{w64};
 ghost use Rattle.std.specs.Int.RustNames.{FitsSigned};
 ghost use Rattle.std.specs.List.{list_all};
-ghost use Rattle.label_sets.specs.SampleText.{hex_sign, hex_text, pattern_text, timed_text, sample_text, is_hex_sign, hex_digit, hex_number, pattern_of, sample_of};
+ghost use Rattle.label_sets.specs.SampleText.{hex_sign, pattern_text, timed_text, sample_text, is_hex_sign, pattern_of, sample_of};
 
 use crate::SampleRefusal;
 use list_core::{List, NoMemory, TryCopy};
@@ -68,7 +68,7 @@ fn read_sample(text: &str) -> Result<Sample, SampleRefusal>
     let Some((time, pattern)) = text.split_once(':') else {
         return Err(SampleRefusal::NotASample);
     };
-    let Some(pattern) = read_pattern(pattern.as_bytes()) else {
+    let Some(pattern) = read_pattern(pattern) else {
         return Err(SampleRefusal::NotASample);
     };
     match read_signed(time) {
@@ -90,12 +90,13 @@ fn put_sample(out: &mut Vec<u8>, time: i64, pattern: u64) -> Result<(), NoMemory
     Ok(())
 }
 
-#[tactic(auto, unfolding(crate::specs::SampleText::pattern_of))]
-fn read_pattern(digits: &[u8]) -> Option<u64>
+/// Reads 16 digits.
+#[tactic(auto, using(crate::proofs::HexTexts::pattern_parsed, crate::proofs::HexTexts::pattern_unread), unfolding(crate::specs::SampleText::pattern_of))]
+fn read_pattern(digits: &str) -> Option<u64>
     ensures { result ≡ pattern_of digits.now }
 {
-    if digits.len() == 16 && are_hex_signs(digits) {
-        Some(hex_number(digits))
+    if digits.len() == 16 && are_hex_signs(digits.as_bytes()) {
+        u64::from_str_radix(digits, 16).ok()
     } else {
         None
     }
@@ -107,19 +108,6 @@ fn are_hex_signs(digits: &[u8]) -> bool
     digits.iter().all(|digit| is_hex_sign(*digit))
 }
 
-#[tactic(auto, unfolding(crate::specs::SampleText::hex_number))]
-fn hex_number(digits: &[u8]) -> u64
-    requires long { length digits.now ≡ 16 }
-    requires hex { IsTrue (list_all is_hex_sign digits.now) }
-    ensures { result ≡ hex_number digits.now }
-{
-    let mut value = 0u64;
-    for digit in digits {
-        value = value * 16 + u64::from(hex_digit(*digit));
-    }
-    value
-}
-
 #[tactic(auto, unfolding(crate::specs::SampleText::is_hex_sign))]
 fn is_hex_sign(byte: u8) -> bool
     ensures { result ≡ is_hex_sign byte }
@@ -127,27 +115,14 @@ fn is_hex_sign(byte: u8) -> bool
     byte.is_ascii_digit() || (b'a' <= byte && byte <= b'f')
 }
 
-#[tactic(auto, unfolding(crate::specs::SampleText::hex_digit, crate::specs::SampleText::is_hex_sign))]
-fn hex_digit(byte: u8) -> u8
-    requires { IsTrue (is_hex_sign byte) }
-    ensures digit { result ≡ hex_digit byte }
-    ensures small { result < 16 }
-{
-    if byte < b':' {
-        byte - b'0'
-    } else {
-        byte - b'W'
-    }
-}
-
 fn pattern_digits(pattern: u64) -> [u8; 16]
     ensures { result ≡ pattern_text pattern }
 {
     let mut digits = [b'0'; 16];
-    let mut left = pattern;
-    for i in 0..16 {
-        digits[15 - i] = hex_sign((left % 16) as u8);
-        left /= 16;
+    let mut rest = pattern;
+    for place in (0..16).rev() {
+        digits[place] = hex_sign((rest % 16) as u8);
+        rest /= 16;
     }
     digits
 }

@@ -1,5 +1,6 @@
 pub mod Binds
 pub mod Positional
+pub mod FixedTexts
 pub mod SignedRanges
 pub mod Counted
 pub mod Fronts

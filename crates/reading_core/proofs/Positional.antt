@@ -1,9 +1,10 @@
 -- Numbers in positional notation.
 use Rattle.std.proofs.Common.{◌≡◌, ℕ, zero, suc, ◌+◌, ◌*◌, ◌/◌, ◌%◌, ◌^◌, ◌<◌, ◌≤◌, List, [], ◌∷◌, ◌++◌, length, refl, sym, ap, subst, ◌∙◌, ⊎_elim, arith, length-append, Ordering}
 use Rattle.std.specs.Int.Digits.{number_from_digits, number_from_digits_after, AllBelowBase}
-use Rattle.std.proofs.lemmas.Int.Digits.{number_push}
+use Rattle.std.proofs.lemmas.Int.Digits.{number_push, number_lt}
 use Rattle.std.proofs.lemmas.Nat.{div-add-mod'}
 use Rattle.std.proofs.Math.Nat.{pow-zero, pow-suc, div-lt_iff_lt-mul, mul-le-mul_right, mul_comm, mul_assoc}
+use Rattle.std.proofs.lemmas.Map.Lookups.{exact_bytes}
 use Rattle.std.proofs.lemmas.Bool.{cases_order}
 use Rattle.std.proofs.lemmas.Bool.Decides.{nat_tests}
 use Rattle.std.specs.Ordering.{nat_cmp, ordering_then}
@@ -90,3 +91,11 @@ number_after-ge base number (d ∷ digits) =
     let more : number * base * base ^ length digits ≤ (number * base + d) * base ^ length digits = mul-le-mul_right (base ^ length digits) (omega arith) in
     let step : number * base ^ suc (length digits) ≡ number * base * base ^ length digits = rw (pow-suc, mul_comm (base ^ length digits) base) (sym (mul_assoc number base (base ^ length digits))) in
     omega (arith, number_after-ge base (number * base + d) digits)
+
+-- a number has one text of so many digits
+pub fixed_digits-only : (base number : ℕ) (digits : List ℕ) → 0 < base → AllBelowBase base digits → number_from_digits base digits ≡ number → digits ≡ fixed_digits base (length digits) number
+fixed_digits-only base number digits some all is =
+    let others = fixed_digits base (length digits) number in
+    let fits : number < base ^ length digits = subst (λ n. n < base ^ length digits) is (number_lt base digits all) in
+    let order = cmp-digits base 0 0 digits others (sym (length-fixed_digits base (length digits) number)) all (below-fixed_digits base (length digits) number some) in
+    exact_bytes digits others (sym order ∙ (λ i. nat_cmp (is i) (number-fixed_digits base (length digits) number some fits i)) ∙ nat_cmp-Equal number)

@@ -29,7 +29,7 @@ use Rattle.block_files.specs.PlainForm.{plain_index, IsPlainSegment, AreLines, A
 use Rattle.tests_worked.specs.SmallBlock as small
 
 segment_is : segment_text (small.up ∷ []) ≡ small.segment
-unfolding small.segment segment_text series_text set_text pairs_text pair_text comma_pair_text quoted quoted_byte spaced_sample_text sample_text timed_text signed_text decimal_text pattern_text hex_text hex_sign
+unfolding small.segment segment_text series_text set_text pairs_text pair_text comma_pair_text quoted quoted_byte spaced_sample_text sample_text timed_text signed_text decimal_text pattern_text hex_text fixed_digits hex_sign
 segment_is = refl
 
 index_is : plain_index ≡ small.index
@@ -83,7 +83,7 @@ labels_written = record {
 }
 
 samples_written : AreSamples sample small.up.samples
-unfolding sample sample_text timed_text signed_text decimal_text pattern_text hex_text hex_sign
+unfolding sample sample_text timed_text signed_text decimal_text pattern_text hex_text fixed_digits hex_sign
 samples_written = (refl, (omega (arith, ints), omega arith))
 
 lines_written : AreLines small.segment (small.up ∷ [])
@@ -111,7 +111,7 @@ plan_of ulid = record {
 }
 
 said_is : (ulid : ℕ) → fields_of (small.said_of ulid) ≡ built_meta (plan_of ulid) (small.up ∷ [])
-unfolding plan_of built_meta sizes_of segments_of names_of_segments sample_count segment_text series_text set_text pairs_text pair_text comma_pair_text quoted quoted_byte spaced_sample_text sample_text timed_text signed_text decimal_text pattern_text hex_text hex_sign
+unfolding plan_of built_meta sizes_of segments_of names_of_segments sample_count segment_text series_text set_text pairs_text pair_text comma_pair_text quoted quoted_byte spaced_sample_text sample_text timed_text signed_text decimal_text pattern_text hex_text fixed_digits hex_sign
 said_is ulid = refl
 
 same_objects : (ulid : ℕ) (s i m text : List ℕ) → small.segment ≡ s → small.index ≡ i → text ≡ m → small.objects_with ulid text ≡ objects_of ulid (s ∷ []) i m

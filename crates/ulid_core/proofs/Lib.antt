@@ -2,5 +2,4 @@ pub mod Tables
 pub mod Positional
 pub mod UlidLaws
 pub mod NumberLoop
-pub mod TextLoop
 pub mod AsciiTexts

@@ -1,5 +1,7 @@
 -- The segment of a block that a lawful script declares is text that has the block's series, and no others.
+use Rattle.reading_core.specs.FixedDigits.{fixed_digits}
 use Rattle.reading_core.proofs.Binds.{one_answer}
+use Rattle.reading_core.proofs.Positional.{below-fixed_digits}
 use Rattle.list_core.proofs.Lists.{nil_not_middle}
 use Rattle.std.proofs.Common.{◌≡◌, ◌≢◌, ◌⊎◌, ℕ, zero, suc, ◌+◌, ◌/◌, ◌%◌, ◌^◌, ◌<◌, ℤ, pos, negsuc, neg_ℤ, ◌≤ℤ◌, ◌<ℤ◌, Bool, true, false, cond, ◌==◌, nat_lt, List, [], ◌∷◌, ◌++◌, length, drop, map, Some, refl, sym, ap, ◌∙◌, subst, inl, inr, arith, append_assoc, append-nil}
 use Rattle.std.specs.Prelude.{IsTrue}
@@ -88,11 +90,13 @@ hex_low : (digit : ℕ) → digit < 16 → hex_sign digit < 128
 unfolding hex_sign
 hex_low digit low = hex_by (nat_lt digit 10) digit low
 
+signs_ascii : (digits : List ℕ) → AllBelowBase 16 digits → IsAscii (map hex_sign digits)
+signs_ascii [] below = IsAscii-nil
+signs_ascii (d ∷ ds) below = IsAscii-cons (hex_sign d) (map hex_sign ds) (hex_low d below.0) (signs_ascii ds below.1)
+
 hex_ascii : (count n : ℕ) → IsAscii (hex_text count n)
 unfolding hex_text
-hex_ascii zero n = IsAscii-nil
-hex_ascii (suc count) n =
-    IsAscii-append (hex_text count (n / 16)) (hex_sign (n % 16) ∷ []) (hex_ascii count (n / 16)) (one_ascii (hex_sign (n % 16)) (hex_low (n % 16) (omega arith)))
+hex_ascii count n = signs_ascii (fixed_digits 16 count n) (below-fixed_digits 16 count n (omega arith))
 
 sample_ascii : (s : Sample) → IsAscii (sample_text s)
 unfolding sample_text timed_text pattern_text

@@ -1,6 +1,11 @@
-use Rattle.std.proofs.Common.{◌≡◌, ◌^◌, ◌-◌, ◌/◌, length, drop}
-use Rattle.label_sets.specs.SampleText.{hex_text}
+use Rattle.std.proofs.Common.{◌≡◌, ◌++◌, map, drop, length}
+use Rattle.reading_core.specs.FixedDigits.{fixed_digits}
+use Rattle.label_sets.specs.SampleText.{hex_sign, pattern_text}
 use Rattle.label_sets.proofs.sample.pattern_digits.Given as goal
 
-abbrev pub invariant-loop-i : goal.invariant-loop-i
-invariant-loop-i l = record { long : length l.digits ≡ 16; placed : drop (16 - l.i) l.digits ≡ hex_text l.i l.pattern; left : l.left ≡ l.pattern / 16 ^ l.i }
+-- the digits that are still to come and those that stand are the text
+abbrev pub invariant-loop-place : goal.invariant-loop-place
+invariant-loop-place l = record {
+  size : length l.digits ≡ 16;
+  whole : map hex_sign (fixed_digits 16 l.place l.rest) ++ drop l.place l.digits ≡ pattern_text l.pattern;
+}
