@@ -1,5 +1,5 @@
 -- Patterns as 16 digits in base 16, and the number that such digits write.
-use Rattle.std.proofs.Common.{◌≡◌, ◌≢◌, ℕ, ◌^◌, ◌<◌, ◌≤◌, Bool, true, false, ◌&&◌, cond, eqb, List, [], ◌∷◌, map, length, get_or, Option, Some, None, Result, Ok, Err, refl, sym, ap, subst, ◌∙◌, arith, eq-eqb}
+use Rattle.std.proofs.Common.{◌≡◌, ◌≢◌, ℕ, ◌^◌, ◌<◌, Bool, true, false, ◌&&◌, cond, eqb, List, [], ◌∷◌, map, length, get_or, Some, None, Result, Ok, Err, refl, sym, ap, subst, ◌∙◌, arith, eq-eqb}
 use Rattle.std.proofs.lemmas.Bool.{and_parts}
 use Rattle.std.proofs.lemmas.Bool.Decides.{nat_tests}
 use Rattle.std.proofs.lemmas.Int.Digits.{digits_value_is, digits_value-lt, all_below_base_from_digits}
@@ -8,9 +8,8 @@ use Rattle.std.proofs.lemmas.Str.Parse.{without_leading_plus_none}
 use Rattle.std.specs.Char.{digit_value}
 use Rattle.std.specs.Int.Digits.{number_from_digits, AllBelowBase}
 use Rattle.std.specs.List.{list_all}
-
 use Rattle.std.specs.Result.{OkIff, result_ok}
-use Rattle.std.specs.Str.Parse.{AllDigits, IsNumeral, digits_value, without_leading_plus, ParsesUnsigned}
+use Rattle.std.specs.Str.Parse.{AllDigits, IsNumeral, digits_value, ParsesUnsigned}
 use Rattle.reading_core.specs.FixedDigits.{fixed_digits}
 use Rattle.reading_core.proofs.Positional.{length-fixed_digits, below-fixed_digits, number-fixed_digits, fixed_digits-only}
 use Rattle.label_sets.specs.SampleText.{hex_sign, hex_text, is_hex_sign, hex_number, pattern_text, pattern_of}
@@ -61,9 +60,10 @@ pattern_found digits pattern e =
     let b = and_parts (eqb (length digits) 16) (list_all is_hex_sign digits) t.0 in
     let long = sixteen digits b.0 in
     let known = digits_of_signs digits b.1 in
-    let values = fixed_digits-only 16 pattern (map digit_value digits) (omega arith) (all_below_base_from_digits 16 digits known.0) (sym (digits_value_is 16 digits) ∙ t.1) in
-    (sym known.1 ∙ ap (map hex_sign) (values ∙ ap (λ n. fixed_digits 16 n pattern) (length-map digits digit_value ∙ long)),
-      subst (λ n. n < 2 ^ 64) t.1 (small digits known.0 long))
+    let values = fixed_digits-only 16 pattern (map digit_value digits) (omega arith) (all_below_base_from_digits 16 digits known.0) (sym (digits_value_is 16 digits) ∙ t.1) in (
+      sym known.1 ∙ ap (map hex_sign) (values ∙ ap (λ n. fixed_digits 16 n pattern) (length-map digits digit_value ∙ long)),
+      subst (λ n. n < 2 ^ 64) t.1 (small digits known.0 long),
+    )
 
 -- and the text of each pattern is read
 pub pattern_again : (pattern : ℕ) → pattern < 2 ^ 64 → pattern_of (pattern_text pattern) ≡ Some pattern

@@ -12,6 +12,7 @@ pub mod ReadSets
 pub mod SetsFound
 pub mod SetsAgain
 pub mod SetLaws
+pub mod SetSizes
 pub mod StopPlaces
 pub mod RefusalLaws
 pub mod HexTexts

@@ -13,6 +13,7 @@ ghost use Rattle.label_sets.specs.Notation.{read_set, set_text};
 ghost use Rattle.label_sets.specs.SetText.{AreNamed, IsSetText};
 ghost use Rattle.label_sets.specs.SetRefusals.{IsRefused};
 ghost use Rattle.label_sets.specs.declared.label_refusal.LabelRefusal.{LabelRefusal};
+ghost use Rattle.label_sets.specs.Counts.{members_in};
 ghost use Rattle.label_sets.specs.Ordered.{placed, in_order};
 ghost use Rattle.label_sets.specs.Labels.{compare_sets, IsLabelSet, value_of, names_of, has_lesser_name, added};
 ghost use Rattle.label_sets.specs.Finals.{is_among, without, final_of, reduced_of};
@@ -90,6 +91,10 @@ impl LabelSet {
             → text.now ≡ front ++ after
             → MatchResult result (λ read. (read.0 ≡ set) × (read.1 ≡ length front))
             (λ e. e ≡ LabelRefusal.NoMemory) }
+
+        // It has no more members, and takes no more bytes, than the text.
+        ensures bounded { IfOk result (λ read. (members_in read.0 ≤ read.1)
+            × (read.1 ≤ length text.now)) }
 
         // Which refusal it is.
         ensures refused { IfErr result (λ e. (e ≡ LabelRefusal.NoMemory) ⊎ IsRefused text.now e) }
