@@ -1,12 +1,13 @@
 -- The tasks over the small block are done as the definitions say.
-use Rattle.std.proofs.Common.{◌≡◌, ◌≢◌, ◌+◌, inl, inr, ℕ, pos, List, [], ◌∷◌, Some, None, refl, arith}
+use Rattle.std.proofs.Common.{◌≡◌, ◌≢◌, ◌+◌, inl, inr, ℕ, pos, Bool, true, false, cond, ◌||◌, List, [], ◌∷◌, Some, None, refl, ap, arith}
 use Rattle.std.proofs.lemmas.List.Elements.{All-nil, All-cons}
+use Rattle.std.specs.List.{find, list_any}
 use Rattle.std.specs.List.Sorted.{IsStrictlySortedBy}
 use Rattle.label_sets.specs.declared.series.Series.{Series}
 use Rattle.label_sets.specs.Finals.{is_among, without, final_of}
 use Rattle.label_sets.specs.Labels.{value_of}
 use Rattle.label_sets.specs.Ordered.{in_order, placed}
-use Rattle.label_sets.specs.Triples.{triples_under, triples_of, first_of}
+use Rattle.label_sets.specs.Triples.{Triple, triples_under, triples_of, has_same_key}
 use Rattle.moment_core.specs.StandardRules.{standard_rules, minutes, hours}
 use Rattle.moment_core.specs.declared.span.Span.{Span}
 use Rattle.block_keys.specs.declared.key.Key.TheVariants as key
@@ -16,7 +17,7 @@ use Rattle.block_meta.specs.MetaFields.{fields_of}
 use Rattle.matchers.specs.declared.matcher.Matcher.{Matcher}
 use Rattle.matchers.specs.Selected.{is_selected, selected}
 use Rattle.matchers.specs.Selectors.{is_match, accepts, is_accepted, value_or_empty}
-use Rattle.vertical_merge.specs.Merged.{IsMerge}
+use Rattle.vertical_merge.specs.Merged.{AreFirst, IsMerge}
 use Rattle.shipper.specs.Uploads.{UploadRun}
 use Rattle.shipper.specs.declared.upload_end.UploadEnd.TheVariants as shipped
 use Rattle.sync_filters.specs.declared.found.Found.{Found}
@@ -96,13 +97,22 @@ empty_sync_run seq seat moment = (refl, (refl, inr (_, refl, record { first = re
 abbrev pub question : List Matcher → Query
 question selector = record { selector = selector; replicas = []; low = pos 0; high = pos 5000 }
 
+-- one triple is the first under its key
+only_first : (t : Triple) → has_same_key t t ≡ true → AreFirst (t ∷ []) (t ∷ [])
+unfolding IsStrictlySortedBy
+only_first t same = record {
+  ascending = (tt, tt);
+  first = All-cons (λ u. find (has_same_key u) (t ∷ []) ≡ Some u) t [] (ap (λ b. cond b (Some t) None) same) (All-nil (λ u. find (has_same_key u) (t ∷ []) ≡ Some u));
+  complete = All-cons (λ u. list_any (has_same_key u) (t ∷ []) ≡ true) t [] (ap (λ b. b || false) same) (All-nil (λ u. list_any (has_same_key u) (t ∷ []) ≡ true));
+}
+
 pub merge_up : IsMerge (wanted (question one.selector) [] (small.up ∷ [])) (small.up ∷ [])
-unfolding wanted seen_under selected is_selected is_match accepts is_accepted value_or_empty value_of final_of without is_among in_order placed triples_of triples_under first_of IsStrictlySortedBy
-merge_up = record { ascending = (tt, tt); inhabited = All-cons (λ s. s.samples ≢ []) small.up [] (λ none. cc) (All-nil (λ (s : Series). s.samples ≢ [])); first = refl }
+unfolding wanted seen_under selected is_selected is_match accepts is_accepted value_or_empty value_of final_of without is_among in_order placed triples_of triples_under IsStrictlySortedBy
+merge_up = record { ascending = (tt, tt); inhabited = All-cons (λ s. s.samples ≢ []) small.up [] (λ none. cc) (All-nil (λ (s : Series). s.samples ≢ [])); first = only_first _ refl }
 
 pub merge_all : IsMerge (wanted (question []) [] (small.up ∷ [])) (small.up ∷ [])
-unfolding wanted seen_under selected is_selected is_match final_of without is_among in_order placed triples_of triples_under first_of IsStrictlySortedBy
-merge_all = record { ascending = (tt, tt); inhabited = All-cons (λ s. s.samples ≢ []) small.up [] (λ none. cc) (All-nil (λ (s : Series). s.samples ≢ [])); first = refl }
+unfolding wanted seen_under selected is_selected is_match final_of without is_among in_order placed triples_of triples_under IsStrictlySortedBy
+merge_all = record { ascending = (tt, tt); inhabited = All-cons (λ s. s.samples ≢ []) small.up [] (λ none. cc) (All-nil (λ (s : Series). s.samples ≢ [])); first = only_first _ refl }
 
 one_source : IsSetOf (small.a ∷ []) (small.a ∷ [])
 one_source = record { increasing = λ k more. omega (arith, more); members = λ x. (λ h. h, λ h. h) }
@@ -114,8 +124,12 @@ query_run selector merge first begin end mark_read meta_read seq seat moment =
     (refl, (refl, read (small.up ∷ []) segment_reads (refl, inr (small.up ∷ [], small.a ∷ [], refl, merge, one_source))))
 
 no_merge : IsMerge [] []
-unfolding IsStrictlySortedBy triples_of first_of in_order
-no_merge = record { ascending = tt; inhabited = All-nil (λ (s : Series). s.samples ≢ []); first = refl }
+unfolding IsStrictlySortedBy triples_of
+no_merge = record {
+  ascending = tt;
+  inhabited = All-nil (λ (s : Series). s.samples ≢ []);
+  first = record { ascending = tt; first = All-nil (λ u. find (has_same_key u) [] ≡ Some u); complete = All-nil (λ u. list_any (has_same_key u) [] ≡ true) };
+}
 
 no_source : IsSetOf [] []
 no_source = record { increasing = λ k more. omega (arith, more); members = λ x. (λ h. h, λ h. h) }

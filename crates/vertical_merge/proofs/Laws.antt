@@ -1,9 +1,11 @@
--- The first patterns at the keys of a list are its one-to-one deduplication, and the only one in order where the patterns agree.
+-- The first patterns at the keys of a list: they are a one-to-one deduplication, and the only one in order where the patterns agree.
 use Rattle.std.proofs.Common.{◌≡◌, ◌+◌, zero, suc, Bool, true, false, cond, ◌||◌, List, [], ◌∷◌, get_or, refl, sym, ap, ◌∙◌, subst, arith, inl, inr, ◌⊎◌}
-use Rattle.std.specs.Prelude.{All, Contains}
-use Rattle.std.specs.declared.cmp.Ordering.TheVariants.{Less, Equal}
+use Rattle.std.specs.Prelude.{All, Contains, Option, Some, None}
+use Rattle.std.specs.declared.cmp.Ordering.{Ordering}
+use Rattle.std.specs.declared.cmp.Ordering.TheVariants.{Less, Equal, Greater}
+use Rattle.std.specs.Ordering.{is_lt, is_eq}
 use Rattle.std.specs.Cmp.{IsEquivalence}
-use Rattle.std.specs.List.{AllByRecursion, dedup, dedup_from, list_any}
+use Rattle.std.specs.List.{AllByRecursion, dedup, dedup_from, find, list_any}
 use Rattle.std.specs.List.Sorted.{IsStrictlySortedBy, IsSorted}
 use Rattle.std.proofs.lemmas.Cmp.{eq_by_cmp_equiv, tied_itself}
 use Rattle.std.proofs.lemmas.List.Elements.{All-contains, All-contains_itself, All-from_recursion, recursion_from_All, All-weaker}
@@ -16,32 +18,11 @@ use Rattle.list_core.specs.Ordered.{in_order, placed}
 use Rattle.label_sets.specs.Triples.{Triple, triples_of, first_of, has_lesser_key, has_same_key, compare_keys, IsOneToOne}
 use Rattle.list_core.proofs.Bools.{by_bool}
 use Rattle.list_core.proofs.StableSorts.{Rises, Rises-in_order}
-use Rattle.vertical_merge.specs.Merged.{IsMerge, IsDeduplication, PatternsAgree}
+use Rattle.vertical_merge.specs.Merged.{AreFirst, IsMerge, IsDeduplication, PatternsAgree}
 use Rattle.vertical_merge.proofs.Orders.{keys_total, keys_ranked, same_key}
 
 keys_alike : IsEquivalence has_same_key
 keys_alike = eq_by_cmp_equiv keys_total
-
--- ---- what is kept is of the list
-
-all-placed : (P : Triple → Type 0) (x : Triple) (ys : List Triple) → P x → AllByRecursion P ys → AllByRecursion P (placed has_lesser_key x ys)
-unfolding placed
-all-placed P x [] p all = (p, tt)
-all-placed P x (y ∷ ys) p all = elim (has_lesser_key y x) as (λ b. AllByRecursion P (cond b (y ∷ placed has_lesser_key x ys) (x ∷ y ∷ ys))) [
-  | true ↦ (all.0, all-placed P x ys p all.1)
-  | false ↦ (p, all)
-]
-
-all-in_order : (P : Triple → Type 0) (xs : List Triple) → AllByRecursion P xs → AllByRecursion P (in_order has_lesser_key xs)
-unfolding in_order
-all-in_order P [] all = tt
-all-in_order P (x ∷ xs) all = all-placed P x (in_order has_lesser_key xs) all.0 (all-in_order P xs all.1)
-
--- what holds of each triple holds of each that is kept
-all-first : (P : Triple → Type 0) (list : List Triple) → All P list → All P (first_of list)
-unfolding first_of
-all-first P list all = All-dedup has_same_key P (in_order has_lesser_key list)
-    (All-from_recursion P (in_order has_lesser_key list) (all-in_order P list (recursion_from_All P list all)))
 
 -- ---- each key is kept
 
@@ -112,15 +93,107 @@ unfolding first_of
 ascending-first list = IsStrictlySortedBy-dedup keys_total (λ x y. refl) (in_order has_lesser_key list)
     (rises_sorted (in_order has_lesser_key list) (Rises-in_order has_lesser_key keys_ranked list))
 
-pub one_to_one-first : (list : List Triple) → IsOneToOne (first_of list) list
-one_to_one-first list = record {
-  once = IsDistinct-from_sorted compare_keys (first_of list) (ascending-first list);
-  taken = all-first (Contains list) list (All-contains_itself list);
+-- ---- the first at its key
+
+-- a member that passes nothing does not change what is found
+find_skip : (p : Triple → Bool) (x : Triple) (xs : List Triple) → p x ≡ false → find p (x ∷ xs) ≡ find p xs
+find_skip p x xs f = ap (λ b. cond b (Some x) (find p xs)) f
+
+find_here : (p : Triple → Bool) (x : Triple) (xs : List Triple) → p x ≡ true → find p (x ∷ xs) ≡ Some x
+find_here p x xs h = ap (λ b. cond b (Some x) (find p xs)) h
+
+less_not_equal : (o : Ordering) → is_lt o ≡ true → is_eq o ≡ false
+less_not_equal Less e = refl
+less_not_equal Equal e = absurd (true≢false (sym e))
+less_not_equal Greater e = absurd (true≢false (sym e))
+
+-- what is less than a triple has not its key
+other_key : (t x y : Triple) → has_same_key t x ≡ true → has_lesser_key y x ≡ true → has_same_key t y ≡ false
+other_key t x y same less = keys_alike.congr t x y same ∙ keys_alike.symm x y ∙ less_not_equal (compare_keys y x) less
+
+-- among the triples with a key, the one that is put in stands before the others
+find-placed : (t x : Triple) (ys : List Triple) → find (has_same_key t) (placed has_lesser_key x ys) ≡ find (has_same_key t) (x ∷ ys)
+unfolding placed
+find-placed t x [] = refl
+find-placed t x (y ∷ ys) = by_bool (has_lesser_key y x)
+    (λ less. ap (λ b. find (has_same_key t) (cond b (y ∷ placed has_lesser_key x ys) (x ∷ y ∷ ys))) less
+    ∙ ap (λ o. cond (has_same_key t y) (Some y) o) (find-placed t x ys)
+    ∙ by_bool (has_same_key t x)
+      (λ same. find_skip (has_same_key t) y (x ∷ ys) (other_key t x y same less) ∙ find_here (has_same_key t) x ys same ∙ sym (find_here (has_same_key t) x (y ∷ ys) same))
+      (λ f. ap (λ o. cond (has_same_key t y) (Some y) o) (find_skip (has_same_key t) x ys f) ∙ sym (find_skip (has_same_key t) x (y ∷ ys) f)))
+    (λ f. ap (λ b. find (has_same_key t) (cond b (y ∷ placed has_lesser_key x ys) (x ∷ y ∷ ys))) f)
+
+find-in_order : (t : Triple) (xs : List Triple) → find (has_same_key t) (in_order has_lesser_key xs) ≡ find (has_same_key t) xs
+unfolding in_order
+find-in_order t [] = refl
+find-in_order t (x ∷ xs) = find-placed t x (in_order has_lesser_key xs) ∙ ap (λ o. cond (has_same_key t x) (Some x) o) (find-in_order t xs)
+
+-- the second of two neighbours with one key is never found
+find_twin : (t x y : Triple) (ys : List Triple) → has_same_key y x ≡ true → find (has_same_key t) (x ∷ y ∷ ys) ≡ find (has_same_key t) (x ∷ ys)
+find_twin t x y ys e = by_bool (has_same_key t x)
+    (λ same. find_here (has_same_key t) x (y ∷ ys) same ∙ sym (find_here (has_same_key t) x ys same))
+    (λ f. ap (λ o. cond (has_same_key t x) (Some x) o) (find_skip (has_same_key t) y ys (sym (alike t x y e) ∙ f)))
+
+all_both : (P Q R : Triple → Type 0) → ((t : Triple) → P t → Q t → R t) → (xs : List Triple) → AllByRecursion P xs → AllByRecursion Q xs → AllByRecursion R xs
+all_both P Q R both [] p q = tt
+all_both P Q R both (x ∷ xs) p q = (both x p.0 q.0, all_both P Q R both xs p.1 q.1)
+
+all_weaker : (P Q : Triple → Type 0) → ((t : Triple) → P t → Q t) → (xs : List Triple) → AllByRecursion P xs → AllByRecursion Q xs
+all_weaker P Q weaker xs all = all_both P P Q (λ t p q. weaker t p) xs all all
+
+-- the triple is the first of the list under its key
+abbrev IsFirstIn : List Triple → Triple → Type 0
+IsFirstIn list t = find (has_same_key t) list ≡ Some t
+
+-- of neighbours with one key the first stays
+first-dedup_from : (x : Triple) (xs : List Triple) → IsStrictlySortedBy compare_keys (dedup_from has_same_key x xs)
+    → AllByRecursion (IsFirstIn (x ∷ xs)) (dedup_from has_same_key x xs)
+unfolding IsStrictlySortedBy
+first-dedup_from x [] up = (find_here (has_same_key x) x [] (keys_alike.refl x), tt)
+first-dedup_from x (y ∷ ys) up = by_bool (has_same_key y x)
+    (λ e. let same : dedup_from has_same_key x (y ∷ ys) ≡ dedup_from has_same_key x ys = ap (λ b. cond b (dedup_from has_same_key x ys) (x ∷ dedup_from has_same_key y ys)) e in
+      subst (AllByRecursion (IsFirstIn (x ∷ y ∷ ys))) (sym same)
+      (all_weaker (IsFirstIn (x ∷ ys)) (IsFirstIn (x ∷ y ∷ ys)) (λ t is. find_twin t x y ys e ∙ is)
+      (dedup_from has_same_key x ys) (first-dedup_from x ys (subst (IsStrictlySortedBy compare_keys) same up))))
+    (λ f. let apart : dedup_from has_same_key x (y ∷ ys) ≡ x ∷ dedup_from has_same_key y ys = ap (λ b. cond b (dedup_from has_same_key x ys) (x ∷ dedup_from has_same_key y ys)) f in
+      let rise : IsStrictlySortedBy compare_keys (x ∷ dedup_from has_same_key y ys) = subst (IsStrictlySortedBy compare_keys) apart up in
+      subst (AllByRecursion (IsFirstIn (x ∷ y ∷ ys))) (sym apart)
+      (find_here (has_same_key x) x (y ∷ ys) (keys_alike.refl x),
+      all_both (λ t. compare_keys x t ≡ Less) (IsFirstIn (y ∷ ys)) (IsFirstIn (x ∷ y ∷ ys))
+      (λ t less is. find_skip (has_same_key t) x (y ∷ ys) (keys_alike.symm t x ∙ ap is_eq less) ∙ is)
+      (dedup_from has_same_key y ys) rise.0 (first-dedup_from y ys rise.1)))
+
+first-dedup : (xs : List Triple) → IsStrictlySortedBy compare_keys (dedup has_same_key xs) → AllByRecursion (IsFirstIn xs) (dedup has_same_key xs)
+first-dedup [] up = tt
+first-dedup (x ∷ xs) up = first-dedup_from x xs up
+
+pub are_first : (list : List Triple) → AreFirst list (first_of list)
+unfolding first_of
+are_first list = record {
+  ascending = ascending-first list;
+  first = All-from_recursion (IsFirstIn list) (first_of list)
+      (all_weaker (IsFirstIn (in_order has_lesser_key list)) (IsFirstIn list) (λ t is. sym (find-in_order t list) ∙ is)
+      (first_of list) (first-dedup (in_order has_lesser_key list) (ascending-first list)));
   complete = complete-first list;
 }
 
-pub deduplication-first : (list : List Triple) → IsDeduplication (first_of list) list
-deduplication-first list = record { ascending = ascending-first list; one_to_one = one_to_one-first list }
+-- ---- a one-to-one deduplication
+
+found_contains : (p : Triple → Bool) (xs : List Triple) (t : Triple) → find p xs ≡ Some t → Contains xs t
+found_contains p [] t e = cc
+found_contains p (x ∷ xs) t e = by_bool (p x)
+    (λ h. let is : Some x ≡ Some t = sym (find_here p x xs h) ∙ e in (zero, omega arith, cc))
+    (λ f. let found : _ = found_contains p xs t (sym (find_skip p x xs f) ∙ e) in (suc found.0, omega (arith, found.1), found.2))
+
+one_to_one : (list kept : List Triple) → AreFirst list kept → IsOneToOne kept list
+one_to_one list kept is = record {
+  once = IsDistinct-from_sorted compare_keys kept is.ascending;
+  taken = All-weaker (IsFirstIn list) (Contains list) (λ t first. found_contains (has_same_key t) list t first) kept is.first;
+  complete = is.complete;
+}
+
+deduplication : (list kept : List Triple) → AreFirst list kept → IsDeduplication kept list
+deduplication list kept is = record { ascending = is.ascending; one_to_one = one_to_one list kept is }
 
 -- ---- the only one
 
@@ -195,16 +268,15 @@ each_in list one other agree p q = All-weaker (Contains list) (λ t. In t other)
     one p.taken
 
 -- where the patterns agree there is one deduplication
-pub only-first : (list kept : List Triple) → PatternsAgree list → IsDeduplication kept list → kept ≡ first_of list
-only-first list kept agree is = same_members kept (first_of list) is.ascending (ascending-first list)
-    (recursion_from_All (λ t. In t (first_of list)) kept (each_in list kept (first_of list) agree is.one_to_one (one_to_one-first list)))
-    (recursion_from_All (λ t. In t kept) (first_of list) (each_in list (first_of list) kept agree (one_to_one-first list) is.one_to_one))
+only : (list kept other : List Triple) → PatternsAgree list → IsDeduplication kept list → IsDeduplication other list → kept ≡ other
+only list kept other agree p q = same_members kept other p.ascending q.ascending
+    (recursion_from_All (λ t. In t other) kept (each_in list kept other agree p.one_to_one q.one_to_one))
+    (recursion_from_All (λ t. In t kept) other (each_in list other kept agree q.one_to_one p.one_to_one))
 
 -- a merge is the deduplication of what was added
 pub deduplicates : (was list : List Triple) (series : List Series) → was ≡ list → IsMerge was series → IsDeduplication (triples_of series) list
-deduplicates was list series same is =
-    subst (λ ts. IsDeduplication ts list) (sym (is.first ∙ ap first_of same)) (deduplication-first list)
+deduplicates was list series same is = subst (IsDeduplication (triples_of series)) same (deduplication was (triples_of series) is.first)
 
 pub only_one : (was list : List Triple) (series : List Series) → was ≡ list → IsMerge was series
     → PatternsAgree list → (kept : List Triple) → IsDeduplication kept list → kept ≡ triples_of series
-only_one was list series same is agree kept dedup = only-first list kept agree dedup ∙ sym (is.first ∙ ap first_of same)
+only_one was list series same is agree kept dedup = only list kept (triples_of series) agree dedup (deduplicates was list series same is)

@@ -18,7 +18,8 @@ use Rattle.list_core.proofs.Bools.{by_bool}
 use Rattle.list_core.proofs.StableSorts.{NoneLess, Rises, Rises-from_sorted, Rises-in_order, filter-in_order, same_in_order}
 use Rattle.list_core.proofs.Lists.{filter_hit, filter_miss}
 use Rattle.vertical_merge.specs.Joined.{has_lesser_labels, joined_to, has_lesser_time, has_same_time, first_samples}
-use Rattle.vertical_merge.specs.Merged.{IsMerge}
+use Rattle.vertical_merge.specs.Merged.{AreFirst, IsMerge}
+use Rattle.vertical_merge.proofs.Laws.{are_first}
 use Rattle.vertical_merge.proofs.Concats.{IsBelow, IsApart, NoneSame, in_order-append, in_order-map, dedup-append, dedup-map}
 use Rattle.vertical_merge.proofs.Joining.{labels_of, LabelsAscend, AllInhabited, triples-fold, ascend-fold, inhabited-fold}
 use Rattle.vertical_merge.proofs.Orders.{sets_total, keys_ranked, labels_ranked, set_itself}
@@ -228,5 +229,7 @@ merged made added sorted united up stable all is_united is_made =
       inhabited = All-from_recursion (λ (s : Series). s.samples ≢ []) (map firsts (fold joined_to [] sorted))
           (inhabited_all (map firsts (fold joined_to [] sorted)) (inhabited-firsts (fold joined_to [] sorted)
           (inhabited-fold [] sorted tt (all_inhabited sorted (recursion_from_All (λ (s : Series). s.samples ≢ []) sorted all)))));
-      first = sym (first-ascending (fold joined_to [] sorted) ascend) ∙ ap first_of (triples-fold [] sorted) ∙ first-sorted added sorted stable;
+      first = subst (AreFirst (triples_of added))
+          (sym (sym (first-ascending (fold joined_to [] sorted) ascend) ∙ ap first_of (triples-fold [] sorted) ∙ first-sorted added sorted stable))
+          (are_first (triples_of added));
     })
