@@ -1,4 +1,4 @@
-//! The outside as traits: a bucket of objects, a shelf of files, a site that opens buckets, a source and a sink of bytes.
+//! The outside as traits: a bucket of objects, a shelf of files, a site that opens both, a source and a sink of bytes.
 //! Each has a form in memory.
 #![tactic(auto)]
 
@@ -32,7 +32,7 @@ pub use memory_shelf::MemoryShelf;
 pub use memory_sink::MemorySink;
 pub use memory_site::MemorySite;
 pub use memory_source::MemorySource;
-pub use shelf::Shelf;
+pub use shelf::{FILE_LIMIT, Shelf};
 pub use sink::Sink;
 pub use site::Site;
 pub use site_refusal::SiteRefusal;

@@ -5,13 +5,10 @@ ghost use Rattle.bucket_core.specs.Files.{IsWithinLimit, ShowsFile};
 ghost use Rattle.bucket_core.specs.MemoryShelf.{file_in};
 
 use crate::calls::failure_at;
-use crate::{FailList, File, FileList, Shelf, ShelfAnswer};
+use crate::{FILE_LIMIT, FailList, File, FileList, Shelf, ShelfAnswer};
 use list_core::NoMemory;
 use std::alloc::Global;
 use wire_bytes::Blob;
-
-/// The most bytes that a file of a block may have.
-const FILE_LIMIT: usize = 67_108_864;
 
 /// A shelf in memory, which tells its files. A list says which of its calls fail.
 #[derive(Drop)]
