@@ -10,6 +10,8 @@ use Rattle.bucket_core.specs.declared.answer.PageAnswer.{PageAnswer}
 use Rattle.bucket_core.specs.declared.answer.PageAnswer.TheVariants as page
 use Rattle.bucket_core.specs.declared.answer.ReadAnswer.{ReadAnswer}
 use Rattle.bucket_core.specs.declared.answer.ReadAnswer.TheVariants as read
+use Rattle.bucket_core.specs.declared.answer.ShelfAnswer.{ShelfAnswer}
+use Rattle.bucket_core.specs.declared.answer.ShelfAnswer.TheVariants as file
 use Rattle.bucket_core.specs.declared.answer.WriteAnswer.{WriteAnswer}
 use Rattle.bucket_core.specs.declared.answer.WriteAnswer.TheVariants as write
 
@@ -44,6 +46,13 @@ abbrev pub page_failed : PageAnswer → Bool
 page_failed (page.Names names) = false
 page_failed page.Failed = true
 page_failed page.NoMemory = false
+
+abbrev pub file_failed : ShelfAnswer → Bool
+file_failed (file.Found bytes) = false
+file_failed file.Absent = false
+file_failed file.TooLarge = false
+file_failed file.Failed = true
+file_failed file.NoMemory = false
 
 abbrev pub read_failed : ReadAnswer → Bool
 read_failed (read.Got count) = false

@@ -1,8 +1,10 @@
 pub mod Calls
 pub mod Causes
 pub mod Contents
+pub mod Files
 pub mod KeyLaw
 pub mod MemoryBucket
+pub mod MemoryShelf
 pub mod MemorySink
 pub mod MemorySite
 pub mod MemorySource

@@ -35,6 +35,17 @@ pub enum PageAnswer {
     NoMemory,
 }
 
+/// What the reading of a file is answered.
+#[derive(Drop)]
+pub enum ShelfAnswer {
+    Found(Blob),
+    Absent,
+    /// The file is longer than a file of a block may be.
+    TooLarge,
+    Failed,
+    NoMemory,
+}
+
 /// What a read is answered: how many bytes were put at the front of the buffer, where 0 is the end.
 #[derive(Clone, Copy, Debug, PartialEq, Eq)]
 pub enum ReadAnswer {

@@ -1,29 +1,38 @@
-//! The outside as traits: a bucket of objects, a site that opens buckets, a source and a sink of bytes. Each has a form
-//! in memory.
+//! The outside as traits: a bucket of objects, a shelf of files, a site that opens both, a source and a sink of bytes.
+//! Each has a form in memory.
 #![tactic(auto)]
 
 mod answer;
 mod bucket;
+mod calls;
 mod fail;
+mod file;
 mod listing;
 mod memory_bucket;
+mod memory_shelf;
 mod memory_sink;
 mod memory_site;
 mod memory_source;
 mod objects;
+mod shelf;
 mod sink;
 mod site;
 mod site_refusal;
 mod source;
 mod stored;
 
-pub use answer::{DeleteAnswer, GetAnswer, PageAnswer, PutAnswer, ReadAnswer, WriteAnswer};
+pub use answer::{
+    DeleteAnswer, GetAnswer, PageAnswer, PutAnswer, ReadAnswer, ShelfAnswer, WriteAnswer,
+};
 pub use bucket::Bucket;
 pub use fail::{Fail, FailList};
+pub use file::{File, FileList};
 pub use memory_bucket::MemoryBucket;
+pub use memory_shelf::MemoryShelf;
 pub use memory_sink::MemorySink;
 pub use memory_site::MemorySite;
 pub use memory_source::MemorySource;
+pub use shelf::{FILE_LIMIT, Shelf};
 pub use sink::Sink;
 pub use site::Site;
 pub use site_refusal::SiteRefusal;

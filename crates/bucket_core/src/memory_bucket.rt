@@ -1,9 +1,10 @@
 ghost use Rattle.std.specs.Prelude.{◌≡◌, ◌≤◌, [], option_map, IsTrue, false, OnOk, OnErr};
-ghost use Rattle.bucket_core.specs.Calls.{next_call, failure_of};
+ghost use Rattle.bucket_core.specs.Calls.{next_call};
 ghost use Rattle.bucket_core.specs.Causes.{KeepsFaults, put_failed, get_failed, delete_failed, page_failed};
 ghost use Rattle.bucket_core.specs.Contents.{Contents, IsKey, nothing, with_object, without_object, range_of, Shows};
 ghost use Rattle.bucket_core.specs.Stored.{in_order, have_keys, object_in};
 
+use crate::calls::failure_at;
 use crate::listing::page_of;
 use crate::objects::{find, put_in, remove_from};
 use crate::stored::Stored;
@@ -85,17 +86,6 @@ impl MemoryBucket {
     {
         self.faults = self.faults.saturating_add(1);
     }
-}
-
-/// What the list says of a call.
-fn failure_at(failing: &FailList, call: u64) -> Option<bool>
-    ensures { result ≡ failure_of failing.now call }
-{
-    failing
-        .members()
-        .iter()
-        .find(|fail| fail.call == call)
-        .map(|fail| fail.landed)
 }
 
 /// The bytes from a place on, at most `len` of them.

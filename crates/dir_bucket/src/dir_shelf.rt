@@ -1,0 +1,96 @@
+ghost use Rattle.std.specs.Prelude.{◌≡◌, ℕ, ◌≤◌, IfOk, IsTrue, false};
+ghost use Rattle.bucket_core.specs.Causes.{Rose, file_failed};
+ghost use Rattle.bucket_core.specs.Files.{IsWithinLimit};
+ghost use Rattle.dir_bucket.specs.Folders.{shelf_faults};
+
+use crate::files::{is_absent, read_range};
+use crate::names::is_plain;
+use bucket_core::{FILE_LIMIT, Shelf, ShelfAnswer, SiteRefusal};
+use std::io::ErrorKind;
+use std::rt::Files;
+use std::{fs, io};
+use wire_bytes::Blob;
+
+/// The files of a folder, each under its path below the folder. It tells nothing of what they hold.
+///
+/// Of a file past the limit no more is read than shows that it is past it. Names with a part that is empty or begins with a
+/// dot have no file.
+#[derive(Drop)]
+pub struct DirShelf<R: Files + AllocGlobal + Clone + Drop> {
+    rt: R,
+    folder: String,
+    faults: u64,
+}
+
+impl<R: Files + AllocGlobal + Clone + Drop> DirShelf<R> {
+    /// The shelf of a folder. `Failed` is answered where it can't be listed.
+    pub fn open(rt: R, folder: &str) -> Result<DirShelf<R>, SiteRefusal>
+        ensures { IfOk result (λ shelf. shelf_faults shelf ≡ 0) }
+    {
+        match open_folder(&rt, folder) {
+            Ok(folder) => Ok(DirShelf {
+                rt,
+                folder,
+                faults: 0,
+            }),
+            Err(error) if error.kind() == ErrorKind::OutOfMemory => Err(SiteRefusal::NoMemory),
+            Err(_) => Err(SiteRefusal::Failed),
+        }
+    }
+
+    /// What a read is answered, where a failure is counted.
+    fn answer(&mut self, read: io::Result<Vec<u8>>) -> ShelfAnswer
+        ensures within { IsWithinLimit result }
+        ensures later { shelf_faults self.old ≤ shelf_faults self.new }
+        ensures cause { IsTrue (file_failed result)
+            → Rose (shelf_faults self.old) (shelf_faults self.new) }
+        ensures calm { file_failed result ≡ false
+            → shelf_faults self.new ≡ shelf_faults self.old }
+    {
+        match read {
+            Ok(bytes) if bytes.len() > FILE_LIMIT => ShelfAnswer::TooLarge,
+            Ok(bytes) => ShelfAnswer::Found(Blob::from_vec(bytes)),
+            Err(error) if is_absent(&error) => ShelfAnswer::Absent,
+            Err(error) if error.kind() == ErrorKind::OutOfMemory => ShelfAnswer::NoMemory,
+            Err(_) => {
+                self.faults = self.faults.saturating_add(1);
+                ShelfAnswer::Failed
+            }
+        }
+    }
+}
+
+/// Sees that the folder is there.
+fn open_folder<R: Files + AllocGlobal + Clone + Drop>(rt: &R, folder: &str) -> io::Result<String> {
+    fs::read_dir(rt, folder)?;
+    Ok(String::from_str(rt.alloc(), folder)?)
+}
+
+impl<R: Files + AllocGlobal + Clone + Drop> Shelf for DirShelf<R> {
+    ghost use Rattle.std.specs.Prelude.{◌≡◌, ◌≤◌, None, IsTrue, false};
+    ghost use Rattle.bucket_core.specs.Causes.{Rose, file_failed};
+    ghost use Rattle.bucket_core.specs.Files.{IsWithinLimit};
+    ghost use Rattle.dir_bucket.specs.Folders.{shelf_faults};
+    ghost use Rattle.dir_bucket.specs.Names.{is_plain as is_plain_name};
+
+    ghost files = { λ shelf. None };
+
+    ghost faults = { shelf_faults };
+
+    fn read(&mut self, name: &str) -> ShelfAnswer
+        ensures within { IsWithinLimit result }
+        ensures later { shelf_faults self.old ≤ shelf_faults self.new }
+        ensures cause { IsTrue (file_failed result)
+            → Rose (shelf_faults self.old) (shelf_faults self.new) }
+        ensures calm { file_failed result ≡ false
+            → shelf_faults self.new ≡ shelf_faults self.old }
+        ensures strange { is_plain_name name.now ≡ false → result ≡ ShelfAnswer.Absent }
+    {
+        if !is_plain(name) {
+            return ShelfAnswer::Absent;
+        }
+        let most = FILE_LIMIT as u64 + 1;
+        let read = read_range(&self.rt, self.folder.as_str(), name, 0, most);
+        self.answer(read)
+    }
+}

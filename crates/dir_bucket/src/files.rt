@@ -1,0 +1,90 @@
+//! What is done to files and folders. Nothing is known of what they hold.
+use crate::names::parent;
+use std::fs::{File, OpenFile};
+use std::io::{ErrorKind, Read, Seek, SeekFrom, Write};
+use std::rt::Files;
+use std::{fs, io};
+
+/// The name of the file that a put writes before it is renamed. No object has a name that begins with a dot.
+const TEMPORARY: &str = ".put";
+
+/// The path of a name in a folder.
+pub(crate) fn path_of<R: AllocGlobal>(rt: &R, folder: &str, name: &str) -> io::Result<String> {
+    Ok(format!(in rt.alloc(); "{folder}/{name}")?)
+}
+
+/// Whether the error says that there is no such file.
+pub(crate) fn is_absent(error: &io::Error) -> bool {
+    matches!(
+        error.kind(),
+        ErrorKind::NotFound | ErrorKind::NotADirectory | ErrorKind::IsADirectory
+    )
+}
+
+/// Writes the bytes to a new file, and waits until the system has them on its disk.
+fn write_whole<R: Files>(rt: &R, path: &str, bytes: &[u8]) -> io::Result<()> {
+    let mut file = File::create(rt, path)?;
+    file.write_all(bytes)?;
+    file.sync_all()
+}
+
+/// Makes the file of a name, with the folders that it lies in. What stood there stands until the last step is done.
+pub(crate) fn put_file<R: Files + AllocGlobal>(
+    rt: &R,
+    folder: &str,
+    name: &str,
+    bytes: &[u8],
+) -> io::Result<()> {
+    let path = path_of(rt, folder, name)?;
+    let temporary = path_of(rt, folder, TEMPORARY)?;
+    fs::create_dir_all(rt, parent(path.as_str()))?;
+    write_whole(rt, temporary.as_str(), bytes)?;
+    fs::rename(rt, temporary.as_str(), path.as_str())
+}
+
+/// Waits until the name of a file, and those of the folders that it lies in, are on the disk.
+pub(crate) fn sync_names<R: Files + AllocGlobal>(
+    rt: &R,
+    folder: &str,
+    name: &str,
+) -> io::Result<()> {
+    let mut path = String::from_str(rt.alloc(), folder)?;
+    for part in name.split('/') {
+        File::open(rt, path.as_str())?.sync_all()?;
+        path.push('/')?;
+        path.push_str(part)?;
+    }
+    Ok(())
+}
+
+/// Takes the file of a name away.
+pub(crate) fn remove_file<R: Files + AllocGlobal>(
+    rt: &R,
+    folder: &str,
+    name: &str,
+) -> io::Result<()> {
+    let path = path_of(rt, folder, name)?;
+    fs::remove_file(rt, path.as_str())
+}
+
+/// The bytes of a file from a place on, at most so many. What is no file is absent.
+pub(crate) fn read_range<R: Files + AllocGlobal>(
+    rt: &R,
+    folder: &str,
+    name: &str,
+    from: u64,
+    most: u64,
+) -> io::Result<Vec<u8>> {
+    let path = path_of(rt, folder, name)?;
+    if !fs::metadata(rt, path.as_str())?.is_file() {
+        return Err(io::Error::from(ErrorKind::NotFound));
+    }
+    let mut file = File::open(rt, path.as_str())?;
+    let mut bytes = Vec::new(rt.alloc());
+    // No file reaches a place past this bound.
+    if i64::try_from(from).is_ok() {
+        file.seek(SeekFrom::Start(from))?;
+        file.take(most).read_to_end(&mut bytes)?;
+    }
+    Ok(bytes)
+}
