@@ -4,3 +4,4 @@ pub mod SectionShifts
 pub mod SeriesShifts
 pub mod Longer
 pub mod Slices
+pub mod SeriesSlices

@@ -38,8 +38,7 @@ number_again w bytes after at size some e =
     let read = cond_ok (nat_lt (length (left p)) (byte_len w)) wire.Short (Ok (from_be_bytes w (take (byte_len w) (left p)), further (byte_len w) p)) size e in
     let enough : byte_len w ≤ length (left p) = ltb-false (length (left p)) (byte_len w) read.0 in
     let here : at ≤ length bytes = omega (arith, enough, some, length-drop at bytes) in
-    let same : (from_be_bytes w (take (byte_len w) (left p)), further (byte_len w) p) ≡ size = ok_is {E = WireRefusal} _ _ read.1 in
-    (
+    let same : (from_be_bytes w (take (byte_len w) (left p)), further (byte_len w) p) ≡ size = ok_is {E = WireRefusal} _ _ read.1 in (
       sym (ap (λ (x : ℕ × Position). x.1.bytes) same),
       number_longer_by w bytes after at here enough ∙ ap (λ (x : ℕ × Position). Ok (x.0, at_place (bytes ++ after) x.1.place)) same,
     )
@@ -71,8 +70,7 @@ uvarint_again bytes after at size e =
     let n = bind_ok (groups_of 9 (left p)) (λ n. Ok (n.0, further n.1 p)) size e in
     let some = some_groups 9 (left p) n.0 n.1 in
     let here : at ≤ length bytes = omega (arith, some, length-drop at bytes) in
-    let same : (n.0.0, further n.0.1 p) ≡ size = ok_is {E = WireRefusal} _ _ n.2 in
-    (
+    let same : (n.0.0, further n.0.1 p) ≡ size = ok_is {E = WireRefusal} _ _ n.2 in (
       sym (ap (λ (x : ℕ × Position). x.1.bytes) same),
       rw (left_longer bytes after at here, groups_longer 9 (left p) after n.0 n.1) (ap (λ (x : ℕ × Position). Ok (x.0, at_place (bytes ++ after) x.1.place)) same),
     )

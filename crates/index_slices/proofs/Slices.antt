@@ -1,12 +1,12 @@
 -- What is read in a part of an index is what is read in the index.
-use Rattle.std.proofs.Common.{◌≡◌, ℕ, ◌+◌, ◌-◌, ◌^◌, ◌<◌, ◌≤◌, List, [], ◌++◌, length, take, drop, replicate, Option, Result, Ok, Err, refl, sym, ap, subst, ◌∙◌, arith, ◌⊎◌, inl, inr, append_assoc}
+use Rattle.std.proofs.Common.{◌≡◌, ℕ, zero, suc, ◌+◌, ◌-◌, ◌^◌, ◌<◌, ◌≤◌, true, false, List, [], ◌++◌, length, take, drop, replicate, Option, Result, Ok, Err, refl, sym, ap, subst, ◌∙◌, arith, ◌⊎◌, inl, inr, append_assoc}
 use Rattle.std.specs.Int.{w32, from_be_bytes}
 use Rattle.std.specs.Result.{IsOkAnd}
 use Rattle.wire_bytes.specs.declared.refusal.WireRefusal.{WireRefusal}
 use Rattle.wire_bytes.specs.declared.refusal.WireRefusal.TheVariants as wire
-use Rattle.std.proofs.lemmas.Bool.{cases_lt, le-ltb}
+use Rattle.std.proofs.lemmas.Bool.{cases_lt, le-leb, leb-true, false_from_ne_true}
 use Rattle.reading_core.proofs.Binds.{cond_is}
-use Rattle.std.specs.Prelude.{nat_lt}
+use Rattle.std.specs.Prelude.{nat_lt, nat_le}
 use Rattle.std.proofs.lemmas.List.{length-drop, length-append, length-replicate, drop-append-le, drop-drop, drop_at}
 use Rattle.wire_bytes.specs.Position.{Position, left, further}
 use Rattle.wire_bytes.specs.Fields.{number_at}
@@ -20,7 +20,7 @@ use Rattle.index_parts.specs.Framing.{summed_at, framed_at}
 use Rattle.index_parts.specs.Lists.{IsList}
 use Rattle.index_parts.specs.ListReading.{list_at}
 use Rattle.index_parts.specs.PostingsReading.{postings_at}
-use Rattle.index_slices.specs.Parts.{Part, known, list_in, IsPartOf, LiesIn, HoldsSection}
+use Rattle.index_slices.specs.Parts.{Part, known, file, is_before, list_in, IsPartOf, LiesIn, HoldsSection}
 use Rattle.index_slices.specs.Shifting.{shifted, FitsShifted}
 use Rattle.index_slices.proofs.Shifts.{IsWithin, IsMoved, IsSame, SameBy}
 use Rattle.index_slices.proofs.FieldShifts.{StepBy, IsField, number_field}
@@ -164,7 +164,7 @@ summed_short place bytes at count past =
 
 section_short : (bytes : List ℕ) (at : ℕ) → (IsOkAnd (number_at w32 (at_place bytes at)) (λ (size : ℕ × Position). size.1.place + size.0 + 4 ≤ length bytes) → ⊥) → framed_at (number_at w32) bytes at ≡ Err (Short at)
 section_short bytes at outside = by_result (number_at w32 (at_place bytes at))
-    (λ size e. 
+    (λ size e.
     let here : at_place bytes size.1.place ≡ size.1 = ap (λ (xs : List ℕ). at_place xs size.1.place) (sym (section_longer.again bytes [] at size e).0) in
     elim (cases_lt (length bytes) (size.1.place + size.0 + 4)) [
       | inl past ↦ framed_is (number_at w32) bytes at size e ∙ ap (summed_at at size.0) (sym here) ∙ summed_short at bytes size.1.place size.0 past
@@ -195,8 +195,23 @@ module _ {A : Type 0} (read : Option A × Position → Result (A × (Option A ×
   pub none_outside : (HoldsSection part at → ⊥) → list_at read part.bytes (at - part.begin) ≡ Err (Short (at - part.begin))
   none_outside outside = list_refused read part.bytes (at - part.begin) (Short (at - part.begin)) (section_short part.bytes (at - part.begin) (λ lies. outside (begins, lies)))
 
+not_before : (at begin : ℕ) → begin ≤ at → is_before at begin ≡ false
+not_before at zero le = refl
+not_before at (suc begin) le = false_from_ne_true (nat_le at begin) (λ e. let no = leb-true at begin e in omega (arith, no, le))
+
+before : (at begin : ℕ) → at < begin → is_before at begin ≡ true
+before at zero lt = absurd (omega (arith, lt))
+before at (suc begin) lt = le-leb at begin (omega (arith, lt))
+
 pub list_here : (part : Part) (at : ℕ) → part.begin ≤ at → list_in part at ≡ postings_at (known part) at
-list_here part at le = rw (le-ltb at part.begin le) refl
+list_here part at le = rw (not_before at part.begin le) refl
+
+pub list_before : (part : Part) (at : ℕ) → at < part.begin → list_in part at ≡ Err (Short at)
+list_before part at lt = rw (before at part.begin lt) refl
+
+-- in a whole file every list is where its place says
+pub list_in_file : (index : List ℕ) (at : ℕ) → list_in (file index) at ≡ postings_at index at
+list_in_file index at = refl
 
 -- the place of what is not there
 pub short_told : (part : Part) (at : ℕ) (r : Result (List ℕ) PartRefusal) (d e : PartRefusal) → part.begin ≤ at → r ≡ Err (Short (at - part.begin)) → e ≡ shifted part.begin d → (d ≡ NoMemory) ⊎ (r ≡ Err d) → (e ≡ Short at) ⊎ (e ≡ NoMemory)

@@ -1,5 +1,5 @@
 -- Parts of an index: bytes of it, by the place at which they begin.
-use Rattle.std.specs.Prelude.{◌≡◌, ℕ, ◌+◌, ◌-◌, ◌≤◌, List, ◌++◌, length, replicate, Result, Err, nat_lt, if◌then◌else◌}
+use Rattle.std.specs.Prelude.{◌≡◌, ℕ, zero, suc, Bool, false, ◌+◌, ◌-◌, ◌≤◌, List, ◌++◌, length, replicate, Result, Err, nat_le, if◌then◌else◌}
 use Rattle.std.specs.Result.{IsOkAnd}
 use Rattle.std.specs.Int.{w32}
 use Rattle.wire_bytes.specs.declared.refusal.WireRefusal.{WireRefusal}
@@ -34,9 +34,14 @@ pub record IsPartOf (part : Part) (index : List ℕ) : Type 0 where
   pub begins : length before ≡ part.begin
   pub stands : index ≡ before ++ part.bytes ++ after
 
+-- whether a place stands before the begin of a part: before 0 there is none
+abbrev pub is_before : ℕ → ℕ → Bool
+is_before at zero = false
+is_before at (suc begin) = nat_le at begin
+
 -- the postings list at a place, which is not there before the part
 abbrev pub list_in : Part → ℕ → Result (List ℕ) PartRefusal
-list_in part at = if nat_lt at part.begin then Err (Short at) else postings_at (known part) at
+list_in part at = if is_before at part.begin then Err (Short at) else postings_at (known part) at
 
 -- What stands at a place behind its length, which is read in this way, ends with its sum within the part.
 abbrev pub LiesIn : (Position → Result (ℕ × Position) WireRefusal) → Part → ℕ → Type 0

@@ -1,9 +1,9 @@
-use Rattle.std.proofs.Common.{◌∙◌, ◌-◌}
+use Rattle.std.proofs.Common.{◌∙◌, ◌-◌, inr}
 use Rattle.index_parts.specs.Postings.{IsNextPosting}
 use Rattle.index_parts.specs.PostingsReading.{posting_at, postings_at}
 use Rattle.index_slices.specs.Parts.{part_of}
 use Rattle.index_slices.proofs.SectionShifts.{posting_turned}
-use Rattle.index_slices.proofs.Slices.{refused_in, fits_in, list_stands, known_told, index_told, none_outside, list_here, short_told, not_refused, refusal_of, refused_here}
+use Rattle.index_slices.proofs.Slices.{refused_in, fits_in, list_stands, known_told, index_told, none_outside, list_here, list_before, short_told, not_refused, refusal_of, refused_here}
 use Rattle.index_slices.proofs.sections.postings_in.Goals as goal
 
 pub shifted-requires : goal.shifted-requires
@@ -36,3 +36,6 @@ pub returns-in-Err-clause-exact : goal.returns-in-Err-clause-exact
 returns-in-Err-clause-exact c =
     let part = part_of c.args.part in
     refused_here part c.args.at c.shifted.result c.if-at-part.false (refused_in c.args.part.begin _ _ c.in-Err.refusal c.shifted.result (known_told posting_at posting_turned part c.args.at c.if-at-part.false c.ranges.at.fits c.requires.fits) c.shifted.ensures c.in-Err.ensures.exact)
+
+pub returns-then-at-part-clause-exact : goal.returns-then-at-part-clause-exact
+returns-then-at-part-clause-exact c = inr (list_before (part_of c.args.part) c.args.at c.if-at-part.true)
