@@ -1,5 +1,5 @@
 -- What reading a whole index costs, of which there is a budget.
-use Rattle.std.specs.Prelude.{ℕ, ◌+◌, ◌*◌, List, length, sum_by, Result, Ok, Err}
+use Rattle.std.specs.Prelude.{ℕ, ◌+◌, ◌-◌, ◌*◌, List, length, sum_by, Result, Ok, Err}
 use Rattle.std.specs.Int.{w32}
 use Rattle.label_sets.specs.declared.label.Label.{Label}
 use Rattle.wire_bytes.specs.declared.refusal.WireRefusal.{WireRefusal}
@@ -7,6 +7,7 @@ use Rattle.wire_bytes.specs.Position.{Position}
 use Rattle.wire_bytes.specs.Fields.{number_at, uvarint_at}
 use Rattle.index_parts.specs.Placed.{at_place}
 use Rattle.index_parts.specs.declared.postings_row.PostingsRow.{PostingsRow}
+use Rattle.index_slices.specs.Parts.{Part}
 use Rattle.index_file.specs.declared.index_series.IndexSeries.{IndexSeries}
 
 -- a series' labels and chunks
@@ -31,5 +32,5 @@ abbrev pub series_bytes : List ℕ → ℕ → ℕ
 series_bytes index number = told (uvarint_at (at_place index (16 * number)))
 
 -- how many bytes the list of a row is said to take
-abbrev pub list_bytes : List ℕ → PostingsRow → ℕ
-list_bytes index row = told (number_at w32 (at_place index row.offset))
+abbrev pub list_bytes : Part → PostingsRow → ℕ
+list_bytes part row = told (number_at w32 (at_place part.bytes (row.offset - part.begin)))

@@ -1,9 +1,11 @@
 pub use Rattle.index_parts.specs
+pub use Rattle.index_slices.specs.Parts
 pub use Rattle.index_file.specs.Opened
 pub use Rattle.index_file.specs.IndexFile
 pub use Rattle.index_file.specs.LabelTable
 pub use Rattle.index_writing.specs.WriteSteps
 pub use Rattle.index_writing.specs.Written
+pub mod Held
 pub mod Opening
 pub mod LentLabels
 pub mod SeriesLabels

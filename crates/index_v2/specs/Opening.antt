@@ -12,6 +12,9 @@ use Rattle.index_v2.specs.declared.refusal.IndexRefusal.{IndexRefusal}
 use Rattle.index_v2.specs.declared.refusal.IndexRefusal.TheVariants.{BadMagic, BadVersion, BadTocSum, BadSection, BadSeries, NoMemory}
 use Rattle.index_file.specs.Opened.{Opened}
 use Rattle.index_file.specs.IndexFile.{magic}
+use Rattle.index_slices.specs.Parts.{known}
+use Rattle.index_v2.specs.declared.index_parts.IndexParts.{IndexParts}
+use Rattle.index_v2.specs.Held.{Held, symbols_of, table_of, lists_of}
 
 -- a refusal of a part, as that of its section
 abbrev pub refused_in : ℕ → PartRefusal → IndexRefusal
@@ -47,3 +50,10 @@ opened_at index = do
   symbols ← held_at 1 symbols_at index toc.symbols
   rows ← held_at 6 postings_table_at index toc.postings_table
   Ok (record { bytes = index; toc = toc; symbols = symbols; rows = rows })
+
+-- the symbols and the postings table of parts of an index
+unfoldable pub over_at : IndexParts → Result Held IndexRefusal
+over_at parts = do
+  symbols ← held_at 1 symbols_at (known (symbols_of parts)) parts.toc.symbols
+  rows ← held_at 6 postings_table_at (known (table_of parts)) parts.toc.postings_table
+  Ok (record { bytes = []; toc = parts.toc; symbols = symbols; rows = rows; lists = lists_of parts; size = length parts.table.now })

@@ -4,9 +4,9 @@ use Rattle.std.specs.List.{filter}
 use Rattle.std.specs.Str.{bytes_eq}
 use Rattle.reading_core.specs.Reading.{refused_as}
 use Rattle.index_parts.specs.declared.postings_row.PostingsRow.{PostingsRow}
-use Rattle.index_parts.specs.PostingsReading.{postings_at}
+use Rattle.index_slices.specs.Parts.{Part, list_in}
 use Rattle.index_v2.specs.declared.refusal.IndexRefusal.{IndexRefusal}
-use Rattle.index_file.specs.Opened.{Opened}
+use Rattle.index_v2.specs.Held.{Held}
 use Rattle.index_v2.specs.Opening.{refused_in}
 
 -- a row of this name and this value
@@ -18,13 +18,13 @@ unfoldable pub row_of : List PostingsRow → List ℕ → List ℕ → Option Po
 row_of rows name value = find (is_row_of name value) rows
 
 -- the list of a row, and the empty list where there is no row
-abbrev pub list_of : List ℕ → Option PostingsRow → Result (List ℕ) IndexRefusal
-list_of index None = Ok []
-list_of index (Some row) = refused_as (refused_in 5) (postings_at index row.offset)
+abbrev pub list_of : Part → Option PostingsRow → Result (List ℕ) IndexRefusal
+list_of part None = Ok []
+list_of part (Some row) = refused_as (refused_in 5) (list_in part row.offset)
 
 -- the numbers of the series that the table lists under a name and a value
-abbrev pub postings_of : Opened → List ℕ → List ℕ → Result (List ℕ) IndexRefusal
-postings_of opened name value = list_of opened.bytes (row_of opened.rows name value)
+abbrev pub postings_of : Held → List ℕ → List ℕ → Result (List ℕ) IndexRefusal
+postings_of held name value = list_of held.lists (row_of held.rows name value)
 
 -- the values of the rows under a name, ascending; no label has an empty name
 unfoldable pub values_of : List PostingsRow → List ℕ → List (List ℕ)

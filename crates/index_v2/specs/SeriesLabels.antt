@@ -49,8 +49,8 @@ faulty_at fault count p = do
 
 -- where a refused symbol number of the series at a place stands
 abbrev pub fault_at : List ℕ → ℕ → LabelFault → PartRefusal
-fault_at index at (Name label) = part.Unordered (unwrap_or (option_map (λ (p : ℕ × ℕ). p.0) (label_place_of index at label)) 0)
-fault_at index at (Value label) = part.Unordered (unwrap_or (option_map (λ (p : ℕ × ℕ). p.1) (label_place_of index at label)) 0)
+fault_at index at (Name label) = part.Unordered (unwrap_or (option_map (λ (p : ℕ × ℕ). p.0) (label_place_of index at label)) at)
+fault_at index at (Value label) = part.Unordered (unwrap_or (option_map (λ (p : ℕ × ℕ). p.1) (label_place_of index at label)) at)
 
 -- the series at a place of the index
 unfoldable pub labelled_at : List ℕ → List (List ℕ) → ℕ → Result IndexSeries PartRefusal

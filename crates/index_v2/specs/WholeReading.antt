@@ -11,11 +11,11 @@ use Rattle.label_sets.specs.Labels.{compare_sets, value_of}
 use Rattle.index_parts.specs.declared.refusal.PartRefusal.TheVariants as part
 use Rattle.index_parts.specs.declared.toc.Toc.{Toc}
 use Rattle.index_parts.specs.declared.postings_row.PostingsRow.{PostingsRow}
-use Rattle.index_parts.specs.PostingsReading.{postings_at}
+use Rattle.index_slices.specs.Parts.{Part, list_in}
 use Rattle.index_file.specs.declared.index_series.IndexSeries.{IndexSeries}
 use Rattle.index_v2.specs.declared.refusal.IndexRefusal.{IndexRefusal}
 use Rattle.index_v2.specs.declared.refusal.IndexRefusal.TheVariants.{BadSection, BadSeries, PostingsDiffer}
-use Rattle.index_file.specs.Opened.{Opened}
+use Rattle.index_v2.specs.Held.{Held}
 use Rattle.index_v2.specs.Opening.{refused_in}
 use Rattle.index_v2.specs.SeriesLabels.{numbered_at}
 use Rattle.index_v2.specs.RowOrder.{compare_row}
@@ -52,11 +52,11 @@ all_at index symbols before (number ∷ numbers) = do
 
 -- ---- the postings lists, in the table's order
 
-unfoldable pub lists_at : List ℕ → List PostingsRow → Result (List (List ℕ)) IndexRefusal
-lists_at index [] = Ok []
-lists_at index (row ∷ rows) = do
-  list ← refused_as (refused_in 5) (postings_at index row.offset)
-  others ← lists_at index rows
+unfoldable pub lists_at : Part → List PostingsRow → Result (List (List ℕ)) IndexRefusal
+lists_at part [] = Ok []
+lists_at part (row ∷ rows) = do
+  list ← refused_as (refused_in 5) (list_in part row.offset)
+  others ← lists_at part rows
   Ok (list ∷ others)
 
 -- ---- where they differ from the series
@@ -121,11 +121,11 @@ unless_differ (Some place) = Err (PostingsDiffer place)
 
 -- the list of all series, absent sections, the series in order, the postings lists in the table's order, and last whether
 -- these are exactly those of the series
-unfoldable pub whole_at : Opened → Result (List IndexSeries) IndexRefusal
-whole_at opened = do
-  numbers ← postings_of opened [] []
-  present_at opened.toc numbers
-  series ← all_at opened.bytes opened.symbols None numbers
-  lists ← lists_at opened.bytes opened.rows
-  unless_differ (difference opened.rows lists (zip numbers series))
+unfoldable pub whole_at : Held → Result (List IndexSeries) IndexRefusal
+whole_at held = do
+  numbers ← postings_of held [] []
+  present_at held.toc numbers
+  series ← all_at held.bytes held.symbols None numbers
+  lists ← lists_at held.lists held.rows
+  unless_differ (difference held.rows lists (zip numbers series))
   Ok series

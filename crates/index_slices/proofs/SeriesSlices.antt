@@ -1,0 +1,53 @@
+-- A series that is read in a part of an index, and the same in the index.
+use Rattle.std.proofs.Common.{◌≡◌, ℕ, ◌+◌, ◌-◌, ◌^◌, ◌<◌, ◌≤◌, List, ◌++◌, length, refl}
+use Rattle.wire_bytes.specs.Fields.{uvarint_at}
+use Rattle.wire_bytes.specs.FieldTexts.{IsUvarint}
+use Rattle.index_parts.specs.declared.raw_series.RawSeries.{RawSeries}
+use Rattle.index_parts.specs.Framing.{framed_at}
+use Rattle.index_parts.specs.SeriesEntry.{IsSeries}
+use Rattle.index_parts.specs.SeriesReading.{labels_begin_at, label_place_of, series_at}
+use Rattle.index_parts.proofs.SymbolLaws.{uvarint_size}
+use Rattle.index_slices.specs.Parts.{Part, IsPartOf, HoldsSeries}
+use Rattle.index_slices.proofs.FieldShifts.{uvarint_field}
+use Rattle.index_slices.proofs.Longer.{entry_longer}
+use Rattle.index_slices.proofs.Slices.{frame_stands, frame_in_index}
+
+-- what stands in the part stands in the index
+pub series_stands : (part : Part) (index : List ℕ) (at : ℕ) (series : RawSeries) → IsPartOf part index → part.begin ≤ at → IsSeries part.bytes (at - part.begin) series → IsSeries index at series
+series_stands part index at series is le stands = record {
+  content = stands.content;
+  label_count = stands.label_count;
+  labels = stands.labels;
+  chunk_count = stands.chunk_count;
+  chunks = stands.chunks;
+  left_over = stands.left_over;
+  entry = frame_stands IsUvarint uvarint_size part index at stands.content is le stands.entry;
+  content_is = stands.content_is;
+  as_many = stands.as_many;
+  label_count_is = stands.label_count_is;
+  labels_are = stands.labels_are;
+  chunk_count_is = stands.chunk_count_is;
+  chunks_are = stands.chunks_are;
+}
+
+begin_by_frame : (index other : List ℕ) (at : ℕ) → framed_at uvarint_at index at ≡ framed_at uvarint_at other at → labels_begin_at index at ≡ labels_begin_at other at
+unfolding labels_begin_at
+begin_by_frame index other at e = rw e refl
+
+series_by_begin : (index other : List ℕ) (at : ℕ) → labels_begin_at index at ≡ labels_begin_at other at → series_at index at ≡ series_at other at
+unfolding series_at
+series_by_begin index other at e = rw e refl
+
+place_by_begin : (index other : List ℕ) (at label : ℕ) → labels_begin_at index at ≡ labels_begin_at other at → label_place_of index at label ≡ label_place_of other at label
+unfolding label_place_of
+place_by_begin index other at label e = rw e refl
+
+module _ (part : Part) (index : List ℕ) (at : ℕ) (is : IsPartOf part index) (small : at < 2 ^ 64) (fits : part.begin + length part.bytes < 2 ^ 64) (lies : HoldsSeries part at) where
+  begin_in_index : labels_begin_at index at ≡ labels_begin_at (is.before ++ part.bytes) at
+  begin_in_index = begin_by_frame index (is.before ++ part.bytes) at (frame_in_index uvarint_at uvarint_field entry_longer part index at is small fits lies)
+
+  pub series_in_index : series_at index at ≡ series_at (is.before ++ part.bytes) at
+  series_in_index = series_by_begin index (is.before ++ part.bytes) at begin_in_index
+
+  pub place_in_index : (label : ℕ) → label_place_of index at label ≡ label_place_of (is.before ++ part.bytes) at label
+  place_in_index label = place_by_begin index (is.before ++ part.bytes) at label begin_in_index

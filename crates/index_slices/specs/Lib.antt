@@ -1,0 +1,3 @@
+pub use Rattle.index_parts.specs
+pub mod Parts
+pub mod Shifting
