@@ -4,3 +4,4 @@ pub mod Opening
 pub mod BlockNames
 pub mod LastLanded
 pub mod Replies
+pub mod PlanLaws

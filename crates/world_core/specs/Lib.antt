@@ -5,6 +5,7 @@ pub mod Moments
 pub mod Keeping
 pub mod Standing
 pub mod Machines
+pub mod Plans
 pub mod Walks
 pub mod Performing
 pub mod Worlds

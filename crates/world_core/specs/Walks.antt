@@ -1,10 +1,11 @@
 -- Walks of pages, which several machines use. A walk asks for page after page of names, each after the last name of the
 -- pages before it, until a page has fewer names than its limit.
-use Rattle.std.specs.Prelude.{◌≡◌, ◌⊎◌, ℕ, Bool, true, ◌&&◌, nat_lt, nat_le, MatchBool, List, [], ◌∷◌, ◌++◌, length, Option, None, Some, unwrap_or}
+use Rattle.std.specs.Prelude.{◌≡◌, ◌⊎◌, ℕ, zero, suc, Bool, true, ◌&&◌, nat_lt, nat_le, MatchBool, List, [], ◌∷◌, ◌++◌, length, Option, None, Some, unwrap_or}
 use Rattle.std.specs.List.{last_or}
 use Rattle.std.specs.Ordering.{is_lt, nat_cmp}
 use Rattle.std.specs.Cmp.Lexicographic.{slice_cmp}
 use Rattle.world_core.specs.Limits.{most_listed}
+use Rattle.world_core.specs.Plans.{Plan, ends, never, asks, choose}
 use Rattle.world_core.specs.declared.op.Op.{Op}
 use Rattle.world_core.specs.declared.reply.Reply.{Reply}
 use Rattle.world_core.specs.declared.reply.Reply.TheVariants.{Names, Failed}
@@ -40,19 +41,41 @@ pub record WalkEnds (E : Type 0) : Type 0 where
 -- What follows a page: its names are tested first, then its length, and then how many names were listed. `next` follows
 -- the last page of a walk, and `more` any other.
 abbrev pub AfterPage : {E : Type 0} → WalkEnds E → ℕ → List (List ℕ) → ℕ → Reply → (List (List ℕ) → Type 0) → (List (List ℕ) → Type 0) → List Entry → Option E → Type 0
-AfterPage ends limit listed seq (Names names) next more entries end =
+AfterPage ways limit listed seq (Names names) next more entries end =
     MatchBool (ascends (last_listed listed) names)
     (MatchBool (nat_lt (length names) limit)
     (next (listed ++ names))
-    (MatchBool (nat_le most_listed (length (listed ++ names))) (EndsWith ends.too_many entries end) (more (listed ++ names))))
-    (EndsWith (ends.damaged seq) entries end)
-AfterPage ends limit listed seq (Failed landed) next more entries end = EndsWith (ends.fault seq) entries end
-AfterPage ends limit listed seq reply next more entries end = ⊥
+    (MatchBool (nat_le most_listed (length (listed ++ names))) (EndsWith ways.too_many entries end) (more (listed ++ names))))
+    (EndsWith (ways.damaged seq) entries end)
+AfterPage ways limit listed seq (Failed landed) next more entries end = EndsWith (ways.fault seq) entries end
+AfterPage ways limit listed seq reply next more entries end = ⊥
 
 -- The run goes on from a walk that has listed these names: pages are asked for by `ask`, which takes the cursor, and after
 -- the last one the run goes on by `next`, which takes all names. A run that was stopped has no end.
 abbrev pub Walks : {E : Type 0} → WalkEnds E → (List ℕ → Op) → ℕ → (List (List ℕ) → List Entry → Option E → Type 0) → List (List ℕ) → List Entry → Option E → Type 0
-Walks ends ask limit next listed [] end = end ≡ None
-Walks ends ask limit next listed (page ∷ entries) end =
+Walks ways ask limit next listed [] end = end ≡ None
+Walks ways ask limit next listed (page ∷ entries) end =
     (page.op ≡ ask (unwrap_or (last_listed listed) []))
-    × AfterPage ends limit listed page.seq page.reply (λ names. next names entries end) (λ names. Walks ends ask limit next names entries end) entries end
+    × AfterPage ways limit listed page.seq page.reply (λ names. next names entries end) (λ names. Walks ways ask limit next names entries end) entries end
+
+-- ---- the same as a plan
+
+-- What follows a page, by its reply: its names are tested first, then its length, and then how many names were listed.
+-- `next` follows the last page of a walk, and `more` any other.
+abbrev pub after_page : {E : Type 0} → WalkEnds E → ℕ → List (List ℕ) → ℕ → Reply → (List (List ℕ) → Plan E) → (List (List ℕ) → Plan E) → Plan E
+after_page ways limit listed seq (Names names) next more =
+    choose (ascends (last_listed listed) names)
+    (choose (nat_lt (length names) limit)
+    (next (listed ++ names))
+    (choose (nat_le most_listed (length (listed ++ names))) (ends ways.too_many) (more (listed ++ names))))
+    (ends (ways.damaged seq))
+after_page ways limit listed seq (Failed landed) next more = ends (ways.fault seq)
+after_page ways limit listed seq other next more = never
+
+-- At most so many pages after these names, up to the first short one, and then what follows all names. Each page that is
+-- not short has a name at least, so a walk has no more pages than names may be listed.
+abbrev pub pages : {E : Type 0} → WalkEnds E → (List ℕ → Op) → ℕ → (List (List ℕ) → Plan E) → ℕ → List (List ℕ) → Plan E
+pages ways ask limit next zero listed = never
+pages ways ask limit next (suc more) listed =
+    asks (ask (unwrap_or (last_listed listed) []))
+    (λ e. after_page ways limit listed e.seq e.reply next (pages ways ask limit next more))
