@@ -1,6 +1,6 @@
 pub mod Turns
 pub mod Growing
 pub mod Opening
-pub mod BlockNames
+pub mod KeyTexts
 pub mod LastLanded
 pub mod Replies
