@@ -75,6 +75,6 @@ pub(crate) fn write_ulid(alloc: Global, ulid: Ulid) -> Result<Value, AllocError>
     ensures value { IfOk result (λ v. view v ≡ ulid_value ulid) }
     ensures written { OnOk result (IsUlidText (text_of ulid) ulid) }
 {
-    let bytes = Vec::from_slice(alloc, &ulid.text())?;
-    Ok(Value::String(String::from_utf8(bytes).unwrap()))
+    let text = ulid.to_string(alloc).map_err(|_| AllocError)?;
+    Ok(Value::String(text))
 }

@@ -19,9 +19,16 @@ use Rattle.index_file.specs.Opened.{Opened}
 abbrev pub magic : List ℕ
 magic = 186 ∷ 170 ∷ 215 ∷ 0 ∷ []
 
+abbrev pub version : ℕ
+version = 2
+
 -- the magic number and the version
 abbrev pub header : List ℕ
-header = magic ++ 2 ∷ []
+header = magic ++ version ∷ []
+
+-- the size of the header and the table of contents
+abbrev pub least_size : ℕ
+least_size = 57
 
 -- A section that holds a list stands at its reference. The reference 0 says that there is none, and then the list is empty.
 abbrev pub Holds : {A : Type 0} → (List ℕ → ℕ → List A → Type 0) → List ℕ → ℕ → List A → Type 0
@@ -32,7 +39,7 @@ Holds IsSectionOf index reference members = MatchBool (reference == 0) (members 
 -- (LabelTable says which values they list).
 pub record IsOpened (opened : Opened) : Type 0 where
   pub begins : take 5 opened.bytes ≡ header
-  pub long : 57 ≤ length opened.bytes
+  pub long : least_size ≤ length opened.bytes
   pub toc_is : IsToc opened.bytes opened.toc
   pub symbols_are : Holds IsSymbols opened.bytes opened.toc.symbols opened.symbols
   pub rows_are : Holds IsPostingsTable opened.bytes opened.toc.postings_table opened.rows

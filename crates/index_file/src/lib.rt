@@ -4,5 +4,5 @@
 mod header;
 mod index_series;
 
-pub use header::{MAGIC, VERSION};
+pub use header::{LEAST_SIZE, MAGIC, VERSION};
 pub use index_series::{IndexSeries, IndexSeriesList};

@@ -24,11 +24,11 @@ use Rattle.index_v2.specs.declared.refusal.IndexRefusal.{IndexRefusal}
 use Rattle.index_v2.specs.declared.refusal.IndexRefusal.TheVariants.{BadMagic, BadVersion, BadSection}
 use Rattle.index_file.specs.Opened.{Opened}
 use Rattle.index_v2.specs.Opening.{refused_in, refused_contents, contents_at, held_at, opened_at}
-use Rattle.index_file.specs.IndexFile.{magic, header, Holds, IsOpened}
+use Rattle.index_file.specs.IndexFile.{magic, version, header, least_size, Holds, IsOpened}
 
 -- ---- the header
 
-five : (index : List ℕ) → 57 ≤ length index → (a b c d e : ℕ) × (others : List ℕ) × (index ≡ a ∷ b ∷ c ∷ d ∷ e ∷ others)
+five : (index : List ℕ) → least_size ≤ length index → (a b c d e : ℕ) × (others : List ℕ) × (index ≡ a ∷ b ∷ c ∷ d ∷ e ∷ others)
 five [] le = absurd (omega arith)
 five (a ∷ []) le = absurd (omega arith)
 five (a ∷ b ∷ []) le = absurd (omega arith)
@@ -36,7 +36,7 @@ five (a ∷ b ∷ c ∷ []) le = absurd (omega arith)
 five (a ∷ b ∷ c ∷ d ∷ []) le = absurd (omega arith)
 five (a ∷ b ∷ c ∷ d ∷ e ∷ others) le = (a, b, c, d, e, others, refl)
 
-header_five : (a b c d e : ℕ) (others : List ℕ) → starts_with nat_eq (a ∷ b ∷ c ∷ d ∷ e ∷ others) magic ≡ true → e ≡ 2 → take 5 (a ∷ b ∷ c ∷ d ∷ e ∷ others) ≡ header
+header_five : (a b c d e : ℕ) (others : List ℕ) → starts_with nat_eq (a ∷ b ∷ c ∷ d ∷ e ∷ others) magic ≡ true → e ≡ version → take 5 (a ∷ b ∷ c ∷ d ∷ e ∷ others) ≡ header
 header_five a b c d e others m v =
     let front : magic ≡ a ∷ b ∷ c ∷ d ∷ [] = (bytes_decides magic (a ∷ b ∷ c ∷ d ∷ [])).0 m in
     let pa : a ≡ 186 = cc in
@@ -45,25 +45,25 @@ header_five a b c d e others m v =
     let pd : d ≡ 0 = cc in
     rw (pa, pb, pc, pd, v) refl
 
-header_found : (index : List ℕ) → 57 ≤ length index → starts_with nat_eq index magic ≡ true → slice_index index 4 ≡ 2 → take 5 index ≡ header
+header_found : (index : List ℕ) → least_size ≤ length index → starts_with nat_eq index magic ≡ true → slice_index index 4 ≡ version → take 5 index ≡ header
 header_found index long m v =
     let f = five index long in
     let is = f.6 in
     let m' : starts_with nat_eq (f.0 ∷ f.1 ∷ f.2 ∷ f.3 ∷ f.4 ∷ f.5) magic ≡ true = ap (λ (xs : List ℕ). starts_with nat_eq xs magic) (sym is) ∙ m in
-    let v' : f.4 ≡ 2 = ap (λ (xs : List ℕ). slice_index xs 4) (sym is) ∙ v in
+    let v' : f.4 ≡ version = ap (λ (xs : List ℕ). slice_index xs 4) (sym is) ∙ v in
     ap (λ (xs : List ℕ). take 5 xs) is ∙ header_five f.0 f.1 f.2 f.3 f.4 f.5 m' v'
 
-five_header : (a b c d e : ℕ) (others : List ℕ) → take 5 (a ∷ b ∷ c ∷ d ∷ e ∷ others) ≡ header → (starts_with nat_eq (a ∷ b ∷ c ∷ d ∷ e ∷ others) magic ≡ true) × (e ≡ 2)
+five_header : (a b c d e : ℕ) (others : List ℕ) → take 5 (a ∷ b ∷ c ∷ d ∷ e ∷ others) ≡ header → (starts_with nat_eq (a ∷ b ∷ c ∷ d ∷ e ∷ others) magic ≡ true) × (e ≡ version)
 five_header a b c d e others h =
     let front : a ∷ b ∷ c ∷ d ∷ e ∷ [] ≡ header = h in
     let pa : a ≡ 186 = cc in
     let pb : b ≡ 170 = cc in
     let pc : c ≡ 215 = cc in
     let pd : d ≡ 0 = cc in
-    let pe : e ≡ 2 = cc in
+    let pe : e ≡ version = cc in
     (rw (pa, pb, pc, pd) refl, pe)
 
-header_again : (index : List ℕ) → 57 ≤ length index → take 5 index ≡ header → (starts_with nat_eq index magic ≡ true) × (slice_index index 4 ≡ 2)
+header_again : (index : List ℕ) → least_size ≤ length index → take 5 index ≡ header → (starts_with nat_eq index magic ≡ true) × (slice_index index 4 ≡ version)
 header_again index long h =
     let f = five index long in
     let is = f.6 in
@@ -72,20 +72,20 @@ header_again index long h =
 
 -- ---- the table of contents
 
-contents_found : (index : List ℕ) (toc : Toc) → IsBytes index → contents_at index ≡ Ok toc → (57 ≤ length index) × (take 5 index ≡ header) × IsToc index toc
+contents_found : (index : List ℕ) (toc : Toc) → IsBytes index → contents_at index ≡ Ok toc → (least_size ≤ length index) × (take 5 index ≡ header) × IsToc index toc
 unfolding contents_at
 contents_found index toc are e =
-    let long = unless_ok (nat_le 57 (length index)) (BadSection 0 (part.Short 0)) (unless (starts_with nat_eq index magic) BadMagic >> (unless (slice_index index 4 == 2) BadVersion >> refused_as refused_contents (toc_at index))) toc e in
-    let begun = unless_ok (starts_with nat_eq index magic) BadMagic (unless (slice_index index 4 == 2) BadVersion >> refused_as refused_contents (toc_at index)) toc long.1 in
-    let version = unless_ok (slice_index index 4 == 2) BadVersion (refused_as refused_contents (toc_at index)) toc begun.1 in
-    let enough : 57 ≤ length index = leb-true 57 (length index) long.0 in
-    (enough, header_found index enough begun.0 (eqb-true (slice_index index 4) 2 version.0), toc_found index toc are (refused_as_ok refused_contents (toc_at index) toc version.1))
+    let long = unless_ok (nat_le least_size (length index)) (BadSection 0 (part.Short 0)) (unless (starts_with nat_eq index magic) BadMagic >> (unless (slice_index index 4 == version) BadVersion >> refused_as refused_contents (toc_at index))) toc e in
+    let begun = unless_ok (starts_with nat_eq index magic) BadMagic (unless (slice_index index 4 == version) BadVersion >> refused_as refused_contents (toc_at index)) toc long.1 in
+    let right = unless_ok (slice_index index 4 == version) BadVersion (refused_as refused_contents (toc_at index)) toc begun.1 in
+    let enough : least_size ≤ length index = leb-true least_size (length index) long.0 in
+    (enough, header_found index enough begun.0 (eqb-true (slice_index index 4) version right.0), toc_found index toc are (refused_as_ok refused_contents (toc_at index) toc right.1))
 
-contents_again : (index : List ℕ) (toc : Toc) → 57 ≤ length index → take 5 index ≡ header → IsToc index toc → contents_at index ≡ Ok toc
+contents_again : (index : List ℕ) (toc : Toc) → least_size ≤ length index → take 5 index ≡ header → IsToc index toc → contents_at index ≡ Ok toc
 unfolding contents_at
 contents_again index toc long h is =
     let front = header_again index long h in
-    rw (le-leb 57 (length index) long, front.0, eq-eqb (slice_index index 4) 2 front.1, toc_again index toc is) refl
+    rw (le-leb least_size (length index) long, front.0, eq-eqb (slice_index index 4) version front.1, toc_again index toc is) refl
 
 -- ---- sections that may be absent
 

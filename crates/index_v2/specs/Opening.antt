@@ -11,7 +11,7 @@ use Rattle.index_parts.specs.RowsReading.{postings_table_at}
 use Rattle.index_v2.specs.declared.refusal.IndexRefusal.{IndexRefusal}
 use Rattle.index_v2.specs.declared.refusal.IndexRefusal.TheVariants.{BadMagic, BadVersion, BadTocSum, BadSection, BadSeries, NoMemory}
 use Rattle.index_file.specs.Opened.{Opened}
-use Rattle.index_file.specs.IndexFile.{magic}
+use Rattle.index_file.specs.IndexFile.{magic, version, least_size}
 use Rattle.index_slices.specs.Parts.{known}
 use Rattle.index_v2.specs.declared.index_parts.IndexParts.{IndexParts}
 use Rattle.index_v2.specs.Held.{Held, symbols_of, table_of, lists_of}
@@ -38,9 +38,9 @@ held_at section read index reference = if reference == 0 then Ok [] else refused
 -- the length, the magic number, the version and the table of contents
 unfoldable pub contents_at : List ℕ → Result Toc IndexRefusal
 contents_at index = do
-  unless (nat_le 57 (length index)) (BadSection 0 (part.Short 0))
+  unless (nat_le least_size (length index)) (BadSection 0 (part.Short 0))
   unless (starts_with nat_eq index magic) BadMagic
-  unless (slice_index index 4 == 2) BadVersion
+  unless (slice_index index 4 == version) BadVersion
   refused_as refused_contents (toc_at index)
 
 -- these, the symbols and the postings table

@@ -3,11 +3,8 @@ ghost use Rattle.reading_core.specs.Reading.{Answers};
 ghost use Rattle.index_v2.specs.Opening.{refused_in, refused_of, refused_contents, contents_at};
 
 use crate::IndexRefusal;
-use index_file::{MAGIC, VERSION};
+use index_file::{LEAST_SIZE, MAGIC, VERSION};
 use index_parts::{PartRefusal, Toc, read_toc};
-
-/// The least length of an index: magic, version and table of contents.
-const LEAST: usize = 57;
 
 /// A refusal of a part, as that of its section.
 pub(crate) fn refused_in(section: u8, refusal: PartRefusal) -> IndexRefusal
@@ -43,7 +40,7 @@ fn refused_contents(refusal: PartRefusal) -> IndexRefusal
 pub(crate) fn contents_of(index: &[u8]) -> Result<Toc, IndexRefusal>
     ensures { Answers (λ toc. toc) result (contents_at index.now) }
 {
-    if index.len() < LEAST {
+    if index.len() < LEAST_SIZE {
         return Err(IndexRefusal::BadSection(0, PartRefusal::Short(0)));
     }
     if !index.starts_with(&MAGIC) {

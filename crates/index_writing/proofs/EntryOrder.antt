@@ -1,14 +1,16 @@
 -- The entries of series stand once each, and in order they strictly ascend.
-use Rattle.std.proofs.Common.{◌≡◌, ℕ, ◌<◌, List, [], ◌∷◌, ◌++◌, refl, sym, ap, arith, inl, inr, ◌⊎◌}
+use Rattle.std.proofs.Common.{◌≡◌, ℕ, ◌<◌, List, [], ◌∷◌, ◌++◌, refl, sym, ap, subst, arith, inl, inr, ◌⊎◌}
 use Rattle.std.specs.declared.cmp.Ordering.{Ordering}
 use Rattle.std.specs.declared.cmp.Ordering.TheVariants.{Less, Equal, Greater}
 use Rattle.std.specs.Ordering.{nat_cmp, ordering_then}
 use Rattle.std.proofs.lemmas.Cmp.{ranked}
-use Rattle.std.specs.List.{AllByRecursion}
+use Rattle.std.specs.List.{AllByRecursion, Contains}
 use Rattle.index_parts.specs.declared.raw_series.RawSeries.{RawSeries}
 use Rattle.index_writing.specs.declared.label_groups.Entry.{Entry}
 use Rattle.index_writing.specs.LabelGroups.{entries_of, all_entries, compare_entries, is_lesser_entry}
-use Rattle.index_writing.proofs.OrderedEntries.{In, all_in, in_all, Rise, IsStrict, strict_order, Once, in_either}
+use Rattle.list_core.proofs.Membership.{contains_first, contains_later, no_member, member_cases, each_member, all_members}
+use Rattle.std.proofs.lemmas.List.Elements.{Contains-append_cases}
+use Rattle.index_writing.proofs.OrderedEntries.{Rise, IsStrict, strict_order, Once}
 use Rattle.index_writing.proofs.LabelRows.{Before}
 use Rattle.index_writing.proofs.Entries.{labels_with, entries_total}
 
@@ -55,34 +57,38 @@ entries_strict = strict_order compare_entries entries_total same_entry
 
 pub before_all : (entries : List Entry) → Rise (λ x y. compare_entries x y ≡ Less) entries → Rise Before entries
 before_all [] up = tt
-before_all (x ∷ entries) up = (all_in (Before x) entries (λ y h. before_from x y (in_all (λ z. compare_entries x z ≡ Less) entries y up.0 h)), before_all entries up.1)
+before_all (x ∷ entries) up = (all_members (Before x) entries (λ y h. before_from x y (each_member (λ z. compare_entries x z ≡ Less) entries y up.0 h)), before_all entries up.1)
 
 -- ---- each stands once
 
-in_labels : (series : ℕ) (names values : List ℕ) (e : Entry) → In e (labels_with series names values) → (e.series ≡ series) × In e.name names
-in_labels series [] values e h = absurd h
-in_labels series (name ∷ names) [] e h = absurd h
-in_labels series (name ∷ names) (value ∷ values) e (inl is) = (ap (λ (x : Entry). x.series) is, inl (ap (λ (x : Entry). x.name) is))
-in_labels series (name ∷ names) (value ∷ values) e (inr h) = let others = in_labels series names values e h in (others.0, inr others.1)
+in_labels : (series : ℕ) (names values : List ℕ) (e : Entry) → Contains (labels_with series names values) e → (e.series ≡ series) × Contains names e.name
+in_labels series [] values e h = absurd (no_member e h)
+in_labels series (name ∷ names) [] e h = absurd (no_member e h)
+in_labels series (name ∷ names) (value ∷ values) e h =
+    let first : Entry = record { name = name; value = value; series = series } in
+    elim (member_cases first e (labels_with series names values) h) [
+      | inl is ↦ (ap (λ (x : Entry). x.series) (sym is), subst (Contains (name ∷ names)) (ap (λ (x : Entry). x.name) is) (contains_first name names))
+      | inr r ↦ let others = in_labels series names values e r in (others.0, contains_later name e.name names others.1)
+    ]
 
 once_labels : (series : ℕ) (names values : List ℕ) → Rise (λ n m. n < m) names → Once (labels_with series names values)
 once_labels series [] values up = tt
 once_labels series (name ∷ names) [] up = tt
 once_labels series (name ∷ names) (value ∷ values) up =
-    (λ h. let later : name < name = in_all (λ m. name < m) names name up.0 (in_labels series names values (record { name = name; value = value; series = series }) h).1 in omega arith, once_labels series names values up.1)
+    (λ h. let later : name < name = each_member (λ m. name < m) names name up.0 (in_labels series names values (record { name = name; value = value; series = series }) h).1 in omega arith, once_labels series names values up.1)
 
-once_append : {A : Type 0} (xs ys : List A) → Once xs → Once ys → ((x : A) → In x xs → In x ys → ⊥) → Once (xs ++ ys)
+once_append : {A : Type 0} (xs ys : List A) → Once xs → Once ys → ((x : A) → Contains xs x → Contains ys x → ⊥) → Once (xs ++ ys)
 once_append [] ys a b apart = b
 once_append (x ∷ xs) ys a b apart =
-    (λ h. elim (in_either x xs ys h) [ inl i ↦ a.0 i | inr i ↦ apart x (inl refl) i ], once_append xs ys a.1 b (λ y i j. apart y (inr i) j))
+    (λ h. elim (Contains-append_cases xs ys x h) [ inl i ↦ a.0 i | inr i ↦ apart x (contains_first x xs) i ], once_append xs ys a.1 b (λ y i j. apart y (contains_later x y xs i) j))
 
-in_series : (series : List RawSeries) (numbers : List ℕ) (e : Entry) → In e (all_entries series numbers) → In e.series numbers
+in_series : (series : List RawSeries) (numbers : List ℕ) (e : Entry) → Contains (all_entries series numbers) e → Contains numbers e.series
 unfolding all_entries entries_of
-in_series [] numbers e h = absurd h
-in_series (one ∷ series) [] e h = absurd h
-in_series (one ∷ series) (number ∷ numbers) e h = elim (in_either e (entries_of one number) (all_entries series numbers) h) [
-  | inl i ↦ inl (in_labels number one.names one.values e i).0
-  | inr i ↦ inr (in_series series numbers e i)
+in_series [] numbers e h = absurd (no_member e h)
+in_series (one ∷ series) [] e h = absurd (no_member e h)
+in_series (one ∷ series) (number ∷ numbers) e h = elim (Contains-append_cases (entries_of one number) (all_entries series numbers) e h) [
+  | inl i ↦ subst (Contains (number ∷ numbers)) (sym (in_labels number one.names one.values e i).0) (contains_first number numbers)
+  | inr i ↦ contains_later number e.series numbers (in_series series numbers e i)
 ]
 
 pub once_entries : (series : List RawSeries) (numbers : List ℕ) → AllByRecursion (λ one. Rise (λ n m. n < m) one.names) series → Rise (λ n m. n < m) numbers → Once (all_entries series numbers)
@@ -93,5 +99,5 @@ once_entries (one ∷ series) (number ∷ numbers) names up =
     once_append (entries_of one number) (all_entries series numbers) (once_labels number one.names one.values names.0) (once_entries series numbers names.1 up.1)
     (λ e i j.
     let here = (in_labels number one.names one.values e i).0 in
-    let later : number < e.series = in_all (λ m. number < m) numbers e.series up.0 (in_series series numbers e j) in
+    let later : number < e.series = each_member (λ m. number < m) numbers e.series up.0 (in_series series numbers e j) in
     omega arith)

@@ -1,7 +1,7 @@
 -- What is written of a list of series is an index of it, and has its label indices.
 use Rattle.std.proofs.Common.{◌≡◌, ◌≢◌, ℕ, ◌*◌, ◌<◌, ◌≤◌, false, List, [], ◌∷◌, ◌++◌, length, map, Result, Ok, Err, refl, sym, ap, ◌∙◌, subst, arith, inl, inr}
 use Rattle.std.specs.Prelude.{slice_get, option_map, unwrap_or, MatchBool, OnOk, ◌==◌}
-use Rattle.std.specs.List.{AllByRecursion}
+use Rattle.std.specs.List.{AllByRecursion, Contains}
 use Rattle.std.specs.List.Sorted.{IsStrictlySortedBy}
 use Rattle.std.proofs.lemmas.Bool.Decides.{nat_tests}
 use Rattle.label_sets.specs.Labels.{IsLabelSet}
@@ -23,12 +23,12 @@ use Rattle.index_writing.specs.declared.write_refusal.IndexWriteRefusal.{IndexWr
 use Rattle.index_parts.specs.declared.toc.Toc.{Toc}
 use Rattle.index_writing.specs.WriteSteps.{greatest, Makes, EachStands}
 use Rattle.index_writing.specs.Written.{AreWritable, first_or, up_to_symbols, table_rows, offset_rows, parts_of, with_series, with_label_indices, with_lists, list_places, with_label_offsets, with_table, toc_of, written}
-use Rattle.index_writing.proofs.OrderedEntries.{In}
+use Rattle.list_core.proofs.Membership.{contains_first}
 use Rattle.index_writing.proofs.SeriesNumbers.{numbers_after}
 use Rattle.index_writing.proofs.AlignedTexts.{padded_longer}
 use Rattle.index_writing.proofs.PartsLaws.{front_longer, indices_longer, lists_longer, offsets_longer}
 use Rattle.index_writing.proofs.TableLaws.{table_in_order}
-use Rattle.index_writing.proofs.WrittenIndex.{has_in, zip_firsts, zip_seconds, written_series, written_table, begins, front_size, long}
+use Rattle.index_writing.proofs.WrittenIndex.{zip_firsts, zip_seconds, written_series, written_table, begins, front_size, long}
 use Rattle.index_writing.proofs.LabelTableLaw.{label_table_law}
 use Rattle.index_writing.proofs.IndexWritten.{numbers, all_place, table, table_is, many, numbered, listed, all_stands, rows_hold, complete, series_hold}
 
@@ -86,9 +86,9 @@ symbols_present : (list : List IndexSeries) → (toc_of (parts_of list)).symbols
 unfolding toc_of
 symbols_present list = λ e. absurd (omega arith)
 
-series_place : (front : List ℕ) (ns : List ℕ) → 5 ≤ length front → ((n : ℕ) → In n ns → length front ≤ 16 * n) → 0 < unwrap_or (option_map (λ number. 16 * number) (slice_get ns 0)) (length front)
+series_place : (front : List ℕ) (ns : List ℕ) → 5 ≤ length front → ((n : ℕ) → Contains ns n → length front ≤ 16 * n) → 0 < unwrap_or (option_map (λ number. 16 * number) (slice_get ns 0)) (length front)
 series_place front [] size after = omega arith
-series_place front (n ∷ ns) size after = omega (arith, after n (inl refl))
+series_place front (n ∷ ns) size after = omega (arith, after n (contains_first n ns))
 
 series_present : (list : List IndexSeries) → (toc_of (parts_of list)).series ≢ 0
 unfolding toc_of parts_of
@@ -118,11 +118,11 @@ index_law list lawful shown = record {
   series_are = record {
     numbers_are = subst (λ (l : List ℕ). IsPostings (written list) (all_place list) l) (sym (zip_firsts (numbers list) list (many list))) (all_stands list shown.room shown.labels);
     present = inr (symbols_present list, series_present list, postings_present list);
-    stand = λ n s has. series_hold list n s shown.labels (series_shown list shown) (has_in (listed list) (n, s) has);
+    stand = λ n s has. series_hold list n s shown.labels (series_shown list shown) has;
     ascend = subst (IsStrictlySortedBy compare_series) (sym (zip_seconds (numbers list) list (many list))) lawful.ascend;
   };
-  rows_are = λ row has. rows_hold list row shown.room shown.labels (has_in (table list) row has);
-  complete = λ n s has label h. complete list n s label shown.labels (has_in (listed list) (n, s) has) (has_in s.labels label h);
+  rows_are = λ row has. rows_hold list row shown.room shown.labels has;
+  complete = λ n s has label h. complete list n s label shown.labels has h;
 }
 
 symbols_shown : (list : List IndexSeries) → IsShown list → IsSymbols (written list) (toc_of (parts_of list)).symbols (symbols_of list)

@@ -1,7 +1,7 @@
 -- The clauses of an index hold of what is written.
 use Rattle.std.proofs.Common.{◌≡◌, ℕ, suc, ◌*◌, ◌^◌, ◌<◌, ◌≤◌, List, [], ◌∷◌, ◌++◌, length, map, zip, Option, Some, refl, sym, ap, ◌∙◌, subst, arith, inl, inr}
 use Rattle.std.specs.Prelude.{slice_get}
-use Rattle.std.specs.List.{AllByRecursion, All}
+use Rattle.std.specs.List.{AllByRecursion, All, Contains}
 use Rattle.std.proofs.lemmas.List.{length-map}
 use Rattle.label_sets.specs.declared.label.Label.{Label}
 use Rattle.label_sets.specs.Labels.{IsLabelSet}
@@ -16,9 +16,9 @@ use Rattle.index_writing.specs.LabelGroups.{rows_of}
 use Rattle.index_writing.specs.Aligned.{padded, places_at}
 use Rattle.index_writing.specs.WriteSteps.{greatest, EachStands}
 use Rattle.index_writing.specs.Written.{HaveSmallNumbers, up_to_symbols, numbers_behind, list_texts, label_rows, table_rows, parts_of, with_series, with_label_indices, with_lists, list_places, written}
-use Rattle.index_writing.proofs.OrderedEntries.{In, in_all}
+use Rattle.list_core.proofs.Membership.{contains_first, contains_later, no_member, member_cases, each_member}
 use Rattle.index_writing.proofs.SortedTexts.{symbols_strict}
-use Rattle.index_writing.proofs.SymbolNumbers.{in_has, label_in, number_at, symbol_at}
+use Rattle.index_writing.proofs.SymbolNumbers.{label_in, number_at, symbol_at}
 use Rattle.index_writing.proofs.SeriesNumbers.{numbers_rise}
 use Rattle.index_writing.proofs.AlignedTexts.{places_many}
 use Rattle.index_writing.proofs.PartsLaws.{as_many_numbers, series_written}
@@ -26,7 +26,7 @@ use Rattle.index_writing.proofs.SmallNumbers.{parts_small}
 use Rattle.index_writing.proofs.ListPlaces.{StandsAt, each_stands, stands_on, list_stands}
 use Rattle.index_writing.proofs.TableRows.{row_with, row_of_all}
 use Rattle.index_writing.proofs.TableLaws.{IsNumbered, HasLabel, entries, are_rows, in_zip, row_label, row_only, row_all, label_row, name_text}
-use Rattle.index_writing.proofs.WrittenIndex.{has_in, in_numbers, zip_number, written_lists, written_series}
+use Rattle.index_writing.proofs.WrittenIndex.{in_numbers, zip_number, written_lists, written_series}
 
 -- ---- the parts by name
 
@@ -64,25 +64,29 @@ small_all : {A : Type 0} (P : A → Type 0) (xs : List A) → All P xs → AllBy
 small_all P [] all = tt
 small_all P (x ∷ xs) all = (all 0 x (omega arith), small_all P xs (λ k d lt. all (suc k) d (omega arith)))
 
-stands_in : (list : List IndexSeries) (place : ℕ) (text : List ℕ) → In (place, text) (zip (places_at 4 (with_label_indices (parts_of list)) (list_texts (numbers list) (rows list))) (list_texts (numbers list) (rows list))) → StandsAt (written list) place text
+stands_in : (list : List IndexSeries) (place : ℕ) (text : List ℕ) → Contains (zip (places_at 4 (with_label_indices (parts_of list)) (list_texts (numbers list) (rows list))) (list_texts (numbers list) (rows list))) (place, text) → StandsAt (written list) place text
 unfolding parts_of with_lists
 stands_in list place text h =
     let more = written_lists list in
     stands_on (with_lists (parts_of list)) more.0 place text (written list) (each_stands 4 (with_label_indices (parts_of list)) (list_texts (numbers list) (rows list)) place text h) more.1
 
-first_in : (list : List IndexSeries) → In (all_place list, postings_text (numbers list)) (zip (places_at 4 (with_label_indices (parts_of list)) (list_texts (numbers list) (rows list))) (list_texts (numbers list) (rows list)))
+first_in : (list : List IndexSeries) → Contains (zip (places_at 4 (with_label_indices (parts_of list)) (list_texts (numbers list) (rows list))) (list_texts (numbers list) (rows list))) (all_place list, postings_text (numbers list))
 unfolding places_at
-first_in list = inl refl
+first_in list = contains_first (all_place list, postings_text (numbers list)) (zip (row_places list) (map (λ (r : LabelRow). postings_text r.series) (rows list)))
 
-in_texts : (places : List ℕ) (rs : List LabelRow) (place : ℕ) (row : LabelRow) → In (place, row) (zip places rs) → In (place, postings_text row.series) (zip places (map (λ (r : LabelRow). postings_text r.series) rs))
-in_texts [] rs place row h = absurd h
-in_texts (p ∷ places) [] place row h = absurd h
-in_texts (p ∷ places) (r ∷ rs) place row (inl e) = inl (ap (λ (x : ℕ × LabelRow). (x.0, postings_text x.1.series)) e)
-in_texts (p ∷ places) (r ∷ rs) place row (inr h) = inr (in_texts places rs place row h)
+in_texts : (places : List ℕ) (rs : List LabelRow) (place : ℕ) (row : LabelRow) → Contains (zip places rs) (place, row) → Contains (zip places (map (λ (r : LabelRow). postings_text r.series) rs)) (place, postings_text row.series)
+in_texts [] rs place row h = absurd (no_member (place, row) h)
+in_texts (p ∷ places) [] place row h = absurd (no_member (place, row) h)
+in_texts (p ∷ places) (r ∷ rs) place row h =
+    let others = zip places (map (λ (r : LabelRow). postings_text r.series) rs) in
+    elim (member_cases (p, r) (place, row) (zip places rs) h) [
+      | inl e ↦ subst (λ (x : ℕ × LabelRow). Contains ((p, postings_text r.series) ∷ others) (x.0, postings_text x.1.series)) e (contains_first (p, postings_text r.series) others)
+      | inr i ↦ contains_later (p, postings_text r.series) (place, postings_text row.series) others (in_texts places rs place row i)
+    ]
 
-later_in : (list : List IndexSeries) (place : ℕ) (row : LabelRow) → In (place, row) (zip (row_places list) (rows list)) → In (place, postings_text row.series) (zip (places_at 4 (with_label_indices (parts_of list)) (list_texts (numbers list) (rows list))) (list_texts (numbers list) (rows list)))
+later_in : (list : List IndexSeries) (place : ℕ) (row : LabelRow) → Contains (zip (row_places list) (rows list)) (place, row) → Contains (zip (places_at 4 (with_label_indices (parts_of list)) (list_texts (numbers list) (rows list))) (list_texts (numbers list) (rows list))) (place, postings_text row.series)
 unfolding places_at
-later_in list place row h = inr (in_texts (row_places list) (rows list) place row h)
+later_in list place row h = contains_later (all_place list, postings_text (numbers list)) (place, postings_text row.series) (zip (row_places list) (map (λ (r : LabelRow). postings_text r.series) (rows list))) (in_texts (row_places list) (rows list) place row h)
 
 pub small_numbers : (list : List IndexSeries) → length (written list) ≤ greatest → HaveSmallNumbers (parts_of list)
 small_numbers list room = parts_small list (omega (arith, series_written list))
@@ -93,27 +97,31 @@ all_stands list room lawful =
     list_stands (written list) (all_place list) (numbers list) room (stands_in list (all_place list) (postings_text (numbers list)) (first_in list))
     (small_all (λ n. n < 2 ^ 32) (numbers list) (small_numbers list room).numbers) (numbered list lawful).rise
 
-pub row_stands : (list : List IndexSeries) (place : ℕ) (row : LabelRow) → length (written list) ≤ greatest → AllByRecursion (λ one. IsLabelSet one.labels) list → In row (rows list) → In (place, row) (zip (row_places list) (rows list)) → IsPostings (written list) place row.series
+pub row_stands : (list : List IndexSeries) (place : ℕ) (row : LabelRow) → length (written list) ≤ greatest → AllByRecursion (λ one. IsLabelSet one.labels) list → Contains (rows list) row → Contains (zip (row_places list) (rows list)) (place, row) → IsPostings (written list) place row.series
 unfolding parts_of
 row_stands list place row room lawful member h =
     list_stands (written list) place row.series room (stands_in list place (postings_text row.series) (later_in list place row h))
-    (small_all (λ n. n < 2 ^ 32) row.series (in_all (λ (r : LabelRow). All (λ n. n < 2 ^ 32) r.series) (rows list) row (small_numbers list room).rows member)) ((are_rows list (numbers list) (numbered list lawful)).rise row member)
+    (small_all (λ n. n < 2 ^ 32) row.series (each_member (λ (r : LabelRow). All (λ n. n < 2 ^ 32) r.series) (rows list) row (small_numbers list room).rows member)) ((are_rows list (numbers list) (numbered list lawful)).rise row member)
 
 -- ---- rows of the table
 
-from_rows : (symbols : List (List ℕ)) (rs : List LabelRow) (places : List ℕ) (made : PostingsRow) → In made (label_rows symbols rs places) → (row : LabelRow) × (place : ℕ) × In row rs × In (place, row) (zip places rs) × (made ≡ row_with symbols row place)
+from_rows : (symbols : List (List ℕ)) (rs : List LabelRow) (places : List ℕ) (made : PostingsRow) → Contains (label_rows symbols rs places) made → (row : LabelRow) × (place : ℕ) × Contains rs row × Contains (zip places rs) (place, row) × (made ≡ row_with symbols row place)
 unfolding label_rows
-from_rows symbols [] places made h = absurd h
-from_rows symbols (r ∷ rs) [] made h = absurd h
-from_rows symbols (r ∷ rs) (p ∷ places) made (inl e) = (r, p, inl refl, inl refl, e)
-from_rows symbols (r ∷ rs) (p ∷ places) made (inr h) = let found = from_rows symbols rs places made h in (found.0, found.1, inr found.2, inr found.3, found.4)
+from_rows symbols [] places made h = absurd (no_member made h)
+from_rows symbols (r ∷ rs) [] made h = absurd (no_member made h)
+from_rows symbols (r ∷ rs) (p ∷ places) made h = elim (member_cases (row_with symbols r p) made (label_rows symbols rs places) h) [
+  | inl e ↦ (r, p, contains_first r rs, contains_first (p, r) (zip places rs), sym e)
+  | inr i ↦ let found = from_rows symbols rs places made i in (found.0, found.1, contains_later r found.0 rs found.2, contains_later (p, r) (found.1, found.0) (zip places rs) found.3, found.4)
+]
 
-to_rows : (symbols : List (List ℕ)) (rs : List LabelRow) (places : List ℕ) (row : LabelRow) → length rs ≡ length places → In row rs → (place : ℕ) × In (row_with symbols row place) (label_rows symbols rs places)
+to_rows : (symbols : List (List ℕ)) (rs : List LabelRow) (places : List ℕ) (row : LabelRow) → length rs ≡ length places → Contains rs row → (place : ℕ) × Contains (label_rows symbols rs places) (row_with symbols row place)
 unfolding label_rows
-to_rows symbols [] places row same h = absurd h
+to_rows symbols [] places row same h = absurd (no_member row h)
 to_rows symbols (r ∷ rs) [] row same h = absurd (omega arith)
-to_rows symbols (r ∷ rs) (p ∷ places) row same (inl e) = (p, inl (ap (λ (x : LabelRow). row_with symbols x p) e))
-to_rows symbols (r ∷ rs) (p ∷ places) row same (inr h) = let found = to_rows symbols rs places row (omega arith) h in (found.0, inr found.1)
+to_rows symbols (r ∷ rs) (p ∷ places) row same h = elim (member_cases r row rs h) [
+  | inl e ↦ (p, subst (λ (x : LabelRow). Contains (row_with symbols r p ∷ label_rows symbols rs places) (row_with symbols x p)) e (contains_first (row_with symbols r p) (label_rows symbols rs places)))
+  | inr i ↦ let found = to_rows symbols rs places row (omega arith) i in (found.0, contains_later (row_with symbols r p) (row_with symbols row found.0) (label_rows symbols rs places) found.1)
+]
 
 abbrev pub listed : List IndexSeries → List (ℕ × IndexSeries)
 listed list = zip (numbers list) list
@@ -122,15 +130,15 @@ all_row : (list : List IndexSeries) → length (written list) ≤ greatest → A
 all_row list room lawful = record {
   numbers = numbers list;
   stands = all_stands list room lawful;
-  only = λ n has. let found = in_numbers (numbers list) list n (many list) (has_in (numbers list) n has) in (found.0, in_has (listed list) (n, found.0) found.1, inl (refl, refl));
-  all = λ n s has belongs. in_has (numbers list) n (zip_number (numbers list) list n s (has_in (listed list) (n, s) has));
+  only = λ n has. let found = in_numbers (numbers list) list n (many list) has in (found.0, found.1, inl (refl, refl));
+  all = λ n s has belongs. (zip_number (numbers list) list n s has);
 }
 
-belongs_in : (list : List IndexSeries) (row : LabelRow) (place n : ℕ) (s : IndexSeries) → HasLabel list row.name row.value → BelongsTo (row_with (symbols_of list) row place) s → In (record { name = symbol_of (symbols_of list) row.name; value = symbol_of (symbols_of list) row.value }) s.labels
+belongs_in : (list : List IndexSeries) (row : LabelRow) (place n : ℕ) (s : IndexSeries) → HasLabel list row.name row.value → BelongsTo (row_with (symbols_of list) row place) s → Contains s.labels (record { name = symbol_of (symbols_of list) row.name; value = symbol_of (symbols_of list) row.value })
 belongs_in list row place n s has (inl none) = absurd (has.named (sym (name_text list row.name row.value has) ∙ none.0))
-belongs_in list row place n s has (inr h) = has_in s.labels (record { name = symbol_of (symbols_of list) row.name; value = symbol_of (symbols_of list) row.value }) h
+belongs_in list row place n s has (inr h) = h
 
-one_row : (list : List IndexSeries) (row : LabelRow) (place : ℕ) → length (written list) ≤ greatest → AllByRecursion (λ one. IsLabelSet one.labels) list → In row (rows list) → In (place, row) (zip (row_places list) (rows list)) → IsListOf (written list) (listed list) (row_with (symbols_of list) row place)
+one_row : (list : List IndexSeries) (row : LabelRow) (place : ℕ) → length (written list) ≤ greatest → AllByRecursion (λ one. IsLabelSet one.labels) list → Contains (rows list) row → Contains (zip (row_places list) (rows list)) (place, row) → IsListOf (written list) (listed list) (row_with (symbols_of list) row place)
 one_row list row place room lawful member h =
     let known = numbered list lawful in
     let label : Label = record { name = symbol_of (symbols_of list) row.name; value = symbol_of (symbols_of list) row.value } in
@@ -138,45 +146,48 @@ one_row list row place room lawful member h =
       numbers = row.series;
       stands = row_stands list place row room lawful member h;
       only = λ n has.
-          let found = row_only list (numbers list) row n known member (has_in row.series n has) in
-          (found.0, in_has (listed list) (n, found.0) found.1, inr (in_has found.0.labels label found.2));
+          let found = row_only list (numbers list) row n known member has in
+          (found.0, found.1, inr found.2);
       all = λ n s has belongs.
-          in_has row.series n (row_all list (numbers list) row n s known member (has_in (listed list) (n, s) has) (belongs_in list row place n s (row_label list (numbers list) row known member) belongs));
+          (row_all list (numbers list) row n s known member has (belongs_in list row place n s (row_label list (numbers list) row known member) belongs));
     }
 
-pub rows_hold : (list : List IndexSeries) (row : PostingsRow) → length (written list) ≤ greatest → AllByRecursion (λ one. IsLabelSet one.labels) list → In row (table list) → IsListOf (written list) (listed list) row
-rows_hold list row room lawful (inl e) = subst (λ (r : PostingsRow). IsListOf (written list) (listed list) r) (sym e) (all_row list room lawful)
-rows_hold list row room lawful (inr h) =
-    let found = from_rows (symbols_of list) (rows list) (row_places list) row h in
-    subst (λ (r : PostingsRow). IsListOf (written list) (listed list) r) (sym found.4) (one_row list found.0 found.1 room lawful found.2 found.3)
+pub rows_hold : (list : List IndexSeries) (row : PostingsRow) → length (written list) ≤ greatest → AllByRecursion (λ one. IsLabelSet one.labels) list → Contains (table list) row → IsListOf (written list) (listed list) row
+rows_hold list row room lawful h = elim (member_cases (row_of_all (all_place list)) row (label_rows (symbols_of list) (rows list) (row_places list)) h) [
+  | inl e ↦ subst (λ (r : PostingsRow). IsListOf (written list) (listed list) r) e (all_row list room lawful)
+  | inr i ↦ let found = from_rows (symbols_of list) (rows list) (row_places list) row i in
+      subst (λ (r : PostingsRow). IsListOf (written list) (listed list) r) (sym found.4) (one_row list found.0 found.1 room lawful found.2 found.3)
+]
 
-pub complete : (list : List IndexSeries) (n : ℕ) (s : IndexSeries) (label : Label) → AllByRecursion (λ one. IsLabelSet one.labels) list → In (n, s) (listed list) → In label s.labels → HasRow (table list) label
+pub complete : (list : List IndexSeries) (n : ℕ) (s : IndexSeries) (label : Label) → AllByRecursion (λ one. IsLabelSet one.labels) list → Contains (listed list) (n, s) → Contains s.labels label → HasRow (table list) label
 complete list n s label lawful h i =
     let found = label_row list (numbers list) n s label (numbered list lawful) h i in
     let places : length (rows list) ≡ length (row_places list) = sym (places_many 4 (padded 4 (with_label_indices (parts_of list)) ++ postings_text (numbers list)) (map (λ (row : LabelRow). postings_text row.series) (rows list)) ∙ length-map (rows list) (λ (row : LabelRow). postings_text row.series)) in
     let made = to_rows (symbols_of list) (rows list) (row_places list) found.0 places found.1 in
     let texts = label_in list s label (in_zip (numbers list) list n s h) i in (
       row_with (symbols_of list) found.0 made.0,
-      in_has (table list) (row_with (symbols_of list) found.0 made.0) (inr made.1),
+      contains_later (row_of_all (all_place list)) (row_with (symbols_of list) found.0 made.0) (label_rows (symbols_of list) (rows list) (row_places list)) made.1,
       ap (symbol_of (symbols_of list)) found.2 ∙ symbol_at (symbols_of list) label.name (symbols_strict list) texts.0,
       ap (symbol_of (symbols_of list)) found.3 ∙ symbol_at (symbols_of list) label.value (symbols_strict list) texts.1,
     )
 
 -- ---- series
 
-one_stands : (text ns : List ℕ) (symbols : List (List ℕ)) (list : List IndexSeries) (n : ℕ) (s : IndexSeries) → EachStands text ns (map (raw_of symbols) list) → In (n, s) (zip ns list) → (after : List ℕ) → IsSeries (text ++ after) (16 * n) (raw_of symbols s)
-one_stands text [] symbols list n s stand h after = absurd h
-one_stands text (m ∷ ns) symbols [] n s stand h after = absurd h
-one_stands text (m ∷ ns) symbols (t ∷ list) n s stand (inl e) after = subst (λ (x : ℕ × IndexSeries). IsSeries (text ++ after) (16 * x.0) (raw_of symbols x.1)) (sym e) (stand.0 after)
-one_stands text (m ∷ ns) symbols (t ∷ list) n s stand (inr h) after = one_stands text ns symbols list n s stand.1 h after
+one_stands : (text ns : List ℕ) (symbols : List (List ℕ)) (list : List IndexSeries) (n : ℕ) (s : IndexSeries) → EachStands text ns (map (raw_of symbols) list) → Contains (zip ns list) (n, s) → (after : List ℕ) → IsSeries (text ++ after) (16 * n) (raw_of symbols s)
+one_stands text [] symbols list n s stand h after = absurd (no_member (n, s) h)
+one_stands text (m ∷ ns) symbols [] n s stand h after = absurd (no_member (n, s) h)
+one_stands text (m ∷ ns) symbols (t ∷ list) n s stand h after = elim (member_cases (m, t) (n, s) (zip ns list) h) [
+  | inl e ↦ subst (λ (x : ℕ × IndexSeries). IsSeries (text ++ after) (16 * x.0) (raw_of symbols x.1)) e (stand.0 after)
+  | inr i ↦ one_stands text ns symbols list n s stand.1 i after
+]
 
-stand_for : (list : List IndexSeries) (f : Label → List ℕ) (labels : List Label) → ((l : Label) → In l labels → In (f l) (symbols_of list)) → StandFor (symbols_of list) (map (λ l. number_of (symbols_of list) (f l)) labels) (map f labels)
+stand_for : (list : List IndexSeries) (f : Label → List ℕ) (labels : List Label) → ((l : Label) → Contains labels l → Contains (symbols_of list) (f l)) → StandFor (symbols_of list) (map (λ l. number_of (symbols_of list) (f l)) labels) (map f labels)
 stand_for list f [] known = refl
 stand_for list f (l ∷ labels) known =
-    ap (λ (o : Option (List ℕ)). o ∷ map (slice_get (symbols_of list)) (map (λ x. number_of (symbols_of list) (f x)) labels)) (number_at (symbols_of list) (f l) (symbols_strict list) (known l (inl refl)))
-    ∙ ap (λ (o : List (Option (List ℕ))). Some (f l) ∷ o) (stand_for list f labels (λ x h. known x (inr h)))
+    ap (λ (o : Option (List ℕ)). o ∷ map (slice_get (symbols_of list)) (map (λ x. number_of (symbols_of list) (f x)) labels)) (number_at (symbols_of list) (f l) (symbols_strict list) (known l (contains_first l labels)))
+    ∙ ap (λ (o : List (Option (List ℕ))). Some (f l) ∷ o) (stand_for list f labels (λ x h. known x (contains_later l x labels h)))
 
-pub series_hold : (list : List IndexSeries) (n : ℕ) (s : IndexSeries) → AllByRecursion (λ one. IsLabelSet one.labels) list → EachStands (with_series (parts_of list)) (numbers list) (map (raw_of (symbols_of list)) list) → In (n, s) (listed list) → IsSeriesOf (written list) (symbols_of list) n s
+pub series_hold : (list : List IndexSeries) (n : ℕ) (s : IndexSeries) → AllByRecursion (λ one. IsLabelSet one.labels) list → EachStands (with_series (parts_of list)) (numbers list) (map (raw_of (symbols_of list)) list) → Contains (listed list) (n, s) → IsSeriesOf (written list) (symbols_of list) n s
 unfolding raw_of
 series_hold list n s lawful stand h =
     let symbols = symbols_of list in
@@ -188,5 +199,5 @@ series_hold list n s lawful stand h =
       stands = subst (λ (l : List ℕ). IsSeries l (16 * n) (raw_of symbols s)) (sym more.1) (one_stands (with_series (parts_of list)) (numbers list) symbols list n s stand h more.0);
       names_are = stand_for list (λ l. l.name) s.labels (λ l i. (label_in list s l member i).0);
       values_are = stand_for list (λ l. l.value) s.labels (λ l i. (label_in list s l member i).1);
-      lawful = in_all (λ (one : IndexSeries). IsLabelSet one.labels) list s lawful member;
+      lawful = each_member (λ (one : IndexSeries). IsLabelSet one.labels) list s lawful member;
     }

@@ -7,7 +7,8 @@ use Rattle.index_writing.specs.declared.label_groups.Entry.{Entry}
 use Rattle.index_writing.specs.declared.label_groups.LabelRow.{LabelRow}
 use Rattle.index_writing.specs.declared.label_groups.NameValues.{NameValues}
 use Rattle.index_writing.specs.LabelGroups.{grouped, row_of_entry, have_same_label, join_series, values_of_row, have_same_name, join_values, names_of}
-use Rattle.index_writing.proofs.OrderedEntries.{In, Rise}
+use Rattle.std.specs.List.{Contains}
+use Rattle.index_writing.proofs.OrderedEntries.{Rise}
 use Rattle.index_writing.proofs.GroupLaws.{IsGrouping, AreGroups, are_groups, one_group}
 
 -- a label is before another, by the numbers of its name and value
@@ -86,15 +87,15 @@ pub grouped_rows : (entries : List Entry) → Rise Before entries → AreRowsOf 
 grouped_rows entries up = are_groups entry_key (λ entry. entry.series) row_key (λ row. row.series) LabelBefore Before have_same_label join_series row_of_entry entries_grouping entries up
 
 -- a row's number is of an entry
-pub row_entry : (entries : List Entry) (rows : List LabelRow) (row : LabelRow) (n : ℕ) → AreRowsOf entries rows → In row rows → In n row.series → In (entry_in row n) entries
+pub row_entry : (entries : List Entry) (rows : List LabelRow) (row : LabelRow) (n : ℕ) → AreRowsOf entries rows → Contains rows row → Contains row.series n → Contains entries (entry_in row n)
 row_entry entries rows row n are h i =
     let found = are.only row n h i in
     let key = found.2 in
     let number = found.3 in
-    subst (λ (e : Entry). In e entries) (λ j. record { name = (key j).0; value = (key j).1; series = number j }) found.1
+    subst (λ (e : Entry). Contains entries e) (λ j. record { name = (key j).0; value = (key j).1; series = number j }) found.1
 
 -- two rows of one label are one
-pub one_row : (rows : List LabelRow) (one other : LabelRow) → Rise RowBefore rows → In one rows → In other rows → one.name ≡ other.name → one.value ≡ other.value → one ≡ other
+pub one_row : (rows : List LabelRow) (one other : LabelRow) → Rise RowBefore rows → Contains rows one → Contains rows other → one.name ≡ other.name → one.value ≡ other.value → one ≡ other
 one_row rows one other up h i name value = one_group entry_key (λ entry. entry.series) row_key (λ row. row.series) LabelBefore not_itself rows one other up h i (λ j. (name j, value j))
 
 -- ---- names
@@ -117,5 +118,5 @@ unfolding names_of
 grouped_names rows up = are_groups (λ (row : LabelRow). row.name) (λ row. row.value) (λ (name : NameValues). name.name) (λ name. name.values) (λ n m. n < m) RowBefore have_same_name join_values values_of_row rows_grouping rows up
 
 -- two of one name are one
-pub one_name : (names : List NameValues) (one other : NameValues) → Rise NameBefore names → In one names → In other names → one.name ≡ other.name → one ≡ other
+pub one_name : (names : List NameValues) (one other : NameValues) → Rise NameBefore names → Contains names one → Contains names other → one.name ≡ other.name → one ≡ other
 one_name names one other up h i same = one_group (λ (row : LabelRow). row.name) (λ row. row.value) (λ (name : NameValues). name.name) (λ name. name.values) (λ n m. n < m) (λ n lt. omega arith) names one other up h i same

@@ -19,15 +19,16 @@ use Rattle.index_writing.specs.LabelGroups.{names_of}
 use Rattle.index_writing.specs.Aligned.{places_at}
 use Rattle.index_writing.specs.WriteSteps.{greatest}
 use Rattle.index_writing.specs.Written.{label_index_texts, list_texts, offset_rows, parts_of, with_series, with_label_indices, with_lists, label_index_places, toc_of, written}
-use Rattle.index_writing.proofs.OrderedEntries.{In, all_in, in_all, Rise}
+use Rattle.list_core.proofs.Membership.{contains_first, contains_later, no_member, member_cases, each_member, all_members, of_map, into_map}
+use Rattle.index_writing.proofs.OrderedEntries.{Rise}
 use Rattle.index_writing.proofs.SortedTexts.{symbols_strict}
-use Rattle.index_writing.proofs.SymbolNumbers.{in_has, label_in, number_at, symbol_at}
+use Rattle.index_writing.proofs.SymbolNumbers.{label_in, number_at, symbol_at}
 use Rattle.index_writing.proofs.AlignedTexts.{places_many}
 use Rattle.index_writing.proofs.Standing.{each_begins}
 use Rattle.index_writing.proofs.ListPlaces.{StandsAt, each_stands, stands_on, in_order, index_stands}
 use Rattle.index_writing.proofs.LabelRows.{NameBefore, AreNamesOf, grouped_names, one_name}
 use Rattle.index_writing.proofs.TableLaws.{HasLabel, are_rows, in_zip, row_label, row_only, label_row, name_text, value_text, text_less}
-use Rattle.index_writing.proofs.WrittenIndex.{has_in, written_lists}
+use Rattle.index_writing.proofs.WrittenIndex.{written_lists}
 use Rattle.index_writing.proofs.IndexWritten.{numbers, rows, many, numbered, small_numbers}
 
 -- the labels of each series are a label set
@@ -37,17 +38,21 @@ AreLawful list = AllByRecursion (λ one. IsLabelSet one.labels) list
 -- ---- lists in pairs
 
 module _ {A B C : Type 0} where
-  pair_of : (f : A → B) (xs : List A) (ys : List C) (b : B) (c : C) → In (b, c) (zip (map f xs) ys) → (x : A) × In x xs × In (c, x) (zip ys xs) × (b ≡ f x)
-  pair_of f [] ys b c h = absurd h
-  pair_of f (x ∷ xs) [] b c h = absurd h
-  pair_of f (x ∷ xs) (y ∷ ys) b c (inl e) = (x, inl refl, inl (ap (λ (p : B × C). (p.1, x)) e), ap (λ (p : B × C). p.0) e)
-  pair_of f (x ∷ xs) (y ∷ ys) b c (inr h) = let found = pair_of f xs ys b c h in (found.0, inr found.1, inr found.2, found.3)
+  pair_of : (f : A → B) (xs : List A) (ys : List C) (b : B) (c : C) → Contains (zip (map f xs) ys) (b, c) → (x : A) × Contains xs x × Contains (zip ys xs) (c, x) × (b ≡ f x)
+  pair_of f [] ys b c h = absurd (no_member (b, c) h)
+  pair_of f (x ∷ xs) [] b c h = absurd (no_member (b, c) h)
+  pair_of f (x ∷ xs) (y ∷ ys) b c h = elim (member_cases (f x, y) (b, c) (zip (map f xs) ys) h) [
+    | inl e ↦ (x, contains_first x xs, subst (λ (z : C). Contains ((y, x) ∷ zip ys xs) (z, x)) (ap (λ (p : B × C). p.1) e) (contains_first (y, x) (zip ys xs)), ap (λ (p : B × C). p.0) (sym e))
+    | inr i ↦ let found = pair_of f xs ys b c i in (found.0, contains_later x found.0 xs found.1, contains_later (y, x) (c, found.0) (zip ys xs) found.2, found.3)
+  ]
 
-  pair_mapped : (f : A → B) (ys : List C) (xs : List A) (c : C) (x : A) → In (c, x) (zip ys xs) → In (c, f x) (zip ys (map f xs))
-  pair_mapped f [] xs c x h = absurd h
-  pair_mapped f (y ∷ ys) [] c x h = absurd h
-  pair_mapped f (y ∷ ys) (z ∷ xs) c x (inl e) = inl (ap (λ (p : C × A). (p.0, f p.1)) e)
-  pair_mapped f (y ∷ ys) (z ∷ xs) c x (inr h) = inr (pair_mapped f ys xs c x h)
+  pair_mapped : (f : A → B) (ys : List C) (xs : List A) (c : C) (x : A) → Contains (zip ys xs) (c, x) → Contains (zip ys (map f xs)) (c, f x)
+  pair_mapped f [] xs c x h = absurd (no_member (c, x) h)
+  pair_mapped f (y ∷ ys) [] c x h = absurd (no_member (c, x) h)
+  pair_mapped f (y ∷ ys) (z ∷ xs) c x h = elim (member_cases (y, z) (c, x) (zip ys xs) h) [
+    | inl e ↦ subst (λ (p : C × A). Contains ((y, f z) ∷ zip ys (map f xs)) (p.0, f p.1)) e (contains_first (y, f z) (zip ys (map f xs)))
+    | inr i ↦ contains_later (y, f z) (c, f x) (zip ys (map f xs)) (pair_mapped f ys xs c x i)
+  ]
 
 module _ {A B : Type 0} where
   firsts : (xs : List A) (ys : List B) → length xs ≡ length ys → map (λ (p : A × B). p.0) (zip xs ys) ≡ xs
@@ -61,21 +66,13 @@ module _ {A B : Type 0} where
   seconds (x ∷ xs) [] same = absurd (omega arith)
   seconds (x ∷ xs) (y ∷ ys) same = ap (λ (l : List B). y ∷ l) (seconds xs ys (omega arith))
 
-  in_mapped : (f : A → B) (xs : List A) (x : A) → In x xs → In (f x) (map f xs)
-  in_mapped f [] x h = absurd h
-  in_mapped f (y ∷ xs) x (inl e) = inl (ap f e)
-  in_mapped f (y ∷ xs) x (inr h) = inr (in_mapped f xs x h)
-
-  from_mapped : (f : A → B) (xs : List A) (b : B) → In b (map f xs) → (x : A) × In x xs × (b ≡ f x)
-  from_mapped f [] b h = absurd h
-  from_mapped f (x ∷ xs) b (inl e) = (x, inl refl, e)
-  from_mapped f (x ∷ xs) b (inr h) = let found = from_mapped f xs b h in (found.0, inr found.1, found.2)
-
-numbered_one : (ns : List ℕ) (list : List IndexSeries) (s : IndexSeries) → length ns ≡ length list → In s list → (n : ℕ) × In (n, s) (zip ns list)
-numbered_one ns [] s same h = absurd h
+numbered_one : (ns : List ℕ) (list : List IndexSeries) (s : IndexSeries) → length ns ≡ length list → Contains list s → (n : ℕ) × Contains (zip ns list) (n, s)
+numbered_one ns [] s same h = absurd (no_member s h)
 numbered_one [] (t ∷ list) s same h = absurd (omega arith)
-numbered_one (n ∷ ns) (t ∷ list) s same (inl e) = (n, inl (ap (λ (x : IndexSeries). (n, x)) e))
-numbered_one (n ∷ ns) (t ∷ list) s same (inr h) = let found = numbered_one ns list s (omega arith) h in (found.0, inr found.1)
+numbered_one (n ∷ ns) (t ∷ list) s same h = elim (member_cases t s list h) [
+  | inl e ↦ (n, subst (λ (x : IndexSeries). Contains ((n, t) ∷ zip ns list) (n, x)) e (contains_first (n, t) (zip ns list)))
+  | inr i ↦ let found = numbered_one ns list s (omega arith) i in (found.0, contains_later (n, t) (found.0, s) (zip ns list) found.1)
+]
 
 -- ---- the names
 
@@ -89,27 +86,27 @@ abbrev text_of : List IndexSeries → NameValues → List ℕ
 text_of list name = symbol_of (symbols_of list) name.name
 
 -- each value of a name is that of a label of this name
-value_label : (list : List IndexSeries) (name : NameValues) (n : ℕ) → AreLawful list → In name (names list) → In n name.values → HasLabel list name.name n
+value_label : (list : List IndexSeries) (name : NameValues) (n : ℕ) → AreLawful list → Contains (names list) name → Contains name.values n → HasLabel list name.name n
 value_label list name n lawful h i =
     let found = (are_names list lawful).only name n h i in
     subst (λ (v : ℕ). HasLabel list name.name v) found.3 (subst (λ (m : ℕ). HasLabel list m found.0.value) found.2 (row_label list (numbers list) found.0 (numbered list lawful) found.1))
 
-value_has : (list : List IndexSeries) (name : NameValues) (n : ℕ) → AreLawful list → In name (names list) → In n name.values → HasValue list (text_of list name) (symbol_of (symbols_of list) n)
+value_has : (list : List IndexSeries) (name : NameValues) (n : ℕ) → AreLawful list → Contains (names list) name → Contains name.values n → HasValue list (text_of list name) (symbol_of (symbols_of list) n)
 value_has list name n lawful h i =
     let known = numbered list lawful in
     let found = (are_names list lawful).only name n h i in
     let some = (are_rows list (numbers list) known).some found.0 found.1 in
     let at = row_only list (numbers list) found.0 some.0 known found.1 some.1 in
     let label : Label = record { name = symbol_of (symbols_of list) found.0.name; value = symbol_of (symbols_of list) found.0.value } in
-    let has : HasValue list label.name label.value = (at.0, in_has list at.0 (in_zip (numbers list) list some.0 at.0 at.1), in_has at.0.labels label at.2) in
+    let has : HasValue list label.name label.value = (at.0, (in_zip (numbers list) list some.0 at.0 at.1), at.2) in
     subst (λ (v : ℕ). HasValue list (text_of list name) (symbol_of (symbols_of list) v)) found.3 (subst (λ (m : ℕ). HasValue list (symbol_of (symbols_of list) m) label.value) found.2 has)
 
 -- a name and a value of a label, among the names
 pub record IsFound (list : List IndexSeries) (name value : List ℕ) : Type 0 where
   pub one : NameValues
-  pub member : In one (names list)
+  pub member : Contains (names list) one
   pub name_is : one.name ≡ number_of (symbols_of list) name
-  pub value_in : In (number_of (symbols_of list) value) one.values
+  pub value_in : Contains one.values (number_of (symbols_of list) value)
   pub name_text : symbol_of (symbols_of list) one.name ≡ name
   pub value_text : symbol_of (symbols_of list) (number_of (symbols_of list) value) ≡ value
 
@@ -117,8 +114,8 @@ value_found : (list : List IndexSeries) (name value : List ℕ) → AreLawful li
 value_found list name value lawful has =
     let symbols = symbols_of list in
     let label : Label = record { name = name; value = value } in
-    let member = has_in list has.0 has.1 in
-    let i = has_in has.0.labels label has.2 in
+    let member = has.1 in
+    let i = has.2 in
     let at = numbered_one (numbers list) list has.0 (many list) member in
     let row = label_row list (numbers list) at.0 has.0 label (numbered list lawful) at.1 i in
     let found = (are_names list lawful).all row.0 row.1 in
@@ -128,13 +125,13 @@ value_found list name value lawful has =
       one = found.0;
       member = found.1;
       name_is = name_is;
-      value_in = subst (λ (v : ℕ). In v found.0.values) row.3 found.3;
+      value_in = subst (λ (v : ℕ). Contains found.0.values v) row.3 found.3;
       name_text = ap (symbol_of symbols) name_is ∙ symbol_at symbols name (symbols_strict list) texts.0;
       value_text = symbol_at symbols value (symbols_strict list) texts.1;
     }
 
 -- a name's number is that of its text
-name_number : (list : List IndexSeries) (name : NameValues) → AreLawful list → In name (names list) → name.name ≡ number_of (symbols_of list) (text_of list name)
+name_number : (list : List IndexSeries) (name : NameValues) → AreLawful list → Contains (names list) name → name.name ≡ number_of (symbols_of list) (text_of list name)
 name_number list name lawful h =
     let some = (are_names list lawful).some name h in
     let has = value_label list name some.0 lawful h some.1 in
@@ -142,7 +139,7 @@ name_number list name lawful h =
 
 -- ---- the names in order
 
-names_less : (list : List IndexSeries) (one other : NameValues) → AreLawful list → In one (names list) → In other (names list) → one.name < other.name → compare_texts (text_of list one) (text_of list other) ≡ Less
+names_less : (list : List IndexSeries) (one other : NameValues) → AreLawful list → Contains (names list) one → Contains (names list) other → one.name < other.name → compare_texts (text_of list one) (text_of list other) ≡ Less
 names_less list one other lawful h i lt =
     let m = (are_names list lawful).some one h in
     let n = (are_names list lawful).some other i in
@@ -152,14 +149,14 @@ names_less list one other lawful h i lt =
     let y = b.name_is in
     ap (λ (t : List ℕ). compare_texts t (text_of list other)) (name_text list one.name m.0 a) ∙ ap (compare_texts a.label.name) (name_text list other.name n.0 b) ∙ text_less list a.label.name b.label.name a.name_in b.name_in (omega arith)
 
-texts_after : (text : NameValues → List ℕ) (before : Option (List ℕ)) (ns : List NameValues) → ((one other : NameValues) → In one ns → In other ns → one.name < other.name → compare_texts (text one) (text other) ≡ Less) → AllByRecursion (λ name. MayFollow before (text name)) ns → Rise NameBefore ns → InOrderAfter MayFollow before (map text ns)
+texts_after : (text : NameValues → List ℕ) (before : Option (List ℕ)) (ns : List NameValues) → ((one other : NameValues) → Contains ns one → Contains ns other → one.name < other.name → compare_texts (text one) (text other) ≡ Less) → AllByRecursion (λ name. MayFollow before (text name)) ns → Rise NameBefore ns → InOrderAfter MayFollow before (map text ns)
 texts_after text before [] less all up = tt
 texts_after text before (x ∷ ns) less all up =
-    (all.0, texts_after text (Some (text x)) ns (λ one other h i. less one other (inr h) (inr i)) (all_in (λ name. MayFollow (Some (text x)) (text name)) ns (λ y h. less x y (inl refl) (inr h) (in_all (NameBefore x) ns y up.0 h))) up.1)
+    (all.0, texts_after text (Some (text x)) ns (λ one other h i. less one other (contains_later x one ns h) (contains_later x other ns i)) (all_members (λ name. MayFollow (Some (text x)) (text name)) ns (λ y h. less x y (contains_first x ns) (contains_later x y ns h) (each_member (NameBefore x) ns y up.0 h))) up.1)
 
 texts_ascend : (list : List IndexSeries) → AreLawful list → InOrder MayFollow (map (text_of list) (names list))
 texts_ascend list lawful =
-    texts_after (text_of list) None (names list) (λ one other h i lt. names_less list one other lawful h i lt) (all_in (λ name. MayFollow None (text_of list name)) (names list) (λ name h. tt)) (are_names list lawful).ascend
+    texts_after (text_of list) None (names list) (λ one other h i lt. names_less list one other lawful h i lt) (all_members (λ name. MayFollow None (text_of list name)) (names list) (λ name h. tt)) (are_names list lawful).ascend
 
 -- ---- places
 
@@ -185,7 +182,7 @@ written_indices list =
     let two = written_lists list in
     (one.0 ++ two.0, two.1 ∙ ap (λ (l : List ℕ). l ++ two.0) one.1 ∙ append_assoc (with_label_indices parts) one.0 two.0)
 
-stands_in : (list : List IndexSeries) (place : ℕ) (name : NameValues) → In (place, name) (zip (places list) (names list)) → StandsAt (written list) place (label_index_text name.values)
+stands_in : (list : List IndexSeries) (place : ℕ) (name : NameValues) → Contains (zip (places list) (names list)) (place, name) → StandsAt (written list) place (label_index_text name.values)
 unfolding parts_of with_label_indices
 stands_in list place name h =
     let more = written_indices list in
@@ -199,33 +196,33 @@ small_names list room = (small_numbers list room).names
 
 -- ---- a label index
 
-stand_for : (symbols : List (List ℕ)) (ns : List ℕ) → ((n : ℕ) → In n ns → slice_get symbols n ≡ Some (symbol_of symbols n)) → StandFor symbols ns (map (symbol_of symbols) ns)
+stand_for : (symbols : List (List ℕ)) (ns : List ℕ) → ((n : ℕ) → Contains ns n → slice_get symbols n ≡ Some (symbol_of symbols n)) → StandFor symbols ns (map (symbol_of symbols) ns)
 stand_for symbols [] each = refl
 stand_for symbols (n ∷ ns) each =
-    ap (λ (o : Option (List ℕ)). o ∷ map (slice_get symbols) ns) (each n (inl refl)) ∙ ap (λ (l : List (Option (List ℕ))). Some (symbol_of symbols n) ∷ l) (stand_for symbols ns (λ m h. each m (inr h)))
+    ap (λ (o : Option (List ℕ)). o ∷ map (slice_get symbols) ns) (each n (contains_first n ns)) ∙ ap (λ (l : List (Option (List ℕ))). Some (symbol_of symbols n) ∷ l) (stand_for symbols ns (λ m h. each m (contains_later n m ns h)))
 
 number_stands : (list : List IndexSeries) (name n : ℕ) → HasLabel list name n → slice_get (symbols_of list) n ≡ Some (symbol_of (symbols_of list) n)
 number_stands list name n has =
     ap (slice_get (symbols_of list)) has.value_is ∙ number_at (symbols_of list) has.label.value (symbols_strict list) has.value_in ∙ ap Some (sym (value_text list name n has))
 
-index_only : (list : List IndexSeries) (name : NameValues) (value : List ℕ) → AreLawful list → In name (names list) → Contains (map (symbol_of (symbols_of list)) name.values) value → HasValue list (text_of list name) value
+index_only : (list : List IndexSeries) (name : NameValues) (value : List ℕ) → AreLawful list → Contains (names list) name → Contains (map (symbol_of (symbols_of list)) name.values) value → HasValue list (text_of list name) value
 index_only list name value lawful h has =
-    let found = from_mapped (symbol_of (symbols_of list)) name.values value (has_in (map (symbol_of (symbols_of list)) name.values) value has) in
-    subst (λ (v : List ℕ). HasValue list (text_of list name) v) (sym found.2) (value_has list name found.0 lawful h found.1)
+    let found = of_map (symbol_of (symbols_of list)) name.values value has in
+    subst (λ (v : List ℕ). HasValue list (text_of list name) v) found.2 (value_has list name found.0 lawful h found.1)
 
-index_all : (list : List IndexSeries) (name : NameValues) (value : List ℕ) → AreLawful list → In name (names list) → HasValue list (text_of list name) value → Contains (map (symbol_of (symbols_of list)) name.values) value
+index_all : (list : List IndexSeries) (name : NameValues) (value : List ℕ) → AreLawful list → Contains (names list) name → HasValue list (text_of list name) value → Contains (map (symbol_of (symbols_of list)) name.values) value
 index_all list name value lawful h has =
     let symbols = symbols_of list in
     let found = value_found list (text_of list name) value lawful has in
     let same : found.one ≡ name = one_name (names list) found.one name (are_names list lawful).ascend found.member h (found.name_is ∙ sym (name_number list name lawful h)) in
-    let number : In (number_of symbols value) name.values = subst (λ (x : NameValues). In (number_of symbols value) x.values) same found.value_in in
-    in_has (map (symbol_of symbols) name.values) value (subst (λ (v : List ℕ). In v (map (symbol_of symbols) name.values)) found.value_text (in_mapped (symbol_of symbols) name.values (number_of symbols value) number))
+    let number : Contains name.values (number_of symbols value) = subst (λ (x : NameValues). Contains x.values (number_of symbols value)) same found.value_in in
+    (subst (λ (v : List ℕ). Contains (map (symbol_of symbols) name.values) v) found.value_text (into_map (symbol_of symbols) name.values (number_of symbols value) number))
 
-index_of : (list : List IndexSeries) (name : NameValues) (place : ℕ) → length (written list) ≤ greatest → AreLawful list → In name (names list) → In (place, name) (zip (places list) (names list)) → IsLabelIndexOf (written list) (symbols_of list) list (text_of list name) place
+index_of : (list : List IndexSeries) (name : NameValues) (place : ℕ) → length (written list) ≤ greatest → AreLawful list → Contains (names list) name → Contains (zip (places list) (names list)) (place, name) → IsLabelIndexOf (written list) (symbols_of list) list (text_of list name) place
 index_of list name place room lawful h i = record {
   numbers = name.values;
   values = map (symbol_of (symbols_of list)) name.values;
-  stands = index_stands (written list) place name.values room (stands_in list place name i) (in_all (λ (x : NameValues). All (λ number. number < 2 ^ 32) x.values) (names list) name (small_names list room) h);
+  stands = index_stands (written list) place name.values room (stands_in list place name i) (each_member (λ (x : NameValues). All (λ number. number < 2 ^ 32) x.values) (names list) name (small_names list room) h);
   ascend = in_order name.values ((are_names list lawful).rise name h);
   values_are = stand_for (symbols_of list) name.values (λ n k. number_stands list name.name n (value_label list name n lawful h k));
   only = λ value has. index_only list name value lawful h has;
@@ -236,19 +233,19 @@ index_of list name place room lawful h i = record {
 
 row_index : (list : List IndexSeries) (name : List ℕ) (place : ℕ) → length (written list) ≤ greatest → AreLawful list → Contains (table list) (name, place) → IsLabelIndexOf (written list) (symbols_of list) list name place
 row_index list name place room lawful has =
-    let found = pair_of (text_of list) (names list) (places list) name place (has_in (table list) (name, place) has) in
+    let found = pair_of (text_of list) (names list) (places list) name place has in
     subst (λ (t : List ℕ). IsLabelIndexOf (written list) (symbols_of list) list t place) (sym found.3) (index_of list found.0 place room lawful found.1 found.2)
 
 name_only : (list : List IndexSeries) (name : List ℕ) → AreLawful list → Contains (map (text_of list) (names list)) name → (value : List ℕ) × HasValue list name value
 name_only list name lawful has =
-    let found = from_mapped (text_of list) (names list) name (has_in (map (text_of list) (names list)) name has) in
+    let found = of_map (text_of list) (names list) name has in
     let some = (are_names list lawful).some found.0 found.1 in
-    (symbol_of (symbols_of list) some.0, subst (λ (t : List ℕ). HasValue list t (symbol_of (symbols_of list) some.0)) (sym found.2) (value_has list found.0 some.0 lawful found.1 some.1))
+    (symbol_of (symbols_of list) some.0, subst (λ (t : List ℕ). HasValue list t (symbol_of (symbols_of list) some.0)) found.2 (value_has list found.0 some.0 lawful found.1 some.1))
 
 name_all : (list : List IndexSeries) (name value : List ℕ) → AreLawful list → HasValue list name value → Contains (map (text_of list) (names list)) name
 name_all list name value lawful has =
     let found = value_found list name value lawful has in
-    in_has (map (text_of list) (names list)) name (subst (λ (t : List ℕ). In t (map (text_of list) (names list))) found.name_text (in_mapped (text_of list) (names list) found.one found.member))
+    (subst (λ (t : List ℕ). Contains (map (text_of list) (names list)) t) found.name_text (into_map (text_of list) (names list) found.one found.member))
 
 first_place : (list : List IndexSeries) → (toc_of (parts_of list)).label_indices ≡ unwrap_or (slice_get (map (λ (row : List ℕ × ℕ). row.1) (table list)) 0) 0
 unfolding toc_of parts_of label_index_places

@@ -2,7 +2,7 @@
 use Rattle.std.proofs.Common.{◌≡◌, ℕ, ◌/◌, ◌%◌, ◌^◌, ◌<◌, ◌≤◌, Bool, true, false, cond, List, [], ◌∷◌, ◌++◌, length, zip, fold, Option, Some, None, sym, ap, ◌∙◌, subst, arith, inl, inr, length-append, append_assoc}
 use Rattle.std.specs.Prelude.{bit_xor, ◌==◌}
 use Rattle.std.specs.Int.{w32, to_be_bytes}
-use Rattle.std.specs.List.{All, AllByRecursion, flat_map}
+use Rattle.std.specs.List.{All, AllByRecursion, flat_map, Contains}
 use Rattle.std.proofs.lemmas.Nat.{xor_of_32}
 use Rattle.wire_bytes.specs.Crc.{crc, remainder, with_bit, castagnoli, coefficients, ones}
 use Rattle.index_parts.specs.Framed.{section_text, IsSection}
@@ -14,7 +14,8 @@ use Rattle.index_parts.proofs.Stands.{section_stands}
 use Rattle.index_parts.proofs.Writing.{postings_stand, values_stand}
 use Rattle.index_writing.specs.Aligned.{padded, each_at, places_at}
 use Rattle.index_writing.specs.WriteSteps.{greatest}
-use Rattle.index_writing.proofs.OrderedEntries.{In, Rise}
+use Rattle.list_core.proofs.Membership.{no_member, member_cases}
+use Rattle.index_writing.proofs.OrderedEntries.{Rise}
 use Rattle.index_writing.proofs.SmallNumbers.{all_from}
 use Rattle.index_writing.proofs.Standing.{each_begins}
 
@@ -58,18 +59,20 @@ pub record StandsAt (whole : List ℕ) (place : ℕ) (text : List ℕ) : Type 0 
   pub is : whole ≡ (before ++ text) ++ after
   pub at : length before ≡ place
 
-pub each_stands : (unit : ℕ) (start : List ℕ) (texts : List (List ℕ)) (place : ℕ) (text : List ℕ) → In (place, text) (zip (places_at unit start texts) texts) → StandsAt (each_at unit start texts) place text
+pub each_stands : (unit : ℕ) (start : List ℕ) (texts : List (List ℕ)) (place : ℕ) (text : List ℕ) → Contains (zip (places_at unit start texts) texts) (place, text) → StandsAt (each_at unit start texts) place text
 unfolding each_at places_at
-each_stands unit start [] place text h = absurd h
-each_stands unit start (next ∷ texts) place text (inl is) =
-    let more = each_begins unit (padded unit start ++ next) texts in
-    record {
-      before = padded unit start;
-      after = more.0;
-      is = more.1 ∙ ap (λ (l : List ℕ). (padded unit start ++ l) ++ more.0) (sym (ap (λ (x : ℕ × List ℕ). x.1) is));
-      at = sym (ap (λ (x : ℕ × List ℕ). x.0) is);
-    }
-each_stands unit start (next ∷ texts) place text (inr h) = each_stands unit (padded unit start ++ next) texts place text h
+each_stands unit start [] place text h = absurd (no_member (place, text) h)
+each_stands unit start (next ∷ texts) place text h =
+    elim (member_cases (length (padded unit start), next) (place, text) (zip (places_at unit (padded unit start ++ next) texts) texts) h) [
+      | inl is ↦ let more = each_begins unit (padded unit start ++ next) texts in
+          record {
+            before = padded unit start;
+            after = more.0;
+            is = more.1 ∙ ap (λ (l : List ℕ). (padded unit start ++ l) ++ more.0) (ap (λ (x : ℕ × List ℕ). x.1) is);
+            at = ap (λ (x : ℕ × List ℕ). x.0) is;
+          }
+      | inr i ↦ each_stands unit (padded unit start ++ next) texts place text i
+    ]
 
 pub stands_on : (whole more : List ℕ) (place : ℕ) (text longer : List ℕ) → StandsAt whole place text → longer ≡ whole ++ more → StandsAt longer place text
 stands_on whole more place text longer stands is = record {

@@ -1,7 +1,7 @@
 -- Series by their numbers: numbers and names rise, and which entries there are.
-use Rattle.std.proofs.Common.{◌≡◌, ℕ, ◌*◌, ◌/◌, ◌<◌, ◌≤◌, List, [], ◌∷◌, ◌++◌, length, map, zip, refl, ap, subst, arith, inl, inr, length-append}
+use Rattle.std.proofs.Common.{◌≡◌, ℕ, ◌*◌, ◌/◌, ◌<◌, ◌≤◌, List, [], ◌∷◌, ◌++◌, length, map, zip, refl, sym, ap, subst, arith, inl, inr, length-append}
 use Rattle.std.specs.Int.{w32, to_be_bytes}
-use Rattle.std.specs.List.{AllByRecursion}
+use Rattle.std.specs.List.{AllByRecursion, Contains}
 use Rattle.std.specs.List.Sorted.{IsStrictlySortedBy}
 use Rattle.wire_bytes.specs.Crc.{crc}
 use Rattle.wire_bytes.specs.Written.{uvarint_text}
@@ -17,7 +17,9 @@ use Rattle.index_writing.specs.SymbolsInUse.{symbols_of, number_of, raw_of}
 use Rattle.index_writing.specs.LabelGroups.{entries_of, all_entries}
 use Rattle.index_writing.specs.Aligned.{padded, places_at}
 use Rattle.index_writing.specs.Written.{numbers_behind}
-use Rattle.index_writing.proofs.OrderedEntries.{In, in_all, in_left, in_right, in_either, Rise}
+use Rattle.list_core.proofs.Membership.{contains_first, contains_later, no_member, member_cases, each_member}
+use Rattle.std.proofs.lemmas.List.Elements.{Contains-append_left, Contains-append_right, Contains-append_cases}
+use Rattle.index_writing.proofs.OrderedEntries.{Rise}
 use Rattle.index_writing.proofs.SortedTexts.{symbols_strict}
 use Rattle.index_writing.proofs.SymbolNumbers.{label_in, number_less}
 use Rattle.index_writing.proofs.AlignedTexts.{padded_longer}
@@ -26,21 +28,21 @@ use Rattle.index_writing.proofs.Entries.{labels_with}
 
 -- ---- names
 
-names_behind : (symbols : List (List ℕ)) (name : List ℕ) (labels : List Label) → IsStrictlySortedBy compare_texts symbols → In name symbols → StandsBefore name labels → AllByRecursion (λ m. number_of symbols name < m) (map (λ l. number_of symbols l.name) labels)
+names_behind : (symbols : List (List ℕ)) (name : List ℕ) (labels : List Label) → IsStrictlySortedBy compare_texts symbols → Contains symbols name → StandsBefore name labels → AllByRecursion (λ m. number_of symbols name < m) (map (λ l. number_of symbols l.name) labels)
 names_behind symbols name [] up h before = tt
 names_behind symbols name (l ∷ labels) up h before = (number_less symbols name l.name up h before.0, names_behind symbols name labels up h before.1)
 
-names_rise : (symbols : List (List ℕ)) (labels : List Label) → IsStrictlySortedBy compare_texts symbols → ((l : Label) → In l labels → In l.name symbols) → IsLabelSet labels → Rise (λ n m. n < m) (map (λ l. number_of symbols l.name) labels)
+names_rise : (symbols : List (List ℕ)) (labels : List Label) → IsStrictlySortedBy compare_texts symbols → ((l : Label) → Contains labels l → Contains symbols l.name) → IsLabelSet labels → Rise (λ n m. n < m) (map (λ l. number_of symbols l.name) labels)
 names_rise symbols [] up known lawful = tt
-names_rise symbols (l ∷ labels) up known lawful = (names_behind symbols l.name labels up (known l (inl refl)) lawful.2, names_rise symbols labels up (λ m h. known m (inr h)) lawful.3)
+names_rise symbols (l ∷ labels) up known lawful = (names_behind symbols l.name labels up (known l (contains_first l labels)) lawful.2, names_rise symbols labels up (λ m h. known m (contains_later l m labels h)) lawful.3)
 
-raw_names : (symbols : List (List ℕ)) (series : IndexSeries) → IsStrictlySortedBy compare_texts symbols → ((l : Label) → In l series.labels → In l.name symbols) → IsLabelSet series.labels → Rise (λ n m. n < m) (raw_of symbols series).names
+raw_names : (symbols : List (List ℕ)) (series : IndexSeries) → IsStrictlySortedBy compare_texts symbols → ((l : Label) → Contains series.labels l → Contains symbols l.name) → IsLabelSet series.labels → Rise (λ n m. n < m) (raw_of symbols series).names
 unfolding raw_of
 raw_names symbols series up known lawful = names_rise symbols series.labels up known lawful
 
-each_names : (symbols : List (List ℕ)) (list : List IndexSeries) → IsStrictlySortedBy compare_texts symbols → ((s : IndexSeries) (l : Label) → In s list → In l s.labels → In l.name symbols) → AllByRecursion (λ one. IsLabelSet one.labels) list → AllByRecursion (λ one. Rise (λ n m. n < m) one.names) (map (raw_of symbols) list)
+each_names : (symbols : List (List ℕ)) (list : List IndexSeries) → IsStrictlySortedBy compare_texts symbols → ((s : IndexSeries) (l : Label) → Contains list s → Contains s.labels l → Contains symbols l.name) → AllByRecursion (λ one. IsLabelSet one.labels) list → AllByRecursion (λ one. Rise (λ n m. n < m) one.names) (map (raw_of symbols) list)
 each_names symbols [] up known lawful = tt
-each_names symbols (series ∷ list) up known lawful = (raw_names symbols series up (λ l h. known series l (inl refl) h) lawful.0, each_names symbols list up (λ s l h i. known s l (inr h) i) lawful.1)
+each_names symbols (series ∷ list) up known lawful = (raw_names symbols series up (λ l h. known series l (contains_first series list) h) lawful.0, each_names symbols list up (λ s l h i. known s l (contains_later series s list h) i) lawful.1)
 
 pub all_names : (list : List IndexSeries) → AllByRecursion (λ one. IsLabelSet one.labels) list → AllByRecursion (λ one. Rise (λ n m. n < m) one.names) (map (raw_of (symbols_of list)) list)
 all_names list lawful = each_names (symbols_of list) list (symbols_strict list) (λ s l h i. (label_in list s l h i).0) lawful
@@ -83,37 +85,47 @@ from_places front [] all = tt
 from_places front (place ∷ places) all = ((let here = all.0 in omega (arith, here.0, here.1)), from_places front places all.1)
 
 -- a number's place is not before the end of the text
-pub numbers_after : (front : List ℕ) (series : List RawSeries) (n : ℕ) → In n (numbers_behind front series) → length front ≤ 16 * n
-numbers_after front series n h = in_all (λ m. length front ≤ 16 * m) (numbers_behind front series) n (from_places front (places_at 16 front (map series_text series)) (places_behind front (map series_text series) (length front) (omega arith))) h
+pub numbers_after : (front : List ℕ) (series : List RawSeries) (n : ℕ) → Contains (numbers_behind front series) n → length front ≤ 16 * n
+numbers_after front series n h = each_member (λ m. length front ≤ 16 * m) (numbers_behind front series) n (from_places front (places_at 16 front (map series_text series)) (places_behind front (map series_text series) (length front) (omega arith))) h
 
 -- ---- which entries there are
 
-from_labels : (symbols : List (List ℕ)) (n : ℕ) (labels : List Label) (e : Entry) → In e (labels_with n (map (λ l. number_of symbols l.name) labels) (map (λ l. number_of symbols l.value) labels)) → (l : Label) × In l labels × (e.name ≡ number_of symbols l.name) × (e.value ≡ number_of symbols l.value) × (e.series ≡ n)
-from_labels symbols n [] e h = absurd h
-from_labels symbols n (l ∷ labels) e (inl is) = (l, inl refl, ap (λ (x : Entry). x.name) is, ap (λ (x : Entry). x.value) is, ap (λ (x : Entry). x.series) is)
-from_labels symbols n (l ∷ labels) e (inr h) = let found = from_labels symbols n labels e h in (found.0, inr found.1, found.2, found.3, found.4)
+abbrev entry_of : List (List ℕ) → ℕ → Label → Entry
+entry_of symbols n l = record { name = number_of symbols l.name; value = number_of symbols l.value; series = n }
 
-to_labels : (symbols : List (List ℕ)) (n : ℕ) (labels : List Label) (l : Label) → In l labels → In (record { name = number_of symbols l.name; value = number_of symbols l.value; series = n }) (labels_with n (map (λ x. number_of symbols x.name) labels) (map (λ x. number_of symbols x.value) labels))
-to_labels symbols n [] l h = absurd h
-to_labels symbols n (x ∷ labels) l (inl is) = inl (ap (λ (y : Label). record { name = number_of symbols y.name; value = number_of symbols y.value; series = n }) is)
-to_labels symbols n (x ∷ labels) l (inr h) = inr (to_labels symbols n labels l h)
+abbrev entries_with : List (List ℕ) → ℕ → List Label → List Entry
+entries_with symbols n labels = labels_with n (map (λ l. number_of symbols l.name) labels) (map (λ l. number_of symbols l.value) labels)
 
-pub entry_from : (symbols : List (List ℕ)) (list : List IndexSeries) (numbers : List ℕ) (e : Entry) → In e (all_entries (map (raw_of symbols) list) numbers) → (s : IndexSeries) × In (e.series, s) (zip numbers list) × (l : Label) × In l s.labels × (e.name ≡ number_of symbols l.name) × (e.value ≡ number_of symbols l.value)
-unfolding all_entries entries_of raw_of
-entry_from symbols [] numbers e h = absurd h
-entry_from symbols (s ∷ list) [] e h = absurd h
-entry_from symbols (s ∷ list) (n ∷ numbers) e h = elim (in_either e (entries_of (raw_of symbols s) n) (all_entries (map (raw_of symbols) list) numbers) h) [
-  | inl i ↦ let found = from_labels symbols n s.labels e i in (s, inl (ap (λ (m : ℕ). (m, s)) found.4), found.0, found.1, found.2, found.3)
-  | inr i ↦ let found = entry_from symbols list numbers e i in (found.0, inr found.1, found.2, found.3, found.4, found.5)
+from_labels : (symbols : List (List ℕ)) (n : ℕ) (labels : List Label) (e : Entry) → Contains (entries_with symbols n labels) e → (l : Label) × Contains labels l × (e.name ≡ number_of symbols l.name) × (e.value ≡ number_of symbols l.value) × (e.series ≡ n)
+from_labels symbols n [] e h = absurd (no_member e h)
+from_labels symbols n (l ∷ labels) e h = elim (member_cases (entry_of symbols n l) e (entries_with symbols n labels) h) [
+  | inl is ↦ (l, contains_first l labels, ap (λ (x : Entry). x.name) (sym is), ap (λ (x : Entry). x.value) (sym is), ap (λ (x : Entry). x.series) (sym is))
+  | inr r ↦ let found = from_labels symbols n labels e r in (found.0, contains_later l found.0 labels found.1, found.2, found.3, found.4)
 ]
 
-pub entry_to : (symbols : List (List ℕ)) (list : List IndexSeries) (numbers : List ℕ) (n : ℕ) (s : IndexSeries) (l : Label) → In (n, s) (zip numbers list) → In l s.labels → In (record { name = number_of symbols l.name; value = number_of symbols l.value; series = n }) (all_entries (map (raw_of symbols) list) numbers)
+to_labels : (symbols : List (List ℕ)) (n : ℕ) (labels : List Label) (l : Label) → Contains labels l → Contains (entries_with symbols n labels) (entry_of symbols n l)
+to_labels symbols n [] l h = absurd (no_member l h)
+to_labels symbols n (x ∷ labels) l h = elim (member_cases x l labels h) [
+  | inl is ↦ subst (λ (y : Label). Contains (entry_of symbols n x ∷ entries_with symbols n labels) (entry_of symbols n y)) is (contains_first (entry_of symbols n x) (entries_with symbols n labels))
+  | inr r ↦ contains_later (entry_of symbols n x) (entry_of symbols n l) (entries_with symbols n labels) (to_labels symbols n labels l r)
+]
+
+pub entry_from : (symbols : List (List ℕ)) (list : List IndexSeries) (numbers : List ℕ) (e : Entry) → Contains (all_entries (map (raw_of symbols) list) numbers) e → (s : IndexSeries) × Contains (zip numbers list) (e.series, s) × (l : Label) × Contains s.labels l × (e.name ≡ number_of symbols l.name) × (e.value ≡ number_of symbols l.value)
 unfolding all_entries entries_of raw_of
-entry_to symbols list [] n s l h i = absurd h
-entry_to symbols [] (m ∷ numbers) n s l h i = absurd h
-entry_to symbols (t ∷ list) (m ∷ numbers) n s l (inl is) i =
-    let here = to_labels symbols n t.labels l (subst (λ (x : ℕ × IndexSeries). In l x.1.labels) is i) in
-    in_left (record { name = number_of symbols l.name; value = number_of symbols l.value; series = n }) (entries_of (raw_of symbols t) m) (all_entries (map (raw_of symbols) list) numbers)
-    (subst (λ (k : ℕ). In (record { name = number_of symbols l.name; value = number_of symbols l.value; series = n }) (labels_with k (map (λ x. number_of symbols x.name) t.labels) (map (λ x. number_of symbols x.value) t.labels))) (ap (λ (x : ℕ × IndexSeries). x.0) is) here)
-entry_to symbols (t ∷ list) (m ∷ numbers) n s l (inr h) i =
-    in_right (record { name = number_of symbols l.name; value = number_of symbols l.value; series = n }) (entries_of (raw_of symbols t) m) (all_entries (map (raw_of symbols) list) numbers) (entry_to symbols list numbers n s l h i)
+entry_from symbols [] numbers e h = absurd (no_member e h)
+entry_from symbols (s ∷ list) [] e h = absurd (no_member e h)
+entry_from symbols (s ∷ list) (n ∷ numbers) e h = elim (Contains-append_cases (entries_of (raw_of symbols s) n) (all_entries (map (raw_of symbols) list) numbers) e h) [
+  | inl i ↦ let found = from_labels symbols n s.labels e i in (s, subst (λ (m : ℕ). Contains ((n, s) ∷ zip numbers list) (m, s)) (sym found.4) (contains_first (n, s) (zip numbers list)), found.0, found.1, found.2, found.3)
+  | inr i ↦ let found = entry_from symbols list numbers e i in (found.0, contains_later (n, s) (e.series, found.0) (zip numbers list) found.1, found.2, found.3, found.4, found.5)
+]
+
+pub entry_to : (symbols : List (List ℕ)) (list : List IndexSeries) (numbers : List ℕ) (n : ℕ) (s : IndexSeries) (l : Label) → Contains (zip numbers list) (n, s) → Contains s.labels l → Contains (all_entries (map (raw_of symbols) list) numbers) (entry_of symbols n l)
+unfolding all_entries entries_of raw_of
+entry_to symbols list [] n s l h i = absurd (no_member (n, s) h)
+entry_to symbols [] (m ∷ numbers) n s l h i = absurd (no_member (n, s) h)
+entry_to symbols (t ∷ list) (m ∷ numbers) n s l h i = elim (member_cases (m, t) (n, s) (zip numbers list) h) [
+  | inl is ↦ let here = to_labels symbols n t.labels l (subst (λ (x : ℕ × IndexSeries). Contains x.1.labels l) (sym is) i) in
+      Contains-append_left (entries_of (raw_of symbols t) m) (all_entries (map (raw_of symbols) list) numbers) (entry_of symbols n l)
+      (subst (λ (k : ℕ). Contains (entries_with symbols k t.labels) (entry_of symbols n l)) (ap (λ (x : ℕ × IndexSeries). x.0) (sym is)) here)
+  | inr r ↦ Contains-append_right (entries_of (raw_of symbols t) m) (all_entries (map (raw_of symbols) list) numbers) (entry_of symbols n l) (entry_to symbols list numbers n s l r i)
+]

@@ -3,7 +3,7 @@ use Rattle.std.proofs.Common.{◌≡◌, ◌≢◌, ℕ, ◌<◌, List, [], ◌�
 use Rattle.std.specs.declared.cmp.Ordering.{Ordering}
 use Rattle.std.specs.declared.cmp.Ordering.TheVariants.{Less, Equal, Greater}
 use Rattle.std.specs.Ordering.{ordering_then, ordering_reverse}
-use Rattle.std.specs.List.{AllByRecursion}
+use Rattle.std.specs.List.{AllByRecursion, Contains}
 use Rattle.std.specs.Cmp.Lexicographic.{nat_list_cmp_total}
 use Rattle.label_sets.specs.declared.label.Label.{Label}
 use Rattle.label_sets.specs.Labels.{compare_texts, IsLabelSet}
@@ -18,7 +18,8 @@ use Rattle.index_writing.specs.declared.label_groups.LabelRow.{LabelRow}
 use Rattle.index_writing.specs.SymbolsInUse.{symbols_of, number_of, symbol_of, raw_of}
 use Rattle.index_writing.specs.LabelGroups.{all_entries, compare_entries, is_lesser_entry, rows_of}
 use Rattle.index_writing.specs.Written.{label_rows, table_rows}
-use Rattle.index_writing.proofs.OrderedEntries.{In, in_all, Rise, from_order, to_order, rise_order}
+use Rattle.list_core.proofs.Membership.{contains_first, contains_later, no_member, member_cases, each_member, of_in_order, into_in_order}
+use Rattle.index_writing.proofs.OrderedEntries.{Rise, rise_order}
 use Rattle.index_writing.proofs.LabelRows.{RowBefore, entry_in, AreRowsOf, grouped_rows, row_entry, one_row}
 use Rattle.index_writing.proofs.EntryOrder.{entries_strict, before_all, once_entries}
 use Rattle.index_writing.proofs.SortedTexts.{symbols_strict}
@@ -42,46 +43,50 @@ are_rows list numbers known =
 
 -- ---- the label of a row
 
-pub in_zip : (numbers : List ℕ) (list : List IndexSeries) (n : ℕ) (s : IndexSeries) → In (n, s) (zip numbers list) → In s list
-in_zip [] list n s h = absurd h
-in_zip (m ∷ numbers) [] n s h = absurd h
-in_zip (m ∷ numbers) (t ∷ list) n s (inl is) = inl (ap (λ (x : ℕ × IndexSeries). x.1) is)
-in_zip (m ∷ numbers) (t ∷ list) n s (inr h) = inr (in_zip numbers list n s h)
+pub in_zip : (numbers : List ℕ) (list : List IndexSeries) (n : ℕ) (s : IndexSeries) → Contains (zip numbers list) (n, s) → Contains list s
+in_zip [] list n s h = absurd (no_member (n, s) h)
+in_zip (m ∷ numbers) [] n s h = absurd (no_member (n, s) h)
+in_zip (m ∷ numbers) (t ∷ list) n s h = elim (member_cases (m, t) (n, s) (zip numbers list) h) [
+  | inl is ↦ subst (Contains (t ∷ list)) (ap (λ (x : ℕ × IndexSeries). x.1) is) (contains_first t list)
+  | inr r ↦ contains_later t s list (in_zip numbers list n s r)
+]
 
-named : (labels : List Label) (l : Label) → IsLabelSet labels → In l labels → l.name ≢ []
-named [] l lawful h = absurd h
-named (x ∷ labels) l lawful (inl is) = λ e. lawful.0 (ap (λ (y : Label). y.name) (sym is) ∙ e)
-named (x ∷ labels) l lawful (inr h) = named labels l lawful.3 h
+named : (labels : List Label) (l : Label) → IsLabelSet labels → Contains labels l → l.name ≢ []
+named [] l lawful h = absurd (no_member l h)
+named (x ∷ labels) l lawful h = elim (member_cases x l labels h) [
+  | inl is ↦ (λ e. lawful.0 (ap (λ (y : Label). y.name) is ∙ e))
+  | inr r ↦ named labels l lawful.3 r
+]
 
 -- a label of a listed series that has these symbol numbers
 pub record HasLabel (list : List IndexSeries) (name value : ℕ) : Type 0 where
   pub label : Label
-  pub name_in : In label.name (symbols_of list)
-  pub value_in : In label.value (symbols_of list)
+  pub name_in : Contains (symbols_of list) label.name
+  pub value_in : Contains (symbols_of list) label.value
   pub named : label.name ≢ []
   pub name_is : name ≡ number_of (symbols_of list) label.name
   pub value_is : value ≡ number_of (symbols_of list) label.value
 
-entry_label : (list : List IndexSeries) (numbers : List ℕ) (e : Entry) → IsNumbered list numbers → In e (entries list numbers) → HasLabel list e.name e.value
+entry_label : (list : List IndexSeries) (numbers : List ℕ) (e : Entry) → IsNumbered list numbers → Contains (entries list numbers) e → HasLabel list e.name e.value
 entry_label list numbers e known h =
     let found = entry_from (symbols_of list) list numbers e h in
     let s = found.0 in
-    let member : In s list = in_zip numbers list e.series s found.1 in
+    let member : Contains list s = in_zip numbers list e.series s found.1 in
     let texts = label_in list s found.2 member found.3 in
     record {
       label = found.2;
       name_in = texts.0;
       value_in = texts.1;
-      named = named s.labels found.2 (in_all (λ (one : IndexSeries). IsLabelSet one.labels) list s known.lawful member) found.3;
+      named = named s.labels found.2 (each_member (λ (one : IndexSeries). IsLabelSet one.labels) list s known.lawful member) found.3;
       name_is = found.4;
       value_is = found.5;
     }
 
-pub row_label : (list : List IndexSeries) (numbers : List ℕ) (row : LabelRow) → IsNumbered list numbers → In row (rows_of (entries list numbers)) → HasLabel list row.name row.value
+pub row_label : (list : List IndexSeries) (numbers : List ℕ) (row : LabelRow) → IsNumbered list numbers → Contains (rows_of (entries list numbers)) row → HasLabel list row.name row.value
 row_label list numbers row known h =
     let are = are_rows list numbers known in
     let one = are.some row h in
-    entry_label list numbers (entry_in row one.0) known (from_order is_lesser_entry (entry_in row one.0) (entries list numbers) (row_entry (in_order is_lesser_entry (entries list numbers)) (rows_of (entries list numbers)) row one.0 are h one.1))
+    entry_label list numbers (entry_in row one.0) known (of_in_order is_lesser_entry (entry_in row one.0) (entries list numbers) (row_entry (in_order is_lesser_entry (entries list numbers)) (rows_of (entries list numbers)) row one.0 are h one.1))
 
 pub name_text : (list : List IndexSeries) (name value : ℕ) (has : HasLabel list name value) → symbol_of (symbols_of list) name ≡ has.label.name
 name_text list name value has = ap (symbol_of (symbols_of list)) has.name_is ∙ symbol_at (symbols_of list) has.label.name (symbols_strict list) has.name_in
@@ -99,7 +104,7 @@ by_order o Greater e less equal greater = greater e
 equal_less : (list : List IndexSeries) (text other : List ℕ) → compare_texts text other ≡ Equal → number_of (symbols_of list) text < number_of (symbols_of list) other → ⊥
 equal_less list text other e lt = let same = ap (number_of (symbols_of list)) (same_text text other e) in omega arith
 
-greater_less : (list : List IndexSeries) (text other : List ℕ) → In other (symbols_of list) → compare_texts text other ≡ Greater → number_of (symbols_of list) text < number_of (symbols_of list) other → ⊥
+greater_less : (list : List IndexSeries) (text other : List ℕ) → Contains (symbols_of list) other → compare_texts text other ≡ Greater → number_of (symbols_of list) text < number_of (symbols_of list) other → ⊥
 greater_less list text other h e lt =
     let back : compare_texts other text ≡ Less = nat_list_cmp_total.antisymm other text ∙ ap ordering_reverse e in
     omega (arith, number_less (symbols_of list) other text (symbols_strict list) h back)
@@ -116,7 +121,7 @@ same_name list one other a b e =
     ap (compare_texts a.label.name) (sym same) ∙ compare_self a.label.name
 
 -- what compares as less by numbers is less
-pub text_less : (list : List IndexSeries) (text other : List ℕ) → In text (symbols_of list) → In other (symbols_of list) → number_of (symbols_of list) text < number_of (symbols_of list) other → compare_texts text other ≡ Less
+pub text_less : (list : List IndexSeries) (text other : List ℕ) → Contains (symbols_of list) text → Contains (symbols_of list) other → number_of (symbols_of list) text < number_of (symbols_of list) other → compare_texts text other ≡ Less
 text_less list text other h i lt = by_order (compare_texts text other) (compare_texts text other) refl
     (λ e. e) (λ e. absurd (equal_less list text other e lt)) (λ e. absurd (greater_less list text other i e lt))
 
@@ -133,13 +138,19 @@ rows_less list one other p q a b before =
       | inr same ↦ second_less (compare_texts a.label.name b.label.name) (compare_texts a.label.value b.label.value) (same_name list one other a b same.0) (text_less list a.label.value b.label.value a.value_in b.value_in (let x = a.value_is in let y = b.value_is in let z = same.1 in omega arith))
     ]
 
-ordered_rows : (symbols : List (List ℕ)) (rows : List LabelRow) (places : List ℕ) (before : PostingsRow) → ((row : LabelRow) (p : ℕ) → In row rows → compare_rows before (row_with symbols row p) ≡ Less) → ((one other : LabelRow) (p q : ℕ) → In one rows → In other rows → RowBefore one other → compare_rows (row_with symbols one p) (row_with symbols other q) ≡ Less) → Rise RowBefore rows
+ordered_rows : (symbols : List (List ℕ)) (rows : List LabelRow) (places : List ℕ) (before : PostingsRow) → ((row : LabelRow) (p : ℕ) → Contains rows row → compare_rows before (row_with symbols row p) ≡ Less) → ((one other : LabelRow) (p q : ℕ) → Contains rows one → Contains rows other → RowBefore one other → compare_rows (row_with symbols one p) (row_with symbols other q) ≡ Less) → Rise RowBefore rows
     → InOrderAfter MayComeAfter (Some before) (label_rows symbols rows places)
 unfolding label_rows
 ordered_rows symbols [] places before behind less up = tt
 ordered_rows symbols (row ∷ rows) [] before behind less up = tt
 ordered_rows symbols (row ∷ rows) (place ∷ places) before behind less up =
-    (behind row place (inl refl), ordered_rows symbols rows places (row_with symbols row place) (λ other p h. less row other place p (inl refl) (inr h) (in_all (RowBefore row) rows other up.0 h)) (λ one other p q h i. less one other p q (inr h) (inr i)) up.1)
+    (
+      behind row place (contains_first row rows),
+      ordered_rows symbols rows places (row_with symbols row place)
+          (λ other p h. less row other place p (contains_first row rows) (contains_later row other rows h) (each_member (RowBefore row) rows other up.0 h))
+          (λ one other p q h i. less one other p q (contains_later row one rows h) (contains_later row other rows i))
+          up.1,
+    )
 
 empty_less : (text : List ℕ) → text ≢ [] → compare_texts [] text ≡ Less
 empty_less [] some = absurd (some refl)
@@ -162,28 +173,28 @@ table_in_order list numbers (place ∷ places) known =
 -- ---- whose lists they have
 
 -- a row's numbers are those of the series with its label
-pub row_only : (list : List IndexSeries) (numbers : List ℕ) (row : LabelRow) (n : ℕ) → IsNumbered list numbers → In row (rows_of (entries list numbers)) → In n row.series
-    → (s : IndexSeries) × In (n, s) (zip numbers list) × In (record { name = symbol_of (symbols_of list) row.name; value = symbol_of (symbols_of list) row.value }) s.labels
+pub row_only : (list : List IndexSeries) (numbers : List ℕ) (row : LabelRow) (n : ℕ) → IsNumbered list numbers → Contains (rows_of (entries list numbers)) row → Contains row.series n
+    → (s : IndexSeries) × Contains (zip numbers list) (n, s) × Contains s.labels (record { name = symbol_of (symbols_of list) row.name; value = symbol_of (symbols_of list) row.value })
 row_only list numbers row n known h i =
     let symbols = symbols_of list in
-    let e = from_order is_lesser_entry (entry_in row n) (entries list numbers) (row_entry (in_order is_lesser_entry (entries list numbers)) (rows_of (entries list numbers)) row n (are_rows list numbers known) h i) in
+    let e = of_in_order is_lesser_entry (entry_in row n) (entries list numbers) (row_entry (in_order is_lesser_entry (entries list numbers)) (rows_of (entries list numbers)) row n (are_rows list numbers known) h i) in
     let found = entry_from symbols list numbers (entry_in row n) e in
     let s = found.0 in
     let l = found.2 in
     let texts = label_in list s l (in_zip numbers list n s found.1) found.3 in
     let name : symbol_of symbols row.name ≡ l.name = ap (symbol_of symbols) found.4 ∙ symbol_at symbols l.name (symbols_strict list) texts.0 in
     let value : symbol_of symbols row.value ≡ l.value = ap (symbol_of symbols) found.5 ∙ symbol_at symbols l.value (symbols_strict list) texts.1 in
-    (s, found.1, subst (λ (x : Label). In x s.labels) (λ j. record { name = sym name j; value = sym value j }) found.3)
+    (s, found.1, subst (λ (x : Label). Contains s.labels x) (λ j. record { name = sym name j; value = sym value j }) found.3)
 
 -- each label of a series has its row, with the series' number
-pub label_row : (list : List IndexSeries) (numbers : List ℕ) (n : ℕ) (s : IndexSeries) (l : Label) → IsNumbered list numbers → In (n, s) (zip numbers list) → In l s.labels
-    → (row : LabelRow) × In row (rows_of (entries list numbers)) × (row.name ≡ number_of (symbols_of list) l.name) × (row.value ≡ number_of (symbols_of list) l.value) × In n row.series
+pub label_row : (list : List IndexSeries) (numbers : List ℕ) (n : ℕ) (s : IndexSeries) (l : Label) → IsNumbered list numbers → Contains (zip numbers list) (n, s) → Contains s.labels l
+    → (row : LabelRow) × Contains (rows_of (entries list numbers)) row × (row.name ≡ number_of (symbols_of list) l.name) × (row.value ≡ number_of (symbols_of list) l.value) × Contains row.series n
 label_row list numbers n s l known h i =
     let e : Entry = record { name = number_of (symbols_of list) l.name; value = number_of (symbols_of list) l.value; series = n } in
-    let found = (are_rows list numbers known).all e (to_order is_lesser_entry e (entries list numbers) (entry_to (symbols_of list) list numbers n s l h i)) in
+    let found = (are_rows list numbers known).all e (into_in_order is_lesser_entry e (entries list numbers) (entry_to (symbols_of list) list numbers n s l h i)) in
     (found.0, found.1, ap (λ (k : ℕ × ℕ). k.0) found.2, ap (λ (k : ℕ × ℕ). k.1) found.2, found.3)
 
-pub row_all : (list : List IndexSeries) (numbers : List ℕ) (row : LabelRow) (n : ℕ) (s : IndexSeries) → IsNumbered list numbers → In row (rows_of (entries list numbers)) → In (n, s) (zip numbers list) → In (record { name = symbol_of (symbols_of list) row.name; value = symbol_of (symbols_of list) row.value }) s.labels → In n row.series
+pub row_all : (list : List IndexSeries) (numbers : List ℕ) (row : LabelRow) (n : ℕ) (s : IndexSeries) → IsNumbered list numbers → Contains (rows_of (entries list numbers)) row → Contains (zip numbers list) (n, s) → Contains s.labels (record { name = symbol_of (symbols_of list) row.name; value = symbol_of (symbols_of list) row.value }) → Contains row.series n
 row_all list numbers row n s known h i j =
     let symbols = symbols_of list in
     let has = row_label list numbers row known h in
@@ -192,4 +203,4 @@ row_all list numbers row n s known h i j =
     let name : found.0.name ≡ row.name = found.2 ∙ ap (number_of symbols) (name_text list row.name row.value has) ∙ sym has.name_is in
     let value : found.0.value ≡ row.value = found.3 ∙ ap (number_of symbols) (value_text list row.name row.value has) ∙ sym has.value_is in
     let same : found.0 ≡ row = one_row (rows_of (entries list numbers)) found.0 row (are_rows list numbers known).ascend found.1 h name value in
-    subst (λ (r : LabelRow). In n r.series) same found.4
+    subst (λ (r : LabelRow). Contains r.series n) same found.4

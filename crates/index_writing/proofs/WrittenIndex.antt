@@ -1,5 +1,5 @@
 -- What is written of a list of series is an index of it.
-use Rattle.std.proofs.Common.{◌≡◌, ℕ, ◌*◌, ◌≤◌, List, [], ◌∷◌, ◌++◌, length, take, map, zip, refl, ap, ◌∙◌, arith, inl, inr, length-append, append_assoc}
+use Rattle.std.proofs.Common.{◌≡◌, ℕ, ◌*◌, ◌≤◌, List, [], ◌∷◌, ◌++◌, length, take, map, zip, refl, ap, ◌∙◌, subst, arith, inl, inr, length-append, append_assoc}
 use Rattle.std.specs.Int.{w32, w64, to_be_bytes}
 use Rattle.std.specs.List.{flat_map, Contains}
 use Rattle.wire_bytes.specs.Crc.{crc}
@@ -11,30 +11,30 @@ use Rattle.index_parts.specs.SeriesEntry.{series_text}
 use Rattle.index_parts.specs.Symbols.{symbols_text}
 use Rattle.index_file.specs.declared.index_series.IndexSeries.{IndexSeries}
 use Rattle.index_writing.specs.declared.parts.Parts.{Parts}
-use Rattle.index_file.specs.IndexFile.{header}
+use Rattle.index_file.specs.IndexFile.{header, least_size}
 use Rattle.index_writing.specs.SymbolsInUse.{symbols_of, raw_of}
 use Rattle.index_writing.specs.Written.{up_to_symbols, name_texts, list_texts, label_index_texts, table_rows, parts_of, with_series, with_label_indices, with_lists, label_index_places, list_places, with_label_offsets, with_table, toc_of, written}
-use Rattle.index_writing.proofs.OrderedEntries.{In}
-use Rattle.index_writing.proofs.SymbolNumbers.{in_contains}
+use Rattle.list_core.proofs.Membership.{contains_first, contains_later, no_member, member_cases}
 use Rattle.index_writing.proofs.PartsLaws.{front_longer, indices_longer, lists_longer, offsets_longer, table_longer}
 use Rattle.index_writing.proofs.Standing.{each_begins}
 
--- ---- members, both ways
+-- ---- members of pairs
 
-pub has_in : {A : Type 0} (xs : List A) (x : A) → Contains xs x → In x xs
-has_in xs x has = in_contains x xs has.0 has.1 has.2
-
-pub in_numbers : (numbers : List ℕ) (list : List IndexSeries) (n : ℕ) → length numbers ≡ length list → In n numbers → (s : IndexSeries) × In (n, s) (zip numbers list)
-in_numbers [] list n many h = absurd h
+pub in_numbers : (numbers : List ℕ) (list : List IndexSeries) (n : ℕ) → length numbers ≡ length list → Contains numbers n → (s : IndexSeries) × Contains (zip numbers list) (n, s)
+in_numbers [] list n many h = absurd (no_member n h)
 in_numbers (m ∷ numbers) [] n many h = absurd (omega arith)
-in_numbers (m ∷ numbers) (t ∷ list) n many (inl e) = (t, inl (ap (λ (k : ℕ). (k, t)) e))
-in_numbers (m ∷ numbers) (t ∷ list) n many (inr h) = let found = in_numbers numbers list n (omega arith) h in (found.0, inr found.1)
+in_numbers (m ∷ numbers) (t ∷ list) n many h = elim (member_cases m n numbers h) [
+  | inl e ↦ (t, subst (λ (k : ℕ). Contains ((m, t) ∷ zip numbers list) (k, t)) e (contains_first (m, t) (zip numbers list)))
+  | inr r ↦ let found = in_numbers numbers list n (omega arith) r in (found.0, contains_later (m, t) (n, found.0) (zip numbers list) found.1)
+]
 
-pub zip_number : (numbers : List ℕ) (list : List IndexSeries) (n : ℕ) (s : IndexSeries) → In (n, s) (zip numbers list) → In n numbers
-zip_number [] list n s h = absurd h
-zip_number (m ∷ numbers) [] n s h = absurd h
-zip_number (m ∷ numbers) (t ∷ list) n s (inl e) = inl (ap (λ (x : ℕ × IndexSeries). x.0) e)
-zip_number (m ∷ numbers) (t ∷ list) n s (inr h) = inr (zip_number numbers list n s h)
+pub zip_number : (numbers : List ℕ) (list : List IndexSeries) (n : ℕ) (s : IndexSeries) → Contains (zip numbers list) (n, s) → Contains numbers n
+zip_number [] list n s h = absurd (no_member (n, s) h)
+zip_number (m ∷ numbers) [] n s h = absurd (no_member (n, s) h)
+zip_number (m ∷ numbers) (t ∷ list) n s h = elim (member_cases (m, t) (n, s) (zip numbers list) h) [
+  | inl e ↦ subst (Contains (m ∷ numbers)) (ap (λ (x : ℕ × IndexSeries). x.0) e) (contains_first m numbers)
+  | inr r ↦ contains_later m n numbers (zip_number numbers list n s r)
+]
 
 pub zip_firsts : (numbers : List ℕ) (list : List IndexSeries) → length numbers ≡ length list → map (λ (one : ℕ × IndexSeries). one.0) (zip numbers list) ≡ numbers
 zip_firsts [] list many = refl
@@ -102,6 +102,6 @@ toc_size list =
     let toc = toc_of (parts_of list) in
     omega (arith, words_size (references_of toc), wide32.len (crc (references_text toc)), length-append (references_text toc) (to_be_bytes w32 (crc (references_text toc))))
 
-pub long : (list : List IndexSeries) → 57 ≤ length (written list)
+pub long : (list : List IndexSeries) → least_size ≤ length (written list)
 long list =
     omega (arith, front_size (symbols_of list), front_longer list, indices_longer (parts_of list), lists_longer (parts_of list), offsets_longer (parts_of list), table_longer (parts_of list), ap length (written_table list), toc_size list, length-append (with_table (parts_of list)) (toc_text (toc_of (parts_of list))))

@@ -1,3 +1,4 @@
+pub mod Limits
 pub mod MomentText
 pub mod SpanText
 pub mod StandardRules

@@ -22,6 +22,7 @@ use Rattle.script_core.proofs.FoundLines.{text_found}
 use Rattle.script_core.proofs.AgainSetup.{IsRead, rule_line_again, gateway_line_again, block_line_again}
 use Rattle.script_core.proofs.AgainSeries.{series_line_again}
 use Rattle.script_core.proofs.AgainPhases.{at_line_again, upload_line_again, sync_line_again, query_line_again}
+use Rattle.script_core.specs.Limits.{longest_text}
 
 end_again : (st : State) → HasEnded (all_blocks st.blocks st.last) → end_block st ≡ Ok (closed st)
 unfolding end_block
@@ -99,7 +100,7 @@ finish_again : (st : State) → HasEnded (all_blocks st.blocks st.last) → fini
 unfolding finish
 finish_again st ended = let is = end_again st ended in rw is refl
 
-read_whole : (text : List ℕ) (after : State) (script : Script) → nat_lt 67_108_864 (length text) ≡ false → lines_at (start standard_rules) 1 (lines_of text) ≡ Ok after → finish after ≡ Ok script → script_of text ≡ Ok script
+read_whole : (text : List ℕ) (after : State) (script : Script) → nat_lt longest_text (length text) ≡ false → lines_at (start standard_rules) 1 (lines_of text) ≡ Ok after → finish after ≡ Ok script → script_of text ≡ Ok script
 unfolding script_of
 read_whole text after script short read end = rw (short, read) end
 
@@ -109,6 +110,6 @@ script_again text script spells =
     let lines = lines_again (start standard_rules) 1 (lines_of text) (record { script = script; in_block = spells.in_block }) start_kept (subst (λ (s : SoFar). Say s 1 (lines_of text) (record { script = script; in_block = spells.in_block })) (sym start_is) spells.lines) in
     let same : script_of_state lines.after ≡ script = ap (λ (s : SoFar). s.script) lines.last_is in
     let fits = spells.short in
-    let short : nat_lt 67_108_864 (length text) ≡ false = grind (arith, nat_tests) in
+    let short : nat_lt longest_text (length text) ≡ false = grind (arith, nat_tests) in
     let ended : HasEnded (all_blocks lines.after.blocks lines.after.last) = subst (λ (s : Script). HasEnded s.blocks) (sym same) spells.ended in
     read_whole text lines.after script short lines.read (finish_again lines.after ended ∙ ap Ok same)

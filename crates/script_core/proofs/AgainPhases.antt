@@ -26,6 +26,8 @@ use Rattle.script_core.proofs.FoundSetup.{closed}
 use Rattle.script_core.proofs.AgainSetup.{IsRead, starts_again}
 use Rattle.script_core.proofs.SpelledValues.{near_tested, free_tested, agree_tested, selector_read}
 use Rattle.script_workers.proofs.HandLaws.{few_counted}
+use Rattle.script_workers.specs.Limits.{most_workers}
+use Rattle.script_core.specs.Limits.{most_tasks}
 
 may_again : (rules : Rules) (phases : List Phase) (phase : Option Phase) (moment : Moment) → (phase ≡ None → phases ≡ []) → (all_phases phases phase ≡ [] → agree rules ≡ true) → ((others : List Phase) (last : Phase) → all_phases phases phase ≡ others ++ last ∷ [] → last.moment.ms ≤ moment.ms) → may_begin rules phase moment ≡ Ok tt
 may_again rules phases None moment first agreed later = let agrees = agreed (first refl) in rw agrees refl
@@ -48,7 +50,7 @@ pub record IsAdded (st : State) (number : ℕ) (work : Work) (script : Script) :
 begun_by : {A : Type 0} (o : Option A) (x : A) → o ≡ Some x → is_some o ≡ true
 begun_by o x is = ap is_some is
 
-add_again : (st : State) (number : ℕ) (work : Work) (phase : Phase) → st.phase ≡ Some phase → nat_lt st.activities 65536 ≡ true → nat_le (length (with_hands (gateway_count st.gateways) st.hands (length phase.tasks) work)) 64 ≡ true → add_task st number work ≡ Ok (record st { phase = Some (record phase { tasks = phase.tasks ++ record { line = number; work = work } ∷ [] }); hands = with_hands (gateway_count st.gateways) st.hands (length phase.tasks) work; activities = st.activities + 1 })
+add_again : (st : State) (number : ℕ) (work : Work) (phase : Phase) → st.phase ≡ Some phase → nat_lt st.activities most_tasks ≡ true → nat_le (length (with_hands (gateway_count st.gateways) st.hands (length phase.tasks) work)) most_workers ≡ true → add_task st number work ≡ Ok (record st { phase = Some (record phase { tasks = phase.tasks ++ record { line = number; work = work } ∷ [] }); hands = with_hands (gateway_count st.gateways) st.hands (length phase.tasks) work; activities = st.activities + 1 })
 unfolding add_task
 add_again st number work phase is few few_workers = rw (few, is, few_workers) refl
 
@@ -57,11 +59,11 @@ task_again st number work script kept adds =
     let last = last_phase st.phases st.phase adds.others adds.phase kept.tasks.no_phase adds.last in
     let count = kept.tasks.are_counted in
     let below = adds.few in
-    let few : nat_lt st.activities 65536 ≡ true = grind (arith, nat_tests) in
+    let few : nat_lt st.activities most_tasks ≡ true = grind (arith, nat_tests) in
     let hands : hands_of (gateway_count st.gateways) (adds.phase.tasks ++ record { line = number; work = work } ∷ []) ≡ with_hands (gateway_count st.gateways) st.hands (length adds.phase.tasks) work = hands_of-append (gateway_count st.gateways) adds.phase.tasks (record { line = number; work = work }) ∙ ap (λ hs. with_hands (gateway_count st.gateways) hs (length adds.phase.tasks) work) (sym (kept.tasks.are_hands adds.phase last.0)) in
     let counted = few_counted (gateway_count st.gateways) (adds.phase.tasks ++ record { line = number; work = work } ∷ []) adds.few_workers in
-    let fits : length (with_hands (gateway_count st.gateways) st.hands (length adds.phase.tasks) work) ≤ 64 = subst (λ hs. length hs ≤ 64) hands counted in
-    let few_workers : nat_le (length (with_hands (gateway_count st.gateways) st.hands (length adds.phase.tasks) work)) 64 ≡ true = grind (arith, nat_tests) in
+    let fits : length (with_hands (gateway_count st.gateways) st.hands (length adds.phase.tasks) work) ≤ most_workers = subst (λ hs. length hs ≤ most_workers) hands counted in
+    let few_workers : nat_le (length (with_hands (gateway_count st.gateways) st.hands (length adds.phase.tasks) work)) most_workers ≡ true = grind (arith, nat_tests) in
     record {
       after = record st { phase = Some (record adds.phase { tasks = adds.phase.tasks ++ record { line = number; work = work } ∷ [] }); hands = with_hands (gateway_count st.gateways) st.hands (length adds.phase.tasks) work; activities = st.activities + 1 };
       begun = begun_by st.phase adds.phase last.0;

@@ -23,6 +23,7 @@ use Rattle.script_core.proofs.FoundSetup.{closed}
 use Rattle.moment_core.specs.declared.rules.Rules.{Rules}
 use Rattle.script_core.proofs.SpelledValues.{near_tested, free_tested}
 use Rattle.script_core.proofs.SpelledRules.{rule_set}
+use Rattle.script_core.specs.Limits.{most_blocks}
 
 -- A line that is read in this state as one of a kind, and leads to what is so far.
 pub record IsRead (st : State) (number : ℕ) (line : List ℕ) (kind : LineKind) (next : SoFar) : Type 0 where
@@ -111,7 +112,7 @@ module _ (st : State) (number : ℕ) (line : List ℕ) (next : SoFar) (kept : Ke
       let times : int_lt says.min_time says.max_time ≡ true = below_again says.min_time says.max_time says.times in
       let free : is_reserved says.ulid ≡ false = free_tested (says.ulid % 2 ^ 80) ulid.not_reserved in
       let fresh : is_declared st says.ulid ≡ false = kept.blocks.declared says.ulid ∙ says.new in
-      let few : nat_lt (length st.ulids) 4_096 ≡ true = let l = says.few in let n = kept.blocks.count in grind (arith, nat_tests) in
+      let few : nat_lt (length st.ulids) most_blocks ≡ true = let l = says.few in let n = kept.blocks.count in grind (arith, nat_tests) in
       record {
         left = Some rest;
         after = record (closed st) { blocks = all_blocks st.blocks st.last; last = Some new; continues = true; ulids = insert_key nat_cmp st.ulids says.ulid };

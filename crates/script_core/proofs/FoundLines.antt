@@ -25,6 +25,7 @@ use Rattle.script_core.proofs.LineTools.{cut_rest, line_word, kind_found, ended_
 use Rattle.script_core.proofs.FoundSetup.{Starts, closed, rule_line_found, gateway_line_found, block_line_found}
 use Rattle.script_core.proofs.FoundSeries.{series_line_found}
 use Rattle.script_core.proofs.FoundPhases.{at_line_found, upload_line_found, sync_line_found, query_line_found}
+use Rattle.script_core.specs.Limits.{longest_text}
 
 -- the block has ended
 pub end_found : (st before : State) → Kept st → end_block st ≡ Ok before → HasEnded (all_blocks st.blocks st.last) × (closed st ≡ before)
@@ -113,7 +114,7 @@ finish_found st script kept h =
     let ended = end_found st a.0 kept a.1 in
     (ended.0, ap script_of_state ended.1 ∙ ok_is _ _ a.2)
 
-spelled_by : (text : List ℕ) (script : Script) (b : Bool) → nat_lt 67_108_864 (length text) ≡ b → cond {A = Result Script ScriptRefusal} b (Err TooLong) (lines_at (start standard_rules) 1 (lines_of text) >>= finish) ≡ Ok script → Spells text script
+spelled_by : (text : List ℕ) (script : Script) (b : Bool) → nat_lt longest_text (length text) ≡ b → cond {A = Result Script ScriptRefusal} b (Err TooLong) (lines_at (start standard_rules) 1 (lines_of text) >>= finish) ≡ Ok script → Spells text script
 spelled_by text script true long h = absurd cc
 spelled_by text script false long h =
     let a = bind_ok (lines_at (start standard_rules) 1 (lines_of text)) finish script h in
@@ -129,4 +130,4 @@ spelled_by text script false long h =
 -- what is read is spelled by the text
 pub script_found : (text : List ℕ) (script : Script) → script_of text ≡ Ok script → Spells text script
 unfolding script_of
-script_found text script h = spelled_by text script (nat_lt 67_108_864 (length text)) refl h
+script_found text script h = spelled_by text script (nat_lt longest_text (length text)) refl h

@@ -34,6 +34,8 @@ use Rattle.script_core.proofs.LineTools.{is_field, cut_rest, cut_end, only_found
 use Rattle.script_core.proofs.FoundSetup.{Starts, closed}
 use Rattle.script_core.proofs.SpelledValues.{near_spelled, free_spelled, agree_spelled, selector_spelled}
 use Rattle.script_workers.proofs.HandLaws.{few_spelled}
+use Rattle.script_workers.specs.Limits.{most_workers}
+use Rattle.script_core.specs.Limits.{most_tasks}
 
 -- ---- moments
 
@@ -50,8 +52,8 @@ not_sooner rules last moment h = leb-true _ _ (unless_is (nat_le last.moment.ms 
 pub record Added (st : State) (number : ℕ) (work : Work) (after : State) : Type 0 where
   pub phase : Phase
   pub begun : st.phase ≡ Some phase
-  pub few : st.activities < 65_536
-  pub few_workers : length (with_hands (gateway_count st.gateways) st.hands (length phase.tasks) work) ≤ 64
+  pub few : st.activities < most_tasks
+  pub few_workers : length (with_hands (gateway_count st.gateways) st.hands (length phase.tasks) work) ≤ most_workers
   pub is : record st { phase = Some (record phase { tasks = phase.tasks ++ record { line = number; work = work } ∷ [] }); hands = with_hands (gateway_count st.gateways) st.hands (length phase.tasks) work; activities = st.activities + 1 } ≡ after
 
 pub added : (st after : State) (number : ℕ) (work : Work) → add_task st number work ≡ Ok after → Added st number work after
@@ -73,8 +75,8 @@ module _ (st after : State) (number : ℕ) (work : Work) (kept : Kept st) (task 
         others = st.phases;
         phase = task.phase;
         last = ap (all_phases st.phases) task.begun;
-        few = subst (λ n. n < 65_536) kept.tasks.are_counted task.few;
-        few_workers = few_spelled (gateway_count st.gateways) (task.phase.tasks ++ record { line = number; work = work } ∷ []) (subst (λ hs. length hs ≤ 64) (ap (λ hs. with_hands (gateway_count st.gateways) hs (length task.phase.tasks) work) hands ∙ sym (hands_of-append (gateway_count st.gateways) task.phase.tasks (record { line = number; work = work }))) task.few_workers);
+        few = subst (λ n. n < most_tasks) kept.tasks.are_counted task.few;
+        few_workers = few_spelled (gateway_count st.gateways) (task.phase.tasks ++ record { line = number; work = work } ∷ []) (subst (λ hs. length hs ≤ most_workers) (ap (λ hs. with_hands (gateway_count st.gateways) hs (length task.phase.tasks) work) hands ∙ sym (hands_of-append (gateway_count st.gateways) task.phase.tasks (record { line = number; work = work }))) task.few_workers);
         adds = ap script_of_state (sym task.is);
       }
 

@@ -24,6 +24,7 @@ use Rattle.script_core.proofs.Kept.{Kept, so_far_of, gateway_kept, block_kept}
 use Rattle.script_core.proofs.LineTools.{is_field, cut_rest, only_found, name_found, early_found}
 use Rattle.script_core.proofs.SpelledValues.{near_spelled, free_spelled}
 use Rattle.script_core.proofs.SpelledRules.{rule_sets}
+use Rattle.script_core.specs.Limits.{most_blocks}
 
 -- what is left stands behind the line's word and a space
 abbrev pub Starts : List ℕ → List ℕ → Option (List ℕ) → Type 0
@@ -135,7 +136,7 @@ module _ (st after : State) (line : List ℕ) (left : Option (List ℕ)) (kept :
       let min_is = time_found min_text c.0 (refused_as_ok _ _ _ c.1) in
       let max_is = time_found max_text d.0 (refused_as_ok _ _ _ d.1) in
       let fresh : is_declared st e.0 ≡ false = not-true _ k.0 in
-      let few : length st.ulids < 4_096 = ltb-true _ _ l.0 in (
+      let few : length st.ulids < most_blocks = ltb-true _ _ l.0 in (
         record {
           ulid_text = ulid_text;
           min_text = min_text;

@@ -74,9 +74,6 @@ start_is = refl
 
 -- ---- blocks
 
-abbrev Ascend : List Series → Type 0
-Ascend series = IsStrictlySortedBy compare_sets (labels_of series)
-
 equal_number : (a b : ℕ) → is_eq (nat_cmp a b) ≡ (b == a)
 equal_number a b = grind (arith, nat_tests)
 
@@ -122,7 +119,7 @@ module _ (blocks : List Block) (last : Option Last) (ulids : List ℕ) (kept : K
         no_last = λ none. absurd cc;
         declared = λ ulid. among-insert ulid new.ulid ulids ∙ ap (λ b. b || (new.ulid == ulid)) (kept.declared ulid) ∙ sym (declares-append (all_blocks blocks last) (block_of new) ulid);
         count = length-insert new.ulid ulids fresh ∙ ap (λ n. n + 1) kept.count ∙ sym (length-append (all_blocks blocks last) (block_of new ∷ []));
-        ascend = λ block is. subst Ascend (sym none ∙ ap (λ (l : Last). l.series) (same_Some new block is)) (sorted_nil compare_sets);
+        ascend = λ block is. subst (λ (series : List Series). IsStrictlySortedBy compare_sets (labels_of series)) (sym none ∙ ap (λ (l : Last). l.series) (same_Some new block is)) (sorted_nil compare_sets);
       }
 
 -- one more series of the last block
@@ -133,7 +130,7 @@ series_kept blocks (Some last) ulids series kept =
       no_last = λ none. absurd cc;
       declared = λ ulid. kept.declared ulid ∙ declares-append blocks (block_of last) ulid ∙ sym (declares-append blocks (block_of (with_series series last)) ulid);
       count = kept.count ∙ length-append blocks (block_of last ∷ []) ∙ sym (length-append blocks (block_of (with_series series last) ∷ []));
-      ascend = λ block is. subst Ascend (ap (λ (l : Last). l.series) (same_Some (with_series series last) block is)) (sorted_insert last.series series (kept.ascend last refl));
+      ascend = λ block is. subst (λ (series : List Series). IsStrictlySortedBy compare_sets (labels_of series)) (ap (λ (l : Last). l.series) (same_Some (with_series series last) block is)) (sorted_insert last.series series (kept.ascend last refl));
     }
 
 -- ---- phases and tasks

@@ -40,6 +40,8 @@ use Rattle.script_core.proofs.SpelledValues.{free_tested, agree_tested, within_t
 use Rattle.script_core.proofs.SpelledSeries.{each_placed}
 use Rattle.script_workers.proofs.HandLaws.{few_counted}
 use Rattle.script_core.proofs.SpelledRules.{rule_set}
+use Rattle.script_workers.specs.Limits.{most_workers}
+use Rattle.script_core.specs.Limits.{most_tasks}
 
 -- what is lawful so far: all but the last block have series
 pub record InOrder (so_far : SoFar) : Type 0 where
@@ -186,7 +188,7 @@ module _ (before after : SoFar) (line : List ℕ) (order : InOrder before) where
 
 -- ---- phases and tasks
 
-no_workers : (gateways : ℕ) → length (hands_of gateways []) ≤ 64
+no_workers : (gateways : ℕ) → length (hands_of gateways []) ≤ most_workers
 unfolding hands_from
 no_workers gateways = omega arith
 
@@ -197,10 +199,10 @@ phase_in_order gateways blocks selectors phases phase lawful none below later =
       each = All-push (IsLawfulPhase gateways blocks selectors) phases phase lawful.each (record {
         moment = below;
         tasks = subst (All (λ (task : Task). IsLawfulWork gateways blocks selectors task.work)) (sym none) (All-nil (λ (task : Task). IsLawfulWork gateways blocks selectors task.work));
-        few_workers = subst (λ tasks. length (hands_of (gateway_count gateways) tasks) ≤ 64) (sym none) (no_workers (gateway_count gateways));
+        few_workers = subst (λ tasks. length (hands_of (gateway_count gateways) tasks) ≤ most_workers) (sym none) (no_workers (gateway_count gateways));
       });
       moments = moments_push phases phase lawful.moments later;
-      few_tasks = subst (λ works. length works ≤ 65_536) (sym same) lawful.few_tasks;
+      few_tasks = subst (λ works. length works ≤ most_tasks) (sym same) lawful.few_tasks;
       synced = λ before after low high selector gateway is inside. lawful.synced before after low high selector gateway (sym same ∙ is) inside;
     }
 

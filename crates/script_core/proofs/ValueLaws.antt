@@ -21,6 +21,7 @@ use Rattle.script_core.specs.declared.rule_name.RuleName.{RuleName}
 use Rattle.script_core.specs.declared.rule_name.RuleName.TheVariants as names
 use Rattle.script_core.specs.Values.{is_time, time_field, page_limit_field, span_from, span_field, tick_field, moment_from, moment_field, ulid_field, value_field}
 use Rattle.script_core.specs.Spelling.{IsValueText}
+use Rattle.moment_core.specs.Limits.{longest_tick}
 
 pub is_none_is : {A : Type 0} (o : Option A) → is_none o ≡ true → o ≡ None
 is_none_is None h = refl
@@ -62,19 +63,19 @@ pub span_again : (text : List ℕ) (span : Span) → IsSpanText text span.ms →
 unfolding span_field
 span_again text span is = rw (span_of-only text span.ms is) refl
 
-pub tick_found : (text : List ℕ) (span : Span) → tick_field text ≡ Ok span → IsSpanText text span.ms × (span.ms ≤ 86_400_000)
+pub tick_found : (text : List ℕ) (span : Span) → tick_field text ≡ Ok span → IsSpanText text span.ms × (span.ms ≤ longest_tick)
 unfolding tick_field
 tick_found text span h =
     let a = bind_ok _ _ _ h in
     let b = unless_ok _ _ _ _ a.2 in
     let same : a.0 ≡ span = ok_is _ _ b.1 in
-    let small : a.0.ms ≤ 86_400_000 = let test = b.0 in grind (arith, nat_tests) in
-    (subst (λ (s : Span). IsSpanText text s.ms) same (span_found text a.0 a.1), subst (λ (s : Span). s.ms ≤ 86_400_000) same small)
+    let small : a.0.ms ≤ longest_tick = let test = b.0 in grind (arith, nat_tests) in
+    (subst (λ (s : Span). IsSpanText text s.ms) same (span_found text a.0 a.1), subst (λ (s : Span). s.ms ≤ longest_tick) same small)
 
-pub tick_again : (text : List ℕ) (span : Span) → IsSpanText text span.ms → span.ms ≤ 86_400_000 → tick_field text ≡ Ok span
+pub tick_again : (text : List ℕ) (span : Span) → IsSpanText text span.ms → span.ms ≤ longest_tick → tick_field text ≡ Ok span
 unfolding tick_field
 tick_again text span is small =
-    let test : nat_le span.ms 86_400_000 ≡ true = grind (arith, nat_tests) in rw (span_again text span is, test) refl
+    let test : nat_le span.ms longest_tick ≡ true = grind (arith, nat_tests) in rw (span_again text span is, test) refl
 
 pub page_limit_found : (text : List ℕ) (limit : ℕ) → page_limit_field text ≡ Ok limit → (text ≡ decimal_text limit) × (1 ≤ limit) × (limit ≤ 10_000)
 unfolding page_limit_field

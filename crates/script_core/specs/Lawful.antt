@@ -10,6 +10,9 @@ use Rattle.label_sets.specs.SetText.{AreNamed}
 use Rattle.label_sets.specs.declared.label.Label.{Label}
 use Rattle.label_sets.specs.declared.series.Series.{Series}
 use Rattle.moment_core.specs.declared.rules.Rules.{Rules}
+use Rattle.moment_core.specs.Limits.{longest_tick}
+use Rattle.script_workers.specs.Limits.{most_workers}
+use Rattle.script_core.specs.Limits.{most_blocks, most_tasks}
 use Rattle.script_core.specs.declared.block.Block.{Block}
 use Rattle.script_core.specs.declared.body.Body.{Body}
 use Rattle.script_core.specs.declared.body.Body.TheVariants.{Inline}
@@ -30,7 +33,7 @@ pub record AreLawfulRules (rules : Rules) : Type 0 where
   pub delete : rules.delete.ms ≤ 2 ^ 46
   pub partial : rules.partial.ms ≤ 2 ^ 46
   pub upload : rules.upload.ms ≤ 2 ^ 46
-  pub tick : rules.tick.ms ≤ 86_400_000
+  pub tick : rules.tick.ms ≤ longest_tick
   pub page_limit_low : 1 ≤ rules.page_limit
   pub page_limit_high : rules.page_limit ≤ 10_000
   pub replicas : rules.replicas ≡ []
@@ -71,7 +74,7 @@ pub record IsLawfulBlock (block : Block) : Type 0 where
   pub body : IsLawfulBody block.body
 
 pub record AreLawfulBlocks (blocks : List Block) : Type 0 where
-  pub few : length blocks ≤ 4_096
+  pub few : length blocks ≤ most_blocks
   pub each : All IsLawfulBlock blocks
   -- no ULID twice
   pub once : IsDistinct nat_eq (map (λ block. block.ulid) blocks)
@@ -86,12 +89,12 @@ IsLawfulWork gateways blocks selectors (Query low high selector) =
 pub record IsLawfulPhase (gateways : List (List ℕ)) (blocks : List Block) (selectors : ℕ) (phase : Phase) : Type 0 where
   pub moment : phase.moment.ms < 2 ^ 47
   pub tasks : All (λ task. IsLawfulWork gateways blocks selectors task.work) phase.tasks
-  pub few_workers : length (hands_of (gateway_count gateways) phase.tasks) ≤ 64
+  pub few_workers : length (hands_of (gateway_count gateways) phase.tasks) ≤ most_workers
 
 pub record AreLawfulPhases (gateways : List (List ℕ)) (blocks : List Block) (selectors : ℕ) (phases : List Phase) : Type 0 where
   pub each : All (IsLawfulPhase gateways blocks selectors) phases
   pub moments : IsNonDecreasingBy (λ phase. phase.moment.ms) phases
-  pub few_tasks : length (works_of phases) ≤ 65_536
+  pub few_tasks : length (works_of phases) ≤ most_tasks
   -- each gateway has a sync before each query
   pub synced : (before after : List Work) (low high : ℤ) (selector gateway : ℕ) → works_of phases ≡ before ++ Query low high selector ∷ after → gateway < length gateways → IsTrue (has_sync before gateway)
 

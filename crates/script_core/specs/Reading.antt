@@ -2,6 +2,7 @@
 use Rattle.std.specs.Prelude.{ℕ, ◌+◌, List, [], ◌∷◌, length, Bool, true, false, nat_lt, ok_or, Option, None, Some, Result, Ok, Err, if◌then◌else◌}
 use Rattle.std.specs.Str.{is_utf8}
 use Rattle.reading_core.specs.Reading.{◌>>=◌, ◌>>◌, refused_as}
+use Rattle.script_core.specs.Limits.{longest_text}
 use Rattle.script_core.specs.declared.cause.LineCause.TheVariants as causes
 use Rattle.script_core.specs.declared.line_kind.LineKind.{LineKind}
 use Rattle.script_core.specs.declared.line_kind.LineKind.TheVariants as kinds
@@ -72,7 +73,7 @@ lines_at st number (line ∷ lines) = do
 -- the script that a text spells, or the first refusal
 unfoldable pub script_of : List ℕ → Result Script ScriptRefusal
 script_of text =
-    if nat_lt 67108864 (length text) then Err scripts.TooLong
+    if nat_lt longest_text (length text) then Err scripts.TooLong
     else (do
       after ← lines_at (start standard_rules) 1 (lines_of text)
       finish after)

@@ -24,6 +24,8 @@ use Rattle.moment_core.specs.SpanText.{IsSpanText}
 use Rattle.moment_core.specs.StandardRules.{standard_rules}
 use Rattle.moment_core.specs.declared.rules.Rules.{Rules}
 use Rattle.ulid_core.specs.UlidText.{IsUlidText}
+use Rattle.moment_core.specs.Limits.{longest_tick}
+use Rattle.script_core.specs.Limits.{longest_text, most_blocks, most_tasks}
 use Rattle.script_core.specs.declared.block.Block.{Block}
 use Rattle.script_core.specs.declared.body.Body.TheVariants.{Inline}
 use Rattle.script_workers.specs.declared.phase.Phase.{Phase}
@@ -107,7 +109,7 @@ rule_word names.PageLimit = codes "page-limit"
 
 -- The text of a rule's value. Spans are in milliseconds.
 abbrev pub IsValueText : RuleName → List ℕ → ℕ → Type 0
-IsValueText names.Tick text value = IsSpanText text value × (value ≤ 86_400_000)
+IsValueText names.Tick text value = IsSpanText text value × (value ≤ longest_tick)
 IsValueText names.PageLimit text value = (text ≡ decimal_text value) × (1 ≤ value) × (value ≤ 10_000)
 IsValueText name text value = IsSpanText text value
 
@@ -205,7 +207,7 @@ pub record BlockLine (before : SoFar) (line : List ℕ) (after : SoFar) : Type 0
   pub early : IsEarly before
   pub times : min_time <ℤ max_time
   pub new : IsFalse (declares before.script.blocks ulid)
-  pub few : length before.script.blocks < 4_096
+  pub few : length before.script.blocks < most_blocks
   pub adds : after ≡ inside (record before.script { blocks = before.script.blocks ++ record { ulid = ulid; labels = labels; body = Inline min_time max_time [] } ∷ [] })
 
 -- series LABELS TIME:PATTERN TIME:PATTERN ..
@@ -252,7 +254,7 @@ pub record AddsTask (before : Script) (number : ℕ) (work : Work) (after : Scri
   pub others : List Phase
   pub phase : Phase
   pub last : before.phases ≡ others ++ phase ∷ []
-  pub few : length (works_of before.phases) < 65_536
+  pub few : length (works_of before.phases) < most_tasks
   pub few_workers : FewWorkers (gateway_count before.gateways) (phase.tasks ++ record { line = number; work = work } ∷ [])
   pub adds : after ≡ record before { phases = others ++ record phase { tasks = phase.tasks ++ record { line = number; work = work } ∷ [] } ∷ [] }
 
@@ -320,7 +322,7 @@ Say before number (line ∷ lines) after =
 
 -- The text spells the script.
 pub record Spells (text : List ℕ) (script : Script) : Type 0 where
-  pub short : length text ≤ 67_108_864
+  pub short : length text ≤ longest_text
   pub in_block : Bool
   pub lines : Say nothing 1 (lines_of text) (record { script = script; in_block = in_block })
   pub ended : HasEnded script.blocks

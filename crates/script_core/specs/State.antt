@@ -12,6 +12,8 @@ use Rattle.label_sets.specs.declared.sample.Sample.{Sample}
 use Rattle.label_sets.specs.declared.series.Series.{Series}
 use Rattle.matchers.specs.declared.matcher.Matcher.{Matcher}
 use Rattle.moment_core.specs.declared.rules.Rules.{Rules}
+use Rattle.script_workers.specs.Limits.{most_workers}
+use Rattle.script_core.specs.Limits.{most_blocks, most_tasks}
 use Rattle.script_core.specs.declared.cause.LineCause.TheVariants.{EmptyInline, NoBlock, NoPhase, OutsideBlock, RepeatedSeries}
 use Rattle.script_core.specs.declared.line_refusal.LineRefusal.{LineRefusal}
 use Rattle.script_core.specs.declared.line_refusal.LineRefusal.TheVariants.{Bad, BlockChanged, TooMany}
@@ -122,7 +124,7 @@ add_gateway st name = do
 unfoldable pub begin_block : State → Last → Result State LineRefusal
 begin_block st block = do
   unless (not (is_declared st block.ulid)) BlockChanged
-  unless (nat_lt (length st.ulids) 4096) TooMany
+  unless (nat_lt (length st.ulids) most_blocks) TooMany
   Ok (record st { blocks = all_blocks st.blocks st.last; last = Some block; continues = true; ulids = insert_key nat_cmp st.ulids block.ulid })
 
 -- whether the block has a series with these labels
@@ -166,9 +168,9 @@ more_hands st phase work = with_hands (gateway_count st.gateways) st.hands (leng
 -- a task at the end of the last phase
 unfoldable pub add_task : State → ℕ → Work → Result State LineRefusal
 add_task st line work = do
-  unless (nat_lt st.activities 65536) TooMany
+  unless (nat_lt st.activities most_tasks) TooMany
   phase ← ok_or st.phase (Bad NoPhase)
-  unless (nat_le (length (more_hands st phase work)) 64) TooMany
+  unless (nat_le (length (more_hands st phase work)) most_workers) TooMany
   Ok (record st { phase = Some (record phase { tasks = phase.tasks ++ record { line = line; work = work } ∷ [] }); hands = more_hands st phase work; activities = st.activities + 1 })
 
 unfoldable pub add_query : State → ℕ → ℤ → ℤ → List Matcher → Result State LineRefusal

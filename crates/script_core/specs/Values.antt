@@ -5,6 +5,7 @@ use Rattle.reading_core.specs.Decimal.{unsigned_of, signed_of}
 use Rattle.ulid_core.specs.UlidText.{ulid_of}
 use Rattle.moment_core.specs.declared.span.Span.{Span}
 use Rattle.moment_core.specs.declared.rules.Rules.{Rules}
+use Rattle.moment_core.specs.Limits.{longest_tick}
 use Rattle.script_core.specs.declared.rule_name.RuleName.{RuleName}
 use Rattle.script_core.specs.declared.rule_name.RuleName.TheVariants as names
 use Rattle.moment_core.specs.SpanText.{span_of}
@@ -40,7 +41,7 @@ span_field field = ok_or (option_map span_from (span_of field)) BadSpanText
 unfoldable pub tick_field : List ℕ → Result Span LineCause
 tick_field field = do
   tick ← span_field field
-  unless (nat_le tick.ms 86400000) BadSpanText
+  unless (nat_le tick.ms longest_tick) BadSpanText
   Ok tick
 
 abbrev pub moment_from : ℕ → Moment

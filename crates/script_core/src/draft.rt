@@ -1,4 +1,5 @@
 ghost use Rattle.std.specs.Prelude.{◌≤◌, length};
+ghost use Rattle.script_core.specs.Limits.{most_tasks};
 
 use crate::inline_block::InlineBlock;
 use crate::line_refusal::LineRefusal;
@@ -16,12 +17,12 @@ use ulid_core::Ulid;
 
 const GATEWAYS: usize = 1;
 
-const BLOCKS: usize = 4_096;
+const MOST_BLOCKS: usize = 4_096;
 
-const ACTIVITIES: u32 = 65_536;
+const MOST_TASKS: u32 = 65_536;
 
 /// How many workers one phase may need.
-const WORKERS: usize = 64;
+const MOST_WORKERS: usize = 64;
 
 /// What the lines of a script so far leave to the next one.
 #[derive(Drop)]
@@ -48,7 +49,7 @@ pub(crate) struct Draft {
     /// How many tasks all phases have.
     pub activities: u32,
     ghost few_gateways: { length gateways ≤ 16 },
-    ghost few_activities: { activities ≤ 65536 },
+    ghost few_activities: { activities ≤ most_tasks },
     ghost few_selectors: { length selectors ≤ activities },
 }
 
@@ -175,7 +176,7 @@ impl Draft {
             (begin_block (state_of self.old) (last_of block)) }
     {
         LineRefusal::BlockChanged.unless(!self.is_declared(block.ulid))?;
-        LineRefusal::TooMany.unless(self.ulids.len() < BLOCKS)?;
+        LineRefusal::TooMany.unless(self.ulids.len() < MOST_BLOCKS)?;
         self.store_block(alloc)?;
         self.ulids.insert(block.ulid)?;
         self.last = Some(block);
@@ -231,11 +232,11 @@ impl Draft {
         ensures selectors { self.new.selectors ≡ self.old.selectors }
         ensures counted { OnOk result (self.new.activities ≡ self.old.activities + 1) }
     {
-        LineRefusal::TooMany.unless(self.activities < ACTIVITIES)?;
+        LineRefusal::TooMany.unless(self.activities < MOST_TASKS)?;
         let gateways = gateway_count(&self.gateways);
         let place = self.next_place()?;
         add_hands(&mut self.hands, gateways, place, &work)?;
-        LineRefusal::TooMany.unless(self.hands.len() <= WORKERS)?;
+        LineRefusal::TooMany.unless(self.hands.len() <= MOST_WORKERS)?;
         if let Some(phase) = &mut self.phase {
             phase.tasks.push(Task { line, work })?;
         }

@@ -23,6 +23,7 @@ mod values;
 pub use block::{Block, BlockList};
 pub use body::Body;
 pub use cause::LineCause;
+pub use reader::LONGEST_TEXT;
 pub use script::Script;
 pub use script_refusal::ScriptRefusal;
 pub use script_workers::{Hand, Phase, PhaseList, Task, TaskList, Work, Worker, WorkerList};

@@ -7,6 +7,7 @@ ghost use Rattle.script_core.specs.declared.line_refusal.LineRefusal.TheVariants
 ghost use Rattle.script_core.specs.Reading.{is_series, kind_line, text_line, line_at, lines_at, script_of};
 ghost use Rattle.std.specs.Str.{is_utf8};
 ghost use Rattle.script_core.specs.Fields.{lines_of};
+ghost use Rattle.script_core.specs.Limits.{longest_text};
 ghost use Rattle.script_core.specs.State.{start};
 ghost use Rattle.moment_core.specs.StandardRules.{standard_rules};
 ghost use Rattle.script_core.specs.View.{state_of};
@@ -22,14 +23,14 @@ use moment_core::Rules;
 use std::alloc::Global;
 
 /// How many bytes a script may have.
-const TEXT_LIMIT: usize = 67_108_864;
+pub const LONGEST_TEXT: usize = 67_108_864;
 
 /// Reads a script.
 #[tactic(auto, unfolding(crate::specs::Reading::script_of))]
 pub(crate) fn read_script(alloc: Global, text: &[u8]) -> Result<Script, ScriptRefusal>
     ensures { Gives script_refusals.NoMemory (λ script. script) result (script_of text.now) }
 {
-    if text.len() > TEXT_LIMIT {
+    if text.len() > LONGEST_TEXT {
         return Err(ScriptRefusal::TooLong);
     }
     read_lines(alloc, text)?.finish(alloc)
@@ -37,7 +38,7 @@ pub(crate) fn read_script(alloc: Global, text: &[u8]) -> Result<Script, ScriptRe
 
 /// Reads the lines of a text in order, and answers what they leave.
 fn read_lines(alloc: Global, text: &[u8]) -> Result<Draft, ScriptRefusal>
-    requires { length text.now ≤ 67108864 }
+    requires { length text.now ≤ longest_text }
     ensures { Gives script_refusals.NoMemory state_of result
         (lines_at (start standard_rules) 1 (lines_of text.now)) }
 {

@@ -13,7 +13,8 @@ const TIME_LIMIT: i64 = 1 << 62;
 
 const PAGE_LIMIT: u64 = 10_000;
 
-const DAY_MS: u64 = 86_400_000;
+/// A day, in milliseconds.
+const LONGEST_TICK: u64 = 86_400_000;
 
 /// The least entropy that is kept for compacted blocks.
 const RESERVED: u128 = 0xffff_ffff_ffff_fff0_0000;
@@ -59,7 +60,7 @@ pub(crate) fn tick(field: &str) -> Result<Span, LineCause>
     ensures { result ≡ tick_field field.now }
 {
     let tick = span(field)?;
-    if tick.ms <= DAY_MS {
+    if tick.ms <= LONGEST_TICK {
         Ok(tick)
     } else {
         Err(LineCause::BadSpanText)

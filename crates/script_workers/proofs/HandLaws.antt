@@ -19,6 +19,7 @@ use Rattle.script_workers.specs.declared.work.Work.TheVariants as works
 use Rattle.script_workers.specs.Hands.{same_hand, hands_of_task, with_hand, with_hands, hands_from, hands_of, does}
 use Rattle.script_workers.specs.Whose.{IsFor, ships, syncs, asks, IsTaskOf, AreEnough, FewWorkers}
 use Rattle.script_workers.proofs.HandLists.{no_upload_among, gateway_among}
+use Rattle.script_workers.specs.Limits.{most_workers}
 
 -- ---- equal hands
 
@@ -199,11 +200,11 @@ module _ (gateways : ℕ) (tasks : List Task) where
 
 -- ---- how many are enough
 
-pub few_spelled : (gateways : ℕ) (tasks : List Task) → length (hands_of gateways tasks) ≤ 64 → FewWorkers gateways tasks
+pub few_spelled : (gateways : ℕ) (tasks : List Task) → length (hands_of gateways tasks) ≤ most_workers → FewWorkers gateways tasks
 few_spelled gateways tasks few =
     record { hands = hands_of gateways tasks; enough = are_enough gateways tasks; few = few }
 
-pub few_counted : (gateways : ℕ) (tasks : List Task) → FewWorkers gateways tasks → length (hands_of gateways tasks) ≤ 64
+pub few_counted : (gateways : ℕ) (tasks : List Task) → FewWorkers gateways tasks → length (hands_of gateways tasks) ≤ most_workers
 few_counted gateways tasks is =
     let within = λ (hand : Hand) (h : has (hands_of gateways tasks) hand ≡ true). let some = is_needed gateways tasks hand (contained (hands_of gateways tasks) hand h) in tested is.hands hand (is.enough hand some.0 some.1) in
     let below : length (hands_of gateways tasks) ≤ length is.hands = length-le_from_is_member hands_laws (hands_of gateways tasks) is.hands (are_once gateways tasks) within in

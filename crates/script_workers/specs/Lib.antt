@@ -1,3 +1,4 @@
+pub mod Limits
 pub mod Hands
 pub mod Whose
 pub mod Works

@@ -1,5 +1,6 @@
 -- Who works on a task, apart from how that is found.
 use Rattle.std.specs.Prelude.{◌≡◌, ℕ, ℤ, ◌<◌, ◌≤◌, List, length, Contains, Option, Some, slice_get}
+use Rattle.script_workers.specs.Limits.{most_workers}
 use Rattle.script_workers.specs.declared.hand.Hand.{Hand}
 use Rattle.script_workers.specs.declared.hand.Hand.TheVariants.{Upload, Gateway}
 use Rattle.script_workers.specs.declared.task.Task.{Task}
@@ -23,8 +24,8 @@ pub record IsTaskOf (gateways : ℕ) (tasks : List Task) (hand : Hand) (place : 
 abbrev pub AreEnough : ℕ → List Hand → List Task → Type 0
 AreEnough gateways hands tasks = (hand : Hand) (place : ℕ) → IsTaskOf gateways tasks hand place → Contains hands hand
 
--- Some 64 hands are enough.
+-- Few hands are enough.
 pub record FewWorkers (gateways : ℕ) (tasks : List Task) : Type 0 where
   pub hands : List Hand
   pub enough : AreEnough gateways hands tasks
-  pub few : length hands ≤ 64
+  pub few : length hands ≤ most_workers

@@ -17,6 +17,7 @@ use Rattle.label_sets.specs.declared.series.Series.{Series}
 use Rattle.list_core.specs.Ordered.{in_order, placed}
 use Rattle.label_sets.specs.Triples.{Triple, triples_of, first_of, has_lesser_key, has_same_key, compare_keys, IsOneToOne}
 use Rattle.list_core.proofs.Bools.{by_bool}
+use Rattle.list_core.proofs.Membership.{member_cases, no_member, each_member, member_of_any}
 use Rattle.list_core.proofs.StableSorts.{Rises, Rises-in_order}
 use Rattle.vertical_merge.specs.Merged.{AreFirst, IsMerge, IsDeduplication, PatternsAgree}
 use Rattle.vertical_merge.proofs.Orders.{keys_total, keys_ranked, same_key}
@@ -197,27 +198,6 @@ deduplication list kept is = record { ascending = is.ascending; one_to_one = one
 
 -- ---- the only one
 
--- t is a member
-abbrev pub In : Triple → List Triple → Type 0
-In t [] = ⊥
-In t (x ∷ xs) = (x ≡ t) ⊎ In t xs
-
-in_from : (xs : List Triple) (t : Triple) → Contains xs t → In t xs
-in_from [] t (k, lt, is) = absurd (omega arith)
-in_from (x ∷ xs) t (zero, lt, is) = inl is
-in_from (x ∷ xs) t (suc k, lt, is) = inr (in_from xs t (k, omega arith, is))
-
-found_any : (p : Triple → Bool) (xs : List Triple) → list_any p xs ≡ true → (t : Triple) × In t xs × (p t ≡ true)
-found_any p [] e = absurd (true≢false (sym e))
-found_any p (x ∷ xs) e = by_bool (p x)
-    (λ t. (x, inl refl, t))
-    (λ f. let found : _ = found_any p xs (sym (ap (λ b. b || list_any p xs) f) ∙ e) in (found.0, inr found.1, found.2))
-
-all_in : (P : Triple → Type 0) (xs : List Triple) (t : Triple) → AllByRecursion P xs → In t xs → P t
-all_in P [] t all i = absurd i
-all_in P (x ∷ xs) t all (inl e) = subst P e all.0
-all_in P (x ∷ xs) t all (inr i) = all_in P xs t all.1 i
-
 not_itself : (t : Triple) → compare_keys t t ≡ Less → ⊥
 not_itself t e = let f : Less ≡ Equal = sym e ∙ tied_itself keys_total t in cc
 
@@ -225,10 +205,12 @@ not_both_ways : (one other : Triple) → compare_keys one other ≡ Less → com
 not_both_ways one other e f = not_itself one (keys_total.trans one other one e f)
 
 -- a member of an ascending list is its first one, or after that
-after_first : (x t : Triple) (xs : List Triple) → IsStrictlySortedBy compare_keys (x ∷ xs) → In t (x ∷ xs) → (x ≡ t) ⊎ (compare_keys x t ≡ Less)
+after_first : (x t : Triple) (xs : List Triple) → IsStrictlySortedBy compare_keys (x ∷ xs) → Contains (x ∷ xs) t → (x ≡ t) ⊎ (compare_keys x t ≡ Less)
 unfolding IsStrictlySortedBy
-after_first x t xs up (inl e) = inl e
-after_first x t xs up (inr i) = inr (all_in (λ y. compare_keys x y ≡ Less) xs t up.0 i)
+after_first x t xs up among = elim (member_cases x t xs among) [
+  | inl e ↦ inl e
+  | inr i ↦ inr (each_member (λ y. compare_keys x y ≡ Less) xs t up.0 i)
+]
 
 -- two ascending lists that have each other's first one begin with the same
 same_first : (x y : Triple) (xs ys : List Triple) → (x ≡ y) ⊎ (compare_keys x y ≡ Less) → (y ≡ x) ⊎ (compare_keys y x ≡ Less) → x ≡ y
@@ -236,20 +218,22 @@ same_first x y xs ys (inl e) q = e
 same_first x y xs ys (inr p) (inl e) = sym e
 same_first x y xs ys (inr p) (inr q) = absurd (not_both_ways x y p q)
 
-later : (x t : Triple) (ys : List Triple) → compare_keys x t ≡ Less → In t (x ∷ ys) → In t ys
-later x t ys less (inl e) = absurd (not_itself x (subst (λ u. compare_keys x u ≡ Less) (sym e) less))
-later x t ys less (inr i) = i
+later : (x t : Triple) (ys : List Triple) → compare_keys x t ≡ Less → Contains (x ∷ ys) t → Contains ys t
+later x t ys less among = elim (member_cases x t ys among) [
+  | inl e ↦ absurd (not_itself x (subst (λ u. compare_keys x u ≡ Less) (sym e) less))
+  | inr i ↦ i
+]
 
-all_later : (x y : Triple) (xs ys : List Triple) → x ≡ y → AllByRecursion (λ z. compare_keys x z ≡ Less) xs → AllByRecursion (λ z. In z (y ∷ ys)) xs → AllByRecursion (λ z. In z ys) xs
+all_later : (x y : Triple) (xs ys : List Triple) → x ≡ y → AllByRecursion (λ z. compare_keys x z ≡ Less) xs → AllByRecursion (Contains (y ∷ ys)) xs → AllByRecursion (Contains ys) xs
 all_later x y [] ys e less all = tt
 all_later x y (z ∷ zs) ys e less all = (later y z ys (subst (λ u. compare_keys u z ≡ Less) e less.0) all.0, all_later x y zs ys e less.1 all.1)
 
 pub same_members : (xs ys : List Triple) → IsStrictlySortedBy compare_keys xs → IsStrictlySortedBy compare_keys ys
-    → AllByRecursion (λ t. In t ys) xs → AllByRecursion (λ t. In t xs) ys → xs ≡ ys
+    → AllByRecursion (Contains ys) xs → AllByRecursion (Contains xs) ys → xs ≡ ys
 unfolding IsStrictlySortedBy
 same_members [] [] up rise p q = refl
-same_members [] (y ∷ ys) up rise p q = absurd q.0
-same_members (x ∷ xs) [] up rise p q = absurd p.0
+same_members [] (y ∷ ys) up rise p q = absurd (no_member y q.0)
+same_members (x ∷ xs) [] up rise p q = absurd (no_member x p.0)
 same_members (x ∷ xs) (y ∷ ys) up rise p q =
     let e : x ≡ y = same_first x y xs ys (after_first x y xs up q.0) (after_first y x ys rise p.0) in
     let tails : xs ≡ ys = same_members xs ys up.1 rise.1 (all_later x y xs ys e up.0 p.1) (all_later y x ys xs (sym e) rise.0 q.1) in
@@ -259,19 +243,19 @@ same_triple : (one other : Triple) → (one.labels ≡ other.labels) × (one.tim
 same_triple one other key pattern = λ i. record { labels = key.0 i; time = key.1 i; pattern = pattern i }
 
 -- each triple of one deduplication is in another
-each_in : (list one other : List Triple) → PatternsAgree list → IsOneToOne one list → IsOneToOne other list → All (λ t. In t other) one
-each_in list one other agree p q = All-weaker (Contains list) (λ t. In t other) (λ t in_list.
-    let found : (u : Triple) × In u other × (has_same_key t u ≡ true) =
-    found_any (has_same_key t) other (All-contains (λ t. list_any (has_same_key t) other ≡ true) list t q.complete in_list) in
-    let taken : Contains list found.0 = all_in (Contains list) other found.0 (recursion_from_All (Contains list) other q.taken) found.1 in
-    subst (λ u. In u other) (sym (same_triple t found.0 (same_key t found.0 found.2) (agree t found.0 in_list taken found.2))) found.1)
+each_in : (list one other : List Triple) → PatternsAgree list → IsOneToOne one list → IsOneToOne other list → All (Contains other) one
+each_in list one other agree p q = All-weaker (Contains list) (Contains other) (λ t in_list.
+    let found : (u : Triple) × Contains other u × (has_same_key t u ≡ true) =
+    member_of_any (has_same_key t) other (All-contains (λ t. list_any (has_same_key t) other ≡ true) list t q.complete in_list) in
+    let taken : Contains list found.0 = All-contains (Contains list) other found.0 q.taken found.1 in
+    subst (Contains other) (sym (same_triple t found.0 (same_key t found.0 found.2) (agree t found.0 in_list taken found.2))) found.1)
     one p.taken
 
 -- where the patterns agree there is one deduplication
 only : (list kept other : List Triple) → PatternsAgree list → IsDeduplication kept list → IsDeduplication other list → kept ≡ other
 only list kept other agree p q = same_members kept other p.ascending q.ascending
-    (recursion_from_All (λ t. In t other) kept (each_in list kept other agree p.one_to_one q.one_to_one))
-    (recursion_from_All (λ t. In t kept) other (each_in list other kept agree q.one_to_one p.one_to_one))
+    (recursion_from_All (Contains other) kept (each_in list kept other agree p.one_to_one q.one_to_one))
+    (recursion_from_All (Contains kept) other (each_in list other kept agree q.one_to_one p.one_to_one))
 
 -- a merge is the deduplication of what was added
 pub deduplicates : (was list : List Triple) (series : List Series) → was ≡ list → IsMerge was series → IsDeduplication (triples_of series) list

@@ -1,7 +1,7 @@
 pub mod Turns
 pub mod Growing
 pub mod Opening
-pub mod BlockNames
+pub mod KeyTexts
 pub mod LastLanded
 pub mod Replies
 pub mod PlanLaws

@@ -10,6 +10,7 @@ use Rattle.world_core.specs.Operations.{IsLawful, IsReplyTo}
 use Rattle.world_core.specs.Moments.{moment_after, last_moment}
 use Rattle.world_core.proofs.Growing.{Each-none}
 use Rattle.world_core.specs.declared.entry.Entry.{Entry}
+use Rattle.moment_core.specs.Limits.{longest_tick}
 
 -- a key's name at the root is not empty
 named : (key : List ℕ) → IsKey key → Before [] (before_first (λ byte. byte == 47) key)
@@ -46,7 +47,7 @@ opened_true : (old new : Option Contents) → new ≡ old → IfSome old (λ c. 
 opened_true None new same empty = rw same tt
 opened_true (Some c) new same empty = rw same (record { honest = Each-none (λ before x. Tells (stands before) x.op x.reply); held = empty })
 
-pub opened_sound : {B : Type 0} (contents : B → Option Contents) (faults : B → ℕ) (old new : B) (journal : List Entry) (tick : ℕ) → journal ≡ [] → tick ≤ 86400000 → contents new ≡ contents old → IfSome (contents old) (λ c. c ≡ nothing) → IsSound contents faults new journal tick 0 0
+pub opened_sound : {B : Type 0} (contents : B → Option Contents) (faults : B → ℕ) (old new : B) (journal : List Entry) (tick : ℕ) → journal ≡ [] → tick ≤ longest_tick → contents new ≡ contents old → IfSome (contents old) (λ c. c ≡ nothing) → IsSound contents faults new journal tick 0 0
 opened_sound contents faults old new journal tick none short same empty =
     rw none (record {
       counted = record { short = short; latest = refl; bound = omega arith; size = omega arith };

@@ -9,10 +9,6 @@ most_entries = 1_048_576
 abbrev pub most_kept : ℕ
 most_kept = 1_073_741_824
 
--- a day, the longest tick in milliseconds
-abbrev pub longest_tick : ℕ
-longest_tick = 86_400_000
-
 -- a walk of pages that has listed so many names, and has not come to its end, is given up
 abbrev pub most_listed : ℕ
 most_listed = 1_000_000

@@ -5,7 +5,8 @@ use Rattle.bucket_core.specs.Contents.{Contents}
 use Rattle.world_core.specs.Operations.{IsLawful, IsReplyTo, has_failed}
 use Rattle.world_core.specs.Journals.{Each, IsNumbered}
 use Rattle.world_core.specs.Keeping.{kept_bytes}
-use Rattle.world_core.specs.Limits.{longest_tick, most_entries}
+use Rattle.moment_core.specs.Limits.{longest_tick}
+use Rattle.world_core.specs.Limits.{most_entries}
 use Rattle.world_core.specs.Moments.{HasMoments, last_moment}
 use Rattle.world_core.specs.Standing.{stands, left_by, IsHonest}
 use Rattle.world_core.specs.declared.op.Op.{Op}

@@ -96,10 +96,7 @@ fn block_page<B: Bucket>(
 fn block_name(alloc: Global, ulid: Ulid) -> Result<Text, NoMemory>
     ensures { IfOk result (λ text. text ≡ text_of ulid) }
 {
-    let mut bytes = Vec::new(alloc);
-    ulid.put_text(&mut bytes)?;
-    let name = String::from_utf8(bytes);
-    Ok(Text::from_string(name.unwrap()))
+    Ok(Text::from_string(ulid.to_string(alloc)?))
 }
 
 fn put_reply(answer: PutAnswer) -> Result<Reply, NoMemory>

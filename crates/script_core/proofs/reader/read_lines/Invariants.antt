@@ -5,11 +5,12 @@ use Rattle.moment_core.specs.StandardRules.{standard_rules}
 use Rattle.script_core.specs.Reading.{lines_at}
 use Rattle.script_core.specs.View.{state_of}
 use Rattle.script_core.proofs.reader.read_lines.Given as goal
+use Rattle.script_core.specs.Limits.{longest_text}
 
 -- what is read of the lines that are left is what is read of all
 abbrev pub invariant-loop-left : goal.invariant-loop-left
 invariant-loop-left l =
-    (l.number + length l.left ≤ 67108864) × (lines_at (state_of l.draft) (l.number + 1) (lines_of l.left) ≡ lines_at (start standard_rules) 1 (lines_of l.text))
+    (l.number + length l.left ≤ longest_text) × (lines_at (state_of l.draft) (l.number + 1) (lines_of l.left) ≡ lines_at (start standard_rules) 1 (lines_of l.text))
 
 abbrev pub decreases-loop-left : goal.decreases-loop-left
 decreases-loop-left l = length l.left

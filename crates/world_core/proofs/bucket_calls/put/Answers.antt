@@ -1,4 +1,4 @@
-use Rattle.world_core.proofs.BlockNames.{IsKey-text}
+use Rattle.world_core.proofs.KeyTexts.{IsKey-text}
 use Rattle.world_core.proofs.bucket_calls.put.Goals as goal
 
 pub put-requires : goal.put-requires

@@ -1,25 +1,12 @@
--- The text of a ULID as a text.
-use Rattle.std.proofs.Common.{◌≡◌, ◌==◌, not, true, ℕ, zero, suc, ◌≤◌, List, [], ◌∷◌, ◌++◌, map, length, sym, ap, ◌∙◌, subst, arith, append_assoc}
+-- Texts of keys are keys of a bucket.
+use Rattle.std.proofs.Common.{◌≡◌, ◌==◌, not, true, ℕ, ◌≤◌, List, [], ◌∷◌, ◌++◌, map, length, sym, ap, ◌∙◌, subst, arith, append_assoc}
 use Rattle.std.proofs.lemmas.Bool.Decides.{nat_tests}
 use Rattle.std.specs.Int.Digits.{AllBelowBase}
-use Rattle.std.specs.Str.{IsAscii, IsUtf8}
-use Rattle.std.proofs.lemmas.Str.{IsUtf8-from_ascii}
-use Rattle.ulid_core.specs.FixedDigits.{fixed_digits}
-use Rattle.ulid_core.specs.UlidText.{character, text_of}
+use Rattle.ulid_core.specs.UlidText.{character}
 use Rattle.block_keys.specs.KeyText.{IsKeyText}
 use Rattle.block_keys.specs.declared.key.Key.{Key}
 use Rattle.bucket_core.specs.Contents.{IsKey}
-use Rattle.ulid_core.proofs.Positional.{below-fixed_digits}
 use Rattle.ulid_core.proofs.Tables.{character-range}
-
-IsAscii-characters : (digits : List ℕ) → AllBelowBase 32 digits → IsAscii (map character digits)
-IsAscii-characters [] low i = omega arith
-IsAscii-characters (d ∷ ds) low zero = omega (arith, character-range d low.0)
-IsAscii-characters (d ∷ ds) low (suc i) = IsAscii-characters ds low.1 i
-
-pub IsUtf8-text_of : (ulid : ℕ) (bytes : List ℕ) → bytes ≡ [] ++ text_of ulid → IsUtf8 bytes
-unfolding text_of
-IsUtf8-text_of ulid bytes is = subst IsUtf8 (sym is) (IsUtf8-from_ascii _ (IsAscii-characters (fixed_digits 32 26 ulid) (below-fixed_digits 32 26 ulid (omega arith))))
 
 -- a key's text begins with a character of its ULID, which is no slash
 no_slash : (c : ℕ) → 48 ≤ c → not (c == 47) ≡ true
