@@ -10,7 +10,7 @@ use Rattle.script_core.specs.Lawful.{IsLawfulScript}
 use Rattle.script_core.specs.Reading.{script_of}
 use Rattle.script_core.specs.declared.script.Script.{Script}
 use Rattle.script_core.specs.declared.script_refusal.ScriptRefusal.TheVariants.{TooLong}
-use Rattle.replay_cli.specs.Limits.{script_limit}
+use Rattle.script_core.specs.Limits.{longest_text}
 use Rattle.replay_cli.specs.Kept.{HoldsNothing}
 use Rattle.replay_cli.specs.Verdicts.{Around, IsRun, IsUnread, IsWorked, IsCaused}
 use Rattle.replay_cli.specs.declared.verdict.Verdict.{Verdict}
@@ -71,11 +71,11 @@ pub above_none : {B : Type 0} (faults : B → ℕ) (before : ℕ) (store : Optio
 above_none faults before None none rose = rose
 above_none faults before (Some b) none rose = omega (arith, none, rose)
 
-too_long : (text : List ℕ) → script_limit < length text → script_of text ≡ Err TooLong
+too_long : (text : List ℕ) → longest_text < length text → script_of text ≡ Err TooLong
 unfolding script_of
 too_long text long = rw (lt-ltb _ _ long) refl
 
 -- a text that passes the limit is refused for that
-pub told_too_long : (told left : Option (List ℕ)) → IfSome told (λ text. script_limit < length text) → IfSome told (λ text. (script_of text ≡ Err TooLong) × (TooLong ≢ TooLong → left ≡ Some []))
+pub told_too_long : (told left : Option (List ℕ)) → IfSome told (λ text. longest_text < length text) → IfSome told (λ text. (script_of text ≡ Err TooLong) × (TooLong ≢ TooLong → left ≡ Some []))
 told_too_long None left long = tt
 told_too_long (Some text) left long = (too_long text long, λ other. absurd (other refl))

@@ -1,6 +1,5 @@
 pub mod Drives
 pub mod Kept
-pub mod Limits
 pub mod Outcomes
 pub mod Output
 pub mod Progress

@@ -1,13 +1,11 @@
 ghost use Rattle.std.specs.Prelude.{◌≡◌, ◌≤◌, ◌<◌, ◌++◌, [], List, ℕ, Option, Some, Err, IfOk, IfSome, length, option_map};
 ghost use Rattle.bucket_core.specs.Causes.{Rose};
-ghost use Rattle.replay_cli.specs.Limits.{script_limit};
+ghost use Rattle.script_core.specs.Limits.{longest_text};
 
 use crate::InputRefusal;
 use bucket_core::{ReadAnswer, Source};
+use script_core::LONGEST_TEXT;
 use std::alloc::{AllocError, Global};
-
-/// A script has at most so many bytes.
-pub const SCRIPT_LIMIT: usize = 67_108_864;
 
 const PIECE: usize = 65_536;
 
@@ -16,9 +14,9 @@ pub fn read_all<R: Source>(alloc: Global, source: &mut R) -> Result<Vec<u8>, Inp
     ensures whole { IfOk result
         (λ bytes. IfSome (R.left source.old)
         (λ all. (bytes.items ≡ all) × (R.left source.new ≡ Some []))) }
-    ensures small { IfOk result (λ bytes. length bytes.items ≤ script_limit) }
+    ensures small { IfOk result (λ bytes. length bytes.items ≤ longest_text) }
     ensures long { result ≡ Err InputRefusal.TooLong
-        → IfSome (R.left source.old) (λ all. script_limit < length all) }
+        → IfSome (R.left source.old) (λ all. longest_text < length all) }
     ensures later { R.faults source.old ≤ R.faults source.new }
     ensures cause { result ≡ Err InputRefusal.Fault
         → Rose (R.faults source.old) (R.faults source.new) }
@@ -26,7 +24,7 @@ pub fn read_all<R: Source>(alloc: Global, source: &mut R) -> Result<Vec<u8>, Inp
     let mut bytes = Vec::new(alloc);
     let mut piece = zeros(alloc, PIECE)?;
     // each turn takes one byte at least
-    while bytes.len() <= SCRIPT_LIMIT {
+    while bytes.len() <= LONGEST_TEXT {
         match source.read(&mut piece) {
             ReadAnswer::Got(0) => return Ok(bytes),
             ReadAnswer::Got(count) => bytes.extend_from_slice(&piece[..count])?,
