@@ -1,29 +1,52 @@
-ghost use Rattle.std.specs.Prelude.{◌≡◌, ℕ, ◌+◌, ◌≤◌, Option, Some, IfSome, IfOk, is_ok, if◌then◌else◌};
+ghost use Rattle.std.specs.Prelude.{◌≡◌, ℕ, ◌+◌, ◌≤◌, List, Option, Some, IfSome, IfOk, is_ok, if◌then◌else◌};
 ghost use Rattle.bucket_core.specs.Causes.{Rose};
 ghost use Rattle.bucket_core.specs.Contents.{Contents};
 
-use crate::{Bucket, SiteRefusal};
+use crate::{Bucket, Shelf, SiteRefusal};
 
-/// Where buckets are opened by name.
+/// Where buckets and shelves are opened by name.
 pub trait Site {
     type Store: Bucket;
+
+    type Files: Shelf;
 
     /// How often an opening has failed.
     ghost faults: { Self → ℕ };
 
     /// How many buckets the site has handed out.
-    ghost opened: { Self → ℕ };
+    ghost buckets: { Self → ℕ };
 
-    /// What the next bucket holds, where the site tells it.
-    ghost next: { Self → Option Contents };
+    /// How many shelves the site has handed out.
+    ghost shelves: { Self → ℕ };
 
-    /// Hands out a bucket that has not failed yet.
+    /// What the next bucket holds that is opened under a name, where the site tells it.
+    ghost next_bucket: { Self → List ℕ → Option Contents };
+
+    /// What the next shelf holds that is opened under a name, where the site tells it.
+    ghost next_shelf: { Self → List ℕ → Option Contents };
+
+    /// Hands out a bucket that has not failed yet. What is told of shelves stays.
     fn open_bucket(&mut self, name: &str) -> Result<Self::Store, SiteRefusal>
         ensures fresh { IfOk result (λ store. Self.Store.faults store ≡ 0) }
-        ensures told { IfOk result
-            (λ store. IfSome (next self.old) (λ c. Self.Store.contents store ≡ Some c)) }
-        ensures counted { opened self.new
-            ≡ (if is_ok result then opened self.old + 1 else opened self.old) }
+        ensures told { IfOk result (λ store.
+            IfSome (next_bucket self.old name.now) (λ c. Self.Store.contents store ≡ Some c)) }
+        ensures counted { buckets self.new
+            ≡ (if is_ok result then buckets self.old + 1 else buckets self.old) }
+        ensures shelves { shelves self.new ≡ shelves self.old }
+        ensures files { next_shelf self.new ≡ next_shelf self.old }
+        ensures later { faults self.old ≤ faults self.new }
+        ensures cause { result ≡ Err SiteRefusal.Failed
+            → Rose (faults self.old) (faults self.new) };
+
+    /// Hands out a shelf that has not failed yet. What is told of buckets stays.
+    fn open_shelf(&mut self, name: &str) -> Result<Self::Files, SiteRefusal>
+        ensures fresh { IfOk result (λ shelf. Self.Files.faults shelf ≡ 0) }
+        ensures told { IfOk result (λ shelf.
+            IfSome (next_shelf self.old name.now) (λ c. Self.Files.files shelf ≡ Some c)) }
+        ensures counted { shelves self.new
+            ≡ (if is_ok result then shelves self.old + 1 else shelves self.old) }
+        ensures buckets { buckets self.new ≡ buckets self.old }
+        ensures contents { next_bucket self.new ≡ next_bucket self.old }
         ensures later { faults self.old ≤ faults self.new }
         ensures cause { result ≡ Err SiteRefusal.Failed
             → Rose (faults self.old) (faults self.new) };

@@ -125,12 +125,12 @@ SiteFailed site_faults old new faults store = Rose (site_faults old) (site_fault
 
 -- The world around a call that took a source from `script` to `read` and a site from `site` to `asked`, and handed back a bucket
 -- and a journal, or neither.
-abbrev pub around_call : {R S B : Type 0} → (R → Option (List ℕ)) → (R → ℕ) → R → R → (S → Option Contents) → (S → ℕ) → S → S → (B → ℕ) → Option B → Option (List Entry) → Around
-around_call left source_faults script read next site_faults site asked faults store journal = record {
+abbrev pub around_call : {R S B : Type 0} → (R → Option (List ℕ)) → (R → ℕ) → R → R → Option Contents → (S → ℕ) → S → S → (B → ℕ) → Option B → Option (List Entry) → Around
+around_call left source_faults script read before site_faults site asked faults store journal = record {
   text = left script;
   left = left read;
   source_failed = Rose (source_faults script) (source_faults read);
-  before = next site;
+  before = before;
   site_failed = SiteFailed site_faults site asked faults store;
   journal = journal;
 }

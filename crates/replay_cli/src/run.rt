@@ -2,11 +2,13 @@ use world_core::Journal;
 
 /// What a call of the program leaves.
 #[derive(Drop)]
-pub struct Run<B> {
+pub struct Run<B, F> {
     /// The number of its status.
     pub status: u8,
     /// The journal of the bucket's operations, where the site handed out a bucket.
     pub journal: Option<Journal>,
     /// The bucket, where the site handed one out.
     pub store: Option<B>,
+    /// The shelf, where the site handed one out.
+    pub shelf: Option<F>,
 }

@@ -6,7 +6,7 @@ ghost use Rattle.script_core.specs.Lawful.{IsLawfulScript};
 ghost use Rattle.replay_cli.specs.Kept.{IsHandedBack, IsHandedOut, IsUntouched};
 ghost use Rattle.replay_cli.specs.Statuses.{number_of};
 ghost use Rattle.replay_cli.specs.Verdicts.{IsCaused, IsWorked, IsUnread, IsRun, IsSaid, SiteFailed, around_call, saying_to};
-ghost use Rattle.replay_cli.specs.Words.{IsSerialOverMemory};
+ghost use Rattle.replay_cli.specs.Words.{IsSerialOverMemory, memory};
 
 use crate::came::Broken;
 use crate::input::read_all;
@@ -27,22 +27,23 @@ pub fn run_tool<S: Site, R: Source, K: Sink>(
     site: &mut S,
     script: &mut R,
     out: &mut K,
-) -> Run<S::Store>
+) -> Run<S::Store, S::Files>
     // The call comes to a verdict that has its cause, and says it: its status and its text, or that the sink failed or
     // memory ran out as it was said.
     ensures verdict { (verdict : Verdict) × (status : Status)
         × IsCaused (IsSerialOverMemory words.now)
-        (around_call R.left R.faults script.old script.new S.next S.faults site.old site.new
-        S.Store.faults result.store result.journal) verdict
+        (around_call R.left R.faults script.old script.new (S.next_bucket site.old memory)
+        S.faults site.old site.new S.Store.faults result.store result.journal) verdict
         × IsSaid verdict (saying_to K.faults K.written out.old out.new) status
         × (result.status ≡ number_of status) }
 
-    ensures handed { IsHandedOut S.opened site.old site.new result.store }
+    ensures handed { IsHandedOut S.buckets site.old site.new result.store }
+    ensures shelf { IsHandedOut S.shelves site.old site.new result.shelf }
     ensures kept { is_some result.journal ≡ is_some result.store }
 
     // The journal is true of the bucket that is handed back, and without an entry that is as the site opened it.
     ensures back { IsHandedBack S.Store.contents S.Store.faults result.journal result.store }
-    ensures untouched { IfSome (S.next site.old)
+    ensures untouched { IfSome (S.next_bucket site.old memory)
         (λ c. IsUntouched S.Store.contents c result.journal result.store) }
 {
     let came = come_to(alloc, words, site, script);
@@ -51,6 +52,7 @@ pub fn run_tool<S: Site, R: Source, K: Sink>(
         status: status.number(),
         journal: came.journal,
         store: came.store,
+        shelf: None,
     }
 }
 
@@ -63,12 +65,13 @@ fn come_to<S: Site, R: Source>(
     script: &mut R,
 ) -> Conclusion<S::Store>
     ensures cause { IsCaused (IsSerialOverMemory words.now)
-        (around_call R.left R.faults script.old script.new S.next S.faults site.old site.new
-        S.Store.faults result.store result.journal) result.verdict }
-    ensures handed { IsHandedOut S.opened site.old site.new result.store }
+        (around_call R.left R.faults script.old script.new (S.next_bucket site.old memory)
+        S.faults site.old site.new S.Store.faults result.store result.journal) result.verdict }
+    ensures handed { IsHandedOut S.buckets site.old site.new result.store }
+    ensures shelves { S.shelves site.new ≡ S.shelves site.old }
     ensures kept { is_some result.journal ≡ is_some result.store }
     ensures back { IsHandedBack S.Store.contents S.Store.faults result.journal result.store }
-    ensures untouched { IfSome (S.next site.old)
+    ensures untouched { IfSome (S.next_bucket site.old memory)
         (λ c. IsUntouched S.Store.contents c result.journal result.store) }
 {
     if is_serial_over_memory(words) {
@@ -120,12 +123,13 @@ fn read_and_run<S: Site, R: Source>(
     script: &mut R,
 ) -> Conclusion<S::Store>
     ensures cause { IsWorked
-        (around_call R.left R.faults script.old script.new S.next S.faults site.old site.new
-        S.Store.faults result.store result.journal) result.verdict }
-    ensures handed { IsHandedOut S.opened site.old site.new result.store }
+        (around_call R.left R.faults script.old script.new (S.next_bucket site.old memory)
+        S.faults site.old site.new S.Store.faults result.store result.journal) result.verdict }
+    ensures handed { IsHandedOut S.buckets site.old site.new result.store }
+    ensures shelves { S.shelves site.new ≡ S.shelves site.old }
     ensures kept { is_some result.journal ≡ is_some result.store }
     ensures back { IsHandedBack S.Store.contents S.Store.faults result.journal result.store }
-    ensures untouched { IfSome (S.next site.old)
+    ensures untouched { IfSome (S.next_bucket site.old memory)
         (λ c. IsUntouched S.Store.contents c result.journal result.store) }
 {
     match read_script(alloc, script) {
@@ -162,13 +166,14 @@ fn read_script<R: Source>(alloc: Global, source: &mut R) -> Result<Script, Verdi
 #[tactic(auto, using(crate::proofs::Verdicts::run_told, crate::proofs::Verdicts::above_none))]
 fn over_site<S: Site>(alloc: Global, script: &Script, site: &mut S) -> Conclusion<S::Store>
     requires { IsLawfulScript script.now }
-    ensures cause { IsRun script.now (S.next site.old)
+    ensures cause { IsRun script.now (S.next_bucket site.old memory)
         (SiteFailed S.faults site.old site.new S.Store.faults result.store) result.journal
         result.verdict }
-    ensures handed { IsHandedOut S.opened site.old site.new result.store }
+    ensures handed { IsHandedOut S.buckets site.old site.new result.store }
+    ensures shelves { S.shelves site.new ≡ S.shelves site.old }
     ensures kept { is_some result.journal ≡ is_some result.store }
     ensures back { IsHandedBack S.Store.contents S.Store.faults result.journal result.store }
-    ensures untouched { IfSome (S.next site.old)
+    ensures untouched { IfSome (S.next_bucket site.old memory)
         (λ c. IsUntouched S.Store.contents c result.journal result.store) }
 {
     match site.open_bucket("memory") {

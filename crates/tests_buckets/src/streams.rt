@@ -1,20 +1,29 @@
 ghost use Rattle.std.specs.Prelude.{◌≡◌};
 ghost use Rattle.bucket_core.specs.MemoryBucket.{faults_counted};
+ghost use Rattle.bucket_core.specs.MemoryShelf.{faults_counted as shelf_faults};
 
+use crate::bucket_calls::print_found;
 use bucket_core::{
-    Bucket, FailList, MemoryBucket, MemorySink, MemorySite, MemorySource, PutAnswer, Sink, Site,
-    Source,
+    Bucket, Fail, FailList, File, FileList, MemoryBucket, MemoryShelf, MemorySink, MemorySite,
+    MemorySource, PutAnswer, Shelf, ShelfAnswer, Sink, Site, Source,
 };
+use label_sets::Text;
+use list_core::NoMemory;
 use std::alloc::Global;
 use std::io;
 use wire_bytes::Blob;
 
-/// Prints what a site, a source and a sink do.
+/// Prints what a site, a shelf, a source and a sink do.
 pub(crate) fn print_streams(rt: &HostRuntime) -> io::Result<()> {
     println!(rt;
-        "= a site hands its bucket out once: {}",
+        "= a site hands its bucket and its shelf out once: {}",
         opens_once(rt.alloc())
     )?;
+    println!(rt; "= a shelf that fails at its fourth call")?;
+    match shelf_of(rt.alloc()) {
+        Ok(shelf) => print_shelf(rt, shelf)?,
+        Err(NoMemory) => println!(rt; "no memory")?,
+    }
     println!(rt; "= a source that fails at its second call")?;
     match Blob::from_bytes(rt.alloc(), b"abcde") {
         Ok(bytes) => print_source(rt, MemorySource::new(bytes, Some(2)))?,
@@ -26,22 +35,62 @@ pub(crate) fn print_streams(rt: &HostRuntime) -> io::Result<()> {
 
 fn opens_once(alloc: Global) -> bool {
     let bucket = MemoryBucket::new(alloc, FailList::new(alloc));
-    let mut site = MemorySite::new(bucket, false);
+    let mut site = MemorySite::new(bucket, empty_shelf(alloc), false);
+    if site.open_shelf("one").is_err() || site.open_shelf("two").is_ok() {
+        return false;
+    }
     match site.open_bucket("one") {
-        Ok(bucket) => site.open_bucket("two").is_err() && is_closed(bucket),
+        Ok(bucket) => site.open_bucket("two").is_err() && is_closed(alloc, bucket),
         Err(_) => false,
     }
 }
 
-/// Whether a bucket stores an object, and a site that fails does not open.
-fn is_closed(mut bucket: MemoryBucket) -> bool
+fn empty_shelf(alloc: Global) -> MemoryShelf
+    ensures { shelf_faults result ≡ 0 }
+{
+    MemoryShelf::new(alloc, FileList::new(alloc))
+}
+
+/// Whether a bucket stores an object, and a site that fails opens nothing.
+fn is_closed(alloc: Global, mut bucket: MemoryBucket) -> bool
     requires { faults_counted bucket ≡ 0 }
 {
     if bucket.put("k", b"1") != PutAnswer::Stored {
         return false;
     }
-    let mut other = MemorySite::new(bucket, true);
-    other.open_bucket("one").is_err()
+    let mut other = MemorySite::new(bucket, empty_shelf(alloc), true);
+    other.open_bucket("one").is_err() && other.open_shelf("one").is_err()
+}
+
+/// A shelf with two files of one name and one of another.
+fn shelf_of(alloc: Global) -> Result<MemoryShelf, NoMemory> {
+    let mut files = FileList::new(alloc);
+    for (name, bytes) in [("A/index", "first"), ("A/index", "second"), ("B/index", "")] {
+        files.push(File {
+            name: Text::from_str(alloc, name)?,
+            bytes: Blob::from_bytes(alloc, bytes.as_bytes())?,
+        })?;
+    }
+    let mut failing = FailList::new(alloc);
+    failing.push(Fail {
+        call: 4,
+        landed: false,
+    })?;
+    Ok(MemoryShelf::with_failing(alloc, files, failing))
+}
+
+fn print_shelf(rt: &HostRuntime, mut shelf: MemoryShelf) -> io::Result<()> {
+    for name in ["A/index", "B/index", "C/index", "A/index", "A/index"] {
+        print!(rt; "{name} -> ")?;
+        match shelf.read(name) {
+            ShelfAnswer::Found(bytes) => print_found(rt, bytes.bytes())?,
+            ShelfAnswer::Absent => println!(rt; "absent")?,
+            ShelfAnswer::TooLarge => println!(rt; "too large")?,
+            ShelfAnswer::Failed => println!(rt; "failed")?,
+            ShelfAnswer::NoMemory => println!(rt; "no memory")?,
+        }
+    }
+    Ok(())
 }
 
 fn print_source(rt: &HostRuntime, mut source: MemorySource) -> io::Result<()> {

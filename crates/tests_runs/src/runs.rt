@@ -1,4 +1,6 @@
-use bucket_core::{Fail, FailList, MemoryBucket, MemorySink, MemorySite, MemorySource};
+use bucket_core::{
+    Fail, FailList, FileList, MemoryBucket, MemoryShelf, MemorySink, MemorySite, MemorySource,
+};
 use replay_cli::run_tool;
 use std::alloc::{AllocError, Global};
 use std::test::Fail as Failed;
@@ -45,7 +47,8 @@ fn words_of(alloc: Global, words: &[&str]) -> Result<Vec<String>, AllocError> {
 fn run(alloc: Global, words: &[&str], script: &[u8], setting: Setting) -> Result<Ended, Failed> {
     let words = words_of(alloc, words)?;
     let bucket = MemoryBucket::new(alloc, setting.failing);
-    let mut site = MemorySite::new(bucket, setting.site_fails);
+    let shelf = MemoryShelf::new(alloc, FileList::new(alloc));
+    let mut site = MemorySite::new(bucket, shelf, setting.site_fails);
     let mut source = MemorySource::new(Blob::from_bytes(alloc, script)?, setting.source_fails);
     let mut sink = MemorySink::new(alloc, setting.sink_fails);
     let run = run_tool(alloc, &words, &mut site, &mut source, &mut sink);

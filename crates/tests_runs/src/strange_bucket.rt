@@ -1,8 +1,8 @@
 //! A bucket that shows other objects than it holds, and the site that opens it.
 
 use bucket_core::{
-    Bucket, DeleteAnswer, FailList, GetAnswer, MemoryBucket, PageAnswer, PutAnswer, Site,
-    SiteRefusal,
+    Bucket, DeleteAnswer, FailList, GetAnswer, MemoryBucket, MemoryShelf, PageAnswer, PutAnswer,
+    Site, SiteRefusal,
 };
 use label_sets::{Text, TextList};
 use list_core::NoMemory;
@@ -85,7 +85,7 @@ impl Bucket for StrangeBucket {
     }
 }
 
-/// A site that opens empty strange buckets.
+/// A site that opens empty strange buckets, and no shelf.
 #[derive(Drop)]
 pub struct StrangeSite {
     pub alloc: Global,
@@ -97,13 +97,19 @@ pub struct StrangeSite {
 impl Site for StrangeSite {
     type Store = StrangeBucket;
 
+    type Files = MemoryShelf;
+
     ghost use Rattle.std.specs.Prelude.{None};
 
     ghost faults = { λ s. s.faults };
 
-    ghost opened = { λ s. s.opened };
+    ghost buckets = { λ s. s.opened };
 
-    ghost next = { λ s. None };
+    ghost shelves = { λ s. 0 };
+
+    ghost next_bucket = { λ s name. None };
+
+    ghost next_shelf = { λ s name. None };
 
     fn open_bucket(&mut self, _name: &str) -> Result<StrangeBucket, SiteRefusal> {
         if self.opened == u32::MAX {
@@ -116,5 +122,10 @@ impl Site for StrangeSite {
             inner: MemoryBucket::new(self.alloc, FailList::new(self.alloc)),
             lie: self.lie,
         })
+    }
+
+    fn open_shelf(&mut self, _name: &str) -> Result<MemoryShelf, SiteRefusal> {
+        self.faults = self.faults.saturating_add(1);
+        Err(SiteRefusal::Failed)
     }
 }

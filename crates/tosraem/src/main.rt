@@ -1,7 +1,7 @@
 //! The program: it makes the real things, and the tool does the rest.
 #![tactic(auto)]
 
-use bucket_core::{FailList, MemoryBucket, MemorySite};
+use bucket_core::{FailList, FileList, MemoryBucket, MemoryShelf, MemorySite};
 use replay_cli::{ReaderSource, Status, WriterSink, run_tool};
 use std::alloc::Global;
 use std::process::ExitCode;
@@ -17,7 +17,9 @@ fn main(rt: HostRuntime) -> ExitCode {
         // words that are no text are no form of a call
         Err(_) => Vec::new(alloc),
     };
-    let mut site = MemorySite::new(MemoryBucket::new(alloc, FailList::new(alloc)), false);
+    let bucket = MemoryBucket::new(alloc, FailList::new(alloc));
+    let shelf = MemoryShelf::new(alloc, FileList::new(alloc));
+    let mut site = MemorySite::new(bucket, shelf, false);
     let mut script = ReaderSource::new(rt.reader());
     let mut out = WriterSink::new(io::writer(&rt));
     let run = run_tool(alloc, &words, &mut site, &mut script, &mut out);
