@@ -1,0 +1,3 @@
+pub use Rattle.block_keys.specs.Keys
+pub mod Caches
+pub mod Lends
