@@ -1,0 +1,87 @@
+use list_core::NoMemory;
+use script_core::{Block, Body, Phase, Script, Worker, WorkerList};
+use std::io;
+
+/// A script of two phases.
+static TWO_PHASES: &str =
+    "rule tick 5ms\ngateway g\nblock 0000000000000000000000000A 1000 2000 {}\nseries {b=\"1\"} 1000:3ff0000000000000\nseries {a=\"1\"} 1000:0000000000000001 1001:0000000000000002\nat 0\nupload 0000000000000000000000000A\nsync g\nupload 0000000000000000000000000A\nat 1800000\nquery 0 5000 up\nsync g";
+
+/// Prints what the script has, and its workers.
+pub(crate) fn print_parts(rt: &HostRuntime) -> io::Result<()> {
+    match Script::read(rt.alloc(), TWO_PHASES.as_bytes()) {
+        Ok(script) => print_script(rt, &script),
+        Err(refusal) => println!(rt; "{refusal:?}"),
+    }
+}
+
+fn print_script(rt: &HostRuntime, script: &Script) -> io::Result<()> {
+    let rules = &script.rules;
+    println!(rt; "tick {}, page-limit {}", rules.tick.ms, rules.page_limit)?;
+    for gateway in script.gateways.members() {
+        println!(rt; "gateway {}", gateway.as_str())?;
+    }
+    println!(rt; "selectors: {}", script.selectors.len())?;
+    for block in script.blocks.members() {
+        print_block(rt, block)?;
+    }
+    for phase in script.phases.members() {
+        print_phase(rt, phase)?;
+    }
+    print_all_workers(rt, script)
+}
+
+fn print_block(rt: &HostRuntime, block: &Block) -> io::Result<()> {
+    let Body::Inline {
+        min_time,
+        max_time,
+        series,
+    } = &block.body;
+    println!(rt;
+        "block {} from {min_time} to {max_time}",
+        block.ulid.entropy()
+    )?;
+    for one in series.members() {
+        println!(rt;
+            "series, a: {:?}, samples: {}",
+            one.labels.value("a"),
+            one.samples.len()
+        )?;
+    }
+    Ok(())
+}
+
+fn print_phase(rt: &HostRuntime, phase: &Phase) -> io::Result<()> {
+    println!(rt; "line {}: a phase from {}", phase.line, phase.moment.ms)?;
+    for task in phase.tasks.members() {
+        println!(rt; "line {}: {:?}", task.line, task.work)?;
+    }
+    Ok(())
+}
+
+/// Prints the workers of both phases, and those of the second behind three.
+fn print_all_workers(rt: &HostRuntime, script: &Script) -> io::Result<()> {
+    println!(rt; "= workers of the first phase")?;
+    print_workers(rt, script.workers(rt.alloc(), 0))?;
+    println!(rt; "= workers of the second phase")?;
+    print_workers(rt, script.workers(rt.alloc(), 1))?;
+    println!(rt; "= workers of the second phase, behind three")?;
+    print_workers(rt, script.workers_after(rt.alloc(), 1, 3))
+}
+
+fn print_workers(rt: &HostRuntime, workers: Result<WorkerList, NoMemory>) -> io::Result<()> {
+    match workers {
+        Ok(workers) => print_each(rt, workers.members()),
+        Err(_) => println!(rt; "no memory"),
+    }
+}
+
+fn print_each(rt: &HostRuntime, workers: &[Worker]) -> io::Result<()> {
+    for worker in workers {
+        let tasks = worker.tasks.members();
+        println!(rt;
+            "seat {}, gateway {:?}, tasks {tasks:?}",
+            worker.seat, worker.gateway
+        )?;
+    }
+    Ok(())
+}
