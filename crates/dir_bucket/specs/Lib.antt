@@ -1,2 +1,5 @@
 pub mod Folders
+pub mod HostBucket
+pub mod HostSite
 pub mod Names
+pub mod Places

@@ -1,12 +1,16 @@
-//! A bucket and a shelf in folders of the system. Nothing is told of what they hold: what a file has, and that the system
-//! does what it is asked, is trusted.
+//! A bucket and a shelf in folders of the system, and the site of the program, which opens them. Nothing is told of what a
+//! folder holds: what a file has, and that the system does what it is asked, is trusted.
 #![tactic(auto)]
 
 mod dir_bucket;
 mod dir_shelf;
 mod files;
+mod host_bucket;
+mod host_site;
 mod listing;
 mod names;
 
 pub use crate::dir_bucket::DirBucket;
 pub use crate::dir_shelf::DirShelf;
+pub use crate::host_bucket::HostBucket;
+pub use crate::host_site::HostSite;

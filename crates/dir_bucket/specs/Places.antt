@@ -1,0 +1,8 @@
+-- What is told of a bucket before it is opened, by its name.
+use Rattle.std.specs.Prelude.{ℕ, List, Option, Some, None, if◌then◌else◌, codes}
+use Rattle.std.specs.Str.{bytes_eq}
+use Rattle.bucket_core.specs.Contents.{Contents, nothing}
+
+-- a bucket in memory holds nothing; of folders nothing is told
+abbrev pub contents_under : List ℕ → Option Contents
+contents_under name = if bytes_eq name (codes "memory") then Some nothing else None

@@ -1,0 +1,126 @@
+ghost use Rattle.std.specs.Prelude.{◌≡◌, Some, IfOk, IfSome};
+ghost use Rattle.dir_bucket.specs.Folders.{shelf_faults};
+ghost use Rattle.dir_bucket.specs.HostBucket.{contents_told, faults_counted as bucket_faults};
+ghost use Rattle.dir_bucket.specs.Places.{contents_under};
+
+use crate::{DirBucket, DirShelf, HostBucket};
+use bucket_core::{FailList, MemoryBucket, Site, SiteRefusal};
+use std::rt::Files;
+
+/// The name of a bucket in memory. All other names are those of folders.
+const MEMORY: &str = "memory";
+
+/// The site of the program: its buckets are empty ones in memory, or in folders, and its shelves in folders.
+#[derive(Drop)]
+pub struct HostSite<R: Files + AllocGlobal + Clone + Drop> {
+    rt: R,
+    buckets: u64,
+    shelves: u64,
+    faults: u64,
+}
+
+impl<R: Files + AllocGlobal + Clone + Drop> HostSite<R> {
+    ghost use Rattle.dir_bucket.specs.HostSite.{buckets_handed_out, shelves_handed_out, faults_counted};
+
+    /// A site that has handed out nothing.
+    pub fn new(rt: R) -> Self
+        ensures buckets { buckets_handed_out result ≡ 0 }
+        ensures shelves { shelves_handed_out result ≡ 0 }
+        ensures faults { faults_counted result ≡ 0 }
+    {
+        HostSite {
+            rt,
+            buckets: 0,
+            shelves: 0,
+            faults: 0,
+        }
+    }
+}
+
+/// Opens a bucket in memory or in a folder.
+fn open_bucket<R: Files + AllocGlobal + Clone + Drop>(
+    rt: &R,
+    name: &str,
+) -> Result<HostBucket<R>, SiteRefusal>
+    ensures fresh { IfOk result (λ bucket. bucket_faults bucket ≡ 0) }
+    ensures told { IfOk result (λ bucket.
+        IfSome (contents_under name.now) (λ c. contents_told bucket ≡ Some c)) }
+{
+    if name == MEMORY {
+        let failing = FailList::new(rt.alloc());
+        return Ok(HostBucket::Memory(MemoryBucket::new(rt.alloc(), failing)));
+    }
+    let Ok(rt) = rt.clone() else {
+        return Err(SiteRefusal::NoMemory);
+    };
+    Ok(HostBucket::Folder(DirBucket::open(rt, name)?))
+}
+
+/// Opens a shelf in a folder.
+fn open_shelf<R: Files + AllocGlobal + Clone + Drop>(
+    rt: &R,
+    name: &str,
+) -> Result<DirShelf<R>, SiteRefusal>
+    ensures { IfOk result (λ shelf. shelf_faults shelf ≡ 0) }
+{
+    match rt.clone() {
+        Ok(rt) => DirShelf::open(rt, name),
+        Err(_) => Err(SiteRefusal::NoMemory),
+    }
+}
+
+impl<R: Files + AllocGlobal + Clone + Drop> Site for HostSite<R> {
+    type Store = HostBucket<R>;
+
+    type Files = DirShelf<R>;
+
+    ghost use Rattle.std.specs.Prelude.{None};
+    ghost use Rattle.dir_bucket.specs.Places.{contents_under};
+    ghost use Rattle.dir_bucket.specs.HostSite.{buckets_handed_out, shelves_handed_out, faults_counted};
+
+    ghost faults = { faults_counted };
+
+    ghost buckets = { buckets_handed_out };
+
+    ghost shelves = { shelves_handed_out };
+
+    ghost next_bucket = { λ site name. contents_under name };
+
+    ghost next_shelf = { λ site name. None };
+
+    fn open_bucket(&mut self, name: &str) -> Result<HostBucket<R>, SiteRefusal> {
+        if self.buckets == u64::MAX {
+            self.faults = self.faults.saturating_add(1);
+            return Err(SiteRefusal::Failed);
+        }
+        match open_bucket(&self.rt, name) {
+            Ok(bucket) => {
+                self.buckets += 1;
+                Ok(bucket)
+            }
+            Err(SiteRefusal::Failed) => {
+                self.faults = self.faults.saturating_add(1);
+                Err(SiteRefusal::Failed)
+            }
+            Err(SiteRefusal::NoMemory) => Err(SiteRefusal::NoMemory),
+        }
+    }
+
+    fn open_shelf(&mut self, name: &str) -> Result<DirShelf<R>, SiteRefusal> {
+        if self.shelves == u64::MAX {
+            self.faults = self.faults.saturating_add(1);
+            return Err(SiteRefusal::Failed);
+        }
+        match open_shelf(&self.rt, name) {
+            Ok(shelf) => {
+                self.shelves += 1;
+                Ok(shelf)
+            }
+            Err(SiteRefusal::Failed) => {
+                self.faults = self.faults.saturating_add(1);
+                Err(SiteRefusal::Failed)
+            }
+            Err(SiteRefusal::NoMemory) => Err(SiteRefusal::NoMemory),
+        }
+    }
+}
