@@ -156,7 +156,7 @@ module _ (number begin : ℕ) (r s : Result IndexSeries PartRefusal) (told : IsT
 
 empty_size : (at : ℕ) → uvarint_at (at_place [] at) ≡ Err wire.Short
 unfolding uvarint_at groups_of
-empty_size at = rw (drop_all at [] (omega arith)) refl
+empty_size at = rw (drop_all {X = ℕ} at [] (omega arith)) refl
 
 no_begin : (at : ℕ) → labels_begin_at [] at ≡ Err (part.Short at)
 unfolding labels_begin_at
