@@ -1,5 +1,5 @@
 -- A series that is read in a part of an index, and the same in the index.
-use Rattle.std.proofs.Common.{◌≡◌, ℕ, ◌+◌, ◌-◌, ◌^◌, ◌<◌, ◌≤◌, List, ◌++◌, length, refl}
+use Rattle.std.proofs.Common.{◌≡◌, ℕ, ◌-◌, ◌≤◌, List, ◌++◌, refl}
 use Rattle.wire_bytes.specs.Fields.{uvarint_at}
 use Rattle.wire_bytes.specs.FieldTexts.{IsUvarint}
 use Rattle.index_parts.specs.declared.raw_series.RawSeries.{RawSeries}
@@ -42,9 +42,9 @@ place_by_begin : (index other : List ℕ) (at label : ℕ) → labels_begin_at i
 unfolding label_place_of
 place_by_begin index other at label e = rw e refl
 
-module _ (part : Part) (index : List ℕ) (at : ℕ) (is : IsPartOf part index) (small : at < 2 ^ 64) (fits : part.begin + length part.bytes < 2 ^ 64) (lies : HoldsSeries part at) where
+module _ (part : Part) (index : List ℕ) (at : ℕ) (is : IsPartOf part index) (lies : HoldsSeries part at) where
   begin_in_index : labels_begin_at index at ≡ labels_begin_at (is.before ++ part.bytes) at
-  begin_in_index = begin_by_frame index (is.before ++ part.bytes) at (frame_in_index uvarint_at uvarint_field entry_longer part index at is small fits lies)
+  begin_in_index = begin_by_frame index (is.before ++ part.bytes) at (frame_in_index uvarint_at uvarint_field entry_longer part index at is lies)
 
   pub series_in_index : series_at index at ≡ series_at (is.before ++ part.bytes) at
   series_in_index = series_by_begin index (is.before ++ part.bytes) at begin_in_index

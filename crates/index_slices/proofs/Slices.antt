@@ -19,12 +19,12 @@ use Rattle.index_parts.specs.Framed.{IsFramed}
 use Rattle.index_parts.specs.Framing.{summed_at, framed_at}
 use Rattle.index_parts.specs.Lists.{IsList}
 use Rattle.index_parts.specs.ListReading.{list_at}
-use Rattle.index_parts.specs.PostingsReading.{postings_at}
+use Rattle.index_parts.specs.PostingsReading.{posting_at, postings_at}
 use Rattle.index_slices.specs.Parts.{Part, known, file, is_before, list_in, IsPartOf, LiesIn, HoldsSection}
 use Rattle.index_slices.specs.Shifting.{shifted, FitsShifted}
 use Rattle.index_slices.proofs.Shifts.{IsWithin, IsMoved, IsSame, SameBy}
 use Rattle.index_slices.proofs.FieldShifts.{StepBy, IsField, number_field}
-use Rattle.index_slices.proofs.SectionShifts.{Turned, same_list}
+use Rattle.index_slices.proofs.SectionShifts.{Turned, same_list, posting_turned}
 use Rattle.index_slices.proofs.Longer.{IsLonger, framed_is, framed_refused, no_content, no_sum, framed_longer, section_longer}
 
 -- ---- the same result, with places in the index
@@ -125,14 +125,14 @@ lies_by front most bytes (Err d) (Ok y) step lies = absurd lies
 lies_by front most bytes (Err d) (Err e) step lies = absurd lies
 
 module _ (size_at : Position → Result (ℕ × Position) WireRefusal) (field : (front : List ℕ) (most : ℕ) → IsField front most size_at) (longer : IsLonger size_at) where
-  pub frame_in_index : (part : Part) (index : List ℕ) (at : ℕ) → (is : IsPartOf part index) → at < 2 ^ 64 → part.begin + length part.bytes < 2 ^ 64 → LiesIn size_at part at → framed_at size_at index at ≡ framed_at size_at (is.before ++ part.bytes) at
-  frame_in_index part index at is small fits lies =
+  pub frame_in_index : (part : Part) (index : List ℕ) (at : ℕ) → (is : IsPartOf part index) → LiesIn size_at part at → framed_at size_at index at ≡ framed_at size_at (is.before ++ part.bytes) at
+  frame_in_index part index at is lies =
       let begins = is.begins in
       let le = lies.0 in
       let k = at - part.begin in
-      let most = room_behind part.begin in
+      let most = length part.bytes + k in
       let place : length is.before + k ≡ at = omega (arith, begins, le) in
-      let here : IsMoved is.before most (at_place part.bytes k) (at_place (is.before ++ part.bytes) (length is.before + k)) = record { bytes_are = refl; place_is = refl; few = omega (arith, fits); within = omega (arith, small, le) } in
+      let here : IsMoved is.before most (at_place part.bytes k) (at_place (is.before ++ part.bytes) (length is.before + k)) = record { bytes_are = refl; place_is = refl; few = omega arith; within = omega arith } in
       let ends = lies_by is.before most part.bytes (size_at (at_place part.bytes k)) (size_at (at_place (is.before ++ part.bytes) (length is.before + k))) ((field is.before most).steps (at_place part.bytes k) (at_place (is.before ++ part.bytes) (length is.before + k)) here) lies.1 in
       ap (λ (xs : List ℕ). framed_at size_at xs at) is.stands
       ∙ framed_longer size_at longer (is.before ++ part.bytes) is.after at (subst (λ (n : ℕ). IsOkAnd (size_at (at_place (is.before ++ part.bytes) n)) (λ (size : ℕ × Position). size.1.place + size.0 + 4 ≤ length (is.before ++ part.bytes))) place ends)
@@ -189,7 +189,7 @@ module _ {A : Type 0} (read : Option A × Position → Result (A × (Option A ×
   -- in an index of which this is a part, where the list ends within the part
   pub index_told : (index : List ℕ) → IsPartOf part index → HoldsSection part at → IsTold part.begin (list_at read part.bytes (at - part.begin)) (list_at read index at)
   index_told index is lies =
-      let same : list_at read index at ≡ list_at read (is.before ++ part.bytes) at = list_by_frame read index (is.before ++ part.bytes) at (frame_in_index (number_at w32) (λ front most. number_field front most w32) section_longer part index at is small fits lies) in
+      let same : list_at read index at ≡ list_at read (is.before ++ part.bytes) at = list_by_frame read index (is.before ++ part.bytes) at (frame_in_index (number_at w32) (λ front most. number_field front most w32) section_longer part index at is lies) in
       subst (λ (s : Result (List A) PartRefusal). IsTold part.begin (list_at read part.bytes (at - part.begin)) s) (sym same) (told_behind is.before part.bytes is.begins fits)
 
   pub none_outside : (HoldsSection part at → ⊥) → list_at read part.bytes (at - part.begin) ≡ Err (Short (at - part.begin))
@@ -230,3 +230,29 @@ refusal_of e c d (inr h) = inr (ap Err h)
 pub refused_here : (part : Part) (at : ℕ) (e : PartRefusal) → part.begin ≤ at → (e ≡ NoMemory) ⊎ (postings_at (known part) at ≡ Err e) → (e ≡ NoMemory) ⊎ (list_in part at ≡ Err e)
 refused_here part at e le (inl none) = inl none
 refused_here part at e le (inr h) = inr (list_here part at le ∙ h)
+
+-- ---- one result in the part, two in indexes that have it at one place
+
+one_by : {X : Type 0} (front other : List ℕ) (most : ℕ) (r s t : Result X PartRefusal) → length front ≡ length other → SameBy front most (λ x y. x ≡ y) r s → SameBy other most (λ x y. x ≡ y) r t → s ≡ t
+one_by front other most (Ok x) (Ok y) (Ok z) is h k = ap Ok (sym h ∙ k)
+one_by front other most (Ok x) (Ok y) (Err e) is h k = absurd k
+one_by front other most (Ok x) (Err e) t is h k = absurd h
+one_by front other most (Err d) (Ok y) t is h k = absurd h
+one_by front other most (Err d) (Err e) (Ok z) is h k = absurd k
+one_by front other most (Err d) (Err e) (Err f) is h k = ap Err (h.0 ∙ ap (λ (n : ℕ). shifted n d) is ∙ sym k.0)
+
+-- a list that lies within the part is the index's
+pub list_of_index : (part : Part) (index : List ℕ) (at : ℕ) → IsPartOf part index → HoldsSection part at → list_in part at ≡ postings_at index at
+list_of_index part index at is lies =
+    let le = lies.0 in
+    let k = at - part.begin in
+    let most = length part.bytes + k in
+    let zeros = replicate part.begin 0 in
+    let size = length-replicate part.begin 0 in
+    let begins = is.begins in
+    let far : length zeros + k ≡ at = omega (arith, size, le) in
+    let place : length is.before + k ≡ at = omega (arith, begins, le) in
+    let here : IsSame zeros most (λ xs ys. xs ≡ ys) (postings_at part.bytes k) (postings_at (zeros ++ part.bytes) (length zeros + k)) = same_list zeros most posting_at (posting_turned zeros most) part.bytes k (omega arith) (omega arith) in
+    let there : IsSame is.before most (λ xs ys. xs ≡ ys) (postings_at part.bytes k) (postings_at (is.before ++ part.bytes) (length is.before + k)) = same_list is.before most posting_at (posting_turned is.before most) part.bytes k (omega arith) (omega arith) in
+    list_here part at le ∙ ap (postings_at (known part)) (sym far) ∙ one_by zeros is.before most (postings_at part.bytes k) (postings_at (zeros ++ part.bytes) (length zeros + k)) (postings_at (is.before ++ part.bytes) (length is.before + k)) (size ∙ sym begins) here.same there.same ∙ ap (postings_at (is.before ++ part.bytes)) place
+    ∙ sym (list_by_frame posting_at index (is.before ++ part.bytes) at (frame_in_index (number_at w32) (λ front most. number_field front most w32) section_longer part index at is lies))

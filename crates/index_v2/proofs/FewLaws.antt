@@ -37,7 +37,7 @@ opened_few opened is =
     (omega arith, rows)
 
 -- texts that numbers stand for are as many
-as_many : (symbols : List (List ℕ)) (numbers : List ℕ) (texts : List (List ℕ)) → StandFor symbols numbers texts → length numbers ≡ length texts
+pub as_many : (symbols : List (List ℕ)) (numbers : List ℕ) (texts : List (List ℕ)) → StandFor symbols numbers texts → length numbers ≡ length texts
 as_many symbols numbers texts stand = sym (length-map numbers (slice_get symbols)) ∙ ap length stand ∙ length-map texts (λ (text : List ℕ). Some text)
 
 pub series_few : (index : List ℕ) (symbols : List (List ℕ)) (number : ℕ) (series : IndexSeries) → IsSeriesOf index symbols number series → 2 * length series.labels + 3 * length series.chunks ≤ length index

@@ -38,7 +38,7 @@ long_value : (value : List ℕ) → 0 < length value → value ≢ []
 long_value [] h e = absurd (omega arith)
 long_value (v ∷ value) h e = cc
 
-set_from_chain : (before : List ℕ) (ls : List Label) → AreChained before ls → IsLabelSet ls × StandsBefore before ls
+pub set_from_chain : (before : List ℕ) (ls : List Label) → AreChained before ls → IsLabelSet ls × StandsBefore before ls
 set_from_chain before [] chain = (tt, tt)
 set_from_chain before (l ∷ ls) chain =
     let others = set_from_chain l.name ls chain.2 in
@@ -77,7 +77,7 @@ no_labels symbols before place values labels e = ok_is {A = List Label} {E = Lab
 cons_same : {A : Type 0} (x y : A) (xs ys : List A) → x ≡ y → xs ≡ ys → x ∷ xs ≡ y ∷ ys
 cons_same x y xs ys e f = cc
 
-labels_found : (symbols : List (List ℕ)) (before : List ℕ) (place : ℕ) (names values : List ℕ) (labels : List Label) → length names ≡ length values → labels_of symbols before place names values ≡ Ok labels
+pub labels_found : (symbols : List (List ℕ)) (before : List ℕ) (place : ℕ) (names values : List ℕ) (labels : List Label) → length names ≡ length values → labels_of symbols before place names values ≡ Ok labels
     → StandFor symbols names (map (λ (l : Label). l.name) labels) × StandFor symbols values (map (λ (l : Label). l.value) labels) × AreChained before labels
 labels_found symbols before place [] [] labels many e = subst (λ (ls : List Label). StandFor symbols [] (map (λ (l : Label). l.name) ls) × StandFor symbols [] (map (λ (l : Label). l.value) ls) × AreChained before ls) (no_labels symbols before place [] labels e) (refl, refl, tt)
 labels_found symbols before place [] (value ∷ values) labels many e = absurd (omega arith)
@@ -124,7 +124,7 @@ labels_again symbols before place (name ∷ names) (value ∷ values) (label ∷
 
 -- ---- the series
 
-series_parts : (index : List ℕ) (symbols : List (List ℕ)) (at : ℕ) (series : IndexSeries) → labelled_at index symbols at ≡ Ok series → (raw : RawSeries) × (labels : List Label) × (series_at index at ≡ Ok raw) × (labels_of symbols [] 0 raw.names raw.values ≡ Ok labels) × (record { labels = labels; chunks = raw.chunks } ≡ series)
+pub series_parts : (index : List ℕ) (symbols : List (List ℕ)) (at : ℕ) (series : IndexSeries) → labelled_at index symbols at ≡ Ok series → (raw : RawSeries) × (labels : List Label) × (series_at index at ≡ Ok raw) × (labels_of symbols [] 0 raw.names raw.values ≡ Ok labels) × (record { labels = labels; chunks = raw.chunks } ≡ series)
 unfolding labelled_at
 series_parts index symbols at series e =
     let raw = bind_ok _ _ _ e in

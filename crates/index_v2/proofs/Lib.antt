@@ -8,6 +8,8 @@ pub mod Differences
 pub mod ListNumbers
 pub mod OpeningLaws
 pub mod LabelLaws
+pub mod HeldLaws
+pub mod SeriesSlices
 pub mod LabelTexts
 pub mod LabelPlaces
 pub mod LabelsOwned

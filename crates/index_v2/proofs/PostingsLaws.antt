@@ -21,6 +21,8 @@ use Rattle.index_file.specs.Opened.{Opened}
 use Rattle.index_file.specs.IndexFile.{BelongsTo, AreListed, HasRow, IsIndex, AreNumbersOf, Holds}
 use Rattle.index_file.proofs.Members.{first_member, later_member, member_at, place_of}
 use Rattle.index_v2.specs.Opening.{refused_in, opened_at}
+use Rattle.index_slices.specs.Parts.{file}
+use Rattle.index_v2.specs.Held.{whole_file}
 use Rattle.index_v2.specs.PostingsLists.{is_row_of, row_of, list_of, postings_of}
 use Rattle.index_v2.proofs.OpeningLaws.{opened_again}
 use Rattle.index_v2.proofs.WholeLaws.{ok_same, first_is_empty}
@@ -46,7 +48,7 @@ module _ {A : Type 0} (p : A → Bool) where
       (λ here. let e' : Some y ≡ None = rw here at e in absurd cc)
       (λ other. let e' : find p ys ≡ None = rw other at e in find_none ys place x e' at)
 
-row_found : (rows : List PostingsRow) (name value : List ℕ) (row : PostingsRow) → row_of rows name value ≡ Some row → Contains rows row × (row.name ≡ name) × (row.value ≡ value)
+pub row_found : (rows : List PostingsRow) (name value : List ℕ) (row : PostingsRow) → row_of rows name value ≡ Some row → Contains rows row × (row.name ≡ name) × (row.value ≡ value)
 unfolding row_of
 row_found rows name value row e =
     let m = find_has (is_row_of name value) rows row e in
@@ -86,15 +88,15 @@ module _ (index : List ℕ) (list : List IndexSeries) (is : IsIndex index list) 
   missing_row none number series has (inr labelled) = no_row is.opened.rows (record { name = name; value = value }) none (is.complete number series has (record { name = name; value = value }) labelled)
 
   -- some list is read for each name and value, and its numbers are exactly those of the listed series
-  list_read : (numbers : List ℕ) × (postings_of is.opened name value ≡ Ok numbers) × AreNumbersOf is.listed name value numbers
+  list_read : (numbers : List ℕ) × (postings_of (whole_file is.opened) name value ≡ Ok numbers) × AreNumbersOf is.listed name value numbers
   list_read = option_cases (row_of is.opened.rows name value)
-      (λ none. ([], ap (list_of is.opened.bytes) none, record { only = λ number has. absurd (omega (arith, has.1)); all = λ number series has belongs. absurd (missing_row none number series has belongs) }))
+      (λ none. ([], ap (list_of (file is.opened.bytes)) none, record { only = λ number has. absurd (omega (arith, has.1)); all = λ number series has belongs. absurd (missing_row none number series has belongs) }))
       (λ row some.
       let found = row_found is.opened.rows name value row some in
       let exact = is.rows_are row found.0 in
       let read : postings_at is.opened.bytes row.offset ≡ Ok exact.numbers = list_again IsNextPosting posting_at posting_turn is.opened.bytes row.offset exact.numbers exact.stands in (
         exact.numbers,
-        ap (list_of is.opened.bytes) some ∙ ap (refused_as (refused_in 5)) read,
+        ap (list_of (file is.opened.bytes)) some ∙ ap (refused_as (refused_in 5)) read,
         record {
           only = λ number h. let o = exact.only number h in (o.0, o.1, same_row row (key name value) o.0 found.1 found.2 o.2);
           all = λ number series h b. exact.all number series h (same_row (key name value) row series (sym found.1) (sym found.2) b);
@@ -105,10 +107,10 @@ module _ (index : List ℕ) (list : List IndexSeries) (is : IsIndex index list) 
 pub opened_is : (opened : Opened) → opened_at opened.bytes ≡ Ok opened → (list : List IndexSeries) (is : IsIndex opened.bytes list) → is.opened ≡ opened
 opened_is opened read list is = ok_same (opened_at opened.bytes) is.opened opened (opened_again opened.bytes is.opened is.bytes_are is.is_opened) read
 
-pub postings_agree : (opened : Opened) (name value : List ℕ) → opened_at opened.bytes ≡ Ok opened → (list : List IndexSeries) (is : IsIndex opened.bytes list) → (numbers : List ℕ) × (postings_of opened name value ≡ Ok numbers) × AreNumbersOf is.listed name value numbers
+pub postings_agree : (opened : Opened) (name value : List ℕ) → opened_at opened.bytes ≡ Ok opened → (list : List IndexSeries) (is : IsIndex opened.bytes list) → (numbers : List ℕ) × (postings_of (whole_file opened) name value ≡ Ok numbers) × AreNumbersOf is.listed name value numbers
 postings_agree opened name value read list is =
     let found = list_read opened.bytes list is name value in
-    (found.0, ap (λ (o : Opened). postings_of o name value) (sym (opened_is opened read list is)) ∙ found.1, found.2)
+    (found.0, ap (λ (o : Opened). postings_of (whole_file o) name value) (sym (opened_is opened read list is)) ∙ found.1, found.2)
 
 -- a call that reads what stands there answers so, or memory ran out
 pub read_or_none : {Y E : Type 0} (Is : Y → Type 0) (no_memory : E) (r read : Result Y E) (y : Y) → read ≡ Ok y → Is y → Gives no_memory (λ x. x) r read → MatchResult r Is (λ e. e ≡ no_memory)

@@ -14,7 +14,7 @@ use Rattle.label_sets.proofs.LabelValues.{by_bool, bytes_eq_self}
 use Rattle.index_parts.specs.declared.postings_row.PostingsRow.{PostingsRow}
 use Rattle.index_parts.specs.Rows.{compare_rows}
 use Rattle.index_v2.specs.RowOrder.{compare_row, IsRowAt, StandsAt}
-use Rattle.index_parts.specs.PostingsReading.{postings_at}
+use Rattle.index_slices.specs.Parts.{Part, list_in}
 use Rattle.reading_core.specs.Reading.{Gives, refused_as}
 use Rattle.index_v2.specs.declared.refusal.IndexRefusal.{IndexRefusal}
 use Rattle.index_v2.specs.declared.refusal.IndexRefusal.TheVariants.{NoMemory}
@@ -74,9 +74,9 @@ row_not_none rows name value place is none = let some = is.stands in absurd cc
 
 -- ---- the list of the row that was found
 
-pub list_found : {X : Type 0} (view : X → List ℕ) (r : Result X IndexRefusal) (index : List ℕ) (rows : List PostingsRow) (name value : List ℕ) (place : ℕ) (row : PostingsRow) → IsStrictlySortedBy compare_rows rows → IsRowAt rows name value place → slice_get rows place ≡ Some row
-    → Gives NoMemory view r (refused_as (refused_in 5) (postings_at index row.offset)) → Gives NoMemory view r (list_of index (row_of rows name value))
-list_found view r index rows name value place row ascend is at given = rw (row_found rows name value place row ascend is at) given
+pub list_found : {X : Type 0} (view : X → List ℕ) (r : Result X IndexRefusal) (part : Part) (rows : List PostingsRow) (name value : List ℕ) (place : ℕ) (row : PostingsRow) → IsStrictlySortedBy compare_rows rows → IsRowAt rows name value place → slice_get rows place ≡ Some row
+    → Gives NoMemory view r (refused_as (refused_in 5) (list_in part row.offset)) → Gives NoMemory view r (list_of part (row_of rows name value))
+list_found view r part rows name value place row ascend is at given = rw (row_found rows name value place row ascend is at) given
 
-pub list_absent : (index : List ℕ) (rows : List PostingsRow) (name value : List ℕ) (place : ℕ) → StandsAt rows name value place → list_of index (row_of rows name value) ≡ Ok []
-list_absent index rows name value place stands = rw (row_absent rows name value place stands) refl
+pub list_absent : (part : Part) (rows : List PostingsRow) (name value : List ℕ) (place : ℕ) → StandsAt rows name value place → list_of part (row_of rows name value) ≡ Ok []
+list_absent part rows name value place stands = rw (row_absent rows name value place stands) refl

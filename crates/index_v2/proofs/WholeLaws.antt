@@ -32,6 +32,8 @@ use Rattle.index_file.proofs.Members.{later_member, member_at, place_of, less_at
 use Rattle.index_v2.specs.declared.refusal.IndexRefusal.{IndexRefusal}
 use Rattle.index_v2.specs.declared.refusal.IndexRefusal.TheVariants.{BadSection}
 use Rattle.index_v2.specs.Opening.{refused_in}
+use Rattle.index_slices.specs.Parts.{file}
+use Rattle.index_v2.specs.Held.{whole_file}
 use Rattle.index_v2.specs.PostingsLists.{row_of, list_of, postings_of}
 use Rattle.index_v2.specs.WholeReading.{present_at, all_at, lists_at, belongs, has_value, is_of_row}
 use Rattle.index_v2.proofs.RowPlaces.{rows_total, held_ascends}
@@ -135,20 +137,20 @@ no_row : row_of [] [] [] ≡ None
 unfolding row_of
 no_row = refl
 
-numbers_found : (index : List ℕ) (reference : ℕ) (rows : List PostingsRow) (numbers : List ℕ) → IsBytes index → Holds IsPostingsTable index reference rows → list_of index (row_of rows [] []) ≡ Ok numbers → AreListed index rows numbers
+numbers_found : (index : List ℕ) (reference : ℕ) (rows : List PostingsRow) (numbers : List ℕ) → IsBytes index → Holds IsPostingsTable index reference rows → list_of (file index) (row_of rows [] []) ≡ Ok numbers → AreListed index rows numbers
 numbers_found index reference [] numbers are holds e =
-    let e' : ◌≡◌ {A = Result (List ℕ) IndexRefusal} (Ok []) (Ok numbers) = ap (list_of index) (sym no_row) ∙ e in
+    let e' : ◌≡◌ {A = Result (List ℕ) IndexRefusal} (Ok []) (Ok numbers) = ap (list_of (file index)) (sym no_row) ∙ e in
     sym (ok_is {E = IndexRefusal} [] numbers e')
 numbers_found index reference (row ∷ rows) numbers are holds e =
     let empty = first_is_empty index reference row rows holds in
-    let e' : refused_as (refused_in 5) (postings_at index row.offset) ≡ Ok numbers = ap (list_of index) (sym (first_row row rows empty.0 empty.1)) ∙ e in
+    let e' : refused_as (refused_in 5) (postings_at index row.offset) ≡ Ok numbers = ap (list_of (file index)) (sym (first_row row rows empty.0 empty.1)) ∙ e in
     list_found IsNextPosting posting_at posting_turn index row.offset numbers are (refused_as_ok (refused_in 5) (postings_at index row.offset) numbers e')
 
-numbers_again : (index : List ℕ) (reference : ℕ) (rows : List PostingsRow) (numbers : List ℕ) → Holds IsPostingsTable index reference rows → AreListed index rows numbers → list_of index (row_of rows [] []) ≡ Ok numbers
-numbers_again index reference [] numbers holds are = ap (list_of index) no_row ∙ ap (λ (xs : List ℕ). Ok xs) (sym are)
+numbers_again : (index : List ℕ) (reference : ℕ) (rows : List PostingsRow) (numbers : List ℕ) → Holds IsPostingsTable index reference rows → AreListed index rows numbers → list_of (file index) (row_of rows [] []) ≡ Ok numbers
+numbers_again index reference [] numbers holds are = ap (list_of (file index)) no_row ∙ ap (λ (xs : List ℕ). Ok xs) (sym are)
 numbers_again index reference (row ∷ rows) numbers holds are =
     let empty = first_is_empty index reference row rows holds in
-    ap (list_of index) (first_row row rows empty.0 empty.1) ∙ ap (refused_as (refused_in 5)) (list_again IsNextPosting posting_at posting_turn index row.offset numbers are)
+    ap (list_of (file index)) (first_row row rows empty.0 empty.1) ∙ ap (refused_as (refused_in 5)) (list_again IsNextPosting posting_at posting_turn index row.offset numbers are)
 
 -- ---- absent sections
 
@@ -239,11 +241,11 @@ module _ (index : List ℕ) (numbers : List ℕ) where
     ];
   }
 
-listed_first : (index : List ℕ) (reference : ℕ) (rows : List PostingsRow) (numbers : List ℕ) → Holds IsPostingsTable index reference rows → list_of index (row_of rows [] []) ≡ Ok numbers → (row : PostingsRow) (others : List PostingsRow) → rows ≡ row ∷ others → (row.name ≡ []) × (row.value ≡ []) × (postings_at index row.offset ≡ Ok numbers)
+listed_first : (index : List ℕ) (reference : ℕ) (rows : List PostingsRow) (numbers : List ℕ) → Holds IsPostingsTable index reference rows → list_of (file index) (row_of rows [] []) ≡ Ok numbers → (row : PostingsRow) (others : List PostingsRow) → rows ≡ row ∷ others → (row.name ≡ []) × (row.value ≡ []) × (postings_at index row.offset ≡ Ok numbers)
 listed_first index reference rows numbers holds e row others is =
     let holds' : Holds IsPostingsTable index reference (row ∷ others) = subst (Holds IsPostingsTable index reference) is holds in
     let empty = first_is_empty index reference row others holds' in
-    let e' : refused_as (refused_in 5) (postings_at index row.offset) ≡ Ok numbers = ap (list_of index) (sym (first_row row others empty.0 empty.1)) ∙ ap (λ (rs : List PostingsRow). list_of index (row_of rs [] [])) (sym is) ∙ e in
+    let e' : refused_as (refused_in 5) (postings_at index row.offset) ≡ Ok numbers = ap (list_of (file index)) (sym (first_row row others empty.0 empty.1)) ∙ ap (λ (rs : List PostingsRow). list_of (file index) (row_of rs [] [])) (sym is) ∙ e in
     (empty.0, empty.1, refused_as_ok (refused_in 5) (postings_at index row.offset) numbers e')
 
 no_pairs : (numbers : List ℕ) (list : List IndexSeries) → numbers ≡ [] → zip numbers list ≡ []
@@ -265,10 +267,10 @@ present_then toc listed (inr are) = inr are
 -- ---- what was read before the lists are held against the series
 
 pub record HasRead (opened : Opened) (numbers : List ℕ) (list : List IndexSeries) (lists : List (List ℕ)) : Type 0 where
-  pub listed : postings_of opened [] [] ≡ Ok numbers
+  pub listed : postings_of (whole_file opened) [] [] ≡ Ok numbers
   pub present : present_at opened.toc numbers ≡ Ok tt
   pub series : all_at opened.bytes opened.symbols None numbers ≡ Ok list
-  pub read : lists_at opened.bytes opened.rows ≡ Ok lists
+  pub read : lists_at (file opened.bytes) opened.rows ≡ Ok lists
 
 module _ (opened : Opened) (numbers : List ℕ) (list : List IndexSeries) (lists : List (List ℕ)) (are : IsBytes opened.bytes) (is : IsOpened opened) (has : HasRead opened numbers list lists) where
   pub series_known : AreSeriesOf opened (zip numbers list)

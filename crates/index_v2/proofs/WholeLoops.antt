@@ -8,7 +8,7 @@ use Rattle.std.proofs.lemmas.List.{append-nil, drop_all, take_more, length-appen
 use Rattle.std.proofs.lemmas.Option.{slice_get_within, get_or_from_slice_get, slice_get_cases}
 use Rattle.reading_core.specs.Reading.{◌>>=◌, refused_as, Gives}
 use Rattle.index_parts.specs.declared.postings_row.PostingsRow.{PostingsRow}
-use Rattle.index_parts.specs.PostingsReading.{postings_at}
+use Rattle.index_slices.specs.Parts.{Part, list_in}
 use Rattle.index_file.specs.declared.index_series.IndexSeries.{IndexSeries}
 use Rattle.index_v2.specs.declared.refusal.IndexRefusal.{IndexRefusal}
 use Rattle.index_v2.specs.Opening.{refused_in}
@@ -77,44 +77,44 @@ series_end index symbols numbers place made far le =
 
 -- ---- lists of rows
 
-pub record ListsSoFar (index : List ℕ) (rows : List PostingsRow) (place : ℕ) (lists : List (List ℕ)) : Type 0 where
+pub record ListsSoFar (part : Part) (rows : List PostingsRow) (place : ℕ) (lists : List (List ℕ)) : Type 0 where
   pub many : length lists ≡ place
   pub rise : All IsStrictlyIncreasing lists
-  pub whole : lists_at index rows ≡ (lists_at index (drop place rows) >>= λ others. Ok (lists ++ others))
+  pub whole : lists_at part rows ≡ (lists_at part (drop place rows) >>= λ others. Ok (lists ++ others))
 
-pub lists_start : (index : List ℕ) (rows : List PostingsRow) → ListsSoFar index rows 0 []
-lists_start index rows = record { many = refl; rise = All-nil IsStrictlyIncreasing; whole = again (lists_at index rows) }
+pub lists_start : (part : Part) (rows : List PostingsRow) → ListsSoFar part rows 0 []
+lists_start part rows = record { many = refl; rise = All-nil IsStrictlyIncreasing; whole = again (lists_at part rows) }
 
 pub drop_at : (rows : List PostingsRow) (place : ℕ) (row : PostingsRow) → slice_get rows place ≡ Some row → drop place rows ≡ row ∷ drop (place + 1) rows
 drop_at rows place row at = rw (add-one, ← get_or_from_slice_get rows place row row at) (drop-cons rows place row (slice_get_within rows place row at))
 
-one_list : (index : List ℕ) (row : PostingsRow) (rows : List PostingsRow) (list : List ℕ) → refused_as (refused_in 5) (postings_at index row.offset) ≡ Ok list → lists_at index (row ∷ rows) ≡ (lists_at index rows >>= λ others. Ok (list ∷ others))
+one_list : (part : Part) (row : PostingsRow) (rows : List PostingsRow) (list : List ℕ) → refused_as (refused_in 5) (list_in part row.offset) ≡ Ok list → lists_at part (row ∷ rows) ≡ (lists_at part rows >>= λ others. Ok (list ∷ others))
 unfolding lists_at
-one_list index row rows list e = rw e refl
+one_list part row rows list e = rw e refl
 
-no_list : (index : List ℕ) (row : PostingsRow) (rows : List PostingsRow) (refusal : IndexRefusal) → refused_as (refused_in 5) (postings_at index row.offset) ≡ Err refusal → lists_at index (row ∷ rows) ≡ Err refusal
+no_list : (part : Part) (row : PostingsRow) (rows : List PostingsRow) (refusal : IndexRefusal) → refused_as (refused_in 5) (list_in part row.offset) ≡ Err refusal → lists_at part (row ∷ rows) ≡ Err refusal
 unfolding lists_at
-no_list index row rows refusal e = rw e refl
+no_list part row rows refusal e = rw e refl
 
-no_lists : (index : List ℕ) → lists_at index [] ≡ Ok []
+no_lists : (part : Part) → lists_at part [] ≡ Ok []
 unfolding lists_at
-no_lists index = refl
+no_lists part = refl
 
-pub lists_step : (index : List ℕ) (rows : List PostingsRow) (place : ℕ) (row : PostingsRow) (lists new : List (List ℕ)) (list : List ℕ)
-    → ListsSoFar index rows place lists → slice_get rows place ≡ Some row → refused_as (refused_in 5) (postings_at index row.offset) ≡ Ok list → IsStrictlyIncreasing list → new ≡ lists ++ list ∷ [] → ListsSoFar index rows (place + 1) new
-lists_step index rows place row lists new list far at read rises pushed =
-    let front : lists_at index (drop place rows) ≡ (lists_at index (drop (place + 1) rows) >>= λ others. Ok (list ∷ others)) = rw (drop_at rows place row at) (one_list index row (drop (place + 1) rows) list read) in
-    rw pushed (record { many = (let m = far.many in omega (arith, length-append lists (list ∷ []))); rise = All-push IsStrictlyIncreasing lists list far.rise rises; whole = far.whole ∙ ap (λ (r : Result (List (List ℕ)) IndexRefusal). r >>= λ others. Ok (lists ++ others)) front ∙ moved (lists_at index (drop (place + 1) rows)) list lists })
+pub lists_step : (part : Part) (rows : List PostingsRow) (place : ℕ) (row : PostingsRow) (lists new : List (List ℕ)) (list : List ℕ)
+    → ListsSoFar part rows place lists → slice_get rows place ≡ Some row → refused_as (refused_in 5) (list_in part row.offset) ≡ Ok list → IsStrictlyIncreasing list → new ≡ lists ++ list ∷ [] → ListsSoFar part rows (place + 1) new
+lists_step part rows place row lists new list far at read rises pushed =
+    let front : lists_at part (drop place rows) ≡ (lists_at part (drop (place + 1) rows) >>= λ others. Ok (list ∷ others)) = rw (drop_at rows place row at) (one_list part row (drop (place + 1) rows) list read) in
+    rw pushed (record { many = (let m = far.many in omega (arith, length-append lists (list ∷ []))); rise = All-push IsStrictlyIncreasing lists list far.rise rises; whole = far.whole ∙ ap (λ (r : Result (List (List ℕ)) IndexRefusal). r >>= λ others. Ok (lists ++ others)) front ∙ moved (lists_at part (drop (place + 1) rows)) list lists })
 
-pub lists_stop : (index : List ℕ) (rows : List PostingsRow) (place : ℕ) (row : PostingsRow) (lists : List (List ℕ)) (refusal : IndexRefusal)
-    → ListsSoFar index rows place lists → slice_get rows place ≡ Some row → refused_as (refused_in 5) (postings_at index row.offset) ≡ Err refusal → lists_at index rows ≡ Err refusal
-lists_stop index rows place row lists refusal far at read =
-    let front : lists_at index (drop place rows) ≡ Err refusal = rw (drop_at rows place row at) (no_list index row (drop (place + 1) rows) refusal read) in
+pub lists_stop : (part : Part) (rows : List PostingsRow) (place : ℕ) (row : PostingsRow) (lists : List (List ℕ)) (refusal : IndexRefusal)
+    → ListsSoFar part rows place lists → slice_get rows place ≡ Some row → refused_as (refused_in 5) (list_in part row.offset) ≡ Err refusal → lists_at part rows ≡ Err refusal
+lists_stop part rows place row lists refusal far at read =
+    let front : lists_at part (drop place rows) ≡ Err refusal = rw (drop_at rows place row at) (no_list part row (drop (place + 1) rows) refusal read) in
     far.whole ∙ ap (λ (r : Result (List (List ℕ)) IndexRefusal). r >>= λ others. Ok (lists ++ others)) front
 
-pub lists_end : (index : List ℕ) (rows : List PostingsRow) (place : ℕ) (lists : List (List ℕ)) → ListsSoFar index rows place lists → length rows ≤ place → lists_at index rows ≡ Ok lists
-lists_end index rows place lists far le =
-    let front : lists_at index (drop place rows) ≡ Ok [] = rw (drop_all place rows le) (no_lists index) in
+pub lists_end : (part : Part) (rows : List PostingsRow) (place : ℕ) (lists : List (List ℕ)) → ListsSoFar part rows place lists → length rows ≤ place → lists_at part rows ≡ Ok lists
+lists_end part rows place lists far le =
+    let front : lists_at part (drop place rows) ≡ Ok [] = rw (drop_all place rows le) (no_lists part) in
     far.whole ∙ ap (λ (r : Result (List (List ℕ)) IndexRefusal). r >>= λ others. Ok (lists ++ others)) front ∙ ap Ok (append-nil lists)
 
 pub row_within : (rows : List PostingsRow) (place : ℕ) {P : Type 0} → place < length rows → slice_get rows place ≡ None → P

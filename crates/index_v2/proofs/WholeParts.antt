@@ -14,6 +14,7 @@ use Rattle.index_parts.specs.declared.postings_row.PostingsRow.{PostingsRow}
 use Rattle.index_parts.specs.PostingsReading.{postings_at}
 use Rattle.index_file.specs.declared.index_series.IndexSeries.{IndexSeries}
 use Rattle.index_file.specs.IndexFile.{compare_series}
+use Rattle.index_slices.specs.Parts.{file}
 use Rattle.index_file.proofs.Members.{first_member, later_member, place_of, all_behind}
 use Rattle.index_file.proofs.SeriesOrder.{series_total}
 use Rattle.index_v2.specs.declared.refusal.IndexRefusal.{IndexRefusal}
@@ -135,33 +136,33 @@ module _ (index : List ℕ) where
   list_or_other row rows list lists e are zero one at = (list, refl, ap (λ (r : PostingsRow). postings_at index r.offset) (sym (same_Some row one at)) ∙ e)
   list_or_other row rows list lists e are (suc place) one at = are.each place one at
 
-  lists_parts : (row : PostingsRow) (rows : List PostingsRow) (lists : List (List ℕ)) → lists_at index (row ∷ rows) ≡ Ok lists → (list : List ℕ) × (others : List (List ℕ)) × (postings_at index row.offset ≡ Ok list) × (lists_at index rows ≡ Ok others) × (list ∷ others ≡ lists)
+  lists_parts : (row : PostingsRow) (rows : List PostingsRow) (lists : List (List ℕ)) → lists_at (file index) (row ∷ rows) ≡ Ok lists → (list : List ℕ) × (others : List (List ℕ)) × (postings_at index row.offset ≡ Ok list) × (lists_at (file index) rows ≡ Ok others) × (list ∷ others ≡ lists)
   unfolding lists_at
   lists_parts row rows lists e =
-      let first = bind_ok (refused_as (refused_in 5) (postings_at index row.offset)) (λ list. lists_at index rows >>= λ others. Ok (list ∷ others)) lists e in
-      let others = bind_ok (lists_at index rows) (λ others. Ok (first.0 ∷ others)) lists first.2 in
+      let first = bind_ok (refused_as (refused_in 5) (postings_at index row.offset)) (λ list. lists_at (file index) rows >>= λ others. Ok (list ∷ others)) lists e in
+      let others = bind_ok (lists_at (file index) rows) (λ others. Ok (first.0 ∷ others)) lists first.2 in
       (first.0, others.0, refused_as_ok (refused_in 5) (postings_at index row.offset) first.0 first.1, others.1, ok_is {A = List (List ℕ)} {E = IndexRefusal} _ _ others.2)
 
-  lists_none : (lists : List (List ℕ)) → lists_at index [] ≡ Ok lists → [] ≡ lists
+  lists_none : (lists : List (List ℕ)) → lists_at (file index) [] ≡ Ok lists → [] ≡ lists
   unfolding lists_at
   lists_none lists e = ok_is {A = List (List ℕ)} {E = IndexRefusal} [] lists e
 
-  pub lists_found : (rows : List PostingsRow) (lists : List (List ℕ)) → lists_at index rows ≡ Ok lists → AreLists rows lists
+  pub lists_found : (rows : List PostingsRow) (lists : List (List ℕ)) → lists_at (file index) rows ≡ Ok lists → AreLists rows lists
   lists_found [] lists e = subst (AreLists []) (lists_none lists e) (record { many = refl; each = λ place row at. absurd cc })
   lists_found (row ∷ rows) lists e =
       let p = lists_parts row rows lists e in
       let others = lists_found rows p.1 p.3 in
       subst (AreLists (row ∷ rows)) p.4 (record { many = ap suc others.many; each = list_or_other row rows p.0 p.1 p.2 others })
 
-  lists_joined : (row : PostingsRow) (rows : List PostingsRow) (list : List ℕ) (lists : List (List ℕ)) → postings_at index row.offset ≡ Ok list → lists_at index rows ≡ Ok lists → lists_at index (row ∷ rows) ≡ Ok (list ∷ lists)
+  lists_joined : (row : PostingsRow) (rows : List PostingsRow) (list : List ℕ) (lists : List (List ℕ)) → postings_at index row.offset ≡ Ok list → lists_at (file index) rows ≡ Ok lists → lists_at (file index) (row ∷ rows) ≡ Ok (list ∷ lists)
   unfolding lists_at
   lists_joined row rows list lists e f = rw (e, f) refl
 
-  lists_nothing : lists_at index [] ≡ Ok []
+  lists_nothing : lists_at (file index) [] ≡ Ok []
   unfolding lists_at
   lists_nothing = refl
 
-  pub lists_again : (rows : List PostingsRow) → ((row : PostingsRow) → Contains rows row → (list : List ℕ) × (postings_at index row.offset ≡ Ok list)) → (lists : List (List ℕ)) × (lists_at index rows ≡ Ok lists)
+  pub lists_again : (rows : List PostingsRow) → ((row : PostingsRow) → Contains rows row → (list : List ℕ) × (postings_at index row.offset ≡ Ok list)) → (lists : List (List ℕ)) × (lists_at (file index) rows ≡ Ok lists)
   lists_again [] each = ([], lists_nothing)
   lists_again (row ∷ rows) each =
       let first = each row (first_member row rows) in

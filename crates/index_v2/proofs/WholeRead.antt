@@ -25,6 +25,8 @@ use Rattle.index_v2.specs.declared.refusal.IndexRefusal.TheVariants.{BadSection,
 use Rattle.index_v2.specs.Opening.{refused_in, refused_of, opened_at}
 use Rattle.index_v2.specs.SeriesLabels.{labelled_at, numbered_at}
 use Rattle.index_v2.specs.RowOrder.{compare_row, StandsAt}
+use Rattle.index_slices.specs.Parts.{Part, file, list_in}
+use Rattle.index_v2.specs.Held.{whole_file}
 use Rattle.index_v2.specs.PostingsLists.{row_of, list_of, postings_of}
 use Rattle.index_v2.specs.WholeReading.{present_at, may_stand_behind, behind_at, all_at, lists_at, stray_from, gap_among, difference, unless_differ, whole_at}
 use Rattle.index_v2.specs.Differing.{DiffersAt, DifferFirstAt}
@@ -89,9 +91,9 @@ then_end : {A B : Type 0} (r : Result A IndexRefusal) (next end : Result B Index
 then_end (Ok x) next end never is e = (x, refl, e)
 then_end (Err d) next end never is e = let why = is d (sym e) in absurd (never why.0 (ap Err why.1))
 
-list_never : (index : List ℕ) (row : Option PostingsRow) → NeverDiffers (list_of index row)
-list_never index None = ok_never []
-list_never index (Some row) = refused_never (refused_in 5) (postings_at index row.offset) (in_section 5)
+list_never : (part : Part) (row : Option PostingsRow) → NeverDiffers (list_of part row)
+list_never part None = ok_never []
+list_never part (Some row) = refused_never (refused_in 5) (list_in part row.offset) (in_section 5)
 
 present_never : (toc : Toc) (numbers : List ℕ) → NeverDiffers (present_at toc numbers)
 unfolding present_at
@@ -115,28 +117,28 @@ all_never index symbols before (number ∷ numbers) =
     bind_never (behind_at index symbols before number) (λ series. all_at index symbols (Some series) numbers >>= λ others. Ok (series ∷ others)) (behind_never index symbols before number)
     (λ series. bind_never (all_at index symbols (Some series) numbers) (λ others. Ok (series ∷ others)) (all_never index symbols (Some series) numbers) (λ others. ok_never (series ∷ others)))
 
-lists_never : (index : List ℕ) (rows : List PostingsRow) → NeverDiffers (lists_at index rows)
+lists_never : (part : Part) (rows : List PostingsRow) → NeverDiffers (lists_at part rows)
 unfolding lists_at
-lists_never index [] = ok_never {A = List (List ℕ)} []
-lists_never index (row ∷ rows) =
-    bind_never (refused_as (refused_in 5) (postings_at index row.offset)) (λ list. lists_at index rows >>= λ others. Ok (list ∷ others)) (refused_never (refused_in 5) (postings_at index row.offset) (in_section 5))
-    (λ list. bind_never (lists_at index rows) (λ others. Ok (list ∷ others)) (lists_never index rows) (λ others. ok_never (list ∷ others)))
+lists_never part [] = ok_never {A = List (List ℕ)} []
+lists_never part (row ∷ rows) =
+    bind_never (refused_as (refused_in 5) (list_in part row.offset)) (λ list. lists_at part rows >>= λ others. Ok (list ∷ others)) (refused_never (refused_in 5) (list_in part row.offset) (in_section 5))
+    (λ list. bind_never (lists_at part rows) (λ others. Ok (list ∷ others)) (lists_never part rows) (λ others. ok_never (list ∷ others)))
 
 -- ---- the whole
 
 -- what was read where the end is reached
-whole_parts : (opened : Opened) (end : Result (List IndexSeries) IndexRefusal) → IsEnd end → whole_at opened ≡ end
+whole_parts : (opened : Opened) (end : Result (List IndexSeries) IndexRefusal) → IsEnd end → whole_at (whole_file opened) ≡ end
     → (numbers : List ℕ) × (list : List IndexSeries) × (lists : List (List ℕ)) × HasRead opened numbers list lists × ((unless_differ (difference opened.rows lists (zip numbers list)) >> Ok list) ≡ end)
 unfolding whole_at
 whole_parts opened end is e =
-    let numbers = bind_end (postings_of opened [] []) (λ numbers. present_at opened.toc numbers >> (all_at opened.bytes opened.symbols None numbers >>= λ series. lists_at opened.bytes opened.rows >>= λ lists. unless_differ (difference opened.rows lists (zip numbers series)) >> Ok series)) end (list_never opened.bytes (row_of opened.rows [] [])) is e in
-    let present = then_end (present_at opened.toc numbers.0) (all_at opened.bytes opened.symbols None numbers.0 >>= λ series. lists_at opened.bytes opened.rows >>= λ lists. unless_differ (difference opened.rows lists (zip numbers.0 series)) >> Ok series) end (present_never opened.toc numbers.0) is numbers.2 in
-    let series = bind_end (all_at opened.bytes opened.symbols None numbers.0) (λ series. lists_at opened.bytes opened.rows >>= λ lists. unless_differ (difference opened.rows lists (zip numbers.0 series)) >> Ok series) end (all_never opened.bytes opened.symbols None numbers.0) is present.2 in
-    let lists = bind_end (lists_at opened.bytes opened.rows) (λ lists. unless_differ (difference opened.rows lists (zip numbers.0 series.0)) >> Ok series.0) end (lists_never opened.bytes opened.rows) is series.2 in
+    let numbers = bind_end (postings_of (whole_file opened) [] []) (λ numbers. present_at opened.toc numbers >> (all_at opened.bytes opened.symbols None numbers >>= λ series. lists_at (file opened.bytes) opened.rows >>= λ lists. unless_differ (difference opened.rows lists (zip numbers series)) >> Ok series)) end (list_never (file opened.bytes) (row_of opened.rows [] [])) is e in
+    let present = then_end (present_at opened.toc numbers.0) (all_at opened.bytes opened.symbols None numbers.0 >>= λ series. lists_at (file opened.bytes) opened.rows >>= λ lists. unless_differ (difference opened.rows lists (zip numbers.0 series)) >> Ok series) end (present_never opened.toc numbers.0) is numbers.2 in
+    let series = bind_end (all_at opened.bytes opened.symbols None numbers.0) (λ series. lists_at (file opened.bytes) opened.rows >>= λ lists. unless_differ (difference opened.rows lists (zip numbers.0 series)) >> Ok series) end (all_never opened.bytes opened.symbols None numbers.0) is present.2 in
+    let lists = bind_end (lists_at (file opened.bytes) opened.rows) (λ lists. unless_differ (difference opened.rows lists (zip numbers.0 series.0)) >> Ok series.0) end (lists_never (file opened.bytes) opened.rows) is series.2 in
     (numbers.0, series.0, lists.0, record { listed = numbers.1; present = present.1; series = series.1; read = lists.1 }, lists.2)
 
 -- what was read of each part, and where the lists differ, is what reading gives
-whole_joined : (opened : Opened) (numbers : List ℕ) (list : List IndexSeries) (lists : List (List ℕ)) (where_differ : Option ℕ) → HasRead opened numbers list lists → difference opened.rows lists (zip numbers list) ≡ where_differ → whole_at opened ≡ (unless_differ where_differ >> Ok list)
+whole_joined : (opened : Opened) (numbers : List ℕ) (list : List IndexSeries) (lists : List (List ℕ)) (where_differ : Option ℕ) → HasRead opened numbers list lists → difference opened.rows lists (zip numbers list) ≡ where_differ → whole_at (whole_file opened) ≡ (unless_differ where_differ >> Ok list)
 unfolding whole_at
 whole_joined opened numbers list lists where_differ has e = rw (has.listed, has.present, has.series, has.read, e) refl
 
@@ -172,13 +174,13 @@ module _ (opened : Opened) (are : IsBytes opened.bytes) (is : IsOpened opened) w
             (found.1, member_at opened.rows found.0 found.1 found.2, texts.0, texts.1);
       }
 
-  pub whole_found : (list : List IndexSeries) → whole_at opened ≡ Ok list → IsIndex opened.bytes list
+  pub whole_found : (list : List IndexSeries) → whole_at (whole_file opened) ≡ Ok list → IsIndex opened.bytes list
   whole_found list e =
       let parts = whole_parts opened (Ok list) (ok_end list) e in
       let exact = no_difference (difference opened.rows parts.2 (zip parts.0 parts.1)) parts.1 list parts.4 in
       subst (IsIndex opened.bytes) exact.1 (index_of parts.0 parts.1 parts.2 parts.3 exact.0)
 
-  pub differ_found : (place : ℕ) → whole_at opened ≡ Err (PostingsDiffer place) → DifferFirstAt opened place
+  pub differ_found : (place : ℕ) → whole_at (whole_file opened) ≡ Err (PostingsDiffer place) → DifferFirstAt opened place
   differ_found place e =
       let parts = whole_parts opened (Err (PostingsDiffer place)) (λ refusal same. (place, err_is {A = List IndexSeries} refusal (PostingsDiffer place) (sym same))) e in
       let listed = zip parts.0 parts.1 in
@@ -194,7 +196,7 @@ module _ (opened : Opened) (are : IsBytes opened.bytes) (is : IsOpened opened) w
       }
 
   -- such a place is told
-  pub differ_again : (place : ℕ) → DifferFirstAt opened place → whole_at opened ≡ Err (PostingsDiffer place)
+  pub differ_again : (place : ℕ) → DifferFirstAt opened place → whole_at (whole_file opened) ≡ Err (PostingsDiffer place)
   differ_again place d =
       let numbers = map (λ (one : ℕ × IndexSeries). one.0) d.listed in
       let list = map (λ (one : ℕ × IndexSeries). one.1) d.listed in
@@ -223,7 +225,7 @@ module _ (index : List ℕ) (list : List IndexSeries) (is : IsIndex index list) 
   nowhere P None least none = refl
   nowhere P (Some k) least none = absurd (none k least.0)
 
-  read_opened : whole_at is.opened ≡ Ok list
+  read_opened : whole_at (whole_file is.opened) ≡ Ok list
   read_opened =
       let numbers = map (λ (one : ℕ × IndexSeries). one.0) is.listed in
       let series = map (λ (one : ℕ × IndexSeries). one.1) is.listed in
@@ -232,11 +234,11 @@ module _ (index : List ℕ) (list : List IndexSeries) (is : IsIndex index list) 
       let exact : difference is.opened.rows read.0 is.listed ≡ None = nowhere (DiffersAt is.opened.bytes is.opened.rows is.listed) (difference is.opened.rows read.0 is.listed) (differs_least is.opened.bytes is.opened.rows read.0 is.listed numbers taken) agrees in
       whole_joined is.opened numbers series read.0 None read.1 (ap (difference is.opened.rows read.0) (zipped is.listed) ∙ exact) ∙ ap Ok is.list_is
 
-pub whole_again : (opened : Opened) (list : List IndexSeries) → IsBytes opened.bytes → opened_at opened.bytes ≡ Ok opened → IsIndex opened.bytes list → whole_at opened ≡ Ok list
+pub whole_again : (opened : Opened) (list : List IndexSeries) → IsBytes opened.bytes → opened_at opened.bytes ≡ Ok opened → IsIndex opened.bytes list → whole_at (whole_file opened) ≡ Ok list
 whole_again opened list are read is =
     let again : opened_at opened.bytes ≡ Ok is.opened = opened_again opened.bytes is.opened is.bytes_are is.is_opened in
     let same : is.opened ≡ opened = ok_same (opened_at opened.bytes) is.opened opened again read in
-    ap whole_at (sym same) ∙ read_opened opened.bytes list is (subst IsBytes (sym is.bytes_are) are)
+    ap (λ (o : Opened). whole_at (whole_file o)) (sym same) ∙ read_opened opened.bytes list is (subst IsBytes (sym is.bytes_are) are)
 
 -- ---- from a call's clauses
 

@@ -5,7 +5,7 @@ use Rattle.index_parts.specs.declared.postings_row.PostingsRow.{PostingsRow}
 use Rattle.index_file.specs.Opened.{Opened}
 use Rattle.index_file.specs.IndexFile.{IsOpened}
 use Rattle.index_slices.specs.Parts.{Part, file, IsPartOf}
-use Rattle.index_v2.specs.declared.index_parts.IndexParts.{IndexParts}
+use Rattle.index_v2.specs.declared.lent_parts.IndexParts.{IndexParts}
 
 -- The bytes in which it reads series, which are none where it holds parts; the table of contents, the symbols and the rows of
 -- the postings table; where it reads postings lists; and how many bytes it read the table from, the whole file's or the part's.

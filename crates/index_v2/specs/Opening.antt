@@ -13,7 +13,7 @@ use Rattle.index_v2.specs.declared.refusal.IndexRefusal.TheVariants.{BadMagic, B
 use Rattle.index_file.specs.Opened.{Opened}
 use Rattle.index_file.specs.IndexFile.{magic, version, least_size}
 use Rattle.index_slices.specs.Parts.{known}
-use Rattle.index_v2.specs.declared.index_parts.IndexParts.{IndexParts}
+use Rattle.index_v2.specs.declared.lent_parts.IndexParts.{IndexParts}
 use Rattle.index_v2.specs.Held.{Held, symbols_of, table_of, lists_of}
 
 -- a refusal of a part, as that of its section

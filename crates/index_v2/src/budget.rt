@@ -1,11 +1,13 @@
-ghost use Rattle.std.specs.Prelude.{◌≡◌, ◌+◌, ◌-◌, ◌*◌, ◌^◌, ◌<◌, ◌≤◌, length, map, min, sum_by, IfOk, MatchResult};
-ghost use Rattle.index_v2.specs.Budget.{label_bytes, members_of, series_bytes, text_bytes, told};
+ghost use Rattle.std.specs.Prelude.{◌≡◌, ◌+◌, ◌-◌, ◌*◌, ◌^◌, ◌<◌, ◌≤◌, [], length, map, min, sum_by, IfOk, MatchResult};
+ghost use Rattle.index_v2.specs.Budget.{label_bytes, list_bytes, members_of, series_bytes, text_bytes, told};
 ghost use Rattle.index_v2.specs.LentLabels.{as_label};
 ghost use Rattle.std.specs.Int.{w32};
 ghost use Rattle.wire_bytes.specs.Fields.{number_at};
 ghost use Rattle.index_parts.specs.Placed.{at_place};
+ghost use Rattle.index_slices.specs.Parts.{part_of};
 
 use crate::{IndexSeries, LentLabel};
+use index_slices::IndexPart;
 use list_core::NoMemory;
 use wire_bytes::Cursor;
 
@@ -24,11 +26,14 @@ pub(crate) fn budget_of(index: &[u8]) -> usize
 /// How many bytes of label texts are copied out of an index at most: sixty-four for each of its bytes. A label takes two bytes
 /// of its series at least, and four of a list where its row has one of its own: then only texts of some four hundred bytes,
 /// which many series share, come to more, and else such of some hundred and thirty.
-pub(crate) fn text_budget_of(index: &[u8]) -> usize
-    ensures value { result ≡ min (64 * length index.now) (2 ^ 64 - 1) }
-    ensures bound { result ≤ 64 * length index.now }
+///
+/// Where parts of an index are there, it is sixty-four for each byte of its postings table: in a lawful index the texts of each
+/// label of a series stand there.
+pub(crate) fn text_budget_of(size: usize) -> usize
+    ensures value { result ≡ min (64 * size) (2 ^ 64 - 1) }
+    ensures bound { result ≤ 64 * size }
 {
-    index.len().saturating_mul(64)
+    size.saturating_mul(64)
 }
 
 /// So many bytes and those of two texts.
@@ -96,8 +101,8 @@ pub(crate) fn series_bytes(index: &[u8], number: u64) -> usize
     }
 }
 
-/// How many bytes the section at a place is said to take.
-pub(crate) fn section_bytes(index: &[u8], at: u64) -> usize
+/// How many bytes the section at a place of these bytes is said to take.
+fn section_bytes(index: &[u8], at: u64) -> usize
     ensures { result ≡ told (number_at w32 (at_place index.now at)) }
 {
     if at > index.len() as u64 {
@@ -108,4 +113,12 @@ pub(crate) fn section_bytes(index: &[u8], at: u64) -> usize
         Ok(size) => size as usize,
         Err(_) => 0,
     }
+}
+
+/// How many bytes the postings list at a place of the index is said to take.
+pub(crate) fn list_bytes(part: IndexPart<'_>, at: u64) -> usize
+    ensures { result ≡ list_bytes (part_of part.entry)
+        (record { name = []; value = []; offset = at }) }
+{
+    section_bytes(part.bytes, at.saturating_sub(part.begin))
 }

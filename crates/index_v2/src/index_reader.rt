@@ -1,49 +1,62 @@
-ghost use Rattle.std.specs.Prelude.{◌≡◌, ◌⊎◌, ◌+◌, ◌*◌, ◌≤◌, length, sum_by, All, slice_get, MatchResult, IfOk, Ok, Err};
+ghost use Rattle.std.specs.Prelude.{◌≡◌, ◌⊎◌, ◌+◌, ◌*◌, ◌^◌, ◌<◌, ◌≤◌, [], ◌∷◌, length, sum_by, All, slice_get, MatchResult, IfOk, Ok, Err, Some};
 ghost use Rattle.std.specs.Result.{IsOkAnd};
 ghost use Rattle.std.specs.Option.{option_copied};
 ghost use Rattle.reading_core.specs.Reading.{Gives};
-ghost use Rattle.reading_core.specs.Grammar.{IsBytes};
-ghost use Rattle.index_v2.specs.Opening.{contents_at, opened_at};
+ghost use Rattle.index_slices.specs.Parts.{part_of, known, IsPartOf, HoldsSection, HoldsSeries};
+ghost use Rattle.index_v2.specs.Held.{opened_of, whole_file, IsWhole, IsHeldOf, AreSlicesOf};
+ghost use Rattle.index_v2.specs.Opening.{contents_at, opened_at, over_at};
 ghost use Rattle.index_v2.specs.SeriesLabels.{numbered_at};
 ghost use Rattle.index_v2.specs.Budget.{members_of, text_bytes};
-ghost use Rattle.index_v2.specs.WholeReading.{whole_at};
-ghost use Rattle.index_v2.specs.PostingsLists.{postings_of, values_of};
+ghost use Rattle.index_v2.specs.WholeReading.{present_at, whole_at};
+ghost use Rattle.index_v2.specs.PostingsLists.{row_of, postings_of, values_of};
 ghost use Rattle.std.specs.List.Sorted.{IsStrictlyIncreasing};
 
-use crate::numbered::{lent_series_of, series_of};
+use crate::budget::text_budget_of;
+use crate::numbered::{lent_series_of, series_of, series_of_file};
 use crate::opening::contents_of;
 use crate::postings::{list_of, values_of};
 use crate::rows::Rows;
 use crate::symbols::Symbols;
 use crate::whole::whole;
-use crate::{IndexRefusal, IndexSeries, IndexSeriesList, LentSeries};
+use crate::{IndexParts, IndexRefusal, IndexSeries, IndexSeriesList, LentSeries};
 use index_parts::Toc;
+use index_slices::IndexPart;
 use label_sets::TextList;
 use std::alloc::Global;
 use std::marker::Model;
 use wire_bytes::NumberList;
 
-/// An opened index, which lends its bytes.
+/// An opened index, which lends its bytes: a whole file, or parts of one. Of parts it reads everything but the series, which are
+/// read from further parts (`series_in`).
 #[derive(Drop)]
 pub struct IndexReader<'a> {
+    /// The whole file, or nothing.
     bytes: &'a [u8],
     toc: Toc,
     symbols: Symbols<'a>,
     rows: Rows<'a>,
+    /// Where postings lists are read.
+    lists: IndexPart<'a>,
+    /// How many bytes the rows were read from.
+    size: usize,
 }
 
 impl<'a> Model for IndexReader<'a> {
-    ghost use Rattle.std.specs.Prelude.{◌≡◌, Ok};
-    ghost use Rattle.index_file.specs.Opened.{Opened};
+    ghost use Rattle.std.specs.Prelude.{◌≡◌, ◌⊎◌, ◌+◌, ◌*◌, ◌^◌, ◌<◌, ◌≤◌, [], length};
     ghost use Rattle.reading_core.specs.Grammar.{IsBytes};
-    ghost use Rattle.index_v2.specs.Opening.{opened_at};
+    ghost use Rattle.index_slices.specs.Parts.{part_of};
+    ghost use Rattle.index_v2.specs.Held.{Held, IsWhole};
 
-    ghost Value = { Opened };
+    ghost Value = { Held };
 
     ghost view = { λ r.
-        record { bytes = r.bytes.now; toc = r.toc; symbols = r.symbols; rows = r.rows } };
+        record { bytes = r.bytes.now; toc = r.toc; symbols = r.symbols; rows = r.rows; lists = part_of r.lists; size = r.size } };
 
-    ghost invariant = { λ r. (opened_at r.bytes.now ≡ Ok (record { bytes = r.bytes.now; toc = r.toc; symbols = r.symbols; rows = r.rows })) × IsBytes r.bytes.now };
+    ghost invariant = { λ r.
+        (IsWhole (record { bytes = r.bytes.now; toc = r.toc; symbols = r.symbols; rows = r.rows; lists = part_of r.lists; size = r.size }) ⊎ (r.bytes.now ≡ []))
+        × IsBytes r.bytes.now
+        × (r.lists.begin + length r.lists.bytes.now < 2 ^ 64)
+        × (4 * length r.rows ≤ r.size) };
 }
 
 impl<'a> IndexReader<'a> {
@@ -51,20 +64,22 @@ impl<'a> IndexReader<'a> {
     ghost use Rattle.index_file.specs.Opened.{Opened};
     ghost use Rattle.index_v2.specs.Differing.{DifferFirstAt};
     ghost use Rattle.std.specs.List.{Contains};
+    ghost use Rattle.reading_core.specs.Grammar.{IsBytes};
     ghost use Rattle.index_file.specs.IndexFile.{IsOpened, IsSeriesOf, IsIndex, AreNumbersOf, AreValuesOf};
     ghost use Rattle.index_file.specs.declared.index_series.IndexSeries.{IndexSeries};
+    ghost use Rattle.index_parts.specs.declared.postings_row.PostingsRow.{PostingsRow};
+    ghost use Rattle.index_parts.specs.declared.refusal.PartRefusal.TheVariants.{Short};
     ghost use Rattle.index_v2.specs.declared.refusal.IndexRefusal.{IndexRefusal};
 
     /// Reads what an index begins and ends with, its symbols and its postings table.
     pub fn open(alloc: Global, bytes: &'a [u8]) -> Result<IndexReader<'a>, IndexRefusal>
         // What is opened begins and ends as an index, and what does so is opened.
-        ensures found { IfOk result (λ reader. (reader.bytes ≡ bytes.now) × IsOpened reader) }
+        ensures found { IfOk result (λ reader. (reader.bytes ≡ bytes.now) × IsWhole reader) }
         ensures only { (opened : Opened) → opened.bytes ≡ bytes.now → IsOpened opened
-            → IsOkAnd result (λ reader. reader ≡ opened) ⊎ (result ≡ Err IndexRefusal.NoMemory) }
+            → IsOkAnd result (λ reader. reader ≡ whole_file opened) ⊎ (result ≡ Err IndexRefusal.NoMemory) }
 
         // The first refusal. One of the header or of the table of contents comes whatever memory there is.
-        ensures exact { Gives IndexRefusal.NoMemory
-            (λ reader. reader) result (opened_at bytes.now) }
+        ensures exact { Gives IndexRefusal.NoMemory opened_of result (opened_at bytes.now) }
         ensures contents { (refusal : IndexRefusal) → contents_at bytes.now ≡ Err refusal
             → result ≡ Err refusal }
         ensures few { IfOk result
@@ -77,20 +92,63 @@ impl<'a> IndexReader<'a> {
     #[tactic(auto, unfolding(crate::specs::Opening::opened_at))]
     fn read(alloc: Global, bytes: &'a [u8]) -> Result<IndexReader<'a>, IndexRefusal>
         ensures bytes { IsBytes bytes.now }
-        ensures exact { Gives IndexRefusal.NoMemory
-            (λ reader. reader) result (opened_at bytes.now) }
+        ensures whole { IfOk result IsWhole }
+        ensures exact { Gives IndexRefusal.NoMemory opened_of result (opened_at bytes.now) }
         ensures contents { (refusal : IndexRefusal) → contents_at bytes.now ≡ Err refusal
             → result ≡ Err refusal }
     {
         let toc = contents_of(bytes)?;
+        let size = bytes.len();
+        let file = IndexPart { begin: 0, bytes };
         // The symbols are read last, though their refusal is the first: they are what is wanted next, and still in the caches.
-        let rows = Rows::read(alloc, bytes, toc.postings_table);
-        let symbols = Symbols::read(alloc, bytes, toc.symbols)?;
+        let rows = Rows::read(alloc, file, toc.postings_table);
+        let symbols = Symbols::read(alloc, file, toc.symbols)?;
         Ok(IndexReader {
             bytes,
             toc,
             symbols,
             rows: rows?,
+            lists: file,
+            size,
+        })
+    }
+
+    /// Reads the symbols and the postings table of parts of an index.
+    #[tactic(auto, unfolding(crate::specs::Opening::over_at))]
+    pub fn over(alloc: Global, parts: IndexParts<'a>) -> Result<IndexReader<'a>, IndexRefusal>
+        requires symbols { parts.toc.symbols + length parts.symbols.now < 2 ^ 64 }
+        requires table { parts.toc.postings_table + length parts.table.now < 2 ^ 64 }
+        requires postings { parts.toc.postings + length parts.postings.now < 2 ^ 64 }
+
+        // Of slices of an index it holds what a reader of the whole index holds.
+        ensures agrees { (opened : Opened) → IsOpened opened → AreSlicesOf parts.entry opened
+            → IfOk result (λ reader. IsHeldOf reader opened) }
+
+        // The first refusal, with its place in the index: nothing stands behind a part.
+        ensures exact { Gives IndexRefusal.NoMemory
+            (λ reader. reader) result (over_at parts.entry) }
+    {
+        let symbols = IndexPart {
+            begin: parts.toc.symbols,
+            bytes: parts.symbols,
+        };
+        let table = IndexPart {
+            begin: parts.toc.postings_table,
+            bytes: parts.table,
+        };
+        let lists = IndexPart {
+            begin: parts.toc.postings,
+            bytes: parts.postings,
+        };
+        let rows = Rows::read(alloc, table, table.begin);
+        let symbols = Symbols::read(alloc, symbols, symbols.begin)?;
+        Ok(IndexReader {
+            bytes: &[],
+            toc: parts.toc,
+            symbols,
+            rows: rows?,
+            lists,
+            size: parts.table.len(),
         })
     }
 
@@ -106,6 +164,7 @@ impl<'a> IndexReader<'a> {
     }
 
     /// Reads the series of a number, which need not be listed. Its labels' texts come to 64 bytes for each byte of the index at most.
+    /// Where parts of the index are there no series is.
     pub fn series(&self, alloc: Global, number: u32) -> Result<IndexSeries, IndexRefusal>
         // What is read is what stands there, and what stands there is read.
         ensures found { IfOk result
@@ -123,11 +182,52 @@ impl<'a> IndexReader<'a> {
         ensures exact { Gives IndexRefusal.NoMemory
             (λ series. series) result (numbered_at self.now.bytes self.now.symbols number) }
         ensures texts { IfOk result (λ series. text_bytes series ≤ 64 * length self.now.bytes) }
+        ensures absent { self.now.bytes ≡ []
+            → (result ≡ Err (IndexRefusal.BadSeries number (Short (16 * number))))
+            ⊎ (result ≡ Err IndexRefusal.NoMemory) }
         ensures few { IfOk result
             (λ series. 2 * length series.labels + 3 * length series.chunks ≤ length
             self.now.bytes) }
     {
-        series_of(alloc, self.bytes, &self.symbols, number)
+        series_of_file(alloc, self.bytes, &self.symbols, number)
+    }
+
+    /// Reads the series of a number in a part of the index that begins at a place. Its labels' texts come to 64 bytes at most for
+    /// each byte from which the postings table was read, where they all stand in a lawful index.
+    pub fn series_in(
+        &self,
+        alloc: Global,
+        part: &[u8],
+        at: u64,
+        number: u32,
+    ) -> Result<IndexSeries, IndexRefusal>
+        requires { at ≤ 16 * number }
+
+        // What is read stands so in each index of which this is a part.
+        ensures found { (index : List ℕ)
+            → IsPartOf (record { begin = at; bytes = part.now }) index
+            → IfOk result (λ series. IsSeriesOf index self.now.symbols number series) }
+
+        // A series that lies within the part is read, or refused, as in the index.
+        ensures same { (index : List ℕ)
+            → IsPartOf (record { begin = at; bytes = part.now }) index
+            → HoldsSeries (record { begin = at; bytes = part.now }) (16 * number)
+            → Gives IndexRefusal.NoMemory
+            (λ series. series) result (numbered_at index self.now.symbols number) }
+
+        // The first refusal, with its place in the index: nothing stands behind the part.
+        ensures exact { Gives IndexRefusal.NoMemory
+            (λ series. series) result
+            (numbered_at (known (record { begin = at; bytes = part.now })) self.now.symbols number) }
+        ensures texts { IfOk result (λ series. text_bytes series ≤ 64 * self.now.size) }
+        ensures few { IfOk result
+            (λ series. 2 * length series.labels + 3 * length series.chunks ≤ length part.now) }
+    {
+        let bytes = IndexPart {
+            begin: at,
+            bytes: part,
+        };
+        series_of(alloc, bytes, &self.symbols, number, text_budget_of(self.size))
     }
 
     /// Reads the series of a number into the room of another, of which nothing is kept but the memory of its lists: where these
@@ -182,9 +282,20 @@ impl<'a> IndexReader<'a> {
         // The first refusal.
         ensures exact { Gives IndexRefusal.NoMemory
             (λ numbers. numbers) result (postings_of self.now name.now value.now) }
-        ensures few { IfOk result (λ numbers. 4 * length numbers ≤ length self.now.bytes) }
+        ensures few { IfOk result (λ numbers. 4 * length numbers ≤ length self.now.lists.bytes) }
+
+        // Where the lists are read in a part of an index, one that lies within it is the index's, and any other is not there.
+        ensures same { (opened : Opened) → IsHeldOf self.now opened
+            → ((row : PostingsRow) → row_of self.now.rows name.now value.now ≡ Some row
+            → HoldsSection self.now.lists row.offset)
+            → Gives IndexRefusal.NoMemory
+            (λ numbers. numbers) result (postings_of (whole_file opened) name.now value.now) }
+        ensures outside { (row : PostingsRow) → row_of self.now.rows name.now value.now ≡ Some row
+            → (HoldsSection self.now.lists row.offset → ⊥)
+            → (result ≡ Err (IndexRefusal.BadSection 5 (Short row.offset)))
+            ⊎ (result ≡ Err IndexRefusal.NoMemory) }
     {
-        list_of(alloc, self.bytes, &self.rows, name, value)
+        list_of(alloc, self.lists, &self.rows, name, value)
     }
 
     /// The values that the table lists under a name, ascending.
@@ -195,7 +306,7 @@ impl<'a> IndexReader<'a> {
 
         ensures exact { MatchResult result (λ values. values ≡ values_of self.now.rows name.now)
             (λ e. e ≡ IndexRefusal.NoMemory) }
-        ensures few { IfOk result (λ values. 4 * length values ≤ length self.now.bytes) }
+        ensures few { IfOk result (λ values. 4 * length values ≤ self.now.size) }
     {
         Ok(values_of(alloc, &self.rows, name)?)
     }
@@ -210,27 +321,48 @@ impl<'a> IndexReader<'a> {
     /// that a server writes, neither comes to two. The texts of the labels, which each series has for itself, come to 64 bytes
     /// for each byte of the index at most.
     pub fn whole(&self, alloc: Global) -> Result<IndexSeriesList, IndexRefusal>
-        // It is read exactly where the bytes are an index of the list.
-        ensures found { IfOk result (λ list. IsIndex self.now.bytes list) }
+        // A whole file is read exactly where its bytes are an index of the list.
+        ensures found { IsWhole self.now → IfOk result (λ list. IsIndex self.now.bytes list) }
         ensures only { (list : List IndexSeries) → IsIndex self.now.bytes list
             → IsOkAnd result (λ found. found ≡ list) ⊎ (result ≡ Err IndexRefusal.NoMemory) }
 
         // The lists are said to differ at a place exactly where the series that the first row lists and the lists of all rows
         // stand, and it is the first place of the table at which the lists are not exactly those of the series. Only memory may
         // run out first.
-        ensures differs { (place : ℕ) → result ≡ Err (IndexRefusal.PostingsDiffer place)
-            → DifferFirstAt self.now place }
-        ensures differing { (place : ℕ) → DifferFirstAt self.now place
+        ensures differs { IsWhole self.now → (place : ℕ)
+            → result ≡ Err (IndexRefusal.PostingsDiffer place)
+            → DifferFirstAt (opened_of self.now) place }
+        ensures differing { IsWhole self.now → (place : ℕ)
+            → DifferFirstAt (opened_of self.now) place
             → (result ≡ Err (IndexRefusal.PostingsDiffer place))
             ⊎ (result ≡ Err IndexRefusal.NoMemory) }
 
         // The first refusal.
         ensures exact { Gives IndexRefusal.NoMemory (λ list. list) result (whole_at self.now) }
+
+        // Where parts are there, the first listed series is not; and without series the lists are those of the index.
+        ensures absent { (number : ℕ) (numbers : List ℕ) → self.now.bytes ≡ []
+            → postings_of self.now [] [] ≡ Ok (number ∷ numbers)
+            → present_at self.now.toc (number ∷ numbers) ≡ Ok tt
+            → (result ≡ Err (IndexRefusal.BadSeries number (Short (16 * number))))
+            ⊎ (result ≡ Err IndexRefusal.NoMemory) }
+        ensures same { (opened : Opened) → IsHeldOf self.now opened
+            → ((row : PostingsRow) → Contains self.now.rows row
+            → HoldsSection self.now.lists row.offset)
+            → postings_of self.now [] [] ≡ Ok []
+            → Gives IndexRefusal.NoMemory (λ list. list) result (whole_at (whole_file opened)) }
         ensures bounded { IfOk result (λ list. sum_by members_of list ≤ 8 * length self.now.bytes) }
         ensures texts { IfOk result (λ list. sum_by text_bytes list ≤ 64 * length self.now.bytes) }
-        ensures few { IfOk result (λ list. (4 * length list ≤ length self.now.bytes)
+        ensures few { IsWhole self.now → IfOk result (λ list. (4 * length list ≤ length self.now.bytes)
             × All (λ series. 2 * length series.labels + 3 * length series.chunks ≤ length self.now.bytes) list) }
     {
-        whole(alloc, self.bytes, &self.toc, &self.symbols, &self.rows)
+        whole(
+            alloc,
+            self.bytes,
+            &self.toc,
+            &self.symbols,
+            &self.rows,
+            self.lists,
+        )
     }
 }

@@ -1,10 +1,11 @@
-ghost use Rattle.std.specs.Prelude.{◌≡◌, ◌⊎◌, ◌*◌, ◌≤◌, length, IfOk, Ok, Err};
+ghost use Rattle.std.specs.Prelude.{◌≡◌, ◌⊎◌, ◌+◌, ◌*◌, ◌^◌, ◌<◌, ◌≤◌, ℕ, List, length, IfOk, Ok, Err};
 ghost use Rattle.std.specs.Result.{IsOkAnd};
 ghost use Rattle.reading_core.specs.Reading.{Gives};
 ghost use Rattle.reading_core.specs.Grammar.{IsBytes};
 ghost use Rattle.index_file.specs.declared.index_series.IndexSeries.{IndexSeries};
 ghost use Rattle.index_v2.specs.Budget.{text_bytes};
 ghost use Rattle.index_file.specs.IndexFile.{IsSeriesOf};
+ghost use Rattle.index_slices.specs.Parts.{part_of, known, IsPartOf, HoldsSeries};
 ghost use Rattle.index_v2.specs.SeriesLabels.{labelled_at, numbered_at};
 
 use crate::budget::{lent_text_bytes, spend, text_budget_of};
@@ -12,6 +13,7 @@ use crate::opening::refused_of;
 use crate::symbols::Symbols;
 use crate::{IndexRefusal, IndexSeries, LentSeries};
 use index_parts::PartRefusal;
+use index_slices::{IndexPart, shifted};
 use std::alloc::Global;
 
 #[inline(always)]
@@ -54,39 +56,52 @@ pub(crate) fn series_at(
     index: &[u8],
     symbols: &Symbols<'_>,
     at: u64,
+    most: usize,
 ) -> Result<IndexSeries, PartRefusal>
-    ensures texts { IfOk result (λ series. text_bytes series ≤ 64 * length index.now) }
+    ensures bytes { IsBytes index.now }
+    ensures texts { IfOk result (λ series. text_bytes series ≤ most) }
     ensures exact { Gives PartRefusal.NoMemory
         (λ series. series) result (labelled_at index.now symbols.now at) }
 {
     match LentSeries::read(index, symbols, at, LentSeries::new(alloc)) {
         Ok(series) => {
-            spend(text_budget_of(index), lent_text_bytes(series.labels())?)?;
+            spend(most, lent_text_bytes(series.labels())?)?;
             Ok(series.to_series(alloc)?)
         }
         Err(refusal) => Err(refusal),
     }
 }
 
-fn numbered_series(
+/// Reads the series of a number in a part of an index. Its texts come to so many bytes at most.
+pub(crate) fn series_of(
     alloc: Global,
-    index: &[u8],
+    part: IndexPart<'_>,
     symbols: &Symbols<'_>,
     number: u32,
+    most: usize,
 ) -> Result<IndexSeries, IndexRefusal>
-    ensures bytes { IsBytes index.now }
-    ensures texts { IfOk result (λ series. text_bytes series ≤ 64 * length index.now) }
+    requires begins { part.begin ≤ 16 * number }
+    requires fits { part.begin + length part.bytes.now < 2 ^ 64 }
+    ensures found { (index : List ℕ) → IsPartOf (part_of part.entry) index
+        → IfOk result (λ series. IsSeriesOf index symbols.now number series) }
+    ensures same { (index : List ℕ) → IsPartOf (part_of part.entry) index
+        → HoldsSeries (part_of part.entry) (16 * number)
+        → Gives IndexRefusal.NoMemory
+        (λ series. series) result (numbered_at index symbols.now number) }
     ensures exact { Gives IndexRefusal.NoMemory
-        (λ series. series) result (numbered_at index.now symbols.now number) }
+        (λ series. series) result (numbered_at (known (part_of part.entry)) symbols.now number) }
+    ensures texts { IfOk result (λ series. text_bytes series ≤ most) }
+    ensures few { IfOk result (λ series.
+        2 * length series.labels + 3 * length series.chunks ≤ length part.entry.bytes.now) }
 {
-    match series_at(alloc, index, symbols, 16 * u64::from(number)) {
+    match series_at(alloc, part.bytes, symbols, 16 * u64::from(number) - part.begin, most) {
         Ok(series) => Ok(series),
-        Err(refusal) => Err(refused_of(number, refusal)),
+        Err(refusal) => Err(refused_of(number, shifted(refusal, part.begin))),
     }
 }
 
-/// Reads the series of a number.
-pub(crate) fn series_of(
+/// Reads the series of a number in a whole file.
+pub(crate) fn series_of_file(
     alloc: Global,
     index: &[u8],
     symbols: &Symbols<'_>,
@@ -99,5 +114,10 @@ pub(crate) fn series_of(
     ensures exact { Gives IndexRefusal.NoMemory
         (λ series. series) result (numbered_at index.now symbols.now number) }
 {
-    numbered_series(alloc, index, symbols, number)
+    let most = text_budget_of(index.len());
+    let file = IndexPart {
+        begin: 0,
+        bytes: index,
+    };
+    series_of(alloc, file, symbols, number, most)
 }

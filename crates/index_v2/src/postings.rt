@@ -1,6 +1,9 @@
-ghost use Rattle.std.specs.Prelude.{◌≡◌, ◌*◌, ◌^◌, ◌<◌, ◌≤◌, All, length, IfOk};
+ghost use Rattle.std.specs.Prelude.{◌≡◌, ◌⊎◌, ◌+◌, ◌*◌, ◌^◌, ◌<◌, ◌≤◌, ℕ, List, All, length, IfOk, Err, Some};
 ghost use Rattle.reading_core.specs.Reading.{Gives, refused_as};
+ghost use Rattle.index_slices.specs.Parts.{part_of, file, list_in, IsPartOf, HoldsSection};
 ghost use Rattle.index_parts.specs.PostingsReading.{postings_at};
+ghost use Rattle.index_parts.specs.declared.postings_row.PostingsRow.{PostingsRow};
+ghost use Rattle.index_parts.specs.declared.refusal.PartRefusal.TheVariants.{Short};
 ghost use Rattle.index_v2.specs.Opening.{refused_in};
 ghost use Rattle.std.specs.List.Sorted.{IsStrictlyIncreasing};
 ghost use Rattle.index_v2.specs.PostingsLists.{row_of, list_of, values_of};
@@ -8,7 +11,7 @@ ghost use Rattle.index_v2.specs.PostingsLists.{row_of, list_of, values_of};
 use crate::IndexRefusal;
 use crate::opening::refused_in;
 use crate::rows::Rows;
-use index_parts::read_postings;
+use index_slices::{IndexPart, postings_in};
 use label_sets::{Text, TextList};
 use list_core::NoMemory;
 use std::alloc::Global;
@@ -18,14 +21,27 @@ use wire_bytes::NumberList;
 pub(crate) const POSTINGS: u8 = 5;
 
 /// The postings list at a place of the index.
-pub(crate) fn list_at(alloc: Global, index: &[u8], at: u64) -> Result<NumberList, IndexRefusal>
+pub(crate) fn list_at(
+    alloc: Global,
+    part: IndexPart<'_>,
+    at: u64,
+) -> Result<NumberList, IndexRefusal>
+    requires { part.begin + length part.bytes.now < 2 ^ 64 }
     ensures rise { IfOk result IsStrictlyIncreasing }
     ensures small { IfOk result (All (λ n. n < 2 ^ 32)) }
-    ensures few { IfOk result (λ numbers. 4 * length numbers ≤ length index.now) }
+    ensures few { IfOk result (λ numbers. 4 * length numbers ≤ length part.entry.bytes.now) }
+    ensures same { (index : List ℕ) → IsPartOf (part_of part.entry) index
+        → HoldsSection (part_of part.entry) at
+        → Gives IndexRefusal.NoMemory
+        (λ numbers. numbers) result (refused_as (refused_in 5) (postings_at index at)) }
+    ensures outside { (HoldsSection (part_of part.entry) at → ⊥)
+        → (result ≡ Err (IndexRefusal.BadSection 5 (Short at)))
+        ⊎ (result ≡ Err IndexRefusal.NoMemory) }
     ensures exact { Gives IndexRefusal.NoMemory
-        (λ numbers. numbers) result (refused_as (refused_in 5) (postings_at index.now at)) }
+        (λ numbers. numbers) result
+        (refused_as (refused_in 5) (list_in (part_of part.entry) at)) }
 {
-    match read_postings(alloc, index, at) {
+    match postings_in(alloc, part, at) {
         Ok(numbers) => Ok(numbers),
         Err(refusal) => Err(refused_in(POSTINGS, refusal)),
     }
@@ -34,20 +50,32 @@ pub(crate) fn list_at(alloc: Global, index: &[u8], at: u64) -> Result<NumberList
 /// The postings list of a name and a value, which is empty where the table has no such row.
 pub(crate) fn list_of(
     alloc: Global,
-    index: &[u8],
+    part: IndexPart<'_>,
     rows: &Rows<'_>,
     name: &str,
     value: &str,
 ) -> Result<NumberList, IndexRefusal>
+    requires { part.begin + length part.bytes.now < 2 ^ 64 }
     ensures rise { IfOk result IsStrictlyIncreasing }
     ensures small { IfOk result (All (λ n. n < 2 ^ 32)) }
-    ensures few { IfOk result (λ numbers. 4 * length numbers ≤ length index.now) }
+    ensures few { IfOk result (λ numbers. 4 * length numbers ≤ length part.entry.bytes.now) }
+    ensures same { (index : List ℕ) → IsPartOf (part_of part.entry) index
+        → ((row : PostingsRow) → row_of rows.now name.now value.now ≡ Some row
+        → HoldsSection (part_of part.entry) row.offset)
+        → Gives IndexRefusal.NoMemory
+        (λ numbers. numbers) result
+        (list_of (file index) (row_of rows.now name.now value.now)) }
+    ensures outside { (row : PostingsRow) → row_of rows.now name.now value.now ≡ Some row
+        → (HoldsSection (part_of part.entry) row.offset → ⊥)
+        → (result ≡ Err (IndexRefusal.BadSection 5 (Short row.offset)))
+        ⊎ (result ≡ Err IndexRefusal.NoMemory) }
     ensures exact { Gives IndexRefusal.NoMemory
-        (λ numbers. numbers) result (list_of index.now (row_of rows.now name.now value.now)) }
+        (λ numbers. numbers) result
+        (list_of (part_of part.entry) (row_of rows.now name.now value.now)) }
 {
     match rows.place_of(name, value) {
         Ok(place) => match rows.get(place) {
-            Some(row) => list_at(alloc, index, row.2),
+            Some(row) => list_at(alloc, part, row.2),
             None => Ok(NumberList::new(alloc)),
         },
         Err(_) => Ok(NumberList::new(alloc)),

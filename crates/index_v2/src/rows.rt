@@ -1,14 +1,17 @@
-ghost use Rattle.std.specs.Prelude.{◌≡◌, ◌≤◌, ◌<◌, ◌^◌, length, option_map, slice_get, IfOk, IfErr};
+ghost use Rattle.std.specs.Prelude.{◌≡◌, ◌+◌, ◌*◌, ◌≤◌, ◌<◌, ◌^◌, length, option_map, slice_get, IfOk, IfErr};
 ghost use Rattle.reading_core.specs.Reading.{Gives};
 ghost use Rattle.index_parts.specs.RowsReading.{postings_table_at};
+ghost use Rattle.index_slices.specs.Parts.{part_of, known, IsPartOf};
+ghost use Rattle.index_file.specs.IndexFile.{Holds};
 ghost use Rattle.index_v2.specs.Opening.{held_at};
 ghost use Rattle.std.specs.List.Sorted.{IsStrictlySortedBy};
-ghost use Rattle.index_parts.specs.Rows.{compare_rows};
+ghost use Rattle.index_parts.specs.Rows.{compare_rows, IsPostingsTable};
 ghost use Rattle.index_v2.specs.RowOrder.{compare_row, IsRowAt, StandsAt, BeginsAt};
 
 use crate::IndexRefusal;
 use crate::opening::refused_in;
-use index_parts::{PostingsTable, read_postings_table};
+use index_parts::PostingsTable;
+use index_slices::{IndexPart, postings_table_in};
 use std::alloc::Global;
 use std::cmp::Ordering;
 use std::marker::Model;
@@ -38,6 +41,8 @@ impl<'a> Model for Rows<'a> {
 }
 
 impl<'a> Rows<'a> {
+    ghost use Rattle.std.specs.Prelude.{List, ℕ};
+
     pub(crate) fn len(&self) -> usize
         ensures value { result ≡ length self.now }
         ensures small { length self.now < 2 ^ 32 }
@@ -87,16 +92,21 @@ impl<'a> Rows<'a> {
     /// Reads the rows at a reference.
     pub(crate) fn read(
         alloc: Global,
-        index: &'a [u8],
+        part: IndexPart<'a>,
         reference: u64,
     ) -> Result<Rows<'a>, IndexRefusal>
-        ensures { Gives IndexRefusal.NoMemory
-            (λ rows. rows) result (held_at 6 postings_table_at index.now reference) }
+        requires begins { part.begin ≤ reference }
+        requires fits { part.begin + length part.bytes.now < 2 ^ 64 }
+        ensures found { (index : List ℕ) → IsPartOf (part_of part.entry) index
+            → IfOk result (λ rows. Holds IsPostingsTable index reference rows) }
+        ensures exact { Gives IndexRefusal.NoMemory (λ rows. rows) result
+            (held_at 6 postings_table_at (known (part_of part.entry)) reference) }
+        ensures few { IfOk result (λ rows. 4 * length rows ≤ length part.entry.bytes.now) }
     {
         if reference == 0 {
             return Ok(Rows { table: None });
         }
-        match read_postings_table(alloc, index, reference) {
+        match postings_table_in(alloc, part, reference) {
             Ok(table) => Ok(Rows { table: Some(table) }),
             Err(refusal) => Err(refused_in(POSTINGS_TABLE, refusal)),
         }

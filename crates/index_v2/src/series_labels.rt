@@ -102,10 +102,10 @@ pub(crate) fn fault_at(index: &[u8], at: u64, fault: LabelFault) -> PartRefusal
 {
     match fault {
         LabelFault::Name(label) => {
-            PartRefusal::Unordered(label_place(index, at, label).map_or(0, |places| places.0))
+            PartRefusal::Unordered(label_place(index, at, label).map_or(at, |places| places.0))
         }
         LabelFault::Value(label) => {
-            PartRefusal::Unordered(label_place(index, at, label).map_or(0, |places| places.1))
+            PartRefusal::Unordered(label_place(index, at, label).map_or(at, |places| places.1))
         }
     }
 }

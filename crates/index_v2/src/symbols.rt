@@ -1,12 +1,16 @@
-ghost use Rattle.std.specs.Prelude.{◌≡◌, slice_get};
+ghost use Rattle.std.specs.Prelude.{◌≡◌, ◌+◌, ◌^◌, ◌<◌, ◌≤◌, length, slice_get, IfOk};
 ghost use Rattle.std.specs.Option.{option_copied};
 ghost use Rattle.reading_core.specs.Reading.{Gives};
+ghost use Rattle.index_parts.specs.Symbols.{IsSymbols};
 ghost use Rattle.index_parts.specs.SymbolsReading.{symbols_at};
+ghost use Rattle.index_file.specs.IndexFile.{Holds};
+ghost use Rattle.index_slices.specs.Parts.{part_of, known, IsPartOf};
 ghost use Rattle.index_v2.specs.Opening.{held_at};
 
 use crate::IndexRefusal;
 use crate::opening::refused_in;
-use index_parts::{SymbolTable, read_symbols};
+use index_parts::SymbolTable;
+use index_slices::{IndexPart, symbols_in};
 use std::alloc::Global;
 use std::marker::Model;
 
@@ -28,6 +32,8 @@ impl<'a> Model for Symbols<'a> {
 }
 
 impl<'a> Symbols<'a> {
+    ghost use Rattle.std.specs.Prelude.{List, ℕ};
+
     /// The text of a symbol number.
     #[inline(always)]
     pub(crate) fn get(&self, number: u64) -> Option<&'a str>
@@ -42,16 +48,20 @@ impl<'a> Symbols<'a> {
     /// Reads the symbols at a reference.
     pub(crate) fn read(
         alloc: Global,
-        index: &'a [u8],
+        part: IndexPart<'a>,
         reference: u64,
     ) -> Result<Symbols<'a>, IndexRefusal>
-        ensures { Gives IndexRefusal.NoMemory
-            (λ symbols. symbols) result (held_at 1 symbols_at index.now reference) }
+        requires begins { part.begin ≤ reference }
+        requires fits { part.begin + length part.bytes.now < 2 ^ 64 }
+        ensures found { (index : List ℕ) → IsPartOf (part_of part.entry) index
+            → IfOk result (λ symbols. Holds IsSymbols index reference symbols) }
+        ensures exact { Gives IndexRefusal.NoMemory (λ symbols. symbols) result
+            (held_at 1 symbols_at (known (part_of part.entry)) reference) }
     {
         if reference == 0 {
             return Ok(Symbols { table: None });
         }
-        match read_symbols(alloc, index, reference) {
+        match symbols_in(alloc, part, reference) {
             Ok(table) => Ok(Symbols { table: Some(table) }),
             Err(refusal) => Err(refused_in(SYMBOLS, refusal)),
         }

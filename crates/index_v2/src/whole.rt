@@ -1,19 +1,12 @@
-ghost use Rattle.std.specs.Prelude.{◌≡◌, ◌⊎◌, ◌+◌, ◌*◌, ◌-◌, ◌^◌, ◌<◌, ◌≤◌, ℕ, List, All, length, sum_by, slice_get, None, Ok, Err, IfOk};
-ghost use Rattle.std.specs.Option.{option_copied};
+ghost use Rattle.std.specs.Prelude.{◌≡◌, ◌+◌, ◌*◌, ◌-◌, ◌^◌, ◌<◌, ◌≤◌, ℕ, All, length, sum_by, slice_get, None, IfOk};
 ghost use Rattle.reading_core.specs.Reading.{Gives, Answers};
-ghost use Rattle.index_parts.specs.declared.toc.Toc.{Toc};
 ghost use Rattle.std.specs.List.Sorted.{IsStrictlyIncreasing};
-ghost use Rattle.std.specs.Result.{IsOkAnd};
-ghost use Rattle.reading_core.specs.Grammar.{IsBytes};
-ghost use Rattle.index_file.specs.declared.index_series.IndexSeries.{IndexSeries};
-ghost use Rattle.index_v2.specs.Opening.{opened_at};
+ghost use Rattle.index_slices.specs.Parts.{part_of};
 ghost use Rattle.index_v2.specs.Budget.{members_of, series_bytes, list_bytes, text_bytes};
-ghost use Rattle.index_file.specs.IndexFile.{IsIndex};
-ghost use Rattle.index_v2.specs.Differing.{DifferFirstAt};
 ghost use Rattle.index_v2.specs.WholeReading.{present_at, may_stand_behind, behind_at, all_at, lists_at, whole_at};
 
 use crate::budget::{
-    budget_of, members_of, section_bytes, series_bytes, spend, text_budget_of, text_bytes,
+    budget_of, list_bytes, members_of, series_bytes, spend, text_budget_of, text_bytes,
 };
 use crate::difference::difference;
 use crate::numbered::series_at;
@@ -23,6 +16,7 @@ use crate::rows::Rows;
 use crate::symbols::{SYMBOLS, Symbols};
 use crate::{IndexRefusal, IndexSeries, IndexSeriesList};
 use index_parts::{PartRefusal, Toc};
+use index_slices::IndexPart;
 use list_core::List;
 use std::alloc::Global;
 use std::cmp::Ordering;
@@ -75,7 +69,7 @@ fn series_behind(
         (λ series. series) result
         (behind_at index.now symbols.now (slice_get before.now (length before.now - 1)) number) }
 {
-    match series_at(alloc, index, symbols, 16 * number) {
+    match series_at(alloc, index, symbols, 16 * number, text_budget_of(index.len())) {
         Ok(series) if may_stand_behind(before, &series) => Ok(series),
         Ok(_) => Err(IndexRefusal::BadSeries(number as u32, PartRefusal::Unordered(16 * number))),
         Err(refusal) => Err(refused_of(number as u32, refusal)),
@@ -101,7 +95,7 @@ pub(crate) fn all_series(
 {
     let mut made = Vec::new(alloc);
     let mut left = budget_of(index);
-    let mut texts = text_budget_of(index);
+    let mut texts = text_budget_of(index.len());
     for number in numbers {
         let series = series_behind(alloc, index, symbols, made.as_slice(), *number)?;
         let size = text_bytes(&series)?;
@@ -116,25 +110,26 @@ pub(crate) fn all_series(
 /// Reads the postings lists of all rows. Their bytes and numbers are within the budget.
 pub(crate) fn all_lists(
     alloc: Global,
-    index: &[u8],
+    part: IndexPart<'_>,
     rows: &Rows<'_>,
 ) -> Result<Vec<NumberList>, IndexRefusal>
+    requires { part.begin + length part.bytes.now < 2 ^ 64 }
     ensures rise { IfOk result (λ lists. All IsStrictlyIncreasing lists.items) }
     ensures one_each { IfOk result (λ lists. length lists.items ≡ length rows.now) }
     ensures bounded { IfOk result
         (λ lists. sum_by length lists.items + sum_by
-        (list_bytes index.now) rows.now ≤ 8 * length index.now) }
+        (list_bytes (part_of part.entry)) rows.now ≤ 8 * length part.entry.bytes.now) }
     ensures exact { Gives IndexRefusal.NoMemory
-        (λ lists. lists.items) result (lists_at index.now rows.now) }
+        (λ lists. lists.items) result (lists_at (part_of part.entry) rows.now) }
 {
     let mut lists = Vec::new(alloc);
-    let mut left = budget_of(index);
+    let mut left = budget_of(part.bytes);
     for place in 0..rows.len() {
         let Some(row) = rows.get(place) else {
             return Ok(lists);
         };
-        let list = list_at(alloc, index, row.2)?;
-        let between = spend(left, section_bytes(index, row.2))?;
+        let list = list_at(alloc, part, row.2)?;
+        let between = spend(left, list_bytes(part, row.2))?;
         left = spend(between, list.len())?;
         lists.push(list)?;
     }
@@ -143,59 +138,28 @@ pub(crate) fn all_lists(
 
 /// Reads every series, and tests that the postings lists are exactly those of the series.
 #[tactic(auto, unfolding(crate::specs::WholeReading::whole_at))]
-fn read_whole(
-    alloc: Global,
-    index: &[u8],
-    toc: &Toc,
-    symbols: &Symbols<'_>,
-    rows: &Rows<'_>,
-) -> Result<IndexSeriesList, IndexRefusal>
-    ensures bytes { IsBytes index.now }
-    ensures bounded { IfOk result (λ list. sum_by members_of list ≤ 8 * length index.now) }
-    ensures texts { IfOk result (λ list. sum_by text_bytes list ≤ 64 * length index.now) }
-    ensures exact { Gives IndexRefusal.NoMemory
-        (λ list. list) result
-        (whole_at (record
-        { bytes = index.now; toc = toc.now; symbols = symbols.now; rows = rows.now })) }
-{
-    let numbers = list_of(alloc, index, rows, "", "")?;
-    test_present(toc, numbers.members())?;
-    let series = all_series(alloc, index, symbols, numbers.members())?;
-    let lists = all_lists(alloc, index, rows)?;
-    match difference(rows, lists.as_slice(), numbers.members(), series.as_slice()) {
-        None => Ok(List::from_vec(series)),
-        Some(place) => Err(IndexRefusal::PostingsDiffer(place as u32)),
-    }
-}
-
-/// The series of an opened index, and nothing but an index.
 pub(crate) fn whole(
     alloc: Global,
     index: &[u8],
     toc: &Toc,
     symbols: &Symbols<'_>,
     rows: &Rows<'_>,
+    part: IndexPart<'_>,
 ) -> Result<IndexSeriesList, IndexRefusal>
-    requires { opened_at index.now
-        ≡ Ok (record { bytes = index.now; toc = toc.now; symbols = symbols.now; rows = rows.now }) }
-    ensures found { IfOk result (λ list. IsIndex index.now list) }
-    ensures only { (list : List IndexSeries) → IsIndex index.now list
-        → IsOkAnd result (λ found. found ≡ list) ⊎ (result ≡ Err IndexRefusal.NoMemory) }
-    ensures differs { (place : ℕ) → result ≡ Err (IndexRefusal.PostingsDiffer place)
-        → DifferFirstAt
-        (record { bytes = index.now; toc = toc.now; symbols = symbols.now; rows = rows.now })
-        place }
-    ensures differing { (place : ℕ)
-        → DifferFirstAt
-        (record { bytes = index.now; toc = toc.now; symbols = symbols.now; rows = rows.now }) place
-        → (result ≡ Err (IndexRefusal.PostingsDiffer place))
-        ⊎ (result ≡ Err IndexRefusal.NoMemory) }
+    requires { part.begin + length part.bytes.now < 2 ^ 64 }
     ensures bounded { IfOk result (λ list. sum_by members_of list ≤ 8 * length index.now) }
     ensures texts { IfOk result (λ list. sum_by text_bytes list ≤ 64 * length index.now) }
-    ensures exact { Gives IndexRefusal.NoMemory
+    ensures exact { (size : ℕ) → Gives IndexRefusal.NoMemory
         (λ list. list) result
-        (whole_at (record
-        { bytes = index.now; toc = toc.now; symbols = symbols.now; rows = rows.now })) }
+        (whole_at (record { bytes = index.now; toc = toc.now; symbols = symbols.now;
+        rows = rows.now; lists = part_of part.entry; size = size })) }
 {
-    read_whole(alloc, index, toc, symbols, rows)
+    let numbers = list_of(alloc, part, rows, "", "")?;
+    test_present(toc, numbers.members())?;
+    let series = all_series(alloc, index, symbols, numbers.members())?;
+    let lists = all_lists(alloc, part, rows)?;
+    match difference(rows, lists.as_slice(), numbers.members(), series.as_slice()) {
+        None => Ok(List::from_vec(series)),
+        Some(place) => Err(IndexRefusal::PostingsDiffer(place as u32)),
+    }
 }

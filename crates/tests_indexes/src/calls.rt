@@ -1,4 +1,5 @@
 use crate::made_sections::print_made;
+use crate::parts_calls::{print_in, print_over};
 use crate::pieces::put_pieces;
 use crate::reader_calls::print_read;
 use crate::section_calls::print_section;
@@ -11,7 +12,7 @@ use std::io;
 /// Prints a call and its answer. `made` and a section, in the notation of `made_sections`, are the bytes that are written of
 /// it, `bytes FROM..END` those of the index from a place on, up to its end where none is named, and `toc` is its table of
 /// contents. `labels` and a text tells why the text is no label set. `symbols`, `table`, `list`, `raw` and `place` ask for a
-/// section of the index, and the others ask its reader.
+/// section of the index, `over` and `in` ask a reader over parts of it, and the others ask its reader.
 pub(crate) fn print_call(rt: &HostRuntime, index: &[u8], row: &str) -> io::Result<()> {
     print!(rt; "{row} -> ")?;
     let (call, pieces) = row.split_once(" with ").unwrap_or((row, ""));
@@ -36,6 +37,8 @@ fn print_answer(rt: &HostRuntime, index: &[u8], call: &str) -> io::Result<()> {
         "toc" => println!(rt; "{:?}", read_toc(index)),
         "labels" => print_labels(rt, argument),
         "symbols" | "table" | "list" | "raw" | "place" => print_section(rt, index, word, argument),
+        "over" => print_over(rt, index, argument),
+        "in" => print_in(rt, index, argument),
         _ => print_read(rt, index, word, argument),
     }
 }

@@ -9,6 +9,7 @@
 mod calls;
 mod chunk_notation;
 mod made_sections;
+mod parts_calls;
 mod pieces;
 mod reader_calls;
 mod section_calls;

@@ -19,7 +19,7 @@ pub(crate) fn print_read(
     }
 }
 
-fn print_opened(
+pub(crate) fn print_opened(
     rt: &HostRuntime,
     reader: &IndexReader<'_>,
     word: &str,
@@ -89,7 +89,7 @@ fn print_values(rt: &HostRuntime, read: Result<TextList, IndexRefusal>) -> io::R
     }
 }
 
-fn print_series(rt: &HostRuntime, read: Result<IndexSeries, IndexRefusal>) -> io::Result<()> {
+pub(crate) fn print_series(rt: &HostRuntime, read: Result<IndexSeries, IndexRefusal>) -> io::Result<()> {
     match read {
         Ok(series) => print_one(rt, &series),
         Err(refusal) => println!(rt; "{refusal:?}"),

@@ -1,17 +1,35 @@
-use Rattle.index_parts.proofs.ListLaws.{found_from, only_from, same_from}
-use Rattle.index_v2.specs.declared.refusal.IndexRefusal.TheVariants.{NoMemory}
-use Rattle.index_file.specs.declared.index_series.IndexSeries.{IndexSeries}
-use Rattle.index_v2.specs.SeriesLabels.{numbered_at}
-use Rattle.index_file.specs.IndexFile.{IsSeriesOf}
-use Rattle.index_v2.proofs.LabelLaws.{numbered_found, numbered_again}
+use Rattle.std.proofs.Common.{◌≡◌, ◌⊎◌, ◌*◌, ◌-◌, ℕ, Ok, Err, subst, arith}
+use Rattle.index_parts.specs.declared.refusal.PartRefusal.TheVariants.{NoMemory}
+use Rattle.index_slices.specs.Parts.{part_of}
+use Rattle.index_slices.proofs.Slices.{fits_in}
+use Rattle.index_v2.specs.SeriesLabels.{labelled_at}
+use Rattle.index_v2.proofs.SeriesSlices.{series_known_told, series_index_told, series_stands_in, number_found, number_refused, series_few_in}
 use Rattle.index_v2.proofs.numbered.series_of.Goals as goal
 
-pub returns-clause-found : goal.returns-clause-found
-returns-clause-found c =
-    found_from (IsSeriesOf c.args.index.now c.args.symbols.now c.args.number) NoMemory (λ (s : IndexSeries). s) c.numbered_series.result (numbered_at c.args.index.now c.args.symbols.now c.args.number)
-    (λ s e. numbered_found c.args.index.now c.args.symbols.now c.args.number s c.numbered_series.ensures.bytes e) c.numbered_series.ensures.exact
+pub shifted-requires : goal.shifted-requires
+shifted-requires c =
+    let here = part_of c.args.part in
+    let told = series_known_told here c.args.symbols.now (16 * c.args.number) c.requires.begins (omega (arith, c.ranges.number.fits)) c.requires.fits in
+    fits_in c.args.part.begin _ _ c.in-Err.refusal told (subst (λ (n : ℕ). (c.in-Err.refusal ≡ NoMemory) ⊎ (labelled_at c.args.part.bytes.now c.args.symbols.now (16 * n - c.args.part.begin) ≡ Err c.in-Err.refusal)) c.from.ensures c.in-Err.ensures.exact)
 
-pub returns-clause-only : goal.returns-clause-only
-returns-clause-only c =
-    λ s is. same_from NoMemory c.numbered_series.result s (only_from NoMemory (λ (s : IndexSeries). s) c.numbered_series.result (numbered_at c.args.index.now c.args.symbols.now c.args.number) s
-    (numbered_again c.args.index.now c.args.symbols.now c.args.number s is) c.numbered_series.ensures.exact)
+pub returns-in-Ok-clause-found : goal.returns-in-Ok-clause-found
+returns-in-Ok-clause-found c = λ index is. series_stands_in (part_of c.args.part) index c.args.symbols.now c.args.number c.in-Ok.series is c.requires.begins c.series_at.ensures.bytes (subst (λ (n : ℕ). labelled_at c.args.part.bytes.now c.args.symbols.now (16 * n - c.args.part.begin) ≡ Ok c.in-Ok.series) c.from.ensures c.in-Ok.ensures.exact)
+
+pub returns-in-Ok-clause-same : goal.returns-in-Ok-clause-same
+returns-in-Ok-clause-same c = λ index is lies.
+    number_found c.args.number c.args.part.begin _ _ (series_index_told (part_of c.args.part) c.args.symbols.now (16 * c.args.number) c.requires.begins (omega (arith, c.ranges.number.fits)) c.requires.fits index is lies) c.in-Ok.series (subst (λ (n : ℕ). labelled_at c.args.part.bytes.now c.args.symbols.now (16 * n - c.args.part.begin) ≡ Ok c.in-Ok.series) c.from.ensures c.in-Ok.ensures.exact)
+
+pub returns-in-Ok-clause-exact : goal.returns-in-Ok-clause-exact
+returns-in-Ok-clause-exact c =
+    number_found c.args.number c.args.part.begin _ _ (series_known_told (part_of c.args.part) c.args.symbols.now (16 * c.args.number) c.requires.begins (omega (arith, c.ranges.number.fits)) c.requires.fits) c.in-Ok.series (subst (λ (n : ℕ). labelled_at c.args.part.bytes.now c.args.symbols.now (16 * n - c.args.part.begin) ≡ Ok c.in-Ok.series) c.from.ensures c.in-Ok.ensures.exact)
+
+pub returns-in-Ok-clause-few : goal.returns-in-Ok-clause-few
+returns-in-Ok-clause-few c = series_few_in c.args.part.bytes.now c.args.symbols.now _ c.in-Ok.series c.series_at.ensures.bytes (subst (λ (n : ℕ). labelled_at c.args.part.bytes.now c.args.symbols.now (16 * n - c.args.part.begin) ≡ Ok c.in-Ok.series) c.from.ensures c.in-Ok.ensures.exact)
+
+pub returns-in-Err-clause-same : goal.returns-in-Err-clause-same
+returns-in-Err-clause-same c = λ index is lies.
+    number_refused c.args.number c.args.part.begin _ _ (series_index_told (part_of c.args.part) c.args.symbols.now (16 * c.args.number) c.requires.begins (omega (arith, c.ranges.number.fits)) c.requires.fits index is lies) c.in-Err.refusal c.shifted.result c.refused_of.result c.shifted.ensures c.refused_of.ensures (subst (λ (n : ℕ). (c.in-Err.refusal ≡ NoMemory) ⊎ (labelled_at c.args.part.bytes.now c.args.symbols.now (16 * n - c.args.part.begin) ≡ Err c.in-Err.refusal)) c.from.ensures c.in-Err.ensures.exact)
+
+pub returns-in-Err-clause-exact : goal.returns-in-Err-clause-exact
+returns-in-Err-clause-exact c =
+    number_refused c.args.number c.args.part.begin _ _ (series_known_told (part_of c.args.part) c.args.symbols.now (16 * c.args.number) c.requires.begins (omega (arith, c.ranges.number.fits)) c.requires.fits) c.in-Err.refusal c.shifted.result c.refused_of.result c.shifted.ensures c.refused_of.ensures (subst (λ (n : ℕ). (c.in-Err.refusal ≡ NoMemory) ⊎ (labelled_at c.args.part.bytes.now c.args.symbols.now (16 * n - c.args.part.begin) ≡ Err c.in-Err.refusal)) c.from.ensures c.in-Err.ensures.exact)

@@ -2,6 +2,7 @@ use Rattle.std.proofs.Common.{sym, ap, arith, length, sum_by}
 use Rattle.std.proofs.lemmas.List.{take_all}
 use Rattle.index_v2.proofs.WholeLoops.{lists_step, lists_stop, lists_end, front_more, gives_stop}
 use Rattle.index_v2.proofs.Spending.{spent}
+use Rattle.index_slices.specs.Parts.{part_of}
 use Rattle.index_v2.specs.Budget.{list_bytes}
 use Rattle.index_v2.proofs.whole.all_lists.Goals as goal
 
@@ -13,7 +14,7 @@ returns-in_err-list-clause-exact c =
 pub loop-place-preserved : goal.loop-place-preserved
 loop-place-preserved c = (
   lists_step _ _ c.loop-place.place _ _ _ _ c.loop-place.invariant.0 (sym c.in-Some.ensures) c.in_ok-list.ensures.exact c.in_ok-list.ensures.rise c.in_ok-push.ensures.items,
-  spent length (list_bytes c.args.index.now) _ _ _ _ _ _ _ _ _ _ _ _ c.loop-place.invariant.1 c.in_ok-push.ensures.items (front_more c.args.rows.now c.loop-place.place _ (sym c.in-Some.ensures)) c.section_bytes.ensures c.in_ok-between.ensures c.len.ensures c.in_ok-left.ensures,
+  spent length (list_bytes (part_of c.args.part)) _ _ _ _ _ _ _ _ _ _ _ _ c.loop-place.invariant.1 c.in_ok-push.ensures.items (front_more c.args.rows.now c.loop-place.place _ (sym c.in-Some.ensures)) c.list_bytes.ensures c.in_ok-between.ensures c.len.ensures c.in_ok-left.ensures,
 )
 
 pub returns-clause-exact : goal.returns-clause-exact
@@ -26,4 +27,4 @@ pub returns-clause-rise : goal.returns-clause-rise
 returns-clause-rise c = c.loop-place.invariant.0.rise
 
 pub returns-clause-bounded : goal.returns-clause-bounded
-returns-clause-bounded c = let m = c.loop-place.invariant.1 in omega (arith, ap (sum_by (list_bytes c.args.index.now)) (take_all c.loop-place.place c.args.rows.now (omega arith)))
+returns-clause-bounded c = let m = c.loop-place.invariant.1 in omega (arith, ap (sum_by (list_bytes (part_of c.args.part))) (take_all c.loop-place.place c.args.rows.now (omega arith)))

@@ -1,7 +1,10 @@
-use Rattle.std.proofs.Common.{subst}
+use Rattle.std.proofs.Common.{subst, List, ℕ, ap, ◌∙◌}
 use Rattle.index_file.specs.Opened.{Opened}
 use Rattle.index_file.specs.IndexFile.{IsSeriesOf}
+use Rattle.index_slices.specs.Parts.{part_of}
+use Rattle.index_v2.specs.Held.{Held, opened_of}
 use Rattle.index_v2.proofs.PostingsLaws.{opened_is}
+use Rattle.index_v2.proofs.HeldLaws.{opened_from}
 use Rattle.index_v2.proofs.FewLaws.{if_ok, series_few}
 use Rattle.index_v2.proofs.index_reader.IndexReader.lent_series.Goals as goal
 
@@ -13,6 +16,6 @@ returns-clause-few c = rw (← c.self.view_is) (if_ok _ _ c.lent_series_of.resul
 
 pub returns-clause-agrees : goal.returns-clause-agrees
 returns-clause-agrees c =
-    let o : Opened = record { bytes = c.self.inside.bytes.now; toc = c.self.inside.toc; symbols = c.self.inside.symbols; rows = c.self.inside.rows } in
+    let h : Held = record { bytes = c.self.inside.bytes.now; toc = c.self.inside.toc; symbols = c.self.inside.symbols; rows = c.self.inside.rows; lists = part_of c.self.inside.lists; size = c.self.inside.size } in
     rw (← c.self.view_is) (λ list is series has. c.lent_series_of.ensures.only series
-    (subst (λ (x : Opened). IsSeriesOf x.bytes x.symbols c.args.number series) (opened_is o c.self.invariant.0 list is) (is.series_are.stand c.args.number series has)))
+    (subst (λ (x : Opened). IsSeriesOf x.bytes x.symbols c.args.number series) (opened_is (opened_of h) (opened_from h c.self.invariant.0 list is) list is) (is.series_are.stand c.args.number series has)))

@@ -1,0 +1,174 @@
+-- What a reader holds: of a whole file, and of parts.
+use Rattle.std.proofs.Common.{◌≡◌, ℕ, ◌*◌, ◌≤◌, Bool, true, false, List, [], ◌∷◌, length, replicate, Option, Some, None, Result, Ok, Err, refl, sym, ap, subst, ◌∙◌, arith, ◌⊎◌, inl, inr}
+use Rattle.std.proofs.lemmas.List.{append-nil, length-replicate}
+use Rattle.std.specs.Prelude.{IfOk, ◌==◌}
+use Rattle.std.specs.Result.{IsOkAnd}
+use Rattle.std.specs.List.{Contains}
+use Rattle.reading_core.specs.Reading.{◌>>=◌, ◌>>◌, refused_as}
+use Rattle.reading_core.specs.Grammar.{IsBytes}
+use Rattle.reading_core.proofs.Binds.{ok_is, err_is}
+use Rattle.wire_bytes.specs.Position.{Position}
+use Rattle.index_parts.specs.declared.refusal.PartRefusal.{PartRefusal}
+use Rattle.index_parts.specs.declared.refusal.PartRefusal.TheVariants as part
+use Rattle.index_parts.specs.declared.toc.Toc.{Toc}
+use Rattle.index_parts.specs.declared.postings_row.PostingsRow.{PostingsRow}
+use Rattle.index_parts.specs.Lists.{IsList}
+use Rattle.index_parts.specs.SymbolsReading.{symbol_at, symbols_at}
+use Rattle.index_parts.specs.RowsReading.{row_at, postings_table_at}
+use Rattle.index_parts.specs.Symbols.{IsNextSymbol, IsSymbols}
+use Rattle.index_parts.specs.Rows.{IsNextRow, IsPostingsTable}
+use Rattle.index_parts.proofs.ListLaws.{IsTurnOf, list_again}
+use Rattle.index_parts.proofs.SymbolLaws.{symbol_turn}
+use Rattle.index_parts.proofs.RowLaws.{row_turn}
+use Rattle.index_file.specs.declared.index_series.IndexSeries.{IndexSeries}
+use Rattle.index_file.specs.Opened.{Opened}
+use Rattle.index_file.specs.IndexFile.{Holds, IsOpened, IsIndex}
+use Rattle.index_file.proofs.Members.{first_member, later_member}
+use Rattle.index_slices.proofs.Slices.{list_of_index}
+use Rattle.index_slices.specs.Parts.{Part, file, known, IsPartOf, HoldsSection}
+use Rattle.index_v2.specs.declared.refusal.IndexRefusal.{IndexRefusal}
+use Rattle.index_v2.specs.declared.refusal.IndexRefusal.TheVariants.{NoMemory, BadSection, BadSeries}
+use Rattle.index_v2.specs.declared.lent_parts.IndexParts.{IndexParts}
+use Rattle.index_v2.specs.Held.{Held, opened_of, whole_file, IsWhole, IsHeldOf, AreSlicesOf, lists_of}
+use Rattle.index_v2.specs.Opening.{refused_in, contents_at, held_at, opened_at}
+use Rattle.index_v2.specs.PostingsLists.{row_of, list_of, postings_of}
+use Rattle.index_v2.specs.WholeReading.{present_at, behind_at, all_at, lists_at, difference, unless_differ, whole_at}
+use Rattle.index_v2.proofs.PostingsLaws.{row_found}
+use Rattle.index_v2.proofs.SeriesSlices.{number_absent}
+use Rattle.index_v2.proofs.OpeningLaws.{opened_found, opened_again}
+
+-- ---- of a whole file
+
+pub whole_is : (held : Held) → IsWhole held → held ≡ whole_file (opened_of held)
+whole_is held is = λ i. record { bytes = held.bytes; toc = held.toc; symbols = held.symbols; rows = held.rows; lists = is.lists_are i; size = is.size_is i }
+
+pub opened_whole : (held : Held) → IsWhole held → opened_at held.bytes ≡ Ok (opened_of held)
+opened_whole held is = opened_again held.bytes (opened_of held) refl is.is_opened
+
+-- what holds an index in its bytes is of a whole file
+pub whole_or_none : (held : Held) → IsWhole held ⊎ (held.bytes ≡ []) → (list : List IndexSeries) → IsIndex held.bytes list → IsWhole held
+whole_or_none held (inl is) list index = is
+whole_or_none held (inr none) list index =
+    let long = index.is_opened.long in
+    let same = ap length index.bytes_are in
+    let empty = ap length none in
+    absurd (omega (arith, long, same, empty))
+
+pub opened_from : (held : Held) → IsWhole held ⊎ (held.bytes ≡ []) → (list : List IndexSeries) → IsIndex held.bytes list → opened_at held.bytes ≡ Ok (opened_of held)
+opened_from held one list index = opened_whole held (whole_or_none held one list index)
+
+opened_parts : (index : List ℕ) (toc : Toc) (symbols : List (List ℕ)) (rows : List PostingsRow) → contents_at index ≡ Ok toc → held_at 1 symbols_at index toc.symbols ≡ Ok symbols → held_at 6 postings_table_at index toc.postings_table ≡ Ok rows → opened_at index ≡ Ok (record { bytes = index; toc = toc; symbols = symbols; rows = rows })
+unfolding opened_at
+opened_parts index toc symbols rows a b c = rw (a, b, c) refl
+
+pub read_whole : (index : List ℕ) (toc : Toc) (symbols : List (List ℕ)) (rows : List PostingsRow) (size : ℕ) → size ≡ length index → IsBytes index → contents_at index ≡ Ok toc → held_at 1 symbols_at index toc.symbols ≡ Ok symbols → held_at 6 postings_table_at index toc.postings_table ≡ Ok rows → IsWhole (record { bytes = index; toc = toc; symbols = symbols; rows = rows; lists = file index; size = size })
+read_whole index toc symbols rows size long are a b c =
+    let opened : Opened = record { bytes = index; toc = toc; symbols = symbols; rows = rows } in
+    record { is_opened = (opened_found index opened are (opened_parts index toc symbols rows a b c)).1; lists_are = refl; size_is = long }
+
+-- a part stands in the index as far as it is known
+pub known_is : (here : Part) → IsPartOf here (known here)
+known_is here = record { before = replicate here.begin 0; after = []; begins = length-replicate here.begin 0; stands = sym (append-nil (known here)) }
+
+pub file_is : (index : List ℕ) → IsPartOf (file index) index
+file_is index = known_is (file index)
+
+pub both_ok : {X E : Type 0} (P Q : X → Type 0) (r : Result X E) → IfOk r P → IfOk r Q → IfOk r (λ x. P x × Q x)
+both_ok P Q (Ok x) p q = (p, q)
+both_ok P Q (Err e) p q = tt
+
+pub whole_only : (r : Result Held IndexRefusal) (opened : Opened) → IfOk r IsWhole → IsOkAnd r (λ held. opened_of held ≡ opened) ⊎ (r ≡ Err NoMemory) → IsOkAnd r (λ held. held ≡ whole_file opened) ⊎ (r ≡ Err NoMemory)
+whole_only (Ok held) opened is (inl same) = inl (whole_is held is ∙ ap whole_file same)
+whole_only (Ok held) opened is (inr e) = inr e
+whole_only (Err d) opened is (inl none) = absurd none
+whole_only (Err d) opened is (inr e) = inr e
+
+-- ---- of parts
+
+by_test : {P : Type 0} (b : Bool) → (b ≡ true → P) → (b ≡ false → P) → P
+by_test true f g = f refl
+by_test false f g = g refl
+
+-- at a reference there is one list
+one_list : {A : Type 0} (IsNext : Option A → List ℕ → A → Type 0) (read : Option A × Position → Result (A × (Option A × Position)) PartRefusal) → IsTurnOf IsNext read → (index : List ℕ) (reference : ℕ) (xs ys : List A) → Holds (IsList IsNext) index reference xs → Holds (IsList IsNext) index reference ys → xs ≡ ys
+one_list {A} IsNext read turn index reference xs ys is other = by_test {P = xs ≡ ys} (reference == 0)
+    (λ zero_is. let x : xs ≡ [] = rw zero_is at is in let y : ys ≡ [] = rw zero_is at other in x ∙ sym y)
+    (λ some. let x : IsList IsNext index reference xs = rw some at is in let y : IsList IsNext index reference ys = rw some at other in
+    ok_is {E = PartRefusal} xs ys (sym (list_again IsNext read turn index reference xs x) ∙ list_again IsNext read turn index reference ys y))
+
+pub held_of_slices : (parts : IndexParts) (opened : Opened) (symbols : List (List ℕ)) (rows : List PostingsRow) (size : ℕ) → IsOpened opened → AreSlicesOf parts opened → Holds IsSymbols opened.bytes parts.toc.symbols symbols → Holds IsPostingsTable opened.bytes parts.toc.postings_table rows → IsHeldOf (record { bytes = []; toc = parts.toc; symbols = symbols; rows = rows; lists = lists_of parts; size = size }) opened
+held_of_slices parts opened symbols rows size is slices s r = record {
+  toc_is = slices.toc_is;
+  symbols_are = one_list IsNextSymbol symbol_at symbol_turn opened.bytes opened.toc.symbols symbols opened.symbols (subst (λ (t : Toc). Holds IsSymbols opened.bytes t.symbols symbols) slices.toc_is s) is.symbols_are;
+  rows_are = one_list IsNextRow row_at row_turn opened.bytes opened.toc.postings_table rows opened.rows (subst (λ (t : Toc). Holds IsPostingsTable opened.bytes t.postings_table rows) slices.toc_is r) is.rows_are;
+  lists_are = slices.lists_are;
+  series_are = inl refl;
+}
+
+-- ---- sections that are there or not
+
+pub holds_found : {A : Type 0} (Is : List ℕ → ℕ → List A → Type 0) (index : List ℕ) (reference : ℕ) (members : List A) → (reference == 0) ≡ false → Is index reference members → Holds Is index reference members
+holds_found Is index reference members some is = rw some is
+
+pub holds_none : {A : Type 0} (Is : List ℕ → ℕ → List A → Type 0) (index : List ℕ) (reference : ℕ) (members : List A) → (reference == 0) ≡ true → members ≡ [] → Holds Is index reference members
+holds_none Is index reference members zero_is none = rw zero_is none
+
+-- ---- what is read of parts is what is read of the index
+
+list_same : (here : Part) (index : List ℕ) → IsPartOf here index → (row : Option PostingsRow) → ((r : PostingsRow) → row ≡ Some r → HoldsSection here r.offset) → list_of here row ≡ list_of (file index) row
+list_same here index is None lies = refl
+list_same here index is (Some row) lies = ap (refused_as (refused_in 5)) (list_of_index here index row.offset is (lies row refl))
+
+lists_same : (here : Part) (index : List ℕ) → IsPartOf here index → (rows : List PostingsRow) → ((row : PostingsRow) → Contains rows row → HoldsSection here row.offset) → lists_at here rows ≡ lists_at (file index) rows
+unfolding lists_at
+lists_same here index is [] lie = refl
+lists_same here index is (row ∷ rows) lie =
+    rw (list_of_index here index row.offset is (lie row (first_member row rows)), lists_same here index is rows (λ one has. lie one (later_member row rows one has))) refl
+
+nothing_read : (index : List ℕ) (symbols : List (List ℕ)) (before : Option IndexSeries) → all_at index symbols before [] ≡ Ok []
+unfolding all_at
+nothing_read index symbols before = refl
+
+-- where no series is to be read
+none_listed : (held : Held) → postings_of held [] [] ≡ Ok [] → whole_at held ≡ (lists_at held.lists held.rows >>= λ lists. unless_differ (difference held.rows lists []) >> Ok [])
+unfolding whole_at present_at
+none_listed held none = rw (none, nothing_read held.bytes held.symbols None) refl
+
+pub whole_same : (held : Held) (opened : Opened) → IsHeldOf held opened → ((row : PostingsRow) → Contains held.rows row → HoldsSection held.lists row.offset) → postings_of held [] [] ≡ Ok [] → whole_at held ≡ whole_at (whole_file opened)
+whole_same held opened is lie none =
+    let first : postings_of held [] [] ≡ list_of (file opened.bytes) (row_of held.rows [] []) = list_same held.lists opened.bytes is.lists_are (row_of held.rows [] []) (λ row some. lie row (row_found held.rows [] [] row some).0) in
+    let there : postings_of (whole_file opened) [] [] ≡ Ok [] = ap (λ (rows : List PostingsRow). list_of (file opened.bytes) (row_of rows [] [])) (sym is.rows_are) ∙ sym first ∙ none in
+    let lists : lists_at held.lists held.rows ≡ lists_at (file opened.bytes) opened.rows = lists_same held.lists opened.bytes is.lists_are held.rows lie ∙ ap (lists_at (file opened.bytes)) is.rows_are in
+    none_listed held none
+    ∙ ap (λ (r : Result (List (List ℕ)) IndexRefusal). r >>= λ lists. unless_differ (difference held.rows lists []) >> Ok []) lists
+    ∙ ap (λ (rows : List PostingsRow). lists_at (file opened.bytes) opened.rows >>= λ lists. unless_differ (difference rows lists []) >> Ok []) is.rows_are
+    ∙ sym (none_listed (whole_file opened) there)
+
+all_absent : (symbols : List (List ℕ)) (number : ℕ) (numbers : List ℕ) → all_at [] symbols None (number ∷ numbers) ≡ Err (BadSeries number (part.Short (16 * number)))
+unfolding all_at behind_at
+all_absent symbols number numbers = rw (number_absent symbols number) refl
+
+first_absent : (held : Held) (number : ℕ) (numbers : List ℕ) → postings_of held [] [] ≡ Ok (number ∷ numbers) → present_at held.toc (number ∷ numbers) ≡ Ok tt → all_at held.bytes held.symbols None (number ∷ numbers) ≡ Err (BadSeries number (part.Short (16 * number))) → whole_at held ≡ Err (BadSeries number (part.Short (16 * number)))
+unfolding whole_at
+first_absent held number numbers listed present e = rw (listed, present, e) refl
+
+-- where one is to be read, and none is there
+pub whole_absent : (held : Held) (number : ℕ) (numbers : List ℕ) → held.bytes ≡ [] → postings_of held [] [] ≡ Ok (number ∷ numbers) → present_at held.toc (number ∷ numbers) ≡ Ok tt → whole_at held ≡ Err (BadSeries number (part.Short (16 * number)))
+whole_absent held number numbers none listed present = first_absent held number numbers listed present (ap (λ (bytes : List ℕ). all_at bytes held.symbols None (number ∷ numbers)) none ∙ all_absent held.symbols number numbers)
+
+-- ---- refusals of sections
+
+pub section_refused : {X : Type 0} (section : ℕ) (read : Result X PartRefusal) (e : PartRefusal) (f : IndexRefusal) → f ≡ refused_in section e → (e ≡ part.NoMemory) ⊎ (read ≡ Err e) → (f ≡ NoMemory) ⊎ (refused_as (refused_in section) read ≡ Err f)
+section_refused section read e f is (inl none) = inl (is ∙ ap (refused_in section) none)
+section_refused section read e f is (inr refused) = inr (ap (refused_as (refused_in section)) refused ∙ ap Err (sym is))
+
+pub not_refused : {X E P : Type 0} (x : X) (d e : E) → (◌≡◌ {A = Result X E} (Ok x) (Err d)) ⊎ (◌≡◌ {A = Result X E} (Ok x) (Err e)) → P
+not_refused x d e (inl h) = absurd cc
+not_refused x d e (inr h) = absurd cc
+
+pub section_outside : {X : Type 0} (section at : ℕ) (e : PartRefusal) (f : IndexRefusal) → f ≡ refused_in section e → (◌≡◌ {A = Result X PartRefusal} (Err e) (Err (part.Short at))) ⊎ (◌≡◌ {A = Result X PartRefusal} (Err e) (Err part.NoMemory)) → (◌≡◌ {A = Result X IndexRefusal} (Err f) (Err (BadSection section (part.Short at)))) ⊎ (◌≡◌ {A = Result X IndexRefusal} (Err f) (Err NoMemory))
+section_outside {X} section at e f is (inl h) = inl (ap Err (is ∙ ap (refused_in section) (err_is {A = X} e (part.Short at) h)))
+section_outside {X} section at e f is (inr h) = inr (ap Err (is ∙ ap (refused_in section) (err_is {A = X} e part.NoMemory h)))
+
+pub no_row : {P : Type 0} (row : Option PostingsRow) (one : PostingsRow) → row ≡ None → row ≡ Some one → P
+no_row row one none some = let no = sym none ∙ some in absurd cc
