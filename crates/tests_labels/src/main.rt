@@ -1,17 +1,14 @@
-//! Reads label sets, samples, selectors and series, and prints what comes of them. A line of standard input is one call:
+//! Reads label sets, samples and series, and prints what comes of them. A line of standard input is one call:
 //! `set TEXT` reads a label set, `add SET NAME VALUE` adds a label, `final SET EXTERNAL REPLICA` takes the final and the
-//! reduced labels, `sample TEXT` reads a sample, `series SET SAMPLE ..` writes a series, `selector TEXT` reads a selector,
-//! `select SELECTOR SET` asks one for a set, and `merge SERIES|SERIES..` merges series. One that begins with `= ` is a
-//! heading.
+//! reduced labels, `sample TEXT` reads a sample, `series SET SAMPLE ..` writes a series, and `merge SERIES|SERIES..`
+//! merges series. One that begins with `= ` is a heading.
 #![tactic(auto)]
 
 mod merges;
-mod selections;
 mod series;
 mod sets;
 
 use crate::merges::print_merged;
-use crate::selections::{print_selection, print_selector};
 use crate::series::{print_sample, print_series};
 use crate::sets::{print_added, print_final, print_set};
 use std::io;
@@ -37,8 +34,6 @@ fn print_row(rt: &HostRuntime, row: &str) -> io::Result<()> {
         "final" => print_final(rt, text),
         "sample" => print_sample(rt, text),
         "series" => print_series(rt, text),
-        "selector" => print_selector(rt, text),
-        "select" => print_selection(rt, text),
         "merge" => print_merged(rt, text),
         _ => println!(rt; "no row"),
     }
