@@ -6,7 +6,7 @@ use Rattle.std.proofs.lemmas.Bool.Decides.{nat_tests}
 use Rattle.std.proofs.lemmas.Int.{ints}
 use Rattle.std.proofs.lemmas.Option.{same_Some}
 use Rattle.std.proofs.Math.Bool.{or-false}
-use Rattle.reading_core.specs.Reading.{◌>>=◌, refused_as}
+use Rattle.reading_core.specs.Reading.{◌>>=◌}
 use Rattle.reading_core.proofs.Binds.{bind_ok, unless_ok, ok_is, refused_as_ok, unless_is, then_ok, ok_or_ok}
 use Rattle.std.proofs.lemmas.Bool.{and_parts, not-true}
 use Rattle.reading_core.proofs.Parsed.{true_or_false}
