@@ -1,5 +1,11 @@
 pub use Rattle.reading_core.specs.Reading
 pub use Rattle.label_sets.specs.Labels
 pub use Rattle.label_sets.specs.Triples
+pub mod Patterns
+pub mod Searches
 pub mod Selectors
+pub mod SelectorText
+pub mod SelectorRefusals
+pub mod Stages
+pub mod Building
 pub mod Selected

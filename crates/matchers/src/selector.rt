@@ -1,11 +1,16 @@
-ghost use Rattle.std.specs.Prelude.{◌≡◌, List, IsTrue, IsOk, IfOk};
-ghost use Rattle.std.specs.List.{list_all};
-ghost use Rattle.reading_core.specs.Reading.{Gives};
-ghost use Rattle.matchers.specs.Selectors.{is_match, is_plain, accepts, metric_matcher, is_metric_start, is_metric_byte, is_metric_name, value_or_empty, read_selector};
+ghost use Rattle.std.specs.Prelude.{◌≡◌, ◌⊎◌, List, IsTrue, IsOk, IfOk, IfErr, IsErrAnd, MatchResult};
+ghost use Rattle.matchers.specs.declared.matcher.Matcher.{Matcher};
+ghost use Rattle.matchers.specs.declared.selector_refusal.SelectorRefusal.{SelectorRefusal};
+ghost use Rattle.matchers.specs.SelectorRefusals.{IsReadable, IsGivenUp, IsRefused};
+ghost use Rattle.matchers.specs.Selectors.{is_match, is_plain, simple_selector};
 
-use crate::{Matcher, Operator, SelectorRefusal};
-use label_sets::{LabelSet, Text};
-use list_core::{List, NoMemory};
+use crate::building::build;
+use crate::draft::read_draft;
+use crate::names::is_metric_name;
+use crate::replicas::first_replica;
+use crate::{Matcher, SelectorRefusal};
+use label_sets::{LabelSet, TextList};
+use list_core::{List, NoMemory, TryCopy};
 use std::alloc::Global;
 use std::marker::Model;
 
@@ -28,21 +33,45 @@ impl Model for Selector {
 pub type SelectorList = List<Selector>;
 
 impl Selector {
-    /// Reads `{}`, which matches every label set, or a metric name.
-    #[tactic(auto, unfolding(crate::specs::Selectors::read_selector))]
-    pub fn read(alloc: Global, text: &str) -> Result<Selector, SelectorRefusal>
-        ensures { Gives SelectorRefusal.NoMemory (λ selector. selector) result
-            (read_selector text.now) }
+    /// Reads the whole text of a selector. First the text is read, then the patterns are built in its order, and then the
+    /// names of the matchers are compared with those of the replica labels.
+    pub fn read(alloc: Global, text: &str, replicas: &TextList) -> Result<Selector, SelectorRefusal>
+        // What is read is the selector of the text. All of its patterns are lawful, and it names no replica label.
+        ensures found { IfOk result (λ selector. IsReadable text.now replicas.now selector) }
+        // Each such text is read, unless memory or the size of a pattern forbids it.
+        ensures only { (selector : List Matcher) → IsReadable text.now replicas.now selector
+            → MatchResult result (λ read. read ≡ selector) (λ e. IsGivenUp text.now e) }
+
+        // Which refusal it is.
+        ensures refused { IfErr result (λ e. IsGivenUp text.now e
+            ⊎ IsRefused text.now replicas.now e) }
+        ensures exact { (refusal : SelectorRefusal) → IsRefused text.now replicas.now refusal
+            → IsErrAnd result (λ e. IsGivenUp text.now e ⊎ (e ≡ refusal)) }
+    {
+        read_selector(alloc, text, replicas)
+    }
+
+    /// The selector of `{}`, which matches every label set, or of a metric name; none for any other text.
+    #[tactic(auto, unfolding(crate::specs::Selectors::simple_selector))]
+    pub fn simple(alloc: Global, text: &str) -> Result<Option<Selector>, NoMemory>
+        ensures { IfOk result (λ selector. selector ≡ simple_selector text.now) }
     {
         let mut matchers = Vec::new(alloc);
         if text == "{}" {
-            return Ok(Selector { matchers });
+            return Ok(Some(Selector { matchers }));
         }
         if !is_metric_name(text.as_bytes()) {
-            return Err(SelectorRefusal::NotBuilt);
+            return Ok(None);
         }
-        matchers.push(metric_matcher(alloc, text)?)?;
-        Ok(Selector { matchers })
+        matchers.push(Matcher::of_metric(alloc, text)?)?;
+        Ok(Some(Selector { matchers }))
+    }
+
+    /// The matchers in the order of the text, that of the metric name first.
+    pub fn matchers(&self) -> &[Matcher]
+        ensures { result.now ≡ self.now }
+    {
+        self.matchers.as_slice()
     }
 
     /// Tells whether no matcher has a pattern, so that `matches` takes no memory.
@@ -52,73 +81,36 @@ impl Selector {
     {
         self.matchers
             .iter()
-            .all(|matcher| !matcher.operator.has_pattern())
+            .all(|matcher| !matcher.condition.has_pattern())
     }
 
     /// Tells whether all matchers accept the labels.
-    #[tactic(auto, unfolding(crate::specs::Selectors::is_match))]
+    #[tactic(auto, using(std::proofs::lemmas::List::Folds::list_all_at), unfolding(crate::specs::Selectors::is_match, crate::specs::Selectors::is_plain))]
     pub fn matches(&self, labels: &LabelSet) -> Result<bool, NoMemory>
         ensures value { IfOk result (λ taken. taken ≡ is_match self.now labels.now) }
         ensures plain { IsTrue (is_plain self.now) → IsOk result }
     {
-        Ok(self.matchers.iter().all(|matcher| accepts(matcher, labels)))
+        for matcher in &self.matchers {
+            if !matcher.accepts(labels)? {
+                return Ok(false);
+            }
+        }
+        Ok(true)
     }
 }
 
-#[tactic(auto, unfolding(crate::specs::Selectors::metric_matcher))]
-fn metric_matcher(alloc: Global, metric: &str) -> Result<Matcher, NoMemory>
-    ensures { IfOk result (λ matcher. matcher ≡ metric_matcher metric.now) }
+fn read_selector(
+    alloc: Global,
+    text: &str,
+    replicas: &TextList,
+) -> Result<Selector, SelectorRefusal>
+    ensures found { IfOk result (λ selector. IsReadable text.now replicas.now selector) }
+    ensures refused { IfErr result (λ e. IsGivenUp text.now e ⊎ IsRefused text.now replicas.now e) }
 {
-    Ok(Matcher {
-        name: Text::from_str(alloc, "__name__")?,
-        operator: Operator::Equal,
-        value: Text::from_str(alloc, metric)?,
-    })
-}
-
-#[tactic(auto, unfolding(crate::specs::Selectors::accepts, crate::specs::Selectors::is_accepted))]
-fn accepts(matcher: &Matcher, labels: &LabelSet) -> bool
-    ensures { result ≡ accepts matcher.now labels.now }
-{
-    let value = value_or_empty(labels, matcher.name.as_str());
-    match matcher.operator {
-        Operator::Equal => value == matcher.value.as_str(),
+    let draft = read_draft(alloc, text.as_bytes())?;
+    let matchers = build(alloc, &draft)?;
+    if let Some(name) = first_replica(&matchers, replicas) {
+        return Err(SelectorRefusal::ReplicaNamed(name.copy()?));
     }
-}
-
-/// The value under a name, which is empty where there is no such label.
-#[tactic(auto, unfolding(crate::specs::Selectors::value_or_empty))]
-fn value_or_empty<'a>(labels: &'a LabelSet, name: &str) -> &'a str
-    ensures { result.now ≡ value_or_empty labels.now name.now }
-{
-    labels.value(name).unwrap_or("")
-}
-
-/// A metric name has ASCII letters, `_`, `:` and, after its first byte, digits.
-#[tactic(auto, unfolding(crate::specs::Selectors::is_metric_name))]
-fn is_metric_name(text: &[u8]) -> bool
-    ensures { result ≡ is_metric_name text.now }
-{
-    match text {
-        [] => false,
-        [first, others @ ..] => is_metric_start(*first) && are_metric_bytes(others),
-    }
-}
-
-fn are_metric_bytes(text: &[u8]) -> bool
-    ensures { result ≡ list_all is_metric_byte text.now }
-{
-    text.iter().all(|byte| is_metric_byte(*byte))
-}
-
-fn is_metric_start(byte: u8) -> bool
-    ensures { result ≡ is_metric_start byte }
-{
-    byte.is_ascii_alphabetic() || byte == b'_' || byte == b':'
-}
-
-fn is_metric_byte(byte: u8) -> bool
-    ensures { result ≡ is_metric_byte byte }
-{
-    is_metric_start(byte) || byte.is_ascii_digit()
+    Ok(Selector { matchers })
 }

@@ -1,14 +1,21 @@
 ghost use Rattle.std.specs.Prelude.{◌≡◌};
 ghost use Rattle.matchers.specs.declared.selector_refusal.SelectorRefusal.TheVariants.{NoMemory};
 
+use label_sets::Text;
 use list_core::NoMemory;
 use std::alloc::{AllocError, AllocFailed};
 
 /// Why a text was not read as a selector.
-#[derive(Clone, Copy, Debug, PartialEq, Eq)]
+#[derive(Debug, Drop)]
 pub enum SelectorRefusal {
-    /// The text is neither `{}` nor a metric name; no other selector is read yet.
-    NotBuilt,
+    /// No selector goes on at this place, which counts bytes from 0.
+    BadSelector(usize),
+    /// What opens at this place is no pattern, or it nests too deep.
+    BadPattern(usize),
+    /// The pattern that opens at this place passes the limit on the size of what is built.
+    PatternSize(usize),
+    /// A matcher asks for this replica label.
+    ReplicaNamed(Text),
     NoMemory,
 }
 

@@ -3,7 +3,7 @@ use Rattle.std.proofs.Common.{◌≡◌, ℕ, zero, suc, ◌+◌, ◌%◌, ◌^�
 use Rattle.std.specs.List.{list_all, range_with_len}
 use Rattle.std.proofs.lemmas.Bool.Decides.{nat_tests}
 use Rattle.std.proofs.lemmas.Int.{ints}
-use Rattle.matchers.specs.Selectors.{read_selector, is_metric_name}
+use Rattle.matchers.specs.Selectors.{simple_selector, is_metric_name}
 use Rattle.matchers.specs.declared.matcher.Matcher.{Matcher}
 use Rattle.moment_core.specs.declared.moment.Moment.{Moment}
 use Rattle.moment_core.specs.declared.rules.Rules.{Rules}
@@ -75,8 +75,8 @@ task_again st number work script kept adds =
 
 -- ---- queries
 
-selector_again : (text : List ℕ) (selector : List Matcher) → read_selector text ≡ Ok selector → last_selector (Some text) ≡ Ok (Some selector)
-unfolding last_selector read_selector is_metric_name
+selector_again : (text : List ℕ) (selector : List Matcher) → simple_selector text ≡ Some selector → last_selector (Some text) ≡ Ok (Some selector)
+unfolding last_selector simple_selector is_metric_name
 selector_again [] selector read = absurd cc
 selector_again (byte ∷ text) selector read =
     let some : is_empty (byte ∷ text) ≡ false = grind (arith, nat_tests) in rw (some, read) refl

@@ -6,11 +6,11 @@ use Rattle.std.proofs.lemmas.Bool.Decides.{nat_tests}
 use Rattle.std.proofs.lemmas.Int.{ints}
 use Rattle.std.proofs.lemmas.Option.{same_Some}
 use Rattle.std.proofs.Math.Bool.{or-false}
-use Rattle.reading_core.specs.Reading.{◌>>=◌, refused_as}
+use Rattle.reading_core.specs.Reading.{◌>>=◌}
 use Rattle.reading_core.proofs.Binds.{bind_ok, unless_ok, ok_is, refused_as_ok, unless_is, then_ok, ok_or_ok}
 use Rattle.std.proofs.lemmas.Bool.{and_parts, not-true}
 use Rattle.reading_core.proofs.Parsed.{true_or_false}
-use Rattle.matchers.specs.Selectors.{read_selector}
+use Rattle.matchers.specs.Selectors.{simple_selector}
 use Rattle.matchers.specs.declared.matcher.Matcher.{Matcher}
 use Rattle.moment_core.specs.declared.moment.Moment.{Moment}
 use Rattle.moment_core.specs.declared.rules.Rules.{Rules}
@@ -94,14 +94,14 @@ module _ (st after : State) (number : ℕ) (work : Work) (kept : Kept st) (task 
 
 -- ---- queries
 
-selector_by : (text : List ℕ) (selector : List Matcher) (b : Bool) → cond {A = Result (Option (List Matcher)) LineRefusal} b (Ok None) (refused_as (λ _. Bad causes.UnknownWord) (read_selector text) >>= λ read. Ok (Some read)) ≡ Ok (Some selector) → read_selector text ≡ Ok selector
+selector_by : (text : List ℕ) (selector : List Matcher) (b : Bool) → cond {A = Result (Option (List Matcher)) LineRefusal} b (Ok None) (ok_or (simple_selector text) (Bad causes.UnknownWord) >>= λ read. Ok (Some read)) ≡ Ok (Some selector) → simple_selector text ≡ Some selector
 selector_by text selector true h = absurd cc
 selector_by text selector false h =
     let a = bind_ok _ _ _ h in
     let same : a.0 ≡ selector = same_Some _ _ (ok_is _ _ a.2) in
-    refused_as_ok _ _ _ a.1 ∙ ap Ok same
+    ok_or_ok _ _ _ a.1 ∙ ap Some same
 
-selector_found : (left : Option (List ℕ)) (selector : List Matcher) → last_selector left ≡ Ok (Some selector) → (text : List ℕ) × (left ≡ Some text) × (read_selector text ≡ Ok selector)
+selector_found : (left : Option (List ℕ)) (selector : List Matcher) → last_selector left ≡ Ok (Some selector) → (text : List ℕ) × (left ≡ Some text) × (simple_selector text ≡ Some selector)
 unfolding last_selector
 selector_found None selector h = absurd cc
 selector_found (Some text) selector h = (text, refl, selector_by text selector (is_empty text) h)

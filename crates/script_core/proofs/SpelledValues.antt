@@ -1,5 +1,5 @@
 -- The reader's tests, in the words of the grammar.
-use Rattle.std.proofs.Common.{◌≡◌, ℕ, ◌+◌, ◌-◌, ◌^◌, ◌<◌, ◌≤◌, ℤ, pos, negsuc, ◌≤ℤ◌, Bool, true, false, not, ◌&&◌, cond, nat_le, leb-true, int_lt, List, [], ◌∷◌, Result, Ok, Err, refl, sym, ap, ◌∙◌, arith, inl, inr, codes}
+use Rattle.std.proofs.Common.{◌≡◌, ℕ, ◌+◌, ◌-◌, ◌^◌, ◌<◌, ◌≤◌, ℤ, pos, negsuc, ◌≤ℤ◌, Bool, true, false, not, ◌&&◌, cond, nat_le, leb-true, int_lt, List, [], ◌∷◌, Option, Some, None, refl, sym, ap, ◌∙◌, arith, inl, inr, codes}
 use Rattle.std.specs.Cmp.{int_cmp_total}
 use Rattle.std.specs.List.{All, AllByRecursion}
 use Rattle.std.specs.List.Sorted.{IsStrictlySortedBy}
@@ -9,18 +9,17 @@ use Rattle.std.specs.Str.{bytes_eq}
 use Rattle.std.proofs.lemmas.Bool.Decides.{nat_tests}
 use Rattle.std.proofs.lemmas.Int.{ints}
 use Rattle.std.proofs.lemmas.List.Elements.{All-nil, All-cons, All-head, All-tail}
-use Rattle.reading_core.proofs.Binds.{ok_is}
+use Rattle.std.proofs.lemmas.Option.{same_Some}
 use Rattle.std.proofs.lemmas.Bool.{and_parts, not-true}
 use Rattle.label_sets.specs.declared.sample.Sample.{Sample}
-use Rattle.matchers.specs.Selectors.{is_metric_name, metric_matcher, read_selector}
+use Rattle.matchers.specs.SelectorText.{IsSimpleText}
+use Rattle.matchers.specs.Selectors.{is_metric_name, metric_matcher, simple_selector}
 use Rattle.matchers.specs.declared.matcher.Matcher.{Matcher}
-use Rattle.matchers.specs.declared.selector_refusal.SelectorRefusal.{SelectorRefusal}
-use Rattle.matchers.specs.declared.selector_refusal.SelectorRefusal.TheVariants.{NotBuilt}
 use Rattle.moment_core.specs.declared.rules.Rules.{Rules}
 use Rattle.list_core.proofs.Bools.{bytes_eq-same}
 use Rattle.script_core.specs.Samples.{is_within, are_within, times_of, rise_after, are_rising}
 use Rattle.script_core.specs.Values.{is_time, agree}
-use Rattle.script_core.specs.Spelling.{IsNear, IsWithin, IsSelectorText, DoAgree}
+use Rattle.script_core.specs.Spelling.{IsNear, IsWithin, DoAgree}
 use Rattle.script_core.proofs.LawfulParts.{near_low, near_high}
 
 -- ---- times and ULIDs
@@ -130,37 +129,37 @@ agree_tested set is =
 
 -- ---- selectors
 
-selector_by : (text : List ℕ) (selector : List Matcher) (empty metric : Bool) → bytes_eq text (codes "{}") ≡ empty → is_metric_name text ≡ metric → cond {A = Result (List Matcher) SelectorRefusal} empty (Ok []) (cond metric (Ok (metric_matcher text ∷ [])) (Err NotBuilt)) ≡ Ok selector → IsSelectorText text selector
+selector_by : (text : List ℕ) (selector : List Matcher) (empty metric : Bool) → bytes_eq text (codes "{}") ≡ empty → is_metric_name text ≡ metric → cond {A = Option (List Matcher)} empty (Some []) (cond metric (Some (metric_matcher text ∷ [])) None) ≡ Some selector → IsSimpleText text selector
 unfolding metric_matcher
-selector_by text selector true metric is name h = inl (bytes_eq-same text (codes "{}") is, sym (ok_is _ _ h))
-selector_by text selector false true is name h = inr (name, sym (ok_is _ _ h))
+selector_by text selector true metric is name h = inl (bytes_eq-same text (codes "{}") is, sym (same_Some _ _ h))
+selector_by text selector false true is name h = inr (name, sym (same_Some _ _ h))
 selector_by text selector false false is name h = absurd cc
 
-pub selector_spelled : (text : List ℕ) (selector : List Matcher) → read_selector text ≡ Ok selector → IsSelectorText text selector
-unfolding read_selector
+pub selector_spelled : (text : List ℕ) (selector : List Matcher) → simple_selector text ≡ Some selector → IsSimpleText text selector
+unfolding simple_selector
 selector_spelled text selector h = selector_by text selector (bytes_eq text (codes "{}")) (is_metric_name text) refl refl h
 
 no_braces : is_metric_name (codes "{}") ≡ false
 unfolding is_metric_name
 no_braces = refl
 
-metric_by : (text : List ℕ) (empty : Bool) → bytes_eq text (codes "{}") ≡ empty → is_metric_name text ≡ true → cond {A = Result (List Matcher) SelectorRefusal} empty (Ok []) (cond (is_metric_name text) (Ok (metric_matcher text ∷ [])) (Err NotBuilt)) ≡ Ok (metric_matcher text ∷ [])
+metric_by : (text : List ℕ) (empty : Bool) → bytes_eq text (codes "{}") ≡ empty → is_metric_name text ≡ true → cond {A = Option (List Matcher)} empty (Some []) (cond (is_metric_name text) (Some (metric_matcher text ∷ [])) None) ≡ Some (metric_matcher text ∷ [])
 metric_by text true is name =
     let none : is_metric_name text ≡ false = ap is_metric_name (bytes_eq-same text (codes "{}") is) ∙ no_braces in absurd cc
 metric_by text false is name = rw name refl
 
-braces_read : read_selector (codes "{}") ≡ Ok []
-unfolding read_selector
+braces_read : simple_selector (codes "{}") ≡ Some []
+unfolding simple_selector
 braces_read = refl
 
-metric_read : (text : List ℕ) → is_metric_name text ≡ true → read_selector text ≡ Ok (metric_matcher text ∷ [])
-unfolding read_selector
+metric_read : (text : List ℕ) → is_metric_name text ≡ true → simple_selector text ≡ Some (metric_matcher text ∷ [])
+unfolding simple_selector
 metric_read text name = metric_by text (bytes_eq text (codes "{}")) refl name
 
-pub selector_read : (text : List ℕ) (selector : List Matcher) → IsSelectorText text selector → read_selector text ≡ Ok selector
+pub selector_read : (text : List ℕ) (selector : List Matcher) → IsSimpleText text selector → simple_selector text ≡ Some selector
 unfolding metric_matcher
 selector_read text selector is =
     elim is [
-      | inl empty ↦ ap read_selector empty.0 ∙ braces_read ∙ ap Ok (sym empty.1)
-      | inr metric ↦ metric_read text metric.0 ∙ ap Ok (sym metric.1)
+      | inl empty ↦ ap simple_selector empty.0 ∙ braces_read ∙ ap Some (sym empty.1)
+      | inr metric ↦ metric_read text metric.0 ∙ ap Some (sym metric.1)
     ]

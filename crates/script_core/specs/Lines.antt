@@ -20,7 +20,7 @@ use Rattle.script_core.specs.Fields.{is_empty, next_field, only_field, after_spa
 use Rattle.script_core.specs.Values.{time_field, moment_field, ulid_field, is_reserved, set_rule, agree}
 use Rattle.script_core.specs.Samples.{are_whole, have_small_numbers, samples_of, are_rising}
 use Rattle.script_core.specs.State.{State, gateway_named, add_gateway, is_declared, begin_block, add_series, begin_phase, add_task, add_query, note_sync, are_all_synced}
-use Rattle.matchers.specs.Selectors.{read_selector}
+use Rattle.matchers.specs.Selectors.{simple_selector}
 use Rattle.label_sets.specs.Notation.{is_name, read_set}
 
 -- a cause of `BadLine` as a refusal
@@ -143,7 +143,7 @@ unfoldable pub last_selector : Option (List ℕ) → Result (Option (List Matche
 last_selector left =
     if is_empty (unwrap_or left []) then Ok None
     else (do
-      selector ← refused_as (λ _. Bad causes.UnknownWord) (read_selector (unwrap_or left []))
+      selector ← ok_or (simple_selector (unwrap_or left [])) (Bad causes.UnknownWord)
       Ok (Some selector))
 
 -- query LOW HIGH SELECTOR

@@ -2,7 +2,7 @@
 -- record for each kind of line: how the line is written, what has to hold of the script so far, and what the line adds. Here
 -- is nothing of causes and of their order: a text that is read is one that spells its script, and each text that spells a
 -- script is read.
-use Rattle.std.specs.Prelude.{◌≡◌, ◌≢◌, ◌⊎◌, ℕ, ◌+◌, ◌-◌, ◌%◌, ◌^◌, ◌<◌, ◌≤◌, ℤ, pos, neg_ℤ, ◌<ℤ◌, ◌≤ℤ◌, List, [], ◌∷◌, ◌++◌, length, map, Bool, true, false, not, IsTrue, IsFalse, None, Some, All, position, codes}
+use Rattle.std.specs.Prelude.{◌≡◌, ◌≢◌, ℕ, ◌+◌, ◌-◌, ◌%◌, ◌^◌, ◌<◌, ◌≤◌, ℤ, pos, neg_ℤ, ◌<ℤ◌, ◌≤ℤ◌, List, [], ◌∷◌, ◌++◌, length, map, Bool, true, false, not, IsTrue, IsFalse, None, Some, All, position, codes}
 use Rattle.std.specs.Bool.{MatchBool}
 use Rattle.std.specs.List.{list_all, join_with_byte}
 use Rattle.std.specs.List.Sorted.{IsStrictlySortedBy}
@@ -16,9 +16,8 @@ use Rattle.label_sets.specs.SampleText.{sample_text}
 use Rattle.label_sets.specs.declared.label.Label.{Label}
 use Rattle.label_sets.specs.declared.sample.Sample.{Sample}
 use Rattle.label_sets.specs.declared.series.Series.{Series}
-use Rattle.matchers.specs.Selectors.{is_metric_name}
+use Rattle.matchers.specs.SelectorText.{IsSimpleText}
 use Rattle.matchers.specs.declared.matcher.Matcher.{Matcher}
-use Rattle.matchers.specs.declared.operator.Operator.TheVariants.{Equal}
 use Rattle.moment_core.specs.MomentText.{IsMomentText}
 use Rattle.moment_core.specs.SpanText.{IsSpanText}
 use Rattle.moment_core.specs.StandardRules.{standard_rules}
@@ -88,12 +87,6 @@ AreSampleFields (text ∷ texts) (sample ∷ samples) = IsSampleField text sampl
 pub record IsWithin (first last : ℤ) (sample : Sample) : Type 0 where
   pub from : first ≤ℤ sample.time
   pub below : sample.time <ℤ last
-
--- A selector: `{}`, which asks nothing, or a metric name, which asks that this is the value of `__name__`.
-abbrev pub IsSelectorText : List ℕ → List Matcher → Type 0
-IsSelectorText text selector =
-    ((text ≡ codes "{}") × (selector ≡ []))
-    ⊎ (IsTrue (is_metric_name text) × (selector ≡ record { name = codes "__name__"; operator = Equal; value = text } ∷ []))
 
 -- ---- rules
 
@@ -292,7 +285,7 @@ pub record QueryLine (before : SoFar) (number : ℕ) (line : List ℕ) (after : 
   pub spelled : line ≡ spaced (codes "query" ∷ low_text ∷ high_text ∷ selector_text ∷ [])
   pub is_low : IsTimeText low_text low
   pub is_high : IsTimeText high_text high
-  pub is_selector : IsSelectorText selector_text selector
+  pub is_selector : IsSimpleText selector_text selector
   pub times : low ≤ℤ high
   pub synced : (gateway : ℕ) → gateway < length before.script.gateways → IsTrue (has_sync (works_of before.script.phases) gateway)
   pub script : Script

@@ -13,7 +13,7 @@ use crate::fields::{next_field, only_field};
 use crate::line_refusal::LineRefusal;
 use crate::values::{is_reserved, time, ulid};
 use label_sets::is_name;
-use matchers::{Selector, SelectorRefusal};
+use matchers::Selector;
 use moment_core::{Moment, MomentRefusal, Rules};
 use script_workers::{Phase, TaskList, Work};
 use std::alloc::Global;
@@ -149,9 +149,6 @@ fn last_selector(alloc: Global, left: Option<&str>) -> Result<Option<Selector>, 
     if text.is_empty() {
         return Ok(None);
     }
-    match Selector::read(alloc, text) {
-        Ok(selector) => Ok(Some(selector)),
-        Err(SelectorRefusal::NotBuilt) => Err(LineRefusal::Bad(LineCause::UnknownWord)),
-        Err(SelectorRefusal::NoMemory) => Err(LineRefusal::NoMemory),
-    }
+    let selector = Selector::simple(alloc, text)?.ok_or(LineCause::UnknownWord)?;
+    Ok(Some(selector))
 }

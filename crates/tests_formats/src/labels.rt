@@ -1,15 +1,12 @@
-//! Label sets, samples, selectors and series: `set TEXT` reads a label set, `add SET NAME VALUE` adds a label,
+//! Label sets, samples and series: `set TEXT` reads a label set, `add SET NAME VALUE` adds a label,
 //! `final SET EXTERNAL REPLICA` takes the final and the reduced labels, `sample TEXT` reads a sample, `series SET SAMPLE ..`
-//! writes a series, `selector TEXT` reads a selector, `select SELECTOR SET` asks one for a set, and `merge SERIES|SERIES..`
-//! merges series. `newline` reads a set with a newline in a value.
+//! writes a series, and `merge SERIES|SERIES..` merges series. `newline` reads a set with a newline in a value.
 
 mod merges;
-mod selections;
 mod series;
 mod sets;
 
 use crate::labels::merges::print_merged;
-use crate::labels::selections::{print_selection, print_selector};
 use crate::labels::series::{print_sample, print_series};
 use crate::labels::sets::{print_added, print_final, print_set};
 use std::io;
@@ -22,8 +19,6 @@ pub(crate) fn print_call(rt: &HostRuntime, word: &str, text: &str) -> io::Result
         "final" => print_final(rt, text),
         "sample" => print_sample(rt, text),
         "series" => print_series(rt, text),
-        "selector" => print_selector(rt, text),
-        "select" => print_selection(rt, text),
         "merge" => print_merged(rt, text),
         _ => println!(rt; "no call"),
     }

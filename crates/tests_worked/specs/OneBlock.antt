@@ -8,7 +8,7 @@ use Rattle.meta_fetcher.specs.declared.view.View.{View}
 use Rattle.meta_fetcher.specs.declared.sync_end.SyncEnd.TheVariants as fetched
 use Rattle.store_gateway.specs.declared.series_end.SeriesEnd.TheVariants as called
 use Rattle.matchers.specs.declared.matcher.Matcher.{Matcher}
-use Rattle.matchers.specs.declared.operator.Operator.TheVariants.{Equal}
+use Rattle.matchers.specs.declared.condition.Condition.TheVariants.{Equal}
 use Rattle.script_core.specs.declared.script.Script.{Script}
 use Rattle.script_workers.specs.declared.work.Work.TheVariants.{Upload, Sync, Query}
 use Rattle.lifecycle_core.specs.Tasks.{End, uploaded, synced, answered}
@@ -35,7 +35,7 @@ text = join_with_byte 10 (
 
 -- the metric `up`
 abbrev pub selector : List Matcher
-selector = record { name = codes "__name__"; operator = Equal; value = codes "up" } ∷ []
+selector = record { name = codes "__name__"; condition = Equal (codes "up") } ∷ []
 
 abbrev pub script : Script
 script = record {

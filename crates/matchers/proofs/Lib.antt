@@ -1,0 +1,11 @@
+pub mod PatternLemmas
+pub mod ReadLoops
+pub mod StageTexts
+pub mod StageSteps
+pub mod Completions
+pub mod TextsRead
+pub mod Stops
+pub mod ReadTexts
+pub mod Refused
+pub mod OneCause
+pub mod Built

@@ -1,0 +1,46 @@
+ghost use Rattle.std.specs.Prelude.{◌≡◌, IfOk, IsOk, false};
+ghost use Rattle.matchers.specs.Selectors.{has_pattern, is_accepted};
+
+use crate::Pattern;
+use label_sets::Text;
+use list_core::NoMemory;
+
+/// What a matcher asks of a value.
+#[derive(Debug, Drop)]
+pub enum Condition {
+    /// `=`: it is this text.
+    Equal(Text),
+    /// `!=`: it is another text.
+    NotEqual(Text),
+    /// `=~`: the pattern matches it.
+    Matches(Pattern),
+    /// `!~`: the pattern does not match it.
+    MatchesNot(Pattern),
+}
+
+impl Condition {
+    /// Tells whether it has a pattern.
+    #[tactic(auto, unfolding(crate::specs::Selectors::has_pattern))]
+    pub fn has_pattern(&self) -> bool
+        ensures { result ≡ has_pattern self.now }
+    {
+        match self {
+            Condition::Equal(_) | Condition::NotEqual(_) => false,
+            Condition::Matches(_) | Condition::MatchesNot(_) => true,
+        }
+    }
+
+    /// Tells whether the value is what is asked. Without a pattern it takes no memory.
+    #[tactic(auto, unfolding(crate::specs::Selectors::has_pattern, crate::specs::Selectors::is_accepted))]
+    pub fn accepts(&self, value: &str) -> Result<bool, NoMemory>
+        ensures value { IfOk result (λ taken. taken ≡ is_accepted self.now value.now) }
+        ensures plain { has_pattern self.now ≡ false → IsOk result }
+    {
+        match self {
+            Condition::Equal(asked) => Ok(value == asked.as_str()),
+            Condition::NotEqual(asked) => Ok(value != asked.as_str()),
+            Condition::Matches(pattern) => Ok(pattern.matches(value)?),
+            Condition::MatchesNot(pattern) => Ok(!pattern.matches(value)?),
+        }
+    }
+}
