@@ -4,13 +4,13 @@ use Rattle.std.specs.declared.cmp.Ordering.{Ordering}
 use Rattle.std.specs.declared.cmp.Ordering.TheVariants.{Less, Equal, Greater}
 use Rattle.std.specs.Ordering.{nat_cmp, ordering_then}
 use Rattle.std.proofs.lemmas.Cmp.{ranked}
-use Rattle.std.specs.List.{AllByRecursion, Contains}
+use Rattle.std.specs.List.{AllByRecursion, Contains, AllPairs}
 use Rattle.index_parts.specs.declared.raw_series.RawSeries.{RawSeries}
 use Rattle.index_writing.specs.declared.label_groups.Entry.{Entry}
 use Rattle.index_writing.specs.LabelGroups.{entries_of, all_entries, compare_entries, is_lesser_entry}
-use Rattle.list_core.proofs.Membership.{contains_first, contains_later, no_member, member_cases, each_member, all_members}
+use Rattle.list_core.proofs.Membership.{contains_first, contains_later, no_member, member_cases, each_member}
 use Rattle.std.proofs.lemmas.List.Elements.{Contains-append_cases}
-use Rattle.index_writing.proofs.OrderedEntries.{Rise, IsStrict, strict_order, Once}
+use Rattle.index_writing.proofs.OrderedEntries.{IsStrict, strict_order, Once, Below, first_pairs, later_pairs}
 use Rattle.index_writing.proofs.LabelRows.{Before}
 use Rattle.index_writing.proofs.Entries.{labels_with, entries_total}
 
@@ -55,9 +55,8 @@ same_entry x y e =
 pub entries_strict : IsStrict is_lesser_entry (λ x y. compare_entries x y ≡ Less)
 entries_strict = strict_order compare_entries entries_total same_entry
 
-pub before_all : (entries : List Entry) → Rise (λ x y. compare_entries x y ≡ Less) entries → Rise Before entries
-before_all [] up = tt
-before_all (x ∷ entries) up = (all_members (Before x) entries (λ y h. before_from x y (each_member (λ z. compare_entries x z ≡ Less) entries y up.0 h)), before_all entries up.1)
+pub before_all : (entries : List Entry) → AllPairs (λ x y. compare_entries x y ≡ Less) entries → AllPairs Before entries
+before_all entries up i j d below within = before_from _ _ (up i j d below within)
 
 -- ---- each stands once
 
@@ -71,11 +70,11 @@ in_labels series (name ∷ names) (value ∷ values) e h =
       | inr r ↦ let others = in_labels series names values e r in (others.0, contains_later name e.name names others.1)
     ]
 
-once_labels : (series : ℕ) (names values : List ℕ) → Rise (λ n m. n < m) names → Once (labels_with series names values)
+once_labels : (series : ℕ) (names values : List ℕ) → AllPairs Below names → Once (labels_with series names values)
 once_labels series [] values up = tt
 once_labels series (name ∷ names) [] up = tt
 once_labels series (name ∷ names) (value ∷ values) up =
-    (λ h. let later : name < name = each_member (λ m. name < m) names name up.0 (in_labels series names values (record { name = name; value = value; series = series }) h).1 in omega arith, once_labels series names values up.1)
+    (λ h. let later : name < name = each_member (λ m. name < m) names name (first_pairs Below name names up) (in_labels series names values (record { name = name; value = value; series = series }) h).1 in omega arith, once_labels series names values (later_pairs Below name names up))
 
 once_append : {A : Type 0} (xs ys : List A) → Once xs → Once ys → ((x : A) → Contains xs x → Contains ys x → ⊥) → Once (xs ++ ys)
 once_append [] ys a b apart = b
@@ -91,13 +90,13 @@ in_series (one ∷ series) (number ∷ numbers) e h = elim (Contains-append_case
   | inr i ↦ contains_later number e.series numbers (in_series series numbers e i)
 ]
 
-pub once_entries : (series : List RawSeries) (numbers : List ℕ) → AllByRecursion (λ one. Rise (λ n m. n < m) one.names) series → Rise (λ n m. n < m) numbers → Once (all_entries series numbers)
+pub once_entries : (series : List RawSeries) (numbers : List ℕ) → AllByRecursion (λ one. AllPairs Below one.names) series → AllPairs Below numbers → Once (all_entries series numbers)
 unfolding all_entries entries_of
 once_entries [] numbers names up = tt
 once_entries (one ∷ series) [] names up = tt
 once_entries (one ∷ series) (number ∷ numbers) names up =
-    once_append (entries_of one number) (all_entries series numbers) (once_labels number one.names one.values names.0) (once_entries series numbers names.1 up.1)
+    once_append (entries_of one number) (all_entries series numbers) (once_labels number one.names one.values names.0) (once_entries series numbers names.1 (later_pairs Below number numbers up))
     (λ e i j.
     let here = (in_labels number one.names one.values e i).0 in
-    let later : number < e.series = each_member (λ m. number < m) numbers e.series up.0 (in_series series numbers e j) in
+    let later : number < e.series = each_member (λ m. number < m) numbers e.series (first_pairs Below number numbers up) (in_series series numbers e j) in
     omega arith)

@@ -1,10 +1,10 @@
 -- What groups are made of members that strictly ascend by their keys, and by their numbers where keys are the same.
 use Rattle.std.proofs.Common.{◌≡◌, ℕ, ◌<◌, Bool, true, false, cond, List, [], ◌∷◌, ◌++◌, map, refl, sym, ap, ◌∙◌, subst, inl, inr, ◌⊎◌}
 use Rattle.std.proofs.lemmas.Bool.{true≢false}
-use Rattle.std.specs.List.{AllByRecursion, Contains}
+use Rattle.std.specs.List.{AllByRecursion, Contains, AllPairs}
 use Rattle.index_writing.specs.LabelGroups.{with_first, grouped}
 use Rattle.list_core.proofs.Membership.{contains_first, contains_later, no_member, member_cases, only_member, each_member, all_members}
-use Rattle.index_writing.proofs.OrderedEntries.{Rise}
+use Rattle.index_writing.proofs.OrderedEntries.{Below, no_pairs, pairs_cons, first_pairs, later_pairs}
 
 module _ {X A K : Type 0} (key_of : X → K) (number : X → ℕ) (key : A → K) (numbers : A → List ℕ) (R : K → K → Type 0) where
   -- how members, their keys and numbers, and their groups go together
@@ -19,17 +19,20 @@ module _ {X A K : Type 0} (key_of : X → K) (number : X → ℕ) (key : A → K
     pub join_key : (a b : A) → key (join a b) ≡ key a
     pub join_numbers : (a b : A) → numbers (join a b) ≡ numbers a ++ numbers b
 
+  abbrev GroupBefore : A → A → Type 0
+  GroupBefore a b = R (key a) (key b)
+
   -- The groups ascend by their keys, each one's numbers rise and are of members of its key, and each member has its group.
   pub record AreGroups (xs : List X) (groups : List A) : Type 0 where
-    pub ascend : Rise (λ a b. R (key a) (key b)) groups
-    pub rise : (g : A) → Contains groups g → Rise (λ n m. n < m) (numbers g)
+    pub ascend : AllPairs GroupBefore groups
+    pub rise : (g : A) → Contains groups g → AllPairs Below (numbers g)
     pub some : (g : A) → Contains groups g → (n : ℕ) × Contains (numbers g) n
     pub only : (g : A) (n : ℕ) → Contains groups g → Contains (numbers g) n → (x : X) × Contains xs x × (key_of x ≡ key g) × (number x ≡ n)
     pub all : (x : X) → Contains xs x → (g : A) × Contains groups g × (key g ≡ key_of x) × Contains (numbers g) (number x)
 
   none : AreGroups [] []
   none = record {
-    ascend = tt;
+    ascend = no_pairs GroupBefore;
     rise = λ g h. absurd (no_member g h);
     some = λ g h. absurd (no_member g h);
     only = λ g n h i. absurd (no_member g h);
@@ -37,16 +40,16 @@ module _ {X A K : Type 0} (key_of : X → K) (number : X → ℕ) (key : A → K
   }
 
   -- two of one key are one
-  pub one_group : ((k : K) → R k k → ⊥) → (groups : List A) (one other : A) → Rise (λ a b. R (key a) (key b)) groups → Contains groups one → Contains groups other → key one ≡ key other → one ≡ other
+  pub one_group : ((k : K) → R k k → ⊥) → (groups : List A) (one other : A) → AllPairs GroupBefore groups → Contains groups one → Contains groups other → key one ≡ key other → one ≡ other
   one_group irreflexive [] one other up h i same = absurd (no_member one h)
   one_group irreflexive (x ∷ groups) one other up h i same = elim (member_cases x one groups h) [
     | inl a ↦ elim (member_cases x other groups i) [
       | inl b ↦ sym a ∙ b
-      | inr b ↦ absurd (irreflexive (key other) (subst (λ (k : K). R k (key other)) (ap key a ∙ same) (each_member (λ g. R (key x) (key g)) groups other up.0 b)))
+      | inr b ↦ absurd (irreflexive (key other) (subst (λ (k : K). R k (key other)) (ap key a ∙ same) (each_member (λ g. R (key x) (key g)) groups other (first_pairs GroupBefore x groups up) b)))
     ]
     | inr a ↦ elim (member_cases x other groups i) [
-      | inl b ↦ absurd (irreflexive (key one) (subst (λ (k : K). R k (key one)) (ap key b ∙ sym same) (each_member (λ g. R (key x) (key g)) groups one up.0 a)))
-      | inr b ↦ one_group irreflexive groups one other up.1 a b same
+      | inl b ↦ absurd (irreflexive (key one) (subst (λ (k : K). R k (key one)) (ap key b ∙ sym same) (each_member (λ g. R (key x) (key g)) groups one (first_pairs GroupBefore x groups up) a)))
+      | inr b ↦ one_group irreflexive groups one other (later_pairs GroupBefore x groups up) a b same
     ]
   ]
 
@@ -77,8 +80,8 @@ module _ {X A K : Type 0} (key_of : X → K) (number : X → ℕ) (key : A → K
 
     apart_groups : (x : X) (xs : List X) (groups : List A) → AllByRecursion (Before x) xs → AreGroups xs groups → ((g : A) → Contains groups g → key_of x ≡ key g → ⊥) → AreGroups (x ∷ xs) (of x ∷ groups)
     apart_groups x xs groups before are apart = record {
-      ascend = (all_members (λ g. R (key (of x)) (key g)) groups (λ g h. elim (key_case x xs groups g before are h) [ inl k ↦ subst (λ (l : K). R l (key g)) (sym (law.of_key x)) k | inr s ↦ absurd (apart g h s) ]), are.ascend);
-      rise = λ g h. elim (member_cases (of x) g groups h) [ inl is ↦ subst (Rise (λ n m. n < m)) (sym (ap numbers (sym is) ∙ law.of_numbers x)) (tt, tt) | inr r ↦ are.rise g r ];
+      ascend = pairs_cons GroupBefore (of x) groups (all_members (λ g. R (key (of x)) (key g)) groups (λ g h. elim (key_case x xs groups g before are h) [ inl k ↦ subst (λ (l : K). R l (key g)) (sym (law.of_key x)) k | inr s ↦ absurd (apart g h s) ])) are.ascend;
+      rise = λ g h. elim (member_cases (of x) g groups h) [ inl is ↦ subst (AllPairs Below) (sym (ap numbers (sym is) ∙ law.of_numbers x)) (pairs_cons Below (number x) [] tt (no_pairs Below)) | inr r ↦ are.rise g r ];
       some = λ g h. elim (member_cases (of x) g groups h) [ inl is ↦ (number x, subst (λ (l : List ℕ). Contains l (number x)) (sym (ap numbers (sym is) ∙ law.of_numbers x)) (contains_first (number x) [])) | inr r ↦ are.some g r ];
       only = λ g n h i. elim (member_cases (of x) g groups h) [ inl is ↦ first_only x xs g n (sym is) i | inr r ↦ later_only x xs groups g n are r i ];
       all = λ y h. elim (member_cases x y xs h) [
@@ -125,9 +128,9 @@ module _ {X A K : Type 0} (key_of : X → K) (number : X → ℕ) (key : A → K
 
       joined_groups : AreGroups (x ∷ xs) (join (of x) y ∷ ys)
       joined_groups = record {
-        ascend = (all_members (λ g. R (key (join (of x) y)) (key g)) ys (λ g h. subst (λ (l : K). R l (key g)) (sym joined_key) (each_member (λ a. R (key y) (key a)) ys g are.ascend.0 h)), are.ascend.1);
+        ascend = pairs_cons GroupBefore (join (of x) y) ys (all_members (λ g. R (key (join (of x) y)) (key g)) ys (λ g h. subst (λ (l : K). R l (key g)) (sym joined_key) (each_member (λ a. R (key y) (key a)) ys g (first_pairs GroupBefore y ys are.ascend) h))) (later_pairs GroupBefore y ys are.ascend);
         rise = λ g h. elim (member_cases (join (of x) y) g ys h) [
-          | inl is ↦ subst (Rise (λ n m. n < m)) (sym (ap numbers (sym is) ∙ joined_numbers)) (all_members (λ m. number x < m) (numbers y) later, are.rise y (contains_first y ys))
+          | inl is ↦ subst (AllPairs Below) (sym (ap numbers (sym is) ∙ joined_numbers)) (pairs_cons Below (number x) (numbers y) (all_members (λ m. number x < m) (numbers y) later) (are.rise y (contains_first y ys)))
           | inr r ↦ are.rise g (contains_later y g ys r)
         ];
         some = λ g h. elim (member_cases (join (of x) y) g ys h) [
@@ -152,7 +155,7 @@ module _ {X A K : Type 0} (key_of : X → K) (number : X → ℕ) (key : A → K
     apart_first : (x : X) (xs : List X) (y : A) (ys : List A) → AllByRecursion (Before x) xs → AreGroups xs (y ∷ ys) → same (of x) y ≡ false → (g : A) → Contains (y ∷ ys) g → key_of x ≡ key g → ⊥
     apart_first x xs y ys before are apart g h alike = elim (member_cases y g ys h) [
       | inl is ↦ true≢false (sym (law.same_test (of x) y (law.of_key x ∙ alike ∙ ap key (sym is))) ∙ apart)
-      | inr r ↦ let behind : R (key y) (key g) = each_member (λ a. R (key y) (key a)) ys g are.ascend.0 r in
+      | inr r ↦ let behind : R (key y) (key g) = each_member (λ a. R (key y) (key a)) ys g (first_pairs GroupBefore y ys are.ascend) r in
           elim (key_case x xs (y ∷ ys) y before are (contains_first y ys)) [
             | inl less ↦ law.irreflexive (key g) (subst (λ (l : K). R l (key g)) alike (law.trans (key_of x) (key y) (key g) less behind))
             | inr is ↦ law.irreflexive (key g) (subst (λ (l : K). R l (key g)) (sym is ∙ alike) behind)
@@ -167,7 +170,7 @@ module _ {X A K : Type 0} (key_of : X → K) (number : X → ℕ) (key : A → K
     groups_first x xs [] before are = apart_groups x xs [] before are (λ g h. absurd (no_member g h))
     groups_first x xs (y ∷ ys) before are = groups_case (same (of x) y) x xs y ys before are refl
 
-    pub are_groups : (xs : List X) → Rise Before xs → AreGroups xs (grouped same join (map of xs))
+    pub are_groups : (xs : List X) → AllPairs Before xs → AreGroups xs (grouped same join (map of xs))
     unfolding grouped
     are_groups [] up = none
-    are_groups (x ∷ xs) up = groups_first x xs (grouped same join (map of xs)) up.0 (are_groups xs up.1)
+    are_groups (x ∷ xs) up = groups_first x xs (grouped same join (map of xs)) (first_pairs Before x xs up) (are_groups xs (later_pairs Before x xs up))

@@ -7,8 +7,7 @@ use Rattle.index_writing.specs.declared.label_groups.Entry.{Entry}
 use Rattle.index_writing.specs.declared.label_groups.LabelRow.{LabelRow}
 use Rattle.index_writing.specs.declared.label_groups.NameValues.{NameValues}
 use Rattle.index_writing.specs.LabelGroups.{grouped, row_of_entry, have_same_label, join_series, values_of_row, have_same_name, join_values, names_of}
-use Rattle.std.specs.List.{Contains}
-use Rattle.index_writing.proofs.OrderedEntries.{Rise}
+use Rattle.std.specs.List.{Contains, AllPairs}
 use Rattle.index_writing.proofs.GroupLaws.{IsGrouping, AreGroups, are_groups, one_group}
 
 -- a label is before another, by the numbers of its name and value
@@ -83,7 +82,7 @@ entries_grouping = record {
   join_numbers = λ a b. refl;
 }
 
-pub grouped_rows : (entries : List Entry) → Rise Before entries → AreRowsOf entries (grouped have_same_label join_series (map row_of_entry entries))
+pub grouped_rows : (entries : List Entry) → AllPairs Before entries → AreRowsOf entries (grouped have_same_label join_series (map row_of_entry entries))
 grouped_rows entries up = are_groups entry_key (λ entry. entry.series) row_key (λ row. row.series) LabelBefore Before have_same_label join_series row_of_entry entries_grouping entries up
 
 -- a row's number is of an entry
@@ -95,7 +94,7 @@ row_entry entries rows row n are h i =
     subst (λ (e : Entry). Contains entries e) (λ j. record { name = (key j).0; value = (key j).1; series = number j }) found.1
 
 -- two rows of one label are one
-pub one_row : (rows : List LabelRow) (one other : LabelRow) → Rise RowBefore rows → Contains rows one → Contains rows other → one.name ≡ other.name → one.value ≡ other.value → one ≡ other
+pub one_row : (rows : List LabelRow) (one other : LabelRow) → AllPairs RowBefore rows → Contains rows one → Contains rows other → one.name ≡ other.name → one.value ≡ other.value → one ≡ other
 one_row rows one other up h i name value = one_group entry_key (λ entry. entry.series) row_key (λ row. row.series) LabelBefore not_itself rows one other up h i (λ j. (name j, value j))
 
 -- ---- names
@@ -113,10 +112,10 @@ rows_grouping = record {
   join_numbers = λ a b. refl;
 }
 
-pub grouped_names : (rows : List LabelRow) → Rise RowBefore rows → AreNamesOf rows (names_of rows)
+pub grouped_names : (rows : List LabelRow) → AllPairs RowBefore rows → AreNamesOf rows (names_of rows)
 unfolding names_of
 grouped_names rows up = are_groups (λ (row : LabelRow). row.name) (λ row. row.value) (λ (name : NameValues). name.name) (λ name. name.values) (λ n m. n < m) RowBefore have_same_name join_values values_of_row rows_grouping rows up
 
 -- two of one name are one
-pub one_name : (names : List NameValues) (one other : NameValues) → Rise NameBefore names → Contains names one → Contains names other → one.name ≡ other.name → one ≡ other
+pub one_name : (names : List NameValues) (one other : NameValues) → AllPairs NameBefore names → Contains names one → Contains names other → one.name ≡ other.name → one ≡ other
 one_name names one other up h i same = one_group (λ (row : LabelRow). row.name) (λ row. row.value) (λ (name : NameValues). name.name) (λ name. name.values) (λ n m. n < m) (λ n lt. omega arith) names one other up h i same

@@ -2,7 +2,7 @@
 use Rattle.std.proofs.Common.{◌≡◌, ℕ, ◌^◌, ◌<◌, ◌≤◌, List, [], ◌∷◌, ◌++◌, length, map, zip, Option, Some, None, refl, sym, ap, ◌∙◌, subst, arith, inl, inr, append_assoc}
 use Rattle.std.specs.Prelude.{slice_get, unwrap_or}
 use Rattle.std.specs.declared.cmp.Ordering.TheVariants.{Less}
-use Rattle.std.specs.List.{AllByRecursion, All, Contains}
+use Rattle.std.specs.List.{AllByRecursion, All, Contains, AllPairs}
 use Rattle.std.proofs.lemmas.List.{length-map}
 use Rattle.label_sets.specs.declared.label.Label.{Label}
 use Rattle.label_sets.specs.Labels.{IsLabelSet, compare_texts}
@@ -20,7 +20,7 @@ use Rattle.index_writing.specs.Aligned.{places_at}
 use Rattle.index_writing.specs.WriteSteps.{greatest}
 use Rattle.index_writing.specs.Written.{label_index_texts, list_texts, offset_rows, parts_of, with_series, with_label_indices, with_lists, label_index_places, toc_of, written}
 use Rattle.list_core.proofs.Membership.{contains_first, contains_later, no_member, member_cases, each_member, all_members, of_map, into_map}
-use Rattle.index_writing.proofs.OrderedEntries.{Rise}
+use Rattle.index_writing.proofs.OrderedEntries.{first_pairs, later_pairs}
 use Rattle.index_writing.proofs.SortedTexts.{symbols_strict}
 use Rattle.index_writing.proofs.SymbolNumbers.{label_in, number_at, symbol_at}
 use Rattle.index_writing.proofs.AlignedTexts.{places_many}
@@ -149,10 +149,10 @@ names_less list one other lawful h i lt =
     let y = b.name_is in
     ap (λ (t : List ℕ). compare_texts t (text_of list other)) (name_text list one.name m.0 a) ∙ ap (compare_texts a.label.name) (name_text list other.name n.0 b) ∙ text_less list a.label.name b.label.name a.name_in b.name_in (omega arith)
 
-texts_after : (text : NameValues → List ℕ) (before : Option (List ℕ)) (ns : List NameValues) → ((one other : NameValues) → Contains ns one → Contains ns other → one.name < other.name → compare_texts (text one) (text other) ≡ Less) → AllByRecursion (λ name. MayFollow before (text name)) ns → Rise NameBefore ns → InOrderAfter MayFollow before (map text ns)
+texts_after : (text : NameValues → List ℕ) (before : Option (List ℕ)) (ns : List NameValues) → ((one other : NameValues) → Contains ns one → Contains ns other → one.name < other.name → compare_texts (text one) (text other) ≡ Less) → AllByRecursion (λ name. MayFollow before (text name)) ns → AllPairs NameBefore ns → InOrderAfter MayFollow before (map text ns)
 texts_after text before [] less all up = tt
 texts_after text before (x ∷ ns) less all up =
-    (all.0, texts_after text (Some (text x)) ns (λ one other h i. less one other (contains_later x one ns h) (contains_later x other ns i)) (all_members (λ name. MayFollow (Some (text x)) (text name)) ns (λ y h. less x y (contains_first x ns) (contains_later x y ns h) (each_member (NameBefore x) ns y up.0 h))) up.1)
+    (all.0, texts_after text (Some (text x)) ns (λ one other h i. less one other (contains_later x one ns h) (contains_later x other ns i)) (all_members (λ name. MayFollow (Some (text x)) (text name)) ns (λ y h. less x y (contains_first x ns) (contains_later x y ns h) (each_member (NameBefore x) ns y (first_pairs NameBefore x ns up) h))) (later_pairs NameBefore x ns up))
 
 texts_ascend : (list : List IndexSeries) → AreLawful list → InOrder MayFollow (map (text_of list) (names list))
 texts_ascend list lawful =

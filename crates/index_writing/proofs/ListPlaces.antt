@@ -2,7 +2,7 @@
 use Rattle.std.proofs.Common.{◌≡◌, ℕ, ◌/◌, ◌%◌, ◌^◌, ◌<◌, ◌≤◌, Bool, true, false, cond, List, [], ◌∷◌, ◌++◌, length, zip, fold, Option, Some, None, sym, ap, ◌∙◌, subst, arith, inl, inr, length-append, append_assoc}
 use Rattle.std.specs.Prelude.{bit_xor, ◌==◌}
 use Rattle.std.specs.Int.{w32, to_be_bytes}
-use Rattle.std.specs.List.{All, AllByRecursion, flat_map, Contains}
+use Rattle.std.specs.List.{All, AllByRecursion, flat_map, Contains, AllPairs}
 use Rattle.std.proofs.lemmas.Nat.{xor_of_32}
 use Rattle.wire_bytes.specs.Crc.{crc, remainder, with_bit, castagnoli, coefficients, ones}
 use Rattle.index_parts.specs.Framed.{section_text, IsSection}
@@ -15,7 +15,7 @@ use Rattle.index_parts.proofs.Writing.{postings_stand, values_stand}
 use Rattle.index_writing.specs.Aligned.{padded, each_at, places_at}
 use Rattle.index_writing.specs.WriteSteps.{greatest}
 use Rattle.list_core.proofs.Membership.{no_member, member_cases}
-use Rattle.index_writing.proofs.OrderedEntries.{Rise}
+use Rattle.index_writing.proofs.OrderedEntries.{Below, first_pairs, later_pairs}
 use Rattle.index_writing.proofs.SmallNumbers.{all_from}
 use Rattle.index_writing.proofs.Standing.{each_begins}
 
@@ -84,9 +84,9 @@ stands_on whole more place text longer stands is = record {
 
 -- ---- lists of numbers
 
-order_after : (before : Option ℕ) (numbers : List ℕ) → AllByRecursion (Rises before) numbers → Rise (λ n m. n < m) numbers → InOrderAfter Rises before numbers
+order_after : (before : Option ℕ) (numbers : List ℕ) → AllByRecursion (Rises before) numbers → AllPairs Below numbers → InOrderAfter Rises before numbers
 order_after before [] all up = tt
-order_after before (n ∷ numbers) all up = (all.0, order_after (Some n) numbers up.0 up.1)
+order_after before (n ∷ numbers) all up = (all.0, order_after (Some n) numbers (first_pairs Below n numbers up) (later_pairs Below n numbers up))
 
 any_first : (numbers : List ℕ) → AllByRecursion (Rises None) numbers
 any_first [] = tt
@@ -98,10 +98,10 @@ content_shorter content before after =
     omega (arith, length-append (before ++ section_text content) after, length-append before (section_text content), length-append (to_be_bytes w32 (length content) ++ content) (to_be_bytes w32 (crc content)), length-append (to_be_bytes w32 (length content)) content)
 
 -- numbers that rise are in order
-pub in_order : (numbers : List ℕ) → Rise (λ n m. n < m) numbers → InOrder Rises numbers
+pub in_order : (numbers : List ℕ) → AllPairs Below numbers → InOrder Rises numbers
 in_order numbers up = order_after None numbers (any_first numbers) up
 
-pub list_stands : (whole : List ℕ) (place : ℕ) (numbers : List ℕ) → length whole ≤ greatest → StandsAt whole place (postings_text numbers) → AllByRecursion (λ n. n < 2 ^ 32) numbers → Rise (λ n m. n < m) numbers → IsPostings whole place numbers
+pub list_stands : (whole : List ℕ) (place : ℕ) (numbers : List ℕ) → length whole ≤ greatest → StandsAt whole place (postings_text numbers) → AllByRecursion (λ n. n < 2 ^ 32) numbers → AllPairs Below numbers → IsPostings whole place numbers
 list_stands whole place numbers room stands small up =
     let content = list_content (to_be_bytes w32) numbers in
     let fits : length content < 2 ^ 32 = omega (arith, room, ap length stands.is, content_shorter content stands.before stands.after) in

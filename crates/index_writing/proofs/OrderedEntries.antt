@@ -1,6 +1,8 @@
--- A strictly ascending list by insertion: that it ascends, by a relation.
-use Rattle.std.proofs.Common.{◌≡◌, Bool, true, false, cond, List, [], ◌∷◌, ◌++◌, refl, sym, ap, ◌∙◌, subst, inl, inr, ◌⊎◌}
-use Rattle.std.specs.List.{AllByRecursion, Contains}
+-- Lists each member of which stands in a relation to those behind it, and that a list that is put in order is one.
+use Rattle.std.proofs.lemmas.List.Elements.{All-from_recursion, recursion_from_All}
+use Rattle.std.proofs.lemmas.List.Kept.{AllPairs-cons}
+use Rattle.std.proofs.Common.{◌≡◌, ℕ, suc, ◌<◌, arith, Bool, true, false, cond, List, [], ◌∷◌, refl, sym, ap, ◌∙◌, subst, inl, inr}
+use Rattle.std.specs.List.{AllByRecursion, AllPairs, Contains}
 use Rattle.std.specs.declared.cmp.Ordering.{Ordering}
 use Rattle.std.specs.declared.cmp.Ordering.TheVariants.{Less, Equal, Greater}
 use Rattle.std.specs.Ordering.{is_lt, ordering_reverse}
@@ -8,10 +10,24 @@ use Rattle.std.specs.Cmp.{IsTotalOrder}
 use Rattle.label_sets.specs.Ordered.{placed, in_order}
 use Rattle.list_core.proofs.Membership.{contains_first, contains_later, each_member, all_members, of_placed, of_in_order}
 
--- each member is before those behind it
-abbrev pub Rise : {A : Type 0} → (A → A → Type 0) → List A → Type 0
-Rise R [] = Unit {0}
-Rise R (x ∷ xs) = AllByRecursion (R x) xs × Rise R xs
+-- ---- pairs of members, the first of which stands before the second
+
+abbrev pub Below : ℕ → ℕ → Type 0
+Below n m = n < m
+
+pub no_pairs : {A : Type 0} (R : A → A → Type 0) → AllPairs R []
+no_pairs R i j d below within = absurd (omega (arith, within))
+
+pub pairs_cons : {A : Type 0} (R : A → A → Type 0) (x : A) (xs : List A) → AllByRecursion (R x) xs → AllPairs R xs → AllPairs R (x ∷ xs)
+pairs_cons R x xs first others = AllPairs-cons R x xs (All-from_recursion (R x) xs first) others
+
+pub first_pairs : {A : Type 0} (R : A → A → Type 0) (x : A) (xs : List A) → AllPairs R (x ∷ xs) → AllByRecursion (R x) xs
+first_pairs R x xs all = recursion_from_All (R x) xs (λ k d within. all 0 (suc k) d (omega arith) (omega (arith, within)))
+
+pub later_pairs : {A : Type 0} (R : A → A → Type 0) (x : A) (xs : List A) → AllPairs R (x ∷ xs) → AllPairs R xs
+later_pairs R x xs all i j d below within = all (suc i) (suc j) d (omega (arith, below)) (omega (arith, within))
+
+-- ---- an order
 
 -- A test that is true exactly of a relation, which goes on and holds one way of two different ones.
 pub record IsStrict {A : Type 0} (less : A → A → Bool) (R : A → A → Type 0) : Type 0 where
@@ -51,17 +67,17 @@ module _ {A : Type 0} (less : A → A → Bool) (R : A → A → Type 0) (o : Is
   all_placed : (y x : A) (ys : List A) → R y x → AllByRecursion (R y) ys → AllByRecursion (R y) (placed less x ys)
   all_placed y x ys r all = all_members (R y) (placed less x ys) (λ z h. elim (of_placed less x z ys h) [ inl e ↦ subst (R y) e r | inr w ↦ each_member (R y) ys z all w ])
 
-  rise_case : (b : Bool) (x y : A) (ys rest : List A) → less y x ≡ b → (x ≡ y → ⊥) → Rise R (y ∷ ys) → (R y x → AllByRecursion (R y) rest) → Rise R rest → Rise R (cond b (y ∷ rest) (x ∷ y ∷ ys))
-  rise_case true x y ys rest e apart up all others = (all (o.yes y x e), others)
-  rise_case false x y ys rest e apart up all others = let r : R x y = o.other x y e apart in ((r, all_before x y ys r up.0), up)
+  rise_case : (b : Bool) (x y : A) (ys rest : List A) → less y x ≡ b → (x ≡ y → ⊥) → AllPairs R (y ∷ ys) → (R y x → AllByRecursion (R y) rest) → AllPairs R rest → AllPairs R (cond b (y ∷ rest) (x ∷ y ∷ ys))
+  rise_case true x y ys rest e apart up all others = pairs_cons R y rest (all (o.yes y x e)) others
+  rise_case false x y ys rest e apart up all others = let r : R x y = o.other x y e apart in pairs_cons R x (y ∷ ys) (r, all_before x y ys r (first_pairs R y ys up)) up
 
-  pub rise_placed : (x : A) (ys : List A) → (Contains ys x → ⊥) → Rise R ys → Rise R (placed less x ys)
+  pub rise_placed : (x : A) (ys : List A) → (Contains ys x → ⊥) → AllPairs R ys → AllPairs R (placed less x ys)
   unfolding placed
-  rise_placed x [] new up = (tt, tt)
+  rise_placed x [] new up = pairs_cons R x [] tt (no_pairs R)
   rise_placed x (y ∷ ys) new up =
-      rise_case (less y x) x y ys (placed less x ys) refl (λ e. new (subst (Contains (y ∷ ys)) (sym e) (contains_first y ys))) up (λ r. all_placed y x ys r up.0) (rise_placed x ys (λ h. new (contains_later y x ys h)) up.1)
+      rise_case (less y x) x y ys (placed less x ys) refl (λ e. new (subst (Contains (y ∷ ys)) (sym e) (contains_first y ys))) up (λ r. all_placed y x ys r (first_pairs R y ys up)) (rise_placed x ys (λ h. new (contains_later y x ys h)) (later_pairs R y ys up))
 
-  pub rise_order : (xs : List A) → Once xs → Rise R (in_order less xs)
+  pub rise_order : (xs : List A) → Once xs → AllPairs R (in_order less xs)
   unfolding in_order
-  rise_order [] once = tt
+  rise_order [] once = no_pairs R
   rise_order (x ∷ xs) once = rise_placed x (in_order less xs) (λ h. once.0 (of_in_order less x xs h)) (rise_order xs once.1)

@@ -1,7 +1,7 @@
 -- Series by their numbers: numbers and names rise, and which entries there are.
-use Rattle.std.proofs.Common.{◌≡◌, ℕ, ◌*◌, ◌/◌, ◌<◌, ◌≤◌, List, [], ◌∷◌, ◌++◌, length, map, zip, refl, sym, ap, subst, arith, inl, inr, length-append}
+use Rattle.std.proofs.Common.{◌≡◌, ℕ, ◌*◌, ◌/◌, ◌<◌, ◌≤◌, List, [], ◌∷◌, ◌++◌, length, map, zip, sym, ap, subst, arith, inl, inr, length-append}
 use Rattle.std.specs.Int.{w32, to_be_bytes}
-use Rattle.std.specs.List.{AllByRecursion, Contains}
+use Rattle.std.specs.List.{AllByRecursion, Contains, AllPairs}
 use Rattle.std.specs.List.Sorted.{IsStrictlySortedBy}
 use Rattle.wire_bytes.specs.Crc.{crc}
 use Rattle.wire_bytes.specs.Written.{uvarint_text}
@@ -19,7 +19,7 @@ use Rattle.index_writing.specs.Aligned.{padded, places_at}
 use Rattle.index_writing.specs.Written.{numbers_behind}
 use Rattle.list_core.proofs.Membership.{contains_first, contains_later, no_member, member_cases, each_member}
 use Rattle.std.proofs.lemmas.List.Elements.{Contains-append_left, Contains-append_right, Contains-append_cases}
-use Rattle.index_writing.proofs.OrderedEntries.{Rise}
+use Rattle.index_writing.proofs.OrderedEntries.{Below, no_pairs, pairs_cons}
 use Rattle.index_writing.proofs.SortedTexts.{symbols_strict}
 use Rattle.index_writing.proofs.SymbolNumbers.{label_in, number_less}
 use Rattle.index_writing.proofs.AlignedTexts.{padded_longer}
@@ -32,19 +32,20 @@ names_behind : (symbols : List (List ℕ)) (name : List ℕ) (labels : List Labe
 names_behind symbols name [] up h before = tt
 names_behind symbols name (l ∷ labels) up h before = (number_less symbols name l.name up h before.0, names_behind symbols name labels up h before.1)
 
-names_rise : (symbols : List (List ℕ)) (labels : List Label) → IsStrictlySortedBy compare_texts symbols → ((l : Label) → Contains labels l → Contains symbols l.name) → IsLabelSet labels → Rise (λ n m. n < m) (map (λ l. number_of symbols l.name) labels)
-names_rise symbols [] up known lawful = tt
-names_rise symbols (l ∷ labels) up known lawful = (names_behind symbols l.name labels up (known l (contains_first l labels)) lawful.2, names_rise symbols labels up (λ m h. known m (contains_later l m labels h)) lawful.3)
+names_rise : (symbols : List (List ℕ)) (labels : List Label) → IsStrictlySortedBy compare_texts symbols → ((l : Label) → Contains labels l → Contains symbols l.name) → IsLabelSet labels → AllPairs Below (map (λ l. number_of symbols l.name) labels)
+names_rise symbols [] up known lawful = no_pairs Below
+names_rise symbols (l ∷ labels) up known lawful =
+    pairs_cons Below (number_of symbols l.name) (map (λ (m : Label). number_of symbols m.name) labels) (names_behind symbols l.name labels up (known l (contains_first l labels)) lawful.2) (names_rise symbols labels up (λ m h. known m (contains_later l m labels h)) lawful.3)
 
-raw_names : (symbols : List (List ℕ)) (series : IndexSeries) → IsStrictlySortedBy compare_texts symbols → ((l : Label) → Contains series.labels l → Contains symbols l.name) → IsLabelSet series.labels → Rise (λ n m. n < m) (raw_of symbols series).names
+raw_names : (symbols : List (List ℕ)) (series : IndexSeries) → IsStrictlySortedBy compare_texts symbols → ((l : Label) → Contains series.labels l → Contains symbols l.name) → IsLabelSet series.labels → AllPairs Below (raw_of symbols series).names
 unfolding raw_of
 raw_names symbols series up known lawful = names_rise symbols series.labels up known lawful
 
-each_names : (symbols : List (List ℕ)) (list : List IndexSeries) → IsStrictlySortedBy compare_texts symbols → ((s : IndexSeries) (l : Label) → Contains list s → Contains s.labels l → Contains symbols l.name) → AllByRecursion (λ one. IsLabelSet one.labels) list → AllByRecursion (λ one. Rise (λ n m. n < m) one.names) (map (raw_of symbols) list)
+each_names : (symbols : List (List ℕ)) (list : List IndexSeries) → IsStrictlySortedBy compare_texts symbols → ((s : IndexSeries) (l : Label) → Contains list s → Contains s.labels l → Contains symbols l.name) → AllByRecursion (λ one. IsLabelSet one.labels) list → AllByRecursion (λ one. AllPairs Below one.names) (map (raw_of symbols) list)
 each_names symbols [] up known lawful = tt
 each_names symbols (series ∷ list) up known lawful = (raw_names symbols series up (λ l h. known series l (contains_first series list) h) lawful.0, each_names symbols list up (λ s l h i. known s l (contains_later series s list h) i) lawful.1)
 
-pub all_names : (list : List IndexSeries) → AllByRecursion (λ one. IsLabelSet one.labels) list → AllByRecursion (λ one. Rise (λ n m. n < m) one.names) (map (raw_of (symbols_of list)) list)
+pub all_names : (list : List IndexSeries) → AllByRecursion (λ one. IsLabelSet one.labels) list → AllByRecursion (λ one. AllPairs Below one.names) (map (raw_of (symbols_of list)) list)
 all_names list lawful = each_names (symbols_of list) list (symbols_strict list) (λ s l h i. (label_in list s l h i).0) lawful
 
 -- ---- numbers
@@ -69,15 +70,15 @@ above : (n : ℕ) (places : List ℕ) (least : ℕ) → 16 * n < least → AllBy
 above n [] least lt all = tt
 above n (place ∷ places) least lt all = ((let here = all.0 in omega (arith, here.0, here.1)), above n places least lt all.1)
 
-places_rise : (text : List ℕ) (series : List RawSeries) → Rise (λ n m. n < m) (map (λ place. place / 16) (places_at 16 text (map series_text series)))
+places_rise : (text : List ℕ) (series : List RawSeries) → AllPairs Below (map (λ place. place / 16) (places_at 16 text (map series_text series)))
 unfolding places_at
-places_rise text [] = tt
+places_rise text [] = no_pairs Below
 places_rise text (one ∷ series) =
     let place = length (padded 16 text) in
     let next = padded 16 text ++ series_text one in
-    (above (place / 16) (places_at 16 next (map series_text series)) (length next) (omega (arith, multiple text, series_size one, length-append (padded 16 text) (series_text one))) (places_behind next (map series_text series) (length next) (omega arith)), places_rise next series)
+    pairs_cons Below (place / 16) (map (λ (at : ℕ). at / 16) (places_at 16 next (map series_text series))) (above (place / 16) (places_at 16 next (map series_text series)) (length next) (omega (arith, multiple text, series_size one, length-append (padded 16 text) (series_text one))) (places_behind next (map series_text series) (length next) (omega arith))) (places_rise next series)
 
-pub numbers_rise : (front : List ℕ) (series : List RawSeries) → Rise (λ n m. n < m) (numbers_behind front series)
+pub numbers_rise : (front : List ℕ) (series : List RawSeries) → AllPairs Below (numbers_behind front series)
 numbers_rise front series = places_rise front series
 
 from_places : (front : List ℕ) (places : List ℕ) → AllByRecursion (IsBehindAt (length front)) places → AllByRecursion (λ m. length front ≤ 16 * m) (map (λ place. place / 16) places)

@@ -3,7 +3,7 @@ use Rattle.std.proofs.Common.{◌≡◌, ◌≢◌, ℕ, ◌<◌, List, [], ◌�
 use Rattle.std.specs.declared.cmp.Ordering.{Ordering}
 use Rattle.std.specs.declared.cmp.Ordering.TheVariants.{Less, Equal, Greater}
 use Rattle.std.specs.Ordering.{ordering_then, ordering_reverse}
-use Rattle.std.specs.List.{AllByRecursion, Contains}
+use Rattle.std.specs.List.{AllByRecursion, Contains, AllPairs}
 use Rattle.std.specs.Cmp.Lexicographic.{nat_list_cmp_total}
 use Rattle.label_sets.specs.declared.label.Label.{Label}
 use Rattle.label_sets.specs.Labels.{compare_texts, IsLabelSet}
@@ -19,7 +19,7 @@ use Rattle.index_writing.specs.SymbolsInUse.{symbols_of, number_of, symbol_of, r
 use Rattle.index_writing.specs.LabelGroups.{all_entries, compare_entries, is_lesser_entry, rows_of}
 use Rattle.index_writing.specs.Written.{label_rows, table_rows}
 use Rattle.list_core.proofs.Membership.{contains_first, contains_later, no_member, member_cases, each_member, of_in_order, into_in_order}
-use Rattle.index_writing.proofs.OrderedEntries.{Rise, rise_order}
+use Rattle.index_writing.proofs.OrderedEntries.{rise_order, Below, first_pairs, later_pairs}
 use Rattle.index_writing.proofs.LabelRows.{RowBefore, entry_in, AreRowsOf, grouped_rows, row_entry, one_row}
 use Rattle.index_writing.proofs.EntryOrder.{entries_strict, before_all, once_entries}
 use Rattle.index_writing.proofs.SortedTexts.{symbols_strict}
@@ -30,7 +30,7 @@ use Rattle.index_writing.proofs.TableRows.{row_with}
 -- what is known of a list of series and of their numbers
 pub record IsNumbered (list : List IndexSeries) (numbers : List ℕ) : Type 0 where
   pub lawful : AllByRecursion (λ one. IsLabelSet one.labels) list
-  pub rise : Rise (λ n m. n < m) numbers
+  pub rise : AllPairs Below numbers
 
 abbrev pub entries : List IndexSeries → List ℕ → List Entry
 entries list numbers = all_entries (map (raw_of (symbols_of list)) list) numbers
@@ -138,19 +138,18 @@ rows_less list one other p q a b before =
       | inr same ↦ second_less (compare_texts a.label.name b.label.name) (compare_texts a.label.value b.label.value) (same_name list one other a b same.0) (text_less list a.label.value b.label.value a.value_in b.value_in (let x = a.value_is in let y = b.value_is in let z = same.1 in omega arith))
     ]
 
-ordered_rows : (symbols : List (List ℕ)) (rows : List LabelRow) (places : List ℕ) (before : PostingsRow) → ((row : LabelRow) (p : ℕ) → Contains rows row → compare_rows before (row_with symbols row p) ≡ Less) → ((one other : LabelRow) (p q : ℕ) → Contains rows one → Contains rows other → RowBefore one other → compare_rows (row_with symbols one p) (row_with symbols other q) ≡ Less) → Rise RowBefore rows
+ordered_rows : (symbols : List (List ℕ)) (rows : List LabelRow) (places : List ℕ) (before : PostingsRow) → ((row : LabelRow) (p : ℕ) → Contains rows row → compare_rows before (row_with symbols row p) ≡ Less) → ((one other : LabelRow) (p q : ℕ) → Contains rows one → Contains rows other → RowBefore one other → compare_rows (row_with symbols one p) (row_with symbols other q) ≡ Less) → AllPairs RowBefore rows
     → InOrderAfter MayComeAfter (Some before) (label_rows symbols rows places)
 unfolding label_rows
 ordered_rows symbols [] places before behind less up = tt
 ordered_rows symbols (row ∷ rows) [] before behind less up = tt
-ordered_rows symbols (row ∷ rows) (place ∷ places) before behind less up =
-    (
-      behind row place (contains_first row rows),
-      ordered_rows symbols rows places (row_with symbols row place)
-          (λ other p h. less row other place p (contains_first row rows) (contains_later row other rows h) (each_member (RowBefore row) rows other up.0 h))
-          (λ one other p q h i. less one other p q (contains_later row one rows h) (contains_later row other rows i))
-          up.1,
-    )
+ordered_rows symbols (row ∷ rows) (place ∷ places) before behind less up = (
+  behind row place (contains_first row rows),
+  ordered_rows symbols rows places (row_with symbols row place)
+      (λ other p h. less row other place p (contains_first row rows) (contains_later row other rows h) (each_member (RowBefore row) rows other (first_pairs RowBefore row rows up) h))
+      (λ one other p q h i. less one other p q (contains_later row one rows h) (contains_later row other rows i))
+      (later_pairs RowBefore row rows up),
+)
 
 empty_less : (text : List ℕ) → text ≢ [] → compare_texts [] text ≡ Less
 empty_less [] some = absurd (some refl)

@@ -12,7 +12,6 @@ use Rattle.std.proofs.lemmas.List.Elements.{All-contains, All-contains_itself, A
 use Rattle.std.proofs.lemmas.List.Filters.{All-dedup}
 use Rattle.std.proofs.lemmas.List.Kept.{IsStrictlySortedBy-dedup}
 use Rattle.std.proofs.lemmas.Map.Keys.{IsDistinct-from_sorted}
-use Rattle.std.proofs.lemmas.Bool.{true≢false}
 use Rattle.label_sets.specs.declared.series.Series.{Series}
 use Rattle.list_core.specs.Ordered.{in_order, placed}
 use Rattle.label_sets.specs.Triples.{Triple, triples_of, first_of, has_lesser_key, has_same_key, compare_keys, IsOneToOne}
