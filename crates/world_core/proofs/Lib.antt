@@ -5,3 +5,4 @@ pub mod BlockNames
 pub mod LastLanded
 pub mod Replies
 pub mod PlanLaws
+pub mod PlanMachines

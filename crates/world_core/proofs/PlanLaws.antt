@@ -1,7 +1,7 @@
 -- Laws of all plans.
 use Rattle.std.proofs.Common.{◌≡◌, inl, inr, List, [], ◌∷◌, ◌++◌, Option, Some, None, refl, sym, ap, subst, ◌∙◌, append_assoc, append-nil}
 use Rattle.std.specs.List.{AllByRecursion}
-use Rattle.world_core.specs.Plans.{Plan, ends, never, asks, finds, Runs, ComesTo, Keeps}
+use Rattle.world_core.specs.Plans.{Plan, ends, never, asks, finds, Runs, ComesTo, Keeps, asked}
 use Rattle.world_core.specs.declared.op.Op.{Op}
 use Rattle.world_core.specs.declared.entry.Entry.{Entry}
 
@@ -70,6 +70,13 @@ same_op (finds Is one next) xs y z rest others end other (inl none) two = absurd
 same_op (finds Is one next) xs y z rest others end other (inr run) (inl none) = absurd (not_nil xs z others none.0)
 same_op (finds Is one next) xs y z rest others end other (inr (found, is, run)) (inr (found', so, two)) =
     same_op (next found) xs y z rest others end other run (subst (λ a. Runs (next a) (xs ++ z ∷ others) other) (one found' found so is) two)
+
+-- a run goes on with the entry that its plan asks for, whatever follows
+pub answered : {E : Type 0} (plan : Plan E) (e : Entry) → asked plan ≡ Some e.op → Runs plan (e ∷ []) None
+answered (ends last) e is = absurd (cc (is))
+answered never e is = absurd (cc (is))
+answered (asks op next) e is = (cc (is), breaks_off (next e))
+answered (finds Such one next) e is = absurd (cc (is))
 
 -- ---- what a plan comes to
 
