@@ -17,7 +17,8 @@ use Rattle.matchers.specs.declared.matcher.Matcher.{Matcher}
 use Rattle.matchers.specs.Selected.{is_selected, selected}
 use Rattle.matchers.specs.Selectors.{is_match, accepts, is_accepted, value_or_empty}
 use Rattle.vertical_merge.specs.Merged.{IsMerge}
-use Rattle.shipper.specs.Uploads.{UploadRun}
+use Rattle.world_core.specs.Plans.{Runs}
+use Rattle.shipper.specs.Uploads.{upload}
 use Rattle.shipper.specs.declared.upload_end.UploadEnd.TheVariants as shipped
 use Rattle.sync_filters.specs.declared.found.Found.{Found}
 use Rattle.meta_fetcher.specs.Sightings.{block_meta, kept_by}
@@ -46,7 +47,7 @@ shipped_objects ulid text is =
 
 -- the upload of such a block, by its entries
 pub upload_task_by : (script : Script) (ulid : ℕ) (text : List ℕ) → meta_text (fields_of (small.said_of ulid)) ≡ text → declared script ulid ≡ Some (small.block_of ulid)
-    → (entries : List Entry) → UploadRun ulid (small.objects_with ulid text) entries (Some (shipped.Done 3)) → UploadTask script ulid None entries (Some (uploaded (shipped.Done 3)))
+    → (entries : List Entry) → Runs (upload ulid (small.objects_with ulid text)) entries (Some (shipped.Done 3)) → UploadTask script ulid None entries (Some (uploaded (shipped.Done 3)))
 upload_task_by script ulid text is declares entries run =
     (small.block_of ulid, declares, (small.objects_with ulid text, Some (shipped.Done 3), shipped_objects ulid text is, run, inl (refl, λ n no. absurd (cc))))
 

@@ -6,3 +6,5 @@ pub mod LastLanded
 pub mod Replies
 pub mod PlanLaws
 pub mod PlanMachines
+pub mod PlanWords
+pub mod PlanParts

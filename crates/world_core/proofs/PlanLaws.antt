@@ -131,3 +131,13 @@ asked_are Is (asks op next) made (e ∷ entries) end all run =
     (subst (Is made) (sym run.0) all.0, asked_are Is (next e) (made ++ e ∷ []) entries end (all.1 e run.0) run.1)
 asked_are Is (finds Such one next) made (e ∷ entries) end all (inl none) = absurd (cc (none.0))
 asked_are Is (finds Such one next) made (e ∷ entries) end all (inr (found, is, run)) = asked_are Is (next found) made (e ∷ entries) end (all found is) run
+
+-- what is known of operations alone
+pub each_op : (Is : Op → Type 0) (made entries : List Entry) → EachAfter (λ before op. Is op) made entries → AllByRecursion (λ e. Is e.op) entries
+each_op Is made [] all = tt
+each_op Is made (e ∷ entries) all = (all.0, each_op Is (made ++ e ∷ []) entries all.1)
+
+-- where nothing is given of the entries
+pub nothing_given : (entries : List Entry) → AllByRecursion (λ e. Unit {0}) entries
+nothing_given [] = tt
+nothing_given (e ∷ entries) = (tt, nothing_given entries)

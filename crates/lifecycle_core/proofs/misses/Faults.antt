@@ -15,7 +15,10 @@ use Rattle.world_core.specs.declared.entry.Entry.{Entry}
 use Rattle.world_core.specs.declared.op.Op.TheVariants as op
 use Rattle.world_core.specs.declared.reply.Reply.{Reply}
 use Rattle.world_core.specs.declared.reply.Reply.TheVariants as reply
-use Rattle.shipper.specs.Uploads.{AfterLook, AfterPut, EndsAt, PutsRun, UploadRun}
+use Rattle.world_core.specs.Plans.{Runs}
+use Rattle.world_core.proofs.PlanLaws.{EndsAre, end_is, nothing_given}
+use Rattle.world_core.proofs.PlanWords.{gets_are, puts_are}
+use Rattle.shipper.specs.Uploads.{putting, upload}
 use Rattle.shipper.specs.declared.upload_end.UploadEnd.{UploadEnd}
 use Rattle.shipper.specs.declared.upload_end.UploadEnd.TheVariants as shipped
 use Rattle.meta_fetcher.specs.Sightings.{IsView, Sighting, block_meta}
@@ -28,6 +31,7 @@ use Rattle.store_gateway.specs.SeriesRuns.{Query as Question, Reads as CallReads
 use Rattle.store_gateway.specs.declared.series_end.SeriesEnd.{SeriesEnd}
 use Rattle.store_gateway.specs.declared.series_end.SeriesEnd.TheVariants as called
 use Rattle.lifecycle_core.proofs.misses.GatewayEntries.{match_bool}
+use Rattle.lifecycle_core.proofs.journals.Positions.{stands_in}
 
 -- an entry of this number was answered that its call failed
 abbrev pub ShowsFault : List Entry → ℕ → Type 0
@@ -62,44 +66,28 @@ module _ {E : Type 0} (fault : ℕ → E) where
 
 -- ---- uploads
 
-abbrev UploadShows : List Entry → Option UploadEnd → Type 0
-UploadShows = Shows shipped.Fault
+-- the end tells of no fault but one that the entries show
+abbrev UploadShows : List Entry → UploadEnd → Type 0
+UploadShows made end = (number : ℕ) → end ≡ shipped.Fault number → ShowsFault made number
 
-upload_on : (e : Entry) (entries : List Entry) (end : Option UploadEnd) → UploadShows entries end → UploadShows (e ∷ entries) end
-upload_on = goes_on shipped.Fault
+fault_shows : (made : List Entry) (e : Entry) → IsTrue (has_failed e.reply) → UploadShows (made ++ e ∷ []) (shipped.Fault e.seq)
+fault_shows made e failed = λ number is. (e, stands_in made [] e, cc (is), failed)
 
-upload_failed : (e : Entry) (landed : Bool) (entries : List Entry) (end : Option UploadEnd) → e.reply ≡ reply.Failed landed → EndsAt (shipped.Fault e.seq) entries end → UploadShows (e ∷ entries) end
-upload_failed = has_failed_here shipped.Fault (λ one other is. cc (is))
+putting_shows : (total : ℕ) (objects : List Object) (made : List Entry) → EndsAre (λ e. Unit {0}) UploadShows made (putting total objects)
+putting_shows total [] made = λ number is. absurd (cc (is))
+putting_shows total (object ∷ objects) made =
+    puts_are (λ e. Unit {0}) UploadShows made shipped.Fault object.key object.bytes (λ e. putting total objects) (λ e is given stored. putting_shows total objects (made ++ e ∷ []))
+    (λ e is given failed. fault_shows made e failed)
 
-abbrev Puts : ℕ → List Object → Type 0
-Puts total objects = (entries : List Entry) (end : Option UploadEnd) → PutsRun total objects entries end → UploadShows entries end
+ends_show : (ulid : ℕ) (objects : List Object) → EndsAre (λ e. Unit {0}) UploadShows [] (upload ulid objects)
+ends_show ulid objects =
+    gets_are (λ e. Unit {0}) UploadShows [] shipped.Fault (key.Meta ulid) _ (λ e. putting (length objects) objects) (λ e bytes is given found number same. absurd (cc (same)))
+    (λ e is given absent. putting_shows (length objects) objects (e ∷ [])) (λ e is given failed. fault_shows [] e failed)
 
-after_put : (total : ℕ) (objects : List Object) → Puts total objects → (e : Entry) (r : Reply) → e.reply ≡ r → (entries : List Entry) (end : Option UploadEnd) → AfterPut (PutsRun total objects) e.seq r entries end → UploadShows (e ∷ entries) end
-after_put total objects rest e reply.Stored same entries end run = upload_on e entries end (rest entries end run)
-after_put total objects rest e (reply.Failed landed) same entries end run = upload_failed e landed entries end same run
-after_put total objects rest e reply.Clocked same entries end run = absurd run
-after_put total objects rest e (reply.Found bytes) same entries end run = absurd run
-after_put total objects rest e reply.Absent same entries end run = absurd run
-after_put total objects rest e reply.Deleted same entries end run = absurd run
-after_put total objects rest e (reply.Names names) same entries end run = absurd run
-
-puts : (total : ℕ) (objects : List Object) → Puts total objects
-puts total [] entries end run = ends_else shipped.Fault (shipped.Done total) entries end (λ number is. cc (is)) run
-puts total (object ∷ objects) [] end run = λ number is. absurd (cc (run, is))
-puts total (object ∷ objects) (e ∷ entries) end run = after_put total objects (puts total objects) e e.reply refl entries end run.1
-
-after_look : (objects : List Object) (e : Entry) (r : Reply) → e.reply ≡ r → (entries : List Entry) (end : Option UploadEnd) → AfterLook objects e.seq r entries end → UploadShows (e ∷ entries) end
-after_look objects e (reply.Found bytes) same entries end run = upload_on e entries end (ends_else shipped.Fault shipped.Already entries end (λ number is. cc (is)) run)
-after_look objects e reply.Absent same entries end run = upload_on e entries end (puts (length objects) objects entries end run)
-after_look objects e (reply.Failed landed) same entries end run = upload_failed e landed entries end same run
-after_look objects e reply.Clocked same entries end run = absurd run
-after_look objects e reply.Stored same entries end run = absurd run
-after_look objects e reply.Deleted same entries end run = absurd run
-after_look objects e (reply.Names names) same entries end run = absurd run
-
-pub upload_shows : (ulid : ℕ) (objects : List Object) (entries : List Entry) (end : Option UploadEnd) → UploadRun ulid objects entries end → UploadShows entries end
-upload_shows ulid objects [] end run = λ number is. absurd (cc (run, is))
-upload_shows ulid objects (e ∷ entries) end run = after_look objects e e.reply refl entries end run.1
+pub upload_shows : (ulid : ℕ) (objects : List Object) (entries : List Entry) (end : Option UploadEnd) → Runs (upload ulid objects) entries end → (number : ℕ) → end ≡ Some (shipped.Fault number) → ShowsFault entries number
+upload_shows ulid objects entries None run number is = absurd (cc (is))
+upload_shows ulid objects entries (Some last) run number is =
+    end_is (λ e. Unit {0}) UploadShows (upload ulid objects) [] entries last (ends_show ulid objects) (nothing_given entries) run number (cc (is))
 
 -- ---- syncs
 

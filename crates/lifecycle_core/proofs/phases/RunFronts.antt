@@ -14,8 +14,8 @@ use Rattle.world_core.specs.declared.entry.Entry.{Entry}
 use Rattle.world_core.specs.declared.op.Op.TheVariants as op
 use Rattle.world_core.specs.declared.reply.Reply.{Reply}
 use Rattle.world_core.specs.declared.reply.Reply.TheVariants as reply
-use Rattle.shipper.specs.Uploads.{AfterLook, AfterPut, EndsAt, PutsRun, UploadRun}
-use Rattle.shipper.specs.declared.upload_end.UploadEnd.{UploadEnd}
+use Rattle.world_core.proofs.PlanLaws.{front}
+use Rattle.shipper.specs.Uploads.{upload}
 use Rattle.meta_fetcher.specs.Sightings.{IsView, Sighting, block_meta}
 use Rattle.meta_fetcher.specs.Syncs.{AfterMark, AfterMeta, EndsInView, MetaRead, Onward, Reads, SyncRun, moment_after, ulids_in, walk_ends}
 use Rattle.meta_fetcher.specs.declared.rules.SyncRules.{SyncRules}
@@ -37,42 +37,6 @@ not_nil (x ∷ xs) y rest is = cc (is)
 both_cases : (b : Bool) (X Y X' Y' : Type 0) → (X → X') → (Y → Y') → MatchBool b X Y → MatchBool b X' Y'
 both_cases true X Y X' Y' f g m = f m
 both_cases false X Y X' Y' f g m = g m
-
--- ---- uploads
-
-ends_at : (last : UploadEnd) (xs : List Entry) (y : Entry) (rest : List Entry) (end : Option UploadEnd) → EndsAt last (xs ++ y ∷ rest) end → EndsAt last xs None
-ends_at last xs y rest end (nil, how) = absurd (not_nil xs y rest nil)
-
--- what follows goes on with entries before the last, and then has no end
-abbrev UploadCuts : (List Entry → Option UploadEnd → Type 0) → Type 0
-UploadCuts run = (xs : List Entry) (y : Entry) (rest : List Entry) (end : Option UploadEnd) → run (xs ++ y ∷ rest) end → run xs None
-
-after_put : (total : ℕ) (objects : List Object) → UploadCuts (PutsRun total objects) → (seq : ℕ) (r : Reply) → UploadCuts (AfterPut (PutsRun total objects) seq r)
-after_put total objects cuts seq reply.Stored xs y rest end run = cuts xs y rest end run
-after_put total objects cuts seq (reply.Failed landed) xs y rest end run = ends_at _ xs y rest end run
-after_put total objects cuts seq reply.Clocked xs y rest end run = absurd run
-after_put total objects cuts seq (reply.Found bytes) xs y rest end run = absurd run
-after_put total objects cuts seq reply.Absent xs y rest end run = absurd run
-after_put total objects cuts seq reply.Deleted xs y rest end run = absurd run
-after_put total objects cuts seq (reply.Names names) xs y rest end run = absurd run
-
-puts : (total : ℕ) (objects : List Object) → UploadCuts (PutsRun total objects)
-puts total [] xs y rest end run = ends_at _ xs y rest end run
-puts total (object ∷ objects) [] y rest end run = refl
-puts total (object ∷ objects) (e ∷ xs) y rest end run = (run.0, after_put total objects (puts total objects) e.seq e.reply xs y rest end run.1)
-
-after_look : (objects : List Object) (seq : ℕ) (r : Reply) → UploadCuts (AfterLook objects seq r)
-after_look objects seq (reply.Found bytes) xs y rest end run = ends_at _ xs y rest end run
-after_look objects seq reply.Absent xs y rest end run = puts (length objects) objects xs y rest end run
-after_look objects seq (reply.Failed landed) xs y rest end run = ends_at _ xs y rest end run
-after_look objects seq reply.Clocked xs y rest end run = absurd run
-after_look objects seq reply.Stored xs y rest end run = absurd run
-after_look objects seq reply.Deleted xs y rest end run = absurd run
-after_look objects seq (reply.Names names) xs y rest end run = absurd run
-
-upload_cut : (ulid : ℕ) (objects : List Object) → UploadCuts (UploadRun ulid objects)
-upload_cut ulid objects [] y rest end run = refl
-upload_cut ulid objects (e ∷ xs) y rest end run = (run.0, after_look objects e.seq e.reply xs y rest end run.1)
 
 -- ---- syncs
 
@@ -219,6 +183,6 @@ query_cut script (Some used) (Some asked) xs y rest end (own, run, is) = (None, 
 -- entries of a task's run before its last are a run without an end
 pub task_cut : (script : Script) (view : Option Use) (w : Work) (xs : List Entry) (y : Entry) (rest : List Entry) (end : Option End) → TaskRun script view w (xs ++ y ∷ rest) end → TaskRun script view w xs None
 task_cut script view (Upload ulid stop) xs y rest end (block, is, (objects, own, ships, run, how)) =
-    (block, is, (objects, None, ships, upload_cut block.ulid objects xs y rest own run, inl (refl, before_stop stop xs y rest _ end how)))
+    (block, is, (objects, None, ships, front (upload block.ulid objects) xs y rest own run, inl (refl, before_stop stop xs y rest _ end how)))
 task_cut script view (Sync gateway) xs y rest end (own, run, is) = (None, sync_cut (sync_rules script.rules) xs y rest own run, refl)
 task_cut script view (Query low high selector) xs y rest end run = query_cut script view (asked_by script selector low high) xs y rest end run
