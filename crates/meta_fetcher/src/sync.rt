@@ -139,7 +139,8 @@ impl Sync {
     /// Asks for the mark of the next block, or ends where there is none.
     fn read_next(&mut self) -> Result<Act<SyncEnd>, NoMemory>
         ensures leads { Leads
-            (Goes self.old.rules (Some (course_of self.old)) (blocks_left self.old)) result self.new }
+            (Goes self.old.rules (Some (course_of self.old)) (blocks_left self.old)) result
+            self.new }
         ensures falls { Falls (2 * length self.old.waiting.items + 1) result (count_of self.new) }
     {
         match self.waiting.pop_front() {
@@ -172,7 +173,8 @@ impl Sync {
         requires stage { self.old.stage ≡ Stage.Marking ulid }
         requires answer { IsSomeAnd (asked_sync self.old) (λ op. IsAnswer op seen) }
         ensures leads { (seat : ℕ) (op : Op)
-            → Leads (goes_after (Stage.Marking ulid) self.old (entry_of seat op seen)) result self.new }
+            → Leads (goes_after (Stage.Marking ulid) self.old (entry_of seat op seen)) result
+            self.new }
         ensures falls { Falls (count_at (Stage.Marking ulid) self.old) result (count_of self.new) }
     {
         let Seen { seq, moment, reply } = seen;
@@ -202,7 +204,8 @@ impl Sync {
         requires stage { self.old.stage ≡ Stage.Reading ulid }
         requires answer { IsSomeAnd (asked_sync self.old) (λ op. IsAnswer op seen) }
         ensures leads { (seat : ℕ) (op : Op)
-            → Leads (goes_after (Stage.Reading ulid) self.old (entry_of seat op seen)) result self.new }
+            → Leads (goes_after (Stage.Reading ulid) self.old (entry_of seat op seen)) result
+            self.new }
         ensures falls { Falls (count_at (Stage.Reading ulid) self.old) result (count_of self.new) }
     {
         let Seen { seq, moment, reply } = seen;
