@@ -79,8 +79,10 @@ pub record AreListed (count : ℕ) (waiting : List ℕ) (found : List Found) (la
   pub ends : last_listed names ≡ last
   pub blocks : ulids_in names ≡ waiting
   pub unread : found ≡ []
+  -- each page lists a name at least, and so does the next one
   pub enough : most_listed ≤ length names + suc more
 
+-- the last name that was listed is this one
 abbrev pub IsAfter : Option (List ℕ) → Sync → List (List ℕ) → ℕ → Type 0
 IsAfter last sync names more = AreListed sync.listed sync.waiting.items sync.found.items last names more
 
@@ -104,7 +106,8 @@ Ascend (too_many, course) = Unit {0}
 abbrev pub Onward : Type 1
 Onward = List Entry → Option SyncEnd → Type 0
 
--- a run of the plan, where the entries until now were made so
+-- A run of the plan, where the entries until now were made so. That its sightings ascend is known of the whole sync alone, and not
+-- of what is left of it; so an end is said of those that do.
 abbrev pub Goes : SyncRules → Option Course → Plan Synced → Onward
 Goes rules course plan = ComesTo (noting with_entry course plan) (λ told end. Ascend told → IsEnd rules told end)
 
