@@ -90,7 +90,7 @@ upload_shows ulid objects entries (Some last) run number is =
 
 -- ---- syncs
 
-SyncShown : List Entry → Synced → Type 0
+abbrev SyncShown : List Entry → Synced → Type 0
 SyncShown made (told.sighted sightings) = Unit {0}
 SyncShown made (told.fault number) = ShowsFault made number
 SyncShown made (told.damaged number) = Unit {0}

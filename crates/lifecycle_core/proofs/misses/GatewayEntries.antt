@@ -58,7 +58,7 @@ are_more entries [] s all own = (own, tt)
 are_more entries (x ∷ sightings) s all own = (all.0, are_more entries sightings s all.1 own)
 
 -- what a sync comes to tells of blocks that were seen
-Saw : List Entry → Synced → Type 0
+abbrev Saw : List Entry → Synced → Type 0
 Saw made (told.sighted sightings) = AreSeen made sightings
 Saw made (told.fault number) = Unit {0}
 Saw made (told.damaged number) = Unit {0}

@@ -98,7 +98,7 @@ too_few n few many = omega (arith, few, leb-true 1_000_000 n many)
 -- ---- the walk
 
 -- what a sync comes to is not too many names
-AreFew : List Entry → Synced → Type 0
+abbrev AreFew : List Entry → Synced → Type 0
 AreFew made (told.sighted sightings) = Unit {0}
 AreFew made (told.fault number) = Unit {0}
 AreFew made (told.damaged number) = Unit {0}

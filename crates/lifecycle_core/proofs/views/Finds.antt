@@ -102,7 +102,7 @@ module _ (script : Script) (journal : List Entry) (first : Entry) (entries : Lis
     pub past : (ulid : ℕ) → IsPast ulid → (f : Found) × Contains found f × (f.ulid ≡ ulid)
 
   -- what a sync comes to
-  Sees : List Entry → Synced → Type 0
+  abbrev Sees : List Entry → Synced → Type 0
   Sees made (told.sighted sightings) = AreRead sightings []
   Sees made (told.fault number) = Unit {0}
   Sees made (told.damaged number) = Unit {0}

@@ -168,7 +168,7 @@ origin_is_true script journal used lawful readable rises told origin = true_from
 -- ---- nothing is damaged
 
 -- what a sync comes to is not damaged
-IsUndamaged : List Entry → Synced → Type 0
+abbrev IsUndamaged : List Entry → Synced → Type 0
 IsUndamaged made (told.sighted sightings) = Unit {0}
 IsUndamaged made (told.fault number) = Unit {0}
 IsUndamaged made (told.damaged number) = ⊥
