@@ -20,7 +20,7 @@ use Rattle.shipper.specs.declared.upload_end.UploadEnd.{UploadEnd}
 use Rattle.shipper.specs.declared.upload_end.UploadEnd.TheVariants as shipped
 use Rattle.meta_fetcher.specs.Sightings.{Sighting}
 use Rattle.meta_fetcher.specs.Syncs.{Course, IsEnd, Synced, SyncRun}
-use Rattle.meta_fetcher.specs.Syncs as told
+use Rattle.meta_fetcher.specs.Syncs as sync_told
 use Rattle.meta_fetcher.proofs.SyncLaws.{KeptByPages, KeptByReads, synced}
 use Rattle.meta_fetcher.specs.declared.rules.SyncRules.{SyncRules}
 use Rattle.meta_fetcher.specs.declared.sync_end.SyncEnd.{SyncEnd}
@@ -91,10 +91,10 @@ upload_shows ulid objects entries (Some last) run number is =
 -- ---- syncs
 
 abbrev SyncShown : List Entry → Synced → Type 0
-SyncShown made (told.sighted sightings) = Unit {0}
-SyncShown made (told.fault number) = ShowsFault made number
-SyncShown made (told.damaged number) = Unit {0}
-SyncShown made told.too_many = Unit {0}
+SyncShown made (sync_told.sighted sightings) = Unit {0}
+SyncShown made (sync_told.fault number) = ShowsFault made number
+SyncShown made (sync_told.damaged number) = Unit {0}
+SyncShown made sync_told.too_many = Unit {0}
 
 abbrev Reads : List Entry → List Sighting → List ℕ → Type 0
 Reads made sightings ulids = Unit {0}
@@ -127,11 +127,11 @@ sync_pages_show limit = record {
 }
 
 fault_told : (rules : SyncRules) (entries : List Entry) (last : Synced) (course : Option Course) (end : SyncEnd) (number : ℕ) → SyncShown entries last → IsEnd rules (last, course) end → end ≡ fetched.Fault number → ShowsFault entries number
-fault_told rules entries (told.sighted sightings) (Some course) end number shown (view, is, v) same = absurd (cc (is, same))
-fault_told rules entries (told.sighted sightings) None end number shown is same = absurd is
-fault_told rules entries (told.fault own) course end number shown is same = let one : own ≡ number = cc (is, same) in subst (ShowsFault entries) one shown
-fault_told rules entries (told.damaged own) course end number shown is same = absurd (cc (is, same))
-fault_told rules entries told.too_many course end number shown is same = absurd (cc (is, same))
+fault_told rules entries (sync_told.sighted sightings) (Some course) end number shown (view, is, v) same = absurd (cc (is, same))
+fault_told rules entries (sync_told.sighted sightings) None end number shown is same = absurd is
+fault_told rules entries (sync_told.fault own) course end number shown is same = let one : own ≡ number = cc (is, same) in subst (ShowsFault entries) one shown
+fault_told rules entries (sync_told.damaged own) course end number shown is same = absurd (cc (is, same))
+fault_told rules entries sync_told.too_many course end number shown is same = absurd (cc (is, same))
 
 pub sync_shows : (rules : SyncRules) (entries : List Entry) (end : Option SyncEnd) → SyncRun rules entries end → (number : ℕ) → end ≡ Some (fetched.Fault number) → ShowsFault entries number
 sync_shows rules entries None run number is = absurd (cc (is))

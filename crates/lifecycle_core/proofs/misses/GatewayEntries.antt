@@ -17,7 +17,7 @@ use Rattle.world_core.specs.declared.reply.Reply.TheVariants as reply
 use Rattle.sync_filters.specs.declared.found.Found.{Found}
 use Rattle.meta_fetcher.specs.Sightings.{Sighting, kept_by, sighting_of}
 use Rattle.meta_fetcher.specs.Syncs.{Course, IsEnd, Synced, SyncRun}
-use Rattle.meta_fetcher.specs.Syncs as told
+use Rattle.meta_fetcher.specs.Syncs as sync_told
 use Rattle.meta_fetcher.proofs.SyncLaws.{KeptByPages, KeptByReads, only_asks, sighting_at, synced}
 use Rattle.meta_fetcher.specs.declared.rules.SyncRules.{SyncRules}
 use Rattle.meta_fetcher.specs.declared.sync_end.SyncEnd.{SyncEnd}
@@ -59,10 +59,10 @@ are_more entries (x ∷ sightings) s all own = (all.0, are_more entries sighting
 
 -- what a sync comes to tells of blocks that were seen
 abbrev Saw : List Entry → Synced → Type 0
-Saw made (told.sighted sightings) = AreSeen made sightings
-Saw made (told.fault number) = Unit {0}
-Saw made (told.damaged number) = Unit {0}
-Saw made told.too_many = Unit {0}
+Saw made (sync_told.sighted sightings) = AreSeen made sightings
+Saw made (sync_told.fault number) = Unit {0}
+Saw made (sync_told.damaged number) = Unit {0}
+Saw made sync_told.too_many = Unit {0}
 
 saw_reads : KeptByReads (λ e. Unit {0}) Saw (λ made sightings ulids. AreSeen made sightings)
 saw_reads = record {
@@ -92,17 +92,17 @@ of_map P (block ∷ found) all = (all.0, of_map P found all.1)
 
 kept_seen : (rules : SyncRules) (before entries : List Entry) (last : Synced) (course : Option Course) (view other : View) → Saw entries last → IsEnd rules (last, course) (fetched.View view) → view ≡ other
     → All (λ (block : Found). IsSeen (before ++ entries) block.ulid) other.kept
-kept_seen rules before entries (told.sighted sightings) (Some course) view other seen (own, is, v) same =
+kept_seen rules before entries (sync_told.sighted sightings) (Some course) view other seen (own, is, v) same =
     let P : ℕ → Type 0 = IsSeen (before ++ entries) in
     let all : AllByRecursion (λ (s : Sighting). P s.ulid) (map sighting_of v.found) = subst (λ (ss : List Sighting). AreSeen (before ++ entries) ss) (sym v.sighted) (are_right before entries sightings seen) in
     let found : All (λ (block : Found). P block.ulid) v.found = All-from_recursion (λ (block : Found). P block.ulid) v.found (of_map P v.found all) in
     let kept : All (λ (block : Found). P block.ulid) (kept_by rules v.found) = All-filter _ (λ (block : Found). P block.ulid) _ (All-filter _ (λ (block : Found). P block.ulid) v.found found) in
     let one : own ≡ other = cc (is, same) in
     subst (λ (x : View). All (λ (block : Found). P block.ulid) x.kept) one (subst (All (λ (block : Found). P block.ulid)) (sym v.kept) kept)
-kept_seen rules before entries (told.sighted sightings) None view other seen is same = absurd is
-kept_seen rules before entries (told.fault number) course view other seen is same = absurd (cc (is))
-kept_seen rules before entries (told.damaged number) course view other seen is same = absurd (cc (is))
-kept_seen rules before entries told.too_many course view other seen is same = absurd (cc (is))
+kept_seen rules before entries (sync_told.sighted sightings) None view other seen is same = absurd is
+kept_seen rules before entries (sync_told.fault number) course view other seen is same = absurd (cc (is))
+kept_seen rules before entries (sync_told.damaged number) course view other seen is same = absurd (cc (is))
+kept_seen rules before entries sync_told.too_many course view other seen is same = absurd (cc (is))
 
 sync_sees : (rules : SyncRules) (before entries : List Entry) (end : Option SyncEnd) → SyncRun rules entries end → (view : View) → end ≡ Some (fetched.View view)
     → All (λ (block : Found). IsSeen (before ++ entries) block.ulid) view.kept

@@ -14,7 +14,7 @@ use Rattle.bucket_core.specs.Pages.{Ascends, Before}
 use Rattle.world_core.specs.declared.entry.Entry.{Entry}
 use Rattle.world_core.specs.declared.reply.Reply.TheVariants as reply
 use Rattle.meta_fetcher.specs.Syncs.{Course, IsEnd, Synced, SyncRun}
-use Rattle.meta_fetcher.specs.Syncs as told
+use Rattle.meta_fetcher.specs.Syncs as sync_told
 use Rattle.meta_fetcher.specs.declared.rules.SyncRules.{SyncRules}
 use Rattle.meta_fetcher.proofs.SyncLaws.{Comes, KeptByPages, KeptByReads, page_after, synced as walked}
 use Rattle.meta_fetcher.specs.declared.sync_end.SyncEnd.{SyncEnd}
@@ -99,10 +99,10 @@ too_few n few many = omega (arith, few, leb-true 1_000_000 n many)
 
 -- what a sync comes to is not too many names
 abbrev AreFew : List Entry → Synced → Type 0
-AreFew made (told.sighted sightings) = Unit {0}
-AreFew made (told.fault number) = Unit {0}
-AreFew made (told.damaged number) = Unit {0}
-AreFew made told.too_many = ⊥
+AreFew made (sync_told.sighted sightings) = Unit {0}
+AreFew made (sync_told.fault number) = Unit {0}
+AreFew made (sync_told.damaged number) = Unit {0}
+AreFew made sync_told.too_many = ⊥
 
 module _ (script : Script) (lawful : IsLawfulScript script) (journal : List Entry) (first : Entry) (entries : List Entry) where
   more_listed : (limit : ℕ) (listed names : List (List ℕ)) (page : Entry) → Comes (IsOwn script journal first entries) (AreListed script listed) (page_after limit listed) (reply.Names names) page
@@ -135,11 +135,11 @@ module _ (script : Script) (lawful : IsLawfulScript script) (journal : List Entr
 
 -- an end that is no other
 not_too_many : (rules : SyncRules) (made : List Entry) (last : Synced) (course : Option Course) → AreFew made last → IsEnd rules (last, course) fetched.TooMany → ⊥
-not_too_many rules made (told.sighted sightings) (Some course) few (view, is, v) = cc (is)
-not_too_many rules made (told.sighted sightings) None few is = is
-not_too_many rules made (told.fault number) course few is = cc (is)
-not_too_many rules made (told.damaged number) course few is = cc (is)
-not_too_many rules made told.too_many course few is = few
+not_too_many rules made (sync_told.sighted sightings) (Some course) few (view, is, v) = cc (is)
+not_too_many rules made (sync_told.sighted sightings) None few is = is
+not_too_many rules made (sync_told.fault number) course few is = cc (is)
+not_too_many rules made (sync_told.damaged number) course few is = cc (is)
+not_too_many rules made sync_told.too_many course few is = few
 
 -- no sync of the journal finds too many names
 pub syncs_find_few : (script : Script) (journal entries : List Entry) → IsLawfulScript script → IsReadable script → All (IsTold script journal) journal → IsPart journal entries

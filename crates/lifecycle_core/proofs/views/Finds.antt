@@ -16,7 +16,7 @@ use Rattle.world_core.specs.declared.reply.Reply.TheVariants as reply
 use Rattle.sync_filters.specs.declared.found.Found.{Found}
 use Rattle.meta_fetcher.specs.Sightings.{IsView, Sighting, block_meta, kept_by, sighting_of}
 use Rattle.meta_fetcher.specs.Syncs.{IsEnd, Synced, SyncRun}
-use Rattle.meta_fetcher.specs.Syncs as told
+use Rattle.meta_fetcher.specs.Syncs as sync_told
 use Rattle.meta_fetcher.proofs.SyncLaws.{Comes, KeptByPages, KeptByReads, course_of_all, page_after, sighting_at, synced}
 use Rattle.meta_fetcher.specs.declared.rules.SyncRules.{SyncRules}
 use Rattle.meta_fetcher.specs.declared.sync_end.SyncEnd.TheVariants as fetched
@@ -103,10 +103,10 @@ module _ (script : Script) (journal : List Entry) (first : Entry) (entries : Lis
 
   -- what a sync comes to
   abbrev Sees : List Entry → Synced → Type 0
-  Sees made (told.sighted sightings) = AreRead sightings []
-  Sees made (told.fault number) = Unit {0}
-  Sees made (told.damaged number) = Unit {0}
-  Sees made told.too_many = Unit {0}
+  Sees made (sync_told.sighted sightings) = AreRead sightings []
+  Sees made (sync_told.fault number) = Unit {0}
+  Sees made (sync_told.damaged number) = Unit {0}
+  Sees made sync_told.too_many = Unit {0}
 
   module _ (rules : SyncRules) (view : View) where
     reads_kept : KeptByReads IsOwn Sees (λ made. AreRead)
@@ -170,10 +170,10 @@ module _ (script : Script) (journal : List Entry) (first : Entry) (entries : Lis
     })
 
     at_end : (ended : Moment) (last : Synced) → Sees (first ∷ entries) last → IsEnd rules (last, Some (record { first = first.seq; begin = first.moment; end = ended })) (fetched.View view) → FindsPast rules view
-    at_end ended (told.sighted sightings) j (other, is, v) = of_view ended sightings j other (cc (is)) v
-    at_end ended (told.fault number) j is = absurd (cc (is))
-    at_end ended (told.damaged number) j is = absurd (cc (is))
-    at_end ended told.too_many j is = absurd (cc (is))
+    at_end ended (sync_told.sighted sightings) j (other, is, v) = of_view ended sightings j other (cc (is)) v
+    at_end ended (sync_told.fault number) j is = absurd (cc (is))
+    at_end ended (sync_told.damaged number) j is = absurd (cc (is))
+    at_end ended sync_told.too_many j is = absurd (cc (is))
 
     -- a sync whose entries are told of sights each block that was past
     pub finds_past : AllByRecursion IsOwn (first ∷ entries) → SyncRun rules (first ∷ entries) (Some (fetched.View view)) → FindsPast rules view

@@ -17,7 +17,7 @@ use Rattle.sync_filters.specs.Filters.{is_consistent, is_in_partition, is_late_s
 use Rattle.sync_filters.specs.declared.found.Found.{Found}
 use Rattle.meta_fetcher.specs.Sightings.{sighting_of}
 use Rattle.meta_fetcher.specs.Syncs.{Course, IsEnd, Synced, SyncRun}
-use Rattle.meta_fetcher.specs.Syncs as told
+use Rattle.meta_fetcher.specs.Syncs as sync_told
 use Rattle.meta_fetcher.specs.declared.rules.SyncRules.{SyncRules}
 use Rattle.meta_fetcher.proofs.SyncLaws.{KeptByPages, KeptByReads, synced}
 use Rattle.meta_fetcher.specs.declared.sync_end.SyncEnd.{SyncEnd}
@@ -169,10 +169,10 @@ origin_is_true script journal used lawful readable rises told origin = true_from
 
 -- what a sync comes to is not damaged
 abbrev IsUndamaged : List Entry → Synced → Type 0
-IsUndamaged made (told.sighted sightings) = Unit {0}
-IsUndamaged made (told.fault number) = Unit {0}
-IsUndamaged made (told.damaged number) = ⊥
-IsUndamaged made told.too_many = Unit {0}
+IsUndamaged made (sync_told.sighted sightings) = Unit {0}
+IsUndamaged made (sync_told.fault number) = Unit {0}
+IsUndamaged made (sync_told.damaged number) = ⊥
+IsUndamaged made sync_told.too_many = Unit {0}
 
 module _ (script : Script) (readable : IsReadable script) (journal : List Entry) (first : Entry) (entries : List Entry) where
   undamaged_reads : KeptByReads (IsOwn script journal first entries) IsUndamaged (λ made sightings ulids. AreSmall ulids)
@@ -199,11 +199,11 @@ module _ (script : Script) (readable : IsReadable script) (journal : List Entry)
   }
 
 not_damaged : (rules : SyncRules) (made : List Entry) (last : Synced) (course : Option Course) (number : ℕ) → IsUndamaged made last → IsEnd rules (last, course) (fetched.Damaged number) → ⊥
-not_damaged rules made (told.sighted sightings) (Some course) number own (view, is, v) = cc (is)
-not_damaged rules made (told.sighted sightings) None number own is = is
-not_damaged rules made (told.fault other) course number own is = cc (is)
-not_damaged rules made (told.damaged other) course number own is = own
-not_damaged rules made told.too_many course number own is = cc (is)
+not_damaged rules made (sync_told.sighted sightings) (Some course) number own (view, is, v) = cc (is)
+not_damaged rules made (sync_told.sighted sightings) None number own is = is
+not_damaged rules made (sync_told.fault other) course number own is = cc (is)
+not_damaged rules made (sync_told.damaged other) course number own is = own
+not_damaged rules made sync_told.too_many course number own is = cc (is)
 
 -- no sync of the journal finds names or bytes that are not of the form
 pub syncs_undamaged : (script : Script) (journal entries : List Entry) (number : ℕ) → IsLawfulScript script → IsReadable script → All (IsTold script journal) journal → IsPart journal entries
