@@ -1,6 +1,7 @@
 -- A run that ended with a failed call has an entry of that number which was answered so.
 use Rattle.list_core.proofs.Membership.{contains_first, contains_later}
 use Rattle.std.proofs.Common.{◌≡◌, inl, inr, ℕ, Bool, IsTrue, List, [], ◌∷◌, ◌++◌, length, Contains, Option, Some, None, refl, ap, subst}
+use Rattle.std.specs.Prelude.{fold}
 use Rattle.block_keys.specs.declared.key.Key.{Key}
 use Rattle.block_keys.specs.declared.key.Key.TheVariants as key
 use Rattle.block_keys.specs.declared.object.Object.{Object}
@@ -19,7 +20,7 @@ use Rattle.shipper.specs.Uploads.{putting, upload}
 use Rattle.shipper.specs.declared.upload_end.UploadEnd.{UploadEnd}
 use Rattle.shipper.specs.declared.upload_end.UploadEnd.TheVariants as shipped
 use Rattle.meta_fetcher.specs.Sightings.{Sighting}
-use Rattle.meta_fetcher.specs.Syncs.{Course, IsEnd, Synced, SyncRun}
+use Rattle.meta_fetcher.specs.Syncs.{Course, IsEnd, Synced, SyncRun, with_entry}
 use Rattle.meta_fetcher.specs.Syncs as sync_told
 use Rattle.meta_fetcher.proofs.SyncLaws.{KeptByPages, KeptByReads, synced}
 use Rattle.meta_fetcher.specs.declared.rules.SyncRules.{SyncRules}
@@ -137,7 +138,7 @@ pub sync_shows : (rules : SyncRules) (entries : List Entry) (end : Option SyncEn
 sync_shows rules entries None run number is = absurd (cc (is))
 sync_shows rules entries (Some last) run number is =
     let s = synced (λ e. Unit {0}) SyncShown rules Lists Lists Reads (sync_pages_show rules.page_limit) sync_reads_show tt (λ made names listed. tt) entries last (nothing_given entries) run in
-    fault_told rules entries s.0 _ last number s.1 s.2 (cc (is))
+    fault_told rules entries s.0 (fold with_entry None entries) last number s.1 s.2 (cc (is))
 
 -- ---- series calls
 

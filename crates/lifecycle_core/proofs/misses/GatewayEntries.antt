@@ -1,7 +1,7 @@
 -- What the entries of a gateway's syncs and series calls are: reads. A view keeps blocks whose metas were found, and a call that
 -- misses an object reads a block of its view.
 use Rattle.std.proofs.Common.{◌≡◌, inl, inr, ℕ, Bool, true, false, List, [], ◌∷◌, ◌++◌, map, Contains, Option, Some, None, refl, sym, ap, subst, append_assoc}
-use Rattle.std.specs.Prelude.{MatchBool}
+use Rattle.std.specs.Prelude.{MatchBool, fold}
 use Rattle.std.specs.List.{All, AllByRecursion, filter}
 use Rattle.std.proofs.lemmas.List.Elements.{All-filter, All-from_recursion, recursion_from_All, Contains-append_left, Contains-append_right}
 use Rattle.label_sets.specs.Triples.{Triple}
@@ -16,7 +16,7 @@ use Rattle.world_core.specs.declared.reply.Reply.{Reply}
 use Rattle.world_core.specs.declared.reply.Reply.TheVariants as reply
 use Rattle.sync_filters.specs.declared.found.Found.{Found}
 use Rattle.meta_fetcher.specs.Sightings.{Sighting, kept_by, sighting_of}
-use Rattle.meta_fetcher.specs.Syncs.{Course, IsEnd, Synced, SyncRun}
+use Rattle.meta_fetcher.specs.Syncs.{Course, IsEnd, Synced, SyncRun, with_entry}
 use Rattle.meta_fetcher.specs.Syncs as sync_told
 use Rattle.meta_fetcher.proofs.SyncLaws.{KeptByPages, KeptByReads, only_asks, sighting_at, synced}
 use Rattle.meta_fetcher.specs.declared.rules.SyncRules.{SyncRules}
@@ -110,7 +110,7 @@ sync_sees rules before entries None run view is = absurd (cc (is))
 sync_sees rules before entries (Some (fetched.View own)) run view is =
     let s = synced (λ e. Unit {0}) Saw rules (λ made listed. Unit {0}) (λ made listed. Unit {0}) (λ made sightings ulids. AreSeen made sightings) (saw_pages rules.page_limit) saw_reads tt
     (λ made names listed. tt) entries (fetched.View own) (nothing_given entries) run in
-    kept_seen rules before entries s.0 _ own view s.1 s.2 (cc (is))
+    kept_seen rules before entries s.0 (fold with_entry None entries) own view s.1 s.2 (cc (is))
 sync_sees rules before entries (Some (fetched.Fault number)) run view is = absurd (cc (is))
 sync_sees rules before entries (Some (fetched.Damaged number)) run view is = absurd (cc (is))
 sync_sees rules before entries (Some fetched.TooMany) run view is = absurd (cc (is))

@@ -3,7 +3,7 @@
 use Rattle.list_core.proofs.Membership.{contains_first, contains_later, into_map}
 use Rattle.lifecycle_core.proofs.blocks.Declared.{declared_among, declared_ulid}
 use Rattle.std.proofs.Common.{◌≡◌, inl, inr, ℕ, suc, zero, ◌≤◌, true, List, [], ◌∷◌, ◌++◌, map, length, Contains, Option, Some, None, sym, ◌∙◌, ap, subst, arith}
-use Rattle.std.specs.Prelude.{nat_le, unwrap_or}
+use Rattle.std.specs.Prelude.{fold, nat_le, unwrap_or}
 use Rattle.std.specs.List.{All, last_or}
 use Rattle.std.proofs.lemmas.Bool.{leb-true}
 use Rattle.std.proofs.lemmas.Cmp.{nat_list_cmp_total, tied_itself}
@@ -13,7 +13,7 @@ use Rattle.ulid_core.specs.UlidText.{text_of}
 use Rattle.bucket_core.specs.Pages.{Ascends, Before}
 use Rattle.world_core.specs.declared.entry.Entry.{Entry}
 use Rattle.world_core.specs.declared.reply.Reply.TheVariants as reply
-use Rattle.meta_fetcher.specs.Syncs.{Course, IsEnd, Synced, SyncRun}
+use Rattle.meta_fetcher.specs.Syncs.{Course, IsEnd, Synced, SyncRun, with_entry}
 use Rattle.meta_fetcher.specs.Syncs as sync_told
 use Rattle.meta_fetcher.specs.declared.rules.SyncRules.{SyncRules}
 use Rattle.meta_fetcher.proofs.SyncLaws.{Comes, KeptByPages, KeptByReads, page_after, synced as walked}
@@ -150,7 +150,7 @@ syncs_find_few script journal (first ∷ entries) lawful readable told part run 
     (few_pages script lawful journal first entries script.rules.page_limit) (few_reads script lawful journal first entries)
     (record { ascend = tt; declared_names = All-nil (IsDeclaredName script) }) (λ made names l. tt)
     (first ∷ entries) fetched.TooMany (own_entries script journal first entries told part) run in
-    not_too_many (sync_rules script.rules) (first ∷ entries) s.0 _ s.1 s.2
+    not_too_many (sync_rules script.rules) (first ∷ entries) s.0 (fold with_entry None (first ∷ entries)) s.1 s.2
 
 -- ---- the ends
 

@@ -1,7 +1,7 @@
 -- The sync that gave a view: what it found, told of by an honest journal, and that it found each block whose meta was put before.
 use Rattle.list_core.proofs.Membership.{contains_first, contains_later}
 use Rattle.std.proofs.Common.{◌≡◌, ◌⊎◌, inl, inr, ℕ, ◌<◌, ◌≤◌, ◌^◌, suc, zero, List, [], ◌∷◌, ◌++◌, map, length, Contains, Some, refl, sym, ◌∙◌, ap, subst, arith}
-use Rattle.std.specs.Prelude.{unwrap_or}
+use Rattle.std.specs.Prelude.{fold, unwrap_or}
 use Rattle.std.specs.List.{All, AllByRecursion}
 use Rattle.std.proofs.lemmas.Bool.{ltb-true}
 use Rattle.std.proofs.lemmas.List.Elements.{All-from_recursion, Contains-append_left, Contains-push}
@@ -182,4 +182,4 @@ module _ (script : Script) (journal : List Entry) (first : Entry) (entries : Lis
         (λ ulid past. inr (before_first_page ulid))
         (λ made names l. record { all = tt; small = ulids_small names; past = λ ulid past. inl (ulid_listed names ulid past.small (l ulid past)) })
         (first ∷ entries) (fetched.View view) all run in
-        at_end _ s.0 s.1 (subst (λ c. IsEnd rules (s.0, c) (fetched.View view)) (course_of_all first entries) s.2)
+        at_end (fold (λ (last : Moment) (e : Entry). e.moment) first.moment entries) s.0 s.1 (subst (λ c. IsEnd rules (s.0, c) (fetched.View view)) (course_of_all first entries) s.2)

@@ -3,7 +3,7 @@
 use Rattle.list_core.proofs.Membership.{contains_first, contains_later}
 use Rattle.lifecycle_core.proofs.blocks.Declared.{declared_lawful}
 use Rattle.std.proofs.Common.{◌≡◌, ◌≢◌, inl, inr, ℕ, ◌+◌, ◌<◌, ◌≤◌, ◌^◌, ◌-◌, suc, zero, Bool, true, false, ◌&&◌, cond, List, [], ◌∷◌, Contains, Option, Some, None, ℤ, pos, negsuc, refl, sym, ◌∙◌, ap, subst, arith}
-use Rattle.std.specs.Prelude.{int_le, is_some, neg_ℤ, ◌≤ℤ◌, ◌<ℤ◌}
+use Rattle.std.specs.Prelude.{fold, int_le, is_some, neg_ℤ, ◌≤ℤ◌, ◌<ℤ◌}
 use Rattle.std.specs.List.{All, AllByRecursion, filter}
 use Rattle.std.proofs.lemmas.Bool.{both_ways, le-leb, or_left}
 use Rattle.std.proofs.lemmas.Int.{ints}
@@ -16,7 +16,7 @@ use Rattle.world_core.specs.declared.entry.Entry.{Entry}
 use Rattle.sync_filters.specs.Filters.{is_consistent, is_in_partition, is_late_source, time_of}
 use Rattle.sync_filters.specs.declared.found.Found.{Found}
 use Rattle.meta_fetcher.specs.Sightings.{sighting_of}
-use Rattle.meta_fetcher.specs.Syncs.{Course, IsEnd, Synced, SyncRun}
+use Rattle.meta_fetcher.specs.Syncs.{Course, IsEnd, Synced, SyncRun, with_entry}
 use Rattle.meta_fetcher.specs.Syncs as sync_told
 use Rattle.meta_fetcher.specs.declared.rules.SyncRules.{SyncRules}
 use Rattle.meta_fetcher.proofs.SyncLaws.{KeptByPages, KeptByReads, synced}
@@ -213,4 +213,4 @@ syncs_undamaged script journal (first ∷ entries) number lawful readable told p
     let s = synced (IsOwn script journal first entries) IsUndamaged (sync_rules script.rules) (λ made listed. Unit {0}) (λ made listed. Unit {0}) (λ made sightings ulids. AreSmall ulids)
     (undamaged_pages script readable journal first entries script.rules.page_limit) (undamaged_reads script readable journal first entries) tt (λ made names l. ulids_small names)
     (first ∷ entries) (fetched.Damaged number) (own_entries script journal first entries told part) run in
-    not_damaged (sync_rules script.rules) (first ∷ entries) s.0 _ number s.1 s.2
+    not_damaged (sync_rules script.rules) (first ∷ entries) s.0 (fold with_entry None (first ∷ entries)) number s.1 s.2
