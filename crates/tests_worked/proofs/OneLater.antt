@@ -67,11 +67,13 @@ whole_sync : (more : List Entry) (end : Option SyncEnd) → SyncRun rules (page 
 unfolding ulid_of bad_place digit_of alphabet number_of
 whole_sync more None run = (run.1.1.1.0, inl refl)
 whole_sync more (Some end) run =
-    let last = run.1.1.1.1 in
-    (last.0, elim last.1 [
-      | inl none ↦ absurd (cc (none))
-      | inr some ↦ inr (ended_so run.0 (record { first = 7; begin = record { ms = 1_800_001 }; end = record { ms = 1_800_003 } }) end run.2 (cc (some)))
-    ])
+    let last = run.1.1.1.1 in (
+      last.0,
+      elim last.1 [
+        | inl none ↦ absurd (cc (none))
+        | inr some ↦ inr (ended_so run.0 (record { first = 7; begin = record { ms = 1_800_001 }; end = record { ms = 1_800_003 } }) end run.2 (cc (some)))
+      ],
+    )
 
 -- ---- no query reads after it
 
