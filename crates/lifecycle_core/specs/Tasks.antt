@@ -2,9 +2,10 @@
 use Rattle.std.specs.Prelude.{◌≡◌, ◌⊎◌, ◌<◌, ◌-◌, ◌^◌, ℕ, ℤ, pos, negsuc, List, [], length, fold, Option, Some, None, option_map, slice_get}
 use Rattle.moment_core.specs.declared.rules.Rules.{Rules}
 use Rattle.moment_core.specs.declared.partition.Partition.{Partition}
+use Rattle.world_core.specs.Plans.{Runs}
 use Rattle.world_core.specs.declared.entry.Entry.{Entry}
 use Rattle.shipper.specs.declared.upload_end.UploadEnd.{UploadEnd}
-use Rattle.shipper.specs.Uploads.{UploadRun}
+use Rattle.shipper.specs.Uploads.{upload}
 use Rattle.block_keys.specs.declared.object.Object.{Object}
 use Rattle.meta_fetcher.specs.declared.rules.SyncRules.{SyncRules}
 use Rattle.meta_fetcher.specs.declared.sync_end.SyncEnd.{SyncEnd}
@@ -63,7 +64,7 @@ IsBefore stop entries = (n : ℕ) → stop ≡ Some n → 0 < n → length entri
 abbrev pub BlockUpload : Block → Option ℕ → List Entry → Option End → Type 0
 BlockUpload block stop entries end =
     (objects : List Object) × (own : Option UploadEnd) × IsShipped block objects
-    × UploadRun block.ulid objects entries own
+    × Runs (upload block.ulid objects) entries own
     × (((end ≡ option_map uploaded own) × IsBefore stop entries) ⊎ IsStop stop entries end)
 
 abbrev pub UploadTask : Script → ℕ → Option ℕ → List Entry → Option End → Type 0

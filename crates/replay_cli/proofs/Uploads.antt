@@ -11,7 +11,8 @@ use Rattle.world_core.specs.declared.driven.Driven.TheVariants.{Ended, Stopped, 
 use Rattle.world_core.specs.declared.entry.Entry.{Entry}
 use Rattle.block_keys.specs.declared.object.Object.{Object}
 use Rattle.shipper.specs.declared.upload_end.UploadEnd.{UploadEnd}
-use Rattle.shipper.specs.Uploads.{UploadRun}
+use Rattle.world_core.specs.Plans.{Runs}
+use Rattle.shipper.specs.Uploads.{upload}
 use Rattle.script_core.specs.Lawful.{IsLawfulBlock}
 use Rattle.script_core.specs.declared.block.Block.{Block}
 use Rattle.script_workers.specs.declared.work.Work.TheVariants as works
@@ -70,7 +71,7 @@ goes_on None made e before = (None, inl (refl, λ n same. absurd (cc (same))))
 goes_on (Some n) made e before = goes_to n made e (length made + 1 == n) refl (before n refl)
 
 upload_due : (is_run : List Entry → Option UploadEnd → Type 0) (block : Block) (objects : List Object) (stop : Option ℕ) (seat : ℕ) (driven : Driven UploadEnd) (made : List Entry)
-    → IsShipped block objects → ((es : List Entry) (end : Option UploadEnd) → is_run es end → UploadRun block.ulid objects es end) → (driven ≡ Full → Awaits is_run seat made) → (driven ≡ Full → IsBefore stop made)
+    → IsShipped block objects → ((es : List Entry) (end : Option UploadEnd) → is_run es end → Runs (upload block.ulid objects) es end) → (driven ≡ Full → Awaits is_run seat made) → (driven ≡ Full → IsBefore stop made)
     → WhenFull (upload_came driven) (IsDueAfter (BlockUpload block stop) seat made)
 upload_due is_run block objects stop seat (Ended end) made shipped runs due before = tt
 upload_due is_run block objects stop seat (Stopped n) made shipped runs due before = tt
@@ -89,7 +90,7 @@ full_before stop driven made stops within full = before_stop stop driven made (�
 
 -- An upload of a block's objects that was driven is a run of the block's upload.
 pub upload_told : (is_run : List Entry → Option UploadEnd → Type 0) (block : Block) (objects : List Object) (stop : Option ℕ) (seat : ℕ) (driven : Driven UploadEnd) (old new : List Entry) (came : Came) (ulid : ℕ)
-    → came ≡ upload_came driven → IsShipped block objects → ((made : List Entry) (end : Option UploadEnd) → is_run made end → UploadRun block.ulid objects made end) → Drives is_run seat stop driven old new
+    → came ≡ upload_came driven → IsShipped block objects → ((made : List Entry) (end : Option UploadEnd) → is_run made end → Runs (upload block.ulid objects) made end) → Drives is_run seat stop driven old new
     → (end : Option End) × Adds (BlockUpload block stop) seat old new end came × CameBy (works.Upload ulid stop) end came
 upload_told is_run block objects stop seat driven old new came ulid c shipped runs d =
     subst (λ (x : Came). (end : Option End) × Adds (BlockUpload block stop) seat old new end x × CameBy (works.Upload ulid stop) end x) (sym c) (

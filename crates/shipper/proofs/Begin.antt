@@ -8,7 +8,7 @@ use Rattle.block_keys.specs.declared.key.Key.{Key}
 use Rattle.block_keys.specs.declared.key.Key.TheVariants as key
 use Rattle.block_keys.specs.declared.object.Object.{Object}
 use Rattle.block_keys.specs.Blocks.{IsBlock, IsSegmentOf}
-use Rattle.shipper.specs.Waiting.{is_lawful_key, have_lawful_keys}
+use Rattle.shipper.specs.Limits.{is_lawful_key, have_lawful_keys}
 
 segment_lawful : (ulid : ℕ) (k : Key) → IsSegmentOf ulid k → is_lawful_key k ≡ true
 segment_lawful ulid (key.Segment owner number) is =

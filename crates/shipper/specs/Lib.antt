@@ -1,4 +1,3 @@
 pub mod Limits
-pub mod UploadStates
 pub mod Uploads
-pub mod Waiting
+pub mod UploadStates

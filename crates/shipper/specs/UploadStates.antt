@@ -1,20 +1,46 @@
--- An upload as a machine.
-use Rattle.std.specs.Prelude.{◌≡◌, List, Option}
+-- What is left of an upload.
+use Rattle.std.specs.Prelude.{◌≡◌, ℕ, ◌+◌, ◌-◌, List, length, drop, Option, Some}
+use Rattle.block_keys.specs.declared.object.Object.{Object}
+use Rattle.world_core.specs.Plans.{Plan, Runs, asked}
 use Rattle.world_core.specs.declared.op.Op.{Op}
+use Rattle.world_core.specs.declared.act.Act.{Act}
+use Rattle.world_core.specs.declared.act.Act.TheVariants.{Do, Done}
 use Rattle.world_core.specs.declared.entry.Entry.{Entry}
-use Rattle.shipper.specs.declared.stage.Stage.TheVariants.{Fresh}
+use Rattle.shipper.specs.declared.stage.Stage.{Stage}
+use Rattle.shipper.specs.declared.stage.Stage.TheVariants.{Looking, Putting}
 use Rattle.shipper.specs.declared.upload.Upload.{Upload}
 use Rattle.shipper.specs.declared.upload_end.UploadEnd.{UploadEnd}
-use Rattle.shipper.specs.Waiting.{asked_at, may_at}
+use Rattle.shipper.specs.Uploads.{upload, putting}
+
+-- what is left before the look, and before the put at a place
+abbrev pub left_at : Stage → ℕ → List Object → ℕ → Plan UploadEnd
+left_at Looking ulid objects place = upload ulid objects
+left_at Putting ulid objects place = putting (length objects) (drop place objects)
+
+abbrev pub left_of : Upload → Plan UploadEnd
+left_of upload = left_at upload.stage upload.ulid upload.objects.items upload.place
 
 -- it was not begun
 abbrev pub IsFresh : Upload → Type 0
-IsFresh upload = upload.stage ≡ Fresh
+IsFresh upload = upload.stage ≡ Looking
 
 -- what it may still do
 abbrev pub may_upload : Upload → List Entry → Option UploadEnd → Upload → Type 0
-may_upload upload entries end last = may_at upload.stage upload.ulid upload.objects.items upload.place entries end
+may_upload upload entries end last = Runs (left_of upload) entries end
 
 -- what it waits for
 abbrev pub asked_upload : Upload → Option Op
-asked_upload upload = asked_at upload.stage upload.ulid upload.objects.items upload.place
+asked_upload upload = asked (left_of upload)
+
+-- how many operations it asks for at most
+abbrev pub count_at : Stage → List Object → ℕ → ℕ
+count_at Looking objects place = length objects + 1
+count_at Putting objects place = length objects - place
+
+abbrev pub count_of : Upload → ℕ
+count_of upload = count_at upload.stage upload.objects.items upload.place
+
+-- a call that asks for the put at the place
+abbrev pub PutsNext : List Object → ℕ → Act UploadEnd → Type 0
+PutsNext objects place (Do op) = asked (putting (length objects) (drop place objects)) ≡ Some op
+PutsNext objects place (Done end) = ⊥

@@ -1,9 +1,7 @@
 /// How far an upload has come.
 #[derive(Clone, Copy, Debug, PartialEq, Eq)]
 pub(crate) enum Stage {
-    /// It was not begun.
-    Fresh,
-    /// It waits for the look at the meta.
+    /// The look at the meta is next, or is waited for.
     Looking,
     /// It waits for the put of the next object.
     Putting,

@@ -1,13 +1,11 @@
-ghost use Rattle.std.specs.Prelude.{◌≡◌, ℕ, ◌<◌, ◌≤◌, List, [], ◌∷◌, length, Option, Some, IfOk, OnOk, IsTrue, IsSomeAnd, slice_get};
+ghost use Rattle.std.specs.Prelude.{◌≡◌, ℕ, ◌<◌, ◌≤◌, [], ◌∷◌, length, Some, IfOk, OnOk, IsTrue, IsSomeAnd};
 ghost use Rattle.world_core.specs.Machines.{GoesOn, Falls};
 ghost use Rattle.world_core.specs.Operations.{IsAnswer, entry_of};
 ghost use Rattle.world_core.specs.declared.op.Op.{Op};
-ghost use Rattle.world_core.specs.declared.entry.Entry.{Entry};
-ghost use Rattle.shipper.specs.declared.upload_end.UploadEnd.{UploadEnd};
+ghost use Rattle.world_core.specs.Plans.{Keeps};
 ghost use Rattle.block_keys.specs.Blocks.{IsBlock};
-ghost use Rattle.shipper.specs.Limits.{most_objects};
-ghost use Rattle.shipper.specs.Waiting.{have_lawful_keys, asked_at, left_at, PutsNext};
-ghost use Rattle.shipper.specs.Uploads.{UploadRun};
+ghost use Rattle.shipper.specs.Limits.{most_objects, have_lawful_keys};
+ghost use Rattle.shipper.specs.Uploads.{upload};
 
 use crate::UploadEnd;
 use crate::stage::Stage;
@@ -29,16 +27,14 @@ pub struct Upload {
 }
 
 impl Upload {
-    ghost use Rattle.shipper.specs.UploadStates.{IsFresh, may_upload, asked_upload};
+    ghost use Rattle.shipper.specs.UploadStates.{IsFresh, PutsNext, may_upload, asked_upload, count_of, left_of};
 
     /// An upload of a block's objects, segments first, then the index, then the meta. It takes no memory today.
     pub fn start(objects: ObjectList) -> Result<Upload, NoMemory>
         requires { (ulid : ℕ) × IsBlock ulid objects }
         ensures begun { IfOk result IsFresh }
         ensures run { (ulid : ℕ) → IsBlock ulid objects
-            → IfOk result
-            (λ upload. (entries : List Entry) (end : Option UploadEnd) (last : _)
-            → may_upload upload entries end last → UploadRun ulid objects entries end) }
+            → IfOk result (λ started. Keeps (left_of started) (upload ulid objects)) }
     {
         let objects = objects.into_vec();
         let ulid = objects[0].key.ulid();
@@ -46,7 +42,7 @@ impl Upload {
             ulid,
             objects,
             place: 0,
-            stage: Stage::Fresh,
+            stage: Stage::Looking,
         })
     }
 
@@ -69,8 +65,7 @@ impl Upload {
         requires answer { IsSomeAnd (asked_upload self.old) (λ op. IsAnswer op seen) }
         ensures goes_on { (seat : ℕ) (op : Op) → asked_upload self.old ≡ Some op
             → GoesOn may_upload asked_upload self.old (entry_of seat op seen ∷ []) result self.new }
-        ensures falls { Falls (left_at self.old.stage self.old.objects.items self.old.place) result
-            (left_at self.new.stage self.new.objects.items self.new.place) }
+        ensures falls { Falls (count_of self.old) result (count_of self.new) }
     {
         match seen.reply {
             Reply::Found(_) => Ok(Act::Done(UploadEnd::Already)),
@@ -88,8 +83,7 @@ impl Upload {
         requires answer { IsSomeAnd (asked_upload self.old) (λ op. IsAnswer op seen) }
         ensures goes_on { (seat : ℕ) (op : Op) → asked_upload self.old ≡ Some op
             → GoesOn may_upload asked_upload self.old (entry_of seat op seen ∷ []) result self.new }
-        ensures falls { Falls (left_at self.old.stage self.old.objects.items self.old.place) result
-            (left_at self.new.stage self.new.objects.items self.new.place) }
+        ensures falls { Falls (count_of self.old) result (count_of self.new) }
     {
         if let Reply::Failed(_) = seen.reply {
             return Ok(Act::Done(UploadEnd::Fault(seen.seq)));
@@ -106,25 +100,22 @@ impl Upload {
 impl Machine for Upload {
     type End = UploadEnd;
 
-    ghost use Rattle.shipper.specs.Waiting.{left_at};
-    ghost use Rattle.shipper.specs.UploadStates.{IsFresh, may_upload, asked_upload};
+    ghost use Rattle.shipper.specs.UploadStates.{IsFresh, may_upload, asked_upload, count_of};
 
     ghost may = { may_upload };
 
     ghost asked = { asked_upload };
 
-    ghost measure = { λ upload. left_at upload.stage upload.objects.items upload.place };
+    ghost measure = { count_of };
 
     ghost fresh = { IsFresh };
 
     fn first(&mut self) -> Result<Act<UploadEnd>, NoMemory> {
-        self.stage = Stage::Looking;
         Ok(Act::Do(Op::Get(Key::Meta(self.ulid))))
     }
 
     fn step(&mut self, seen: Seen) -> Result<Act<UploadEnd>, NoMemory> {
         match self.stage {
-            Stage::Fresh => unreachable!(),
             Stage::Looking => self.after_look(seen),
             Stage::Putting => self.after_put(seen),
         }

@@ -8,7 +8,9 @@ use Rattle.block_files.specs.Built.{segment_text, segments_of, segment_objects, 
 use Rattle.world_core.specs.declared.entry.Entry.{Entry}
 use Rattle.world_core.specs.declared.op.Op.TheVariants as op
 use Rattle.world_core.specs.declared.reply.Reply.TheVariants as reply
-use Rattle.shipper.specs.Uploads.{UploadRun, PutsRun, AfterLook}
+use Rattle.world_core.specs.Plans.{Runs, after_get, ends as comes_to}
+use Rattle.shipper.specs.Uploads.{putting, upload}
+use Rattle.shipper.specs.declared.upload_end.UploadEnd.TheVariants.{Already, Fault}
 use Rattle.shipper.specs.declared.upload_end.UploadEnd.{UploadEnd}
 use Rattle.script_core.specs.declared.block.Block.{Block}
 use Rattle.script_workers.specs.declared.phase.Phase.{Phase}
@@ -106,7 +108,7 @@ pub record Uploads (entries : List Entry) : Type 0 where
   pub index : List ℕ
   pub meta : List ℕ
   pub are : objects ≡ objects_of small.a (segment ∷ []) index meta
-  pub run : UploadRun small.a objects entries end
+  pub run : Runs (upload small.a objects) entries end
 
 pub uploads_of : (entries : List Entry) (end : Option End) → UploadTask one.script small.a None entries end → Uploads entries
 unfolding segments_of
@@ -120,7 +122,7 @@ uploads_of entries end task =
       index = _;
       meta = _;
       are = shipped.2;
-      run = subst (λ (b : Block). UploadRun b.ulid task.2.0 entries task.2.1) same task.2.3;
+      run = subst (λ (b : Block). Runs (upload b.ulid task.2.0) entries task.2.1) same task.2.3;
     }
 
 -- ---- what it begins with
@@ -129,14 +131,14 @@ pub first_is_look : (e : Entry) (more : List Entry) → Uploads (e ∷ more) →
 first_is_look e more uploads = uploads.run.0
 
 second_is_segment : (e : Entry) (more : List Entry) (objects : List Object) (end : Option UploadEnd) (s i m : List ℕ) → objects ≡ objects_of small.a (s ∷ []) i m
-    → (total : ℕ) → PutsRun total objects (e ∷ more) end → e.op ≡ op.Put (key.Segment small.a 1) s
+    → (total : ℕ) → Runs (putting total objects) (e ∷ more) end → e.op ≡ op.Put (key.Segment small.a 1) s
 unfolding objects_of segment_objects
 second_is_segment e more objects end s i m are total run =
-    (subst (λ (os : List Object). PutsRun total os (e ∷ more) end) are run).0
+    (subst (λ (os : List Object). Runs (putting total os) (e ∷ more) end) are run).0
 
 pub second_is_put : (look e : Entry) (more : List Entry) → look.reply ≡ reply.Absent → Uploads (look ∷ e ∷ more) → (bytes : List ℕ) × (e.op ≡ op.Put (key.Segment small.a 1) bytes)
 second_is_put look e more is uploads = (
   uploads.segment,
   second_is_segment e more uploads.objects uploads.end uploads.segment uploads.index uploads.meta uploads.are (length uploads.objects)
-      (subst (λ r. AfterLook uploads.objects look.seq r (e ∷ more) uploads.end) is uploads.run.1),
+      (subst (λ r. Runs (after_get r (λ bytes. comes_to Already) (putting (length uploads.objects) uploads.objects) (comes_to (Fault look.seq))) (e ∷ more) uploads.end) is uploads.run.1),
 )

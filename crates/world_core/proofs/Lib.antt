@@ -5,3 +5,6 @@ pub mod KeyTexts
 pub mod LastLanded
 pub mod Replies
 pub mod PlanLaws
+pub mod PlanMachines
+pub mod PlanWords
+pub mod PlanParts

@@ -1,7 +1,7 @@
 -- Laws of all plans.
 use Rattle.std.proofs.Common.{◌≡◌, inl, inr, List, [], ◌∷◌, ◌++◌, Option, Some, None, refl, sym, ap, subst, ◌∙◌, append_assoc, append-nil}
 use Rattle.std.specs.List.{AllByRecursion}
-use Rattle.world_core.specs.Plans.{Plan, ends, never, asks, finds, Runs, ComesTo, Keeps}
+use Rattle.world_core.specs.Plans.{Plan, ends, never, asks, finds, Runs, ComesTo, Keeps, asked}
 use Rattle.world_core.specs.declared.op.Op.{Op}
 use Rattle.world_core.specs.declared.entry.Entry.{Entry}
 
@@ -71,6 +71,13 @@ same_op (finds Is one next) xs y z rest others end other (inr run) (inl none) = 
 same_op (finds Is one next) xs y z rest others end other (inr (found, is, run)) (inr (found', so, two)) =
     same_op (next found) xs y z rest others end other run (subst (λ a. Runs (next a) (xs ++ z ∷ others) other) (one found' found so is) two)
 
+-- a run goes on with the entry that its plan asks for, whatever follows
+pub answered : {E : Type 0} (plan : Plan E) (e : Entry) → asked plan ≡ Some e.op → Runs plan (e ∷ []) None
+answered (ends last) e is = absurd (cc (is))
+answered never e is = absurd (cc (is))
+answered (asks op next) e is = (cc (is), breaks_off (next e))
+answered (finds Such one next) e is = absurd (cc (is))
+
 -- ---- what a plan comes to
 
 pub comes_front : {T E : Type 0} (plan : Plan T) (Gives : T → E → Type 0) (xs : List Entry) (y : Entry) (rest : List Entry) (end : Option E) → ComesTo plan Gives (xs ++ y ∷ rest) end → ComesTo plan Gives xs None
@@ -124,3 +131,13 @@ asked_are Is (asks op next) made (e ∷ entries) end all run =
     (subst (Is made) (sym run.0) all.0, asked_are Is (next e) (made ++ e ∷ []) entries end (all.1 e run.0) run.1)
 asked_are Is (finds Such one next) made (e ∷ entries) end all (inl none) = absurd (cc (none.0))
 asked_are Is (finds Such one next) made (e ∷ entries) end all (inr (found, is, run)) = asked_are Is (next found) made (e ∷ entries) end (all found is) run
+
+-- what is known of operations alone
+pub each_op : (Is : Op → Type 0) (made entries : List Entry) → EachAfter (λ before op. Is op) made entries → AllByRecursion (λ e. Is e.op) entries
+each_op Is made [] all = tt
+each_op Is made (e ∷ entries) all = (all.0, each_op Is (made ++ e ∷ []) entries all.1)
+
+-- where nothing is given of the entries
+pub nothing_given : (entries : List Entry) → AllByRecursion (λ e. Unit {0}) entries
+nothing_given [] = tt
+nothing_given (e ∷ entries) = (tt, nothing_given entries)

@@ -40,6 +40,11 @@ ComesTo {T} plan Gives entries (Some end) = (told : T) × Runs plan entries (Som
 abbrev pub Keeps : {E : Type 0} → Plan E → Plan E → Type 0
 Keeps {E} one other = (entries : List Entry) (end : Option E) → Runs one entries end → Runs other entries end
 
+-- the operation that a plan asks for next, if it is known
+abbrev pub asked : {E : Type 0} → Plan E → Option Op
+asked (asks op next) = Some op
+asked other = None
+
 -- ---- the words that plans are made of
 
 -- the one where a test holds, and else the other

@@ -9,10 +9,13 @@ use Rattle.world_core.specs.Standing.{has_landed}
 use Rattle.world_core.specs.declared.entry.Entry.{Entry}
 use Rattle.world_core.specs.declared.op.Op.{Op}
 use Rattle.world_core.specs.declared.op.Op.TheVariants as op
-use Rattle.world_core.specs.declared.reply.Reply.{Reply}
 use Rattle.world_core.specs.declared.reply.Reply.TheVariants as reply
-use Rattle.shipper.specs.Uploads.{AfterLook, AfterPut, EndsAt, PutsRun, UploadRun}
+use Rattle.world_core.specs.Plans.{Runs, ends}
+use Rattle.world_core.proofs.PlanLaws.{AsksFor, EachAfter, asked_are}
+use Rattle.world_core.proofs.PlanWords.{gets_ask, puts_ask}
+use Rattle.shipper.specs.Uploads.{putting, upload}
 use Rattle.shipper.specs.declared.upload_end.UploadEnd.{UploadEnd}
+use Rattle.shipper.specs.declared.upload_end.UploadEnd.TheVariants.{Already, Fault}
 use Rattle.lifecycle_core.proofs.journals.Positions.{stands_in}
 
 -- ---- entries
@@ -84,11 +87,21 @@ in_order_at before (y ∷ entries) (x ∷ front) back e all is =
 plain : (before : List Entry) (e : Entry) (o : Op) → e.op ≡ o → ((k : Key) → o ≢ op.Delete k) → ((ulid : ℕ) (bytes : List ℕ) → o ≢ op.Put (key.Meta ulid) bytes) → IsInOrder before e
 plain before e o is keeps other = record { keeps = λ k same. keeps k (sym is ∙ same); ships = λ ulid bytes same k own. absurd (other ulid bytes (sym is ∙ same)) }
 
-nothing_after : (before entries : List Entry) (ended : UploadEnd) (end : Option UploadEnd) → EndsAt ended entries end → AreInOrder before entries
-nothing_after before [] ended end is = tt
-nothing_after before (e ∷ entries) ended end is = absurd (cc (is.0))
+-- an entry of the operation is in order
+abbrev Orderly : List Entry → Op → Type 0
+Orderly before o = (e : Entry) → e.op ≡ o → IsInOrder before e
 
-module _ (ulid total : ℕ) (segment index meta : List ℕ) where
+all_in_order : (before entries : List Entry) → EachAfter Orderly before entries → AreInOrder before entries
+all_in_order before [] all = tt
+all_in_order before (e ∷ entries) all = (all.0 e refl, all_in_order (before ++ e ∷ []) entries all.1)
+
+was_landed : (before : List Entry) (e : Entry) (k : Key) (bytes : List ℕ) → e.op ≡ op.Put k bytes → e.reply ≡ reply.Stored → HasPut (before ++ e ∷ []) k
+was_landed before e k bytes is stored = (e, stands_in before [] e, (bytes, is, ap has_landed stored))
+
+module _ (ulid : ℕ) (segment index meta : List ℕ) where
+  abbrev own_segment : Object
+  own_segment = record { key = key.Segment ulid 1; bytes = segment }
+
   abbrev own_index : Object
   own_index = record { key = key.Index ulid; bytes = index }
 
@@ -106,68 +119,29 @@ module _ (ulid total : ℕ) (segment index meta : List ℕ) where
         ];
   }
 
-  after_meta : (before : List Entry) (r : Reply) (seq : ℕ) (entries : List Entry) (end : Option UploadEnd) → AfterPut (PutsRun total []) seq r entries end → AreInOrder before entries
-  after_meta before reply.Stored seq entries end run = nothing_after before entries _ end run
-  after_meta before (reply.Failed landed) seq entries end run = nothing_after before entries _ end run
-  after_meta before reply.Clocked seq entries end run = absurd run
-  after_meta before (reply.Found bytes) seq entries end run = absurd run
-  after_meta before reply.Absent seq entries end run = absurd run
-  after_meta before reply.Deleted seq entries end run = absurd run
-  after_meta before (reply.Names names) seq entries end run = absurd run
+  asks_meta : (total : ℕ) (before : List Entry) → HasPut before (key.Index ulid) → HasPut before (key.Segment ulid 1) → AsksFor Orderly before (putting total (own_meta ∷ []))
+  asks_meta total before one two = puts_ask Orderly before Fault (key.Meta ulid) meta (λ e. putting total []) (λ e is. own_meta_ships before e is one two) (λ e is stored. tt)
 
-  puts_meta : (before entries : List Entry) (end : Option UploadEnd) → HasPut before (key.Index ulid) → HasPut before (key.Segment ulid 1) → PutsRun total (own_meta ∷ []) entries end → AreInOrder before entries
-  puts_meta before [] end one two run = tt
-  puts_meta before (e ∷ entries) end one two run = (own_meta_ships before e run.0 one two, after_meta (before ++ e ∷ []) e.reply e.seq entries end run.1)
+  asks_index : (total : ℕ) (before : List Entry) → HasPut before (key.Segment ulid 1) → AsksFor Orderly before (putting total (own_index ∷ own_meta ∷ []))
+  asks_index total before two =
+      puts_ask Orderly before Fault (key.Index ulid) index (λ e. putting total (own_meta ∷ []))
+      (λ e is. plain before e (op.Put (key.Index ulid) index) is (λ k same. cc (same)) (λ u b same. cc (same)))
+      (λ e is stored. asks_meta total (before ++ e ∷ []) (was_landed before e (key.Index ulid) index is stored) (put_left before (e ∷ []) (key.Segment ulid 1) two))
 
-  was_landed : (before : List Entry) (e : Entry) (k : Key) (bytes : List ℕ) → e.op ≡ op.Put k bytes → e.reply ≡ reply.Stored → HasPut (before ++ e ∷ []) k
-  was_landed before e k bytes is stored = (e, stands_in before [] e, (bytes, is, ap has_landed stored))
+  asks_segment : (total : ℕ) (before : List Entry) → AsksFor Orderly before (putting total (own_segment ∷ own_index ∷ own_meta ∷ []))
+  asks_segment total before =
+      puts_ask Orderly before Fault (key.Segment ulid 1) segment (λ e. putting total (own_index ∷ own_meta ∷ []))
+      (λ e is. plain before e (op.Put (key.Segment ulid 1) segment) is (λ k same. cc (same)) (λ u b same. cc (same)))
+      (λ e is stored. asks_index total (before ++ e ∷ []) (was_landed before e (key.Segment ulid 1) segment is stored))
 
-  after_index : (before : List Entry) (e : Entry) (r : Reply) (entries : List Entry) (end : Option UploadEnd) → e.reply ≡ r → e.op ≡ op.Put (key.Index ulid) index → HasPut before (key.Segment ulid 1)
-      → AfterPut (PutsRun total (own_meta ∷ [])) e.seq r entries end → AreInOrder (before ++ e ∷ []) entries
-  after_index before e reply.Stored entries end same is two run =
-      puts_meta (before ++ e ∷ []) entries end (was_landed before e (key.Index ulid) index is same) (put_left before (e ∷ []) (key.Segment ulid 1) two) run
-  after_index before e (reply.Failed landed) entries end same is two run = nothing_after (before ++ e ∷ []) entries _ end run
-  after_index before e reply.Clocked entries end same is two run = absurd run
-  after_index before e (reply.Found bytes) entries end same is two run = absurd run
-  after_index before e reply.Absent entries end same is two run = absurd run
-  after_index before e reply.Deleted entries end same is two run = absurd run
-  after_index before e (reply.Names names) entries end same is two run = absurd run
-
-  puts_index : (before entries : List Entry) (end : Option UploadEnd) → HasPut before (key.Segment ulid 1) → PutsRun total (own_index ∷ own_meta ∷ []) entries end → AreInOrder before entries
-  puts_index before [] end two run = tt
-  puts_index before (e ∷ entries) end two run =
-      (plain before e (op.Put (key.Index ulid) index) run.0 (λ k same. cc (same)) (λ u b same. cc (same)), after_index before e e.reply entries end refl run.0 two run.1)
-
-  after_segment : (before : List Entry) (e : Entry) (r : Reply) (entries : List Entry) (end : Option UploadEnd) → e.reply ≡ r → e.op ≡ op.Put (key.Segment ulid 1) segment
-      → AfterPut (PutsRun total (own_index ∷ own_meta ∷ [])) e.seq r entries end → AreInOrder (before ++ e ∷ []) entries
-  after_segment before e reply.Stored entries end same is run = puts_index (before ++ e ∷ []) entries end (was_landed before e (key.Segment ulid 1) segment is same) run
-  after_segment before e (reply.Failed landed) entries end same is run = nothing_after (before ++ e ∷ []) entries _ end run
-  after_segment before e reply.Clocked entries end same is run = absurd run
-  after_segment before e (reply.Found bytes) entries end same is run = absurd run
-  after_segment before e reply.Absent entries end same is run = absurd run
-  after_segment before e reply.Deleted entries end same is run = absurd run
-  after_segment before e (reply.Names names) entries end same is run = absurd run
-
-  puts_segment : (before entries : List Entry) (end : Option UploadEnd) → PutsRun total (record { key = key.Segment ulid 1; bytes = segment } ∷ own_index ∷ own_meta ∷ []) entries end → AreInOrder before entries
-  puts_segment before [] end run = tt
-  puts_segment before (e ∷ entries) end run =
-      (plain before e (op.Put (key.Segment ulid 1) segment) run.0 (λ k same. cc (same)) (λ u b same. cc (same)), after_segment before e e.reply entries end refl run.0 run.1)
-
-module _ (ulid : ℕ) (segment index meta : List ℕ) where
   abbrev own_objects : List Object
-  own_objects = record { key = key.Segment ulid 1; bytes = segment } ∷ record { key = key.Index ulid; bytes = index } ∷ record { key = key.Meta ulid; bytes = meta } ∷ []
+  own_objects = own_segment ∷ own_index ∷ own_meta ∷ []
 
-  after_look : (before : List Entry) (r : Reply) (seq : ℕ) (entries : List Entry) (end : Option UploadEnd) → AfterLook own_objects seq r entries end → AreInOrder before entries
-  after_look before reply.Absent seq entries end run = puts_segment ulid 3 segment index meta before entries end run
-  after_look before (reply.Found bytes) seq entries end run = nothing_after before entries _ end run
-  after_look before (reply.Failed landed) seq entries end run = nothing_after before entries _ end run
-  after_look before reply.Clocked seq entries end run = absurd run
-  after_look before reply.Stored seq entries end run = absurd run
-  after_look before reply.Deleted seq entries end run = absurd run
-  after_look before (reply.Names names) seq entries end run = absurd run
+  asks_own : AsksFor Orderly [] (upload ulid own_objects)
+  asks_own =
+      gets_ask Orderly [] Fault (key.Meta ulid) (λ e bytes. ends Already) (λ e. putting 3 own_objects)
+      (λ e is. plain [] e (op.Get (key.Meta ulid)) is (λ k same. cc (same)) (λ u b same. cc (same))) (λ e bytes is same. tt) (λ e is same. asks_segment 3 (e ∷ []))
 
   -- an upload of a segment, an index and a meta puts them in this order
-  pub upload_in_order : (entries : List Entry) (end : Option UploadEnd) → UploadRun ulid own_objects entries end → AreInOrder [] entries
-  upload_in_order [] end run = tt
-  upload_in_order (e ∷ entries) end run =
-      (plain [] e (op.Get (key.Meta ulid)) run.0 (λ k same. cc (same)) (λ u b same. cc (same)), after_look (e ∷ []) e.reply e.seq entries end run.1)
+  pub upload_in_order : (entries : List Entry) (end : Option UploadEnd) → Runs (upload ulid own_objects) entries end → AreInOrder [] entries
+  upload_in_order entries end run = all_in_order [] entries (asked_are Orderly (upload ulid own_objects) [] entries end asks_own run)

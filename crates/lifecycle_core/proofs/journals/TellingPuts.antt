@@ -8,13 +8,17 @@ use Rattle.std.proofs.lemmas.Bool.Decides.{nat_tests}
 use Rattle.std.proofs.lemmas.List.Elements.{All-append, All-cons, All-contains, All-contains_itself, All-from_recursion, All-nil, All-weaker}
 use Rattle.block_keys.specs.Keys.{key_ulid}
 use Rattle.block_keys.specs.declared.key.Key.{Key}
+use Rattle.block_keys.specs.declared.key.Key.TheVariants as key
 use Rattle.block_keys.specs.declared.object.Object.{Object}
 use Rattle.world_core.specs.declared.entry.Entry.{Entry}
 use Rattle.world_core.specs.declared.op.Op.TheVariants as op
-use Rattle.world_core.specs.declared.reply.Reply.{Reply}
-use Rattle.world_core.specs.declared.reply.Reply.TheVariants as reply
-use Rattle.shipper.specs.Uploads.{AfterLook, AfterPut, EndsAt, PutsRun, UploadRun}
+use Rattle.world_core.specs.declared.op.Op.{Op}
+use Rattle.world_core.specs.Plans.{Runs, ends as comes_to}
+use Rattle.world_core.proofs.PlanLaws.{AsksFor, asked_are, each_op}
+use Rattle.world_core.proofs.PlanWords.{gets_ask, puts_ask}
+use Rattle.shipper.specs.Uploads.{putting, upload}
 use Rattle.shipper.specs.declared.upload_end.UploadEnd.{UploadEnd}
+use Rattle.shipper.specs.declared.upload_end.UploadEnd.TheVariants.{Already, Fault}
 use Rattle.store_gateway.specs.SeriesRuns.{Query as Question}
 use Rattle.script_core.specs.Workers.{workers_of}
 use Rattle.script_core.specs.declared.block.Block.{Block}
@@ -37,57 +41,32 @@ use Rattle.lifecycle_core.proofs.journals.Told.{IsShippedObject}
 
 -- ---- an upload
 
--- where the entry puts, it puts one of the objects
-abbrev PutsOne : List Object → Entry → Type 0
-PutsOne objects e = (k : Key) (bytes : List ℕ) → e.op ≡ op.Put k bytes → Contains objects (record { key = k; bytes = bytes })
+-- where the operation puts, it puts one of the objects
+abbrev PutsOne : List Object → Op → Type 0
+PutsOne objects o = (k : Key) (bytes : List ℕ) → o ≡ op.Put k bytes → Contains objects (record { key = k; bytes = bytes })
 
-abbrev PutOf : List Object → List Entry → Type 0
-PutOf objects entries = AllByRecursion (PutsOne objects) entries
+puts_one : (objects : List Object) (object : Object) → Contains objects object → PutsOne objects (op.Put object.key object.bytes)
+puts_one objects object among k bytes is =
+    let same_key : object.key ≡ k = cc (is) in
+    let same_bytes : object.bytes ≡ bytes = cc (is) in
+    subst (λ x. Contains objects (record { key = x; bytes = bytes })) same_key (subst (λ x. Contains objects (record { key = object.key; bytes = x })) same_bytes among)
 
-one_of_more : (object : Object) (objects : List Object) (entries : List Entry) → PutOf objects entries → PutOf (object ∷ objects) entries
-one_of_more object objects [] all = tt
-one_of_more object objects (e ∷ entries) all = (λ k bytes is. contains_later object (record { key = k; bytes = bytes }) objects (all.0 k bytes is), one_of_more object objects entries all.1)
+-- the puts of some of them
+asks_some : (all : List Object) (total : ℕ) (objects : List Object) → ((x : Object) → Contains objects x → Contains all x) → (made : List Entry) → AsksFor (λ before. PutsOne all) made (putting total objects)
+asks_some all total [] some made = tt
+asks_some all total (o ∷ os) some made =
+    puts_ask (λ before. PutsOne all) made Fault o.key o.bytes (λ e. putting total os) (puts_one all o (some o (contains_first o os)))
+    (λ e is stored. asks_some all total os (λ x among. some x (contains_later o x os among)) (made ++ e ∷ []))
 
--- the entry puts the first of them
-puts_first : (object : Object) (objects : List Object) (e : Entry) → e.op ≡ op.Put object.key object.bytes → PutsOne (object ∷ objects) e
-puts_first object objects e puts k bytes is =
-    let same_key : object.key ≡ k = cc (puts, is) in
-    let same_bytes : object.bytes ≡ bytes = cc (puts, is) in
-    subst (λ x. Contains (object ∷ objects) (record { key = x; bytes = bytes })) same_key (subst (λ x. Contains (object ∷ objects) (record { key = object.key; bytes = x })) same_bytes (contains_first object objects))
-
-none_follow : (objects : List Object) (last : UploadEnd) (entries : List Entry) (end : Option UploadEnd) → EndsAt last entries end → PutOf objects entries
-none_follow objects last [] end run = tt
-none_follow objects last (e ∷ entries) end run = absurd (cc (run.0))
-
-after_put : (objects : List Object) (next : List Entry → Option UploadEnd → Type 0) (goes : (entries : List Entry) (end : Option UploadEnd) → next entries end → PutOf objects entries) (seq : ℕ) (r : Reply) (entries : List Entry) (end : Option UploadEnd)
-    → AfterPut next seq r entries end → PutOf objects entries
-after_put objects next goes seq reply.Stored entries end run = goes entries end run
-after_put objects next goes seq (reply.Failed landed) entries end run = none_follow objects _ entries end run
-after_put objects next goes seq reply.Clocked entries end run = absurd run
-after_put objects next goes seq (reply.Found bytes) entries end run = absurd run
-after_put objects next goes seq reply.Absent entries end run = absurd run
-after_put objects next goes seq reply.Deleted entries end run = absurd run
-after_put objects next goes seq (reply.Names names) entries end run = absurd run
-
-puts_own : (total : ℕ) (objects : List Object) (entries : List Entry) (end : Option UploadEnd) → PutsRun total objects entries end → PutOf objects entries
-puts_own total [] entries end run = none_follow [] _ entries end run
-puts_own total (object ∷ objects) [] end run = tt
-puts_own total (object ∷ objects) (e ∷ entries) end run =
-    (puts_first object objects e run.0, one_of_more object objects entries (after_put objects (PutsRun total objects) (puts_own total objects) e.seq e.reply entries end run.1))
-
-after_look : (objects : List Object) (seq : ℕ) (r : Reply) (entries : List Entry) (end : Option UploadEnd) → AfterLook objects seq r entries end → PutOf objects entries
-after_look objects seq reply.Absent entries end run = puts_own (length objects) objects entries end run
-after_look objects seq (reply.Found bytes) entries end run = none_follow objects _ entries end run
-after_look objects seq (reply.Failed landed) entries end run = none_follow objects _ entries end run
-after_look objects seq reply.Clocked entries end run = absurd run
-after_look objects seq reply.Stored entries end run = absurd run
-after_look objects seq reply.Deleted entries end run = absurd run
-after_look objects seq (reply.Names names) entries end run = absurd run
+asks_own : (ulid : ℕ) (objects : List Object) → AsksFor (λ before. PutsOne objects) [] (upload ulid objects)
+asks_own ulid objects =
+    gets_ask (λ before. PutsOne objects) [] Fault (key.Meta ulid) (λ e bytes. comes_to Already) (λ e. putting (length objects) objects) (λ k bytes is. absurd (cc (is)))
+    (λ e bytes is same. tt) (λ e is same. asks_some objects (length objects) objects (λ x among. among) (e ∷ []))
 
 -- an upload puts its objects alone
-upload_own : (ulid : ℕ) (objects : List Object) (entries : List Entry) (end : Option UploadEnd) → UploadRun ulid objects entries end → PutOf objects entries
-upload_own ulid objects [] end run = tt
-upload_own ulid objects (e ∷ entries) end run = (λ k bytes is. absurd (cc (run.0, is)), after_look objects e.seq e.reply entries end run.1)
+upload_own : (ulid : ℕ) (objects : List Object) (entries : List Entry) (end : Option UploadEnd) → Runs (upload ulid objects) entries end → AllByRecursion (λ (e : Entry). PutsOne objects e.op) entries
+upload_own ulid objects entries end run =
+    each_op (PutsOne objects) [] entries (asked_are (λ before. PutsOne objects) (upload ulid objects) [] entries end (asks_own ulid objects) run)
 
 -- ---- the objects of a declared block
 
@@ -116,8 +95,8 @@ query_puts script (Some used) (Some q) entries end (own, run, is) = reads_put_no
 
 task_puts : (script : Script) (view : Option Use) (w : Work) (entries : List Entry) (end : Option End) → TaskRun script view w entries end → All (PutsShipped script) entries
 task_puts script view (Upload ulid stop) entries end (block, is, (objects, own, shipped, run, how)) =
-    All-weaker (PutsOne objects) (PutsShipped script) (λ e one k bytes puts. shipped_object script ulid block objects k bytes is shipped (one k bytes puts)) entries
-    (All-from_recursion (PutsOne objects) entries (upload_own block.ulid objects entries own run))
+    All-weaker (λ (e : Entry). PutsOne objects e.op) (PutsShipped script) (λ e one k bytes puts. shipped_object script ulid block objects k bytes is shipped (one k bytes puts)) entries
+    (All-from_recursion (λ (e : Entry). PutsOne objects e.op) entries (upload_own block.ulid objects entries own run))
 task_puts script view (Sync gateway) entries end (own, run, is) = reads_put_none script entries (syncs (sync_rules script.rules) [] entries own run).reads
 task_puts script view (Query low high selector) entries end run = query_puts script view (asked_by script selector low high) entries end run
 

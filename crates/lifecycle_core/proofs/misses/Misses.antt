@@ -13,7 +13,8 @@ use Rattle.block_files.specs.PlainForm.{plain_index}
 use Rattle.world_core.specs.declared.entry.Entry.{Entry}
 use Rattle.world_core.specs.declared.op.Op.TheVariants as op
 use Rattle.world_core.specs.declared.reply.Reply.TheVariants as reply
-use Rattle.shipper.specs.Uploads.{UploadRun}
+use Rattle.world_core.specs.Plans.{Runs}
+use Rattle.shipper.specs.Uploads.{upload}
 use Rattle.shipper.specs.declared.upload_end.UploadEnd.{UploadEnd}
 use Rattle.sync_filters.specs.declared.found.Found.{Found}
 use Rattle.meta_fetcher.specs.Syncs.{SyncRun}
@@ -40,11 +41,11 @@ use Rattle.lifecycle_core.proofs.phases.TaskRuns.{task_leaves}
 
 -- ---- the order of one task's entries
 
-built_in_order : (block : Block) (body : Body) (objects : List Object) (entries : List Entry) (end : Option UploadEnd) → HasSeries body → AreBuilt block body objects → UploadRun block.ulid objects entries end → AreInOrder [] entries
+built_in_order : (block : Block) (body : Body) (objects : List Object) (entries : List Entry) (end : Option UploadEnd) → HasSeries body → AreBuilt block body objects → Runs (upload block.ulid objects) entries end → AreInOrder [] entries
 unfolding objects_of segments_of segment_objects
 built_in_order block (Inline low high []) objects entries end some built run = absurd (some refl)
 built_in_order block (Inline low high (s ∷ series)) objects entries end some (plan, is, are) run =
-    upload_in_order block.ulid (segment_text (s ∷ series)) plain_index (meta_text (built_meta plan (s ∷ series))) entries end (subst (λ os. UploadRun block.ulid os entries end) are run)
+    upload_in_order block.ulid (segment_text (s ∷ series)) plain_index (meta_text (built_meta plan (s ∷ series))) entries end (subst (λ os. Runs (upload block.ulid os) entries end) are run)
 
 query_in_order : (script : Script) (view : Option Use) (asked : Option Question) (entries : List Entry) (end : Option End) → QueryTask script view asked entries end → AreInOrder [] entries
 query_in_order script None asked entries end (nil, how) = subst (AreInOrder []) (sym nil) tt

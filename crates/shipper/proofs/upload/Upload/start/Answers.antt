@@ -2,7 +2,8 @@ use Rattle.std.proofs.Common.{List, ◌≡◌, refl, ap, ◌∙◌, sym, subst}
 use Rattle.block_keys.specs.Keys.{key_ulid}
 use Rattle.block_keys.specs.declared.object.Object.{Object}
 use Rattle.block_keys.specs.Blocks.{IsBlock}
-use Rattle.shipper.specs.Uploads.{UploadRun}
+use Rattle.world_core.specs.Plans.{Runs}
+use Rattle.shipper.specs.Uploads.{upload}
 use Rattle.shipper.proofs.Begin.{block_lawful, block_length, first_ulid}
 use Rattle.shipper.proofs.upload.Upload.start.Goals as goal
 
@@ -18,9 +19,9 @@ invariant_of-result c =
 pub returns : goal.returns
 returns c = record {
   begun = refl;
-  run = λ ulid given entries end last run. (let block : IsBlock ulid c.into_vec-objects.result.items = subst (λ (l : List Object). IsBlock ulid l) (sym c.into_vec-objects.ensures) given in
+  run = λ ulid given entries end run. (let block : IsBlock ulid c.into_vec-objects.result.items = subst (λ (l : List Object). IsBlock ulid l) (sym c.into_vec-objects.ensures) given in
       let same : c.ulid-ulid.result ≡ ulid =
       c.ulid-ulid.ensures ∙ ap (λ (o : Object). key_ulid o.key) c.index.ensures ∙ first_ulid ulid c.into_vec-objects.result.items c.index.result.now block in
-      subst (λ (l : List Object). UploadRun ulid l entries end) c.into_vec-objects.ensures
-      (subst (λ u. UploadRun u c.into_vec-objects.result.items entries end) same run));
+      subst (λ (l : List Object). Runs (upload ulid l) entries end) c.into_vec-objects.ensures
+      (subst (λ u. Runs (upload u c.into_vec-objects.result.items) entries end) same run));
 }

@@ -1,6 +1,5 @@
-use Rattle.std.proofs.Common.{refl}
 use Rattle.shipper.proofs.Steps.{asks_look}
 use Rattle.shipper.proofs.upload.UploadMachine.first.Goals as goal
 
 pub returns : goal.returns
-returns c = asks_look c.args.self.now _ c.requires refl refl refl
+returns c = asks_look c.args.self.now c.requires
