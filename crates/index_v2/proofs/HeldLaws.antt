@@ -105,14 +105,6 @@ held_of_slices parts opened symbols rows size is slices s r = record {
   series_are = inl refl;
 }
 
--- ---- sections that are there or not
-
-pub holds_found : {A : Type 0} (Is : List ℕ → ℕ → List A → Type 0) (index : List ℕ) (reference : ℕ) (members : List A) → (reference == 0) ≡ false → Is index reference members → Holds Is index reference members
-holds_found Is index reference members some is = rw some is
-
-pub holds_none : {A : Type 0} (Is : List ℕ → ℕ → List A → Type 0) (index : List ℕ) (reference : ℕ) (members : List A) → (reference == 0) ≡ true → members ≡ [] → Holds Is index reference members
-holds_none Is index reference members zero_is none = rw zero_is none
-
 -- ---- what is read of parts is what is read of the index
 
 list_same : (here : Part) (index : List ℕ) → IsPartOf here index → (row : Option PostingsRow) → ((r : PostingsRow) → row ≡ Some r → HoldsSection here r.offset) → list_of here row ≡ list_of (file index) row
