@@ -288,7 +288,11 @@ impl<'a> IndexReader<'a> {
             (λ numbers. numbers) result (postings_of self.now name.now value.now) }
         ensures few { IfOk result (λ numbers. 4 * length numbers ≤ length self.now.lists.bytes) }
 
-        // Where the lists are read in a part of an index, one that lies within it is the index's, and any other is not there.
+        // Where the lists are read in a part of an index, what is answered is what a reader of the whole index answers.
+        ensures found { (opened : Opened) → IsHeldOf self.now opened → IfOk result (λ numbers.
+            postings_of (whole_file opened) name.now value.now ≡ Ok numbers) }
+
+        // A list that lies within the part is answered, or refused, as in the index, and any other is not there.
         ensures same { (opened : Opened) → IsHeldOf self.now opened
             → ((row : PostingsRow) → row_of self.now.rows name.now value.now ≡ Some row
             → HoldsSection self.now.lists row.offset)
