@@ -20,7 +20,7 @@ use Rattle.index_parts.specs.Framing.{summed_at, framed_at}
 use Rattle.index_parts.specs.Lists.{IsList}
 use Rattle.index_parts.specs.ListReading.{list_at}
 use Rattle.index_parts.specs.PostingsReading.{posting_at, postings_at}
-use Rattle.index_slices.specs.Parts.{Part, known, file, is_before, list_in, IsPartOf, LiesIn, HoldsSection}
+use Rattle.index_slices.specs.Parts.{Part, known, is_before, list_in, IsPartOf, LiesIn, HoldsSection}
 use Rattle.index_slices.specs.Shifting.{shifted, FitsShifted}
 use Rattle.index_slices.proofs.Shifts.{IsWithin, IsMoved, IsSame, SameBy}
 use Rattle.index_slices.proofs.FieldShifts.{StepBy, IsField, number_field}
@@ -208,10 +208,6 @@ list_here part at le = rw (not_before at part.begin le) refl
 
 pub list_before : (part : Part) (at : ℕ) → at < part.begin → list_in part at ≡ Err (Short at)
 list_before part at lt = rw (before at part.begin lt) refl
-
--- in a whole file every list is where its place says
-pub list_in_file : (index : List ℕ) (at : ℕ) → list_in (file index) at ≡ postings_at index at
-list_in_file index at = refl
 
 -- the place of what is not there
 pub short_told : (part : Part) (at : ℕ) (r : Result (List ℕ) PartRefusal) (d e : PartRefusal) → part.begin ≤ at → r ≡ Err (Short (at - part.begin)) → e ≡ shifted part.begin d → (d ≡ NoMemory) ⊎ (r ≡ Err d) → (e ≡ Short at) ⊎ (e ≡ NoMemory)

@@ -18,6 +18,9 @@ use Rattle.index_parts.specs.RowsReading.{row_at, postings_table_at}
 use Rattle.index_parts.specs.Symbols.{IsNextSymbol, IsSymbols}
 use Rattle.index_parts.specs.Rows.{IsNextRow, IsPostingsTable}
 use Rattle.index_parts.proofs.ListLaws.{IsTurnOf, list_again}
+use Rattle.index_parts.specs.Postings.{IsNextPosting, IsPostings}
+use Rattle.index_parts.specs.PostingsReading.{posting_at}
+use Rattle.index_parts.proofs.PostingsLaws.{posting_turn}
 use Rattle.index_parts.proofs.SymbolLaws.{symbol_turn}
 use Rattle.index_parts.proofs.RowLaws.{row_turn}
 use Rattle.index_file.specs.declared.index_series.IndexSeries.{IndexSeries}
@@ -105,14 +108,6 @@ held_of_slices parts opened symbols rows size is slices s r = record {
   series_are = inl refl;
 }
 
--- ---- sections that are there or not
-
-pub holds_found : {A : Type 0} (Is : List ℕ → ℕ → List A → Type 0) (index : List ℕ) (reference : ℕ) (members : List A) → (reference == 0) ≡ false → Is index reference members → Holds Is index reference members
-holds_found Is index reference members some is = rw some is
-
-pub holds_none : {A : Type 0} (Is : List ℕ → ℕ → List A → Type 0) (index : List ℕ) (reference : ℕ) (members : List A) → (reference == 0) ≡ true → members ≡ [] → Holds Is index reference members
-holds_none Is index reference members zero_is none = rw zero_is none
-
 -- ---- what is read of parts is what is read of the index
 
 list_same : (here : Part) (index : List ℕ) → IsPartOf here index → (row : Option PostingsRow) → ((r : PostingsRow) → row ≡ Some r → HoldsSection here r.offset) → list_of here row ≡ list_of (file index) row
@@ -155,6 +150,11 @@ first_absent held number numbers listed present e = rw (listed, present, e) refl
 -- where one is to be read, and none is there
 pub whole_absent : (held : Held) (number : ℕ) (numbers : List ℕ) → held.bytes ≡ [] → postings_of held [] [] ≡ Ok (number ∷ numbers) → present_at held.toc (number ∷ numbers) ≡ Ok tt → whole_at held ≡ Err (BadSeries number (part.Short (16 * number)))
 whole_absent held number numbers none listed present = first_absent held number numbers listed present (ap (λ (bytes : List ℕ). all_at bytes held.symbols None (number ∷ numbers)) none ∙ all_absent held.symbols number numbers)
+
+-- what is read for a row is what the index has for it
+pub found_of_row : (r : Result (List ℕ) IndexRefusal) (index : List ℕ) (rows : List PostingsRow) (name value : List ℕ) (row : PostingsRow) → row_of rows name value ≡ Some row → IfOk r (λ numbers. IsPostings index row.offset numbers) → IfOk r (λ numbers. list_of (file index) (row_of rows name value) ≡ Ok numbers)
+found_of_row (Ok numbers) index rows name value row is stands = ap (list_of (file index)) is ∙ ap (refused_as (refused_in 5)) (list_again IsNextPosting posting_at posting_turn index row.offset numbers stands)
+found_of_row (Err e) index rows name value row is stands = tt
 
 -- ---- refusals of sections
 

@@ -50,10 +50,13 @@ impl<'a> Model for IndexReader<'a> {
     ghost Value = { Held };
 
     ghost view = { λ r.
-        record { bytes = r.bytes.now; toc = r.toc; symbols = r.symbols; rows = r.rows; lists = part_of r.lists; size = r.size } };
+        record { bytes = r.bytes.now; toc = r.toc; symbols = r.symbols; rows = r.rows;
+        lists = part_of r.lists; size = r.size } };
 
     ghost invariant = { λ r.
-        (IsWhole (record { bytes = r.bytes.now; toc = r.toc; symbols = r.symbols; rows = r.rows; lists = part_of r.lists; size = r.size }) ⊎ (r.bytes.now ≡ []))
+        (IsWhole (record { bytes = r.bytes.now; toc = r.toc; symbols = r.symbols; rows = r.rows;
+        lists = part_of r.lists; size = r.size })
+        ⊎ (r.bytes.now ≡ []))
         × IsBytes r.bytes.now
         × (r.lists.begin + length r.lists.bytes.now < 2 ^ 64)
         × (4 * length r.rows ≤ r.size) };
@@ -76,7 +79,8 @@ impl<'a> IndexReader<'a> {
         // What is opened begins and ends as an index, and what does so is opened.
         ensures found { IfOk result (λ reader. (reader.bytes ≡ bytes.now) × IsWhole reader) }
         ensures only { (opened : Opened) → opened.bytes ≡ bytes.now → IsOpened opened
-            → IsOkAnd result (λ reader. reader ≡ whole_file opened) ⊎ (result ≡ Err IndexRefusal.NoMemory) }
+            → IsOkAnd result (λ reader. reader ≡ whole_file opened)
+            ⊎ (result ≡ Err IndexRefusal.NoMemory) }
 
         // The first refusal. One of the header or of the table of contents comes whatever memory there is.
         ensures exact { Gives IndexRefusal.NoMemory opened_of result (opened_at bytes.now) }
@@ -284,7 +288,11 @@ impl<'a> IndexReader<'a> {
             (λ numbers. numbers) result (postings_of self.now name.now value.now) }
         ensures few { IfOk result (λ numbers. 4 * length numbers ≤ length self.now.lists.bytes) }
 
-        // Where the lists are read in a part of an index, one that lies within it is the index's, and any other is not there.
+        // Where the lists are read in a part of an index, what is answered is what a reader of the whole index answers.
+        ensures found { (opened : Opened) → IsHeldOf self.now opened → IfOk result (λ numbers.
+            postings_of (whole_file opened) name.now value.now ≡ Ok numbers) }
+
+        // A list that lies within the part is answered, or refused, as in the index, and any other is not there.
         ensures same { (opened : Opened) → IsHeldOf self.now opened
             → ((row : PostingsRow) → row_of self.now.rows name.now value.now ≡ Some row
             → HoldsSection self.now.lists row.offset)

@@ -1,6 +1,7 @@
-ghost use Rattle.std.specs.Prelude.{◌≡◌, ◌⊎◌, ◌+◌, ◌*◌, ◌^◌, ◌<◌, ◌≤◌, ℕ, List, All, length, IfOk, Err, Some};
+ghost use Rattle.std.specs.Prelude.{◌≡◌, ◌⊎◌, ◌+◌, ◌*◌, ◌^◌, ◌<◌, ◌≤◌, ℕ, List, All, length, IfOk, Ok, Err, Some};
 ghost use Rattle.reading_core.specs.Reading.{Gives, refused_as};
 ghost use Rattle.index_slices.specs.Parts.{part_of, file, list_in, IsPartOf, HoldsSection};
+ghost use Rattle.index_parts.specs.Postings.{IsPostings};
 ghost use Rattle.index_parts.specs.PostingsReading.{postings_at};
 ghost use Rattle.index_parts.specs.declared.postings_row.PostingsRow.{PostingsRow};
 ghost use Rattle.index_parts.specs.declared.refusal.PartRefusal.TheVariants.{Short};
@@ -30,6 +31,8 @@ pub(crate) fn list_at(
     ensures rise { IfOk result IsStrictlyIncreasing }
     ensures small { IfOk result (All (λ n. n < 2 ^ 32)) }
     ensures few { IfOk result (λ numbers. 4 * length numbers ≤ length part.entry.bytes.now) }
+    ensures found { (index : List ℕ) → IsPartOf (part_of part.entry) index
+        → IfOk result (λ numbers. IsPostings index at numbers) }
     ensures same { (index : List ℕ) → IsPartOf (part_of part.entry) index
         → HoldsSection (part_of part.entry) at
         → Gives IndexRefusal.NoMemory
@@ -59,6 +62,9 @@ pub(crate) fn list_of(
     ensures rise { IfOk result IsStrictlyIncreasing }
     ensures small { IfOk result (All (λ n. n < 2 ^ 32)) }
     ensures few { IfOk result (λ numbers. 4 * length numbers ≤ length part.entry.bytes.now) }
+    ensures found { (index : List ℕ) → IsPartOf (part_of part.entry) index
+        → IfOk result (λ numbers.
+        list_of (file index) (row_of rows.now name.now value.now) ≡ Ok numbers) }
     ensures same { (index : List ℕ) → IsPartOf (part_of part.entry) index
         → ((row : PostingsRow) → row_of rows.now name.now value.now ≡ Some row
         → HoldsSection (part_of part.entry) row.offset)

@@ -89,7 +89,10 @@ fn print_values(rt: &HostRuntime, read: Result<TextList, IndexRefusal>) -> io::R
     }
 }
 
-pub(crate) fn print_series(rt: &HostRuntime, read: Result<IndexSeries, IndexRefusal>) -> io::Result<()> {
+pub(crate) fn print_series(
+    rt: &HostRuntime,
+    read: Result<IndexSeries, IndexRefusal>,
+) -> io::Result<()> {
     match read {
         Ok(series) => print_one(rt, &series),
         Err(refusal) => println!(rt; "{refusal:?}"),

@@ -4,7 +4,7 @@ use Rattle.std.specs.List.Sorted.{IsStrictlyIncreasing}
 use Rattle.std.proofs.lemmas.Option.{same_Some}
 use Rattle.index_parts.specs.declared.postings_row.PostingsRow.{PostingsRow}
 use Rattle.index_slices.specs.Parts.{part_of, file, HoldsSection}
-use Rattle.index_v2.proofs.HeldLaws.{no_row}
+use Rattle.index_v2.proofs.HeldLaws.{no_row, found_of_row}
 use Rattle.index_v2.proofs.RowsFound.{list_found, list_absent, row_found, row_absent}
 use Rattle.index_v2.proofs.ListNumbers.{none_rise, none_small}
 use Rattle.index_v2.proofs.postings.list_of.Goals as goal
@@ -36,3 +36,10 @@ returns-in-Err-clause-same c = λ index is lies. list_absent (file index) _ _ _ 
 
 pub returns-in-Err-clause-outside : goal.returns-in-Err-clause-outside
 returns-in-Err-clause-outside c = λ row is out. no_row _ row (row_absent _ _ _ c.in-Err.field-0 c.in-Err.ensures.absent) is
+
+pub returns-in-Some-clause-found : goal.returns-in-Some-clause-found
+returns-in-Some-clause-found c = λ index is.
+    found_of_row c.list_at.result index _ _ _ _ (row_found _ _ _ c.in-Ok.place _ c.place_of.ensures.ascending c.in-Ok.ensures.found (sym c.in-Some.ensures)) (c.list_at.ensures.found index is)
+
+pub returns-in-Err-clause-found : goal.returns-in-Err-clause-found
+returns-in-Err-clause-found c = λ index is. list_absent (file index) _ _ _ c.in-Err.field-0 c.in-Err.ensures.absent ∙ ap Ok (sym c.new-in-Err.ensures)

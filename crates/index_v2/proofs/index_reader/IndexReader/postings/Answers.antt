@@ -1,4 +1,5 @@
-use Rattle.std.proofs.Common.{ap, subst, ◌∙◌, List, ℕ}
+use Rattle.std.proofs.Common.{◌≡◌, ap, subst, ◌∙◌, List, ℕ, Ok}
+use Rattle.std.specs.Prelude.{IfOk}
 use Rattle.reading_core.specs.Reading.{Gives}
 use Rattle.index_parts.specs.declared.postings_row.PostingsRow.{PostingsRow}
 use Rattle.index_v2.specs.declared.refusal.IndexRefusal.TheVariants.{NoMemory}
@@ -25,3 +26,8 @@ returns-clause-same c =
 
 pub returns-clause-outside : goal.returns-clause-outside
 returns-clause-outside c = rw (← c.self.view_is) c.list_of.ensures.outside
+
+pub returns-clause-found : goal.returns-clause-found
+returns-clause-found c =
+    rw (← c.self.view_is) (λ opened held.
+    subst (λ (rows : List PostingsRow). IfOk c.list_of.result (λ (numbers : List ℕ). list_of (file opened.bytes) (row_of rows c.args.name.now c.args.value.now) ≡ Ok numbers)) held.rows_are (c.list_of.ensures.found opened.bytes held.lists_are))
