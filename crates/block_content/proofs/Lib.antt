@@ -1,0 +1,10 @@
+pub mod FirstLaws
+pub mod ChunksRead
+pub mod ChunkWalks
+pub mod TimesAndOrder
+pub mod ContentLaws
+pub mod Findings
+pub mod ContentSteps
+pub mod Counting
+pub mod CheckLaws
+pub mod CheckSteps

@@ -1,0 +1,24 @@
+use Rattle.std.proofs.Common.{◌≡◌, ◌⊎◌, inl, inr, refl}
+use Rattle.block_content.specs.Checking.{RefusesBlock}
+use Rattle.block_content.specs.declared.check_refusal.CheckRefusal.{CheckRefusal}
+use Rattle.block_content.specs.declared.check_refusal.CheckRefusal.TheVariants.{NoMemory}
+use Rattle.block_content.proofs.CheckLaws.{held, held_only, held_not_refused, refused_why, refused_passing, refused_other, stopped_with, stopped_why, stopped_other}
+use Rattle.block_content.proofs.checking.check.Goals as goal
+
+pub returns-clause-found : goal.returns-clause-found
+returns-clause-found c = (refl, held c.args.files c.bytes.result.now c.members.result.now c.bytes.ensures c.members.ensures c.count_block.ensures.bytes c.args.ulid c.in_ok-series.series c.in_ok-series.samples c.in_ok-series.ensures.exact)
+
+pub returns-clause-passes : goal.returns-clause-passes
+returns-clause-passes c = λ list is. let counts = held_only c.args.files c.bytes.result.now c.members.result.now c.bytes.ensures c.members.ensures c.count_block.ensures.bytes c.args.ulid c.in_ok-series.series c.in_ok-series.samples list c.in_ok-series.ensures.exact is in inl (refl, counts.0, counts.1)
+
+pub returns-clause-refuses : goal.returns-clause-refuses
+returns-clause-refuses c = λ refusal is. absurd (held_not_refused c.args.files c.bytes.result.now c.members.result.now c.bytes.ensures c.members.ensures c.count_block.ensures.bytes c.args.ulid c.in_ok-series.series c.in_ok-series.samples refusal c.in_ok-series.ensures.exact is)
+
+pub returns-in_err-series-clause-passes : goal.returns-in_err-series-clause-passes
+returns-in_err-series-clause-passes c = λ list is. inr (stopped_with c.from_residual.result c.in_err-series.field-0.0 NoMemory c.from_residual.ensures.1 (refused_passing c.args.files c.bytes.result.now c.members.result.now c.bytes.ensures c.members.ensures c.count_block.ensures.bytes c.args.ulid list c.in_err-series.field-0.0 is c.in_err-series.ensures.exact))
+
+pub returns-in_err-series-clause-refused : goal.returns-in_err-series-clause-refused
+returns-in_err-series-clause-refused c = stopped_why (λ (d : CheckRefusal). (d ≡ NoMemory) ⊎ RefusesBlock c.args.ulid c.args.files d) c.from_residual.result c.in_err-series.field-0.0 c.from_residual.ensures.1 (refused_why c.args.files c.bytes.result.now c.members.result.now c.bytes.ensures c.members.ensures c.count_block.ensures.bytes c.args.ulid c.in_err-series.field-0.0 c.in_err-series.ensures.exact)
+
+pub returns-in_err-series-clause-refuses : goal.returns-in_err-series-clause-refuses
+returns-in_err-series-clause-refuses c = λ refusal is. stopped_other c.from_residual.result c.in_err-series.field-0.0 refusal c.from_residual.ensures.1 (refused_other c.args.files c.bytes.result.now c.members.result.now c.bytes.ensures c.members.ensures c.count_block.ensures.bytes c.args.ulid refusal c.in_err-series.field-0.0 is c.in_err-series.ensures.exact)

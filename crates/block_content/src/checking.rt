@@ -1,0 +1,252 @@
+//! Whether a block may be shipped.
+ghost use Rattle.std.specs.Prelude.{◌≡◌, ◌⊎◌, ◌^◌, ◌-◌, min, ℕ, List, length, option_map, Ok, Err, IfOk, IfErr, MatchResult};
+ghost use Rattle.std.specs.List.{AllByRecursion};
+ghost use Rattle.std.specs.Result.{IsOkAnd};
+ghost use Rattle.reading_core.specs.Grammar.{IsBytes};
+ghost use Rattle.reading_core.specs.Reading.{Answers};
+ghost use Rattle.label_sets.specs.declared.series.Series.{Series};
+ghost use Rattle.label_sets.specs.Counts.{sample_count};
+ghost use Rattle.block_content.specs.Firsts.{or_else, first_at};
+ghost use Rattle.block_content.specs.ContentReading.{joined, list_of, first_time, first_outside, WalksChunks, WalksSeries};
+ghost use Rattle.block_content.specs.Checking.{Passes, RefusesBlock};
+ghost use Rattle.block_content.specs.CheckReading.{is_alone, own_at, files_at, check_at, found_at, IsFirstFound};
+
+use crate::chunk_reading::{chunk_samples, refused_chunk};
+use crate::content_reading::{budget_of, first_repeated, first_time, read_index};
+use crate::CheckRefusal;
+use block_files::BlockFiles;
+use block_meta::Meta;
+use index_parts::ChunkPlace;
+use index_v2::IndexSeries;
+use label_sets::Sample;
+use std::alloc::Global;
+use ulid_core::Ulid;
+use wire_bytes::Blob;
+
+/// A block that may be shipped, and how much it holds.
+#[derive(Drop)]
+pub struct Checked {
+    pub files: BlockFiles,
+    pub series: u64,
+    /// How many samples there are, or the greatest number of 64 bits where there are more.
+    pub samples: u64,
+}
+
+/// Tests what a block says of itself.
+#[tactic(auto, unfolding(crate::specs::CheckReading::own_at))]
+fn test_meta(ulid: Ulid, meta: &Meta) -> Result<(), CheckRefusal>
+    ensures { Answers (λ x. x) result (own_at ulid meta.now) }
+{
+    if meta.ulid != ulid {
+        return Err(CheckRefusal::UlidDiffers);
+    }
+    if meta.level != 1 {
+        return Err(CheckRefusal::NotLevelOne);
+    }
+    if !is_alone(ulid, meta.sources.members()) {
+        return Err(CheckRefusal::SourcesNotSelf);
+    }
+    if meta.resolution != 0 {
+        return Err(CheckRefusal::Downsampled);
+    }
+    Ok(())
+}
+
+/// Whether a block is the only one of the sources.
+fn is_alone(ulid: Ulid, sources: &[Ulid]) -> bool
+    ensures { result ≡ is_alone ulid sources.now }
+{
+    match sources {
+        [source] => *source == ulid,
+        _ => false,
+    }
+}
+
+/// What was counted of a series.
+#[derive(Clone, Copy)]
+struct Counted {
+    samples: u64,
+    /// The time of the first sample outside the block's times.
+    outside: Option<i64>,
+    /// What is left of the budget of bytes.
+    left: usize,
+}
+
+/// The time that was found, or the first one of these samples outside the block's times.
+fn found_or_first(found: Option<i64>, meta: &Meta, samples: &[Sample]) -> Option<i64>
+    ensures { result ≡ or_else found (first_time meta.now samples.now) }
+{
+    match found {
+        Some(time) => Some(time),
+        None => first_time(meta, samples),
+    }
+}
+
+/// Reads the chunks of a series, and counts their samples.
+fn count_series(
+    alloc: Global,
+    meta: &Meta,
+    segments: &[Blob],
+    series: u32,
+    chunks: &[ChunkPlace],
+    budget: usize,
+) -> Result<Counted, CheckRefusal>
+    ensures { WalksChunks segments.now series chunks.now
+        (λ counted parts. (counted.samples ≡ min (length (joined parts)) (2 ^ 64 - 1))
+        × (counted.outside ≡ first_time meta.now (joined parts))) result }
+{
+    let mut samples = 0u64;
+    let mut outside = None;
+    let mut left = budget;
+    let mut chunk = 0u32;
+    for place in chunks {
+        let (part, rest) = match chunk_samples(alloc, segments, *place, left) {
+            Ok(read) => read,
+            Err(cause) => return Err(refused_chunk(series, chunk, cause)),
+        };
+        samples = samples.saturating_add(part.len() as u64);
+        outside = found_or_first(outside, meta, part.members());
+        left = rest;
+        chunk = chunk.saturating_add(1);
+    }
+    Ok(Counted {
+        samples,
+        outside,
+        left,
+    })
+}
+
+/// What was counted of a block: its samples, and the series and the time of the first sample outside its times.
+#[derive(Clone, Copy)]
+struct Counts {
+    samples: u64,
+    outside: Option<(u32, i64)>,
+}
+
+/// The series and the time that were found, or those of the time in this series.
+fn found_or_this(found: Option<(u32, i64)>, series: u32, time: Option<i64>) -> Option<(u32, i64)>
+    ensures { result ≡ or_else found (option_map (λ t. (series, t)) time) }
+{
+    match (found, time) {
+        (Some(found), _) => Some(found),
+        (None, Some(time)) => Some((series, time)),
+        (None, None) => None,
+    }
+}
+
+/// Reads all chunks of a block, each once, and keeps no samples.
+fn count_all(
+    alloc: Global,
+    meta: &Meta,
+    segments: &[Blob],
+    indexed: &[IndexSeries],
+    budget: usize,
+) -> Result<Counts, CheckRefusal>
+    ensures { WalksSeries segments.now indexed.now
+        (λ counts parts. (counts.samples ≡ sample_count (list_of indexed.now parts))
+        × IsFirstFound (first_at (first_outside meta.now) (list_of indexed.now parts))
+        counts.outside) result }
+{
+    let mut samples = 0u64;
+    let mut outside = None;
+    let mut left = budget;
+    let mut series = 0u32;
+    for one in indexed {
+        let counted = count_series(alloc, meta, segments, series, one.chunks.members(), left)?;
+        samples = samples.saturating_add(counted.samples);
+        outside = found_or_this(outside, series, counted.outside);
+        left = counted.left;
+        series = series.saturating_add(1);
+    }
+    Ok(Counts { samples, outside })
+}
+
+/// Refuses what was found.
+fn test_found(outside: Option<(u32, i64)>, repeated: Option<u32>) -> Result<(), CheckRefusal>
+    ensures { result ≡ found_at outside repeated }
+{
+    if let Some((series, time)) = outside {
+        return Err(CheckRefusal::OutsideRange { series, time });
+    }
+    match repeated {
+        Some(series) => Err(CheckRefusal::Repeated(series)),
+        None => Ok(()),
+    }
+}
+
+/// Counts what the files hold, each chunk of which is read once, and none kept.
+fn count_files(
+    alloc: Global,
+    meta: &Meta,
+    index: &[u8],
+    segments: &[Blob],
+    budget: usize,
+) -> Result<(u64, u64), CheckRefusal>
+    ensures { MatchResult result
+        (λ counts. (list : List Series)
+        × (files_at meta.now index.now segments.now ≡ Ok list)
+        × (counts.0 ≡ length list) × (counts.1 ≡ sample_count list))
+        (λ e. (e ≡ CheckRefusal.NoMemory)
+        ⊎ (files_at meta.now index.now segments.now ≡ Err e)) }
+{
+    let indexed = read_index(alloc, index)?;
+    if indexed.is_empty() {
+        return Err(CheckRefusal::EmptyBlock);
+    }
+    let counts = count_all(alloc, meta, segments, indexed.members(), budget)?;
+    test_found(counts.outside, first_repeated(indexed.members()))?;
+    Ok((indexed.len() as u64, counts.samples))
+}
+
+/// The series and the samples of a block that may be shipped under a ULID.
+#[tactic(auto, unfolding(crate::specs::CheckReading::check_at))]
+fn count_block(
+    alloc: Global,
+    ulid: Ulid,
+    meta: &Meta,
+    index: &[u8],
+    segments: &[Blob],
+) -> Result<(u64, u64), CheckRefusal>
+    ensures exact { MatchResult result
+        (λ counts. (list : List Series)
+        × (check_at ulid meta.now index.now segments.now ≡ Ok list)
+        × (counts.0 ≡ length list) × (counts.1 ≡ sample_count list))
+        (λ e. (e ≡ CheckRefusal.NoMemory)
+        ⊎ (check_at ulid meta.now index.now segments.now ≡ Err e)) }
+    ensures bytes { IsBytes index.now × AllByRecursion IsBytes segments.now }
+{
+    let budget = budget_of(segments);
+    test_meta(ulid, meta)?;
+    count_files(alloc, meta, index, segments, budget)
+}
+
+/// Tests whether a block may be shipped under a ULID. The files of a refused block are dropped.
+pub fn check(alloc: Global, ulid: Ulid, files: BlockFiles) -> Result<Checked, CheckRefusal>
+    // A block that passes is handed back with its counts, and no other is.
+    ensures found { IfOk result (λ checked. (checked.files ≡ files)
+        × ((list : List Series) × Passes ulid files list
+        × (checked.series ≡ length list) × (checked.samples ≡ sample_count list))) }
+    ensures passes { (list : List Series) → Passes ulid files list
+        → IsOkAnd result (λ checked. (checked.files ≡ files)
+        × (checked.series ≡ length list) × (checked.samples ≡ sample_count list))
+        ⊎ (result ≡ Err CheckRefusal.NoMemory) }
+
+    // A refusal is the first of the whole block.
+    ensures refused { IfErr result
+        (λ refusal. (refusal ≡ CheckRefusal.NoMemory) ⊎ RefusesBlock ulid files refusal) }
+    ensures refuses { (refusal : CheckRefusal) → RefusesBlock ulid files refusal
+        → (result ≡ Err refusal) ⊎ (result ≡ Err CheckRefusal.NoMemory) }
+{
+    let (series, samples) = count_block(
+        alloc,
+        ulid,
+        &files.meta,
+        files.index.bytes(),
+        files.segments.members(),
+    )?;
+    Ok(Checked {
+        files,
+        series,
+        samples,
+    })
+}

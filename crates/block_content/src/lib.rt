@@ -1,0 +1,14 @@
+//! What a block's files hold in the real formats: reading the series and samples of an index and its segments, and telling
+//! whether a block may be shipped.
+#![tactic(auto)]
+
+mod check_refusal;
+mod checking;
+mod chunk_cause;
+mod chunk_reading;
+mod content_reading;
+
+pub use check_refusal::CheckRefusal;
+pub use checking::{Checked, check};
+pub use chunk_cause::ChunkCause;
+pub use content_reading::content;
