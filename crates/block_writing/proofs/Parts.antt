@@ -87,29 +87,8 @@ pub record SoFar (begin : Put) (samples left : List Sample) (now : Put) : Type 0
   pub ascend : IsStrictlySortedBy int_cmp (times left)
   pub fit : All (λ s. IsChunkTime s.time) left
 
-none_there : (last : PutChunk) → ◌≡◌ {A = Option PutChunk} None (Some last) → ⊥
-none_there last e = absurd cc
-
 same_chunk : (chunk last : PutChunk) → ◌≡◌ {A = Option PutChunk} (Some chunk) (Some last) → chunk ≡ last
 same_chunk chunk last e = cc
-
-none_before : (chunks : List PutChunk) (time : ℤ) → chunks ≡ [] → IsAfterChunks chunks time
-none_before chunks time none last at = absurd (none_there last (sym (ap (λ (l : List PutChunk). slice_get l (length l - 1)) none) ∙ at))
-
-pub at_start : (begin : Put) (samples : List Sample) → AreOfSeries samples → begin.chunks ≡ [] → begin.samples < 2 ^ 64 → SoFar begin samples samples begin
-at_start begin samples h none small = record {
-  parts = [];
-  whole = refl;
-  cut = tt;
-  full = λ front last some e. absurd (some_last front last (sym e));
-  chunks = subst (AreEach IsEncoded []) (sym none) tt;
-  behind = λ time at. none_before begin.chunks time none;
-  plan_is = refl;
-  series_is = refl;
-  samples_is = omega (arith, small);
-  ascend = h.ascend;
-  fit = h.times;
-}
 
 -- a part of the samples that are left is a chunk's
 pub of_chunk : (begin : Put) (samples left : List Sample) (now : Put) (k : ℕ) → SoFar begin samples left now → 0 < length left → k ≡ min (length left) 120 → AreOfChunk (take k left)
@@ -121,15 +100,6 @@ of_chunk begin samples left now k h some few =
       ascend = sorted_left int_cmp (times (take k left)) (times (drop k left)) (subst (IsStrictlySortedBy int_cmp) split h.ascend);
       times = All-append_left (λ (s : Sample). IsChunkTime s.time) (take k left) (drop k left) (subst (All (λ (s : Sample). IsChunkTime s.time)) (sym (take-append-drop k left)) h.fit);
     }
-
-first_of_part : (left : List Sample) (k : ℕ) → 0 < k → slice_get (times (take k left)) 0 ≡ slice_get (times left) 0
-first_of_part [] zero some = absurd (omega (arith, some))
-first_of_part [] (suc k) some = refl
-first_of_part (x ∷ left) zero some = absurd (omega (arith, some))
-first_of_part (x ∷ left) (suc k) some = refl
-
-pub begins_after : (begin : Put) (samples left : List Sample) (now : Put) (k : ℕ) → SoFar begin samples left now → 0 < length left → k ≡ min (length left) 120 → BeginAfter now.chunks (take k left)
-begins_after begin samples left now k h some few time at = h.behind time (sym (first_of_part left k (omega (arith, some, few))) ∙ at)
 
 -- the chunk of a part ends before the samples behind it begin
 ends_before : (part after : List Sample) (chunk : PutChunk) (time : ℤ) → 0 < length part → IsEncoded part chunk → IsStrictlySortedBy int_cmp (times part ++ times after) → slice_get (times after) 0 ≡ Some time → chunk.max <ℤ time
@@ -185,16 +155,3 @@ no_parts (p ∷ parts) (c ∷ chunks) each none = absurd cc
 pub has_chunks : (begin : Put) (samples left : List Sample) (now : Put) → SoFar begin samples left now → length left ≡ 0 → AreOfSeries samples → now.chunks ≡ [] → ⊥
 has_chunks begin samples left now h none are empty =
     absurd (omega (arith, none, are.some, ap length h.whole, length-append (flat_map (λ p. p) h.parts) left, ap length (no_parts h.parts now.chunks h.chunks empty)))
-
-pub series_more : (begin now new : Put) (series : Series) (left : List Sample) → SoFar begin series.samples left now → length left ≡ 0 → new ≡ with_series now series.labels → HasMore begin series new
-series_more begin now new series left h none new_is =
-    let nil : left ≡ [] = nil_from_length left none in
-    let whole : flat_map (λ p. p) h.parts ≡ series.samples = sym (append-nil (flat_map (λ p. p) h.parts)) ∙ ap (λ (l : List Sample). flat_map (λ p. p) h.parts ++ l) (sym nil) ∙ h.whole in
-    record {
-      put = record { labels = series.labels; chunks = now.chunks };
-      put_is = record { parts = h.parts; whole = whole; cut = h.cut; chunks = h.chunks; labels = refl };
-      plan_is = ap (λ (p : Put). p.plan) new_is ∙ h.plan_is;
-      series_is = ap (λ (p : Put). p.series) new_is ∙ ap (λ (l : List PutSeries). l ++ record { labels = series.labels; chunks = now.chunks } ∷ []) h.series_is;
-      nothing_left = ap (λ (p : Put). p.chunks) new_is;
-      samples_is = ap (λ (p : Put). p.samples) new_is ∙ h.samples_is ∙ ap (λ (l : List Sample). fitted (begin.samples + length l)) whole;
-    }

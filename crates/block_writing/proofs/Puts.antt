@@ -21,7 +21,7 @@ use Rattle.block_writing.specs.Segments.{AreSegments}
 use Rattle.block_writing.specs.Standing.{content_at}
 use Rattle.block_writing.specs.Put.{PutChunk, PutSeries, Put, IsChunkData, IsAfterChunks, IsAfterSeries, fitted, with_chunk, with_series}
 use Rattle.block_writing.specs.Writing.{part_of, chunk_in, series_in, put_in, all_places, IsWriting}
-use Rattle.block_writing.proofs.Runs.{ends, order_more, nothing_put}
+use Rattle.block_writing.proofs.Runs.{ends, order_more}
 use Rattle.block_writing.proofs.Placed.{read_all}
 use Rattle.block_writing.proofs.DataLaws.{data_rise}
 
@@ -150,27 +150,3 @@ pub behind_put : (segments : List (List ℕ)) (list : List IndexSeries) (labels 
 behind_put segments list labels after last at =
     let same : length (map (series_in segments) list) ≡ length list = length-map list (series_in segments) in
     after (series_in segments last) (ap (λ (n : ℕ). slice_get (map (series_in segments) list) (n - 1)) same ∙ got_in segments list (length list - 1) last at)
-
-pub series_put : (plan : BlockPlan) (segments : List (List ℕ)) (list more : List IndexSeries) (chunks : List ChunkPlace) (counts after : Counts) (labels : List Label) → IsWriting segments list chunks counts
-    → more ≡ list ++ record { labels = labels; chunks = chunks } ∷ [] → after ≡ record { series = fitted (counts.series + 1); samples = counts.samples; chunks = counts.chunks }
-    → Holds plan segments more [] after (with_series (put_in plan segments list chunks counts) labels)
-series_put plan segments list more chunks counts after labels h more_is after_is =
-    let one : IndexSeries = record { labels = labels; chunks = chunks } in
-    let all : all_places list chunks ≡ all_places (list ++ one ∷ []) [] =
-    sym (append-nil (flat_map (λ s. s.chunks) (list ++ one ∷ [])) ∙ flat_map-append (λ (s : IndexSeries). s.chunks) list (one ∷ []) ∙ ap (λ (l : List ChunkPlace). flat_map (λ s. s.chunks) list ++ l) (append-nil chunks)) in
-    let counted : fitted (counts.series + 1) ≡ fitted (length (list ++ one ∷ [])) = omega (arith, h.series_counted, length-append list (one ∷ [])) in
-    let made : Holds plan segments (list ++ one ∷ []) [] (record { series = fitted (counts.series + 1); samples = counts.samples; chunks = counts.chunks }) (with_series (put_in plan segments list chunks counts) labels) = record {
-      writing = record {
-        segments_are = subst (λ (l : List ChunkPlace). AreSegments (map (content_at segments) (map part_of l)) (map part_of l) segments) all h.segments_are;
-        few = h.few;
-        ordered = tt;
-        series_counted = counted;
-        chunks_counted = h.chunks_counted ∙ ap (λ (l : List ChunkPlace). fitted (length l)) all;
-      };
-      view_is = ap (λ (s : List PutSeries). record { plan = (put_in plan segments list chunks counts).plan; series = s; chunks = []; samples = counts.samples }) (map-append (series_in segments) list (one ∷ []));
-    } in
-    subst (λ (l : List IndexSeries). Holds plan segments l [] after (with_series (put_in plan segments list chunks counts) labels)) (sym more_is)
-    (subst (λ (n : Counts). Holds plan segments (list ++ one ∷ []) [] n (with_series (put_in plan segments list chunks counts) labels)) (sym after_is) made)
-
-pub nothing_written : IsWriting [] [] [] (record { series = 0; samples = 0; chunks = 0 })
-nothing_written = record { segments_are = nothing_put; few = omega arith; ordered = tt; series_counted = refl; chunks_counted = refl }

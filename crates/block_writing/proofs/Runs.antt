@@ -191,6 +191,3 @@ full_error e is = cc
 
 pub ok_not_full : (offset : ℕ) → ◌≡◌ {A = Result ℕ SegmentRefusal} (Ok offset) (Err Full) → ⊥
 ok_not_full offset e = absurd cc
-
-pub nothing_put : AreSegments [] [] []
-nothing_put = record { runs = []; runs_are = record { whole = refl; fit = tt; begin = tt }; places_are = refl; segments_are = refl }
