@@ -1,10 +1,10 @@
 -- A block that is put series by series.
-use Rattle.std.proofs.Common.{◌≡◌, ℕ, zero, suc, ◌+◌, ◌-◌, ◌^◌, ◌<◌, ◌≤◌, List, [], ◌∷◌, ◌++◌, length, map, All, Less, get_or, take, Option, None, Some, refl, sym, ap, subst, ◌∙◌, arith, ℤ, pos, neg_ℤ, negsuc}
+use Rattle.std.proofs.Common.{◌≡◌, ℕ, zero, suc, ◌+◌, ◌-◌, ◌^◌, ◌<◌, List, [], ◌∷◌, ◌++◌, length, map, get_or, take, Option, Some, refl, sym, ap, subst, ◌∙◌, arith, ℤ, pos, neg_ℤ}
 use Rattle.std.specs.Prelude.{slice_get, option_map, ◌≤ℤ◌, ◌<ℤ◌}
 use Rattle.std.specs.List.{AllByRecursion, sum_by}
 use Rattle.std.specs.List.Sorted.{IsStrictlySortedBy}
 use Rattle.std.proofs.lemmas.Int.{ints}
-use Rattle.std.proofs.lemmas.List.{take_more, length-take, take_all}
+use Rattle.std.proofs.lemmas.List.{take_more, length-take}
 use Rattle.std.proofs.lemmas.List.Elements.{All-from_recursion}
 use Rattle.std.proofs.lemmas.List.Sums.{sum_by-append}
 use Rattle.std.proofs.lemmas.Option.{slice_get-map, slice_get_within}
@@ -18,7 +18,7 @@ use Rattle.label_sets.specs.declared.series.Series.{Series}
 use Rattle.block_meta.specs.Lawful.{AreLawfulTimes}
 use Rattle.xor_chunks.specs.Written.{IsChunkTime}
 use Rattle.block_writing.specs.Each.{AreEach}
-use Rattle.block_writing.specs.Put.{PutSeries, PlanFields, Put, IsAfterSeries, nothing_put}
+use Rattle.block_writing.specs.Put.{PlanFields, Put, IsAfterSeries, nothing_put}
 use Rattle.block_writing.specs.Built.{AreOfBlock, AreBuildable, AreOfSeries, IsPutAs, HasMore, IsPutOf}
 use Rattle.block_writing.proofs.Placed.{each_append}
 

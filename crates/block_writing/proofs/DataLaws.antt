@@ -1,5 +1,5 @@
 -- Stored chunk data are no longer than a segment can hold, and their times rise.
-use Rattle.std.proofs.Common.{◌≡◌, ℕ, ◌+◌, ◌-◌, ◌*◌, ◌^◌, ◌<◌, ◌≤◌, Bool, false, List, [], ◌∷◌, ◌++◌, length, map, replicate, Option, Some, refl, sym, ap, subst, ◌∙◌, length-append, arith, ℤ, pos, ◌+ℤ◌}
+use Rattle.std.proofs.Common.{◌≡◌, ℕ, ◌+◌, ◌-◌, ◌*◌, ◌≤◌, Bool, false, List, [], ◌∷◌, ◌++◌, length, map, replicate, Option, Some, refl, sym, ap, ◌∙◌, length-append, arith, ℤ, pos, ◌+ℤ◌}
 use Rattle.std.specs.Prelude.{slice_get, ◌≤ℤ◌}
 use Rattle.std.specs.Int.{w32, to_be_bytes}
 use Rattle.std.proofs.lemmas.Int.{ints}
@@ -8,10 +8,10 @@ use Rattle.wire_bytes.specs.Crc.{crc}
 use Rattle.wire_bytes.specs.Written.{uvarint_text}
 use Rattle.wire_bytes.proofs.GroupTexts.{few_groups}
 use Rattle.label_sets.specs.declared.sample.Sample.{Sample}
-use Rattle.xor_chunks.specs.Bits.{bits_of, bits_in}
+use Rattle.xor_chunks.specs.Bits.{bits_of}
 use Rattle.xor_chunks.specs.State.{State}
 use Rattle.xor_chunks.specs.Window.{Window}
-use Rattle.xor_chunks.specs.Grammar.{IsChange, unchanged, row_14, row_17, row_20, row_64, IsWithin, IsValue, same_pattern, in_window, opens, IsNext, AreOthers, AreFromSecond, AreRest, AreSamples, IsText}
+use Rattle.xor_chunks.specs.Grammar.{IsChange, unchanged, row_14, row_17, row_20, row_64, IsWithin, IsValue, same_pattern, in_window, opens, AreOthers, AreRest, AreSamples, IsText}
 use Rattle.xor_chunks.proofs.BitLists.{length-bits_of, length-bits_in}
 use Rattle.chunk_files.specs.Layout.{header_size, greatest, xor}
 use Rattle.chunk_files.specs.Chunk.{frame_text}

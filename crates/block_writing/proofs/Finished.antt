@@ -1,5 +1,5 @@
 -- What a writer holds when no chunk is left over is a block's index and segments.
-use Rattle.std.proofs.Common.{◌≡◌, ℕ, ◌<◌, ◌≤◌, List, [], ◌∷◌, ◌++◌, length, map, refl, sym, ap, subst, ◌∙◌, arith, ℤ}
+use Rattle.std.proofs.Common.{◌≡◌, ℕ, ◌<◌, ◌≤◌, List, [], ◌∷◌, ◌++◌, length, map, refl, sym, ap, subst, ◌∙◌, ℤ}
 use Rattle.std.specs.List.{flat_map}
 use Rattle.std.proofs.lemmas.List.{map-append, length-map, append-nil}
 use Rattle.block_meta.specs.declared.block_plan.BlockPlan.{BlockPlan}
@@ -12,13 +12,12 @@ use Rattle.index_writing.specs.declared.write_refusal.IndexWriteRefusal.{IndexWr
 use Rattle.index_writing.specs.declared.write_refusal.IndexWriteRefusal.TheVariants as index
 use Rattle.block_meta.specs.MetaFields.{fields_of}
 use Rattle.block_writing.specs.declared.counts.Counts.{Counts}
-use Rattle.block_writing.specs.declared.segment_place.SegmentPlace.{SegmentPlace}
 use Rattle.block_writing.specs.Each.{AreEach}
 use Rattle.block_writing.specs.Segments.{AreSegments}
 use Rattle.block_writing.specs.Standing.{content_at}
-use Rattle.block_writing.specs.Put.{PutChunk, PutSeries, contents_of, fitted}
+use Rattle.block_writing.specs.Put.{PutChunk, contents_of, fitted}
 use Rattle.block_writing.specs.Writing.{plan_fields, part_of, chunk_in, series_in, put_in, all_places, IsWriting}
-use Rattle.block_writing.specs.Files.{place_times, put_times, IsListed, places_in, AreFilesOf, HaveNoIndex}
+use Rattle.block_writing.specs.Files.{place_times, put_times, IsListed, places_in, HaveNoIndex}
 use Rattle.block_writing.specs.WrittenMeta.{counts_of, meta_with, IsWritten}
 use Rattle.block_writing.specs.Refusals.{build_refusal}
 use Rattle.block_writing.specs.declared.build_refusal.BuildRefusal.{BuildRefusal}

@@ -1,27 +1,26 @@
 -- A series that is put part by part.
-use Rattle.std.proofs.Common.{◌≡◌, ℕ, zero, suc, ◌+◌, ◌-◌, ◌^◌, ◌<◌, ◌≤◌, List, [], ◌∷◌, ◌++◌, length, map, All, Less, get_or, take, drop, Option, None, Some, refl, sym, ap, subst, ◌∙◌, append_assoc, length-append, take-append-drop, arith, ◌⊎◌, inl, inr, ℤ, pos, negsuc, to_z, of_z}
+use Rattle.std.proofs.Common.{◌≡◌, ℕ, zero, suc, ◌+◌, ◌-◌, ◌<◌, ◌≤◌, List, [], ◌∷◌, ◌++◌, length, map, All, Less, get_or, take, drop, Option, None, Some, refl, sym, ap, subst, ◌∙◌, append_assoc, length-append, take-append-drop, arith, inl, inr, ℤ, pos, negsuc, to_z, of_z}
 use Rattle.std.specs.Prelude.{slice_get, min, ◌<ℤ◌, OnOk, Result, Ok, Err, FitsSigned}
 use Rattle.std.specs.Int.{w64}
 use Rattle.std.proofs.lemmas.Int.{ints, to_z-of_z}
 use Rattle.std.specs.Ordering.{int_cmp}
-use Rattle.std.specs.List.{flat_map, AllByRecursion}
+use Rattle.std.specs.List.{flat_map}
 use Rattle.std.specs.List.Sorted.{IsStrictlySortedBy}
 use Rattle.std.proofs.lemmas.Cmp.{int_ranked}
 use Rattle.std.proofs.lemmas.Grind.{flat_map-append}
-use Rattle.std.proofs.lemmas.List.{map-append, length-map, length-take, length-drop, append-nil, nil_from_length}
+use Rattle.std.proofs.lemmas.List.{map-append, length-map, length-take, length-drop, append-nil}
 use Rattle.list_core.proofs.Lists.{All-append_left, All-append_right}
 use Rattle.list_core.proofs.Order.{Less-at_places, sorted_left, sorted_right}
 use Rattle.reading_core.specs.Grammar.{IsBytes}
 use Rattle.index_parts.specs.Turns.{InOrder}
 use Rattle.label_sets.specs.declared.sample.Sample.{Sample}
-use Rattle.label_sets.specs.declared.series.Series.{Series}
 use Rattle.xor_chunks.specs.Bits.{bits_in, filled}
 use Rattle.xor_chunks.specs.Grammar.{IsText}
 use Rattle.xor_chunks.specs.Written.{written, IsChunkTime, AreOfChunk}
 use Rattle.block_writing.specs.Each.{AreEach}
-use Rattle.block_writing.specs.Put.{PutChunk, PutSeries, Put, IsChunkData, IsAfterChunks, fitted, with_chunk, with_series}
-use Rattle.block_writing.specs.Built.{IsPart, IsEncoded, IsPutAs, HasMore, AreOfSeries, BeginAfter}
-use Rattle.block_writing.proofs.Runs.{ends, some_last, order_more}
+use Rattle.block_writing.specs.Put.{PutChunk, Put, IsChunkData, IsAfterChunks, fitted, with_chunk}
+use Rattle.block_writing.specs.Built.{IsPart, IsEncoded, AreOfSeries, BeginAfter}
+use Rattle.block_writing.proofs.Runs.{ends, order_more}
 use Rattle.block_writing.proofs.Placed.{each_append}
 use Rattle.block_writing.proofs.Puts.{pushed_parts, last_at}
 

@@ -1,12 +1,12 @@
 -- One chunk more: the last run grows, or the next one begins.
 use Rattle.std.proofs.Common.{◌≡◌, ℕ, ◌+◌, ◌-◌, ◌<◌, ◌≤◌, List, [], ◌∷◌, ◌++◌, length, map, get_or, Option, None, Some, Result, Ok, Err, refl, sym, ap, subst, ◌∙◌, append_assoc, length-append, arith, ◌⊎◌, inl, inr}
-use Rattle.std.specs.Prelude.{IfOk, OnOk, ◌↔◌}
+use Rattle.std.specs.Prelude.{IfOk, OnOk}
 use Rattle.std.specs.List.{flat_map, AllByRecursion}
 use Rattle.std.proofs.Math.ListN.{set}
 use Rattle.std.proofs.Math.Seq.{set-append_seam, get_or-append_seam}
 use Rattle.std.proofs.lemmas.Grind.{flat_map-append}
 use Rattle.std.proofs.lemmas.List.{map-append, length-map, flat_map_more, append-nil}
-use Rattle.list_core.proofs.Lists.{AllByRecursion-append, AllByRecursion-push}
+use Rattle.list_core.proofs.Lists.{AllByRecursion-push}
 use Rattle.index_parts.specs.Turns.{InOrder, InOrderAfter}
 use Rattle.chunk_files.specs.Layout.{header_size, greatest}
 use Rattle.chunk_files.specs.Chunk.{header, frame_text}

@@ -1,12 +1,12 @@
 -- A sum that a chunk keeps has 32 bits.
-use Rattle.std.proofs.Common.{◌≡◌, ℕ, ◌/◌, ◌%◌, ◌^◌, ◌<◌, Bool, true, false, cond, List, [], ◌∷◌, arith}
+use Rattle.std.proofs.Common.{ℕ, ◌/◌, ◌%◌, ◌^◌, ◌<◌, Bool, true, false, cond, List, [], ◌∷◌, arith}
 use Rattle.std.specs.Prelude.{fold, bit_xor, ◌==◌}
 use Rattle.std.specs.Int.{bit_at}
 use Rattle.std.specs.List.{flat_map, AllByRecursion}
 use Rattle.std.proofs.lemmas.Nat.{xor_lt}
 use Rattle.std.proofs.lemmas.Nat.Bits.{bit_at-lt}
 use Rattle.list_core.proofs.Lists.{AllByRecursion-append}
-use Rattle.wire_bytes.specs.Crc.{castagnoli, times_x, with_bit, coefficients, ones, remainder, crc}
+use Rattle.wire_bytes.specs.Crc.{castagnoli, with_bit, coefficients, ones, remainder, crc}
 
 times_low : (b : Bool) (r : ℕ) → r < 2 ^ 32 → cond b (bit_xor (r / 2) castagnoli) (r / 2) < 2 ^ 32
 times_low true r low = xor_lt 32 (r / 2) castagnoli (omega arith) (omega arith)

@@ -1,5 +1,5 @@
 -- The data that stand at a place of a block's segments.
-use Rattle.std.specs.Prelude.{◌≡◌, ℕ, List, [], slice_get, unwrap_or, Option, Some, Result, Ok, Err}
+use Rattle.std.specs.Prelude.{◌≡◌, ℕ, List, [], slice_get, unwrap_or, Some, Result, Ok, Err}
 use Rattle.chunk_files.specs.Chunk.{IsPlace}
 use Rattle.chunk_files.specs.ChunkReading.{segment_at}
 use Rattle.chunk_files.specs.declared.refusal.ChunkRefusal.{ChunkRefusal}

@@ -1,4 +1,4 @@
-use Rattle.std.proofs.Common.{◌≡◌, arith, rules, refl, sym, ap, subst, ◌∙◌, ℕ, List, length}
+use Rattle.std.proofs.Common.{◌≡◌, arith, rules, refl, sym, subst, ◌∙◌, length}
 use Rattle.block_writing.specs.Segments.{AreSegments}
 use Rattle.block_writing.proofs.Runs.{grow_put, begin_put, none_due, full_error, ok_not_full}
 use Rattle.block_writing.proofs.segments.append_chunk.Goals as goal

@@ -1,5 +1,4 @@
-use Rattle.std.proofs.Common.{◌≡◌, ◌≤◌, ◌++◌, ◌∷◌, [], ℕ, List, length, rules, sym, ap, subst, ◌∙◌}
-use Rattle.index_parts.specs.declared.chunk_place.ChunkPlace.{ChunkPlace}
+use Rattle.std.proofs.Common.{◌≡◌, ◌≤◌, ◌++◌, ◌∷◌, [], ℕ, length, rules, sym, ap, subst, ◌∙◌}
 use Rattle.block_writing.specs.Put.{Put, IsAfterChunks, with_chunk}
 use Rattle.block_writing.proofs.DataLaws.{data_fit}
 use Rattle.block_writing.proofs.Puts.{chunk_put}
