@@ -1,0 +1,113 @@
+-- A block that is put series by series.
+use Rattle.std.proofs.Common.{◌≡◌, ℕ, zero, suc, ◌+◌, ◌-◌, ◌^◌, ◌<◌, List, [], ◌∷◌, ◌++◌, length, map, get_or, take, Option, Some, refl, sym, ap, subst, ◌∙◌, arith, ℤ, pos, neg_ℤ}
+use Rattle.std.specs.Prelude.{slice_get, option_map, ◌≤ℤ◌, ◌<ℤ◌}
+use Rattle.std.specs.List.{AllByRecursion, sum_by}
+use Rattle.std.specs.List.Sorted.{IsStrictlySortedBy}
+use Rattle.std.proofs.lemmas.Int.{ints}
+use Rattle.std.proofs.lemmas.List.{take_more, length-take}
+use Rattle.std.proofs.lemmas.List.Elements.{All-from_recursion}
+use Rattle.std.proofs.lemmas.List.Sums.{sum_by-append}
+use Rattle.std.proofs.lemmas.Option.{slice_get-map, slice_get_within}
+use Rattle.list_core.proofs.Lists.{AllByRecursion-weaker, slice_get-take}
+use Rattle.list_core.proofs.Order.{Less-at_places}
+use Rattle.label_sets.specs.Counts.{sample_count}
+use Rattle.label_sets.specs.Labels.{compare_sets}
+use Rattle.label_sets.specs.declared.label.Label.{Label}
+use Rattle.label_sets.specs.declared.sample.Sample.{Sample}
+use Rattle.label_sets.specs.declared.series.Series.{Series}
+use Rattle.block_meta.specs.Lawful.{AreLawfulTimes}
+use Rattle.xor_chunks.specs.Written.{IsChunkTime}
+use Rattle.block_writing.specs.Each.{AreEach}
+use Rattle.block_writing.specs.Put.{PlanFields, Put, IsAfterSeries, nothing_put}
+use Rattle.block_writing.specs.Built.{AreOfBlock, AreBuildable, AreOfSeries, IsPutAs, HasMore, IsPutOf}
+use Rattle.block_writing.proofs.Placed.{each_append}
+
+-- ---- lists
+
+same_some : {B : Type 0} (z y : B) → ◌≡◌ {A = Option B} (Some z) (Some y) → z ≡ y
+same_some z y e = cc
+
+one_sum : (one : Series) → sum_by (λ (s : Series). length s.samples) (one ∷ []) ≡ length one.samples
+one_sum one = let e : 0 + length one.samples ≡ length one.samples = omega arith in e
+
+each_got : {A B : Type 0} (R : A → B → Type 0) (xs : List A) (ys : List B) (k : ℕ) (y : B) → AreEach R xs ys → slice_get ys k ≡ Some y → (x : A) × (slice_get xs k ≡ Some x) × R x y
+each_got R [] [] k y each at = absurd cc
+each_got R [] (z ∷ ys) k y each at = absurd each
+each_got R (x ∷ xs) [] k y each at = absurd each
+each_got {A} {B} R (x ∷ xs) (z ∷ ys) zero y each at = (x, refl, subst (R x) (same_some z y at) each.0)
+each_got R (x ∷ xs) (z ∷ ys) (suc k) y each at = each_got R xs ys k y each.1 at
+
+each_length : {A B : Type 0} (R : A → B → Type 0) (xs : List A) (ys : List B) → AreEach R xs ys → length xs ≡ length ys
+each_length R [] [] each = refl
+each_length R [] (y ∷ ys) each = absurd each
+each_length R (x ∷ xs) [] each = absurd each
+each_length R (x ∷ xs) (y ∷ ys) each = ap suc (each_length R xs ys each.1)
+
+all_at : {A : Type 0} (P : A → Type 0) (xs : List A) (k : ℕ) (x d : A) → AllByRecursion P xs → k < length xs → x ≡ get_or xs k d → P x
+all_at P [] k x d all within at = absurd (omega (arith, within))
+all_at P (y ∷ xs) zero x d all within at = subst P (sym at) all.0
+all_at P (y ∷ xs) (suc k) x d all within at = all_at P xs k x d all.1 (omega (arith, within)) at
+
+got_at : {A : Type 0} (xs : List A) (k : ℕ) (x d : A) → k < length xs → x ≡ get_or xs k d → slice_get xs k ≡ Some x
+got_at [] k x d within at = absurd (omega (arith, within))
+got_at (y ∷ xs) zero x d within at = ap Some (sym at)
+got_at (y ∷ xs) (suc k) x d within at = got_at xs k x d (omega (arith, within)) at
+
+-- ---- what each series is
+
+chunk_time : (min max time : ℤ) → AreLawfulTimes min max → (min ≤ℤ time) × (time <ℤ max) → IsChunkTime time
+chunk_time min max time lawful within =
+    let early : neg_ℤ (pos (2 ^ 62)) ≤ℤ min = lawful.early in
+    let late : max ≤ℤ pos (2 ^ 62) = lawful.late in
+    let low : min ≤ℤ time = within.0 in
+    let high : time <ℤ max = within.1 in
+    (omega (arith, ints), omega (arith, ints))
+
+pub of_series : (min max : ℤ) (series : List Series) (k : ℕ) (one d : Series) → AreLawfulTimes min max → AreBuildable min max series → k < length series → one ≡ get_or series k d → AreOfSeries one.samples
+of_series min max series k one d lawful are within at =
+    let own : AreOfBlock min max one.samples = all_at (λ (s : Series). AreOfBlock min max s.samples) series k one d are.samples within at in
+    record {
+      some = own.some;
+      ascend = own.ascend;
+      times = All-from_recursion (λ (s : Sample). IsChunkTime s.time) one.samples (AllByRecursion-weaker (λ (s : Sample). (min ≤ℤ s.time) × (s.time <ℤ max)) (λ (s : Sample). IsChunkTime s.time) (λ s is. chunk_time min max s.time lawful is) one.samples own.within);
+    }
+
+pub after_series : (plan : PlanFields) (series : List Series) (k : ℕ) (one d : Series) (now : Put) → IsStrictlySortedBy compare_sets (map (λ (s : Series). s.labels) series) → k < length series → one ≡ get_or series k d → IsPutOf plan (take k series) now → IsAfterSeries now.series one.labels
+after_series plan series k one d now ascend within at h last there =
+    let got = each_got IsPutAs (take k series) now.series (length now.series - 1) last h.series_are there in
+    let size : length now.series ≡ k = sym (each_length IsPutAs (take k series) now.series h.series_are) ∙ omega (arith, within, length-take k series) in
+    let below : length now.series - 1 < k = omega (arith, size, slice_get_within now.series (length now.series - 1) last there) in
+    let before : slice_get series (length now.series - 1) ≡ Some got.0 = slice_get-take series k (length now.series - 1) got.0 got.1 in
+    let one_there : slice_get series k ≡ Some one = got_at series k one d within at in
+    let first : slice_get (map (λ (s : Series). s.labels) series) (length now.series - 1) ≡ Some got.0.labels = slice_get-map (λ (s : Series). s.labels) series (length now.series - 1) ∙ ap (option_map (λ (s : Series). s.labels)) before in
+    let second : slice_get (map (λ (s : Series). s.labels) series) k ≡ Some one.labels = slice_get-map (λ (s : Series). s.labels) series k ∙ ap (option_map (λ (s : Series). s.labels)) one_there in
+    ap (λ (l : List Label). compare_sets l one.labels) got.2.labels ∙ Less-at_places compare_sets (map (λ (s : Series). s.labels) series) (length now.series - 1) k got.0.labels one.labels ascend below first second
+
+-- ---- series by series
+
+pub none_put : (plan : PlanFields) (begin : Put) → begin ≡ nothing_put plan → IsPutOf plan [] begin
+unfolding sample_count
+none_put plan begin e = record {
+  plan_is = ap (λ (p : Put). p.plan) e;
+  series_are = subst (AreEach IsPutAs []) (sym (ap (λ (p : Put). p.series) e)) tt;
+  nothing_left = ap (λ (p : Put). p.chunks) e;
+  samples_are = ap (λ (p : Put). p.samples) e;
+}
+
+pub few_counted : (plan : PlanFields) (series : List Series) (now : Put) → IsPutOf plan series now → now.samples < 2 ^ 64
+unfolding sample_count
+few_counted plan series now h = omega (arith, h.samples_are)
+
+pub one_more : (plan : PlanFields) (series : List Series) (k : ℕ) (one d : Series) (now new : Put) → k < length series → one ≡ get_or series k d → IsPutOf plan (take k series) now → HasMore now one new → IsPutOf plan (take (k + 1) series) new
+unfolding sample_count
+one_more plan series k one d now new within at h more =
+    let split : take (k + 1) series ≡ take k series ++ one ∷ [] = take_more series k d within ∙ ap (λ (s : Series). take k series ++ s ∷ []) (sym at) in
+    let are : AreEach IsPutAs (take k series ++ one ∷ []) (now.series ++ more.put ∷ []) = each_append IsPutAs (take k series) (one ∷ []) now.series (more.put ∷ []) h.series_are (more.put_is, tt) in
+    let sum : sum_by (λ (s : Series). length s.samples) (take (k + 1) series) ≡ sum_by (λ (s : Series). length s.samples) (take k series) + length one.samples =
+    ap (sum_by (λ (s : Series). length s.samples)) split ∙ sum_by-append (λ (s : Series). length s.samples) (take k series) (one ∷ []) ∙ ap (λ (n : ℕ). sum_by (λ (s : Series). length s.samples) (take k series) + n) (one_sum one) in
+    record {
+      plan_is = more.plan_is ∙ h.plan_is;
+      series_are = subst (λ (l : List Series). AreEach IsPutAs l new.series) (sym split) (subst (AreEach IsPutAs (take k series ++ one ∷ [])) (sym more.series_is) are);
+      nothing_left = more.nothing_left;
+      samples_are = omega (arith, more.samples_is, h.samples_are, sum);
+    }

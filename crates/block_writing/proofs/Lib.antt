@@ -1,0 +1,9 @@
+pub mod Sums
+pub mod Runs
+pub mod Placed
+pub mod DataLaws
+pub mod Puts
+pub mod Names
+pub mod Finished
+pub mod Parts
+pub mod Builds

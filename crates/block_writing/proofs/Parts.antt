@@ -1,0 +1,156 @@
+-- A series that is put part by part.
+use Rattle.std.proofs.Common.{◌≡◌, ℕ, zero, suc, ◌+◌, ◌-◌, ◌<◌, ◌≤◌, List, [], ◌∷◌, ◌++◌, length, map, All, Less, get_or, take, drop, Option, None, Some, refl, sym, ap, subst, ◌∙◌, append_assoc, length-append, take-append-drop, arith, inl, inr, ℤ, pos, negsuc, to_z, of_z}
+use Rattle.std.specs.Prelude.{slice_get, min, ◌<ℤ◌, OnOk, Result, Ok, Err, FitsSigned}
+use Rattle.std.specs.Int.{w64}
+use Rattle.std.proofs.lemmas.Int.{ints, to_z-of_z}
+use Rattle.std.specs.Ordering.{int_cmp}
+use Rattle.std.specs.List.{flat_map}
+use Rattle.std.specs.List.Sorted.{IsStrictlySortedBy}
+use Rattle.std.proofs.lemmas.Cmp.{int_ranked}
+use Rattle.std.proofs.lemmas.Grind.{flat_map-append}
+use Rattle.std.proofs.lemmas.List.{map-append, length-map, length-take, length-drop, append-nil}
+use Rattle.list_core.proofs.Lists.{All-append_left, All-append_right}
+use Rattle.list_core.proofs.Order.{Less-at_places, sorted_left, sorted_right}
+use Rattle.reading_core.specs.Grammar.{IsBytes}
+use Rattle.index_parts.specs.Turns.{InOrder}
+use Rattle.label_sets.specs.declared.sample.Sample.{Sample}
+use Rattle.xor_chunks.specs.Bits.{bits_in, filled}
+use Rattle.xor_chunks.specs.Grammar.{IsText}
+use Rattle.xor_chunks.specs.Written.{written, IsChunkTime, AreOfChunk}
+use Rattle.block_writing.specs.Each.{AreEach}
+use Rattle.block_writing.specs.Put.{PutChunk, Put, IsChunkData, IsAfterChunks, fitted, with_chunk}
+use Rattle.block_writing.specs.Built.{IsPart, IsEncoded, AreOfSeries, BeginAfter}
+use Rattle.block_writing.proofs.Runs.{ends, order_more}
+use Rattle.block_writing.proofs.Placed.{each_append}
+use Rattle.block_writing.proofs.Puts.{pushed_parts, last_at}
+
+abbrev times : List Sample → List ℤ
+times samples = map (λ s. s.time) samples
+
+-- ---- a chunk of a part
+
+pub time_at : (part : List Sample) (k : ℕ) (s d : Sample) → k < length part → s ≡ get_or part k d → slice_get (times part) k ≡ Some s.time
+time_at [] k s d within at = absurd (omega (arith, within))
+time_at (x ∷ part) zero s d within at = ap (λ (y : Sample). Some y.time) (sym at)
+time_at (x ∷ part) (suc k) s d within at = time_at part k s d (omega (arith, within)) at
+
+stored_text : (content : List ℕ) (samples : List Sample) → IsText 7 content samples → IsText 8 content samples
+stored_text content samples h = record { after = h.after; left = h.left; counted = h.counted; samples_are = h.samples_are; filling = omega (arith, h.filling) }
+
+pub data_of_part : (part : List Sample) (content : List ℕ) (low high : ℤ) → IsText 7 content part → slice_get (times part) 0 ≡ Some low → slice_get (times part) (length part - 1) ≡ Some high → IsChunkData content low high
+data_of_part part content low high text begins ends = record { samples = part; text_is = stored_text content part text; begins = begins; ends = ends }
+
+pub part_put : (old new : Put) (part : List Sample) (content : List ℕ) (low high : ℤ) → IsText 7 content part → IsBytes content → bits_in content ≡ filled (written part) → slice_get (times part) 0 ≡ Some low → slice_get (times part) (length part - 1) ≡ Some high
+    → ((samples : List Sample) → IsText 8 content samples → new ≡ with_chunk old (record { content = content; min = low; max = high }) (length samples))
+    → (chunk : PutChunk) × IsEncoded part chunk × (new ≡ with_chunk old chunk (length part))
+part_put old new part content low high text bytes bits begins ends is =
+    (record { content = content; min = low; max = high }, record { bytes = bytes; bits = bits; begins = begins; ends = ends }, is part (stored_text content part text))
+
+time_fits : (t : ℤ) → IsChunkTime t → FitsSigned w64 t
+time_fits (pos n) h = let high = h.1 in record { sfits = omega (arith, ints) }
+time_fits (negsuc n) h = let low = h.0 in record { sfits = omega (arith, ints) }
+
+-- a time as the code hands it on
+pub told_time : (part : List Sample) (k : ℕ) (d : Sample) → AreOfChunk part → k < length part → slice_get (times part) k ≡ Some (to_z w64 (of_z w64 (get_or part k d).time))
+told_time part k d h within = time_at part k (get_or part k d) d within refl ∙ ap Some (sym (to_z-of_z w64 (get_or part k d).time (time_fits (get_or part k d).time (h.times k d within))))
+
+pub part_returns : {A E : Type 0} (r : Result A E) (old new : Put) (part : List Sample) (content : List ℕ) (low high : ℤ) → IsText 7 content part → IsBytes content → bits_in content ≡ filled (written part) → slice_get (times part) 0 ≡ Some low → slice_get (times part) (length part - 1) ≡ Some high
+    → ((samples : List Sample) → IsText 8 content samples → OnOk r (new ≡ with_chunk old (record { content = content; min = low; max = high }) (length samples)))
+    → OnOk r ((chunk : PutChunk) × IsEncoded part chunk × (new ≡ with_chunk old chunk (length part)))
+part_returns (Ok x) old new part content low high text bytes bits begins ends is = part_put old new part content low high text bytes bits begins ends is
+part_returns (Err e) old new part content low high text bytes bits begins ends is = tt
+
+-- ---- lists
+
+got_left : {A : Type 0} (xs ys : List A) (k : ℕ) → k < length xs → slice_get (xs ++ ys) k ≡ slice_get xs k
+got_left [] ys k within = absurd (omega (arith, within))
+got_left (x ∷ xs) ys zero within = refl
+got_left (x ∷ xs) ys (suc k) within = got_left xs ys k (omega (arith, within))
+
+got_right : {A : Type 0} (xs ys : List A) → slice_get (xs ++ ys) (length xs) ≡ slice_get ys 0
+got_right [] ys = refl
+got_right (x ∷ xs) ys = got_right xs ys
+
+-- ---- parts that are put, and samples that are left
+
+pub record SoFar (begin : Put) (samples left : List Sample) (now : Put) : Type 0 where
+  pub parts : List (List Sample)
+  pub whole : flat_map (λ part. part) parts ++ left ≡ samples
+  pub cut : InOrder IsPart parts
+  pub full : (front : List (List Sample)) (last : List Sample) → 0 < length left → parts ≡ front ++ last ∷ [] → length last ≡ 120
+  pub chunks : AreEach IsEncoded parts now.chunks
+  pub behind : BeginAfter now.chunks left
+  pub plan_is : now.plan ≡ begin.plan
+  pub series_is : now.series ≡ begin.series
+  pub samples_is : now.samples ≡ fitted (begin.samples + length (flat_map (λ part. part) parts))
+  pub ascend : IsStrictlySortedBy int_cmp (times left)
+  pub fit : All (λ s. IsChunkTime s.time) left
+
+same_chunk : (chunk last : PutChunk) → ◌≡◌ {A = Option PutChunk} (Some chunk) (Some last) → chunk ≡ last
+same_chunk chunk last e = cc
+
+-- a part of the samples that are left is a chunk's
+pub of_chunk : (begin : Put) (samples left : List Sample) (now : Put) (k : ℕ) → SoFar begin samples left now → 0 < length left → k ≡ min (length left) 120 → AreOfChunk (take k left)
+of_chunk begin samples left now k h some few =
+    let split : times left ≡ times (take k left) ++ times (drop k left) = ap times (sym (take-append-drop k left)) ∙ map-append (λ (s : Sample). s.time) (take k left) (drop k left) in
+    record {
+      some = omega (arith, some, few, length-take k left);
+      few = omega (arith, few, length-take k left);
+      ascend = sorted_left int_cmp (times (take k left)) (times (drop k left)) (subst (IsStrictlySortedBy int_cmp) split h.ascend);
+      times = All-append_left (λ (s : Sample). IsChunkTime s.time) (take k left) (drop k left) (subst (All (λ (s : Sample). IsChunkTime s.time)) (sym (take-append-drop k left)) h.fit);
+    }
+
+-- the chunk of a part ends before the samples behind it begin
+ends_before : (part after : List Sample) (chunk : PutChunk) (time : ℤ) → 0 < length part → IsEncoded part chunk → IsStrictlySortedBy int_cmp (times part ++ times after) → slice_get (times after) 0 ≡ Some time → chunk.max <ℤ time
+ends_before part after chunk time some coded ascend at =
+    let within : length part - 1 < length (times part) = omega (arith, some, length-map part (λ (s : Sample). s.time)) in
+    let last : slice_get (times part ++ times after) (length part - 1) ≡ Some chunk.max = got_left (times part) (times after) (length part - 1) within ∙ coded.ends in
+    let next : slice_get (times part ++ times after) (length (times part)) ≡ Some time = got_right (times part) (times after) ∙ at in
+    int_ranked chunk.max time Less (sym (Less-at_places int_cmp (times part ++ times after) (length part - 1) (length (times part)) chunk.max time ascend within last next))
+
+behind_last : (chunks : List PutChunk) (chunk : PutChunk) (time : ℤ) → chunk.max <ℤ time → IsAfterChunks (chunks ++ chunk ∷ []) time
+behind_last chunks chunk time less last at = subst (λ (c : PutChunk). c.max <ℤ time) (same_chunk chunk last (sym (last_at chunks chunk) ∙ at)) less
+
+cut_more : (parts : List (List Sample)) (part : List Sample) → InOrder IsPart parts → 0 < length part → length part ≤ 120 → ((front : List (List Sample)) (last : List Sample) → parts ≡ front ++ last ∷ [] → length last ≡ 120) → InOrder IsPart (parts ++ part ∷ [])
+cut_more parts part cut some few full = elim (ends parts) [
+  | inl none ↦ subst (λ (l : List (List Sample)). InOrder IsPart (l ++ part ∷ [])) (sym none) ((some, few), tt)
+  | inr (front, last, e) ↦ subst (λ (l : List (List Sample)). InOrder IsPart (l ++ part ∷ [])) (sym e) (order_more IsPart front None last part (subst (InOrder IsPart) e cut) (full front last e, some, few))
+]
+
+flat_more : (parts : List (List Sample)) (part : List Sample) → flat_map (λ p. p) (parts ++ part ∷ []) ≡ flat_map (λ p. p) parts ++ part
+flat_more parts part = flat_map-append (λ (p : List Sample). p) parts (part ∷ []) ∙ ap (λ (l : List Sample). flat_map (λ p. p) parts ++ l) (append-nil part)
+
+pub part_more : (begin : Put) (samples left part after : List Sample) (now new : Put) (k : ℕ) → SoFar begin samples left now → 0 < length left → k ≡ min (length left) 120 → part ≡ take k left → after ≡ drop k left
+    → ((chunk : PutChunk) × IsEncoded part chunk × (new ≡ with_chunk now chunk (length part))) → SoFar begin samples after new
+part_more begin samples left part after now new k h some few part_is after_is (chunk, coded, new_is) =
+    let whole : part ++ after ≡ left = ap (λ (l : List Sample). l ++ after) part_is ∙ ap (λ (l : List Sample). take k left ++ l) after_is ∙ take-append-drop k left in
+    let size : length part ≡ k = omega (arith, few, ap length part_is, length-take k left) in
+    let split : times left ≡ times part ++ times after = ap times (sym whole) ∙ map-append (λ (s : Sample). s.time) part after in
+    let ascend : IsStrictlySortedBy int_cmp (times part ++ times after) = subst (IsStrictlySortedBy int_cmp) split h.ascend in
+    let many : 0 < length part = omega (arith, size, few, some) in
+    let most : length part ≤ 120 = omega (arith, size, few) in
+    let chunks_are : now.chunks ++ chunk ∷ [] ≡ new.chunks = sym (ap (λ (p : Put). p.chunks) new_is) in
+    record {
+      parts = h.parts ++ part ∷ [];
+      whole = ap (λ (l : List Sample). l ++ after) (flat_more h.parts part) ∙ append_assoc (flat_map (λ p. p) h.parts) part after ∙ ap (λ (l : List Sample). flat_map (λ p. p) h.parts ++ l) whole ∙ h.whole;
+      cut = cut_more h.parts part h.cut many most (λ front last e. h.full front last some e);
+      full = λ front last more e. ap length (sym (pushed_parts h.parts front part last e).1) ∙ omega (arith, size, few, more, ap length after_is, length-drop k left);
+      chunks = subst (AreEach IsEncoded (h.parts ++ part ∷ [])) chunks_are (each_append IsEncoded h.parts (part ∷ []) now.chunks (chunk ∷ []) h.chunks (coded, tt));
+      behind = λ time at. subst (λ (l : List PutChunk). IsAfterChunks l time) chunks_are (behind_last now.chunks chunk time (ends_before part after chunk time many coded ascend at));
+      plan_is = ap (λ (p : Put). p.plan) new_is ∙ h.plan_is;
+      series_is = ap (λ (p : Put). p.series) new_is ∙ h.series_is;
+      samples_is = omega (arith, ap (λ (p : Put). p.samples) new_is, h.samples_is, ap length (flat_more h.parts part), length-append (flat_map (λ p. p) h.parts) part);
+      ascend = sorted_right int_cmp (times part) (times after) ascend;
+      fit = All-append_right (λ (s : Sample). IsChunkTime s.time) part after (subst (All (λ (s : Sample). IsChunkTime s.time)) (sym whole) h.fit);
+    }
+
+-- ---- the series as a whole
+
+no_parts : (parts : List (List Sample)) (chunks : List PutChunk) → AreEach IsEncoded parts chunks → chunks ≡ [] → flat_map (λ p. p) parts ≡ []
+no_parts [] chunks each none = refl
+no_parts (p ∷ parts) [] each none = absurd each
+no_parts (p ∷ parts) (c ∷ chunks) each none = absurd cc
+
+pub has_chunks : (begin : Put) (samples left : List Sample) (now : Put) → SoFar begin samples left now → length left ≡ 0 → AreOfSeries samples → now.chunks ≡ [] → ⊥
+has_chunks begin samples left now h none are empty =
+    absurd (omega (arith, none, are.some, ap length h.whole, length-append (flat_map (λ p. p) h.parts) left, ap length (no_parts h.parts now.chunks h.chunks empty)))

@@ -1,0 +1,6 @@
+use Rattle.std.proofs.Common.{◌≡◌, take}
+use Rattle.block_writing.specs.WrittenMeta.{sizes_from}
+use Rattle.block_writing.proofs.written_meta.sizes_of.Given as goal
+
+abbrev pub invariant-loop-place : goal.invariant-loop-place
+invariant-loop-place l = l.sizes ≡ sizes_from 1 (take l.place l.segments)

@@ -1,0 +1,17 @@
+pub use Rattle.label_sets.specs.Labels
+pub use Rattle.block_keys.specs.KeyText
+pub use Rattle.block_meta.specs.MetaFields
+pub use Rattle.xor_chunks.specs.Grammar
+pub use Rattle.chunk_files.specs.Chunk
+pub use Rattle.chunk_files.specs.ChunkReading
+pub use Rattle.index_file.specs.IndexFile
+pub use Rattle.index_writing.specs.Written
+pub mod Each
+pub mod Segments
+pub mod Standing
+pub mod Put
+pub mod Writing
+pub mod Files
+pub mod WrittenMeta
+pub mod Refusals
+pub mod Built

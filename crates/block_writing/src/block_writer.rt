@@ -1,0 +1,118 @@
+ghost use Rattle.std.specs.Prelude.{◌≡◌, ◌≢◌, [], List, length, OnOk, OnErr, MatchResult};
+ghost use Rattle.label_sets.specs.declared.sample.Sample.{Sample};
+ghost use Rattle.xor_chunks.specs.Grammar.{IsText};
+ghost use Rattle.block_writing.specs.Put.{IsChunkData, IsAfterChunks, IsAfterSeries, nothing_put, with_chunk, with_series};
+ghost use Rattle.block_writing.specs.Files.{HaveNoIndex};
+ghost use Rattle.block_writing.specs.Writing.{plan_fields};
+ghost use Rattle.block_writing.specs.WrittenMeta.{IsWritten};
+
+use crate::counts::Counts;
+use crate::finishing::finish;
+use crate::segments::append_chunk;
+use crate::{BuildRefusal, WrittenBlock};
+use block_meta::BlockPlan;
+use chunk_files::SegmentWriter;
+use index_parts::{ChunkList, ChunkPlace};
+use index_writing::IndexWriter;
+use label_sets::LabelSet;
+use list_core::NoMemory;
+use std::alloc::Global;
+use std::marker::Model;
+use std::mem::replace;
+use wire_bytes::Cursor;
+
+/// Writes a block of chunk data as they are, series by series. A contract sees what was put so far.
+#[derive(Drop)]
+pub struct BlockWriter {
+    plan: BlockPlan,
+    segments: Vec<SegmentWriter>,
+    /// The series that are ended.
+    index: IndexWriter,
+    /// The places of the chunks whose series is not ended.
+    chunks: Vec<ChunkPlace>,
+    counts: Counts,
+}
+
+impl Model for BlockWriter {
+    ghost use Rattle.block_writing.specs.Put.{Put};
+
+    ghost Value = { Put };
+
+    ghost use Rattle.block_writing.specs.Writing.{put_in, IsWriting};
+
+    ghost view = { λ w. put_in w.plan w.segments.items w.index w.chunks.items w.counts };
+
+    ghost invariant = { λ w. IsWriting w.segments.items w.index w.chunks.items w.counts };
+}
+
+/// How many samples chunk data say that they have.
+fn count_of(bytes: &[u8]) -> u16
+    ensures { (samples : List Sample) → IsText 8 bytes.now samples → result ≡ length samples }
+{
+    let mut cursor = Cursor::new(bytes);
+    cursor.take_u16().unwrap_or(0)
+}
+
+impl BlockWriter {
+    /// A writer of a block without series.
+    pub fn new(alloc: Global, plan: BlockPlan) -> BlockWriter
+        ensures { result ≡ nothing_put (plan_fields plan) }
+    {
+        BlockWriter {
+            plan,
+            segments: Vec::new(alloc),
+            index: IndexWriter::new(alloc),
+            chunks: Vec::new(alloc),
+            counts: Counts::none(),
+        }
+    }
+
+    /// Puts a chunk behind those of the series that is not ended. Its data are kept byte for byte. They have samples, the
+    /// first of which is at `min` and the last at `max`, and begin after the chunk before them ends.
+    pub fn chunk(&mut self, bytes: &[u8], min: i64, max: i64) -> Result<(), NoMemory>
+        requires stored { IsChunkData bytes.now min max }
+        requires after { IsAfterChunks self.old.chunks min }
+        ensures ok { (samples : List Sample) → IsText 8 bytes.now samples → OnOk result (self.new
+            ≡ with_chunk self.old (record { content = bytes.now; min = min; max = max })
+            (length samples)) }
+        ensures err { OnErr result (self.new ≡ self.old) }
+    {
+        self.chunks.reserve(1)?;
+        let place = append_chunk(&mut self.segments, bytes)?;
+        self.chunks.push_reserved(ChunkPlace {
+            min,
+            max,
+            segment: place.segment,
+            offset: place.offset,
+        });
+        self.counts = self.counts.with_chunk(count_of(bytes));
+        Ok(())
+    }
+
+    /// Ends a series: the chunks that were put since the one before it was ended are its own. Its labels are greater.
+    pub fn series(&mut self, labels: &LabelSet) -> Result<(), NoMemory>
+        requires some { self.old.chunks ≢ [] }
+        requires greater { IsAfterSeries self.old.series labels.now }
+        ensures ok { OnOk result (self.new ≡ with_series self.old labels.now) }
+        ensures err { OnErr result (self.new ≡ self.old) }
+    {
+        let alloc = *self.chunks.allocator();
+        let chunks = ChunkList::from_vec(replace(&mut self.chunks, Vec::new(alloc)));
+        let added = self.index.add(labels, &chunks);
+        self.chunks = chunks.into_vec();
+        added?;
+        self.chunks.clear();
+        self.counts = self.counts.with_series();
+        Ok(())
+    }
+
+    /// The files of the series that were put. Each chunk belongs to one of them.
+    pub fn finish(self) -> Result<WrittenBlock, BuildRefusal>
+        requires { self.chunks ≡ [] }
+        // The index is too large exactly where the one of these series passes its greatest length.
+        ensures { MatchResult result (λ block. IsWritten self block)
+            (λ e. e ≡ BuildRefusal.TooLarge → HaveNoIndex self.series) }
+    {
+        finish(self.plan, self.segments, self.index, self.counts)
+    }
+}

@@ -1,0 +1,18 @@
+//! The builder of a block: chunk data in segments, the series in an index, and what the block says of itself.
+#![tactic(auto)]
+
+mod block_writer;
+mod build_refusal;
+mod builder;
+mod counts;
+mod finishing;
+mod segment_place;
+mod segments;
+mod written_block;
+mod written_meta;
+
+pub use block_writer::BlockWriter;
+pub use build_refusal::BuildRefusal;
+pub use builder::build;
+pub use segment_place::SegmentPlace;
+pub use written_block::{BlobList, WrittenBlock};

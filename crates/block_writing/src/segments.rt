@@ -1,0 +1,89 @@
+//! Segments with chunks, of which the last one may still grow.
+ghost use Rattle.std.specs.Prelude.{◌≡◌, ◌↔◌, ◌+◌, ◌-◌, ◌<◌, ◌≤◌, [], ◌∷◌, ◌++◌, ℕ, List, map, length, vec_len, IfOk, OnOk, OnErr, Err};
+ghost use Rattle.chunk_files.specs.Chunk.{header, frame_text};
+ghost use Rattle.chunk_files.specs.Layout.{greatest, header_size};
+ghost use Rattle.block_writing.specs.declared.segment_place.SegmentPlace.{SegmentPlace as Place};
+ghost use Rattle.block_writing.specs.Segments.{AreRuns, AreSegments, segment_text, places_from};
+
+use crate::SegmentPlace;
+use chunk_files::{SegmentRefusal, SegmentWriter};
+use list_core::NoMemory;
+
+/// How many segments a block may have. So many hold more than 2^44 bytes, for which there is no memory.
+const MOST: usize = 999_999;
+
+/// Appends a chunk to the last segment, and gives where it begins in it.
+fn append_to_last(segments: &mut Vec<SegmentWriter>, bytes: &[u8]) -> Result<u64, SegmentRefusal>
+    requires { 0 < vec_len segments.old }
+    ensures ok { (front : List (List ℕ)) (last : List ℕ) → segments.old.items ≡ front ++ last ∷ []
+        → IfOk result (λ offset. (offset ≡ length last)
+        × (segments.new.items ≡ front ++ (last ++ frame_text bytes.now) ∷ [])) }
+    ensures full { (front : List (List ℕ)) (last : List ℕ) → segments.old.items ≡ front ++ last ∷ []
+        → (result ≡ Err SegmentRefusal.Full)
+        ↔ (greatest < length last + length (frame_text bytes.now)) }
+    ensures err { OnErr result (segments.new.items ≡ segments.old.items) }
+    ensures low { IfOk result (λ offset. offset ≤ greatest) }
+    ensures as_many { vec_len segments.new ≡ vec_len segments.old }
+{
+    match segments.last_mut() {
+        Some(last) => last.append(bytes),
+        None => Err(SegmentRefusal::Full),
+    }
+}
+
+/// Begins a segment with a chunk.
+fn begin_segment(segments: &mut Vec<SegmentWriter>, bytes: &[u8]) -> Result<SegmentPlace, NoMemory>
+    requires few { vec_len segments.old ≤ 999_999 }
+    requires fits { header_size + length (frame_text bytes.now) ≤ greatest }
+    ensures ok { IfOk result (λ place.
+        (place ≡ record { segment = length segments.old.items; offset = header_size })
+        × (segments.new.items ≡ segments.old.items ++ (header ++ frame_text bytes.now) ∷ [])) }
+    ensures err { OnErr result (segments.new.items ≡ segments.old.items) }
+    ensures few { vec_len segments.new ≤ 999_999 }
+    ensures number { IfOk result (λ place. place.segment < 999_999) }
+{
+    let number = segments.len();
+    if number == MOST {
+        return Err(NoMemory);
+    }
+    let mut writer = SegmentWriter::new(*segments.allocator())?;
+    let offset = match writer.append(bytes) {
+        Ok(offset) => offset,
+        Err(SegmentRefusal::NoMemory) => return Err(NoMemory),
+        Err(SegmentRefusal::Full) => unreachable!(),
+    };
+    segments.push(writer)?;
+    Ok(SegmentPlace {
+        segment: number as u32,
+        offset: offset as u32,
+    })
+}
+
+/// Appends a chunk: to the last segment, and where that cannot hold it, to the next one.
+pub(crate) fn append_chunk(
+    segments: &mut Vec<SegmentWriter>,
+    bytes: &[u8],
+) -> Result<SegmentPlace, NoMemory>
+    requires few { vec_len segments.old ≤ 999_999 }
+    requires fits { header_size + length (frame_text bytes.now) ≤ greatest }
+    ensures ok { (contents : List (List ℕ)) (places : List Place)
+        → AreSegments contents places segments.old.items
+        → IfOk result (λ place. AreSegments (contents ++ bytes.now ∷ []) (places ++ place ∷ [])
+        segments.new.items) }
+    ensures err { OnErr result (segments.new.items ≡ segments.old.items) }
+    ensures few { vec_len segments.new ≤ 999_999 }
+    ensures number { IfOk result (λ place. place.segment < 999_999) }
+{
+    let count = segments.len();
+    if count == 0 {
+        return begin_segment(segments, bytes);
+    }
+    match append_to_last(segments, bytes) {
+        Ok(offset) => Ok(SegmentPlace {
+            segment: (count - 1) as u32,
+            offset: offset as u32,
+        }),
+        Err(SegmentRefusal::NoMemory) => Err(NoMemory),
+        Err(SegmentRefusal::Full) => begin_segment(segments, bytes),
+    }
+}
