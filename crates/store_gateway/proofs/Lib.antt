@@ -2,3 +2,5 @@ pub mod Steps
 pub mod Taken
 pub mod Meeting
 pub mod Sources
+pub mod CallLaws
+mod OldAgrees
