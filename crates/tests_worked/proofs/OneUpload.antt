@@ -8,7 +8,7 @@ use Rattle.block_files.specs.Built.{segment_text, segments_of, segment_objects, 
 use Rattle.world_core.specs.declared.entry.Entry.{Entry}
 use Rattle.world_core.specs.declared.op.Op.TheVariants as op
 use Rattle.world_core.specs.declared.reply.Reply.TheVariants as reply
-use Rattle.world_core.specs.Plans.{Runs, after_get, ends}
+use Rattle.world_core.specs.Plans.{Runs, after_get, ends as comes_to}
 use Rattle.shipper.specs.Uploads.{putting, upload}
 use Rattle.shipper.specs.declared.upload_end.UploadEnd.TheVariants.{Already, Fault}
 use Rattle.shipper.specs.declared.upload_end.UploadEnd.{UploadEnd}
@@ -140,5 +140,5 @@ pub second_is_put : (look e : Entry) (more : List Entry) → look.reply ≡ repl
 second_is_put look e more is uploads = (
   uploads.segment,
   second_is_segment e more uploads.objects uploads.end uploads.segment uploads.index uploads.meta uploads.are (length uploads.objects)
-      (subst (λ r. Runs (after_get r (λ bytes. ends Already) (putting (length uploads.objects) uploads.objects) (ends (Fault look.seq))) (e ∷ more) uploads.end) is uploads.run.1),
+      (subst (λ r. Runs (after_get r (λ bytes. comes_to Already) (putting (length uploads.objects) uploads.objects) (comes_to (Fault look.seq))) (e ∷ more) uploads.end) is uploads.run.1),
 )

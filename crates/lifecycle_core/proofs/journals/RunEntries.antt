@@ -10,12 +10,12 @@ use Rattle.world_core.specs.declared.entry.Entry.{Entry}
 use Rattle.world_core.specs.declared.op.Op.{Op}
 use Rattle.world_core.specs.declared.op.Op.TheVariants as op
 use Rattle.world_core.specs.declared.reply.Reply.TheVariants as reply
-use Rattle.world_core.specs.Plans.{Runs}
+use Rattle.world_core.specs.Plans.{Runs, ends}
 use Rattle.world_core.proofs.PlanLaws.{AsksFor, EachAfter, asked_are}
 use Rattle.world_core.proofs.PlanWords.{gets_ask, puts_ask}
 use Rattle.shipper.specs.Uploads.{putting, upload}
 use Rattle.shipper.specs.declared.upload_end.UploadEnd.{UploadEnd}
-use Rattle.shipper.specs.declared.upload_end.UploadEnd.TheVariants.{Fault}
+use Rattle.shipper.specs.declared.upload_end.UploadEnd.TheVariants.{Already, Fault}
 use Rattle.lifecycle_core.proofs.journals.Positions.{stands_in}
 
 -- ---- entries
@@ -139,7 +139,7 @@ module _ (ulid : ℕ) (segment index meta : List ℕ) where
 
   asks_own : AsksFor Orderly [] (upload ulid own_objects)
   asks_own =
-      gets_ask Orderly [] Fault (key.Meta ulid) _ (λ e. putting 3 own_objects)
+      gets_ask Orderly [] Fault (key.Meta ulid) (λ e bytes. ends Already) (λ e. putting 3 own_objects)
       (λ e is. plain [] e (op.Get (key.Meta ulid)) is (λ k same. cc (same)) (λ u b same. cc (same))) (λ e bytes is same. tt) (λ e is same. asks_segment 3 (e ∷ []))
 
   -- an upload of a segment, an index and a meta puts them in this order

@@ -13,12 +13,12 @@ use Rattle.block_keys.specs.declared.object.Object.{Object}
 use Rattle.world_core.specs.declared.entry.Entry.{Entry}
 use Rattle.world_core.specs.declared.op.Op.TheVariants as op
 use Rattle.world_core.specs.declared.op.Op.{Op}
-use Rattle.world_core.specs.Plans.{Runs}
+use Rattle.world_core.specs.Plans.{Runs, ends as comes_to}
 use Rattle.world_core.proofs.PlanLaws.{AsksFor, asked_are, each_op}
 use Rattle.world_core.proofs.PlanWords.{gets_ask, puts_ask}
 use Rattle.shipper.specs.Uploads.{putting, upload}
 use Rattle.shipper.specs.declared.upload_end.UploadEnd.{UploadEnd}
-use Rattle.shipper.specs.declared.upload_end.UploadEnd.TheVariants.{Fault}
+use Rattle.shipper.specs.declared.upload_end.UploadEnd.TheVariants.{Already, Fault}
 use Rattle.store_gateway.specs.SeriesRuns.{Query as Question}
 use Rattle.script_core.specs.Workers.{workers_of}
 use Rattle.script_core.specs.declared.block.Block.{Block}
@@ -60,7 +60,7 @@ asks_some all total (o ∷ os) some made =
 
 asks_own : (ulid : ℕ) (objects : List Object) → AsksFor (λ before. PutsOne objects) [] (upload ulid objects)
 asks_own ulid objects =
-    gets_ask (λ before. PutsOne objects) [] Fault (key.Meta ulid) _ (λ e. putting (length objects) objects) (λ k bytes is. absurd (cc (is)))
+    gets_ask (λ before. PutsOne objects) [] Fault (key.Meta ulid) (λ e bytes. comes_to Already) (λ e. putting (length objects) objects) (λ k bytes is. absurd (cc (is)))
     (λ e bytes is same. tt) (λ e is same. asks_some objects (length objects) objects (λ x among. among) (e ∷ []))
 
 -- an upload puts its objects alone

@@ -15,7 +15,7 @@ use Rattle.world_core.specs.declared.entry.Entry.{Entry}
 use Rattle.world_core.specs.declared.op.Op.TheVariants as op
 use Rattle.world_core.specs.declared.reply.Reply.{Reply}
 use Rattle.world_core.specs.declared.reply.Reply.TheVariants as reply
-use Rattle.world_core.specs.Plans.{Runs}
+use Rattle.world_core.specs.Plans.{Runs, ends as comes_to}
 use Rattle.world_core.proofs.PlanLaws.{EndsAre, end_is, nothing_given}
 use Rattle.world_core.proofs.PlanWords.{gets_are, puts_are}
 use Rattle.shipper.specs.Uploads.{putting, upload}
@@ -82,7 +82,7 @@ putting_shows total (object ∷ objects) made =
 
 ends_show : (ulid : ℕ) (objects : List Object) → EndsAre (λ e. Unit {0}) UploadShows [] (upload ulid objects)
 ends_show ulid objects =
-    gets_are (λ e. Unit {0}) UploadShows [] shipped.Fault (key.Meta ulid) _ (λ e. putting (length objects) objects) (λ e bytes is given found number same. absurd (cc (same)))
+    gets_are (λ e. Unit {0}) UploadShows [] shipped.Fault (key.Meta ulid) (λ e bytes. comes_to shipped.Already) (λ e. putting (length objects) objects) (λ e bytes is given found number same. absurd (cc (same)))
     (λ e is given absent. putting_shows (length objects) objects (e ∷ [])) (λ e is given failed. fault_shows [] e failed)
 
 pub upload_shows : (ulid : ℕ) (objects : List Object) (entries : List Entry) (end : Option UploadEnd) → Runs (upload ulid objects) entries end → (number : ℕ) → end ≡ Some (shipped.Fault number) → ShowsFault entries number
