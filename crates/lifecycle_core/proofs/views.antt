@@ -1,5 +1,4 @@
 -- That a view is true of the script, finds each settled upload, and is there when a query asks for it.
-pub mod Walk
 pub mod Metas
 pub mod Pages
 pub mod Puts

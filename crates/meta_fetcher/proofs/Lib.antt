@@ -1,4 +1,7 @@
 mod Listed
+pub mod SyncLaws
+pub mod Ascending
+mod Begin
 mod Steps
 mod Pages
 mod Metas

@@ -1,8 +1,8 @@
 -- Names of a page, the ULIDs among them, and the last one.
-use Rattle.std.proofs.Common.{◌≡◌, ℕ, ◌≤◌, ◌<◌, ◌+◌, ◌-◌, zero, suc, Bool, true, false, List, [], ◌∷◌, ◌++◌, length, get_or, refl, sym, ◌∙◌, ap, arith, Option, Some, None, Result, Ok, Err, length-append, append_assoc, append-nil, take}
+use Rattle.std.proofs.Common.{◌≡◌, ℕ, ◌≤◌, ◌<◌, ◌+◌, ◌-◌, suc, List, [], ◌∷◌, ◌++◌, length, get_or, refl, sym, ◌∙◌, ap, arith, Option, Some, None, Result, Ok, Err, append_assoc, append-nil, take}
 use Rattle.std.specs.Prelude.{IfOk}
 use Rattle.list_core.specs.declared.memory.NoMemory.{NoMemory}
-use Rattle.std.specs.List.{filter_map, last_or, cons_option}
+use Rattle.std.specs.List.{last_or, cons_option}
 use Rattle.std.specs.Result.{result_ok}
 use Rattle.std.proofs.lemmas.List.Elements.{filter_map-append}
 use Rattle.std.proofs.lemmas.List.{take_more}

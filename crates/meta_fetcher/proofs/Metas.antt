@@ -1,55 +1,107 @@
 -- What the reads of a block lead to.
-use Rattle.std.proofs.Common.{◌≡◌, ℕ, Bool, List, [], ◌∷◌, ◌++◌, refl, sym, ◌∙◌, ap, subst, inr, Option, Some, None, Result, Ok, Err}
-use Rattle.std.specs.Prelude.{MatchOption, map, option_map}
+use Rattle.std.proofs.Common.{◌≡◌, ℕ, Bool, List, [], ◌∷◌, ◌++◌, refl, sym, ◌∙◌, ap, subst, Option, Some, None, Result}
+use Rattle.std.specs.Prelude.{map}
 use Rattle.std.proofs.lemmas.List.{map-append}
-use Rattle.list_core.specs.declared.memory.NoMemory.{NoMemory}
 use Rattle.block_meta.specs.MetaFields.{MetaFields, fields_of}
-use Rattle.block_meta.specs.declared.meta.Meta.{Meta}
-use Rattle.moment_core.specs.declared.moment.Moment.{Moment}
+use Rattle.world_core.specs.Operations.{entry_of}
+use Rattle.world_core.specs.Plans.{Plan, ends, after_get}
+use Rattle.world_core.specs.declared.op.Op.{Op}
 use Rattle.world_core.specs.declared.reply.Reply.{Reply}
 use Rattle.world_core.specs.declared.reply.Reply.TheVariants as reply
+use Rattle.world_core.specs.declared.seen.Seen.{Seen}
 use Rattle.world_core.specs.declared.entry.Entry.{Entry}
 use Rattle.world_core.specs.declared.act.Act.{Act}
+use Rattle.list_core.specs.declared.memory.NoMemory.{NoMemory}
 use Rattle.sync_filters.specs.declared.found.Found.{Found}
 use Rattle.meta_fetcher.specs.Sightings.{Sighting, sighting_of, block_meta}
-use Rattle.meta_fetcher.specs.Syncs.{Onward, Reads}
-use Rattle.meta_fetcher.specs.SyncStates.{views, sightings_of, after_at, Leads}
-use Rattle.meta_fetcher.specs.declared.stage.Stage.{Stage}
+use Rattle.meta_fetcher.specs.Syncs.{Synced, Course, fault, damaged, if_meta, reads_meta, reading}
+use Rattle.meta_fetcher.specs.SyncStates.{Onward, Goes, Leads, sightings_of, blocks_left, goes_after}
+use Rattle.meta_fetcher.specs.declared.rules.SyncRules.{SyncRules}
 use Rattle.meta_fetcher.specs.declared.stage.Stage.TheVariants.{Marking, Reading}
 use Rattle.meta_fetcher.specs.declared.sync.Sync.{Sync}
 use Rattle.meta_fetcher.specs.declared.sync_end.SyncEnd.{SyncEnd}
 use Rattle.meta_fetcher.specs.declared.sync_end.SyncEnd.TheVariants.{Damaged, Fault}
-use Rattle.meta_fetcher.proofs.Pages.{leads_as}
+use Rattle.meta_fetcher.proofs.Steps.{ended, leads_as}
 
--- a call that goes on as may follow the reply that came
-pub leads_by_reply : (stage : Stage) (s : Sync) (seq : ℕ) (moment : Moment) (came given : Reply) (r : Result (Act SyncEnd) NoMemory) (new : Sync) → given ≡ came
-    → Leads (after_at stage s seq moment came) r new → Leads (after_at stage s seq moment given) r new
-leads_by_reply stage s seq moment came given r new is leads = subst (λ p. Leads (after_at stage s seq moment p) r new) (sym is) leads
+module _ (rules : SyncRules) (course : Option Course) (found : List ℕ → Plan Synced) (absent : Plan Synced) (seq : ℕ) (given : Reply) where
+  -- what follows a get that failed
+  pub get_failed : (landed : Bool) → given ≡ reply.Failed landed → Goes rules course (after_get given found absent (ends (fault seq))) [] (Some (Fault seq))
+  get_failed landed is = subst (λ r. Goes rules course (after_get r found absent (ends (fault seq))) [] (Some (Fault seq))) (sym is) (ended rules course (fault seq) (Fault seq) refl)
 
-match_some : {X : Type 0} (o : Option X) (x : X) (P : Type 0) (Q : X → Type 0) → o ≡ Some x → Q x → MatchOption o P Q
-match_some None x P Q is q = absurd (cc)
-match_some (Some y) x P Q is q = subst Q (let same : x ≡ y = cc in same) q
+  -- one that found nothing
+  pub get_absent : (entries : List Entry) (end : Option SyncEnd) → given ≡ reply.Absent → Goes rules course absent entries end → Goes rules course (after_get given found absent (ends (fault seq))) entries end
+  get_absent entries end is run = subst (λ r. Goes rules course (after_get r found absent (ends (fault seq))) entries end) (sym is) run
+
+  -- one that found bytes
+  pub get_found : (bytes : List ℕ) (entries : List Entry) (end : Option SyncEnd) → given ≡ reply.Found bytes → Goes rules course (found bytes) entries end → Goes rules course (after_get given found absent (ends (fault seq))) entries end
+  get_found bytes entries end is run = subst (λ r. Goes rules course (after_get r found absent (ends (fault seq))) entries end) (sym is) run
+
+-- what was found is no meta of the block
+pub no_meta : (rules : SyncRules) (course : Option Course) (seq : ℕ) (o : Option MetaFields) (next : MetaFields → Plan Synced) → o ≡ None → Goes rules course (if_meta seq o next) [] (Some (Damaged seq))
+no_meta rules course seq o next is = subst (λ m. Goes rules course (if_meta seq m next) [] (Some (Damaged seq))) (sym is) (ended rules course (damaged seq) (Damaged seq) refl)
 
 -- a block was found
-pub leads_found : (s : Sync) (ulid seq : ℕ) (moment : Moment) (bytes : List ℕ) (meta : Option MetaFields) (block : Found) (found : List Found) (r : Result (Act SyncEnd) NoMemory) (new : Sync)
-    → meta ≡ block_meta ulid bytes → meta ≡ Some (fields_of block.meta)
-    → sighting_of block ≡ record { ulid = ulid; mark = None; mark_read = s.last; meta = fields_of block.meta; meta_read = moment }
-    → found ≡ s.found.items ++ block ∷ []
-    → Leads (λ entries end. Reads (views s moment entries) (map sighting_of found) s.waiting.items entries end) r new
-    → Leads (after_at (Reading ulid) s seq moment (reply.Found bytes)) r new
-leads_found s ulid seq moment bytes meta block found r new reads is sighted pushed leads =
-    leads_as _ (after_at (Reading ulid) s seq moment (reply.Found bytes)) r new
-    (λ entries end run. match_some (block_meta ulid bytes) (fields_of block.meta) _ _ (sym reads ∙ is)
-    (subst (λ l. Reads (views s moment entries) l s.waiting.items entries end)
-    (ap (map sighting_of) pushed ∙ map-append sighting_of s.found.items (block ∷ []) ∙ ap (λ b. map sighting_of s.found.items ++ b ∷ []) sighted) run)) leads
+pub meta_found : (rules : SyncRules) (course : Option Course) (seq : ℕ) (o : Option MetaFields) (block : Found) (sighting : MetaFields → Sighting) (before after : List Found) (ulids : List ℕ) (entries : List Entry) (end : Option SyncEnd)
+    → o ≡ Some (fields_of block.meta) → sighting_of block ≡ sighting (fields_of block.meta) → after ≡ before ++ block ∷ []
+    → Goes rules course (reading (map sighting_of after) ulids) entries end
+    → Goes rules course (if_meta seq o (λ meta. reading (map sighting_of before ++ sighting meta ∷ []) ulids)) entries end
+meta_found rules course seq o block sighting before after ulids entries end is sighted pushed run =
+    subst (λ m. Goes rules course (if_meta seq m (λ meta. reading (map sighting_of before ++ sighting meta ∷ []) ulids)) entries end) (sym is)
+    (subst (λ l. Goes rules course (reading l ulids) entries end)
+    (ap (map sighting_of) pushed ∙ map-append sighting_of before (block ∷ []) ∙ ap (λ b. map sighting_of before ++ b ∷ []) sighted) run)
 
+-- ---- the look for a mark
+
+module _ (s : Sync) (ulid seat : ℕ) (o : Op) (seen : Seen) where
+  abbrev Now : Option Course
+  Now = Some (record { first = s.first; begin = s.begin; end = seen.moment })
+
+  abbrev Marked : List ℕ → Plan Synced
+  Marked bytes = ends (damaged seen.seq)
+
+  -- the read of the meta, and then of the blocks that wait
+  abbrev Unmarked : Plan Synced
+  Unmarked = reads_meta ulid (λ meta meta_read. reading (sightings_of s ++ record { ulid = ulid; mark = None; mark_read = seen.moment; meta = meta; meta_read = meta_read } ∷ []) s.waiting.items) (blocks_left s)
+
+  pub mark_found : (bytes : List ℕ) → seen.reply ≡ reply.Found bytes → goes_after (Marking ulid) s (entry_of seat o seen) [] (Some (Damaged seen.seq))
+  mark_found bytes is = λ names more listed. get_found s.rules Now Marked Unmarked seen.seq seen.reply bytes [] (Some (Damaged seen.seq)) is (ended s.rules Now (damaged seen.seq) (Damaged seen.seq) refl)
+
+  pub mark_failed : (landed : Bool) → seen.reply ≡ reply.Failed landed → goes_after (Marking ulid) s (entry_of seat o seen) [] (Some (Fault seen.seq))
+  mark_failed landed is = λ names more listed. get_failed s.rules Now Marked Unmarked seen.seq seen.reply landed is
+
+  pub mark_absent : (r : Result (Act SyncEnd) NoMemory) (new : Sync) → seen.reply ≡ reply.Absent → Leads (Goes s.rules Now Unmarked) r new → Leads (goes_after (Marking ulid) s (entry_of seat o seen)) r new
+  mark_absent r new is leads =
+      leads_as (Goes s.rules Now Unmarked) (goes_after (Marking ulid) s (entry_of seat o seen)) r new
+      (λ entries end run. λ names more listed. get_absent s.rules Now Marked Unmarked seen.seq seen.reply entries end is run) leads
+
+-- ---- the read of a meta
+
+module _ (s : Sync) (ulid seat : ℕ) (o : Op) (seen : Seen) where
+  abbrev Then : Option Course
+  Then = Some (record { first = s.first; begin = s.begin; end = seen.moment })
+
+  abbrev sighting : MetaFields → Sighting
+  sighting meta = record { ulid = ulid; mark = None; mark_read = s.last; meta = meta; meta_read = seen.moment }
+
+  abbrev Told : List ℕ → Plan Synced
+  Told bytes = if_meta seen.seq (block_meta ulid bytes) (λ meta. reading (sightings_of s ++ sighting meta ∷ []) s.waiting.items)
+
+  pub meta_failed : (landed : Bool) → seen.reply ≡ reply.Failed landed → goes_after (Reading ulid) s (entry_of seat o seen) [] (Some (Fault seen.seq))
+  meta_failed landed is = λ names more listed. get_failed s.rules Then Told (blocks_left s) seen.seq seen.reply landed is
+
+  pub meta_refused : (bytes : List ℕ) → seen.reply ≡ reply.Found bytes → block_meta ulid bytes ≡ None → goes_after (Reading ulid) s (entry_of seat o seen) [] (Some (Damaged seen.seq))
+  meta_refused bytes is none = λ names more listed.
+      get_found s.rules Then Told (blocks_left s) seen.seq seen.reply bytes [] (Some (Damaged seen.seq)) is
+      (no_meta s.rules Then seen.seq (block_meta ulid bytes) (λ meta. reading (sightings_of s ++ sighting meta ∷ []) s.waiting.items) none)
+
+  pub meta_seen : (bytes : List ℕ) (block : Found) (found : List Found) (r : Result (Act SyncEnd) NoMemory) (new : Sync) → seen.reply ≡ reply.Found bytes → block_meta ulid bytes ≡ Some (fields_of block.meta)
+      → sighting_of block ≡ sighting (fields_of block.meta) → found ≡ s.found.items ++ block ∷ []
+      → Leads (Goes s.rules Then (reading (map sighting_of found) s.waiting.items)) r new → Leads (goes_after (Reading ulid) s (entry_of seat o seen)) r new
+  meta_seen bytes block found r new is read sighted pushed leads =
+      leads_as (Goes s.rules Then (reading (map sighting_of found) s.waiting.items)) (goes_after (Reading ulid) s (entry_of seat o seen)) r new
+      (λ entries end run. λ names more listed. get_found s.rules Then Told (blocks_left s) seen.seq seen.reply bytes entries end is
+      (meta_found s.rules Then seen.seq (block_meta ulid bytes) block sighting s.found.items found s.waiting.items entries end read sighted pushed run)) leads
+
+-- a call whose result and whose state are those
 pub leads_joined : (follows : Onward) (r came : Result (Act SyncEnd) NoMemory) (new left : Sync) → r ≡ came → new ≡ left → Leads follows came left → Leads follows r new
 leads_joined follows r came new left result self leads = subst (λ p. Leads follows p new) (sym result) (subst (λ s. Leads follows came s) (sym self) leads)
-
--- a mark was found
-pub mark_found : (s : Sync) (ulid seq : ℕ) (moment : Moment) (bytes : List ℕ) (given : Reply) → given ≡ reply.Found bytes → after_at (Marking ulid) s seq moment given [] (Some (Damaged seq))
-mark_found s ulid seq moment bytes given is = subst (λ p. after_at (Marking ulid) s seq moment p [] (Some (Damaged seq))) (sym is) (refl, inr refl)
-
--- the look for a mark failed
-pub mark_failed : (s : Sync) (ulid seq : ℕ) (moment : Moment) (landed : Bool) (given : Reply) → given ≡ reply.Failed landed → after_at (Marking ulid) s seq moment given [] (Some (Fault seq))
-mark_failed s ulid seq moment landed given is = subst (λ p. after_at (Marking ulid) s seq moment p [] (Some (Fault seq))) (sym is) (refl, inr refl)

@@ -1,92 +1,162 @@
 -- What a page of names leads to.
-use Rattle.std.proofs.Common.{◌≡◌, ℕ, ◌+◌, ◌-◌, ◌*◌, ◌^◌, ◌<◌, ◌≤◌, Bool, true, false, List, [], ◌∷◌, ◌++◌, length, refl, sym, ◌∙◌, ap, subst, inr, Option, Some, None, Result, Ok, Err, min, arith, length-append}
-use Rattle.std.specs.Prelude.{MatchBool, nat_lt, nat_le, map}
+use Rattle.std.proofs.Common.{◌≡◌, ℕ, zero, suc, ◌+◌, ◌-◌, ◌*◌, ◌^◌, ◌<◌, ◌≤◌, Bool, true, false, List, [], ◌++◌, length, refl, sym, ◌∙◌, ap, subst, Option, Some, None, Result, min, arith, length-append}
+use Rattle.std.specs.Prelude.{nat_lt, nat_le, map}
 use Rattle.std.proofs.lemmas.Bool.{lt-leb, le-leb}
 use Rattle.list_core.specs.declared.memory.NoMemory.{NoMemory}
-use Rattle.world_core.specs.Machines.{Falls}
-use Rattle.world_core.specs.Walks.{last_listed}
+use Rattle.world_core.specs.Operations.{entry_of}
+use Rattle.world_core.specs.Plans.{Plan, choose}
+use Rattle.world_core.specs.Walks.{after_page, ascends, last_listed}
 use Rattle.world_core.specs.declared.op.Op.{Op}
+use Rattle.world_core.specs.declared.reply.Reply.{Reply}
+use Rattle.world_core.specs.declared.reply.Reply.TheVariants as reply
+use Rattle.world_core.specs.declared.seen.Seen.{Seen}
 use Rattle.world_core.specs.declared.entry.Entry.{Entry}
 use Rattle.world_core.specs.declared.act.Act.{Act}
-use Rattle.world_core.specs.declared.act.Act.TheVariants.{Do, Done}
 use Rattle.sync_filters.specs.declared.found.Found.{Found}
-use Rattle.meta_fetcher.specs.Sightings.{Sighting, sighting_of}
-use Rattle.meta_fetcher.specs.Syncs.{Onward, Reads, SyncsFrom, ulids_in}
-use Rattle.meta_fetcher.specs.SyncStates.{views, sightings_of, after_names, AreListed, Waits, Leads}
+use Rattle.meta_fetcher.specs.Sightings.{sighting_of}
+use Rattle.meta_fetcher.specs.Syncs.{Synced, Course, ulids_in, walk_ends, reading, listing}
+use Rattle.meta_fetcher.specs.SyncStates.{AreListed, IsAfter, Goes, Onward, course_of, sightings_of, goes_by_names, goes_after, Leads}
+use Rattle.meta_fetcher.specs.declared.rules.SyncRules.{SyncRules}
+use Rattle.meta_fetcher.specs.declared.stage.Stage.TheVariants.{Opening, Listing}
 use Rattle.meta_fetcher.specs.declared.sync.Sync.{Sync}
 use Rattle.meta_fetcher.specs.declared.sync_end.SyncEnd.{SyncEnd}
-use Rattle.meta_fetcher.specs.declared.sync_end.SyncEnd.TheVariants.{TooMany}
+use Rattle.meta_fetcher.specs.declared.sync_end.SyncEnd.TheVariants.{TooMany, Damaged, Fault}
 use Rattle.meta_fetcher.proofs.Listed.{ulids_in-append, length-ulids_in, last_listed-append}
+use Rattle.meta_fetcher.proofs.Steps.{ended, leads_as}
 
-match_true : (b : Bool) (X Y : Type 0) → b ≡ true → X → MatchBool b X Y
-match_true true X Y is x = x
-match_true false X Y is x = absurd (cc)
+-- a run of the one that a test chooses
+goes_if : (rules : SyncRules) (course : Option Course) (b : Bool) (one other : Plan Synced) (entries : List Entry) (end : Option SyncEnd) → b ≡ true → Goes rules course one entries end
+    → Goes rules course (choose b one other) entries end
+goes_if rules course b one other entries end is run = subst (λ c. Goes rules course (choose c one other) entries end) (sym is) run
 
-match_false : (b : Bool) (X Y : Type 0) → b ≡ false → Y → MatchBool b X Y
-match_false true X Y is y = absurd (cc)
-match_false false X Y is y = y
+goes_else : (rules : SyncRules) (course : Option Course) (b : Bool) (one other : Plan Synced) (entries : List Entry) (end : Option SyncEnd) → b ≡ false → Goes rules course other entries end
+    → Goes rules course (choose b one other) entries end
+goes_else rules course b one other entries end is run = subst (λ c. Goes rules course (choose c one other) entries end) (sym is) run
 
--- a call that goes on as may follow goes on as may follow where that is less
-pub leads_as : (from to : Onward) (r : Result (Act SyncEnd) NoMemory) (new : Sync) → ((entries : List Entry) (end : Option SyncEnd) → from entries end → to entries end)
-    → Leads from r new → Leads to r new
-leads_as from to (Ok (Do op)) new onward leads = record { lawful = leads.lawful; asks = leads.asks; onward = λ entries end run. onward entries end (leads.onward entries end run) }
-leads_as from to (Ok (Done end)) new onward leads = onward [] (Some end) leads
-leads_as from to (Err e) new onward leads = tt
+-- what follows a page that came at that entry
+abbrev After : SyncRules → List (List ℕ) → ℕ → ℕ → Reply → Plan Synced
+After rules names more seq r = after_page walk_ends rules.page_limit names seq r (λ all. reading [] (ulids_in all)) (listing rules more)
 
-pub falls_more : (less more : ℕ) (r : Result (Act SyncEnd) NoMemory) (new : ℕ) → less ≤ more → Falls less r new → Falls more r new
-falls_more less more (Ok (Do op)) new le falls = omega arith
-falls_more less more (Ok (Done end)) new le falls = tt
-falls_more less more (Err e) new le falls = tt
+-- ---- the page that came
 
-all_wait : (s : Sync) (more names : List (List ℕ)) (waiting : List ℕ) → waiting ≡ s.waiting.items ++ ulids_in more → ulids_in names ≡ s.waiting.items
-    → waiting ≡ ulids_in (names ++ more)
-all_wait s more names waiting added listed = added ∙ ap (λ l. l ++ ulids_in more) (sym listed) ∙ sym (ulids_in-append names more)
+-- what follows its names follows the page
+pub page_follows : (rules : SyncRules) (course : Option Course) (names page : List (List ℕ)) (more seq : ℕ) (given : Reply) (entries : List Entry) (end : Option SyncEnd) → given ≡ reply.Names page
+    → Goes rules course (After rules names more seq (reply.Names page)) entries end → Goes rules course (After rules names more seq given) entries end
+page_follows rules course names page more seq given entries end is run = subst (λ r. Goes rules course (After rules names more seq r) entries end) (sym is) run
+
+-- its names do not ascend
+pub page_damaged : (rules : SyncRules) (course : Option Course) (last : Option (List ℕ)) (names page : List (List ℕ)) (more seq : ℕ) (given : Reply) → given ≡ reply.Names page → last_listed names ≡ last
+    → ascends last page ≡ false → Goes rules course (After rules names more seq given) [] (Some (Damaged seq))
+page_damaged rules course last names page more seq given is listed down =
+    page_follows rules course names page more seq given [] (Some (Damaged seq)) is
+    (goes_else rules course (ascends (last_listed names) page) _ _ [] (Some (Damaged seq)) (ap (λ l. ascends l page) listed ∙ down) (ended rules course _ (Damaged seq) refl))
+
+-- the call failed
+pub page_failed : (rules : SyncRules) (course : Option Course) (names : List (List ℕ)) (more seq : ℕ) (landed : Bool) (given : Reply) → given ≡ reply.Failed landed
+    → Goes rules course (After rules names more seq given) [] (Some (Fault seq))
+page_failed rules course names more seq landed given is =
+    subst (λ r. Goes rules course (After rules names more seq r) [] (Some (Fault seq))) (sym is) (ended rules course _ (Fault seq) refl)
+
+module _ (s : Sync) (seat : ℕ) (o : Op) (seen : Seen) where
+  abbrev Begun : Option Course
+  Begun = Some (record { first = seen.seq; begin = seen.moment; end = seen.moment })
+
+  abbrev Now : Option Course
+  Now = Some (record { first = s.first; begin = s.begin; end = seen.moment })
+
+  -- what follows its names, where they ascend
+  abbrev ByNames : Option Course → List (List ℕ) → Onward
+  ByNames course page entries end = (last : Option (List ℕ)) (names : List (List ℕ)) (more seq : ℕ) → IsAfter last s names more → ascends last page ≡ true
+      → Goes s.rules course (After s.rules names more seq (reply.Names page)) entries end
+
+  pub first_page : (page : List (List ℕ)) (r : Result (Act SyncEnd) NoMemory) (new : Sync) → seen.reply ≡ reply.Names page → ascends None page ≡ true
+      → Leads (ByNames Begun page) r new → Leads (goes_after Opening s (entry_of seat o seen)) r new
+  first_page page r new is up leads =
+      leads_as (ByNames Begun page) (goes_after Opening s (entry_of seat o seen)) r new
+      (λ entries end run. λ names more listed. page_follows s.rules Begun names page more seen.seq seen.reply entries end is (run None names more seen.seq listed up)) leads
+
+  pub next_page : (page : List (List ℕ)) (r : Result (Act SyncEnd) NoMemory) (new : Sync) → seen.reply ≡ reply.Names page → ascends (Some s.after) page ≡ true
+      → Leads (ByNames Now page) r new → Leads (goes_after Listing s (entry_of seat o seen)) r new
+  next_page page r new is up leads =
+      leads_as (ByNames Now page) (goes_after Listing s (entry_of seat o seen)) r new
+      (λ entries end run. λ names more listed. page_follows s.rules Now names page more seen.seq seen.reply entries end is (run (Some s.after) names more seen.seq listed up)) leads
+
+  pub first_damaged : (page : List (List ℕ)) → seen.reply ≡ reply.Names page → ascends None page ≡ false → goes_after Opening s (entry_of seat o seen) [] (Some (Damaged seen.seq))
+  first_damaged page is down = λ names more listed. page_damaged s.rules Begun None names page more seen.seq seen.reply is listed.ends down
+
+  pub next_damaged : (page : List (List ℕ)) → seen.reply ≡ reply.Names page → ascends (Some s.after) page ≡ false → goes_after Listing s (entry_of seat o seen) [] (Some (Damaged seen.seq))
+  next_damaged page is down = λ names more listed. page_damaged s.rules Now (Some s.after) names page more seen.seq seen.reply is listed.ends down
+
+  pub first_failed : (landed : Bool) → seen.reply ≡ reply.Failed landed → goes_after Opening s (entry_of seat o seen) [] (Some (Fault seen.seq))
+  first_failed landed is = λ names more listed. page_failed s.rules Begun names more seen.seq landed seen.reply is
+
+  pub next_failed : (landed : Bool) → seen.reply ≡ reply.Failed landed → goes_after Listing s (entry_of seat o seen) [] (Some (Fault seen.seq))
+  next_failed landed is = λ names more listed. page_failed s.rules Now names more seen.seq landed seen.reply is
+
+-- ---- its names
+
+all_wait : (before : List ℕ) (page names : List (List ℕ)) (waiting : List ℕ) → waiting ≡ before ++ ulids_in page → ulids_in names ≡ before → waiting ≡ ulids_in (names ++ page)
+all_wait before page names waiting added listed = added ∙ ap (λ l. l ++ ulids_in page) (sym listed) ∙ sym (ulids_in-append names page)
 
 -- the last page
-pub last_page : (s : Sync) (more : List (List ℕ)) (waiting : List ℕ) (entries : List Entry) (end : Option SyncEnd)
-    → waiting ≡ s.waiting.items ++ ulids_in more → nat_lt (length more) s.rules.page_limit ≡ true
-    → Reads (views s s.last entries) (sightings_of s) waiting entries end → after_names s more entries end
-last_page s more waiting entries end added short run = λ names listed.
-    match_true (nat_lt (length more) s.rules.page_limit) _ _ short
-    (subst (λ l. Reads (views s s.last entries) [] l entries end) (all_wait s more names waiting added listed.blocks)
-    (subst (λ (f : List Found). Reads (views s s.last entries) (map sighting_of f) waiting entries end) listed.unread run))
+pub last_page : (s : Sync) (page : List (List ℕ)) (waiting : List ℕ) (entries : List Entry) (end : Option SyncEnd)
+    → waiting ≡ s.waiting.items ++ ulids_in page → nat_lt (length page) s.rules.page_limit ≡ true
+    → Goes s.rules (Some (course_of s)) (reading (sightings_of s) waiting) entries end → goes_by_names s page entries end
+last_page s page waiting entries end added short run = λ last names more seq listed up.
+    let course : Option Course = Some (course_of s) in
+    goes_if s.rules course (ascends (last_listed names) page) _ _ entries end (ap (λ l. ascends l page) listed.ends ∙ up)
+    (goes_if s.rules course (nat_lt (length page) s.rules.page_limit) _ _ entries end short
+    (subst (λ l. Goes s.rules course (reading [] l) entries end) (all_wait s.waiting.items page names waiting added listed.blocks)
+    (subst (λ (f : List Found). Goes s.rules course (reading (map sighting_of f) waiting) entries end) listed.unread run)))
+
+more_pages : (s : Sync) (course : Option Course) (all : List (List ℕ)) (last : List ℕ) (waiting : List ℕ) (count more : ℕ) (entries : List Entry) (end : Option SyncEnd)
+    → length all ≡ count → count < 1_000_000 → last_listed all ≡ Some last → ulids_in all ≡ waiting → s.found.items ≡ [] → 1_000_000 ≤ length all + more
+    → ((names : List (List ℕ)) (left : ℕ) → AreListed count waiting s.found.items (Some last) names left → Goes s.rules course (listing s.rules (suc left) names) entries end)
+    → Goes s.rules course (listing s.rules more all) entries end
+more_pages s course all last waiting count zero entries end many few is blocks unread enough run = absurd (omega (arith, many, few, enough))
+more_pages s course all last waiting count (suc left) entries end many few is blocks unread enough run =
+    run all left (record { many = many; ends = is; blocks = blocks; unread = unread; enough = enough })
 
 -- any other page
-pub full_page : (s : Sync) (more : List (List ℕ)) (waiting : List ℕ) (count : ℕ) (last : List ℕ) (entries : List Entry) (end : Option SyncEnd)
-    → waiting ≡ s.waiting.items ++ ulids_in more → nat_lt (length more) s.rules.page_limit ≡ false → count ≡ s.listed + length more → count < 1_000_000 → last_listed more ≡ Some last
-    → ((names : List (List ℕ)) → last_listed names ≡ Some last → AreListed count waiting s.found.items names → SyncsFrom s.rules s.first s.begin s.last names entries end)
-    → after_names s more entries end
-full_page s more waiting count last entries end added full counted few is run = λ names listed.
-    let many : length (names ++ more) ≡ count = length-append names more ∙ ap (λ n. n + length more) listed.many ∙ sym counted in
-    match_false (nat_lt (length more) s.rules.page_limit) _ _ full
-    (match_false (nat_le 1_000_000 (length (names ++ more))) _ _ (lt-leb 1_000_000 (length (names ++ more)) (omega (arith, many, few)))
-    (run (names ++ more) (last_listed-append names more last is)
-    (record { many = many; blocks = sym (all_wait s more names waiting added listed.blocks); unread = listed.unread })))
-
--- the reads are fewer than what was left before the last page
-pub last_page_falls : (s : Sync) (more : List (List ℕ)) (waiting : List ℕ) → waiting ≡ s.waiting.items ++ ulids_in more → length more < 2 ^ 32
-    → 2 * length waiting + 1 ≤ 2 * length s.waiting.items + 3 * (1_000_000 - s.listed) + 2 ^ 34
-last_page_falls s more waiting added short =
-    let all : length waiting ≡ length s.waiting.items + length (ulids_in more) = ap length added ∙ length-append s.waiting.items (ulids_in more) in
-    let few : length (ulids_in more) ≤ length more = length-ulids_in more in
-    omega (arith, all, few, short)
-
-pub full_page_falls : (s : Sync) (more : List (List ℕ)) (waiting : List ℕ) (count : ℕ) → waiting ≡ s.waiting.items ++ ulids_in more → 0 < length more
-    → count ≡ s.listed + length more → count < 1_000_000
-    → 2 * length waiting + 3 * (1_000_000 - count) + 2 ^ 34 < 2 * length s.waiting.items + 3 * (1_000_000 - s.listed) + 2 ^ 34
-full_page_falls s more waiting count added some counted fewer =
-    let all : length waiting ≡ length s.waiting.items + length (ulids_in more) = ap length added ∙ length-append s.waiting.items (ulids_in more) in
-    let few : length (ulids_in more) ≤ length more = length-ulids_in more in
-    omega (arith, all, few, counted, some, fewer)
-
--- a sum that did not come to the greatest number is the sum
-pub sum_of : (count listed n : ℕ) → count ≡ min (listed + n) 18446744073709551615 → count < 1_000_000 → count ≡ listed + n
-sum_of count listed n is few = omega (arith, is, few)
+pub full_page : (s : Sync) (page : List (List ℕ)) (waiting : List ℕ) (count : ℕ) (last : List ℕ) (entries : List Entry) (end : Option SyncEnd)
+    → waiting ≡ s.waiting.items ++ ulids_in page → nat_lt (length page) s.rules.page_limit ≡ false → 0 < length page → count ≡ s.listed + length page → count < 1_000_000 → last_listed page ≡ Some last
+    → ((names : List (List ℕ)) (left : ℕ) → AreListed count waiting s.found.items (Some last) names left → Goes s.rules (Some (course_of s)) (listing s.rules (suc left) names) entries end)
+    → goes_by_names s page entries end
+full_page s page waiting count last entries end added full some counted few is run = λ before names more seq listed up.
+    let course : Option Course = Some (course_of s) in
+    let both : length (names ++ page) ≡ length names + length page = length-append names page in
+    let many : length (names ++ page) ≡ count = both ∙ ap (λ n. n + length page) listed.many ∙ sym counted in
+    goes_if s.rules course (ascends (last_listed names) page) _ _ entries end (ap (λ l. ascends l page) listed.ends ∙ up)
+    (goes_else s.rules course (nat_lt (length page) s.rules.page_limit) _ _ entries end full
+    (goes_else s.rules course (nat_le 1_000_000 (length (names ++ page))) _ _ entries end (lt-leb 1_000_000 (length (names ++ page)) (omega (arith, many, few)))
+    (more_pages s course (names ++ page) last waiting count more entries end many few (last_listed-append names page last is)
+    (sym (all_wait s.waiting.items page names waiting added listed.blocks)) listed.unread (let enough = listed.enough in omega (arith, enough, both, some)) run)))
 
 -- too many names were listed
-pub too_many : (s : Sync) (more : List (List ℕ)) (count : ℕ) → nat_lt (length more) s.rules.page_limit ≡ false → count ≡ min (s.listed + length more) 18446744073709551615 → 1_000_000 ≤ count
-    → after_names s more [] (Some TooMany)
-too_many s more count full counted many = λ names listed.
-    let all : length (names ++ more) ≡ s.listed + length more = length-append names more ∙ ap (λ n. n + length more) listed.many in
-    match_false (nat_lt (length more) s.rules.page_limit) _ _ full
-    (match_true (nat_le 1_000_000 (length (names ++ more))) _ _ (le-leb 1_000_000 (length (names ++ more)) (omega (arith, all, counted, many))) (refl, inr refl))
+pub too_many_names : (s : Sync) (page : List (List ℕ)) (count : ℕ) → nat_lt (length page) s.rules.page_limit ≡ false → count ≡ min (s.listed + length page) 18446744073709551615 → 1_000_000 ≤ count
+    → goes_by_names s page [] (Some TooMany)
+too_many_names s page count full counted many = λ last names more seq listed up.
+    let course : Option Course = Some (course_of s) in
+    let all : length (names ++ page) ≡ s.listed + length page = length-append names page ∙ ap (λ n. n + length page) listed.many in
+    goes_if s.rules course (ascends (last_listed names) page) _ _ [] (Some TooMany) (ap (λ l. ascends l page) listed.ends ∙ up)
+    (goes_else s.rules course (nat_lt (length page) s.rules.page_limit) _ _ [] (Some TooMany) full
+    (goes_if s.rules course (nat_le 1_000_000 (length (names ++ page))) _ _ [] (Some TooMany) (le-leb 1_000_000 (length (names ++ page)) (omega (arith, all, counted, many)))
+    (ended s.rules course _ TooMany refl)))
+
+-- ---- the measure
+
+-- the reads are fewer than what was left before the last page
+pub last_page_falls : (s : Sync) (page : List (List ℕ)) (waiting : List ℕ) → waiting ≡ s.waiting.items ++ ulids_in page → length page < 2 ^ 32
+    → 2 * length waiting + 1 ≤ 2 * length s.waiting.items + 3 * (1_000_000 - s.listed) + 2 ^ 34
+last_page_falls s page waiting added short =
+    let all : length waiting ≡ length s.waiting.items + length (ulids_in page) = ap length added ∙ length-append s.waiting.items (ulids_in page) in
+    let few : length (ulids_in page) ≤ length page = length-ulids_in page in
+    omega (arith, all, few, short)
+
+pub full_page_falls : (s : Sync) (page : List (List ℕ)) (waiting : List ℕ) (count : ℕ) → waiting ≡ s.waiting.items ++ ulids_in page → 0 < length page
+    → count ≡ s.listed + length page → count < 1_000_000
+    → 2 * length waiting + 3 * (1_000_000 - count) + 2 ^ 34 < 2 * length s.waiting.items + 3 * (1_000_000 - s.listed) + 2 ^ 34
+full_page_falls s page waiting count added some counted fewer =
+    let all : length waiting ≡ length s.waiting.items + length (ulids_in page) = ap length added ∙ length-append s.waiting.items (ulids_in page) in
+    let few : length (ulids_in page) ≤ length page = length-ulids_in page in
+    omega (arith, all, few, counted, some, fewer)

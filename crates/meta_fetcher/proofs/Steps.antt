@@ -1,145 +1,110 @@
--- A sync's steps are those of its run.
-use Rattle.std.proofs.Common.{◌≡◌, ℕ, Bool, true, false, List, [], ◌∷◌, ◌++◌, length, refl, sym, ◌∙◌, ap, subst, inl, inr, Option, Some, None, unwrap_or, Result, Ok, Err}
-use Rattle.world_core.proofs.Replies.{answer_of, kind_of}
-use Rattle.std.specs.Prelude.{IsSomeAnd, MatchBool, MatchOption, nat_lt, nat_le}
+-- A sync's steps are those of its plan.
+use Rattle.std.proofs.Common.{◌≡◌, ◌≤◌, arith, ℕ, List, [], ◌∷◌, ◌++◌, refl, sym, ◌∙◌, ap, subst, inr, Option, Some, None, unwrap_or, Result, Ok, Err}
 use Rattle.list_core.specs.declared.memory.NoMemory.{NoMemory}
-use Rattle.block_keys.specs.declared.key.Key.{Key}
-use Rattle.block_keys.specs.declared.key.Key.TheVariants as key
-use Rattle.block_meta.specs.MetaFields.{MetaFields}
-use Rattle.moment_core.specs.declared.moment.Moment.{Moment}
-use Rattle.world_core.specs.Machines.{Asks, GoesOn}
-use Rattle.world_core.specs.Operations.{IsAnswer, IsReplyTo, IsLawful, entry_of}
-use Rattle.world_core.specs.Walks.{AfterPage, EndsWith, ascends, last_listed}
+use Rattle.world_core.specs.Machines.{Asks, GoesOn, Falls}
+use Rattle.world_core.specs.Operations.{IsLawful, entry_of}
+use Rattle.world_core.specs.Plans.{Plan, ends, never, asks, finds, noting, asked}
 use Rattle.world_core.specs.declared.op.Op.{Op}
 use Rattle.world_core.specs.declared.op.Op.TheVariants as op
-use Rattle.world_core.specs.declared.reply.Reply.{Reply}
-use Rattle.world_core.specs.declared.reply.Reply.TheVariants as reply
 use Rattle.world_core.specs.declared.seen.Seen.{Seen}
 use Rattle.world_core.specs.declared.entry.Entry.{Entry}
 use Rattle.world_core.specs.declared.act.Act.{Act}
 use Rattle.world_core.specs.declared.act.Act.TheVariants.{Do, Done}
-use Rattle.meta_fetcher.specs.Sightings.{Sighting, block_meta, IsView}
-use Rattle.meta_fetcher.specs.Syncs.{Onward, walk_ends, AfterMark, AfterMeta, Reads, EndsInView, ulids_in}
-use Rattle.meta_fetcher.specs.SyncStates.{asked_at, asked_sync, may_at, may_sync, after_at, Waits, Leads, HasListed}
+use Rattle.world_core.proofs.PlanLaws.{breaks_off}
+use Rattle.meta_fetcher.specs.Sightings.{Sighting, IsView}
+use Rattle.meta_fetcher.specs.Syncs.{Synced, sighted, Course, with_entry, reading, IsEnd}
+use Rattle.meta_fetcher.specs.SyncStates.{asked_at, asked_sync, course_at, left_at, HasListed, Onward, Ascend, Goes, may_sync, after_entry, goes_after, Leads}
+use Rattle.meta_fetcher.specs.declared.rules.SyncRules.{SyncRules}
 use Rattle.meta_fetcher.specs.declared.stage.Stage.{Stage}
 use Rattle.meta_fetcher.specs.declared.stage.Stage.TheVariants.{Fresh, Opening, Listing, Marking, Reading}
 use Rattle.meta_fetcher.specs.declared.sync.Sync.{Sync}
-use Rattle.meta_fetcher.specs.declared.view.View.{View}
 use Rattle.meta_fetcher.specs.declared.sync_end.SyncEnd.{SyncEnd}
+use Rattle.meta_fetcher.specs.declared.sync_end.SyncEnd.TheVariants as ends_in
+use Rattle.meta_fetcher.specs.declared.view.View.{View}
 
--- a sync may be stopped before any operation
-pub stops : (stage : Stage) (s : Sync) → may_at stage s [] None
-stops Fresh s = λ names last listed. refl
-stops Opening s = λ names last listed. refl
-stops Listing s = λ names last listed. refl
-stops (Marking ulid) s = refl
-stops (Reading ulid) s = refl
+-- ---- runs of what is left
 
-reads_stop : (IsSuch : List Sighting → View → Type 0) (sightings : List Sighting) (ulids : List ℕ) → Reads (λ f. EndsInView (IsSuch f)) sightings ulids [] None
-reads_stop IsSuch sightings [] = (refl, inl refl)
-reads_stop IsSuch sightings (u ∷ us) = refl
+-- a sync may be stopped wherever it is
+pub stops : (rules : SyncRules) (course : Option Course) (plan : Plan Synced) → Goes rules course plan [] None
+stops rules course plan = breaks_off (noting with_entry course plan)
 
-match_page : (a b c : Bool) (X Y Z W : Type 0) → X → Y → Z → W → MatchBool a (MatchBool b X (MatchBool c Y Z)) W
-match_page true true c X Y Z W x y z w = x
-match_page true false true X Y Z W x y z w = y
-match_page true false false X Y Z W x y z w = z
-match_page false b c X Y Z W x y z w = w
+-- the end that the plan has come to
+pub ended : (rules : SyncRules) (course : Option Course) (told : Synced) (end : SyncEnd) → IsEnd rules (told, course) end → Goes rules course (ends told) [] (Some end)
+ended rules course told end is = ((told, course), (refl, inr refl), λ ascend. is)
 
-page_stops : (limit : ℕ) (listed : List (List ℕ)) (seq : ℕ) (after : List ℕ) (r : Reply) (next more : List (List ℕ) → Type 0) → IsReplyTo (op.RootPage after limit) r
-    → ((names : List (List ℕ)) → next names) → ((names : List (List ℕ)) → more names) → AfterPage walk_ends limit listed seq r next more [] None
-page_stops limit listed seq after (reply.Names names) next more kind n m =
-    match_page (ascends (last_listed listed) names) (nat_lt (length names) limit) (nat_le 1_000_000 (length (listed ++ names))) _ _ _ _ (n (listed ++ names)) (refl, inl refl) (m (listed ++ names)) (refl, inl refl)
-page_stops limit listed seq after (reply.Failed landed) next more kind n m = (refl, inl refl)
-page_stops limit listed seq after reply.Clocked next more kind n m = absurd kind
-page_stops limit listed seq after reply.Stored next more kind n m = absurd kind
-page_stops limit listed seq after (reply.Found b) next more kind n m = absurd kind
-page_stops limit listed seq after reply.Absent next more kind n m = absurd kind
-page_stops limit listed seq after reply.Deleted next more kind n m = absurd kind
+-- the entry that a plan asks for, and what follows it
+on_entry : (rules : SyncRules) (course : Option Course) (plan : Plan Synced) (e : Entry) (entries : List Entry) (end : Option SyncEnd) → asked plan ≡ Some e.op
+    → Goes rules (with_entry course e) (after_entry plan e) entries end → Goes rules course plan (e ∷ entries) end
+on_entry rules course (ends told) e entries end is run = absurd (cc (is))
+on_entry rules course never e entries end is run = absurd (cc (is))
+on_entry rules course (finds Such one next) e entries end is run = absurd (cc (is))
+on_entry rules course (asks o next) e entries None is run = (cc (is), run)
+on_entry rules course (asks o next) e entries (Some end) is (told, run, gives) = (told, (cc (is), run), gives)
 
-mark_stops : (k : Key) (seq : ℕ) (r : Reply) (onward : Onward) → IsReplyTo (op.Get k) r → onward [] None → AfterMark seq r onward [] None
-mark_stops k seq reply.Absent onward kind o = o
-mark_stops k seq (reply.Found b) onward kind o = (refl, inl refl)
-mark_stops k seq (reply.Failed landed) onward kind o = (refl, inl refl)
-mark_stops k seq reply.Clocked onward kind o = absurd kind
-mark_stops k seq reply.Stored onward kind o = absurd kind
-mark_stops k seq reply.Deleted onward kind o = absurd kind
-mark_stops k seq (reply.Names ns) onward kind o = absurd kind
+-- what is left begins with the operation that is waited for
+asked_left : (stage : Stage) (s : Sync) (names : List (List ℕ)) (more : ℕ) (o : Op) → HasListed stage s names more → asked_at stage s ≡ Some o → asked (left_at stage s names more) ≡ Some o
+asked_left Fresh s names more o listed is = absurd (cc (is))
+asked_left Opening s names more o listed is = ap (λ l. Some (op.RootPage (unwrap_or l []) s.rules.page_limit)) listed.ends ∙ is
+asked_left Listing s names more o listed is = ap (λ l. Some (op.RootPage (unwrap_or l []) s.rules.page_limit)) listed.ends ∙ is
+asked_left (Marking ulid) s names more o listed is = is
+asked_left (Reading ulid) s names more o listed is = is
 
-match_meta : (meta : Option MetaFields) (X : Type 0) (Y : MetaFields → Type 0) → X → ((m : MetaFields) → Y m) → MatchOption meta X Y
-match_meta None X Y x y = x
-match_meta (Some m) X Y x y = y m
+-- ---- calls
 
-meta_stops : (k : Key) (ulid : ℕ) (mark_read meta_read : Moment) (seq : ℕ) (r : Reply) (next : Sighting → Onward) (onward : Onward) → IsReplyTo (op.Get k) r
-    → ((block : Sighting) → next block [] None) → onward [] None → AfterMeta ulid mark_read meta_read seq r next onward [] None
-meta_stops k ulid mark_read meta_read seq reply.Absent next onward kind n o = o
-meta_stops k ulid mark_read meta_read seq (reply.Found b) next onward kind n o =
-    match_meta (block_meta ulid b) _ _ (refl, inl refl) (λ m. n _)
-meta_stops k ulid mark_read meta_read seq (reply.Failed landed) next onward kind n o = (refl, inl refl)
-meta_stops k ulid mark_read meta_read seq reply.Clocked next onward kind n o = absurd kind
-meta_stops k ulid mark_read meta_read seq reply.Stored next onward kind n o = absurd kind
-meta_stops k ulid mark_read meta_read seq reply.Deleted next onward kind n o = absurd kind
-meta_stops k ulid mark_read meta_read seq (reply.Names ns) next onward kind n o = absurd kind
-
--- and as soon as its operation was answered
-pub stops_after : (stage : Stage) (s : Sync) (o : Op) (seen : Seen) → asked_at stage s ≡ Some o → IsReplyTo o seen.reply
-    → after_at stage s seen.seq seen.moment seen.reply [] None
-stops_after Fresh s o seen asks kind = absurd (cc)
-stops_after Opening s o seen asks kind =
-    λ names last listed. page_stops s.rules.page_limit names seen.seq [] seen.reply _ _ (kind_of (op.RootPage [] s.rules.page_limit) o seen.reply asks kind)
-    (λ l. reads_stop (IsView s.rules seen.seq seen.moment seen.moment) [] (ulids_in l)) (λ l. refl)
-stops_after Listing s o seen asks kind =
-    λ names last listed. page_stops s.rules.page_limit names seen.seq s.after seen.reply _ _ (kind_of (op.RootPage s.after s.rules.page_limit) o seen.reply asks kind)
-    (λ l. reads_stop (IsView s.rules s.first s.begin seen.moment) [] (ulids_in l)) (λ l. refl)
-stops_after (Marking ulid) s o seen asks kind = mark_stops (key.Mark ulid) seen.seq seen.reply _ (kind_of (op.Get (key.Mark ulid)) o seen.reply asks kind) refl
-stops_after (Reading ulid) s o seen asks kind =
-    meta_stops (key.Meta ulid) ulid s.last seen.moment seen.seq seen.reply _ _ (kind_of (op.Get (key.Meta ulid)) o seen.reply asks kind)
-    (λ block. reads_stop (IsView s.rules s.first s.begin seen.moment) _ s.waiting.items) (reads_stop (IsView s.rules s.first s.begin seen.moment) _ s.waiting.items)
-
--- the entry that a sync waits for, and what follows it
-pub entry_at : (stage : Stage) (s : Sync) (seat : ℕ) (o : Op) (seen : Seen) (entries : List Entry) (end : Option SyncEnd) → asked_at stage s ≡ Some o
-    → after_at stage s seen.seq seen.moment seen.reply entries end → may_at stage s (entry_of seat o seen ∷ entries) end
-entry_at Fresh s seat o seen entries end asks after = absurd after
-entry_at Opening s seat o seen entries end asks after =
-    λ names last listed. (let cursor : unwrap_or (last_listed names) [] ≡ [] = ap (λ l. unwrap_or l []) last in cc, after names last listed)
-entry_at Listing s seat o seen entries end asks after =
-    λ names last listed. (let cursor : unwrap_or (last_listed names) [] ≡ s.after = ap (λ l. unwrap_or l []) last in cc, after names last listed)
-entry_at (Marking ulid) s seat o seen entries end asks after = (cc, after)
-entry_at (Reading ulid) s seat o seen entries end asks after = (cc, after)
+entry_at : (s : Sync) (seat : ℕ) (o : Op) (seen : Seen) (entries : List Entry) (end : Option SyncEnd) → asked_sync s ≡ Some o
+    → goes_after s.stage s (entry_of seat o seen) entries end → may_sync s (entry_of seat o seen ∷ entries) end s
+entry_at s seat o seen entries end waits after = λ names more listed.
+    on_entry s.rules (course_at s.stage s) (left_at s.stage s names more) (entry_of seat o seen) entries end (asked_left s.stage s names more o listed waits) (after names more listed)
 
 asks_as : (s new : Sync) (made : List Entry) (o : Op) → IsLawful o → asked_sync new ≡ Some o
-    → ((entries : List Entry) (end : Option SyncEnd) (last : Sync) → may_sync new entries end last → may_sync s (made ++ entries) end last)
+    → ((entries : List Entry) (end : Option SyncEnd) → may_sync new entries end new → may_sync s (made ++ entries) end s)
     → Asks may_sync asked_sync s made o new
-asks_as s new made o lawful asks onward = record {
+asks_as s new made o lawful waits onward = record {
   lawful = lawful;
-  waits = asks;
-  onward = onward;
-  stopped = stops new.stage new;
-  answered = λ seat seen answer. entry_at new.stage new seat o seen [] None asks (stops_after new.stage new o seen asks answer.kind);
+  waits = waits;
+  onward = λ entries end last run. onward entries end run;
+  stopped = λ names more listed. stops new.rules (course_at new.stage new) (left_at new.stage new names more);
+  answered = λ seat seen answer. entry_at new seat o seen [] None waits
+      (λ names more listed. stops new.rules (with_entry (course_at new.stage new) (entry_of seat o seen)) (after_entry (left_at new.stage new names more) (entry_of seat o seen)));
 }
 
--- a call that goes on as may follow the answer goes on as the machine may
-pub goes_on : (s new : Sync) (seat : ℕ) (o : Op) (seen : Seen) (r : Result (Act SyncEnd) NoMemory) → IsSomeAnd (asked_sync s) (λ p. IsAnswer p seen)
-    → asked_sync s ≡ Some o → Leads (after_at s.stage s seen.seq seen.moment seen.reply) r new
-    → GoesOn may_sync asked_sync s (entry_of seat o seen ∷ []) r new
-goes_on s new seat o seen (Ok (Do p)) answer asks leads =
-    asks_as s new (entry_of seat o seen ∷ []) p leads.lawful leads.asks
-    (λ entries end last run. entry_at s.stage s seat o seen entries end asks (leads.onward entries end run))
-goes_on s new seat o seen (Ok (Done end)) answer asks leads = entry_at s.stage s seat o seen [] (Some end) asks leads
-goes_on s new seat o seen (Err e) answer asks leads =
-    entry_at s.stage s seat o seen [] None asks (stops_after s.stage s o seen asks (answer_of seen (asked_sync s) o answer asks).kind)
+goes_on : (s new : Sync) (seat : ℕ) (o : Op) (seen : Seen) (r : Result (Act SyncEnd) NoMemory) → asked_sync s ≡ Some o
+    → Leads (goes_after s.stage s (entry_of seat o seen)) r new → GoesOn may_sync asked_sync s (entry_of seat o seen ∷ []) r new
+goes_on s new seat o seen (Ok (Do p)) waits leads =
+    asks_as s new (entry_of seat o seen ∷ []) p leads.lawful leads.asks (λ entries end run. entry_at s seat o seen entries end waits (leads.onward entries end run))
+goes_on s new seat o seen (Ok (Done end)) waits leads = entry_at s seat o seen [] (Some end) waits leads
+goes_on s new seat o seen (Err e) waits leads = entry_at s seat o seen [] None waits
+    (λ names more listed. stops s.rules (with_entry (course_at s.stage s) (entry_of seat o seen)) (after_entry (left_at s.stage s names more) (entry_of seat o seen)))
+
+-- a step of a sync in a stage goes on
+pub steps_on : (stage : Stage) (s new : Sync) (seat : ℕ) (o : Op) (seen : Seen) (r : Result (Act SyncEnd) NoMemory) → s.stage ≡ stage → asked_sync s ≡ Some o
+    → Leads (goes_after stage s (entry_of seat o seen)) r new → GoesOn may_sync asked_sync s (entry_of seat o seen ∷ []) r new
+steps_on stage s new seat o seen r is waits leads = goes_on s new seat o seen r waits (subst (λ at. Leads (goes_after at s (entry_of seat o seen)) r new) (sym is) leads)
+
+abbrev MayAt : Stage → Sync → Onward
+MayAt stage s entries end = (names : List (List ℕ)) (more : ℕ) → HasListed stage s names more → Goes s.rules (course_at stage s) (left_at stage s names more) entries end
 
 -- the first page is asked for
 pub opens : (s new : Sync) (o : Op) → s.stage ≡ Fresh → IsLawful o → asked_sync new ≡ Some o
-    → ((entries : List Entry) (end : Option SyncEnd) → may_at new.stage new entries end → may_at Fresh s entries end) → Asks may_sync asked_sync s [] o new
-opens s new o fresh lawful asks onward =
-    asks_as s new [] o lawful asks (λ entries end last run. subst (λ stage. may_at stage s entries end) (sym fresh) (onward entries end run))
+    → ((entries : List Entry) (end : Option SyncEnd) → may_sync new entries end new → MayAt Fresh s entries end) → Asks may_sync asked_sync s [] o new
+opens s new o fresh lawful waits onward =
+    asks_as s new [] o lawful waits (λ entries end run. subst (λ stage. MayAt stage s entries end) (sym fresh) (onward entries end run))
 
--- or there is no memory
-pub not_opened : (s new : Sync) → may_sync s [] None new
-not_opened s new = stops s.stage s
+-- a call that goes on as may follow goes on as may follow where that is less
+pub leads_as : (from to : Onward) (r : Result (Act SyncEnd) NoMemory) (new : Sync) → ((entries : List Entry) (end : Option SyncEnd) → from entries end → to entries end)
+    → Leads from r new → Leads to r new
+leads_as from to (Ok (Do p)) new onward leads = record { lawful = leads.lawful; asks = leads.asks; onward = λ entries end run. onward entries end (leads.onward entries end run) }
+leads_as from to (Ok (Done end)) new onward leads = onward [] (Some end) leads
+leads_as from to (Err e) new onward leads = tt
 
-pub steps_on : (stage : Stage) (s new : Sync) (seat : ℕ) (o : Op) (seen : Seen) (r : Result (Act SyncEnd) NoMemory) → s.stage ≡ stage → IsSomeAnd (asked_sync s) (λ p. IsAnswer p seen)
-    → asked_sync s ≡ Some o → Leads (after_at stage s seen.seq seen.moment seen.reply) r new
-    → GoesOn may_sync asked_sync s (entry_of seat o seen ∷ []) r new
-steps_on stage s new seat o seen r is answer asks leads =
-    goes_on s new seat o seen r answer asks (subst (λ at. Leads (after_at at s seen.seq seen.moment seen.reply) r new) (sym is) leads)
+pub falls_more : (less more : ℕ) (r : Result (Act SyncEnd) NoMemory) (new : ℕ) → less ≤ more → Falls less r new → Falls more r new
+falls_more less more (Ok (Do o)) new le falls = omega arith
+falls_more less more (Ok (Done end)) new le falls = tt
+falls_more less more (Err e) new le falls = tt
+
+-- no block waits, and the view is that of the sightings
+pub over : (rules : SyncRules) (course : Course) (sightings : List Sighting) (ulids : List ℕ) (view : View) → ulids ≡ []
+    → (Ascend (sighted sightings, Some course) → IsView rules course.first course.begin course.end sightings view) → Goes rules (Some course) (reading sightings ulids) [] (Some (ends_in.View view))
+over rules course sightings ulids view none is =
+    subst (λ l. Goes rules (Some course) (reading sightings l) [] (Some (ends_in.View view))) (sym none)
+    ((sighted sightings, Some course), (refl, inr refl), λ ascend. (view, refl, is ascend))

@@ -1,6 +1,7 @@
 -- What a sync reads of a block, and the view that it comes to.
 use Rattle.std.specs.Prelude.{◌≡◌, ℕ, ◌==◌, if◌then◌else◌, List, [], map, Option, Some, None, option_map, Result, Ok, Err}
 use Rattle.std.specs.List.{filter}
+use Rattle.std.specs.List.Sorted.{IsStrictlyIncreasing}
 use Rattle.moment_core.specs.declared.moment.Moment.{Moment}
 use Rattle.block_meta.specs.MetaFields.{MetaFields, MarkFields, fields_of, mark_fields_of}
 use Rattle.block_meta.specs.declared.refusal.MetaRefusal.{MetaRefusal}
@@ -44,5 +45,7 @@ pub record IsView (rules : SyncRules) (number : ℕ) (begun ended : Moment) (sig
   pub found : List Found
   pub sighted : map sighting_of found ≡ sightings
   pub kept : view.kept ≡ kept_by rules found
+  -- each ULID is greater than the one before it
+  pub ascend : IsStrictlyIncreasing (map (λ block. block.ulid) view.kept)
   -- no filter by sources yet
   pub covered : view.covered ≡ []

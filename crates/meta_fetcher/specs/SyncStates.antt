@@ -1,25 +1,26 @@
--- A sync as a machine: what it waits for, and what it may still do.
-use Rattle.std.specs.Prelude.{◌≡◌, ℕ, ◌+◌, ◌-◌, ◌*◌, ◌^◌, MatchBool, nat_lt, nat_le, List, [], ◌∷◌, ◌++◌, length, map, Option, Some, None, Result, Ok, Err}
+-- What is left of a sync in each of its states.
+use Rattle.std.specs.Prelude.{◌≡◌, ℕ, suc, ◌+◌, ◌-◌, ◌*◌, ◌^◌, ◌≤◌, true, List, [], ◌∷◌, ◌++◌, length, map, Option, Some, None, Result, Ok, Err}
+use Rattle.std.specs.List.Sorted.{IsStrictlyIncreasing}
 use Rattle.block_keys.specs.declared.key.Key.TheVariants as key
 use Rattle.list_core.specs.declared.memory.NoMemory.{NoMemory}
-use Rattle.moment_core.specs.declared.moment.Moment.{Moment}
 use Rattle.world_core.specs.Limits.{most_listed}
 use Rattle.world_core.specs.Operations.{IsLawful}
-use Rattle.world_core.specs.Walks.{AfterPage, EndsWith, last_listed}
+use Rattle.world_core.specs.Plans.{Plan, asks, never, noting, ComesTo}
+use Rattle.world_core.specs.Walks.{ascends, after_page, last_listed}
 use Rattle.world_core.specs.declared.op.Op.{Op}
 use Rattle.world_core.specs.declared.op.Op.TheVariants as op
-use Rattle.world_core.specs.declared.reply.Reply.{Reply}
+use Rattle.world_core.specs.declared.reply.Reply.TheVariants as reply
 use Rattle.world_core.specs.declared.entry.Entry.{Entry}
 use Rattle.world_core.specs.declared.act.Act.{Act}
 use Rattle.world_core.specs.declared.act.Act.TheVariants.{Do, Done}
 use Rattle.sync_filters.specs.declared.found.Found.{Found}
-use Rattle.meta_fetcher.specs.Sightings.{Sighting, sighting_of, IsView}
-use Rattle.meta_fetcher.specs.Syncs.{Onward, ulids_in, moment_after, walk_ends, Begins, AfterMark, MetaRead, AfterMeta, Reads, EndsInView, SyncsFrom}
+use Rattle.meta_fetcher.specs.Sightings.{Sighting, sighting_of}
+use Rattle.meta_fetcher.specs.Syncs.{Synced, sighted, fault, damaged, too_many, Course, with_entry, reads_meta, reading, ulids_in, walk_ends, listing, IsEnd}
+use Rattle.meta_fetcher.specs.declared.rules.SyncRules.{SyncRules}
 use Rattle.meta_fetcher.specs.declared.stage.Stage.{Stage}
 use Rattle.meta_fetcher.specs.declared.stage.Stage.TheVariants.{Fresh, Opening, Listing, Marking, Reading}
 use Rattle.meta_fetcher.specs.declared.sync.Sync.{Sync}
 use Rattle.meta_fetcher.specs.declared.sync_end.SyncEnd.{SyncEnd}
-use Rattle.meta_fetcher.specs.declared.sync_end.SyncEnd.TheVariants.{TooMany}
 
 -- it was not begun
 abbrev pub IsFresh : Sync → Type 0
@@ -36,100 +37,127 @@ asked_at (Reading ulid) sync = Some (op.Get (key.Meta ulid))
 abbrev pub asked_sync : Sync → Option Op
 asked_sync sync = asked_at sync.stage sync
 
--- these names were listed until now, so many, whose blocks wait, and no block was read
-pub record AreListed (count : ℕ) (waiting : List ℕ) (found : List Found) (names : List (List ℕ)) : Type 0 where
-  pub many : length names ≡ count
-  pub blocks : ulids_in names ≡ waiting
-  pub unread : found ≡ []
-
-abbrev pub HasListed : Sync → List (List ℕ) → Type 0
-HasListed sync names = AreListed sync.listed sync.waiting.items sync.found.items names
+-- ---- the plan that is left
 
 abbrev pub sightings_of : Sync → List Sighting
 sightings_of sync = map sighting_of sync.found.items
 
--- it ends in a view of these sightings, when these entries more were made
-abbrev pub views : Sync → Moment → List Entry → List Sighting → Onward
-views sync before made sightings = EndsInView (IsView sync.rules sync.first sync.begin (moment_after before made) sightings)
+-- when its entries were made
+abbrev pub course_of : Sync → Course
+course_of sync = record { first = sync.first; begin = sync.begin; end = sync.last }
+
+abbrev pub course_at : Stage → Sync → Option Course
+course_at Fresh sync = None
+course_at Opening sync = None
+course_at Listing sync = Some (course_of sync)
+course_at (Marking ulid) sync = Some (course_of sync)
+course_at (Reading ulid) sync = Some (course_of sync)
 
 -- the reads of the blocks that wait
-abbrev pub reads_on : Sync → Onward
-reads_on sync entries end = Reads (views sync sync.last entries) (sightings_of sync) sync.waiting.items entries end
+abbrev pub blocks_left : Sync → Plan Synced
+blocks_left sync = reading (sightings_of sync) sync.waiting.items
 
--- the read of a block's meta, whose mark was looked for at the last entry, and then of those that wait
-abbrev pub reads_meta : Sync → ℕ → Onward
-reads_meta sync ulid entries end =
-    MetaRead ulid sync.last (λ block. Reads (views sync sync.last entries) (sightings_of sync ++ block ∷ []) sync.waiting.items)
-    (Reads (views sync sync.last entries) (sightings_of sync) sync.waiting.items) entries end
+-- the read of a block's meta, whose mark was looked for at the last entry, and then of the blocks that wait
+abbrev pub meta_left : ℕ → Sync → Plan Synced
+meta_left ulid sync =
+    reads_meta ulid (λ meta meta_read.
+    reading (sightings_of sync ++ record { ulid = ulid; mark = None; mark_read = sync.last; meta = meta; meta_read = meta_read } ∷ []) sync.waiting.items)
+    (blocks_left sync)
 
--- the walk from its first page on
-abbrev pub walks : Sync → Onward
-walks sync entries end =
-    (names : List (List ℕ)) → last_listed names ≡ None → HasListed sync names
-    → Begins (λ first rest. SyncsFrom sync.rules first.seq first.moment first.moment names (first ∷ rest)) entries end
+-- what is left where these names were listed, and at most so many pages follow on the next one
+abbrev pub left_at : Stage → Sync → List (List ℕ) → ℕ → Plan Synced
+left_at Fresh sync names more = listing sync.rules (suc more) names
+left_at Opening sync names more = listing sync.rules (suc more) names
+left_at Listing sync names more = listing sync.rules (suc more) names
+left_at (Marking ulid) sync names more = reading (sightings_of sync) (ulid ∷ sync.waiting.items)
+left_at (Reading ulid) sync names more = meta_left ulid sync
 
--- what may still come
-abbrev pub may_at : Stage → Sync → Onward
-may_at Fresh sync entries end = walks sync entries end
-may_at Opening sync entries end = walks sync entries end
-may_at Listing sync entries end =
-    (names : List (List ℕ)) → last_listed names ≡ Some sync.after → HasListed sync names
-    → SyncsFrom sync.rules sync.first sync.begin sync.last names entries end
-may_at (Marking ulid) sync entries end =
-    Reads (views sync sync.last entries) (sightings_of sync) (ulid ∷ sync.waiting.items) entries end
-may_at (Reading ulid) sync entries end = reads_meta sync ulid entries end
+-- A sync keeps of the names that it listed how many there were, the last one, and the blocks among them, of which it read none
+-- until now. It does not count pages.
+pub record AreListed (count : ℕ) (waiting : List ℕ) (found : List Found) (last : Option (List ℕ)) (names : List (List ℕ)) (more : ℕ) : Type 0 where
+  pub many : length names ≡ count
+  pub ends : last_listed names ≡ last
+  pub blocks : ulids_in names ≡ waiting
+  pub unread : found ≡ []
+  -- each page lists a name at least, and so does the next one
+  pub enough : most_listed ≤ length names + suc more
 
+-- the last name that was listed is this one
+abbrev pub IsAfter : Option (List ℕ) → Sync → List (List ℕ) → ℕ → Type 0
+IsAfter last sync names more = AreListed sync.listed sync.waiting.items sync.found.items last names more
+
+abbrev pub HasListed : Stage → Sync → List (List ℕ) → ℕ → Type 0
+HasListed Fresh sync names more = IsAfter None sync names more
+HasListed Opening sync names more = IsAfter None sync names more
+HasListed Listing sync names more = IsAfter (Some sync.after) sync names more
+HasListed (Marking ulid) sync names more = Unit {0}
+HasListed (Reading ulid) sync names more = Unit {0}
+
+-- ---- what it may still do
+
+-- the sightings ascend by ULID, if it came to any
+abbrev pub Ascend : Synced × Option Course → Type 0
+Ascend (sighted sightings, course) = IsStrictlyIncreasing (map (λ sighting. sighting.ulid) sightings)
+Ascend (fault number, course) = Unit {0}
+Ascend (damaged number, course) = Unit {0}
+Ascend (too_many, course) = Unit {0}
+
+-- what may follow, by entries and an end
+abbrev pub Onward : Type 1
+Onward = List Entry → Option SyncEnd → Type 0
+
+-- A run of the plan, where the entries until now were made so. That its sightings ascend is known of the whole sync alone, and not
+-- of what is left of it; so an end is said of those that do.
+abbrev pub Goes : SyncRules → Option Course → Plan Synced → Onward
+Goes rules course plan = ComesTo (noting with_entry course plan) (λ told end. Ascend told → IsEnd rules told end)
+
+-- a run of what is left, whatever names were listed
 abbrev pub may_sync : Sync → List Entry → Option SyncEnd → Sync → Type 0
-may_sync sync entries end last = may_at sync.stage sync entries end
+may_sync sync entries end last =
+    (names : List (List ℕ)) (more : ℕ) → HasListed sync.stage sync names more
+    → Goes sync.rules (course_at sync.stage sync) (left_at sync.stage sync names more) entries end
 
--- at most so many operations are still asked for, and one more
-abbrev pub left_at : Stage → Sync → ℕ
-left_at Fresh sync = 2 * length sync.waiting.items + 3 * (most_listed - sync.listed) + 2 ^ 34 + 1
-left_at Opening sync = 2 * length sync.waiting.items + 3 * (most_listed - sync.listed) + 2 ^ 34
-left_at Listing sync = 2 * length sync.waiting.items + 3 * (most_listed - sync.listed) + 2 ^ 34
-left_at (Marking ulid) sync = 2 * length sync.waiting.items + 2
-left_at (Reading ulid) sync = 2 * length sync.waiting.items + 1
+-- ---- calls
 
-abbrev pub left_sync : Sync → ℕ
-left_sync sync = left_at sync.stage sync
+-- where a plan stands after an entry
+abbrev pub after_entry : Plan Synced → Entry → Plan Synced
+after_entry (asks op next) e = next e
+after_entry other e = never
 
--- What may follow the names of a page, which ascend, after those that were listed before. The sync's first entry is known.
-abbrev pub after_names : Sync → List (List ℕ) → Onward
-after_names sync more entries end =
-    (names : List (List ℕ)) → HasListed sync names
-    → MatchBool (nat_lt (length more) sync.rules.page_limit)
-    (Reads (views sync sync.last entries) [] (ulids_in (names ++ more)) entries end)
-    (MatchBool (nat_le most_listed (length (names ++ more))) (EndsWith TooMany entries end)
-    (SyncsFrom sync.rules sync.first sync.begin sync.last (names ++ more) entries end))
+-- a run of what is left after the entry that was waited for
+abbrev pub goes_after : Stage → Sync → Entry → Onward
+goes_after stage sync e entries end =
+    (names : List (List ℕ)) (more : ℕ) → HasListed stage sync names more
+    → Goes sync.rules (with_entry (course_at stage sync) e) (after_entry (left_at stage sync names more) e) entries end
 
--- what may follow the page after the name `before`, if there is one, where the first entry has that number and moment
-abbrev pub after_page : Sync → Option (List ℕ) → ℕ → Moment → ℕ → Moment → Reply → Onward
-after_page sync before first begin seq moment reply entries end =
-    (names : List (List ℕ)) → last_listed names ≡ before → HasListed sync names
-    → AfterPage walk_ends sync.rules.page_limit names seq reply
-    (λ listed. Reads (λ sightings. EndsInView (IsView sync.rules first begin (moment_after moment entries) sightings)) [] (ulids_in listed) entries end)
-    (λ listed. SyncsFrom sync.rules first begin moment listed entries end) entries end
+-- a run of what is left after a page of these names, which ascend
+abbrev pub goes_by_names : Sync → List (List ℕ) → Onward
+goes_by_names sync page entries end =
+    (last : Option (List ℕ)) (names : List (List ℕ)) (more seq : ℕ) → IsAfter last sync names more → ascends last page ≡ true
+    → Goes sync.rules (Some (course_of sync))
+    (after_page walk_ends sync.rules.page_limit names seq (reply.Names page) (λ all. reading [] (ulids_in all)) (listing sync.rules more)) entries end
 
--- what may follow the answer that is waited for
-abbrev pub after_at : Stage → Sync → ℕ → Moment → Reply → Onward
-after_at Fresh sync seq moment reply entries end = ⊥
-after_at Opening sync seq moment reply entries end = after_page sync None seq moment seq moment reply entries end
-after_at Listing sync seq moment reply entries end = after_page sync (Some sync.after) sync.first sync.begin seq moment reply entries end
-after_at (Marking ulid) sync seq moment reply entries end =
-    AfterMark seq reply (MetaRead ulid moment (λ block. Reads (views sync moment entries) (sightings_of sync ++ block ∷ []) sync.waiting.items)
-    (Reads (views sync moment entries) (sightings_of sync) sync.waiting.items)) entries end
-after_at (Reading ulid) sync seq moment reply entries end =
-    AfterMeta ulid sync.last moment seq reply (λ block. Reads (views sync moment entries) (sightings_of sync ++ block ∷ []) sync.waiting.items)
-    (Reads (views sync moment entries) (sightings_of sync) sync.waiting.items) entries end
-
--- A call has asked for an operation, and waits in the state `new`, from which what may come is what may follow.
+-- A call asks for an operation and waits in the state `new`. What it may do from there is what may follow.
 pub record Waits (follows : Onward) (op : Op) (new : Sync) : Type 0 where
   pub lawful : IsLawful op
   pub asks : asked_sync new ≡ Some op
-  pub onward : (entries : List Entry) (end : Option SyncEnd) → may_at new.stage new entries end → follows entries end
+  pub onward : (entries : List Entry) (end : Option SyncEnd) → may_sync new entries end new → follows entries end
 
 -- a call goes on as may follow
 abbrev pub Leads : Onward → Result (Act SyncEnd) NoMemory → Sync → Type 0
 Leads follows (Ok (Do op)) new = Waits follows op new
 Leads follows (Ok (Done end)) new = follows [] (Some end)
 Leads follows (Err none) new = Unit {0}
+
+-- ---- the measure
+
+-- at most so many operations are still asked for, and one more
+abbrev pub count_at : Stage → Sync → ℕ
+count_at Fresh sync = 2 * length sync.waiting.items + 3 * (most_listed - sync.listed) + 2 ^ 34 + 1
+count_at Opening sync = 2 * length sync.waiting.items + 3 * (most_listed - sync.listed) + 2 ^ 34
+count_at Listing sync = 2 * length sync.waiting.items + 3 * (most_listed - sync.listed) + 2 ^ 34
+count_at (Marking ulid) sync = 2 * length sync.waiting.items + 2
+count_at (Reading ulid) sync = 2 * length sync.waiting.items + 1
+
+abbrev pub count_of : Sync → ℕ
+count_of sync = count_at sync.stage sync

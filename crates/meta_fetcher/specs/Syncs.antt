@@ -1,16 +1,16 @@
 -- A sync: a walk over the names of the bucket's blocks, then of each block a read of its mark and after it one of its meta,
--- whatever the mark's read found. Its end is a view of the blocks that were found and pass the filters. A run that was
--- stopped has no end.
-use Rattle.std.specs.Prelude.{◌≡◌, ◌⊎◌, ℕ, List, [], ◌∷◌, ◌++◌, fold, Option, Some, None, MatchOption}
+-- whatever the mark's read found. It comes to a view of the blocks that were found and pass the filters.
+use Rattle.std.specs.Prelude.{◌≡◌, ℕ, List, [], ◌∷◌, ◌++◌, Option, Some, None}
 use Rattle.std.specs.List.{filter_map}
 use Rattle.std.specs.Result.{result_ok}
 use Rattle.ulid_core.specs.UlidText.{ulid_of}
 use Rattle.block_keys.specs.declared.key.Key.TheVariants as key
+use Rattle.block_meta.specs.MetaFields.{MetaFields, MarkFields}
 use Rattle.moment_core.specs.declared.moment.Moment.{Moment}
-use Rattle.world_core.specs.Walks.{WalkEnds, Walks, EndsWith}
+use Rattle.world_core.specs.Limits.{most_listed}
+use Rattle.world_core.specs.Plans.{Plan, ends, gets, noting, ComesTo}
+use Rattle.world_core.specs.Walks.{WalkEnds, pages}
 use Rattle.world_core.specs.declared.op.Op.TheVariants as op
-use Rattle.world_core.specs.declared.reply.Reply.{Reply}
-use Rattle.world_core.specs.declared.reply.Reply.TheVariants as reply
 use Rattle.world_core.specs.declared.entry.Entry.{Entry}
 use Rattle.meta_fetcher.specs.Sightings.{Sighting, block_meta, IsView}
 use Rattle.meta_fetcher.specs.declared.rules.SyncRules.{SyncRules}
@@ -18,72 +18,88 @@ use Rattle.meta_fetcher.specs.declared.view.View.{View}
 use Rattle.meta_fetcher.specs.declared.sync_end.SyncEnd.{SyncEnd}
 use Rattle.meta_fetcher.specs.declared.sync_end.SyncEnd.TheVariants as ended
 
+-- what a sync comes to
+pub data Synced : Type 0 where
+  -- this was read of the blocks, in the order of their ULIDs
+  sighted : List Sighting → Synced
+  -- the call at the entry of this number failed
+  fault : ℕ → Synced
+  -- what was read at the entry of this number is not as it may be
+  damaged : ℕ → Synced
+  -- too many names were listed
+  too_many : Synced
+
+-- ---- the reads of the blocks
+
+-- The read of a block's mark. It hands on the mark, which is none where there is no mark, and its moment.
+abbrev pub reads_mark : ℕ → (Option MarkFields → Moment → Plan Synced) → Plan Synced
+reads_mark ulid next =
+    gets fault (key.Mark ulid)
+    -- no part of the system puts marks yet
+    (λ e bytes. ends (damaged e.seq))
+    (λ e. next None e.moment)
+
+-- what follows where bytes are a block's meta; where they are not, the sync ends
+abbrev pub if_meta : ℕ → Option MetaFields → (MetaFields → Plan Synced) → Plan Synced
+if_meta seq None next = ends (damaged seq)
+if_meta seq (Some meta) next = next meta
+
+-- the read of a block's meta, which hands on the meta and its moment, and what follows where there is no meta
+abbrev pub reads_meta : ℕ → (MetaFields → Moment → Plan Synced) → Plan Synced → Plan Synced
+reads_meta ulid next absent =
+    gets fault (key.Meta ulid)
+    (λ e bytes. if_meta e.seq (block_meta ulid bytes) (λ meta. next meta e.moment))
+    (λ e. absent)
+
+-- The reads of these blocks, where those before them gave these sightings. A block without a meta gives none.
+abbrev pub reading : List Sighting → List ℕ → Plan Synced
+reading sightings [] = ends (sighted sightings)
+reading sightings (ulid ∷ ulids) =
+    reads_mark ulid (λ mark mark_read.
+    reads_meta ulid (λ meta meta_read.
+    reading (sightings ++ record { ulid = ulid; mark = mark; mark_read = mark_read; meta = meta; meta_read = meta_read } ∷ []) ulids)
+    (reading sightings ulids))
+
+-- ---- the walk
+
 -- the ULIDs among names, in order; every other name is passed over
 abbrev pub ulids_in : List (List ℕ) → List ℕ
 ulids_in names = filter_map (λ name. result_ok (ulid_of name)) names
 
--- the moment of the last entry, and `before` where there is none
-abbrev pub moment_after : Moment → List Entry → Moment
-moment_after before entries = fold (λ last e. e.moment) before entries
-
 -- how a sync ends during its walk
-abbrev pub walk_ends : WalkEnds SyncEnd
-walk_ends = record { fault = ended.Fault; damaged = ended.Damaged; too_many = ended.TooMany }
+abbrev pub walk_ends : WalkEnds Synced
+walk_ends = record { fault = fault; damaged = damaged; too_many = too_many }
 
--- what may follow, by entries and an end
-abbrev pub Onward : Type 1
-Onward = List Entry → Option SyncEnd → Type 0
+-- at most so many pages after these names, and then the reads of all blocks that were listed
+abbrev pub listing : SyncRules → ℕ → List (List ℕ) → Plan Synced
+listing rules = pages walk_ends (λ cursor. op.RootPage cursor rules.page_limit) rules.page_limit (λ names. reading [] (ulids_in names))
 
--- the run goes on with an entry, or was stopped before
-abbrev pub Begins : (Entry → Onward) → Onward
-Begins onward [] end = end ≡ None
-Begins onward (e ∷ entries) end = onward e entries end
+-- ---- the sync
 
--- what may follow the look for a mark, by its reply
-abbrev pub AfterMark : ℕ → Reply → Onward → Onward
-AfterMark seq reply.Absent onward entries end = onward entries end
--- no part of the system puts marks yet
-AfterMark seq (reply.Found bytes) onward entries end = EndsWith (ended.Damaged seq) entries end
-AfterMark seq (reply.Failed landed) onward entries end = EndsWith (ended.Fault seq) entries end
-AfterMark seq other onward entries end = ⊥
+-- when entries were made: the number and the moment of the first one, and the moment of the last
+pub record Course : Type 0 where
+  pub first : ℕ
+  pub begin : Moment
+  pub end : Moment
 
--- the look for a block's mark; its moment is passed on
-abbrev pub MarkRead : ℕ → (Moment → Onward) → Onward
-MarkRead ulid onward =
-    Begins (λ e entries end. (e.op ≡ op.Get (key.Mark ulid)) × AfterMark e.seq e.reply (onward e.moment) entries end)
+-- with one entry more
+abbrev pub with_entry : Option Course → Entry → Option Course
+with_entry None e = Some (record { first = e.seq; begin = e.moment; end = e.moment })
+with_entry (Some course) e = Some (record { first = course.first; begin = course.begin; end = e.moment })
 
--- What may follow the read of a meta at that moment, by its reply: what was read is passed on where it is the block's
--- meta, and a block without a meta gives nothing.
-abbrev pub AfterMeta : ℕ → Moment → Moment → ℕ → Reply → (Sighting → Onward) → Onward → Onward
-AfterMeta ulid mark_read meta_read seq (reply.Found bytes) next onward entries end =
-    MatchOption (block_meta ulid bytes) (EndsWith (ended.Damaged seq) entries end)
-    (λ meta. next (record { ulid = ulid; mark = None; mark_read = mark_read; meta = meta; meta_read = meta_read }) entries end)
-AfterMeta ulid mark_read meta_read seq reply.Absent next onward entries end = onward entries end
-AfterMeta ulid mark_read meta_read seq (reply.Failed landed) next onward entries end = EndsWith (ended.Fault seq) entries end
-AfterMeta ulid mark_read meta_read seq other next onward entries end = ⊥
+-- a sync by these rules, which takes note of when its entries are made
+abbrev pub sync : SyncRules → Plan (Synced × Option Course)
+sync rules = noting with_entry None (listing rules most_listed [])
 
--- the read of a block's meta
-abbrev pub MetaRead : ℕ → Moment → (Sighting → Onward) → Onward → Onward
-MetaRead ulid mark_read next onward =
-    Begins (λ e entries end. (e.op ≡ op.Get (key.Meta ulid)) × AfterMeta ulid mark_read e.moment e.seq e.reply next onward entries end)
+-- what a sync comes to gives this end
+abbrev pub IsEnd : SyncRules → Synced × Option Course → SyncEnd → Type 0
+IsEnd rules (sighted sightings, Some course) end = (view : View) × (end ≡ ended.View view) × IsView rules course.first course.begin course.end sightings view
+-- a page was asked for at least
+IsEnd rules (sighted sightings, None) end = ⊥
+IsEnd rules (fault number, course) end = end ≡ ended.Fault number
+IsEnd rules (damaged number, course) end = end ≡ ended.Damaged number
+IsEnd rules (too_many, course) end = end ≡ ended.TooMany
 
--- The reads of these blocks, where those before them gave these sightings, and then what `next` says of all sightings.
-abbrev pub Reads : (List Sighting → Onward) → List Sighting → List ℕ → Onward
-Reads next sightings [] entries end = next sightings entries end
-Reads next sightings (ulid ∷ ulids) entries end =
-    MarkRead ulid (λ mark_read. MetaRead ulid mark_read (λ block. Reads next (sightings ++ block ∷ []) ulids) (Reads next sightings ulids)) entries end
-
--- nothing follows, and the run has come to such a view or was stopped
-abbrev pub EndsInView : (View → Type 0) → Onward
-EndsInView IsSuch entries end = (entries ≡ []) × ((end ≡ None) ⊎ ((view : View) × (end ≡ Some (ended.View view)) × IsSuch view))
-
--- The run goes on from a walk that has listed these names. The sync's first entry has that number and that moment, and the
--- last one until now the moment `before`.
-abbrev pub SyncsFrom : SyncRules → ℕ → Moment → Moment → List (List ℕ) → Onward
-SyncsFrom rules number begun before names entries end =
-    Walks walk_ends (λ cursor. op.RootPage cursor rules.page_limit) rules.page_limit
-    (λ listed. Reads (λ sightings. EndsInView (IsView rules number begun (moment_after before entries) sightings)) [] (ulids_in listed)) names entries end
-
--- a sync by these rules
-abbrev pub SyncRun : SyncRules → Onward
-SyncRun rules = Begins (λ first entries. SyncsFrom rules first.seq first.moment first.moment [] (first ∷ entries))
+-- the entries and the end of a sync by these rules; without an end it was broken off
+abbrev pub SyncRun : SyncRules → List Entry → Option SyncEnd → Type 0
+SyncRun rules = ComesTo (sync rules) (IsEnd rules)

@@ -1,4 +1,5 @@
-ghost use Rattle.std.specs.Prelude.{◌≡◌, ◌+◌, ◌*◌, ◌≤◌, ℕ, List, [], length, map, Option, IfOk, IsSomeAnd};
+ghost use Rattle.std.specs.Prelude.{◌≡◌, ◌+◌, ◌*◌, ◌≤◌, ℕ, List, [], length, map, Option, Some, IfOk, IsSomeAnd};
+ghost use Rattle.std.specs.List.Sorted.{IsStrictlyIncreasing};
 ghost use Rattle.world_core.specs.Machines.{GoesOn, Falls};
 ghost use Rattle.world_core.specs.Operations.{IsAnswer, entry_of};
 ghost use Rattle.world_core.specs.declared.op.Op.{Op};
@@ -48,7 +49,7 @@ pub struct Sync {
 
 impl Sync {
     ghost use Rattle.meta_fetcher.specs.Sightings.{IsView, sighting_of};
-    ghost use Rattle.meta_fetcher.specs.SyncStates.{IsFresh, may_sync, asked_sync, left_at, left_sync, Leads, reads_on, reads_meta, after_names, after_at};
+    ghost use Rattle.meta_fetcher.specs.SyncStates.{IsFresh, may_sync, asked_sync, count_at, count_of, Goes, Leads, course_of, blocks_left, meta_left, goes_by_names, goes_after};
 
     /// Begins a sync.
     pub fn start(alloc: Global, rules: SyncRules) -> Result<Sync, NoMemory>
@@ -77,9 +78,9 @@ impl Sync {
     fn after_first_page(&mut self, seen: Seen) -> Result<Act<SyncEnd>, NoMemory>
         requires stage { self.old.stage ≡ Stage.Opening }
         requires answer { IsSomeAnd (asked_sync self.old) (λ op. IsAnswer op seen) }
-        ensures leads { Leads
-            (after_at Stage.Opening self.old seen.seq seen.moment seen.reply) result self.new }
-        ensures falls { Falls (left_at Stage.Opening self.old) result (left_sync self.new) }
+        ensures leads { (seat : ℕ) (op : Op)
+            → Leads (goes_after Stage.Opening self.old (entry_of seat op seen)) result self.new }
+        ensures falls { Falls (count_at Stage.Opening self.old) result (count_of self.new) }
     {
         let Seen { seq, moment, reply } = seen;
         self.first = seq;
@@ -100,9 +101,9 @@ impl Sync {
     fn after_next_page(&mut self, seen: Seen) -> Result<Act<SyncEnd>, NoMemory>
         requires stage { self.old.stage ≡ Stage.Listing }
         requires answer { IsSomeAnd (asked_sync self.old) (λ op. IsAnswer op seen) }
-        ensures leads { Leads
-            (after_at Stage.Listing self.old seen.seq seen.moment seen.reply) result self.new }
-        ensures falls { Falls (left_at Stage.Listing self.old) result (left_sync self.new) }
+        ensures leads { (seat : ℕ) (op : Op)
+            → Leads (goes_after Stage.Listing self.old (entry_of seat op seen)) result self.new }
+        ensures falls { Falls (count_at Stage.Listing self.old) result (count_of self.new) }
     {
         let Seen { seq, moment, reply } = seen;
         self.last = moment;
@@ -119,8 +120,8 @@ impl Sync {
 
     /// Goes on with the names of a page, which ascend.
     fn take_names(&mut self, names: &TextList) -> Result<Act<SyncEnd>, NoMemory>
-        ensures leads { Leads (after_names self.old names.now) result self.new }
-        ensures falls { Falls (left_at Stage.Listing self.old) result (left_sync self.new) }
+        ensures leads { Leads (goes_by_names self.old names.now) result self.new }
+        ensures falls { Falls (count_at Stage.Listing self.old) result (count_of self.new) }
     {
         add_ulids(&mut self.waiting, names.members())?;
         if is_short(names.len(), self.rules.page_limit) {
@@ -137,8 +138,10 @@ impl Sync {
 
     /// Asks for the mark of the next block, or ends where there is none.
     fn read_next(&mut self) -> Result<Act<SyncEnd>, NoMemory>
-        ensures leads { Leads (reads_on self.old) result self.new }
-        ensures falls { Falls (2 * length self.old.waiting.items + 1) result (left_sync self.new) }
+        ensures leads { Leads
+            (Goes self.old.rules (Some (course_of self.old)) (blocks_left self.old)) result
+            self.new }
+        ensures falls { Falls (2 * length self.old.waiting.items + 1) result (count_of self.new) }
     {
         match self.waiting.pop_front() {
             Some(ulid) => {
@@ -151,7 +154,8 @@ impl Sync {
 
     /// The view of what was found.
     fn take_view(&mut self) -> View
-        ensures { IsView self.old.rules self.old.first self.old.begin self.old.last
+        ensures { IsStrictlyIncreasing (map (λ block. block.ulid) self.old.found.items)
+            → IsView self.old.rules self.old.first self.old.begin self.old.last
             (map sighting_of self.old.found.items) result }
     {
         let found = mem::replace(&mut self.found, Vec::new(self.alloc));
@@ -168,10 +172,10 @@ impl Sync {
     fn after_mark(&mut self, ulid: Ulid, seen: Seen) -> Result<Act<SyncEnd>, NoMemory>
         requires stage { self.old.stage ≡ Stage.Marking ulid }
         requires answer { IsSomeAnd (asked_sync self.old) (λ op. IsAnswer op seen) }
-        ensures leads { Leads
-            (after_at (Stage.Marking ulid) self.old seen.seq seen.moment seen.reply) result
+        ensures leads { (seat : ℕ) (op : Op)
+            → Leads (goes_after (Stage.Marking ulid) self.old (entry_of seat op seen)) result
             self.new }
-        ensures falls { Falls (left_at (Stage.Marking ulid) self.old) result (left_sync self.new) }
+        ensures falls { Falls (count_at (Stage.Marking ulid) self.old) result (count_of self.new) }
     {
         let Seen { seq, moment, reply } = seen;
         self.last = moment;
@@ -186,8 +190,10 @@ impl Sync {
 
     /// Asks for the meta of a block.
     fn ask_meta(&mut self, ulid: Ulid) -> Result<Act<SyncEnd>, NoMemory>
-        ensures leads { Leads (reads_meta self.old ulid) result self.new }
-        ensures falls { Falls (2 * length self.old.waiting.items + 2) result (left_sync self.new) }
+        ensures leads { Leads
+            (Goes self.old.rules (Some (course_of self.old)) (meta_left ulid self.old)) result
+            self.new }
+        ensures falls { Falls (2 * length self.old.waiting.items + 2) result (count_of self.new) }
     {
         self.stage = Stage::Reading(ulid);
         Ok(Act::Do(Op::Get(Key::Meta(ulid))))
@@ -197,10 +203,10 @@ impl Sync {
     fn after_meta(&mut self, ulid: Ulid, seen: Seen) -> Result<Act<SyncEnd>, NoMemory>
         requires stage { self.old.stage ≡ Stage.Reading ulid }
         requires answer { IsSomeAnd (asked_sync self.old) (λ op. IsAnswer op seen) }
-        ensures leads { Leads
-            (after_at (Stage.Reading ulid) self.old seen.seq seen.moment seen.reply) result
+        ensures leads { (seat : ℕ) (op : Op)
+            → Leads (goes_after (Stage.Reading ulid) self.old (entry_of seat op seen)) result
             self.new }
-        ensures falls { Falls (left_at (Stage.Reading ulid) self.old) result (left_sync self.new) }
+        ensures falls { Falls (count_at (Stage.Reading ulid) self.old) result (count_of self.new) }
     {
         let Seen { seq, moment, reply } = seen;
         let mark_read = self.last;
@@ -230,13 +236,13 @@ impl Sync {
 impl Machine for Sync {
     type End = SyncEnd;
 
-    ghost use Rattle.meta_fetcher.specs.SyncStates.{IsFresh, may_sync, asked_sync, left_sync};
+    ghost use Rattle.meta_fetcher.specs.SyncStates.{IsFresh, may_sync, asked_sync, count_of};
 
     ghost may = { may_sync };
 
     ghost asked = { asked_sync };
 
-    ghost measure = { left_sync };
+    ghost measure = { count_of };
 
     ghost fresh = { IsFresh };
 

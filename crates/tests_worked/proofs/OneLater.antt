@@ -6,7 +6,7 @@ use Rattle.block_keys.specs.declared.key.Key.TheVariants as key
 use Rattle.world_core.specs.declared.entry.Entry.{Entry}
 use Rattle.sync_filters.specs.declared.found.Found.{Found}
 use Rattle.meta_fetcher.specs.Sightings.{kept_by, sighting_of}
-use Rattle.meta_fetcher.specs.Syncs.{SyncRun}
+use Rattle.meta_fetcher.specs.Syncs.{Course, IsEnd, Synced, SyncRun, sighted}
 use Rattle.meta_fetcher.specs.declared.view.View.{View}
 use Rattle.meta_fetcher.specs.declared.sync_end.SyncEnd.{SyncEnd}
 use Rattle.meta_fetcher.specs.declared.sync_end.SyncEnd.TheVariants as fetched
@@ -46,21 +46,33 @@ none_kept [] is = refl
 none_kept (block ∷ blocks) is = absurd (cc)
 
 no_page : (end : Option SyncEnd) → SyncRun rules [] end → end ≡ None
-no_page end run = run
+no_page None run = refl
+no_page (Some end) run = let none = run.1 in absurd (cc (none))
 
 only_page : (end : Option SyncEnd) → SyncRun rules (page ∷ []) end → end ≡ None
 unfolding ulid_of bad_place digit_of alphabet number_of
-only_page end run = run.1
+only_page None run = refl
+only_page (Some end) run = let none = run.1.1 in absurd (cc (none))
 
 only_mark : (end : Option SyncEnd) → SyncRun rules (page ∷ mark ∷ []) end → end ≡ None
 unfolding ulid_of bad_place digit_of alphabet number_of
-only_mark end run = run.1.1
+only_mark None run = refl
+only_mark (Some end) run = let none = run.1.1.1 in absurd (cc (none))
+
+ended_so : (told : Synced × Option Course) (course : Course) (end : SyncEnd) → IsEnd rules told end → told ≡ (sighted [], Some course) → Ends (Some end)
+ended_so told course end is same =
+    let view : IsEnd rules (sighted [], Some course) end = subst (λ t. IsEnd rules t end) same is in
+    (view.0, ap Some view.1, view.2.kept ∙ none_kept view.2.found view.2.sighted)
 
 whole_sync : (more : List Entry) (end : Option SyncEnd) → SyncRun rules (page ∷ mark ∷ no_meta ∷ more) end → (more ≡ []) × ((end ≡ None) ⊎ Ends end)
 unfolding ulid_of bad_place digit_of alphabet number_of
-whole_sync more end run =
-    let last = run.1.1.1 in
-    (last.0, elim last.1 [ inl none ↦ inl none | inr some ↦ inr (some.0, some.1, some.2.kept ∙ none_kept some.2.found some.2.sighted) ])
+whole_sync more None run = (run.1.1.1.0, inl refl)
+whole_sync more (Some end) run =
+    let last = run.1.1.1.1 in
+    (last.0, elim last.1 [
+      | inl none ↦ absurd (cc (none))
+      | inr some ↦ inr (ended_so run.0 (record { first = 7; begin = record { ms = 1_800_001 }; end = record { ms = 1_800_003 } }) end run.2 (cc (some)))
+    ])
 
 -- ---- no query reads after it
 

@@ -1,7 +1,7 @@
 -- The tasks over the small block are done as the definitions say.
-use Rattle.std.proofs.Common.{◌≡◌, ◌≢◌, ◌+◌, inl, inr, ℕ, pos, List, [], ◌∷◌, Some, None, refl, arith}
+use Rattle.std.proofs.Common.{◌≡◌, ◌≢◌, ◌+◌, inl, inr, ℕ, pos, List, [], ◌∷◌, Some, None, map, refl, sym, subst, arith}
 use Rattle.std.proofs.lemmas.List.Elements.{All-nil, All-cons}
-use Rattle.std.specs.List.Sorted.{IsStrictlySortedBy}
+use Rattle.std.specs.List.Sorted.{IsStrictlyIncreasing, IsStrictlySortedBy}
 use Rattle.label_sets.specs.declared.series.Series.{Series}
 use Rattle.label_sets.specs.Finals.{is_among, without, final_of}
 use Rattle.label_sets.specs.Labels.{value_of}
@@ -21,8 +21,9 @@ use Rattle.world_core.specs.Plans.{Runs}
 use Rattle.shipper.specs.Uploads.{upload}
 use Rattle.shipper.specs.declared.upload_end.UploadEnd.TheVariants as shipped
 use Rattle.sync_filters.specs.declared.found.Found.{Found}
-use Rattle.meta_fetcher.specs.Sightings.{block_meta, kept_by}
-use Rattle.meta_fetcher.specs.Syncs.{SyncRun}
+use Rattle.meta_fetcher.specs.Sightings.{block_meta, kept_by, sighting_of}
+use Rattle.meta_fetcher.specs.Syncs.{SyncRun, sighted}
+use Rattle.meta_fetcher.proofs.Ascending.{kept_ascend}
 use Rattle.meta_fetcher.specs.declared.rules.SyncRules.{SyncRules}
 use Rattle.meta_fetcher.specs.declared.view.View.{View}
 use Rattle.meta_fetcher.specs.declared.sync_end.SyncEnd.TheVariants as fetched
@@ -69,19 +70,22 @@ rules_by consistency delay = record { consistency = consistency; mark_delay = de
 block_meta_reads : block_meta small.a small.meta ≡ Some (fields_of small.said)
 block_meta_reads = rw meta_reads refl
 
+-- one block ascends
+one_ascends : (rules : SyncRules) (block : Found) (kept : List Found) → kept ≡ kept_by rules (block ∷ []) → IsStrictlyIncreasing (map (λ b. b.ulid) kept)
+one_ascends rules block kept is =
+    subst (λ (l : List Found). IsStrictlyIncreasing (map (λ b. b.ulid) l)) (sym is) (kept_ascend rules (block ∷ []) (λ k more. omega (arith, more)))
+
 -- the sync of the small block, by the numbers and moments of its entries
 pub sync_run_by : (consistency delay : Span) (seat first begin mark mark_read meta meta_read : ℕ) (kept : List Found) → kept ≡ kept_by (rules_by consistency delay) (small.found mark_read meta_read ∷ [])
     → SyncRun (rules_by consistency delay) (listed first seat begin (small.a_text ∷ []) ∷ absent mark seat mark_read (key.Mark small.a) ∷ found meta seat meta_read (key.Meta small.a) small.meta ∷ [])
     (Some (fetched.View (runs.view_of first begin meta_read kept)))
 sync_run_by consistency delay seat first begin mark mark_read meta meta_read kept is = (
-  refl,
-  rw a_reads (
+  (sighted (sighting_of (small.found mark_read meta_read) ∷ []), Some (record { first = first; begin = record { ms = begin }; end = record { ms = meta_read } })),
+  (refl, rw a_reads (refl, (refl, rw block_meta_reads (refl, inr refl)))),
+  (
+    runs.view_of first begin meta_read kept,
     refl,
-    (
-      refl,
-      rw block_meta_reads
-          (refl, inr (runs.view_of first begin meta_read kept, refl, record { first = refl; begin = refl; end = refl; found = small.found mark_read meta_read ∷ []; sighted = refl; kept = is; covered = refl })),
-    ),
+    record { first = refl; begin = refl; end = refl; found = small.found mark_read meta_read ∷ []; sighted = refl; kept = is; ascend = one_ascends (rules_by consistency delay) (small.found mark_read meta_read) kept is; covered = refl },
   ),
 )
 
@@ -91,7 +95,11 @@ sync_run seq seat moment kept is = sync_run_by (minutes 30) (hours 24) seat seq 
 
 pub empty_sync_run : (seq seat moment : ℕ)
     → SyncRun rules (listed seq seat moment [] ∷ []) (Some (fetched.View (record { first = seq; begin = record { ms = moment }; end = record { ms = moment }; kept = []; covered = [] })))
-empty_sync_run seq seat moment = (refl, (refl, inr (_, refl, record { first = refl; begin = refl; end = refl; found = []; sighted = refl; kept = refl; covered = refl })))
+empty_sync_run seq seat moment = (
+  (sighted [], Some (record { first = seq; begin = record { ms = moment }; end = record { ms = moment } })),
+  (refl, (refl, inr refl)),
+  (_, refl, record { first = refl; begin = refl; end = refl; found = []; sighted = refl; kept = refl; ascend = λ k more. omega (arith, more); covered = refl }),
+)
 
 -- ---- queries
 

@@ -1,16 +1,14 @@
 -- A run that ended with a failed call has an entry of that number which was answered so.
 use Rattle.list_core.proofs.Membership.{contains_first, contains_later}
-use Rattle.std.proofs.Common.{◌≡◌, inl, inr, ℕ, Bool, IsTrue, List, [], ◌∷◌, ◌++◌, length, Contains, Option, Some, None, refl, ap}
-use Rattle.std.specs.Prelude.{MatchOption}
+use Rattle.std.proofs.Common.{◌≡◌, inl, inr, ℕ, Bool, IsTrue, List, [], ◌∷◌, ◌++◌, length, Contains, Option, Some, None, refl, ap, subst}
+use Rattle.std.specs.Prelude.{fold}
 use Rattle.block_keys.specs.declared.key.Key.{Key}
 use Rattle.block_keys.specs.declared.key.Key.TheVariants as key
 use Rattle.block_keys.specs.declared.object.Object.{Object}
-use Rattle.block_meta.specs.MetaFields.{MetaFields}
 use Rattle.label_sets.specs.Triples.{Triple}
 use Rattle.label_sets.specs.declared.series.Series.{Series}
-use Rattle.moment_core.specs.declared.moment.Moment.{Moment}
 use Rattle.world_core.specs.Operations.{has_failed}
-use Rattle.world_core.specs.Walks.{AfterPage, EndsWith, Walks}
+use Rattle.world_core.specs.Walks.{EndsWith}
 use Rattle.world_core.specs.declared.entry.Entry.{Entry}
 use Rattle.world_core.specs.declared.op.Op.TheVariants as op
 use Rattle.world_core.specs.declared.reply.Reply.{Reply}
@@ -21,8 +19,10 @@ use Rattle.world_core.proofs.PlanWords.{gets_are, puts_are}
 use Rattle.shipper.specs.Uploads.{putting, upload}
 use Rattle.shipper.specs.declared.upload_end.UploadEnd.{UploadEnd}
 use Rattle.shipper.specs.declared.upload_end.UploadEnd.TheVariants as shipped
-use Rattle.meta_fetcher.specs.Sightings.{IsView, Sighting, block_meta}
-use Rattle.meta_fetcher.specs.Syncs.{AfterMark, AfterMeta, EndsInView, MetaRead, Onward, Reads, SyncRun, moment_after, ulids_in, walk_ends}
+use Rattle.meta_fetcher.specs.Sightings.{Sighting}
+use Rattle.meta_fetcher.specs.Syncs.{Course, IsEnd, Synced, SyncRun, with_entry}
+use Rattle.meta_fetcher.specs.Syncs as sync_told
+use Rattle.meta_fetcher.proofs.SyncLaws.{KeptByPages, KeptByReads, synced}
 use Rattle.meta_fetcher.specs.declared.rules.SyncRules.{SyncRules}
 use Rattle.meta_fetcher.specs.declared.sync_end.SyncEnd.{SyncEnd}
 use Rattle.meta_fetcher.specs.declared.sync_end.SyncEnd.TheVariants as fetched
@@ -92,90 +92,54 @@ upload_shows ulid objects entries (Some last) run number is =
 
 -- ---- syncs
 
-abbrev SyncShows : List Entry → Option SyncEnd → Type 0
-SyncShows = Shows fetched.Fault
+abbrev SyncShown : List Entry → Synced → Type 0
+SyncShown made (sync_told.sighted sightings) = Unit {0}
+SyncShown made (sync_told.fault number) = ShowsFault made number
+SyncShown made (sync_told.damaged number) = Unit {0}
+SyncShown made sync_told.too_many = Unit {0}
 
-sync_on : (e : Entry) (entries : List Entry) (end : Option SyncEnd) → SyncShows entries end → SyncShows (e ∷ entries) end
-sync_on = goes_on fetched.Fault
+abbrev Reads : List Entry → List Sighting → List ℕ → Type 0
+Reads made sightings ulids = Unit {0}
 
-sync_failed : (e : Entry) (landed : Bool) (entries : List Entry) (end : Option SyncEnd) → e.reply ≡ reply.Failed landed → EndsWith (fetched.Fault e.seq) entries end → SyncShows (e ∷ entries) end
-sync_failed = has_failed_here fetched.Fault (λ one other is. cc (is))
+abbrev Lists : List Entry → List (List ℕ) → Type 0
+Lists made listed = Unit {0}
 
-abbrev Goes : Onward → Type 0
-Goes next = (entries : List Entry) (end : Option SyncEnd) → next entries end → SyncShows entries end
+shown_here : (made : List Entry) (e : Entry) (landed : Bool) → e.reply ≡ reply.Failed landed → ShowsFault (made ++ e ∷ []) e.seq
+shown_here made e landed failed = (e, stands_in made [] e, refl, ap has_failed failed)
 
-in_view : (IsSuch : View → Type 0) → Goes (EndsInView IsSuch)
-in_view IsSuch entries end (nil, inl none) = λ number is. absurd (cc (none, is))
-in_view IsSuch entries end (nil, inr (view, same, such)) = λ number is. absurd (cc (same, is))
+sync_reads_show : KeptByReads (λ e. Unit {0}) SyncShown Reads
+sync_reads_show = record {
+  over = λ made sightings j. tt;
+  mark_failed = λ made sightings ulid ulids e landed came. shown_here made e landed came.shows;
+  marked = λ made sightings ulid ulids e bytes came. tt;
+  unmarked = λ made sightings ulid ulids e came. tt;
+  meta_failed = λ made sightings ulid ulids e landed came. shown_here made e landed came.shows;
+  unread = λ made sightings ulid ulids e bytes came none. tt;
+  seen = λ made sightings ulid ulids e bytes mark_read meta came read. tt;
+  missed = λ made sightings ulid ulids e came. tt;
+}
 
-module _ (next : List Sighting → Onward) (ends : (sightings : List Sighting) → Goes (next sightings)) where
-  abbrev Rest : List ℕ → Type 0
-  Rest ulids = (sightings : List Sighting) → Goes (Reads next sightings ulids)
+sync_pages_show : (limit : ℕ) → KeptByPages (λ e. Unit {0}) SyncShown limit Lists Lists
+sync_pages_show limit = record {
+  failed = λ made listed page landed came. shown_here made page landed came.shows;
+  unordered = λ made listed names page came down. tt;
+  short = λ made listed names page came up short. tt;
+  full = λ made listed names page came up full. tt;
+  many = λ made names listed many. tt;
+}
 
-  meta_told : (ulids : List ℕ) (rest : Rest ulids) (sightings : List Sighting) (ulid seq : ℕ) (mark_read meta_read : Moment) (o : Option MetaFields) (entries : List Entry) (end : Option SyncEnd)
-      → MatchOption o (EndsWith (fetched.Damaged seq) entries end) (λ meta. Reads next (sightings ++ record { ulid = ulid; mark = None; mark_read = mark_read; meta = meta; meta_read = meta_read } ∷ []) ulids entries end) → SyncShows entries end
-  meta_told ulids rest sightings ulid seq mark_read meta_read None entries end run = ends_else fetched.Fault (fetched.Damaged seq) entries end (λ number is. cc (is)) run
-  meta_told ulids rest sightings ulid seq mark_read meta_read (Some meta) entries end run =
-      rest (sightings ++ record { ulid = ulid; mark = None; mark_read = mark_read; meta = meta; meta_read = meta_read } ∷ []) entries end run
+fault_told : (rules : SyncRules) (entries : List Entry) (last : Synced) (course : Option Course) (end : SyncEnd) (number : ℕ) → SyncShown entries last → IsEnd rules (last, course) end → end ≡ fetched.Fault number → ShowsFault entries number
+fault_told rules entries (sync_told.sighted sightings) (Some course) end number shown (view, is, v) same = absurd (cc (is, same))
+fault_told rules entries (sync_told.sighted sightings) None end number shown is same = absurd is
+fault_told rules entries (sync_told.fault own) course end number shown is same = let one : own ≡ number = cc (is, same) in subst (ShowsFault entries) one shown
+fault_told rules entries (sync_told.damaged own) course end number shown is same = absurd (cc (is, same))
+fault_told rules entries sync_told.too_many course end number shown is same = absurd (cc (is, same))
 
-  after_meta : (ulids : List ℕ) (rest : Rest ulids) (sightings : List Sighting) (ulid : ℕ) (mark_read : Moment) (e : Entry) (r : Reply) → e.reply ≡ r → (entries : List Entry) (end : Option SyncEnd)
-      → AfterMeta ulid mark_read e.moment e.seq r (λ block. Reads next (sightings ++ block ∷ []) ulids) (Reads next sightings ulids) entries end → SyncShows (e ∷ entries) end
-  after_meta ulids rest sightings ulid mark_read e (reply.Found bytes) same entries end run = sync_on e entries end (meta_told ulids rest sightings ulid e.seq mark_read e.moment (block_meta ulid bytes) entries end run)
-  after_meta ulids rest sightings ulid mark_read e reply.Absent same entries end run = sync_on e entries end (rest sightings entries end run)
-  after_meta ulids rest sightings ulid mark_read e (reply.Failed landed) same entries end run = sync_failed e landed entries end same run
-  after_meta ulids rest sightings ulid mark_read e reply.Clocked same entries end run = absurd run
-  after_meta ulids rest sightings ulid mark_read e reply.Stored same entries end run = absurd run
-  after_meta ulids rest sightings ulid mark_read e reply.Deleted same entries end run = absurd run
-  after_meta ulids rest sightings ulid mark_read e (reply.Names names) same entries end run = absurd run
-
-  meta_reads : (ulids : List ℕ) (rest : Rest ulids) (sightings : List Sighting) (ulid : ℕ) (mark_read : Moment) → Goes (MetaRead ulid mark_read (λ block. Reads next (sightings ++ block ∷ []) ulids) (Reads next sightings ulids))
-  meta_reads ulids rest sightings ulid mark_read [] end run = λ number is. absurd (cc (run, is))
-  meta_reads ulids rest sightings ulid mark_read (e ∷ entries) end run = after_meta ulids rest sightings ulid mark_read e e.reply refl entries end run.1
-
-  after_mark : (ulids : List ℕ) (rest : Rest ulids) (sightings : List Sighting) (ulid : ℕ) (mark_read : Moment) (e : Entry) (r : Reply) → e.reply ≡ r → (entries : List Entry) (end : Option SyncEnd)
-      → AfterMark e.seq r (MetaRead ulid mark_read (λ block. Reads next (sightings ++ block ∷ []) ulids) (Reads next sightings ulids)) entries end → SyncShows (e ∷ entries) end
-  after_mark ulids rest sightings ulid mark_read e reply.Absent same entries end run = sync_on e entries end (meta_reads ulids rest sightings ulid mark_read entries end run)
-  after_mark ulids rest sightings ulid mark_read e (reply.Found bytes) same entries end run = sync_on e entries end (ends_else fetched.Fault (fetched.Damaged e.seq) entries end (λ number is. cc (is)) run)
-  after_mark ulids rest sightings ulid mark_read e (reply.Failed landed) same entries end run = sync_failed e landed entries end same run
-  after_mark ulids rest sightings ulid mark_read e reply.Clocked same entries end run = absurd run
-  after_mark ulids rest sightings ulid mark_read e reply.Stored same entries end run = absurd run
-  after_mark ulids rest sightings ulid mark_read e reply.Deleted same entries end run = absurd run
-  after_mark ulids rest sightings ulid mark_read e (reply.Names names) same entries end run = absurd run
-
-  block_reads : (ulids : List ℕ) → Rest ulids
-  block_reads [] sightings entries end run = ends sightings entries end run
-  block_reads (ulid ∷ ulids) sightings [] end run = λ number is. absurd (cc (run, is))
-  block_reads (ulid ∷ ulids) sightings (e ∷ entries) end run = after_mark ulids (block_reads ulids) sightings ulid e.moment e e.reply refl entries end run.1
-
-module _ (limit : ℕ) (next : List (List ℕ) → Onward) (goes : (names : List (List ℕ)) → Goes (next names)) where
-  abbrev PagesFrom : List (List ℕ) → Onward
-  PagesFrom listed = Walks walk_ends (λ cursor. op.RootPage cursor limit) limit next listed
-
-  after_page : (listed : List (List ℕ)) (page : Entry) (r : Reply) → page.reply ≡ r → (entries : List Entry) (end : Option SyncEnd) (more : (names : List (List ℕ)) → PagesFrom names entries end → SyncShows entries end)
-      → AfterPage walk_ends limit listed page.seq r (λ names. next names entries end) (λ names. PagesFrom names entries end) entries end → SyncShows (page ∷ entries) end
-  after_page listed page (reply.Names names) same entries end more run =
-      sync_on page entries end
-      (match_bool _ _ _ (SyncShows entries end)
-      (match_bool _ _ _ (SyncShows entries end) (goes (listed ++ names) entries end)
-      (match_bool _ _ _ (SyncShows entries end) (ends_else fetched.Fault fetched.TooMany entries end (λ number is. cc (is))) (more (listed ++ names))))
-      (ends_else fetched.Fault (fetched.Damaged page.seq) entries end (λ number is. cc (is))) run)
-  after_page listed page (reply.Failed landed) same entries end more run = sync_failed page landed entries end same run
-  after_page listed page reply.Clocked same entries end more run = absurd run
-  after_page listed page reply.Stored same entries end more run = absurd run
-  after_page listed page (reply.Found bytes) same entries end more run = absurd run
-  after_page listed page reply.Absent same entries end more run = absurd run
-  after_page listed page reply.Deleted same entries end more run = absurd run
-
-  pages : (entries : List Entry) (listed : List (List ℕ)) (end : Option SyncEnd) → PagesFrom listed entries end → SyncShows entries end
-  pages [] listed end run = λ number is. absurd (cc (run, is))
-  pages (page ∷ entries) listed end run = after_page listed page page.reply refl entries end (λ names. pages entries names end) run.1
-
-pub sync_shows : (rules : SyncRules) (entries : List Entry) (end : Option SyncEnd) → SyncRun rules entries end → SyncShows entries end
-sync_shows rules [] end run = λ number is. absurd (cc (run, is))
-sync_shows rules (first ∷ entries) end run =
-    let Ends : List Sighting → Onward = λ sightings. EndsInView (IsView rules first.seq first.moment (moment_after first.moment (first ∷ entries)) sightings) in
-    pages rules.page_limit (λ names. Reads Ends [] (ulids_in names)) (λ names. block_reads Ends (λ sightings. in_view (IsView rules first.seq first.moment (moment_after first.moment (first ∷ entries)) sightings)) (ulids_in names) [])
-    (first ∷ entries) [] end run
+pub sync_shows : (rules : SyncRules) (entries : List Entry) (end : Option SyncEnd) → SyncRun rules entries end → (number : ℕ) → end ≡ Some (fetched.Fault number) → ShowsFault entries number
+sync_shows rules entries None run number is = absurd (cc (is))
+sync_shows rules entries (Some last) run number is =
+    let s = synced (λ e. Unit {0}) SyncShown rules Lists Lists Reads (sync_pages_show rules.page_limit) sync_reads_show tt (λ made names listed. tt) entries last (nothing_given entries) run in
+    fault_told rules entries s.0 (fold with_entry None entries) last number s.1 s.2 (cc (is))
 
 -- ---- series calls
 

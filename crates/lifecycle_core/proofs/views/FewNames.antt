@@ -3,7 +3,7 @@
 use Rattle.list_core.proofs.Membership.{contains_first, contains_later, into_map}
 use Rattle.lifecycle_core.proofs.blocks.Declared.{declared_among, declared_ulid}
 use Rattle.std.proofs.Common.{◌≡◌, inl, inr, ℕ, suc, zero, ◌≤◌, true, List, [], ◌∷◌, ◌++◌, map, length, Contains, Option, Some, None, sym, ◌∙◌, ap, subst, arith}
-use Rattle.std.specs.Prelude.{nat_le, unwrap_or}
+use Rattle.std.specs.Prelude.{fold, nat_le, unwrap_or}
 use Rattle.std.specs.List.{All, last_or}
 use Rattle.std.proofs.lemmas.Bool.{leb-true}
 use Rattle.std.proofs.lemmas.Cmp.{nat_list_cmp_total, tied_itself}
@@ -12,7 +12,11 @@ use Rattle.std.proofs.lemmas.List.Elements.{All-append, All-cons, All-contains, 
 use Rattle.ulid_core.specs.UlidText.{text_of}
 use Rattle.bucket_core.specs.Pages.{Ascends, Before}
 use Rattle.world_core.specs.declared.entry.Entry.{Entry}
-use Rattle.meta_fetcher.specs.Syncs.{SyncRun}
+use Rattle.world_core.specs.declared.reply.Reply.TheVariants as reply
+use Rattle.meta_fetcher.specs.Syncs.{Course, IsEnd, Synced, SyncRun, with_entry}
+use Rattle.meta_fetcher.specs.Syncs as sync_told
+use Rattle.meta_fetcher.specs.declared.rules.SyncRules.{SyncRules}
+use Rattle.meta_fetcher.proofs.SyncLaws.{Comes, KeptByPages, KeptByReads, page_after, synced as walked}
 use Rattle.meta_fetcher.specs.declared.sync_end.SyncEnd.{SyncEnd}
 use Rattle.meta_fetcher.specs.declared.sync_end.SyncEnd.TheVariants as fetched
 use Rattle.store_gateway.specs.SeriesRuns.{Query as Question}
@@ -28,9 +32,8 @@ use Rattle.lifecycle_core.specs.Views.{Use}
 use Rattle.lifecycle_core.proofs.misses.Explaining.{parted}
 use Rattle.lifecycle_core.proofs.phases.TasksMade.{ends_are_made}
 use Rattle.lifecycle_core.proofs.journals.Told.{IsDeclaredName, IsPart, IsReadable, IsTold, Rises}
-use Rattle.lifecycle_core.proofs.views.TrueViews.{not_in_view, own_entries}
+use Rattle.lifecycle_core.proofs.views.TrueViews.{own_entries}
 use Rattle.lifecycle_core.proofs.views.Finds.{IsOwn}
-use Rattle.lifecycle_core.proofs.views.Walk.{IsNextPage, KeptByPages, KeptByReads, synced as walked}
 
 -- ---- how many names ascend
 
@@ -94,40 +97,60 @@ too_few n few many = omega (arith, few, leb-true 1_000_000 n many)
 
 -- ---- the walk
 
+-- what a sync comes to is not too many names
+abbrev AreFew : List Entry → Synced → Type 0
+AreFew made (sync_told.sighted sightings) = Unit {0}
+AreFew made (sync_told.fault number) = Unit {0}
+AreFew made (sync_told.damaged number) = Unit {0}
+AreFew made sync_told.too_many = ⊥
+
 module _ (script : Script) (lawful : IsLawfulScript script) (journal : List Entry) (first : Entry) (entries : List Entry) where
-  more_listed : (limit : ℕ) (listed names : List (List ℕ)) (page : Entry) → AreListed script listed → IsOwn script journal first entries page → IsNextPage limit listed page names → AreListed script (listed ++ names)
-  more_listed limit listed names page i own next = record {
-    ascend = ascends_joined None listed names i.ascend (own.told.ascend _ limit names next.asks next.shows);
-    declared_names = All-append (IsDeclaredName script) listed names i.declared_names (own.told.only _ limit names next.asks next.shows);
+  more_listed : (limit : ℕ) (listed names : List (List ℕ)) (page : Entry) → Comes (IsOwn script journal first entries) (AreListed script listed) (page_after limit listed) (reply.Names names) page
+      → AreListed script (listed ++ names)
+  more_listed limit listed names page came = record {
+    ascend = ascends_joined None listed names came.before.ascend (came.given.told.ascend _ limit names came.asks came.shows);
+    declared_names = All-append (IsDeclaredName script) listed names came.before.declared_names (came.given.told.only _ limit names came.asks came.shows);
   }
 
-  few_reads : KeptByReads fetched.TooMany ⊥ (IsOwn script journal first entries) (λ sightings ulids. Unit {0})
+  few_reads : KeptByReads (IsOwn script journal first entries) AreFew (λ made sightings ulids. Unit {0})
   few_reads = record {
-    fault = λ n is. cc (is);
-    marked = λ sightings ulid ulids e bytes j own asks found is. cc (is);
-    unread = λ sightings ulid ulids e bytes j own asks found none is. cc (is);
-    seen = λ sightings ulid ulids e bytes mark_read meta j own asks found read. tt;
-    missed = λ sightings ulid ulids e j own asks absent. tt;
+    over = λ made sightings j. tt;
+    mark_failed = λ made sightings ulid ulids e landed came. tt;
+    marked = λ made sightings ulid ulids e bytes came. tt;
+    unmarked = λ made sightings ulid ulids e came. tt;
+    meta_failed = λ made sightings ulid ulids e landed came. tt;
+    unread = λ made sightings ulid ulids e bytes came none. tt;
+    seen = λ made sightings ulid ulids e bytes mark_read meta came read. tt;
+    missed = λ made sightings ulid ulids e came. tt;
   }
 
-  few_pages : (limit : ℕ) → KeptByPages fetched.TooMany ⊥ (IsOwn script journal first entries) limit (AreListed script) (λ listed. Unit {0})
+  few_pages : (limit : ℕ) → KeptByPages (IsOwn script journal first entries) AreFew limit (λ made. AreListed script) (λ made listed. Unit {0})
   few_pages limit = record {
-    fault = λ n is. cc (is);
-    many = λ names i many is. too_few (length names) (listed_few script names lawful i) many;
-    unordered = λ listed names page i own next down is. cc (is);
-    short = λ listed names page i own next few. tt;
-    full = λ listed names page i own next many. more_listed limit listed names page i own next;
+    failed = λ made listed page landed came. tt;
+    unordered = λ made listed names page came down. tt;
+    short = λ made listed names page came up few. tt;
+    full = λ made listed names page came up many. more_listed limit listed names page came;
+    many = λ made names i many. too_few (length names) (listed_few script names lawful i) many;
   }
+
+-- an end that is no other
+not_too_many : (rules : SyncRules) (made : List Entry) (last : Synced) (course : Option Course) → AreFew made last → IsEnd rules (last, course) fetched.TooMany → ⊥
+not_too_many rules made (sync_told.sighted sightings) (Some course) few (view, is, v) = cc (is)
+not_too_many rules made (sync_told.sighted sightings) None few is = is
+not_too_many rules made (sync_told.fault number) course few is = cc (is)
+not_too_many rules made (sync_told.damaged number) course few is = cc (is)
+not_too_many rules made sync_told.too_many course few is = few
 
 -- no sync of the journal finds too many names
 pub syncs_find_few : (script : Script) (journal entries : List Entry) → IsLawfulScript script → IsReadable script → All (IsTold script journal) journal → IsPart journal entries
     → ¬ SyncRun (sync_rules script.rules) entries (Some fetched.TooMany)
-syncs_find_few script journal [] lawful readable told part run = cc (run)
+syncs_find_few script journal [] lawful readable told part run = (let none = run.1 in cc (none))
 syncs_find_few script journal (first ∷ entries) lawful readable told part run =
-    walked fetched.TooMany ⊥ (IsOwn script journal first entries) (sync_rules script.rules) (AreListed script) (λ listed. Unit {0}) (λ sightings ulids. Unit {0})
+    let s = walked (IsOwn script journal first entries) AreFew (sync_rules script.rules) (λ made. AreListed script) (λ made listed. Unit {0}) (λ made sightings ulids. Unit {0})
     (few_pages script lawful journal first entries script.rules.page_limit) (few_reads script lawful journal first entries)
-    (record { ascend = tt; declared_names = All-nil (IsDeclaredName script) }) (λ names l. tt)
-    first entries (own_entries script journal first entries told part) (λ sightings j es run'. not_in_view fetched.TooMany es _ (λ view is. cc (is)) run') run
+    (record { ascend = tt; declared_names = All-nil (IsDeclaredName script) }) (λ made names l. tt)
+    (first ∷ entries) fetched.TooMany (own_entries script journal first entries told part) run in
+    not_too_many (sync_rules script.rules) (first ∷ entries) s.0 (fold with_entry None (first ∷ entries)) s.1 s.2
 
 -- ---- the ends
 

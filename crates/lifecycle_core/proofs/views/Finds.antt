@@ -1,7 +1,7 @@
 -- The sync that gave a view: what it found, told of by an honest journal, and that it found each block whose meta was put before.
 use Rattle.list_core.proofs.Membership.{contains_first, contains_later}
 use Rattle.std.proofs.Common.{◌≡◌, ◌⊎◌, inl, inr, ℕ, ◌<◌, ◌≤◌, ◌^◌, suc, zero, List, [], ◌∷◌, ◌++◌, map, length, Contains, Some, refl, sym, ◌∙◌, ap, subst, arith}
-use Rattle.std.specs.Prelude.{unwrap_or}
+use Rattle.std.specs.Prelude.{fold, unwrap_or}
 use Rattle.std.specs.List.{All, AllByRecursion}
 use Rattle.std.proofs.lemmas.Bool.{ltb-true}
 use Rattle.std.proofs.lemmas.List.Elements.{All-from_recursion, Contains-append_left, Contains-push}
@@ -15,14 +15,15 @@ use Rattle.world_core.specs.declared.op.Op.TheVariants as op
 use Rattle.world_core.specs.declared.reply.Reply.TheVariants as reply
 use Rattle.sync_filters.specs.declared.found.Found.{Found}
 use Rattle.meta_fetcher.specs.Sightings.{IsView, Sighting, block_meta, kept_by, sighting_of}
-use Rattle.meta_fetcher.specs.Syncs.{EndsInView, SyncRun, moment_after}
+use Rattle.meta_fetcher.specs.Syncs.{IsEnd, Synced, SyncRun}
+use Rattle.meta_fetcher.specs.Syncs as sync_told
+use Rattle.meta_fetcher.proofs.SyncLaws.{Comes, KeptByPages, KeptByReads, course_of_all, page_after, sighting_at, synced}
 use Rattle.meta_fetcher.specs.declared.rules.SyncRules.{SyncRules}
 use Rattle.meta_fetcher.specs.declared.sync_end.SyncEnd.TheVariants as fetched
 use Rattle.meta_fetcher.specs.declared.view.View.{View}
 use Rattle.script_core.specs.declared.script.Script.{Script}
 use Rattle.lifecycle_core.proofs.journals.Told.{IsTold, WasPutBefore}
 use Rattle.lifecycle_core.proofs.views.Pages.{AreSmall, IsToBeListed, before_first_page, listed_at_last, listed_on, ulid_listed, ulids_small}
-use Rattle.lifecycle_core.proofs.views.Walk.{IsNextPage, KeptByPages, KeptByReads, sighting_at, synced}
 
 -- ---- what is known of the sync
 
@@ -100,37 +101,48 @@ module _ (script : Script) (journal : List Entry) (first : Entry) (entries : Lis
     pub all : All (λ (f : Found). IsSighted (sighting_of f)) found
     pub past : (ulid : ℕ) → IsPast ulid → (f : Found) × Contains found f × (f.ulid ≡ ulid)
 
+  -- what a sync comes to
+  abbrev Sees : List Entry → Synced → Type 0
+  Sees made (sync_told.sighted sightings) = AreRead sightings []
+  Sees made (sync_told.fault number) = Unit {0}
+  Sees made (sync_told.damaged number) = Unit {0}
+  Sees made sync_told.too_many = Unit {0}
+
   module _ (rules : SyncRules) (view : View) where
-    reads_kept : KeptByReads (fetched.View view) (FindsPast rules view) IsOwn AreRead
+    reads_kept : KeptByReads IsOwn Sees (λ made. AreRead)
     reads_kept = record {
-      fault = λ number is. absurd (cc (is));
-      marked = λ sightings ulid ulids e bytes j own asks found is. absurd (cc (is));
-      unread = λ sightings ulid ulids e bytes j own asks found read is. absurd (cc (is));
-      seen = λ sightings ulid ulids e bytes mark_read meta j own asks found read. record {
-        all = all_more sightings (sighting_at ulid mark_read e.moment meta) j.all (record { entry = e; own = own; bytes = bytes; asks = asks; found = found; read = read; at_moment = refl; small = j.small.0 });
+      over = λ made sightings j. j;
+      mark_failed = λ made sightings ulid ulids e landed came. tt;
+      marked = λ made sightings ulid ulids e bytes came. tt;
+      unmarked = λ made sightings ulid ulids e came. came.before;
+      meta_failed = λ made sightings ulid ulids e landed came. tt;
+      unread = λ made sightings ulid ulids e bytes came none. tt;
+      seen = λ made sightings ulid ulids e bytes mark_read meta came read. let j = came.before in record {
+        all = all_more sightings (sighting_at ulid mark_read e.moment meta) j.all
+            (record { entry = e; own = came.given; bytes = bytes; asks = came.asks; found = came.shows; read = read; at_moment = refl; small = j.small.0 });
         small = j.small.1;
         past = λ other past. past_seen sightings (sighting_at ulid mark_read e.moment meta) ulid ulids other refl (j.past other past);
       };
-      missed = λ sightings ulid ulids e j own asks absent. record {
+      missed = λ made sightings ulid ulids e came. let j = came.before in record {
         all = j.all;
         small = j.small.1;
-        past = λ other past. past_missed sightings ulid ulids other (not_missed ulid other e own asks absent past) (j.past other past);
+        past = λ other past. past_missed sightings ulid ulids other (not_missed ulid other e came.given came.asks came.shows past) (j.past other past);
       };
     }
 
-    on_page : (listed names : List (List ℕ)) (page : Entry) (ulid : ℕ) → IsOwn page → IsNextPage rules.page_limit listed page names → (past : IsPast ulid)
+    on_page : (listed names : List (List ℕ)) (page : Entry) (ulid : ℕ) → Comes IsOwn (ArePastListed listed) (page_after rules.page_limit listed) (reply.Names names) page → (past : IsPast ulid)
         → Before (unwrap_or (last_listed listed) []) (text_of ulid) → Contains names (text_of ulid) ⊎ ((length names ≡ rules.page_limit) × All (λ x. Before x (text_of ulid)) names)
-    on_page listed names page ulid own next past less =
-        own.told.listed (unwrap_or (last_listed listed) []) rules.page_limit names next.asks next.shows ulid past.bytes (past_before ulid page.seq past own.later) less
+    on_page listed names page ulid came past less =
+        came.given.told.listed (unwrap_or (last_listed listed) []) rules.page_limit names came.asks came.shows ulid past.bytes (past_before ulid page.seq past came.given.later) less
 
-    pages_kept : KeptByPages (fetched.View view) (FindsPast rules view) IsOwn rules.page_limit ArePastListed AllPastListed
+    pages_kept : KeptByPages IsOwn Sees rules.page_limit (λ made. ArePastListed) (λ made. AllPastListed)
     pages_kept = record {
-      fault = λ number is. absurd (cc (is));
-      many = λ names i many is. absurd (cc (is));
-      unordered = λ listed names page i own next down is. absurd (cc (is));
-      short = λ listed names page i own next few ulid past.
-          listed_at_last rules.page_limit listed names (text_of ulid) (on_page listed names page ulid own next past) (ltb-true (length names) rules.page_limit few) (i ulid past);
-      full = λ listed names page i own next many ulid past. listed_on rules.page_limit listed names (text_of ulid) (on_page listed names page ulid own next past) (i ulid past);
+      failed = λ made listed page landed came. tt;
+      unordered = λ made listed names page came down. tt;
+      short = λ made listed names page came up few ulid past.
+          listed_at_last rules.page_limit listed names (text_of ulid) (on_page listed names page ulid came past) (ltb-true (length names) rules.page_limit few) (came.before ulid past);
+      full = λ made listed names page came up many ulid past. listed_on rules.page_limit listed names (text_of ulid) (on_page listed names page ulid came past) (came.before ulid past);
+      many = λ made names i many. tt;
     }
 
     of_sightings : (found : List Found) → AllByRecursion IsSighted (map sighting_of found) → AllByRecursion (λ (f : Found). IsSighted (sighting_of f)) found
@@ -157,14 +169,17 @@ module _ (script : Script) (journal : List Entry) (first : Entry) (entries : Lis
       past = λ ulid past. of_sights v.found ulid (subst (λ (ss : List Sighting). Sights ss ulid) (sym v.sighted) (all_read sightings ulid (j.past ulid past)));
     })
 
-    at_end : (ended : Moment) (sightings : List Sighting) → AreRead sightings [] → (es : List Entry) → EndsInView (IsView rules first.seq first.moment ended sightings) es (Some (fetched.View view)) → FindsPast rules view
-    at_end ended sightings j es (nil, inl none) = absurd (cc (none))
-    at_end ended sightings j es (nil, inr (other, is, v)) = of_view ended sightings j other (cc (is)) v
+    at_end : (ended : Moment) (last : Synced) → Sees (first ∷ entries) last → IsEnd rules (last, Some (record { first = first.seq; begin = first.moment; end = ended })) (fetched.View view) → FindsPast rules view
+    at_end ended (sync_told.sighted sightings) j (other, is, v) = of_view ended sightings j other (cc (is)) v
+    at_end ended (sync_told.fault number) j is = absurd (cc (is))
+    at_end ended (sync_told.damaged number) j is = absurd (cc (is))
+    at_end ended sync_told.too_many j is = absurd (cc (is))
 
     -- a sync whose entries are told of sights each block that was past
     pub finds_past : AllByRecursion IsOwn (first ∷ entries) → SyncRun rules (first ∷ entries) (Some (fetched.View view)) → FindsPast rules view
     finds_past all run =
-        synced (fetched.View view) (FindsPast rules view) IsOwn rules ArePastListed AllPastListed AreRead pages_kept reads_kept
+        let s = synced IsOwn Sees rules (λ made. ArePastListed) (λ made. AllPastListed) (λ made. AreRead) pages_kept reads_kept
         (λ ulid past. inr (before_first_page ulid))
-        (λ names l. record { all = tt; small = ulids_small names; past = λ ulid past. inl (ulid_listed names ulid past.small (l ulid past)) })
-        first entries all (λ sightings j es run. at_end (moment_after first.moment (first ∷ entries)) sightings j es run) run
+        (λ made names l. record { all = tt; small = ulids_small names; past = λ ulid past. inl (ulid_listed names ulid past.small (l ulid past)) })
+        (first ∷ entries) (fetched.View view) all run in
+        at_end (fold (λ (last : Moment) (e : Entry). e.moment) first.moment entries) s.0 s.1 (subst (λ c. IsEnd rules (s.0, c) (fetched.View view)) (course_of_all first entries) s.2)

@@ -3,7 +3,7 @@
 use Rattle.list_core.proofs.Membership.{contains_first, contains_later}
 use Rattle.lifecycle_core.proofs.blocks.Declared.{declared_lawful}
 use Rattle.std.proofs.Common.{◌≡◌, ◌≢◌, inl, inr, ℕ, ◌+◌, ◌<◌, ◌≤◌, ◌^◌, ◌-◌, suc, zero, Bool, true, false, ◌&&◌, cond, List, [], ◌∷◌, Contains, Option, Some, None, ℤ, pos, negsuc, refl, sym, ◌∙◌, ap, subst, arith}
-use Rattle.std.specs.Prelude.{int_le, is_some, neg_ℤ, ◌≤ℤ◌, ◌<ℤ◌}
+use Rattle.std.specs.Prelude.{fold, int_le, is_some, neg_ℤ, ◌≤ℤ◌, ◌<ℤ◌}
 use Rattle.std.specs.List.{All, AllByRecursion, filter}
 use Rattle.std.proofs.lemmas.Bool.{both_ways, le-leb, or_left}
 use Rattle.std.proofs.lemmas.Int.{ints}
@@ -16,7 +16,10 @@ use Rattle.world_core.specs.declared.entry.Entry.{Entry}
 use Rattle.sync_filters.specs.Filters.{is_consistent, is_in_partition, is_late_source, time_of}
 use Rattle.sync_filters.specs.declared.found.Found.{Found}
 use Rattle.meta_fetcher.specs.Sightings.{sighting_of}
-use Rattle.meta_fetcher.specs.Syncs.{EndsInView, SyncRun}
+use Rattle.meta_fetcher.specs.Syncs.{Course, IsEnd, Synced, SyncRun, with_entry}
+use Rattle.meta_fetcher.specs.Syncs as sync_told
+use Rattle.meta_fetcher.specs.declared.rules.SyncRules.{SyncRules}
+use Rattle.meta_fetcher.proofs.SyncLaws.{KeptByPages, KeptByReads, synced}
 use Rattle.meta_fetcher.specs.declared.sync_end.SyncEnd.{SyncEnd}
 use Rattle.meta_fetcher.specs.declared.sync_end.SyncEnd.TheVariants as fetched
 use Rattle.meta_fetcher.specs.declared.view.View.{View}
@@ -33,7 +36,6 @@ use Rattle.lifecycle_core.proofs.views.Finds.{FindsPast, IsOwn, IsPast, IsSighte
 use Rattle.lifecycle_core.proofs.views.Metas.{IsMetaOf, meta_found, no_mark}
 use Rattle.lifecycle_core.proofs.views.Pages.{AreSmall, ascends_after, ulids_small}
 use Rattle.lifecycle_core.proofs.views.Puts.{put_before, uploaded_before, within_last}
-use Rattle.lifecycle_core.proofs.views.Walk.{KeptByPages, KeptByReads, synced}
 
 -- ---- what passes the filters
 
@@ -148,7 +150,7 @@ module _ (script : Script) (readable : IsReadable script) (journal : List Entry)
 
 true_from : (script : Script) (journal : List Entry) (used : Use) → IsLawfulScript script → IsReadable script → Rises journal → All (IsTold script journal) journal → (entries : List Entry)
     → SyncRun (sync_rules script.rules) entries (Some (fetched.View used.view)) → used.last ≡ last_number entries → IsPart journal entries → IsTrueView script journal used
-true_from script journal used lawful readable rises told [] run last part = absurd (cc (run))
+true_from script journal used lawful readable rises told [] run last part = absurd ((let none = run.1 in cc (none)))
 true_from script journal used lawful readable rises told (first ∷ entries) run last part =
     let finds = finds_past script journal first entries (sync_rules script.rules) used.view (own_entries script journal first entries told part) run in
     record {
@@ -165,37 +167,50 @@ origin_is_true script journal used lawful readable rises told origin = true_from
 
 -- ---- nothing is damaged
 
-module _ (script : Script) (readable : IsReadable script) (journal : List Entry) (first : Entry) (entries : List Entry) (number : ℕ) where
-  undamaged_reads : KeptByReads (fetched.Damaged number) ⊥ (IsOwn script journal first entries) (λ sightings ulids. AreSmall ulids)
+-- what a sync comes to is not damaged
+abbrev IsUndamaged : List Entry → Synced → Type 0
+IsUndamaged made (sync_told.sighted sightings) = Unit {0}
+IsUndamaged made (sync_told.fault number) = Unit {0}
+IsUndamaged made (sync_told.damaged number) = ⊥
+IsUndamaged made sync_told.too_many = Unit {0}
+
+module _ (script : Script) (readable : IsReadable script) (journal : List Entry) (first : Entry) (entries : List Entry) where
+  undamaged_reads : KeptByReads (IsOwn script journal first entries) IsUndamaged (λ made sightings ulids. AreSmall ulids)
   undamaged_reads = record {
-    fault = λ n is. cc (is);
-    marked = λ sightings ulid ulids e bytes small own asks found is. no_mark script ulid bytes (own.told.found (key.Mark ulid) bytes small.0 asks found).0;
-    unread = λ sightings ulid ulids e bytes small own asks found none is.
-        let m = meta_found script readable ulid bytes (own.told.found (key.Meta ulid) bytes small.0 asks found).0 in
+    over = λ made sightings small. tt;
+    mark_failed = λ made sightings ulid ulids e landed came. tt;
+    marked = λ made sightings ulid ulids e bytes came. no_mark script ulid bytes (came.given.told.found (key.Mark ulid) bytes came.before.0 came.asks came.shows).0;
+    unmarked = λ made sightings ulid ulids e came. came.before;
+    meta_failed = λ made sightings ulid ulids e landed came. tt;
+    unread = λ made sightings ulid ulids e bytes came none.
+        let m = meta_found script readable ulid bytes (came.given.told.found (key.Meta ulid) bytes came.before.0 came.asks came.shows).0 in
         cc (none, m.1);
-    seen = λ sightings ulid ulids e bytes mark_read meta small own asks found read. small.1;
-    missed = λ sightings ulid ulids e small own asks absent. small.1;
+    seen = λ made sightings ulid ulids e bytes mark_read meta came read. came.before.1;
+    missed = λ made sightings ulid ulids e came. came.before.1;
   }
 
-  undamaged_pages : (limit : ℕ) → KeptByPages (fetched.Damaged number) ⊥ (IsOwn script journal first entries) limit (λ listed. Unit {0}) (λ listed. Unit {0})
+  undamaged_pages : (limit : ℕ) → KeptByPages (IsOwn script journal first entries) IsUndamaged limit (λ made listed. Unit {0}) (λ made listed. Unit {0})
   undamaged_pages limit = record {
-    fault = λ n is. cc (is);
-    many = λ names i many is. cc (is);
-    unordered = λ listed names page i own next down is. both_ways _ down (ascends_after (last_listed listed) names (own.told.ascend _ limit names next.asks next.shows));
-    short = λ listed names page i own next few. tt;
-    full = λ listed names page i own next many. tt;
+    failed = λ made listed page landed came. tt;
+    unordered = λ made listed names page came down. both_ways _ down (ascends_after (last_listed listed) names (came.given.told.ascend _ limit names came.asks came.shows));
+    short = λ made listed names page came up few. tt;
+    full = λ made listed names page came up many. tt;
+    many = λ made names i many. tt;
   }
 
--- an end that is no view is not that of all reads
-pub not_in_view : (last : SyncEnd) (es : List Entry) (IsSuch : View → Type 0) → ((view : View) → last ≢ fetched.View view) → EndsInView IsSuch es (Some last) → ⊥
-not_in_view last es IsSuch other (nil, inl none) = cc (none)
-not_in_view last es IsSuch other (nil, inr (view, is, v)) = other view (cc (is))
+not_damaged : (rules : SyncRules) (made : List Entry) (last : Synced) (course : Option Course) (number : ℕ) → IsUndamaged made last → IsEnd rules (last, course) (fetched.Damaged number) → ⊥
+not_damaged rules made (sync_told.sighted sightings) (Some course) number own (view, is, v) = cc (is)
+not_damaged rules made (sync_told.sighted sightings) None number own is = is
+not_damaged rules made (sync_told.fault other) course number own is = cc (is)
+not_damaged rules made (sync_told.damaged other) course number own is = own
+not_damaged rules made sync_told.too_many course number own is = cc (is)
 
 -- no sync of the journal finds names or bytes that are not of the form
 pub syncs_undamaged : (script : Script) (journal entries : List Entry) (number : ℕ) → IsLawfulScript script → IsReadable script → All (IsTold script journal) journal → IsPart journal entries
     → ¬ SyncRun (sync_rules script.rules) entries (Some (fetched.Damaged number))
-syncs_undamaged script journal [] number lawful readable told part run = cc (run)
+syncs_undamaged script journal [] number lawful readable told part run = (let none = run.1 in cc (none))
 syncs_undamaged script journal (first ∷ entries) number lawful readable told part run =
-    synced (fetched.Damaged number) ⊥ (IsOwn script journal first entries) (sync_rules script.rules) (λ listed. Unit {0}) (λ listed. Unit {0}) (λ sightings ulids. AreSmall ulids)
-    (undamaged_pages script readable journal first entries number script.rules.page_limit) (undamaged_reads script readable journal first entries number) tt (λ names l. ulids_small names)
-    first entries (own_entries script journal first entries told part) (λ sightings small es run'. not_in_view (fetched.Damaged number) es _ (λ view is. cc (is)) run') run
+    let s = synced (IsOwn script journal first entries) IsUndamaged (sync_rules script.rules) (λ made listed. Unit {0}) (λ made listed. Unit {0}) (λ made sightings ulids. AreSmall ulids)
+    (undamaged_pages script readable journal first entries script.rules.page_limit) (undamaged_reads script readable journal first entries) tt (λ made names l. ulids_small names)
+    (first ∷ entries) (fetched.Damaged number) (own_entries script journal first entries told part) run in
+    not_damaged (sync_rules script.rules) (first ∷ entries) s.0 (fold with_entry None (first ∷ entries)) number s.1 s.2

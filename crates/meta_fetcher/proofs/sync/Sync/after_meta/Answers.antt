@@ -1,17 +1,18 @@
 use Rattle.std.proofs.Common.{◌∙◌, refl, sym, ap, option_map}
-use Rattle.world_core.specs.declared.reply.Reply.TheVariants.{Absent, Found}
 use Rattle.block_meta.specs.MetaFields.{fields_of}
 use Rattle.meta_fetcher.specs.Sightings.{block_meta}
-use Rattle.meta_fetcher.specs.declared.stage.Stage.TheVariants.{Reading}
-use Rattle.meta_fetcher.proofs.Metas.{leads_by_reply, leads_found}
+use Rattle.meta_fetcher.proofs.Metas.{meta_failed, meta_refused, meta_seen}
 use Rattle.meta_fetcher.proofs.sync.Sync.after_meta.Goals as goal
 
 pub returns-in-Some-clause-leads : goal.returns-in-Some-clause-leads
-returns-in-Some-clause-leads c =
-    leads_by_reply (Reading c.args.ulid) c.args.self.now c.args.seen.seq c.args.seen.moment (Found c.in-Found.bytes) c.args.seen.reply _ _ c.in-Found.is
-    (leads_found c.args.self.now c.args.ulid c.args.seen.seq c.args.seen.moment c.in-Found.bytes (option_map fields_of c.in_ok-meta-in-Found.field-0) _ c.push.new.self.items _ _
-    (c.in_ok-meta-in-Found.ensures ∙ ap (block_meta c.args.ulid) c.bytes-in-Found.ensures) (ap (option_map fields_of) c.in-Some.is) refl c.in_ok-push-in-Some.ensures.items c.read_next.ensures.leads)
+returns-in-Some-clause-leads c = λ seat op.
+    meta_seen c.args.self.now c.args.ulid seat op c.args.seen c.in-Found.bytes _ c.push.new.self.items _ _ c.in-Found.is
+    (sym (c.in_ok-meta-in-Found.ensures ∙ ap (block_meta c.args.ulid) c.bytes-in-Found.ensures) ∙ ap (option_map fields_of) c.in-Some.is) refl c.in_ok-push-in-Some.ensures.items c.read_next.ensures.leads
 
-pub returns-in-Absent-clause-leads : goal.returns-in-Absent-clause-leads
-returns-in-Absent-clause-leads c =
-    leads_by_reply (Reading c.args.ulid) c.args.self.now c.args.seen.seq c.args.seen.moment Absent c.args.seen.reply _ _ c.in-Absent.is c.read_next-in-Absent.ensures.leads
+pub returns-in-Found-clause-leads : goal.returns-in-Found-clause-leads
+returns-in-Found-clause-leads c = λ seat op.
+    meta_refused c.args.self.now c.args.ulid seat op c.args.seen c.in-Found.bytes c.in-Found.is
+    (sym (c.in_ok-meta-in-Found.ensures ∙ ap (block_meta c.args.ulid) c.bytes-in-Found.ensures) ∙ ap (option_map fields_of) c.in-None.is)
+
+pub returns-in-Failed-clause-leads : goal.returns-in-Failed-clause-leads
+returns-in-Failed-clause-leads c = λ seat op. meta_failed c.args.self.now c.args.ulid seat op c.args.seen _ c.in-Failed.is

@@ -1,6 +1,6 @@
-use Rattle.std.proofs.Common.{◌≡◌, sym, ap, Some}
+use Rattle.std.proofs.Common.{sym, ap, Some}
 use Rattle.world_core.specs.declared.op.Op.TheVariants as op
-use Rattle.meta_fetcher.proofs.Steps.{opens, not_opened}
+use Rattle.meta_fetcher.proofs.Steps.{opens}
 use Rattle.meta_fetcher.proofs.sync.SyncMachine.first.Goals as goal
 
 pub returns : goal.returns

@@ -1,0 +1,187 @@
+-- A view's blocks ascend: the names of a walk do, and ULIDs are in the order of their texts.
+use Rattle.std.proofs.Common.{◌≡◌, ◌<◌, ◌^◌, ℕ, Bool, true, false, List, [], ◌∷◌, ◌++◌, refl, sym, ◌∙◌, ap, subst, Option, Some, None, Result, Ok, Err, cond, append_assoc, append-nil}
+use Rattle.std.specs.Prelude.{◌&&◌, map}
+use Rattle.std.specs.List.{AllByRecursion, filter, cons_option, last_or}
+use Rattle.std.specs.List.Sorted.{IsStrictlyIncreasing, IsStrictlySortedBy}
+use Rattle.std.specs.Result.{result_ok}
+use Rattle.std.proofs.Common.{Ordering, Less, Equal, Greater}
+use Rattle.std.specs.Ordering.{is_lt, nat_cmp}
+use Rattle.std.specs.Cmp.Lexicographic.{slice_cmp}
+use Rattle.std.proofs.lemmas.Bool.{and_from}
+use Rattle.std.proofs.lemmas.Cmp.{nat_list_cmp_total}
+use Rattle.std.proofs.lemmas.List.{map-append}
+use Rattle.std.proofs.lemmas.Map.Keys.{IsStrictlyIncreasing-from_sorted, sorted_from_strictly_increasing}
+use Rattle.ulid_core.specs.UlidText.{IsUlidText, ulid_of, text_of}
+use Rattle.ulid_core.specs.declared.refusal.UlidRefusal.{UlidRefusal}
+use Rattle.ulid_core.proofs.UlidLaws.{IsUlidText-unique, slice_cmp-text_of, ulid_of-found}
+use Rattle.world_core.specs.Plans.{Runs}
+use Rattle.world_core.specs.Walks.{ascends, is_after}
+use Rattle.world_core.specs.declared.entry.Entry.{Entry}
+use Rattle.world_core.proofs.PlanLaws.{nothing_given}
+use Rattle.sync_filters.specs.Filters.{is_consistent, is_in_partition}
+use Rattle.sync_filters.specs.declared.found.Found.{Found}
+use Rattle.meta_fetcher.specs.Sightings.{Sighting, sighting_of, kept_by}
+use Rattle.meta_fetcher.specs.Syncs.{Synced, sighted, fault, damaged, too_many, Course, sync, ulids_in}
+use Rattle.meta_fetcher.specs.SyncStates.{Ascend}
+use Rattle.meta_fetcher.specs.declared.rules.SyncRules.{SyncRules}
+use Rattle.meta_fetcher.proofs.SyncLaws.{KeptByPages, KeptByReads, sighting_at, told}
+
+-- ---- ULIDs among names
+
+abbrev Ascending : List ℕ → Type 0
+Ascending ulids = IsStrictlySortedBy nat_cmp ulids
+
+-- the text of each is greater than the one before it
+abbrev AreAfter : Option (List ℕ) → List ℕ → Type 0
+AreAfter bound [] = Unit {0}
+AreAfter bound (ulid ∷ ulids) = (is_after bound (text_of ulid) ≡ true) × (ulid < 2 ^ 128) × AreAfter (Some (text_of ulid)) ulids
+
+is_less : (o : Ordering) → is_lt o ≡ true → o ≡ Less
+is_less Less is = refl
+is_less Equal is = absurd (cc (is))
+is_less Greater is = absurd (cc (is))
+
+after_less : (bound : Option (List ℕ)) (name : List ℕ) (ulids : List ℕ) → is_after bound name ≡ true → AreAfter (Some name) ulids → AreAfter bound ulids
+after_less bound name [] before all = tt
+after_less None name (ulid ∷ ulids) before all = (refl, all.1, all.2)
+after_less (Some x) name (ulid ∷ ulids) before all =
+    (ap is_lt (nat_list_cmp_total.trans x name (text_of ulid) (is_less (slice_cmp nat_cmp x name) before) (is_less (slice_cmp nat_cmp name (text_of ulid)) all.0)), all.1, all.2)
+
+one_after : (bound : Option (List ℕ)) (name : List ℕ) (ulids : List ℕ) (r : Result ℕ UlidRefusal) → ((ulid : ℕ) → r ≡ Ok ulid → IsUlidText name ulid) → is_after bound name ≡ true
+    → AreAfter (Some name) ulids → AreAfter bound (cons_option (result_ok r) ulids)
+one_after bound name ulids (Ok ulid) found before all =
+    let is : name ≡ text_of ulid = IsUlidText-unique name ulid (found ulid refl) in
+    (subst (λ text. is_after bound text ≡ true) is before, (found ulid refl).fits, subst (λ text. AreAfter (Some text) ulids) is all)
+one_after bound name ulids (Err e) found before all = after_less bound name ulids before all
+
+both_true : (a b : Bool) → (a && b) ≡ true → (a ≡ true) × (b ≡ true)
+both_true true b is = (refl, is)
+both_true false b is = absurd (cc (is))
+
+ulids_after : (bound : Option (List ℕ)) (names : List (List ℕ)) → ascends bound names ≡ true → AreAfter bound (ulids_in names)
+ulids_after bound [] up = tt
+ulids_after bound (name ∷ names) up =
+    let each = both_true (is_after bound name) (ascends (Some name) names) up in
+    one_after bound name (ulids_in names) (ulid_of name) (ulid_of-found name) each.0 (ulids_after (Some name) names each.1)
+
+all_above : (ulid : ℕ) (ulids : List ℕ) → ulid < 2 ^ 128 → AreAfter (Some (text_of ulid)) ulids → AllByRecursion (λ other. nat_cmp ulid other ≡ Less) ulids
+all_above ulid [] small all = tt
+all_above ulid (other ∷ ulids) small all = (
+  sym (slice_cmp-text_of ulid other small all.1) ∙ is_less (slice_cmp nat_cmp (text_of ulid) (text_of other)) all.0,
+  all_above ulid ulids small (after_less (Some (text_of ulid)) (text_of other) ulids all.0 all.2),
+)
+
+after_ascending : (bound : Option (List ℕ)) (ulids : List ℕ) → AreAfter bound ulids → Ascending ulids
+unfolding IsStrictlySortedBy
+after_ascending bound [] all = tt
+after_ascending bound (ulid ∷ ulids) all = (all_above ulid ulids all.1 all.2, after_ascending (Some (text_of ulid)) ulids all.2)
+
+-- ---- the names of a walk
+
+ascends_on : (before : Option (List ℕ)) (listed names : List (List ℕ)) → ascends before listed ≡ true → ascends (last_or before listed) names ≡ true → ascends before (listed ++ names) ≡ true
+ascends_on before [] names up more = more
+ascends_on before (name ∷ listed) names up more =
+    let each = both_true (is_after before name) (ascends (Some name) listed) up in
+    and_from (is_after before name) (ascends (Some name) (listed ++ names)) each.0 (ascends_on (Some name) listed names each.1 more)
+
+-- ---- sightings
+
+all_but : (P : ℕ → Type 0) (front : List ℕ) (ulid : ℕ) (ulids : List ℕ) → AllByRecursion P (front ++ ulid ∷ ulids) → AllByRecursion P (front ++ ulids)
+all_but P [] ulid ulids all = all.1
+all_but P (x ∷ front) ulid ulids all = (all.0, all_but P front ulid ulids all.1)
+
+-- without one of them
+ascending_but : (front : List ℕ) (ulid : ℕ) (ulids : List ℕ) → Ascending (front ++ ulid ∷ ulids) → Ascending (front ++ ulids)
+unfolding IsStrictlySortedBy
+ascending_but [] ulid ulids up = up.1
+ascending_but (x ∷ front) ulid ulids up = (all_but (λ other. nat_cmp x other ≡ Less) front ulid ulids up.0, ascending_but front ulid ulids up.1)
+
+abbrev ulids_of : List Sighting → List ℕ
+ulids_of sightings = map (λ sighting. sighting.ulid) sightings
+
+-- a sighting of the first that is left
+ascending_seen : (sightings : List Sighting) (sighting : Sighting) (ulids : List ℕ) → Ascending (ulids_of sightings ++ sighting.ulid ∷ ulids) → Ascending (ulids_of (sightings ++ sighting ∷ []) ++ ulids)
+ascending_seen sightings sighting ulids up =
+    subst Ascending (sym (ap (λ l. l ++ ulids) (map-append (λ (s : Sighting). s.ulid) sightings (sighting ∷ [])) ∙ append_assoc (ulids_of sightings) (sighting.ulid ∷ []) ulids)) up
+
+abbrev IsInOrder : List Entry → Synced → Type 0
+IsInOrder made (sighted sightings) = Ascending (ulids_of sightings)
+IsInOrder made (fault number) = Unit {0}
+IsInOrder made (damaged number) = Unit {0}
+IsInOrder made too_many = Unit {0}
+
+abbrev AnyEntry : Entry → Type 0
+AnyEntry e = Unit {0}
+
+by_reads : KeptByReads AnyEntry IsInOrder (λ made sightings ulids. Ascending (ulids_of sightings ++ ulids))
+by_reads = record {
+  over = λ made sightings up. subst Ascending (append-nil (ulids_of sightings)) up;
+  mark_failed = λ made sightings ulid ulids e landed came. tt;
+  marked = λ made sightings ulid ulids e bytes came. tt;
+  unmarked = λ made sightings ulid ulids e came. came.before;
+  meta_failed = λ made sightings ulid ulids e landed came. tt;
+  unread = λ made sightings ulid ulids e bytes came none. tt;
+  seen = λ made sightings ulid ulids e bytes mark_read meta came some. ascending_seen sightings (sighting_at ulid mark_read e.moment meta) ulids came.before;
+  missed = λ made sightings ulid ulids e came. ascending_but (ulids_of sightings) ulid ulids came.before;
+}
+
+abbrev AreUp : List Entry → List (List ℕ) → Type 0
+AreUp made names = ascends None names ≡ true
+
+by_pages : (limit : ℕ) → KeptByPages AnyEntry IsInOrder limit AreUp AreUp
+by_pages limit = record {
+  failed = λ made listed page landed came. tt;
+  unordered = λ made listed names page came down. tt;
+  short = λ made listed names page came up short. ascends_on None listed names came.before up;
+  full = λ made listed names page came up full. ascends_on None listed names came.before up;
+  many = λ made names up many. tt;
+}
+
+-- what a sync comes to ascends
+pub sync_ascends : (rules : SyncRules) (entries : List Entry) (told : Synced × Option Course) → Runs (sync rules) entries (Some told) → Ascend told
+sync_ascends rules entries (last, course) run =
+    in_order last course (told AnyEntry IsInOrder rules AreUp AreUp (λ made sightings ulids. Ascending (ulids_of sightings ++ ulids)) (by_pages rules.page_limit) by_reads refl
+    (λ made names up. after_ascending None (ulids_in names) (ulids_after None names up)) entries last course (nothing_given entries) run).0
+  where
+    in_order : (last : Synced) (course : Option Course) → IsInOrder entries last → Ascend (last, course)
+    in_order (sighted sightings) course up = IsStrictlyIncreasing-from_sorted (ulids_of sightings) up
+    in_order (fault number) course up = tt
+    in_order (damaged number) course up = tt
+    in_order too_many course up = tt
+
+-- ---- what is kept of the blocks
+
+abbrev blocks_of : List Found → List ℕ
+blocks_of found = map (λ block. block.ulid) found
+
+all_kept : (P : ℕ → Type 0) (test : Found → Bool) (found : List Found) → AllByRecursion P (blocks_of found) → AllByRecursion P (blocks_of (filter test found))
+all_kept P test [] all = tt
+all_kept P test (block ∷ found) all = one (test block) (all_kept P test found all.1)
+  where
+    one : (b : Bool) → AllByRecursion P (blocks_of (filter test found)) → AllByRecursion P (blocks_of (cond b (block ∷ filter test found) (filter test found)))
+    one true rest = (all.0, rest)
+    one false rest = rest
+
+ascending_kept : (test : Found → Bool) (found : List Found) → Ascending (blocks_of found) → Ascending (blocks_of (filter test found))
+unfolding IsStrictlySortedBy
+ascending_kept test [] up = tt
+ascending_kept test (block ∷ found) up = one (test block) (ascending_kept test found up.1)
+  where
+    one : (b : Bool) → Ascending (blocks_of (filter test found)) → Ascending (blocks_of (cond b (block ∷ filter test found) (filter test found)))
+    one true rest = (all_kept (λ other. nat_cmp block.ulid other ≡ Less) test found up.0, rest)
+    one false rest = rest
+
+-- what the filters keep ascends
+pub kept_ascend : (rules : SyncRules) (found : List Found) → IsStrictlyIncreasing (blocks_of found) → IsStrictlyIncreasing (blocks_of (kept_by rules found))
+kept_ascend rules found up =
+    IsStrictlyIncreasing-from_sorted (blocks_of (kept_by rules found))
+    (ascending_kept (λ block. is_consistent block rules.consistency) (filter (λ block. is_in_partition block.meta rules.partition) found)
+    (ascending_kept (λ block. is_in_partition block.meta rules.partition) found (sorted_from_strictly_increasing (blocks_of found) up)))
+
+sighted_blocks : (found : List Found) → ulids_of (map sighting_of found) ≡ blocks_of found
+sighted_blocks [] = refl
+sighted_blocks (block ∷ found) = ap (λ l. block.ulid ∷ l) (sighted_blocks found)
+
+-- and of blocks whose sightings ascend
+pub sighted_ascend : (found : List Found) → IsStrictlyIncreasing (ulids_of (map sighting_of found)) → IsStrictlyIncreasing (blocks_of found)
+sighted_ascend found up = subst IsStrictlyIncreasing (sighted_blocks found) up
