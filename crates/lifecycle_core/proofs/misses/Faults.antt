@@ -8,7 +8,6 @@ use Rattle.block_keys.specs.declared.object.Object.{Object}
 use Rattle.label_sets.specs.Triples.{Triple}
 use Rattle.label_sets.specs.declared.series.Series.{Series}
 use Rattle.world_core.specs.Operations.{has_failed}
-use Rattle.world_core.specs.Walks.{EndsWith}
 use Rattle.world_core.specs.declared.entry.Entry.{Entry}
 use Rattle.world_core.specs.declared.op.Op.TheVariants as op
 use Rattle.world_core.specs.declared.reply.Reply.{Reply}
@@ -27,43 +26,16 @@ use Rattle.meta_fetcher.specs.declared.rules.SyncRules.{SyncRules}
 use Rattle.meta_fetcher.specs.declared.sync_end.SyncEnd.{SyncEnd}
 use Rattle.meta_fetcher.specs.declared.sync_end.SyncEnd.TheVariants as fetched
 use Rattle.meta_fetcher.specs.declared.view.View.{View}
-use Rattle.store_gateway.specs.SeriesRuns.{Query as Question, Called, IsEnd, SeriesRun, ToRead, damaged, fault, missing, reading, series_call, sources_of, to_read, took}
+use Rattle.store_gateway.specs.SeriesRuns.{Query as Question, Called, IsEnd as IsCallEnd, SeriesRun, ToRead, reading, series_call, sources_of, to_read}
+use Rattle.store_gateway.specs.SeriesRuns as call_told
 use Rattle.store_gateway.proofs.CallLaws.{reading_are}
 use Rattle.store_gateway.specs.declared.series_end.SeriesEnd.{SeriesEnd}
 use Rattle.store_gateway.specs.declared.series_end.SeriesEnd.TheVariants as called
-use Rattle.lifecycle_core.proofs.misses.GatewayEntries.{match_bool}
 use Rattle.lifecycle_core.proofs.journals.Positions.{stands_in}
 
 -- an entry of this number was answered that its call failed
 abbrev pub ShowsFault : List Entry → ℕ → Type 0
 ShowsFault entries number = (e : Entry) × Contains entries e × (e.seq ≡ number) × IsTrue (has_failed e.reply)
-
-shows_later : (e : Entry) (entries : List Entry) (number : ℕ) → ShowsFault entries number → ShowsFault (e ∷ entries) number
-shows_later e entries number (x, among, is, failed) = (x, contains_later e x entries among, is, failed)
-
--- ---- runs whose ends are of one kind
-
--- A fault is known by its number.
-abbrev IsKnown : {E : Type 0} → (ℕ → E) → Type 0
-IsKnown fault = (one other : ℕ) → fault one ≡ fault other → one ≡ other
-
-module _ {E : Type 0} (fault : ℕ → E) where
-  abbrev Shows : List Entry → Option E → Type 0
-  Shows entries end = (number : ℕ) → end ≡ Some (fault number) → ShowsFault entries number
-
-  no_end : (entries : List Entry) (end : Option E) → end ≡ None → Shows entries end
-  no_end entries end none = λ number is. absurd (cc (none, is))
-
-  goes_on : (e : Entry) (entries : List Entry) (end : Option E) → Shows entries end → Shows (e ∷ entries) end
-  goes_on e entries end own = λ number is. shows_later e entries number (own number is)
-
-  ends_else : (last : E) (entries : List Entry) (end : Option E) → ((number : ℕ) → last ≡ fault number → ⊥) → EndsWith last entries end → Shows entries end
-  ends_else last entries end other (nil, inl none) = no_end entries end none
-  ends_else last entries end other (nil, inr same) = λ number is. absurd (other number (cc (same, is)))
-
-  has_failed_here : IsKnown fault → (e : Entry) (landed : Bool) (entries : List Entry) (end : Option E) → e.reply ≡ reply.Failed landed → EndsWith (fault e.seq) entries end → Shows (e ∷ entries) end
-  has_failed_here known e landed entries end failed (nil, inl none) = no_end (e ∷ entries) end none
-  has_failed_here known e landed entries end failed (nil, inr same) = λ number is. (e, contains_first e entries, known e.seq number (cc (same, is)), ap has_failed failed)
 
 -- ---- uploads
 
@@ -144,13 +116,13 @@ sync_shows rules entries (Some last) run number is =
 -- ---- series calls
 
 abbrev CallShows : List Entry → Called → Type 0
-CallShows made told = (number : ℕ) → told ≡ fault number → ShowsFault made number
+CallShows made told = (number : ℕ) → told ≡ call_told.fault number → ShowsFault made number
 
-fault_told : (sources : List ℕ) (told : Called) (end : SeriesEnd) (number : ℕ) → IsEnd sources told end → end ≡ called.Fault number → told ≡ fault number
-fault_told sources (took taken) end number (series, set, is, merge, set_is) same = absurd (cc (is, same))
-fault_told sources (missing n) end number is same = absurd (cc (is, same))
-fault_told sources (damaged n) end number is same = absurd (cc (is, same))
-fault_told sources (fault n) end number is same = let one : n ≡ number = cc (is, same) in ap fault one
+fault_told : (sources : List ℕ) (told : Called) (end : SeriesEnd) (number : ℕ) → IsCallEnd sources told end → end ≡ called.Fault number → told ≡ call_told.fault number
+fault_told sources (call_told.took taken) end number (series, set, is, merge, set_is) same = absurd (cc (is, same))
+fault_told sources (call_told.missing n) end number is same = absurd (cc (is, same))
+fault_told sources (call_told.damaged n) end number is same = absurd (cc (is, same))
+fault_told sources (call_told.fault n) end number is same = let one : n ≡ number = cc (is, same) in ap call_told.fault one
 
 calls_show : (query : Question) (blocks : List ToRead) → EndsAre (λ e. Unit {0}) CallShows [] (reading query [] blocks)
 calls_show query blocks =

@@ -8,8 +8,6 @@ use Rattle.label_sets.specs.Triples.{Triple}
 use Rattle.label_sets.specs.declared.series.Series.{Series}
 use Rattle.block_keys.specs.declared.key.Key.{Key}
 use Rattle.block_keys.specs.declared.key.Key.TheVariants as key
-use Rattle.world_core.specs.Walks.{EndsWith}
-use Rattle.world_core.proofs.PlanLaws.{nothing_given}
 use Rattle.world_core.specs.declared.entry.Entry.{Entry}
 use Rattle.world_core.specs.declared.op.Op.TheVariants as op
 use Rattle.world_core.specs.declared.reply.Reply.{Reply}
@@ -23,7 +21,8 @@ use Rattle.meta_fetcher.specs.declared.rules.SyncRules.{SyncRules}
 use Rattle.meta_fetcher.specs.declared.sync_end.SyncEnd.{SyncEnd}
 use Rattle.meta_fetcher.specs.declared.sync_end.SyncEnd.TheVariants as fetched
 use Rattle.meta_fetcher.specs.declared.view.View.{View}
-use Rattle.store_gateway.specs.SeriesRuns.{Query as Question, Called, IsEnd, SeriesRun, ToRead, damaged, fault, meets, missing, reading, series_call, sources_of, to_read, took}
+use Rattle.store_gateway.specs.SeriesRuns.{Query as Question, Called, IsEnd as IsCallEnd, SeriesRun, ToRead, meets, reading, series_call, sources_of, to_read}
+use Rattle.store_gateway.specs.SeriesRuns as call_told
 use Rattle.store_gateway.proofs.CallLaws.{reading_are, reading_asks}
 use Rattle.world_core.specs.Plans.{Runs}
 use Rattle.world_core.proofs.PlanLaws.{EndsAre, asked_are, each_op, end_is, nothing_given}
@@ -31,10 +30,6 @@ use Rattle.store_gateway.specs.declared.series_end.SeriesEnd.{SeriesEnd}
 use Rattle.store_gateway.specs.declared.series_end.SeriesEnd.TheVariants as called
 use Rattle.lifecycle_core.proofs.journals.Positions.{stands_in}
 use Rattle.lifecycle_core.proofs.journals.RunEntries.{PrecedesMeta, IsRead}
-
-pub match_bool : (b : Bool) (X Y R : Type 0) → (X → R) → (Y → R) → MatchBool b X Y → R
-match_bool true X Y R f g m = f m
-match_bool false X Y R f g m = g m
 
 -- ---- what was seen
 
@@ -152,13 +147,13 @@ pub record Calls (Q : ℕ → Type 0) (entries : List Entry) (end : Option Serie
 
 module _ (Q : ℕ → Type 0) where
   abbrev CallMisses : List Entry → Called → Type 0
-  CallMisses made told = (number : ℕ) → told ≡ missing number → Misses Q made number
+  CallMisses made told = (number : ℕ) → told ≡ call_told.missing number → Misses Q made number
 
-  missing_told : (sources : List ℕ) (told : Called) (end : SeriesEnd) (number : ℕ) → IsEnd sources told end → end ≡ called.Missing number → told ≡ missing number
-  missing_told sources (took taken) end number (series, set, is, merge, set_is) same = absurd (cc (is, same))
-  missing_told sources (missing n) end number is same = let one : n ≡ number = cc (is, same) in ap missing one
-  missing_told sources (damaged n) end number is same = absurd (cc (is, same))
-  missing_told sources (fault n) end number is same = absurd (cc (is, same))
+  missing_told : (sources : List ℕ) (told : Called) (end : SeriesEnd) (number : ℕ) → IsCallEnd sources told end → end ≡ called.Missing number → told ≡ call_told.missing number
+  missing_told sources (call_told.took taken) end number (series, set, is, merge, set_is) same = absurd (cc (is, same))
+  missing_told sources (call_told.missing n) end number is same = let one : n ≡ number = cc (is, same) in ap call_told.missing one
+  missing_told sources (call_told.damaged n) end number is same = absurd (cc (is, same))
+  missing_told sources (call_told.fault n) end number is same = absurd (cc (is, same))
 
   calls_miss : (query : Question) (blocks : List ToRead) → AllByRecursion (λ (b : ToRead). Q b.ulid) blocks → EndsAre (λ e. Unit {0}) CallMisses [] (reading query [] blocks)
   calls_miss query blocks all =

@@ -7,7 +7,6 @@ use Rattle.block_keys.specs.declared.key.Key.TheVariants as key
 use Rattle.block_keys.specs.declared.object.Object.{Object}
 use Rattle.label_sets.specs.Triples.{Triple}
 use Rattle.label_sets.specs.declared.series.Series.{Series}
-use Rattle.world_core.specs.Walks.{EndsWith}
 use Rattle.world_core.specs.declared.entry.Entry.{Entry}
 use Rattle.world_core.specs.declared.op.Op.TheVariants as op
 use Rattle.world_core.specs.declared.reply.Reply.{Reply}
@@ -18,7 +17,7 @@ use Rattle.meta_fetcher.specs.Syncs.{IsEnd, SyncRun, sync}
 use Rattle.meta_fetcher.specs.declared.rules.SyncRules.{SyncRules}
 use Rattle.meta_fetcher.specs.declared.sync_end.SyncEnd.{SyncEnd}
 use Rattle.meta_fetcher.specs.declared.view.View.{View}
-use Rattle.store_gateway.specs.SeriesRuns.{Query as Question, IsEnd, series_call, sources_of}
+use Rattle.store_gateway.specs.SeriesRuns.{Query as Question, IsEnd as IsCallEnd, series_call, sources_of}
 use Rattle.store_gateway.specs.declared.series_end.SeriesEnd.{SeriesEnd}
 use Rattle.script_core.specs.declared.script.Script.{Script}
 use Rattle.script_workers.specs.declared.work.Work.{Work}
@@ -29,11 +28,6 @@ use Rattle.lifecycle_core.specs.Views.{Use}
 pub not_nil : {X : Type 0} (xs : List X) (y : X) (rest : List X) → xs ++ y ∷ rest ≡ [] → ⊥
 not_nil [] y rest is = cc (is)
 not_nil (x ∷ xs) y rest is = cc (is)
-
--- in either case the same holds
-both_cases : (b : Bool) (X Y X' Y' : Type 0) → (X → X') → (Y → Y') → MatchBool b X Y → MatchBool b X' Y'
-both_cases true X Y X' Y' f g m = f m
-both_cases false X Y X' Y' f g m = g m
 
 -- ---- syncs
 
@@ -51,7 +45,7 @@ before_stop stop xs y rest own end (inr (n, is, above, count, same)) = λ m othe
 query_cut : (script : Script) (view : Option Use) (asked : Option Question) (xs : List Entry) (y : Entry) (rest : List Entry) (end : Option End) → QueryTask script view asked (xs ++ y ∷ rest) end → QueryTask script view asked xs None
 query_cut script None asked xs y rest end (nil, how) = absurd (not_nil xs y rest nil)
 query_cut script (Some used) None xs y rest end run = run
-query_cut script (Some used) (Some asked) xs y rest end (own, run, is) = (None, comes_front (series_call used.view asked) (IsEnd (sources_of used.view.kept)) xs y rest own run, refl)
+query_cut script (Some used) (Some asked) xs y rest end (own, run, is) = (None, comes_front (series_call used.view asked) (IsCallEnd (sources_of used.view.kept)) xs y rest own run, refl)
 
 -- entries of a task's run before its last are a run without an end
 pub task_cut : (script : Script) (view : Option Use) (w : Work) (xs : List Entry) (y : Entry) (rest : List Entry) (end : Option End) → TaskRun script view w (xs ++ y ∷ rest) end → TaskRun script view w xs None
