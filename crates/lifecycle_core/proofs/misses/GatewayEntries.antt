@@ -1,6 +1,6 @@
 -- What the entries of a gateway's syncs and series calls are: reads. A view keeps blocks whose metas were found, and a call that
 -- misses an object reads a block of its view.
-use Rattle.std.proofs.Common.{◌≡◌, inl, inr, ℕ, Bool, true, false, List, [], ◌∷◌, ◌++◌, map, Contains, Option, Some, None, refl, sym, ap, subst, append_assoc}
+use Rattle.std.proofs.Common.{◌≡◌, inl, inr, ℕ, Bool, true, false, List, [], ◌∷◌, ◌++◌, map, Contains, Option, Some, None, refl, sym, ap, subst}
 use Rattle.std.specs.Prelude.{MatchBool, fold}
 use Rattle.std.specs.List.{All, AllByRecursion, filter}
 use Rattle.std.proofs.lemmas.List.Elements.{All-filter, All-from_recursion, recursion_from_All, Contains-append_left, Contains-append_right}
