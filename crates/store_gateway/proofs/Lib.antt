@@ -3,4 +3,3 @@ pub mod Taken
 pub mod Meeting
 pub mod Sources
 pub mod CallLaws
-mod OldAgrees

@@ -180,8 +180,8 @@ pub series_leads : (old : Calling) (stage : Stage) (own : Query) (sources : List
     → record { stage = stage; query = own; sources = sources; left = to_read own blocks; taken = before } ≡ old → old.stage ≡ Reading → IsAt stage own blocks
     → block ≡ get_or blocks 0 block → taken ≡ before ++ wanted own block.meta.labels series → Leads (Goes sources (reading own taken (to_read own rest))) r new → rest ≡ drop 1 blocks
     → Leads (Goes old.sources (after_series old.left old series)) r new
-series_leads old stage own sources blocks rest block taken before series r new is reading at head more leads rest_of =
-    let first : HeadOf own blocks block = head_of own blocks block (at_reading stage own blocks (ap (λ (c : Calling). c.stage) is ∙ reading) at) head in
+series_leads old stage own sources blocks rest block taken before series r new is waits at head more leads rest_of =
+    let first : HeadOf own blocks block = head_of own blocks block (at_reading stage own blocks (ap (λ (c : Calling). c.stage) is ∙ waits) at) head in
     let state : Calling = record { stage = stage; query = own; sources = sources; left = to_read own blocks; taken = before } in
     let onward : Leads (Goes sources (reading own (before ++ wanted own block.meta.labels series) (to_read own (drop 1 blocks)))) r new =
     subst (λ (l : List Found). Leads (Goes sources (reading own (before ++ wanted own block.meta.labels series) (to_read own l))) r new) rest_of
@@ -192,6 +192,6 @@ series_leads old stage own sources blocks rest block taken before series r new i
 pub series_falls : (old : Calling) (stage : Stage) (own : Query) (sources : List ℕ) (blocks rest : List Found) (block : Found) (before : List Triple) (r : Result (Act SeriesEnd) NoMemory) (left : ℕ)
     → record { stage = stage; query = own; sources = sources; left = to_read own blocks; taken = before } ≡ old → old.stage ≡ Reading → IsAt stage own blocks
     → block ≡ get_or blocks 0 block → Falls (2 * length (to_read own rest) + 1) r left → rest ≡ drop 1 blocks → Falls (2 * length old.left - 1) r left
-series_falls old stage own sources blocks rest block before r left is reading at head falls rest_of =
-    let first : HeadOf own blocks block = head_of own blocks block (at_reading stage own blocks (ap (λ (c : Calling). c.stage) is ∙ reading) at) head in
+series_falls old stage own sources blocks rest block before r left is waits at head falls rest_of =
+    let first : HeadOf own blocks block = head_of own blocks block (at_reading stage own blocks (ap (λ (c : Calling). c.stage) is ∙ waits) at) head in
     subst (λ n. Falls n r left) (ap (λ (l : List Found). 2 * length (to_read own l) + 1) rest_of ∙ fewer own blocks block first ∙ ap (λ (c : Calling). 2 * length c.left - 1) is) falls

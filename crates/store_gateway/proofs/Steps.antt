@@ -1,10 +1,13 @@
 -- A series call's steps are those of its plan.
 use Rattle.std.proofs.Common.{◌≡◌, ℕ, Bool, true, false, List, [], ◌∷◌, ◌++◌, refl, sym, subst, inr, Option, Some, None, Result, Ok, Err}
 use Rattle.std.specs.Prelude.{IsSomeAnd}
+use Rattle.std.specs.Str.{bytes_eq}
+use Rattle.block_files.specs.PlainForm.{plain_index}
+use Rattle.label_sets.specs.Triples.{Triple}
+use Rattle.vertical_merge.specs.Merged.{IsMerge}
 use Rattle.list_core.specs.declared.memory.NoMemory.{NoMemory}
 use Rattle.label_sets.specs.declared.series.Series.{Series}
 use Rattle.block_keys.specs.declared.key.Key.TheVariants as key
-use Rattle.block_files.specs.PlainForm.{IsPlainSegment}
 use Rattle.world_core.proofs.PlanLaws.{breaks_off, comes_kept}
 use Rattle.world_core.proofs.PlanMachines.{asks_told}
 use Rattle.world_core.specs.Machines.{Asks, GoesOn}
@@ -18,7 +21,7 @@ use Rattle.world_core.specs.declared.seen.Seen.{Seen}
 use Rattle.world_core.specs.declared.entry.Entry.{Entry}
 use Rattle.world_core.specs.declared.act.Act.{Act}
 use Rattle.world_core.specs.declared.act.Act.TheVariants.{Do, Done}
-use Rattle.store_gateway.specs.SeriesRuns.{ToRead, Called, missing, damaged, fault, IsEnd, IsRead, reading}
+use Rattle.store_gateway.specs.SeriesRuns.{ToRead, Called, missing, damaged, fault, IsEnd, IsRead, IsSetOf, after_index, reading, took}
 use Rattle.store_gateway.specs.Calls.{Calling, Goes, Leads, after_at, after_bytes, after_read, after_series, asked_at, asked_call, left_at, may_call}
 use Rattle.store_gateway.specs.declared.stage.Stage.{Stage}
 use Rattle.store_gateway.specs.declared.stage.Stage.TheVariants.{Fresh, Indexing, Reading, Over}
@@ -124,3 +127,11 @@ series_read left old new seq bytes series r is leads =
 -- the bytes are no segment
 pub no_series : (left : List ToRead) (old : Calling) (seq : ℕ) (bytes : List ℕ) → IsRead bytes None → Goes old.sources (after_bytes left old seq bytes) [] (Some (ended.Damaged seq))
 no_series left old seq bytes none = (damaged seq, inr (None, none, (refl, inr refl)), refl)
+
+-- the bytes of an index, as they were compared
+pub index_was : (sources : List ℕ) (next : Plan Called) (seq : ℕ) (bytes : List ℕ) → bytes_eq bytes plain_index ≡ false → Goes sources (after_index next seq bytes) [] (Some (ended.Damaged seq))
+index_was sources next seq bytes is = no_index sources next seq bytes (bytes_eq bytes plain_index) is
+
+-- the answer
+pub answered : (sources : List ℕ) (taken : List Triple) (series : List Series) (set : List ℕ) → IsMerge taken series → IsSetOf sources set → Goes sources (ends (took taken)) [] (Some (ended.Answer series set))
+answered sources taken series set merge is = (took taken, (refl, inr refl), (series, set, refl, merge, is))
