@@ -117,11 +117,11 @@ sync_shows rules entries (Some last) run number is =
 abbrev CallShows : List Entry → Called → Type 0
 CallShows made told = (number : ℕ) → told ≡ call_told.fault number → ShowsFault made number
 
-fault_told : (sources : List ℕ) (told : Called) (end : SeriesEnd) (number : ℕ) → IsCallEnd sources told end → end ≡ called.Fault number → told ≡ call_told.fault number
-fault_told sources (call_told.took taken) end number (series, set, is, merge, set_is) same = absurd (cc (is, same))
-fault_told sources (call_told.missing n) end number is same = absurd (cc (is, same))
-fault_told sources (call_told.damaged n) end number is same = absurd (cc (is, same))
-fault_told sources (call_told.fault n) end number is same = let one : n ≡ number = cc (is, same) in ap call_told.fault one
+call_fault_told : (sources : List ℕ) (told : Called) (end : SeriesEnd) (number : ℕ) → IsCallEnd sources told end → end ≡ called.Fault number → told ≡ call_told.fault number
+call_fault_told sources (call_told.took taken) end number (series, set, is, merge, set_is) same = absurd (cc (is, same))
+call_fault_told sources (call_told.missing n) end number is same = absurd (cc (is, same))
+call_fault_told sources (call_told.damaged n) end number is same = absurd (cc (is, same))
+call_fault_told sources (call_told.fault n) end number is same = let one : n ≡ number = cc (is, same) in ap call_told.fault one
 
 calls_show : (query : Question) (blocks : List ToRead) → EndsAre (λ e. Unit {0}) CallShows [] (reading query [] blocks)
 calls_show query blocks =
@@ -138,4 +138,4 @@ pub call_shows : (view : View) (query : Question) (entries : List Entry) (end : 
 call_shows view query entries None run number is = absurd (cc (is))
 call_shows view query entries (Some last) (told, run, gives) number is =
     end_is (λ e. Unit {0}) CallShows (series_call view query) [] entries told (calls_show query (to_read query view.kept)) (nothing_given entries) run number
-    (fault_told (sources_of view.kept) told last number gives (cc (is)))
+    (call_fault_told (sources_of view.kept) told last number gives (cc (is)))
