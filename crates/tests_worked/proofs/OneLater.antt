@@ -1,12 +1,13 @@
 -- What the second phase of every lawful journal of the script of one block is.
-use Rattle.std.proofs.Common.{◌≡◌, ◌⊎◌, inl, inr, pos, List, [], ◌∷◌, ◌++◌, Option, Some, None, option_map, map, refl, sym, ap, subst, ◌∙◌, append-nil}
+use Rattle.std.proofs.Common.{◌≡◌, ◌⊎◌, inl, inr, ℕ, suc, pos, List, [], ◌∷◌, ◌++◌, Option, Some, None, option_map, map, refl, sym, ap, subst, ◌∙◌, append-nil}
 use Rattle.std.specs.List.{AllZip}
 use Rattle.ulid_core.specs.UlidText.{alphabet, digit_of, number_of, bad_place, ulid_of}
 use Rattle.block_keys.specs.declared.key.Key.TheVariants as key
 use Rattle.world_core.specs.declared.entry.Entry.{Entry}
 use Rattle.sync_filters.specs.declared.found.Found.{Found}
 use Rattle.meta_fetcher.specs.Sightings.{kept_by, sighting_of}
-use Rattle.meta_fetcher.specs.Syncs.{Course, IsEnd, Synced, SyncRun, sighted}
+use Rattle.meta_fetcher.specs.Syncs.{Course, IsEnd, Synced, SyncRun, listing, sighted, with_entry}
+use Rattle.world_core.specs.Plans.{Runs, noting}
 use Rattle.meta_fetcher.specs.declared.view.View.{View}
 use Rattle.meta_fetcher.specs.declared.sync_end.SyncEnd.{SyncEnd}
 use Rattle.meta_fetcher.specs.declared.sync_end.SyncEnd.TheVariants as fetched
@@ -49,10 +50,14 @@ no_page : (end : Option SyncEnd) → SyncRun rules [] end → end ≡ None
 no_page None run = refl
 no_page (Some end) run = let none = run.1 in absurd (cc (none))
 
-only_page : (end : Option SyncEnd) → SyncRun rules (page ∷ []) end → end ≡ None
+-- after its page, a sync that may have so many pages more has not ended
+page_open : (more : ℕ) (told : Option (Synced × Option Course)) → Runs (noting with_entry None (listing rules (suc more) [])) (page ∷ []) told → told ≡ None
 unfolding ulid_of bad_place digit_of alphabet number_of
+page_open more told run = run.1
+
+only_page : (end : Option SyncEnd) → SyncRun rules (page ∷ []) end → end ≡ None
 only_page None run = refl
-only_page (Some end) run = let none = run.1.1 in absurd (cc (none))
+only_page (Some end) run = let none = page_open 999_999 (Some run.0) run.1 in absurd (cc (none))
 
 only_mark : (end : Option SyncEnd) → SyncRun rules (page ∷ mark ∷ []) end → end ≡ None
 unfolding ulid_of bad_place digit_of alphabet number_of

@@ -1,5 +1,5 @@
 -- The tasks over the small block are done as the definitions say.
-use Rattle.std.proofs.Common.{◌≡◌, ◌≢◌, ◌+◌, inl, inr, ℕ, pos, List, [], ◌∷◌, Some, None, map, refl, sym, subst, arith}
+use Rattle.std.proofs.Common.{◌≡◌, ◌≢◌, ◌+◌, inl, inr, ℕ, suc, pos, List, [], ◌∷◌, Some, None, map, refl, sym, subst, arith}
 use Rattle.std.proofs.lemmas.List.Elements.{All-nil, All-cons}
 use Rattle.std.specs.List.Sorted.{IsStrictlyIncreasing, IsStrictlySortedBy}
 use Rattle.label_sets.specs.declared.series.Series.{Series}
@@ -17,12 +17,12 @@ use Rattle.matchers.specs.declared.matcher.Matcher.{Matcher}
 use Rattle.matchers.specs.Selected.{is_selected, selected}
 use Rattle.matchers.specs.Selectors.{is_match, accepts, is_accepted, value_or_empty}
 use Rattle.vertical_merge.specs.Merged.{IsMerge}
-use Rattle.world_core.specs.Plans.{Runs}
+use Rattle.world_core.specs.Plans.{Runs, noting}
 use Rattle.shipper.specs.Uploads.{upload}
 use Rattle.shipper.specs.declared.upload_end.UploadEnd.TheVariants as shipped
 use Rattle.sync_filters.specs.declared.found.Found.{Found}
 use Rattle.meta_fetcher.specs.Sightings.{block_meta, kept_by, sighting_of}
-use Rattle.meta_fetcher.specs.Syncs.{SyncRun, sighted}
+use Rattle.meta_fetcher.specs.Syncs.{SyncRun, listing, sighted, with_entry}
 use Rattle.meta_fetcher.proofs.Ascending.{kept_ascend}
 use Rattle.meta_fetcher.specs.declared.rules.SyncRules.{SyncRules}
 use Rattle.meta_fetcher.specs.declared.view.View.{View}
@@ -75,13 +75,19 @@ one_ascends : (rules : SyncRules) (block : Found) (kept : List Found) → kept �
 one_ascends rules block kept is =
     subst (λ (l : List Found). IsStrictlyIncreasing (map (λ b. b.ulid) l)) (sym is) (kept_ascend rules (block ∷ []) (λ k more. omega (arith, more)))
 
+-- the entries of a sync of the small block, which may have so many pages and one more
+small_sync : (more : ℕ) (consistency delay : Span) (seat first begin mark mark_read meta meta_read : ℕ)
+    → Runs (noting with_entry None (listing (rules_by consistency delay) (suc more) [])) (listed first seat begin (small.a_text ∷ []) ∷ absent mark seat mark_read (key.Mark small.a) ∷ found meta seat meta_read (key.Meta small.a) small.meta ∷ [])
+    (Some (sighted (sighting_of (small.found mark_read meta_read) ∷ []), Some (record { first = first; begin = record { ms = begin }; end = record { ms = meta_read } })))
+small_sync more consistency delay seat first begin mark mark_read meta meta_read = (refl, rw a_reads (refl, (refl, rw block_meta_reads (refl, inr refl))))
+
 -- the sync of the small block, by the numbers and moments of its entries
 pub sync_run_by : (consistency delay : Span) (seat first begin mark mark_read meta meta_read : ℕ) (kept : List Found) → kept ≡ kept_by (rules_by consistency delay) (small.found mark_read meta_read ∷ [])
     → SyncRun (rules_by consistency delay) (listed first seat begin (small.a_text ∷ []) ∷ absent mark seat mark_read (key.Mark small.a) ∷ found meta seat meta_read (key.Meta small.a) small.meta ∷ [])
     (Some (fetched.View (runs.view_of first begin meta_read kept)))
 sync_run_by consistency delay seat first begin mark mark_read meta meta_read kept is = (
   (sighted (sighting_of (small.found mark_read meta_read) ∷ []), Some (record { first = first; begin = record { ms = begin }; end = record { ms = meta_read } })),
-  (refl, rw a_reads (refl, (refl, rw block_meta_reads (refl, inr refl)))),
+  small_sync 999_999 consistency delay seat first begin mark mark_read meta meta_read,
   (
     runs.view_of first begin meta_read kept,
     refl,
