@@ -12,7 +12,6 @@ use Rattle.meta_fetcher.specs.declared.view.View.{View}
 use Rattle.meta_fetcher.specs.declared.sync_end.SyncEnd.{SyncEnd}
 use Rattle.meta_fetcher.specs.declared.sync_end.SyncEnd.TheVariants as fetched
 use Rattle.store_gateway.specs.SeriesRuns.{Query, SeriesRun, reading, to_read}
-use Rattle.world_core.specs.Plans.{Runs}
 use Rattle.store_gateway.specs.declared.series_end.SeriesEnd.{SeriesEnd}
 use Rattle.script_workers.specs.declared.task.Task.{Task}
 use Rattle.script_workers.specs.declared.work.Work.TheVariants as works
