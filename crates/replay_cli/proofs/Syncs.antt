@@ -13,13 +13,13 @@ use Rattle.meta_fetcher.specs.Syncs.{SyncRun}
 use Rattle.meta_fetcher.specs.declared.sync_end.SyncEnd.{SyncEnd}
 use Rattle.meta_fetcher.specs.declared.view.View.{View}
 use Rattle.matchers.specs.declared.matcher.Matcher.{Matcher}
-use Rattle.store_gateway.specs.SeriesRuns.{Query as Question, SeriesRun, asking, sources_of, to_read}
+use Rattle.store_gateway.specs.SeriesRuns.{Query as Question, SeriesRun, asking, series_call}
+use Rattle.world_core.proofs.PlanLaws.{breaks_off}
 use Rattle.store_gateway.specs.declared.series_end.SeriesEnd.{SeriesEnd}
 use Rattle.script_workers.specs.declared.work.Work.{Work}
 use Rattle.script_workers.specs.declared.work.Work.TheVariants as works
 use Rattle.lifecycle_core.specs.Tasks.{End, answered, sync_rules, synced}
 use Rattle.lifecycle_core.specs.Views.{Use}
-use Rattle.lifecycle_core.proofs.phases.TaskRuns.{reads_none}
 use Rattle.replay_cli.specs.Drives.{Came, came_by, driven_end}
 use Rattle.replay_cli.specs.Outcomes.{IsOutcome}
 use Rattle.replay_cli.specs.Progress.{Adds, CameBy, IsDueAfter, WhenFull, view_by}
@@ -69,7 +69,7 @@ nothing_synced rules seat journal view place =
 pub nothing_asked : (view : View) (asked : Question) (seat : ℕ) (journal : List Entry) (used : Use) (low high : ℤ) (selector : ℕ)
     → (end : Option SeriesEnd) × Adds (SeriesRun view asked) seat journal journal end (Err broken.NoMemory) × CameBy (works.Query low high selector) (option_map (answered used) end) (Err broken.NoMemory)
 nothing_asked view asked seat journal used low high selector =
-    (None, record { made = []; entries = sym (append-nil journal); seats = All-nil (λ e. e.seat ≡ seat); run = reads_none asked (sources_of view.kept) [] (to_read asked view.kept); due = tt }, tt)
+    (None, record { made = []; entries = sym (append-nil journal); seats = All-nil (λ e. e.seat ≡ seat); run = breaks_off (series_call view asked); due = tt }, tt)
 
 -- numbers that were passed on are the same
 pub asked_same : (view : View) (matchers : List Matcher) (replicas : List (List ℕ)) (low low' high high' : ℤ) (made : List Entry) (end : Option SeriesEnd) → low ≡ low' → high ≡ high'

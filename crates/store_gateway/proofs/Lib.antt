@@ -2,3 +2,4 @@ pub mod Steps
 pub mod Taken
 pub mod Meeting
 pub mod Sources
+pub mod CallLaws

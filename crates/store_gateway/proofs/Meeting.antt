@@ -19,8 +19,9 @@ use Rattle.world_core.specs.declared.op.Op.TheVariants as op
 use Rattle.store_gateway.specs.declared.stage.Stage.{Stage}
 use Rattle.store_gateway.specs.declared.stage.Stage.TheVariants.{Fresh, Indexing, Reading, Over}
 use Rattle.store_gateway.specs.declared.series_end.SeriesEnd.{SeriesEnd}
-use Rattle.store_gateway.specs.SeriesRuns.{Query, ToRead, Answers, meets, to_read, wanted, Reads}
-use Rattle.store_gateway.specs.Calls.{Calling, FirstMeets, StartsMeeting, IsAt, asked_at, may_at, left_at, after_series, Waits, Leads}
+use Rattle.world_core.specs.Plans.{ends}
+use Rattle.store_gateway.specs.SeriesRuns.{Query, ToRead, meets, to_read, took, reading, wanted}
+use Rattle.store_gateway.specs.Calls.{Calling, FirstMeets, StartsMeeting, IsAt, Goes, asked_at, left_at, after_series, Waits, Leads}
 
 abbrev pub read_of : Found → ToRead
 read_of block = record { ulid = block.ulid; external = block.meta.labels }
@@ -72,8 +73,8 @@ at_reading stage query blocks is at = subst (λ s. IsAt s query blocks) is at
 
 -- what may follow the segment does not depend on the stage
 reading_same : (left : List ToRead) (stage : Stage) (query : Query) (sources : List ℕ) (all : List ToRead) (taken : List Triple) (entries : List Entry) (end : Option SeriesEnd)
-    → may_at Reading left (record { stage = Reading; query = query; sources = sources; left = all; taken = taken }) entries end
-    → may_at Reading left (record { stage = stage; query = query; sources = sources; left = all; taken = taken }) entries end
+    → Goes sources (left_at Reading left (record { stage = Reading; query = query; sources = sources; left = all; taken = taken })) entries end
+    → Goes sources (left_at Reading left (record { stage = stage; query = query; sources = sources; left = all; taken = taken })) entries end
 reading_same [] stage query sources all taken entries end run = run
 reading_same (b ∷ bs) stage query sources all taken entries end run = run
 
@@ -81,11 +82,11 @@ reading_same (b ∷ bs) stage query sources all taken entries end run = run
 pub segment_waits : (stage : Stage) (query : Query) (sources : List ℕ) (taken : List Triple) (blocks : List Found) (block : Found) (old : Calling)
     → record { stage = stage; query = query; sources = sources; left = to_read query blocks; taken = taken } ≡ old → old.stage ≡ Indexing → IsAt stage query blocks
     → block ≡ get_or blocks 0 block
-    → Waits (may_at Reading old.left old) (op.Get (key.Segment block.ulid 1)) (record { stage = Reading; query = query; sources = sources; left = to_read query blocks; taken = taken })
+    → Waits (Goes old.sources (left_at Reading old.left old)) (op.Get (key.Segment block.ulid 1)) (record { stage = Reading; query = query; sources = sources; left = to_read query blocks; taken = taken })
 segment_waits stage query sources taken blocks block old is indexing at head =
     let met : FirstMeets query blocks = at_indexing stage query blocks (ap (λ (c : Calling). c.stage) is ∙ indexing) at in
     let first : HeadOf query blocks block = head_of query blocks block met head in
-    subst (λ (c : Calling). Waits (may_at Reading c.left c) (op.Get (key.Segment block.ulid 1)) (record { stage = Reading; query = query; sources = sources; left = to_read query blocks; taken = taken }))
+    subst (λ (c : Calling). Waits (Goes c.sources (left_at Reading c.left c)) (op.Get (key.Segment block.ulid 1)) (record { stage = Reading; query = query; sources = sources; left = to_read query blocks; taken = taken }))
     is
     (record {
       lawful = (omega arith, omega arith);
@@ -96,13 +97,13 @@ segment_waits stage query sources taken blocks block old is indexing at head =
 -- the index of the first block is asked for
 pub index_waits : (query : Query) (sources : List ℕ) (taken : List Triple) (all blocks : List Found) (block : Found) → to_read query blocks ≡ to_read query all
     → StartsMeeting query blocks → 1 ≤ length blocks → block ≡ get_or blocks 0 block
-    → Waits (Reads query sources taken (to_read query all)) (op.Get (key.Index block.ulid)) (record { stage = Indexing; query = query; sources = sources; left = to_read query blocks; taken = taken })
+    → Waits (Goes sources (reading query taken (to_read query all))) (op.Get (key.Index block.ulid)) (record { stage = Indexing; query = query; sources = sources; left = to_read query blocks; taken = taken })
 index_waits query sources taken all blocks block same met some head =
     let first : HeadOf query blocks block = head_of query blocks block (first_meets query blocks met some) head in
     record {
       lawful = tt;
       asks = ap (asked_at Indexing) first.split;
-      onward = λ entries end run. subst (λ left. Reads query sources taken left entries end) same run;
+      onward = λ entries end run. subst (λ left. Goes sources (reading query taken left) entries end) same run;
     }
 
 -- the measure falls from one block to the next
@@ -148,18 +149,18 @@ from_none query blocks e =
 
 -- no block is left
 pub answers_none : (query own : Query) (sources : List ℕ) (taken : List Triple) (rest blocks : List Found) (r : Result (Act SeriesEnd) NoMemory) (new : Calling)
-    → own ≡ query → to_read own rest ≡ to_read own blocks → length rest < 1 → Leads (Answers taken sources) r new → Leads (Reads query sources taken (to_read query blocks)) r new
+    → own ≡ query → to_read own rest ≡ to_read own blocks → length rest < 1 → Leads (Goes sources (ends (took taken))) r new → Leads (Goes sources (reading query taken (to_read query blocks))) r new
 answers_none query own sources taken rest blocks r new is same none leads =
     let empty : rest ≡ [] = nil_from_length rest (omega arith) in
     let nothing : to_read query blocks ≡ [] = ap (λ q. to_read q blocks) (sym is) ∙ sym same ∙ ap (to_read own) empty in
-    subst (λ left. Leads (Reads query sources taken left) r new) (sym nothing) leads
+    subst (λ left. Leads (Goes sources (reading query taken left)) r new) (sym nothing) leads
 
 pub index_asked : (old : Calling) (stage : Stage) (own : Query) (sources : List ℕ) (left : List ToRead) (taken : List Triple) (rest blocks : List Found) (block : Found)
     → record { stage = stage; query = own; sources = sources; left = left; taken = taken } ≡ old → to_read own rest ≡ to_read own blocks → StartsMeeting own rest → 1 ≤ length rest
     → block ≡ get_or rest 0 block
-    → Waits (Reads old.query old.sources old.taken (to_read old.query blocks)) (op.Get (key.Index block.ulid)) (record { stage = Indexing; query = own; sources = sources; left = to_read own rest; taken = taken })
+    → Waits (Goes old.sources (reading old.query old.taken (to_read old.query blocks))) (op.Get (key.Index block.ulid)) (record { stage = Indexing; query = own; sources = sources; left = to_read own rest; taken = taken })
 index_asked old stage own sources left taken rest blocks block is same met some head =
-    subst (λ (c : Calling). Waits (Reads c.query c.sources c.taken (to_read c.query blocks)) (op.Get (key.Index block.ulid)) (record { stage = Indexing; query = own; sources = sources; left = to_read own rest; taken = taken }))
+    subst (λ (c : Calling). Waits (Goes c.sources (reading c.query c.taken (to_read c.query blocks))) (op.Get (key.Index block.ulid)) (record { stage = Indexing; query = own; sources = sources; left = to_read own rest; taken = taken }))
     is (index_waits own sources taken blocks rest block same met some head)
 
 pub falls_next : (query own : Query) (rest blocks : List Found) → own ≡ query → to_read own rest ≡ to_read own blocks → 2 * length (to_read own rest) < 2 * length (to_read query blocks) + 1
@@ -168,29 +169,29 @@ falls_next query own rest blocks is same =
 
 pub leads_left : (old : Calling) (stage : Stage) (own : Query) (sources : List ℕ) (blocks : List Found) (taken : List Triple) (r : Result (Act SeriesEnd) NoMemory) (new : Calling)
     → record { stage = stage; query = own; sources = sources; left = to_read own blocks; taken = taken } ≡ old
-    → Leads (Reads old.query old.sources old.taken (to_read old.query blocks)) r new → Leads (Reads old.query old.sources old.taken old.left) r new
+    → Leads (Goes old.sources (reading old.query old.taken (to_read old.query blocks))) r new → Leads (Goes old.sources (reading old.query old.taken old.left)) r new
 leads_left old stage own sources blocks taken r new is leads =
-    let P : Calling → Type 0 = λ c. Leads (Reads c.query c.sources c.taken (to_read c.query blocks)) r new → Leads (Reads c.query c.sources c.taken c.left) r new in
+    let P : Calling → Type 0 = λ c. Leads (Goes c.sources (reading c.query c.taken (to_read c.query blocks))) r new → Leads (Goes c.sources (reading c.query c.taken c.left)) r new in
     subst P is (λ l. l) leads
 
 -- the series of the block were taken, and the reads go on with the blocks after it
 pub series_leads : (old : Calling) (stage : Stage) (own : Query) (sources : List ℕ) (blocks rest : List Found) (block : Found) (taken before : List Triple) (series : List Series)
     (r : Result (Act SeriesEnd) NoMemory) (new : Calling)
     → record { stage = stage; query = own; sources = sources; left = to_read own blocks; taken = before } ≡ old → old.stage ≡ Reading → IsAt stage own blocks
-    → block ≡ get_or blocks 0 block → taken ≡ before ++ wanted own block.meta.labels series → Leads (Reads own sources taken (to_read own rest)) r new → rest ≡ drop 1 blocks
-    → Leads (after_series old.left old series) r new
-series_leads old stage own sources blocks rest block taken before series r new is reading at head more leads rest_of =
-    let first : HeadOf own blocks block = head_of own blocks block (at_reading stage own blocks (ap (λ (c : Calling). c.stage) is ∙ reading) at) head in
+    → block ≡ get_or blocks 0 block → taken ≡ before ++ wanted own block.meta.labels series → Leads (Goes sources (reading own taken (to_read own rest))) r new → rest ≡ drop 1 blocks
+    → Leads (Goes old.sources (after_series old.left old series)) r new
+series_leads old stage own sources blocks rest block taken before series r new is waits at head more leads rest_of =
+    let first : HeadOf own blocks block = head_of own blocks block (at_reading stage own blocks (ap (λ (c : Calling). c.stage) is ∙ waits) at) head in
     let state : Calling = record { stage = stage; query = own; sources = sources; left = to_read own blocks; taken = before } in
-    let onward : Leads (Reads own sources (before ++ wanted own block.meta.labels series) (to_read own (drop 1 blocks))) r new =
-    subst (λ (l : List Found). Leads (Reads own sources (before ++ wanted own block.meta.labels series) (to_read own l)) r new) rest_of
-    (subst (λ (t : List Triple). Leads (Reads own sources t (to_read own rest)) r new) more leads) in
-    subst (λ (c : Calling). Leads (after_series c.left c series) r new) is
-    (subst (λ (l : List ToRead). Leads (after_series l state series) r new) (sym first.split) onward)
+    let onward : Leads (Goes sources (reading own (before ++ wanted own block.meta.labels series) (to_read own (drop 1 blocks)))) r new =
+    subst (λ (l : List Found). Leads (Goes sources (reading own (before ++ wanted own block.meta.labels series) (to_read own l))) r new) rest_of
+    (subst (λ (t : List Triple). Leads (Goes sources (reading own t (to_read own rest))) r new) more leads) in
+    subst (λ (c : Calling). Leads (Goes c.sources (after_series c.left c series)) r new) is
+    (subst (λ (l : List ToRead). Leads (Goes sources (after_series l state series)) r new) (sym first.split) onward)
 
 pub series_falls : (old : Calling) (stage : Stage) (own : Query) (sources : List ℕ) (blocks rest : List Found) (block : Found) (before : List Triple) (r : Result (Act SeriesEnd) NoMemory) (left : ℕ)
     → record { stage = stage; query = own; sources = sources; left = to_read own blocks; taken = before } ≡ old → old.stage ≡ Reading → IsAt stage own blocks
     → block ≡ get_or blocks 0 block → Falls (2 * length (to_read own rest) + 1) r left → rest ≡ drop 1 blocks → Falls (2 * length old.left - 1) r left
-series_falls old stage own sources blocks rest block before r left is reading at head falls rest_of =
-    let first : HeadOf own blocks block = head_of own blocks block (at_reading stage own blocks (ap (λ (c : Calling). c.stage) is ∙ reading) at) head in
+series_falls old stage own sources blocks rest block before r left is waits at head falls rest_of =
+    let first : HeadOf own blocks block = head_of own blocks block (at_reading stage own blocks (ap (λ (c : Calling). c.stage) is ∙ waits) at) head in
     subst (λ n. Falls n r left) (ap (λ (l : List Found). 2 * length (to_read own l) + 1) rest_of ∙ fewer own blocks block first ∙ ap (λ (c : Calling). 2 * length c.left - 1) is) falls

@@ -12,7 +12,8 @@ use Rattle.world_core.specs.declared.op.Op.TheVariants as op
 use Rattle.world_core.specs.declared.reply.Reply.{Reply}
 use Rattle.world_core.specs.declared.entry.Entry.{Entry}
 use Rattle.sync_filters.specs.declared.found.Found.{Found}
-use Rattle.store_gateway.specs.SeriesRuns.{Query, ToRead, Onward, meets, wanted, AfterGet, AfterIndex, AfterSegment, SegmentRead, Reads}
+use Rattle.world_core.specs.Plans.{Plan, ends, never, ComesTo, after_get}
+use Rattle.store_gateway.specs.SeriesRuns.{Query, ToRead, Called, missing, fault, IsEnd, meets, wanted, after_index, after_segment, reading, reads_segment}
 use Rattle.store_gateway.specs.declared.stage.Stage.{Stage}
 use Rattle.store_gateway.specs.declared.stage.Stage.TheVariants.{Fresh, Indexing, Reading, Over}
 use Rattle.store_gateway.specs.declared.series_end.SeriesEnd.{SeriesEnd}
@@ -44,6 +45,30 @@ IsAt stage query blocks = Unit {0}
 abbrev pub IsFresh : Calling → Type 0
 IsFresh call = call.stage ≡ Fresh
 
+-- ---- what is left of a call
+
+-- the series of the block that is read are taken, and the reads go on with those after it
+abbrev pub left_after : Calling → ToRead → List ToRead → List Series → Plan Called
+left_after call block blocks series = reading call.query (call.taken ++ wanted call.query block.external series) blocks
+
+abbrev pub left_at : Stage → List ToRead → Calling → Plan Called
+left_at Fresh left call = reading call.query call.taken left
+left_at Indexing left call = reading call.query call.taken left
+left_at Reading [] call = never
+left_at Reading (block ∷ blocks) call = reads_segment block.ulid (left_after call block blocks)
+left_at Over left call = never
+
+-- what such a plan leads to, where an answer names these sources
+abbrev pub Onward : Type 1
+Onward = List Entry → Option SeriesEnd → Type 0
+
+abbrev pub Goes : List ℕ → Plan Called → Onward
+Goes sources plan = ComesTo plan (IsEnd sources)
+
+-- what may still come
+abbrev pub may_call : Calling → List Entry → Option SeriesEnd → Calling → Type 0
+may_call call entries end last = Goes call.sources (left_at call.stage call.left call) entries end
+
 -- the operation that is waited for
 abbrev pub asked_at : Stage → List ToRead → Option Op
 asked_at Indexing (block ∷ blocks) = Some (op.Get (key.Index block.ulid))
@@ -53,57 +78,42 @@ asked_at stage blocks = None
 abbrev pub asked_call : Calling → Option Op
 asked_call call = asked_at call.stage call.left
 
--- the reads of the blocks after this one
-abbrev pub reads_after : Calling → ToRead → List ToRead → List Series → Onward
-reads_after call block blocks series = Reads call.query call.sources (call.taken ++ wanted call.query block.external series) blocks
+-- ---- what follows an answer
 
--- what may follow the series of the block that is read, which is the first of those that are left
-abbrev pub after_series : List ToRead → Calling → List Series → Onward
-after_series [] call series entries end = ⊥
-after_series (block ∷ blocks) call series entries end = reads_after call block blocks series entries end
+-- what follows the bytes of an object that has to be there, by the reply
+abbrev pub after_read : ℕ → Reply → (ℕ → List ℕ → Plan Called) → Plan Called
+after_read seq reply next = after_get reply (next seq) (ends (missing seq)) (ends (fault seq))
 
--- what may follow the bytes of its segment
-abbrev pub after_bytes : List ToRead → Calling → ℕ → List ℕ → Onward
-after_bytes [] call seq bytes entries end = ⊥
-after_bytes (block ∷ blocks) call seq bytes entries end = AfterSegment seq bytes (reads_after call block blocks) entries end
+-- what follows the series of the block that is read, which is the first of those that are left
+abbrev pub after_series : List ToRead → Calling → List Series → Plan Called
+after_series [] call series = never
+after_series (block ∷ blocks) call series = left_after call block blocks series
 
--- what may still come
-abbrev pub may_at : Stage → List ToRead → Calling → Onward
-may_at Fresh left call entries end = Reads call.query call.sources call.taken left entries end
-may_at Indexing left call entries end = Reads call.query call.sources call.taken left entries end
-may_at Reading [] call entries end = ⊥
-may_at Reading (block ∷ blocks) call entries end = SegmentRead block.ulid (reads_after call block blocks) entries end
-may_at Over left call entries end = (entries ≡ []) × (end ≡ None)
+-- what follows the bytes of its segment
+abbrev pub after_bytes : List ToRead → Calling → ℕ → List ℕ → Plan Called
+after_bytes left call seq bytes = after_segment (after_series left call) seq bytes
 
-abbrev pub may_call : Calling → List Entry → Option SeriesEnd → Calling → Type 0
-may_call call entries end last = may_at call.stage call.left call entries end
-
--- what may follow the answer that is waited for
-abbrev pub after_at : Stage → List ToRead → Calling → ℕ → Reply → Onward
-after_at Indexing (block ∷ blocks) call seq reply entries end =
-    AfterGet seq reply (λ bytes. AfterIndex seq bytes (SegmentRead block.ulid (reads_after call block blocks))) entries end
-after_at Reading (block ∷ blocks) call seq reply entries end =
-    AfterGet seq reply (λ bytes. AfterSegment seq bytes (reads_after call block blocks)) entries end
-after_at stage blocks call seq reply entries end = ⊥
-
-abbrev pub after_call : Calling → ℕ → Reply → Onward
-after_call call seq reply = after_at call.stage call.left call seq reply
+-- what follows the answer that is waited for
+abbrev pub after_at : Stage → List ToRead → Calling → ℕ → Reply → Plan Called
+after_at Indexing left call seq reply = after_read seq reply (after_index (left_at Reading left call))
+after_at Reading left call seq reply = after_read seq reply (after_bytes left call)
+after_at stage left call seq reply = never
 
 -- at most so many operations are still asked for, and one more
-abbrev pub left_at : Stage → List ToRead → ℕ
-left_at Fresh blocks = 2 * length blocks + 1
-left_at Indexing blocks = 2 * length blocks
-left_at Reading blocks = 2 * length blocks - 1
-left_at Over blocks = 0
+abbrev pub count_at : Stage → List ToRead → ℕ
+count_at Fresh blocks = 2 * length blocks + 1
+count_at Indexing blocks = 2 * length blocks
+count_at Reading blocks = 2 * length blocks - 1
+count_at Over blocks = 0
 
-abbrev pub left_call : Calling → ℕ
-left_call call = left_at call.stage call.left
+abbrev pub count_call : Calling → ℕ
+count_call call = count_at call.stage call.left
 
 -- A call has asked for an operation, and waits in the state `new`, from which what may come is what may follow.
 pub record Waits (follows : Onward) (op : Op) (new : Calling) : Type 0 where
   pub lawful : IsLawful op
   pub asks : asked_call new ≡ Some op
-  pub onward : (entries : List Entry) (end : Option SeriesEnd) → may_at new.stage new.left new entries end → follows entries end
+  pub onward : (entries : List Entry) (end : Option SeriesEnd) → may_call new entries end new → follows entries end
 
 -- a call goes on as may follow
 abbrev pub Leads : Onward → Result (Act SeriesEnd) NoMemory → Calling → Type 0

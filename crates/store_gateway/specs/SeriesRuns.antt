@@ -1,6 +1,7 @@
--- A series call: of each kept block that meets the range, one after another, the reads of its objects, and then the merge of
--- the samples that the query asks for. A run that was stopped has no end.
-use Rattle.std.specs.Prelude.{◌≡◌, ◌⊎◌, ◌↔◌, ℕ, ℤ, Bool, ◌&&◌, MatchBool, List, [], ◌∷◌, ◌++◌, map, Contains, Option, Some, None}
+-- A series call: of each kept block that meets the range, one after another, the reads of its objects. It comes to the samples
+-- that the query asks for, whose merge is the answer.
+use Rattle.std.specs.Prelude.{◌≡◌, ◌↔◌, ℕ, ℤ, Bool, ◌&&◌, List, [], ◌∷◌, ◌++◌, map, Contains, Option, Some, None, refl}
+use Rattle.std.proofs.Common.{ap}
 use Rattle.std.specs.Ordering.{int_cmp, is_le, is_lt}
 use Rattle.std.specs.Str.{bytes_eq}
 use Rattle.std.specs.List.{filter, flat_map}
@@ -11,10 +12,7 @@ use Rattle.label_sets.specs.Finals.{final_of}
 use Rattle.label_sets.specs.Triples.{Triple, triples_under}
 use Rattle.block_keys.specs.declared.key.Key.{Key}
 use Rattle.block_keys.specs.declared.key.Key.TheVariants as key
-use Rattle.world_core.specs.Walks.{EndsWith}
-use Rattle.world_core.specs.declared.op.Op.TheVariants as op
-use Rattle.world_core.specs.declared.reply.Reply.{Reply}
-use Rattle.world_core.specs.declared.reply.Reply.TheVariants as reply
+use Rattle.world_core.specs.Plans.{IsAtMostOne, Plan, ends, finds, ComesTo, choose, gets}
 use Rattle.world_core.specs.declared.entry.Entry.{Entry}
 use Rattle.sync_filters.specs.declared.found.Found.{Found}
 use Rattle.meta_fetcher.specs.declared.view.View.{View}
@@ -70,58 +68,72 @@ sources_of blocks = flat_map (λ block. block.meta.sources) blocks
 
 -- ---- the reads
 
--- what may follow, by entries and an end
-abbrev pub Onward : Type 1
-Onward = List Entry → Option SeriesEnd → Type 0
+-- what a call comes to
+pub data Called : Type 0 where
+  -- these samples were taken
+  took : List Triple → Called
+  -- the read at the entry of this number found no object
+  missing : ℕ → Called
+  -- what was read at the entry of this number is not as it has to be
+  damaged : ℕ → Called
+  -- the call at the entry of this number failed
+  fault : ℕ → Called
 
--- the run goes on with an entry, or was stopped before
-abbrev pub Begins : (Entry → Onward) → Onward
-Begins onward [] end = end ≡ None
-Begins onward (e ∷ entries) end = onward e entries end
+-- the read of an object that has to be there, which hands on its entry's number and the bytes
+abbrev pub reads_object : Key → (ℕ → List ℕ → Plan Called) → Plan Called
+reads_object key next = gets fault key (λ e bytes. next e.seq bytes) (λ e. ends (missing e.seq))
 
--- What may follow the read of an object, by its reply: the bytes are passed on.
-abbrev pub AfterGet : ℕ → Reply → (List ℕ → Onward) → Onward
-AfterGet seq (reply.Found bytes) next entries end = next bytes entries end
-AfterGet seq reply.Absent next entries end = EndsWith (ended.Missing seq) entries end
-AfterGet seq (reply.Failed landed) next entries end = EndsWith (ended.Fault seq) entries end
-AfterGet seq other next entries end = ⊥
+-- what the bytes of a segment are: that of these series and no others, or no segment
+abbrev pub IsRead : List ℕ → Option (List Series) → Type 0
+IsRead bytes None = (series : List Series) → IsPlainSegment bytes series → ⊥
+IsRead bytes (Some series) = IsPlainSegment bytes series × ((other : List Series) → IsPlainSegment bytes other → other ≡ series)
 
--- the read of the object under a key; its entry's number and the bytes are passed on
-abbrev pub Gets : Key → (ℕ → List ℕ → Onward) → Onward
-Gets key next = Begins (λ e entries end. (e.op ≡ op.Get key) × AfterGet e.seq e.reply (next e.seq) entries end)
+pub one_is_read : (bytes : List ℕ) → IsAtMostOne (IsRead bytes)
+one_is_read bytes None None none is = refl
+one_is_read bytes None (Some series) none is = absurd (none series is.0)
+one_is_read bytes (Some series) None is none = absurd (none series is.0)
+one_is_read bytes (Some series) (Some other) is so = ap Some (so.1 series is.0)
 
--- what may follow the bytes of an index
-abbrev pub AfterIndex : ℕ → List ℕ → Onward → Onward
-AfterIndex seq bytes next entries end =
-    MatchBool (bytes_eq bytes plain_index) (next entries end) (EndsWith (ended.Damaged seq) entries end)
+-- what follows the series of a segment, where it is one
+abbrev pub if_segment : ℕ → (List Series → Plan Called) → Option (List Series) → Plan Called
+if_segment seq next None = ends (damaged seq)
+if_segment seq next (Some series) = next series
 
--- What may follow the bytes of a segment: its series are passed on. The run may be stopped before they are known.
-pub data AfterSegment (seq : ℕ) (bytes : List ℕ) (next : List Series → Onward) (entries : List Entry) (end : Option SeriesEnd) : Type 0 where
-  stopped : entries ≡ [] → end ≡ None → AfterSegment seq bytes next entries end
-  damaged : ((series : List Series) → IsPlainSegment bytes series → ⊥) → entries ≡ [] → end ≡ Some (ended.Damaged seq) → AfterSegment seq bytes next entries end
-  read : (series : List Series) → IsPlainSegment bytes series → next series entries end → AfterSegment seq bytes next entries end
+abbrev pub after_segment : (List Series → Plan Called) → ℕ → List ℕ → Plan Called
+after_segment next seq bytes = finds (IsRead bytes) (one_is_read bytes) (if_segment seq next)
 
--- the read of a block's segment
-abbrev pub SegmentRead : ℕ → (List Series → Onward) → Onward
-SegmentRead ulid next = Gets (key.Segment ulid 1) (λ seq bytes. AfterSegment seq bytes next)
+-- the read of a block's segment, whose series are handed on
+abbrev pub reads_segment : ℕ → (List Series → Plan Called) → Plan Called
+reads_segment ulid next = reads_object (key.Segment ulid 1) (after_segment next)
 
--- The reads of a block's objects: its index, and then its segment, whose series are passed on.
-abbrev pub BlockRead : ℕ → (List Series → Onward) → Onward
-BlockRead ulid next = Gets (key.Index ulid) (λ seq bytes. AfterIndex seq bytes (SegmentRead ulid next))
+abbrev pub after_index : Plan Called → ℕ → List ℕ → Plan Called
+after_index next seq bytes = choose (bytes_eq bytes plain_index) next (ends (damaged seq))
 
--- nothing follows, and the run has come to its answer, the merge of the samples that were taken, or was stopped
-abbrev pub Answers : List Triple → List ℕ → Onward
-Answers taken sources entries end =
-    (entries ≡ [])
-    × ((end ≡ None) ⊎ ((series : List Series) × (set : List ℕ) × (end ≡ Some (ended.Answer series set)) × IsMerge taken series × IsSetOf sources set))
+-- the reads of a block's objects: its index, and then its segment
+abbrev pub reads_block : ℕ → (List Series → Plan Called) → Plan Called
+reads_block ulid next = reads_object (key.Index ulid) (after_index (reads_segment ulid next))
 
--- the reads of these blocks, where these samples were taken before, and then the answer
-abbrev pub Reads : Query → List ℕ → List Triple → List ToRead → Onward
-Reads query sources taken [] entries end = Answers taken sources entries end
-Reads query sources taken (block ∷ blocks) entries end =
-    BlockRead block.ulid (λ series. Reads query sources (taken ++ wanted query block.external series) blocks) entries end
+-- the reads of these blocks, where these samples were taken before
+abbrev pub reading : Query → List Triple → List ToRead → Plan Called
+reading query taken [] = ends (took taken)
+reading query taken (block ∷ blocks) =
+    reads_block block.ulid (λ series. reading query (taken ++ wanted query block.external series) blocks)
 
--- A call over a view, for the samples that the selector accepts, from low to high. Its answer names the sources of all blocks
--- that the view keeps.
-abbrev pub SeriesRun : View → Query → Onward
-SeriesRun view query = Reads query (sources_of view.kept) [] (to_read query view.kept)
+-- ---- the call
+
+-- A call over a view, for the samples that the selector accepts, from low to high.
+abbrev pub series_call : View → Query → Plan Called
+series_call view query = reading query [] (to_read query view.kept)
+
+-- What a call comes to gives this end: an answer is the merge of the samples that were taken, and names these sources.
+abbrev pub IsEnd : List ℕ → Called → SeriesEnd → Type 0
+IsEnd sources (took taken) end =
+    (series : List Series) × (set : List ℕ) × (end ≡ ended.Answer series set) × IsMerge taken series × IsSetOf sources set
+IsEnd sources (missing number) end = end ≡ ended.Missing number
+IsEnd sources (damaged number) end = end ≡ ended.Damaged number
+IsEnd sources (fault number) end = end ≡ ended.Fault number
+
+-- The entries and the end of such a call; without an end it was broken off. Its answer names the sources of all blocks that
+-- the view keeps.
+abbrev pub SeriesRun : View → Query → List Entry → Option SeriesEnd → Type 0
+SeriesRun view query = ComesTo (series_call view query) (IsEnd (sources_of view.kept))

@@ -6,9 +6,10 @@ ghost use Rattle.world_core.specs.declared.op.Op.{Op};
 ghost use Rattle.world_core.specs.declared.entry.Entry.{Entry};
 ghost use Rattle.store_gateway.specs.declared.series_end.SeriesEnd.{SeriesEnd};
 ghost use Rattle.store_gateway.specs.declared.stage.Stage.TheVariants as stage;
-ghost use Rattle.store_gateway.specs.SeriesRuns.{asking, meets, to_read, Answers, AfterIndex, Reads, SeriesRun};
+ghost use Rattle.store_gateway.specs.SeriesRuns.{asking, meets, to_read, took, after_index, reading, SeriesRun};
 ghost use Rattle.store_gateway.specs.Queries.{query_of};
-ghost use Rattle.store_gateway.specs.Calls.{Calling, StartsMeeting, IsFresh, asked_call, may_call, may_at, after_at, after_bytes, after_series, left_at, left_call, Leads};
+ghost use Rattle.world_core.specs.Plans.{ends};
+ghost use Rattle.store_gateway.specs.Calls.{Calling, Goes, StartsMeeting, IsFresh, asked_call, may_call, left_at, after_at, after_bytes, after_series, count_at, count_call, Leads};
 
 use crate::select::{Wanted, add_wanted, all_sources, meets};
 use crate::{SeriesCall, SeriesEnd, Stage};
@@ -60,11 +61,11 @@ impl<'a> SeriesCall<'a> {
 
     /// Asks for the index of the first of these blocks that meets the range, or answers where there is none.
     fn read_from(&mut self, blocks: &'a [Found]) -> Result<Act<SeriesEnd>, NoMemory>
-        ensures leads { Leads
-            (Reads self.old.query self.old.sources self.old.taken
-            (to_read self.old.query blocks.now)) result self.new }
+        ensures leads { Leads (Goes self.old.sources
+            (reading self.old.query self.old.taken (to_read self.old.query blocks.now))) result
+            self.new }
         ensures falls { Falls (2 * length (to_read self.old.query blocks.now) + 1) result
-            (left_call self.new) }
+            (count_call self.new) }
     {
         let blocks = from_first_meeting(blocks, self.wanted);
         match blocks {
@@ -79,8 +80,8 @@ impl<'a> SeriesCall<'a> {
 
     /// Merges what was taken.
     fn answer(&mut self) -> Result<Act<SeriesEnd>, NoMemory>
-        ensures leads { Leads (Answers self.old.taken self.old.sources) result self.new }
-        ensures falls { Falls 0 result (left_call self.new) }
+        ensures leads { Leads (Goes self.old.sources (ends (took self.old.taken))) result self.new }
+        ensures falls { Falls 0 result (count_call self.new) }
     {
         let sources = all_sources(self.alloc, self.kept)?;
         let merger = mem::replace(&mut self.merger, Merger::new(self.alloc));
@@ -93,9 +94,9 @@ impl<'a> SeriesCall<'a> {
     fn after_index(&mut self, seen: Seen) -> Result<Act<SeriesEnd>, NoMemory>
         requires stage { self.old.stage ≡ stage.Indexing }
         requires answer { IsSomeAnd (asked_call self.old) (λ op. IsAnswer op seen) }
-        ensures leads { Leads
-            (after_at stage.Indexing self.old.left self.old seen.seq seen.reply) result self.new }
-        ensures falls { Falls (left_at stage.Indexing self.old.left) result (left_call self.new) }
+        ensures leads { Leads (Goes self.old.sources
+            (after_at stage.Indexing self.old.left self.old seen.seq seen.reply)) result self.new }
+        ensures falls { Falls (count_at stage.Indexing self.old.left) result (count_call self.new) }
     {
         let Seen {
             seq,
@@ -112,10 +113,10 @@ impl<'a> SeriesCall<'a> {
 
     fn take_index(&mut self, seq: u64, bytes: &Blob) -> Result<Act<SeriesEnd>, NoMemory>
         requires { self.old.stage ≡ stage.Indexing }
-        ensures leads { Leads
-            (AfterIndex seq bytes.now (may_at stage.Reading self.old.left self.old)) result
+        ensures leads { Leads (Goes self.old.sources
+            (after_index (left_at stage.Reading self.old.left self.old) seq bytes.now)) result
             self.new }
-        ensures falls { Falls (left_at stage.Indexing self.old.left) result (left_call self.new) }
+        ensures falls { Falls (count_at stage.Indexing self.old.left) result (count_call self.new) }
     {
         match read_plain_index(bytes.bytes()) {
             Ok(()) => self.ask_segment(),
@@ -126,8 +127,9 @@ impl<'a> SeriesCall<'a> {
 
     fn ask_segment(&mut self) -> Result<Act<SeriesEnd>, NoMemory>
         requires { self.old.stage ≡ stage.Indexing }
-        ensures leads { Leads (may_at stage.Reading self.old.left self.old) result self.new }
-        ensures falls { Falls (left_at stage.Indexing self.old.left) result (left_call self.new) }
+        ensures leads { Leads
+            (Goes self.old.sources (left_at stage.Reading self.old.left self.old)) result self.new }
+        ensures falls { Falls (count_at stage.Indexing self.old.left) result (count_call self.new) }
     {
         match self.left {
             [block, ..] => {
@@ -142,9 +144,9 @@ impl<'a> SeriesCall<'a> {
     fn after_segment(&mut self, seen: Seen) -> Result<Act<SeriesEnd>, NoMemory>
         requires stage { self.old.stage ≡ stage.Reading }
         requires answer { IsSomeAnd (asked_call self.old) (λ op. IsAnswer op seen) }
-        ensures leads { Leads
-            (after_at stage.Reading self.old.left self.old seen.seq seen.reply) result self.new }
-        ensures falls { Falls (left_at stage.Reading self.old.left) result (left_call self.new) }
+        ensures leads { Leads (Goes self.old.sources
+            (after_at stage.Reading self.old.left self.old seen.seq seen.reply)) result self.new }
+        ensures falls { Falls (count_at stage.Reading self.old.left) result (count_call self.new) }
     {
         let Seen {
             seq,
@@ -161,8 +163,10 @@ impl<'a> SeriesCall<'a> {
 
     fn take_segment(&mut self, seq: u64, bytes: &Blob) -> Result<Act<SeriesEnd>, NoMemory>
         requires { self.old.stage ≡ stage.Reading }
-        ensures leads { Leads (after_bytes self.old.left self.old seq bytes.now) result self.new }
-        ensures falls { Falls (left_at stage.Reading self.old.left) result (left_call self.new) }
+        ensures leads { Leads
+            (Goes self.old.sources (after_bytes self.old.left self.old seq bytes.now)) result
+            self.new }
+        ensures falls { Falls (count_at stage.Reading self.old.left) result (count_call self.new) }
     {
         match read_plain_segment(self.alloc, bytes.bytes()) {
             Ok(series) => self.take_series(series),
@@ -174,8 +178,9 @@ impl<'a> SeriesCall<'a> {
     /// Takes the wanted samples of the block that was read, and goes on with the blocks after it.
     fn take_series(&mut self, series: SeriesList) -> Result<Act<SeriesEnd>, NoMemory>
         requires { self.old.stage ≡ stage.Reading }
-        ensures leads { Leads (after_series self.old.left self.old series) result self.new }
-        ensures falls { Falls (left_at stage.Reading self.old.left) result (left_call self.new) }
+        ensures leads { Leads
+            (Goes self.old.sources (after_series self.old.left self.old series)) result self.new }
+        ensures falls { Falls (count_at stage.Reading self.old.left) result (count_call self.new) }
     {
         match self.left {
             [block, rest @ ..] => {
@@ -214,7 +219,7 @@ impl<'a> Machine for SeriesCall<'a> {
 
     ghost asked = { asked_call };
 
-    ghost measure = { left_call };
+    ghost measure = { count_call };
 
     ghost fresh = { IsFresh };
 

@@ -11,7 +11,7 @@ use Rattle.world_core.specs.Plans.{Runs, noting}
 use Rattle.meta_fetcher.specs.declared.view.View.{View}
 use Rattle.meta_fetcher.specs.declared.sync_end.SyncEnd.{SyncEnd}
 use Rattle.meta_fetcher.specs.declared.sync_end.SyncEnd.TheVariants as fetched
-use Rattle.store_gateway.specs.SeriesRuns.{Query, SeriesRun, Reads, sources_of, to_read}
+use Rattle.store_gateway.specs.SeriesRuns.{Query, SeriesRun, reading, to_read}
 use Rattle.store_gateway.specs.declared.series_end.SeriesEnd.{SeriesEnd}
 use Rattle.script_workers.specs.declared.task.Task.{Task}
 use Rattle.script_workers.specs.declared.work.Work.TheVariants as works
@@ -86,8 +86,10 @@ abbrev query : Task
 query = record { line = 9; work = works.Query (pos 0) (pos 5000) 0 }
 
 nothing_read : (view : View) → view.kept ≡ [] → (question : Query) (entries : List Entry) (end : Option SeriesEnd) → SeriesRun view question entries end → entries ≡ []
-nothing_read view none question entries end run =
-    (subst (λ (kept : List Found). Reads question (sources_of kept) [] (to_read question kept) entries end) none run).0
+nothing_read view none question entries None run =
+    (subst (λ (kept : List Found). Runs (reading question [] (to_read question kept)) entries None) none run).0
+nothing_read view none question entries (Some end) (told, run, is) =
+    (subst (λ (kept : List Found). Runs (reading question [] (to_read question kept)) entries (Some told)) none run).0
 
 no_query : (used : Use) → used.view.kept ≡ [] → (read : Entry) (rest : List Entry) (ends : List End) (last : Option Use) → TasksRun one.script (Some used) (query ∷ []) (read ∷ rest) ends last → ⊥
 no_query used none read rest ends last (inl r) =

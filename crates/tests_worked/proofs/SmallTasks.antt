@@ -28,7 +28,8 @@ use Rattle.meta_fetcher.proofs.Ascending.{kept_ascend}
 use Rattle.meta_fetcher.specs.declared.rules.SyncRules.{SyncRules}
 use Rattle.meta_fetcher.specs.declared.view.View.{View}
 use Rattle.meta_fetcher.specs.declared.sync_end.SyncEnd.TheVariants as fetched
-use Rattle.store_gateway.specs.SeriesRuns.{Query, read, wanted, seen_under, IsSetOf, SeriesRun}
+use Rattle.lifecycle_core.proofs.blocks.SegmentsAgain.{segment_once}
+use Rattle.store_gateway.specs.SeriesRuns.{Query, took, wanted, seen_under, IsSetOf, SeriesRun}
 use Rattle.store_gateway.specs.declared.series_end.SeriesEnd.TheVariants as called
 use Rattle.script_core.specs.declared.script.Script.{Script}
 use Rattle.lifecycle_core.specs.Held.{declared}
@@ -136,7 +137,7 @@ pub query_run : (selector : List Matcher) → IsMerge (wanted (question selector
     → SeriesRun (runs.view_of first begin end (small.found mark_read meta_read ∷ [])) (question selector) (runs.query seq seat moment) (Some (called.Answer (small.up ∷ []) (small.a ∷ [])))
 unfolding small.index
 query_run selector merge first begin end mark_read meta_read seq seat moment =
-    (refl, (refl, read (small.up ∷ []) segment_reads (refl, inr (small.up ∷ [], small.a ∷ [], refl, merge, one_source))))
+    (took _, (refl, (refl, inr (Some (small.up ∷ []), (segment_reads, λ other is. segment_once _ other (small.up ∷ []) is segment_reads), (refl, inr refl)))), (small.up ∷ [], small.a ∷ [], refl, merge, one_source))
 
 no_merge : IsMerge [] []
 unfolding IsStrictlySortedBy triples_of
@@ -150,4 +151,4 @@ no_source : IsSetOf [] []
 no_source = record { increasing = λ k more. omega (arith, more); members = λ x. (λ h. h, λ h. h) }
 
 pub empty_query_run : (view : View) → view.kept ≡ [] → (question : Query) → SeriesRun view question [] (Some (called.Answer [] []))
-empty_query_run view none question = rw none (refl, inr ([], [], refl, no_merge, no_source))
+empty_query_run view none question = rw none (took [], (refl, inr refl), ([], [], refl, no_merge, no_source))

@@ -296,6 +296,10 @@ lines_once text (s ∷ ss) (t ∷ ts) is others =
     let later : ss ≡ ts = lines_once is.1 ss ts is.4 (subst (λ (more : List ℕ). AreLines more ts) (sym same.1) others.4) in
     λ i. first i ∷ later i
 
+-- a text is the segment of one list of series at most
+pub segment_once : (text : List ℕ) (one other : List Series) → IsPlainSegment text one → IsPlainSegment text other → one ≡ other
+segment_once text one other is others = lines_once text one other is.lines others.lines
+
 -- ---- declared blocks
 
 -- the segment's text has the block's series

@@ -8,7 +8,6 @@ use Rattle.block_keys.specs.declared.object.Object.{Object}
 use Rattle.label_sets.specs.Triples.{Triple}
 use Rattle.label_sets.specs.declared.series.Series.{Series}
 use Rattle.world_core.specs.Operations.{has_failed}
-use Rattle.world_core.specs.Walks.{EndsWith}
 use Rattle.world_core.specs.declared.entry.Entry.{Entry}
 use Rattle.world_core.specs.declared.reply.Reply.{Reply}
 use Rattle.world_core.specs.declared.reply.Reply.TheVariants as reply
@@ -26,42 +25,16 @@ use Rattle.meta_fetcher.specs.declared.rules.SyncRules.{SyncRules}
 use Rattle.meta_fetcher.specs.declared.sync_end.SyncEnd.{SyncEnd}
 use Rattle.meta_fetcher.specs.declared.sync_end.SyncEnd.TheVariants as fetched
 use Rattle.meta_fetcher.specs.declared.view.View.{View}
-use Rattle.store_gateway.specs.SeriesRuns.{Query as Question, Reads as CallReads, Onward as CallOnward, SeriesRun, ToRead, AfterGet, AfterIndex, AfterSegment, Answers, Gets, SegmentRead, BlockRead, stopped, damaged, read, to_read, sources_of, wanted}
+use Rattle.store_gateway.specs.SeriesRuns.{Query as Question, Called, IsEnd as IsCallEnd, SeriesRun, ToRead, reading, series_call, sources_of, to_read}
+use Rattle.store_gateway.specs.SeriesRuns as call_told
+use Rattle.store_gateway.proofs.CallLaws.{reading_are}
 use Rattle.store_gateway.specs.declared.series_end.SeriesEnd.{SeriesEnd}
 use Rattle.store_gateway.specs.declared.series_end.SeriesEnd.TheVariants as called
-use Rattle.lifecycle_core.proofs.misses.GatewayEntries.{match_bool}
 use Rattle.lifecycle_core.proofs.journals.Positions.{stands_in}
 
 -- an entry of this number was answered that its call failed
 abbrev pub ShowsFault : List Entry → ℕ → Type 0
 ShowsFault entries number = (e : Entry) × Contains entries e × (e.seq ≡ number) × IsTrue (has_failed e.reply)
-
-shows_later : (e : Entry) (entries : List Entry) (number : ℕ) → ShowsFault entries number → ShowsFault (e ∷ entries) number
-shows_later e entries number (x, among, is, failed) = (x, contains_later e x entries among, is, failed)
-
--- ---- runs whose ends are of one kind
-
--- A fault is known by its number.
-abbrev IsKnown : {E : Type 0} → (ℕ → E) → Type 0
-IsKnown fault = (one other : ℕ) → fault one ≡ fault other → one ≡ other
-
-module _ {E : Type 0} (fault : ℕ → E) where
-  abbrev Shows : List Entry → Option E → Type 0
-  Shows entries end = (number : ℕ) → end ≡ Some (fault number) → ShowsFault entries number
-
-  no_end : (entries : List Entry) (end : Option E) → end ≡ None → Shows entries end
-  no_end entries end none = λ number is. absurd (cc (none, is))
-
-  goes_on : (e : Entry) (entries : List Entry) (end : Option E) → Shows entries end → Shows (e ∷ entries) end
-  goes_on e entries end own = λ number is. shows_later e entries number (own number is)
-
-  ends_else : (last : E) (entries : List Entry) (end : Option E) → ((number : ℕ) → last ≡ fault number → ⊥) → EndsWith last entries end → Shows entries end
-  ends_else last entries end other (nil, inl none) = no_end entries end none
-  ends_else last entries end other (nil, inr same) = λ number is. absurd (other number (cc (same, is)))
-
-  has_failed_here : IsKnown fault → (e : Entry) (landed : Bool) (entries : List Entry) (end : Option E) → e.reply ≡ reply.Failed landed → EndsWith (fault e.seq) entries end → Shows (e ∷ entries) end
-  has_failed_here known e landed entries end failed (nil, inl none) = no_end (e ∷ entries) end none
-  has_failed_here known e landed entries end failed (nil, inr same) = λ number is. (e, contains_first e entries, known e.seq number (cc (same, is)), ap has_failed failed)
 
 -- ---- uploads
 
@@ -141,53 +114,28 @@ sync_shows rules entries (Some last) run number is =
 
 -- ---- series calls
 
-abbrev CallShows : List Entry → Option SeriesEnd → Type 0
-CallShows = Shows called.Fault
+abbrev CallShows : List Entry → Called → Type 0
+CallShows made told = (number : ℕ) → told ≡ call_told.fault number → ShowsFault made number
 
-call_on : (e : Entry) (entries : List Entry) (end : Option SeriesEnd) → CallShows entries end → CallShows (e ∷ entries) end
-call_on = goes_on called.Fault
+call_fault_told : (sources : List ℕ) (told : Called) (end : SeriesEnd) (number : ℕ) → IsCallEnd sources told end → end ≡ called.Fault number → told ≡ call_told.fault number
+call_fault_told sources (call_told.took taken) end number (series, set, is, merge, set_is) same = absurd (cc (is, same))
+call_fault_told sources (call_told.missing n) end number is same = absurd (cc (is, same))
+call_fault_told sources (call_told.damaged n) end number is same = absurd (cc (is, same))
+call_fault_told sources (call_told.fault n) end number is same = let one : n ≡ number = cc (is, same) in ap call_told.fault one
 
-call_failed : (e : Entry) (landed : Bool) (entries : List Entry) (end : Option SeriesEnd) → e.reply ≡ reply.Failed landed → EndsWith (called.Fault e.seq) entries end → CallShows (e ∷ entries) end
-call_failed = has_failed_here called.Fault (λ one other is. cc (is))
+calls_show : (query : Question) (blocks : List ToRead) → EndsAre (λ e. Unit {0}) CallShows [] (reading query [] blocks)
+calls_show query blocks =
+    reading_are (λ e. Unit {0}) CallShows query (λ taken left. Unit {0})
+    (λ made e failed number same. (e, stands_in made [] e, cc (same), failed))
+    (λ made e taken b bs k own of is absent number same. absurd (cc (same)))
+    (λ made e bytes taken b bs own given is found wrong number same. absurd (cc (same)))
+    (λ made e bytes taken b bs own given is found none number same. absurd (cc (same)))
+    (λ e bytes series taken b bs own given is found read. tt)
+    (λ made taken own number same. absurd (cc (same)))
+    [] [] blocks tt
 
-abbrev CallGoes : CallOnward → Type 0
-CallGoes next = (entries : List Entry) (end : Option SeriesEnd) → next entries end → CallShows entries end
-
-after_get : (next : ℕ → List ℕ → CallOnward) → ((seq : ℕ) (bytes : List ℕ) → CallGoes (next seq bytes)) → (e : Entry) (r : Reply) → e.reply ≡ r → (entries : List Entry) (end : Option SeriesEnd) → AfterGet e.seq r (next e.seq) entries end → CallShows (e ∷ entries) end
-after_get next goes e (reply.Found bytes) same entries end run = call_on e entries end (goes e.seq bytes entries end run)
-after_get next goes e reply.Absent same entries end run = call_on e entries end (ends_else called.Fault (called.Missing e.seq) entries end (λ number is. cc (is)) run)
-after_get next goes e (reply.Failed landed) same entries end run = call_failed e landed entries end same run
-after_get next goes e reply.Clocked same entries end run = absurd run
-after_get next goes e reply.Stored same entries end run = absurd run
-after_get next goes e reply.Deleted same entries end run = absurd run
-after_get next goes e (reply.Names names) same entries end run = absurd run
-
-gets : (k : Key) (next : ℕ → List ℕ → CallOnward) → ((seq : ℕ) (bytes : List ℕ) → CallGoes (next seq bytes)) → CallGoes (Gets k next)
-gets k next goes [] end run = λ number is. absurd (cc (run, is))
-gets k next goes (e ∷ entries) end run = after_get next goes e e.reply refl entries end run.1
-
-module _ (ulid : ℕ) (next : List Series → CallOnward) (goes : (series : List Series) → CallGoes (next series)) where
-  after_segment : (seq : ℕ) (bytes : List ℕ) → CallGoes (AfterSegment seq bytes next)
-  after_segment seq bytes entries end (stopped nil none) = λ number is. absurd (cc (none, is))
-  after_segment seq bytes entries end (damaged never nil same) = λ number is. absurd (cc (same, is))
-  after_segment seq bytes entries end (read series is run) = goes series entries end run
-
-  after_index : (seq : ℕ) (bytes : List ℕ) → CallGoes (AfterIndex seq bytes (SegmentRead ulid next))
-  after_index seq bytes entries end run =
-      match_bool _ _ _ (CallShows entries end) (gets (key.Segment ulid 1) (λ seq' bytes'. AfterSegment seq' bytes' next) after_segment entries end)
-      (ends_else called.Fault (called.Damaged seq) entries end (λ number is. cc (is))) run
-
-  block_read : CallGoes (BlockRead ulid next)
-  block_read entries end run = gets (key.Index ulid) (λ seq bytes. AfterIndex seq bytes (SegmentRead ulid next)) after_index entries end run
-
-answers : (taken : List Triple) (sources : List ℕ) → CallGoes (Answers taken sources)
-answers taken sources entries end (nil, inl none) = λ number is. absurd (cc (none, is))
-answers taken sources entries end (nil, inr (series, set, same, merge, set_is)) = λ number is. absurd (cc (same, is))
-
-blocks : (query : Question) (sources : List ℕ) (to : List ToRead) (taken : List Triple) → CallGoes (CallReads query sources taken to)
-blocks query sources [] taken entries end run = answers taken sources entries end run
-blocks query sources (b ∷ to) taken entries end run =
-    block_read b.ulid (λ series. CallReads query sources (taken ++ wanted query b.external series) to) (λ series. blocks query sources to (taken ++ wanted query b.external series)) entries end run
-
-pub call_shows : (view : View) (query : Question) → CallGoes (SeriesRun view query)
-call_shows view query entries end run = blocks query (sources_of view.kept) (to_read query view.kept) [] entries end run
+pub call_shows : (view : View) (query : Question) (entries : List Entry) (end : Option SeriesEnd) → SeriesRun view query entries end → (number : ℕ) → end ≡ Some (called.Fault number) → ShowsFault entries number
+call_shows view query entries None run number is = absurd (cc (is))
+call_shows view query entries (Some last) (told, run, gives) number is =
+    end_is (λ e. Unit {0}) CallShows (series_call view query) [] entries told (calls_show query (to_read query view.kept)) (nothing_given entries) run number
+    (call_fault_told (sources_of view.kept) told last number gives (cc (is)))

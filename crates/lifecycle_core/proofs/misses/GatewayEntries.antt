@@ -8,8 +8,6 @@ use Rattle.label_sets.specs.Triples.{Triple}
 use Rattle.label_sets.specs.declared.series.Series.{Series}
 use Rattle.block_keys.specs.declared.key.Key.{Key}
 use Rattle.block_keys.specs.declared.key.Key.TheVariants as key
-use Rattle.world_core.specs.Walks.{EndsWith}
-use Rattle.world_core.proofs.PlanLaws.{nothing_given}
 use Rattle.world_core.specs.declared.entry.Entry.{Entry}
 use Rattle.world_core.specs.declared.op.Op.TheVariants as op
 use Rattle.world_core.specs.declared.reply.Reply.{Reply}
@@ -23,15 +21,15 @@ use Rattle.meta_fetcher.specs.declared.rules.SyncRules.{SyncRules}
 use Rattle.meta_fetcher.specs.declared.sync_end.SyncEnd.{SyncEnd}
 use Rattle.meta_fetcher.specs.declared.sync_end.SyncEnd.TheVariants as fetched
 use Rattle.meta_fetcher.specs.declared.view.View.{View}
-use Rattle.store_gateway.specs.SeriesRuns.{Query as Question, Reads as CallReads, Onward as CallOnward, SeriesRun, ToRead, AfterGet, AfterIndex, AfterSegment, Answers, Gets, SegmentRead, BlockRead, stopped, damaged, read, meets, to_read, sources_of, wanted}
+use Rattle.store_gateway.specs.SeriesRuns.{Query as Question, Called, IsEnd as IsCallEnd, SeriesRun, ToRead, meets, reading, series_call, sources_of, to_read}
+use Rattle.store_gateway.specs.SeriesRuns as call_told
+use Rattle.store_gateway.proofs.CallLaws.{reading_are, reading_asks}
+use Rattle.world_core.specs.Plans.{Runs}
+use Rattle.world_core.proofs.PlanLaws.{EndsAre, asked_are, each_op, end_is, nothing_given}
 use Rattle.store_gateway.specs.declared.series_end.SeriesEnd.{SeriesEnd}
 use Rattle.store_gateway.specs.declared.series_end.SeriesEnd.TheVariants as called
 use Rattle.lifecycle_core.proofs.journals.Positions.{stands_in}
 use Rattle.lifecycle_core.proofs.journals.RunEntries.{PrecedesMeta, IsRead}
-
-pub match_bool : (b : Bool) (X Y R : Type 0) → (X → R) → (Y → R) → MatchBool b X Y → R
-match_bool true X Y R f g m = f m
-match_bool false X Y R f g m = g m
 
 -- ---- what was seen
 
@@ -148,77 +146,46 @@ pub record Calls (Q : ℕ → Type 0) (entries : List Entry) (end : Option Serie
   pub misses : (number : ℕ) → end ≡ Some (called.Missing number) → Misses Q entries number
 
 module _ (Q : ℕ → Type 0) where
-  call_on : (entries : List Entry) (e : Entry) (end : Option SeriesEnd) → IsRead e.op → Calls Q entries end → Calls Q (e ∷ entries) end
-  call_on entries e end own rest = record {
-    reads = (own, rest.reads);
-    misses = λ number is. let m = rest.misses number is in
-        record { front = e ∷ m.front; entry = m.entry; ulid = m.ulid; key_is = m.key_is; last = ap (λ es. e ∷ es) m.last; is = m.is; reads = m.reads; absent = m.absent; own = m.own; holds = m.holds };
-  }
+  abbrev CallMisses : List Entry → Called → Type 0
+  CallMisses made told = (number : ℕ) → told ≡ call_told.missing number → Misses Q made number
 
-  no_end : (end : Option SeriesEnd) → end ≡ None → Calls Q [] end
-  no_end end none = record { reads = tt; misses = λ number is. absurd (cc (none, is)) }
+  missing_told : (sources : List ℕ) (told : Called) (end : SeriesEnd) (number : ℕ) → IsCallEnd sources told end → end ≡ called.Missing number → told ≡ call_told.missing number
+  missing_told sources (call_told.took taken) end number (series, set, is, merge, set_is) same = absurd (cc (is, same))
+  missing_told sources (call_told.missing n) end number is same = let one : n ≡ number = cc (is, same) in ap call_told.missing one
+  missing_told sources (call_told.damaged n) end number is same = absurd (cc (is, same))
+  missing_told sources (call_told.fault n) end number is same = absurd (cc (is, same))
 
-  no_miss : (entries : List Entry) (last : SeriesEnd) (end : Option SeriesEnd) → ((number : ℕ) → last ≡ called.Missing number → ⊥) → EndsWith last entries end → Calls Q entries end
-  no_miss [] last end other (nil, inl none) = no_end end none
-  no_miss [] last end other (nil, inr is) = record { reads = tt; misses = λ number same. absurd (other number (cc (is, same))) }
-  no_miss (e ∷ entries) last end other (nil, how) = absurd (cc (nil))
-
-  missed : (ulid : ℕ) (k : Key) (e : Entry) (entries : List Entry) (end : Option SeriesEnd) → PrecedesMeta ulid k → Q ulid → e.op ≡ op.Get k → e.reply ≡ reply.Absent → EndsWith (called.Missing e.seq) entries end → Calls Q (e ∷ entries) end
-  missed ulid k e [] end own holds is absent (nil, how) = record {
-    reads = (subst IsRead (sym is) tt, tt);
-    misses = λ number same. elim how [
-      | inl none ↦ absurd (cc (none, same))
-      | inr last ↦ record { front = []; entry = e; ulid = ulid; key_is = k; last = refl; is = cc (last, same); reads = is; absent = absent; own = own; holds = holds }
-    ];
-  }
-  missed ulid k e (x ∷ entries) end own holds is absent (nil, how) = absurd (cc (nil))
-
-  module _ (ulid : ℕ) (holds : Q ulid) where
-    after_get : (k : Key) → PrecedesMeta ulid k → (next : ℕ → List ℕ → CallOnward) (goes : (seq : ℕ) (bytes : List ℕ) (entries : List Entry) (end : Option SeriesEnd) → next seq bytes entries end → Calls Q entries end)
-        → (e : Entry) (r : Reply) (entries : List Entry) (end : Option SeriesEnd) → e.reply ≡ r → e.op ≡ op.Get k → AfterGet e.seq r (next e.seq) entries end → Calls Q (e ∷ entries) end
-    after_get k own next goes e (reply.Found bytes) entries end same is run = call_on entries e end (subst IsRead (sym is) tt) (goes e.seq bytes entries end run)
-    after_get k own next goes e reply.Absent entries end same is run = missed ulid k e entries end own holds is same run
-    after_get k own next goes e (reply.Failed landed) entries end same is run = call_on entries e end (subst IsRead (sym is) tt) (no_miss entries (called.Fault e.seq) end (λ number is'. cc (is')) run)
-    after_get k own next goes e reply.Clocked entries end same is run = absurd run
-    after_get k own next goes e reply.Stored entries end same is run = absurd run
-    after_get k own next goes e reply.Deleted entries end same is run = absurd run
-    after_get k own next goes e (reply.Names names) entries end same is run = absurd run
-
-    gets : (k : Key) → PrecedesMeta ulid k → (next : ℕ → List ℕ → CallOnward) (goes : (seq : ℕ) (bytes : List ℕ) (entries : List Entry) (end : Option SeriesEnd) → next seq bytes entries end → Calls Q entries end)
-        → (entries : List Entry) (end : Option SeriesEnd) → Gets k next entries end → Calls Q entries end
-    gets k own next goes [] end run = no_end end run
-    gets k own next goes (e ∷ entries) end (is, run) = after_get k own next goes e e.reply entries end refl is run
-
-    module _ (next : List Series → CallOnward) (goes : (series : List Series) (entries : List Entry) (end : Option SeriesEnd) → next series entries end → Calls Q entries end) where
-      after_segment : (seq : ℕ) (bytes : List ℕ) (entries : List Entry) (end : Option SeriesEnd) → AfterSegment seq bytes next entries end → Calls Q entries end
-      after_segment seq bytes entries end (stopped nil none) = subst (λ es. Calls Q es end) (sym nil) (no_end end none)
-      after_segment seq bytes entries end (damaged never nil is) = no_miss entries (called.Damaged seq) end (λ number is'. cc (is')) (nil, inr is)
-      after_segment seq bytes entries end (read series is run) = goes series entries end run
-
-      after_index : (seq : ℕ) (bytes : List ℕ) (entries : List Entry) (end : Option SeriesEnd) → AfterIndex seq bytes (SegmentRead ulid next) entries end → Calls Q entries end
-      after_index seq bytes entries end run =
-          match_bool _ _ _ (Calls Q entries end) (gets (key.Segment ulid 1) (inr refl) (λ seq' bytes'. AfterSegment seq' bytes' next) after_segment entries end) (no_miss entries (called.Damaged seq) end (λ number is. cc (is))) run
-
-      block : (entries : List Entry) (end : Option SeriesEnd) → BlockRead ulid next entries end → Calls Q entries end
-      block entries end run = gets (key.Index ulid) (inl refl) (λ seq bytes. AfterIndex seq bytes (SegmentRead ulid next)) after_index entries end run
-
-  answers : (taken : List Triple) (sources : List ℕ) (entries : List Entry) (end : Option SeriesEnd) → Answers taken sources entries end → Calls Q entries end
-  answers taken sources (e ∷ entries) end (nil, how) = absurd (cc (nil))
-  answers taken sources [] end (nil, inl none) = no_end end none
-  answers taken sources [] end (nil, inr (series, set, is, merge, same)) = record { reads = tt; misses = λ number miss. absurd (cc (is, miss)) }
-
-  blocks : (query : Question) (sources : List ℕ) (to : List ToRead) (taken : List Triple) (entries : List Entry) (end : Option SeriesEnd) → AllByRecursion (λ (b : ToRead). Q b.ulid) to → CallReads query sources taken to entries end → Calls Q entries end
-  blocks query sources [] taken entries end all run = answers taken sources entries end run
-  blocks query sources (b ∷ to) taken entries end all run =
-      block b.ulid all.0 (λ series. CallReads query sources (taken ++ wanted query b.external series) to) (λ series es end'. blocks query sources to (taken ++ wanted query b.external series) es end' all.1) entries end run
+  calls_miss : (query : Question) (blocks : List ToRead) → AllByRecursion (λ (b : ToRead). Q b.ulid) blocks → EndsAre (λ e. Unit {0}) CallMisses [] (reading query [] blocks)
+  calls_miss query blocks all =
+      reading_are (λ e. Unit {0}) CallMisses query (λ taken left. AllByRecursion (λ (b : ToRead). Q b.ulid) left)
+      (λ made e failed number same. absurd (cc (same)))
+      (λ made e taken b bs k own of is absent number same.
+      record { front = made; entry = e; ulid = b.ulid; key_is = k; last = refl; is = cc (same); reads = is; absent = absent; own = of; holds = own.0 })
+      (λ made e bytes taken b bs own given is found wrong number same. absurd (cc (same)))
+      (λ made e bytes taken b bs own given is found none number same. absurd (cc (same)))
+      (λ e bytes series taken b bs own given is found read. own.1)
+      (λ made taken own number same. absurd (cc (same)))
+      [] [] blocks all
 
   to_blocks : (query : Question) (kept : List Found) → AllByRecursion (λ (b : Found). Q b.ulid) kept → AllByRecursion (λ (b : ToRead). Q b.ulid) (map (λ (b : Found). record { ulid = b.ulid; external = b.meta.labels }) kept)
   to_blocks query [] all = tt
   to_blocks query (b ∷ kept) all = (all.0, to_blocks query kept all.1)
 
+  call_reads : (query : Question) (blocks : List ToRead) (entries : List Entry) (end : Option Called) → Runs (reading query [] blocks) entries end → AllByRecursion (λ (e : Entry). IsRead e.op) entries
+  call_reads query blocks entries end run =
+      each_op IsRead [] entries (asked_are (λ before. IsRead) (reading query [] blocks) [] entries end (reading_asks IsRead (λ k. tt) query [] [] blocks) run)
+
   -- a call over a view
   pub calls : (view : View) (query : Question) (entries : List Entry) (end : Option SeriesEnd) → All (λ (b : Found). Q b.ulid) view.kept → SeriesRun view query entries end → Calls Q entries end
-  calls view query entries end all run =
+  calls view query entries None all run =
+      record { reads = call_reads query (to_read query view.kept) entries None run; misses = λ number is. absurd (cc (is)) }
+  calls view query entries (Some last) all (told, run, gives) =
       let kept = filter (meets query) view.kept in
       let own : All (λ (b : Found). Q b.ulid) kept = All-filter (meets query) (λ (b : Found). Q b.ulid) view.kept all in
-      blocks query (sources_of view.kept) (to_read query view.kept) [] entries end (to_blocks query kept (recursion_from_All (λ (b : Found). Q b.ulid) kept own)) run
+      record {
+        reads = call_reads query (to_read query view.kept) entries (Some told) run;
+        misses = λ number is.
+            end_is (λ e. Unit {0}) CallMisses (series_call view query) [] entries told
+            (calls_miss query (to_read query view.kept) (to_blocks query kept (recursion_from_All (λ (b : Found). Q b.ulid) kept own))) (nothing_given entries) run number
+            (missing_told (sources_of view.kept) told last number gives (cc (is)));
+      }

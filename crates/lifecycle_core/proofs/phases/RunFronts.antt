@@ -6,7 +6,6 @@ use Rattle.block_keys.specs.declared.key.Key.{Key}
 use Rattle.block_keys.specs.declared.key.Key.TheVariants as key
 use Rattle.label_sets.specs.Triples.{Triple}
 use Rattle.label_sets.specs.declared.series.Series.{Series}
-use Rattle.world_core.specs.Walks.{EndsWith}
 use Rattle.world_core.specs.declared.entry.Entry.{Entry}
 use Rattle.world_core.specs.declared.reply.Reply.{Reply}
 use Rattle.world_core.specs.declared.reply.Reply.TheVariants as reply
@@ -16,7 +15,7 @@ use Rattle.meta_fetcher.specs.Syncs.{IsEnd, SyncRun, sync}
 use Rattle.meta_fetcher.specs.declared.rules.SyncRules.{SyncRules}
 use Rattle.meta_fetcher.specs.declared.sync_end.SyncEnd.{SyncEnd}
 use Rattle.meta_fetcher.specs.declared.view.View.{View}
-use Rattle.store_gateway.specs.SeriesRuns.{Query as Question, Reads as CallReads, Onward as CallOnward, SeriesRun, ToRead, AfterGet, AfterIndex, AfterSegment, Gets, SegmentRead, BlockRead, stopped, damaged, read, to_read, sources_of, wanted}
+use Rattle.store_gateway.specs.SeriesRuns.{Query as Question, IsEnd as IsCallEnd, series_call, sources_of}
 use Rattle.store_gateway.specs.declared.series_end.SeriesEnd.{SeriesEnd}
 use Rattle.script_core.specs.declared.script.Script.{Script}
 use Rattle.script_workers.specs.declared.work.Work.{Work}
@@ -28,57 +27,10 @@ pub not_nil : {X : Type 0} (xs : List X) (y : X) (rest : List X) → xs ++ y ∷
 not_nil [] y rest is = cc (is)
 not_nil (x ∷ xs) y rest is = cc (is)
 
--- in either case the same holds
-both_cases : (b : Bool) (X Y X' Y' : Type 0) → (X → X') → (Y → Y') → MatchBool b X Y → MatchBool b X' Y'
-both_cases true X Y X' Y' f g m = f m
-both_cases false X Y X' Y' f g m = g m
-
 -- ---- syncs
 
 sync_cut : (rules : SyncRules) (xs : List Entry) (y : Entry) (rest : List Entry) (end : Option SyncEnd) → SyncRun rules (xs ++ y ∷ rest) end → SyncRun rules xs None
 sync_cut rules xs y rest end run = comes_front (sync rules) (IsEnd rules) xs y rest end run
-
--- ---- series calls
-
-abbrev CallCuts : CallOnward → Type 0
-CallCuts run = (xs : List Entry) (y : Entry) (rest : List Entry) (end : Option SeriesEnd) → run (xs ++ y ∷ rest) end → run xs None
-
-call_ends : (last : SeriesEnd) → CallCuts (EndsWith last)
-call_ends last xs y rest end (nil, how) = absurd (not_nil xs y rest nil)
-
-after_get : (seq : ℕ) (next : List ℕ → CallOnward) → ((bytes : List ℕ) → CallCuts (next bytes)) → (r : Reply) → CallCuts (AfterGet seq r next)
-after_get seq next cuts (reply.Found bytes) xs y rest end run = cuts bytes xs y rest end run
-after_get seq next cuts reply.Absent xs y rest end run = call_ends _ xs y rest end run
-after_get seq next cuts (reply.Failed landed) xs y rest end run = call_ends _ xs y rest end run
-after_get seq next cuts reply.Clocked xs y rest end run = absurd run
-after_get seq next cuts reply.Stored xs y rest end run = absurd run
-after_get seq next cuts reply.Deleted xs y rest end run = absurd run
-after_get seq next cuts (reply.Names names) xs y rest end run = absurd run
-
-gets : (k : Key) (next : ℕ → List ℕ → CallOnward) → ((seq : ℕ) (bytes : List ℕ) → CallCuts (next seq bytes)) → CallCuts (Gets k next)
-gets k next cuts [] y rest end run = refl
-gets k next cuts (e ∷ xs) y rest end run = (run.0, after_get e.seq (next e.seq) (cuts e.seq) e.reply xs y rest end run.1)
-
-module _ (ulid : ℕ) (next : List Series → CallOnward) (cuts : (series : List Series) → CallCuts (next series)) where
-  after_segment : (seq : ℕ) (bytes : List ℕ) → CallCuts (AfterSegment seq bytes next)
-  after_segment seq bytes xs y rest end (stopped nil none) = absurd (not_nil xs y rest nil)
-  after_segment seq bytes xs y rest end (damaged never nil is) = absurd (not_nil xs y rest nil)
-  after_segment seq bytes xs y rest end (read series is run) = read series is (cuts series xs y rest end run)
-
-  after_index : (seq : ℕ) (bytes : List ℕ) → CallCuts (AfterIndex seq bytes (SegmentRead ulid next))
-  after_index seq bytes xs y rest end run =
-      both_cases _ _ _ _ _ (gets (key.Segment ulid 1) (λ seq' bytes'. AfterSegment seq' bytes' next) after_segment xs y rest end) (call_ends _ xs y rest end) run
-
-  block_cut : CallCuts (BlockRead ulid next)
-  block_cut xs y rest end run = gets (key.Index ulid) (λ seq bytes. AfterIndex seq bytes (SegmentRead ulid next)) after_index xs y rest end run
-
-blocks : (query : Question) (sources : List ℕ) (to : List ToRead) (taken : List Triple) → CallCuts (CallReads query sources taken to)
-blocks query sources [] taken xs y rest end (nil, how) = absurd (not_nil xs y rest nil)
-blocks query sources (b ∷ to) taken xs y rest end run =
-    block_cut b.ulid (λ series. CallReads query sources (taken ++ wanted query b.external series) to) (λ series. blocks query sources to (taken ++ wanted query b.external series)) xs y rest end run
-
-call_cut : (view : View) (query : Question) → CallCuts (SeriesRun view query)
-call_cut view query = blocks query (sources_of view.kept) (to_read query view.kept) []
 
 -- ---- tasks
 
@@ -91,7 +43,7 @@ before_stop stop xs y rest own end (inr (n, is, above, count, same)) = λ m othe
 query_cut : (script : Script) (view : Option Use) (asked : Option Question) (xs : List Entry) (y : Entry) (rest : List Entry) (end : Option End) → QueryTask script view asked (xs ++ y ∷ rest) end → QueryTask script view asked xs None
 query_cut script None asked xs y rest end (nil, how) = absurd (not_nil xs y rest nil)
 query_cut script (Some used) None xs y rest end run = run
-query_cut script (Some used) (Some asked) xs y rest end (own, run, is) = (None, call_cut used.view asked xs y rest own run, refl)
+query_cut script (Some used) (Some asked) xs y rest end (own, run, is) = (None, comes_front (series_call used.view asked) (IsCallEnd (sources_of used.view.kept)) xs y rest own run, refl)
 
 -- entries of a task's run before its last are a run without an end
 pub task_cut : (script : Script) (view : Option Use) (w : Work) (xs : List Entry) (y : Entry) (rest : List Entry) (end : Option End) → TaskRun script view w (xs ++ y ∷ rest) end → TaskRun script view w xs None

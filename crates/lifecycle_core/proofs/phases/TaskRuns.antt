@@ -15,7 +15,8 @@ use Rattle.meta_fetcher.specs.Syncs.{SyncRun}
 use Rattle.meta_fetcher.specs.declared.view.View.{View}
 use Rattle.meta_fetcher.specs.declared.sync_end.SyncEnd.{SyncEnd}
 use Rattle.meta_fetcher.specs.declared.sync_end.SyncEnd.TheVariants as fetched
-use Rattle.store_gateway.specs.SeriesRuns.{Query as Question, ToRead, Reads, to_read, sources_of}
+use Rattle.store_gateway.specs.SeriesRuns.{Query as Question, series_call}
+use Rattle.world_core.proofs.PlanLaws.{breaks_off}
 use Rattle.label_sets.specs.Triples.{Triple}
 use Rattle.matchers.specs.declared.matcher.Matcher.{Matcher}
 use Rattle.script_core.specs.Lawful.{IsLawfulBlock, IsLawfulBody, IsLawfulWork}
@@ -60,10 +61,6 @@ built_by block (Inline min_time max_time series) lawful =
       (plan, record { ulid = refl; early = refl; late = refl; level = refl; sources = refl; parents = refl; labels = refl; source = refl }, refl),
     )
 
-pub reads_none : (query : Question) (sources : List ℕ) (taken : List Triple) (blocks : List ToRead) → Reads query sources taken blocks [] None
-reads_none query sources taken [] = (refl, inl refl)
-reads_none query sources taken (block ∷ blocks) = refl
-
 got : {X : Type 0} (xs : List X) (i : ℕ) → i < length xs → (x : X) × (slice_get xs i ≡ Some x)
 got [] i below = absurd (omega (arith, below))
 got (x ∷ xs) zero below = (x, refl)
@@ -72,7 +69,7 @@ got (x ∷ xs) (suc i) below = got xs i (omega (arith, below))
 query_none : (script : Script) (view : Option Use) (asked : Option Question) → ((q : Question) × (asked ≡ Some q)) → QueryTask script view asked [] None
 query_none script None asked is = (refl, inl refl)
 query_none script (Some used) None is = absurd (cc (is.1))
-query_none script (Some used) (Some q) is = (None, reads_none q (sources_of used.view.kept) [] (to_read q used.view.kept), refl)
+query_none script (Some used) (Some q) is = (None, breaks_off (series_call used.view q), refl)
 
 asked_some : (script : Script) (selector : ℕ) (low high : ℤ) → selector < length script.selectors → (q : Question) × (asked_by script selector low high ≡ Some q)
 asked_some script selector low high below =
