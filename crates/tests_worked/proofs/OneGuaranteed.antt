@@ -7,6 +7,7 @@ use Rattle.block_keys.specs.declared.key.Key.TheVariants as key
 use Rattle.label_sets.specs.Triples.{Triple, triples_of, triples_under}
 use Rattle.matchers.specs.declared.matcher.Matcher.{Matcher}
 use Rattle.meta_fetcher.specs.declared.sync_end.SyncEnd.TheVariants as fetched
+use Rattle.store_gateway.specs.SeriesRuns as reads
 use Rattle.store_gateway.specs.declared.series_end.SeriesEnd.TheVariants as called
 use Rattle.block_keys.specs.KeyText.{key_text}
 use Rattle.world_core.specs.Standing.{IsHonest}
@@ -132,7 +133,7 @@ guaranteed = record {
 -- ---- where the index is lost
 
 missing_run : QueryTask one.script (Some one.used) (Some (question one.selector)) (lost.lost ∷ []) (Some lost.missing)
-missing_run = (Some (called.Missing 10), (refl, (refl, inr refl)), refl)
+missing_run = (Some (called.Missing 10), (reads.missing 10, (refl, (refl, inr refl)), refl), refl)
 
 pub lost_run : IsRunOf one.script lost.journal lost.ends
 lost_run = run_with Absent (called.Missing 10) tt missing_run

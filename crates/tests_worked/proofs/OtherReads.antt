@@ -10,6 +10,7 @@ use Rattle.world_core.specs.declared.entry.Entry.{Entry}
 use Rattle.world_core.specs.declared.op.Op.TheVariants as op
 use Rattle.world_core.specs.declared.reply.Reply.{Reply}
 use Rattle.world_core.specs.declared.reply.Reply.TheVariants as reply
+use Rattle.store_gateway.specs.SeriesRuns as reads
 use Rattle.store_gateway.specs.declared.series_end.SeriesEnd.{SeriesEnd}
 use Rattle.store_gateway.specs.declared.series_end.SeriesEnd.TheVariants as called
 use Rattle.lifecycle_core.specs.Causes.{AreUndamaged, AreWell, SomeCame}
@@ -52,7 +53,7 @@ query_came came = (_, _, (1, lit< tt, refl), (0, lit< tt, refl), (1, lit< tt, re
 -- ---- where it is spoiled
 
 spoiled_task : Came (reply.Found []) (called.Damaged 10)
-spoiled_task = (Some (called.Damaged 10), (refl, (refl, inr refl)), refl)
+spoiled_task = (Some (called.Damaged 10), (reads.damaged 10, (refl, (refl, inr refl)), refl), refl)
 
 pub spoiled_run : IsRunOf one.script other.spoiled other.spoiled_ends
 spoiled_run = run_with (reply.Found []) (called.Damaged 10) tt spoiled_task
@@ -63,7 +64,7 @@ damaged none = none (answered one.used (called.Damaged 10)) (query_came (called.
 -- ---- where the call fails
 
 pub failed_run : IsRunOf one.script other.failed other.failed_ends
-failed_run = run_with (reply.Failed false) (called.Fault 10) tt (Some (called.Fault 10), (refl, (refl, inr refl)), refl)
+failed_run = run_with (reply.Failed false) (called.Fault 10) tt (Some (called.Fault 10), (reads.fault 10, (refl, (refl, inr refl)), refl), refl)
 
 pub failed_honest : IsHonest other.failed
 failed_honest = each_of (λ before e. Tells (stands before) e.op e.reply) other.failed (tt, (refl, (tt, (tt, (tt, (tt, (page, (shows_no_mark, (shows_meta, (tt, tt))))))))))
