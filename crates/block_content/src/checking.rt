@@ -11,9 +11,9 @@ ghost use Rattle.block_content.specs.ContentReading.{joined, list_of, first_time
 ghost use Rattle.block_content.specs.Checking.{Passes, RefusesBlock};
 ghost use Rattle.block_content.specs.CheckReading.{is_alone, own_at, files_at, check_at, found_at, IsFirstFound};
 
+use crate::CheckRefusal;
 use crate::chunk_reading::{chunk_samples, refused_chunk};
 use crate::content_reading::{budget_of, first_repeated, first_time, read_index};
-use crate::CheckRefusal;
 use block_files::BlockFiles;
 use block_meta::Meta;
 use index_parts::ChunkPlace;

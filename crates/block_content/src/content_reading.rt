@@ -13,8 +13,8 @@ ghost use Rattle.block_content.specs.Content.{IsContent};
 ghost use Rattle.block_content.specs.ContentRefusals.{RefusesContent};
 ghost use Rattle.block_content.specs.ContentReading.{index_at, refused_index, joined, list_of, series_bytes, chunk_bytes, is_within, first_time, first_outside, begins_after, follow, repeated_in, fitted, contents_at, content_at, AreFew, WalksChunks, WalksSeries};
 
-use crate::chunk_reading::{chunk_samples, refused_chunk};
 use crate::CheckRefusal;
+use crate::chunk_reading::{chunk_samples, refused_chunk};
 use block_files::BlockFiles;
 use block_meta::Meta;
 use index_parts::ChunkPlace;

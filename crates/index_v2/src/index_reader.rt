@@ -50,12 +50,24 @@ impl<'a> Model for IndexReader<'a> {
     ghost Value = { Held };
 
     ghost view = { λ r.
-        record { bytes = r.bytes.now; toc = r.toc; symbols = r.symbols; rows = r.rows;
-        lists = part_of r.lists; size = r.size } };
+        record {
+          bytes = r.bytes.now;
+          toc = r.toc;
+          symbols = r.symbols;
+          rows = r.rows;
+          lists = part_of r.lists;
+          size = r.size;
+        } };
 
     ghost invariant = { λ r.
-        (IsWhole (record { bytes = r.bytes.now; toc = r.toc; symbols = r.symbols; rows = r.rows;
-        lists = part_of r.lists; size = r.size })
+        (IsWhole (record {
+          bytes = r.bytes.now;
+          toc = r.toc;
+          symbols = r.symbols;
+          rows = r.rows;
+          lists = part_of r.lists;
+          size = r.size;
+        })
         ⊎ (r.bytes.now ≡ []))
         × IsBytes r.bytes.now
         × (r.lists.begin + length r.lists.bytes.now < 2 ^ 64)
@@ -231,7 +243,13 @@ impl<'a> IndexReader<'a> {
             begin: at,
             bytes: part,
         };
-        series_of(alloc, bytes, &self.symbols, number, text_budget_of(self.size))
+        series_of(
+            alloc,
+            bytes,
+            &self.symbols,
+            number,
+            text_budget_of(self.size),
+        )
     }
 
     /// Reads the series of a number into the room of another, of which nothing is kept but the memory of its lists: where these

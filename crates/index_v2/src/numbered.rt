@@ -94,7 +94,13 @@ pub(crate) fn series_of(
     ensures few { IfOk result (λ series.
         2 * length series.labels + 3 * length series.chunks ≤ length part.entry.bytes.now) }
 {
-    match series_at(alloc, part.bytes, symbols, 16 * u64::from(number) - part.begin, most) {
+    match series_at(
+        alloc,
+        part.bytes,
+        symbols,
+        16 * u64::from(number) - part.begin,
+        most,
+    ) {
         Ok(series) => Ok(series),
         Err(refusal) => Err(refused_of(number, shifted(refusal, part.begin))),
     }

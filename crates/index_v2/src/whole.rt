@@ -69,7 +69,13 @@ fn series_behind(
         (λ series. series) result
         (behind_at index.now symbols.now (slice_get before.now (length before.now - 1)) number) }
 {
-    match series_at(alloc, index, symbols, 16 * number, text_budget_of(index.len())) {
+    match series_at(
+        alloc,
+        index,
+        symbols,
+        16 * number,
+        text_budget_of(index.len()),
+    ) {
         Ok(series) if may_stand_behind(before, &series) => Ok(series),
         Ok(_) => Err(IndexRefusal::BadSeries(number as u32, PartRefusal::Unordered(16 * number))),
         Err(refusal) => Err(refused_of(number as u32, refusal)),
@@ -151,8 +157,14 @@ pub(crate) fn whole(
     ensures texts { IfOk result (λ list. sum_by text_bytes list ≤ 64 * length index.now) }
     ensures exact { (size : ℕ) → Gives IndexRefusal.NoMemory
         (λ list. list) result
-        (whole_at (record { bytes = index.now; toc = toc.now; symbols = symbols.now;
-        rows = rows.now; lists = part_of part.entry; size = size })) }
+        (whole_at (record {
+          bytes = index.now;
+          toc = toc.now;
+          symbols = symbols.now;
+          rows = rows.now;
+          lists = part_of part.entry;
+          size = size;
+        })) }
 {
     let numbers = list_of(alloc, part, rows, "", "")?;
     test_present(toc, numbers.members())?;

@@ -119,8 +119,8 @@ find-placed t x (y ∷ ys) = by_bool (has_lesser_key y x)
     (λ less. ap (λ b. find (has_same_key t) (cond b (y ∷ placed has_lesser_key x ys) (x ∷ y ∷ ys))) less
     ∙ ap (λ o. cond (has_same_key t y) (Some y) o) (find-placed t x ys)
     ∙ by_bool (has_same_key t x)
-      (λ same. find_skip (has_same_key t) y (x ∷ ys) (other_key t x y same less) ∙ find_here (has_same_key t) x ys same ∙ sym (find_here (has_same_key t) x (y ∷ ys) same))
-      (λ f. ap (λ o. cond (has_same_key t y) (Some y) o) (find_skip (has_same_key t) x ys f) ∙ sym (find_skip (has_same_key t) x (y ∷ ys) f)))
+    (λ same. find_skip (has_same_key t) y (x ∷ ys) (other_key t x y same less) ∙ find_here (has_same_key t) x ys same ∙ sym (find_here (has_same_key t) x (y ∷ ys) same))
+    (λ f. ap (λ o. cond (has_same_key t y) (Some y) o) (find_skip (has_same_key t) x ys f) ∙ sym (find_skip (has_same_key t) x (y ∷ ys) f)))
     (λ f. ap (λ b. find (has_same_key t) (cond b (y ∷ placed has_lesser_key x ys) (x ∷ y ∷ ys))) f)
 
 find-in_order : (t : Triple) (xs : List Triple) → find (has_same_key t) (in_order has_lesser_key xs) ≡ find (has_same_key t) xs
@@ -152,16 +152,17 @@ unfolding IsStrictlySortedBy
 first-dedup_from x [] up = (find_here (has_same_key x) x [] (keys_alike.refl x), tt)
 first-dedup_from x (y ∷ ys) up = by_bool (has_same_key y x)
     (λ e. let same : dedup_from has_same_key x (y ∷ ys) ≡ dedup_from has_same_key x ys = ap (λ b. cond b (dedup_from has_same_key x ys) (x ∷ dedup_from has_same_key y ys)) e in
-      subst (AllByRecursion (IsFirstIn (x ∷ y ∷ ys))) (sym same)
-      (all_weaker (IsFirstIn (x ∷ ys)) (IsFirstIn (x ∷ y ∷ ys)) (λ t is. find_twin t x y ys e ∙ is)
-      (dedup_from has_same_key x ys) (first-dedup_from x ys (subst (IsStrictlySortedBy compare_keys) same up))))
+    subst (AllByRecursion (IsFirstIn (x ∷ y ∷ ys))) (sym same)
+    (all_weaker (IsFirstIn (x ∷ ys)) (IsFirstIn (x ∷ y ∷ ys)) (λ t is. find_twin t x y ys e ∙ is)
+    (dedup_from has_same_key x ys) (first-dedup_from x ys (subst (IsStrictlySortedBy compare_keys) same up))))
     (λ f. let apart : dedup_from has_same_key x (y ∷ ys) ≡ x ∷ dedup_from has_same_key y ys = ap (λ b. cond b (dedup_from has_same_key x ys) (x ∷ dedup_from has_same_key y ys)) f in
-      let rise : IsStrictlySortedBy compare_keys (x ∷ dedup_from has_same_key y ys) = subst (IsStrictlySortedBy compare_keys) apart up in
-      subst (AllByRecursion (IsFirstIn (x ∷ y ∷ ys))) (sym apart)
-      (find_here (has_same_key x) x (y ∷ ys) (keys_alike.refl x),
+    let rise : IsStrictlySortedBy compare_keys (x ∷ dedup_from has_same_key y ys) = subst (IsStrictlySortedBy compare_keys) apart up in
+    subst (AllByRecursion (IsFirstIn (x ∷ y ∷ ys))) (sym apart) (
+      find_here (has_same_key x) x (y ∷ ys) (keys_alike.refl x),
       all_both (λ t. compare_keys x t ≡ Less) (IsFirstIn (y ∷ ys)) (IsFirstIn (x ∷ y ∷ ys))
-      (λ t less is. find_skip (has_same_key t) x (y ∷ ys) (keys_alike.symm t x ∙ ap is_eq less) ∙ is)
-      (dedup_from has_same_key y ys) rise.0 (first-dedup_from y ys rise.1)))
+          (λ t less is. find_skip (has_same_key t) x (y ∷ ys) (keys_alike.symm t x ∙ ap is_eq less) ∙ is)
+          (dedup_from has_same_key y ys) rise.0 (first-dedup_from y ys rise.1),
+    ))
 
 first-dedup : (xs : List Triple) → IsStrictlySortedBy compare_keys (dedup has_same_key xs) → AllByRecursion (IsFirstIn xs) (dedup has_same_key xs)
 first-dedup [] up = tt
