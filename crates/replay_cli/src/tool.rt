@@ -39,6 +39,9 @@ pub fn run_tool<S: Site, R: Source, K: Sink>(
 
     ensures handed { IsHandedOut S.buckets site.old site.new result.store }
     ensures shelf { IsHandedOut S.shelves site.old site.new result.shelf }
+
+    // No words ask for a shelf yet, and none is opened.
+    ensures closed { S.shelves site.new ≡ S.shelves site.old }
     ensures kept { is_some result.journal ≡ is_some result.store }
 
     // The journal is true of the bucket that is handed back, and without an entry that is as the site opened it.
