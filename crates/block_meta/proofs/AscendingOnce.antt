@@ -16,7 +16,7 @@ use Rattle.block_meta.specs.Lawful.{ascending}
 first_in : (x u : ℕ) (xs : List ℕ) → x ≡ u → Contains (x ∷ xs) u
 first_in x u xs e = subst (Contains (x ∷ xs)) e (contains_first x xs)
 
-above_all : (x u : ℕ) (xs : List ℕ) → AllByRecursion (λ y. nat_cmp x y ≡ Less) xs → Contains xs u → x < u
+pub above_all : (x u : ℕ) (xs : List ℕ) → AllByRecursion (λ y. nat_cmp x y ≡ Less) xs → Contains xs u → x < u
 above_all x u xs h c = lt-from_Less x u (each_member (λ y. nat_cmp x y ≡ Less) xs u h c)
 
 -- ---- one number more

@@ -23,7 +23,7 @@ use Rattle.block_meta.proofs.Found.{IsReadAs, text, members_found as object_memb
 
 -- ---- members by name
 
-same_or_not : (a b : List ℕ) → (a ≡ b) ⊎ (a ≢ b)
+pub same_or_not : (a b : List ℕ) → (a ≡ b) ⊎ (a ≢ b)
 same_or_not a b = by_ordering (compare_texts a b) (λ e. inr (before_differs a b e)) (λ e. inl (same_text a b e)) (λ e. inr (λ h. let f : compare_texts a b ≡ Equal = subst (λ (n : List ℕ). compare_texts a n ≡ Equal) h (compare_self a) in cc))
 
 member_hit : (name : List ℕ) (value : Data) (others : Members) → get_member name (member name value others) ≡ Some value
@@ -34,7 +34,7 @@ miss_at Less r s h = refl
 miss_at Equal r s h = absurd (h refl)
 miss_at Greater r s h = refl
 
-member_miss : (name other : List ℕ) (value : Data) (others : Members) → name ≢ other → get_member name (member other value others) ≡ get_member name others
+pub member_miss : (name other : List ℕ) (value : Data) (others : Members) → name ≢ other → get_member name (member other value others) ≡ get_member name others
 member_miss name other value others differ = miss_at (compare_texts name other) (get_member name others) (Some value) (λ e. differ (same_text name other e))
 
 -- ---- one label more

@@ -10,3 +10,5 @@ pub mod FoundLists
 pub mod FoundSections
 pub mod FoundTexts
 pub mod AscendingOnce
+pub mod Sizes
+pub mod FewMembers

@@ -5,3 +5,4 @@ pub mod MetaFields
 pub mod MetaReading
 pub mod MetaValue
 pub mod MetaText
+pub mod Bounds

@@ -8,7 +8,7 @@ ghost use Rattle.block_meta.specs.MetaValue.{compaction_value};
 ghost use Rattle.block_meta.specs.Lawful.{ascending};
 
 use crate::item::{read_list, write_list};
-use crate::json::{missing, needed, section, unsigned, wrong_kind};
+use crate::json_values::{missing, needed, section, unsigned, wrong_kind};
 use crate::sources::read_sources;
 use crate::{MetaRefusal, ParentList};
 use serde_json::{Value, json};

@@ -1,7 +1,7 @@
 ghost use Rattle.std.specs.Prelude.{◌≡◌, ◌<◌, ◌^◌, IfOk};
 
 use crate::MetaRefusal;
-use crate::json::{needed, read_object, ulid, unsigned, version, wrong_kind};
+use crate::json_values::{needed, read_object, ulid, unsigned, version, wrong_kind};
 use crate::sources::write_ulid;
 use crate::thanos::read_text_or_empty;
 use label_sets::Text;

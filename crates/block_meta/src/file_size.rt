@@ -2,7 +2,7 @@ ghost use Rattle.std.specs.Prelude.{◌≡◌};
 
 use crate::MetaRefusal;
 use crate::item::Item;
-use crate::json::{count, needed, text, wrong_kind};
+use crate::json_values::{count, needed, text, wrong_kind};
 use label_sets::Text;
 use list_core::{List, NoMemory, TryCopy};
 use serde_json::{Value, json};

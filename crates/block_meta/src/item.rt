@@ -9,7 +9,7 @@ ghost use Rattle.block_meta.specs.Members.{each, list_of};
 ghost use Rattle.block_meta.specs.MetaValue.{items_value};
 
 use crate::MetaRefusal;
-use crate::json::{items, member};
+use crate::json_values::{items, member};
 use list_core::List;
 use serde_json::Value;
 use std::alloc::{AllocError, Global};

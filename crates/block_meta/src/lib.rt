@@ -6,7 +6,7 @@ mod compaction;
 mod deletion_mark;
 mod file_size;
 mod item;
-mod json;
+mod json_values;
 mod meta;
 mod parent;
 mod refusal;

@@ -4,7 +4,7 @@ ghost use Rattle.block_meta.specs.Lawful.{AreLawfulTimes};
 
 use crate::compaction::{Compaction, write_compaction};
 use crate::item::write_list;
-use crate::json::{needed, read_object, ulid, version};
+use crate::json_values::{needed, read_object, ulid, version};
 use crate::sources::write_ulid;
 use crate::stats::{Stats, write_stats};
 use crate::thanos::{Thanos, write_labels};
@@ -45,11 +45,12 @@ pub struct Meta {
 }
 
 impl Meta {
-    ghost use Rattle.std.specs.Prelude.{[], Ok, IfOk, OnOk, FitsSigned};
+    ghost use Rattle.std.specs.Prelude.{[], Ok, IfOk, OnOk, FitsSigned, length};
     ghost use Rattle.std.specs.Int.{w64};
     ghost use Rattle.reading_core.specs.Reading.{Gives};
     ghost use Rattle.serde_json.specs.View.{view};
     ghost use Rattle.block_meta.specs.declared.refusal.MetaRefusal.TheVariants.{NoMemory as WithoutMemory};
+    ghost use Rattle.block_meta.specs.Bounds.{HasFew};
     ghost use Rattle.block_meta.specs.MetaFields.{MetaFields, fields_of};
     ghost use Rattle.block_meta.specs.MetaReading.{meta_of, meta_of_text, labels_from};
     ghost use Rattle.block_meta.specs.MetaText.{IsMetaText};
@@ -61,6 +62,9 @@ impl Meta {
         ensures found { IfOk result (λ meta. IsMetaText bytes.now (fields_of meta)) }
         ensures only { (meta : MetaFields) → IsMetaText bytes.now meta
             → meta_of_text bytes.now ≡ Ok meta }
+
+        // No list has more members than the text has bytes.
+        ensures few { IfOk result (λ meta. HasFew (fields_of meta) (length bytes.now)) }
     {
         Meta::of_text(alloc, bytes)
     }

@@ -2,7 +2,7 @@ ghost use Rattle.std.specs.Prelude.{◌≡◌};
 
 use crate::MetaRefusal;
 use crate::item::Item;
-use crate::json::{needed, signed, ulid, wrong_kind};
+use crate::json_values::{needed, signed, ulid, wrong_kind};
 use crate::sources::write_ulid;
 use list_core::{List, NoMemory, TryCopy};
 use serde_json::{Value, json};

@@ -11,7 +11,7 @@ ghost use Rattle.block_meta.specs.MetaValue.{ulid_value};
 
 use crate::MetaRefusal;
 use crate::item::{Item, read_list};
-use crate::json::ulid;
+use crate::json_values::ulid;
 use list_core::NoMemory;
 use serde_json::Value;
 use std::alloc::{AllocError, Global};

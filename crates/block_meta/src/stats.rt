@@ -6,7 +6,7 @@ ghost use Rattle.block_meta.specs.MetaReading.{stats_of, stats_members_of};
 ghost use Rattle.block_meta.specs.MetaValue.{stats_value};
 
 use crate::MetaRefusal;
-use crate::json::{count, missing, section};
+use crate::json_values::{count, missing, section};
 use serde_json::{Value, json};
 use std::alloc::{AllocError, Global};
 

@@ -10,7 +10,7 @@ ghost use Rattle.block_meta.specs.MetaReading.{thanos_of, thanos_members_of, res
 ghost use Rattle.block_meta.specs.MetaValue.{label_members};
 
 use crate::item::{Item, read_list};
-use crate::json::{member, section, signed, text, version, wrong_kind};
+use crate::json_values::{member, section, signed, text, version, wrong_kind};
 use crate::{FileSizeList, MetaRefusal};
 use label_sets::{Label, LabelRefusal, LabelSet, Text, TextList};
 use serde_json::{Map, Value};

@@ -6,7 +6,7 @@ ghost use Rattle.block_meta.specs.Lawful.{AreLawfulTimes, are_lawful_times};
 ghost use Rattle.block_meta.specs.MetaReading.{times_of};
 
 use crate::MetaRefusal;
-use crate::json::{needed, whole};
+use crate::json_values::{needed, whole};
 use serde_json::Value;
 use std::alloc::Global;
 
