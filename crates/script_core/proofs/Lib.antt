@@ -22,3 +22,4 @@ pub mod AgainSetup
 pub mod AgainSeries
 pub mod AgainPhases
 pub mod AgainLines
+pub mod FewMembers

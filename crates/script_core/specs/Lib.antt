@@ -3,6 +3,7 @@ pub use Rattle.script_workers.specs.Whose
 pub use Rattle.script_workers.specs.Works
 pub use Rattle.script_workers.specs.Staff
 pub mod Limits
+pub mod Counts
 pub mod Workers
 pub mod Fields
 pub mod Values

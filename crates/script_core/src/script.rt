@@ -21,11 +21,12 @@ pub struct Script {
 }
 
 impl Script {
-    ghost use Rattle.std.specs.Prelude.{◌≡◌, Some, IfOk, slice_get};
+    ghost use Rattle.std.specs.Prelude.{◌≡◌, ◌≤◌, length, Some, IfOk, slice_get};
     ghost use Rattle.reading_core.specs.Reading.{Gives};
     ghost use Rattle.script_workers.specs.declared.phase.Phase.{Phase};
     ghost use Rattle.script_core.specs.declared.script.Script.{Script};
     ghost use Rattle.script_core.specs.declared.script_refusal.ScriptRefusal.TheVariants as script_refusals;
+    ghost use Rattle.script_core.specs.Counts.{members_of_script};
     ghost use Rattle.script_core.specs.Lawful.{IsLawfulScript};
     ghost use Rattle.script_core.specs.Reading.{script_of};
     ghost use Rattle.script_core.specs.Spelling.{Spells};
@@ -40,6 +41,10 @@ impl Script {
 
         // What a caller may rest on.
         ensures lawful { IfOk result (λ script. IsLawfulScript script) }
+
+        // Its lists have no more members together than the text has bytes.
+        ensures bounded { IfOk result
+            (λ script. members_of_script script ≤ length text.now) }
 
         // Which refusal it is: the first that the lines in order give.
         ensures gives { Gives script_refusals.NoMemory (λ script. script) result

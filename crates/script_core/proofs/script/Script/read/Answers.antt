@@ -1,3 +1,4 @@
+use Rattle.script_core.proofs.FewMembers.{few_of}
 use Rattle.script_core.proofs.ReadScripts.{found_of, only_of, lawful_of}
 use Rattle.script_core.proofs.script.Script.read.Goals as goal
 
@@ -9,3 +10,6 @@ returns-clause-lawful c = lawful_of c.args.text.now c.read_script.result c.read_
 
 pub returns-clause-only : goal.returns-clause-only
 returns-clause-only c script spells = only_of c.args.text.now c.read_script.result c.read_script.ensures script spells
+
+pub returns-clause-bounded : goal.returns-clause-bounded
+returns-clause-bounded c = few_of c.args.text.now c.read_script.result c.read_script.ensures
