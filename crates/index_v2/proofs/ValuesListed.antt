@@ -41,6 +41,7 @@ greater_name row name e less = let no : ordering_then (compare_texts row.name na
 
 pub begins_missing : (rows : List PostingsRow) (name : List ℕ) (place : ℕ) → StandsAt rows name [] place → BeginsAt rows name place
 begins_missing rows name place stands = record {
+  within = stands.within;
   below = λ k row lt at. less_name row name (stands.below k row lt at);
   above = λ k row le at. greater_name row name (stands.above k row le at);
 }
@@ -64,6 +65,7 @@ here rows place k one other e a b = same_Some one other (sym a ∙ ap (λ (i : �
 
 pub begins_found : (rows : List PostingsRow) (name : List ℕ) (place : ℕ) → IsStrictlySortedBy compare_rows rows → IsRowAt rows name [] place → BeginsAt rows name place
 begins_found rows name place ascend is = record {
+  within = let lt = slice_get_within rows place is.row is.stands in omega arith;
   below = λ k row lt at. less_name row name (same_compare row is.row name [] is.name_is is.value_is ∙ less_at compare_rows rows k place row is.row ascend lt at is.stands);
   above = λ k row le at. elim (cases_lt place k) [
     | inl lt ↦ not_less is.row row name (less_at compare_rows rows place k is.row row ascend lt is.stands at) (λ less. equal_not_less name (ap (λ (n : List ℕ). compare_texts n name) (sym is.name_is) ∙ less))

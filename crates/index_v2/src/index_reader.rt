@@ -1,20 +1,23 @@
-ghost use Rattle.std.specs.Prelude.{◌≡◌, ◌⊎◌, ◌+◌, ◌*◌, ◌^◌, ◌<◌, ◌≤◌, [], ◌∷◌, length, sum_by, All, slice_get, MatchResult, IfOk, Ok, Err, Some};
+ghost use Rattle.std.specs.Prelude.{◌≡◌, ◌⊎◌, ◌+◌, ◌*◌, ◌^◌, ◌<◌, ◌≤◌, [], ◌∷◌, length, sum_by, All, slice_get, MatchResult, IfOk, Ok, Err, Some, option_map};
 ghost use Rattle.std.specs.Result.{IsOkAnd};
 ghost use Rattle.std.specs.Option.{option_copied};
 ghost use Rattle.reading_core.specs.Reading.{Gives};
-ghost use Rattle.index_slices.specs.Parts.{part_of, known, IsPartOf, HoldsSection, HoldsSeries};
+ghost use Rattle.index_parts.specs.Postings.{IsPostings};
+ghost use Rattle.index_parts.specs.Rows.{compare_rows};
+ghost use Rattle.index_slices.specs.Parts.{part_of, file, known, IsPartOf, HoldsSection, HoldsSeries};
 ghost use Rattle.index_v2.specs.Held.{opened_of, whole_file, IsWhole, IsHeldOf, AreSlicesOf};
 ghost use Rattle.index_v2.specs.Opening.{contents_at, opened_at, over_at};
 ghost use Rattle.index_v2.specs.SeriesLabels.{numbered_at};
 ghost use Rattle.index_v2.specs.Budget.{members_of, text_bytes};
 ghost use Rattle.index_v2.specs.WholeReading.{present_at, whole_at};
-ghost use Rattle.index_v2.specs.PostingsLists.{row_of, postings_of, values_of};
-ghost use Rattle.std.specs.List.Sorted.{IsStrictlyIncreasing};
+ghost use Rattle.index_v2.specs.PostingsLists.{row_of, list_of, postings_of, values_of};
+ghost use Rattle.index_v2.specs.RowOrder.{BeginsAt};
+ghost use Rattle.std.specs.List.Sorted.{IsStrictlyIncreasing, IsStrictlySortedBy};
 
 use crate::budget::text_budget_of;
 use crate::numbered::{lent_series_of, series_of, series_of_file};
 use crate::opening::contents_of;
-use crate::postings::{list_of, values_of};
+use crate::postings::{list_at, list_of, values_of};
 use crate::rows::Rows;
 use crate::symbols::Symbols;
 use crate::whole::whole;
@@ -322,6 +325,66 @@ impl<'a> IndexReader<'a> {
             ⊎ (result ≡ Err IndexRefusal.NoMemory) }
     {
         list_of(alloc, self.lists, &self.rows, name, value)
+    }
+
+    /// How many rows the postings table has.
+    pub fn row_count(&self) -> usize
+        ensures value { result ≡ length self.now.rows }
+        ensures small { result < 2 ^ 32 }
+        ensures few { 4 * result ≤ self.now.size }
+    {
+        self.rows.len()
+    }
+
+    /// The name, the value and the place of the list of the row at a place. Its texts are lent.
+    #[inline(always)]
+    pub fn row(&self, place: usize) -> Option<(&'a str, &'a str, u64)>
+        ensures { option_map
+            (λ row. record { name = row.0.now; value = row.1.now; offset = row.2 }) result
+            ≡ slice_get self.now.rows place }
+    {
+        self.rows.get(place)
+    }
+
+    /// The place at which the rows of a name begin, or would begin. The rows ascend, so it is found by halving.
+    pub fn first_row(&self, name: &str) -> usize
+        ensures begins { BeginsAt self.now.rows name.now result }
+        ensures ascending { IsStrictlySortedBy compare_rows self.now.rows }
+    {
+        self.rows.first_of(name)
+    }
+
+    /// The numbers of the series that the row at a place lists.
+    pub fn row_numbers(&self, alloc: Global, place: usize) -> Result<NumberList, IndexRefusal>
+        requires { place < length self.now.rows }
+
+        // They ascend, whatever the index, and have 32 bits.
+        ensures rises { IfOk result IsStrictlyIncreasing }
+        ensures small { IfOk result (All (λ n. n < 2 ^ 32)) }
+
+        // The first refusal.
+        ensures exact { Gives IndexRefusal.NoMemory
+            (λ numbers. numbers) result (list_of self.now.lists (slice_get self.now.rows place)) }
+        ensures few { IfOk result (λ numbers. 4 * length numbers ≤ length self.now.lists.bytes) }
+
+        // What is answered stands so in each index of which this is held.
+        ensures found { (opened : Opened) → IsHeldOf self.now opened
+            → (row : PostingsRow) → slice_get opened.rows place ≡ Some row
+            → IfOk result (λ numbers. IsPostings opened.bytes row.offset numbers) }
+
+        // A list that lies where lists are read is answered, or refused, as in the index, and any other is not there.
+        ensures same { (opened : Opened) → IsHeldOf self.now opened
+            → (row : PostingsRow) → slice_get opened.rows place ≡ Some row
+            → HoldsSection self.now.lists row.offset
+            → Gives IndexRefusal.NoMemory
+            (λ numbers. numbers) result (list_of (file opened.bytes) (Some row)) }
+        ensures outside { (row : PostingsRow) → slice_get self.now.rows place ≡ Some row
+            → (HoldsSection self.now.lists row.offset → ⊥)
+            → (result ≡ Err (IndexRefusal.BadSection 5 (Short row.offset)))
+            ⊎ (result ≡ Err IndexRefusal.NoMemory) }
+    {
+        let row = self.rows.get(place).unwrap();
+        list_at(alloc, self.lists, row.2)
     }
 
     /// The values that the table lists under a name, ascending.
