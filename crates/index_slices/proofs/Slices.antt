@@ -238,8 +238,8 @@ one_by front other most (Err d) (Err e) (Ok z) is h k = absurd k
 one_by front other most (Err d) (Err e) (Err f) is h k = ap Err (h.0 ∙ ap (λ (n : ℕ). shifted n d) is ∙ sym k.0)
 
 -- a list that lies within the part is the index's
-pub list_of_index : (part : Part) (index : List ℕ) (at : ℕ) → IsPartOf part index → HoldsSection part at → list_in part at ≡ postings_at index at
-list_of_index part index at is lies =
+pub list_known : {A : Type 0} (read : Option A × Position → Result (A × (Option A × Position)) PartRefusal) (turned : (front : List ℕ) (most : ℕ) → Turned front most read) (part : Part) (index : List ℕ) (at : ℕ) → IsPartOf part index → HoldsSection part at → list_at read (known part) at ≡ list_at read index at
+list_known read turned part index at is lies =
     let le = lies.0 in
     let k = at - part.begin in
     let most = length part.bytes + k in
@@ -248,7 +248,10 @@ list_of_index part index at is lies =
     let begins = is.begins in
     let far : length zeros + k ≡ at = omega (arith, size, le) in
     let place : length is.before + k ≡ at = omega (arith, begins, le) in
-    let here : IsSame zeros most (λ xs ys. xs ≡ ys) (postings_at part.bytes k) (postings_at (zeros ++ part.bytes) (length zeros + k)) = same_list zeros most posting_at (posting_turned zeros most) part.bytes k (omega arith) (omega arith) in
-    let there : IsSame is.before most (λ xs ys. xs ≡ ys) (postings_at part.bytes k) (postings_at (is.before ++ part.bytes) (length is.before + k)) = same_list is.before most posting_at (posting_turned is.before most) part.bytes k (omega arith) (omega arith) in
-    list_here part at le ∙ ap (postings_at (known part)) (sym far) ∙ one_by zeros is.before most (postings_at part.bytes k) (postings_at (zeros ++ part.bytes) (length zeros + k)) (postings_at (is.before ++ part.bytes) (length is.before + k)) (size ∙ sym begins) here.same there.same ∙ ap (postings_at (is.before ++ part.bytes)) place
-    ∙ sym (list_by_frame posting_at index (is.before ++ part.bytes) at (frame_in_index (number_at w32) (λ front most. number_field front most w32) section_longer part index at is lies))
+    let here : IsSame zeros most (λ xs ys. xs ≡ ys) (list_at read part.bytes k) (list_at read (zeros ++ part.bytes) (length zeros + k)) = same_list zeros most read (turned zeros most) part.bytes k (omega arith) (omega arith) in
+    let there : IsSame is.before most (λ xs ys. xs ≡ ys) (list_at read part.bytes k) (list_at read (is.before ++ part.bytes) (length is.before + k)) = same_list is.before most read (turned is.before most) part.bytes k (omega arith) (omega arith) in
+    ap (list_at read (known part)) (sym far) ∙ one_by zeros is.before most (list_at read part.bytes k) (list_at read (zeros ++ part.bytes) (length zeros + k)) (list_at read (is.before ++ part.bytes) (length is.before + k)) (size ∙ sym begins) here.same there.same ∙ ap (list_at read (is.before ++ part.bytes)) place
+    ∙ sym (list_by_frame read index (is.before ++ part.bytes) at (frame_in_index (number_at w32) (λ front most. number_field front most w32) section_longer part index at is lies))
+
+pub list_of_index : (part : Part) (index : List ℕ) (at : ℕ) → IsPartOf part index → HoldsSection part at → list_in part at ≡ postings_at index at
+list_of_index part index at is lies = list_here part at lies.0 ∙ list_known posting_at posting_turned part index at is lies

@@ -15,10 +15,10 @@ use Rattle.label_sets.specs.declared.label.Label.{Label}
 use Rattle.index_parts.specs.declared.postings_row.PostingsRow.{PostingsRow}
 use Rattle.index_file.specs.declared.index_series.IndexSeries.{IndexSeries}
 use Rattle.index_parts.specs.Rows.{compare_rows}
-use Rattle.index_file.proofs.Members.{less_at}
 use Rattle.index_v2.specs.RowOrder.{compare_row, IsRowAt, StandsAt}
 use Rattle.index_v2.specs.WholeReading.{belongs, is_of_row, stray_from, gap_from, gap_of, gap_among, earlier, by_order}
 use Rattle.std.proofs.lemmas.Cmp.{tied_itself}
+use Rattle.list_core.proofs.Order.{Less-at_places}
 use Rattle.index_v2.proofs.RowPlaces.{rows_total, stands_behind}
 use Rattle.index_v2.proofs.ValuesListed.{same_compare}
 use Rattle.index_v2.proofs.WholeLoops.{drop_at}
@@ -186,7 +186,7 @@ gap_found rows lists number place name value label list seen test ascend n v man
     let row_name : is.row.name ≡ label.name = is.name_is ∙ n in
     let row_value : is.row.value ≡ label.value = is.value_is ∙ v in
     let equal : compare_row is.row label.name label.value ≡ Equal = same_compare is.row is.row label.name label.value row_name row_value ∙ tied_itself rows_total is.row in
-    let below : (k : ℕ) (row : PostingsRow) → k < place → slice_get rows k ≡ Some row → compare_row row label.name label.value ≡ Less = λ k row less at. same_compare row is.row label.name label.value row_name row_value ∙ less_at compare_rows rows k place row is.row ascend less at is.stands in
+    let below : (k : ℕ) (row : PostingsRow) → k < place → slice_get rows k ≡ Some row → compare_row row label.name label.value ≡ Less = λ k row less at. same_compare row is.row label.name label.value row_name row_value ∙ Less-at_places compare_rows rows k place row is.row ascend less at is.stands in
     let list_is : slice_get lists place ≡ Some list = slice_get-get_or lists place list (omega arith) ∙ ap Some (sym here) in
     found_from 0 place place rows lists number label list (omega arith) many below is.row is.stands equal list_is
     ∙ ap (λ (b : Bool). cond b None (Some place)) (ap (list_any (λ n. eqb n number)) (sym s) ∙ sym e)

@@ -7,6 +7,8 @@ use Rattle.std.specs.declared.cmp.Ordering.TheVariants.{Less, Equal, Greater}
 use Rattle.std.proofs.lemmas.Cmp.{tied_itself, alike_right}
 use Rattle.std.proofs.lemmas.Option.{same_Some}
 use Rattle.std.proofs.lemmas.Map.Keys.{sorted_tail}
+use Rattle.list_core.proofs.Membership.{all_of_members}
+use Rattle.list_core.proofs.Order.{Less-at_places}
 use Rattle.label_sets.specs.declared.label.Label.{Label}
 use Rattle.label_sets.proofs.LabelValues.{by_bool}
 use Rattle.index_parts.specs.declared.postings_row.PostingsRow.{PostingsRow}
@@ -17,13 +19,11 @@ use Rattle.index_parts.proofs.ListLaws.{list_again}
 use Rattle.index_parts.proofs.PostingsLaws.{posting_turn}
 use Rattle.index_file.specs.declared.index_series.IndexSeries.{IndexSeries}
 use Rattle.index_file.specs.IndexFile.{IsListOf}
-use Rattle.index_file.proofs.Members.{less_at}
 use Rattle.index_v2.specs.RowOrder.{compare_row, StandsAt}
 use Rattle.index_v2.specs.WholeReading.{is_of_row, stray_from, gap_from, gap_of, gap_among, difference}
 use Rattle.index_v2.specs.Differing.{DiffersAt}
 use Rattle.index_v2.proofs.RowPlaces.{rows_total, greater_above, no_row_stands, equal_texts, stands_behind}
 use Rattle.index_v2.proofs.ValuesListed.{same_compare}
-use Rattle.index_v2.proofs.Members.{has_all}
 use Rattle.index_v2.proofs.WholeLaws.{AreTaken, taken_listed, of_row_again, belongs_again, number_has, ok_same}
 use Rattle.index_v2.proofs.LeastPlaces.{IsLeast, IsLeastFrom, HasSuch, least_as, earlier_least, least_from, from_here, from_next, by_test_from, by_order_from, such_least, such_none}
 
@@ -101,7 +101,7 @@ module _ (number : ℕ) (label : Label) where
         cc
     no_gap ascend equal has (suc k) (inl lacks) =
         let less : compare_row first label.name label.value ≡ Less =
-        sym (alike_right rows_total lacks.0 (record { name = label.name; value = label.value; offset = 0 }) first lacks.4) ∙ less_at compare_rows (first ∷ rows) 0 (suc k) first lacks.0 ascend (omega arith) refl lacks.2 in
+        sym (alike_right rows_total lacks.0 (record { name = label.name; value = label.value; offset = 0 }) first lacks.4) ∙ Less-at_places compare_rows (first ∷ rows) 0 (suc k) first lacks.0 ascend (omega arith) refl lacks.2 in
         cc
     no_gap ascend equal has zero (inr stands) = let greater = stands.above 0 first (omega arith) refl in cc
     no_gap ascend equal has (suc k) (inr stands) = let less = stands.below 0 first (omega arith) refl in cc
@@ -162,7 +162,7 @@ module _ (index : List ℕ) (rows : List PostingsRow) (lists : List (List ℕ)) 
     -- the numbers of a row that lists exactly its series are of these
     all_of_row : list_all (is_of_row listed row) list ≡ true
     all_of_row =
-        has_all (is_of_row listed row) list (λ number has.
+        all_of_members (is_of_row listed row) list (λ number has.
         let o = is.only number (subst (λ (xs : List ℕ). Contains xs number) (sym same_numbers) has) in
         of_row_again listed row number o.0 o.1 (belongs_again row o.0 (taken.lawful number o.0 o.1) o.2))
 

@@ -5,6 +5,7 @@ use Rattle.std.proofs.lemmas.List.Sums.{length-filter, count_by-le-length}
 use Rattle.std.specs.Prelude.{slice_get, slice_index_or, ◌==◌, MatchBool, IfOk, if◌then◌else◌}
 use Rattle.std.specs.List.{All, filter}
 use Rattle.std.specs.Str.{bytes_eq}
+use Rattle.list_core.proofs.Membership.{contains_place}
 use Rattle.label_sets.specs.declared.label.Label.{Label}
 use Rattle.index_parts.specs.declared.postings_row.PostingsRow.{PostingsRow}
 use Rattle.index_parts.specs.Lists.{IsList}
@@ -18,7 +19,6 @@ use Rattle.index_parts.proofs.RowLaws.{row_size}
 use Rattle.index_parts.proofs.SeriesLaws as parts
 use Rattle.index_file.specs.declared.index_series.IndexSeries.{IndexSeries}
 use Rattle.index_file.specs.Opened.{Opened}
-use Rattle.index_file.proofs.Members.{member_at}
 use Rattle.index_v2.specs.PostingsLists.{values_of}
 use Rattle.index_file.specs.IndexFile.{Holds, StandFor, IsOpened, IsSeriesOf, IsIndex, AreListed}
 
@@ -77,7 +77,7 @@ whole_few index list is =
       omega (arith, length-map is.listed (λ (one : ℕ × IndexSeries). one.0), length-map is.listed (λ (one : ℕ × IndexSeries). one.1)),
       subst (All (IsFew index)) is.list_is (λ k d lt.
           let at = listed_at is.listed k d lt in
-          subst (IsFew index) (sym at.2) (subst (λ (bytes : List ℕ). IsFew bytes at.0.1) is.bytes_are (series_few is.opened.bytes is.opened.symbols at.0.0 at.0.1 (is.series_are.stand at.0.0 at.0.1 (member_at is.listed k at.0 at.1))))),
+          subst (IsFew index) (sym at.2) (subst (λ (bytes : List ℕ). IsFew bytes at.0.1) is.bytes_are (series_few is.opened.bytes is.opened.symbols at.0.0 at.0.1 (is.series_are.stand at.0.0 at.0.1 (contains_place is.listed k at.0 at.1))))),
     )
 
 -- ---- from a call's clauses

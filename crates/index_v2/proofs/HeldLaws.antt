@@ -1,9 +1,10 @@
 -- What a reader holds: of a whole file, and of parts.
-use Rattle.std.proofs.Common.{◌≡◌, ℕ, ◌*◌, ◌≤◌, Bool, true, false, List, [], ◌∷◌, length, replicate, Option, Some, None, Result, Ok, Err, refl, sym, ap, subst, ◌∙◌, arith, ◌⊎◌, inl, inr}
+use Rattle.std.proofs.Common.{◌≡◌, ℕ, ◌*◌, Bool, true, false, List, [], ◌∷◌, length, replicate, Option, Some, None, Result, Ok, Err, refl, sym, ap, subst, ◌∙◌, arith, ◌⊎◌, inl, inr}
 use Rattle.std.proofs.lemmas.List.{append-nil, length-replicate}
 use Rattle.std.specs.Prelude.{IfOk, ◌==◌}
 use Rattle.std.specs.Result.{IsOkAnd}
 use Rattle.std.specs.List.{Contains}
+use Rattle.list_core.proofs.Membership.{contains_first, contains_later}
 use Rattle.reading_core.specs.Reading.{◌>>=◌, ◌>>◌, refused_as}
 use Rattle.reading_core.specs.Grammar.{IsBytes}
 use Rattle.reading_core.proofs.Binds.{ok_is, err_is}
@@ -26,13 +27,12 @@ use Rattle.index_parts.proofs.RowLaws.{row_turn}
 use Rattle.index_file.specs.declared.index_series.IndexSeries.{IndexSeries}
 use Rattle.index_file.specs.Opened.{Opened}
 use Rattle.index_file.specs.IndexFile.{Holds, IsOpened, IsIndex}
-use Rattle.index_file.proofs.Members.{first_member, later_member}
 use Rattle.index_slices.proofs.Slices.{list_of_index}
 use Rattle.index_slices.specs.Parts.{Part, file, known, IsPartOf, HoldsSection}
 use Rattle.index_v2.specs.declared.refusal.IndexRefusal.{IndexRefusal}
 use Rattle.index_v2.specs.declared.refusal.IndexRefusal.TheVariants.{NoMemory, BadSection, BadSeries}
 use Rattle.index_v2.specs.declared.lent_parts.IndexParts.{IndexParts}
-use Rattle.index_v2.specs.Held.{Held, opened_of, whole_file, IsWhole, IsHeldOf, AreSlicesOf, lists_of}
+use Rattle.index_v2.specs.Held.{Held, opened_of, whole_file, IsWhole, IsHeldOf, AreSlicesOf, held_of}
 use Rattle.index_v2.specs.Opening.{refused_in, contents_at, held_at, opened_at}
 use Rattle.index_v2.specs.PostingsLists.{row_of, list_of, postings_of}
 use Rattle.index_v2.specs.WholeReading.{present_at, behind_at, all_at, lists_at, difference, unless_differ, whole_at}
@@ -43,7 +43,7 @@ use Rattle.index_v2.proofs.OpeningLaws.{opened_found, opened_again}
 -- ---- of a whole file
 
 pub whole_is : (held : Held) → IsWhole held → held ≡ whole_file (opened_of held)
-whole_is held is = λ i. record { bytes = held.bytes; toc = held.toc; symbols = held.symbols; rows = held.rows; lists = is.lists_are i; size = is.size_is i }
+whole_is held is = λ i. record { bytes = held.bytes; toc = held.toc; symbols = held.symbols; rows = held.rows; lists = is.lists_are i; symbols_size = is.symbols_size_is i; rows_size = is.rows_size_is i }
 
 pub opened_whole : (held : Held) → IsWhole held → opened_at held.bytes ≡ Ok (opened_of held)
 opened_whole held is = opened_again held.bytes (opened_of held) refl is.is_opened
@@ -64,10 +64,10 @@ opened_parts : (index : List ℕ) (toc : Toc) (symbols : List (List ℕ)) (rows 
 unfolding opened_at
 opened_parts index toc symbols rows a b c = rw (a, b, c) refl
 
-pub read_whole : (index : List ℕ) (toc : Toc) (symbols : List (List ℕ)) (rows : List PostingsRow) (size : ℕ) → size ≡ length index → IsBytes index → contents_at index ≡ Ok toc → held_at 1 symbols_at index toc.symbols ≡ Ok symbols → held_at 6 postings_table_at index toc.postings_table ≡ Ok rows → IsWhole (record { bytes = index; toc = toc; symbols = symbols; rows = rows; lists = file index; size = size })
+pub read_whole : (index : List ℕ) (toc : Toc) (symbols : List (List ℕ)) (rows : List PostingsRow) (size : ℕ) → size ≡ length index → IsBytes index → contents_at index ≡ Ok toc → held_at 1 symbols_at index toc.symbols ≡ Ok symbols → held_at 6 postings_table_at index toc.postings_table ≡ Ok rows → IsWhole (record { bytes = index; toc = toc; symbols = symbols; rows = rows; lists = file index; symbols_size = size; rows_size = size })
 read_whole index toc symbols rows size long are a b c =
     let opened : Opened = record { bytes = index; toc = toc; symbols = symbols; rows = rows } in
-    record { is_opened = (opened_found index opened are (opened_parts index toc symbols rows a b c)).1; lists_are = refl; size_is = long }
+    record { is_opened = (opened_found index opened are (opened_parts index toc symbols rows a b c)).1; lists_are = refl; symbols_size_is = long; rows_size_is = long }
 
 -- a part stands in the index as far as it is known
 pub known_is : (here : Part) → IsPartOf here (known here)
@@ -99,18 +99,18 @@ one_list {A} IsNext read turn index reference xs ys is other = by_test {P = xs �
     (λ some. let x : IsList IsNext index reference xs = rw some at is in let y : IsList IsNext index reference ys = rw some at other in
     ok_is {E = PartRefusal} xs ys (sym (list_again IsNext read turn index reference xs x) ∙ list_again IsNext read turn index reference ys y))
 
-pub held_of_slices : (parts : IndexParts) (opened : Opened) (symbols : List (List ℕ)) (rows : List PostingsRow) (size : ℕ) → IsOpened opened → AreSlicesOf parts opened → Holds IsSymbols opened.bytes parts.toc.symbols symbols → Holds IsPostingsTable opened.bytes parts.toc.postings_table rows → IsHeldOf (record { bytes = []; toc = parts.toc; symbols = symbols; rows = rows; lists = lists_of parts; size = size }) opened
-held_of_slices parts opened symbols rows size is slices s r = record {
-  toc_is = slices.toc_is;
-  symbols_are = one_list IsNextSymbol symbol_at symbol_turn opened.bytes opened.toc.symbols symbols opened.symbols (subst (λ (t : Toc). Holds IsSymbols opened.bytes t.symbols symbols) slices.toc_is s) is.symbols_are;
-  rows_are = one_list IsNextRow row_at row_turn opened.bytes opened.toc.postings_table rows opened.rows (subst (λ (t : Toc). Holds IsPostingsTable opened.bytes t.postings_table rows) slices.toc_is r) is.rows_are;
+pub held_of_slices : (parts : IndexParts) (opened : Opened) (symbols : List (List ℕ)) (rows : List PostingsRow) → IsOpened opened → parts.toc ≡ opened.toc → AreSlicesOf parts opened.bytes → Holds IsSymbols opened.bytes parts.toc.symbols symbols → Holds IsPostingsTable opened.bytes parts.toc.postings_table rows → IsHeldOf (held_of parts symbols rows) opened
+held_of_slices parts opened symbols rows is toc slices s r = record {
+  toc_is = toc;
+  symbols_are = one_list IsNextSymbol symbol_at symbol_turn opened.bytes opened.toc.symbols symbols opened.symbols (subst (λ (t : Toc). Holds IsSymbols opened.bytes t.symbols symbols) toc s) is.symbols_are;
+  rows_are = one_list IsNextRow row_at row_turn opened.bytes opened.toc.postings_table rows opened.rows (subst (λ (t : Toc). Holds IsPostingsTable opened.bytes t.postings_table rows) toc r) is.rows_are;
   lists_are = slices.lists_are;
   series_are = inl refl;
 }
 
 -- ---- what is read of parts is what is read of the index
 
-list_same : (here : Part) (index : List ℕ) → IsPartOf here index → (row : Option PostingsRow) → ((r : PostingsRow) → row ≡ Some r → HoldsSection here r.offset) → list_of here row ≡ list_of (file index) row
+pub list_same : (here : Part) (index : List ℕ) → IsPartOf here index → (row : Option PostingsRow) → ((r : PostingsRow) → row ≡ Some r → HoldsSection here r.offset) → list_of here row ≡ list_of (file index) row
 list_same here index is None lies = refl
 list_same here index is (Some row) lies = ap (refused_as (refused_in 5)) (list_of_index here index row.offset is (lies row refl))
 
@@ -118,7 +118,7 @@ lists_same : (here : Part) (index : List ℕ) → IsPartOf here index → (rows 
 unfolding lists_at
 lists_same here index is [] lie = refl
 lists_same here index is (row ∷ rows) lie =
-    rw (list_of_index here index row.offset is (lie row (first_member row rows)), lists_same here index is rows (λ one has. lie one (later_member row rows one has))) refl
+    rw (list_of_index here index row.offset is (lie row (contains_first row rows)), lists_same here index is rows (λ one has. lie one (contains_later row one rows has))) refl
 
 nothing_read : (index : List ℕ) (symbols : List (List ℕ)) (before : Option IndexSeries) → all_at index symbols before [] ≡ Ok []
 unfolding all_at

@@ -6,8 +6,8 @@ use Rattle.std.specs.declared.cmp.Ordering.TheVariants.{Less, Equal, Greater}
 use Rattle.std.specs.List.{Contains}
 use Rattle.std.proofs.lemmas.Option.{same_Some}
 use Rattle.std.proofs.lemmas.Bool.{cases_lt, cases_order}
+use Rattle.list_core.proofs.Membership.{contains_first, contains_later, contains_place, place_of_member}
 use Rattle.index_v2.specs.WholeReading.{earlier, by_order}
-use Rattle.index_file.proofs.Members.{first_member, later_member, member_at, place_of}
 
 -- the least place of which something holds; it holds of none where there is none
 abbrev pub IsLeast : (ℕ → Type 0) → Option ℕ → Type 0
@@ -98,14 +98,14 @@ HasSuch {A} P xs = (x : A) × Contains xs x × P x
 
 first_or_other : {A : Type 0} (P : A → Type 0) (x : A) (xs : List A) (place : ℕ) (y : A) → slice_get (x ∷ xs) place ≡ Some y → P y → P x ⊎ HasSuch P xs
 first_or_other P x xs zero y at p = inl (subst P (sym (same_Some x y at)) p)
-first_or_other P x xs (suc place) y at p = inr (y, member_at xs place y at, p)
+first_or_other P x xs (suc place) y at p = inr (y, contains_place xs place y at, p)
 
 such_split : {A : Type 0} (P : A → Type 0) (x : A) (xs : List A) → HasSuch P (x ∷ xs) → P x ⊎ HasSuch P xs
-such_split P x xs h = first_or_other P x xs h.1.0 h.0 (place_of (x ∷ xs) h.0 h.1) h.2
+such_split P x xs h = let at = place_of_member (x ∷ xs) h.0 h.1 in first_or_other P x xs at.0 h.0 at.1 h.2
 
 such_joined : {A : Type 0} (P : A → Type 0) (x : A) (xs : List A) → P x ⊎ HasSuch P xs → HasSuch P (x ∷ xs)
-such_joined P x xs (inl p) = (x, first_member x xs, p)
-such_joined P x xs (inr h) = (h.0, later_member x xs h.0 h.1, h.2)
+such_joined P x xs (inl p) = (x, contains_first x xs, p)
+such_joined P x xs (inr h) = (h.0, contains_later x h.0 xs h.1, h.2)
 
 -- the least place for a list's members is the earlier of that for the first and that for the others
 pub such_least : {A : Type 0} (P : A → ℕ → Type 0) (x : A) (xs : List A) (a b : Option ℕ) → IsLeast (P x) a → IsLeast (λ k. HasSuch (λ y. P y k) xs) b → IsLeast (λ k. HasSuch (λ y. P y k) (x ∷ xs)) (earlier a b)

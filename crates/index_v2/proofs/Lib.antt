@@ -9,11 +9,12 @@ pub mod ListNumbers
 pub mod OpeningLaws
 pub mod LabelLaws
 pub mod HeldLaws
+pub mod ReadersOf
+pub mod OverLaws
 pub mod SeriesSlices
 pub mod LabelTexts
 pub mod LabelPlaces
 pub mod LabelsOwned
-pub mod Members
 pub mod WholeParts
 pub mod WholeLaws
 pub mod WholeRead

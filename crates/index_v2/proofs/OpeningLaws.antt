@@ -81,7 +81,7 @@ contents_found index toc are e =
     let enough : least_size ≤ length index = leb-true least_size (length index) long.0 in
     (enough, header_found index enough begun.0 (eqb-true (slice_index index 4) version right.0), toc_found index toc are (refused_as_ok refused_contents (toc_at index) toc right.1))
 
-contents_again : (index : List ℕ) (toc : Toc) → least_size ≤ length index → take 5 index ≡ header → IsToc index toc → contents_at index ≡ Ok toc
+pub contents_again : (index : List ℕ) (toc : Toc) → least_size ≤ length index → take 5 index ≡ header → IsToc index toc → contents_at index ≡ Ok toc
 unfolding contents_at
 contents_again index toc long h is =
     let front = header_again index long h in

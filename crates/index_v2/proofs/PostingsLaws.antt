@@ -6,6 +6,7 @@ use Rattle.std.specs.Str.{bytes_eq}
 use Rattle.std.specs.Cmp.Lexicographic.{bytes_decides}
 use Rattle.std.proofs.lemmas.Bool.{and_parts}
 use Rattle.std.proofs.lemmas.Option.{same_Some}
+use Rattle.list_core.proofs.Membership.{contains_first, contains_later, contains_place, place_of_member}
 use Rattle.reading_core.specs.Reading.{refused_as, Gives}
 use Rattle.reading_core.proofs.Binds.{ok_is}
 use Rattle.label_sets.specs.declared.label.Label.{Label}
@@ -19,7 +20,6 @@ use Rattle.index_parts.proofs.PostingsLaws.{posting_turn}
 use Rattle.index_file.specs.declared.index_series.IndexSeries.{IndexSeries}
 use Rattle.index_file.specs.Opened.{Opened}
 use Rattle.index_file.specs.IndexFile.{BelongsTo, AreListed, HasRow, IsIndex, AreNumbersOf, Holds}
-use Rattle.index_file.proofs.Members.{first_member, later_member, member_at, place_of}
 use Rattle.index_v2.specs.Opening.{refused_in, opened_at}
 use Rattle.index_slices.specs.Parts.{file}
 use Rattle.index_v2.specs.Held.{whole_file}
@@ -36,8 +36,8 @@ module _ {A : Type 0} (p : A → Bool) where
   find_has : (xs : List A) (x : A) → find p xs ≡ Some x → Contains xs x × (p x ≡ true)
   find_has [] x e = absurd cc
   find_has (y ∷ ys) x e = by_bool (p y)
-      (λ here. let e' : ◌≡◌ {A = Option A} (Some y) (Some x) = rw here at e in let same = same_Some y x e' in (member_at (y ∷ ys) 0 x e', ap p (sym same) ∙ here))
-      (λ other. let e' : find p ys ≡ Some x = rw other at e in let m = find_has ys x e' in (later_member y ys x m.0, m.1))
+      (λ here. let e' : ◌≡◌ {A = Option A} (Some y) (Some x) = rw here at e in let same = same_Some y x e' in (contains_place (y ∷ ys) 0 x e', ap p (sym same) ∙ here))
+      (λ other. let e' : find p ys ≡ Some x = rw other at e in let m = find_has ys x e' in (contains_later y x ys m.0, m.1))
 
   find_none : (xs : List A) (place : ℕ) (x : A) → find p xs ≡ None → slice_get xs place ≡ Some x → p x ≡ false
   find_none [] place x e at = absurd cc
@@ -58,7 +58,8 @@ row_found rows name value row e =
 no_row : (rows : List PostingsRow) (label : Label) → row_of rows label.name label.value ≡ None → HasRow rows label → ⊥
 unfolding row_of
 no_row rows label e has =
-    let other = find_none (is_row_of label.name label.value) rows has.1.0 has.0 e (place_of rows has.0 has.1) in
+    let at = place_of_member rows has.0 has.1 in
+    let other = find_none (is_row_of label.name label.value) rows at.0 has.0 e at.1 in
     let here : is_row_of label.name label.value has.0 ≡ true = rw (has.2, has.3, bytes_eq_self label.name, bytes_eq_self label.value) refl in
     cc
 
@@ -71,7 +72,7 @@ nothing_listed : (index : List ℕ) (reference : ℕ) (rows : List PostingsRow) 
 nothing_listed index reference [] listed holds are none one has = no_pairs listed one are has
 nothing_listed index reference (row ∷ rows) listed holds are none one has =
     let empty = first_is_empty index reference row rows holds in
-    no_row (row ∷ rows) (record { name = []; value = [] }) none (row, first_member row rows, empty.0, empty.1)
+    no_row (row ∷ rows) (record { name = []; value = [] }) none (row, contains_first row rows, empty.0, empty.1)
 
 abbrev key : List ℕ → List ℕ → PostingsRow
 key name value = record { name = name; value = value; offset = 0 }
@@ -88,7 +89,7 @@ module _ (index : List ℕ) (list : List IndexSeries) (is : IsIndex index list) 
   missing_row none number series has (inr labelled) = no_row is.opened.rows (record { name = name; value = value }) none (is.complete number series has (record { name = name; value = value }) labelled)
 
   -- some list is read for each name and value, and its numbers are exactly those of the listed series
-  list_read : (numbers : List ℕ) × (postings_of (whole_file is.opened) name value ≡ Ok numbers) × AreNumbersOf is.listed name value numbers
+  pub list_read : (numbers : List ℕ) × (postings_of (whole_file is.opened) name value ≡ Ok numbers) × AreNumbersOf is.listed name value numbers
   list_read = option_cases (row_of is.opened.rows name value)
       (λ none. ([], ap (list_of (file is.opened.bytes)) none, record { only = λ number has. absurd (omega (arith, has.1)); all = λ number series has belongs. absurd (missing_row none number series has belongs) }))
       (λ row some.

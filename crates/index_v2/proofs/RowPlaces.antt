@@ -11,13 +11,14 @@ use Rattle.std.specs.Cmp.Lexicographic.{on_texts}
 use Rattle.std.proofs.lemmas.Cmp.{then_total}
 use Rattle.std.proofs.lemmas.Bool.{cases_lt}
 use Rattle.std.proofs.lemmas.Option.{same_Some, slice_get_past, slice_get_cases}
+use Rattle.list_core.proofs.Lists.{AllByRecursion-weaker}
+use Rattle.list_core.proofs.Order.{Less-at_places}
 use Rattle.label_sets.specs.Labels.{compare_texts}
 use Rattle.label_sets.proofs.LabelValues.{same_text}
 use Rattle.index_parts.specs.declared.postings_row.PostingsRow.{PostingsRow}
 use Rattle.index_parts.specs.Turns.{AreInTurn}
 use Rattle.index_parts.specs.Rows.{compare_rows, IsNextRow, IsPostingsTable}
 use Rattle.index_file.specs.IndexFile.{Holds}
-use Rattle.index_file.proofs.Members.{less_at, all_behind}
 use Rattle.index_v2.specs.RowOrder.{compare_row, IsRowAt, StandsAt}
 
 pub rows_total : IsTotalOrder compare_rows
@@ -59,7 +60,7 @@ less_below : (rows : List PostingsRow) (name value : List ℕ) (middle k : ℕ) 
 unfolding key
 less_below rows name value middle k here row ascend at less lt stands =
     elim (cases_lt k middle) [
-      | inl before ↦ rows_total.trans row here (key name value) (less_at compare_rows rows k middle row here ascend before stands at) less
+      | inl before ↦ rows_total.trans row here (key name value) (Less-at_places compare_rows rows k middle row here ascend before stands at) less
       | inr other ↦
           let same_place : k ≡ middle = omega arith in
           let same : row ≡ here = same_Some row here (sym stands ∙ ap (λ (i : ℕ). slice_get rows i) same_place ∙ at) in
@@ -70,7 +71,7 @@ pub greater_above : (rows : List PostingsRow) (name value : List ℕ) (middle k 
 unfolding key
 greater_above rows name value middle k here row ascend at greater le stands =
     elim (cases_lt middle k) [
-      | inl behind ↦ reversed (key name value) row (rows_total.trans (key name value) here row (unreversed here (key name value) greater) (less_at compare_rows rows middle k here row ascend behind at stands))
+      | inl behind ↦ reversed (key name value) row (rows_total.trans (key name value) here row (unreversed here (key name value) greater) (Less-at_places compare_rows rows middle k here row ascend behind at stands))
       | inr other ↦
           let same_place : k ≡ middle = omega arith in
           let same : row ≡ here = same_Some row here (sym stands ∙ ap (λ (i : ℕ). slice_get rows i) same_place ∙ at) in
@@ -135,7 +136,7 @@ unfolding IsStrictlySortedBy
 rows_behind before text [] are = (tt, tt)
 rows_behind before text (r ∷ rows) are =
     let others = rows_behind r are.1 rows are.3 in
-    ((are.2.ascends, all_behind compare_rows before r rows rows_total are.2.ascends others.0), others)
+    ((are.2.ascends, AllByRecursion-weaker (λ x. compare_rows r x ≡ Less) (λ x. compare_rows before x ≡ Less) (λ x behind. rows_total.trans before r x are.2.ascends behind) rows others.0), others)
 
 ascending : (text : List ℕ) (rows : List PostingsRow) → AreInTurn IsNextRow None text rows → IsStrictlySortedBy compare_rows rows
 unfolding IsStrictlySortedBy

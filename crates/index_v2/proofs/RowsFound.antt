@@ -9,7 +9,7 @@ use Rattle.std.specs.List.Sorted.{IsStrictlySortedBy}
 use Rattle.std.proofs.lemmas.Bool.{and_parts, cases_lt}
 use Rattle.std.proofs.lemmas.Option.{same_Some}
 use Rattle.std.proofs.lemmas.Map.Keys.{sorted_tail}
-use Rattle.index_file.proofs.Members.{less_at}
+use Rattle.list_core.proofs.Order.{Less-at_places}
 use Rattle.label_sets.proofs.LabelValues.{by_bool, bytes_eq_self}
 use Rattle.index_parts.specs.declared.postings_row.PostingsRow.{PostingsRow}
 use Rattle.index_parts.specs.Rows.{compare_rows}
@@ -60,7 +60,7 @@ find_some : (name value : List ℕ) (rows : List PostingsRow) (place : ℕ) (row
 find_some name value [] place row ascend at is = absurd cc
 find_some name value (first ∷ rows) zero row ascend at is = let same : first ≡ row = cc in rw (ap (is_row_of name value) same, is, same) refl
 find_some name value (first ∷ rows) (suc place) row ascend at is =
-    let less : compare_rows first row ≡ Less = less_at compare_rows (first ∷ rows) 0 (suc place) first row ascend (omega arith) refl at in
+    let less : compare_rows first row ≡ Less = Less-at_places compare_rows (first ∷ rows) 0 (suc place) first row ascend (omega arith) refl at in
     rw (not_row name value first (before_key name value first row less is)) (find_some name value rows place row (sorted_tail compare_rows first rows ascend) at is)
 
 pub row_found : (rows : List PostingsRow) (name value : List ℕ) (place : ℕ) (row : PostingsRow) → IsStrictlySortedBy compare_rows rows → IsRowAt rows name value place → slice_get rows place ≡ Some row → row_of rows name value ≡ Some row

@@ -1,61 +1,26 @@
 -- The values under a name, in an index of a list of series.
-use Rattle.std.proofs.Common.{◌≡◌, ◌≢◌, ℕ, zero, suc, Bool, true, false, List, [], ◌∷◌, length, map, Some, Ok, refl, sym, ap, subst, ◌∙◌, arith, inl, inr}
+use Rattle.std.proofs.Common.{◌≡◌, ◌≢◌, ℕ, zero, suc, true, false, List, [], ◌∷◌, length, map, Some, refl, sym, ap, subst, ◌∙◌, arith, inl, inr}
 use Rattle.std.specs.Prelude.{slice_get, ◌==◌}
 use Rattle.std.specs.Cmp.Lexicographic.{bytes_decides}
 use Rattle.std.specs.List.{filter, Contains, AllByRecursion}
 use Rattle.std.specs.List.Sorted.{IsStrictlySortedBy}
 use Rattle.std.specs.Str.{bytes_eq}
 use Rattle.std.specs.declared.cmp.Ordering.TheVariants.{Less}
-use Rattle.std.proofs.lemmas.List.Elements.{All-contains, All-contains_itself, All-filter, filter_passes, recursion_from_All}
+use Rattle.std.proofs.lemmas.List.Elements.{filter_passes, recursion_from_All}
 use Rattle.std.proofs.lemmas.List.Kept.{IsStrictlySortedBy-filter}
 use Rattle.std.proofs.lemmas.Option.{same_Some}
+use Rattle.list_core.proofs.Membership.{place_of_member, of_filter, into_filter, member_passes, of_map, into_map}
 use Rattle.label_sets.specs.declared.label.Label.{Label}
 use Rattle.label_sets.specs.Labels.{compare_texts, IsLabelSet}
 use Rattle.label_sets.proofs.LabelValues.{by_bool, bytes_eq_self}
 use Rattle.index_parts.specs.declared.postings_row.PostingsRow.{PostingsRow}
 use Rattle.index_parts.specs.Rows.{compare_rows}
 use Rattle.index_file.specs.declared.index_series.IndexSeries.{IndexSeries}
-use Rattle.index_file.specs.Opened.{Opened}
 use Rattle.index_file.specs.IndexFile.{HasRow, IsIndex, AreValuesOf}
-use Rattle.index_file.proofs.Members.{first_member, later_member, place_of}
-use Rattle.index_v2.specs.Opening.{opened_at}
 use Rattle.index_v2.specs.PostingsLists.{values_of}
 use Rattle.index_v2.proofs.LabelsOwned.{some_bytes}
 use Rattle.index_v2.proofs.RowPlaces.{held_ascends}
 use Rattle.index_v2.proofs.ValuesListed.{is_named, value_in, name_le, equal_not_less, no_values}
-use Rattle.index_v2.proofs.PostingsLaws.{opened_is}
-
--- ---- members of a filtered list and of a mapped one
-
-module _ {A : Type 0} (p : A → Bool) where
-  kept : (xs : List A) (place : ℕ) (x : A) → slice_get xs place ≡ Some x → p x ≡ true → Contains (filter p xs) x
-  kept [] place x at e = absurd cc
-  kept (y ∷ ys) zero x at e =
-      let same : y ≡ x = same_Some y x at in
-      let here : p y ≡ true = ap p same ∙ e in
-      rw here (subst (λ (z : A). Contains (z ∷ filter p ys) x) (sym same) (first_member x (filter p ys)))
-  kept (y ∷ ys) (suc place) x at e =
-      let others = kept ys place x at e in
-      by_bool {P = Contains (filter p (y ∷ ys)) x} (p y)
-      (λ here. rw here (later_member y (filter p ys) x others))
-      (λ out. rw out others)
-
-  was_kept : (xs : List A) (x : A) → Contains (filter p xs) x → Contains xs x × (p x ≡ true)
-  was_kept xs x h = (All-contains (Contains xs) (filter p xs) x (All-filter p (Contains xs) xs (All-contains_itself xs)) h, All-contains (λ y. p y ≡ true) (filter p xs) x (filter_passes p xs) h)
-
-module _ {A B : Type 0} (f : A → B) where
-  mapped_at : (xs : List A) (place : ℕ) (x : A) → slice_get xs place ≡ Some x → Contains (map f xs) (f x)
-  mapped_at [] place x at = absurd cc
-  mapped_at (y ∷ ys) zero x at = subst (λ (z : A). Contains (f z ∷ map f ys) (f x)) (sym (same_Some y x at)) (first_member (f x) (map f ys))
-  mapped_at (y ∷ ys) (suc place) x at = later_member (f y) (map f ys) (f x) (mapped_at ys place x at)
-
-  mapped : (xs : List A) (x : A) → Contains xs x → Contains (map f xs) (f x)
-  mapped xs x h = mapped_at xs h.0 x (place_of xs x h)
-
-  was_mapped : (xs : List A) (place : ℕ) (y : B) → slice_get (map f xs) place ≡ Some y → (x : A) × Contains xs x × (f x ≡ y)
-  was_mapped [] place y at = absurd cc
-  was_mapped (x ∷ xs) zero y at = (x, first_member x xs, same_Some (f x) y at)
-  was_mapped (x ∷ xs) (suc place) y at = let found = was_mapped xs place y at in (found.0, later_member x xs found.0 found.1, found.2)
 
 -- ---- rows of a name
 
@@ -76,15 +41,15 @@ value_only rows name value has = by_bool {P = (name ≢ []) × HasRow rows (reco
     (λ long.
     let some = some_name name long in
     let has' : Contains (named_values rows name) value = subst (λ (l : List (List ℕ)). Contains l value) (values_named rows name some) has in
-    let row = was_mapped value_in (filter (is_named name) rows) has'.0 value (place_of (named_values rows name) value has') in
-    let was = was_kept (is_named name) rows row.0 row.1 in
-    (some, (row.0, was.0, (bytes_decides row.0.name name).0 was.1, row.2)))
+    let row = of_map value_in (filter (is_named name) rows) value has' in
+    let test = member_passes (is_named name) rows row.0 row.1 in
+    (some, (row.0, of_filter (is_named name) rows row.0 row.1, (bytes_decides row.0.name name).0 test, row.2)))
 
 value_each : (rows : List PostingsRow) (name value : List ℕ) → name ≢ [] → HasRow rows (record { name = name; value = value }) → Contains (values_of rows name) value
 value_each rows name value some has =
     let test : is_named name has.0 ≡ true = ap (λ (n : List ℕ). bytes_eq n name) has.2 ∙ bytes_eq_self name in
-    let row = kept (is_named name) rows has.1.0 has.0 (place_of rows has.0 has.1) test in
-    subst (λ (l : List (List ℕ)). Contains l value) (sym (values_named rows name some)) (subst (Contains (named_values rows name)) has.3 (mapped value_in (filter (is_named name) rows) has.0 row))
+    let row = into_filter (is_named name) rows has.0 has.1 test in
+    subst (λ (l : List (List ℕ)). Contains l value) (sym (values_named rows name some)) (subst (Contains (named_values rows name)) has.3 (into_map value_in (filter (is_named name) rows) has.0 row))
 
 same_names : (one other : PostingsRow) → one.name ≡ other.name → compare_rows one other ≡ Less → compare_texts one.value other.value ≡ Less
 same_names one other same less = elim (name_le (compare_texts one.name other.name) (compare_texts one.value other.value) less) [
@@ -128,13 +93,14 @@ listed_values index list is name = record {
   all = λ series value has labelled.
       let label : Label = record { name = name; value = value } in
       let has' : Contains (map (λ (one : ℕ × IndexSeries). one.1) is.listed) series = subst (λ (l : List IndexSeries). Contains l series) (sym is.list_is) has in
-      let one = was_mapped (λ (one : ℕ × IndexSeries). one.1) is.listed has'.0 series (place_of (map (λ (one : ℕ × IndexSeries). one.1) is.listed) series has') in
+      let one = of_map (λ (one : ℕ × IndexSeries). one.1) is.listed series has' in
       let its : Contains one.0.1.labels label = subst (λ (s : IndexSeries). Contains s.labels label) (sym one.2) labelled in
-      let some = named_label one.0.1.labels its.0 label (is.series_are.stand one.0.0 one.0.1 one.1).lawful (place_of one.0.1.labels label its) in
+      let at = place_of_member one.0.1.labels label its in
+      let some = named_label one.0.1.labels at.0 label (is.series_are.stand one.0.0 one.0.1 one.1).lawful at.1 in
       value_each is.opened.rows name value some (is.complete one.0.0 one.0.1 one.1 label its);
   ascend = values_ascend is.opened.rows name (held_ascends is.opened.bytes is.opened.toc.postings_table is.opened.rows is.is_opened.rows_are);
 }
 
-pub values_agree : (opened : Opened) (name : List ℕ) (values : List (List ℕ)) → opened_at opened.bytes ≡ Ok opened → (list : List IndexSeries) (is : IsIndex opened.bytes list) → values ≡ values_of opened.rows name → AreValuesOf opened.rows list name values
-values_agree opened name values read list is e =
-    subst (AreValuesOf opened.rows list name) (sym e) (subst (λ (o : Opened). AreValuesOf o.rows list name (values_of o.rows name)) (opened_is opened read list is) (listed_values opened.bytes list is name))
+pub values_agree : (rows : List PostingsRow) (name : List ℕ) (values : List (List ℕ)) (index : List ℕ) (list : List IndexSeries) (is : IsIndex index list) → rows ≡ is.opened.rows → values ≡ values_of rows name → AreValuesOf rows list name values
+values_agree rows name values index list is same e =
+    subst (AreValuesOf rows list name) (sym e) (subst (λ (r : List PostingsRow). AreValuesOf r list name (values_of r name)) (sym same) (listed_values index list is name))

@@ -11,12 +11,12 @@ use Rattle.std.specs.Ordering.{ordering_then}
 use Rattle.std.proofs.lemmas.Bool.{cases_lt}
 use Rattle.std.proofs.lemmas.List.{append-nil, drop_all}
 use Rattle.std.proofs.lemmas.Option.{same_Some, slice_get_within, get_or_from_slice_get, slice_get_cases}
+use Rattle.list_core.proofs.Order.{Less-at_places}
 use Rattle.label_sets.specs.Labels.{compare_texts}
 use Rattle.label_sets.proofs.LabelValues.{bytes_eq_self, bytes_eq_differs, compare_self, before_trans, same_text}
 use Rattle.index_parts.specs.declared.postings_row.PostingsRow.{PostingsRow}
 use Rattle.index_parts.specs.Rows.{compare_rows}
 use Rattle.index_v2.specs.RowOrder.{compare_row, IsRowAt, StandsAt, BeginsAt}
-use Rattle.index_file.proofs.Members.{less_at}
 use Rattle.index_v2.specs.PostingsLists.{values_of}
 
 -- a row before another of two has no greater name
@@ -41,6 +41,7 @@ greater_name row name e less = let no : ordering_then (compare_texts row.name na
 
 pub begins_missing : (rows : List PostingsRow) (name : List ℕ) (place : ℕ) → StandsAt rows name [] place → BeginsAt rows name place
 begins_missing rows name place stands = record {
+  within = stands.within;
   below = λ k row lt at. less_name row name (stands.below k row lt at);
   above = λ k row le at. greater_name row name (stands.above k row le at);
 }
@@ -64,9 +65,10 @@ here rows place k one other e a b = same_Some one other (sym a ∙ ap (λ (i : �
 
 pub begins_found : (rows : List PostingsRow) (name : List ℕ) (place : ℕ) → IsStrictlySortedBy compare_rows rows → IsRowAt rows name [] place → BeginsAt rows name place
 begins_found rows name place ascend is = record {
-  below = λ k row lt at. less_name row name (same_compare row is.row name [] is.name_is is.value_is ∙ less_at compare_rows rows k place row is.row ascend lt at is.stands);
+  within = let lt = slice_get_within rows place is.row is.stands in omega arith;
+  below = λ k row lt at. less_name row name (same_compare row is.row name [] is.name_is is.value_is ∙ Less-at_places compare_rows rows k place row is.row ascend lt at is.stands);
   above = λ k row le at. elim (cases_lt place k) [
-    | inl lt ↦ not_less is.row row name (less_at compare_rows rows place k is.row row ascend lt is.stands at) (λ less. equal_not_less name (ap (λ (n : List ℕ). compare_texts n name) (sym is.name_is) ∙ less))
+    | inl lt ↦ not_less is.row row name (Less-at_places compare_rows rows place k is.row row ascend lt is.stands at) (λ less. equal_not_less name (ap (λ (n : List ℕ). compare_texts n name) (sym is.name_is) ∙ less))
     | inr ge ↦ λ less. equal_not_less name (ap (λ (n : List ℕ). compare_texts n name) (sym (ap (λ (r : PostingsRow). r.name) (here rows place k row is.row (omega arith) at is.stands) ∙ is.name_is)) ∙ less)
   ];
 }
@@ -136,7 +138,7 @@ listed_end rows name first place values listed le = listed.whole ∙ ap (λ (xs 
 behind : (rows : List PostingsRow) (name : List ℕ) (place k : ℕ) (first row : PostingsRow) → IsStrictlySortedBy compare_rows rows → slice_get rows place ≡ Some first → compare_texts first.name name ≢ Less → first.name ≢ name → place ≤ k → slice_get rows k ≡ Some row → row.name ≢ name
 behind rows name place k first row ascend at not_below other le there same =
     elim (cases_lt place k) [
-      | inl lt ↦ elim (name_le (compare_texts first.name row.name) (compare_texts first.value row.value) (less_at compare_rows rows place k first row ascend lt at there)) [
+      | inl lt ↦ elim (name_le (compare_texts first.name row.name) (compare_texts first.value row.value) (Less-at_places compare_rows rows place k first row ascend lt at there)) [
         | inl less ↦ not_below (ap (λ (n : List ℕ). compare_texts first.name n) (sym same) ∙ less)
         | inr p ↦ other (same_text first.name row.name p.0 ∙ same)
       ]

@@ -7,9 +7,13 @@ use Rattle.std.specs.Str.{bytes_eq}
 use Rattle.std.specs.declared.cmp.Ordering.TheVariants.{Equal}
 use Rattle.std.specs.Cmp.Lexicographic.{bytes_decides}
 use Rattle.std.proofs.lemmas.Bool.{and_parts, cases_order, lt-ltb, ltb-true, eq-eqb, eqb-true}
+use Rattle.std.proofs.lemmas.List.{length-map}
 use Rattle.std.proofs.lemmas.Option.{same_Some}
 use Rattle.std.proofs.lemmas.Cmp.{tied_itself, tied_back}
 use Rattle.std.proofs.lemmas.List.{nil_from_length}
+use Rattle.list_core.proofs.Lists.{zip_firsts, zip_seconds, zip_parts}
+use Rattle.list_core.proofs.Membership.{all_at_member, any_of_member, contains_later, contains_place, member_of_any, place_of_member}
+use Rattle.list_core.proofs.Order.{Less-at_places}
 use Rattle.reading_core.specs.Reading.{◌>>◌, unless, refused_as}
 use Rattle.reading_core.specs.Grammar.{IsBytes}
 use Rattle.reading_core.proofs.Binds.{unless_ok, refused_as_ok, ok_is}
@@ -28,7 +32,6 @@ use Rattle.index_parts.proofs.PostingsLaws.{posting_turn}
 use Rattle.index_file.specs.declared.index_series.IndexSeries.{IndexSeries}
 use Rattle.index_file.specs.Opened.{Opened}
 use Rattle.index_file.specs.IndexFile.{compare_series, BelongsTo, IsListOf, AreListed, Holds, IsOpened, AreSeriesOf}
-use Rattle.index_file.proofs.Members.{later_member, member_at, place_of, less_at}
 use Rattle.index_v2.specs.declared.refusal.IndexRefusal.{IndexRefusal}
 use Rattle.index_v2.specs.declared.refusal.IndexRefusal.TheVariants.{BadSection}
 use Rattle.index_v2.specs.Opening.{refused_in}
@@ -39,7 +42,6 @@ use Rattle.index_v2.specs.WholeReading.{present_at, all_at, lists_at, belongs, h
 use Rattle.index_v2.proofs.RowPlaces.{rows_total, held_ascends}
 use Rattle.index_v2.proofs.ValuesListed.{same_compare}
 use Rattle.index_v2.proofs.LabelLaws.{numbered_found, numbered_again}
-use Rattle.index_v2.proofs.Members.{any_has, has_any, all_has, firsts, seconds, zipped, length_firsts}
 use Rattle.index_v2.proofs.WholeParts.{AreLists, all_found, all_again, lists_found, lists_again}
 
 -- ---- which row a series belongs to
@@ -52,10 +54,10 @@ value_has (l ∷ ls) name value e = by_bool (bytes_eq l.name name)
     let v : ◌≡◌ {A = Option (List ℕ)} (Some l.value) (Some value) = rw here at e in
     let name_is : l.name ≡ name = (bytes_decides l.name name).0 here in
     let value_is : l.value ≡ value = same_Some l.value value v in
-    member_at (l ∷ ls) 0 (record { name = name; value = value }) (rw (← name_is, ← value_is) refl))
+    contains_place (l ∷ ls) 0 (record { name = name; value = value }) (rw (← name_is, ← value_is) refl))
     (λ other.
     let e' : value_of ls name ≡ Some value = rw other at e in
-    later_member l ls (record { name = name; value = value }) (value_has ls name value e'))
+    contains_later l (record { name = name; value = value }) ls (value_has ls name value e'))
 
 has_value_is : (value : List ℕ) (o : Option (List ℕ)) → has_value value o ≡ true → o ≡ Some value
 has_value_is value None e = absurd cc
@@ -96,17 +98,19 @@ belongs_label row one e = by_bool {P = cond ((length row.name == 0) && (length r
 
 pub belongs_again : (row : PostingsRow) (one : IndexSeries) → IsLabelSet one.labels → BelongsTo row one → belongs row.name row.value one ≡ true
 belongs_again row one is (inl empty) = belongs_empty row one empty.0 empty.1
-belongs_again row one is (inr has) = belongs_label row one (value_again one.labels has.0 (record { name = row.name; value = row.value }) is (place_of one.labels (record { name = row.name; value = row.value }) has))
+belongs_again row one is (inr has) =
+    let at = place_of_member one.labels (record { name = row.name; value = row.value }) has in
+    belongs_label row one (value_again one.labels at.0 (record { name = row.name; value = row.value }) is at.1)
 
 of_row_found : (listed : List (ℕ × IndexSeries)) (row : PostingsRow) (number : ℕ) → is_of_row listed row number ≡ true → (series : IndexSeries) × Contains listed (number, series) × BelongsTo row series
 of_row_found listed row number e =
-    let m = any_has (λ (one : ℕ × IndexSeries). (one.0 == number) && belongs row.name row.value one.1) listed e in
+    let m = member_of_any (λ (one : ℕ × IndexSeries). (one.0 == number) && belongs row.name row.value one.1) listed e in
     let b = and_parts (m.0.0 == number) (belongs row.name row.value m.0.1) m.2 in
     let same : m.0.0 ≡ number = eqb-true m.0.0 number b.0 in
     (m.0.1, subst (λ (n : ℕ). Contains listed (n, m.0.1)) same m.1, belongs_found row m.0.1 b.1)
 
 pub of_row_again : (listed : List (ℕ × IndexSeries)) (row : PostingsRow) (number : ℕ) (series : IndexSeries) → Contains listed (number, series) → belongs row.name row.value series ≡ true → is_of_row listed row number ≡ true
-of_row_again listed row number series has e = has_any (λ (one : ℕ × IndexSeries). (one.0 == number) && belongs row.name row.value one.1) listed (number, series) has (rw (eq-eqb number number refl) e)
+of_row_again listed row number series has e = any_of_member (λ (one : ℕ × IndexSeries). (one.0 == number) && belongs row.name row.value one.1) listed (number, series) has (rw (eq-eqb number number refl) e)
 
 -- ---- the table
 
@@ -122,8 +126,8 @@ same_place : (rows : List PostingsRow) (i j : ℕ) (one other : PostingsRow) →
 same_place rows i j one other ascend a b equal = elim (cases_order i j) [
   | inl same ↦ same
   | inr apart ↦ elim apart [
-    | inl less ↦ let no = less_at compare_rows rows i j one other ascend less a b in absurd cc
-    | inr more ↦ let no = less_at compare_rows rows j i other one ascend more b a in let back = tied_back rows_total one other equal in absurd cc
+    | inl less ↦ let no = Less-at_places compare_rows rows i j one other ascend less a b in absurd cc
+    | inr more ↦ let no = Less-at_places compare_rows rows j i other one ascend more b a in let back = tied_back rows_total one other equal in absurd cc
   ]
 ]
 
@@ -196,11 +200,11 @@ module _ {A B : Type 0} where
 
 has_number : (number : ℕ) (list : List ℕ) → list_any (λ n. eqb n number) list ≡ true → Contains list number
 has_number number list e =
-    let m = any_has (λ n. eqb n number) list e in
+    let m = member_of_any (λ n. eqb n number) list e in
     subst (Contains list) (eqb-true m.0 number m.2) m.1
 
 pub number_has : (number : ℕ) (list : List ℕ) → Contains list number → list_any (λ n. eqb n number) list ≡ true
-number_has number list has = has_any (λ n. eqb n number) list number has (eq-eqb number number refl)
+number_has number list has = any_of_member (λ n. eqb n number) list number has (eq-eqb number number refl)
 
 pub ok_same : {A E : Type 0} (r : Result A E) (x y : A) → r ≡ Ok x → r ≡ Ok y → x ≡ y
 ok_same {A} {E} r x y e f = ok_is {E = E} x y (sym e ∙ f)
@@ -232,7 +236,7 @@ module _ (index : List ℕ) (numbers : List ℕ) where
   taken_listed rows lists listed taken place row list at read only labelled = record {
     numbers = list;
     stands = list_found IsNextPosting posting_at posting_turn index row.offset list taken.are_bytes read;
-    only = λ number n. of_row_found listed row number (all_has (is_of_row listed row) list number only n);
+    only = λ number n. of_row_found listed row number (all_at_member (is_of_row listed row) list number only n);
     all = λ number series has belongs. elim belongs [
       | inl empty ↦
           let all_read = empty_row rows taken.ascend taken.first_empty place row at empty.0 empty.1 in
@@ -277,14 +281,14 @@ module _ (opened : Opened) (numbers : List ℕ) (list : List IndexSeries) (lists
   series_known =
       let series = all_found opened.bytes opened.symbols None numbers list has.series in
       record {
-        numbers_are = subst (AreListed opened.bytes opened.rows) (sym (firsts numbers list series.many)) (numbers_found opened.bytes opened.toc.postings_table opened.rows numbers are is.rows_are has.listed);
+        numbers_are = subst (AreListed opened.bytes opened.rows) (sym (zip_firsts numbers list series.many)) (numbers_found opened.bytes opened.toc.postings_table opened.rows numbers are is.rows_are has.listed);
         present = nothing_or opened.toc numbers list (present_found opened.toc numbers tt has.present);
         stand = λ number one h. numbered_found opened.bytes opened.symbols number one are (series.each number one h);
-        ascend = subst (IsStrictlySortedBy compare_series) (sym (seconds numbers list series.many)) series.ascend;
+        ascend = subst (IsStrictlySortedBy compare_series) (sym (zip_seconds numbers list series.many)) series.ascend;
       }
 
   pub as_listed : map (λ (one : ℕ × IndexSeries). one.1) (zip numbers list) ≡ list
-  as_listed = seconds numbers list (all_found opened.bytes opened.symbols None numbers list has.series).many
+  as_listed = zip_seconds numbers list (all_found opened.bytes opened.symbols None numbers list has.series).many
 
   pub are_taken : AreTaken opened.bytes opened.rows lists (zip numbers list) numbers
   are_taken = record {
@@ -292,7 +296,7 @@ module _ (opened : Opened) (numbers : List ℕ) (list : List IndexSeries) (lists
     ascend = held_ascends opened.bytes opened.toc.postings_table opened.rows is.rows_are;
     first_empty = listed_first opened.bytes opened.toc.postings_table opened.rows numbers is.rows_are has.listed;
     lists_are = lists_found opened.bytes opened.rows lists has.read;
-    firsts_are = λ number one h. member_at numbers h.0 number (zip_first numbers list h.0 number one (place_of (zip numbers list) (number, one) h));
+    firsts_are = λ number one h. let at = place_of_member (zip numbers list) (number, one) h in contains_place numbers at.0 number (zip_first numbers list at.0 number one at.1);
     lawful = λ number one h. (series_known.stand number one h).lawful;
   }
 
@@ -308,8 +312,8 @@ read_again opened listed is known stand =
         listed = numbers_again opened.bytes opened.toc.postings_table opened.rows numbers is.rows_are known.numbers_are;
         present = present_again opened.toc numbers (present_then opened.toc listed known.present);
         series = all_again opened.bytes opened.symbols None numbers list (record {
-          many = length_firsts listed;
-          each = λ number one has. numbered_again opened.bytes opened.symbols number one (known.stand number one (subst (λ (ps : List (ℕ × IndexSeries)). Contains ps (number, one)) (zipped listed) has));
+          many = length-map listed (λ (one : ℕ × IndexSeries). one.0) ∙ sym (length-map listed (λ (one : ℕ × IndexSeries). one.1));
+          each = λ number one has. numbered_again opened.bytes opened.symbols number one (known.stand number one (subst (λ (ps : List (ℕ × IndexSeries)). Contains ps (number, one)) (zip_parts listed) has));
           behind = tt;
           ascend = known.ascend;
         });

@@ -6,6 +6,8 @@ use Rattle.std.specs.List.Sorted.{IsStrictlySortedBy}
 use Rattle.std.specs.declared.cmp.Ordering.{Ordering}
 use Rattle.std.specs.declared.cmp.Ordering.TheVariants.{Less, Equal, Greater}
 use Rattle.std.proofs.lemmas.Option.{same_Some}
+use Rattle.list_core.proofs.Lists.{AllByRecursion-weaker}
+use Rattle.list_core.proofs.Membership.{contains_first, contains_later, place_of_member}
 use Rattle.reading_core.specs.Reading.{◌>>=◌, ◌>>◌, unless, refused_as}
 use Rattle.reading_core.proofs.Binds.{bind_ok, unless_ok, refused_as_ok, ok_is}
 use Rattle.label_sets.specs.declared.label.Label.{Label}
@@ -15,7 +17,6 @@ use Rattle.index_parts.specs.PostingsReading.{postings_at}
 use Rattle.index_file.specs.declared.index_series.IndexSeries.{IndexSeries}
 use Rattle.index_file.specs.IndexFile.{compare_series}
 use Rattle.index_slices.specs.Parts.{file}
-use Rattle.index_file.proofs.Members.{first_member, later_member, place_of, all_behind}
 use Rattle.index_file.proofs.SeriesOrder.{series_total}
 use Rattle.index_v2.specs.declared.refusal.IndexRefusal.{IndexRefusal}
 use Rattle.index_v2.specs.declared.refusal.IndexRefusal.TheVariants.{BadSeries}
@@ -38,7 +39,7 @@ none_behind (Some b) = tt
 
 stands_found : (before : Option IndexSeries) (one : IndexSeries) (list : List IndexSeries) → may_stand_behind before one ≡ true → AreBehind (Some one) list → AreBehind before (one ∷ list)
 stands_found None one list e others = tt
-stands_found (Some b) one list e others = let less = less_from_lt (compare_series b one) e in (less, all_behind compare_series b one list series_total less others)
+stands_found (Some b) one list e others = let less = less_from_lt (compare_series b one) e in (less, AllByRecursion-weaker (λ x. compare_series one x ≡ Less) (λ x. compare_series b x ≡ Less) (λ x behind. series_total.trans b one x less behind) list others)
 
 stands_again : (before : Option IndexSeries) (one : IndexSeries) (list : List IndexSeries) → AreBehind before (one ∷ list) → may_stand_behind before one ≡ true
 stands_again None one list h = refl
@@ -121,8 +122,8 @@ module _ (index : List ℕ) (symbols : List (List ℕ)) where
   all_again before (number ∷ numbers) (one ∷ list) are =
       let m = are.many in
       let order = order_parts one list are.ascend in
-      all_joined before number numbers one list (behind_again before number one (are.each number one (first_member (number, one) (zip numbers list))) (stands_again before one list are.behind))
-      (all_again (Some one) numbers list (record { many = omega arith; each = λ n o has. are.each n o (later_member (number, one) (zip numbers list) (n, o) has); behind = order.0; ascend = order.1 }))
+      all_joined before number numbers one list (behind_again before number one (are.each number one (contains_first (number, one) (zip numbers list))) (stands_again before one list are.behind))
+      (all_again (Some one) numbers list (record { many = omega arith; each = λ n o has. are.each n o (contains_later (number, one) (n, o) (zip numbers list) has); behind = order.0; ascend = order.1 }))
 
 -- ---- the lists
 
@@ -165,8 +166,8 @@ module _ (index : List ℕ) where
   pub lists_again : (rows : List PostingsRow) → ((row : PostingsRow) → Contains rows row → (list : List ℕ) × (postings_at index row.offset ≡ Ok list)) → (lists : List (List ℕ)) × (lists_at (file index) rows ≡ Ok lists)
   lists_again [] each = ([], lists_nothing)
   lists_again (row ∷ rows) each =
-      let first = each row (first_member row rows) in
-      let others = lists_again rows (λ one has. each one (later_member row rows one has)) in
+      let first = each row (contains_first row rows) in
+      let others = lists_again rows (λ one has. each one (contains_later row one rows has)) in
       (first.0 ∷ others.0, lists_joined row rows first.0 others.0 first.1 others.1)
 
 -- ---- without a gap
@@ -210,4 +211,6 @@ module _ (rows : List PostingsRow) (lists : List (List ℕ)) where
   pub gaps_found : (listed : List (ℕ × IndexSeries)) → gap_among rows lists listed ≡ None → (number : ℕ) (series : IndexSeries) → Contains listed (number, series) → (label : Label) → Contains series.labels label → HasPlace rows label
   gaps_found listed e number series has label labelled =
       gap_from_found 0 rows lists number label
-      (gap_of_found number series.labels (gap_among_found listed e has.0 (number, series) (place_of listed (number, series) has)) labelled.0 label (place_of series.labels label labelled))
+      (let one = place_of_member listed (number, series) has in
+      let its = place_of_member series.labels label labelled in
+      gap_of_found number series.labels (gap_among_found listed e one.0 (number, series) one.1) its.0 label its.1)

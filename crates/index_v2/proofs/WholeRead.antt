@@ -4,6 +4,8 @@ use Rattle.std.specs.Prelude.{nat_lt}
 use Rattle.std.specs.declared.cmp.Ordering.TheVariants.{Equal}
 use Rattle.std.proofs.lemmas.Bool.{cases_lt}
 use Rattle.std.proofs.lemmas.Cmp.{tied_itself}
+use Rattle.list_core.proofs.Lists.{zip_parts}
+use Rattle.list_core.proofs.Membership.{contains_place, place_of_member}
 use Rattle.reading_core.specs.Reading.{◌>>=◌, ◌>>◌, unless, refused_as, Gives}
 use Rattle.reading_core.specs.Grammar.{IsBytes}
 use Rattle.reading_core.proofs.Binds.{refused_as_err, ok_is, err_is}
@@ -13,13 +15,12 @@ use Rattle.index_parts.specs.declared.refusal.PartRefusal.TheVariants as part
 use Rattle.index_parts.specs.declared.toc.Toc.{Toc}
 use Rattle.index_parts.specs.declared.postings_row.PostingsRow.{PostingsRow}
 use Rattle.index_parts.specs.Postings.{IsNextPosting}
-use Rattle.index_parts.specs.PostingsReading.{posting_at, postings_at}
+use Rattle.index_parts.specs.PostingsReading.{posting_at}
 use Rattle.index_parts.proofs.ListLaws.{list_found}
 use Rattle.index_parts.proofs.PostingsLaws.{posting_turn}
 use Rattle.index_file.specs.declared.index_series.IndexSeries.{IndexSeries}
 use Rattle.index_file.specs.Opened.{Opened}
 use Rattle.index_file.specs.IndexFile.{HasRow, IsOpened, IsIndex}
-use Rattle.index_file.proofs.Members.{member_at, place_of}
 use Rattle.index_v2.specs.declared.refusal.IndexRefusal.{IndexRefusal}
 use Rattle.index_v2.specs.declared.refusal.IndexRefusal.TheVariants.{BadSection, BadSeries, PostingsDiffer, NoMemory}
 use Rattle.index_v2.specs.Opening.{refused_in, refused_of, opened_at}
@@ -33,7 +34,6 @@ use Rattle.index_v2.specs.Differing.{DiffersAt, DifferFirstAt}
 use Rattle.index_v2.proofs.RowPlaces.{rows_total, equal_texts}
 use Rattle.index_v2.proofs.ValuesListed.{same_compare}
 use Rattle.index_v2.proofs.OpeningLaws.{opened_again}
-use Rattle.index_v2.proofs.Members.{zipped}
 use Rattle.index_v2.proofs.LeastPlaces.{IsLeast, least_is}
 use Rattle.index_v2.proofs.WholeParts.{both_none, gaps_found}
 use Rattle.index_v2.proofs.WholeLaws.{HasRead, AreTaken, series_known, as_listed, are_taken, read_again, ok_same}
@@ -167,11 +167,11 @@ module _ (opened : Opened) (are : IsBytes opened.bytes) (is : IsOpened opened) w
         listed = listed;
         list_is = as_listed opened numbers list lists are is has;
         series_are = series_known opened numbers list lists are is has;
-        rows_are = λ row h. no_fault_listed opened.bytes opened.rows lists listed numbers taken h.0 (none h.0) row (place_of opened.rows row h);
+        rows_are = λ row h. let at = place_of_member opened.rows row h in no_fault_listed opened.bytes opened.rows lists listed numbers taken at.0 (none at.0) row at.1;
         complete = λ number series h label labelled.
             let found = gaps_found opened.rows lists listed gaps.1 number series h label labelled in
             let texts = equal_texts found.1 label.name label.value found.3 in
-            (found.1, member_at opened.rows found.0 found.1 found.2, texts.0, texts.1);
+            (found.1, contains_place opened.rows found.0 found.1 found.2, texts.0, texts.1);
       }
 
   pub whole_found : (list : List IndexSeries) → whole_at (whole_file opened) ≡ Ok list → IsIndex opened.bytes list
@@ -190,7 +190,7 @@ module _ (opened : Opened) (are : IsBytes opened.bytes) (is : IsOpened opened) w
       record {
         listed = listed;
         series_are = series_known opened parts.0 parts.1 parts.2 are is parts.3;
-        lists_stand = λ row h. let each = taken.lists_are.each h.0 row (place_of opened.rows row h) in (each.0, list_found IsNextPosting posting_at posting_turn opened.bytes row.offset each.0 are each.2);
+        lists_stand = λ row h. let at = place_of_member opened.rows row h in let each = taken.lists_are.each at.0 row at.1 in (each.0, list_found IsNextPosting posting_at posting_turn opened.bytes row.offset each.0 are each.2);
         differs = least.0;
         first = least.1;
       }
@@ -201,24 +201,24 @@ module _ (opened : Opened) (are : IsBytes opened.bytes) (is : IsOpened opened) w
       let numbers = map (λ (one : ℕ × IndexSeries). one.0) d.listed in
       let list = map (λ (one : ℕ × IndexSeries). one.1) d.listed in
       let read = read_again opened d.listed is d.series_are d.lists_stand in
-      let taken : AreTaken opened.bytes opened.rows read.0 d.listed numbers = subst (λ (ps : List (ℕ × IndexSeries)). AreTaken opened.bytes opened.rows read.0 ps numbers) (zipped d.listed) (are_taken opened numbers list read.0 are is read.1) in
+      let taken : AreTaken opened.bytes opened.rows read.0 d.listed numbers = subst (λ (ps : List (ℕ × IndexSeries)). AreTaken opened.bytes opened.rows read.0 ps numbers) (zip_parts d.listed) (are_taken opened numbers list read.0 are is read.1) in
       let told : difference opened.rows read.0 d.listed ≡ Some place = least_is (DiffersAt opened.bytes opened.rows d.listed) (difference opened.rows read.0 d.listed) place (differs_least opened.bytes opened.rows read.0 d.listed numbers taken) d.differs d.first in
-      whole_joined opened numbers list read.0 (Some place) read.1 (ap (difference opened.rows read.0) (zipped d.listed) ∙ told)
+      whole_joined opened numbers list read.0 (Some place) read.1 (ap (difference opened.rows read.0) (zip_parts d.listed) ∙ told)
 
 -- ---- an index of a list is read
 
 missing_row : (rows : List PostingsRow) (label : Label) (place : ℕ) → StandsAt rows label.name label.value place → HasRow rows label → ⊥
 missing_row rows label place stands has =
-    let at = place_of rows has.0 has.1 in
+    let at = place_of_member rows has.0 has.1 in
     let equal : compare_row has.0 label.name label.value ≡ Equal = same_compare has.0 has.0 label.name label.value has.2 has.3 ∙ tied_itself rows_total has.0 in
-    elim (cases_lt has.1.0 place) [
-      | inl below ↦ let less = stands.below has.1.0 has.0 below at in absurd cc
-      | inr above ↦ let greater = stands.above has.1.0 has.0 above at in absurd cc
+    elim (cases_lt at.0 place) [
+      | inl below ↦ let less = stands.below at.0 has.0 below at.1 in absurd cc
+      | inr above ↦ let greater = stands.above at.0 has.0 above at.1 in absurd cc
     ]
 
 module _ (index : List ℕ) (list : List IndexSeries) (is : IsIndex index list) (are : IsBytes is.opened.bytes) where
   agrees : (k : ℕ) → DiffersAt is.opened.bytes is.opened.rows is.listed k → ⊥
-  agrees k (inl other) = other.2 (is.rows_are other.0 (member_at is.opened.rows k other.0 other.1))
+  agrees k (inl other) = other.2 (is.rows_are other.0 (contains_place is.opened.rows k other.0 other.1))
   agrees k (inr h) = missing_row is.opened.rows h.2 k h.5 (is.complete h.0 h.1 h.3 h.2 h.4)
 
   nowhere : (P : ℕ → Type 0) (o : Option ℕ) → IsLeast P o → ((k : ℕ) → P k → ⊥) → o ≡ None
@@ -230,9 +230,9 @@ module _ (index : List ℕ) (list : List IndexSeries) (is : IsIndex index list) 
       let numbers = map (λ (one : ℕ × IndexSeries). one.0) is.listed in
       let series = map (λ (one : ℕ × IndexSeries). one.1) is.listed in
       let read = read_again is.opened is.listed is.is_opened is.series_are (λ row h. ((is.rows_are row h).numbers, (is.rows_are row h).stands)) in
-      let taken : AreTaken is.opened.bytes is.opened.rows read.0 is.listed numbers = subst (λ (ps : List (ℕ × IndexSeries)). AreTaken is.opened.bytes is.opened.rows read.0 ps numbers) (zipped is.listed) (are_taken is.opened numbers series read.0 are is.is_opened read.1) in
+      let taken : AreTaken is.opened.bytes is.opened.rows read.0 is.listed numbers = subst (λ (ps : List (ℕ × IndexSeries)). AreTaken is.opened.bytes is.opened.rows read.0 ps numbers) (zip_parts is.listed) (are_taken is.opened numbers series read.0 are is.is_opened read.1) in
       let exact : difference is.opened.rows read.0 is.listed ≡ None = nowhere (DiffersAt is.opened.bytes is.opened.rows is.listed) (difference is.opened.rows read.0 is.listed) (differs_least is.opened.bytes is.opened.rows read.0 is.listed numbers taken) agrees in
-      whole_joined is.opened numbers series read.0 None read.1 (ap (difference is.opened.rows read.0) (zipped is.listed) ∙ exact) ∙ ap Ok is.list_is
+      whole_joined is.opened numbers series read.0 None read.1 (ap (difference is.opened.rows read.0) (zip_parts is.listed) ∙ exact) ∙ ap Ok is.list_is
 
 pub whole_again : (opened : Opened) (list : List IndexSeries) → IsBytes opened.bytes → opened_at opened.bytes ≡ Ok opened → IsIndex opened.bytes list → whole_at (whole_file opened) ≡ Ok list
 whole_again opened list are read is =

@@ -14,7 +14,7 @@ use Rattle.index_file.specs.Opened.{Opened}
 use Rattle.index_file.specs.IndexFile.{magic, version, least_size}
 use Rattle.index_slices.specs.Parts.{known}
 use Rattle.index_v2.specs.declared.lent_parts.IndexParts.{IndexParts}
-use Rattle.index_v2.specs.Held.{Held, symbols_of, table_of, lists_of}
+use Rattle.index_v2.specs.Held.{Held, symbols_of, table_of, held_of}
 
 -- a refusal of a part, as that of its section
 abbrev pub refused_in : ℕ → PartRefusal → IndexRefusal
@@ -56,4 +56,4 @@ unfoldable pub over_at : IndexParts → Result Held IndexRefusal
 over_at parts = do
   symbols ← held_at 1 symbols_at (known (symbols_of parts)) parts.toc.symbols
   rows ← held_at 6 postings_table_at (known (table_of parts)) parts.toc.postings_table
-  Ok (record { bytes = []; toc = parts.toc; symbols = symbols; rows = rows; lists = lists_of parts; size = length parts.table.now })
+  Ok (held_of parts symbols rows)

@@ -25,5 +25,6 @@ pub record StandsAt (rows : List PostingsRow) (name value : List ℕ) (place : �
 
 -- The rows of this name begin at a place: those before it have a lesser name, and those from there on have none.
 pub record BeginsAt (rows : List PostingsRow) (name : List ℕ) (place : ℕ) : Type 0 where
+  pub within : place ≤ length rows
   pub below : (k : ℕ) (row : PostingsRow) → k < place → slice_get rows k ≡ Some row → compare_texts row.name name ≡ Less
   pub above : (k : ℕ) (row : PostingsRow) → place ≤ k → slice_get rows k ≡ Some row → compare_texts row.name name ≢ Less

@@ -26,14 +26,19 @@ pub(crate) fn budget_of(index: &[u8]) -> usize
 /// How many bytes of label texts are copied out of an index at most: sixty-four for each of its bytes. A label takes two bytes
 /// of its series at least, and four of a list where its row has one of its own: then only texts of some four hundred bytes,
 /// which many series share, come to more, and else such of some hundred and thirty.
-///
-/// Where parts of an index are there, it is sixty-four for each byte of its postings table: in a lawful index the texts of each
-/// label of a series stand there.
 pub(crate) fn text_budget_of(size: usize) -> usize
     ensures value { result ≡ min (64 * size) (2 ^ 64 - 1) }
     ensures bound { result ≤ 64 * size }
 {
     size.saturating_mul(64)
+}
+
+/// As much for each byte of three parts of an index.
+pub(crate) fn text_budget_in(symbols: usize, table: usize, series: usize) -> usize
+    ensures value { result ≡ min (64 * (symbols + table + series)) (2 ^ 64 - 1) }
+    ensures bound { result ≤ 64 * (symbols + table + series) }
+{
+    text_budget_of(symbols.saturating_add(table).saturating_add(series))
 }
 
 /// So many bytes and those of two texts.

@@ -1,20 +1,23 @@
-ghost use Rattle.std.specs.Prelude.{◌≡◌, ◌⊎◌, ◌+◌, ◌*◌, ◌^◌, ◌<◌, ◌≤◌, [], ◌∷◌, length, sum_by, All, slice_get, MatchResult, IfOk, Ok, Err, Some};
+ghost use Rattle.std.specs.Prelude.{◌≡◌, ◌⊎◌, ◌+◌, ◌*◌, ◌^◌, ◌<◌, ◌≤◌, [], ◌∷◌, length, sum_by, All, slice_get, MatchResult, IfOk, IfErr, Ok, Err, Some, option_map};
 ghost use Rattle.std.specs.Result.{IsOkAnd};
 ghost use Rattle.std.specs.Option.{option_copied};
 ghost use Rattle.reading_core.specs.Reading.{Gives};
-ghost use Rattle.index_slices.specs.Parts.{part_of, known, IsPartOf, HoldsSection, HoldsSeries};
-ghost use Rattle.index_v2.specs.Held.{opened_of, whole_file, IsWhole, IsHeldOf, AreSlicesOf};
+ghost use Rattle.index_parts.specs.Postings.{IsPostings};
+ghost use Rattle.index_parts.specs.Rows.{compare_rows};
+ghost use Rattle.index_slices.specs.Parts.{part_of, file, known, IsPartOf, HoldsSection, HoldsSeries};
+ghost use Rattle.index_v2.specs.Held.{opened_in, opened_of, whole_file, IsWhole, IsHeldOf, IsReaderOf, HasList, AreSlicesOf, HoldTables};
 ghost use Rattle.index_v2.specs.Opening.{contents_at, opened_at, over_at};
 ghost use Rattle.index_v2.specs.SeriesLabels.{numbered_at};
 ghost use Rattle.index_v2.specs.Budget.{members_of, text_bytes};
 ghost use Rattle.index_v2.specs.WholeReading.{present_at, whole_at};
-ghost use Rattle.index_v2.specs.PostingsLists.{row_of, postings_of, values_of};
-ghost use Rattle.std.specs.List.Sorted.{IsStrictlyIncreasing};
+ghost use Rattle.index_v2.specs.PostingsLists.{row_of, list_of, postings_of, values_of};
+ghost use Rattle.index_v2.specs.RowOrder.{BeginsAt};
+ghost use Rattle.std.specs.List.Sorted.{IsStrictlyIncreasing, IsStrictlySortedBy};
 
-use crate::budget::text_budget_of;
+use crate::budget::text_budget_in;
 use crate::numbered::{lent_series_of, series_of, series_of_file};
 use crate::opening::contents_of;
-use crate::postings::{list_of, values_of};
+use crate::postings::{list_at, list_of, values_of};
 use crate::rows::Rows;
 use crate::symbols::Symbols;
 use crate::whole::whole;
@@ -37,8 +40,10 @@ pub struct IndexReader<'a> {
     rows: Rows<'a>,
     /// Where postings lists are read.
     lists: IndexPart<'a>,
+    /// How many bytes the symbols were read from.
+    symbols_size: usize,
     /// How many bytes the rows were read from.
-    size: usize,
+    rows_size: usize,
 }
 
 impl<'a> Model for IndexReader<'a> {
@@ -56,7 +61,8 @@ impl<'a> Model for IndexReader<'a> {
           symbols = r.symbols;
           rows = r.rows;
           lists = part_of r.lists;
-          size = r.size;
+          symbols_size = r.symbols_size;
+          rows_size = r.rows_size;
         } };
 
     ghost invariant = { λ r.
@@ -66,12 +72,14 @@ impl<'a> Model for IndexReader<'a> {
           symbols = r.symbols;
           rows = r.rows;
           lists = part_of r.lists;
-          size = r.size;
+          symbols_size = r.symbols_size;
+          rows_size = r.rows_size;
         })
         ⊎ (r.bytes.now ≡ []))
         × IsBytes r.bytes.now
         × (r.lists.begin + length r.lists.bytes.now < 2 ^ 64)
-        × (4 * length r.rows ≤ r.size) };
+        × (length r.symbols ≤ r.symbols_size)
+        × (4 * length r.rows ≤ r.rows_size) };
 }
 
 impl<'a> IndexReader<'a> {
@@ -125,24 +133,52 @@ impl<'a> IndexReader<'a> {
             symbols,
             rows: rows?,
             lists: file,
-            size,
+            symbols_size: size,
+            rows_size: size,
         })
     }
 
     /// Reads the symbols and the postings table of parts of an index.
-    #[tactic(auto, unfolding(crate::specs::Opening::over_at))]
     pub fn over(alloc: Global, parts: IndexParts<'a>) -> Result<IndexReader<'a>, IndexRefusal>
         requires symbols { parts.toc.symbols + length parts.symbols.now < 2 ^ 64 }
         requires table { parts.toc.postings_table + length parts.table.now < 2 ^ 64 }
         requires postings { parts.toc.postings + length parts.postings.now < 2 ^ 64 }
 
-        // Of slices of an index it holds what a reader of the whole index holds.
-        ensures agrees { (opened : Opened) → IsOpened opened → AreSlicesOf parts.entry opened
-            → IfOk result (λ reader. IsHeldOf reader opened) }
+        // Of slices of an opened index it holds what that index has; and where the tables lie within theirs they are read.
+        ensures found { (opened : Opened) → IsOpened opened → parts.entry.toc ≡ opened.toc
+            → AreSlicesOf parts.entry opened.bytes → IfOk result (λ reader. IsHeldOf reader opened) }
+        ensures only { (opened : Opened) → IsOpened opened → parts.entry.toc ≡ opened.toc
+            → AreSlicesOf parts.entry opened.bytes → HoldTables parts.entry
+            → IsOkAnd result (λ reader. IsHeldOf reader opened)
+            ⊎ (result ≡ Err IndexRefusal.NoMemory) }
+
+        // Of slices in which the tables lie it reads, or is refused, as `open` of the whole index.
+        ensures same { (index : List ℕ) → contents_at index ≡ Ok parts.entry.toc
+            → AreSlicesOf parts.entry index → HoldTables parts.entry
+            → Gives IndexRefusal.NoMemory (opened_in index) result (opened_at index) }
 
         // The first refusal, with its place in the index: nothing stands behind a part.
         ensures exact { Gives IndexRefusal.NoMemory
             (λ reader. reader) result (over_at parts.entry) }
+        ensures few { IfOk result
+            (λ reader. (length reader.symbols ≤ length parts.entry.symbols.now)
+            × (4 * length reader.rows ≤ length parts.entry.table.now)) }
+    {
+        IndexReader::read_parts(alloc, parts)
+    }
+
+    #[tactic(auto, unfolding(crate::specs::Opening::over_at))]
+    fn read_parts(alloc: Global, parts: IndexParts<'a>) -> Result<IndexReader<'a>, IndexRefusal>
+        requires symbols { parts.toc.symbols + length parts.symbols.now < 2 ^ 64 }
+        requires table { parts.toc.postings_table + length parts.table.now < 2 ^ 64 }
+        requires postings { parts.toc.postings + length parts.postings.now < 2 ^ 64 }
+        ensures found { (opened : Opened) → IsOpened opened → parts.entry.toc ≡ opened.toc
+            → AreSlicesOf parts.entry opened.bytes → IfOk result (λ reader. IsHeldOf reader opened) }
+        ensures exact { Gives IndexRefusal.NoMemory
+            (λ reader. reader) result (over_at parts.entry) }
+        ensures few { IfOk result
+            (λ reader. (length reader.symbols ≤ length parts.entry.symbols.now)
+            × (4 * length reader.rows ≤ length parts.entry.table.now)) }
     {
         let symbols = IndexPart {
             begin: parts.toc.symbols,
@@ -164,7 +200,8 @@ impl<'a> IndexReader<'a> {
             symbols,
             rows: rows?,
             lists,
-            size: parts.table.len(),
+            symbols_size: parts.symbols.len(),
+            rows_size: parts.table.len(),
         })
     }
 
@@ -173,7 +210,8 @@ impl<'a> IndexReader<'a> {
         ensures value { option_copied result ≡ slice_get self.now.symbols number }
 
         // In an index of a list these are the index's symbols.
-        ensures agrees { (list : List IndexSeries) (is : IsIndex self.now.bytes list)
+        ensures agrees { (index : List ℕ) (list : List IndexSeries) (is : IsIndex index list)
+            → IsReaderOf self.now is.opened
             → option_copied result ≡ slice_get is.opened.symbols number }
     {
         self.symbols.get(u64::from(number))
@@ -209,7 +247,10 @@ impl<'a> IndexReader<'a> {
     }
 
     /// Reads the series of a number in a part of the index that begins at a place. Its labels' texts come to 64 bytes at most for
-    /// each byte from which the postings table was read, where they all stand in a lawful index.
+    /// each byte that the reader has of the index: those from which it read its tables, and the part. Of an index of a list no
+    /// listed series comes to more than the postings table, in which each of its labels has a row with its texts. And whatever
+    /// the rows, no series of at most 63 labels comes to more than 64 for each byte of the symbols: its names differ, so that
+    /// together they are no longer than these, and neither is any of its values.
     pub fn series_in(
         &self,
         alloc: Global,
@@ -231,11 +272,20 @@ impl<'a> IndexReader<'a> {
             → Gives IndexRefusal.NoMemory
             (λ series. series) result (numbered_at index self.now.symbols number) }
 
+        // In an index of a list the series that is listed under the number is read, where it lies within the part.
+        ensures agrees { (index : List ℕ) (list : List IndexSeries) (is : IsIndex index list)
+            → IsReaderOf self.now is.opened
+            → IsPartOf (record { begin = at; bytes = part.now }) index
+            → HoldsSeries (record { begin = at; bytes = part.now }) (16 * number)
+            → (series : IndexSeries) → Contains is.listed (number, series) → (result ≡ Ok series)
+            ⊎ (result ≡ Err IndexRefusal.NoMemory) }
+
         // The first refusal, with its place in the index: nothing stands behind the part.
         ensures exact { Gives IndexRefusal.NoMemory
             (λ series. series) result
             (numbered_at (known (record { begin = at; bytes = part.now })) self.now.symbols number) }
-        ensures texts { IfOk result (λ series. text_bytes series ≤ 64 * self.now.size) }
+        ensures texts { IfOk result (λ series. text_bytes series ≤ 64
+            * (self.now.symbols_size + self.now.rows_size + length part.now)) }
         ensures few { IfOk result
             (λ series. 2 * length series.labels + 3 * length series.chunks ≤ length part.now) }
     {
@@ -243,13 +293,8 @@ impl<'a> IndexReader<'a> {
             begin: at,
             bytes: part,
         };
-        series_of(
-            alloc,
-            bytes,
-            &self.symbols,
-            number,
-            text_budget_of(self.size),
-        )
+        let most = text_budget_in(self.symbols_size, self.rows_size, part.len());
+        series_of(alloc, bytes, &self.symbols, number, most)
     }
 
     /// Reads the series of a number into the room of another, of which nothing is kept but the memory of its lists: where these
@@ -293,10 +338,14 @@ impl<'a> IndexReader<'a> {
         name: &str,
         value: &str,
     ) -> Result<NumberList, IndexRefusal>
-        // In an index of a list these are exactly the numbers of its series with this label, and nothing but memory is wanting.
-        ensures agrees { (list : List IndexSeries) (is : IsIndex self.now.bytes list)
-            → MatchResult result (λ numbers. AreNumbersOf is.listed name.now value.now numbers)
-            (λ e. e ≡ IndexRefusal.NoMemory) }
+        // In an index of a list these are exactly the numbers of its series with this label. Nothing but memory is wanting
+        // where the reader has the list.
+        ensures agrees { (index : List ℕ) (list : List IndexSeries) (is : IsIndex index list)
+            → IsReaderOf self.now is.opened
+            → IfOk result (λ numbers. AreNumbersOf is.listed name.now value.now numbers) }
+        ensures wanting { (index : List ℕ) (list : List IndexSeries) (is : IsIndex index list)
+            → HasList self.now is.opened (row_of self.now.rows name.now value.now)
+            → IfErr result (λ e. e ≡ IndexRefusal.NoMemory) }
 
         // They ascend, whatever the index.
         ensures rises { IfOk result IsStrictlyIncreasing }
@@ -324,15 +373,90 @@ impl<'a> IndexReader<'a> {
         list_of(alloc, self.lists, &self.rows, name, value)
     }
 
+    /// How many rows the postings table has.
+    pub fn row_count(&self) -> usize
+        ensures value { result ≡ length self.now.rows }
+
+        // In an index of a list these are the index's rows.
+        ensures agrees { (index : List ℕ) (list : List IndexSeries) (is : IsIndex index list)
+            → IsReaderOf self.now is.opened → self.now.rows ≡ is.opened.rows }
+        ensures small { result < 2 ^ 32 }
+        ensures few { 4 * result ≤ self.now.rows_size }
+    {
+        self.rows.len()
+    }
+
+    /// The name, the value and the place of the list of the row at a place. Its texts are lent.
+    #[inline(always)]
+    pub fn row(&self, place: usize) -> Option<(&'a str, &'a str, u64)>
+        ensures { option_map
+            (λ row. record { name = row.0.now; value = row.1.now; offset = row.2 }) result
+            ≡ slice_get self.now.rows place }
+    {
+        self.rows.get(place)
+    }
+
+    /// The place at which the rows of a name begin, or would begin. The rows ascend, so it is found by halving.
+    pub fn first_row(&self, name: &str) -> usize
+        ensures begins { BeginsAt self.now.rows name.now result }
+        ensures ascending { IsStrictlySortedBy compare_rows self.now.rows }
+    {
+        self.rows.first_of(name)
+    }
+
+    /// The numbers of the series that the row at a place lists.
+    pub fn row_numbers(&self, alloc: Global, place: usize) -> Result<NumberList, IndexRefusal>
+        requires { place < length self.now.rows }
+
+        // In an index of a list these are exactly the numbers of its series that belong to the row. Nothing but memory is
+        // wanting where the reader has the list.
+        ensures agrees { (index : List ℕ) (list : List IndexSeries) (is : IsIndex index list)
+            → IsReaderOf self.now is.opened
+            → (row : PostingsRow) → slice_get self.now.rows place ≡ Some row
+            → IfOk result (λ numbers. AreNumbersOf is.listed row.name row.value numbers) }
+        ensures wanting { (index : List ℕ) (list : List IndexSeries) (is : IsIndex index list)
+            → HasList self.now is.opened (slice_get self.now.rows place)
+            → IfErr result (λ e. e ≡ IndexRefusal.NoMemory) }
+
+        // They ascend, whatever the index, and have 32 bits.
+        ensures rises { IfOk result IsStrictlyIncreasing }
+        ensures small { IfOk result (All (λ n. n < 2 ^ 32)) }
+
+        // The first refusal.
+        ensures exact { Gives IndexRefusal.NoMemory
+            (λ numbers. numbers) result (list_of self.now.lists (slice_get self.now.rows place)) }
+        ensures few { IfOk result (λ numbers. 4 * length numbers ≤ length self.now.lists.bytes) }
+
+        // What is answered stands so in each index of which this is held.
+        ensures found { (opened : Opened) → IsHeldOf self.now opened
+            → (row : PostingsRow) → slice_get opened.rows place ≡ Some row
+            → IfOk result (λ numbers. IsPostings opened.bytes row.offset numbers) }
+
+        // A list that lies where lists are read is answered, or refused, as in the index, and any other is not there.
+        ensures same { (opened : Opened) → IsHeldOf self.now opened
+            → (row : PostingsRow) → slice_get opened.rows place ≡ Some row
+            → HoldsSection self.now.lists row.offset
+            → Gives IndexRefusal.NoMemory
+            (λ numbers. numbers) result (list_of (file opened.bytes) (Some row)) }
+        ensures outside { (row : PostingsRow) → slice_get self.now.rows place ≡ Some row
+            → (HoldsSection self.now.lists row.offset → ⊥)
+            → (result ≡ Err (IndexRefusal.BadSection 5 (Short row.offset)))
+            ⊎ (result ≡ Err IndexRefusal.NoMemory) }
+    {
+        let row = self.rows.get(place).unwrap();
+        list_at(alloc, self.lists, row.2)
+    }
+
     /// The values that the table lists under a name, ascending.
     pub fn label_values(&self, alloc: Global, name: &str) -> Result<TextList, IndexRefusal>
         // In an index of a list each value that a series has under the name is among them.
-        ensures agrees { (list : List IndexSeries) → IsIndex self.now.bytes list
+        ensures agrees { (index : List ℕ) (list : List IndexSeries) (is : IsIndex index list)
+            → IsReaderOf self.now is.opened
             → IfOk result (λ values. AreValuesOf self.now.rows list name.now values) }
 
         ensures exact { MatchResult result (λ values. values ≡ values_of self.now.rows name.now)
             (λ e. e ≡ IndexRefusal.NoMemory) }
-        ensures few { IfOk result (λ values. 4 * length values ≤ self.now.size) }
+        ensures few { IfOk result (λ values. 4 * length values ≤ self.now.rows_size) }
     {
         Ok(values_of(alloc, &self.rows, name)?)
     }

@@ -57,6 +57,7 @@ impl<'a> Symbols<'a> {
             → IfOk result (λ symbols. Holds IsSymbols index reference symbols) }
         ensures exact { Gives IndexRefusal.NoMemory (λ symbols. symbols) result
             (held_at 1 symbols_at (known (part_of part.entry)) reference) }
+        ensures few { IfOk result (λ symbols. length symbols ≤ length part.entry.bytes.now) }
     {
         if reference == 0 {
             return Ok(Symbols { table: None });

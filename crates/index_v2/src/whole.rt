@@ -155,7 +155,7 @@ pub(crate) fn whole(
     requires { part.begin + length part.bytes.now < 2 ^ 64 }
     ensures bounded { IfOk result (λ list. sum_by members_of list ≤ 8 * length index.now) }
     ensures texts { IfOk result (λ list. sum_by text_bytes list ≤ 64 * length index.now) }
-    ensures exact { (size : ℕ) → Gives IndexRefusal.NoMemory
+    ensures exact { (symbols_size rows_size : ℕ) → Gives IndexRefusal.NoMemory
         (λ list. list) result
         (whole_at (record {
           bytes = index.now;
@@ -163,7 +163,8 @@ pub(crate) fn whole(
           symbols = symbols.now;
           rows = rows.now;
           lists = part_of part.entry;
-          size = size;
+          symbols_size = symbols_size;
+          rows_size = rows_size;
         })) }
 {
     let numbers = list_of(alloc, part, rows, "", "")?;

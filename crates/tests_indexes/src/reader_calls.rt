@@ -5,8 +5,9 @@ use std::{fmt, io, str};
 use wire_bytes::NumberList;
 
 /// Prints what a call on the reader of an index gives: `open` that it is opened, `whole` its series, `count` how many these
-/// are, `symbol NUMBER` a symbol, `postings NAME=VALUE` the numbers of series, `values NAME` the values of a name, `series
-/// NUMBER` a series, and `lent NUMBER` a copy of one whose texts the index lends.
+/// are, `symbol NUMBER` a symbol, `postings NAME=VALUE` the numbers of series, `values NAME` the values of a name, `first NAME`
+/// at which row its rows begin and how many rows there are, `row PLACE` a row with its list, `series NUMBER` a series, and
+/// `lent NUMBER` a copy of one whose texts the index lends.
 pub(crate) fn print_read(
     rt: &HostRuntime,
     index: &[u8],
@@ -33,6 +34,8 @@ pub(crate) fn print_opened(
         "symbol" => println!(rt; "{:?}", reader.symbol(number)),
         "postings" => print_numbers(rt, reader.postings(rt.alloc(), name, value)),
         "values" => print_values(rt, reader.label_values(rt.alloc(), name)),
+        "first" => println!(rt; "{} of {}", reader.first_row(name), reader.row_count()),
+        "row" => print_row(rt, reader, number as usize),
         "series" => print_series(rt, reader.series(rt.alloc(), number)),
         "lent" => print_lent(rt, reader.lent_series(number, LentSeries::new(rt.alloc()))),
         _ => println!(rt; "opened"),
@@ -87,6 +90,14 @@ fn print_values(rt: &HostRuntime, read: Result<TextList, IndexRefusal>) -> io::R
         Ok(values) => println!(rt; "{:?}", values.members()),
         Err(refusal) => println!(rt; "{refusal:?}"),
     }
+}
+
+fn print_row(rt: &HostRuntime, reader: &IndexReader<'_>, place: usize) -> io::Result<()> {
+    let Some((name, value, offset)) = reader.row(place) else {
+        return println!(rt; "no row");
+    };
+    print!(rt; "{name:?} {value:?} {offset} ")?;
+    print_numbers(rt, reader.row_numbers(rt.alloc(), place))
 }
 
 pub(crate) fn print_series(

@@ -1,4 +1,4 @@
-use Rattle.std.proofs.Common.{subst, List, ℕ, ap, ◌∙◌}
+use Rattle.std.proofs.Common.{subst}
 use Rattle.index_file.specs.Opened.{Opened}
 use Rattle.index_file.specs.IndexFile.{IsSeriesOf}
 use Rattle.index_slices.specs.Parts.{part_of}
@@ -16,6 +16,6 @@ returns-clause-few c = rw (← c.self.view_is) (if_ok _ _ c.lent_series_of.resul
 
 pub returns-clause-agrees : goal.returns-clause-agrees
 returns-clause-agrees c =
-    let h : Held = record { bytes = c.self.inside.bytes.now; toc = c.self.inside.toc; symbols = c.self.inside.symbols; rows = c.self.inside.rows; lists = part_of c.self.inside.lists; size = c.self.inside.size } in
+    let h : Held = record { bytes = c.self.inside.bytes.now; toc = c.self.inside.toc; symbols = c.self.inside.symbols; rows = c.self.inside.rows; lists = part_of c.self.inside.lists; symbols_size = c.self.inside.symbols_size; rows_size = c.self.inside.rows_size } in
     rw (← c.self.view_is) (λ list is series has. c.lent_series_of.ensures.only series
     (subst (λ (x : Opened). IsSeriesOf x.bytes x.symbols c.args.number series) (opened_is (opened_of h) (opened_from h c.self.invariant.0 list is) list is) (is.series_are.stand c.args.number series has)))

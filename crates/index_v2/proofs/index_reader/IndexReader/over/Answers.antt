@@ -1,6 +1,8 @@
-use Rattle.index_v2.proofs.HeldLaws.{held_of_slices}
+use Rattle.index_v2.proofs.OverLaws.{over_same, over_only}
 use Rattle.index_v2.proofs.index_reader.IndexReader.over.Goals as goal
 
-pub returns-clause-agrees : goal.returns-clause-agrees
-returns-clause-agrees c = λ opened is slices.
-    held_of_slices c.args.parts opened c.in_ok-symbols.symbols c.in_ok-rows.field-0 _ is slices (c.in_ok-symbols.ensures.found opened.bytes slices.symbols_are) (c.in_ok-rows.ensures.found opened.bytes slices.table_is)
+pub returns-clause-same : goal.returns-clause-same
+returns-clause-same c = λ index contents slices hold. over_same c.args.parts index c.read_parts.result contents slices hold c.read_parts.ensures.exact
+
+pub returns-clause-only : goal.returns-clause-only
+returns-clause-only c = λ opened is toc slices hold. over_only c.args.parts opened c.read_parts.result is toc slices hold (c.read_parts.ensures.found opened is toc slices) c.read_parts.ensures.exact

@@ -4,20 +4,32 @@ use Rattle.reading_core.specs.Reading.{Gives}
 use Rattle.index_parts.specs.declared.postings_row.PostingsRow.{PostingsRow}
 use Rattle.index_v2.specs.declared.refusal.IndexRefusal.TheVariants.{NoMemory}
 use Rattle.index_slices.specs.Parts.{part_of, file}
-use Rattle.index_v2.specs.Held.{Held, opened_of}
-use Rattle.index_v2.specs.PostingsLists.{row_of, list_of, postings_of}
 use Rattle.index_file.specs.IndexFile.{AreNumbersOf}
-use Rattle.index_v2.proofs.HeldLaws.{whole_is, whole_or_none, opened_whole}
-use Rattle.index_v2.proofs.PostingsLaws.{postings_agree, read_or_none}
+use Rattle.index_v2.specs.Held.{Held, whole_file}
+use Rattle.index_v2.specs.PostingsLists.{row_of, list_of, postings_of}
+use Rattle.index_v2.proofs.PostingsLaws.{list_read}
+use Rattle.index_v2.proofs.ReadersOf.{reader_holds, has_reader, list_there, read_is, only_memory}
 use Rattle.index_v2.proofs.index_reader.IndexReader.postings.Goals as goal
 
 pub returns-clause-agrees : goal.returns-clause-agrees
 returns-clause-agrees c =
-    let h : Held = record { bytes = c.self.inside.bytes.now; toc = c.self.inside.toc; symbols = c.self.inside.symbols; rows = c.self.inside.rows; lists = part_of c.self.inside.lists; size = c.self.inside.size } in
-    rw (← c.self.view_is) (λ list is.
-    let whole = whole_or_none h c.self.invariant.0 list is in
-    let read = postings_agree (opened_of h) c.args.name.now c.args.value.now (opened_whole h whole) list is in
-    read_or_none (AreNumbersOf is.listed c.args.name.now c.args.value.now) NoMemory c.list_of.result (postings_of h c.args.name.now c.args.value.now) read.0 (ap (λ (x : Held). postings_of x c.args.name.now c.args.value.now) (whole_is h whole) ∙ read.1) read.2 c.list_of.ensures.exact)
+    let h : Held = record { bytes = c.self.inside.bytes.now; toc = c.self.inside.toc; symbols = c.self.inside.symbols; rows = c.self.inside.rows; lists = part_of c.self.inside.lists; symbols_size = c.self.inside.symbols_size; rows_size = c.self.inside.rows_size } in
+    rw (← c.self.view_is) (λ index list is reads.
+    let held = reader_holds h is.opened c.self.invariant.0 is.is_opened reads in
+    let read = list_read index list is c.args.name.now c.args.value.now in
+    let found : IfOk c.list_of.result (λ (numbers : List ℕ). postings_of (whole_file is.opened) c.args.name.now c.args.value.now ≡ Ok numbers) =
+    subst (λ (rows : List PostingsRow). IfOk c.list_of.result (λ (numbers : List ℕ). list_of (file is.opened.bytes) (row_of rows c.args.name.now c.args.value.now) ≡ Ok numbers)) held.rows_are (c.list_of.ensures.found is.opened.bytes held.lists_are) in
+    read_is (AreNumbersOf is.listed c.args.name.now c.args.value.now) c.list_of.result (postings_of (whole_file is.opened) c.args.name.now c.args.value.now) read.0 read.1 read.2 found)
+
+pub returns-clause-wanting : goal.returns-clause-wanting
+returns-clause-wanting c =
+    let h : Held = record { bytes = c.self.inside.bytes.now; toc = c.self.inside.toc; symbols = c.self.inside.symbols; rows = c.self.inside.rows; lists = part_of c.self.inside.lists; symbols_size = c.self.inside.symbols_size; rows_size = c.self.inside.rows_size } in
+    rw (← c.self.view_is) (λ index list is has.
+    let row = row_of h.rows c.args.name.now c.args.value.now in
+    let held = reader_holds h is.opened c.self.invariant.0 is.is_opened (has_reader h is.opened row has) in
+    let read = list_read index list is c.args.name.now c.args.value.now in
+    let there = list_there h is.opened row c.self.invariant.0 is.is_opened has ∙ ap (λ (rows : List PostingsRow). list_of (file is.opened.bytes) (row_of rows c.args.name.now c.args.value.now)) held.rows_are in
+    only_memory NoMemory c.list_of.result (postings_of h c.args.name.now c.args.value.now) read.0 (there ∙ read.1) c.list_of.ensures.exact)
 
 pub returns-clause-same : goal.returns-clause-same
 returns-clause-same c =

@@ -7,6 +7,7 @@ invariant_of-result c = (
   inl (read_whole c.args.bytes.now c.in_ok-toc.toc c.in_ok-symbols.symbols c.in_ok-rows.field-0 _ refl (λ i. (c.type_inv.bytes i).fits) c.in_ok-toc.ensures c.in_ok-symbols.ensures.exact c.in_ok-rows.ensures.exact),
   λ i. (c.type_inv.bytes i).fits,
   omega arith,
+  c.in_ok-symbols.ensures.few,
   c.in_ok-rows.ensures.few,
 )
 

@@ -19,7 +19,7 @@ returns-clause-few c = rw (← c.self.view_is) (if_ok _ _ c.series_of_file.resul
 
 pub returns-clause-agrees : goal.returns-clause-agrees
 returns-clause-agrees c =
-    let h : Held = record { bytes = c.self.inside.bytes.now; toc = c.self.inside.toc; symbols = c.self.inside.symbols; rows = c.self.inside.rows; lists = part_of c.self.inside.lists; size = c.self.inside.size } in
+    let h : Held = record { bytes = c.self.inside.bytes.now; toc = c.self.inside.toc; symbols = c.self.inside.symbols; rows = c.self.inside.rows; lists = part_of c.self.inside.lists; symbols_size = c.self.inside.symbols_size; rows_size = c.self.inside.rows_size } in
     rw (← c.self.view_is) (λ list is series has. c.series_of_file.ensures.only series
     (subst (λ (x : Opened). IsSeriesOf x.bytes x.symbols c.args.number series) (opened_is (opened_of h) (opened_from h c.self.invariant.0 list is) list is) (is.series_are.stand c.args.number series has)))
 
