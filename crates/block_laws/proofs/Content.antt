@@ -123,7 +123,7 @@ written_holds put files list is are =
       index_is = is.indexed;
       series_are = all_held put.plan files.segments put.series is.files.listed list is.lawful.series placed are;
       within = AllByRecursion-weaker (λ (s : Series). AllByRecursion (IsWithin put.plan) s.samples) (AreWithin files.meta)
-      (λ s. AllByRecursion-weaker (IsWithin put.plan) (content.IsWithin files.meta) (sample_within put files is) s.samples) list (all_within put.plan put.series list is.lawful.series are);
+          (λ s. AllByRecursion-weaker (IsWithin put.plan) (content.IsWithin files.meta) (sample_within put files is) s.samples) list (all_within put.plan put.series list is.lawful.series are);
       apart = all_apart put.plan files.segments put.series is.files.listed is.lawful.series placed;
     }
 

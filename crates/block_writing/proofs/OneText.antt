@@ -1,8 +1,7 @@
 -- Series that are put have one index and one list of segments, since runs are cut in one way.
-use Rattle.std.proofs.Common.{◌≡◌, ℕ, ◌+◌, ◌<◌, ◌≤◌, List, [], ◌∷◌, ◌++◌, length, map, Option, None, Some, refl, sym, ap, subst, ◌∙◌, append_assoc, length-append, arith, ◌⊎◌, inl, inr, ℤ}
+use Rattle.std.proofs.Common.{◌≡◌, ℕ, ◌≤◌, List, [], ◌∷◌, ◌++◌, length, map, Option, None, Some, refl, sym, ap, subst, ◌∙◌, length-append, arith, ◌⊎◌, inl, inr, ℤ}
 use Rattle.std.specs.List.{flat_map, AllByRecursion}
 use Rattle.std.proofs.lemmas.Grind.{flat_map-append}
-use Rattle.std.proofs.lemmas.List.{map-append}
 use Rattle.list_core.proofs.Lists.{cons_parts}
 use Rattle.label_sets.specs.declared.label.Label.{Label}
 use Rattle.index_parts.specs.declared.chunk_place.ChunkPlace.{ChunkPlace}
@@ -13,10 +12,10 @@ use Rattle.chunk_files.specs.Layout.{greatest}
 use Rattle.chunk_files.specs.Chunk.{header, frame_text}
 use Rattle.block_writing.specs.declared.segment_place.SegmentPlace.{SegmentPlace}
 use Rattle.block_writing.specs.Each.{AreEach}
-use Rattle.block_writing.specs.Put.{PutChunk, PutSeries, contents_of}
-use Rattle.block_writing.specs.Segments.{segment_text, Begins, AreRuns, places_from, AreSegments}
+use Rattle.block_writing.specs.Put.{PutSeries, contents_of}
+use Rattle.block_writing.specs.Segments.{segment_text, Begins, AreRuns, places_from}
 use Rattle.block_writing.specs.Writing.{part_of}
-use Rattle.block_writing.specs.Files.{place_times, put_times, IsListed, places_in, AreFilesOf}
+use Rattle.block_writing.specs.Files.{place_times, IsListed, places_in, AreFilesOf}
 
 -- ---- a list that is cut
 

@@ -1,5 +1,5 @@
 -- A series that is put part by part.
-use Rattle.std.proofs.Common.{◌≡◌, ℕ, zero, suc, ◌+◌, ◌-◌, ◌<◌, ◌≤◌, List, [], ◌∷◌, ◌++◌, length, map, All, Less, get_or, take, drop, Option, None, Some, refl, sym, ap, subst, ◌∙◌, append_assoc, length-append, take-append-drop, arith, inl, inr, ℤ, pos, negsuc, to_z, of_z}
+use Rattle.std.proofs.Common.{◌≡◌, ℕ, zero, suc, ◌+◌, ◌-◌, ◌<◌, ◌≤◌, List, [], ◌∷◌, ◌++◌, length, map, Less, get_or, take, drop, None, Some, refl, sym, ap, subst, ◌∙◌, append_assoc, length-append, take-append-drop, arith, inl, inr, ℤ, pos, negsuc, to_z, of_z}
 use Rattle.std.specs.Prelude.{slice_get, min, ◌^◌, ◌<ℤ◌, ◌≤ℤ◌, neg_ℤ, OnOk, Result, Ok, Err, FitsSigned}
 use Rattle.std.specs.Int.{w64}
 use Rattle.std.proofs.lemmas.Int.{ints, to_z-of_z}
@@ -129,7 +129,7 @@ of_chunk begin samples left now k lawful h some few =
       few = omega (arith, few, length-take k left);
       ascend = sorted_left int_cmp (times (take k left)) (times (drop k left)) (subst (IsStrictlySortedBy int_cmp) split h.ascend);
       times = All-from_recursion (λ (s : Sample). IsChunkTime s.time) (take k left) (AllByRecursion-weaker (IsWithin begin.plan) (λ (s : Sample). IsChunkTime s.time) (chunk_time begin.plan lawful) (take k left)
-      (all_left (IsWithin begin.plan) (take k left) (drop k left) (subst (AllByRecursion (IsWithin begin.plan)) (sym (take-append-drop k left)) h.within)));
+          (all_left (IsWithin begin.plan) (take k left) (drop k left) (subst (AllByRecursion (IsWithin begin.plan)) (sym (take-append-drop k left)) h.within)));
     }
 
 -- the chunk of a part ends before the samples behind it begin

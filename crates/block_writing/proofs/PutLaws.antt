@@ -1,5 +1,5 @@
 -- What is put as it may be leaves all that was put lawful.
-use Rattle.std.proofs.Common.{◌≡◌, ℕ, ◌-◌, List, [], ◌∷◌, ◌++◌, length, map, Option, None, Some, sym, subst, ap, ◌∙◌, ◌⊎◌, inl, inr, ℤ}
+use Rattle.std.proofs.Common.{◌≡◌, ℕ, ◌-◌, List, [], ◌∷◌, ◌++◌, length, map, Option, None, Some, sym, subst, ap, ◌∙◌, inl, inr, ℤ}
 use Rattle.std.specs.Prelude.{slice_get}
 use Rattle.std.specs.Cmp.{IsTotalOrder}
 use Rattle.std.specs.Cmp.Lexicographic.{on_texts, lists_total}
@@ -10,7 +10,6 @@ use Rattle.list_core.proofs.Lists.{AllByRecursion-push}
 use Rattle.list_core.proofs.Order.{sorted_nil, sorted_cons, sorted_push}
 use Rattle.label_sets.specs.Labels.{compare_sets}
 use Rattle.label_sets.specs.declared.label.Label.{Label}
-use Rattle.index_parts.specs.Turns.{InOrder}
 use Rattle.block_writing.specs.Put.{PutChunk, PutSeries, PlanFields, Put, IsStored, IsAfter, IsAfterChunks, AreApart, IsAfterSeries, AreOfSeries, IsEnded, IsPut, nothing_put, with_chunk, with_series}
 use Rattle.block_writing.proofs.Runs.{ends, order_more}
 use Rattle.block_writing.proofs.Lists.{last_at}

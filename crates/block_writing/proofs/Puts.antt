@@ -17,9 +17,9 @@ use Rattle.block_writing.specs.declared.counts.Counts.{Counts}
 use Rattle.block_writing.specs.declared.segment_place.SegmentPlace.{SegmentPlace}
 use Rattle.block_writing.specs.Segments.{AreSegments}
 use Rattle.block_writing.specs.Standing.{content_at}
-use Rattle.block_writing.specs.Put.{PutChunk, PutSeries, Put, IsStored, IsAfter, IsAfterChunks, IsAfterSeries, IsPut, fitted, with_chunk, with_series}
+use Rattle.block_writing.specs.Put.{PutChunk, PutSeries, Put, IsStored, IsAfterChunks, IsAfterSeries, IsPut, fitted, with_chunk, with_series}
 use Rattle.block_writing.specs.Writing.{plan_fields, part_of, chunk_in, series_in, put_in, all_places, IsWriting}
-use Rattle.block_writing.proofs.Lists.{pushed_parts, last_at, all_left, all_right}
+use Rattle.block_writing.proofs.Lists.{pushed_parts, all_left, all_right}
 use Rattle.block_writing.proofs.PutLaws.{after_last, nothing_lawful, chunk_lawful, series_lawful}
 use Rattle.block_writing.proofs.Runs.{ends, order_more}
 use Rattle.block_writing.proofs.Placed.{read_all}
