@@ -1,14 +1,13 @@
 -- The files of what was put hold the series for which it stands, and no others.
-use Rattle.std.proofs.Common.{◌≡◌, ℕ, ◌-◌, List, [], ◌∷◌, ◌++◌, length, map, Option, Some, refl, sym, ap, subst, ◌∙◌, ℤ}
-use Rattle.std.specs.Prelude.{slice_get, ◌≤ℤ◌, ◌<ℤ◌}
+use Rattle.std.proofs.Common.{◌≡◌, ℕ, List, [], ◌∷◌, Some, refl, sym, ap, subst, ◌∙◌, ℤ}
+use Rattle.std.specs.Prelude.{◌≤ℤ◌, ◌<ℤ◌}
 use Rattle.std.specs.List.{flat_map, AllByRecursion}
 use Rattle.list_core.proofs.Lists.{AllByRecursion-append, AllByRecursion-weaker}
 use Rattle.reading_core.proofs.Binds.{ok_is}
 use Rattle.label_sets.specs.declared.sample.Sample.{Sample}
 use Rattle.label_sets.specs.declared.series.Series.{Series}
 use Rattle.block_meta.specs.declared.block_plan.BlockPlan.{BlockPlan}
-use Rattle.block_meta.specs.declared.meta.Meta.{Meta}
-use Rattle.block_meta.specs.MetaFields.{MetaFields, fields_of}
+use Rattle.block_meta.specs.MetaFields.{MetaFields}
 use Rattle.xor_chunks.specs.Grammar.{IsText}
 use Rattle.xor_chunks.proofs.TextsRead.{data_again}
 use Rattle.xor_chunks.specs.declared.refusal.XorRefusal.{XorRefusal}

@@ -1,5 +1,5 @@
 -- A block of level 1 that is its own only source passes once it is written, unless it has no series.
-use Rattle.std.proofs.Common.{◌≡◌, ℕ, List, [], ◌∷◌, refl, sym, ap, subst, ◌∙◌, pos}
+use Rattle.std.proofs.Common.{◌≡◌, List, [], ◌∷◌, refl, sym, ap, subst, ◌∙◌}
 use Rattle.std.specs.Prelude.{◌≢◌}
 use Rattle.label_sets.specs.declared.series.Series.{Series}
 use Rattle.block_meta.specs.declared.block_plan.BlockPlan.{BlockPlan}
@@ -15,7 +15,7 @@ use Rattle.block_writing.specs.WrittenMeta.{meta_with, IsWritten}
 use Rattle.block_writing.specs.Built.{IsPutAs, IsBuilt}
 use Rattle.block_content.specs.Checking.{IsOwn, Passes, RefusesBlock}
 use Rattle.block_content.specs.declared.check_refusal.CheckRefusal.TheVariants.{EmptyBlock}
-use Rattle.block_laws.specs.PutContent.{IsSeriesOf, AreSeriesOf, IsFirstLevel}
+use Rattle.block_laws.specs.PutContent.{AreSeriesOf, IsFirstLevel}
 use Rattle.block_laws.proofs.Content.{written_holds, built_series}
 
 own_meta : (put : Put) (files : BlockFiles) → IsWritten put files → IsFirstLevel put.plan → IsOwn put.plan.ulid files.meta

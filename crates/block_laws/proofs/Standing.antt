@@ -1,18 +1,17 @@
 -- Each chunk that was put stands at the place that the index of the written block tells.
-use Rattle.std.proofs.Common.{◌≡◌, ℕ, List, [], ◌∷◌, ◌++◌, map, Option, None, Some, refl, sym, ap, subst, ◌∙◌, ℤ}
+use Rattle.std.proofs.Common.{◌≡◌, ℕ, List, [], ◌∷◌, ◌++◌, map, Option, None, Some, sym, ap, subst, ℤ}
 use Rattle.std.specs.Prelude.{◌<ℤ◌}
-use Rattle.std.specs.List.{flat_map, AllByRecursion}
+use Rattle.std.specs.List.{flat_map}
 use Rattle.list_core.proofs.Lists.{cons_parts}
 use Rattle.index_parts.specs.declared.chunk_place.ChunkPlace.{ChunkPlace}
 use Rattle.index_parts.specs.Turns.{InOrderAfter}
 use Rattle.index_file.specs.declared.index_series.IndexSeries.{IndexSeries}
-use Rattle.label_sets.specs.declared.label.Label.{Label}
 use Rattle.block_writing.specs.Each.{AreEach}
 use Rattle.block_writing.specs.Put.{PutChunk, PutSeries, IsAfter, contents_of}
 use Rattle.block_writing.specs.Writing.{part_of}
 use Rattle.block_writing.specs.Files.{place_times, put_times, IsListed, AreFilesOf}
 use Rattle.block_writing.proofs.Placed.{StandsAt as StandsIn, all_stand}
-use Rattle.block_content.specs.Content.{StandsAt, BeginsAfter, IsApart}
+use Rattle.block_content.specs.Content.{StandsAt, BeginsAfter}
 
 -- a chunk stands at the place that has its times
 pub record IsAt (segments : List (List ℕ)) (chunk : PutChunk) (place : ChunkPlace) : Type 0 where
