@@ -1,25 +1,26 @@
 -- A block that is put series by series.
-use Rattle.std.proofs.Common.{◌≡◌, ℕ, zero, suc, ◌+◌, ◌-◌, ◌^◌, ◌<◌, List, [], ◌∷◌, ◌++◌, length, map, get_or, take, Option, Some, refl, sym, ap, subst, ◌∙◌, arith, ℤ, pos, neg_ℤ}
-use Rattle.std.specs.Prelude.{slice_get, option_map, ◌≤ℤ◌, ◌<ℤ◌}
+use Rattle.std.proofs.Common.{◌≡◌, ℕ, zero, suc, ◌+◌, ◌-◌, ◌^◌, ◌<◌, ◌≤◌, List, [], ◌∷◌, ◌++◌, length, map, get_or, take, Option, Some, Result, Ok, Err, refl, sym, ap, subst, ◌∙◌, arith}
+use Rattle.std.specs.Prelude.{IfOk, slice_get, option_map}
 use Rattle.std.specs.List.{AllByRecursion, sum_by}
 use Rattle.std.specs.List.Sorted.{IsStrictlySortedBy}
-use Rattle.std.proofs.lemmas.Int.{ints}
-use Rattle.std.proofs.lemmas.List.{take_more, length-take}
-use Rattle.std.proofs.lemmas.List.Elements.{All-from_recursion}
+use Rattle.std.proofs.lemmas.List.{take_more, take_all, length-take}
 use Rattle.std.proofs.lemmas.List.Sums.{sum_by-append}
 use Rattle.std.proofs.lemmas.Option.{slice_get-map, slice_get_within}
-use Rattle.list_core.proofs.Lists.{AllByRecursion-weaker, slice_get-take}
+use Rattle.list_core.proofs.Lists.{slice_get-take}
 use Rattle.list_core.proofs.Order.{Less-at_places}
 use Rattle.label_sets.specs.Counts.{sample_count}
 use Rattle.label_sets.specs.Labels.{compare_sets}
 use Rattle.label_sets.specs.declared.label.Label.{Label}
-use Rattle.label_sets.specs.declared.sample.Sample.{Sample}
 use Rattle.label_sets.specs.declared.series.Series.{Series}
 use Rattle.block_meta.specs.Lawful.{AreLawfulTimes}
-use Rattle.xor_chunks.specs.Written.{IsChunkTime}
 use Rattle.block_writing.specs.Each.{AreEach}
 use Rattle.block_writing.specs.Put.{PlanFields, Put, IsAfterSeries, nothing_put}
-use Rattle.block_writing.specs.Built.{AreOfBlock, AreBuildable, AreOfSeries, IsPutAs, HasMore, IsPutOf}
+use Rattle.block_meta.specs.declared.block_plan.BlockPlan.{BlockPlan}
+use Rattle.block_files.specs.declared.block_files.BlockFiles.{BlockFiles}
+use Rattle.block_files.specs.declared.build_refusal.BuildRefusal.{BuildRefusal}
+use Rattle.block_writing.specs.Writing.{plan_fields}
+use Rattle.block_writing.specs.WrittenMeta.{IsWritten}
+use Rattle.block_writing.specs.Built.{AreOfBlock, AreBuildable, IsPutAs, HasMore, IsPutOf, IsBuilt}
 use Rattle.block_writing.proofs.Placed.{each_append}
 
 -- ---- lists
@@ -55,22 +56,12 @@ got_at (y ∷ xs) (suc k) x d within at = got_at xs k x d (omega (arith, within)
 
 -- ---- what each series is
 
-chunk_time : (min max time : ℤ) → AreLawfulTimes min max → (min ≤ℤ time) × (time <ℤ max) → IsChunkTime time
-chunk_time min max time lawful within =
-    let early : neg_ℤ (pos (2 ^ 62)) ≤ℤ min = lawful.early in
-    let late : max ≤ℤ pos (2 ^ 62) = lawful.late in
-    let low : min ≤ℤ time = within.0 in
-    let high : time <ℤ max = within.1 in
-    (omega (arith, ints), omega (arith, ints))
+pub of_series : (plan : PlanFields) (series : List Series) (k : ℕ) (one d : Series) (now : Put) → AreBuildable plan series → k < length series → one ≡ get_or series k d → IsPutOf plan (take k series) now → AreOfBlock now.plan one.samples
+of_series plan series k one d now are within at h =
+    subst (λ (p : PlanFields). AreOfBlock p one.samples) (sym h.plan_is) (all_at (λ (s : Series). AreOfBlock plan s.samples) series k one d are.samples within at)
 
-pub of_series : (min max : ℤ) (series : List Series) (k : ℕ) (one d : Series) → AreLawfulTimes min max → AreBuildable min max series → k < length series → one ≡ get_or series k d → AreOfSeries one.samples
-of_series min max series k one d lawful are within at =
-    let own : AreOfBlock min max one.samples = all_at (λ (s : Series). AreOfBlock min max s.samples) series k one d are.samples within at in
-    record {
-      some = own.some;
-      ascend = own.ascend;
-      times = All-from_recursion (λ (s : Sample). IsChunkTime s.time) one.samples (AllByRecursion-weaker (λ (s : Sample). (min ≤ℤ s.time) × (s.time <ℤ max)) (λ (s : Sample). IsChunkTime s.time) (λ s is. chunk_time min max s.time lawful is) one.samples own.within);
-    }
+pub of_times : (plan : PlanFields) (series : List Series) (now : Put) → AreLawfulTimes plan.min_time plan.max_time → IsPutOf plan series now → AreLawfulTimes now.plan.min_time now.plan.max_time
+of_times plan series now lawful h = subst (λ (p : PlanFields). AreLawfulTimes p.min_time p.max_time) (sym h.plan_is) lawful
 
 pub after_series : (plan : PlanFields) (series : List Series) (k : ℕ) (one d : Series) (now : Put) → IsStrictlySortedBy compare_sets (map (λ (s : Series). s.labels) series) → k < length series → one ≡ get_or series k d → IsPutOf plan (take k series) now → IsAfterSeries now.series one.labels
 after_series plan series k one d now ascend within at h last there =
@@ -111,3 +102,10 @@ one_more plan series k one d now new within at h more =
       nothing_left = more.nothing_left;
       samples_are = omega (arith, more.samples_is, h.samples_are, sum);
     }
+
+pub all_put : (plan : PlanFields) (items series : List Series) (k : ℕ) (now : Put) → items ≡ series → length items ≤ k → IsPutOf plan (take k items) now → IsPutOf plan series now
+all_put plan items series k now same all h = subst (λ (l : List Series). IsPutOf plan l now) (take_all k items all ∙ same) h
+
+pub built_from : (r : Result BlockFiles BuildRefusal) (plan : BlockPlan) (series : List Series) (put : Put) → IsPutOf (plan_fields plan) series put → IfOk r (IsWritten put) → IfOk r (IsBuilt plan series)
+built_from (Ok block) plan series put is written = record { put = put; put_is = is; block_is = written }
+built_from (Err e) plan series put is written = tt

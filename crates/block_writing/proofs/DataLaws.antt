@@ -15,7 +15,7 @@ use Rattle.xor_chunks.specs.Grammar.{IsChange, unchanged, row_14, row_17, row_20
 use Rattle.xor_chunks.proofs.BitLists.{length-bits_of, length-bits_in}
 use Rattle.chunk_files.specs.Layout.{header_size, greatest, xor}
 use Rattle.chunk_files.specs.Chunk.{frame_text}
-use Rattle.block_writing.specs.Put.{IsChunkData}
+use Rattle.block_writing.specs.Put.{PlanFields, PutChunk, IsStored}
 
 -- ---- how long data are
 
@@ -67,8 +67,9 @@ pub text_short : (bytes : List ℕ) (samples : List Sample) → IsText 8 bytes s
 text_short bytes samples h =
     omega (arith, ap length h.counted.2, length-append h.counted.0 h.after, ap length h.counted.1.digits, h.counted.1.fits, samples_short h.after samples (replicate h.left false) h.samples_are, length-replicate {A = Bool} h.left false, h.filling)
 
-pub data_fit : (content : List ℕ) (min max : ℤ) → IsChunkData content min max → header_size + length (frame_text content) ≤ greatest
-data_fit content min max h =
+pub data_fit : (plan : PlanFields) (chunk : PutChunk) → IsStored plan chunk → header_size + length (frame_text chunk.content) ≤ greatest
+data_fit plan chunk h =
+    let content : List ℕ = chunk.content in
     omega (arith, text_short content h.samples h.text_is, few_groups 9 (length content), length-append (uvarint_text (length content) ++ (xor ∷ content)) (to_be_bytes w32 (crc (xor ∷ content))), length-append (uvarint_text (length content)) (xor ∷ content))
 
 -- ---- times
@@ -104,5 +105,5 @@ samples_rise bytes (first ∷ second ∷ others) left min max h begins ends =
     let rest : second.time ≤ℤ max = others_rise others second _ h.rest_are.rest max h.rest_are.others_are refl at in
     omega (arith, ints)
 
-pub data_rise : (content : List ℕ) (min max : ℤ) → IsChunkData content min max → min ≤ℤ max
-data_rise content min max h = samples_rise h.text_is.after h.samples _ min max h.text_is.samples_are h.begins h.ends
+pub data_rise : (plan : PlanFields) (chunk : PutChunk) → IsStored plan chunk → chunk.min ≤ℤ chunk.max
+data_rise plan chunk h = samples_rise h.text_is.after h.samples _ chunk.min chunk.max h.text_is.samples_are h.begins h.ends

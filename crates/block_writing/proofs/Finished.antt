@@ -1,5 +1,6 @@
 -- What a writer holds when no chunk is left over is a block's index and segments.
-use Rattle.std.proofs.Common.{◌≡◌, ℕ, ◌<◌, ◌≤◌, List, [], ◌∷◌, ◌++◌, length, map, refl, sym, ap, subst, ◌∙◌, ℤ}
+use Rattle.std.proofs.Common.{◌≡◌, ◌⊎◌, ℕ, ◌<◌, ◌≤◌, List, [], ◌∷◌, ◌++◌, length, map, Result, Ok, Err, refl, sym, ap, subst, ◌∙◌, inl, inr, arith, ℤ}
+use Rattle.std.specs.Prelude.{IfOk}
 use Rattle.std.specs.List.{flat_map}
 use Rattle.std.proofs.lemmas.List.{map-append, length-map, append-nil}
 use Rattle.block_meta.specs.declared.block_plan.BlockPlan.{BlockPlan}
@@ -15,14 +16,15 @@ use Rattle.block_writing.specs.declared.counts.Counts.{Counts}
 use Rattle.block_writing.specs.Each.{AreEach}
 use Rattle.block_writing.specs.Segments.{AreSegments}
 use Rattle.block_writing.specs.Standing.{content_at}
-use Rattle.block_writing.specs.Put.{PutChunk, contents_of, fitted}
+use Rattle.block_writing.specs.Put.{PutChunk, Put, contents_of, fitted}
 use Rattle.block_writing.specs.Writing.{plan_fields, part_of, chunk_in, series_in, put_in, all_places, IsWriting}
 use Rattle.block_writing.specs.Files.{place_times, put_times, IsListed, places_in, HaveNoIndex}
 use Rattle.block_writing.specs.WrittenMeta.{counts_of, meta_with, IsWritten}
 use Rattle.block_writing.specs.Refusals.{build_refusal}
-use Rattle.block_writing.specs.declared.build_refusal.BuildRefusal.{BuildRefusal}
-use Rattle.block_writing.specs.declared.build_refusal.BuildRefusal.TheVariants.{TooLarge}
-use Rattle.block_writing.specs.declared.written_block.WrittenBlock.{WrittenBlock}
+use Rattle.block_writing.proofs.OneText.{one_index}
+use Rattle.block_files.specs.declared.block_files.BlockFiles.{BlockFiles}
+use Rattle.block_files.specs.declared.build_refusal.BuildRefusal.{BuildRefusal}
+use Rattle.block_files.specs.declared.build_refusal.BuildRefusal.TheVariants.{TooLarge, NoMemory}
 
 times_same : (segments : List (List ℕ)) (chunks : List ChunkPlace) → map place_times chunks ≡ map put_times (map (chunk_in segments) chunks)
 times_same segments [] = refl
@@ -43,13 +45,13 @@ all_contents segments (s ∷ list) =
     ∙ ap (λ (l : List (List ℕ)). l ++ map (content_at segments) (map part_of (flat_map (λ one. one.chunks) list))) (chunk_contents segments s.chunks)
     ∙ ap (λ (l : List (List ℕ)). map (λ (c : PutChunk). c.content) (map (chunk_in segments) s.chunks) ++ l) (all_contents segments list)
 
-segments_are_of : (segments : List (List ℕ)) (list : List IndexSeries) (counts : Counts) → IsWriting segments list [] counts → AreSegments (contents_of (map (series_in segments) list)) (places_in list) segments
-segments_are_of segments list counts h =
+segments_are_of : (plan : BlockPlan) (segments : List (List ℕ)) (list : List IndexSeries) (counts : Counts) → IsWriting plan segments list [] counts → AreSegments (contents_of (map (series_in segments) list)) (places_in list) segments
+segments_are_of plan segments list counts h =
     let all : all_places list [] ≡ flat_map (λ s. s.chunks) list = append-nil (flat_map (λ s. s.chunks) list) in
     let own : AreSegments (map (content_at segments) (map part_of (flat_map (λ s. s.chunks) list))) (places_in list) segments = subst (λ (l : List ChunkPlace). AreSegments (map (content_at segments) (map part_of l)) (map part_of l) segments) all h.segments_are in
     subst (λ (l : List (List ℕ)). AreSegments l (places_in list) segments) (all_contents segments list) own
 
-pub counts_are : (plan : BlockPlan) (segments : List (List ℕ)) (list : List IndexSeries) (counts : Counts) → IsWriting segments list [] counts → counts ≡ counts_of (put_in plan segments list [] counts)
+pub counts_are : (plan : BlockPlan) (segments : List (List ℕ)) (list : List IndexSeries) (counts : Counts) → IsWriting plan segments list [] counts → counts ≡ counts_of (put_in plan segments list [] counts)
 counts_are plan segments list counts h =
     let series : counts.series ≡ fitted (length (map (series_in segments) list)) = h.series_counted ∙ ap fitted (sym (length-map list (series_in segments))) in
     let many : length (all_places list []) ≡ length (contents_of (map (series_in segments) list)) =
@@ -63,13 +65,14 @@ none_left segments (c ∷ chunks) e = absurd cc
 
 -- ---- what the last call comes to
 
-pub written_is : (plan : BlockPlan) (segments : List (List ℕ)) (list : List IndexSeries) (counts : Counts) (block : WrittenBlock) → IsWriting segments list [] counts → block.segments ≡ segments → block.index ≡ written list → length (written list) ≤ greatest → IsIndex block.index list
+pub written_is : (plan : BlockPlan) (segments : List (List ℕ)) (list : List IndexSeries) (counts : Counts) (block : BlockFiles) → IsWriting plan segments list [] counts → block.segments ≡ segments → block.index ≡ written list → length (written list) ≤ greatest → IsIndex block.index list
     → fields_of block.meta ≡ meta_with (plan_fields plan) counts block.index block.segments → IsWritten (put_in plan segments list [] counts) block
 written_is plan segments list counts block h same is small indexed meta = record {
+  lawful = h.lawful;
   files = record {
     listed = list;
     series_are = listed segments list;
-    segments_are = subst (AreSegments (contents_of (map (series_in segments) list)) (places_in list)) (sym same) (segments_are_of segments list counts h);
+    segments_are = subst (AreSegments (contents_of (map (series_in segments) list)) (places_in list)) (sym same) (segments_are_of plan segments list counts h);
     index_is = is;
   };
   indexed = indexed;
@@ -77,6 +80,14 @@ written_is plan segments list counts block h same is small indexed meta = record
   meta = meta ∙ ap (λ (n : Counts). meta_with (plan_fields plan) n block.index block.segments) (counts_are plan segments list counts h);
 }
 
-pub too_large : (segments : List (List ℕ)) (list : List IndexSeries) (counts : Counts) (cause : IndexWriteRefusal) (e : BuildRefusal) → IsWriting segments list [] counts → e ≡ build_refusal cause → (cause ≡ index.TooLarge → greatest < length (written list)) → e ≡ TooLarge → HaveNoIndex (map (series_in segments) list)
-too_large segments list counts index.TooLarge e h is large same = record { index = written list; segments = segments; files = record { listed = list; series_are = listed segments list; segments_are = segments_are_of segments list counts h; index_is = refl }; large = large refl }
-too_large segments list counts index.NoMemory e h is large same = absurd cc
+pub too_large : (plan : BlockPlan) (segments : List (List ℕ)) (list : List IndexSeries) (counts : Counts) (cause : IndexWriteRefusal) (e : BuildRefusal) → IsWriting plan segments list [] counts → (cause ≡ index.TooLarge → greatest < length (written list)) → e ≡ build_refusal cause → ◌≡◌ {A = Result BlockFiles BuildRefusal} (Err e) (Err TooLarge) → HaveNoIndex (map (series_in segments) list)
+too_large plan segments list counts index.TooLarge e h large is same = record { index = written list; segments = segments; files = record { listed = list; series_are = listed segments list; segments_are = segments_are_of plan segments list counts h; index_is = refl }; large = large refl }
+too_large plan segments list counts index.NoMemory e h large is same = absurd cc
+
+-- files that were written have no index that is too large
+pub refused_where : (r : Result BlockFiles BuildRefusal) (put : Put) → IfOk r (IsWritten put) → HaveNoIndex put.series → (r ≡ Err TooLarge) ⊎ (r ≡ Err NoMemory)
+refused_where (Ok block) put is none =
+    let same : block.index ≡ none.index = one_index put.series block.index none.index block.segments none.segments is.files none.files in
+    absurd (omega (arith, is.small, none.large, ap length same))
+refused_where (Err TooLarge) put is none = inl refl
+refused_where (Err NoMemory) put is none = inr refl

@@ -1,9 +1,13 @@
 pub mod Sums
+pub mod Lists
 pub mod Runs
+pub mod OneText
 pub mod Placed
 pub mod DataLaws
+pub mod PutLaws
 pub mod Puts
 pub mod Names
 pub mod Finished
 pub mod Parts
 pub mod Builds
+pub mod OnePut

@@ -1,6 +1,6 @@
 -- A series that is put part by part.
-use Rattle.std.proofs.Common.{◌≡◌, ℕ, zero, suc, ◌+◌, ◌-◌, ◌<◌, ◌≤◌, List, [], ◌∷◌, ◌++◌, length, map, All, Less, get_or, take, drop, Option, None, Some, refl, sym, ap, subst, ◌∙◌, append_assoc, length-append, take-append-drop, arith, inl, inr, ℤ, pos, negsuc, to_z, of_z}
-use Rattle.std.specs.Prelude.{slice_get, min, ◌<ℤ◌, OnOk, Result, Ok, Err, FitsSigned}
+use Rattle.std.proofs.Common.{◌≡◌, ℕ, zero, suc, ◌+◌, ◌-◌, ◌<◌, ◌≤◌, List, [], ◌∷◌, ◌++◌, length, map, Less, get_or, take, drop, None, Some, refl, sym, ap, subst, ◌∙◌, append_assoc, length-append, take-append-drop, arith, inl, inr, ℤ, pos, negsuc, to_z, of_z}
+use Rattle.std.specs.Prelude.{slice_get, min, ◌^◌, ◌<ℤ◌, ◌≤ℤ◌, neg_ℤ, OnOk, Result, Ok, Err, FitsSigned}
 use Rattle.std.specs.Int.{w64}
 use Rattle.std.proofs.lemmas.Int.{ints, to_z-of_z}
 use Rattle.std.specs.Ordering.{int_cmp}
@@ -9,20 +9,24 @@ use Rattle.std.specs.List.Sorted.{IsStrictlySortedBy}
 use Rattle.std.proofs.lemmas.Cmp.{int_ranked}
 use Rattle.std.proofs.lemmas.Grind.{flat_map-append}
 use Rattle.std.proofs.lemmas.List.{map-append, length-map, length-take, length-drop, append-nil}
-use Rattle.list_core.proofs.Lists.{All-append_left, All-append_right}
+use Rattle.std.specs.List.{AllByRecursion}
+use Rattle.std.proofs.lemmas.List.Elements.{All-from_recursion}
+use Rattle.list_core.proofs.Lists.{AllByRecursion-weaker}
 use Rattle.list_core.proofs.Order.{Less-at_places, sorted_left, sorted_right}
 use Rattle.reading_core.specs.Grammar.{IsBytes}
 use Rattle.index_parts.specs.Turns.{InOrder}
 use Rattle.label_sets.specs.declared.sample.Sample.{Sample}
 use Rattle.xor_chunks.specs.Bits.{bits_in, filled}
 use Rattle.xor_chunks.specs.Grammar.{IsText}
+use Rattle.block_meta.specs.Lawful.{AreLawfulTimes}
 use Rattle.xor_chunks.specs.Written.{written, IsChunkTime, AreOfChunk}
 use Rattle.block_writing.specs.Each.{AreEach}
-use Rattle.block_writing.specs.Put.{PutChunk, Put, IsChunkData, IsAfterChunks, fitted, with_chunk}
-use Rattle.block_writing.specs.Built.{IsPart, IsEncoded, AreOfSeries, BeginAfter}
-use Rattle.block_writing.proofs.Runs.{ends, order_more}
+use Rattle.block_writing.specs.Put.{PlanFields, PutChunk, Put, IsWithin, IsStored, IsAfterChunks, fitted, with_chunk}
+use Rattle.block_writing.specs.Built.{IsPart, IsEncoded, AreOfBlock, BeginAfter}
+use Rattle.block_writing.proofs.Runs.{ends, some_last, order_more}
 use Rattle.block_writing.proofs.Placed.{each_append}
-use Rattle.block_writing.proofs.Puts.{pushed_parts, last_at}
+use Rattle.block_writing.proofs.Lists.{pushed_parts, all_left, all_right}
+use Rattle.block_writing.proofs.PutLaws.{behind_last}
 
 abbrev times : List Sample → List ℤ
 times samples = map (λ s. s.time) samples
@@ -34,17 +38,18 @@ time_at [] k s d within at = absurd (omega (arith, within))
 time_at (x ∷ part) zero s d within at = ap (λ (y : Sample). Some y.time) (sym at)
 time_at (x ∷ part) (suc k) s d within at = time_at part k s d (omega (arith, within)) at
 
-stored_text : (content : List ℕ) (samples : List Sample) → IsText 7 content samples → IsText 8 content samples
+pub stored_text : (content : List ℕ) (samples : List Sample) → IsText 7 content samples → IsText 8 content samples
 stored_text content samples h = record { after = h.after; left = h.left; counted = h.counted; samples_are = h.samples_are; filling = omega (arith, h.filling) }
 
-pub data_of_part : (part : List Sample) (content : List ℕ) (low high : ℤ) → IsText 7 content part → slice_get (times part) 0 ≡ Some low → slice_get (times part) (length part - 1) ≡ Some high → IsChunkData content low high
-data_of_part part content low high text begins ends = record { samples = part; text_is = stored_text content part text; begins = begins; ends = ends }
+pub data_of_part : (plan : PlanFields) (part : List Sample) (content : List ℕ) (low high : ℤ) → IsText 7 content part → slice_get (times part) 0 ≡ Some low → slice_get (times part) (length part - 1) ≡ Some high → AllByRecursion (IsWithin plan) part
+    → IsStored plan (record { content = content; min = low; max = high })
+data_of_part plan part content low high text begins ends within = record { samples = part; text_is = stored_text content part text; begins = begins; ends = ends; within = within }
 
 pub part_put : (old new : Put) (part : List Sample) (content : List ℕ) (low high : ℤ) → IsText 7 content part → IsBytes content → bits_in content ≡ filled (written part) → slice_get (times part) 0 ≡ Some low → slice_get (times part) (length part - 1) ≡ Some high
     → ((samples : List Sample) → IsText 8 content samples → new ≡ with_chunk old (record { content = content; min = low; max = high }) (length samples))
     → (chunk : PutChunk) × IsEncoded part chunk × (new ≡ with_chunk old chunk (length part))
 part_put old new part content low high text bytes bits begins ends is =
-    (record { content = content; min = low; max = high }, record { bytes = bytes; bits = bits; begins = begins; ends = ends }, is part (stored_text content part text))
+    (record { content = content; min = low; max = high }, record { text_is = text; bytes = bytes; bits = bits; begins = begins; ends = ends }, is part (stored_text content part text))
 
 time_fits : (t : ℤ) → IsChunkTime t → FitsSigned w64 t
 time_fits (pos n) h = let high = h.1 in record { sfits = omega (arith, ints) }
@@ -84,20 +89,47 @@ pub record SoFar (begin : Put) (samples left : List Sample) (now : Put) : Type 0
   pub series_is : now.series ≡ begin.series
   pub samples_is : now.samples ≡ fitted (begin.samples + length (flat_map (λ part. part) parts))
   pub ascend : IsStrictlySortedBy int_cmp (times left)
-  pub fit : All (λ s. IsChunkTime s.time) left
+  pub within : AllByRecursion (IsWithin begin.plan) left
 
-same_chunk : (chunk last : PutChunk) → ◌≡◌ {A = Option PutChunk} (Some chunk) (Some last) → chunk ≡ last
-same_chunk chunk last e = cc
+-- nothing is put yet
+pub none_yet : (begin : Put) (samples : List Sample) → AreOfBlock begin.plan samples → begin.chunks ≡ [] → begin.samples < 2 ^ 64 → SoFar begin samples samples begin
+none_yet begin samples are none counted = record {
+  parts = [];
+  whole = refl;
+  cut = tt;
+  full = λ front last some e. absurd (some_last front last (sym e));
+  chunks = subst (AreEach IsEncoded []) (sym none) tt;
+  behind = λ time at. subst (λ (l : List PutChunk). IsAfterChunks l time) (sym none) tt;
+  plan_is = refl;
+  series_is = refl;
+  samples_is = omega (arith, counted);
+  ascend = are.ascend;
+  within = are.within;
+}
 
 -- a part of the samples that are left is a chunk's
-pub of_chunk : (begin : Put) (samples left : List Sample) (now : Put) (k : ℕ) → SoFar begin samples left now → 0 < length left → k ≡ min (length left) 120 → AreOfChunk (take k left)
-of_chunk begin samples left now k h some few =
+chunk_time : (plan : PlanFields) → AreLawfulTimes plan.min_time plan.max_time → (s : Sample) → IsWithin plan s → IsChunkTime s.time
+chunk_time plan lawful s within =
+    let early : neg_ℤ (pos (2 ^ 62)) ≤ℤ plan.min_time = lawful.early in
+    let late : plan.max_time ≤ℤ pos (2 ^ 62) = lawful.late in
+    let low : plan.min_time ≤ℤ s.time = within.0 in
+    let high : s.time <ℤ plan.max_time = within.1 in
+    (omega (arith, ints), omega (arith, ints))
+
+pub part_within : (begin : Put) (samples left : List Sample) (now : Put) (k : ℕ) → SoFar begin samples left now → AllByRecursion (IsWithin now.plan) (take k left)
+part_within begin samples left now k h =
+    subst (λ (p : PlanFields). AllByRecursion (IsWithin p) (take k left)) (sym h.plan_is)
+    (all_left (IsWithin begin.plan) (take k left) (drop k left) (subst (AllByRecursion (IsWithin begin.plan)) (sym (take-append-drop k left)) h.within))
+
+pub of_chunk : (begin : Put) (samples left : List Sample) (now : Put) (k : ℕ) → AreLawfulTimes begin.plan.min_time begin.plan.max_time → SoFar begin samples left now → 0 < length left → k ≡ min (length left) 120 → AreOfChunk (take k left)
+of_chunk begin samples left now k lawful h some few =
     let split : times left ≡ times (take k left) ++ times (drop k left) = ap times (sym (take-append-drop k left)) ∙ map-append (λ (s : Sample). s.time) (take k left) (drop k left) in
     record {
       some = omega (arith, some, few, length-take k left);
       few = omega (arith, few, length-take k left);
       ascend = sorted_left int_cmp (times (take k left)) (times (drop k left)) (subst (IsStrictlySortedBy int_cmp) split h.ascend);
-      times = All-append_left (λ (s : Sample). IsChunkTime s.time) (take k left) (drop k left) (subst (All (λ (s : Sample). IsChunkTime s.time)) (sym (take-append-drop k left)) h.fit);
+      times = All-from_recursion (λ (s : Sample). IsChunkTime s.time) (take k left) (AllByRecursion-weaker (IsWithin begin.plan) (λ (s : Sample). IsChunkTime s.time) (chunk_time begin.plan lawful) (take k left)
+          (all_left (IsWithin begin.plan) (take k left) (drop k left) (subst (AllByRecursion (IsWithin begin.plan)) (sym (take-append-drop k left)) h.within)));
     }
 
 -- the chunk of a part ends before the samples behind it begin
@@ -107,9 +139,6 @@ ends_before part after chunk time some coded ascend at =
     let last : slice_get (times part ++ times after) (length part - 1) ≡ Some chunk.max = got_left (times part) (times after) (length part - 1) within ∙ coded.ends in
     let next : slice_get (times part ++ times after) (length (times part)) ≡ Some time = got_right (times part) (times after) ∙ at in
     int_ranked chunk.max time Less (sym (Less-at_places int_cmp (times part ++ times after) (length part - 1) (length (times part)) chunk.max time ascend within last next))
-
-behind_last : (chunks : List PutChunk) (chunk : PutChunk) (time : ℤ) → chunk.max <ℤ time → IsAfterChunks (chunks ++ chunk ∷ []) time
-behind_last chunks chunk time less last at = subst (λ (c : PutChunk). c.max <ℤ time) (same_chunk chunk last (sym (last_at chunks chunk) ∙ at)) less
 
 cut_more : (parts : List (List Sample)) (part : List Sample) → InOrder IsPart parts → 0 < length part → length part ≤ 120 → ((front : List (List Sample)) (last : List Sample) → parts ≡ front ++ last ∷ [] → length last ≡ 120) → InOrder IsPart (parts ++ part ∷ [])
 cut_more parts part cut some few full = elim (ends parts) [
@@ -141,7 +170,7 @@ part_more begin samples left part after now new k h some few part_is after_is (c
       series_is = ap (λ (p : Put). p.series) new_is ∙ h.series_is;
       samples_is = omega (arith, ap (λ (p : Put). p.samples) new_is, h.samples_is, ap length (flat_more h.parts part), length-append (flat_map (λ p. p) h.parts) part);
       ascend = sorted_right int_cmp (times part) (times after) ascend;
-      fit = All-append_right (λ (s : Sample). IsChunkTime s.time) part after (subst (All (λ (s : Sample). IsChunkTime s.time)) (sym whole) h.fit);
+      within = all_right (IsWithin begin.plan) part after (subst (AllByRecursion (IsWithin begin.plan)) (sym whole) h.within);
     }
 
 -- ---- the series as a whole
@@ -151,6 +180,6 @@ no_parts [] chunks each none = refl
 no_parts (p ∷ parts) [] each none = absurd each
 no_parts (p ∷ parts) (c ∷ chunks) each none = absurd cc
 
-pub has_chunks : (begin : Put) (samples left : List Sample) (now : Put) → SoFar begin samples left now → length left ≡ 0 → AreOfSeries samples → now.chunks ≡ [] → ⊥
+pub has_chunks : (begin : Put) (samples left : List Sample) (now : Put) → SoFar begin samples left now → length left ≡ 0 → AreOfBlock begin.plan samples → now.chunks ≡ [] → ⊥
 has_chunks begin samples left now h none are empty =
     absurd (omega (arith, none, are.some, ap length h.whole, length-append (flat_map (λ p. p) h.parts) left, ap length (no_parts h.parts now.chunks h.chunks empty)))

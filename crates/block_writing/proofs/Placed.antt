@@ -14,8 +14,14 @@ use Rattle.chunk_files.proofs.ChunkLaws.{place_again}
 use Rattle.block_writing.specs.declared.segment_place.SegmentPlace.{SegmentPlace}
 use Rattle.block_writing.specs.Each.{AreEach}
 use Rattle.block_writing.specs.Segments.{segment_text, offsets_behind, place_in, places_from, AreSegments}
-use Rattle.block_writing.specs.Standing.{StandsAt, content_at}
+use Rattle.block_writing.specs.Standing.{content_at}
 use Rattle.block_writing.proofs.Sums.{crc_low}
+
+-- The segment that a place names is one of the block's, and these data stand in it at the place.
+pub record StandsAt (segments : List (List ℕ)) (place : SegmentPlace) (content : List ℕ) : Type 0 where
+  pub segment : List ℕ
+  pub named : slice_get segments place.segment ≡ Some segment
+  pub stands : IsPlace segment place.offset content
 
 -- ---- members of two lists, each to its own
 

@@ -3,7 +3,8 @@ use Rattle.std.proofs.Common.{◌≡◌, ℕ, zero, suc, ◌+◌, ◌-◌, ◌^�
 use Rattle.std.specs.Prelude.{slice_get, option_map, ◌≤ℤ◌, ◌<ℤ◌}
 use Rattle.std.specs.List.{flat_map, AllByRecursion}
 use Rattle.std.proofs.lemmas.Int.{ints}
-use Rattle.std.proofs.lemmas.List.{map-append, length-map}
+use Rattle.std.proofs.lemmas.Grind.{flat_map-append}
+use Rattle.std.proofs.lemmas.List.{map-append, length-map, append-nil}
 use Rattle.list_core.proofs.Lists.{cons_parts}
 use Rattle.label_sets.specs.declared.label.Label.{Label}
 use Rattle.block_meta.specs.declared.block_plan.BlockPlan.{BlockPlan}
@@ -16,43 +17,19 @@ use Rattle.block_writing.specs.declared.counts.Counts.{Counts}
 use Rattle.block_writing.specs.declared.segment_place.SegmentPlace.{SegmentPlace}
 use Rattle.block_writing.specs.Segments.{AreSegments}
 use Rattle.block_writing.specs.Standing.{content_at}
-use Rattle.block_writing.specs.Put.{PutChunk, PutSeries, Put, IsChunkData, IsAfterChunks, IsAfterSeries, fitted, with_chunk}
-use Rattle.block_writing.specs.Writing.{part_of, chunk_in, series_in, put_in, all_places, IsWriting}
+use Rattle.block_writing.specs.Put.{PutChunk, PutSeries, Put, IsStored, IsAfterChunks, IsAfterSeries, IsPut, fitted, with_chunk, with_series}
+use Rattle.block_writing.specs.Writing.{plan_fields, part_of, chunk_in, series_in, put_in, all_places, IsWriting}
+use Rattle.block_writing.proofs.Lists.{pushed_parts, all_left, all_right}
+use Rattle.block_writing.proofs.PutLaws.{after_last, nothing_lawful, chunk_lawful, series_lawful}
 use Rattle.block_writing.proofs.Runs.{ends, order_more}
 use Rattle.block_writing.proofs.Placed.{read_all}
 use Rattle.block_writing.proofs.DataLaws.{data_rise}
 
 -- ---- lists
 
-pub pushed_parts : {A : Type 0} (xs ys : List A) (x y : A) → xs ++ x ∷ [] ≡ ys ++ y ∷ [] → (xs ≡ ys) × (x ≡ y)
-pushed_parts [] [] x y e = (refl, cc)
-pushed_parts [] (w ∷ ys) x y e = absurd (omega (arith, ap length e, length-append ys (y ∷ [])))
-pushed_parts (z ∷ xs) [] x y e = absurd (omega (arith, ap length e, length-append xs (x ∷ [])))
-pushed_parts {A} (z ∷ xs) (w ∷ ys) x y e =
-    let parts = cons_parts z w (xs ++ x ∷ []) (ys ++ y ∷ []) e in
-    let others = pushed_parts xs ys x y parts.1 in
-    (ap (λ (v : A). v ∷ xs) parts.0 ∙ ap (λ (l : List A). w ∷ l) others.0, others.1)
-
 map_agree : {A B C : Type 0} (f g : B → C) (h : A → B) (xs : List A) → map f (map h xs) ≡ map g (map h xs) → AllByRecursion (λ x. f (h x) ≡ g (h x)) xs
 map_agree f g h [] e = tt
 map_agree f g h (x ∷ xs) e = let parts = cons_parts (f (h x)) (g (h x)) (map f (map h xs)) (map g (map h xs)) e in (parts.0, map_agree f g h xs parts.1)
-
-all_left : {A : Type 0} (P : A → Type 0) (xs ys : List A) → AllByRecursion P (xs ++ ys) → AllByRecursion P xs
-all_left P [] ys all = tt
-all_left P (x ∷ xs) ys all = (all.0, all_left P xs ys all.1)
-
-all_right : {A : Type 0} (P : A → Type 0) (xs ys : List A) → AllByRecursion P (xs ++ ys) → AllByRecursion P ys
-all_right P [] ys all = all
-all_right P (x ∷ xs) ys all = all_right P xs ys all.1
-
-at_length : {A : Type 0} (front : List A) (last : A) → slice_get (front ++ last ∷ []) (length front) ≡ Some last
-at_length [] last = refl
-at_length (x ∷ front) last = at_length front last
-
-pub last_at : {A : Type 0} (front : List A) (last : A) → slice_get (front ++ last ∷ []) (length (front ++ last ∷ []) - 1) ≡ Some last
-last_at {A} front last =
-    let place : length (front ++ last ∷ []) - 1 ≡ length front = omega (arith, length-append front (last ∷ [])) in
-    ap (slice_get (front ++ last ∷ [])) place ∙ at_length front last
 
 -- ---- what is read at places where the same stands
 
@@ -67,6 +44,23 @@ series_agree old new (s ∷ list) all =
     let own = chunks_agree old new s.chunks (all_left (λ p. content_at new (part_of p) ≡ content_at old (part_of p)) s.chunks (flat_map (λ one. one.chunks) list) all) in
     let others = series_agree old new list (all_right (λ p. content_at new (part_of p) ≡ content_at old (part_of p)) s.chunks (flat_map (λ one. one.chunks) list) all) in
     ap (λ (l : List PutChunk). record { labels = s.labels; chunks = l } ∷ map (series_in new) list) own ∙ ap (λ (l : List PutSeries). series_in old s ∷ l) others
+
+-- ---- nothing yet
+
+pub none_held : (plan : BlockPlan) (segments : List (List ℕ)) (list : List IndexSeries) (chunks : List ChunkPlace) (counts : Counts) → segments ≡ [] → list ≡ [] → chunks ≡ [] → counts ≡ record { series = 0; samples = 0; chunks = 0 } → IsWriting plan segments list chunks counts
+none_held plan segments list chunks counts no_segments no_list no_chunks no_counts =
+    let none : IsWriting plan [] [] [] (record { series = 0; samples = 0; chunks = 0 }) = record {
+      segments_are = record { runs = []; runs_are = record { whole = refl; fit = tt; begin = tt }; places_are = refl; segments_are = refl };
+      few = omega arith;
+      ordered = tt;
+      series_counted = refl;
+      chunks_counted = refl;
+      lawful = nothing_lawful (plan_fields plan);
+    } in
+    subst (λ (l : List (List ℕ)). IsWriting plan l list chunks counts) (sym no_segments)
+    (subst (λ (l : List IndexSeries). IsWriting plan [] l chunks counts) (sym no_list)
+    (subst (λ (l : List ChunkPlace). IsWriting plan [] [] l counts) (sym no_chunks)
+    (subst (λ (n : Counts). IsWriting plan [] [] [] n) (sym no_counts) none)))
 
 -- ---- one chunk more
 
@@ -83,7 +77,7 @@ order_put segments chunks p order after rises low = elim (ends chunks) [
   | inl none ↦ subst (λ (l : List ChunkPlace). InOrder StartsAfter (l ++ p ∷ [])) (sym none) ((rises, low), tt)
   | inr (front, last, e) ↦
       let split : map (chunk_in segments) chunks ≡ map (chunk_in segments) front ++ chunk_in segments last ∷ [] = ap (map (chunk_in segments)) e ∙ map-append (chunk_in segments) front (last ∷ []) in
-      let before : last.max <ℤ p.min = after (chunk_in segments last) (ap (λ (l : List PutChunk). slice_get l (length l - 1)) split ∙ last_at (map (chunk_in segments) front) (chunk_in segments last)) in
+      let before : last.max <ℤ p.min = after_last (map (chunk_in segments) front) (chunk_in segments last) p.min (subst (λ (l : List PutChunk). IsAfterChunks l p.min) split after) in
       let ordered : InOrder StartsAfter (front ++ last ∷ []) = subst (InOrder StartsAfter) e order in
       let number : last.segment < 2 ^ 31 = last_starts front None last ordered in
       let weak : last.max ≤ℤ p.min = omega (arith, ints) in
@@ -92,15 +86,15 @@ order_put segments chunks p order after rises low = elim (ends chunks) [
 
 -- what a writer holds, and what was put into it
 pub record Holds (plan : BlockPlan) (segments : List (List ℕ)) (list : List IndexSeries) (chunks : List ChunkPlace) (counts : Counts) (put : Put) : Type 0 where
-  pub writing : IsWriting segments list chunks counts
+  pub writing : IsWriting plan segments list chunks counts
   pub view_is : put_in plan segments list chunks counts ≡ put
 
 abbrev counts_with : Counts → ℕ → Counts
 counts_with counts count = record { series = counts.series; samples = fitted (counts.samples + count); chunks = fitted (counts.chunks + 1) }
 
-pub chunk_put : (plan : BlockPlan) (old new : List (List ℕ)) (list : List IndexSeries) (chunks more : List ChunkPlace) (counts after : Counts) (content : List ℕ) (min max : ℤ) (segment offset count : ℕ) → IsWriting old list chunks counts
+pub chunk_put : (plan : BlockPlan) (old new : List (List ℕ)) (list : List IndexSeries) (chunks more : List ChunkPlace) (counts after : Counts) (content : List ℕ) (min max : ℤ) (segment offset count : ℕ) → IsWriting plan old list chunks counts
     → ((contents : List (List ℕ)) (places : List SegmentPlace) → AreSegments contents places old → AreSegments (contents ++ content ∷ []) (places ++ record { segment = segment; offset = offset } ∷ []) new)
-    → length new ≤ 999_999 → segment < 999_999 → IsChunkData content min max → IsAfterChunks (map (chunk_in old) chunks) min
+    → length new ≤ 999_999 → segment < 999_999 → IsStored (plan_fields plan) (record { content = content; min = min; max = max }) → IsAfterChunks (map (chunk_in old) chunks) min
     → more ≡ chunks ++ record { min = min; max = max; segment = segment; offset = offset } ∷ [] → after ≡ counts_with counts count
     → Holds plan new list more after (with_chunk (put_in plan old list chunks counts) (record { content = content; min = min; max = max }) count)
 chunk_put plan old new list chunks more counts after content min max segment offset count h appends few low stored behind more_is after_is =
@@ -121,17 +115,19 @@ chunk_put plan old new list chunks more counts after content min max segment off
     ∙ ap (λ (l : List ℕ). map (chunk_in old) chunks ++ record { content = l; min = min; max = max } ∷ []) parts.1 in
     let many : length (all_places list (chunks ++ p ∷ [])) ≡ length all + 1 = omega (arith, length-append (flat_map (λ s. s.chunks) list) (chunks ++ p ∷ []), length-append chunks (p ∷ []), length-append (flat_map (λ s. s.chunks) list) chunks) in
     let counted : fitted (counts.chunks + 1) ≡ fitted (length (all_places list (chunks ++ p ∷ []))) = omega (arith, many, h.chunks_counted) in
+    let view : put_in plan new list (chunks ++ p ∷ []) (counts_with counts count) ≡ with_chunk (put_in plan old list chunks counts) (record { content = content; min = min; max = max }) count =
+    ap (λ (s : List PutSeries). record { plan = (put_in plan old list chunks counts).plan; series = s; chunks = map (chunk_in new) (chunks ++ p ∷ []); samples = fitted (counts.samples + count) }) series_same
+    ∙ ap (λ (s : List PutChunk). record { plan = (put_in plan old list chunks counts).plan; series = map (series_in old) list; chunks = s; samples = fitted (counts.samples + count) }) chunks_same in
     let made : Holds plan new list (chunks ++ p ∷ []) (counts_with counts count) (with_chunk (put_in plan old list chunks counts) (record { content = content; min = min; max = max }) count) = record {
       writing = record {
         segments_are = segments_are;
         few = few;
-        ordered = order_put old chunks p h.ordered behind (data_rise content min max stored) (omega (arith, low));
+        ordered = order_put old chunks p h.ordered behind (data_rise (plan_fields plan) (record { content = content; min = min; max = max }) stored) (omega (arith, low));
         series_counted = h.series_counted;
         chunks_counted = counted;
+        lawful = subst IsPut (sym view) (chunk_lawful (put_in plan old list chunks counts) (record { content = content; min = min; max = max }) count h.lawful stored behind);
       };
-      view_is =
-          ap (λ (s : List PutSeries). record { plan = (put_in plan old list chunks counts).plan; series = s; chunks = map (chunk_in new) (chunks ++ p ∷ []); samples = fitted (counts.samples + count) }) series_same
-          ∙ ap (λ (s : List PutChunk). record { plan = (put_in plan old list chunks counts).plan; series = map (series_in old) list; chunks = s; samples = fitted (counts.samples + count) }) chunks_same;
+      view_is = view;
     } in
     subst (λ (l : List ChunkPlace). Holds plan new list l after (with_chunk (put_in plan old list chunks counts) (record { content = content; min = min; max = max }) count)) (sym more_is)
     (subst (λ (n : Counts). Holds plan new list (chunks ++ p ∷ []) n (with_chunk (put_in plan old list chunks counts) (record { content = content; min = min; max = max }) count)) (sym after_is) made)
@@ -147,3 +143,39 @@ pub behind_put : (segments : List (List ℕ)) (list : List IndexSeries) (labels 
 behind_put segments list labels after last at =
     let same : length (map (series_in segments) list) ≡ length list = length-map list (series_in segments) in
     after (series_in segments last) (ap (λ (n : ℕ). slice_get (map (series_in segments) list) (n - 1)) same ∙ got_in segments list (length list - 1) last at)
+
+all_same : (list : List IndexSeries) (chunks : List ChunkPlace) (labels : List Label) → all_places (list ++ record { labels = labels; chunks = chunks } ∷ []) [] ≡ all_places list chunks
+all_same list chunks labels =
+    let one : IndexSeries = record { labels = labels; chunks = chunks } in
+    append-nil (flat_map (λ (s : IndexSeries). s.chunks) (list ++ one ∷ []))
+    ∙ flat_map-append (λ (s : IndexSeries). s.chunks) list (one ∷ [])
+    ∙ ap (λ (l : List ChunkPlace). flat_map (λ (s : IndexSeries). s.chunks) list ++ l) (append-nil chunks)
+
+abbrev counts_with_series : Counts → Counts
+counts_with_series counts = record { series = fitted (counts.series + 1); samples = counts.samples; chunks = counts.chunks }
+
+pub series_put : (plan : BlockPlan) (segments : List (List ℕ)) (list more : List IndexSeries) (chunks left : List ChunkPlace) (counts after : Counts) (labels : List Label) → IsWriting plan segments list chunks counts
+    → (map (chunk_in segments) chunks ≡ [] → ⊥) → IsAfterSeries (map (series_in segments) list) labels
+    → more ≡ list ++ record { labels = labels; chunks = chunks } ∷ [] → left ≡ [] → after ≡ counts_with_series counts
+    → Holds plan segments more left after (with_series (put_in plan segments list chunks counts) labels)
+series_put plan segments list more chunks left counts after labels h some behind more_is left_is after_is =
+    let one : IndexSeries = record { labels = labels; chunks = chunks } in
+    let same : all_places (list ++ one ∷ []) [] ≡ all_places list chunks = all_same list chunks labels in
+    let view : put_in plan segments (list ++ one ∷ []) [] (counts_with_series counts) ≡ with_series (put_in plan segments list chunks counts) labels =
+    ap (λ (s : List PutSeries). record { plan = plan_fields plan; series = s; chunks = []; samples = counts.samples }) (map-append (series_in segments) list (one ∷ [])) in
+    let many : length (list ++ one ∷ []) ≡ length list + 1 = length-append list (one ∷ []) in
+    let counted : fitted (counts.series + 1) ≡ fitted (length (list ++ one ∷ [])) = omega (arith, many, h.series_counted) in
+    let made : Holds plan segments (list ++ one ∷ []) [] (counts_with_series counts) (with_series (put_in plan segments list chunks counts) labels) = record {
+      writing = record {
+        segments_are = subst (λ (l : List ChunkPlace). AreSegments (map (content_at segments) (map part_of l)) (map part_of l) segments) (sym same) h.segments_are;
+        few = h.few;
+        ordered = tt;
+        series_counted = counted;
+        chunks_counted = h.chunks_counted ∙ ap (λ (l : List ChunkPlace). fitted (length l)) (sym same);
+        lawful = subst IsPut (sym view) (series_lawful (put_in plan segments list chunks counts) labels h.lawful some behind);
+      };
+      view_is = view;
+    } in
+    subst (λ (l : List IndexSeries). Holds plan segments l left after (with_series (put_in plan segments list chunks counts) labels)) (sym more_is)
+    (subst (λ (l : List ChunkPlace). Holds plan segments (list ++ one ∷ []) l after (with_series (put_in plan segments list chunks counts) labels)) (sym left_is)
+    (subst (λ (n : Counts). Holds plan segments (list ++ one ∷ []) [] n (with_series (put_in plan segments list chunks counts) labels)) (sym after_is) made))

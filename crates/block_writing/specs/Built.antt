@@ -1,5 +1,5 @@
 -- What a block that is built of samples is put together from.
-use Rattle.std.specs.Prelude.{◌≡◌, ◌+◌, ◌-◌, ◌<◌, ◌≤◌, List, [], ◌∷◌, ◌++◌, length, map, All, slice_get, Option, None, Some, ℤ, ◌≤ℤ◌, ◌<ℤ◌}
+use Rattle.std.specs.Prelude.{◌≡◌, ◌+◌, ◌-◌, ◌<◌, ◌≤◌, List, [], ◌∷◌, ◌++◌, length, map, slice_get, Option, None, Some, ℤ}
 use Rattle.std.specs.Ordering.{int_cmp}
 use Rattle.std.specs.List.{flat_map, AllByRecursion}
 use Rattle.std.specs.List.Sorted.{IsStrictlySortedBy}
@@ -9,28 +9,29 @@ use Rattle.label_sets.specs.Labels.{compare_sets}
 use Rattle.label_sets.specs.declared.sample.Sample.{Sample}
 use Rattle.label_sets.specs.declared.series.Series.{Series}
 use Rattle.xor_chunks.specs.Bits.{bits_in, filled}
-use Rattle.xor_chunks.specs.Written.{written, IsChunkTime}
+use Rattle.xor_chunks.specs.Grammar.{IsText}
+use Rattle.xor_chunks.specs.Written.{written}
 use Rattle.block_meta.specs.declared.block_plan.BlockPlan.{BlockPlan}
 use Rattle.index_parts.specs.Turns.{InOrder}
-use Rattle.block_writing.specs.declared.written_block.WrittenBlock.{WrittenBlock}
+use Rattle.block_files.specs.declared.block_files.BlockFiles.{BlockFiles}
 use Rattle.block_writing.specs.Each.{AreEach}
 use Rattle.block_writing.specs.Files.{HaveNoIndex}
-use Rattle.block_writing.specs.Put.{PutChunk, PutSeries, PlanFields, Put, IsAfterChunks, fitted}
+use Rattle.block_writing.specs.Put.{PutChunk, PutSeries, PlanFields, Put, IsWithin, IsAfterChunks, fitted}
 use Rattle.block_writing.specs.Writing.{plan_fields}
 use Rattle.block_writing.specs.WrittenMeta.{IsWritten}
 
 -- ---- which series a block is built of
 
--- There are samples, whose times rise and lie from the first of two times up to the second, which is not their own.
-pub record AreOfBlock (min max : ℤ) (samples : List Sample) : Type 0 where
+-- There are samples, whose times rise and lie within the block's.
+pub record AreOfBlock (plan : PlanFields) (samples : List Sample) : Type 0 where
   pub some : 0 < length samples
   pub ascend : IsStrictlySortedBy int_cmp (map (λ s. s.time) samples)
-  pub within : AllByRecursion (λ s. (min ≤ℤ s.time) × (s.time <ℤ max)) samples
+  pub within : AllByRecursion (IsWithin plan) samples
 
 -- The series ascend by their labels.
-pub record AreBuildable (min max : ℤ) (series : List Series) : Type 0 where
+pub record AreBuildable (plan : PlanFields) (series : List Series) : Type 0 where
   pub ascend : IsStrictlySortedBy compare_sets (map (λ s. s.labels) series)
-  pub samples : AllByRecursion (λ s. AreOfBlock min max s.samples) series
+  pub samples : AllByRecursion (λ s. AreOfBlock plan s.samples) series
 
 -- ---- the chunks of a series
 
@@ -41,6 +42,7 @@ IsPart (Some before) part = (length before ≡ 120) × (0 < length part) × (len
 
 -- The chunk has the one text of the samples, and their times.
 pub record IsEncoded (samples : List Sample) (chunk : PutChunk) : Type 0 where
+  pub text_is : IsText 7 chunk.content samples
   pub bytes : IsBytes chunk.content
   pub bits : bits_in chunk.content ≡ filled (written samples)
   pub begins : slice_get (map (λ s. s.time) samples) 0 ≡ Some chunk.min
@@ -65,12 +67,6 @@ pub record HasMore (old : Put) (series : Series) (new : Put) : Type 0 where
   pub nothing_left : new.chunks ≡ []
   pub samples_is : new.samples ≡ fitted (old.samples + length series.samples)
 
--- samples that a series can have
-pub record AreOfSeries (samples : List Sample) : Type 0 where
-  pub some : 0 < length samples
-  pub ascend : IsStrictlySortedBy int_cmp (map (λ s. s.time) samples)
-  pub times : All (λ s. IsChunkTime s.time) samples
-
 -- The samples begin after the last chunk, if there is one.
 abbrev pub BeginAfter : List PutChunk → List Sample → Type 0
 BeginAfter chunks samples = (time : ℤ) → slice_get (map (λ s. s.time) samples) 0 ≡ Some time → IsAfterChunks chunks time
@@ -85,7 +81,7 @@ pub record IsPutOf (plan : PlanFields) (series : List Series) (put : Put) : Type
   pub samples_are : put.samples ≡ sample_count series
 
 -- The block is the one of the plan and the series.
-pub record IsBuilt (plan : BlockPlan) (series : List Series) (block : WrittenBlock) : Type 0 where
+pub record IsBuilt (plan : BlockPlan) (series : List Series) (block : BlockFiles) : Type 0 where
   pub put : Put
   pub put_is : IsPutOf (plan_fields plan) series put
   pub block_is : IsWritten put block

@@ -1,6 +1,7 @@
 pub use Rattle.label_sets.specs.Labels
 pub use Rattle.block_keys.specs.KeyText
 pub use Rattle.block_meta.specs.MetaFields
+pub use Rattle.block_meta.specs.Lawful
 pub use Rattle.xor_chunks.specs.Grammar
 pub use Rattle.chunk_files.specs.Chunk
 pub use Rattle.chunk_files.specs.ChunkReading

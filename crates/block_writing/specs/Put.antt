@@ -1,12 +1,14 @@
 -- What is put into a block that is being written: its plan, series, and of each series chunks.
-use Rattle.std.specs.Prelude.{◌≡◌, ℕ, ◌+◌, ◌-◌, ◌^◌, min, List, [], ◌∷◌, ◌++◌, length, map, slice_get, Some, ℤ, ◌<ℤ◌}
-use Rattle.std.specs.List.{flat_map}
+use Rattle.std.specs.Prelude.{◌≢◌, ◌≡◌, ℕ, ◌+◌, ◌-◌, ◌^◌, min, List, [], ◌∷◌, ◌++◌, length, map, slice_get, Option, None, Some, ℤ, ◌<ℤ◌, ◌≤ℤ◌}
+use Rattle.std.specs.List.{flat_map, AllByRecursion}
+use Rattle.std.specs.List.Sorted.{IsStrictlySortedBy}
 use Rattle.std.specs.declared.cmp.Ordering.TheVariants.{Less}
 use Rattle.label_sets.specs.Labels.{compare_sets}
 use Rattle.label_sets.specs.declared.label.Label.{Label}
 use Rattle.label_sets.specs.declared.sample.Sample.{Sample}
 use Rattle.block_meta.specs.declared.parent.Parent.{Parent}
 use Rattle.xor_chunks.specs.Grammar.{IsText}
+use Rattle.index_parts.specs.Turns.{InOrder}
 
 -- a chunk: its data, and the times of its first and its last sample
 pub record PutChunk : Type 0 where
@@ -36,20 +38,57 @@ pub record Put : Type 0 where
   pub chunks : List PutChunk
   pub samples : ℕ
 
--- The data stand for samples, as a block stores them, the first of which is at one time and the last at the other.
-pub record IsChunkData (content : List ℕ) (min max : ℤ) : Type 0 where
-  pub samples : List Sample
-  pub text_is : IsText 8 content samples
-  pub begins : slice_get (map (λ s. s.time) samples) 0 ≡ Some min
-  pub ends : slice_get (map (λ s. s.time) samples) (length samples - 1) ≡ Some max
+-- ---- what may be put
 
--- The time comes after the last chunk, if there is one.
+-- The sample lies within the block's times, of which the last is not its own.
+abbrev pub IsWithin : PlanFields → Sample → Type 0
+IsWithin plan sample = (plan.min_time ≤ℤ sample.time) × (sample.time <ℤ plan.max_time)
+
+-- The data stand for samples, as a block stores them. The first is at the chunk's one time, the last at the other, and all
+-- lie within the block's times.
+pub record IsStored (plan : PlanFields) (chunk : PutChunk) : Type 0 where
+  pub samples : List Sample
+  pub text_is : IsText 8 chunk.content samples
+  pub begins : slice_get (map (λ s. s.time) samples) 0 ≡ Some chunk.min
+  pub ends : slice_get (map (λ s. s.time) samples) (length samples - 1) ≡ Some chunk.max
+  pub within : AllByRecursion (IsWithin plan) samples
+
+-- The time comes after the chunk ends, if there is one.
+abbrev pub IsAfter : Option PutChunk → ℤ → Type 0
+IsAfter None time = Unit {0}
+IsAfter (Some chunk) time = chunk.max <ℤ time
+
+-- It comes after the last of these chunks.
 abbrev pub IsAfterChunks : List PutChunk → ℤ → Type 0
-IsAfterChunks chunks time = (last : PutChunk) → slice_get chunks (length chunks - 1) ≡ Some last → last.max <ℤ time
+IsAfterChunks chunks time = IsAfter (slice_get chunks (length chunks - 1)) time
+
+-- Each chunk begins after the one before it ends.
+abbrev pub AreApart : List PutChunk → Type 0
+AreApart chunks = InOrder (λ before chunk. IsAfter before chunk.min) chunks
 
 -- The labels are greater than those of the last series, if there is one.
 abbrev pub IsAfterSeries : List PutSeries → List Label → Type 0
 IsAfterSeries series labels = (last : PutSeries) → slice_get series (length series - 1) ≡ Some last → compare_sets last.labels labels ≡ Less
+
+-- ---- what holds of all that was put
+
+-- chunks of one series
+pub record AreOfSeries (plan : PlanFields) (chunks : List PutChunk) : Type 0 where
+  pub stored : AllByRecursion (IsStored plan) chunks
+  pub apart : AreApart chunks
+
+-- a series that is ended has a chunk
+pub record IsEnded (plan : PlanFields) (series : PutSeries) : Type 0 where
+  pub some : series.chunks ≢ []
+  pub chunks : AreOfSeries plan series.chunks
+
+-- The series ascend by their labels; each has chunks, and these lie apart and stand for samples within the block's times.
+pub record IsPut (put : Put) : Type 0 where
+  pub series : AllByRecursion (IsEnded put.plan) put.series
+  pub ascend : IsStrictlySortedBy compare_sets (map (λ s. s.labels) put.series)
+  pub chunks : AreOfSeries put.plan put.chunks
+
+-- ---- what a call puts
 
 -- a count, as it fits a number of a meta
 abbrev pub fitted : ℕ → ℕ

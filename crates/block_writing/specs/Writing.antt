@@ -8,7 +8,7 @@ use Rattle.index_file.specs.declared.index_series.IndexSeries.{IndexSeries}
 use Rattle.block_meta.specs.declared.block_plan.BlockPlan.{BlockPlan}
 use Rattle.block_writing.specs.declared.counts.Counts.{Counts}
 use Rattle.block_writing.specs.declared.segment_place.SegmentPlace.{SegmentPlace}
-use Rattle.block_writing.specs.Put.{PutChunk, PutSeries, PlanFields, Put, fitted}
+use Rattle.block_writing.specs.Put.{PutChunk, PutSeries, PlanFields, Put, fitted, IsPut}
 use Rattle.block_writing.specs.Segments.{AreSegments}
 use Rattle.block_writing.specs.Standing.{content_at}
 
@@ -32,10 +32,11 @@ put_in plan segments list chunks counts = record { plan = plan_fields plan; seri
 abbrev pub all_places : List IndexSeries → List ChunkPlace → List ChunkPlace
 all_places list chunks = flat_map (λ s. s.chunks) list ++ chunks
 
--- Exactly the chunks that were put stand in the segments, in their order.
-pub record IsWriting (segments : List (List ℕ)) (list : List IndexSeries) (chunks : List ChunkPlace) (counts : Counts) : Type 0 where
+-- Exactly the chunks that were put stand in the segments, in their order, and all that was put may be put.
+pub record IsWriting (plan : BlockPlan) (segments : List (List ℕ)) (list : List IndexSeries) (chunks : List ChunkPlace) (counts : Counts) : Type 0 where
   pub segments_are : AreSegments (map (content_at segments) (map part_of (all_places list chunks))) (map part_of (all_places list chunks)) segments
   pub few : length segments ≤ 999_999
   pub ordered : InOrder StartsAfter chunks
   pub series_counted : counts.series ≡ fitted (length list)
   pub chunks_counted : counts.chunks ≡ fitted (length (all_places list chunks))
+  pub lawful : IsPut (put_in plan segments list chunks counts)

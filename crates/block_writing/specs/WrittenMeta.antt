@@ -7,8 +7,8 @@ use Rattle.block_keys.specs.KeyText.{six_digits}
 use Rattle.block_meta.specs.declared.file_size.FileSize.{FileSize}
 use Rattle.block_meta.specs.MetaFields.{MetaFields, fields_of}
 use Rattle.block_writing.specs.declared.counts.Counts.{Counts}
-use Rattle.block_writing.specs.declared.written_block.WrittenBlock.{WrittenBlock}
-use Rattle.block_writing.specs.Put.{PlanFields, Put, contents_of, fitted}
+use Rattle.block_files.specs.declared.block_files.BlockFiles.{BlockFiles}
+use Rattle.block_writing.specs.Put.{PlanFields, Put, contents_of, fitted, IsPut}
 use Rattle.block_writing.specs.Files.{AreFilesOf}
 
 -- a segment of this number and the index, each with its size
@@ -54,7 +54,8 @@ abbrev pub counts_of : Put → Counts
 counts_of put = record { series = fitted (length put.series); samples = put.samples; chunks = fitted (length (contents_of put.series)) }
 
 -- The block is the one that was put, and its index is one of its series and not too large.
-pub record IsWritten (put : Put) (block : WrittenBlock) : Type 0 where
+pub record IsWritten (put : Put) (block : BlockFiles) : Type 0 where
+  pub lawful : IsPut put
   pub files : AreFilesOf put.series block.index block.segments
   pub indexed : IsIndex block.index files.listed
   pub small : length block.index ≤ greatest

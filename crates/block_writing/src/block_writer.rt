@@ -1,7 +1,7 @@
-ghost use Rattle.std.specs.Prelude.{◌≡◌, ◌≢◌, [], List, length, OnOk, OnErr, MatchResult};
+ghost use Rattle.std.specs.Prelude.{◌≡◌, ◌≢◌, ◌⊎◌, [], List, length, Err, IfOk, OnOk, OnErr};
 ghost use Rattle.label_sets.specs.declared.sample.Sample.{Sample};
 ghost use Rattle.xor_chunks.specs.Grammar.{IsText};
-ghost use Rattle.block_writing.specs.Put.{IsChunkData, IsAfterChunks, IsAfterSeries, nothing_put, with_chunk, with_series};
+ghost use Rattle.block_writing.specs.Put.{IsStored, IsAfterChunks, IsAfterSeries, nothing_put, with_chunk, with_series};
 ghost use Rattle.block_writing.specs.Files.{HaveNoIndex};
 ghost use Rattle.block_writing.specs.Writing.{plan_fields};
 ghost use Rattle.block_writing.specs.WrittenMeta.{IsWritten};
@@ -9,7 +9,7 @@ ghost use Rattle.block_writing.specs.WrittenMeta.{IsWritten};
 use crate::counts::Counts;
 use crate::finishing::finish;
 use crate::segments::append_chunk;
-use crate::{BuildRefusal, WrittenBlock};
+use block_files::{BlockFiles, BuildRefusal};
 use block_meta::BlockPlan;
 use chunk_files::SegmentWriter;
 use index_parts::{ChunkList, ChunkPlace};
@@ -42,7 +42,7 @@ impl Model for BlockWriter {
 
     ghost view = { λ w. put_in w.plan w.segments.items w.index w.chunks.items w.counts };
 
-    ghost invariant = { λ w. IsWriting w.segments.items w.index w.chunks.items w.counts };
+    ghost invariant = { λ w. IsWriting w.plan w.segments.items w.index w.chunks.items w.counts };
 }
 
 /// How many samples chunk data say that they have.
@@ -67,10 +67,11 @@ impl BlockWriter {
         }
     }
 
-    /// Puts a chunk behind those of the series that is not ended. Its data are kept byte for byte. They have samples, the
-    /// first of which is at `min` and the last at `max`, and begin after the chunk before them ends.
+    /// Puts a chunk behind those of the series that is not ended. Its data are kept byte for byte. They have samples within
+    /// the plan's times, the first of which is at `min` and the last at `max`, and begin after the chunk before them ends.
     pub fn chunk(&mut self, bytes: &[u8], min: i64, max: i64) -> Result<(), NoMemory>
-        requires stored { IsChunkData bytes.now min max }
+        requires stored { IsStored self.old.plan
+            (record { content = bytes.now; min = min; max = max }) }
         requires after { IsAfterChunks self.old.chunks min }
         ensures ok { (samples : List Sample) → IsText 8 bytes.now samples → OnOk result (self.new
             ≡ with_chunk self.old (record { content = bytes.now; min = min; max = max })
@@ -107,11 +108,14 @@ impl BlockWriter {
     }
 
     /// The files of the series that were put. Each chunk belongs to one of them.
-    pub fn finish(self) -> Result<WrittenBlock, BuildRefusal>
+    pub fn finish(self) -> Result<BlockFiles, BuildRefusal>
         requires { self.chunks ≡ [] }
-        // The index is too large exactly where the one of these series passes its greatest length.
-        ensures { MatchResult result (λ block. IsWritten self block)
-            (λ e. e ≡ BuildRefusal.TooLarge → HaveNoIndex self.series) }
+        ensures written { IfOk result (IsWritten self) }
+
+        // The index is too large exactly where the one of these series passes its greatest length, unless memory ran out.
+        ensures too_large { result ≡ Err BuildRefusal.TooLarge → HaveNoIndex self.series }
+        ensures refused { HaveNoIndex self.series
+            → (result ≡ Err BuildRefusal.TooLarge) ⊎ (result ≡ Err BuildRefusal.NoMemory) }
     {
         finish(self.plan, self.segments, self.index, self.counts)
     }

@@ -1,9 +1,13 @@
-ghost use Rattle.std.specs.Prelude.{◌≡◌, ◌-◌, ◌^◌, ◌<◌, [], OnOk, MatchResult, length, slice_index};
+ghost use Rattle.std.specs.Prelude.{◌≡◌, ◌⊎◌, ◌^◌, ◌<◌, [], length, Err, IfOk, OnOk};
+ghost use Rattle.std.specs.List.{AllByRecursion};
+ghost use Rattle.block_meta.specs.Lawful.{AreLawfulTimes};
 ghost use Rattle.xor_chunks.specs.Written.{AreOfChunk};
-ghost use Rattle.block_writing.specs.Built.{AreBuildable, AreOfSeries, BeginAfter, IsEncoded, HasMore, IsBuilt, HaveNoBlock};
-ghost use Rattle.block_writing.specs.Put.{PutChunk, IsAfterSeries, with_chunk};
+ghost use Rattle.block_writing.specs.Built.{AreBuildable, AreOfBlock, BeginAfter, IsEncoded, HasMore, IsBuilt, HaveNoBlock};
+ghost use Rattle.block_writing.specs.Put.{PutChunk, IsWithin, IsAfterSeries, with_chunk};
+ghost use Rattle.block_writing.specs.Writing.{plan_fields};
 
-use crate::{BlockWriter, BuildRefusal, WrittenBlock};
+use crate::BlockWriter;
+use block_files::{BlockFiles, BuildRefusal};
 use block_meta::BlockPlan;
 use label_sets::{Sample, Series, SeriesList};
 use list_core::{NoMemory, TryCopy};
@@ -16,6 +20,7 @@ const PART: usize = 120;
 /// Puts samples as a chunk.
 fn put_part(alloc: Global, writer: &mut BlockWriter, part: &[Sample]) -> Result<(), NoMemory>
     requires fits { AreOfChunk part.now }
+    requires within { AllByRecursion (IsWithin writer.old.plan) part.now }
     requires after { BeginAfter writer.old.chunks part.now }
     ensures { OnOk result ((chunk : PutChunk) × IsEncoded part.now chunk
         × (writer.new ≡ with_chunk writer.old chunk (length part.now))) }
@@ -26,7 +31,8 @@ fn put_part(alloc: Global, writer: &mut BlockWriter, part: &[Sample]) -> Result<
 
 /// Puts the samples of a series, each 120 as a chunk, and ends it.
 fn put_series(alloc: Global, writer: &mut BlockWriter, series: &Series) -> Result<(), NoMemory>
-    requires samples { AreOfSeries series.now.samples }
+    requires samples { AreOfBlock writer.old.plan series.now.samples }
+    requires times { AreLawfulTimes writer.old.plan.min_time writer.old.plan.max_time }
     requires nothing_left { writer.old.chunks ≡ [] }
     requires greater { IsAfterSeries writer.old.series series.now.labels }
     requires counted { writer.old.samples < 2 ^ 64 }
@@ -46,11 +52,14 @@ pub fn build(
     alloc: Global,
     plan: &BlockPlan,
     series: &SeriesList,
-) -> Result<WrittenBlock, BuildRefusal>
-    requires { AreBuildable plan.now.min_time plan.now.max_time series.now }
-    // The index is too large exactly where the one of these series passes its greatest length.
-    ensures { MatchResult result (λ block. IsBuilt plan.now series.now block)
-        (λ e. e ≡ BuildRefusal.TooLarge → HaveNoBlock plan.now series.now) }
+) -> Result<BlockFiles, BuildRefusal>
+    requires { AreBuildable (plan_fields plan.now) series.now }
+    ensures built { IfOk result (IsBuilt plan.now series.now) }
+
+    // The index is too large exactly where the one of these series passes its greatest length, unless memory ran out.
+    ensures too_large { result ≡ Err BuildRefusal.TooLarge → HaveNoBlock plan.now series.now }
+    ensures refused { HaveNoBlock plan.now series.now
+        → (result ≡ Err BuildRefusal.TooLarge) ⊎ (result ≡ Err BuildRefusal.NoMemory) }
 {
     let mut writer = BlockWriter::new(alloc, plan.copy()?);
     for one in series.members() {

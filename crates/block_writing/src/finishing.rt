@@ -1,15 +1,16 @@
 //! The files of a block of what a writer holds.
-ghost use Rattle.std.specs.Prelude.{◌≡◌, ◌≤◌, [], length, vec_len, IfOk, MatchResult};
+ghost use Rattle.std.specs.Prelude.{◌≡◌, [], Err, IfOk};
 ghost use Rattle.block_writing.specs.Files.{HaveNoIndex};
+ghost use Rattle.block_writing.specs.Refusals.{build_refusal};
 ghost use Rattle.block_writing.specs.Writing.{put_in, IsWriting};
 ghost use Rattle.block_writing.specs.WrittenMeta.{IsWritten};
 
 use crate::counts::Counts;
 use crate::written_meta::meta_of;
-use crate::{BlobList, BuildRefusal, WrittenBlock};
+use block_files::{BlobList, BlockFiles, BuildRefusal};
 use block_meta::BlockPlan;
 use chunk_files::SegmentWriter;
-use index_writing::IndexWriter;
+use index_writing::{IndexWriteRefusal, IndexWriter};
 use list_core::NoMemory;
 use std::alloc::Global;
 
@@ -23,24 +24,36 @@ fn bytes_of(alloc: Global, writers: Vec<SegmentWriter>) -> Result<BlobList, NoMe
     Ok(segments)
 }
 
+/// A refusal of an index, as the block's.
+fn refusal_of(cause: IndexWriteRefusal) -> BuildRefusal
+    ensures { result ≡ build_refusal cause }
+{
+    match cause {
+        IndexWriteRefusal::TooLarge => BuildRefusal::TooLarge,
+        IndexWriteRefusal::NoMemory => BuildRefusal::NoMemory,
+    }
+}
+
 /// The files of these series, none of whose chunks is left over.
 pub(crate) fn finish(
     plan: BlockPlan,
     writers: Vec<SegmentWriter>,
     index: IndexWriter,
     counts: Counts,
-) -> Result<WrittenBlock, BuildRefusal>
-    requires { IsWriting writers.items index [] counts }
-    ensures { MatchResult result
-        (λ block. IsWritten (put_in plan writers.items index [] counts) block)
-        (λ e. e ≡ BuildRefusal.TooLarge
-        → HaveNoIndex (put_in plan writers.items index [] counts).series) }
+) -> Result<BlockFiles, BuildRefusal>
+    requires { IsWriting plan writers.items index [] counts }
+    ensures written { IfOk result (IsWritten (put_in plan writers.items index [] counts)) }
+    ensures too_large { result ≡ Err BuildRefusal.TooLarge
+        → HaveNoIndex (put_in plan writers.items index [] counts).series }
 {
     let alloc = *writers.allocator();
-    let index = index.finish()?;
+    let index = match index.finish() {
+        Ok(index) => index,
+        Err(cause) => return Err(refusal_of(cause)),
+    };
     let segments = bytes_of(alloc, writers)?;
     let meta = meta_of(alloc, plan, counts, &index, segments.members())?;
-    Ok(WrittenBlock {
+    Ok(BlockFiles {
         meta,
         index,
         segments,

@@ -2,17 +2,14 @@
 #![tactic(auto)]
 
 mod block_writer;
-mod build_refusal;
 mod builder;
 mod counts;
 mod finishing;
 mod segment_place;
 mod segments;
-mod written_block;
 mod written_meta;
 
+pub use block_files::{BlobList, BlockFiles, BuildRefusal};
 pub use block_writer::BlockWriter;
-pub use build_refusal::BuildRefusal;
 pub use builder::build;
 pub use segment_place::SegmentPlace;
-pub use written_block::{BlobList, WrittenBlock};

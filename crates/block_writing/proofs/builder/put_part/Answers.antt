@@ -8,8 +8,8 @@ use Rattle.block_writing.proofs.builder.put_part.Goals as goal
 pub chunk-requires-clause-stored : goal.chunk-requires-clause-stored
 chunk-requires-clause-stored c =
     let same : c.bytes.result.now ≡ c.in_ok-data.data = search rules in
-    data_of_part c.args.part.now c.bytes.result.now _ _ (subst (λ (l : List ℕ). IsText 7 l c.args.part.now) (sym same) c.in_ok-data.ensures.text)
-    (told_time c.args.part.now 0 _ c.requires.fits c.requires.fits.some) (told_time c.args.part.now _ _ c.requires.fits (omega (arith, c.requires.fits.some)))
+    data_of_part c.args.writer.now.plan c.args.part.now c.bytes.result.now _ _ (subst (λ (l : List ℕ). IsText 7 l c.args.part.now) (sym same) c.in_ok-data.ensures.text)
+    (told_time c.args.part.now 0 _ c.requires.fits c.requires.fits.some) (told_time c.args.part.now _ _ c.requires.fits (omega (arith, c.requires.fits.some))) c.requires.within
 
 pub returns : goal.returns
 returns c =

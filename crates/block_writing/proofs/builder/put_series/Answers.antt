@@ -1,14 +1,20 @@
 use Rattle.std.proofs.Common.{◌≡◌, ◌<◌, length, rules, subst, sym}
 use Rattle.std.specs.Prelude.{min}
 use Rattle.xor_chunks.specs.Written.{AreOfChunk}
-use Rattle.block_writing.proofs.Parts.{of_chunk, part_more, has_chunks}
+use Rattle.std.specs.List.{AllByRecursion}
+use Rattle.block_writing.specs.Put.{IsWithin}
+use Rattle.block_writing.proofs.Parts.{of_chunk, part_within, part_more, has_chunks}
 use Rattle.block_writing.proofs.builder.put_series.Goals as goal
 
 pub put_part-requires-clause-fits : goal.put_part-requires-clause-fits
 put_part-requires-clause-fits c =
     let some : 0 < length c.loop-left.left.now = search rules in
     let few : c.min.result ≡ min (length c.loop-left.left.now) 120 = search rules in
-    subst AreOfChunk (sym c.split_at.ensures.front) (of_chunk c.args.writer.now c.args.series.now.samples c.loop-left.left.now c.loop-left.writer c.min.result c.loop-left.invariant some few)
+    subst AreOfChunk (sym c.split_at.ensures.front) (of_chunk c.args.writer.now c.args.series.now.samples c.loop-left.left.now c.loop-left.writer c.min.result c.requires.times c.loop-left.invariant some few)
+
+pub put_part-requires-clause-within : goal.put_part-requires-clause-within
+put_part-requires-clause-within c =
+    subst (AllByRecursion (IsWithin c.loop-left.writer.plan)) (sym c.split_at.ensures.front) (part_within c.args.writer.now c.args.series.now.samples c.loop-left.left.now c.loop-left.writer c.min.result c.loop-left.invariant)
 
 pub loop-left-preserved : goal.loop-left-preserved
 loop-left-preserved c =
