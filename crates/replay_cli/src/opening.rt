@@ -12,10 +12,7 @@ use std::alloc::Global;
 use world_core::Journal;
 
 /// The shelf of a word, which names none where it is `none`.
-pub(crate) fn open_shelf<S: Site>(
-    site: &mut S,
-    word: &str,
-) -> Result<Option<S::Files>, SiteRefusal>
+pub(crate) fn open_shelf<S: Site>(site: &mut S, word: &str) -> Result<Option<S::Files>, SiteRefusal>
     ensures shelf { IfOk result (IsShelfOf S.shelves S.next_shelf S.Files.files
         (named_by word.now) site.old site.new) }
     ensures named { IfOk result (λ shelf. is_some shelf ≡ is_some (named_by word.now)) }

@@ -1,4 +1,4 @@
-use Rattle.std.specs.Prelude.{Option, Some, List, ℕ, IsSome}
+use Rattle.std.specs.Prelude.{Some, IsSome}
 use Rattle.replay_cli.specs.Verdicts.{around_call}
 use Rattle.replay_cli.specs.Words.{bucket_word, named_by, shelf_word}
 use Rattle.replay_cli.proofs.Openings.{shelf_named, untouched_named}
