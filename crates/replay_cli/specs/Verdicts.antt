@@ -114,7 +114,7 @@ pub record Around : Type 1 where
   pub source_failed : Type 0
   -- what the bucket held before, where the site tells it
   pub before : Option Contents
-  -- the bucket could not be opened or listed
+  -- what the words name could not be opened, or the bucket not listed
   pub site_failed : Type 0
   -- the site handed out all that the words name
   pub opened : Type 0
@@ -123,7 +123,7 @@ pub record Around : Type 1 where
   -- the journal that is handed back
   pub journal : Option (List Entry)
 
--- the bucket could not be opened, or a bucket that was handed out has failed
+-- an opening failed, or a bucket that was handed out has failed
 abbrev pub SiteFailed : {S B : Type 0} → (S → ℕ) → S → S → (B → ℕ) → Option B → Type 0
 SiteFailed site_faults old new faults store = Rose (site_faults old) (site_faults new) ⊎ IsSomeAnd store (λ bucket. 0 < faults bucket)
 
@@ -143,8 +143,8 @@ around_call left source_faults script read buckets next_bucket shelves next_shel
   journal = journal;
 }
 
--- Why a script's run comes to a verdict: by what the bucket held before, where that is told; by whether the bucket could not
--- be opened or listed; and by the journal that is handed back. Whatever it comes to, the journal is lawful
+-- Why a script's run comes to a verdict: by what the bucket held before, where that is told; by whether something could not
+-- be opened, or the bucket not listed; and by the journal that is handed back. Whatever it comes to, the journal is lawful
 -- for the script, and its tasks were done in the order of their lines.
 abbrev pub IsRun : Script → Option Contents → Type 0 → Option (List Entry) → Verdict → Type 0
 IsRun script before site_failed journal SiteFault = site_failed × IfSome journal (λ entries. entries ≡ [])
