@@ -1,9 +1,7 @@
 -- Declared blocks by their ULIDs, and what is shipped of one.
-use Rattle.std.proofs.Common.{◌≡◌, ℕ, ℤ, zero, suc, ◌<◌, Bool, true, false, List, [], ◌∷◌, length, map, get_or, refl, sym, ◌∙◌, ap, subst, arith}
-use Rattle.std.specs.Prelude.{◌==◌, ◌≢◌, None, Some, Result, Ok, Err, IfOk, find, nat_eq, slice_get}
+use Rattle.std.proofs.Common.{◌≡◌, ℕ, ℤ, Bool, true, false, List, [], ◌∷◌, refl, sym, ◌∙◌, ap, subst}
+use Rattle.std.specs.Prelude.{◌==◌, ◌≢◌, None, Some, Result, Ok, Err, IfOk, find}
 use Rattle.list_core.specs.declared.memory.NoMemory.{NoMemory}
-use Rattle.std.specs.List.{AllByRecursion, IsDistinct}
-use Rattle.std.proofs.lemmas.Bool.Decides.{nat_tests}
 use Rattle.label_sets.specs.declared.series.Series.{Series}
 use Rattle.block_keys.specs.declared.object.Object.{Object}
 use Rattle.block_meta.specs.MetaFields.{MetaFields, fields_of}

@@ -1,5 +1,5 @@
 -- Where every task has ended well, every outcome is as asked.
-use Rattle.std.proofs.Common.{◌≡◌, ◌⊎◌, inl, inr, ℕ, zero, suc, ◌+◌, Bool, true, false, ◌&&◌, List, [], ◌∷◌, ◌++◌, length, Contains, Option, Some, None, refl, sym, ◌∙◌, ap, subst, arith}
+use Rattle.std.proofs.Common.{◌≡◌, ℕ, zero, suc, ◌+◌, Bool, true, List, [], ◌∷◌, Contains, Option, refl, ◌∙◌, ap, subst, arith}
 use Rattle.std.specs.List.{AllZip, list_all, zip}
 use Rattle.std.proofs.lemmas.List.Folds.{list_all-append}
 use Rattle.std.proofs.lemmas.Bool.{and_from}
@@ -14,7 +14,6 @@ use Rattle.store_gateway.specs.declared.series_end.SeriesEnd.{SeriesEnd}
 use Rattle.store_gateway.specs.declared.series_end.SeriesEnd.TheVariants as called
 use Rattle.script_workers.specs.Hands.{gateway_count, gateway_of, hands_of_task}
 use Rattle.script_core.specs.Workers.{workers_of}
-use Rattle.script_core.specs.Lawful.{IsLawfulScript}
 use Rattle.script_workers.specs.declared.hand.Hand.{Hand}
 use Rattle.script_workers.specs.declared.phase.Phase.{Phase}
 use Rattle.script_core.specs.declared.script.Script.{Script}
@@ -22,12 +21,12 @@ use Rattle.script_workers.specs.declared.task.Task.{Task}
 use Rattle.script_workers.specs.declared.work.Work.{Work}
 use Rattle.script_workers.specs.declared.work.Work.TheVariants as work
 use Rattle.script_workers.specs.declared.worker.Worker.{Worker}
-use Rattle.lifecycle_core.specs.Causes.{AreWell, IsWell, SomeCame}
+use Rattle.lifecycle_core.specs.Causes.{IsWell}
 use Rattle.lifecycle_core.specs.Phases.{CameTo}
 use Rattle.lifecycle_core.specs.Tasks.{End, uploaded, synced, answered, without_view, stopped}
 use Rattle.lifecycle_core.specs.Views.{Use}
 use Rattle.list_core.proofs.Membership.{contains_first, contains_later}
-use Rattle.replay_cli.specs.Outcomes.{IsOutcome, PhasesCame, TaskCame, TasksCame, call_outcome, sync_outcome, upload_outcome}
+use Rattle.replay_cli.specs.Outcomes.{IsOutcome, PhasesCame, TasksCame, call_outcome, sync_outcome, upload_outcome}
 use Rattle.replay_cli.specs.Reports.{is_as_asked}
 use Rattle.replay_cli.specs.Verdicts.{IsWholeRun}
 use Rattle.replay_cli.specs.declared.outcome.Outcome.{Outcome}

@@ -4,6 +4,8 @@ use Rattle.std.specs.Prelude.{Option, Some, Result, Ok, Err, IfSome, IsSomeAnd}
 use Rattle.bucket_core.specs.Causes.{Rose}
 use Rattle.bucket_core.specs.Contents.{Contents, nothing}
 use Rattle.bucket_core.specs.Pages.{IsPage}
+use Rattle.bucket_core.specs.declared.site_refusal.SiteRefusal.{SiteRefusal}
+use Rattle.bucket_core.specs.declared.site_refusal.SiteRefusal.TheVariants as site
 use Rattle.world_core.specs.Keeping.{IsFull}
 use Rattle.world_core.specs.Worlds.{IsJournal}
 use Rattle.world_core.specs.declared.entry.Entry.{Entry}
@@ -82,3 +84,14 @@ opened_told {B} script told faults bucket store refusal v empty handed back is n
     subst (λ (x : Option B). IsRun script told (IsSomeAnd x (λ b. Rose (faults bucket) (faults b))) handed v) (sym same)
     (subst (λ (h : Option (List Entry)). IsRun script told (Rose (faults bucket) (faults store)) h v) (sym (is ∙ ap (λ (l : List Entry). Some l) none))
     (opened_by script told (Rose (faults bucket) (faults store)) refusal v fails stands one two three))
+
+-- a call whose shelf was not opened
+unshelved_by : (script : Script) (told : Option Contents) (refusal : SiteRefusal) (v : Verdict) → (refusal ≡ site.Failed → v ≡ verdict.SiteFault) → (refusal ≡ site.NoMemory → v ≡ verdict.NoMemory)
+    → IsRun script told (refusal ≡ site.Failed) (Some []) v
+unshelved_by script told site.Failed v failed short = subst (IsRun script told (site.Failed ≡ site.Failed) (Some [])) (sym (failed refl)) (refl, refl)
+unshelved_by script told site.NoMemory v failed short = subst (IsRun script told (site.NoMemory ≡ site.Failed) (Some [])) (sym (short refl)) (none_in_line script, none_guaranteed script)
+
+pub unshelved_told : (script : Script) (told : Option Contents) (refusal : SiteRefusal) (v : Verdict) (empty : List Entry) (handed : Option (List Entry)) → handed ≡ Some empty → empty ≡ []
+    → (refusal ≡ site.Failed → v ≡ verdict.SiteFault) → (refusal ≡ site.NoMemory → v ≡ verdict.NoMemory) → IsRun script told (refusal ≡ site.Failed) handed v
+unshelved_told script told refusal v empty handed is none failed short =
+    subst (λ (h : Option (List Entry)). IsRun script told (refusal ≡ site.Failed) h v) (sym (is ∙ ap (λ (l : List Entry). Some l) none)) (unshelved_by script told refusal v failed short)

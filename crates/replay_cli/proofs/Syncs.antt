@@ -1,6 +1,6 @@
 -- What drives of a sync and of a gateway's call leave.
 use Rattle.std.proofs.Common.{◌≡◌, ℕ, ℤ, List, [], ◌∷◌, ◌++◌, refl, sym, subst}
-use Rattle.std.specs.Prelude.{Option, None, option_map, Ok, Err}
+use Rattle.std.specs.Prelude.{Option, None, option_map, Err}
 use Rattle.std.proofs.lemmas.List.{append-nil}
 use Rattle.std.proofs.lemmas.List.Elements.{All-nil}
 use Rattle.moment_core.specs.declared.rules.Rules.{Rules}

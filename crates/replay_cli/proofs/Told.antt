@@ -1,6 +1,6 @@
 -- Tasks that were done one after another, and how they came out.
 use Rattle.std.proofs.Common.{◌≡◌, ℕ, zero, suc, ◌+◌, ◌<◌, ◌≤◌, Bool, true, false, ◌&&◌, List, [], ◌∷◌, ◌++◌, length, map, get_or, take, drop, refl, sym, ◌∙◌, ap, subst, append_assoc, arith}
-use Rattle.std.specs.Prelude.{Result, Ok, Err, MatchResult, OnErr, OnOk}
+use Rattle.std.specs.Prelude.{Result, Ok, Err, OnErr, OnOk}
 use Rattle.std.specs.List.{All, AllZip, list_all}
 use Rattle.std.proofs.lemmas.List.{append-nil, length-append, length-map, take_more}
 use Rattle.world_core.specs.Operations.{entry_of}
@@ -19,7 +19,7 @@ use Rattle.lifecycle_core.specs.Views.{Views}
 use Rattle.lifecycle_core.proofs.phases.Joined.{both, cut, duties_begin, duties_more, duties_parts}
 use Rattle.lifecycle_core.proofs.phases.RunsInLine.{may_begin}
 use Rattle.lifecycle_core.proofs.phases.TaskRuns.{MayBegin}
-use Rattle.std.proofs.lemmas.List.Elements.{All-drop, All-tail}
+use Rattle.std.proofs.lemmas.List.Elements.{All-drop}
 use Rattle.replay_cli.specs.Outcomes.{IsOutcome, TasksCame}
 use Rattle.replay_cli.specs.Progress.{IsDueInLine, Shows, TaskStep, TasksBroken, TasksDone, TasksTold, duties_at}
 use Rattle.replay_cli.specs.Reports.{activity_text, is_as_asked}

@@ -1,9 +1,7 @@
 -- Each answer that a report tells was given by the gateway.
-use Rattle.std.proofs.Common.{◌≡◌, ◌⊎◌, inl, inr, ℕ, zero, suc, ◌+◌, ◌≤◌, ℤ, Bool, append-nil, List, [], ◌∷◌, ◌++◌, length, Option, Some, None, refl, sym, ◌∙◌, ap, subst, arith}
-use Rattle.std.specs.Prelude.{slice_get, map, min}
+use Rattle.std.proofs.Common.{◌≡◌, ◌⊎◌, inl, inr, ℕ, zero, suc, ◌+◌, ◌≤◌, ℤ, Bool, append-nil, List, [], ◌∷◌, ◌++◌, length, Some, refl, sym, ap, subst, arith}
+use Rattle.std.specs.Prelude.{slice_get, map}
 use Rattle.std.specs.List.{AllZip, range_with_len}
-use Rattle.std.proofs.lemmas.List.{length-append}
-use Rattle.label_sets.specs.Triples.{triples_of}
 use Rattle.label_sets.specs.declared.series.Series.{Series}
 use Rattle.world_core.specs.Standing.{IsHonest}
 use Rattle.world_core.specs.declared.entry.Entry.{Entry}
@@ -12,7 +10,6 @@ use Rattle.store_gateway.specs.declared.series_end.SeriesEnd.TheVariants as call
 use Rattle.script_workers.specs.Hands.{gateway_count, gateway_of, hands_of_task}
 use Rattle.script_core.specs.Workers.{workers_of}
 use Rattle.script_core.specs.Lawful.{IsLawfulScript}
-use Rattle.script_workers.specs.declared.hand.Hand.{Hand}
 use Rattle.script_workers.specs.declared.hand.Hand.TheVariants as hands
 use Rattle.script_workers.specs.declared.phase.Phase.{Phase}
 use Rattle.script_core.specs.declared.script.Script.{Script}
@@ -20,7 +17,7 @@ use Rattle.script_workers.specs.declared.task.Task.{Task}
 use Rattle.script_workers.specs.declared.work.Work.{Work}
 use Rattle.script_workers.specs.declared.work.Work.TheVariants as work
 use Rattle.script_workers.specs.declared.worker.Worker.{Worker}
-use Rattle.lifecycle_core.specs.Guarantees.{IsGiven, IsGuaranteed}
+use Rattle.lifecycle_core.specs.Guarantees.{IsGiven}
 use Rattle.lifecycle_core.specs.Phases.{CameTo}
 use Rattle.lifecycle_core.specs.Tasks.{End, uploaded, synced, answered, without_view, stopped}
 use Rattle.lifecycle_core.specs.Views.{Use}

@@ -1,6 +1,6 @@
 -- What a drive of an upload leaves.
 use Rattle.std.proofs.Common.{◌≡◌, ◌≢◌, ◌⊎◌, ℕ, ◌+◌, ◌<◌, ◌≤◌, Bool, true, false, List, [], ◌∷◌, ◌++◌, length, length-append, refl, sym, subst, inl, inr, arith}
-use Rattle.std.specs.Prelude.{◌↔◌, ◌==◌, Option, Some, None, option_map, Ok, Err}
+use Rattle.std.specs.Prelude.{◌↔◌, ◌==◌, Option, Some, None, option_map, Err}
 use Rattle.std.proofs.lemmas.Bool.Decides.{nat_tests}
 use Rattle.std.proofs.lemmas.List.{append-nil}
 use Rattle.std.proofs.lemmas.List.Elements.{All-nil}
