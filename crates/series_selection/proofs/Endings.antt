@@ -1,5 +1,5 @@
 -- Where selecting is refused: where reading the lists of the rows that decide is.
-use Rattle.std.proofs.Common.{◌≡◌, ℕ, Bool, List, [], ◌∷◌, ◌++◌, Option, Some, None, Result, Ok, Err, refl, sym, ap, ◌∙◌, inl, inr, ◌⊎◌}
+use Rattle.std.proofs.Common.{◌≡◌, ℕ, Bool, not, List, [], ◌∷◌, ◌++◌, Option, Some, None, Result, Ok, Err, refl, sym, ap, ◌∙◌, inl, inr, ◌⊎◌}
 use Rattle.std.specs.Prelude.{slice_get, is_some, if◌then◌else◌, take, IsOk, OnOk, IfErr, IfOk}
 use Rattle.std.specs.List.{Contains, filter, flat_map}
 use Rattle.list_core.proofs.Membership.{contains_first, contains_later}
@@ -109,7 +109,7 @@ selected_ending held external selector =
 
 ok_by : {A B : Type 0} (r : Result A IndexRefusal) (s : Result B IndexRefusal) (x : A) → ending r ≡ ending s → r ≡ Ok x → IsOk s
 unfolding ending
-ok_by (Ok y) (Ok z) x same e = tt
+ok_by (Ok y) (Ok z) x same e = refl
 ok_by (Ok y) (Err d) x same e = absurd cc
 ok_by (Err c) s x same e = absurd cc
 

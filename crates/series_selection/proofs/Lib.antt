@@ -4,3 +4,5 @@ pub mod Walk
 pub mod Taking
 pub mod Endings
 pub mod Matching
+pub mod AllLeft
+pub mod Answered

@@ -1,5 +1,5 @@
 -- In an index of a list of series a selector takes exactly the series whose final labels match.
-use Rattle.std.proofs.Common.{◌≡◌, ◌≢◌, ℕ, zero, suc, ◌+◌, ◌<◌, Bool, true, false, cond, ◌&&◌, List, [], ◌∷◌, map, Option, Some, None, Result, Ok, Err, refl, sym, ap, subst, ◌∙◌, inl, inr, arith}
+use Rattle.std.proofs.Common.{◌≡◌, ◌≢◌, ℕ, zero, suc, ◌+◌, ◌<◌, Bool, true, false, cond, ◌&&◌, List, [], ◌∷◌, map, get_or, Option, Some, None, Result, Ok, Err, refl, sym, ap, subst, ◌∙◌, inl, inr, arith}
 use Rattle.std.specs.Prelude.{slice_get, MatchBool, IsTrue, IsFalse, ◌↔◌, unwrap_or, IfOk}
 use Rattle.std.specs.List.{All, Contains, filter, list_all}
 use Rattle.std.specs.List.Sorted.{IsStrictlyIncreasing}
@@ -28,7 +28,7 @@ use Rattle.index_file.specs.declared.index_series.IndexSeries.{IndexSeries}
 use Rattle.index_file.specs.IndexFile.{IsIndex, AreListed, BelongsTo, HasRow}
 use Rattle.index_v2.proofs.ListNumbers.{numbers_rise, none_rise}
 use Rattle.series_selection.specs.Selections.{HasNumber, IsListed, StandsUnder, TakesByRows, TakesBy, IsTaken, IsSelection, AreMatching}
-use Rattle.series_selection.proofs.Taking.{match_true, match_false, of_true, of_false, differ}
+use Rattle.series_selection.proofs.Taking.{taken_apart, apart_taken, taken_among, among_taken, differ}
 
 -- ---- labels of a set
 
@@ -68,7 +68,7 @@ abbrev first_of : ℕ × IndexSeries → ℕ
 first_of one = one.0
 
 rest_rises : (n : ℕ) (numbers : List ℕ) → IsStrictlyIncreasing (n ∷ numbers) → IsStrictlyIncreasing numbers
-rest_rises n numbers rise = λ k lt. rise (suc k) (omega arith)
+rest_rises n numbers rise = λ k lt. subst (λ (i : ℕ). get_or numbers k 0 < get_or (n ∷ numbers) i 0) {x = suc k + 1} {y = suc (k + 1)} (omega arith) (rise (suc k) (omega arith))
 
 above_first : (n : ℕ) (numbers : List ℕ) (m : ℕ) → IsStrictlyIncreasing (n ∷ numbers) → Contains numbers m → n < m
 above_first n [] m rise among = absurd (no_member m among)
@@ -83,8 +83,8 @@ one_series : (listed : List (ℕ × IndexSeries)) (number : ℕ) (one other : In
 one_series [] number one other rise a b = absurd (no_member (number, one) a)
 one_series (head ∷ listed) number one other rise a b =
     let no_later : (series : IndexSeries) (late : IndexSeries) → head ≡ (number, series) → Contains listed (number, late) → ⊥ = λ series late same later.
-      let far : head.0 < number = above_first head.0 (map first_of listed) number rise (into_map first_of listed (number, late) later) in
-      let here : head.0 ≡ number = ap first_of same in omega arith
+    let far : head.0 < number = above_first head.0 (map first_of listed) number rise (into_map first_of listed (number, late) later) in
+    let here : head.0 ≡ number = ap first_of same in omega arith
     in
     elim (member_cases head (number, one) listed a) [
       | inl here ↦ elim (member_cases head (number, other) listed b) [
@@ -192,12 +192,12 @@ module _ (bytes : List ℕ) (list : List IndexSeries) (is : IsIndex bytes list) 
     by_own : (o : Option (List ℕ)) → value_of series.labels m.name ≡ o → TakesByRows (Stands is.opened.bytes) is.opened.rows m number ↔ IsTrue (is_accepted m.condition (unwrap_or o []))
     by_own o e = by_bool (is_accepted m.condition [])
         (λ empty. (
-          λ takes. by_bool (is_accepted m.condition (unwrap_or o [])) (λ yes. yes) (λ refused. absurd (of_true (is_accepted m.condition []) empty takes (refused_under o e empty refused))),
-          λ accepted. match_true (is_accepted m.condition []) empty (λ under. differ (is_accepted m.condition (unwrap_or o [])) accepted (ap (is_accepted m.condition) (sym (row_value under.row under.among under.name_is under.listed ∙ ap (λ (p : Option (List ℕ)). unwrap_or p []) e)) ∙ under.holds)),
+          λ takes. by_bool (is_accepted m.condition (unwrap_or o [])) (λ yes. yes) (λ refused. absurd (apart_taken (Stands is.opened.bytes) is.opened.rows m number empty takes (refused_under o e empty refused))),
+          λ accepted. taken_apart (Stands is.opened.bytes) is.opened.rows m number empty (λ under. differ (is_accepted m.condition (unwrap_or o [])) accepted (ap (is_accepted m.condition) (sym (row_value under.row under.among under.name_is under.listed ∙ ap (λ (p : Option (List ℕ)). unwrap_or p []) e)) ∙ under.holds)),
         ))
         (λ empty. (
-          λ takes. let under = of_false (is_accepted m.condition []) empty takes in ap (is_accepted m.condition) (sym (row_value under.row under.among under.name_is under.listed ∙ ap (λ (p : Option (List ℕ)). unwrap_or p []) e)) ∙ under.holds,
-          λ accepted. match_false (is_accepted m.condition []) empty (accepted_under o e empty accepted),
+          λ takes. let under = among_taken (Stands is.opened.bytes) is.opened.rows m number empty takes in ap (is_accepted m.condition) (sym (row_value under.row under.among under.name_is under.listed ∙ ap (λ (p : Option (List ℕ)). unwrap_or p []) e)) ∙ under.holds,
+          λ accepted. taken_among (Stands is.opened.bytes) is.opened.rows m number empty (accepted_under o e empty accepted),
         ))
 
     by_final : (outer : Option (List ℕ)) → TakesBy outer (Stands is.opened.bytes) is.opened.rows m number ↔ IsTrue (is_accepted m.condition (unwrap_or (option_or outer (value_of series.labels m.name)) []))
@@ -220,8 +220,7 @@ module _ (bytes : List ℕ) (list : List IndexSeries) (is : IsIndex bytes list) 
         let P : Matcher → Type 0 = λ m. TakesBy (value_of external m.name) (Stands is.opened.bytes) is.opened.rows m number in
         let parts = not_named replicas m selector none in
         let one = matcher_agrees number series has m external replicas parts.0 in
-        let others = selector_agrees selector parts.1 in
-        (
+        let others = selector_agrees selector parts.1 in (
           λ all. both_true (accepts m (final_of series.labels external replicas)) (list_all (λ matcher. accepts matcher (final_of series.labels external replicas)) selector) (one.0 (All-head P m selector all)) (others.0 (All-tail P m selector all)),
           λ e. let b = and_parts (accepts m (final_of series.labels external replicas)) (list_all (λ matcher. accepts matcher (final_of series.labels external replicas)) selector) e in All-cons P m selector (one.1 b.0) (others.1 b.1),
         )
@@ -229,9 +228,9 @@ module _ (bytes : List ℕ) (list : List IndexSeries) (is : IsIndex bytes list) 
   pub selection_matches : (external : List Label) (replicas : List (List ℕ)) (selector : List Matcher) (numbers : List ℕ) → named_replicas replicas selector ≡ [] → IsSelection (Stands is.opened.bytes) is.opened.rows external selector numbers → AreMatching is.listed external replicas selector numbers
   selection_matches external replicas selector numbers none selection = record {
     only = λ number has.
-    let taken = (selection.taken number).0 has in
-    let found = of_listed number taken.listed in
-    (found.0, found.1, (selector_agrees number found.0 found.1 external replicas selector none).0 taken.by_all);
+        let taken = (selection.taken number).0 has in
+        let found = of_listed number taken.listed in
+        (found.0, found.1, (selector_agrees number found.0 found.1 external replicas selector none).0 taken.by_all);
     all = λ number series has matches.
-    (selection.taken number).1 (record { listed = into_listed number series has; by_all = (selector_agrees number series has external replicas selector none).1 matches });
+        (selection.taken number).1 (record { listed = into_listed number series has; by_all = (selector_agrees number series has external replicas selector none).1 matches });
   }

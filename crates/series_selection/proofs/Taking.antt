@@ -28,22 +28,6 @@ use Rattle.series_selection.proofs.Walk.{own_name}
 
 -- ---- cases of a Bool
 
-pub match_true : {P Q : Type 0} (b : Bool) → b ≡ true → P → MatchBool b P Q
-match_true true e p = p
-match_true false e p = absurd cc
-
-pub match_false : {P Q : Type 0} (b : Bool) → b ≡ false → Q → MatchBool b P Q
-match_false true e q = absurd cc
-match_false false e q = q
-
-pub of_true : {P Q : Type 0} (b : Bool) → b ≡ true → MatchBool b P Q → P
-of_true true e p = p
-of_true false e p = absurd cc
-
-pub of_false : {P Q : Type 0} (b : Bool) → b ≡ false → MatchBool b P Q → Q
-of_false true e q = absurd cc
-of_false false e q = q
-
 is_not : (b : Bool) → not b ≡ true → b ≡ false
 is_not true e = absurd cc
 is_not false e = refl
@@ -116,6 +100,31 @@ refused_decides m row empty name e = own_name m row name ∙ chosen_true (is_acc
 accepted_decides : (m : Matcher) (row : PostingsRow) → is_accepted m.condition [] ≡ false → row.name ≡ m.name → is_accepted m.condition row.value ≡ true → decides m row ≡ true
 accepted_decides m row empty name e = own_name m row name ∙ chosen_false (is_accepted m.condition []) (not (is_accepted m.condition row.value)) (is_accepted m.condition row.value) empty ∙ e
 
+-- ---- what a matcher takes by the rows, by cases
+
+both_ways : (b : Bool) (P Q : Type 0) → (MatchBool b P Q → (b ≡ true → P) × (b ≡ false → Q)) × (b ≡ true → P → MatchBool b P Q) × (b ≡ false → Q → MatchBool b P Q)
+both_ways true P Q = (λ h. (λ e. h, λ e. absurd cc), λ e p. p, λ e q. absurd cc)
+both_ways false P Q = (λ h. (λ e. absurd cc, λ e. h), λ e p. absurd cc, λ e q. q)
+
+module _ (Lists : PostingsRow → List ℕ → Type 0) (rows : List PostingsRow) (m : Matcher) (number : ℕ) where
+  abbrev pub UnderRefused : Type 0
+  UnderRefused = StandsUnder Lists rows m.name (λ value. IsFalse (is_accepted m.condition value)) number
+
+  abbrev pub UnderAccepted : Type 0
+  UnderAccepted = StandsUnder Lists rows m.name (λ value. IsTrue (is_accepted m.condition value)) number
+
+  pub taken_apart : is_accepted m.condition [] ≡ true → ¬ UnderRefused → TakesByRows Lists rows m number
+  taken_apart empty h = (both_ways (is_accepted m.condition []) (¬ UnderRefused) UnderAccepted).1 empty h
+
+  pub apart_taken : is_accepted m.condition [] ≡ true → TakesByRows Lists rows m number → ¬ UnderRefused
+  apart_taken empty h = ((both_ways (is_accepted m.condition []) (¬ UnderRefused) UnderAccepted).0 h).0 empty
+
+  pub taken_among : is_accepted m.condition [] ≡ false → UnderAccepted → TakesByRows Lists rows m number
+  taken_among empty h = (both_ways (is_accepted m.condition []) (¬ UnderRefused) UnderAccepted).2 empty h
+
+  pub among_taken : is_accepted m.condition [] ≡ false → TakesByRows Lists rows m number → UnderAccepted
+  among_taken empty h = ((both_ways (is_accepted m.condition []) (¬ UnderRefused) UnderAccepted).0 h).1 empty
+
 -- ---- what is taken
 
 -- the lists that are read of these rows are the lists of which Lists speaks
@@ -168,14 +177,14 @@ module _ (Lists : PostingsRow → List ℕ → Type 0) (unique : (row : Postings
         (λ empty.
         let out : wanted ≡ false = rw empty refl in (
           λ has. let k = kept_apart wanted listed numbers number out (subst (λ (xs : List ℕ). Contains xs number) (sym is) has) in
-          (k.0, match_true (is_accepted m.condition []) empty (λ under. k.1 (listed_refused listed number reads read.1 empty under))),
-          λ h. subst (λ (xs : List ℕ). Contains xs number) is (keep_apart wanted listed numbers number out h.0 (λ among. of_true (is_accepted m.condition []) empty h.1 (under_refused listed number reads read.1 empty among))),
+              (k.0, taken_apart Lists rows m number empty (λ under. k.1 (listed_refused listed number reads read.1 empty under))),
+          λ h. subst (λ (xs : List ℕ). Contains xs number) is (keep_apart wanted listed numbers number out h.0 (λ among. apart_taken Lists rows m number empty h.1 (under_refused listed number reads read.1 empty among))),
         ))
         (λ empty.
         let in_it : wanted ≡ true = rw empty refl in (
           λ has. let k = kept_among wanted listed numbers number in_it (subst (λ (xs : List ℕ). Contains xs number) (sym is) has) in
-          (k.0, match_false (is_accepted m.condition []) empty (under_accepted listed number reads read.1 empty k.1)),
-          λ h. subst (λ (xs : List ℕ). Contains xs number) is (keep_among wanted listed numbers number in_it h.0 (listed_accepted listed number reads read.1 empty (of_false (is_accepted m.condition []) empty h.1))),
+              (k.0, taken_among Lists rows m number empty (under_accepted listed number reads read.1 empty k.1)),
+          λ h. subst (λ (xs : List ℕ). Contains xs number) is (keep_among wanted listed numbers number in_it h.0 (listed_accepted listed number reads read.1 empty (among_taken Lists rows m number empty h.1))),
         ))
 
   by_value : (b : Bool) (numbers left : List ℕ) (number : ℕ) → (if b then numbers else []) ≡ left → Contains left number ↔ (Contains numbers number × (b ≡ true))
@@ -189,7 +198,6 @@ module _ (Lists : PostingsRow → List ℕ → Type 0) (unique : (row : Postings
 
 -- all matchers
 module _ (Lists : PostingsRow → List ℕ → Type 0) (unique : (row : PostingsRow) (one other : List ℕ) → Lists row one → Lists row other → one ≡ other) (held : Held) (external : List Label) where
-
   by_all : (selector : List Matcher) (numbers left : List ℕ) (number : ℕ) → ReadsAs Lists held.lists (flat_map (deciding external held.rows) selector) → left_at held external selector numbers ≡ Ok left → Contains left number ↔ (Contains numbers number × All (λ m. TakesBy (value_of external m.name) Lists held.rows m number) selector)
   unfolding left_at
   by_all [] numbers left number reads e =
@@ -199,8 +207,7 @@ module _ (Lists : PostingsRow → List ℕ → Type 0) (unique : (row : Postings
       let P : Matcher → Type 0 = λ m. TakesBy (value_of external m.name) Lists held.rows m number in
       let b = bind_ok _ _ _ e in
       let one = by_one Lists unique held.lists (value_of external m.name) held.rows m numbers b.0 number (λ row among list read. reads row (Contains-append_left (deciding external held.rows m) (flat_map (deciding external held.rows) selector) row among) list read) b.1 in
-      let others = by_all selector b.0 left number (λ row among list read. reads row (Contains-append_right (deciding external held.rows m) (flat_map (deciding external held.rows) selector) row among) list read) b.2 in
-      (
+      let others = by_all selector b.0 left number (λ row among list read. reads row (Contains-append_right (deciding external held.rows m) (flat_map (deciding external held.rows) selector) row among) list read) b.2 in (
         λ has. let o = others.0 has in let h = one.0 o.0 in (h.0, All-cons P m selector h.1 o.1),
         λ h. others.1 (one.1 (h.0, All-head P m selector h.1), All-tail P m selector h.1),
       )
@@ -213,11 +220,11 @@ module _ (Lists : PostingsRow → List ℕ → Type 0) (unique : (row : Postings
   listed_first (row ∷ rows) part listed number reads e = (
     λ has. record { first = row; others = rows; begins = refl; listed = record { numbers = listed; list_is = reads row (contains_first row []) listed e; has = has } },
     λ is.
-    let begins = is.begins in
-    let first : is.first ≡ row = cc in
-    let has = is.listed in
-    let same : has.numbers ≡ listed = unique row has.numbers listed (subst (λ (r : PostingsRow). Lists r has.numbers) first has.list_is) (reads row (contains_first row []) listed e) in
-    subst (λ (xs : List ℕ). Contains xs number) same has.has,
+        let begins = is.begins in
+        let first : is.first ≡ row = cc in
+        let has = is.listed in
+        let same : has.numbers ≡ listed = unique row has.numbers listed (subst (λ (r : PostingsRow). Lists r has.numbers) first has.list_is) (reads row (contains_first row []) listed e) in
+        subst (λ (xs : List ℕ). Contains xs number) same has.has,
   )
 
   pub is_selection : (selector : List Matcher) (numbers : List ℕ) → IsStrictlyIncreasing numbers → ReadsAs Lists held.lists (rows_read external held.rows selector) → selected_at held external selector ≡ Ok numbers → IsSelection Lists held.rows external selector numbers
@@ -227,10 +234,9 @@ module _ (Lists : PostingsRow → List ℕ → Type 0) (unique : (row : Postings
       record {
         ascend = ascend;
         taken = λ number.
-        let first = listed_first held.rows held.lists b.0 number (λ row among list read. reads row (Contains-append_left (take 1 held.rows) (flat_map (deciding external held.rows) selector) row among) list read) b.1 in
-        let all = by_all selector b.0 numbers number (λ row among list read. reads row (Contains-append_right (take 1 held.rows) (flat_map (deciding external held.rows) selector) row among) list read) b.2 in
-        (
-          λ has. let a = all.0 has in record { listed = first.0 a.0; by_all = a.1 },
-          λ t. all.1 (first.1 t.listed, t.by_all),
-        );
+            let first = listed_first held.rows held.lists b.0 number (λ row among list read. reads row (Contains-append_left (take 1 held.rows) (flat_map (deciding external held.rows) selector) row among) list read) b.1 in
+            let all = by_all selector b.0 numbers number (λ row among list read. reads row (Contains-append_right (take 1 held.rows) (flat_map (deciding external held.rows) selector) row among) list read) b.2 in (
+              λ has. let a = all.0 has in record { listed = first.0 a.0; by_all = a.1 },
+              λ t. all.1 (first.1 t.listed, t.by_all),
+            );
       }

@@ -1,6 +1,8 @@
 -- The walk over the rows of a matcher's name: what was read of the rows before a place.
 use Rattle.std.proofs.Common.{◌≡◌, ◌≢◌, ℕ, zero, suc, ◌+◌, ◌<◌, ◌≤◌, Bool, true, false, cond, List, [], ◌∷◌, ◌++◌, length, take, drop, Option, Some, None, Result, Ok, Err, refl, sym, ap, subst, ◌∙◌, arith, inl, inr}
-use Rattle.std.specs.Prelude.{slice_get, not, if◌then◌else◌}
+use mathlib.Core.Bool.{beq}
+use Rattle.std.specs.Prelude.{slice_get, not, if◌then◌else◌, OnOk, IfOk}
+use Rattle.reading_core.specs.Reading.{Gives}
 use Rattle.std.specs.List.{Contains, filter}
 use Rattle.std.specs.List.Sorted.{IsStrictlySortedBy}
 use Rattle.std.specs.declared.cmp.Ordering.TheVariants.{Less}
@@ -11,6 +13,7 @@ use Rattle.std.proofs.lemmas.Option.{same_Some, slice_get_within}
 use Rattle.list_core.proofs.Membership.{no_member, only_member}
 use Rattle.label_sets.specs.Labels.{compare_texts}
 use Rattle.label_sets.proofs.LabelValues.{bytes_eq_self, bytes_eq_differs, same_text}
+use Rattle.matchers.specs.declared.condition.Condition.{Condition}
 use Rattle.matchers.specs.declared.matcher.Matcher.{Matcher}
 use Rattle.matchers.specs.Selectors.{is_accepted}
 use Rattle.index_parts.specs.declared.postings_row.PostingsRow.{PostingsRow}
@@ -19,6 +22,7 @@ use Rattle.index_parts.specs.Rows.{compare_rows}
 use Rattle.index_file.specs.Opened.{Opened}
 use Rattle.index_file.proofs.Members.{less_at}
 use Rattle.index_v2.specs.declared.refusal.IndexRefusal.{IndexRefusal}
+use Rattle.index_v2.specs.declared.refusal.IndexRefusal.TheVariants.{NoMemory}
 use Rattle.index_v2.specs.Held.{Held, IsHeldOf}
 use Rattle.index_v2.specs.PostingsLists.{list_of}
 use Rattle.index_v2.specs.RowOrder.{BeginsAt}
@@ -36,6 +40,18 @@ other_name m row differs = rw (bytes_eq_differs row.name m.name differs) refl
 pub own_name : (m : Matcher) (row : PostingsRow) → row.name ≡ m.name → decides m row ≡ (if is_accepted m.condition [] then not (is_accepted m.condition row.value) else is_accepted m.condition row.value)
 own_name m row same = rw (same, bytes_eq_self m.name) refl
 
+chosen_is : (empty a r : Bool) → beq a (not empty) ≡ r → (if empty then not a else a) ≡ r
+chosen_is true true r e = e
+chosen_is true false r e = e
+chosen_is false true r e = e
+chosen_is false false r e = e
+
+-- a row of the matcher's name decides exactly where what is said of its value is what is wanted
+pub decides_when : (m : Matcher) (row : PostingsRow) (accepted wanted r : Bool) (asked : Condition) → asked ≡ m.condition → row.name ≡ m.name → accepted ≡ is_accepted asked row.value → wanted ≡ not (is_accepted m.condition []) → beq accepted wanted ≡ r → decides m row ≡ r
+decides_when m row accepted wanted r asked same name a w e =
+    let a' : accepted ≡ is_accepted m.condition row.value = a ∙ ap (λ (c : Condition). is_accepted c row.value) same in
+    own_name m row name ∙ chosen_is (is_accepted m.condition []) (is_accepted m.condition row.value) r ((λ i. beq (sym a' i) (sym w i)) ∙ e)
+
 differs : (one other : List ℕ) → compare_texts one other ≡ Less → one ≢ other
 differs one other less same = equal_not_less other (ap (λ (n : List ℕ). compare_texts n other) (sym same) ∙ less)
 
@@ -48,7 +64,7 @@ behind rows name place k first row ascend at not_below other le there same =
         | inr p ↦ other (same_text first.name row.name p.0 ∙ same)
       ]
       | inr ge ↦ let here : k ≡ place = omega arith in
-        other (ap (λ (r : PostingsRow). r.name) (same_Some first row (sym at ∙ ap (λ (i : ℕ). slice_get rows i) (sym here) ∙ there)) ∙ same)
+          other (ap (λ (r : PostingsRow). r.name) (same_Some first row (sym at ∙ ap (λ (i : ℕ). slice_get rows i) (sym here) ∙ there)) ∙ same)
     ]
 
 -- ---- filters of the front of a list
@@ -161,3 +177,29 @@ walk_stop held m first place listed row ascend begins far at other =
 pub walk_end : (held : Held) (m : Matcher) (first place : ℕ) (listed : List ℕ) → ReadSoFar held m first place listed → length held.rows ≤ place → AllRead held m listed
 walk_end held m first place listed far le =
     all_read held m first place listed far (rest_fails (decides m) place held.rows (λ k r past there. let within = slice_get_within held.rows k r there in absurd (omega arith)))
+
+-- ---- what the calls say
+
+module _ (held : Held) (m : Matcher) (first place : ℕ) (listed : List ℕ) (row : PostingsRow) (far : ReadSoFar held m first place listed) (at : ◌≡◌ {A = Option PostingsRow} (Some row) (slice_get held.rows place)) where
+  pub passed : (new : List ℕ) → decides m row ≡ false → new ≡ listed → ReadSoFar held m first (place + 1) new
+  passed new not_it e = subst (ReadSoFar held m first (place + 1)) (sym e) (walk_past held m first place listed row far (sym at) not_it)
+
+  pub went_on : (new list : List ℕ) → decides m row ≡ true → list_of held.lists (slice_get held.rows place) ≡ Ok list
+      → ((opened : Opened) → IsHeldOf held opened → (r : PostingsRow) → slice_get opened.rows place ≡ Some r → IsPostings opened.bytes r.offset list)
+      → new ≡ listed ++ list → ReadSoFar held m first (place + 1) new
+  went_on new list it read found e =
+      walk_on held m first place listed new list row far (sym at) it (ap (list_of held.lists) at ∙ read) (λ opened is. found opened is row (ap (λ (rows : List PostingsRow). slice_get rows place) (sym is.rows_are) ∙ sym at)) e
+
+  pub stopped : (e : IndexRefusal) → decides m row ≡ true → list_of held.lists (slice_get held.rows place) ≡ Err e → numbers_at held.lists (filter (decides m) held.rows) ≡ Err e
+  stopped e it refused = walk_refused held m first place listed row e far (sym at) it (ap (list_of held.lists) at ∙ refused)
+
+-- the list of the first row
+first_stands : (held : Held) (rows : List PostingsRow) (numbers : List ℕ) → held.rows ≡ rows → list_of held.lists (slice_get rows 0) ≡ Ok numbers
+    → ((opened : Opened) → IsHeldOf held opened → (r : PostingsRow) → slice_get opened.rows 0 ≡ Some r → IsPostings opened.bytes r.offset numbers) → ListsStand held (take 1 rows)
+first_stands held [] numbers same read found = stand_none held
+first_stands held (row ∷ rows) numbers same read found = stand_one held row numbers read (λ opened is. found opened is row (ap (λ (xs : List PostingsRow). slice_get xs 0) (sym is.rows_are ∙ same)))
+
+pub first_stand : (held : Held) (r : Result (List ℕ) IndexRefusal) → Gives NoMemory (λ x. x) r (list_of held.lists (slice_get held.rows 0))
+    → ((opened : Opened) → IsHeldOf held opened → (row : PostingsRow) → slice_get opened.rows 0 ≡ Some row → IfOk r (λ numbers. IsPostings opened.bytes row.offset numbers)) → OnOk r (ListsStand held (take 1 held.rows))
+first_stand held (Ok numbers) read found = first_stands held held.rows numbers refl read found
+first_stand held (Err e) read found = tt

@@ -1,5 +1,5 @@
-ghost use Rattle.std.specs.Prelude.{◌≡◌, ◌⊎◌, ℕ, List, [], All, IfOk, IfErr, IsOk, OnOk, Err, MatchResult, if◌then◌else◌};
-ghost use Rattle.std.specs.List.{Contains};
+ghost use Rattle.std.specs.Prelude.{◌≡◌, ◌⊎◌, ℕ, List, [], Some, Ok, Err, IfOk, IfErr, IsOk, OnOk, MatchResult, if◌then◌else◌};
+ghost use Rattle.std.specs.List.{Contains, filter, flat_map};
 ghost use Rattle.std.specs.List.Sorted.{IsStrictlyIncreasing};
 ghost use Rattle.reading_core.specs.Reading.{Gives};
 ghost use Rattle.label_sets.specs.Labels.{value_of};
@@ -7,17 +7,17 @@ ghost use Rattle.matchers.specs.Selectors.{is_accepted};
 ghost use Rattle.matchers.specs.SelectorText.{named_replicas};
 ghost use Rattle.index_parts.specs.Postings.{IsPostings};
 ghost use Rattle.index_parts.specs.declared.postings_row.PostingsRow.{PostingsRow};
-ghost use Rattle.index_slices.specs.Parts.{file, list_in, HoldsSection};
+ghost use Rattle.index_slices.specs.Parts.{file, HoldsSection};
 ghost use Rattle.index_file.specs.IndexFile.{IsIndex};
 ghost use Rattle.index_file.specs.Opened.{Opened};
 ghost use Rattle.index_file.specs.declared.index_series.IndexSeries.{IndexSeries};
-ghost use Rattle.index_v2.specs.Held.{IsHeldOf};
+ghost use Rattle.index_v2.specs.Held.{IsWhole, IsHeldOf};
 ghost use Rattle.index_v2.specs.PostingsLists.{list_of};
 ghost use Rattle.index_v2.specs.WholeReading.{lists_at};
 ghost use Rattle.index_v2.specs.declared.refusal.IndexRefusal.{IndexRefusal};
 ghost use Rattle.index_v2.specs.declared.refusal.IndexRefusal.TheVariants.{NoMemory};
-ghost use Rattle.series_selection.specs.Selections.{rows_read, IsSelection, AreMatching};
-ghost use Rattle.series_selection.specs.SelectionSteps.{left_by, left_at, selected_at};
+ghost use Rattle.series_selection.specs.Selections.{decides, deciding, rows_read, IsSelection, AreMatching};
+ghost use Rattle.series_selection.specs.SelectionSteps.{left_by, left_by_rows, left_at, selected_at, ListsStand};
 
 use crate::keeping::kept;
 use crate::rows::{all_listed, listed_under};
@@ -65,13 +65,21 @@ pub fn select_postings(
         ⊎ (lists_at (file opened.bytes) (rows_read external.now opened.rows selector.now) ≡ Err e)) }
 
     // In an index of a list of series these are exactly the numbers of the series whose final labels match, whatever replica
-    // labels are left out that the selector does not name; and nothing but memory is wanting.
+    // labels are left out that the selector does not name. Where the lists lie in what is held, as they do in a whole file,
+    // nothing but memory is wanting.
     ensures matching { (bytes : List ℕ) (list : List IndexSeries) (is : IsIndex bytes list)
         → IsHeldOf index.now is.opened
         → (replicas : List (List ℕ)) → named_replicas replicas selector.now ≡ []
         → IfOk result (λ numbers.
         AreMatching is.listed external.now replicas selector.now numbers) }
-    ensures agrees { (list : List IndexSeries) (is : IsIndex index.now.bytes list)
+    ensures wanting { (bytes : List ℕ) (list : List IndexSeries) (is : IsIndex bytes list)
+        → IsHeldOf index.now is.opened
+        → ((row : PostingsRow)
+        → Contains (rows_read external.now index.now.rows selector.now) row
+        → HoldsSection index.now.lists row.offset)
+        → IfErr result (λ e. e ≡ NoMemory) }
+    ensures agrees { IsWhole index.now
+        → (list : List IndexSeries) (is : IsIndex index.now.bytes list)
         → (replicas : List (List ℕ)) → named_replicas replicas selector.now ≡ []
         → MatchResult result (λ numbers.
         AreMatching is.listed external.now replicas selector.now numbers) (λ e. e ≡ NoMemory) }
@@ -90,6 +98,8 @@ fn selected(
     ensures gives { Gives NoMemory (λ numbers. numbers) result
         (selected_at index.now external.now selector.now) }
     ensures rises { IfOk result IsStrictlyIncreasing }
+    ensures stand { OnOk result
+        (ListsStand index.now (rows_read external.now index.now.rows selector.now)) }
 {
     let listed = all_listed(alloc, index)?;
     left_by_all(alloc, index, selector.matchers(), external, listed)
@@ -107,6 +117,8 @@ fn left_by_all(
     ensures gives { Gives NoMemory (λ left. left) result
         (left_at index.now external.now matchers.now numbers) }
     ensures rises { IfOk result IsStrictlyIncreasing }
+    ensures stand { OnOk result (ListsStand index.now
+        (flat_map (deciding external.now index.now.rows) matchers.now)) }
 {
     let mut left = numbers;
     for matcher in matchers {
@@ -128,6 +140,8 @@ fn left_by(
         (left_by (value_of external.now matcher.now.name) index.now.lists index.now.rows
         matcher.now numbers) }
     ensures rises { IfOk result IsStrictlyIncreasing }
+    ensures stand { OnOk result
+        (ListsStand index.now (deciding external.now index.now.rows matcher.now)) }
 {
     match external.value(matcher.name.as_str()) {
         Some(value) => left_by_value(alloc, matcher, value, numbers),
@@ -167,6 +181,8 @@ fn left_by_rows(
     ensures gives { Gives NoMemory (λ left. left) result
         (left_by_rows index.now.lists index.now.rows matcher.now numbers) }
     ensures rises { IfOk result IsStrictlyIncreasing }
+    ensures stand { OnOk result
+        (ListsStand index.now (filter (decides matcher.now) index.now.rows)) }
 {
     let mut searcher = matcher.condition.searcher()?;
     let wanted = !searcher.accepts("");
