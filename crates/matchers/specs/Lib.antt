@@ -4,6 +4,7 @@ pub use Rattle.label_sets.specs.Triples
 pub mod Patterns
 pub mod Searches
 pub mod Selectors
+pub mod ConditionSearches
 pub mod SelectorText
 pub mod SelectorRefusals
 pub mod Stages

@@ -1,7 +1,8 @@
 ghost use Rattle.std.specs.Prelude.{◌≡◌, IfOk, IsOk, false};
 ghost use Rattle.matchers.specs.Selectors.{has_pattern, is_accepted};
+ghost use Rattle.matchers.specs.ConditionSearches.{condition_asked};
 
-use crate::Pattern;
+use crate::{ConditionSearcher, Pattern};
 use label_sets::Text;
 use list_core::NoMemory;
 
@@ -41,6 +42,21 @@ impl Condition {
             Condition::NotEqual(asked) => Ok(value != asked.as_str()),
             Condition::Matches(pattern) => Ok(pattern.matches(value)?),
             Condition::MatchesNot(pattern) => Ok(!pattern.matches(value)?),
+        }
+    }
+    /// What asks many values of this condition. Without a pattern it takes no memory.
+    #[tactic(auto, unfolding(crate::specs::Selectors::has_pattern))]
+    pub fn searcher(&self) -> Result<ConditionSearcher<'_>, NoMemory>
+        ensures value { IfOk result (λ searcher. condition_asked searcher ≡ self.now) }
+        ensures plain { has_pattern self.now ≡ false → IsOk result }
+    {
+        match self {
+            Condition::Equal(asked) => Ok(ConditionSearcher::Equal(asked.as_str())),
+            Condition::NotEqual(asked) => Ok(ConditionSearcher::NotEqual(asked.as_str())),
+            Condition::Matches(pattern) => Ok(ConditionSearcher::Matches(pattern.searcher()?)),
+            Condition::MatchesNot(pattern) => Ok(ConditionSearcher::MatchesNot(
+                pattern.searcher()?,
+            )),
         }
     }
 }

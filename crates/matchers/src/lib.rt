@@ -4,6 +4,7 @@
 mod asked;
 mod building;
 mod condition;
+mod condition_searcher;
 mod draft;
 mod matcher;
 mod names;
@@ -17,6 +18,7 @@ mod selector_refusal;
 mod stage;
 
 pub use condition::Condition;
+pub use condition_searcher::ConditionSearcher;
 pub use matcher::Matcher;
 pub use pattern::Pattern;
 pub use pattern_refusal::PatternRefusal;

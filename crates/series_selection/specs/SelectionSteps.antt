@@ -1,0 +1,54 @@
+-- What selecting series gives, matcher by matcher, or the first refusal.
+use Rattle.std.specs.Prelude.{◌≡◌, ℕ, List, [], ◌∷◌, slice_get, Option, Some, None, Bool, not, Result, Ok, ◌==◌, if◌then◌else◌}
+use Rattle.std.specs.List.{Contains, filter, flat_map, list_any}
+use Rattle.reading_core.specs.Reading.{◌>>=◌}
+use Rattle.label_sets.specs.declared.label.Label.{Label}
+use Rattle.label_sets.specs.Labels.{value_of}
+use Rattle.matchers.specs.declared.matcher.Matcher.{Matcher}
+use Rattle.matchers.specs.Selectors.{is_accepted}
+use Rattle.index_parts.specs.declared.postings_row.PostingsRow.{PostingsRow}
+use Rattle.index_parts.specs.Postings.{IsPostings}
+use Rattle.index_slices.specs.Parts.{Part}
+use Rattle.index_file.specs.Opened.{Opened}
+use Rattle.index_v2.specs.declared.refusal.IndexRefusal.{IndexRefusal}
+use Rattle.index_v2.specs.Held.{Held, IsHeldOf}
+use Rattle.index_v2.specs.PostingsLists.{list_of}
+use Rattle.index_v2.specs.WholeReading.{lists_at}
+use Rattle.series_selection.specs.Selections.{decides}
+
+-- whether the number is one of these
+abbrev pub is_one_of : List ℕ → ℕ → Bool
+is_one_of numbers number = list_any (λ n. n == number) numbers
+
+-- those that are among the others, or those that are not
+abbrev pub kept : Bool → List ℕ → List ℕ → List ℕ
+kept wanted others numbers = filter (λ n. if wanted then is_one_of others n else not (is_one_of others n)) numbers
+
+-- the numbers in the lists of rows, list by list
+unfoldable pub numbers_at : Part → List PostingsRow → Result (List ℕ) IndexRefusal
+numbers_at part rows = do
+  lists ← lists_at part rows
+  Ok (flat_map (λ list. list) lists)
+
+-- those that a matcher leaves of numbers, by the rows
+unfoldable pub left_by_rows : Part → List PostingsRow → Matcher → List ℕ → Result (List ℕ) IndexRefusal
+left_by_rows part rows m numbers = do
+  listed ← numbers_at part (filter (decides m) rows)
+  Ok (kept (not (is_accepted m.condition [])) listed numbers)
+
+-- by the external label of its name, or by the rows
+abbrev pub left_by : Option (List ℕ) → Part → List PostingsRow → Matcher → List ℕ → Result (List ℕ) IndexRefusal
+left_by (Some value) part rows m numbers = Ok (if is_accepted m.condition value then numbers else [])
+left_by None part rows m numbers = left_by_rows part rows m numbers
+
+unfoldable pub left_at : Held → List Label → List Matcher → List ℕ → Result (List ℕ) IndexRefusal
+left_at held external [] numbers = Ok numbers
+left_at held external (m ∷ selector) numbers = left_by (value_of external m.name) held.lists held.rows m numbers >>= left_at held external selector
+
+-- the list of the first row, and what each matcher leaves of it
+unfoldable pub selected_at : Held → List Label → List Matcher → Result (List ℕ) IndexRefusal
+selected_at held external selector = list_of held.lists (slice_get held.rows 0) >>= left_at held external selector
+
+-- The lists that are read of these rows stand so in each index of which this is held.
+abbrev pub ListsStand : Held → List PostingsRow → Type 0
+ListsStand held rows = (opened : Opened) → IsHeldOf held opened → (row : PostingsRow) → Contains rows row → (list : List ℕ) → list_of held.lists (Some row) ≡ Ok list → IsPostings opened.bytes row.offset list
