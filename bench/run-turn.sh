@@ -1,0 +1,33 @@
+#!/usr/bin/env bash
+# Times 100,000 operations on a shared world, done by one pass and by two in threads of their own, prints a table, and says
+# whether the bar is met: two passes take at most five times as long as one.
+# CPU names the processor that the code is built for.
+set -euo pipefail
+top=$(cd "$(dirname "$0")/.." && pwd)
+cpu=${CPU:-x86-64-v3}
+made=$(mktemp -d)
+trap 'rm -rf "$made"' EXIT
+
+# A repository of its own for the program, over this one's crates and what their checks kept.
+own=$made/crates/turn_speed
+mkdir -p "$own/src"
+cp "$top/bench/turn_speed/main.rt.txt" "$own/src/main.rt"
+cp "$top/HANDLES" "$made/HANDLES"
+below="list_core reading_core wire_bytes ulid_core label_sets moment_core block_keys bucket_core world_core world_turn"
+for name in $below; do cp -a "$top/crates/$name" "$made/crates/$name"; done
+for name in $below; do grep "^$name:" "$top/crates.txt"; done >"$made/crates.txt"
+echo "turn_speed: list_core wire_bytes ulid_core label_sets moment_core block_keys bucket_core world_core world_turn" >>"$made/crates.txt"
+(cd "$own" && rt run --cpu "$cpu" >"$made/lines" 2>"$made/run.log") || { tail -20 "$made/run.log"; exit 1; }
+
+awk '$1 ~ /^(one|two)$/ && NF == 3 {
+    if ($3 != 100000) wrong = 1
+    if (!($1 in time) || $2 < time[$1]) time[$1] = $2
+    all[$1] = all[$1] " " int($2 / 100000)
+}
+END {
+    print "| 100,000 operations | ns each, the best of nine | each of the nine |\n|---|---|---|"
+    printf "| by one pass | %.0f |%s |\n", time["one"] / 100000, all["one"]
+    printf "| by two passes | %.0f |%s |\n", time["two"] / 100000, all["two"]
+    printf "\nRatio %.2f; the bar is 5.\n", time["two"] / time["one"]
+    print wrong ? "A journal has not all entries." : (time["two"] > 5 * time["one"] ? "Missed." : "The bar is met.")
+}' "$made/lines"

@@ -1,0 +1,6 @@
+pub mod Seating
+pub mod Ending
+pub mod Taking
+pub mod Ready
+pub mod Joined
+pub mod Refused

@@ -1,0 +1,9 @@
+pub mod Hands
+pub mod Works
+pub mod Phases
+pub use Rattle.world_core.specs.Operations
+pub use Rattle.world_core.specs.Keeping
+pub use Rattle.world_core.specs.Machines
+pub use Rattle.world_turn.specs.Seats
+pub use Rattle.world_turn.specs.Passes
+pub use Rattle.world_turn.specs.Closing

@@ -1,0 +1,5 @@
+/// What is asked before each operation of a worker. It may hold the worker up, and no other.
+pub trait Gate {
+    /// The seat has done so many operations, and is about to ask for the next.
+    fn before(&self, seat: u32, number: u64);
+}

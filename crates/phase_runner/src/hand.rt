@@ -1,0 +1,123 @@
+ghost use Rattle.std.specs.Prelude.{◌≡◌, ◌||◌, false};
+ghost use Rattle.world_core.specs.Machines.{is_full};
+ghost use Rattle.world_turn.specs.Passes.{table_of, view_of};
+
+use crate::Gate;
+use bucket_core::Bucket;
+use std::marker::Model;
+use std::sync::Wait;
+use world_core::{Acted, Hand, Op};
+use world_turn::{Pass, Shared};
+
+/// A hand that does the operations of one pass on a shared world.
+pub struct TurnHand<'a, B: Bucket, G: Gate, R: Wait> {
+    shared: &'a Shared<B>,
+    gate: &'a G,
+    rt: &'a R,
+    /// It is away only while an operation is done.
+    pass: Option<Pass>,
+    /// How many operations were done.
+    number: u64,
+    refused: bool,
+}
+
+impl<'a, B: Bucket, G: Gate, R: Wait> Model for TurnHand<'a, B, G, R> {
+    ghost use Rattle.phase_runner.specs.Hands.{HandView, view_in, seat_in, IsThere};
+
+    ghost Value = { HandView };
+
+    ghost view = { λ h. record {
+      table = h.shared.now.table.shared.table_id;
+      seat = seat_in h.pass;
+      view = view_in h.pass;
+      refused = h.refused;
+    } };
+
+    ghost invariant = { λ h. IsThere h.shared.now.table.shared.table_id h.pass };
+}
+
+impl<'a, B: Bucket, G: Gate, R: Wait> TurnHand<'a, B, G, R> {
+    /// A hand of this pass, which has been refused nothing yet.
+    pub fn new(shared: &'a Shared<B>, gate: &'a G, rt: &'a R, pass: Pass) -> Self
+        requires { table_of pass ≡ shared.now.table.shared.table_id }
+        ensures pass { (result.table ≡ table_of pass) × (result.seat ≡ pass.seat)
+            × (result.view ≡ view_of pass) }
+        ensures refused { result.refused ≡ false }
+    {
+        TurnHand {
+            shared,
+            gate,
+            rt,
+            pass: Some(pass),
+            number: 0,
+            refused: false,
+        }
+    }
+
+    /// Hands the pass back.
+    pub fn into_pass(self) -> Pass
+        ensures { (table_of result ≡ self.entry.table) × (result.seat ≡ self.entry.seat)
+            × (view_of result ≡ self.entry.view) }
+    {
+        let TurnHand {
+            shared: _,
+            gate: _,
+            rt: _,
+            pass,
+            number: _,
+            refused: _,
+        } = self;
+        match pass {
+            Some(pass) => pass,
+            None => unreachable!(),
+        }
+    }
+}
+
+impl<'a, B: Bucket, G: Gate, R: Wait> Hand for TurnHand<'a, B, G, R> {
+    ghost use Rattle.std.specs.Prelude.{Some};
+    ghost use Rattle.phase_runner.specs.Hands.{GoesOn, goes_on-none, goes_on-more};
+
+    ghost entries = { λ hand. hand.view.own };
+
+    ghost seat = { λ hand. hand.seat };
+
+    ghost front = { λ hand. Some hand.view.front };
+
+    ghost refused = { λ hand. hand.refused };
+
+    ghost keeps = { GoesOn };
+
+    ghost keeps_none = { goes_on-none };
+
+    ghost keeps_more = { goes_on-more };
+
+    fn act(&mut self, op: Op) -> Acted {
+        let Some(pass) = self.pass.take() else {
+            unreachable!()
+        };
+        self.gate.before(pass.seat(), self.number);
+        let (acted, pass) = self.shared.act(self.rt, pass, op);
+        self.number = number_after(self.number, &acted);
+        self.refused = refused_after(self.refused, &acted);
+        self.pass = Some(pass);
+        acted
+    }
+}
+
+/// How many operations were done, with this one.
+fn number_after(number: u64, acted: &Acted) -> u64 {
+    match acted {
+        Acted::Done(_) => number.saturating_add(1),
+        Acted::Full | Acted::NoMemory => number,
+    }
+}
+
+fn refused_after(refused: bool, acted: &Acted) -> bool
+    ensures { result ≡ (refused || is_full acted.now) }
+{
+    match acted {
+        Acted::Full => true,
+        Acted::Done(_) | Acted::NoMemory => refused,
+    }
+}

@@ -1,0 +1,23 @@
+ghost use Rattle.std.specs.Prelude.{◌≡◌, ◌++◌, List};
+ghost use Rattle.world_core.specs.declared.entry.Entry.{Entry};
+
+use world_core::Hand;
+
+/// What one worker of a phase does.
+pub trait Job {
+    ghost use Rattle.std.specs.Prelude.{ℕ, List, Option};
+    ghost use Rattle.world_core.specs.declared.entry.Entry.{Entry};
+
+    type End: Drop;
+
+    /// A job of this seat may make these entries, in order, have seen this front at its end, where its hand tells one, and
+    /// come to this end.
+    ghost may: { Self → ℕ → List Entry → Option (List Entry) → Self.End → Type 0 };
+
+    /// Does the job through a hand.
+    fn run<H: Hand>(self, hand: &mut H) -> Self::End
+        ensures run { (made : List Entry) × (H.entries hand.new ≡ H.entries hand.old ++ made)
+            × may self (H.seat hand.old) made (H.front hand.new) result }
+        ensures seat { H.seat hand.new ≡ H.seat hand.old }
+        ensures keeps { H.keeps hand.old hand.new };
+}

@@ -1,0 +1,13 @@
+//! The workers of one phase, each in a thread of its own, over one shared world.
+#![tactic(auto)]
+
+mod gate;
+mod hand;
+mod job;
+mod phase;
+mod work;
+
+pub use gate::Gate;
+pub use hand::TurnHand;
+pub use job::Job;
+pub use phase::{PhaseEnd, run_phase};

@@ -1,0 +1,65 @@
+ghost use Rattle.std.specs.Prelude.{◌≡◌, ℕ, ◌<◌, length, All, slice_index_or};
+ghost use Rattle.phase_runner.specs.Works.{IsReady, IsDone};
+
+use crate::{Gate, Job, TurnHand};
+use bucket_core::Bucket;
+use std::sync::Wait;
+use std::thread;
+use std::thread::Threads;
+use world_turn::{Pass, Shared};
+
+/// The place of one worker: its job before, and its end after.
+#[derive(Drop)]
+pub(crate) struct Work<J: Job> {
+    pub(crate) job: Option<J>,
+    pub(crate) pass: Option<Pass>,
+    pub(crate) end: Option<J::End>,
+}
+
+/// Does the job that waits at a place.
+fn run_one<B: Bucket, J: Job + Drop, G: Gate, R: Wait>(
+    rt: &R,
+    shared: &Shared<B>,
+    gate: &G,
+    work: &mut Work<J>,
+)
+    requires { IsReady shared.now.table.shared.table_id work.old.job work.old.pass }
+    ensures { IsDone J.may work.old.job work.old.pass work.new.end work.new.pass }
+{
+    let Some(job) = work.job.take() else {
+        unreachable!()
+    };
+    let Some(pass) = work.pass.take() else {
+        unreachable!()
+    };
+    let mut hand = TurnHand::new(shared, gate, rt, pass);
+    let end = job.run(&mut hand);
+    work.pass = Some(hand.into_pass());
+    work.end = Some(end);
+}
+
+/// Does all jobs, each in a thread of its own where the system makes so many.
+pub(crate) fn run_all<
+    B: Bucket + Send,
+    J: Job + Drop + Send,
+    G: Gate + Sync,
+    R: Threads + Wait + Sync,
+>(rt: &R, shared: &Shared<B>, gate: &G, works: &mut [Work<J>])
+where
+    J::End: Send,
+    requires { All (λ w. IsReady shared.now.table.shared.table_id w.job w.pass) works.old }
+    ensures { (i : ℕ) (d : _) → i < length works.old
+        → IsDone J.may (slice_index_or works.old i d).job (slice_index_or works.old i d).pass
+        (slice_index_or works.new i d).end (slice_index_or works.new i d).pass }
+{
+    if works.is_empty() {
+        return;
+    }
+    let count = works.len();
+    thread::for_each_mut(
+        rt,
+        works,
+        count,
+        &|_, work| { run_one(rt, shared, gate, work) },
+    );
+}

@@ -1,0 +1,12 @@
+pub mod Seats
+pub mod Rule
+pub mod Steps
+pub mod Turns
+pub mod Resting
+pub mod Passes
+pub mod Closing
+pub use Rattle.world_core.specs.Journals
+pub use Rattle.world_core.specs.Keeping
+pub use Rattle.world_core.specs.Machines
+pub use Rattle.world_core.specs.Moments
+pub use Rattle.world_core.specs.Operations

@@ -1,0 +1,13 @@
+//! A world behind a turn, which threads share: whoever has the turn does one operation, and every entry stands in one journal.
+#![tactic(auto)]
+
+mod pass;
+mod plays;
+mod shared;
+mod turn;
+mod view;
+
+pub use pass::Pass;
+pub use plays::Turns;
+pub use shared::Shared;
+pub use view::View;
