@@ -52,9 +52,9 @@ no_more [] ys distinct within = omega arith
 no_more {A} (x ∷ xs) ys distinct within =
     let out = taken_out x ys (within x (contains_first x xs)) in
     let others : length xs ≤ length (out.front ++ out.back) =
-        no_more xs (out.front ++ out.back) distinct.1 (λ z among. still_among x z out.front out.back
-        (λ same. distinct.0 (subst (λ (y : A). Contains xs y) (sym same) among))
-        (subst (λ (l : List A). Contains l z) out.are (within z (contains_later x z xs among)))) in
+    no_more xs (out.front ++ out.back) distinct.1 (λ z among. still_among x z out.front out.back
+    (λ same. distinct.0 (subst (λ (y : A). Contains xs y) (sym same) among))
+    (subst (λ (l : List A). Contains l z) out.are (within z (contains_later x z xs among)))) in
     omega (arith, ap length out.are, length-append out.front (x ∷ out.back), length-append out.front out.back, others)
 
 -- ---- what a value holds is smaller
@@ -163,9 +163,14 @@ length_names (l ∷ ls) = ap suc (length_names ls)
 
 labels_few : (value : Data) (labels : List Label) → AreLabels value labels → length labels ≤ size_of value
 labels_few value labels are =
-    omega (arith, length_names labels, ap size_of are.is_object, keys_few are.members,
-    no_more (names_of labels) (keys are.members) (names_distinct labels are.lawful) (λ name among.
-    let found = name_valued labels name among in key_there name are.members (string found.0) (are.same name ∙ ap (option_map string) found.1)))
+    omega (
+      arith,
+      length_names labels,
+      ap size_of are.is_object,
+      keys_few are.members,
+      no_more (names_of labels) (keys are.members) (names_distinct labels are.lawful) (λ name among.
+          let found = name_valued labels name among in key_there name are.members (string found.0) (are.same name ∙ ap (option_map string) found.1)),
+    )
 
 -- ---- the whole
 
@@ -181,9 +186,10 @@ no_thanos_few meta n none = (omega (arith, ap (λ t. length t.labels) none), ome
 thanos_few : (meta : MetaFields) (value : Data) → IsThanos value (thanos_part meta)
     → (length meta.labels ≤ size_of value) × (length meta.segment_files ≤ size_of value) × (length meta.files ≤ size_of value)
 thanos_few meta value is = (
-    few_or_none AreLabels (codes "labels") value meta.labels labels_few is.labels,
-    few_or_none (IsList _) (codes "segment_files") value meta.segment_files (list_few _) is.segment_files,
-    few_or_none (IsList _) (codes "files") value meta.files (list_few _) is.files)
+  few_or_none AreLabels (codes "labels") value meta.labels labels_few is.labels,
+  few_or_none (IsList _) (codes "segment_files") value meta.segment_files (list_few _) is.segment_files,
+  few_or_none (IsList _) (codes "files") value meta.files (list_few _) is.files,
+)
 
 thanos_or_none : (meta : MetaFields) (n : ℕ) (within : Data) → size_of within ≤ suc n → HasOr no_thanos IsThanos (codes "thanos") within (thanos_part meta)
     → (length meta.labels ≤ n) × (length meta.segment_files ≤ n) × (length meta.files ≤ n)
@@ -195,8 +201,9 @@ thanos_or_none meta n within size (inr there) =
 
 compaction_few : (meta : MetaFields) (value : Data) → IsCompaction value (compaction_part meta) → (length meta.sources ≤ size_of value) × (length meta.parents ≤ size_of value)
 compaction_few meta value is = (
-    few_or_none AreSources (codes "sources") value meta.sources sources_few is.sources,
-    few_or_none (IsList _) (codes "parents") value meta.parents (list_few _) is.parents)
+  few_or_none AreSources (codes "sources") value meta.sources sources_few is.sources,
+  few_or_none (IsList _) (codes "parents") value meta.parents (list_few _) is.parents,
+)
 
 pub meta_few : (text : List ℕ) (meta : MetaFields) → IsMetaText text meta → HasFew meta (length text)
 meta_few text meta is =
