@@ -1,7 +1,7 @@
 -- What a selection comes to, from what its parts say.
-use Rattle.std.proofs.Common.{◌≡◌, ℕ, Bool, true, false, not, List, [], ◌∷◌, ◌++◌, Option, Some, None, Result, Ok, Err, refl, sym, ap, subst, ◌∙◌, ◌⊎◌, inl, inr}
+use Rattle.std.proofs.Common.{◌≡◌, ℕ, Bool, true, false, not, List, [], ◌∷◌, Some, Result, Ok, Err, refl, sym, ap, subst, ◌∙◌, ◌⊎◌, inl, inr}
 use Rattle.std.specs.Prelude.{IfOk, IfErr, OnOk, IsOk, MatchResult, is_some, take, ◌==◌, if◌then◌else◌}
-use Rattle.std.specs.List.{Contains, filter, flat_map, list_any}
+use Rattle.std.specs.List.{Contains, filter, flat_map}
 use Rattle.std.specs.List.Sorted.{IsPermutation, IsStrictlyIncreasing}
 use Rattle.std.proofs.lemmas.List.Elements.{filter_agree, Contains-append_cases}
 use Rattle.std.proofs.lemmas.List.Sorted.{list_any-IsPermutation}
@@ -13,8 +13,8 @@ use Rattle.matchers.specs.declared.matcher.Matcher.{Matcher}
 use Rattle.matchers.specs.Selectors.{is_accepted}
 use Rattle.matchers.specs.SelectorText.{named_replicas}
 use Rattle.index_parts.specs.declared.postings_row.PostingsRow.{PostingsRow}
-use Rattle.index_parts.specs.Postings.{IsNextPosting, IsPostings}
-use Rattle.index_parts.specs.PostingsReading.{posting_at, postings_at}
+use Rattle.index_parts.specs.Postings.{IsNextPosting}
+use Rattle.index_parts.specs.PostingsReading.{posting_at}
 use Rattle.index_parts.proofs.ListLaws.{list_again}
 use Rattle.index_parts.proofs.PostingsLaws.{posting_turn}
 use Rattle.index_slices.specs.Parts.{Part, file, IsPartOf, HoldsSection}

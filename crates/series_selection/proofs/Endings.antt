@@ -1,6 +1,6 @@
 -- Where selecting is refused: where reading the lists of the rows that decide is.
-use Rattle.std.proofs.Common.{◌≡◌, ℕ, Bool, not, List, [], ◌∷◌, ◌++◌, Option, Some, None, Result, Ok, Err, refl, sym, ap, ◌∙◌, inl, inr, ◌⊎◌}
-use Rattle.std.specs.Prelude.{slice_get, is_some, if◌then◌else◌, take, IsOk, OnOk, IfErr, IfOk}
+use Rattle.std.proofs.Common.{◌≡◌, ℕ, not, List, [], ◌∷◌, ◌++◌, Option, Some, None, Result, Ok, Err, refl, sym, ap, ◌∙◌, inl, inr, ◌⊎◌}
+use Rattle.std.specs.Prelude.{slice_get, is_some, if◌then◌else◌, take, IsOk, OnOk, IfErr}
 use Rattle.std.specs.List.{Contains, filter, flat_map}
 use Rattle.list_core.proofs.Membership.{contains_first, contains_later}
 use Rattle.reading_core.specs.Reading.{◌>>=◌, ◌>>◌, refused_as, Gives}

@@ -1,7 +1,7 @@
 -- In an index of a list of series a selector takes exactly the series whose final labels match.
-use Rattle.std.proofs.Common.{◌≡◌, ◌≢◌, ℕ, zero, suc, ◌+◌, ◌<◌, Bool, true, false, cond, ◌&&◌, List, [], ◌∷◌, map, get_or, Option, Some, None, Result, Ok, Err, refl, sym, ap, subst, ◌∙◌, inl, inr, arith}
-use Rattle.std.specs.Prelude.{slice_get, MatchBool, IsTrue, IsFalse, ◌↔◌, unwrap_or, IfOk}
-use Rattle.std.specs.List.{All, Contains, filter, list_all}
+use Rattle.std.proofs.Common.{◌≡◌, ℕ, suc, ◌+◌, ◌<◌, Bool, true, false, cond, ◌&&◌, List, [], ◌∷◌, map, get_or, Option, Some, None, Result, Ok, refl, sym, ap, subst, ◌∙◌, inl, inr, arith}
+use Rattle.std.specs.Prelude.{IsTrue, IsFalse, ◌↔◌, unwrap_or}
+use Rattle.std.specs.List.{All, Contains, list_all}
 use Rattle.std.specs.List.Sorted.{IsStrictlyIncreasing}
 use Rattle.std.specs.Option.{option_or}
 use Rattle.std.specs.Str.{bytes_eq}
@@ -9,13 +9,12 @@ use Rattle.std.specs.Cmp.Lexicographic.{bytes_decides}
 use Rattle.std.proofs.lemmas.Bool.{and_parts}
 use Rattle.std.proofs.lemmas.Option.{same_Some}
 use Rattle.std.proofs.lemmas.List.Elements.{All-nil, All-cons, All-head, All-tail}
-use Rattle.list_core.proofs.Membership.{no_member, of_map, into_map, contains_first, contains_later, member_cases, place_of_member}
+use Rattle.list_core.proofs.Membership.{no_member, of_map, into_map, contains_first, contains_later, member_cases}
 use Rattle.label_sets.specs.declared.label.Label.{Label}
-use Rattle.label_sets.specs.Labels.{value_of, IsLabelSet, StandsBefore, ComesBefore, compare_texts}
+use Rattle.label_sets.specs.Labels.{value_of, IsLabelSet, StandsBefore, ComesBefore}
 use Rattle.label_sets.specs.Finals.{final_of, is_among}
 use Rattle.label_sets.proofs.FinalLabels.{value_of-final}
 use Rattle.label_sets.proofs.LabelValues.{by_bool, value_hit, value_miss, value_nil, before_differs}
-use Rattle.matchers.specs.declared.condition.Condition.{Condition}
 use Rattle.matchers.specs.declared.matcher.Matcher.{Matcher}
 use Rattle.matchers.specs.Selectors.{is_accepted, accepts, is_match, value_or_empty}
 use Rattle.matchers.specs.SelectorText.{named_replicas}
@@ -25,9 +24,9 @@ use Rattle.index_parts.specs.PostingsReading.{posting_at, postings_at}
 use Rattle.index_parts.proofs.ListLaws.{list_again}
 use Rattle.index_parts.proofs.PostingsLaws.{posting_turn}
 use Rattle.index_file.specs.declared.index_series.IndexSeries.{IndexSeries}
-use Rattle.index_file.specs.IndexFile.{IsIndex, AreListed, BelongsTo, HasRow}
+use Rattle.index_file.specs.IndexFile.{IsIndex, AreListed, BelongsTo}
 use Rattle.index_v2.proofs.ListNumbers.{numbers_rise, none_rise}
-use Rattle.series_selection.specs.Selections.{HasNumber, IsListed, StandsUnder, TakesByRows, TakesBy, IsTaken, IsSelection, AreMatching}
+use Rattle.series_selection.specs.Selections.{HasNumber, IsListed, StandsUnder, TakesByRows, TakesBy, IsSelection, AreMatching}
 use Rattle.series_selection.proofs.Taking.{taken_apart, apart_taken, taken_among, among_taken, differ}
 
 -- ---- labels of a set

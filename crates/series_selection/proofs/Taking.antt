@@ -1,5 +1,5 @@
 -- What matchers leave of numbers, by what it says which numbers the lists of rows have.
-use Rattle.std.proofs.Common.{◌≡◌, ◌≢◌, ℕ, Bool, true, false, not, List, [], ◌∷◌, ◌++◌, Option, Some, None, Result, Ok, Err, refl, sym, ap, subst, ◌∙◌, inl, inr, arith}
+use Rattle.std.proofs.Common.{◌≡◌, ℕ, Bool, true, false, not, List, [], ◌∷◌, Option, Some, None, Ok, refl, sym, subst, ◌∙◌, arith}
 use Rattle.std.specs.Prelude.{slice_get, MatchBool, IsTrue, IsFalse, is_some, if◌then◌else◌, ◌==◌, ◌↔◌, take}
 use Rattle.std.specs.List.{All, Contains, filter, flat_map}
 use Rattle.std.specs.List.Sorted.{IsStrictlyIncreasing}
@@ -9,11 +9,10 @@ use Rattle.std.proofs.lemmas.Bool.{and_parts}
 use Rattle.std.proofs.lemmas.Bool.Decides.{nat_tests}
 use Rattle.std.proofs.lemmas.List.Elements.{All-nil, All-cons, All-head, All-tail, Contains-append_left, Contains-append_right}
 use Rattle.list_core.proofs.Membership.{contains_first, no_member, member_of_any, any_of_member, member_passes, of_filter, into_filter}
-use Rattle.reading_core.specs.Reading.{◌>>=◌}
 use Rattle.reading_core.proofs.Binds.{bind_ok, ok_is}
 use Rattle.label_sets.specs.declared.label.Label.{Label}
 use Rattle.label_sets.specs.Labels.{value_of}
-use Rattle.label_sets.proofs.LabelValues.{by_bool, bytes_eq_self}
+use Rattle.label_sets.proofs.LabelValues.{by_bool}
 use Rattle.matchers.specs.declared.matcher.Matcher.{Matcher}
 use Rattle.matchers.specs.Selectors.{is_accepted}
 use Rattle.index_parts.specs.declared.postings_row.PostingsRow.{PostingsRow}
@@ -21,7 +20,7 @@ use Rattle.index_slices.specs.Parts.{Part}
 use Rattle.index_v2.specs.declared.refusal.IndexRefusal.{IndexRefusal}
 use Rattle.index_v2.specs.Held.{Held}
 use Rattle.index_v2.specs.PostingsLists.{list_of}
-use Rattle.series_selection.specs.Selections.{HasNumber, IsListed, StandsUnder, TakesByRows, TakesBy, IsTaken, IsSelection, decides, deciding, rows_read}
+use Rattle.series_selection.specs.Selections.{HasNumber, IsListed, StandsUnder, TakesByRows, TakesBy, IsSelection, decides, deciding, rows_read}
 use Rattle.series_selection.specs.SelectionSteps.{is_one_of, kept, numbers_at, left_by_rows, left_by, left_at, selected_at}
 use Rattle.series_selection.proofs.NumbersRead.{of_numbers, each_read}
 use Rattle.series_selection.proofs.Walk.{own_name}

@@ -1,9 +1,9 @@
 -- The walk over the rows of a matcher's name: what was read of the rows before a place.
-use Rattle.std.proofs.Common.{◌≡◌, ◌≢◌, ℕ, zero, suc, ◌+◌, ◌<◌, ◌≤◌, Bool, true, false, cond, List, [], ◌∷◌, ◌++◌, length, take, drop, Option, Some, None, Result, Ok, Err, refl, sym, ap, subst, ◌∙◌, arith, inl, inr}
+use Rattle.std.proofs.Common.{◌≡◌, ◌≢◌, ℕ, zero, suc, ◌+◌, ◌<◌, ◌≤◌, Bool, true, false, cond, List, [], ◌∷◌, ◌++◌, length, take, drop, Option, Some, Result, Ok, Err, refl, sym, ap, subst, ◌∙◌, arith, inl, inr}
 use mathlib.Core.Bool.{beq}
 use Rattle.std.specs.Prelude.{slice_get, not, if◌then◌else◌, OnOk, IfOk}
 use Rattle.reading_core.specs.Reading.{Gives}
-use Rattle.std.specs.List.{Contains, filter}
+use Rattle.std.specs.List.{filter}
 use Rattle.std.specs.List.Sorted.{IsStrictlySortedBy}
 use Rattle.std.specs.declared.cmp.Ordering.TheVariants.{Less}
 use Rattle.std.proofs.lemmas.Bool.{cases_lt}
@@ -20,7 +20,7 @@ use Rattle.index_parts.specs.declared.postings_row.PostingsRow.{PostingsRow}
 use Rattle.index_parts.specs.Postings.{IsPostings}
 use Rattle.index_parts.specs.Rows.{compare_rows}
 use Rattle.index_file.specs.Opened.{Opened}
-use Rattle.index_file.proofs.Members.{less_at}
+use Rattle.list_core.proofs.Order.{Less-at_places}
 use Rattle.index_v2.specs.declared.refusal.IndexRefusal.{IndexRefusal}
 use Rattle.index_v2.specs.declared.refusal.IndexRefusal.TheVariants.{NoMemory}
 use Rattle.index_v2.specs.Held.{Held, IsHeldOf}
@@ -59,7 +59,7 @@ differs one other less same = equal_not_less other (ap (λ (n : List ℕ). compa
 behind : (rows : List PostingsRow) (name : List ℕ) (place k : ℕ) (first row : PostingsRow) → IsStrictlySortedBy compare_rows rows → slice_get rows place ≡ Some first → compare_texts first.name name ≢ Less → first.name ≢ name → place ≤ k → slice_get rows k ≡ Some row → row.name ≢ name
 behind rows name place k first row ascend at not_below other le there same =
     elim (cases_lt place k) [
-      | inl lt ↦ elim (name_le (compare_texts first.name row.name) (compare_texts first.value row.value) (less_at compare_rows rows place k first row ascend lt at there)) [
+      | inl lt ↦ elim (name_le (compare_texts first.name row.name) (compare_texts first.value row.value) (Less-at_places compare_rows rows place k first row ascend lt at there)) [
         | inl less ↦ not_below (ap (λ (n : List ℕ). compare_texts first.name n) (sym same) ∙ less)
         | inr p ↦ other (same_text first.name row.name p.0 ∙ same)
       ]

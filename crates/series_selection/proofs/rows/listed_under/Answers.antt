@@ -24,7 +24,7 @@ loop-place-preserved c =
       | then-accepts-wanted+in_ok-numbers+in_ok-extend_from_slice w ↦ (
         c.loop-place.invariant.0,
         went_on held m _ c.loop-place.place _ row far c.in-Some.ensures _ _ (decides_when m row c.accepts.result c.args.wanted true _ asks name c.accepts.ensures.value c.requires.decides w.if-accepts-wanted.true) w.in_ok-numbers.ensures.exact w.in_ok-numbers.ensures.found
-        (ap (λ (v : Vec ℕ Global). v.items) w.listed-is ∙ w.in_ok-extend_from_slice.ensures.items ∙ ap (λ (xs : List ℕ). c.loop-place.listed.items ++ xs) w.members.ensures),
+            (ap (λ (v : Vec ℕ Global). v.items) w.listed-is ∙ w.in_ok-extend_from_slice.ensures.items ∙ ap (λ (xs : List ℕ). c.loop-place.listed.items ++ xs) w.members.ensures),
         c.accepts.ensures.same ∙ asks,
       )
       | else-accepts-wanted w ↦ (
