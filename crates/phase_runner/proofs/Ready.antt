@@ -1,9 +1,9 @@
 -- Seated workers are ready, and as many as the jobs.
-use Rattle.std.proofs.Common.{◌≡◌, ℕ, zero, suc, ◌+◌, ◌<◌, ◌++◌, List, [], ◌∷◌, length, Option, Some, None, slice_index_or, map, take, drop, refl, sym, ap, ◌∙◌, subst, arith}
+use Rattle.std.proofs.Common.{◌≡◌, ℕ, zero, suc, ◌+◌, ◌<◌, ◌++◌, List, [], ◌∷◌, length, Option, Some, None, slice_index_or, map, take, drop, refl, ap, arith}
 use Rattle.atomic_table.specs.Seated.{TableId}
 use Rattle.world_turn.specs.declared.pass.Pass.{Pass}
 use Rattle.world_turn.specs.declared.view.View.{View}
-use Rattle.phase_runner.specs.Phases.{IsSeated, AreSeated}
+use Rattle.phase_runner.specs.Phases.{AreSeated}
 use Rattle.phase_runner.specs.Works.{IsReady}
 use Rattle.phase_runner.specs.declared.work.Work.{Work}
 

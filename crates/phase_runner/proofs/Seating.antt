@@ -1,5 +1,5 @@
 -- Splitting one pass more.
-use Rattle.std.proofs.Common.{◌≡◌, ℕ, zero, suc, ◌+◌, ◌<◌, ◌++◌, List, [], ◌∷◌, length, length-append, Option, Some, None, slice_index_or, remove, refl, sym, ap, ◌∙◌, subst, arith, append_assoc, append-nil}
+use Rattle.std.proofs.Common.{◌≡◌, ℕ, ◌+◌, ◌<◌, ◌++◌, List, [], ◌∷◌, length, length-append, Option, Some, None, slice_index_or, remove, refl, sym, ap, ◌∙◌, subst, arith, append_assoc, append-nil}
 use Rattle.atomic_table.specs.Seated.{TableId}
 use Rattle.world_turn.specs.Passes.{table_of, view_of}
 use Rattle.world_turn.specs.Turns.{IsNew, IsSplit}

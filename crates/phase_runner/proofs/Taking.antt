@@ -1,9 +1,8 @@
 -- Taking in one ended worker more.
-use Rattle.std.proofs.Common.{◌≡◌, ℕ, zero, suc, ◌+◌, ◌<◌, ◌≤◌, ◌++◌, List, [], ◌∷◌, length, length-append, max, Option, Some, None, refl, sym, ap, ◌∙◌, subst, arith, append_assoc, append-nil, le_refl}
+use Rattle.std.proofs.Common.{◌≡◌, ℕ, ◌+◌, ◌≤◌, ◌++◌, List, [], ◌∷◌, length, length-append, max, Option, Some, None, refl, sym, ap, ◌∙◌, subst, arith, append_assoc, append-nil, le_refl}
 use Rattle.atomic_table.specs.Seated.{TableId}
 use Rattle.world_core.specs.declared.entry.Entry.{Entry}
 use mathlib.Core.List.{IsPrefix}
-use Rattle.world_turn.specs.Seats.{Stand}
 use Rattle.world_turn.specs.Passes.{table_of, view_of}
 use Rattle.world_turn.specs.Turns.{IsJoined}
 use Rattle.world_turn.specs.declared.pass.Pass.{Pass}

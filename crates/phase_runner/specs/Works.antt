@@ -1,5 +1,5 @@
 -- What a worker's place holds before and after its job was done.
-use Rattle.std.specs.Prelude.{◌≡◌, ℕ, ◌++◌, List, Option, Some, None}
+use Rattle.std.specs.Prelude.{◌≡◌, ℕ, ◌++◌, List, Option, Some}
 use Rattle.atomic_table.specs.Seated.{TableId}
 use Rattle.world_core.specs.declared.entry.Entry.{Entry}
 use Rattle.world_turn.specs.Passes.{table_of, view_of}

@@ -16,7 +16,7 @@ use Rattle.world_turn.specs.declared.view.View.{View}
 use Rattle.world_turn.specs.Seats.{of_seat}
 use Rattle.world_turn.specs.Rule.{Fits, IsKept, Rule, root, spent}
 use Rattle.world_turn.specs.Closing.{AllJoined, Closes}
-use Rattle.world_turn.specs.Steps.{holding, adding, leaving, leaving_full, looking, one_more, next_seat, longer, joining, comparing, Lies, Takes, Appends, Gives, GivesFull, Counts, Compares}
+use Rattle.world_turn.specs.Steps.{holding, adding, leaving, leaving_full, looking, one_more, next_seat, joining, comparing, Lies, Takes, Appends, Gives, GivesFull, Counts, Compares}
 use Rattle.world_turn.proofs.Fronts.{of_seat-own, of_seat-other, front_whole, front_none, front_more, front_length, one_last, longer_front, longer_first, longer_second}
 
 pub each_of : {A : Type 0} (P Q : A → Type 0) → ((x : A) → P x → Q x) → (xs : List A) → AllByRecursion P xs → AllByRecursion Q xs

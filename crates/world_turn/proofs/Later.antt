@@ -1,6 +1,5 @@
 -- A call through the turn leaves its pass with no less than it knew.
-use Rattle.std.proofs.Common.{◌≡◌, ◌↔◌, ◌==◌, ℕ, Bool, None, if◌then◌else◌, ne_eqb, zero, suc, ◌+◌, ◌-◌, ◌<◌, ◌≤◌, List, [], ◌∷◌, ◌++◌, length, slice_get, Some, refl, sym, ap, ◌∙◌, subst, arith, le_refl, append-nil, append_assoc}
-use Rattle.std.specs.List.{AllByRecursion}
+use Rattle.std.proofs.Common.{◌≡◌, ◌↔◌, ℕ, Bool, None, if◌then◌else◌, ne_eqb, ◌+◌, ◌-◌, ◌<◌, ◌≤◌, List, [], ◌∷◌, ◌++◌, length, slice_get, Some, refl, sym, ap, ◌∙◌, subst, arith, le_refl, append-nil, append_assoc}
 use mathlib.Core.List.{IsPrefix}
 use Rattle.world_core.specs.Journals.{entry_at}
 use Rattle.world_core.specs.Keeping.{IsFull}

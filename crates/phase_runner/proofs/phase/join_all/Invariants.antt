@@ -1,4 +1,4 @@
-use Rattle.std.proofs.Common.{◌≡◌, ℕ, ◌+◌, ◌≤◌, map, vec_len}
+use Rattle.std.proofs.Common.{◌+◌, ◌≤◌, map, vec_len}
 use Rattle.world_turn.specs.Passes.{view_of}
 use Rattle.phase_runner.proofs.Taking.{HasTaken}
 use Rattle.phase_runner.proofs.phase.join_all.Given as goal

@@ -1,9 +1,8 @@
-use Rattle.std.proofs.Common.{rules, ◌≡◌, ℕ, ◌+◌, ◌<◌, ◌≤◌, [], ◌++◌, map, take, drop, length, vec_len, List, slice_index_or, sym, ap, ◌∙◌, subst, arith}
+use Rattle.std.proofs.Common.{◌≡◌, ℕ, ◌+◌, ◌++◌, map, take, drop, length, vec_len, sym, ap, ◌∙◌, subst, arith}
 use Rattle.world_turn.specs.Closing.{AllJoined}
 use Rattle.world_turn.specs.Passes.{view_of}
 use Rattle.phase_runner.specs.Phases.{AreSeated, AreEnded, Runs}
 use Rattle.world_turn.specs.declared.pass.Pass.{Pass}
-use Rattle.phase_runner.specs.Works.{IsReady, IsDone}
 use Rattle.phase_runner.proofs.Ready.{ready, as_many, taken_whole}
 use Rattle.phase_runner.proofs.Joined.{all_joined}
 use Rattle.phase_runner.proofs.Ending.{all_ended}

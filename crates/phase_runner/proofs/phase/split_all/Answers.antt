@@ -1,4 +1,4 @@
-use Rattle.std.proofs.Common.{rules, ◌≡◌, ℕ, ◌+◌, ◌<◌, ◌≤◌, [], ◌∷◌, ◌++◌, map, length, vec_len, List, Option, Some, sym, ap, ◌∙◌, subst, arith}
+use Rattle.std.proofs.Common.{◌<◌, ◌∷◌, map, length, sym, ap, ◌∙◌, subst, arith}
 use mathlib.Core.List.{map-append}
 use Rattle.phase_runner.proofs.Seating.{HasSeated, head_tail, one_seated}
 use Rattle.phase_runner.proofs.phase.split_all.Goals as goal

@@ -1,4 +1,4 @@
-use Rattle.std.proofs.Common.{rules, ◌≡◌, Option, Some, refl, sym, ◌∙◌, subst}
+use Rattle.std.proofs.Common.{◌≡◌, Option, Some, refl, sym, ◌∙◌, subst}
 use Rattle.world_turn.specs.Passes.{view_of}
 use Rattle.world_turn.specs.declared.pass.Pass.{Pass}
 use Rattle.phase_runner.specs.Hands.{HandView, GoesOn, view_in, seat_in}

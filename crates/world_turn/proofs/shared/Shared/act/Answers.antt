@@ -1,4 +1,4 @@
-use Rattle.std.proofs.Common.{rules, ◌≡◌, ℕ, [], ◌∷◌, ◌++◌, Some, refl, sym, ap, ◌∙◌, subst}
+use Rattle.std.proofs.Common.{◌≡◌, ℕ, [], ◌∷◌, ◌++◌, Some, sym, ap, ◌∙◌, subst}
 use Rattle.world_core.specs.Machines.{IfDone, gained}
 use Rattle.world_core.specs.Moments.{moment_after, last_moment}
 use Rattle.world_turn.specs.declared.view.View.{View}

@@ -1,4 +1,4 @@
-use Rattle.std.proofs.Common.{rules, ◌≡◌, Some, unwrap_or, sym, ap, ◌∙◌, subst}
+use Rattle.std.proofs.Common.{unwrap_or, sym, ap, ◌∙◌, subst}
 use mathlib.Core.Option.{some-injective}
 use Rattle.world_turn.specs.declared.view.View.{View}
 use Rattle.world_turn.specs.Closing.{AllJoined, Closes}

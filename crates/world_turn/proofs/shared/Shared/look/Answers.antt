@@ -1,4 +1,4 @@
-use Rattle.std.proofs.Common.{rules, ◌≡◌, sym, ap, ◌∙◌}
+use Rattle.std.proofs.Common.{rules, sym, ap, ◌∙◌}
 use Rattle.world_turn.specs.Resting.{first_of}
 use Rattle.world_turn.proofs.Keeps.{looks}
 use Rattle.world_turn.proofs.shared.Shared.look.Goals as goal

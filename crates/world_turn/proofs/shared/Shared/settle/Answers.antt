@@ -1,4 +1,4 @@
-use Rattle.std.proofs.Common.{rules, ◌≡◌, ℕ, [], ◌∷◌, ◌++◌, append-nil, Some, refl, sym, ap, ◌∙◌}
+use Rattle.std.proofs.Common.{◌++◌, append-nil, refl, sym, ap, ◌∙◌}
 use Rattle.world_core.specs.Machines.{gained}
 use Rattle.world_core.specs.Operations.{entry_of}
 use Rattle.world_turn.proofs.shared.Shared.settle.Goals as goal

@@ -1,4 +1,4 @@
-use Rattle.std.proofs.Common.{rules, ◌≡◌, ℕ, [], ◌∷◌, Some, None, sym, ap, ◌∙◌}
+use Rattle.std.proofs.Common.{rules, ◌∷◌, Some, ap, ◌∙◌}
 use Rattle.world_turn.proofs.Keeps.{takes_turn}
 use Rattle.world_turn.proofs.shared.Shared.take_turn.Goals as goal
 
