@@ -3,3 +3,4 @@ pub mod Concats
 pub mod Joining
 pub mod Merging
 pub mod Laws
+pub mod Extremes

@@ -1,6 +1,9 @@
-//! Merging series sample by sample: at each label set and time the pattern that came first stays.
+//! Merging series sample by sample: at each label set and time the pattern that came first stays. And what a block that is made
+//! of others says of itself.
 #![tactic(auto)]
 
+mod compacted;
 mod merger;
 
+pub use compacted::compacted_plan;
 pub use merger::Merger;

@@ -1,0 +1,6 @@
+pub mod Runs
+pub mod Members
+pub mod Overlaps
+pub mod Parts
+pub mod Selections
+pub mod Plans

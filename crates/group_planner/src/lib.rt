@@ -1,0 +1,16 @@
+//! Which blocks of a bucket a compactor takes together: groups of blocks, and the plan of a group.
+#![tactic(auto)]
+
+mod group;
+mod members;
+mod overlap;
+mod parts;
+mod planning;
+mod selection;
+
+pub use group::{Group, GroupList};
+pub use members::{MetaList, UlidListList};
+pub use overlap::overlapping;
+pub use parts::split_by_range;
+pub use planning::plan;
+pub use selection::select;

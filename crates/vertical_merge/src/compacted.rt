@@ -1,0 +1,142 @@
+ghost use Rattle.std.specs.Prelude.{◌≡◌, ◌≤◌, ◌∷◌, map, length, fold, All, IfOk, OnOk};
+ghost use Rattle.std.specs.BTreeSet.{insert_key};
+ghost use Rattle.std.specs.Int.{int_min, int_max};
+ghost use Rattle.std.specs.Ordering.{nat_cmp};
+ghost use Rattle.std.specs.List.{flat_map};
+ghost use Rattle.std.specs.List.Sorted.{IsStrictlyIncreasing};
+ghost use Rattle.block_meta.specs.Lawful.{ascending};
+ghost use Rattle.vertical_merge.specs.Compacted.{IsCompactedPlan, IsLeast, IsGreatest, IsGreatestLevel, parent_of as to_parent};
+
+use block_meta::{BlockPlan, Meta, Parent, ParentList};
+use label_sets::{LabelSet, Text};
+use list_core::{List, NoMemory, TryCopy};
+use std::alloc::Global;
+use std::collections::BTreeSet;
+use ulid_core::{Ulid, UlidList};
+
+/// What the block will say of itself that is compacted from blocks of one group.
+pub fn compacted_plan(
+    alloc: Global,
+    inputs: &List<Meta>,
+    ulid: Ulid,
+    labels: &LabelSet,
+) -> Result<BlockPlan, NoMemory>
+    requires { 2 ≤ length inputs.now }
+    ensures { IfOk result (IsCompactedPlan inputs.now ulid labels.now) }
+{
+    let [first, others @ ..] = inputs.members() else {
+        unreachable!()
+    };
+    Ok(BlockPlan {
+        ulid,
+        min_time: least_time(first, others),
+        max_time: greatest_time(first, others),
+        level: greatest_level(first, others).saturating_add(1),
+        sources: union_of_sources(alloc, inputs.members())?,
+        parents: parents_of(alloc, inputs.members())?,
+        labels: labels.copy()?,
+        source: Text::from_str(alloc, "compactor")?,
+    })
+}
+
+/// The earliest begin.
+fn least_time(first: &Meta, others: &[Meta]) -> i64
+    ensures { IsLeast (λ meta. meta.min_time) (first.now ∷ others.now) result }
+{
+    let mut least = first.min_time;
+    for meta in others {
+        least = earlier_begin(meta, least);
+    }
+    least
+}
+
+fn earlier_begin(meta: &Meta, time: i64) -> i64
+    ensures { result ≡ int_min time meta.now.min_time }
+{
+    time.min(meta.min_time)
+}
+
+/// The latest end.
+fn greatest_time(first: &Meta, others: &[Meta]) -> i64
+    ensures { IsGreatest (λ meta. meta.max_time) (first.now ∷ others.now) result }
+{
+    let mut greatest = first.max_time;
+    for meta in others {
+        greatest = later_end(meta, greatest);
+    }
+    greatest
+}
+
+fn later_end(meta: &Meta, time: i64) -> i64
+    ensures { result ≡ int_max time meta.now.max_time }
+{
+    time.max(meta.max_time)
+}
+
+/// The greatest level.
+fn greatest_level(first: &Meta, others: &[Meta]) -> u32
+    ensures { IsGreatestLevel (first.now ∷ others.now) result }
+{
+    let mut greatest = first.level;
+    for meta in others {
+        greatest = meta.level.max(greatest);
+    }
+    greatest
+}
+
+/// The sources of all blocks, ascending, each once.
+fn union_of_sources(alloc: Global, metas: &[Meta]) -> Result<UlidList, NoMemory>
+    ensures value { IfOk result (λ made. made
+        ≡ ascending (flat_map (λ meta. meta.sources) metas.now)) }
+    ensures increasing { IfOk result (λ made. IsStrictlyIncreasing made) }
+{
+    members(alloc, &set_of_sources(alloc, metas)?)
+}
+
+fn set_of_sources(alloc: Global, metas: &[Meta]) -> Result<BTreeSet<Ulid>, NoMemory>
+    ensures { IfOk result (λ set. set.keys
+        ≡ ascending (flat_map (λ meta. meta.sources) metas.now)) }
+{
+    let mut set = BTreeSet::new(alloc);
+    for meta in metas {
+        add_all(&mut set, meta.sources.members())?;
+    }
+    Ok(set)
+}
+
+fn add_all(set: &mut BTreeSet<Ulid>, ulids: &[Ulid]) -> Result<(), NoMemory>
+    ensures { OnOk result (set.new.keys ≡ fold (insert_key nat_cmp) set.old.keys ulids.now) }
+{
+    for ulid in ulids {
+        set.insert(*ulid)?;
+    }
+    Ok(())
+}
+
+fn members(alloc: Global, set: &BTreeSet<Ulid>) -> Result<UlidList, NoMemory>
+    ensures value { IfOk result (λ made. made ≡ set.now.keys) }
+    ensures increasing { IfOk result (λ made. IsStrictlyIncreasing made) }
+{
+    let members: Vec<Ulid> = set.iter().copied().collect(alloc)?;
+    Ok(UlidList::from_vec(members))
+}
+
+fn parents_of(alloc: Global, metas: &[Meta]) -> Result<ParentList, NoMemory>
+    ensures { IfOk result (λ made. made ≡ map to_parent metas.now) }
+{
+    let mut made = ParentList::new(alloc);
+    for meta in metas {
+        made.push(parent_of(meta))?;
+    }
+    Ok(made)
+}
+
+fn parent_of(meta: &Meta) -> Parent
+    ensures { result ≡ to_parent meta.now }
+{
+    Parent {
+        ulid: meta.ulid,
+        min_time: meta.min_time,
+        max_time: meta.max_time,
+    }
+}
