@@ -83,30 +83,53 @@ rule_adds before after line is = omega (arith, ap size_of is.adds)
 
 block_adds : (before after : SoFar) (line : List ℕ) → BlockLine before line after → size_of after ≤ size_of before + length line
 block_adds before after line is =
-    omega (arith, ap size_of is.adds, ap length is.spelled, set_fits is.labels_text is.labels is.are_labels,
-    longer_field (codes "block") is.ulid_text (is.min_text ∷ is.max_text ∷ is.labels_text ∷ []), longer_field is.ulid_text is.min_text (is.max_text ∷ is.labels_text ∷ []),
-    three_fields is.min_text is.max_text is.labels_text,
-    one_more members_of_block before.script.blocks (record { ulid = is.ulid; labels = is.labels; body = Inline is.min_time is.max_time [] }))
+    omega (
+      arith,
+      ap size_of is.adds,
+      ap length is.spelled,
+      set_fits is.labels_text is.labels is.are_labels,
+      longer_field (codes "block") is.ulid_text (is.min_text ∷ is.max_text ∷ is.labels_text ∷ []),
+      longer_field is.ulid_text is.min_text (is.max_text ∷ is.labels_text ∷ []),
+      three_fields is.min_text is.max_text is.labels_text,
+      one_more members_of_block before.script.blocks (record { ulid = is.ulid; labels = is.labels; body = Inline is.min_time is.max_time [] }),
+    )
 
 series_adds : (before after : SoFar) (line : List ℕ) → SeriesLine before line after → size_of after ≤ size_of before + length line
 series_adds before after line is =
     let one : Series = record { labels = is.labels; samples = is.samples } in
     let old : Block = record { ulid = is.ulid; labels = is.block_labels; body = Inline is.min_time is.max_time (is.lesser ++ is.greater) } in
     let new : Block = record { ulid = is.ulid; labels = is.block_labels; body = Inline is.min_time is.max_time (is.lesser ++ one ∷ is.greater) } in
-    omega (arith, ap size_of is.adds, ap length is.spelled, set_fits is.labels_text is.labels is.are_labels, samples_fit is.texts is.samples is.are_samples,
-    three_fields (codes "series") is.labels_text (spaced is.texts), at_end members_of_block before.script.blocks is.others old is.last, one_more members_of_block is.others new,
-    among members_of_series is.lesser is.greater one)
+    omega (
+      arith,
+      ap size_of is.adds,
+      ap length is.spelled,
+      set_fits is.labels_text is.labels is.are_labels,
+      samples_fit is.texts is.samples is.are_samples,
+      three_fields (codes "series") is.labels_text (spaced is.texts),
+      at_end members_of_block before.script.blocks is.others old is.last,
+      one_more members_of_block is.others new,
+      among members_of_series is.lesser is.greater one,
+    )
 
 at_adds : (before after : SoFar) (number : ℕ) (line : List ℕ) → AtLine before number line after → size_of after ≤ size_of before + length line
 at_adds before after number line is =
-    omega (arith, ap size_of is.adds, ap length is.spelled, two_fields (codes "at") is.text,
-    one_more members_of_phase before.script.phases (record { line = number; moment = record { ms = is.moment }; tasks = [] }))
+    omega (
+      arith,
+      ap size_of is.adds,
+      ap length is.spelled,
+      two_fields (codes "at") is.text,
+      one_more members_of_phase before.script.phases (record { line = number; moment = record { ms = is.moment }; tasks = [] }),
+    )
 
 task_adds : (before after : Script) (number : ℕ) (work : Work) → AddsTask before number work after → members_of_script after ≡ members_of_script before + 1
 task_adds before after number work is =
-    omega (arith, ap members_of_script is.adds, at_end members_of_phase before.phases is.others is.phase is.last,
-    one_more members_of_phase is.others (record is.phase { tasks = is.phase.tasks ++ record { line = number; work = work } ∷ [] }),
-    length-append is.phase.tasks (record { line = number; work = work } ∷ []))
+    omega (
+      arith,
+      ap members_of_script is.adds,
+      at_end members_of_phase before.phases is.others is.phase is.last,
+      one_more members_of_phase is.others (record is.phase { tasks = is.phase.tasks ++ record { line = number; work = work } ∷ [] }),
+      length-append is.phase.tasks (record { line = number; work = work } ∷ []),
+    )
 
 upload_adds : (before after : SoFar) (number : ℕ) (line : List ℕ) → UploadLine before number line after → size_of after ≤ size_of before + length line
 upload_adds before after number line is =
@@ -118,8 +141,15 @@ sync_adds before after number line is =
 
 query_adds : (before after : SoFar) (number : ℕ) (line : List ℕ) → QueryLine before number line after → size_of after ≤ size_of before + length line
 query_adds before after number line is =
-    omega (arith, ap size_of is.adds, ap length is.spelled, longer_field (codes "query") is.low_text (is.high_text ∷ is.selector_text ∷ []),
-    selector_fits is.selector_text is.selector is.is_selector, task_adds before.script is.script number _ is.task, one_more members_of_selector is.script.selectors is.selector)
+    omega (
+      arith,
+      ap size_of is.adds,
+      ap length is.spelled,
+      longer_field (codes "query") is.low_text (is.high_text ∷ is.selector_text ∷ []),
+      selector_fits is.selector_text is.selector is.is_selector,
+      task_adds before.script is.script number _ is.task,
+      one_more members_of_selector is.script.selectors is.selector,
+    )
 
 line_adds : (before after : SoFar) (number : ℕ) (line : List ℕ) → Says before number line after → size_of after ≤ size_of before + length line
 line_adds before after number line (Says.series is) = series_adds before after line is
