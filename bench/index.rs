@@ -34,19 +34,25 @@ fn pad(out: &mut Vec<u8>, to: usize) {
     }
 }
 
+/// The labels of a series of so many.
+fn labels_of(i: usize) -> Vec<(String, String)> {
+    vec![
+        ("__name__".into(), "http_requests_total".into()),
+        ("instance".into(), format!("host-{:05}:9100", i % 1000)),
+        ("job".into(), format!("job-{:03}", i % 50)),
+        ("path".into(), format!("/api/v1/{i:06}")),
+    ]
+}
+
 /// An index of so many series, each with so many chunks, by the public format document.
 fn index_of(count: usize, chunks: u64) -> Vec<u8> {
+    index_with(count, chunks, labels_of)
+}
+
+/// The same of series with other labels.
+fn index_with(count: usize, chunks: u64, labels_of: fn(usize) -> Vec<(String, String)>) -> Vec<u8> {
     use std::collections::BTreeMap;
-    let mut series: Vec<Vec<(String, String)>> = (0..count)
-        .map(|i| {
-            vec![
-                ("__name__".into(), "http_requests_total".into()),
-                ("instance".into(), format!("host-{:05}:9100", i % 1000)),
-                ("job".into(), format!("job-{:03}", i % 50)),
-                ("path".into(), format!("/api/v1/{i:06}")),
-            ]
-        })
-        .collect();
+    let mut series: Vec<Vec<(String, String)>> = (0..count).map(labels_of).collect();
     series.sort();
     let mut symbols: BTreeMap<&str, u64> = BTreeMap::new();
     for label in series.iter().flatten() {

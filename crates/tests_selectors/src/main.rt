@@ -1,13 +1,16 @@
 //! Reads selectors, asks them for label sets, and keeps ranges in a cache. A line of standard input is one call:
 //! `selector TEXT` reads a selector, `replica NAME TEXT` reads one beside a replica label, `select SELECTOR SET` asks one for
-//! a set, and `cache CAPACITY keep/BLOCK/FROM/LEN/BYTES get/BLOCK/FROM/LEN ..` makes these calls and prints what is got. One
-//! that begins with `= ` is a heading.
+//! a set, and `cache CAPACITY keep/BLOCK/FROM/LEN/BYTES get/BLOCK/FROM/LEN ..` makes these calls and prints what is got.
+//! `postings FOLDER EXTERNAL SELECTOR` selects series of an index that a server wrote; which series it has comes from the
+//! server's own reader. A line that begins with `= ` is a heading.
 #![tactic(auto)]
 
 mod caches;
+mod postings;
 mod selections;
 
 use crate::caches::print_cache;
+use crate::postings::print_postings;
 use crate::selections::{print_beside_replica, print_selection, print_selector};
 use std::io;
 
@@ -29,6 +32,7 @@ fn print_row(rt: &HostRuntime, row: &str) -> io::Result<()> {
         "selector" => print_selector(rt, text),
         "replica" => print_beside_replica(rt, text),
         "select" => print_selection(rt, text),
+        "postings" => print_postings(rt, text),
         "cache" => print_cache(rt, text),
         _ => println!(rt; "no row"),
     }
