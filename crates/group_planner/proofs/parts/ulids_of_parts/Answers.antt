@@ -16,6 +16,6 @@ pub returns : goal.returns
 returns c = (
   c.loop-part.invariant.0,
   subst (λ r. AreParts r c.args.metas.now c.loop-part.invariant.0) (to_z-of_z w64 c.args.range c.ranges.range)
-    (up_to_all (to_z w64 (of_z w64 c.args.range)) c.args.metas.now c.loop-part.left.now c.loop-part.invariant.0 c.in_default.ensures c.loop-part.invariant.2),
+      (up_to_all (to_z w64 (of_z w64 c.args.range)) c.args.metas.now c.loop-part.left.now c.loop-part.invariant.0 c.in_default.ensures c.loop-part.invariant.2),
   c.loop-part.invariant.1,
 )
