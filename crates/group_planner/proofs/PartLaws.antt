@@ -1,6 +1,6 @@
 -- A range has one list of parts, and how a loop finds it.
 use Rattle.std.proofs.Common.{◌≡◌, ◌≢◌, ℕ, zero, suc, ◌+◌, ◌<◌, ◌≤◌, Bool, true, false, not, ◌&&◌, List, [], ◌∷◌, ◌++◌, length, get_or, take, drop, append_assoc, append-nil, length-append, map, refl, sym, ap, ◌∙◌, subst, arith, inl, inr}
-use Rattle.std.specs.Prelude.{◌⊎◌, ℤ, pos, negsuc, ◌<ℤ◌}
+use Rattle.std.specs.Prelude.{◌⊎◌, ℤ}
 use Rattle.std.specs.Ordering.{int_eq}
 use Rattle.std.proofs.lemmas.Bool.{true≢false}
 use Rattle.std.proofs.lemmas.Int.{ints}
@@ -9,7 +9,7 @@ use Rattle.block_meta.specs.declared.meta.Meta.{Meta}
 use Rattle.list_core.proofs.Lists.{cons_parts, nil_not_cons}
 use Rattle.group_planner.specs.Members.{ulids_of}
 use Rattle.group_planner.specs.Runs.{EachPasses, Stops, IsLongestRun}
-use Rattle.group_planner.specs.Parts.{IsStart, start_of, fits, fits_at, NoneFits, IsNextPart, AreParts}
+use Rattle.group_planner.specs.Parts.{start_of, fits, fits_at, NoneFits, IsNextPart, AreParts}
 use Rattle.group_planner.proofs.LongestRuns.{Cut, cut_of, one_run, all_or_cut, stops_first, each_more, stops_at}
 
 -- ---- tests

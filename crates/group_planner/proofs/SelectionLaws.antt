@@ -1,5 +1,5 @@
 -- There is one selection, and how loops over ranges and parts find it.
-use Rattle.std.proofs.Common.{◌≡◌, ℕ, ◌+◌, ◌-◌, ◌<◌, ◌≤◌, Bool, true, false, cond, List, [], ◌∷◌, ◌++◌, length, get_or, drop, map, append_assoc, append-nil, refl, sym, ap, ◌∙◌, subst, arith, Option, Some, None}
+use Rattle.std.proofs.Common.{◌≡◌, ℕ, ◌+◌, ◌-◌, ◌<◌, Bool, true, false, cond, List, [], ◌∷◌, ◌++◌, length, get_or, drop, map, refl, sym, ap, ◌∙◌, subst, arith, Option, Some, None}
 use Rattle.std.specs.Prelude.{ℤ, pos, slice_get}
 use Rattle.std.specs.List.{find}
 use Rattle.std.specs.Option.{option_or, option_map, option_map_or}
@@ -7,7 +7,6 @@ use Rattle.std.proofs.lemmas.List.{drop_more}
 use Rattle.std.proofs.lemmas.Option.{slice_get-get_or}
 use Rattle.std.proofs.lemmas.List.Folds.{find-append}
 use Rattle.block_meta.specs.declared.meta.Meta.{Meta}
-use Rattle.list_core.proofs.Lists.{drop_none}
 use Rattle.group_planner.specs.Parts.{IsNextPart, AreParts, NoneFits}
 use Rattle.group_planner.specs.Selections.{Candidate, AreCandidates, is_worthwhile, is_wanted, ranges, last_begin, IsSelection}
 use Rattle.group_planner.proofs.PartLaws.{one_parts, parts_of, PartsUpTo, up_to_none, up_to_next, up_to_all}

@@ -1,5 +1,5 @@
 -- The part of a range that is worth a compaction.
-use Rattle.std.specs.Prelude.{◌≡◌, ℕ, ℤ, pos, ◌-ℤ◌, ◌-◌, int_le, nat_le, Bool, false, ◌&&◌, ◌||◌, List, [], ◌∷◌, ◌++◌, map, length, Option, Some, None, slice_get}
+use Rattle.std.specs.Prelude.{◌≡◌, ℤ, pos, ◌-ℤ◌, ◌-◌, int_le, nat_le, Bool, false, ◌&&◌, ◌||◌, List, [], ◌∷◌, ◌++◌, map, length, Option, Some, None, slice_get}
 use Rattle.std.specs.Option.{option_map_or}
 use Rattle.std.specs.List.{find}
 use Rattle.std.specs.Ordering.{int_eq}

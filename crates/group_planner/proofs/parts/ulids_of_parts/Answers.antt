@@ -1,8 +1,8 @@
-use Rattle.std.proofs.Common.{◌≡◌, ◌++◌, ◌∷◌, [], subst, to_z, of_z}
+use Rattle.std.proofs.Common.{◌++◌, ◌∷◌, [], subst, to_z, of_z}
 use Rattle.std.specs.Int.{w64}
 use Rattle.std.proofs.lemmas.Int.{to_z-of_z}
 use Rattle.group_planner.specs.Parts.{AreParts}
-use Rattle.group_planner.proofs.PartLaws.{up_to_none, up_to_next, up_to_all, pushed_part, behind_shorter}
+use Rattle.group_planner.proofs.PartLaws.{up_to_next, up_to_all, pushed_part}
 use Rattle.group_planner.proofs.parts.ulids_of_parts.Goals as goal
 
 pub loop-part-preserved : goal.loop-part-preserved

@@ -1,4 +1,4 @@
-use Rattle.std.proofs.Common.{◌≡◌, Some, None, sym, to_z, of_z}
+use Rattle.std.proofs.Common.{Some, None, sym, to_z, of_z}
 use Rattle.std.specs.Int.{w64}
 use Rattle.std.proofs.lemmas.Int.{to_z-of_z}
 use Rattle.group_planner.proofs.SelectionLaws.{Found, found_at, searched_hit, searched_more, searched_all}

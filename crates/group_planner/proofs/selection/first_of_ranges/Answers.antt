@@ -1,8 +1,8 @@
-use Rattle.std.proofs.Common.{◌≡◌, ◌≤◌, length, get_or, pos, Some, None, to_z, of_z, arith, rules, subst}
+use Rattle.std.proofs.Common.{◌≡◌, length, get_or, pos, None, to_z, of_z, arith, rules}
 use Rattle.std.specs.Prelude.{FitsSigned}
 use Rattle.std.specs.Int.{w64}
 use Rattle.std.proofs.lemmas.Int.{to_z-of_z}
-use Rattle.group_planner.proofs.SelectionLaws.{FoundAmong, Ranged, among_at, ranged_hit, ranged_more, ranged_all}
+use Rattle.group_planner.proofs.SelectionLaws.{FoundAmong, among_at, ranged_hit, ranged_more, ranged_all}
 use Rattle.group_planner.proofs.selection.first_of_ranges.Goals as goal
 
 pub returns-in-Some : goal.returns-in-Some
