@@ -10,8 +10,10 @@ trap 'rm -rf "$made"' EXIT
 
 # A repository of its own for the program, over this one's crates and what their checks kept.
 own=$made/crates/turn_speed
-mkdir -p "$own/src"
+mkdir -p "$own/src" "$own/proofs/many"
 cp "$top/bench/turn_speed/main.rt.txt" "$own/src/main.rt"
+cp "$top/bench/turn_speed/many.antt.txt" "$own/proofs/many/Invariants.antt"
+touch "$own/proofs/Lib.antt"
 cp "$top/HANDLES" "$made/HANDLES"
 below="list_core reading_core wire_bytes ulid_core label_sets moment_core block_keys bucket_core world_core world_turn"
 for name in $below; do cp -a "$top/crates/$name" "$made/crates/$name"; done

@@ -1,0 +1,5 @@
+use Rattle.tests_threads.proofs.Acting.{Did}
+use Rattle.tests_threads.proofs.puts.PutsJob.run.Given as goal
+
+abbrev pub invariant-loop : goal.invariant-loop
+invariant-loop g l = let hand = g.H.Hand in Did hand.entries hand.seat hand.keeps l.fn.hand l.hand

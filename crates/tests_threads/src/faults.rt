@@ -1,0 +1,40 @@
+ghost use Rattle.std.specs.Prelude.{◌≡◌, IfSome, vec_len};
+
+use crate::gates::Open;
+use crate::puts::Puts;
+use crate::worlds::shared_world;
+use phase_runner::run_phase;
+use std::alloc::Global;
+use std::sync::Wait;
+use std::thread::Threads;
+
+/// The call that fails: the first opens the world, so this is the third put of both workers together.
+const FAILING: u64 = 4;
+
+/// Two workers put three objects each, over a bucket of which one call fails. One of them stops there, and the other puts all:
+/// the journal has the puts that did not fail and the one that did.
+pub fn a_fault_stops_no_other<R: Threads + Wait + Sync>(rt: &R, alloc: Global) -> bool {
+    let Some((shared, root)) = shared_world(alloc, Some(FAILING)) else {
+        return false;
+    };
+    let Some(jobs) = two_jobs(alloc) else {
+        return false;
+    };
+    let end = run_phase(rt, alloc, &shared, root, jobs, &Open);
+    let stored = match end.ends.as_slice() {
+        [one, two] if one.stored == 3 && two.stored < 3 => two.stored,
+        [one, two] if two.stored == 3 && one.stored < 3 => one.stored,
+        _ => return false,
+    };
+    let world = shared.close(end.root);
+    world.journal().len() == u64::from(stored).saturating_add(4)
+}
+
+fn two_jobs(alloc: Global) -> Option<Vec<Puts>>
+    ensures { IfSome result (λ jobs. vec_len jobs ≡ 2) }
+{
+    let mut jobs = Vec::new(alloc);
+    jobs.push(Puts { alloc }).ok()?;
+    jobs.push(Puts { alloc }).ok()?;
+    Some(jobs)
+}
