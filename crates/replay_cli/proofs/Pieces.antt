@@ -1,7 +1,6 @@
 -- Streams that are written or read piece by piece.
-use Rattle.std.proofs.Common.{◌≡◌, ℕ, List, [], ◌++◌, take, drop, sym, ◌∙◌, ap, append_assoc, take-append-drop}
-use Rattle.std.specs.Prelude.{Option, Some, None, option_map, IfSome}
-use Rattle.std.proofs.lemmas.List.{append-nil}
+use Rattle.std.proofs.Common.{◌≡◌, ℕ, List, ◌++◌, take, drop, sym, ◌∙◌, ap, append_assoc, take-append-drop}
+use Rattle.std.specs.Prelude.{Option, Some, None, option_map}
 
 -- one more piece of what is left was written
 pub one_more_written : (text left : List ℕ) (before now after : Option (List ℕ)) (count : ℕ)

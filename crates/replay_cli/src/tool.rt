@@ -7,6 +7,7 @@ ghost use Rattle.replay_cli.specs.Kept.{IsHandedBack, IsHandedOut, IsUntouched};
 ghost use Rattle.replay_cli.specs.Statuses.{number_of};
 ghost use Rattle.replay_cli.specs.Verdicts.{IsCaused, IsWorked, IsUnread, IsRun, IsSaid, SiteFailed, around_call, saying_to};
 ghost use Rattle.replay_cli.specs.Words.{IsSerialOverMemory, memory};
+ghost use Rattle.lifecycle_core.specs.Setting.{setting_of};
 
 use crate::came::Broken;
 use crate::input::read_all;
@@ -169,7 +170,7 @@ fn read_script<R: Source>(alloc: Global, source: &mut R) -> Result<Script, Verdi
 #[tactic(auto, using(crate::proofs::Verdicts::run_told, crate::proofs::Verdicts::above_none))]
 fn over_site<S: Site>(alloc: Global, script: &Script, site: &mut S) -> Conclusion<S::Store>
     requires { IsLawfulScript script.now }
-    ensures cause { IsRun script.now (S.next_bucket site.old memory)
+    ensures cause { IsRun (setting_of script.now) (S.next_bucket site.old memory)
         (SiteFailed S.faults site.old site.new S.Store.faults result.store) result.journal
         result.verdict }
     ensures handed { IsHandedOut S.buckets site.old site.new result.store }
@@ -189,7 +190,7 @@ fn over_site<S: Site>(alloc: Global, script: &Script, site: &mut S) -> Conclusio
 #[tactic(auto, using(crate::proofs::Verdicts::run_empty))]
 fn over_bucket<B: Bucket>(alloc: Global, script: &Script, bucket: B) -> Conclusion<B>
     requires { IsLawfulScript script.now }
-    ensures cause { IsRun script.now (B.contents bucket)
+    ensures cause { IsRun (setting_of script.now) (B.contents bucket)
         (IsSomeAnd result.store (λ store. Rose (B.faults bucket) (B.faults store))) result.journal
         result.verdict }
     ensures store { IsSome result.store }
@@ -224,7 +225,7 @@ fn over_world<B: Bucket>(alloc: Global, script: &Script, world: World<B>) -> Con
     requires lawful { IsLawfulScript script.now }
     requires fresh { world.journal ≡ [] }
     requires tick { world.tick ≡ script.now.rules.tick.ms }
-    ensures cause { IsRun script.now (Some nothing) ⊥ result.journal result.verdict }
+    ensures cause { IsRun (setting_of script.now) (Some nothing) ⊥ result.journal result.verdict }
     ensures store { IsSome result.store }
     ensures journal { IsSome result.journal }
     ensures back { IsHandedBack B.contents B.faults result.journal result.store }

@@ -1,14 +1,12 @@
 -- What an end of a series call over declared blocks says, where its entries are told: no object was damaged, and an answer is the
 -- merge of the samples of these blocks that the query asks for.
-use Rattle.std.proofs.Common.{◌≡◌, ℕ, true, false, ◌<◌, ◌^◌, List, [], ◌∷◌, ◌++◌, Option, Some, None, refl, sym, ◌∙◌, ap, subst, append_assoc, append-nil}
+use Rattle.std.proofs.Common.{◌≡◌, ℕ, true, false, ◌<◌, ◌^◌, List, [], ◌++◌, Option, Some, None, refl, sym, ◌∙◌, ap, subst, append_assoc, append-nil}
 use Rattle.std.specs.List.{AllByRecursion, flat_map}
 use Rattle.std.specs.Option.{option_map_or}
 use Rattle.label_sets.specs.declared.label.Label.{Label}
 use Rattle.label_sets.specs.declared.series.Series.{Series}
 use Rattle.label_sets.specs.Finals.{final_of}
 use Rattle.label_sets.specs.Triples.{Triple, triples_under}
-use Rattle.block_keys.specs.Keys.{key_ulid}
-use Rattle.block_keys.specs.declared.key.Key.{Key}
 use Rattle.block_keys.specs.declared.key.Key.TheVariants as key
 use Rattle.block_files.specs.Built.{segment_text}
 use Rattle.block_files.specs.PlainForm.{IsPlainSegment}
@@ -27,7 +25,7 @@ use Rattle.script_core.specs.declared.block.Block.{Block}
 use Rattle.lifecycle_core.specs.Held.{declared, given, held_by}
 use Rattle.lifecycle_core.specs.Setting.{Setting}
 use Rattle.lifecycle_core.proofs.blocks.Objects.{index_found, segment_found}
-use Rattle.lifecycle_core.proofs.journals.Told.{IsTold, IsReadable, IsShippedObject}
+use Rattle.lifecycle_core.proofs.journals.Told.{IsTold, IsReadable}
 
 -- the block that is to be read is one that the script declares
 pub record IsDeclared (setting : Setting) (b : ToRead) : Type 0 where

@@ -1,11 +1,10 @@
 -- The runs of a script put nothing but objects with which the script's blocks are shipped.
-use Rattle.list_core.proofs.Membership.{contains_first, contains_later, of_map}
+use Rattle.list_core.proofs.Membership.{contains_first, contains_later}
 use Rattle.lifecycle_core.proofs.blocks.Declared.{declared_ulid}
 use Rattle.lifecycle_core.proofs.blocks.Objects.{built_ulid}
-use Rattle.std.proofs.Common.{◌≡◌, inl, inr, ℕ, ◌+◌, ◌==◌, true, List, [], ◌∷◌, ◌++◌, map, length, Contains, Option, Some, None, sym, ◌∙◌, ap, subst, arith}
+use Rattle.std.proofs.Common.{◌≡◌, ℕ, List, [], ◌∷◌, ◌++◌, length, Contains, Option, Some, None, sym, ◌∙◌, ap, subst}
 use Rattle.std.specs.List.{All, AllByRecursion}
-use Rattle.std.proofs.lemmas.Bool.Decides.{nat_tests}
-use Rattle.std.proofs.lemmas.List.Elements.{All-append, All-cons, All-contains, All-contains_itself, All-from_recursion, All-nil, All-weaker}
+use Rattle.std.proofs.lemmas.List.Elements.{All-from_recursion, All-nil, All-weaker}
 use Rattle.block_keys.specs.Keys.{key_ulid}
 use Rattle.block_keys.specs.declared.key.Key.{Key}
 use Rattle.block_keys.specs.declared.key.Key.TheVariants as key
@@ -22,11 +21,8 @@ use Rattle.shipper.specs.declared.upload_end.UploadEnd.TheVariants.{Already, Fau
 use Rattle.store_gateway.specs.SeriesRuns.{Query as Question}
 use Rattle.script_core.specs.Workers.{workers_of}
 use Rattle.script_core.specs.declared.block.Block.{Block}
-use Rattle.script_workers.specs.declared.phase.Phase.{Phase}
-use Rattle.script_workers.specs.declared.task.Task.{Task}
 use Rattle.script_workers.specs.declared.work.Work.{Work}
 use Rattle.script_workers.specs.declared.work.Work.TheVariants.{Upload, Sync, Query}
-use Rattle.script_workers.specs.declared.worker.Worker.{Worker}
 use Rattle.lifecycle_core.specs.Conducts.{Who}
 use Rattle.lifecycle_core.specs.Held.{declared}
 use Rattle.lifecycle_core.specs.Holdings.{Holding, Use, none_held}
@@ -35,9 +31,7 @@ use Rattle.lifecycle_core.specs.Setting.{Setting}
 use Rattle.lifecycle_core.specs.Shipped.{IsShipped}
 use Rattle.lifecycle_core.specs.Tasks.{End, QueryTask, TaskRun, asked_by, sync_rules}
 use Rattle.lifecycle_core.proofs.phases.EachEntry.{phase_each, phases_each}
-use Rattle.lifecycle_core.proofs.misses.Explaining.{parted}
 use Rattle.lifecycle_core.proofs.misses.GatewayEntries.{calls, syncs}
-use Rattle.lifecycle_core.proofs.journals.Positions.{filtered, stands_in, zip_right}
 use Rattle.lifecycle_core.proofs.journals.RunEntries.{IsRead}
 use Rattle.lifecycle_core.proofs.journals.Told.{IsShippedObject}
 

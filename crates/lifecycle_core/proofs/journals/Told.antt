@@ -1,6 +1,6 @@
 -- The words of the proofs about answers: what the entries of an honest journal tell of the blocks that a script declares, from
 -- which runs a view and an end come, and when a view is true of the script.
-use Rattle.std.specs.Prelude.{◌≡◌, ◌⊎◌, ℕ, ◌<◌, ◌≤◌, ◌^◌, ℤ, IsTrue, List, [], ◌∷◌, length, All, Contains, Option, Some, Ok}
+use Rattle.std.specs.Prelude.{◌≡◌, ◌⊎◌, ℕ, ◌<◌, ◌≤◌, ◌^◌, ℤ, IsTrue, List, [], ◌∷◌, length, All, Contains, Some, Ok}
 use Rattle.ulid_core.specs.UlidText.{text_of}
 use Rattle.label_sets.specs.declared.series.Series.{Series}
 use Rattle.block_keys.specs.Keys.{key_ulid}

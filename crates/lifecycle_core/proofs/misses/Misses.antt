@@ -27,7 +27,6 @@ use Rattle.script_core.specs.Lawful.{HasSeries, IsLawfulScript}
 use Rattle.script_core.specs.declared.block.Block.{Block}
 use Rattle.script_core.specs.declared.body.Body.{Body}
 use Rattle.script_core.specs.declared.body.Body.TheVariants.{Inline}
-use Rattle.script_workers.specs.declared.task.Task.{Task}
 use Rattle.script_workers.specs.declared.work.Work.{Work}
 use Rattle.script_workers.specs.declared.work.Work.TheVariants.{Upload, Sync, Query}
 use Rattle.lifecycle_core.specs.Conducts.{Assigned, Conduct, TasksRun, Who}

@@ -1,7 +1,7 @@
 -- What holds of each entry of a task's run holds of each entry of a whole run.
 use Rattle.list_core.proofs.Membership.{of_map}
-use Rattle.std.proofs.Common.{◌≡◌, ◌⊎◌, inl, inr, ℕ, ◌+◌, ◌==◌, Bool, true, List, [], ◌∷◌, ◌++◌, map, Contains, Option, Some, None, sym, subst, arith}
-use Rattle.std.specs.List.{All, filter}
+use Rattle.std.proofs.Common.{◌≡◌, ◌⊎◌, inl, inr, ℕ, ◌+◌, ◌==◌, true, List, [], ◌∷◌, ◌++◌, map, Contains, Option, Some, None, sym, subst, arith}
+use Rattle.std.specs.List.{All}
 use Rattle.std.proofs.lemmas.Bool.Decides.{nat_tests}
 use Rattle.std.proofs.lemmas.List.Elements.{All-append, All-cons, All-contains, All-contains_itself, All-nil, All-weaker}
 use Rattle.world_core.specs.declared.entry.Entry.{Entry}
@@ -10,7 +10,6 @@ use Rattle.script_workers.specs.declared.task.Task.{Task}
 use Rattle.script_workers.specs.declared.work.Work.{Work}
 use Rattle.script_workers.specs.declared.worker.Worker.{Worker}
 use Rattle.lifecycle_core.specs.Conducts.{Assigned, Conduct, PhaseRun, TasksRun, Who, WorkerRun, of_seat, who_of}
-use Rattle.lifecycle_core.specs.Tasks.{End}
 use Rattle.lifecycle_core.specs.Ways.{BeginsPhase, PhasesRun, Way}
 use Rattle.lifecycle_core.proofs.journals.Positions.{passing, zip_right}
 

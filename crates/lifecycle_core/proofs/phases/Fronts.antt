@@ -155,7 +155,7 @@ module _ {State E : Type 0} (conduct : Conduct State E) (well : IsCutWell conduc
 
 module _ {State Ends : Type 0} (way : Way State Ends)
     (works_front : (number : ℕ) (phase : Phase) (before : ℕ → State) (xs ys : List Entry) (ends : Ends) (after : ℕ → State) → way.works number phase before (xs ++ ys) ends after
-        → (ends' : Ends) × (after' : ℕ → State) × way.works number phase before xs ends' after') where
+    → (ends' : Ends) × (after' : ℕ → State) × way.works number phase before xs ends' after') where
   abbrev PhasesCut : ℕ → (ℕ → State) → List Phase → List Entry → Type 0
   PhasesCut number before phases entries = (ends : List Ends) × PhasesRun way number before phases entries ends
 

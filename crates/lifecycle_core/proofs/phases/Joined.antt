@@ -112,4 +112,3 @@ duties_begin setting gateways place [] all = tt
 duties_begin setting gateways place (task ∷ tasks) all =
     one_begins setting place task (hands_of_task gateways place task.work) (duties_from gateways (place + 1) tasks) (All-head (λ t. MayBegin setting t.work) task tasks all)
     (duties_begin setting gateways (place + 1) tasks (All-tail (λ t. MayBegin setting t.work) task tasks all))
-

@@ -1,22 +1,13 @@
 -- Fronts of runs: what was cut off before its last entry is a run without an end.
-use Rattle.std.proofs.Common.{◌≡◌, ◌⊎◌, inl, inr, ℕ, Bool, true, false, List, [], ◌∷◌, ◌++◌, Option, Some, None, refl, arith}
-use Rattle.std.specs.Prelude.{MatchBool}
+use Rattle.std.proofs.Common.{◌≡◌, ◌⊎◌, inl, inr, ℕ, List, [], ◌∷◌, ◌++◌, Option, Some, None, refl, arith}
 use Rattle.std.proofs.lemmas.List.{length-append}
-use Rattle.block_keys.specs.declared.key.Key.{Key}
-use Rattle.block_keys.specs.declared.key.Key.TheVariants as key
-use Rattle.label_sets.specs.Triples.{Triple}
-use Rattle.label_sets.specs.declared.series.Series.{Series}
 use Rattle.world_core.specs.declared.entry.Entry.{Entry}
-use Rattle.world_core.specs.declared.reply.Reply.{Reply}
-use Rattle.world_core.specs.declared.reply.Reply.TheVariants as reply
 use Rattle.world_core.proofs.PlanLaws.{comes_front, front}
 use Rattle.shipper.specs.Uploads.{upload}
 use Rattle.meta_fetcher.specs.Syncs.{IsEnd, SyncRun, sync}
 use Rattle.meta_fetcher.specs.declared.rules.SyncRules.{SyncRules}
 use Rattle.meta_fetcher.specs.declared.sync_end.SyncEnd.{SyncEnd}
-use Rattle.meta_fetcher.specs.declared.view.View.{View}
 use Rattle.store_gateway.specs.SeriesRuns.{Query as Question, IsEnd as IsCallEnd, series_call, sources_of}
-use Rattle.store_gateway.specs.declared.series_end.SeriesEnd.{SeriesEnd}
 use Rattle.script_workers.specs.declared.work.Work.{Work}
 use Rattle.script_workers.specs.declared.work.Work.TheVariants.{Upload, Sync, Query}
 use Rattle.lifecycle_core.specs.Conducts.{Who}

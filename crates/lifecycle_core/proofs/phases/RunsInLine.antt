@@ -123,8 +123,7 @@ module _ (setting : Setting) (lawful : IsLawfulScript setting.script) where
   in_turn number (phase ∷ phases) [] same turns = tt
   in_turn number (phase ∷ phases) (first ∷ ends) same turns =
       let at : slice_get setting.script.phases number ≡ Some phase = ap (slice_get setting.script.phases) (omega arith) ∙ same 0 phase refl in
-      let later : (k : ℕ) (p : Phase) → slice_get phases k ≡ Some p → slice_get setting.script.phases (number + 1 + k) ≡ Some p = λ k p own. ap (slice_get setting.script.phases) (omega arith) ∙ same (suc k) p own in
-      (
+      let later : (k : ℕ) (p : Phase) → slice_get phases k ≡ Some p → slice_get setting.script.phases (number + 1 + k) ≡ Some p = λ k p own. ap (slice_get setting.script.phases) (omega arith) ∙ same (suc k) p own in (
         λ more. own_done number phase first at (turns.0 (λ none. more (ap (ends_by_workers (gateway_count setting.script.gateways) phases) none ∙ by_none (gateway_count setting.script.gateways) phases))),
         in_turn (number + 1) phases ends later turns.1,
       )

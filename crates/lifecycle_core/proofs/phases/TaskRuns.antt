@@ -1,5 +1,5 @@
 -- What every task may do: nothing yet; and what a task leaves of a view.
-use Rattle.std.proofs.Common.{◌≡◌, ℕ, ℤ, zero, suc, ◌<◌, Bool, true, false, List, [], ◌∷◌, length, refl, sym, ap, subst, inl, inr, arith}
+use Rattle.std.proofs.Common.{◌≡◌, ℕ, ℤ, zero, suc, ◌<◌, Bool, true, false, List, [], ◌∷◌, length, refl, sym, ap, subst, inl, arith}
 use Rattle.std.specs.Prelude.{◌==◌, Option, Some, None, option_map, slice_get, codes, find}
 use Rattle.std.specs.List.{All, list_any}
 use Rattle.std.specs.List.Sorted.{IsStrictlyIncreasing}
@@ -10,14 +10,12 @@ use Rattle.block_meta.specs.declared.block_plan.BlockPlan.{BlockPlan}
 use Rattle.block_meta.specs.MetaValue.{meta_text}
 use Rattle.block_files.specs.Built.{built_meta, segments_of, objects_of}
 use Rattle.block_files.specs.PlainForm.{plain_index}
-use Rattle.shipper.specs.declared.upload_end.UploadEnd.{UploadEnd}
 use Rattle.meta_fetcher.specs.Syncs.{SyncRun}
 use Rattle.meta_fetcher.specs.declared.view.View.{View}
 use Rattle.meta_fetcher.specs.declared.sync_end.SyncEnd.{SyncEnd}
 use Rattle.meta_fetcher.specs.declared.sync_end.SyncEnd.TheVariants as fetched
 use Rattle.store_gateway.specs.SeriesRuns.{Query as Question, series_call}
 use Rattle.world_core.proofs.PlanLaws.{breaks_off}
-use Rattle.label_sets.specs.Triples.{Triple}
 use Rattle.matchers.specs.declared.matcher.Matcher.{Matcher}
 use Rattle.script_core.specs.Lawful.{IsLawfulBlock, IsLawfulBody, IsLawfulWork}
 use Rattle.script_core.specs.declared.block.Block.{Block}

@@ -115,7 +115,7 @@ module _ (setting : Setting) (seat : Hand → ℕ) (hand : Hand) (own : ℕ) (al
       let left : holding_of after (gateway_of hand) ≡ held = ap (λ (v : Holdings). holding_of v (gateway_of hand)) same ∙ own_held views duty entries None held fits is run in
       inr (
         subst (λ (es : List Entry). TaskRun setting who duty.place duty.task.work (holding_of views (gateway_of hand)) es None (holding_of after (gateway_of hand))) (sym all_own)
-        (subst (λ (x : Holding). TaskRun setting who duty.place duty.task.work (holding_of views (gateway_of hand)) entries None x) (sym left) (own_run views duty entries None held fits is run)),
+            (subst (λ (x : Holding). TaskRun setting who duty.place duty.task.work (holding_of views (gateway_of hand)) entries None x) (sym left) (own_run views duty entries None held fits is run)),
         refl,
       )
 

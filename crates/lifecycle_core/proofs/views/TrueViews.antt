@@ -2,9 +2,9 @@
 -- complete before the sync's last entry, and each one that was settled before the sync began. And no sync finds anything damaged.
 use Rattle.list_core.proofs.Membership.{contains_first, contains_later}
 use Rattle.lifecycle_core.proofs.blocks.Declared.{declared_lawful}
-use Rattle.std.proofs.Common.{◌≡◌, ℕ, ◌+◌, ◌<◌, ◌≤◌, ◌^◌, ◌-◌, suc, zero, Bool, true, false, ◌&&◌, cond, List, [], ◌∷◌, Contains, Option, Some, None, ℤ, pos, negsuc, refl, sym, ◌∙◌, ap, subst, arith}
+use Rattle.std.proofs.Common.{◌≡◌, ℕ, ◌+◌, ◌<◌, ◌≤◌, ◌^◌, ◌-◌, true, ◌&&◌, List, [], ◌∷◌, Contains, Option, Some, None, ℤ, pos, negsuc, refl, sym, ap, subst, arith}
 use Rattle.std.specs.Prelude.{fold, int_le, is_some, neg_ℤ, ◌≤ℤ◌, ◌<ℤ◌}
-use Rattle.std.specs.List.{All, AllByRecursion, filter}
+use Rattle.std.specs.List.{All, AllByRecursion}
 use Rattle.std.proofs.lemmas.Bool.{both_ways, le-leb, or_left}
 use Rattle.std.proofs.lemmas.Int.{ints}
 use Rattle.std.proofs.lemmas.List.Elements.{All-contains, All-filter, All-tail, All-weaker}

@@ -1,4 +1,4 @@
-use Rattle.std.proofs.Common.{◌≡◌, ◌==◌, ap, sym, ◌∙◌, Bor, List, find, option_map}
+use Rattle.std.proofs.Common.{◌==◌, ap, sym, ◌∙◌, Bor, List, find, option_map}
 use Rattle.script_core.specs.declared.block.Block.{Block}
 use Rattle.replay_cli.proofs.Blocks.{found_lawful}
 use Rattle.replay_cli.proofs.declared.declared_block.Goals as goal
