@@ -1,6 +1,7 @@
-ghost use Rattle.std.specs.Prelude.{◌≡◌, ℕ, ◌≤◌, Err, IfOk, IsTrue, None, false};
+ghost use Rattle.std.specs.Prelude.{◌≡◌, ℕ, ◌≤◌, All, Err, IfOk, IsTrue, None, false, true};
 ghost use Rattle.bucket_core.specs.Causes.{Rose, get_failed};
 ghost use Rattle.dir_bucket.specs.Folders.{bucket_faults};
+ghost use Rattle.dir_bucket.specs.Names.{is_plain as is_plain_name};
 
 use crate::files::{is_absent, path_of, put_file, read_range, remove_file, sync_names};
 use crate::listing::{page_of_files, page_of_names};
@@ -67,12 +68,11 @@ impl<R: Files + AllocGlobal + Clone + Drop> DirBucket<R> {
         }
     }
 
-    fn try_page(&self, within: &str, after: &str, limit: u32) -> io::Result<TextList> {
+    fn try_page(&self, within: &str, after: &str, limit: u32) -> io::Result<TextList>
+        ensures { IfOk result (All (λ name. is_plain_name name ≡ true)) }
+    {
         if within.is_empty() {
             return page_of_names(&self.rt, self.folder.as_str(), after, limit);
-        }
-        if !is_plain(within) {
-            return Ok(List::new(self.rt.alloc()));
         }
         let folder = path_of(&self.rt, self.folder.as_str(), within)?;
         page_of_files(&self.rt, folder.as_str(), after, limit)
@@ -90,11 +90,11 @@ fn open_folder<R: Files + AllocGlobal + Clone + Drop>(rt: &R, folder: &str) -> i
 }
 
 impl<R: Files + AllocGlobal + Clone + Drop> Bucket for DirBucket<R> {
-    ghost use Rattle.std.specs.Prelude.{◌≡◌, ◌≤◌, None, IfSome, option_map, false};
+    ghost use Rattle.std.specs.Prelude.{◌≡◌, ◌≢◌, ◌≤◌, [], None, IfSome, option_map, false};
     ghost use Rattle.bucket_core.specs.Causes.{KeepsFaults, put_failed, get_failed, delete_failed, page_failed};
     ghost use Rattle.bucket_core.specs.Contents.{IsKey};
     ghost use Rattle.dir_bucket.specs.Folders.{bucket_faults};
-    ghost use Rattle.dir_bucket.specs.Names.{is_plain as is_plain_name};
+    ghost use Rattle.dir_bucket.specs.Names.{is_plain as is_plain_name, ShowsPlain};
 
     ghost contents = { λ bucket. None };
 
@@ -178,7 +178,16 @@ impl<R: Files + AllocGlobal + Clone + Drop> Bucket for DirBucket<R> {
         }
     }
 
-    fn page(&mut self, within: &str, after: &str, limit: u32) -> PageAnswer {
+    fn page(&mut self, within: &str, after: &str, limit: u32) -> PageAnswer
+        ensures kept { KeepsFaults bucket_faults (λ bucket. ⊥) self.old self.new
+            (page_failed result) }
+        ensures plain { ShowsPlain result }
+        ensures strange { within.now ≢ [] → is_plain_name within.now ≡ false
+            → result ≡ PageAnswer.Names [] }
+    {
+        if !within.is_empty() && !is_plain(within) {
+            return PageAnswer::Names(List::new(self.rt.alloc()));
+        }
         match self.try_page(within, after, limit) {
             Ok(names) => PageAnswer::Names(names),
             Err(error) if error.kind() == ErrorKind::OutOfMemory => PageAnswer::NoMemory,

@@ -68,6 +68,8 @@ pub(crate) fn remove_file<R: Files + AllocGlobal>(
 }
 
 /// The bytes of a file from a place on, at most so many. What is no file is absent.
+///
+/// Room is made at once for what the system says the file has there, and what is read then is what the file has.
 pub(crate) fn read_range<R: Files + AllocGlobal>(
     rt: &R,
     folder: &str,
@@ -76,11 +78,13 @@ pub(crate) fn read_range<R: Files + AllocGlobal>(
     most: u64,
 ) -> io::Result<Vec<u8>> {
     let path = path_of(rt, folder, name)?;
-    if !fs::metadata(rt, path.as_str())?.is_file() {
+    let metadata = fs::metadata(rt, path.as_str())?;
+    if !metadata.is_file() {
         return Err(io::Error::from(ErrorKind::NotFound));
     }
     let mut file = File::open(rt, path.as_str())?;
-    let mut bytes = Vec::new(rt.alloc());
+    let length = metadata.len().saturating_sub(from).min(most);
+    let mut bytes = Vec::with_capacity(rt.alloc(), length as usize)?;
     // No file reaches a place past this bound.
     if i64::try_from(from).is_ok() {
         file.seek(SeekFrom::Start(from))?;

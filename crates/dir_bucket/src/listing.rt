@@ -1,38 +1,75 @@
-//! The names of files below a folder. Names that begin with a dot are passed over.
+//! The names of files below a folder. Names with a part that begins with a dot are passed over.
+ghost use Rattle.std.specs.Prelude.{◌≡◌, All, IfOk, true};
+ghost use Rattle.dir_bucket.specs.Names.{is_plain as is_plain_name};
+
 use crate::files::{is_absent, path_of};
+use crate::names::is_plain;
 use label_sets::{Text, TextList};
 use list_core::List;
+use std::alloc::Global;
+use std::collections::BinaryHeap;
 use std::io::ErrorKind;
 use std::rt::Files;
 use std::{fs, io};
 
-/// The names in a folder that are greater than `after`, of files and of folders.
-fn names_in<R: Files + AllocGlobal + Clone + Drop>(
+/// The least of the names that were offered, at most so many.
+#[derive(Drop)]
+struct Least {
+    names: BinaryHeap<Text>,
+    most: usize,
+}
+
+impl Least {
+    fn new(alloc: Global, most: usize) -> Least {
+        Least {
+            names: BinaryHeap::new(alloc),
+            most,
+        }
+    }
+
+    /// Takes a name, and lets the greatest one go where there are too many.
+    fn offer(&mut self, name: String) -> io::Result<()> {
+        self.names.push(Text::from_string(name))?;
+        if self.names.len() > self.most {
+            self.names.pop();
+        }
+        Ok(())
+    }
+
+    /// The names in order.
+    fn into_names(self) -> Vec<Text> {
+        self.names.into_sorted_vec()
+    }
+}
+
+/// The least names in a folder that are greater than `after`, at most so many, of files and of folders.
+fn least_names<R: Files + AllocGlobal + Clone + Drop>(
     rt: &R,
     folder: &str,
     after: &str,
+    most: usize,
 ) -> io::Result<Vec<Text>> {
-    let mut names = Vec::new(rt.alloc());
+    let mut least = Least::new(rt.alloc(), most);
     for entry in fs::read_dir(rt, folder)? {
         let entry = entry?;
         let name = entry.file_name();
-        if !name.starts_with('.') && after < name {
-            names.push(Text::from_string(String::from_str(rt.alloc(), name)?))?;
+        if after < name {
+            least.offer(String::from_str(rt.alloc(), name)?)?;
         }
     }
-    Ok(names)
+    Ok(least.into_names())
 }
 
-/// Adds the files of a folder below another one to the names, and its folders to those that are still to be looked at, each
-/// by its path below that one.
+/// The files in a folder below another one; its folders are added to those that are still to be looked at. All are given by
+/// their paths below that other one.
 fn look_into<R: Files + AllocGlobal + Clone + Drop>(
     rt: &R,
     folder: &str,
     below: &str,
-    names: &mut Vec<Text>,
     pending: &mut Vec<String>,
-) -> io::Result<()> {
+) -> io::Result<Vec<String>> {
     let looked_at = path_of(rt, folder, below)?;
+    let mut files = Vec::new(rt.alloc());
     for entry in fs::read_dir(rt, looked_at.as_str())? {
         let entry = entry?;
         let name = entry.file_name();
@@ -48,30 +85,68 @@ fn look_into<R: Files + AllocGlobal + Clone + Drop>(
         if kind.is_dir() {
             pending.push(found)?;
         } else if kind.is_file() {
-            names.push(Text::from_string(found))?;
+            files.push(found)?;
         }
     }
-    Ok(())
+    Ok(files)
 }
 
-/// The paths of all files below a folder. A folder that is not there has none.
-fn files_below<R: Files + AllocGlobal + Clone + Drop>(
+/// The files of the next folder that is still to be looked at, until there is none. A folder that is gone has no files.
+fn next_files<R: Files + AllocGlobal + Clone + Drop>(
     rt: &R,
     folder: &str,
-) -> io::Result<Vec<Text>> {
-    let mut names = Vec::new(rt.alloc());
+    pending: &mut Vec<String>,
+) -> io::Result<Option<Vec<String>>> {
+    let Some(below) = pending.pop() else {
+        return Ok(None);
+    };
+    match look_into(rt, folder, below.as_str(), pending) {
+        Ok(files) => Ok(Some(files)),
+        Err(error) if is_absent(&error) => Ok(Some(Vec::new(rt.alloc()))),
+        Err(error) => Err(error),
+    }
+}
+
+/// The one folder to begin with.
+fn whole<R: AllocGlobal>(rt: &R) -> io::Result<Vec<String>> {
     let mut pending = Vec::new(rt.alloc());
     pending.push(String::new(rt.alloc()))?;
+    Ok(pending)
+}
+
+/// Whether a file lies below a folder.
+fn has_file<R: Files + AllocGlobal + Clone + Drop>(rt: &R, folder: &str) -> io::Result<bool> {
+    let mut pending = whole(rt)?;
     for _ in 0..u64::MAX {
-        let Some(below) = pending.pop() else {
-            break;
-        };
-        match look_into(rt, folder, below.as_str(), &mut names, &mut pending) {
-            Err(error) if !is_absent(&error) => return Err(error),
-            _ => {}
+        match next_files(rt, folder, &mut pending)? {
+            Some(files) if !files.is_empty() => return Ok(true),
+            Some(_) => {}
+            None => break,
         }
     }
-    Ok(names)
+    Ok(false)
+}
+
+/// The least paths of files below a folder that are greater than `after`, at most so many.
+fn least_files<R: Files + AllocGlobal + Clone + Drop>(
+    rt: &R,
+    folder: &str,
+    after: &str,
+    most: usize,
+) -> io::Result<Vec<Text>> {
+    let mut least = Least::new(rt.alloc(), most);
+    let mut pending = whole(rt)?;
+    for _ in 0..u64::MAX {
+        let Some(files) = next_files(rt, folder, &mut pending)? else {
+            break;
+        };
+        for file in files {
+            if after < file.as_str() {
+                least.offer(file)?;
+            }
+        }
+    }
+    Ok(least.into_names())
 }
 
 /// Whether a name of a folder is that of a file, or of a folder with a file below it.
@@ -83,36 +158,81 @@ fn is_shown<R: Files + AllocGlobal + Clone + Drop>(
     let path = path_of(rt, folder, name)?;
     let kind = fs::symlink_metadata(rt, path.as_str())?.file_type();
     if kind.is_dir() {
-        let below = files_below(rt, path.as_str())?;
-        return Ok(!below.is_empty());
+        return has_file(rt, path.as_str());
     }
     Ok(kind.is_file())
 }
 
-/// Adds a name to a page.
-fn push_name(page: &mut TextList, name: Text) -> io::Result<()> {
+/// Adds a name to a page, if it is plain.
+fn push_plain(page: &mut TextList, name: Text) -> io::Result<()>
+    ensures { All (λ name. is_plain_name name ≡ true) page.old
+        → All (λ name. is_plain_name name ≡ true) page.new }
+{
+    if !is_plain(name.as_str()) {
+        return Ok(());
+    }
     match page.push(name) {
         Ok(()) => Ok(()),
         Err(_) => Err(io::Error::from(ErrorKind::OutOfMemory)),
     }
 }
 
+/// Adds those of the names in a folder that are shown.
+fn push_shown<R: Files + AllocGlobal + Clone + Drop>(
+    rt: &R,
+    folder: &str,
+    names: Vec<Text>,
+    page: &mut TextList,
+) -> io::Result<()>
+    ensures { All (λ name. is_plain_name name ≡ true) page.old
+        → All (λ name. is_plain_name name ≡ true) page.new }
+{
+    for name in names {
+        if is_shown(rt, folder, name.as_str())? {
+            push_plain(page, name)?;
+        }
+    }
+    Ok(())
+}
+
+/// Adds the next names in a folder to a page, and tells whether more of them may have room there.
+fn add_names<R: Files + AllocGlobal + Clone + Drop>(
+    rt: &R,
+    folder: &str,
+    after: &mut String,
+    limit: usize,
+    page: &mut TextList,
+) -> io::Result<bool>
+    ensures { All (λ name. is_plain_name name ≡ true) page.old
+        → All (λ name. is_plain_name name ≡ true) page.new }
+{
+    let wanted = limit.saturating_sub(page.len());
+    let names = least_names(rt, folder, after.as_str(), wanted)?;
+    let Some(greatest) = names.last() else {
+        return Ok(false);
+    };
+    *after = String::from_str(rt.alloc(), greatest.as_str())?;
+    let were_all = names.len() < wanted;
+    push_shown(rt, folder, names, page)?;
+    Ok(!were_all && page.len() < limit)
+}
+
 /// The first names in a folder that are greater than `after`, at most so many. Folders without a file are passed over.
+///
+/// A folder's names come in no order, so each page looks at all of them. It keeps no more than it may show.
 pub(crate) fn page_of_names<R: Files + AllocGlobal + Clone + Drop>(
     rt: &R,
     folder: &str,
     after: &str,
     limit: u32,
-) -> io::Result<TextList> {
-    let mut names = names_in(rt, folder, after)?;
-    names.sort()?;
+) -> io::Result<TextList>
+    ensures { IfOk result (All (λ name. is_plain_name name ≡ true)) }
+{
     let mut page = List::new(rt.alloc());
-    for name in names {
-        if page.len() >= limit as usize {
-            break;
-        }
-        if is_shown(rt, folder, name.as_str())? {
-            push_name(&mut page, name)?;
+    let mut last = String::from_str(rt.alloc(), after)?;
+    'pages: for _ in 0..u64::MAX {
+        if !add_names(rt, folder, &mut last, limit as usize, &mut page)? {
+            return Ok(page);
         }
     }
     Ok(page)
@@ -124,17 +244,12 @@ pub(crate) fn page_of_files<R: Files + AllocGlobal + Clone + Drop>(
     folder: &str,
     after: &str,
     limit: u32,
-) -> io::Result<TextList> {
-    let mut names = files_below(rt, folder)?;
-    names.sort()?;
+) -> io::Result<TextList>
+    ensures { IfOk result (All (λ name. is_plain_name name ≡ true)) }
+{
     let mut page = List::new(rt.alloc());
-    for name in names {
-        if page.len() >= limit as usize {
-            break;
-        }
-        if after < name.as_str() {
-            push_name(&mut page, name)?;
-        }
+    for name in least_files(rt, folder, after, limit as usize)? {
+        push_plain(&mut page, name)?;
     }
     Ok(page)
 }

@@ -4,6 +4,8 @@ use Rattle.std.specs.Prelude.{Option, Some, Result, Ok, Err, IfSome, IsSomeAnd}
 use Rattle.bucket_core.specs.Causes.{Rose}
 use Rattle.bucket_core.specs.Contents.{Contents, nothing}
 use Rattle.bucket_core.specs.Pages.{IsPage}
+use Rattle.bucket_core.specs.declared.site_refusal.SiteRefusal.{SiteRefusal}
+use Rattle.bucket_core.specs.declared.site_refusal.SiteRefusal.TheVariants as site
 use Rattle.world_core.specs.Keeping.{IsFull}
 use Rattle.world_core.specs.Worlds.{IsJournal}
 use Rattle.world_core.specs.declared.entry.Entry.{Entry}
@@ -82,3 +84,14 @@ opened_told {B} setting told faults bucket store refusal v empty handed back is 
     subst (λ (x : Option B). IsRun setting told (IsSomeAnd x (λ b. Rose (faults bucket) (faults b))) handed v) (sym same)
     (subst (λ (h : Option (List Entry)). IsRun setting told (Rose (faults bucket) (faults store)) h v) (sym (is ∙ ap (λ (l : List Entry). Some l) none))
     (opened_by setting told (Rose (faults bucket) (faults store)) refusal v fails stands one two three))
+
+-- a call whose shelf was not opened
+unshelved_by : (setting : Setting) (told : Option Contents) (refusal : SiteRefusal) (v : Verdict) → (refusal ≡ site.Failed → v ≡ verdict.SiteFault) → (refusal ≡ site.NoMemory → v ≡ verdict.NoMemory)
+    → IsRun setting told (refusal ≡ site.Failed) (Some []) v
+unshelved_by setting told site.Failed v failed short = subst (IsRun setting told (site.Failed ≡ site.Failed) (Some [])) (sym (failed refl)) (refl, refl)
+unshelved_by setting told site.NoMemory v failed short = subst (IsRun setting told (site.NoMemory ≡ site.Failed) (Some [])) (sym (short refl)) (none_in_line setting, none_guaranteed setting)
+
+pub unshelved_told : (setting : Setting) (told : Option Contents) (refusal : SiteRefusal) (v : Verdict) (empty : List Entry) (handed : Option (List Entry)) → handed ≡ Some empty → empty ≡ []
+    → (refusal ≡ site.Failed → v ≡ verdict.SiteFault) → (refusal ≡ site.NoMemory → v ≡ verdict.NoMemory) → IsRun setting told (refusal ≡ site.Failed) handed v
+unshelved_told setting told refusal v empty handed is none failed short =
+    subst (λ (h : Option (List Entry)). IsRun setting told (refusal ≡ site.Failed) h v) (sym (is ∙ ap (λ (l : List Entry). Some l) none)) (unshelved_by setting told refusal v failed short)

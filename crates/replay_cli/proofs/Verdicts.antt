@@ -1,8 +1,10 @@
 -- Verdicts and their causes, from a run outwards to the whole call.
-use Rattle.std.proofs.Common.{◌≡◌, ◌≢◌, inl, inr, ℕ, ◌<◌, List, [], ◌∷◌, length, refl, sym, subst, arith}
-use Rattle.std.specs.Prelude.{Option, Some, None, IfSome, IsSomeAnd, Ok, Err}
+use Rattle.std.proofs.Common.{◌≡◌, ◌≢◌, ◌⊎◌, inl, inr, ℕ, ◌<◌, ◌≤◌, List, [], ◌∷◌, length, refl, sym, subst, arith}
+use Rattle.std.specs.Prelude.{Option, Some, None, IfSome, IsSome, IsSomeAnd, Ok, Err}
 use Rattle.std.proofs.lemmas.Bool.{lt-ltb}
 use Rattle.bucket_core.specs.Causes.{Rose}
+use Rattle.bucket_core.specs.declared.site_refusal.SiteRefusal.{SiteRefusal}
+use Rattle.bucket_core.specs.declared.site_refusal.SiteRefusal.TheVariants as site
 use Rattle.bucket_core.specs.Contents.{Contents, nothing}
 use Rattle.bucket_core.specs.Pages.{IsPage}
 use Rattle.world_core.specs.declared.entry.Entry.{Entry}
@@ -12,7 +14,7 @@ use Rattle.script_core.specs.declared.script.Script.{Script}
 use Rattle.script_core.specs.declared.script_refusal.ScriptRefusal.TheVariants.{TooLong}
 use Rattle.script_core.specs.Limits.{longest_text}
 use Rattle.replay_cli.specs.Kept.{HoldsNothing}
-use Rattle.replay_cli.specs.Verdicts.{Around, IsRun, IsUnread, IsWorked, IsCaused}
+use Rattle.replay_cli.specs.Verdicts.{Around, BehindOpening, IsRun, IsUnread, IsWorked, IsCaused}
 use Rattle.replay_cli.specs.declared.verdict.Verdict.{Verdict}
 use Rattle.replay_cli.specs.declared.verdict.Verdict.TheVariants.{WordsRefused, SourceFault, ScriptRefused, SiteFault, NotEmpty, Full, Report, NoMemory}
 use Rattle.lifecycle_core.specs.Setting.{Setting, setting_of}
@@ -28,12 +30,38 @@ caused accepted around (Full lines) a w = (a, w)
 caused accepted around (Report lines as_asked) a w = (a, w)
 caused accepted around NoMemory a w = (a, w)
 
-pub worked : (around : Around) (script : Script) (v : Verdict) → IfSome around.text (λ bytes. script_of bytes ≡ Ok script) → IfSome around.text (λ bytes. around.left ≡ Some []) → IsLawfulScript script
-    → IsRun (setting_of script) around.before around.site_failed around.journal v → IsWorked around v
-worked around script v spelled taken lawful run = inr (record { script = script; spelled = spelled; taken = taken; lawful = lawful; run = run })
+-- the same, where the bucket and the shelf are named by words
+pub caused_named : (accepted : Type 0) (around : Option (List ℕ) → Option (List ℕ) → Around) (bucket other_bucket shelf other_shelf : Option (List ℕ)) (v : Verdict)
+    → accepted → bucket ≡ other_bucket → shelf ≡ other_shelf → IsWorked (around bucket shelf) v → IsCaused accepted (around other_bucket other_shelf) v
+caused_named accepted around bucket other_bucket shelf other_shelf v a same too w =
+    caused accepted (around other_bucket other_shelf) v a
+    (subst (λ (b : Option (List ℕ)). IsWorked (around b other_shelf) v) same (subst (λ (s : Option (List ℕ)). IsWorked (around bucket s) v) too w))
 
-pub unread : (around : Around) (v : Verdict) → IsUnread around.text around.left around.source_failed v → around.journal ≡ None → IsWorked around v
-unread around v why none = inl (why, none)
+-- a word that names something names it
+pub is_named : (name : List ℕ) (word : Option (List ℕ)) → Some name ≡ word → IsSome word
+is_named name word same = subst (λ (w : Option (List ℕ)). IsSome w) same refl
+
+pub behind_opening : (v : Verdict) (P : Type 0) → P → BehindOpening v P
+behind_opening WordsRefused P holds = tt
+behind_opening SourceFault P holds = tt
+behind_opening (ScriptRefused refusal) P holds = tt
+behind_opening SiteFault P holds = tt
+behind_opening (NotEmpty name) P holds = holds
+behind_opening (Full lines) P holds = holds
+behind_opening (Report lines as_asked) P holds = holds
+behind_opening NoMemory P holds = tt
+
+-- where the site refuses to open something, no verdict comes behind it
+pub before_opening : (refusal : SiteRefusal) (v : Verdict) (P : Type 0) → (refusal ≡ site.Failed → v ≡ SiteFault) → (refusal ≡ site.NoMemory → v ≡ NoMemory) → BehindOpening v P
+before_opening site.Failed v P failed short = subst (λ (w : Verdict). BehindOpening w P) (sym (failed refl)) tt
+before_opening site.NoMemory v P failed short = subst (λ (w : Verdict). BehindOpening w P) (sym (short refl)) tt
+
+pub worked : (around : Around) (script : Script) (v : Verdict) → IfSome around.text (λ bytes. script_of bytes ≡ Ok script) → IfSome around.text (λ bytes. around.left ≡ Some []) → IsLawfulScript script
+    → BehindOpening v around.opened → IsRun (setting_of script) around.before around.site_failed around.journal v → IsWorked around v
+worked around script v spelled taken lawful opened run = inr (record { script = script; spelled = spelled; taken = taken; lawful = lawful; opened = opened; run = run })
+
+pub unread : (around : Around) (v : Verdict) → IsUnread around.text around.left around.source_failed v → around.journal ≡ None → around.unasked → IsWorked around v
+unread around v why none unasked = inl (why, none, unasked)
 
 -- what holds of what is told holds of what was told before, where that is the same
 if_told : (P : Contents → Type 0) (before told : Option Contents) → IfSome before (λ c. told ≡ Some c) → IfSome told P → IfSome before P
@@ -50,6 +78,15 @@ run_told setting before told failed other journal (NotEmpty name) same weaker ru
 run_told setting before told failed other journal (Full lines) same weaker run = (if_told HoldsNothing before told same run.0, run.1)
 run_told setting before told failed other journal (Report lines as_asked) same weaker run = (if_told HoldsNothing before told same run.0, run.1)
 run_told setting before told failed other journal NoMemory same weaker run = run
+
+as_told : (told : Option Contents) → IfSome told (λ c. told ≡ Some c)
+as_told None = tt
+as_told (Some c) = refl
+
+-- a run's cause with a weaker one for a failure of the site
+pub run_weaker : (setting : Setting) (told : Option Contents) (failed other : Type 0) (journal : Option (List Entry)) (v : Verdict)
+    → (failed → other) → IsRun setting told failed journal v → IsRun setting told other journal v
+run_weaker setting told failed other journal v weaker run = run_told setting told told failed other journal v (as_told told) weaker run
 
 if_nothing : (P : Contents → Type 0) (told : Option Contents) → IfSome told (λ c. c ≡ nothing) → P nothing → IfSome told P
 if_nothing P None is holds = tt
@@ -71,6 +108,15 @@ run_empty setting told failed journal NoMemory is run = run
 pub above_none : {B : Type 0} (faults : B → ℕ) (before : ℕ) (store : Option B) → before ≡ 0 → IsSomeAnd store (λ b. Rose before (faults b)) → IsSomeAnd store (λ b. 0 < faults b)
 above_none faults before None none rose = rose
 above_none faults before (Some b) none rose = omega (arith, none, rose)
+
+-- a failure behind another opening is one of both
+pub rose_later : (before between after : ℕ) → before ≤ between → Rose between after → Rose before after
+rose_later before between after later rose = omega (arith, later, rose)
+
+pub failed_later : {B : Type 0} (faults : B → ℕ) (before between after count : ℕ) (store : Option B) → before ≤ between → count ≡ 0
+    → Rose between after ⊎ IsSomeAnd store (λ b. Rose count (faults b)) → Rose before after ⊎ IsSomeAnd store (λ b. 0 < faults b)
+failed_later faults before between after count store later none (inl rose) = inl (rose_later before between after later rose)
+failed_later faults before between after count store later none (inr rose) = inr (above_none faults count store none rose)
 
 too_long : (text : List ℕ) → longest_text < length text → script_of text ≡ Err TooLong
 unfolding script_of

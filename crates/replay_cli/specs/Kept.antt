@@ -1,4 +1,4 @@
--- What a call of the program leaves of a bucket that the site handed out, and of the journal over it.
+-- What a call of the program leaves of what the site handed out, and of the journal over its bucket.
 use Rattle.std.specs.Prelude.{◌≡◌, ◌≢◌, ◌≤◌, ◌+◌, ℕ, List, [], Option, Some, None, IfSome, is_some, if◌then◌else◌}
 use Rattle.bucket_core.specs.Contents.{Contents, nothing}
 use Rattle.world_core.specs.declared.entry.Entry.{Entry}
@@ -24,9 +24,34 @@ abbrev pub IsUntouched : {B : Type 0} → (B → Option Contents) → Contents �
 IsUntouched contents before (Some journal) (Some store) = journal ≡ [] → IfSome (contents store) (λ c. c ≡ before)
 IsUntouched contents before journal store = Unit {0}
 
--- a site counts a bucket that it handed out
+-- a site counts a bucket, or a shelf, that it handed out
 abbrev pub IsHandedOut : {S B : Type 0} → (S → ℕ) → S → S → Option B → Type 0
 IsHandedOut opened old new store = opened new ≡ (if is_some store then opened old + 1 else opened old)
+
+-- A site was not asked for a bucket, or for a shelf: it has handed out no more of them, and tells of the next one what it told.
+pub record IsNotAsked {S : Type 0} (opened : S → ℕ) (told : S → List ℕ → Option Contents) (old new : S) : Type 0 where
+  pub handed : opened new ≡ opened old
+  pub next : told new ≡ told old
+
+-- what a site tells of the one that a word names, where a word names one
+abbrev pub told_of : (List ℕ → Option Contents) → Option (List ℕ) → Option Contents
+told_of told None = None
+told_of told (Some name) = told name
+
+-- a shelf that was handed back holds what the site told of it
+abbrev pub IsShelfBack : {F : Type 0} → Option Contents → (F → Option Contents) → Option F → Type 0
+IsShelfBack told files shelf = IfSome shelf (λ s. IfSome told (λ c. files s ≡ Some c))
+
+-- The shelf of a word, as a call leaves it and the site that it was asked of: it was opened under the name of the word, and the
+-- site was asked for none where the word names none.
+pub record IsShelfOf {S F : Type 0} (shelves : S → ℕ) (told : S → List ℕ → Option Contents) (files : F → Option Contents) (word : Option (List ℕ)) (old new : S) (shelf : Option F) : Type 0 where
+  pub handed : IsHandedOut shelves old new shelf
+  pub back : IsShelfBack (told_of (told old) word) files shelf
+  pub closed : word ≡ None → IsNotAsked shelves told old new
+
+-- what was handed out is a bucket just where a word names one, and a shelf just where a word names one
+abbrev pub IsOpened : {B F : Type 0} → Option (List ℕ) → Option (List ℕ) → Option B → Option F → Type 0
+IsOpened bucket_word shelf_word store shelf = (is_some store ≡ is_some bucket_word) × (is_some shelf ≡ is_some shelf_word)
 
 abbrev pub HoldsNothing : Contents → Type 0
 HoldsNothing contents = contents ≡ nothing

@@ -20,7 +20,7 @@ use Rattle.lifecycle_core.specs.Phases.{IsFinished, IsRunOf, by_workers}
 use Rattle.lifecycle_core.specs.Setting.{Setting, setting_of}
 use Rattle.lifecycle_core.specs.Tasks.{End}
 use Rattle.lifecycle_core.specs.Ways.{AreFinished, AreUnfinished, IsOperationDue}
-use Rattle.replay_cli.specs.Kept.{HoldsNothing}
+use Rattle.replay_cli.specs.Kept.{HoldsNothing, IsNotAsked, IsOpened, told_of}
 use Rattle.replay_cli.specs.Outcomes.{PhasesCame}
 use Rattle.replay_cli.specs.Output.{IsWrittenInPart}
 use Rattle.replay_cli.specs.Reports.{activity_text, is_as_asked, newline}
@@ -117,29 +117,37 @@ pub record Around : Type 1 where
   pub source_failed : Type 0
   -- what the bucket held before, where the site tells it
   pub before : Option Contents
-  -- the bucket could not be opened or listed
+  -- what the words name could not be opened, or the bucket not listed
   pub site_failed : Type 0
+  -- the site handed out all that the words name
+  pub opened : Type 0
+  -- the site was asked for nothing
+  pub unasked : Type 0
   -- the journal that is handed back
   pub journal : Option (List Entry)
 
--- the bucket could not be opened, or a bucket that was handed out has failed
+-- an opening failed, or a bucket that was handed out has failed
 abbrev pub SiteFailed : {S B : Type 0} → (S → ℕ) → S → S → (B → ℕ) → Option B → Type 0
 SiteFailed site_faults old new faults store = Rose (site_faults old) (site_faults new) ⊎ IsSomeAnd store (λ bucket. 0 < faults bucket)
 
 -- The world around a call that took a source from `script` to `read` and a site from `site` to `asked`, and handed back a bucket
--- and a journal, or neither.
-abbrev pub around_call : {R S B : Type 0} → (R → Option (List ℕ)) → (R → ℕ) → R → R → Option Contents → (S → ℕ) → S → S → (B → ℕ) → Option B → Option (List Entry) → Around
-around_call left source_faults script read before site_faults site asked faults store journal = record {
+-- and a journal, or neither, and a shelf or none. The first word names the bucket, the second one the shelf.
+abbrev pub around_call : {R S B F : Type 0} → (R → Option (List ℕ)) → (R → ℕ) → R → R
+    → (S → ℕ) → (S → List ℕ → Option Contents) → (S → ℕ) → (S → List ℕ → Option Contents) → (S → ℕ) → Option (List ℕ) → Option (List ℕ) → S → S
+    → (B → ℕ) → Option B → Option F → Option (List Entry) → Around
+around_call left source_faults script read buckets next_bucket shelves next_shelf site_faults bucket_word shelf_word site asked faults store shelf journal = record {
   text = left script;
   left = left read;
   source_failed = Rose (source_faults script) (source_faults read);
-  before = before;
+  before = told_of (next_bucket site) bucket_word;
   site_failed = SiteFailed site_faults site asked faults store;
+  opened = IsOpened bucket_word shelf_word store shelf;
+  unasked = IsNotAsked buckets next_bucket site asked × IsNotAsked shelves next_shelf site asked;
   journal = journal;
 }
 
--- Why a script's run comes to a verdict: by what the bucket held before, where that is told; by whether the bucket could not
--- be opened or listed; and by the journal that is handed back. Whatever it comes to, the journal is lawful
+-- Why a script's run comes to a verdict: by what the bucket held before, where that is told; by whether something could not
+-- be opened, or the bucket not listed; and by the journal that is handed back. Whatever it comes to, the journal is lawful
 -- for the script, and its tasks were done in the order of their lines.
 abbrev pub IsRun : Setting → Option Contents → Type 0 → Option (List Entry) → Verdict → Type 0
 IsRun setting before site_failed journal SiteFault = site_failed × IfSome journal (λ entries. entries ≡ [])
@@ -149,29 +157,41 @@ IsRun setting before site_failed journal (Report lines as_asked) = IfSome before
 IsRun setting before site_failed journal NoMemory = IfSome journal (λ entries. IsInLine setting entries × IsGuaranteedJournal setting entries)
 IsRun setting before site_failed journal other = ⊥
 
+-- what holds where a verdict comes behind all openings
+abbrev pub BehindOpening : Verdict → Type 0 → Type 0
+BehindOpening (NotEmpty name) P = P
+BehindOpening (Full lines) P = P
+BehindOpening (Report lines as_asked) P = P
+BehindOpening WordsRefused P = Unit {0}
+BehindOpening SourceFault P = Unit {0}
+BehindOpening (ScriptRefused refusal) P = Unit {0}
+BehindOpening SiteFault P = Unit {0}
+BehindOpening NoMemory P = Unit {0}
+
 -- the text was read to its end and spells a lawful script, whose run comes to the verdict
 pub record IsRunOfText (around : Around) (verdict : Verdict) : Type 0 where
   pub script : Script
   pub spelled : IfSome around.text (λ bytes. script_of bytes ≡ Ok script)
   pub taken : IfSome around.text (λ bytes. around.left ≡ Some [])
   pub lawful : IsLawfulScript script
+  pub opened : BehindOpening verdict around.opened
   pub run : IsRun (setting_of script) around.before around.site_failed around.journal verdict
 
--- Why no script was read: by the source, or by its text, which was read to its end unless it was too long. The bucket was not
--- opened then.
+-- why no script was read: by the source, or by its text, which was read to its end unless it was too long
 abbrev pub IsUnread : Option (List ℕ) → Option (List ℕ) → Type 0 → Verdict → Type 0
 IsUnread text left source_failed SourceFault = source_failed
 IsUnread text left source_failed (ScriptRefused refusal) = IfSome text (λ bytes. (script_of bytes ≡ Err refusal) × (refusal ≢ TooLong → left ≡ Some []))
 IsUnread text left source_failed NoMemory = Unit {0}
 IsUnread text left source_failed other = ⊥
 
--- why a call whose words are a form of one comes to a verdict
+-- Why a call whose words are a form of one comes to a verdict. Where no script was read, the site was asked for nothing.
 abbrev pub IsWorked : Around → Verdict → Type 0
-IsWorked around verdict = (IsUnread around.text around.left around.source_failed verdict × (around.journal ≡ None)) ⊎ IsRunOfText around verdict
+IsWorked around verdict = (IsUnread around.text around.left around.source_failed verdict × (around.journal ≡ None) × around.unasked) ⊎ IsRunOfText around verdict
 
--- why a call comes to a verdict, by whether its words are a form of one; where they are none, the source was not read
+-- why a call comes to a verdict, by whether its words are a form of one; where they are none, the source was not read and the site
+-- asked for nothing
 abbrev pub IsCaused : Type 0 → Around → Verdict → Type 0
-IsCaused accepted around WordsRefused = (¬ accepted) × (around.journal ≡ None) × (around.left ≡ around.text)
+IsCaused accepted around WordsRefused = (¬ accepted) × (around.journal ≡ None) × (around.left ≡ around.text) × around.unasked
 IsCaused accepted around other = accepted × IsWorked around other
 
 -- ---- what is said

@@ -3,10 +3,12 @@
 
 mod activity;
 mod came;
+mod conclusion;
 mod declared;
 mod input;
 mod input_refusal;
 mod laws;
+mod opening;
 mod outcome;
 mod output;
 mod phases;
@@ -32,4 +34,3 @@ pub use standard::{ReaderSource, WriterSink};
 pub use status::Status;
 pub use tool::run_tool;
 pub use verdict::Verdict;
-pub use words::is_serial_over_memory;

@@ -19,6 +19,6 @@ pub enum Status {
     BucketNotEmpty,
     /// The journal has no room for another entry.
     JournalFull,
-    /// The bucket could not be opened or listed.
+    /// The bucket or the shelf could not be opened, or the bucket not listed.
     SiteFault,
 }

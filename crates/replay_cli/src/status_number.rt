@@ -1,4 +1,4 @@
-ghost use Rattle.std.specs.Prelude.{◌≡◌};
+ghost use Rattle.std.specs.Prelude.{◌≡◌, ◌<◌, None, IfSome};
 ghost use Rattle.replay_cli.specs.Statuses.{number_of};
 
 use crate::Status;
@@ -19,6 +19,26 @@ impl Status {
             Status::BucketNotEmpty => 7,
             Status::JournalFull => 8,
             Status::SiteFault => 9,
+        }
+    }
+
+    /// The status of an exit status, where there is one.
+    pub fn from_number(number: u8) -> Option<Status>
+        ensures found { IfSome result (λ status. number_of status ≡ number) }
+        ensures none { result ≡ None → 9 < number }
+    {
+        match number {
+            0 => Some(Status::Done),
+            1 => Some(Status::WordsRefused),
+            2 => Some(Status::ScriptRefused),
+            3 => Some(Status::SourceFault),
+            4 => Some(Status::SinkFault),
+            5 => Some(Status::ActivityFailed),
+            6 => Some(Status::NoMemory),
+            7 => Some(Status::BucketNotEmpty),
+            8 => Some(Status::JournalFull),
+            9 => Some(Status::SiteFault),
+            _ => None,
         }
     }
 }

@@ -1,21 +1,23 @@
-ghost use Rattle.std.specs.Prelude.{◌≡◌, ◌⊎◌, ◌<◌, ℕ, List, [], Ok, Err, Some, None, IfOk, IfErr, IfSome, IsSome, IsSomeAnd, is_some};
+ghost use Rattle.std.specs.Prelude.{◌≡◌, ◌⊎◌, ◌<◌, ◌≤◌, ℕ, List, [], Ok, Err, Some, None, IfOk, IfErr, IfSome, IsSome, IsSomeAnd, is_some};
 ghost use Rattle.bucket_core.specs.Causes.{Rose};
 ghost use Rattle.bucket_core.specs.Contents.{nothing};
 ghost use Rattle.script_core.specs.Reading.{script_of};
 ghost use Rattle.script_core.specs.Lawful.{IsLawfulScript};
-ghost use Rattle.replay_cli.specs.Kept.{IsHandedBack, IsHandedOut, IsUntouched};
+ghost use Rattle.replay_cli.specs.Kept.{IsHandedBack, IsHandedOut, IsOpened, IsShelfOf, IsUntouched, told_of};
 ghost use Rattle.replay_cli.specs.Statuses.{number_of};
-ghost use Rattle.replay_cli.specs.Verdicts.{IsCaused, IsWorked, IsUnread, IsRun, IsSaid, SiteFailed, around_call, saying_to};
-ghost use Rattle.replay_cli.specs.Words.{IsSerialOverMemory, memory};
+ghost use Rattle.replay_cli.specs.Verdicts.{BehindOpening, IsCaused, IsWorked, IsUnread, IsRun, IsSaid, SiteFailed, around_call, saying_to};
+ghost use Rattle.replay_cli.specs.Words.{bucket_word, named_by, shelf_word};
 ghost use Rattle.lifecycle_core.specs.Setting.{setting_of};
 
 use crate::came::Broken;
+use crate::conclusion::{Conclusion, Ended};
 use crate::input::read_all;
+use crate::opening::{open_shelf, refused, without_shelf};
 use crate::output::write_all;
 use crate::phases::{Lines, Progress, run_phases};
-use crate::words::is_serial_over_memory;
+use crate::words::read_words;
 use crate::{InputRefusal, Run, Status, Verdict};
-use bucket_core::{Bucket, Sink, Site, SiteRefusal, Source};
+use bucket_core::{Bucket, Sink, Site, Source};
 use script_core::{Script, ScriptRefusal};
 use std::alloc::Global;
 use world_core::{Journal, OpenRefusal, World};
@@ -32,31 +34,33 @@ pub fn run_tool<S: Site, R: Source, K: Sink>(
     // The call comes to a verdict that has its cause, and says it: its status and its text, or that the sink failed or
     // memory ran out as it was said.
     ensures verdict { (verdict : Verdict) × (status : Status)
-        × IsCaused (IsSerialOverMemory words.now)
-        (around_call R.left R.faults script.old script.new (S.next_bucket site.old memory)
-        S.faults site.old site.new S.Store.faults result.store result.journal) verdict
+        × IsCaused (IsSome (bucket_word words.now))
+        (around_call R.left R.faults script.old script.new
+        S.buckets S.next_bucket S.shelves S.next_shelf S.faults (bucket_word words.now) (shelf_word words.now)
+        site.old site.new S.Store.faults result.store result.shelf result.journal) verdict
         × IsSaid verdict (saying_to K.faults K.written out.old out.new) status
         × (result.status ≡ number_of status) }
 
     ensures handed { IsHandedOut S.buckets site.old site.new result.store }
-    ensures shelf { IsHandedOut S.shelves site.old site.new result.shelf }
-
-    // No words ask for a shelf yet, and none is opened.
-    ensures closed { S.shelves site.new ≡ S.shelves site.old }
     ensures kept { is_some result.journal ≡ is_some result.store }
 
-    // The journal is true of the bucket that is handed back, and without an entry that is as the site opened it.
+    // The journal is true of the bucket that is handed back, and without an entry that is as the site opened it under the
+    // name of its word.
     ensures back { IsHandedBack S.Store.contents S.Store.faults result.journal result.store }
-    ensures untouched { IfSome (S.next_bucket site.old memory)
+    ensures untouched { IfSome (told_of (S.next_bucket site.old) (bucket_word words.now))
         (λ c. IsUntouched S.Store.contents c result.journal result.store) }
+
+    // So is the shelf, and no shelf is asked for where no word names one.
+    ensures shelf { IsShelfOf S.shelves S.next_shelf S.Files.files (shelf_word words.now)
+        site.old site.new result.shelf }
 {
-    let came = come_to(alloc, words, site, script);
-    let status = say(alloc, came.verdict, out);
+    let Ended { conclusion, shelf } = come_to(alloc, words, site, script);
+    let status = say(alloc, conclusion.verdict, out);
     Run {
         status: status.number(),
-        journal: came.journal,
-        store: came.store,
-        shelf: None,
+        journal: conclusion.journal,
+        store: conclusion.store,
+        shelf,
     }
 }
 
@@ -67,55 +71,27 @@ fn come_to<S: Site, R: Source>(
     words: &[String],
     site: &mut S,
     script: &mut R,
-) -> Conclusion<S::Store>
-    ensures cause { IsCaused (IsSerialOverMemory words.now)
-        (around_call R.left R.faults script.old script.new (S.next_bucket site.old memory)
-        S.faults site.old site.new S.Store.faults result.store result.journal) result.verdict }
-    ensures handed { IsHandedOut S.buckets site.old site.new result.store }
-    ensures shelves { S.shelves site.new ≡ S.shelves site.old }
-    ensures kept { is_some result.journal ≡ is_some result.store }
-    ensures back { IsHandedBack S.Store.contents S.Store.faults result.journal result.store }
-    ensures untouched { IfSome (S.next_bucket site.old memory)
-        (λ c. IsUntouched S.Store.contents c result.journal result.store) }
+) -> Ended<S::Store, S::Files>
+    ensures cause { IsCaused (IsSome (bucket_word words.now))
+        (around_call R.left R.faults script.old script.new
+        S.buckets S.next_bucket S.shelves S.next_shelf S.faults (bucket_word words.now) (shelf_word words.now)
+        site.old site.new S.Store.faults result.conclusion.store result.shelf result.conclusion.journal)
+        result.conclusion.verdict }
+    ensures handed { IsHandedOut S.buckets site.old site.new result.conclusion.store }
+    ensures kept { is_some result.conclusion.journal ≡ is_some result.conclusion.store }
+    ensures back { IsHandedBack S.Store.contents S.Store.faults result.conclusion.journal
+        result.conclusion.store }
+    ensures untouched { IfSome (told_of (S.next_bucket site.old) (bucket_word words.now))
+        (λ c. IsUntouched S.Store.contents c result.conclusion.journal result.conclusion.store) }
+    ensures shelf { IsShelfOf S.shelves S.next_shelf S.Files.files (shelf_word words.now)
+        site.old site.new result.shelf }
 {
-    if is_serial_over_memory(words) {
-        read_and_run(alloc, site, script)
-    } else {
-        Conclusion::without_bucket(Verdict::WordsRefused)
-    }
-}
-
-/// A verdict, with the bucket that the site handed out and the journal over it.
-#[derive(Drop)]
-struct Conclusion<B> {
-    verdict: Verdict,
-    journal: Option<Journal>,
-    store: Option<B>,
-}
-
-impl<B> Conclusion<B> {
-    fn without_bucket(verdict: Verdict) -> Conclusion<B>
-        ensures verdict { result.verdict ≡ verdict }
-        ensures journal { result.journal ≡ None }
-        ensures store { result.store ≡ None }
-    {
-        Conclusion {
-            verdict,
-            journal: None,
-            store: None,
-        }
-    }
-
-    fn with_bucket(verdict: Verdict, journal: Journal, store: B) -> Conclusion<B>
-        ensures verdict { result.verdict ≡ verdict }
-        ensures journal { result.journal ≡ Some journal }
-        ensures store { result.store ≡ Some store }
-    {
-        Conclusion {
-            verdict,
-            journal: Some(journal),
-            store: Some(store),
-        }
+    match read_words(words) {
+        Some(named) => read_and_run(alloc, named.bucket, named.shelf, site, script),
+        None => Ended {
+            conclusion: Conclusion::without_bucket(Verdict::WordsRefused),
+            shelf: None,
+        },
     }
 }
 
@@ -123,22 +99,31 @@ impl<B> Conclusion<B> {
 #[tactic(auto, using(crate::proofs::Verdicts::worked, crate::proofs::Verdicts::unread))]
 fn read_and_run<S: Site, R: Source>(
     alloc: Global,
+    bucket: &str,
+    shelf: &str,
     site: &mut S,
     script: &mut R,
-) -> Conclusion<S::Store>
+) -> Ended<S::Store, S::Files>
     ensures cause { IsWorked
-        (around_call R.left R.faults script.old script.new (S.next_bucket site.old memory)
-        S.faults site.old site.new S.Store.faults result.store result.journal) result.verdict }
-    ensures handed { IsHandedOut S.buckets site.old site.new result.store }
-    ensures shelves { S.shelves site.new ≡ S.shelves site.old }
-    ensures kept { is_some result.journal ≡ is_some result.store }
-    ensures back { IsHandedBack S.Store.contents S.Store.faults result.journal result.store }
-    ensures untouched { IfSome (S.next_bucket site.old memory)
-        (λ c. IsUntouched S.Store.contents c result.journal result.store) }
+        (around_call R.left R.faults script.old script.new
+        S.buckets S.next_bucket S.shelves S.next_shelf S.faults (Some bucket.now) (named_by shelf.now)
+        site.old site.new S.Store.faults result.conclusion.store result.shelf result.conclusion.journal)
+        result.conclusion.verdict }
+    ensures handed { IsHandedOut S.buckets site.old site.new result.conclusion.store }
+    ensures kept { is_some result.conclusion.journal ≡ is_some result.conclusion.store }
+    ensures back { IsHandedBack S.Store.contents S.Store.faults result.conclusion.journal
+        result.conclusion.store }
+    ensures untouched { IfSome (S.next_bucket site.old bucket.now)
+        (λ c. IsUntouched S.Store.contents c result.conclusion.journal result.conclusion.store) }
+    ensures shelf { IsShelfOf S.shelves S.next_shelf S.Files.files (named_by shelf.now)
+        site.old site.new result.shelf }
 {
     match read_script(alloc, script) {
-        Ok(script) => over_site(alloc, &script, site),
-        Err(verdict) => Conclusion::without_bucket(verdict),
+        Ok(script) => over_site(alloc, &script, bucket, shelf, site),
+        Err(verdict) => Ended {
+            conclusion: Conclusion::without_bucket(verdict),
+            shelf: None,
+        },
     }
 }
 
@@ -167,23 +152,75 @@ fn read_script<R: Source>(alloc: Global, source: &mut R) -> Result<Script, Verdi
     }
 }
 
-#[tactic(auto, using(crate::proofs::Verdicts::run_told, crate::proofs::Verdicts::above_none))]
-fn over_site<S: Site>(alloc: Global, script: &Script, site: &mut S) -> Conclusion<S::Store>
+/// Opens the bucket and the shelf, and runs the script over the bucket.
+#[tactic(auto, using(crate::proofs::Verdicts::run_told, crate::proofs::Verdicts::failed_later))]
+fn over_site<S: Site>(
+    alloc: Global,
+    script: &Script,
+    bucket: &str,
+    shelf: &str,
+    site: &mut S,
+) -> Ended<S::Store, S::Files>
     requires { IsLawfulScript script.now }
-    ensures cause { IsRun (setting_of script.now) (S.next_bucket site.old memory)
-        (SiteFailed S.faults site.old site.new S.Store.faults result.store) result.journal
-        result.verdict }
-    ensures handed { IsHandedOut S.buckets site.old site.new result.store }
-    ensures shelves { S.shelves site.new ≡ S.shelves site.old }
-    ensures kept { is_some result.journal ≡ is_some result.store }
-    ensures back { IsHandedBack S.Store.contents S.Store.faults result.journal result.store }
-    ensures untouched { IfSome (S.next_bucket site.old memory)
-        (λ c. IsUntouched S.Store.contents c result.journal result.store) }
+    ensures cause { IsRun (setting_of script.now) (S.next_bucket site.old bucket.now)
+        (SiteFailed S.faults site.old site.new S.Store.faults result.conclusion.store)
+        result.conclusion.journal result.conclusion.verdict }
+    ensures opened { BehindOpening result.conclusion.verdict
+        (IsOpened (Some bucket.now) (named_by shelf.now) result.conclusion.store result.shelf) }
+    ensures handed { IsHandedOut S.buckets site.old site.new result.conclusion.store }
+    ensures kept { is_some result.conclusion.journal ≡ is_some result.conclusion.store }
+    ensures back { IsHandedBack S.Store.contents S.Store.faults result.conclusion.journal
+        result.conclusion.store }
+    ensures untouched { IfSome (S.next_bucket site.old bucket.now)
+        (λ c. IsUntouched S.Store.contents c result.conclusion.journal result.conclusion.store) }
+    ensures shelf { IsShelfOf S.shelves S.next_shelf S.Files.files (named_by shelf.now)
+        site.old site.new result.shelf }
 {
-    match site.open_bucket("memory") {
-        Ok(bucket) => over_bucket(alloc, script, bucket),
-        Err(SiteRefusal::Failed) => Conclusion::without_bucket(Verdict::SiteFault),
-        Err(SiteRefusal::NoMemory) => Conclusion::without_bucket(Verdict::NoMemory),
+    match site.open_bucket(bucket) {
+        Ok(bucket) => over_shelf(alloc, script, bucket, shelf, site),
+        Err(refusal) => Ended {
+            conclusion: Conclusion::without_bucket(refused(refusal)),
+            shelf: None,
+        },
+    }
+}
+
+/// Opens the shelf, and runs the script over the bucket.
+fn over_shelf<S: Site>(
+    alloc: Global,
+    script: &Script,
+    bucket: S::Store,
+    shelf: &str,
+    site: &mut S,
+) -> Ended<S::Store, S::Files>
+    requires { IsLawfulScript script.now }
+    ensures cause { IsRun (setting_of script.now) (S.Store.contents bucket)
+        (Rose (S.faults site.old) (S.faults site.new)
+        ⊎ IsSomeAnd result.conclusion.store
+        (λ store. Rose (S.Store.faults bucket) (S.Store.faults store)))
+        result.conclusion.journal result.conclusion.verdict }
+    ensures opened { BehindOpening result.conclusion.verdict
+        (is_some result.shelf ≡ is_some (named_by shelf.now)) }
+    ensures buckets { S.buckets site.new ≡ S.buckets site.old }
+    ensures later { S.faults site.old ≤ S.faults site.new }
+    ensures store { IsSome result.conclusion.store }
+    ensures journal { IsSome result.conclusion.journal }
+    ensures back { IsHandedBack S.Store.contents S.Store.faults result.conclusion.journal
+        result.conclusion.store }
+    ensures untouched { IfSome (S.Store.contents bucket)
+        (λ c. IsUntouched S.Store.contents c result.conclusion.journal result.conclusion.store) }
+    ensures shelf { IsShelfOf S.shelves S.next_shelf S.Files.files (named_by shelf.now)
+        site.old site.new result.shelf }
+{
+    match open_shelf(site, shelf) {
+        Ok(shelf) => Ended {
+            conclusion: over_bucket(alloc, script, bucket),
+            shelf,
+        },
+        Err(refusal) => Ended {
+            conclusion: without_shelf(alloc, refusal, bucket),
+            shelf: None,
+        },
     }
 }
 

@@ -18,7 +18,7 @@ pub enum Verdict {
     SourceFault,
     /// The text is no script, or too long.
     ScriptRefused(ScriptRefusal),
-    /// The bucket could not be opened or listed.
+    /// The bucket or the shelf could not be opened, or the bucket not listed.
     SiteFault,
     /// An object stood in the bucket before; this is the bucket's least name.
     NotEmpty(Text),

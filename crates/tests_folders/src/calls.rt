@@ -1,8 +1,9 @@
 ghost use Rattle.std.specs.Prelude.{◌≤◌, IsTrue};
 ghost use Rattle.bucket_core.specs.Contents.{IsKey};
 
+use crate::runs::print_run;
 use bucket_core::{Bucket, GetAnswer, PageAnswer, Shelf, ShelfAnswer};
-use dir_bucket::{DirBucket, DirShelf};
+use dir_bucket::{DirShelf, HostBucket};
 use label_sets::Text;
 use std::fs::File;
 use std::{fs, io, str};
@@ -10,7 +11,7 @@ use std::{fs, io, str};
 /// A bucket and a shelf over one folder.
 #[derive(Drop)]
 pub(crate) struct Folder {
-    pub(crate) bucket: DirBucket<HostRuntime>,
+    pub(crate) bucket: HostBucket<HostRuntime>,
     pub(crate) shelf: DirShelf<HostRuntime>,
 }
 
@@ -28,6 +29,7 @@ pub(crate) fn print_call(rt: &HostRuntime, folder: &mut Folder, row: &str) -> io
         "delete" => println!(rt; "{:?}", folder.bucket.delete(text)),
         "page" => print_page(rt, &mut folder.bucket, text),
         "read" => print_read(rt, folder.shelf.read(text)),
+        "run" => print_run(rt, text),
         "folder" => print_done(rt, fs::create_dir_all(rt, text)),
         "file" => print_done(rt, write_zeros(rt, text)),
         _ => println!(rt; "no call"),
@@ -43,7 +45,7 @@ fn is_key(key: &str) -> bool
     }
 }
 
-fn print_put(rt: &HostRuntime, bucket: &mut DirBucket<HostRuntime>, text: &str) -> io::Result<()> {
+fn print_put(rt: &HostRuntime, bucket: &mut HostBucket<HostRuntime>, text: &str) -> io::Result<()> {
     let (key, bytes) = text.split_once(' ').unwrap_or((text, ""));
     if !is_key(key) {
         return println!(rt; "no key");
@@ -53,7 +55,7 @@ fn print_put(rt: &HostRuntime, bucket: &mut DirBucket<HostRuntime>, text: &str) 
 
 fn print_range(
     rt: &HostRuntime,
-    bucket: &mut DirBucket<HostRuntime>,
+    bucket: &mut HostBucket<HostRuntime>,
     text: &str,
 ) -> io::Result<()> {
     let (key, range) = text.split_once(' ').unwrap_or((text, ""));
@@ -65,7 +67,11 @@ fn number_of(text: &str) -> u64 {
     text.parse().unwrap_or(0)
 }
 
-fn print_page(rt: &HostRuntime, bucket: &mut DirBucket<HostRuntime>, text: &str) -> io::Result<()> {
+fn print_page(
+    rt: &HostRuntime,
+    bucket: &mut HostBucket<HostRuntime>,
+    text: &str,
+) -> io::Result<()> {
     let (within, rest) = text.split_once(' ').unwrap_or((text, ""));
     let (after, limit) = rest.split_once(' ').unwrap_or((rest, ""));
     match bucket.page(unless_dot(within), unless_dot(after), limit_of(limit)) {

@@ -1,0 +1,19 @@
+use Rattle.std.proofs.Common.{◌≡◌, ◌⊎◌, inl}
+use Rattle.std.specs.Prelude.{None, IsSomeAnd, is_some}
+use Rattle.bucket_core.specs.Causes.{Rose}
+use Rattle.bucket_core.specs.declared.site_refusal.SiteRefusal.TheVariants as site
+use Rattle.replay_cli.specs.Words.{named_by}
+use Rattle.replay_cli.proofs.Verdicts.{before_opening, behind_opening, run_weaker}
+use Rattle.replay_cli.proofs.tool.over_shelf.Goals as goal
+
+pub returns-in-Ok-clause-opened : goal.returns-in-Ok-clause-opened
+returns-in-Ok-clause-opened g c = behind_opening c.over_bucket.result.verdict (is_some c.in-Ok.shelf ≡ is_some (named_by c.args.shelf.now)) c.in-Ok.ensures.named
+
+pub returns-in-Err-clause-cause : goal.returns-in-Err-clause-cause
+returns-in-Err-clause-cause g c =
+    run_weaker c.args.script.now (g.S.Store.Bucket.contents c.args.bucket) (c.in-Err.refusal ≡ site.Failed)
+    (Rose (g.S.Site.faults c.args.site.now) (g.S.Site.faults c.open_shelf.new.site) ⊎ IsSomeAnd c.without_shelf.result.store (λ store. Rose (g.S.Store.Bucket.faults c.args.bucket) (g.S.Store.Bucket.faults store)))
+    c.without_shelf.result.journal c.without_shelf.result.verdict (λ is. inl (c.in-Err.ensures.cause is)) (c.without_shelf.ensures.cause c.args.script.now)
+
+pub returns-in-Err-clause-opened : goal.returns-in-Err-clause-opened
+returns-in-Err-clause-opened g c = before_opening c.in-Err.refusal c.without_shelf.result.verdict (is_some {T = g.row.S-Files.Denot} None ≡ is_some (named_by c.args.shelf.now)) c.without_shelf.ensures.failed c.without_shelf.ensures.none

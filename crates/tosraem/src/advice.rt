@@ -1,0 +1,29 @@
+//! What standard error is told of a call that wrote no report.
+use replay_cli::Status;
+
+/// How the program is called, a line a form; or what to do about a call that wrote no report. Nothing where it wrote one.
+pub(crate) fn advice(status: Status) -> &'static str {
+    match status {
+        Status::Done | Status::ActivityFailed => "",
+        Status::WordsRefused => {
+            "usage: tosraem serial BUCKET SHELF < SCRIPT\n"
+        }
+        Status::ScriptRefused => "Mend the script at the line that is named, and run again.\n",
+        Status::SourceFault => {
+            "The script is read from standard input: see that its file can be read, and run again.\n"
+        }
+        Status::SinkFault => {
+            "The report goes to standard output: see that there is room for it, and run again.\n"
+        }
+        Status::NoMemory => "There was not enough memory: run again where there is more.\n",
+        Status::BucketNotEmpty => {
+            "A run begins with an empty bucket: empty the folder, or name another one.\n"
+        }
+        Status::JournalFull => {
+            "One run takes some million operations: split the script into several runs.\n"
+        }
+        Status::SiteFault => {
+            "See that BUCKET and SHELF name folders that can be opened, and run again.\n"
+        }
+    }
+}
