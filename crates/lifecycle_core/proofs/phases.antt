@@ -1,5 +1,6 @@
 -- How runs stand in phases: their tasks, seats and workers, the order of the lines, and fronts.
 pub mod FirstPhases
+pub mod EachEntry
 pub mod Seats
 pub mod Duties
 pub mod TaskRuns

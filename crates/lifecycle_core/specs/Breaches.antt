@@ -17,9 +17,9 @@ use Rattle.meta_fetcher.specs.declared.sync_end.SyncEnd.{SyncEnd}
 use Rattle.meta_fetcher.specs.declared.sync_end.SyncEnd.TheVariants as fetched
 use Rattle.meta_fetcher.specs.declared.view.View.{View}
 use Rattle.script_core.specs.Workers.{workers_of}
-use Rattle.script_core.specs.declared.script.Script.{Script}
 use Rattle.script_workers.specs.declared.worker.Worker.{Worker}
-use Rattle.lifecycle_core.specs.Phases.{of_seat}
+use Rattle.lifecycle_core.specs.Conducts.{of_seat}
+use Rattle.lifecycle_core.specs.Setting.{Setting}
 use Rattle.lifecycle_core.specs.Tasks.{last_number, sync_rules}
 use Rattle.lifecycle_core.specs.TimeRules.{PutsMark, PutsObject}
 
@@ -77,30 +77,30 @@ IsLie before e shown owed =
 -- ---- what gateways do
 
 -- a worker of the gateway has this seat
-abbrev pub IsSeatOf : Script → ℕ → ℕ → Type 0
-IsSeatOf script gateway seat =
-    (number : ℕ) × (worker : Worker) × Contains (workers_of script number) worker
+abbrev pub IsSeatOf : Setting → ℕ → ℕ → Type 0
+IsSeatOf setting gateway seat =
+    (number : ℕ) × (worker : Worker) × Contains (workers_of setting.script number) worker
     × (worker.gateway ≡ Some gateway) × (worker.seat ≡ seat)
 
 -- The entries are one whole sync of a gateway, which came to this end. One without an end was broken off, and is its seat's last.
-pub record IsSyncIn (script : Script) (journal : List Entry) (gateway : ℕ) (entries : List Entry)
+pub record IsSyncIn (setting : Setting) (journal : List Entry) (gateway : ℕ) (entries : List Entry)
     (end : Option SyncEnd) : Type 0 where
   pub seat : ℕ
-  pub sits : IsSeatOf script gateway seat
+  pub sits : IsSeatOf setting gateway seat
   pub before : List Entry
   pub after : List Entry
   pub parts : of_seat seat journal ≡ before ++ entries ++ after
-  pub run : SyncRun (sync_rules script.rules) entries end
+  pub run : SyncRun (sync_rules setting gateway) entries end
   pub whole : end ≡ None → after ≡ []
 
 -- the view that a gateway has at the entry of a number: that of its last sync before it which gave one
-pub record IsViewAt (script : Script) (journal : List Entry) (gateway number : ℕ)
+pub record IsViewAt (setting : Setting) (journal : List Entry) (gateway number : ℕ)
     (view : View) : Type 0 where
   pub entries : List Entry
-  pub gave : IsSyncIn script journal gateway entries (Some (fetched.View view))
+  pub gave : IsSyncIn setting journal gateway entries (Some (fetched.View view))
   pub before : last_number entries < number
   pub last : (others : List Entry) (other : View)
-      → IsSyncIn script journal gateway others (Some (fetched.View other))
+      → IsSyncIn setting journal gateway others (Some (fetched.View other))
       → last_number others < number → last_number others ≤ last_number entries
 
 -- the key under which an operation reads
@@ -117,9 +117,9 @@ HoldsSamples (Segment ulid number) = Unit {0}
 HoldsSamples (Mark ulid) = ⊥
 
 -- the entry is a read of a gateway's series call
-abbrev pub IsCallRead : Script → ℕ → Entry → Type 0
-IsCallRead script gateway e =
-    IsSeatOf script gateway e.seat × ((key : Key) × (read_key e.op ≡ Some key) × HoldsSamples key)
+abbrev pub IsCallRead : Setting → ℕ → Entry → Type 0
+IsCallRead setting gateway e =
+    IsSeatOf setting gateway e.seat × ((key : Key) × (read_key e.op ≡ Some key) × HoldsSamples key)
 
 -- ---- breaches
 
@@ -129,45 +129,45 @@ IsOver is most x y = (x ≡ is) × (y ≡ most) × (most < is)
 
 -- The rule refuses the entry, which follows the entries before it in the journal. Of the two numbers the first one is what it
 -- shows and the second one what it owes, or the first one is above the second one and may not be.
-abbrev pub Refuses : Script → List Entry → Rule → List Entry → Entry → ℕ → ℕ → Type 0
-Refuses script journal honesty before e x y = IsLie before e x y
-Refuses script journal upload_time before e x y =
+abbrev pub Refuses : Setting → List Entry → Rule → List Entry → Entry → ℕ → ℕ → Type 0
+Refuses setting journal honesty before e x y = IsLie before e x y
+Refuses setting journal upload_time before e x y =
     (ulid : ℕ) × PutsObject ulid e
     × (IsOver (time_of ulid) e.moment.ms x y
-    ⊎ IsOver e.moment.ms (time_of ulid + script.rules.upload.ms) x y)
-Refuses script journal mark_time before e x y =
+    ⊎ IsOver e.moment.ms (time_of ulid + setting.script.rules.upload.ms) x y)
+Refuses setting journal mark_time before e x y =
     (ulid : ℕ) × (second : ℕ) × PutsMark ulid second e
-    × IsOver e.moment.ms (1000 * second + script.rules.ignore.ms) x y
+    × IsOver e.moment.ms (1000 * second + setting.script.rules.ignore.ms) x y
 -- the last read of a sync stands for it
-Refuses script journal sync_time before e x y =
+Refuses setting journal sync_time before e x y =
     (gateway : ℕ) × (entries : List Entry) × (end : Option SyncEnd) × (first : Entry)
     × (others : List Entry) × (front : List Entry)
-    × IsSyncIn script journal gateway entries end × (entries ≡ first ∷ others)
+    × IsSyncIn setting journal gateway entries end × (entries ≡ first ∷ others)
     × (entries ≡ front ++ e ∷ [])
-    × IsOver (e.moment.ms + 1000) (first.moment.ms + script.rules.ignore.ms) x y
-Refuses script journal view_time before e x y =
-    (gateway : ℕ) × (view : View) × IsCallRead script gateway e
-    × IsViewAt script journal gateway e.seq view
-    × IsOver (e.moment.ms + script.rules.ignore.ms) (view.begin.ms + script.rules.delete.ms) x y
+    × IsOver (e.moment.ms + 1000) (first.moment.ms + setting.script.rules.ignore.ms) x y
+Refuses setting journal view_time before e x y =
+    (gateway : ℕ) × (view : View) × IsCallRead setting gateway e
+    × IsViewAt setting journal gateway e.seq view
+    × IsOver (e.moment.ms + setting.script.rules.ignore.ms) (view.begin.ms + setting.script.rules.delete.ms) x y
 
 -- no rule refuses the entry
-abbrev pub IsKept : Script → List Entry → List Entry → Entry → Type 0
-IsKept script journal before e =
-    (rule : Rule) (x y : ℕ) → ¬ Refuses script journal rule before e x y
+abbrev pub IsKept : Setting → List Entry → List Entry → Entry → Type 0
+IsKept setting journal before e =
+    (rule : Rule) (x y : ℕ) → ¬ Refuses setting journal rule before e x y
 
 -- no rule refuses an entry of the journal
-abbrev pub IsUnbroken : Script → List Entry → Type 0
-IsUnbroken script journal = Each (IsKept script journal) journal
+abbrev pub IsUnbroken : Setting → List Entry → Type 0
+IsUnbroken setting journal = Each (IsKept setting journal) journal
 
 -- The journal's breach, if it has one: the first entry that a rule refuses, and the first rule that refuses it.
-pub record IsBreach (script : Script) (journal : List Entry) (rule : Rule)
+pub record IsBreach (setting : Setting) (journal : List Entry) (rule : Rule)
     (number x y : ℕ) : Type 0 where
   pub before : List Entry
   pub entry : Entry
   pub after : List Entry
   pub parts : journal ≡ before ++ entry ∷ after
   pub is : entry.seq ≡ number
-  pub refused : Refuses script journal rule before entry x y
-  pub first : Each (IsKept script journal) before
+  pub refused : Refuses setting journal rule before entry x y
+  pub first : Each (IsKept setting journal) before
   pub foremost : (other : Rule) (one two : ℕ) → rank other < rank rule
-      → ¬ Refuses script journal other before entry one two
+      → ¬ Refuses setting journal other before entry one two

@@ -9,11 +9,11 @@ use Rattle.world_core.specs.declared.reply.Reply.TheVariants.{Absent}
 use Rattle.shipper.specs.declared.upload_end.UploadEnd.TheVariants as shipped
 use Rattle.meta_fetcher.specs.declared.sync_end.SyncEnd.TheVariants as fetched
 use Rattle.store_gateway.specs.declared.series_end.SeriesEnd.TheVariants as called
-use Rattle.script_core.specs.declared.script.Script.{Script}
+use Rattle.lifecycle_core.specs.Setting.{Setting}
 use Rattle.lifecycle_core.specs.Breaches.{Rule, honesty, upload_time, mark_time, sync_time, view_time, Refuses, read_key}
 use Rattle.lifecycle_core.specs.Tasks.{End, uploaded, synced, answered, stopped}
 use Rattle.lifecycle_core.specs.TimeRules.{PutsMark, PutsObject}
-use Rattle.lifecycle_core.specs.Views.{Use}
+use Rattle.lifecycle_core.specs.Holdings.{Use}
 
 -- some worker came to this end
 abbrev pub SomeCame : List (List (List End)) → End → Type 0
@@ -31,7 +31,7 @@ IsBlamed ulid number sync_time e = ⊥
 IsBlamed ulid number view_time e = e.seq ≡ number
 
 -- The entry of this number found no object, and some entry that is not after it is to be blamed for that.
-pub record IsExplained (script : Script) (journal : List Entry) (number : ℕ) : Type 0 where
+pub record IsExplained (setting : Setting) (journal : List Entry) (number : ℕ) : Type 0 where
   pub missed : Entry
   pub key : Key
   pub at : entry_at journal number ≡ Some missed
@@ -45,14 +45,14 @@ pub record IsExplained (script : Script) (journal : List Entry) (number : ℕ) :
   pub y : ℕ
   pub parts : journal ≡ before ++ entry ∷ after
   pub early : entry.seq ≤ number
-  pub refused : Refuses script journal rule before entry x y
+  pub refused : Refuses setting journal rule before entry x y
   pub blamed : IsBlamed (key_ulid key) number rule entry
 
 -- Where a series call says that an object was missing, the journal shows why.
-abbrev pub AreMissesExplained : Script → List Entry → List (List (List End)) → Type 0
-AreMissesExplained script journal ends =
+abbrev pub AreMissesExplained : Setting → List Entry → List (List (List End)) → Type 0
+AreMissesExplained setting journal ends =
     (used : Use) (number : ℕ) → SomeCame ends (answered used (called.Missing number))
-    → IsExplained script journal number
+    → IsExplained setting journal number
 
 -- No series call says that an object was missing.
 abbrev pub AreFound : List (List (List End)) → Type 0

@@ -5,9 +5,9 @@ use Rattle.world_core.specs.Standing.{has_landed}
 use Rattle.world_core.specs.declared.op.Op.TheVariants.{Put}
 use Rattle.world_core.specs.declared.entry.Entry.{Entry}
 use Rattle.sync_filters.specs.Filters.{time_of}
-use Rattle.script_core.specs.declared.script.Script.{Script}
+use Rattle.lifecycle_core.specs.Setting.{Setting}
 use Rattle.lifecycle_core.specs.Held.{declared}
-use Rattle.lifecycle_core.specs.Views.{Use}
+use Rattle.lifecycle_core.specs.Holdings.{Use}
 
 -- the entry puts the meta of the block, and the put has landed
 abbrev pub PutsMeta : ℕ → Entry → Type 0
@@ -24,13 +24,13 @@ pub record IsCompletedAt (journal : List Entry) (ulid seq : ℕ) : Type 0 where
   pub first : All (λ e. ¬ PutsMeta ulid e) before
 
 -- a block that the script declares, complete before the entry of this number
-pub record IsUploadedBefore (script : Script) (journal : List Entry) (ulid last : ℕ) : Type 0 where
-  pub is_declared : IsSome (declared script ulid)
+pub record IsUploadedBefore (setting : Setting) (journal : List Entry) (ulid last : ℕ) : Type 0 where
+  pub is_declared : IsSome (declared setting.script ulid)
   pub seq : ℕ
   pub completed : IsCompletedAt journal ulid seq
   pub earlier : seq < last
 
 -- The block was complete before the sync of a view began, and the consistency delay was over by then.
-pub record IsSettled (script : Script) (journal : List Entry) (used : Use) (ulid : ℕ) : Type 0 where
-  pub uploaded : IsUploadedBefore script journal ulid used.view.first
-  pub old : time_of ulid + script.rules.consistency.ms ≤ used.view.begin.ms
+pub record IsSettled (setting : Setting) (journal : List Entry) (used : Use) (ulid : ℕ) : Type 0 where
+  pub uploaded : IsUploadedBefore setting journal ulid used.view.first
+  pub old : time_of ulid + setting.script.rules.consistency.ms ≤ used.view.begin.ms

@@ -9,24 +9,25 @@ use Rattle.script_core.specs.declared.block.Block.{Block}
 use Rattle.script_core.specs.declared.body.Body.{Body}
 use Rattle.script_core.specs.declared.body.Body.TheVariants.{Inline}
 use Rattle.script_core.specs.declared.script.Script.{Script}
+use Rattle.lifecycle_core.specs.Setting.{Setting}
 
 -- the series of a declared block, ascending by their labels
-abbrev pub given_by : Body → List Series
-given_by (Inline min_time max_time series) = series
+abbrev pub given_by : Setting → ℕ → Body → List Series
+given_by setting ulid (Inline min_time max_time series) = series
 
-abbrev pub given : Block → List Series
-given block = given_by block.body
+abbrev pub given : Setting → Block → List Series
+given setting block = given_by setting block.ulid block.body
 
--- the samples of a declared block under their final labels
-unfoldable pub held_by : List (List ℕ) → Block → List Triple
-held_by replicas block =
-    flat_map (λ s. triples_under (final_of s.labels block.labels replicas) s.samples) (given block)
+-- the samples of a declared block under their final labels, where these are the replica labels
+unfoldable pub held_by : Setting → List (List ℕ) → Block → List Triple
+held_by setting replicas block =
+    flat_map (λ s. triples_under (final_of s.labels block.labels replicas) s.samples) (given setting block)
 
 -- the block that the script declares under this ULID
 abbrev pub declared : Script → ℕ → Option Block
 declared script ulid = find (λ block. block.ulid == ulid) script.blocks
 
 -- What these blocks hold, one after another. A sample that two of them hold stands twice.
-unfoldable pub held : Script → List ℕ → List Triple
-held script ulids =
-    flat_map (λ ulid. option_map_or (held_by script.rules.replicas) (declared script ulid) []) ulids
+unfoldable pub held : Setting → List ℕ → List Triple
+held setting ulids =
+    flat_map (λ ulid. option_map_or (held_by setting setting.script.rules.replicas) (declared setting.script ulid) []) ulids

@@ -8,12 +8,13 @@ use Rattle.script_core.specs.Workers.{workers_of}
 use Rattle.script_workers.specs.declared.hand.Hand.{Hand}
 use Rattle.script_workers.specs.declared.hand.Hand.TheVariants as hands
 use Rattle.script_workers.specs.declared.phase.Phase.{Phase}
-use Rattle.script_core.specs.declared.script.Script.{Script}
 use Rattle.script_workers.specs.declared.task.Task.{Task}
 use Rattle.script_workers.specs.declared.worker.Worker.{Worker}
-use Rattle.lifecycle_core.specs.Phases.{BeginsPhase}
-use Rattle.lifecycle_core.specs.Tasks.{End, TaskRun, view_after}
-use Rattle.lifecycle_core.specs.Views.{Views, no_views, view_of, with_view}
+use Rattle.lifecycle_core.specs.Conducts.{Who}
+use Rattle.lifecycle_core.specs.Holdings.{Holding, Holdings, none_held, holding_of, with_holding}
+use Rattle.lifecycle_core.specs.Setting.{Setting}
+use Rattle.lifecycle_core.specs.Tasks.{End, TaskRun}
+use Rattle.lifecycle_core.specs.Ways.{Way, AreInTurn, PhasesRun}
 
 -- what one worker does for one task
 pub record Duty : Type 0 where
@@ -42,44 +43,45 @@ seat_of [] hand = 0
 seat_of (worker ∷ workers) hand =
     if serves hand worker.gateway worker.tasks then worker.seat else seat_of workers hand
 
+-- who does it
+abbrev pub who_does : (Hand → ℕ) → Hand → Who
+who_does seat hand = record { seat = seat hand; gateway = gateway_of hand }
+
 -- The entries are the runs of the duties, one after another. These have come to these ends; the first one that has not may
 -- have broken off, and then nothing follows it.
-abbrev pub InLine : Script → (Hand → ℕ) → Views → List Duty → List Entry → List End → Views → Type 0
-InLine script seat views [] entries ends after = (entries ≡ []) × (ends ≡ []) × (after ≡ views)
-InLine script seat views (duty ∷ duties) entries ends after =
-    ((made : List Entry) × (others : List Entry) × (end : End) × (later : List End)
+abbrev pub InLine : Setting → (Hand → ℕ) → Holdings → List Duty → List Entry → List End → Holdings → Type 0
+InLine setting seat before [] entries ends after = (entries ≡ []) × (ends ≡ []) × (after ≡ before)
+InLine setting seat before (duty ∷ duties) entries ends after =
+    ((made : List Entry) × (others : List Entry) × (end : End) × (later : List End) × (held : Holding)
     × (entries ≡ made ++ others) × All (λ e. e.seat ≡ seat duty.hand) made
-    × TaskRun script (view_of views (gateway_of duty.hand)) duty.task.work made (Some end)
+    × TaskRun setting (who_does seat duty.hand) duty.place duty.task.work
+    (holding_of before (gateway_of duty.hand)) made (Some end) held
     × (ends ≡ end ∷ later)
-    × InLine script seat
-    (with_view views (gateway_of duty.hand) (view_after (view_of views (gateway_of duty.hand)) made end))
-    duties others later after)
-    ⊎ (All (λ e. e.seat ≡ seat duty.hand) entries
-    × TaskRun script (view_of views (gateway_of duty.hand)) duty.task.work entries None
-    × (ends ≡ []) × (after ≡ views))
+    × InLine setting seat (with_holding before (gateway_of duty.hand) held) duties others later after)
+    ⊎ ((held : Holding) × All (λ e. e.seat ≡ seat duty.hand) entries
+    × TaskRun setting (who_does seat duty.hand) duty.place duty.task.work
+    (holding_of before (gateway_of duty.hand)) entries None held
+    × (ends ≡ []) × (after ≡ with_holding before (gateway_of duty.hand) held))
 
--- The phases from a number on, each with the clock's setting and then its tasks in line. The ends are listed by phase and
--- then by duty; a phase begins only when all those of the one before have come to their ends.
-abbrev pub PhasesInLine : Script → ℕ → Views → List Phase → List Entry → List (List End) → Type 0
-PhasesInLine script number views [] entries ends = (entries ≡ []) × (ends ≡ [])
-PhasesInLine script number views (phase ∷ phases) entries ends =
-    ((entries ≡ []) × (ends ≡ []))
-    ⊎ ((clock : Entry) × (made : List Entry) × (others : List Entry) × (first : List End)
-    × (later : List (List End)) × (after : Views)
-    × (entries ≡ clock ∷ made ++ others) × BeginsPhase phase clock
-    × InLine script (seat_of (workers_of script number)) views
-    (duties_from (gateway_count script.gateways) 0 phase.tasks) made first after
-    × (ends ≡ first ∷ later)
-    × (((others ≡ []) × (later ≡ []))
-    ⊎ ((length first ≡ length (duties_from (gateway_count script.gateways) 0 phase.tasks))
-    × PhasesInLine script (number + 1) after phases others later)))
+-- the duties of a phase
+abbrev pub duties_of : Setting → Phase → List Duty
+duties_of setting phase = duties_from (gateway_count setting.script.gateways) 0 phase.tasks
 
--- a journal of a run that does a script's tasks in the order of their lines
-pub record IsRunInLine (script : Script) (journal : List Entry)
+-- The tasks of a phase are done in the order of their lines. The ends are listed by duty.
+abbrev pub in_line : Setting → Way Holding (List End)
+in_line setting = record {
+  works = λ number phase before made ends after.
+      InLine setting (seat_of (workers_of setting.script number)) before (duties_of setting phase) made ends after;
+  is_done = λ number phase ends. length ends ≡ length (duties_of setting phase);
+}
+
+-- a journal of a run that does a script's tasks in the order of their lines, each phase to its end before the next one
+pub record IsRunInLine (setting : Setting) (journal : List Entry)
     (ends : List (List End)) : Type 0 where
-  pub kept : IsJournal script.rules.tick.ms journal
-  pub phases : PhasesInLine script 0 no_views script.phases journal ends
+  pub kept : IsJournal setting.script.rules.tick.ms journal
+  pub phases : PhasesRun (in_line setting) 0 none_held setting.script.phases journal ends
+  pub turns : AreInTurn (in_line setting) 0 setting.script.phases ends
 
 -- a journal of tasks that were done in the order of their lines
-abbrev pub IsInLine : Script → List Entry → Type 0
-IsInLine script journal = (ends : List (List End)) × IsRunInLine script journal ends
+abbrev pub IsInLine : Setting → List Entry → Type 0
+IsInLine setting journal = (ends : List (List End)) × IsRunInLine setting journal ends

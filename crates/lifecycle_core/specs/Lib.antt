@@ -1,7 +1,10 @@
+pub mod Setting
 pub mod Held
-pub mod Views
+pub mod Holdings
 pub mod Completed
 pub mod Shipped
+pub mod Ways
+pub mod Conducts
 pub mod Tasks
 pub mod Phases
 pub mod InLine

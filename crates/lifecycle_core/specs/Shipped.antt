@@ -8,6 +8,7 @@ use Rattle.block_files.specs.PlainForm.{plain_index}
 use Rattle.script_core.specs.declared.block.Block.{Block}
 use Rattle.script_core.specs.declared.body.Body.{Body}
 use Rattle.script_core.specs.declared.body.Body.TheVariants.{Inline}
+use Rattle.lifecycle_core.specs.Setting.{Setting}
 
 -- what a declared block says of itself: level 1, itself as its one source, made by a sidecar
 pub record IsPlanOf (block : Block) (min_time max_time : ℤ) (plan : BlockPlan) : Type 0 where
@@ -21,11 +22,11 @@ pub record IsPlanOf (block : Block) (min_time max_time : ℤ) (plan : BlockPlan)
   pub source : plan.source ≡ codes "sidecar"
 
 -- the objects of these series under such a plan
-abbrev pub AreBuilt : Block → Body → List Object → Type 0
-AreBuilt block (Inline min_time max_time series) objects =
+abbrev pub AreBuilt : Setting → Block → Body → List Object → Type 0
+AreBuilt setting block (Inline min_time max_time series) objects =
     (plan : BlockPlan) × IsPlanOf block min_time max_time plan
     × (objects
     ≡ objects_of block.ulid (segments_of series) plain_index (meta_text (built_meta plan series)))
 
-abbrev pub IsShipped : Block → List Object → Type 0
-IsShipped block objects = AreBuilt block block.body objects
+abbrev pub IsShipped : Setting → Block → List Object → Type 0
+IsShipped setting block objects = AreBuilt setting block block.body objects

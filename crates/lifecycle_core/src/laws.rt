@@ -7,52 +7,53 @@ ghost use Rattle.world_core.specs.declared.entry.Entry.{Entry};
 ghost use Rattle.meta_fetcher.specs.declared.sync_end.SyncEnd.{SyncEnd};
 ghost use Rattle.meta_fetcher.specs.declared.view.View.{View};
 ghost use Rattle.script_workers.specs.declared.phase.Phase.{Phase};
-ghost use Rattle.script_core.specs.declared.script.Script.{Script};
+ghost use Rattle.lifecycle_core.specs.Setting.{Setting};
 ghost use Rattle.script_core.specs.Lawful.{IsLawfulScript};
 ghost use Rattle.lifecycle_core.specs.Breaches.{IsBreach, IsCallRead, IsLie, IsSyncIn, IsUnbroken, IsViewAt, Rule};
 ghost use Rattle.lifecycle_core.specs.Causes.{AreFound, AreMissesExplained, IsExplained};
 ghost use Rattle.lifecycle_core.specs.Guarantees.{Answered, IsGiven, IsGuaranteed, LeavesNoneOut};
 ghost use Rattle.lifecycle_core.specs.InLine.{IsRunInLine};
-ghost use Rattle.lifecycle_core.specs.Phases.{IsLawfulJournal, IsRunOf, BeginsPhase};
+ghost use Rattle.lifecycle_core.specs.Phases.{IsLawfulJournal, IsRunOf};
 ghost use Rattle.lifecycle_core.specs.Tasks.{End};
+ghost use Rattle.lifecycle_core.specs.Ways.{BeginsPhase};
 ghost use Rattle.lifecycle_core.specs.TimeRules.{IsMarkedInTime, IsReadInTime, IsSyncedInTime, IsUploadedInTime};
 
 /// A law: a run that was broken off before its first entry is a run of every script.
 pub fn no_entry_is_lawful()
-    ensures { (script : Script) → IsLawfulJournal script [] }
+    ensures { (setting : Setting) → IsLawfulJournal setting [] }
 {}
 
 /// A law: the first entry of a lawful journal sets the clock to the script's first moment.
 pub fn journals_begin_with_the_first_phase()
-    ensures { (script : Script) (first : Entry) (others : List Entry)
-        → IsLawfulJournal script (first ∷ others)
-        → (phase : Phase) × (later : List Phase) × (script.phases ≡ phase ∷ later)
+    ensures { (setting : Setting) (first : Entry) (others : List Entry)
+        → IsLawfulJournal setting (first ∷ others)
+        → (phase : Phase) × (later : List Phase) × (setting.script.phases ≡ phase ∷ later)
         × BeginsPhase phase first }
 {}
 
 /// A law: a run that does a lawful script's tasks one after another, in the order of their lines, leaves a lawful journal.
 pub fn runs_in_line_are_lawful()
-    ensures { (script : Script) (journal : List Entry) (ends : List (List End))
-        → IsLawfulScript script → IsRunInLine script journal ends → IsLawfulJournal script journal }
+    ensures { (setting : Setting) (journal : List Entry) (ends : List (List End))
+        → IsLawfulScript setting.script → IsRunInLine setting journal ends → IsLawfulJournal setting journal }
 {}
 
 /// A law: a front of a lawful journal is one.
 pub fn fronts_are_lawful()
-    ensures { (script : Script) (front others : List Entry)
-        → IsLawfulJournal script (front ++ others) → IsLawfulJournal script front }
+    ensures { (setting : Setting) (front others : List Entry)
+        → IsLawfulJournal setting (front ++ others) → IsLawfulJournal setting front }
 {}
 
 /// A law: where a series call says that an object was missing, the journal shows why, whatever the bucket does.
 pub fn misses_are_explained()
-    ensures { (script : Script) (journal : List Entry) (ends : List (List (List End)))
-        → IsLawfulScript script → IsRunOf script journal ends
-        → AreMissesExplained script journal ends }
+    ensures { (setting : Setting) (journal : List Entry) (ends : List (List (List End)))
+        → IsLawfulScript setting.script → IsRunOf setting journal ends
+        → AreMissesExplained setting journal ends }
 {}
 
 /// A law: where the bucket is honest, no series call misses an object, since no script deletes one.
 pub fn honest_buckets_miss_nothing()
-    ensures { (script : Script) (journal : List Entry) (ends : List (List (List End)))
-        → IsLawfulScript script → IsRunOf script journal ends → IsHonest journal → AreFound ends }
+    ensures { (setting : Setting) (journal : List Entry) (ends : List (List (List End)))
+        → IsLawfulScript setting.script → IsRunOf setting journal ends → IsHonest journal → AreFound ends }
 {}
 
 /// A law: an honest journal shows no lie.
@@ -63,46 +64,46 @@ pub fn honest_journals_tell_no_lie()
 
 /// A law: where misses are explained and no entry breaks a rule, no series call misses an object.
 pub fn unbroken_journals_miss_nothing()
-    ensures { (script : Script) (journal : List Entry) (ends : List (List (List End)))
-        → AreMissesExplained script journal ends → IsUnbroken script journal → AreFound ends }
+    ensures { (setting : Setting) (journal : List Entry) (ends : List (List (List End)))
+        → AreMissesExplained setting journal ends → IsUnbroken setting journal → AreFound ends }
 {}
 
 /// A law: an unbroken journal has no breach, and no entry of it is a cause.
 pub fn unbroken_journals_have_no_breach()
-    ensures unbreached { (script : Script) (journal : List Entry) (rule : Rule) (number x y : ℕ)
-        → IsUnbroken script journal → ¬ IsBreach script journal rule number x y }
-    ensures unexplained { (script : Script) (journal : List Entry) (number : ℕ)
-        → IsUnbroken script journal → ¬ IsExplained script journal number }
+    ensures unbreached { (setting : Setting) (journal : List Entry) (rule : Rule) (number x y : ℕ)
+        → IsUnbroken setting journal → ¬ IsBreach setting journal rule number x y }
+    ensures unexplained { (setting : Setting) (journal : List Entry) (number : ℕ)
+        → IsUnbroken setting journal → ¬ IsExplained setting journal number }
 {}
 
 /// A law: an unbroken journal keeps each rule of time: on uploads, on marks, on syncs, and on the reads of a series call.
 pub fn unbroken_journals_are_in_time()
-    ensures uploaded { (script : Script) (journal : List Entry) → IsUnbroken script journal
-        → (ulid : ℕ) → IsUploadedInTime script.rules ulid journal }
-    ensures marked { (script : Script) (journal : List Entry) → IsUnbroken script journal
-        → (ulid : ℕ) → IsMarkedInTime script.rules ulid journal }
-    ensures synced { (script : Script) (journal : List Entry) → IsUnbroken script journal
+    ensures uploaded { (setting : Setting) (journal : List Entry) → IsUnbroken setting journal
+        → (ulid : ℕ) → IsUploadedInTime setting.script.rules ulid journal }
+    ensures marked { (setting : Setting) (journal : List Entry) → IsUnbroken setting journal
+        → (ulid : ℕ) → IsMarkedInTime setting.script.rules ulid journal }
+    ensures synced { (setting : Setting) (journal : List Entry) → IsUnbroken setting journal
         → (tick : ℕ) → HasMoments tick journal
         → (gateway : ℕ) (entries : List Entry) (end : Option SyncEnd)
-        → IsSyncIn script journal gateway entries end → IsSyncedInTime script.rules entries }
-    ensures read { (script : Script) (journal : List Entry) → IsUnbroken script journal
+        → IsSyncIn setting journal gateway entries end → IsSyncedInTime setting.script.rules entries }
+    ensures read { (setting : Setting) (journal : List Entry) → IsUnbroken setting journal
         → (gateway : ℕ) (view : View)
-        → Each (λ before e. IsCallRead script gateway e → IsViewAt script journal gateway e.seq view
-        → IsReadInTime script.rules view e) journal }
+        → Each (λ before e. IsCallRead setting gateway e → IsViewAt setting journal gateway e.seq view
+        → IsReadInTime setting.script.rules view e) journal }
 {}
 
 /// A law: all is guaranteed of every run of a lawful script, in whatever order its workers' operations fell, and wherever it was
 /// broken off.
 pub fn runs_are_guaranteed()
-    ensures { (script : Script) (journal : List Entry) (ends : List (List (List End)))
-        → IsLawfulScript script → IsRunOf script journal ends → IsGuaranteed script journal ends }
+    ensures { (setting : Setting) (journal : List Entry) (ends : List (List (List End)))
+        → IsLawfulScript setting.script → IsRunOf setting journal ends → IsGuaranteed setting journal ends }
 {}
 
 /// A law: where the bucket is honest, an answered query leaves no settled upload out, whatever the rules of time, since no script
 /// deletes anything yet.
 pub fn settled_uploads_are_named()
-    ensures { (script : Script) (journal : List Entry) (ends : List (List (List End)))
+    ensures { (setting : Setting) (journal : List Entry) (ends : List (List (List End)))
         (query : Answered)
-        → IsLawfulScript script → IsRunOf script journal ends → IsHonest journal
-        → IsGiven script ends query → LeavesNoneOut script journal query }
+        → IsLawfulScript setting.script → IsRunOf setting journal ends → IsHonest journal
+        → IsGiven setting ends query → LeavesNoneOut setting journal query }
 {}

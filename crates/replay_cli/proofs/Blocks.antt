@@ -17,6 +17,7 @@ use Rattle.script_core.specs.declared.script.Script.{Script}
 use Rattle.script_core.specs.declared.block.Block.{Block}
 use Rattle.script_core.specs.declared.body.Body.{Body}
 use Rattle.script_core.specs.declared.body.Body.TheVariants.{Inline}
+use Rattle.lifecycle_core.specs.Setting.{Setting}
 use Rattle.lifecycle_core.specs.Shipped.{AreBuilt, IsPlanOf, IsShipped}
 
 found_or_later : (ulid : ℕ) (first : Block) (blocks : List Block) (own : Bool) → (first.ulid == ulid) ≡ own → declares (first ∷ blocks) ulid ≡ true
@@ -47,10 +48,10 @@ ulid_by block min_time max_time series plan files is built =
     f ∙ built_ulid plan series ∙ is.ulid
 
 -- what was built of a plan is what is shipped
-pub shipped_by : (block : Block) (min_time max_time : ℤ) (series : List Series) (plan : BlockPlan) (files : BlockFiles) (objects : List Object)
+pub shipped_by : (setting : Setting) (block : Block) (min_time max_time : ℤ) (series : List Series) (plan : BlockPlan) (files : BlockFiles) (objects : List Object)
     → IsPlanOf block min_time max_time plan → IsBuilt plan series files → objects ≡ objects_of files.meta.ulid files.segments files.index (meta_text (fields_of files.meta))
-    → AreBuilt block (Inline min_time max_time series) objects
-shipped_by block min_time max_time series plan files objects is built objects_are =
+    → AreBuilt setting block (Inline min_time max_time series) objects
+shipped_by setting block min_time max_time series plan files objects is built objects_are =
     let u = ulid_by block min_time max_time series plan files is built in (
       plan,
       is,
@@ -62,12 +63,12 @@ shipped_by block min_time max_time series plan files objects is built objects_ar
     )
 
 -- the block's own times and series
-pub shipped_from : (block : Block) (min_time max_time : ℤ) (series : List Series) (plan : BlockPlan) (files : BlockFiles) (result : Result (List Object) NoMemory) → block.body ≡ Inline min_time max_time series
+pub shipped_from : (setting : Setting) (block : Block) (min_time max_time : ℤ) (series : List Series) (plan : BlockPlan) (files : BlockFiles) (result : Result (List Object) NoMemory) → block.body ≡ Inline min_time max_time series
     → IsPlanOf block min_time max_time plan → IsBuilt plan series files → IfOk result (λ objects. objects ≡ objects_of files.meta.ulid files.segments files.index (meta_text (fields_of files.meta)))
-    → IfOk result (λ objects. IsShipped block objects)
-shipped_from block min_time max_time series plan files (Ok objects) body is built objects_are =
-    subst (λ (b : Body). AreBuilt block b objects) (sym body) (shipped_by block min_time max_time series plan files objects is built objects_are)
-shipped_from block min_time max_time series plan files (Err none) body is built objects_are = tt
+    → IfOk result (λ objects. IsShipped setting block objects)
+shipped_from setting block min_time max_time series plan files (Ok objects) body is built objects_are =
+    subst (λ (b : Body). AreBuilt setting block b objects) (sym body) (shipped_by setting block min_time max_time series plan files objects is built objects_are)
+shipped_from setting block min_time max_time series plan files (Err none) body is built objects_are = tt
 
 pub planned_same : (block : Block) (early early' late late' : ℤ) (plan : BlockPlan) → early ≡ early' → late ≡ late' → IsPlanOf block early late plan → IsPlanOf block early' late' plan
 planned_same block early early' late late' plan e l is = subst (λ (x : ℤ). IsPlanOf block x late' plan) e (subst (λ (y : ℤ). IsPlanOf block early y plan) l is)

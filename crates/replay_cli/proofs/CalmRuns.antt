@@ -22,9 +22,12 @@ use Rattle.script_workers.specs.declared.work.Work.{Work}
 use Rattle.script_workers.specs.declared.work.Work.TheVariants as work
 use Rattle.script_workers.specs.declared.worker.Worker.{Worker}
 use Rattle.lifecycle_core.specs.Causes.{IsWell}
-use Rattle.lifecycle_core.specs.Phases.{CameTo}
-use Rattle.lifecycle_core.specs.Tasks.{End, uploaded, synced, answered, without_view, stopped}
-use Rattle.lifecycle_core.specs.Views.{Use}
+use Rattle.lifecycle_core.specs.Conducts.{CameTo}
+use Rattle.lifecycle_core.specs.Holdings.{Use}
+use Rattle.lifecycle_core.specs.Phases.{by_workers}
+use Rattle.lifecycle_core.specs.Setting.{Setting}
+use Rattle.lifecycle_core.specs.Tasks.{End, answered, stopped, synced, uploaded, without_view}
+use Rattle.lifecycle_core.specs.Ways.{AreFinished, AreInTurn, Way}
 use Rattle.list_core.proofs.Membership.{contains_first, contains_later}
 use Rattle.replay_cli.specs.Outcomes.{IsOutcome, PhasesCame, TasksCame, call_outcome, sync_outcome, upload_outcome}
 use Rattle.replay_cli.specs.Reports.{is_as_asked}
@@ -127,7 +130,15 @@ phases_asked script number (phase ∷ phases) (first ∷ later) outcomes well (o
     ∙ and_from _ _ (tasks_asked (workers_of script number) first (λ es end among came. well first es end (contains_first first later) among came) script 0 phase.tasks own here)
     (phases_asked script (number + 1) phases later others (λ p es end here' among came. well p es end (contains_later first p later here') among came) rest)
 
-pub calm_run : (script : Script) (as_asked : Bool) (text : List ℕ) (journal : List Entry) → IsWholeRun script as_asked text journal → IsHonest journal → failed_count journal ≡ 0 → as_asked ≡ true
-calm_run script as_asked text journal run honest none =
-    run.report.flag ∙ phases_asked script 0 script.phases run.ends run.report.outcomes
-    (λ phase own end in_ends in_phase in_own. run.guaranteed.complete honest none end (phase, own, in_ends, in_phase, in_own)) run.report.came
+-- where every phase came to all its ends, each did before the next one
+pub finished_turns : {State Ends : Type 0} (way : Way State Ends) (number : ℕ) (phases : List Phase) (ends : List Ends) → AreFinished way number phases ends → AreInTurn way number phases ends
+finished_turns way number [] [] finished = tt
+finished_turns way number [] (own ∷ ends) finished = absurd (cc (finished))
+finished_turns way number (phase ∷ phases) [] finished = tt
+finished_turns way number (phase ∷ phases) (own ∷ ends) finished = (λ more. finished.0, finished_turns way (number + 1) phases ends finished.1)
+
+pub calm_run : (setting : Setting) (as_asked : Bool) (text : List ℕ) (journal : List Entry) → IsWholeRun setting as_asked text journal → IsHonest journal → failed_count journal ≡ 0 → as_asked ≡ true
+calm_run setting as_asked text journal run honest none =
+    run.report.flag ∙ phases_asked setting.script 0 setting.script.phases run.ends run.report.outcomes
+    (λ phase own end in_ends in_phase in_own.
+    run.guaranteed.complete (finished_turns (by_workers setting) 0 setting.script.phases run.ends run.finished) honest none end (phase, own, in_ends, in_phase, in_own)) run.report.came

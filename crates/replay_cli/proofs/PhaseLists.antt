@@ -1,5 +1,5 @@
 -- Phases that were done one after another.
-use Rattle.std.proofs.Common.{◌≡◌, ℕ, zero, suc, ◌+◌, ◌-◌, ◌<◌, Bool, true, ◌&&◌, List, [], ◌∷◌, ◌++◌, length, take, drop, refl, sym, ◌∙◌, ap, subst, inl, inr, ◌⊎◌, append_assoc, take-append-drop, arith}
+use Rattle.std.proofs.Common.{◌≡◌, ℕ, zero, suc, ◌+◌, ◌-◌, ◌<◌, Bool, true, ◌&&◌, List, [], ◌∷◌, ◌++◌, length, take, drop, refl, sym, ◌∙◌, ap, subst, inr, append_assoc, take-append-drop, arith}
 use Rattle.std.proofs.Math.Seq.{take-length}
 use Rattle.std.specs.Prelude.{◌≢◌, ◌^◌, min, Some, None, Result, Ok, Err, OnOk, slice_get}
 use Rattle.std.specs.List.{All, list_all}
@@ -16,18 +16,12 @@ use Rattle.script_core.specs.Lawful.{IsLawfulPhase, IsLawfulScript}
 use Rattle.script_workers.specs.declared.hand.Hand.{Hand}
 use Rattle.script_workers.specs.declared.worker.Worker.{Worker}
 use Rattle.script_workers.specs.declared.phase.Phase.{Phase}
-use Rattle.script_core.specs.declared.script.Script.{Script}
 use Rattle.script_workers.specs.declared.task.Task.{Task}
-use Rattle.lifecycle_core.specs.InLine.{InLine, IsInLine, PhasesInLine, duties_from, seat_of}
-use Rattle.lifecycle_core.specs.Phases.{AreUnfinished, BeginsPhase, IsOperationDue, PhasesRun}
-use Rattle.lifecycle_core.specs.Guarantees.{IsGuaranteedJournal}
-use Rattle.lifecycle_core.specs.Tasks.{End}
-use Rattle.lifecycle_core.specs.Views.{Views, no_views}
 use Rattle.lifecycle_core.proofs.Assembling.{all_guaranteed}
-use Rattle.lifecycle_core.proofs.phases.Joined.{no_phase_yet}
 use Rattle.lifecycle_core.proofs.phases.PhaseRuns.{ends_of}
 use Rattle.script_core.proofs.SeatLaws.{workers_at}
-use Rattle.lifecycle_core.proofs.phases.RunsInLine.{AreWhole, by_none, by_parts, by_workers, finished, own_came, own_undone, run_of, runs}
+use Rattle.lifecycle_core.proofs.phases.FirstPhases.{no_phase}
+use Rattle.lifecycle_core.proofs.phases.RunsInLine.{AreWhole, by_none, by_parts, ends_by_workers, finished, own_came, own_undone, run_by, runs, turns_by}
 use Rattle.replay_cli.specs.Outcomes.{PhasesCame}
 use Rattle.replay_cli.specs.Progress.{HasRun, IsBrokenAt, IsDueAt, IsDueInLine, IsUnfinished, PhaseStep, PhasesTold, Reached, Shows, RunCame, TasksBroken, TasksDone, TasksTold, duties_at}
 use Rattle.replay_cli.specs.Reports.{is_as_asked}
@@ -37,6 +31,13 @@ use Rattle.replay_cli.specs.declared.came.Broken.TheVariants as broken
 use Rattle.replay_cli.specs.declared.outcome.Outcome.{Outcome}
 use Rattle.replay_cli.proofs.ReportLists.{all_append, report_append, tasks_append}
 use Rattle.replay_cli.proofs.Told.{tasks_came, told_length, told_outcomes}
+use Rattle.lifecycle_core.specs.Guarantees.{IsGuaranteedJournal}
+use Rattle.lifecycle_core.specs.Holdings.{Holdings, none_held}
+use Rattle.lifecycle_core.specs.InLine.{InLine, IsInLine, duties_from, in_line, seat_of}
+use Rattle.lifecycle_core.specs.Phases.{by_workers}
+use Rattle.lifecycle_core.specs.Setting.{Setting}
+use Rattle.lifecycle_core.specs.Tasks.{End}
+use Rattle.lifecycle_core.specs.Ways.{AreInTurn, AreUnfinished, BeginsPhase, IsOperationDue, PhasesRun}
 
 -- ---- lists
 
@@ -63,57 +64,81 @@ last_by gateways phase own = ends_of (duties_from gateways 0 phase.tasks) own (h
 
 -- ---- what phases told
 
-told_more : (script : Script) (phases : List Phase) (phase : Phase) (ends : List (List End)) (own : List End) (outcomes first : List Outcome) → PhasesTold script phases ends outcomes → TasksTold script 0 phase.tasks own first
-    → PhasesTold script (phases ++ phase ∷ []) (ends ++ own ∷ []) (outcomes ++ first)
-told_more script [] phase [] own outcomes first told one = (first, [], ap (λ (l : List Outcome). l ++ first) told.1 ∙ sym (append-nil first), one, (refl, refl))
-told_more script [] phase (e ∷ es) own outcomes first told one = absurd (cc (told.0))
-told_more script (p ∷ ps) phase [] own outcomes first told one = absurd told
-told_more script (p ∷ ps) phase (e ∷ es) own outcomes first told one =
-    (told.0, told.1 ++ first, ap (λ (l : List Outcome). l ++ first) told.2 ∙ append_assoc told.0 told.1 first, told.3, told_more script ps phase es own told.1 first told.4 one)
+told_more : (setting : Setting) (phases : List Phase) (phase : Phase) (ends : List (List End)) (own : List End) (outcomes first : List Outcome) → PhasesTold setting phases ends outcomes → TasksTold setting 0 phase.tasks own first
+    → PhasesTold setting (phases ++ phase ∷ []) (ends ++ own ∷ []) (outcomes ++ first)
+told_more setting [] phase [] own outcomes first told one = (first, [], ap (λ (l : List Outcome). l ++ first) told.1 ∙ sym (append-nil first), one, (refl, refl))
+told_more setting [] phase (e ∷ es) own outcomes first told one = absurd (cc (told.0))
+told_more setting (p ∷ ps) phase [] own outcomes first told one = absurd told
+told_more setting (p ∷ ps) phase (e ∷ es) own outcomes first told one =
+    (told.0, told.1 ++ first, ap (λ (l : List Outcome). l ++ first) told.2 ∙ append_assoc told.0 told.1 first, told.3, told_more setting ps phase es own told.1 first told.4 one)
 
-told_count : (script : Script) (phases : List Phase) (ends : List (List End)) (outcomes : List Outcome) → PhasesTold script phases ends outcomes → length outcomes ≡ length (tasks_of phases)
-told_count script [] ends outcomes told = ap (length {A = Outcome}) told.1
-told_count script (p ∷ ps) [] outcomes told = absurd told
-told_count script (p ∷ ps) (e ∷ es) outcomes told =
-    omega (arith, ap (length {A = Outcome}) told.2, length-append told.0 told.1, length-append p.tasks (tasks_of ps), told_outcomes script 0 p.tasks e told.0 told.3, told_count script ps es told.1 told.4)
+told_count : (setting : Setting) (phases : List Phase) (ends : List (List End)) (outcomes : List Outcome) → PhasesTold setting phases ends outcomes → length outcomes ≡ length (tasks_of phases)
+told_count setting [] ends outcomes told = ap (length {A = Outcome}) told.1
+told_count setting (p ∷ ps) [] outcomes told = absurd told
+told_count setting (p ∷ ps) (e ∷ es) outcomes told =
+    omega (arith, ap (length {A = Outcome}) told.2, length-append told.0 told.1, length-append p.tasks (tasks_of ps), told_outcomes setting 0 p.tasks e told.0 told.3, told_count setting ps es told.1 told.4)
 
-told_ends : (script : Script) (phases : List Phase) (ends : List (List End)) (outcomes : List Outcome) → PhasesTold script phases ends outcomes → length ends ≡ length phases
-told_ends script [] ends outcomes told = ap (length {A = List End}) told.0
-told_ends script (p ∷ ps) [] outcomes told = absurd told
-told_ends script (p ∷ ps) (e ∷ es) outcomes told = ap suc (told_ends script ps es told.1 told.4)
+told_ends : (setting : Setting) (phases : List Phase) (ends : List (List End)) (outcomes : List Outcome) → PhasesTold setting phases ends outcomes → length ends ≡ length phases
+told_ends setting [] ends outcomes told = ap (length {A = List End}) told.0
+told_ends setting (p ∷ ps) [] outcomes told = absurd told
+told_ends setting (p ∷ ps) (e ∷ es) outcomes told = ap suc (told_ends setting ps es told.1 told.4)
 
-told_whole : (script : Script) (phases : List Phase) (ends : List (List End)) (outcomes : List Outcome) → PhasesTold script phases ends outcomes → AreWhole (gateway_count script.gateways) phases ends
-told_whole script [] [] outcomes told = tt
-told_whole script [] (e ∷ es) outcomes told = absurd (cc (told.0))
-told_whole script (p ∷ ps) [] outcomes told = absurd told
-told_whole script (p ∷ ps) (e ∷ es) outcomes told = (told_length script 0 p.tasks e told.0 told.3, told_whole script ps es told.1 told.4)
+told_whole : (setting : Setting) (phases : List Phase) (ends : List (List End)) (outcomes : List Outcome) → PhasesTold setting phases ends outcomes → AreWhole (gateway_count setting.script.gateways) phases ends
+told_whole setting [] [] outcomes told = tt
+told_whole setting [] (e ∷ es) outcomes told = absurd (cc (told.0))
+told_whole setting (p ∷ ps) [] outcomes told = absurd told
+told_whole setting (p ∷ ps) (e ∷ es) outcomes told = (told_length setting 0 p.tasks e told.0 told.3, told_whole setting ps es told.1 told.4)
 
-phases_came : (script : Script) → IsLawfulScript script → (number : ℕ) (phases : List Phase) (ends : List (List End)) (outcomes : List Outcome)
-    → ((k : ℕ) (p : Phase) → slice_get phases k ≡ Some p → slice_get script.phases (number + k) ≡ Some p) → PhasesTold script phases ends outcomes
-    → PhasesCame script number phases (by_workers (gateway_count script.gateways) phases ends) outcomes
-unfolding by_workers
-phases_came script lawful number [] ends outcomes same told = (refl, told.1)
-phases_came script lawful number (phase ∷ phases) [] outcomes same told = absurd told
-phases_came script lawful number (phase ∷ phases) (first ∷ later) outcomes same told =
-    let at : slice_get script.phases number ≡ Some phase = ap (slice_get script.phases) (omega arith) ∙ same 0 phase refl in
-    let next : (k : ℕ) (p : Phase) → slice_get phases k ≡ Some p → slice_get script.phases (number + 1 + k) ≡ Some p = λ k p own. ap (slice_get script.phases) (omega arith) ∙ same (suc k) p own in (
+phases_came : (setting : Setting) → IsLawfulScript setting.script → (number : ℕ) (phases : List Phase) (ends : List (List End)) (outcomes : List Outcome)
+    → ((k : ℕ) (p : Phase) → slice_get phases k ≡ Some p → slice_get setting.script.phases (number + k) ≡ Some p) → PhasesTold setting phases ends outcomes
+    → PhasesCame setting.script number phases (ends_by_workers (gateway_count setting.script.gateways) phases ends) outcomes
+unfolding ends_by_workers
+phases_came setting lawful number [] ends outcomes same told = (refl, told.1)
+phases_came setting lawful number (phase ∷ phases) [] outcomes same told = absurd told
+phases_came setting lawful number (phase ∷ phases) (first ∷ later) outcomes same told =
+    let at : slice_get setting.script.phases number ≡ Some phase = ap (slice_get setting.script.phases) (omega arith) ∙ same 0 phase refl in
+    let next : (k : ℕ) (p : Phase) → slice_get phases k ≡ Some p → slice_get setting.script.phases (number + 1 + k) ≡ Some p = λ k p own. ap (slice_get setting.script.phases) (omega arith) ∙ same (suc k) p own in (
       told.0,
       told.1,
       told.2,
-      tasks_came script (workers_of script number) _ 0 phase.tasks first told.0 told.3 (own_came script lawful number phase first at (told_length script 0 phase.tasks first told.0 told.3)),
-      phases_came script lawful (number + 1) phases later told.1 next told.4,
+      tasks_came setting (workers_of setting.script number) _ 0 phase.tasks first told.0 told.3 (own_came setting lawful number phase first at (told_length setting 0 phase.tasks first told.0 told.3)),
+      phases_came setting lawful (number + 1) phases later told.1 next told.4,
     )
+
+-- ---- phases in turn
+
+-- phases that were all done are in turn
+turns_none : (setting : Setting) (number : ℕ) (phases left : List Phase) (ends : List (List End)) → AreWhole (gateway_count setting.script.gateways) phases ends → AreInTurn (in_line setting) number (phases ++ left) (ends ++ [])
+turns_none setting number [] left [] whole = tt
+turns_none setting number [] left (e ∷ es) whole = absurd whole
+turns_none setting number (p ∷ ps) left [] whole = absurd whole
+turns_none setting number (p ∷ ps) left (e ∷ es) whole = (λ more. whole.0, turns_none setting (number + 1) ps left es whole.1)
+
+-- and with one that was begun behind them
+turns_one : (setting : Setting) (number : ℕ) (phases : List Phase) (phase : Phase) (left : List Phase) (ends : List (List End)) (own : List End) → AreWhole (gateway_count setting.script.gateways) phases ends → AreInTurn (in_line setting) number (phases ++ phase ∷ left) (ends ++ own ∷ [])
+turns_one setting number [] phase left [] own whole = (λ more. absurd (more refl), tt)
+turns_one setting number [] phase left (e ∷ es) own whole = absurd whole
+turns_one setting number (p ∷ ps) phase left [] own whole = absurd whole
+turns_one setting number (p ∷ ps) phase left (e ∷ es) own whole = (λ more. whole.0, turns_one setting (number + 1) ps phase left es own whole.1)
+
+-- and with those of which none was begun, or the first one alone
+turns_unfinished : (setting : Setting) (phases left : List Phase) (ends unfinished : List (List End)) (is_due : Type 0) → AreWhole (gateway_count setting.script.gateways) phases ends → IsUnfinished setting left unfinished is_due
+    → AreInTurn (in_line setting) 0 (phases ++ left) (ends ++ unfinished)
+turns_unfinished setting phases left ends [] is_due whole short = turns_none setting 0 phases left ends whole
+turns_unfinished setting phases [] ends (own ∷ more) is_due whole short = absurd short
+turns_unfinished setting phases (phase ∷ left) ends (own ∷ more) is_due whole short =
+    subst (λ (l : List (List End)). AreInTurn (in_line setting) 0 (phases ++ phase ∷ left) (ends ++ own ∷ l)) (sym short.0) (turns_one setting 0 phases phase left ends own whole)
 
 -- ---- from one phase to the next
 
-module _ (script : Script) (place : ℕ) (phase : Phase) (shown : List Gateway) (journal : List Entry) (as_asked : Bool) (text : List ℕ) (at : slice_get script.phases place ≡ Some phase) where
+module _ (setting : Setting) (place : ℕ) (phase : Phase) (shown : List Gateway) (journal : List Entry) (as_asked : Bool) (text : List ℕ) (at : slice_get setting.script.phases place ≡ Some phase) where
   -- the phase was not begun
-  pub unbegun : (gateways : List Gateway) → Reached script place shown journal as_asked text → IsBrokenAt script place journal as_asked text
+  pub unbegun : (gateways : List Gateway) → Reached setting place shown journal as_asked text → IsBrokenAt setting place journal as_asked text
   unbegun gateways r = record {
     ends = r.ends;
     unfinished = [];
     short = tt;
-    run = subst (λ (es : List Entry). PhasesInLine script 0 no_views script.phases es (r.ends ++ [])) (append-nil journal) (r.onward [] [] (no_phase_yet script place r.views (drop place script.phases)));
+    run = subst (λ (es : List Entry). PhasesRun (in_line setting) 0 none_held setting.script.phases es (r.ends ++ [])) (append-nil journal) (r.onward [] [] (no_phase (in_line setting) place r.views (drop place setting.script.phases)));
     outcomes = r.outcomes;
     told = r.told;
     lines = r.lines;
@@ -121,27 +146,27 @@ module _ (script : Script) (place : ℕ) (phase : Phase) (shown : List Gateway) 
   }
 
   -- the phase with its clock's setting and its tasks, and what follows it
-  begun : (r : Reached script place shown journal as_asked text) (clock : Entry) (made rest : List Entry) (own : List End) (later : List (List End)) (after : Views) (gone : List Entry) → BeginsPhase phase clock
-      → InLine script (seat_of (workers_of script place)) r.views (duties_at script 0 phase.tasks) made own after
-      → ((rest ≡ []) × (later ≡ [])) ⊎ ((length own ≡ length (duties_at script 0 phase.tasks)) × PhasesInLine script (place + 1) after (drop (place + 1) script.phases) rest later)
-      → gone ≡ (journal ++ clock ∷ []) ++ made → PhasesInLine script 0 no_views script.phases (gone ++ rest) (r.ends ++ own ∷ later)
+  begun : (r : Reached setting place shown journal as_asked text) (clock : Entry) (made rest : List Entry) (own : List End) (later : List (List End)) (after : Holdings) (gone : List Entry) → BeginsPhase phase clock
+      → InLine setting (seat_of (workers_of setting.script place)) r.views (duties_at setting 0 phase.tasks) made own after
+      → PhasesRun (in_line setting) (place + 1) after (drop (place + 1) setting.script.phases) rest later
+      → gone ≡ (journal ++ clock ∷ []) ++ made → PhasesRun (in_line setting) 0 none_held setting.script.phases (gone ++ rest) (r.ends ++ own ∷ later)
   begun r clock made rest own later after gone begins run next same =
-      let here : PhasesInLine script place r.views (drop place script.phases) (clock ∷ made ++ rest) (own ∷ later) =
-      subst (λ (ps : List Phase). PhasesInLine script place r.views ps (clock ∷ made ++ rest) (own ∷ later)) (sym (drop_at script.phases place phase at))
+      let here : PhasesRun (in_line setting) place r.views (drop place setting.script.phases) (clock ∷ made ++ rest) (own ∷ later) =
+      subst (λ (ps : List Phase). PhasesRun (in_line setting) place r.views ps (clock ∷ made ++ rest) (own ∷ later)) (sym (drop_at setting.script.phases place phase at))
       (inr (clock, made, rest, own, later, after, refl, begins, run, refl, next)) in
       let e : journal ++ (clock ∷ made ++ rest) ≡ gone ++ rest =
       sym (append_assoc journal (clock ∷ []) (made ++ rest)) ∙ sym (append_assoc (journal ++ clock ∷ []) made rest) ∙ ap (λ (l : List Entry). l ++ rest) (sym same) in
-      subst (λ (es : List Entry). PhasesInLine script 0 no_views script.phases es (r.ends ++ own ∷ later)) e (r.onward (clock ∷ made ++ rest) (own ∷ later) here)
+      subst (λ (es : List Entry). PhasesRun (in_line setting) 0 none_held setting.script.phases es (r.ends ++ own ∷ later)) e (r.onward (clock ∷ made ++ rest) (own ∷ later) here)
 
   -- the phase was broken off
-  broken_run : (clock : Entry) (new made : List Entry) (ends : List End) (after : Views) → BeginsPhase phase clock → (r : Reached script place shown journal as_asked text)
-      → InLine script (seat_of (workers_of script place)) r.views (duties_at script 0 phase.tasks) made ends after → new ≡ (journal ++ clock ∷ []) ++ made → PhasesInLine script 0 no_views script.phases new (r.ends ++ ends ∷ [])
+  broken_run : (clock : Entry) (new made : List Entry) (ends : List End) (after : Holdings) → BeginsPhase phase clock → (r : Reached setting place shown journal as_asked text)
+      → InLine setting (seat_of (workers_of setting.script place)) r.views (duties_at setting 0 phase.tasks) made ends after → new ≡ (journal ++ clock ∷ []) ++ made → PhasesRun (in_line setting) 0 none_held setting.script.phases new (r.ends ++ ends ∷ [])
   broken_run clock new made ends after begins r run same =
-      subst (λ (es : List Entry). PhasesInLine script 0 no_views script.phases es (r.ends ++ ends ∷ [])) (append-nil new) (begun r clock made [] ends [] after new begins run (inl (refl, refl)) same)
+      subst (λ (es : List Entry). PhasesRun (in_line setting) 0 none_held setting.script.phases es (r.ends ++ ends ∷ [])) (append-nil new) (begun r clock made [] ends [] after new begins run (no_phase (in_line setting) (place + 1) after (drop (place + 1) setting.script.phases)) same)
 
   -- an operation that is due in its tasks is due in the run
-  broken_due : (clock : Entry) (new made : List Entry) → BeginsPhase phase clock → (r : Reached script place shown journal as_asked text)
-      → IsDueInLine script (seat_of (workers_of script place)) r.views (duties_at script 0 phase.tasks) made → new ≡ (journal ++ clock ∷ []) ++ made → IsDueAt script new r.ends
+  broken_due : (clock : Entry) (new made : List Entry) → BeginsPhase phase clock → (r : Reached setting place shown journal as_asked text)
+      → IsDueInLine setting (seat_of (workers_of setting.script place)) r.views (duties_at setting 0 phase.tasks) made → new ≡ (journal ++ clock ∷ []) ++ made → IsDueAt setting new r.ends
   broken_due clock new made begins r due same = (
     due.0,
     due.1,
@@ -152,14 +177,14 @@ module _ (script : Script) (place : ℕ) (phase : Phase) (shown : List Gateway) 
         (next.0, broken_run clock (new ++ e ∷ []) (made ++ e ∷ []) next.0 next.1 begins r next.2 (ap (λ (es : List Entry). es ++ e ∷ []) same ∙ append_assoc (journal ++ clock ∷ []) made (e ∷ []))),
   )
 
-  pub broken_off : (clock : Entry) (new : List Entry) → BeginsPhase phase clock → (r : Reached script place shown journal as_asked text)
-      → ((v : Views) → Shows v shown → TasksBroken script (seat_of (workers_of script place)) phase.tasks v (journal ++ clock ∷ []) new broken.Full) → IsBrokenAt script place new as_asked text
+  pub broken_off : (clock : Entry) (new : List Entry) → BeginsPhase phase clock → (r : Reached setting place shown journal as_asked text)
+      → ((v : Holdings) → Shows v shown → TasksBroken setting (seat_of (workers_of setting.script place)) phase.tasks v (journal ++ clock ∷ []) new broken.Full) → IsBrokenAt setting place new as_asked text
   broken_off clock new begins r tasks =
       let t = tasks r.views r.shows in
       record {
         ends = r.ends;
         unfinished = t.ends ∷ [];
-        short = subst (λ (ps : List Phase). IsUnfinished script ps (t.ends ∷ []) (IsDueAt script new r.ends)) (sym (drop_at script.phases place phase at)) (refl, t.short.0, broken_due clock new t.made begins r t.short.1 t.entries);
+        short = subst (λ (ps : List Phase). IsUnfinished setting ps (t.ends ∷ []) (IsDueAt setting new r.ends)) (sym (drop_at setting.script.phases place phase at)) (refl, t.short.0, broken_due clock new t.made begins r t.short.1 t.entries);
         run = broken_run clock new t.made t.ends t.after begins r t.run t.entries;
         outcomes = r.outcomes;
         told = r.told;
@@ -167,36 +192,45 @@ module _ (script : Script) (place : ℕ) (phase : Phase) (shown : List Gateway) 
         flag = r.flag;
       }
 
-  pub broken_short : (clock : Entry) (new : List Entry) → BeginsPhase phase clock → (r : Reached script place shown journal as_asked text)
-      → ((v : Views) → Shows v shown → TasksBroken script (seat_of (workers_of script place)) phase.tasks v (journal ++ clock ∷ []) new broken.NoMemory) → HasRun script new
+  pub broken_short : (clock : Entry) (new : List Entry) → BeginsPhase phase clock → (r : Reached setting place shown journal as_asked text)
+      → ((v : Holdings) → Shows v shown → TasksBroken setting (seat_of (workers_of setting.script place)) phase.tasks v (journal ++ clock ∷ []) new broken.NoMemory) → HasRun setting new
   broken_short clock new begins r tasks =
-      let t = tasks r.views r.shows in (r.ends ++ t.ends ∷ [], broken_run clock new t.made t.ends t.after begins r t.run t.entries)
+      let t = tasks r.views r.shows in
+      let front = sym (take-append-drop place setting.script.phases) ∙ ap (λ (ps : List Phase). take place setting.script.phases ++ ps) (drop_at setting.script.phases place phase at) in (
+        r.ends ++ t.ends ∷ [],
+        broken_run clock new t.made t.ends t.after begins r t.run t.entries,
+        subst (λ (ps : List Phase). AreInTurn (in_line setting) 0 ps (r.ends ++ t.ends ∷ [])) (sym front)
+            (turns_one setting 0 (take place setting.script.phases) phase (drop (place + 1) setting.script.phases) r.ends t.ends (told_whole setting (take place setting.script.phases) r.ends r.outcomes r.told)),
+      )
 
   -- the phase was done to its end
-  pub reached_more : (clock : Entry) (new : List Entry) (gateways : List Gateway) (asked asked' : Bool) (own lines : List ℕ) → BeginsPhase phase clock → (r : Reached script place shown journal as_asked text)
-      → ((v : Views) → Shows v shown → TasksDone script (seat_of (workers_of script place)) phase.tasks v gateways (journal ++ clock ∷ []) new asked own)
-      → lines ≡ text ++ own → asked' ≡ as_asked && asked → Reached script (place + 1) gateways new asked' lines
+  pub reached_more : (clock : Entry) (new : List Entry) (gateways : List Gateway) (asked asked' : Bool) (own lines : List ℕ) → BeginsPhase phase clock → (r : Reached setting place shown journal as_asked text)
+      → ((v : Holdings) → Shows v shown → TasksDone setting (seat_of (workers_of setting.script place)) phase.tasks v gateways (journal ++ clock ∷ []) new asked own)
+      → lines ≡ text ++ own → asked' ≡ as_asked && asked → Reached setting (place + 1) gateways new asked' lines
   reached_more clock new gateways asked asked' own lines begins r tasks lines_are flag =
       let t = tasks r.views r.shows in
-      let length_is = told_length script 0 phase.tasks t.ends t.outcomes t.told in
-      let front = take_at script.phases place phase at in
+      let front = take_at setting.script.phases place phase at in
       record {
         views = t.after;
         shows = t.shows;
         ends = r.ends ++ t.ends ∷ [];
-        onward = λ entries later next. subst (λ (l : List (List End)). PhasesInLine script 0 no_views script.phases (new ++ entries) l) (sym (append_assoc r.ends (t.ends ∷ []) later))
-            (begun r clock t.made entries t.ends later t.after new begins t.run (inr (length_is, next)) t.entries);
+        onward = λ entries later next. subst (λ (l : List (List End)). PhasesRun (in_line setting) 0 none_held setting.script.phases (new ++ entries) l) (sym (append_assoc r.ends (t.ends ∷ []) later))
+            (begun r clock t.made entries t.ends later t.after new begins t.run next t.entries);
         outcomes = r.outcomes ++ t.outcomes;
-        told = subst (λ (ps : List Phase). PhasesTold script ps (r.ends ++ t.ends ∷ []) (r.outcomes ++ t.outcomes)) (sym front) (told_more script (take place script.phases) phase r.ends t.ends r.outcomes t.outcomes r.told t.told);
-        lines = lines_are ∙ ap (λ (l : List ℕ). l ++ own) r.lines ∙ ap (λ (l : List ℕ). report_of script (tasks_of (take place script.phases)) r.outcomes ++ l) t.lines
-            ∙ sym (report_append script (tasks_of (take place script.phases)) phase.tasks r.outcomes t.outcomes (told_count script (take place script.phases) r.ends r.outcomes r.told))
-            ∙ ap (λ (ts : List Task). report_of script ts (r.outcomes ++ t.outcomes)) (sym (ap tasks_of front ∙ tasks_append (take place script.phases) (phase ∷ []) ∙ ap (λ (l : List Task). tasks_of (take place script.phases) ++ l) (append-nil phase.tasks)));
+        told = subst (λ (ps : List Phase). PhasesTold setting ps (r.ends ++ t.ends ∷ []) (r.outcomes ++ t.outcomes)) (sym front) (told_more setting (take place setting.script.phases) phase r.ends t.ends r.outcomes t.outcomes r.told t.told);
+        lines = lines_are ∙ ap (λ (l : List ℕ). l ++ own) r.lines ∙ ap (λ (l : List ℕ). report_of setting.script (tasks_of (take place setting.script.phases)) r.outcomes ++ l) t.lines
+            ∙ sym (report_append setting.script (tasks_of (take place setting.script.phases)) phase.tasks r.outcomes t.outcomes (told_count setting (take place setting.script.phases) r.ends r.outcomes r.told))
+            ∙ ap (λ (ts : List Task). report_of setting.script ts (r.outcomes ++ t.outcomes)) (sym (ap tasks_of front ∙ tasks_append (take place setting.script.phases) (phase ∷ []) ∙ ap (λ (l : List Task). tasks_of (take place setting.script.phases) ++ l) (append-nil phase.tasks)));
         flag = flag ∙ ap (λ b. b && asked) r.flag ∙ ap (λ b. list_all is_as_asked r.outcomes && b) t.flag ∙ sym (all_append r.outcomes t.outcomes);
       }
 
-pub run_so_far : (script : Script) (place : ℕ) (shown : List Gateway) (journal : List Entry) (as_asked : Bool) (text : List ℕ) → Reached script place shown journal as_asked text → HasRun script journal
-run_so_far script place shown journal as_asked text r =
-    (r.ends ++ [], subst (λ (es : List Entry). PhasesInLine script 0 no_views script.phases es (r.ends ++ [])) (append-nil journal) (r.onward [] [] (no_phase_yet script place r.views (drop place script.phases))))
+pub run_so_far : (setting : Setting) (place : ℕ) (shown : List Gateway) (journal : List Entry) (as_asked : Bool) (text : List ℕ) → Reached setting place shown journal as_asked text → HasRun setting journal
+run_so_far setting place shown journal as_asked text r = (
+  r.ends ++ [],
+  subst (λ (es : List Entry). PhasesRun (in_line setting) 0 none_held setting.script.phases es (r.ends ++ [])) (append-nil journal) (r.onward [] [] (no_phase (in_line setting) place r.views (drop place setting.script.phases))),
+  subst (λ (ps : List Phase). AreInTurn (in_line setting) 0 ps (r.ends ++ [])) (take-append-drop place setting.script.phases)
+      (turns_none setting 0 (take place setting.script.phases) (drop place setting.script.phases) r.ends (told_whole setting (take place setting.script.phases) r.ends r.outcomes r.told)),
+)
 
 blind_at : (gateways : List Gateway) (place : ℕ) (gateway : Gateway) → All (λ (g : Gateway). g.view ≡ None) gateways → slice_get gateways place ≡ Some gateway → gateway.view ≡ None
 blind_at gateways place gateway blind at =
@@ -211,40 +245,40 @@ drop_none [] = refl
 drop_none (p ∷ ps) = refl
 
 -- before the first phase
-pub reached_none : (script : Script) (gateways : List Gateway) (journal : List Entry) (asked : Bool) (text : List ℕ) → All (λ (g : Gateway). g.view ≡ None) gateways → journal ≡ [] → asked ≡ true → text ≡ []
-    → Reached script 0 gateways journal asked text
+pub reached_none : (setting : Setting) (gateways : List Gateway) (journal : List Entry) (asked : Bool) (text : List ℕ) → All (λ (g : Gateway). g.view ≡ None) gateways → journal ≡ [] → asked ≡ true → text ≡ []
+    → Reached setting 0 gateways journal asked text
 unfolding report_of
-reached_none script gateways journal asked text blind none all empty = record {
-  views = no_views;
+reached_none setting gateways journal asked text blind none all empty = record {
+  views = none_held;
   shows = λ place gateway at. sym (blind_at gateways place gateway blind at);
   ends = [];
-  onward = λ entries later run. subst (λ (ps : List Phase). PhasesInLine script 0 no_views ps (journal ++ entries) later) (drop_none script.phases)
-      (subst (λ (es : List Entry). PhasesInLine script 0 no_views (drop 0 script.phases) (es ++ entries) later) (sym none) run);
+  onward = λ entries later run. subst (λ (ps : List Phase). PhasesRun (in_line setting) 0 none_held ps (journal ++ entries) later) (drop_none setting.script.phases)
+      (subst (λ (es : List Entry). PhasesRun (in_line setting) 0 none_held (drop 0 setting.script.phases) (es ++ entries) later) (sym none) run);
   outcomes = [];
-  told = subst (λ (ps : List Phase). PhasesTold script ps [] []) (sym (take_none script.phases)) (refl, refl);
-  lines = empty ∙ ap (λ (ps : List Phase). report_of script (tasks_of ps) []) (sym (take_none script.phases));
+  told = subst (λ (ps : List Phase). PhasesTold setting ps [] []) (sym (take_none setting.script.phases)) (refl, refl);
+  lines = empty ∙ ap (λ (ps : List Phase). report_of setting.script (tasks_of ps) []) (sym (take_none setting.script.phases));
   flag = all;
 }
 
 -- ---- whole runs
 
-pub whole_run : (script : Script) (gateways : List Gateway) (journal : List Entry) (as_asked : Bool) (text : List ℕ) → IsLawfulScript script → IsJournal script.rules.tick.ms journal
-    → Reached script (length script.phases) gateways journal as_asked text → IsWholeRun script as_asked text journal
-whole_run script gateways journal as_asked text lawful kept r =
-    let run : PhasesInLine script 0 no_views script.phases journal r.ends =
-    subst (λ (l : List (List End)). PhasesInLine script 0 no_views script.phases journal l) (append-nil r.ends)
-    (subst (λ (es : List Entry). PhasesInLine script 0 no_views script.phases es (r.ends ++ [])) (append-nil journal) (r.onward [] [] (no_phase_yet script (length script.phases) r.views (drop (length script.phases) script.phases)))) in
-    let told : PhasesTold script script.phases r.ends r.outcomes = subst (λ (ps : List Phase). PhasesTold script ps r.ends r.outcomes) (take-length script.phases) r.told in
-    let same : (k : ℕ) (p : Phase) → slice_get script.phases k ≡ Some p → slice_get script.phases (0 + k) ≡ Some p = λ k p own. ap (slice_get script.phases) (omega arith) ∙ own in
+pub whole_run : (setting : Setting) (gateways : List Gateway) (journal : List Entry) (as_asked : Bool) (text : List ℕ) → IsLawfulScript setting.script → IsJournal setting.script.rules.tick.ms journal
+    → Reached setting (length setting.script.phases) gateways journal as_asked text → IsWholeRun setting as_asked text journal
+whole_run setting gateways journal as_asked text lawful kept r =
+    let run : PhasesRun (in_line setting) 0 none_held setting.script.phases journal r.ends =
+    subst (λ (l : List (List End)). PhasesRun (in_line setting) 0 none_held setting.script.phases journal l) (append-nil r.ends)
+    (subst (λ (es : List Entry). PhasesRun (in_line setting) 0 none_held setting.script.phases es (r.ends ++ [])) (append-nil journal) (r.onward [] [] (no_phase (in_line setting) (length setting.script.phases) r.views (drop (length setting.script.phases) setting.script.phases)))) in
+    let told : PhasesTold setting setting.script.phases r.ends r.outcomes = subst (λ (ps : List Phase). PhasesTold setting ps r.ends r.outcomes) (take-length setting.script.phases) r.told in
+    let same : (k : ℕ) (p : Phase) → slice_get setting.script.phases k ≡ Some p → slice_get setting.script.phases (0 + k) ≡ Some p = λ k p own. ap (slice_get setting.script.phases) (omega arith) ∙ own in
     record {
-      ends = by_workers (gateway_count script.gateways) script.phases r.ends;
-      run = run_of script journal r.ends lawful (record { kept = kept; phases = run });
-      guaranteed = all_guaranteed script journal (by_workers (gateway_count script.gateways) script.phases r.ends) lawful (run_of script journal r.ends lawful (record { kept = kept; phases = run }));
-      finished = finished script lawful 0 script.phases r.ends same (told_whole script script.phases r.ends r.outcomes told);
+      ends = ends_by_workers (gateway_count setting.script.gateways) setting.script.phases r.ends;
+      run = run_by setting journal r.ends lawful kept run;
+      guaranteed = all_guaranteed setting journal (ends_by_workers (gateway_count setting.script.gateways) setting.script.phases r.ends) lawful (run_by setting journal r.ends lawful kept run);
+      finished = finished setting lawful 0 setting.script.phases r.ends same (told_whole setting setting.script.phases r.ends r.outcomes told);
       report = record {
         outcomes = r.outcomes;
-        came = phases_came script lawful 0 script.phases r.ends r.outcomes same told;
-        lines = r.lines ∙ ap (λ (ps : List Phase). report_of script (tasks_of ps) r.outcomes) (take-length script.phases);
+        came = phases_came setting lawful 0 setting.script.phases r.ends r.outcomes same told;
+        lines = r.lines ∙ ap (λ (ps : List Phase). report_of setting.script (tasks_of ps) r.outcomes) (take-length setting.script.phases);
         flag = r.flag;
       };
     }
@@ -265,107 +299,115 @@ front_length phases zero below = refl
 front_length [] (suc n) below = absurd (omega (arith, below))
 front_length (p ∷ ps) (suc n) below = ap suc (front_length ps n (omega (arith, below)))
 
-unfinished_left : (script : Script) → IsLawfulScript script → (place : ℕ) (left : List Phase) (ends : List (List End)) (is_due : Type 0) → ((k : ℕ) (p : Phase) → slice_get left k ≡ Some p → slice_get script.phases (place + k) ≡ Some p) → place < length script.phases
-    → IsUnfinished script left ends is_due → AreUnfinished script (length (take place script.phases)) (by_workers (gateway_count script.gateways) left ends)
-unfolding by_workers
-unfinished_left script lawful place [] [] is_due same below short = tt
-unfinished_left script lawful place [] (own ∷ ends) is_due same below short = absurd short
-unfinished_left script lawful place (phase ∷ left) [] is_due same below short = tt
-unfinished_left script lawful place (phase ∷ left) (own ∷ ends) is_due same below short =
-    let at : slice_get script.phases (length (take place script.phases)) ≡ Some phase = ap (slice_get script.phases) (omega (arith, front_length script.phases place below)) ∙ same 0 phase refl in
-    (λ done. own_undone script lawful (length (take place script.phases)) phase own at short.1 done, ap (by_workers (gateway_count script.gateways) left) short.0 ∙ by_none (gateway_count script.gateways) left)
+unfinished_left : (setting : Setting) → IsLawfulScript setting.script → (place : ℕ) (left : List Phase) (ends : List (List End)) (is_due : Type 0) → ((k : ℕ) (p : Phase) → slice_get left k ≡ Some p → slice_get setting.script.phases (place + k) ≡ Some p) → place < length setting.script.phases
+    → IsUnfinished setting left ends is_due → AreUnfinished (by_workers setting) (length (take place setting.script.phases)) left (ends_by_workers (gateway_count setting.script.gateways) left ends)
+unfolding ends_by_workers
+unfinished_left setting lawful place [] [] is_due same below short = tt
+unfinished_left setting lawful place [] (own ∷ ends) is_due same below short = absurd short
+unfinished_left setting lawful place (phase ∷ left) [] is_due same below short = tt
+unfinished_left setting lawful place (phase ∷ left) (own ∷ ends) is_due same below short =
+    let at : slice_get setting.script.phases (length (take place setting.script.phases)) ≡ Some phase = ap (slice_get setting.script.phases) (omega (arith, front_length setting.script.phases place below)) ∙ same 0 phase refl in
+    (λ done. own_undone setting lawful (length (take place setting.script.phases)) phase own at short.1 done, ap (ends_by_workers (gateway_count setting.script.gateways) left) short.0 ∙ by_none (gateway_count setting.script.gateways) left)
 
 -- what is due in line is due in the run, whose finished phases came to the ends that are told
-due_run : (script : Script) → IsLawfulScript script → (place : ℕ) (journal : List Entry) (ends : List (List End)) (phase : Phase) (left : List Phase) → drop place script.phases ≡ phase ∷ left → length ends ≡ length (take place script.phases)
-    → IsDueAt script journal ends → IsOperationDue script journal (by_workers (gateway_count script.gateways) (take place script.phases) ends)
-unfolding by_workers
-due_run script lawful place journal ends phase left are same due =
-    let gateways = gateway_count script.gateways in
-    let done = take place script.phases in
-    let parts : script.phases ≡ done ++ phase ∷ left = sym (take-append-drop place script.phases) ∙ ap (λ (ps : List Phase). done ++ ps) are in (
+due_run : (setting : Setting) → IsLawfulScript setting.script → (place : ℕ) (journal : List Entry) (ends : List (List End)) (phase : Phase) (left : List Phase) → drop place setting.script.phases ≡ phase ∷ left → length ends ≡ length (take place setting.script.phases)
+    → IsDueAt setting journal ends → IsOperationDue (by_workers setting) none_held setting.script.phases journal (ends_by_workers (gateway_count setting.script.gateways) (take place setting.script.phases) ends)
+unfolding ends_by_workers
+due_run setting lawful place journal ends phase left are same due =
+    let gateways = gateway_count setting.script.gateways in
+    let done = take place setting.script.phases in
+    let parts : setting.script.phases ≡ done ++ phase ∷ left = sym (take-append-drop place setting.script.phases) ∙ ap (λ (ps : List Phase). done ++ ps) are in (
       due.0,
       due.1,
       due.2,
       λ seen answer.
           let next = due.3 seen answer in
-          let run = runs script lawful 0 no_views script.phases (journal ++ entry_of due.0 due.1 seen ∷ []) (ends ++ next.0 ∷ []) (λ k p own. ap (slice_get script.phases) (omega arith) ∙ own) next.1 in
-          let told = ap (λ (ps : List Phase). by_workers gateways ps (ends ++ next.0 ∷ [])) parts ∙ by_parts gateways done (phase ∷ left) ends (next.0 ∷ []) same ∙ ap (λ l. by_workers gateways done ends ++ last_by gateways phase next.0 ∷ l) (by_none gateways left) in
-          (last_by gateways phase next.0, subst (PhasesRun script 0 no_views script.phases (journal ++ entry_of due.0 due.1 seen ∷ [])) told run),
+          let run = runs setting lawful 0 none_held setting.script.phases (journal ++ entry_of due.0 due.1 seen ∷ []) (ends ++ next.0 ∷ []) (λ k p own. ap (slice_get setting.script.phases) (omega arith) ∙ own) next.1 in
+          let told = ap (λ (ps : List Phase). ends_by_workers gateways ps (ends ++ next.0 ∷ [])) parts ∙ by_parts gateways done (phase ∷ left) ends (next.0 ∷ []) same ∙ ap (λ l. ends_by_workers gateways done ends ++ last_by gateways phase next.0 ∷ l) (by_none gateways left) in
+          (last_by gateways phase next.0, subst (PhasesRun (by_workers setting) 0 none_held setting.script.phases (journal ++ entry_of due.0 due.1 seen ∷ [])) told run),
     )
 
-due_left : (script : Script) → IsLawfulScript script → (place : ℕ) (journal : List Entry) (ends : List (List End)) (left : List Phase) (unfinished : List (List End)) → drop place script.phases ≡ left → length ends ≡ length (take place script.phases)
-    → IsUnfinished script left unfinished (IsDueAt script journal ends) → WhereBegun (by_workers (gateway_count script.gateways) left unfinished) (IsOperationDue script journal (by_workers (gateway_count script.gateways) (take place script.phases) ends))
-unfolding by_workers
-due_left script lawful place journal ends [] [] are same short = tt
-due_left script lawful place journal ends [] (own ∷ more) are same short = absurd short
-due_left script lawful place journal ends (phase ∷ left) [] are same short = tt
-due_left script lawful place journal ends (phase ∷ left) (own ∷ more) are same short = due_run script lawful place journal ends phase left are same short.2
+due_left : (setting : Setting) → IsLawfulScript setting.script → (place : ℕ) (journal : List Entry) (ends : List (List End)) (left : List Phase) (unfinished : List (List End)) → drop place setting.script.phases ≡ left → length ends ≡ length (take place setting.script.phases)
+    → IsUnfinished setting left unfinished (IsDueAt setting journal ends) → WhereBegun (ends_by_workers (gateway_count setting.script.gateways) left unfinished) (IsOperationDue (by_workers setting) none_held setting.script.phases journal (ends_by_workers (gateway_count setting.script.gateways) (take place setting.script.phases) ends))
+unfolding ends_by_workers
+due_left setting lawful place journal ends [] [] are same short = tt
+due_left setting lawful place journal ends [] (own ∷ more) are same short = absurd short
+due_left setting lawful place journal ends (phase ∷ left) [] are same short = tt
+due_left setting lawful place journal ends (phase ∷ left) (own ∷ more) are same short = due_run setting lawful place journal ends phase left are same short.2
 
-pub full_run : (script : Script) (place : ℕ) (journal : List Entry) (as_asked : Bool) (text : List ℕ) → IsLawfulScript script → IsJournal script.rules.tick.ms journal → IsFull journal → place < length script.phases
-    → IsBrokenAt script place journal as_asked text → IsFullRun script text journal
-full_run script place journal as_asked text lawful kept full below b =
-    let gateways = gateway_count script.gateways in
-    let done = take place script.phases in
-    let left = drop place script.phases in
-    let same : (k : ℕ) (p : Phase) → slice_get done k ≡ Some p → slice_get script.phases (0 + k) ≡ Some p = λ k p own. ap (slice_get script.phases) (omega arith) ∙ front_at script.phases place k p own in
+pub full_run : (setting : Setting) (place : ℕ) (journal : List Entry) (as_asked : Bool) (text : List ℕ) → IsLawfulScript setting.script → IsJournal setting.script.rules.tick.ms journal → IsFull journal → place < length setting.script.phases
+    → IsBrokenAt setting place journal as_asked text → IsFullRun setting text journal
+full_run setting place journal as_asked text lawful kept full below b =
+    let gateways = gateway_count setting.script.gateways in
+    let done = take place setting.script.phases in
+    let left = drop place setting.script.phases in
+    let same : (k : ℕ) (p : Phase) → slice_get done k ≡ Some p → slice_get setting.script.phases (0 + k) ≡ Some p = λ k p own. ap (slice_get setting.script.phases) (omega arith) ∙ front_at setting.script.phases place k p own in
     record {
-      ends = by_workers gateways script.phases (b.ends ++ b.unfinished);
-      run = run_of script journal (b.ends ++ b.unfinished) lawful (record { kept = kept; phases = b.run });
-      guaranteed = all_guaranteed script journal (by_workers gateways script.phases (b.ends ++ b.unfinished)) lawful (run_of script journal (b.ends ++ b.unfinished) lawful (record { kept = kept; phases = b.run }));
+      ends = ends_by_workers gateways setting.script.phases (b.ends ++ b.unfinished);
+      run = run_by setting journal (b.ends ++ b.unfinished) lawful kept b.run;
+      guaranteed = all_guaranteed setting journal (ends_by_workers gateways setting.script.phases (b.ends ++ b.unfinished)) lawful (run_by setting journal (b.ends ++ b.unfinished) lawful kept b.run);
       full = full;
       done = done;
       left = left;
-      phases = sym (take-append-drop place script.phases);
-      more = λ none. left_some script.phases place below none;
-      told = by_workers gateways done b.ends;
-      untold = by_workers gateways left b.unfinished;
-      parts = ap (λ (ps : List Phase). by_workers gateways ps (b.ends ++ b.unfinished)) (sym (take-append-drop place script.phases)) ∙ by_parts gateways done left b.ends b.unfinished (told_ends script done b.ends b.outcomes b.told);
-      unfinished = unfinished_left script lawful place left b.unfinished (IsDueAt script journal b.ends) (drop_front script.phases place) below b.short;
-      due = due_left script lawful place journal b.ends left b.unfinished refl (told_ends script done b.ends b.outcomes b.told) b.short;
-      finished = finished script lawful 0 done b.ends same (told_whole script done b.ends b.outcomes b.told);
+      phases = sym (take-append-drop place setting.script.phases);
+      more = λ none. left_some setting.script.phases place below none;
+      told = ends_by_workers gateways done b.ends;
+      untold = ends_by_workers gateways left b.unfinished;
+      parts = ap (λ (ps : List Phase). ends_by_workers gateways ps (b.ends ++ b.unfinished)) (sym (take-append-drop place setting.script.phases)) ∙ by_parts gateways done left b.ends b.unfinished (told_ends setting done b.ends b.outcomes b.told);
+      unfinished = unfinished_left setting lawful place left b.unfinished (IsDueAt setting journal b.ends) (drop_front setting.script.phases place) below b.short;
+      due = due_left setting lawful place journal b.ends left b.unfinished refl (told_ends setting done b.ends b.outcomes b.told) b.short;
+      finished = finished setting lawful 0 done b.ends same (told_whole setting done b.ends b.outcomes b.told);
       as_asked = as_asked;
-      report = record { outcomes = b.outcomes; came = phases_came script lawful 0 done b.ends b.outcomes same b.told; lines = b.lines; flag = b.flag };
+      report = record { outcomes = b.outcomes; came = phases_came setting lawful 0 done b.ends b.outcomes same b.told; lines = b.lines; flag = b.flag };
     }
 
 -- what a run came to is a run in line
-pub run_in_line : (script : Script) (gateways : List Gateway) (journal : List Entry) (as_asked : Bool) (text : List ℕ) (r : Result (Unit {0}) Broken) → IsJournal script.rules.tick.ms journal → RunCame script gateways journal as_asked text r → IsInLine script journal
-run_in_line script gateways journal as_asked text (Ok done) kept came =
-    let run = run_so_far script (length script.phases) gateways journal as_asked text came in
-    (run.0, record { kept = kept; phases = run.1 })
-run_in_line script gateways journal as_asked text (Err broken.Full) kept came = (came.2.ends ++ came.2.unfinished, record { kept = kept; phases = came.2.run })
-run_in_line script gateways journal as_asked text (Err broken.NoMemory) kept came = (came.0, record { kept = kept; phases = came.1 })
+pub run_in_line : (setting : Setting) (gateways : List Gateway) (journal : List Entry) (as_asked : Bool) (text : List ℕ) (r : Result (Unit {0}) Broken) → IsJournal setting.script.rules.tick.ms journal → RunCame setting gateways journal as_asked text r → IsInLine setting journal
+run_in_line setting gateways journal as_asked text (Ok done) kept came =
+    let run = run_so_far setting (length setting.script.phases) gateways journal as_asked text came in
+    (run.0, record { kept = kept; phases = run.1; turns = run.2 })
+run_in_line setting gateways journal as_asked text (Err broken.Full) kept (place, below, b) = (
+  b.ends ++ b.unfinished,
+  record {
+    kept = kept;
+    phases = b.run;
+    turns = subst (λ (ps : List Phase). AreInTurn (in_line setting) 0 ps (b.ends ++ b.unfinished)) (take-append-drop place setting.script.phases)
+        (turns_unfinished setting (take place setting.script.phases) (drop place setting.script.phases) b.ends b.unfinished (IsDueAt setting journal b.ends) (told_whole setting (take place setting.script.phases) b.ends b.outcomes b.told) b.short);
+  },
+)
+run_in_line setting gateways journal as_asked text (Err broken.NoMemory) kept came = (came.0, record { kept = kept; phases = came.1; turns = came.2 })
 
-pub guaranteed_run : (script : Script) (journal : List Entry) → IsLawfulScript script → IsJournal script.rules.tick.ms journal → HasRun script journal → IsGuaranteedJournal script journal
-guaranteed_run script journal lawful kept run =
-    let ends = by_workers (gateway_count script.gateways) script.phases run.0 in
-    let whole = run_of script journal run.0 lawful (record { kept = kept; phases = run.1 }) in (ends, whole, all_guaranteed script journal ends lawful whole)
+pub guaranteed_run : (setting : Setting) (journal : List Entry) → IsLawfulScript setting.script → IsJournal setting.script.rules.tick.ms journal → HasRun setting journal → IsGuaranteedJournal setting journal
+guaranteed_run setting journal lawful kept run =
+    let ends = ends_by_workers (gateway_count setting.script.gateways) setting.script.phases run.0 in
+    let whole = run_by setting journal run.0 lawful kept run.1 in (ends, whole, turns_by setting run.0 lawful run.2, all_guaranteed setting journal ends lawful whole)
 
 -- ---- what a phase's call leaves
 
-pub lawful_phase : (script : Script) (place : ℕ) (phase : Phase) → IsLawfulScript script → slice_get script.phases place ≡ Some phase → IsLawfulPhase script.gateways script.blocks (length script.selectors) phase
-lawful_phase script place phase lawful at =
-    subst (IsLawfulPhase script.gateways script.blocks (length script.selectors)) (get_or_from_slice_get script.phases place phase phase at) ((lawful.phases).each place phase (slice_get_within script.phases place phase at))
+pub lawful_phase : (setting : Setting) (place : ℕ) (phase : Phase) → IsLawfulScript setting.script → slice_get setting.script.phases place ≡ Some phase → IsLawfulPhase setting.script.gateways setting.script.blocks (length setting.script.selectors) phase
+lawful_phase setting place phase lawful at =
+    subst (IsLawfulPhase setting.script.gateways setting.script.blocks (length setting.script.selectors)) (get_or_from_slice_get setting.script.phases place phase phase at) ((lawful.phases).each place phase (slice_get_within setting.script.phases place phase at))
 
-pub unbegun_step : (script : Script) (place : ℕ) (phase : Phase) (shown gateways : List Gateway) (journal new : List Entry) (as_asked : Bool) (text : List ℕ) (b : Broken) → slice_get script.phases place ≡ Some phase → new ≡ journal
-    → Reached script place shown journal as_asked text → PhaseStep script place gateways new as_asked text (Err b)
-unbegun_step script place phase shown gateways journal new as_asked text broken.Full at same r = subst (λ (es : List Entry). IsBrokenAt script place es as_asked text) (sym same) (unbegun script place phase shown journal as_asked text at gateways r)
-unbegun_step script place phase shown gateways journal new as_asked text broken.NoMemory at same r = subst (HasRun script) (sym same) (run_so_far script place shown journal as_asked text r)
+pub unbegun_step : (setting : Setting) (place : ℕ) (phase : Phase) (shown gateways : List Gateway) (journal new : List Entry) (as_asked : Bool) (text : List ℕ) (b : Broken) → slice_get setting.script.phases place ≡ Some phase → new ≡ journal
+    → Reached setting place shown journal as_asked text → PhaseStep setting place gateways new as_asked text (Err b)
+unbegun_step setting place phase shown gateways journal new as_asked text broken.Full at same r = subst (λ (es : List Entry). IsBrokenAt setting place es as_asked text) (sym same) (unbegun setting place phase shown journal as_asked text at gateways r)
+unbegun_step setting place phase shown gateways journal new as_asked text broken.NoMemory at same r = subst (HasRun setting) (sym same) (run_so_far setting place shown journal as_asked text r)
 
-pub broken_step : (script : Script) (place : ℕ) (phase : Phase) (shown gateways : List Gateway) (journal new : List Entry) (as_asked as_asked' : Bool) (text text' : List ℕ) (b : Broken) (clock : Entry) → slice_get script.phases place ≡ Some phase
-    → as_asked ≡ as_asked' → text ≡ text' → BeginsPhase phase clock → (r : Reached script place shown journal as_asked text)
-    → ((v : Views) → Shows v shown → TasksBroken script (seat_of (workers_of script place)) phase.tasks v (journal ++ clock ∷ []) new b) → PhaseStep script place gateways new as_asked' text' (Err b)
-broken_step script place phase shown gateways journal new as_asked as_asked' text text' broken.Full clock at one other begins r tasks =
-    subst (λ (x : Bool). IsBrokenAt script place new x text') one (subst (λ (x : List ℕ). IsBrokenAt script place new as_asked x) other (broken_off script place phase shown journal as_asked text at clock new begins r tasks))
-broken_step script place phase shown gateways journal new as_asked as_asked' text text' broken.NoMemory clock at one other begins r tasks =
-    broken_short script place phase shown journal as_asked text at clock new begins r tasks
+pub broken_step : (setting : Setting) (place : ℕ) (phase : Phase) (shown gateways : List Gateway) (journal new : List Entry) (as_asked as_asked' : Bool) (text text' : List ℕ) (b : Broken) (clock : Entry) → slice_get setting.script.phases place ≡ Some phase
+    → as_asked ≡ as_asked' → text ≡ text' → BeginsPhase phase clock → (r : Reached setting place shown journal as_asked text)
+    → ((v : Holdings) → Shows v shown → TasksBroken setting (seat_of (workers_of setting.script place)) phase.tasks v (journal ++ clock ∷ []) new b) → PhaseStep setting place gateways new as_asked' text' (Err b)
+broken_step setting place phase shown gateways journal new as_asked as_asked' text text' broken.Full clock at one other begins r tasks =
+    subst (λ (x : Bool). IsBrokenAt setting place new x text') one (subst (λ (x : List ℕ). IsBrokenAt setting place new as_asked x) other (broken_off setting place phase shown journal as_asked text at clock new begins r tasks))
+broken_step setting place phase shown gateways journal new as_asked as_asked' text text' broken.NoMemory clock at one other begins r tasks =
+    broken_short setting place phase shown journal as_asked text at clock new begins r tasks
 
-pub taken_step : (script : Script) (place : ℕ) (gateways : List Gateway) (journal : List Entry) (as_asked asked asked' : Bool) (text own lines : List ℕ) (r : Result (Unit {0}) Broken) → r ≢ Err broken.Full
-    → ((a : Bool) (l : List ℕ) → l ≡ text ++ own → a ≡ as_asked && asked → Reached script (place + 1) gateways journal a l)
-    → OnOk r (lines ≡ text ++ own) → OnOk r (asked' ≡ as_asked && asked) → PhaseStep script place gateways journal asked' lines r
-taken_step script place gateways journal as_asked asked asked' text own lines (Ok done) never reached one other = reached asked' lines one other
-taken_step script place gateways journal as_asked asked asked' text own lines (Err broken.Full) never reached one other = absurd (never refl)
-taken_step script place gateways journal as_asked asked asked' text own lines (Err broken.NoMemory) never reached one other =
-    run_so_far script (place + 1) gateways journal (as_asked && asked) (text ++ own) (reached (as_asked && asked) (text ++ own) refl refl)
+pub taken_step : (setting : Setting) (place : ℕ) (gateways : List Gateway) (journal : List Entry) (as_asked asked asked' : Bool) (text own lines : List ℕ) (r : Result (Unit {0}) Broken) → r ≢ Err broken.Full
+    → ((a : Bool) (l : List ℕ) → l ≡ text ++ own → a ≡ as_asked && asked → Reached setting (place + 1) gateways journal a l)
+    → OnOk r (lines ≡ text ++ own) → OnOk r (asked' ≡ as_asked && asked) → PhaseStep setting place gateways journal asked' lines r
+taken_step setting place gateways journal as_asked asked asked' text own lines (Ok done) never reached one other = reached asked' lines one other
+taken_step setting place gateways journal as_asked asked asked' text own lines (Err broken.Full) never reached one other = absurd (never refl)
+taken_step setting place gateways journal as_asked asked asked' text own lines (Err broken.NoMemory) never reached one other =
+    run_so_far setting (place + 1) gateways journal (as_asked && asked) (text ++ own) (reached (as_asked && asked) (text ++ own) refl refl)
 
 workers_length : (gateways before : ℕ) (tasks : List Task) (hs : List Hand) → length (workers_from gateways before tasks hs) ≡ length hs
 unfolding workers_from
@@ -378,30 +420,30 @@ seats_append gateways before [] phase = refl
 seats_append gateways before (p ∷ ps) phase = seats_append gateways (seats_after before (length (hands_of gateways p.tasks))) ps phase
 
 -- the seats before the next phase
-pub seats_next : (script : Script) (place : ℕ) (phase : Phase) (workers : List Worker) (before count after : ℕ) → slice_get script.phases place ≡ Some phase → workers ≡ workers_of script place → before ≡ seats_before script place
-    → count ≡ min (length workers) (2 ^ 32 - 1) → after ≡ min (before + count) (2 ^ 32 - 1) → after ≡ seats_before script (place + 1)
-seats_next script place phase workers before count after at are is counted next =
-    let gateways = gateway_count script.gateways in
-    let n : length workers ≡ length (hands_of gateways phase.tasks) = ap (length {A = Worker}) (are ∙ workers_at script place phase at) ∙ workers_length gateways (seats_before script place) phase.tasks (hands_of gateways phase.tasks) in
-    let e : seats_before script (place + 1) ≡ seats_after (seats_before script place) (length (hands_of gateways phase.tasks)) =
-    ap (seats_from gateways 0) (take_at script.phases place phase at) ∙ seats_append gateways 0 (take place script.phases) phase in
-    let f : after ≡ seats_after (seats_before script place) (length (hands_of gateways phase.tasks)) = omega (arith, n, is, counted, next) in
+pub seats_next : (setting : Setting) (place : ℕ) (phase : Phase) (workers : List Worker) (before count after : ℕ) → slice_get setting.script.phases place ≡ Some phase → workers ≡ workers_of setting.script place → before ≡ seats_before setting.script place
+    → count ≡ min (length workers) (2 ^ 32 - 1) → after ≡ min (before + count) (2 ^ 32 - 1) → after ≡ seats_before setting.script (place + 1)
+seats_next setting place phase workers before count after at are is counted next =
+    let gateways = gateway_count setting.script.gateways in
+    let n : length workers ≡ length (hands_of gateways phase.tasks) = ap (length {A = Worker}) (are ∙ workers_at setting.script place phase at) ∙ workers_length gateways (seats_before setting.script place) phase.tasks (hands_of gateways phase.tasks) in
+    let e : seats_before setting.script (place + 1) ≡ seats_after (seats_before setting.script place) (length (hands_of gateways phase.tasks)) =
+    ap (seats_from gateways 0) (take_at setting.script.phases place phase at) ∙ seats_append gateways 0 (take place setting.script.phases) phase in
+    let f : after ≡ seats_after (seats_before setting.script place) (length (hands_of gateways phase.tasks)) = omega (arith, n, is, counted, next) in
     f ∙ sym e
 
-pub done_from : (script : Script) (place : ℕ) (phase : Phase) (shown gateways : List Gateway) (journal mid new : List Entry) (asked : Bool) (own : List ℕ) (workers : List Worker) (tasks : List Task) (clock : Entry)
-    → workers ≡ workers_of script place → tasks ≡ phase.tasks → mid ≡ journal ++ clock ∷ []
-    → ((v : Views) → Shows v shown → TasksDone script (seat_of workers) tasks v gateways mid new asked own)
-    → (v : Views) → Shows v shown → TasksDone script (seat_of (workers_of script place)) phase.tasks v gateways (journal ++ clock ∷ []) new asked own
-done_from script place phase shown gateways journal mid new asked own workers tasks clock w t m done = λ v shows.
-    subst (λ (ws : List Worker). TasksDone script (seat_of ws) phase.tasks v gateways (journal ++ clock ∷ []) new asked own) w
-    (subst (λ (ts : List Task). TasksDone script (seat_of workers) ts v gateways (journal ++ clock ∷ []) new asked own) t
-    (subst (λ (es : List Entry). TasksDone script (seat_of workers) tasks v gateways es new asked own) m (done v shows)))
+pub done_from : (setting : Setting) (place : ℕ) (phase : Phase) (shown gateways : List Gateway) (journal mid new : List Entry) (asked : Bool) (own : List ℕ) (workers : List Worker) (tasks : List Task) (clock : Entry)
+    → workers ≡ workers_of setting.script place → tasks ≡ phase.tasks → mid ≡ journal ++ clock ∷ []
+    → ((v : Holdings) → Shows v shown → TasksDone setting (seat_of workers) tasks v gateways mid new asked own)
+    → (v : Holdings) → Shows v shown → TasksDone setting (seat_of (workers_of setting.script place)) phase.tasks v gateways (journal ++ clock ∷ []) new asked own
+done_from setting place phase shown gateways journal mid new asked own workers tasks clock w t m done = λ v shows.
+    subst (λ (ws : List Worker). TasksDone setting (seat_of ws) phase.tasks v gateways (journal ++ clock ∷ []) new asked own) w
+    (subst (λ (ts : List Task). TasksDone setting (seat_of workers) ts v gateways (journal ++ clock ∷ []) new asked own) t
+    (subst (λ (es : List Entry). TasksDone setting (seat_of workers) tasks v gateways es new asked own) m (done v shows)))
 
-pub broken_from : (script : Script) (place : ℕ) (phase : Phase) (shown : List Gateway) (journal mid new : List Entry) (why : Broken) (workers : List Worker) (tasks : List Task) (clock : Entry)
-    → workers ≡ workers_of script place → tasks ≡ phase.tasks → mid ≡ journal ++ clock ∷ []
-    → ((v : Views) → Shows v shown → TasksBroken script (seat_of workers) tasks v mid new why)
-    → (v : Views) → Shows v shown → TasksBroken script (seat_of (workers_of script place)) phase.tasks v (journal ++ clock ∷ []) new why
-broken_from script place phase shown journal mid new why workers tasks clock w t m done = λ v shows.
-    subst (λ (ws : List Worker). TasksBroken script (seat_of ws) phase.tasks v (journal ++ clock ∷ []) new why) w
-    (subst (λ (ts : List Task). TasksBroken script (seat_of workers) ts v (journal ++ clock ∷ []) new why) t
-    (subst (λ (es : List Entry). TasksBroken script (seat_of workers) tasks v es new why) m (done v shows)))
+pub broken_from : (setting : Setting) (place : ℕ) (phase : Phase) (shown : List Gateway) (journal mid new : List Entry) (why : Broken) (workers : List Worker) (tasks : List Task) (clock : Entry)
+    → workers ≡ workers_of setting.script place → tasks ≡ phase.tasks → mid ≡ journal ++ clock ∷ []
+    → ((v : Holdings) → Shows v shown → TasksBroken setting (seat_of workers) tasks v mid new why)
+    → (v : Holdings) → Shows v shown → TasksBroken setting (seat_of (workers_of setting.script place)) phase.tasks v (journal ++ clock ∷ []) new why
+broken_from setting place phase shown journal mid new why workers tasks clock w t m done = λ v shows.
+    subst (λ (ws : List Worker). TasksBroken setting (seat_of ws) phase.tasks v (journal ++ clock ∷ []) new why) w
+    (subst (λ (ts : List Task). TasksBroken setting (seat_of workers) ts v (journal ++ clock ∷ []) new why) t
+    (subst (λ (es : List Entry). TasksBroken setting (seat_of workers) tasks v es new why) m (done v shows)))

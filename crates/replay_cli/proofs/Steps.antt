@@ -24,14 +24,16 @@ use Rattle.script_workers.specs.Hands.{gateway_count, gateway_of, hands_of_task}
 use Rattle.script_core.specs.declared.block.Block.{Block}
 use Rattle.script_workers.specs.declared.hand.Hand.{Hand}
 use Rattle.script_workers.specs.declared.hand.Hand.TheVariants as hands
-use Rattle.script_core.specs.declared.script.Script.{Script}
 use Rattle.script_workers.specs.declared.task.Task.{Task}
 use Rattle.script_workers.specs.declared.work.Work.{Work}
 use Rattle.script_workers.specs.declared.work.Work.TheVariants as works
+use Rattle.lifecycle_core.proofs.phases.Joined.{same_holdings}
+use Rattle.lifecycle_core.specs.Conducts.{Who}
 use Rattle.lifecycle_core.specs.Held.{declared}
-use Rattle.lifecycle_core.specs.InLine.{Duty, duties_from, InLine}
-use Rattle.lifecycle_core.specs.Tasks.{End, BlockUpload, QueryTask, SyncTask, TaskRun, answered, asked_by, sync_rules, synced, view_after, without_view}
-use Rattle.lifecycle_core.specs.Views.{Use, Views, view_of, with_view}
+use Rattle.lifecycle_core.specs.Holdings.{Holding, Holdings, Use, holding_of, nothing_held, with_holding}
+use Rattle.lifecycle_core.specs.InLine.{Duty, InLine, duties_from, who_does}
+use Rattle.lifecycle_core.specs.Setting.{Setting}
+use Rattle.lifecycle_core.specs.Tasks.{BlockUpload, End, QueryTask, TaskRun, answered, asked_by, sync_rules, synced, synced_with, without_view}
 use Rattle.replay_cli.specs.Outcomes.{IsOutcome}
 use Rattle.world_core.specs.Operations.{entry_of}
 use Rattle.replay_cli.specs.Progress.{Adds, CameBy, IsDueAfter, IsDueInLine, IsWhole, Shows, TaskStep, WhenFull, duties_at, view_by}
@@ -46,23 +48,19 @@ abbrev one_end : Option End → List End
 one_end (Some end) = end ∷ []
 one_end None = []
 
-abbrev after_end : Views → Hand → List Entry → Option End → Views
-after_end views hand made (Some end) = with_view views (gateway_of hand) (view_after (view_of views (gateway_of hand)) made end)
-after_end views hand made None = views
+one_run : (setting : Setting) (seat : Hand → ℕ) (views : Holdings) (duty : Duty) (made : List Entry) (end : Option End) (held : Holding) → All (λ e. e.seat ≡ seat duty.hand) made
+    → TaskRun setting (who_does seat duty.hand) duty.place duty.task.work (holding_of views (gateway_of duty.hand)) made end held → InLine setting seat views (duty ∷ []) made (one_end end) (with_holding views (gateway_of duty.hand) held)
+one_run setting seat views duty made (Some end) held seats run = inl (made, [], end, [], held, sym (append-nil made), seats, run, refl, (refl, refl, refl))
+one_run setting seat views duty made None held seats run = inr (held, seats, run, refl, refl)
 
-one_run : (script : Script) (seat : Hand → ℕ) (views : Views) (duty : Duty) (made : List Entry) (end : Option End) → All (λ e. e.seat ≡ seat duty.hand) made
-    → TaskRun script (view_of views (gateway_of duty.hand)) duty.task.work made end → InLine script seat views (duty ∷ []) made (one_end end) (after_end views duty.hand made end)
-one_run script seat views duty made (Some end) seats run = inl (made, [], end, [], sym (append-nil made), seats, run, refl, (refl, refl, refl))
-one_run script seat views duty made None seats run = inr (seats, run, refl, refl)
-
-whole_by : (script : Script) (place : ℕ) (task : Task) (duty : Duty) (end : Option End) (came : Came) → duties_at script place (task ∷ []) ≡ duty ∷ [] → CameBy task.work end came
-    → IsWhole script place task (one_end end) came
-whole_by script place task duty (Some end) (Ok o) are by = (sym (ap (length {A = Duty}) are), by)
-whole_by script place task duty (Some end) (Err broken.Full) are by = absurd by
-whole_by script place task duty (Some end) (Err broken.NoMemory) are by = tt
-whole_by script place task duty None (Ok o) are by = absurd by
-whole_by script place task duty None (Err broken.Full) are by = omega (arith, ap (length {A = Duty}) are)
-whole_by script place task duty None (Err broken.NoMemory) are by = tt
+whole_by : (setting : Setting) (place : ℕ) (task : Task) (duty : Duty) (end : Option End) (came : Came) → duties_at setting place (task ∷ []) ≡ duty ∷ [] → CameBy task.work end came
+    → IsWhole setting place task (one_end end) came
+whole_by setting place task duty (Some end) (Ok o) are by = (sym (ap (length {A = Duty}) are), by)
+whole_by setting place task duty (Some end) (Err broken.Full) are by = absurd by
+whole_by setting place task duty (Some end) (Err broken.NoMemory) are by = tt
+whole_by setting place task duty None (Ok o) are by = absurd by
+whole_by setting place task duty None (Err broken.Full) are by = omega (arith, ap (length {A = Duty}) are)
+whole_by setting place task duty None (Err broken.NoMemory) are by = tt
 
 -- ---- what is due where the journal was full
 
@@ -78,69 +76,73 @@ due_by one other seat made runs d = (d.0, d.1, λ seen answer. let next = d.2 se
 one_more : (seat : ℕ) (made : List Entry) (e : Entry) → All (λ (x : Entry). x.seat ≡ seat) made → e.seat ≡ seat → All (λ (x : Entry). x.seat ≡ seat) (made ++ e ∷ [])
 one_more seat made e seats own = All-push (λ (x : Entry). x.seat ≡ seat) made e seats own
 
-due_in_line : (script : Script) (seat : Hand → ℕ) (views : Views) (duty : Duty) (duties : List Duty) (made : List Entry) → duties ≡ duty ∷ [] → All (λ e. e.seat ≡ seat duty.hand) made
-    → IsDueAfter (TaskRun script (view_of views (gateway_of duty.hand)) duty.task.work) (seat duty.hand) made → IsDueInLine script seat views duties made
-due_in_line script seat views duty duties made are seats d =
-    subst (λ (ds : List Duty). IsDueInLine script seat views ds made) (sym are) (
+-- what one who does a duty may do for it, whatever it holds then
+abbrev Does : Setting → (Hand → ℕ) → Holdings → Duty → List Entry → Option End → Type 0
+Does setting seat views duty made end = (held : Holding) × TaskRun setting (who_does seat duty.hand) duty.place duty.task.work (holding_of views (gateway_of duty.hand)) made end held
+
+due_in_line : (setting : Setting) (seat : Hand → ℕ) (views : Holdings) (duty : Duty) (duties : List Duty) (made : List Entry) → duties ≡ duty ∷ [] → All (λ e. e.seat ≡ seat duty.hand) made
+    → IsDueAfter (Does setting seat views duty) (seat duty.hand) made → IsDueInLine setting seat views duties made
+due_in_line setting seat views duty duties made are seats d =
+    subst (λ (ds : List Duty). IsDueInLine setting seat views ds made) (sym are) (
       seat duty.hand,
       d.0,
       d.1,
       λ seen answer.
           let e = entry_of (seat duty.hand) d.0 seen in
           let next = d.2 seen answer in
-          (one_end next.0, after_end views duty.hand (made ++ e ∷ []) next.0, one_run script seat views duty (made ++ e ∷ []) next.0 (one_more (seat duty.hand) made e seats refl) next.1),
+          (one_end next.0, with_holding views (gateway_of duty.hand) next.1.0, one_run setting seat views duty (made ++ e ∷ []) next.0 next.1.0 (one_more (seat duty.hand) made e seats refl) next.1.1),
     )
 
 -- a task that one worker does
-one_step : (script : Script) (seat : Hand → ℕ) (place : ℕ) (task : Task) (hand : Hand) (views : Views) (gateways : List Gateway) (old new : List Entry) (is_run : List Entry → Option End → Type 0) (end : Option End) (came : Came)
-    → duties_at script place (task ∷ []) ≡ record { place = place; hand = hand; task = task } ∷ [] → (a : Adds is_run (seat hand) old new end came)
-    → ((made : List Entry) (e : Option End) → is_run made e → TaskRun script (view_of views (gateway_of hand)) task.work made e) → Shows (after_end views hand a.made end) gateways → CameBy task.work end came
-    → TaskStep script seat place task views gateways old new came
-one_step script seat place task hand views gateways old new is_run end came are a runs shows by =
+one_step : (setting : Setting) (seat : Hand → ℕ) (place : ℕ) (task : Task) (hand : Hand) (views : Holdings) (gateways : List Gateway) (old new : List Entry) (is_run : List Entry → Option End → Type 0) (end : Option End) (held : Holding) (came : Came)
+    → duties_at setting place (task ∷ []) ≡ record { place = place; hand = hand; task = task } ∷ [] → (a : Adds is_run (seat hand) old new end came)
+    → TaskRun setting (who_does seat hand) place task.work (holding_of views (gateway_of hand)) a.made end held
+    → ((made : List Entry) (e : Option End) → is_run made e → Does setting seat views (record { place = place; hand = hand; task = task }) made e) → Shows (with_holding views (gateway_of hand) held) gateways → CameBy task.work end came
+    → TaskStep setting seat place task views gateways old new came
+one_step setting seat place task hand views gateways old new is_run end held came are a run runs shows by =
     let duty : Duty = record { place = place; hand = hand; task = task } in
     record {
       made = a.made;
       entries = a.entries;
       ends = one_end end;
-      after = after_end views hand a.made end;
-      run = subst (λ (ds : List Duty). InLine script seat views ds a.made (one_end end) (after_end views hand a.made end)) (sym are) (one_run script seat views duty a.made end a.seats (runs a.made end a.run));
+      after = with_holding views (gateway_of hand) held;
+      run = subst (λ (ds : List Duty). InLine setting seat views ds a.made (one_end end) (with_holding views (gateway_of hand) held)) (sym are) (one_run setting seat views duty a.made end held a.seats run);
       shows = shows;
-      whole = whole_by script place task duty end came are by;
-      due = when_full came (IsDueAfter is_run (seat hand) a.made) (IsDueInLine script seat views (duties_at script place (task ∷ [])) a.made)
-          (λ d. due_in_line script seat views duty (duties_at script place (task ∷ [])) a.made are a.seats
-          (due_by is_run (TaskRun script (view_of views (gateway_of hand)) task.work) (seat hand) a.made (λ es e run. (e, runs es e run)) d)) a.due;
+      whole = whole_by setting place task duty end came are by;
+      due = when_full came (IsDueAfter is_run (seat hand) a.made) (IsDueInLine setting seat views (duties_at setting place (task ∷ [])) a.made)
+          (λ d. due_in_line setting seat views duty (duties_at setting place (task ∷ [])) a.made are a.seats
+          (due_by is_run (Does setting seat views duty) (seat hand) a.made (λ es e run. (e, runs es e run)) d)) a.due;
     }
 
-one_duty : (script : Script) (place : ℕ) (task : Task) (hand : Hand) → hands_of_task (gateway_count script.gateways) place task.work ≡ hand ∷ []
-    → duties_at script place (task ∷ []) ≡ record { place = place; hand = hand; task = task } ∷ []
+one_duty : (setting : Setting) (place : ℕ) (task : Task) (hand : Hand) → hands_of_task (gateway_count setting.script.gateways) place task.work ≡ hand ∷ []
+    → duties_at setting place (task ∷ []) ≡ record { place = place; hand = hand; task = task } ∷ []
 unfolding duties_from
-one_duty script place task hand is = ap (λ hs. map (λ h. record { place = place; hand = h; task = task }) hs ++ []) is
+one_duty setting place task hand is = ap (λ hs. map (λ h. record { place = place; hand = h; task = task }) hs ++ []) is
 
 -- ---- an upload
 
-upload_shows : (script : Script) (views : Views) (ulid place : ℕ) (stop : Option ℕ) (gateways : List Gateway) (made : List Entry) (end : Option End) → Shows views gateways → Shows (after_end views (hands.Upload place) made end) gateways
-upload_shows script views ulid place stop gateways made (Some end) shows = shows
-upload_shows script views ulid place stop gateways made None shows = shows
-
-pub upload_step : (script : Script) (seat : Hand → ℕ) (place : ℕ) (task : Task) (views : Views) (gateways : List Gateway) (old new : List Entry) (came : Came) (ulid : ℕ) (stop : Option ℕ) (block : Block)
-    → task.work ≡ works.Upload ulid stop → declared script ulid ≡ Some block
-    → (end : Option End) × Adds (BlockUpload block stop) (seat (hands.Upload place)) old new end came × CameBy (works.Upload ulid stop) end came → Shows views gateways
-    → TaskStep script seat place task views gateways old new came
+pub upload_step : (setting : Setting) (seat : Hand → ℕ) (place : ℕ) (task : Task) (views : Holdings) (gateways : List Gateway) (old new : List Entry) (came : Came) (ulid : ℕ) (stop : Option ℕ) (block : Block)
+    → task.work ≡ works.Upload ulid stop → declared setting.script ulid ≡ Some block
+    → (end : Option End) × Adds (BlockUpload setting block stop) (seat (hands.Upload place)) old new end came × CameBy (works.Upload ulid stop) end came → Shows views gateways
+    → TaskStep setting seat place task views gateways old new came
 unfolding hands_of_task
-upload_step script seat place task views gateways old new came ulid stop block w is ran shows =
-    one_step script seat place task (hands.Upload place) views gateways old new (BlockUpload block stop) ran.0 came
-    (one_duty script place task (hands.Upload place) (ap (hands_of_task (gateway_count script.gateways) place) w)) ran.1
-    (λ made e run. subst (λ (x : Work). TaskRun script None x made e) (sym w) (block, is, run))
-    (upload_shows script views ulid place stop gateways (ran.1).made ran.0 shows) (subst (λ (x : Work). CameBy x ran.0 came) (sym w) ran.2)
+upload_step setting seat place task views gateways old new came ulid stop block w is ran shows =
+    let who = who_does seat (hands.Upload place) in
+    let runs : (made : List Entry) (e : Option End) → BlockUpload setting block stop made e → TaskRun setting who place task.work nothing_held made e nothing_held =
+    λ made e run. subst (λ (x : Work). TaskRun setting who place x nothing_held made e nothing_held) (sym w) ((block, is, run), refl) in
+    one_step setting seat place task (hands.Upload place) views gateways old new (BlockUpload setting block stop) ran.0 nothing_held came
+    (one_duty setting place task (hands.Upload place) (ap (hands_of_task (gateway_count setting.script.gateways) place) w)) ran.1
+    (runs (ran.1).made ran.0 (ran.1).run) (λ made e run. (nothing_held, runs made e run)) shows (subst (λ (x : Work). CameBy x ran.0 came) (sym w) ran.2)
 
 -- ---- a sync
 
-view_told : (views : Views) (number : ℕ) (made : List Entry) (end : SyncEnd) (before : Option View) → option_map (λ (used : Use). used.view) (views number) ≡ before
-    → option_map (λ (used : Use). used.view) (view_after (views number) made (synced end)) ≡ view_by before (Some end)
-view_told views number made (fetched.View view) before is = refl
-view_told views number made (fetched.Fault entry) before is = is
-view_told views number made (fetched.Damaged entry) before is = is
-view_told views number made fetched.TooMany before is = is
+view_told : (views : Holdings) (number : ℕ) (made : List Entry) (end : Option SyncEnd) (before : Option View) → option_map (λ (used : Use). used.view) (views number).used ≡ before
+    → option_map (λ (used : Use). used.view) (synced_with (views number) made end).used ≡ view_by before end
+view_told views number made (Some (fetched.View view)) before is = refl
+view_told views number made (Some (fetched.Fault entry)) before is = is
+view_told views number made (Some (fetched.Damaged entry)) before is = is
+view_told views number made (Some fetched.TooMany) before is = is
+view_told views number made None before is = is
 
 get_same : {X : Type 0} (xs : List X) (i : ℕ) (a x : X) → slice_get (set xs i a) i ≡ Some x → a ≡ x
 get_same [] i a x at = absurd (cc (at))
@@ -154,94 +156,78 @@ get_other (y ∷ ys) zero (suc j) a differ = refl
 get_other (y ∷ ys) (suc i) zero a differ = refl
 get_other (y ∷ ys) (suc i) (suc j) a differ = get_other ys i j a (λ e. differ (ap suc e))
 
-shows_at : (views : Views) (number : ℕ) (used : Option Use) (gateways : List Gateway) (gateway : Gateway) (place : ℕ) (x : Gateway) (b : Bool) → (place == number) ≡ b → Shows views gateways
-    → option_map (λ (u : Use). u.view) used ≡ gateway.view → slice_get (set gateways number gateway) place ≡ Some x → option_map (λ (u : Use). u.view) (with_view views (Some number) used place) ≡ x.view
-shows_at views number used gateways gateway place x true e shows is at =
+shows_at : (views : Holdings) (number : ℕ) (held : Holding) (gateways : List Gateway) (gateway : Gateway) (place : ℕ) (x : Gateway) (b : Bool) → (place == number) ≡ b → Shows views gateways
+    → option_map (λ (u : Use). u.view) held.used ≡ gateway.view → slice_get (set gateways number gateway) place ≡ Some x → option_map (λ (u : Use). u.view) (with_holding views (Some number) held place).used ≡ x.view
+shows_at views number held gateways gateway place x true e shows is at =
     let same : place ≡ number = grind (arith, nat_tests) in
     let own : gateway ≡ x = get_same gateways number gateway x (subst (λ (p : ℕ). slice_get (set gateways number gateway) p ≡ Some x) same at) in
     rw e (is ∙ ap (λ (g : Gateway). g.view) own)
-shows_at views number used gateways gateway place x false e shows is at =
+shows_at views number held gateways gateway place x false e shows is at =
     let differ : place ≢ number = λ q. absurd (grind (arith, nat_tests, q, e)) in
     rw e (shows place x (sym (get_other gateways number place gateway differ) ∙ at))
 
 -- a gateway that has a view from now on
-set_shows : (views : Views) (number : ℕ) (used : Option Use) (gateways : List Gateway) (gateway : Gateway) → Shows views gateways → option_map (λ (u : Use). u.view) used ≡ gateway.view
-    → Shows (with_view views (Some number) used) (set gateways number gateway)
-set_shows views number used gateways gateway shows is = λ place x at. shows_at views number used gateways gateway place x (place == number) refl shows is at
+set_shows : (views : Holdings) (number : ℕ) (held : Holding) (gateways : List Gateway) (gateway : Gateway) → Shows views gateways → option_map (λ (u : Use). u.view) held.used ≡ gateway.view
+    → Shows (with_holding views (Some number) held) (set gateways number gateway)
+set_shows views number held gateways gateway shows is = λ place x at. shows_at views number held gateways gateway place x (place == number) refl shows is at
 
-kept_at : (views : Views) (number : ℕ) (gateways : List Gateway) (gateway : Gateway) (place : ℕ) (x : Gateway) (b : Bool) → (place == number) ≡ b → Shows views gateways
-    → option_map (λ (u : Use). u.view) (views number) ≡ gateway.view → slice_get (set gateways number gateway) place ≡ Some x → option_map (λ (u : Use). u.view) (views place) ≡ x.view
-kept_at views number gateways gateway place x true e shows is at =
-    let same : place ≡ number = grind (arith, nat_tests) in
-    let own : gateway ≡ x = get_same gateways number gateway x (subst (λ (p : ℕ). slice_get (set gateways number gateway) p ≡ Some x) same at) in
-    ap (λ (p : ℕ). option_map (λ (u : Use). u.view) (views p)) same ∙ is ∙ ap (λ (g : Gateway). g.view) own
-kept_at views number gateways gateway place x false e shows is at =
-    let differ : place ≢ number = λ q. absurd (grind (arith, nat_tests, q, e)) in
-    shows place x (sym (get_other gateways number place gateway differ) ∙ at)
-
-kept_shows : (views : Views) (number : ℕ) (gateways : List Gateway) (gateway : Gateway) → Shows views gateways → option_map (λ (u : Use). u.view) (views number) ≡ gateway.view
-    → Shows views (set gateways number gateway)
-kept_shows views number gateways gateway shows is = λ place x at. kept_at views number gateways gateway place x (place == number) refl shows is at
-
-sync_shows : (views : Views) (number : ℕ) (made : List Entry) (end : Option SyncEnd) (gateways : List Gateway) (old gateway : Gateway) → Shows views gateways → slice_get gateways number ≡ Some old
-    → gateway.view ≡ view_by old.view end → Shows (after_end views (hands.Gateway number) made (option_map synced end)) (set gateways number gateway)
-sync_shows views number made (Some end) gateways old gateway shows at is =
-    set_shows views number (view_after (views number) made (synced end)) gateways gateway shows (view_told views number made end old.view (shows number old at) ∙ sym is)
-sync_shows views number made None gateways old gateway shows at is = kept_shows views number gateways gateway shows (shows number old at ∙ sym is)
-
-pub sync_step : (script : Script) (seat : Hand → ℕ) (place : ℕ) (task : Task) (views : Views) (gateways : List Gateway) (old new : List Entry) (came : Came) (number : ℕ) (before gateway : Gateway)
+pub sync_step : (setting : Setting) (seat : Hand → ℕ) (place : ℕ) (task : Task) (views : Holdings) (gateways : List Gateway) (old new : List Entry) (came : Came) (number : ℕ) (before gateway : Gateway)
     → task.work ≡ works.Sync number → slice_get gateways number ≡ Some before
-    → (end : Option SyncEnd) × Adds (SyncRun (sync_rules script.rules)) (seat (hands.Gateway number)) old new end came × CameBy (works.Sync number) (option_map synced end) came × (gateway.view ≡ view_by before.view end)
-    → Shows views gateways → TaskStep script seat place task views (set gateways number gateway) old new came
+    → (end : Option SyncEnd) × Adds (SyncRun (sync_rules setting number)) (seat (hands.Gateway number)) old new end came × CameBy (works.Sync number) (option_map synced end) came × (gateway.view ≡ view_by before.view end)
+    → Shows views gateways → TaskStep setting seat place task views (set gateways number gateway) old new came
 unfolding hands_of_task
-sync_step script seat place task views gateways old new came number before gateway w at ran shows =
+sync_step setting seat place task views gateways old new came number before gateway w at ran shows =
     let a = ran.1 in
-    one_step script seat place task (hands.Gateway number) views (set gateways number gateway) old new (λ made end. (own : Option SyncEnd) × SyncRun (sync_rules script.rules) made own × (end ≡ option_map synced own)) (option_map synced ran.0) came
-    (one_duty script place task (hands.Gateway number) (ap (hands_of_task (gateway_count script.gateways) place) w))
+    let who = who_does seat (hands.Gateway number) in
+    let Syncs : List Entry → Option End → Type 0 = λ made end. (own : Option SyncEnd) × SyncRun (sync_rules setting number) made own × (end ≡ option_map synced own) in
+    let held = synced_with (views number) a.made ran.0 in
+    one_step setting seat place task (hands.Gateway number) views (set gateways number gateway) old new Syncs (option_map synced ran.0) held came
+    (one_duty setting place task (hands.Gateway number) (ap (hands_of_task (gateway_count setting.script.gateways) place) w))
     (record {
       made = a.made;
       entries = a.entries;
       seats = a.seats;
       run = (ran.0, a.run, refl);
-      due = when_full came (IsDueAfter (SyncRun (sync_rules script.rules)) (seat (hands.Gateway number)) a.made) (IsDueAfter (SyncTask script) (seat (hands.Gateway number)) a.made)
-          (due_by (SyncRun (sync_rules script.rules)) (SyncTask script) (seat (hands.Gateway number)) a.made (λ es end run. (option_map synced end, (end, run, refl)))) a.due;
+      due = when_full came (IsDueAfter (SyncRun (sync_rules setting number)) (seat (hands.Gateway number)) a.made) (IsDueAfter Syncs (seat (hands.Gateway number)) a.made)
+          (due_by (SyncRun (sync_rules setting number)) Syncs (seat (hands.Gateway number)) a.made (λ es end run. (option_map synced end, (end, run, refl)))) a.due;
     })
-    (λ made e run. subst (λ (x : Work). TaskRun script (views number) x made e) (sym w) run)
-    (sync_shows views number a.made ran.0 gateways before gateway shows at ran.3) (subst (λ (x : Work). CameBy x (option_map synced ran.0) came) (sym w) ran.2)
+    (subst (λ (x : Work). TaskRun setting who place x (views number) a.made (option_map synced ran.0) held) (sym w) (ran.0, a.run, refl, refl))
+    (λ made e run. (synced_with (views number) made run.0, subst (λ (x : Work). TaskRun setting who place x (views number) made e (synced_with (views number) made run.0)) (sym w) (run.0, run.1, run.2, refl)))
+    (set_shows views number held gateways gateway shows (view_told views number a.made ran.0 before.view (shows number before at) ∙ sym ran.3)) (subst (λ (x : Work). CameBy x (option_map synced ran.0) came) (sym w) ran.2)
 
 -- ---- a query
 
-asked_is : (script : Script) (selector : ℕ) (low high : ℤ) (matchers : List Matcher) → slice_get script.selectors selector ≡ Some matchers → asked_by script selector low high ≡ Some (asking matchers script.rules.replicas low high)
-asked_is script selector low high matchers at = ap (λ o. option_map (λ (m : List Matcher). asking m script.rules.replicas low high) o) at
+asked_is : (setting : Setting) (gateway : Option ℕ) (selector : ℕ) (low high : ℤ) (matchers : List Matcher) → slice_get setting.script.selectors selector ≡ Some matchers → asked_by setting gateway selector low high ≡ Some (asking matchers setting.script.rules.replicas low high)
+asked_is setting gateway selector low high matchers at = ap (λ o. option_map (λ (m : List Matcher). asking m setting.script.rules.replicas low high) o) at
 
-no_gateway : (script : Script) (place : ℕ) (task : Task) (low high : ℤ) (selector : ℕ) → task.work ≡ works.Query low high selector → gateway_count script.gateways ≡ 0 → duties_at script place (task ∷ []) ≡ []
+no_gateway : (setting : Setting) (place : ℕ) (task : Task) (low high : ℤ) (selector : ℕ) → task.work ≡ works.Query low high selector → gateway_count setting.script.gateways ≡ 0 → duties_at setting place (task ∷ []) ≡ []
 unfolding duties_from hands_of_task
-no_gateway script place task low high selector w none =
-    ap (λ x. map (λ h. record { place = place; hand = h; task = task }) (hands_of_task (gateway_count script.gateways) place x) ++ []) w
+no_gateway setting place task low high selector w none =
+    ap (λ x. map (λ h. record { place = place; hand = h; task = task }) (hands_of_task (gateway_count setting.script.gateways) place x) ++ []) w
     ∙ ap (λ n. map (λ h. record { place = place; hand = h; task = task }) (map hands.Gateway (range_with_len 0 n)) ++ []) none
 
 -- without a gateway a query answers nothing
-pub unasked_step : (script : Script) (seat : Hand → ℕ) (place : ℕ) (task : Task) (views : Views) (gateways : List Gateway) (journal : List Entry) (low high : ℤ) (selector : ℕ)
-    → task.work ≡ works.Query low high selector → gateway_count script.gateways ≡ 0 → Shows views gateways
-    → TaskStep script seat place task views gateways journal journal (Ok (outcome.Query (query.Answer [] [])))
-unasked_step script seat place task views gateways journal low high selector w none shows =
-    let are = no_gateway script place task low high selector w none in
+pub unasked_step : (setting : Setting) (seat : Hand → ℕ) (place : ℕ) (task : Task) (views : Holdings) (gateways : List Gateway) (journal : List Entry) (low high : ℤ) (selector : ℕ)
+    → task.work ≡ works.Query low high selector → gateway_count setting.script.gateways ≡ 0 → Shows views gateways
+    → TaskStep setting seat place task views gateways journal journal (Ok (outcome.Query (query.Answer [] [])))
+unasked_step setting seat place task views gateways journal low high selector w none shows =
+    let are = no_gateway setting place task low high selector w none in
     record {
       made = [];
       entries = sym (append-nil journal);
       ends = [];
       after = views;
-      run = subst (λ (ds : List Duty). InLine script seat views ds [] [] views) (sym are) (refl, refl, refl);
+      run = subst (λ (ds : List Duty). InLine setting seat views ds [] [] views) (sym are) (refl, refl, refl);
       shows = shows;
       whole = (sym (ap (length {A = Duty}) are), subst (λ (x : Work). IsOutcome x [] (outcome.Query (query.Answer [] []))) (sym w) refl);
       due = tt;
     }
 
-one_asked : (script : Script) (place : ℕ) (task : Task) (low high : ℤ) (selector : ℕ) → task.work ≡ works.Query low high selector → gateway_count script.gateways ≡ 1
-    → duties_at script place (task ∷ []) ≡ record { place = place; hand = hands.Gateway 0; task = task } ∷ []
+one_asked : (setting : Setting) (place : ℕ) (task : Task) (low high : ℤ) (selector : ℕ) → task.work ≡ works.Query low high selector → gateway_count setting.script.gateways ≡ 1
+    → duties_at setting place (task ∷ []) ≡ record { place = place; hand = hands.Gateway 0; task = task } ∷ []
 unfolding duties_from hands_of_task
-one_asked script place task low high selector w one =
-    ap (λ x. map (λ h. record { place = place; hand = h; task = task }) (hands_of_task (gateway_count script.gateways) place x) ++ []) w
+one_asked setting place task low high selector w one =
+    ap (λ x. map (λ h. record { place = place; hand = h; task = task }) (hands_of_task (gateway_count setting.script.gateways) place x) ++ []) w
     ∙ ap (λ n. map (λ h. record { place = place; hand = h; task = task }) (map hands.Gateway (range_with_len 0 n)) ++ []) one
 
 no_view : (used : Option Use) → option_map (λ (u : Use). u.view) used ≡ None → used ≡ None
@@ -252,57 +238,55 @@ a_view : (used : Option Use) (view : View) → option_map (λ (u : Use). u.view)
 a_view None view is = absurd (cc (is))
 a_view (Some used) view is = (used, refl, cc (is))
 
-kept_query : (views : Views) (used : Option Use) (gateways : List Gateway) (place : ℕ) (x : Gateway) (b : Bool) → (place == 0) ≡ b → used ≡ views 0 → Shows views gateways → slice_get gateways place ≡ Some x
-    → option_map (λ (u : Use). u.view) (with_view views (Some 0) used place) ≡ x.view
-kept_query views used gateways place x true e is shows at =
-    let same : place ≡ 0 = grind (arith, nat_tests) in
-    rw e (ap (λ o. option_map (λ (u : Use). u.view) o) (is ∙ ap views (sym same)) ∙ shows place x at)
-kept_query views used gateways place x false e is shows at = rw e (shows place x at)
+-- a gateway that holds what it held shows what it showed
+kept_query : (views : Holdings) (gateways : List Gateway) → Shows views gateways → Shows (with_holding views (Some 0) (views 0)) gateways
+kept_query views gateways shows = subst (λ (v : Holdings). Shows v gateways) (same_holdings views (Some 0)) shows
 
-kept_after : (script : Script) (views : Views) (made : List Entry) (end : Option End) → ((e : End) → end ≡ Some e → view_after (views 0) made e ≡ views 0) → (gateways : List Gateway) → Shows views gateways
-    → Shows (after_end views (hands.Gateway 0) made end) gateways
-kept_after script views made None keeps gateways shows = shows
-kept_after script views made (Some e) keeps gateways shows = λ place x at. kept_query views (view_after (views 0) made e) gateways place x (place == 0) refl (keeps e refl) shows at
-
-pub blind_step : (script : Script) (seat : Hand → ℕ) (place : ℕ) (task : Task) (views : Views) (gateways : List Gateway) (journal : List Entry) (low high : ℤ) (selector : ℕ) (gateway : Gateway)
-    → task.work ≡ works.Query low high selector → gateway_count script.gateways ≡ 1 → slice_get gateways 0 ≡ Some gateway → gateway.view ≡ None → Shows views gateways
-    → TaskStep script seat place task views gateways journal journal (Ok (outcome.Query (query.NoAnswer 0 none.NoView)))
-blind_step script seat place task views gateways journal low high selector gateway w one at blind shows =
-    let unseen : views 0 ≡ None = no_view (views 0) (shows 0 gateway at ∙ blind) in
-    let a : Adds (λ made end. (made ≡ []) × (end ≡ Some without_view)) (seat (hands.Gateway 0)) journal journal (Some without_view) (Ok (outcome.Query (query.NoAnswer 0 none.NoView))) =
+pub blind_step : (setting : Setting) (seat : Hand → ℕ) (place : ℕ) (task : Task) (views : Holdings) (gateways : List Gateway) (journal : List Entry) (low high : ℤ) (selector : ℕ) (gateway : Gateway)
+    → task.work ≡ works.Query low high selector → gateway_count setting.script.gateways ≡ 1 → slice_get gateways 0 ≡ Some gateway → gateway.view ≡ None → Shows views gateways
+    → TaskStep setting seat place task views gateways journal journal (Ok (outcome.Query (query.NoAnswer 0 none.NoView)))
+blind_step setting seat place task views gateways journal low high selector gateway w one at blind shows =
+    let who = who_does seat (hands.Gateway 0) in
+    let unseen : (views 0).used ≡ None = no_view (views 0).used (shows 0 gateway at ∙ blind) in
+    let Nothing : List Entry → Option End → Type 0 = λ made end. (made ≡ []) × (end ≡ Some without_view) in
+    let a : Adds Nothing (seat (hands.Gateway 0)) journal journal (Some without_view) (Ok (outcome.Query (query.NoAnswer 0 none.NoView))) =
     record { made = []; entries = sym (append-nil journal); seats = All-nil (λ e. e.seat ≡ seat (hands.Gateway 0)); run = (refl, refl); due = tt } in
-    one_step script seat place task (hands.Gateway 0) views gateways journal journal (λ made end. (made ≡ []) × (end ≡ Some without_view)) (Some without_view) (Ok (outcome.Query (query.NoAnswer 0 none.NoView)))
-    (one_asked script place task low high selector w one) a
-    (λ made e run. subst (λ (x : Work). TaskRun script (views 0) x made e) (sym w) (subst (λ (v : Option Use). TaskRun script v (works.Query low high selector) made e) (sym unseen) (run.0, inr run.1)))
-    (kept_after script views [] (Some without_view) (λ e is. let q : without_view ≡ e = cc (is) in ap (view_after (views 0) []) (sym q)) gateways shows)
+    let runs : (made : List Entry) (e : Option End) → Nothing made e → TaskRun setting who place task.work (views 0) made e (views 0) =
+    λ made e run. subst (λ (x : Work). TaskRun setting who place x (views 0) made e (views 0)) (sym w)
+    (subst (λ (v : Option Use). QueryTask v (asked_by setting (Some 0) selector low high) made e) (sym unseen) (run.0, inr run.1), refl) in
+    one_step setting seat place task (hands.Gateway 0) views gateways journal journal Nothing (Some without_view) (views 0) (Ok (outcome.Query (query.NoAnswer 0 none.NoView)))
+    (one_asked setting place task low high selector w one) a (runs [] (Some without_view) (refl, refl)) (λ made e run. (views 0, runs made e run))
+    (kept_query views gateways shows)
     (subst (λ (x : Work). CameBy x (Some without_view) (Ok (outcome.Query (query.NoAnswer 0 none.NoView)))) (sym w) refl)
 
-answered_keeps : (view : Option Use) (made : List Entry) (used : Use) (own : Option SeriesEnd) (e : End) → option_map (answered used) own ≡ Some e → view_after view made e ≡ view
-answered_keeps view made used None e is = absurd (cc (is))
-answered_keeps view made used (Some own) e is = let q : answered used own ≡ e = cc (is) in ap (view_after view made) (sym q)
+call_run : (setting : Setting) (who : Who) (place : ℕ) (used : Use) (held : Holding) (view : View) (low high : ℤ) (selector : ℕ) (matchers : List Matcher) (made : List Entry) (end : Option End) → held.used ≡ Some used → used.view ≡ view
+    → slice_get setting.script.selectors selector ≡ Some matchers → (own : Option SeriesEnd) × SeriesRun view (asking matchers setting.script.rules.replicas low high) made own × (end ≡ option_map (answered used) own)
+    → TaskRun setting who place (works.Query low high selector) held made end held
+call_run setting who place used held view low high selector matchers made end is same asked run =
+    let asks = asked_is setting who.gateway selector low high matchers asked in (
+      subst (λ (v : Option Use). QueryTask v (asked_by setting who.gateway selector low high) made end) (sym is)
+          (subst (λ (q : Option Question). QueryTask (Some used) q made end) (sym asks)
+          (run.0, subst (λ (v : View). SeriesRun v (asking matchers setting.script.rules.replicas low high) made run.0) (sym same) run.1, run.2)),
+      refl,
+    )
 
-call_run : (script : Script) (used : Use) (seen : Option Use) (view : View) (low high : ℤ) (selector : ℕ) (matchers : List Matcher) (made : List Entry) (end : Option End) → seen ≡ Some used → used.view ≡ view
-    → slice_get script.selectors selector ≡ Some matchers → (own : Option SeriesEnd) × SeriesRun view (asking matchers script.rules.replicas low high) made own × (end ≡ option_map (answered used) own)
-    → TaskRun script seen (works.Query low high selector) made end
-call_run script used seen view low high selector matchers made end is same asked run =
-    let asks = asked_is script selector low high matchers asked in
-    subst (λ (v : Option Use). TaskRun script v (works.Query low high selector) made end) (sym is)
-    (subst (λ (q : Option Question). QueryTask script (Some used) q made end) (sym asks)
-    (run.0, subst (λ (v : View). SeriesRun v (asking matchers script.rules.replicas low high) made run.0) (sym same) run.1, run.2))
-
-pub call_step : (script : Script) (seat : Hand → ℕ) (place : ℕ) (task : Task) (views : Views) (gateways : List Gateway) (old new : List Entry) (came : Came) (low high : ℤ) (selector : ℕ) (matchers : List Matcher) (gateway : Gateway) (view : View)
-    → task.work ≡ works.Query low high selector → gateway_count script.gateways ≡ 1 → slice_get gateways 0 ≡ Some gateway → gateway.view ≡ Some view → slice_get script.selectors selector ≡ Some matchers
-    → ((used : Use) (low' high' : ℤ) (selector' : ℕ) → (end : Option SeriesEnd) × Adds (SeriesRun view (asking matchers script.rules.replicas low high)) (seat (hands.Gateway 0)) old new end came
+pub call_step : (setting : Setting) (seat : Hand → ℕ) (place : ℕ) (task : Task) (views : Holdings) (gateways : List Gateway) (old new : List Entry) (came : Came) (low high : ℤ) (selector : ℕ) (matchers : List Matcher) (gateway : Gateway) (view : View)
+    → task.work ≡ works.Query low high selector → gateway_count setting.script.gateways ≡ 1 → slice_get gateways 0 ≡ Some gateway → gateway.view ≡ Some view → slice_get setting.script.selectors selector ≡ Some matchers
+    → ((used : Use) (low' high' : ℤ) (selector' : ℕ) → (end : Option SeriesEnd) × Adds (SeriesRun view (asking matchers setting.script.rules.replicas low high)) (seat (hands.Gateway 0)) old new end came
     × CameBy (works.Query low' high' selector') (option_map (answered used) end) came)
-    → Shows views gateways → TaskStep script seat place task views gateways old new came
-call_step script seat place task views gateways old new came low high selector matchers gateway view w one at sees asked ran shows =
-    let seen = a_view (views 0) view (shows 0 gateway at ∙ sees) in
+    → Shows views gateways → TaskStep setting seat place task views gateways old new came
+call_step setting seat place task views gateways old new came low high selector matchers gateway view w one at sees asked ran shows =
+    let who = who_does seat (hands.Gateway 0) in
+    let seen = a_view (views 0).used view (shows 0 gateway at ∙ sees) in
     let r = ran seen.0 low high selector in
     let a = r.1 in
-    let Calls : List Entry → Option SeriesEnd → Type 0 = SeriesRun view (asking matchers script.rules.replicas low high) in
+    let Calls : List Entry → Option SeriesEnd → Type 0 = SeriesRun view (asking matchers setting.script.rules.replicas low high) in
     let Asks : List Entry → Option End → Type 0 = λ made end. (own : Option SeriesEnd) × Calls made own × (end ≡ option_map (answered seen.0) own) in
-    one_step script seat place task (hands.Gateway 0) views gateways old new Asks (option_map (answered seen.0) r.0) came
-    (one_asked script place task low high selector w one)
+    let runs : (made : List Entry) (e : Option End) → Asks made e → TaskRun setting who place task.work (views 0) made e (views 0) =
+    λ made e run. subst (λ (x : Work). TaskRun setting who place x (views 0) made e (views 0)) (sym w)
+    (call_run setting who place seen.0 (views 0) view low high selector matchers made e seen.1 seen.2 asked run) in
+    one_step setting seat place task (hands.Gateway 0) views gateways old new Asks (option_map (answered seen.0) r.0) (views 0) came
+    (one_asked setting place task low high selector w one)
     (record {
       made = a.made;
       entries = a.entries;
@@ -311,9 +295,8 @@ call_step script seat place task views gateways old new came low high selector m
       due = when_full came (IsDueAfter Calls (seat (hands.Gateway 0)) a.made) (IsDueAfter Asks (seat (hands.Gateway 0)) a.made)
           (due_by Calls Asks (seat (hands.Gateway 0)) a.made (λ es end run. (option_map (answered seen.0) end, (end, run, refl)))) a.due;
     })
-    (λ made e run. subst (λ (x : Work). TaskRun script (views 0) x made e) (sym w)
-    (call_run script seen.0 (views 0) view low high selector matchers made e seen.1 seen.2 asked run))
-    (kept_after script views a.made (option_map (answered seen.0) r.0) (λ e is. answered_keeps (views 0) a.made seen.0 r.0 e is) gateways shows)
+    (runs a.made (option_map (answered seen.0) r.0) (r.0, a.run, refl)) (λ made e run. (views 0, runs made e run))
+    (kept_query views gateways shows)
     (subst (λ (x : Work). CameBy x (option_map (answered seen.0) r.0) came) (sym w) r.2)
 
 -- ---- the one gateway of a list
@@ -322,19 +305,19 @@ pub first_of_none : (gateways : List Gateway) → slice_get gateways 0 ≡ None 
 first_of_none [] none = refl
 first_of_none (g ∷ gs) none = absurd (cc (none))
 
-pub no_count : (script : Script) (gateways : List Gateway) → length gateways ≡ length script.gateways → length gateways ≡ 0 → gateway_count script.gateways ≡ 0
-no_count script gateways same none = omega (arith, same, none)
+pub no_count : (setting : Setting) (gateways : List Gateway) → length gateways ≡ length setting.script.gateways → length gateways ≡ 0 → gateway_count setting.script.gateways ≡ 0
+no_count setting gateways same none = omega (arith, same, none)
 
-pub one_count : (script : Script) (gateways : List Gateway) (gateway : Gateway) → length script.gateways ≤ 1 → length gateways ≡ length script.gateways → slice_get gateways 0 ≡ Some gateway → gateway_count script.gateways ≡ 1
-one_count script [] gateway few same at = absurd (cc (at))
-one_count script (g ∷ gs) gateway few same at = omega (arith, few, same)
+pub one_count : (setting : Setting) (gateways : List Gateway) (gateway : Gateway) → length setting.script.gateways ≤ 1 → length gateways ≡ length setting.script.gateways → slice_get gateways 0 ≡ Some gateway → gateway_count setting.script.gateways ≡ 1
+one_count setting [] gateway few same at = absurd (cc (at))
+one_count setting (g ∷ gs) gateway few same at = omega (arith, few, same)
 
 -- an answer of nothing is one
-pub answered_nothing : (script : Script) (seat : Hand → ℕ) (place : ℕ) (task : Task) (views : Views) (gateways : List Gateway) (journal : List Entry) (series : List Series) (sources : List ℕ) → series ≡ [] → sources ≡ []
-    → TaskStep script seat place task views gateways journal journal (Ok (outcome.Query (query.Answer [] []))) → TaskStep script seat place task views gateways journal journal (Ok (outcome.Query (query.Answer series sources)))
-answered_nothing script seat place task views gateways journal series sources one other step =
-    subst (λ (s : List Series). TaskStep script seat place task views gateways journal journal (Ok (outcome.Query (query.Answer s sources)))) (sym one)
-    (subst (λ (s : List ℕ). TaskStep script seat place task views gateways journal journal (Ok (outcome.Query (query.Answer [] s)))) (sym other) step)
+pub answered_nothing : (setting : Setting) (seat : Hand → ℕ) (place : ℕ) (task : Task) (views : Holdings) (gateways : List Gateway) (journal : List Entry) (series : List Series) (sources : List ℕ) → series ≡ [] → sources ≡ []
+    → TaskStep setting seat place task views gateways journal journal (Ok (outcome.Query (query.Answer [] []))) → TaskStep setting seat place task views gateways journal journal (Ok (outcome.Query (query.Answer series sources)))
+answered_nothing setting seat place task views gateways journal series sources one other step =
+    subst (λ (s : List Series). TaskStep setting seat place task views gateways journal journal (Ok (outcome.Query (query.Answer s sources)))) (sym one)
+    (subst (λ (s : List ℕ). TaskStep setting seat place task views gateways journal journal (Ok (outcome.Query (query.Answer [] s)))) (sym other) step)
 
 -- numbers that were passed on are the same
 pub asked_told : (view : View) (matchers : List Matcher) (replicas : List (List ℕ)) (low low' high high' : ℤ) (seat seat' : ℕ) (old new : List Entry) (used : Use) (line_low line_high : ℤ) (number : ℕ) (came : Came) → low ≡ low' → high ≡ high' → seat ≡ seat'
@@ -355,10 +338,10 @@ upto_range low high one other = omega (arith, ints, one, other)
 pub from_range : (low high : ℤ) → neg_ℤ (pos (2 ^ 62)) ≤ℤ low → low ≤ℤ high → neg_ℤ (pos (2 ^ 62)) ≤ℤ high
 from_range low high one other = omega (arith, ints, one, other)
 
-pub query_told : (script : Script) (seat : Hand → ℕ) (place : ℕ) (task : Task) (views : Views) (shown gateways : List Gateway) (old new : List Entry) (came : Came) (low low' high high' : ℤ) (number : ℕ) → low ≡ low' → high ≡ high'
+pub query_told : (setting : Setting) (seat : Hand → ℕ) (place : ℕ) (task : Task) (views : Holdings) (shown gateways : List Gateway) (old new : List Entry) (came : Came) (low low' high high' : ℤ) (number : ℕ) → low ≡ low' → high ≡ high'
     → task.work ≡ works.Query low' high' number → shown ≡ gateways
-    → TaskStep script seat place (record { line = task.line; work = works.Query low high number }) views shown old new came → TaskStep script seat place task views gateways old new came
-query_told script seat place task views shown gateways old new came low low' high high' number l h w same step =
+    → TaskStep setting seat place (record { line = task.line; work = works.Query low high number }) views shown old new came → TaskStep setting seat place task views gateways old new came
+query_told setting seat place task views shown gateways old new came low low' high high' number l h w same step =
     let work : works.Query low high number ≡ task.work = ap (λ x. works.Query x high number) l ∙ ap (λ y. works.Query low' y number) h ∙ sym w in
-    subst (λ (gs : List Gateway). TaskStep script seat place task views gs old new came) same
-    (subst (λ (x : Work). TaskStep script seat place (record { line = task.line; work = x }) views shown old new came) work step)
+    subst (λ (gs : List Gateway). TaskStep setting seat place task views gs old new came) same
+    (subst (λ (x : Work). TaskStep setting seat place (record { line = task.line; work = x }) views shown old new came) work step)

@@ -3,7 +3,6 @@ use Rattle.std.proofs.Common.{◌≡◌, ℕ, ℤ, List, [], ◌∷◌, ◌++◌
 use Rattle.std.specs.Prelude.{Option, None, option_map, Err}
 use Rattle.std.proofs.lemmas.List.{append-nil}
 use Rattle.std.proofs.lemmas.List.Elements.{All-nil}
-use Rattle.moment_core.specs.declared.rules.Rules.{Rules}
 use Rattle.world_core.specs.Machines.{Awaits, Drives, end_of}
 use Rattle.world_core.specs.Operations.{entry_of}
 use Rattle.world_core.specs.declared.driven.Driven.{Driven}
@@ -18,8 +17,9 @@ use Rattle.world_core.proofs.PlanLaws.{breaks_off}
 use Rattle.store_gateway.specs.declared.series_end.SeriesEnd.{SeriesEnd}
 use Rattle.script_workers.specs.declared.work.Work.{Work}
 use Rattle.script_workers.specs.declared.work.Work.TheVariants as works
+use Rattle.lifecycle_core.specs.Holdings.{Use}
+use Rattle.lifecycle_core.specs.Setting.{Setting}
 use Rattle.lifecycle_core.specs.Tasks.{End, answered, sync_rules, synced}
-use Rattle.lifecycle_core.specs.Views.{Use}
 use Rattle.replay_cli.specs.Drives.{Came, came_by, driven_end}
 use Rattle.replay_cli.specs.Outcomes.{IsOutcome}
 use Rattle.replay_cli.specs.Progress.{Adds, CameBy, IsDueAfter, WhenFull, view_by}
@@ -61,9 +61,9 @@ driven_told is_run other seat driven old new work as_end out came c is runs d =
     (adds is_run other seat None driven old new (came_by out (driven_end driven)) runs d (due is_run other seat d.made out driven runs d.waits), comes_by work as_end out driven is (never is_run seat driven old new d))
 
 -- where nothing was done
-pub nothing_synced : (rules : Rules) (seat : ℕ) (journal : List Entry) (view : Option View) (place : ℕ)
-    → (end : Option SyncEnd) × Adds (SyncRun (sync_rules rules)) seat journal journal end (Err broken.NoMemory) × CameBy (works.Sync place) (option_map synced end) (Err broken.NoMemory) × (view ≡ view_by view end)
-nothing_synced rules seat journal view place =
+pub nothing_synced : (setting : Setting) (seat : ℕ) (journal : List Entry) (view : Option View) (place : ℕ)
+    → (end : Option SyncEnd) × Adds (SyncRun (sync_rules setting place)) seat journal journal end (Err broken.NoMemory) × CameBy (works.Sync place) (option_map synced end) (Err broken.NoMemory) × (view ≡ view_by view end)
+nothing_synced setting seat journal view place =
     (None, record { made = []; entries = sym (append-nil journal); seats = All-nil (λ e. e.seat ≡ seat); run = refl; due = tt }, tt, refl)
 
 pub nothing_asked : (view : View) (asked : Question) (seat : ℕ) (journal : List Entry) (used : Use) (low high : ℤ) (selector : ℕ)

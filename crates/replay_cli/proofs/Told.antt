@@ -9,13 +9,13 @@ use Rattle.store_gateway.specs.declared.gateway.Gateway.{Gateway}
 use Rattle.script_workers.specs.Hands.{gateway_count, gateway_of, hands_of_task}
 use Rattle.script_core.specs.Lawful.{IsLawfulScript, IsLawfulWork}
 use Rattle.script_workers.specs.declared.hand.Hand.{Hand}
-use Rattle.script_core.specs.declared.script.Script.{Script}
 use Rattle.script_workers.specs.declared.task.Task.{Task}
 use Rattle.script_workers.specs.declared.worker.Worker.{Worker}
-use Rattle.lifecycle_core.specs.InLine.{Duty, duties_from, InLine}
-use Rattle.lifecycle_core.specs.Phases.{CameTo}
+use Rattle.lifecycle_core.specs.Conducts.{CameTo}
+use Rattle.lifecycle_core.specs.Holdings.{Holdings}
+use Rattle.lifecycle_core.specs.InLine.{Duty, InLine, duties_from}
+use Rattle.lifecycle_core.specs.Setting.{Setting}
 use Rattle.lifecycle_core.specs.Tasks.{End}
-use Rattle.lifecycle_core.specs.Views.{Views}
 use Rattle.lifecycle_core.proofs.phases.Joined.{both, cut, duties_begin, duties_more, duties_parts}
 use Rattle.lifecycle_core.proofs.phases.RunsInLine.{may_begin}
 use Rattle.lifecycle_core.proofs.phases.TaskRuns.{MayBegin}
@@ -31,21 +31,21 @@ use Rattle.replay_cli.specs.declared.outcome.Outcome.{Outcome}
 use Rattle.replay_cli.proofs.ReportLists.{all_append, report_append}
 
 -- one task more
-told_more : (script : Script) (place : ℕ) (tasks : List Task) (task : Task) (ends own : List End) (outcomes : List Outcome) (o : Outcome) → TasksTold script place tasks ends outcomes
-    → length own ≡ length (duties_at script (place + length tasks) (task ∷ [])) → IsOutcome task.work own o → TasksTold script place (tasks ++ task ∷ []) (ends ++ own) (outcomes ++ o ∷ [])
-told_more script place [] task ends own outcomes o told same is =
+told_more : (setting : Setting) (place : ℕ) (tasks : List Task) (task : Task) (ends own : List End) (outcomes : List Outcome) (o : Outcome) → TasksTold setting place tasks ends outcomes
+    → length own ≡ length (duties_at setting (place + length tasks) (task ∷ [])) → IsOutcome task.work own o → TasksTold setting place (tasks ++ task ∷ []) (ends ++ own) (outcomes ++ o ∷ [])
+told_more setting place [] task ends own outcomes o told same is =
     let at : place + length {A = Task} [] ≡ place = omega arith in (
       own,
       [],
       o,
       [],
       ap (λ (l : List End). l ++ own) told.0 ∙ sym (append-nil own),
-      same ∙ ap (λ n. length (duties_at script n (task ∷ []))) at,
+      same ∙ ap (λ n. length (duties_at setting n (task ∷ []))) at,
       is,
       ap (λ (l : List Outcome). l ++ o ∷ []) told.1,
       (refl, refl),
     )
-told_more script place (t ∷ tasks) task ends own outcomes o told same is =
+told_more setting place (t ∷ tasks) task ends own outcomes o told same is =
     let at : place + length (t ∷ tasks) ≡ place + 1 + length tasks = omega arith in (
       told.0,
       told.1 ++ own,
@@ -55,54 +55,54 @@ told_more script place (t ∷ tasks) task ends own outcomes o told same is =
       told.5,
       told.6,
       ap (λ (l : List Outcome). l ++ o ∷ []) told.7,
-      told_more script (place + 1) tasks task told.1 own told.3 o told.8 (same ∙ ap (λ n. length (duties_at script n (task ∷ []))) at) is,
+      told_more setting (place + 1) tasks task told.1 own told.3 o told.8 (same ∙ ap (λ n. length (duties_at setting n (task ∷ []))) at) is,
     )
 
-pub told_outcomes : (script : Script) (place : ℕ) (tasks : List Task) (ends : List End) (outcomes : List Outcome) → TasksTold script place tasks ends outcomes → length outcomes ≡ length tasks
-told_outcomes script place [] ends outcomes told = ap (length {A = Outcome}) told.1
-told_outcomes script place (t ∷ tasks) ends outcomes told = ap (length {A = Outcome}) told.7 ∙ ap suc (told_outcomes script (place + 1) tasks told.1 told.3 told.8)
+pub told_outcomes : (setting : Setting) (place : ℕ) (tasks : List Task) (ends : List End) (outcomes : List Outcome) → TasksTold setting place tasks ends outcomes → length outcomes ≡ length tasks
+told_outcomes setting place [] ends outcomes told = ap (length {A = Outcome}) told.1
+told_outcomes setting place (t ∷ tasks) ends outcomes told = ap (length {A = Outcome}) told.7 ∙ ap suc (told_outcomes setting (place + 1) tasks told.1 told.3 told.8)
 
 abbrev duties_by : ℕ → Task → List Hand → List Duty
 duties_by place task hs = map (λ hand. record { place = place; hand = hand; task = task }) hs
 
-first_length : (script : Script) (place : ℕ) (task : Task) → length (duties_at script place (task ∷ [])) ≡ length (hands_of_task (gateway_count script.gateways) place task.work)
+first_length : (setting : Setting) (place : ℕ) (task : Task) → length (duties_at setting place (task ∷ [])) ≡ length (hands_of_task (gateway_count setting.script.gateways) place task.work)
 unfolding duties_from
-first_length script place task =
-    let hs = hands_of_task (gateway_count script.gateways) place task.work in
+first_length setting place task =
+    let hs = hands_of_task (gateway_count setting.script.gateways) place task.work in
     ap (length {A = Duty}) (append-nil (duties_by place task hs)) ∙ length-map hs (λ hand. record { place = place; hand = hand; task = task })
 
-pub told_length : (script : Script) (place : ℕ) (tasks : List Task) (ends : List End) (outcomes : List Outcome) → TasksTold script place tasks ends outcomes → length ends ≡ length (duties_at script place tasks)
+pub told_length : (setting : Setting) (place : ℕ) (tasks : List Task) (ends : List End) (outcomes : List Outcome) → TasksTold setting place tasks ends outcomes → length ends ≡ length (duties_at setting place tasks)
 unfolding duties_from
-told_length script place [] ends outcomes told = ap (length {A = End}) told.0
-told_length script place (task ∷ tasks) ends outcomes told =
-    let hs = hands_of_task (gateway_count script.gateways) place task.work in
-    let rest = told_length script (place + 1) tasks told.1 told.3 told.8 in
+told_length setting place [] ends outcomes told = ap (length {A = End}) told.0
+told_length setting place (task ∷ tasks) ends outcomes told =
+    let hs = hands_of_task (gateway_count setting.script.gateways) place task.work in
+    let rest = told_length setting (place + 1) tasks told.1 told.3 told.8 in
     let n : length (duties_by place task hs) ≡ length hs = length-map hs (λ hand. record { place = place; hand = hand; task = task }) in
     omega (
       arith,
       ap (length {A = End}) told.4,
       length-append told.0 told.1,
       told.5,
-      first_length script place task,
+      first_length setting place task,
       n,
       rest,
-      length-append (duties_by place task hs) (duties_from (gateway_count script.gateways) (place + 1) tasks),
+      length-append (duties_by place task hs) (duties_from (gateway_count setting.script.gateways) (place + 1) tasks),
     )
 
 -- ---- from one task to the next
 
-module _ (script : Script) (seat : Hand → ℕ) (place : ℕ) (tasks : List Task) (task : Task) (views : Views) (shown gateways : List Gateway) (start mid new : List Entry) (as_asked : Bool) (text : List ℕ)
+module _ (setting : Setting) (seat : Hand → ℕ) (place : ℕ) (tasks : List Task) (task : Task) (views : Holdings) (shown gateways : List Gateway) (start mid new : List Entry) (as_asked : Bool) (text : List ℕ)
     (within : place < length tasks) (is : task ≡ get_or tasks place task) where
   front_more : take (place + 1) tasks ≡ take place tasks ++ task ∷ []
   front_more = take_more tasks place task within ∙ ap (λ (t : Task). take place tasks ++ t ∷ []) (sym is)
 
   -- the runs of both
-  both_run : (d : TasksDone script seat (take place tasks) views shown start mid as_asked text) (made : List Entry) (ends : List End) (after : Views)
-      → InLine script seat d.after (duties_at script place (task ∷ [])) made ends after → InLine script seat views (duties_at script 0 (take (place + 1) tasks)) (d.made ++ made) (d.ends ++ ends) after
+  both_run : (d : TasksDone setting seat (take place tasks) views shown start mid as_asked text) (made : List Entry) (ends : List End) (after : Holdings)
+      → InLine setting seat d.after (duties_at setting place (task ∷ [])) made ends after → InLine setting seat views (duties_at setting 0 (take (place + 1) tasks)) (d.made ++ made) (d.ends ++ ends) after
   both_run d made ends after run =
-      let whole = told_length script 0 (take place tasks) d.ends d.outcomes d.told in
-      subst (λ (ds : List Duty). InLine script seat views ds (d.made ++ made) (d.ends ++ ends) after) (sym (duties_more (gateway_count script.gateways) place tasks task within is))
-      (both script seat views d.after after (duties_at script 0 (take place tasks)) (duties_at script place (task ∷ [])) d.made made d.ends ends d.run whole run)
+      let whole = told_length setting 0 (take place tasks) d.ends d.outcomes d.told in
+      subst (λ (ds : List Duty). InLine setting seat views ds (d.made ++ made) (d.ends ++ ends) after) (sym (duties_more (gateway_count setting.script.gateways) place tasks task within is))
+      (both setting seat views d.after after (duties_at setting 0 (take place tasks)) (duties_at setting place (task ∷ [])) d.made made d.ends ends d.run whole run)
 
   both_entries : (one other : List Entry) → mid ≡ start ++ one → new ≡ mid ++ other → new ≡ start ++ (one ++ other)
   both_entries one other first later = later ∙ ap (λ (l : List Entry). l ++ other) first ∙ append_assoc start one other
@@ -116,19 +116,19 @@ module _ (script : Script) (seat : Hand → ℕ) (place : ℕ) (tasks : List Tas
   last_flag true = refl
   last_flag false = refl
 
-  told_lines : (outcomes : List Outcome) (o : Outcome) → length outcomes ≡ length (take place tasks) → report_of script (take (place + 1) tasks) (outcomes ++ o ∷ []) ≡ report_of script (take place tasks) outcomes ++ activity_text script task.work o
+  told_lines : (outcomes : List Outcome) (o : Outcome) → length outcomes ≡ length (take place tasks) → report_of setting.script (take (place + 1) tasks) (outcomes ++ o ∷ []) ≡ report_of setting.script (take place tasks) outcomes ++ activity_text setting.script task.work o
   unfolding report_of
   told_lines outcomes o same =
-      ap (λ (ts : List Task). report_of script ts (outcomes ++ o ∷ [])) front_more ∙ report_append script (take place tasks) (task ∷ []) outcomes (o ∷ []) same
-      ∙ ap (λ (l : List ℕ). report_of script (take place tasks) outcomes ++ l) (append-nil (activity_text script task.work o))
+      ap (λ (ts : List Task). report_of setting.script ts (outcomes ++ o ∷ [])) front_more ∙ report_append setting.script (take place tasks) (task ∷ []) outcomes (o ∷ []) same
+      ∙ ap (λ (l : List ℕ). report_of setting.script (take place tasks) outcomes ++ l) (append-nil (activity_text setting.script task.work o))
 
-  pub done_more : (o : Outcome) (asked : Bool) (lines : List ℕ) → (d : TasksDone script seat (take place tasks) views shown start mid as_asked text)
-      → ((v : Views) → Shows v shown → TaskStep script seat place task v gateways mid new (Ok o))
-      → lines ≡ text ++ activity_text script task.work o → asked ≡ as_asked && is_as_asked o → TasksDone script seat (take (place + 1) tasks) views gateways start new asked lines
+  pub done_more : (o : Outcome) (asked : Bool) (lines : List ℕ) → (d : TasksDone setting seat (take place tasks) views shown start mid as_asked text)
+      → ((v : Holdings) → Shows v shown → TaskStep setting seat place task v gateways mid new (Ok o))
+      → lines ≡ text ++ activity_text setting.script task.work o → asked ≡ as_asked && is_as_asked o → TasksDone setting seat (take (place + 1) tasks) views gateways start new asked lines
   done_more o asked lines d step lines_are flag =
       let s = step d.after d.shows in
       let at : 0 + length (take place tasks) ≡ place = omega (arith, front_length place tasks within) in
-      let told = told_more script 0 (take place tasks) task d.ends s.ends d.outcomes o d.told ((s.whole).0 ∙ ap (λ n. length (duties_at script n (task ∷ []))) (sym at)) (s.whole).1 in
+      let told = told_more setting 0 (take place tasks) task d.ends s.ends d.outcomes o d.told ((s.whole).0 ∙ ap (λ n. length (duties_at setting n (task ∷ []))) (sym at)) (s.whole).1 in
       record {
         made = d.made ++ s.made;
         entries = both_entries d.made s.made d.entries s.entries;
@@ -137,21 +137,21 @@ module _ (script : Script) (seat : Hand → ℕ) (place : ℕ) (tasks : List Tas
         run = both_run d s.made s.ends s.after s.run;
         shows = s.shows;
         outcomes = d.outcomes ++ o ∷ [];
-        told = subst (λ (ts : List Task). TasksTold script 0 ts (d.ends ++ s.ends) (d.outcomes ++ o ∷ [])) (sym front_more) told;
-        lines = lines_are ∙ ap (λ (l : List ℕ). l ++ activity_text script task.work o) d.lines ∙ sym (told_lines d.outcomes o (told_outcomes script 0 (take place tasks) d.ends d.outcomes d.told));
+        told = subst (λ (ts : List Task). TasksTold setting 0 ts (d.ends ++ s.ends) (d.outcomes ++ o ∷ [])) (sym front_more) told;
+        lines = lines_are ∙ ap (λ (l : List ℕ). l ++ activity_text setting.script task.work o) d.lines ∙ sym (told_lines d.outcomes o (told_outcomes setting 0 (take place tasks) d.ends d.outcomes d.told));
         flag = flag ∙ ap (λ b. b && is_as_asked o) d.flag ∙ sym (all_append d.outcomes (o ∷ []) ∙ ap (λ b. list_all is_as_asked d.outcomes && b) (last_flag (is_as_asked o)));
       }
 
-  cut_run : All (λ t. MayBegin script t.work) (drop (place + 1) tasks) → (d : TasksDone script seat (take place tasks) views shown start mid as_asked text) (made : List Entry) (ends : List End) (after : Views)
-      → InLine script seat d.after (duties_at script place (task ∷ [])) made ends after → InLine script seat views (duties_at script 0 tasks) (d.made ++ made) (d.ends ++ ends) after
+  cut_run : All (λ t. MayBegin setting t.work) (drop (place + 1) tasks) → (d : TasksDone setting seat (take place tasks) views shown start mid as_asked text) (made : List Entry) (ends : List End) (after : Holdings)
+      → InLine setting seat d.after (duties_at setting place (task ∷ [])) made ends after → InLine setting seat views (duties_at setting 0 tasks) (d.made ++ made) (d.ends ++ ends) after
   cut_run begin d made ends after run =
-      subst (λ (ds : List Duty). InLine script seat views ds (d.made ++ made) (d.ends ++ ends) after) (sym (duties_parts (gateway_count script.gateways) (place + 1) tasks))
-      (cut script seat views after (duties_at script 0 (take (place + 1) tasks)) (duties_from (gateway_count script.gateways) (0 + length (take (place + 1) tasks)) (drop (place + 1) tasks)) (d.made ++ made) (d.ends ++ ends)
-      (duties_begin script (gateway_count script.gateways) (0 + length (take (place + 1) tasks)) (drop (place + 1) tasks) begin) (both_run d made ends after run))
+      subst (λ (ds : List Duty). InLine setting seat views ds (d.made ++ made) (d.ends ++ ends) after) (sym (duties_parts (gateway_count setting.script.gateways) (place + 1) tasks))
+      (cut setting seat views after (duties_at setting 0 (take (place + 1) tasks)) (duties_from (gateway_count setting.script.gateways) (0 + length (take (place + 1) tasks)) (drop (place + 1) tasks)) (d.made ++ made) (d.ends ++ ends)
+      (duties_begin setting (gateway_count setting.script.gateways) (0 + length (take (place + 1) tasks)) (drop (place + 1) tasks) begin) (both_run d made ends after run))
 
   -- an operation that is due in the task is due in all of them
-  cut_due : All (λ t. MayBegin script t.work) (drop (place + 1) tasks) → (d : TasksDone script seat (take place tasks) views shown start mid as_asked text) (made : List Entry)
-      → IsDueInLine script seat d.after (duties_at script place (task ∷ [])) made → IsDueInLine script seat views (duties_at script 0 tasks) (d.made ++ made)
+  cut_due : All (λ t. MayBegin setting t.work) (drop (place + 1) tasks) → (d : TasksDone setting seat (take place tasks) views shown start mid as_asked text) (made : List Entry)
+      → IsDueInLine setting seat d.after (duties_at setting place (task ∷ [])) made → IsDueInLine setting seat views (duties_at setting 0 tasks) (d.made ++ made)
   cut_due begin d made due = (
     due.0,
     due.1,
@@ -161,42 +161,42 @@ module _ (script : Script) (seat : Hand → ℕ) (place : ℕ) (tasks : List Tas
         let next = due.3 seen answer in (
           d.ends ++ next.0,
           next.1,
-          subst (λ (es : List Entry). InLine script seat views (duties_at script 0 tasks) es (d.ends ++ next.0) next.1) (sym (append_assoc d.made made (e ∷ [])))
+          subst (λ (es : List Entry). InLine setting seat views (duties_at setting 0 tasks) es (d.ends ++ next.0) next.1) (sym (append_assoc d.made made (e ∷ [])))
               (cut_run begin d (made ++ e ∷ []) next.0 next.1 next.2),
         ),
   )
 
   -- broken off for want of memory
-  pub cut_short : (came : Came) → All (λ t. MayBegin script t.work) (drop (place + 1) tasks) → (d : TasksDone script seat (take place tasks) views shown start mid as_asked text)
-      → ((v : Views) → Shows v shown → TaskStep script seat place task v gateways mid new came) → TasksBroken script seat tasks views start new broken.NoMemory
+  pub cut_short : (came : Came) → All (λ t. MayBegin setting t.work) (drop (place + 1) tasks) → (d : TasksDone setting seat (take place tasks) views shown start mid as_asked text)
+      → ((v : Holdings) → Shows v shown → TaskStep setting seat place task v gateways mid new came) → TasksBroken setting seat tasks views start new broken.NoMemory
   cut_short came begin d step =
       let s = step d.after d.shows in
       record { made = d.made ++ s.made; entries = both_entries d.made s.made d.entries s.entries; ends = d.ends ++ s.ends; after = s.after; run = cut_run begin d s.made s.ends s.after s.run; short = tt }
 
-  too_few : (d : TasksDone script seat (take place tasks) views shown start mid as_asked text) (own : List End) → length own < length (duties_at script place (task ∷ [])) → length (d.ends ++ own) < length (duties_at script 0 tasks)
+  too_few : (d : TasksDone setting seat (take place tasks) views shown start mid as_asked text) (own : List End) → length own < length (duties_at setting place (task ∷ [])) → length (d.ends ++ own) < length (duties_at setting 0 tasks)
   too_few d own less =
-      let gateways = gateway_count script.gateways in
+      let gateways = gateway_count setting.script.gateways in
       omega (
         arith,
         less,
         length-append d.ends own,
-        told_length script 0 (take place tasks) d.ends d.outcomes d.told,
+        told_length setting 0 (take place tasks) d.ends d.outcomes d.told,
         ap (length {A = Duty}) (duties_more gateways place tasks task within is),
-        length-append (duties_at script 0 (take place tasks)) (duties_at script place (task ∷ [])),
+        length-append (duties_at setting 0 (take place tasks)) (duties_at setting place (task ∷ [])),
         ap (length {A = Duty}) (duties_parts gateways (place + 1) tasks),
-        length-append (duties_at script 0 (take (place + 1) tasks)) (duties_from gateways (0 + length (take (place + 1) tasks)) (drop (place + 1) tasks)),
+        length-append (duties_at setting 0 (take (place + 1) tasks)) (duties_from gateways (0 + length (take (place + 1) tasks)) (drop (place + 1) tasks)),
       )
 
   -- broken off by the full journal
-  cut_full : All (λ t. MayBegin script t.work) (drop (place + 1) tasks) → (d : TasksDone script seat (take place tasks) views shown start mid as_asked text)
-      → ((v : Views) → Shows v shown → TaskStep script seat place task v gateways mid new (Err broken.Full)) → TasksBroken script seat tasks views start new broken.Full
+  cut_full : All (λ t. MayBegin setting t.work) (drop (place + 1) tasks) → (d : TasksDone setting seat (take place tasks) views shown start mid as_asked text)
+      → ((v : Holdings) → Shows v shown → TaskStep setting seat place task v gateways mid new (Err broken.Full)) → TasksBroken setting seat tasks views start new broken.Full
   cut_full begin d step =
       let s = step d.after d.shows in
       record { made = d.made ++ s.made; entries = both_entries d.made s.made d.entries s.entries; ends = d.ends ++ s.ends; after = s.after; run = cut_run begin d s.made s.ends s.after s.run; short = (too_few d s.ends s.whole, cut_due begin d s.made s.due) }
 
   -- broken off, for whatever cause
-  pub cut_off : (why : Broken) → All (λ t. MayBegin script t.work) (drop (place + 1) tasks) → (d : TasksDone script seat (take place tasks) views shown start mid as_asked text)
-      → ((v : Views) → Shows v shown → TaskStep script seat place task v gateways mid new (Err why)) → TasksBroken script seat tasks views start new why
+  pub cut_off : (why : Broken) → All (λ t. MayBegin setting t.work) (drop (place + 1) tasks) → (d : TasksDone setting seat (take place tasks) views shown start mid as_asked text)
+      → ((v : Holdings) → Shows v shown → TaskStep setting seat place task v gateways mid new (Err why)) → TasksBroken setting seat tasks views start new why
   cut_off broken.Full begin d step = cut_full begin d step
   cut_off broken.NoMemory begin d step = cut_short (Err broken.NoMemory) begin d step
 
@@ -205,19 +205,19 @@ take_none [] = refl
 take_none (t ∷ ts) = refl
 
 -- before the first task
-pub done_none : (script : Script) (seat : Hand → ℕ) (tasks : List Task) (views : Views) (gateways : List Gateway) (journal : List Entry) (asked : Bool) (text : List ℕ) → Shows views gateways → asked ≡ true → text ≡ []
-    → TasksDone script seat (take 0 tasks) views gateways journal journal asked text
+pub done_none : (setting : Setting) (seat : Hand → ℕ) (tasks : List Task) (views : Holdings) (gateways : List Gateway) (journal : List Entry) (asked : Bool) (text : List ℕ) → Shows views gateways → asked ≡ true → text ≡ []
+    → TasksDone setting seat (take 0 tasks) views gateways journal journal asked text
 unfolding duties_from report_of
-done_none script seat tasks views gateways journal asked text shows all none = record {
+done_none setting seat tasks views gateways journal asked text shows all none = record {
   made = [];
   entries = sym (append-nil journal);
   ends = [];
   after = views;
-  run = subst (λ (ts : List Task). InLine script seat views (duties_at script 0 ts) [] [] views) (sym (take_none tasks)) (refl, refl, refl);
+  run = subst (λ (ts : List Task). InLine setting seat views (duties_at setting 0 ts) [] [] views) (sym (take_none tasks)) (refl, refl, refl);
   shows = shows;
   outcomes = [];
-  told = subst (λ (ts : List Task). TasksTold script 0 ts [] []) (sym (take_none tasks)) (refl, refl);
-  lines = none ∙ ap (λ (ts : List Task). report_of script ts []) (sym (take_none tasks));
+  told = subst (λ (ts : List Task). TasksTold setting 0 ts [] []) (sym (take_none tasks)) (refl, refl);
+  lines = none ∙ ap (λ (ts : List Task). report_of setting.script ts []) (sym (take_none tasks));
   flag = all;
 }
 
@@ -236,24 +236,24 @@ by_hands workers all place task [] (e ∷ es) zipped = absurd zipped
 by_hands workers all place task (h ∷ hs) [] zipped = absurd zipped
 by_hands workers all place task (h ∷ hs) (e ∷ es) zipped = (zipped.0, by_hands workers all place task hs es zipped.1)
 
-pub tasks_came : (script : Script) (workers : List Worker) (all : List (List End)) (place : ℕ) (tasks : List Task) (ends : List End) (outcomes : List Outcome) → TasksTold script place tasks ends outcomes
-    → AllZip (λ d e. CameTo workers all (gateway_of d.hand) d.place e) (duties_at script place tasks) ends → TasksCame script workers all place tasks outcomes
+pub tasks_came : (setting : Setting) (workers : List Worker) (all : List (List End)) (place : ℕ) (tasks : List Task) (ends : List End) (outcomes : List Outcome) → TasksTold setting place tasks ends outcomes
+    → AllZip (λ d e. CameTo workers all (gateway_of d.hand) d.place e) (duties_at setting place tasks) ends → TasksCame setting.script workers all place tasks outcomes
 unfolding duties_from
-tasks_came script workers all place [] ends outcomes told zipped = told.1
-tasks_came script workers all place (task ∷ tasks) ends outcomes told zipped =
-    let hs = hands_of_task (gateway_count script.gateways) place task.work in
-    let rest = duties_from (gateway_count script.gateways) (place + 1) tasks in
+tasks_came setting workers all place [] ends outcomes told zipped = told.1
+tasks_came setting workers all place (task ∷ tasks) ends outcomes told zipped =
+    let hs = hands_of_task (gateway_count setting.script.gateways) place task.work in
+    let rest = duties_from (gateway_count setting.script.gateways) (place + 1) tasks in
     let zipped' = subst (λ (l : List End). AllZip (λ d e. CameTo workers all (gateway_of d.hand) d.place e) (duties_by place task hs ++ rest) l) told.4 zipped in
-    let same : length told.0 ≡ length (duties_by place task hs) = told.5 ∙ first_length script place task ∙ sym (length-map hs (λ hand. record { place = place; hand = hand; task = task })) in
+    let same : length told.0 ≡ length (duties_by place task hs) = told.5 ∙ first_length setting place task ∙ sym (length-map hs (λ hand. record { place = place; hand = hand; task = task })) in
     let parts = zip_parts (λ d e. CameTo workers all (gateway_of d.hand) d.place e) (duties_by place task hs) rest told.0 told.1 same zipped' in
-    subst (λ (os : List Outcome). TasksCame script workers all place (task ∷ tasks) os) (sym told.7) (
+    subst (λ (os : List Outcome). TasksCame setting.script workers all place (task ∷ tasks) os) (sym told.7) (
       record { own = told.0; came = by_hands workers all place task hs told.0 parts.0; is = told.6 },
-      tasks_came script workers all (place + 1) tasks told.1 told.3 told.8 parts.1,
+      tasks_came setting workers all (place + 1) tasks told.1 told.3 told.8 parts.1,
     )
 
 -- the tasks from a place on may begin, where the script is lawful
-pub later_begin : (script : Script) (n : ℕ) (tasks : List Task) → IsLawfulScript script → All (λ t. IsLawfulWork script.gateways script.blocks (length script.selectors) t.work) tasks → All (λ t. MayBegin script t.work) (drop n tasks)
-later_begin script n tasks lawful all = All-drop (λ t. MayBegin script t.work) n tasks (may_begin script tasks lawful all)
+pub later_begin : (setting : Setting) (n : ℕ) (tasks : List Task) → IsLawfulScript setting.script → All (λ t. IsLawfulWork setting.script.gateways setting.script.blocks (length setting.script.selectors) t.work) tasks → All (λ t. MayBegin setting t.work) (drop n tasks)
+later_begin setting n tasks lawful all = All-drop (λ t. MayBegin setting t.work) n tasks (may_begin setting tasks lawful all)
 
 pub take_whole : (tasks : List Task) (n : ℕ) → length tasks ≤ n → take n tasks ≡ tasks
 take_whole [] zero below = refl

@@ -12,15 +12,15 @@ use Rattle.script_core.specs.Workers.{workers_of}
 use Rattle.script_core.specs.Lawful.{IsLawfulScript}
 use Rattle.script_workers.specs.declared.hand.Hand.TheVariants as hands
 use Rattle.script_workers.specs.declared.phase.Phase.{Phase}
-use Rattle.script_core.specs.declared.script.Script.{Script}
 use Rattle.script_workers.specs.declared.task.Task.{Task}
 use Rattle.script_workers.specs.declared.work.Work.{Work}
 use Rattle.script_workers.specs.declared.work.Work.TheVariants as work
 use Rattle.script_workers.specs.declared.worker.Worker.{Worker}
+use Rattle.lifecycle_core.specs.Conducts.{CameTo}
 use Rattle.lifecycle_core.specs.Guarantees.{IsGiven}
-use Rattle.lifecycle_core.specs.Phases.{CameTo}
-use Rattle.lifecycle_core.specs.Tasks.{End, uploaded, synced, answered, without_view, stopped}
-use Rattle.lifecycle_core.specs.Views.{Use}
+use Rattle.lifecycle_core.specs.Holdings.{Use}
+use Rattle.lifecycle_core.specs.Setting.{Setting}
+use Rattle.lifecycle_core.specs.Tasks.{End, answered, stopped, synced, uploaded, without_view}
 use Rattle.replay_cli.specs.Outcomes.{IsOutcome, PhasesCame, TaskCame, TasksCame, call_outcome}
 use Rattle.replay_cli.specs.ToldAnswers.{IsTold, IsWorth, ToldAnswer, answered_with}
 use Rattle.replay_cli.specs.Verdicts.{IsFullRun, IsWholeRun, tasks_of}
@@ -30,23 +30,23 @@ use Rattle.replay_cli.specs.declared.outcome.QueryOutcome.TheVariants as query
 
 -- ---- which task an outcome is of
 
-tasks_count : (script : Script) (workers : List Worker) (ends : List (List End)) (place : ℕ) (tasks : List Task) (outcomes : List Outcome) → TasksCame script workers ends place tasks outcomes → length outcomes ≡ length tasks
-tasks_count script workers ends place [] outcomes came = ap (length {A = Outcome}) came
-tasks_count script workers ends place (task ∷ tasks) [] came = absurd came
-tasks_count script workers ends place (task ∷ tasks) (o ∷ outcomes) came = ap suc (tasks_count script workers ends (place + 1) tasks outcomes came.1)
+tasks_count : (setting : Setting) (workers : List Worker) (ends : List (List End)) (place : ℕ) (tasks : List Task) (outcomes : List Outcome) → TasksCame setting.script workers ends place tasks outcomes → length outcomes ≡ length tasks
+tasks_count setting workers ends place [] outcomes came = ap (length {A = Outcome}) came
+tasks_count setting workers ends place (task ∷ tasks) [] came = absurd came
+tasks_count setting workers ends place (task ∷ tasks) (o ∷ outcomes) came = ap suc (tasks_count setting workers ends (place + 1) tasks outcomes came.1)
 
-task_came : (script : Script) (workers : List Worker) (ends : List (List End)) (place : ℕ) (tasks : List Task) (outcomes : List Outcome) → TasksCame script workers ends place tasks outcomes
-    → (k : ℕ) (task : Task) (o : Outcome) → slice_get tasks k ≡ Some task → slice_get outcomes k ≡ Some o → TaskCame script workers ends (place + k) task o
-task_came script workers ends place [] outcomes came k task o at told = absurd (cc (at))
-task_came script workers ends place (t ∷ tasks) [] came k task o at told = absurd came
-task_came script workers ends place (t ∷ tasks) (p ∷ outcomes) came zero task o at told =
+task_came : (setting : Setting) (workers : List Worker) (ends : List (List End)) (place : ℕ) (tasks : List Task) (outcomes : List Outcome) → TasksCame setting.script workers ends place tasks outcomes
+    → (k : ℕ) (task : Task) (o : Outcome) → slice_get tasks k ≡ Some task → slice_get outcomes k ≡ Some o → TaskCame setting.script workers ends (place + k) task o
+task_came setting workers ends place [] outcomes came k task o at told = absurd (cc (at))
+task_came setting workers ends place (t ∷ tasks) [] came k task o at told = absurd came
+task_came setting workers ends place (t ∷ tasks) (p ∷ outcomes) came zero task o at told =
     let same_task : t ≡ task = cc (at) in
     let same : p ≡ o = cc (told) in
     let here : place ≡ place + 0 = omega arith in
-    subst (λ n. TaskCame script workers ends n task o) here (subst (λ x. TaskCame script workers ends place task x) same (subst (λ x. TaskCame script workers ends place x p) same_task came.0))
-task_came script workers ends place (t ∷ tasks) (p ∷ outcomes) came (suc k) task o at told =
+    subst (λ n. TaskCame setting.script workers ends n task o) here (subst (λ x. TaskCame setting.script workers ends place task x) same (subst (λ x. TaskCame setting.script workers ends place x p) same_task came.0))
+task_came setting workers ends place (t ∷ tasks) (p ∷ outcomes) came (suc k) task o at told =
     let next : place + 1 + k ≡ place + suc k = omega arith in
-    subst (λ n. TaskCame script workers ends n task o) next (task_came script workers ends (place + 1) tasks outcomes came.1 k task o at told)
+    subst (λ n. TaskCame setting.script workers ends n task o) next (task_came setting workers ends (place + 1) tasks outcomes came.1 k task o at told)
 
 -- a place in two pairs of lists, the first of which are equally long, is one in the first pair or in the second
 either_pair : {A B : Type 0} (xs more : List A) (ys others : List B) (k : ℕ) (x : A) (y : B) → length ys ≡ length xs → slice_get (xs ++ more) k ≡ Some x → slice_get (ys ++ others) k ≡ Some y
@@ -58,7 +58,7 @@ either_pair (a ∷ xs) more (b ∷ ys) others zero x y same at told = inl (at, t
 either_pair (a ∷ xs) more (b ∷ ys) others (suc k) x y same at told = either_pair xs more ys others k x y (omega (arith, same)) at told
 
 -- the phase of a task, its place there, and the ends by which it came out
-record IsOfPhase (script : Script) (number : ℕ) (phases : List Phase) (ends : List (List (List End))) (task : Task) (o : Outcome) : Type 0 where
+record IsOfPhase (setting : Setting) (number : ℕ) (phases : List Phase) (ends : List (List (List End))) (task : Task) (o : Outcome) : Type 0 where
   k : ℕ
   phase : Phase
   place : ℕ
@@ -66,14 +66,14 @@ record IsOfPhase (script : Script) (number : ℕ) (phases : List Phase) (ends : 
   in_phases : slice_get phases k ≡ Some phase
   in_tasks : slice_get phase.tasks place ≡ Some task
   in_ends : slice_get ends k ≡ Some own
-  came : TaskCame script (workers_of script (number + k)) own place task o
+  came : TaskCame setting.script (workers_of setting.script (number + k)) own place task o
 
-phase_of : (script : Script) (number : ℕ) (phases : List Phase) (ends : List (List (List End))) (outcomes : List Outcome) → PhasesCame script number phases ends outcomes
-    → (place : ℕ) (task : Task) (o : Outcome) → slice_get (tasks_of phases) place ≡ Some task → slice_get outcomes place ≡ Some o → IsOfPhase script number phases ends task o
-phase_of script number [] ends outcomes came place task o at told = absurd (cc (at))
-phase_of script number (phase ∷ phases) [] outcomes came place task o at told = absurd came
-phase_of script number (phase ∷ phases) (first ∷ later) outcomes (own, others, parts, here, rest) place task o at told =
-    elim (either_pair phase.tasks (tasks_of phases) own others place task o (tasks_count script (workers_of script number) first 0 phase.tasks own here) at (subst (λ l. slice_get l place ≡ Some o) parts told)) [
+phase_of : (setting : Setting) (number : ℕ) (phases : List Phase) (ends : List (List (List End))) (outcomes : List Outcome) → PhasesCame setting.script number phases ends outcomes
+    → (place : ℕ) (task : Task) (o : Outcome) → slice_get (tasks_of phases) place ≡ Some task → slice_get outcomes place ≡ Some o → IsOfPhase setting number phases ends task o
+phase_of setting number [] ends outcomes came place task o at told = absurd (cc (at))
+phase_of setting number (phase ∷ phases) [] outcomes came place task o at told = absurd came
+phase_of setting number (phase ∷ phases) (first ∷ later) outcomes (own, others, parts, here, rest) place task o at told =
+    elim (either_pair phase.tasks (tasks_of phases) own others place task o (tasks_count setting (workers_of setting.script number) first 0 phase.tasks own here) at (subst (λ l. slice_get l place ≡ Some o) parts told)) [
       | inl (one, two) ↦
           let is : number ≡ number + 0 = omega arith in
           let start : 0 + place ≡ place = omega arith in
@@ -85,11 +85,11 @@ phase_of script number (phase ∷ phases) (first ∷ later) outcomes (own, other
             in_phases = refl;
             in_tasks = one;
             in_ends = refl;
-            came = subst (λ n. TaskCame script (workers_of script n) first place task o) is
-                (subst (λ n. TaskCame script (workers_of script number) first n task o) start (task_came script (workers_of script number) first 0 phase.tasks own here place task o one two));
+            came = subst (λ n. TaskCame setting.script (workers_of setting.script n) first place task o) is
+                (subst (λ n. TaskCame setting.script (workers_of setting.script number) first n task o) start (task_came setting (workers_of setting.script number) first 0 phase.tasks own here place task o one two));
           }
       | inr (j, one, two) ↦
-          let p = phase_of script (number + 1) phases later others rest j task o one two in
+          let p = phase_of setting (number + 1) phases later others rest j task o one two in
           let is : number + 1 + p.k ≡ number + suc p.k = omega arith in
           record {
             k = suc p.k;
@@ -99,7 +99,7 @@ phase_of script number (phase ∷ phases) (first ∷ later) outcomes (own, other
             in_phases = p.in_phases;
             in_tasks = p.in_tasks;
             in_ends = p.in_ends;
-            came = subst (λ n. TaskCame script (workers_of script n) p.own p.place task o) is p.came;
+            came = subst (λ n. TaskCame setting.script (workers_of setting.script n) p.own p.place task o) is p.came;
           }
     ]
 
@@ -133,31 +133,31 @@ no_end : (workers : List Worker) (ends : List (List End)) (place : ℕ) (low hig
 no_end workers ends place low high n [] series sources all is = (cc (is), cc (is))
 no_end workers ends place low high n (end ∷ more) series sources all is = absurd all
 
-module _ (script : Script) (journal : List Entry) (phases left : List Phase) (ends untold : List (List (List End))) (outcomes : List Outcome) where
+module _ (setting : Setting) (journal : List Entry) (phases left : List Phase) (ends untold : List (List (List End))) (outcomes : List Outcome) where
   slice_left : {X : Type 0} (xs more : List X) (k : ℕ) (x : X) → slice_get xs k ≡ Some x → slice_get (xs ++ more) k ≡ Some x
   slice_left [] more k x at = absurd (cc (at))
   slice_left (y ∷ xs) more zero x at = at
   slice_left (y ∷ xs) more (suc k) x at = slice_left xs more k x at
 
-  by_gateways : (names : List (List ℕ)) → script.gateways ≡ names → length names ≤ 1 → script.phases ≡ phases ++ left → PhasesCame script 0 phases ends outcomes
-      → ((answer : ToldAnswer) (used : Use) → IsGiven script (ends ++ untold) (answered_with used answer) → IsWorth script journal (ends ++ untold) answer)
-      → (place : ℕ) (answer : ToldAnswer) → IsTold script phases outcomes place answer → IsWorth script journal (ends ++ untold) answer
+  by_gateways : (names : List (List ℕ)) → setting.script.gateways ≡ names → length names ≤ 1 → setting.script.phases ≡ phases ++ left → PhasesCame setting.script 0 phases ends outcomes
+      → ((answer : ToldAnswer) (used : Use) → IsGiven setting (ends ++ untold) (answered_with used answer) → IsWorth setting journal (ends ++ untold) answer)
+      → (place : ℕ) (answer : ToldAnswer) → IsTold setting.script phases outcomes place answer → IsWorth setting journal (ends ++ untold) answer
   unfolding hands_of_task
   by_gateways [] are few parts came worth place answer told =
-      let p = phase_of script 0 phases ends outcomes came place told.task (outcome.Query (query.Answer answer.series answer.sources)) told.at told.came in
-      let no_one : gateway_count script.gateways ≡ 0 = ap gateway_count are in
+      let p = phase_of setting 0 phases ends outcomes came place told.task (outcome.Query (query.Answer answer.series answer.sources)) told.at told.came in
+      let no_one : gateway_count setting.script.gateways ≡ 0 = ap gateway_count are in
       let is = subst (λ (w : Work). IsOutcome w p.came.own (outcome.Query (query.Answer answer.series answer.sources))) told.asks p.came.is in
-      let all = subst (λ (w : Work). AllZip (λ hand end. CameTo (workers_of script (0 + p.k)) p.own (gateway_of hand) p.place end) (hands_of_task (gateway_count script.gateways) p.place w) p.came.own) told.asks p.came.came in
-      let none = subst (λ n. AllZip (λ hand end. CameTo (workers_of script (0 + p.k)) p.own (gateway_of hand) p.place end) (map hands.Gateway (range_with_len 0 n)) p.came.own) no_one all in
-      let empty = no_end (workers_of script (0 + p.k)) p.own p.place answer.low answer.high told.selector_number p.came.own answer.series answer.sources none is in
+      let all = subst (λ (w : Work). AllZip (λ hand end. CameTo (workers_of setting.script (0 + p.k)) p.own (gateway_of hand) p.place end) (hands_of_task (gateway_count setting.script.gateways) p.place w) p.came.own) told.asks p.came.came in
+      let none = subst (λ n. AllZip (λ hand end. CameTo (workers_of setting.script (0 + p.k)) p.own (gateway_of hand) p.place end) (map hands.Gateway (range_with_len 0 n)) p.came.own) no_one all in
+      let empty = no_end (workers_of setting.script (0 + p.k)) p.own p.place answer.low answer.high told.selector_number p.came.own answer.series answer.sources none is in
       inr (are, empty.0, empty.1)
   by_gateways (name ∷ []) are few parts came worth place answer told =
-      let p = phase_of script 0 phases ends outcomes came place told.task (outcome.Query (query.Answer answer.series answer.sources)) told.at told.came in
-      let one : gateway_count script.gateways ≡ 1 = ap gateway_count are in
+      let p = phase_of setting 0 phases ends outcomes came place told.task (outcome.Query (query.Answer answer.series answer.sources)) told.at told.came in
+      let one : gateway_count setting.script.gateways ≡ 1 = ap gateway_count are in
       let is = subst (λ (w : Work). IsOutcome w p.came.own (outcome.Query (query.Answer answer.series answer.sources))) told.asks p.came.is in
-      let all = subst (λ (w : Work). AllZip (λ hand end. CameTo (workers_of script (0 + p.k)) p.own (gateway_of hand) p.place end) (hands_of_task (gateway_count script.gateways) p.place w) p.came.own) told.asks p.came.came in
-      let single = subst (λ n. AllZip (λ hand end. CameTo (workers_of script (0 + p.k)) p.own (gateway_of hand) p.place end) (map hands.Gateway (range_with_len 0 n)) p.came.own) one all in
-      let end = one_end (workers_of script (0 + p.k)) p.own p.place answer.low answer.high told.selector_number p.came.own answer.series answer.sources single is in
+      let all = subst (λ (w : Work). AllZip (λ hand end. CameTo (workers_of setting.script (0 + p.k)) p.own (gateway_of hand) p.place end) (hands_of_task (gateway_count setting.script.gateways) p.place w) p.came.own) told.asks p.came.came in
+      let single = subst (λ n. AllZip (λ hand end. CameTo (workers_of setting.script (0 + p.k)) p.own (gateway_of hand) p.place end) (map hands.Gateway (range_with_len 0 n)) p.came.own) one all in
+      let end = one_end (workers_of setting.script (0 + p.k)) p.own p.place answer.low answer.high told.selector_number p.came.own answer.series answer.sources single is in
       let number : 0 + p.k ≡ p.k = omega arith in
       worth answer end.0 (record {
         phase_number = p.k;
@@ -174,22 +174,22 @@ module _ (script : Script) (journal : List Entry) (phases left : List Phase) (en
         used = end.0;
         series = answer.series;
         phase_came = slice_left ends untold p.k p.own p.in_ends;
-        answer = subst (λ n. CameTo (workers_of script n) p.own (Some 0) p.place (answered end.0 (called.Answer answer.series answer.sources))) number end.1;
+        answer = subst (λ n. CameTo (workers_of setting.script n) p.own (Some 0) p.place (answered end.0 (called.Answer answer.series answer.sources))) number end.1;
         samples = refl;
         uses = refl;
       })
   by_gateways (name ∷ other ∷ names) are few parts came worth place answer told = absurd (omega (arith, few))
 
-pub whole_answers : (script : Script) (as_asked : Bool) (text : List ℕ) (journal : List Entry) (run : IsWholeRun script as_asked text journal) → IsLawfulScript script → IsHonest journal
-    → (place : ℕ) (answer : ToldAnswer) → IsTold script script.phases run.report.outcomes place answer → IsWorth script journal run.ends answer
-whole_answers script as_asked text journal run lawful honest place answer told =
-    subst (λ es. IsWorth script journal es answer) (append-nil run.ends)
-    (by_gateways script journal script.phases [] run.ends [] run.report.outcomes script.gateways refl lawful.few_gateways (sym (append-nil script.phases)) run.report.came
-    (λ a used given. inl (used, given, run.guaranteed.sound honest (answered_with used a) (subst (λ es. IsGiven script es (answered_with used a)) (append-nil run.ends) given))) place answer told)
+pub whole_answers : (setting : Setting) (as_asked : Bool) (text : List ℕ) (journal : List Entry) (run : IsWholeRun setting as_asked text journal) → IsLawfulScript setting.script → IsHonest journal
+    → (place : ℕ) (answer : ToldAnswer) → IsTold setting.script setting.script.phases run.report.outcomes place answer → IsWorth setting journal run.ends answer
+whole_answers setting as_asked text journal run lawful honest place answer told =
+    subst (λ es. IsWorth setting journal es answer) (append-nil run.ends)
+    (by_gateways setting journal setting.script.phases [] run.ends [] run.report.outcomes setting.script.gateways refl lawful.few_gateways (sym (append-nil setting.script.phases)) run.report.came
+    (λ a used given. inl (used, given, run.guaranteed.sound honest (answered_with used a) (subst (λ es. IsGiven setting es (answered_with used a)) (append-nil run.ends) given))) place answer told)
 
-pub full_answers : (script : Script) (text : List ℕ) (journal : List Entry) (run : IsFullRun script text journal) → IsLawfulScript script → IsHonest journal
-    → (place : ℕ) (answer : ToldAnswer) → IsTold script run.done run.report.outcomes place answer → IsWorth script journal run.ends answer
-full_answers script text journal run lawful honest place answer told =
-    subst (λ es. IsWorth script journal es answer) (sym run.parts)
-    (by_gateways script journal run.done run.left run.told run.untold run.report.outcomes script.gateways refl lawful.few_gateways run.phases run.report.came
-    (λ a used given. inl (used, given, run.guaranteed.sound honest (answered_with used a) (subst (λ es. IsGiven script es (answered_with used a)) (sym run.parts) given))) place answer told)
+pub full_answers : (setting : Setting) (text : List ℕ) (journal : List Entry) (run : IsFullRun setting text journal) → IsLawfulScript setting.script → IsHonest journal
+    → (place : ℕ) (answer : ToldAnswer) → IsTold setting.script run.done run.report.outcomes place answer → IsWorth setting journal run.ends answer
+full_answers setting text journal run lawful honest place answer told =
+    subst (λ es. IsWorth setting journal es answer) (sym run.parts)
+    (by_gateways setting journal run.done run.left run.told run.untold run.report.outcomes setting.script.gateways refl lawful.few_gateways run.phases run.report.came
+    (λ a used given. inl (used, given, run.guaranteed.sound honest (answered_with used a) (subst (λ es. IsGiven setting es (answered_with used a)) (sym run.parts) given))) place answer told)

@@ -16,8 +16,9 @@ use Rattle.shipper.specs.Uploads.{upload}
 use Rattle.script_core.specs.Lawful.{IsLawfulBlock}
 use Rattle.script_core.specs.declared.block.Block.{Block}
 use Rattle.script_workers.specs.declared.work.Work.TheVariants as works
+use Rattle.lifecycle_core.specs.Setting.{Setting}
 use Rattle.lifecycle_core.specs.Shipped.{IsShipped}
-use Rattle.lifecycle_core.specs.Tasks.{End, BlockUpload, IsBefore, IsStop, stopped, uploaded}
+use Rattle.lifecycle_core.specs.Tasks.{BlockUpload, End, IsBefore, IsStop, stopped, uploaded}
 use Rattle.lifecycle_core.proofs.phases.TaskRuns.{built_by}
 use Rattle.replay_cli.specs.Drives.{Came, upload_came}
 use Rattle.replay_cli.specs.Progress.{Adds, CameBy, IsDueAfter, WhenFull}
@@ -70,44 +71,44 @@ goes_on : (stop : Option ℕ) (made : List Entry) (e : Entry) → IsBefore stop 
 goes_on None made e before = (None, inl (refl, λ n same. absurd (cc (same))))
 goes_on (Some n) made e before = goes_to n made e (length made + 1 == n) refl (before n refl)
 
-upload_due : (is_run : List Entry → Option UploadEnd → Type 0) (block : Block) (objects : List Object) (stop : Option ℕ) (seat : ℕ) (driven : Driven UploadEnd) (made : List Entry)
-    → IsShipped block objects → ((es : List Entry) (end : Option UploadEnd) → is_run es end → Runs (upload block.ulid objects) es end) → (driven ≡ Full → Awaits is_run seat made) → (driven ≡ Full → IsBefore stop made)
-    → WhenFull (upload_came driven) (IsDueAfter (BlockUpload block stop) seat made)
-upload_due is_run block objects stop seat (Ended end) made shipped runs due before = tt
-upload_due is_run block objects stop seat (Stopped n) made shipped runs due before = tt
-upload_due is_run block objects stop seat Full made shipped runs due before =
+upload_due : (setting : Setting) (is_run : List Entry → Option UploadEnd → Type 0) (block : Block) (objects : List Object) (stop : Option ℕ) (seat : ℕ) (driven : Driven UploadEnd) (made : List Entry)
+    → IsShipped setting block objects → ((es : List Entry) (end : Option UploadEnd) → is_run es end → Runs (upload block.ulid objects) es end) → (driven ≡ Full → Awaits is_run seat made) → (driven ≡ Full → IsBefore stop made)
+    → WhenFull (upload_came driven) (IsDueAfter (BlockUpload setting block stop) seat made)
+upload_due setting is_run block objects stop seat (Ended end) made shipped runs due before = tt
+upload_due setting is_run block objects stop seat (Stopped n) made shipped runs due before = tt
+upload_due setting is_run block objects stop seat Full made shipped runs due before =
     let d = due refl in (
       d.op,
       d.lawful,
       λ seen answer. let on = goes_on stop made (entry_of seat d.op seen) (before refl) in
           (on.0, (objects, None, shipped, runs (made ++ entry_of seat d.op seen ∷ []) None (d.more seen answer), on.1)),
     )
-upload_due is_run block objects stop seat NoMemory made shipped runs due before = tt
+upload_due setting is_run block objects stop seat NoMemory made shipped runs due before = tt
 
 full_before : (stop : Option ℕ) (driven : Driven UploadEnd) (made : List Entry)
     → ((n : ℕ) → (driven ≡ Stopped n) ↔ ((stop ≡ Some n) × (0 < n) × (length made ≡ n))) → ((n : ℕ) → stop ≡ Some n → 0 < n → length made ≤ n) → driven ≡ Full → IsBefore stop made
 full_before stop driven made stops within full = before_stop stop driven made (λ n e. absurd (cc (e, full))) stops within
 
 -- An upload of a block's objects that was driven is a run of the block's upload.
-pub upload_told : (is_run : List Entry → Option UploadEnd → Type 0) (block : Block) (objects : List Object) (stop : Option ℕ) (seat : ℕ) (driven : Driven UploadEnd) (old new : List Entry) (came : Came) (ulid : ℕ)
-    → came ≡ upload_came driven → IsShipped block objects → ((made : List Entry) (end : Option UploadEnd) → is_run made end → Runs (upload block.ulid objects) made end) → Drives is_run seat stop driven old new
-    → (end : Option End) × Adds (BlockUpload block stop) seat old new end came × CameBy (works.Upload ulid stop) end came
-upload_told is_run block objects stop seat driven old new came ulid c shipped runs d =
-    subst (λ (x : Came). (end : Option End) × Adds (BlockUpload block stop) seat old new end x × CameBy (works.Upload ulid stop) end x) (sym c) (
+pub upload_told : (setting : Setting) (is_run : List Entry → Option UploadEnd → Type 0) (block : Block) (objects : List Object) (stop : Option ℕ) (seat : ℕ) (driven : Driven UploadEnd) (old new : List Entry) (came : Came) (ulid : ℕ)
+    → came ≡ upload_came driven → IsShipped setting block objects → ((made : List Entry) (end : Option UploadEnd) → is_run made end → Runs (upload block.ulid objects) made end) → Drives is_run seat stop driven old new
+    → (end : Option End) × Adds (BlockUpload setting block stop) seat old new end came × CameBy (works.Upload ulid stop) end came
+upload_told setting is_run block objects stop seat driven old new came ulid c shipped runs d =
+    subst (λ (x : Came). (end : Option End) × Adds (BlockUpload setting block stop) seat old new end x × CameBy (works.Upload ulid stop) end x) (sym c) (
       upload_end driven,
       record {
         made = d.made;
         entries = d.entries;
         seats = d.seats;
         run = (objects, end_of driven, shipped, runs d.made (end_of driven) d.run, stops_at stop driven d.made d.stopped d.within);
-        due = upload_due is_run block objects stop seat driven d.made shipped runs d.waits (full_before stop driven d.made d.stopped d.within);
+        due = upload_due setting is_run block objects stop seat driven d.made shipped runs d.waits (full_before stop driven d.made d.stopped d.within);
       },
       came_by ulid stop driven,
     )
 
 -- where nothing was done
-pub nothing_shipped : (block : Block) (stop : Option ℕ) (seat : ℕ) (journal : List Entry) (ulid : ℕ) → IsLawfulBlock block
-    → (end : Option End) × Adds (BlockUpload block stop) seat journal journal end (Err broken.NoMemory) × CameBy (works.Upload ulid stop) end (Err broken.NoMemory)
-nothing_shipped block stop seat journal ulid lawful =
-    let b = built_by block block.body lawful.body in
+pub nothing_shipped : (setting : Setting) (block : Block) (stop : Option ℕ) (seat : ℕ) (journal : List Entry) (ulid : ℕ) → IsLawfulBlock block
+    → (end : Option End) × Adds (BlockUpload setting block stop) seat journal journal end (Err broken.NoMemory) × CameBy (works.Upload ulid stop) end (Err broken.NoMemory)
+nothing_shipped setting block stop seat journal ulid lawful =
+    let b = built_by setting block block.body lawful.body in
     (None, record { made = []; entries = sym (append-nil journal); seats = All-nil (λ e. e.seat ≡ seat); run = (b.0, None, b.1, refl, inl (refl, λ n s above. above)); due = tt }, tt)

@@ -15,7 +15,7 @@ use Rattle.script_workers.specs.declared.task.Task.{Task}
 use Rattle.script_workers.specs.declared.work.Work.{Work}
 use Rattle.script_workers.specs.declared.work.Work.TheVariants as work
 use Rattle.script_workers.specs.declared.worker.Worker.{Worker}
-use Rattle.lifecycle_core.specs.Phases.{CameTo}
+use Rattle.lifecycle_core.specs.Conducts.{CameTo}
 use Rattle.lifecycle_core.specs.Tasks.{End, uploaded, synced, answered, without_view, stopped}
 use Rattle.replay_cli.specs.declared.outcome.Outcome.{Outcome}
 use Rattle.replay_cli.specs.declared.outcome.Outcome.TheVariants as outcome

@@ -16,9 +16,11 @@ use Rattle.script_workers.specs.declared.phase.Phase.{Phase}
 use Rattle.script_core.specs.declared.script.Script.{Script}
 use Rattle.script_workers.specs.declared.task.Task.{Task}
 use Rattle.script_workers.specs.declared.work.Work.{Work}
-use Rattle.lifecycle_core.specs.InLine.{Duty, duties_from, InLine, PhasesInLine}
+use Rattle.lifecycle_core.specs.Holdings.{Use, Holdings, none_held}
+use Rattle.lifecycle_core.specs.InLine.{Duty, duties_from, InLine, in_line}
+use Rattle.lifecycle_core.specs.Setting.{Setting}
 use Rattle.lifecycle_core.specs.Tasks.{End}
-use Rattle.lifecycle_core.specs.Views.{Use, Views, no_views}
+use Rattle.lifecycle_core.specs.Ways.{AreInTurn, IsOperationDue, PhasesRun}
 use Rattle.replay_cli.specs.Outcomes.{IsOutcome}
 use Rattle.replay_cli.specs.Reports.{is_as_asked}
 use Rattle.replay_cli.specs.Verdicts.{report_of, tasks_of}
@@ -66,57 +68,57 @@ view_by before (Some (fetched.View view)) = Some view
 view_by before other = before
 
 -- gateways that have these views
-abbrev pub Shows : Views → List Gateway → Type 0
-Shows views gateways = (place : ℕ) (gateway : Gateway) → slice_get gateways place ≡ Some gateway → option_map (λ (used : Use). used.view) (views place) ≡ gateway.view
+abbrev pub Shows : Holdings → List Gateway → Type 0
+Shows views gateways = (place : ℕ) (gateway : Gateway) → slice_get gateways place ≡ Some gateway → option_map (λ (used : Use). used.view) (views place).used ≡ gateway.view
 
 -- the duties of the task at a place
-abbrev pub duties_at : Script → ℕ → List Task → List Duty
-duties_at script place tasks = duties_from (gateway_count script.gateways) place tasks
+abbrev pub duties_at : Setting → ℕ → List Task → List Duty
+duties_at setting place tasks = duties_from (gateway_count setting.script.gateways) place tasks
 
 -- the task has come to all its ends, or the full journal left one out
-abbrev pub IsWhole : Script → ℕ → Task → List End → Came → Type 0
-IsWhole script place task ends (Ok o) = (length ends ≡ length (duties_at script place (task ∷ []))) × IsOutcome task.work ends o
-IsWhole script place task ends (Err broken.Full) = length ends < length (duties_at script place (task ∷ []))
-IsWhole script place task ends (Err broken.NoMemory) = Unit {0}
+abbrev pub IsWhole : Setting → ℕ → Task → List End → Came → Type 0
+IsWhole setting place task ends (Ok o) = (length ends ≡ length (duties_at setting place (task ∷ []))) × IsOutcome task.work ends o
+IsWhole setting place task ends (Err broken.Full) = length ends < length (duties_at setting place (task ∷ []))
+IsWhole setting place task ends (Err broken.NoMemory) = Unit {0}
 
 -- An operation is due after these entries of duties: whatever the reply to it, its entry goes on with them.
-abbrev pub IsDueInLine : Script → (Hand → ℕ) → Views → List Duty → List Entry → Type 0
-IsDueInLine script seat views duties made =
+abbrev pub IsDueInLine : Setting → (Hand → ℕ) → Holdings → List Duty → List Entry → Type 0
+IsDueInLine setting seat views duties made =
     (at : ℕ) × (op : Op) × IsLawful op
-    × ((seen : Seen) → IsAnswer op seen → (ends : List End) × (after : Views) × InLine script seat views duties (made ++ entry_of at op seen ∷ []) ends after)
+    × ((seen : Seen) → IsAnswer op seen → (ends : List End) × (after : Holdings) × InLine setting seat views duties (made ++ entry_of at op seen ∷ []) ends after)
 
 -- a task's entries and what it came to
-pub record TaskStep (script : Script) (seat : Hand → ℕ) (place : ℕ) (task : Task) (views : Views) (gateways : List Gateway) (old new : List Entry) (came : Came) : Type 0 where
+pub record TaskStep (setting : Setting) (seat : Hand → ℕ) (place : ℕ) (task : Task) (views : Holdings) (gateways : List Gateway) (old new : List Entry) (came : Came) : Type 0 where
   pub made : List Entry
   pub entries : new ≡ old ++ made
   pub ends : List End
-  pub after : Views
-  pub run : InLine script seat views (duties_at script place (task ∷ [])) made ends after
+  pub after : Holdings
+  pub run : InLine setting seat views (duties_at setting place (task ∷ [])) made ends after
   pub shows : Shows after gateways
-  pub whole : IsWhole script place task ends came
-  pub due : WhenFull came (IsDueInLine script seat views (duties_at script place (task ∷ [])) made)
+  pub whole : IsWhole setting place task ends came
+  pub due : WhenFull came (IsDueInLine setting seat views (duties_at setting place (task ∷ [])) made)
 
 -- ---- the tasks of a phase
 
 -- how tasks from a place on came out, by the ends of their duties
-abbrev pub TasksTold : Script → ℕ → List Task → List End → List Outcome → Type 0
-TasksTold script place [] ends outcomes = (ends ≡ []) × (outcomes ≡ [])
-TasksTold script place (task ∷ tasks) ends outcomes =
+abbrev pub TasksTold : Setting → ℕ → List Task → List End → List Outcome → Type 0
+TasksTold setting place [] ends outcomes = (ends ≡ []) × (outcomes ≡ [])
+TasksTold setting place (task ∷ tasks) ends outcomes =
     (own : List End) × (others : List End) × (o : Outcome) × (later : List Outcome)
-    × (ends ≡ own ++ others) × (length own ≡ length (duties_at script place (task ∷ []))) × IsOutcome task.work own o
-    × (outcomes ≡ o ∷ later) × TasksTold script (place + 1) tasks others later
+    × (ends ≡ own ++ others) × (length own ≡ length (duties_at setting place (task ∷ []))) × IsOutcome task.work own o
+    × (outcomes ≡ o ∷ later) × TasksTold setting (place + 1) tasks others later
 
 -- tasks that were done to their ends, and their lines
-pub record TasksDone (script : Script) (seat : Hand → ℕ) (tasks : List Task) (views : Views) (gateways : List Gateway) (old new : List Entry) (as_asked : Bool) (text : List ℕ) : Type 0 where
+pub record TasksDone (setting : Setting) (seat : Hand → ℕ) (tasks : List Task) (views : Holdings) (gateways : List Gateway) (old new : List Entry) (as_asked : Bool) (text : List ℕ) : Type 0 where
   pub made : List Entry
   pub entries : new ≡ old ++ made
   pub ends : List End
-  pub after : Views
-  pub run : InLine script seat views (duties_at script 0 tasks) made ends after
+  pub after : Holdings
+  pub run : InLine setting seat views (duties_at setting 0 tasks) made ends after
   pub shows : Shows after gateways
   pub outcomes : List Outcome
-  pub told : TasksTold script 0 tasks ends outcomes
-  pub lines : text ≡ report_of script tasks outcomes
+  pub told : TasksTold setting 0 tasks ends outcomes
+  pub lines : text ≡ report_of setting.script tasks outcomes
   pub flag : as_asked ≡ list_all is_as_asked outcomes
 
 -- where the journal is full, some duty has no end, and an operation is due
@@ -125,70 +127,70 @@ IsShort broken.Full ends duties is_due = (length ends < length duties) × is_due
 IsShort broken.NoMemory ends duties is_due = Unit {0}
 
 -- tasks that were broken off
-pub record TasksBroken (script : Script) (seat : Hand → ℕ) (tasks : List Task) (views : Views) (old new : List Entry) (why : Broken) : Type 0 where
+pub record TasksBroken (setting : Setting) (seat : Hand → ℕ) (tasks : List Task) (views : Holdings) (old new : List Entry) (why : Broken) : Type 0 where
   pub made : List Entry
   pub entries : new ≡ old ++ made
   pub ends : List End
-  pub after : Views
-  pub run : InLine script seat views (duties_at script 0 tasks) made ends after
-  pub short : IsShort why ends (duties_at script 0 tasks) (IsDueInLine script seat views (duties_at script 0 tasks) made)
+  pub after : Holdings
+  pub run : InLine setting seat views (duties_at setting 0 tasks) made ends after
+  pub short : IsShort why ends (duties_at setting 0 tasks) (IsDueInLine setting seat views (duties_at setting 0 tasks) made)
 
 -- ---- phases
 
 -- how phases came out, by the ends of their duties
-abbrev pub PhasesTold : Script → List Phase → List (List End) → List Outcome → Type 0
-PhasesTold script [] ends outcomes = (ends ≡ []) × (outcomes ≡ [])
-PhasesTold script (phase ∷ phases) [] outcomes = ⊥
-PhasesTold script (phase ∷ phases) (own ∷ ends) outcomes =
-    (first : List Outcome) × (later : List Outcome) × (outcomes ≡ first ++ later) × TasksTold script 0 phase.tasks own first × PhasesTold script phases ends later
+abbrev pub PhasesTold : Setting → List Phase → List (List End) → List Outcome → Type 0
+PhasesTold setting [] ends outcomes = (ends ≡ []) × (outcomes ≡ [])
+PhasesTold setting (phase ∷ phases) [] outcomes = ⊥
+PhasesTold setting (phase ∷ phases) (own ∷ ends) outcomes =
+    (first : List Outcome) × (later : List Outcome) × (outcomes ≡ first ++ later) × TasksTold setting 0 phase.tasks own first × PhasesTold setting phases ends later
 
 -- The phases before a place were done to their ends, and these are their lines. What completes the rest completes the run.
-pub record Reached (script : Script) (place : ℕ) (gateways : List Gateway) (journal : List Entry) (as_asked : Bool) (text : List ℕ) : Type 0 where
-  pub views : Views
+pub record Reached (setting : Setting) (place : ℕ) (gateways : List Gateway) (journal : List Entry) (as_asked : Bool) (text : List ℕ) : Type 0 where
+  pub views : Holdings
   pub shows : Shows views gateways
   pub ends : List (List End)
-  pub onward : (entries : List Entry) (later : List (List End)) → PhasesInLine script place views (drop place script.phases) entries later
-      → PhasesInLine script 0 no_views script.phases (journal ++ entries) (ends ++ later)
+  pub onward : (entries : List Entry) (later : List (List End)) → PhasesRun (in_line setting) place views (drop place setting.script.phases) entries later
+      → PhasesRun (in_line setting) 0 none_held setting.script.phases (journal ++ entries) (ends ++ later)
   pub outcomes : List Outcome
-  pub told : PhasesTold script (take place script.phases) ends outcomes
-  pub lines : text ≡ report_of script (tasks_of (take place script.phases)) outcomes
+  pub told : PhasesTold setting (take place setting.script.phases) ends outcomes
+  pub lines : text ≡ report_of setting.script (tasks_of (take place setting.script.phases)) outcomes
   pub flag : as_asked ≡ list_all is_as_asked outcomes
 
 -- An operation is due in the phase after those of these ends.
-abbrev pub IsDueAt : Script → List Entry → List (List End) → Type 0
-IsDueAt script journal ends =
-    (at : ℕ) × (op : Op) × IsLawful op
-    × ((seen : Seen) → IsAnswer op seen → (own : List End) × PhasesInLine script 0 no_views script.phases (journal ++ entry_of at op seen ∷ []) (ends ++ own ∷ []))
+abbrev pub IsDueAt : Setting → List Entry → List (List End) → Type 0
+IsDueAt setting journal ends = IsOperationDue (in_line setting) none_held setting.script.phases journal ends
 
 -- Of the phases left, none was begun, or the first one alone, and not to its end: an operation is due in it.
-abbrev pub IsUnfinished : Script → List Phase → List (List End) → Type 0 → Type 0
-IsUnfinished script left [] is_due = Unit {0}
-IsUnfinished script [] (own ∷ ends) is_due = ⊥
-IsUnfinished script (phase ∷ left) (own ∷ ends) is_due = (ends ≡ []) × (length own < length (duties_at script 0 phase.tasks)) × is_due
+abbrev pub IsUnfinished : Setting → List Phase → List (List End) → Type 0 → Type 0
+IsUnfinished setting left [] is_due = Unit {0}
+IsUnfinished setting [] (own ∷ ends) is_due = ⊥
+IsUnfinished setting (phase ∷ left) (own ∷ ends) is_due = (ends ≡ []) × (length own < length (duties_at setting 0 phase.tasks)) × is_due
 
 -- a run that was broken off in the phase at a place, or before that phase was begun
-pub record IsBrokenAt (script : Script) (place : ℕ) (journal : List Entry) (as_asked : Bool) (text : List ℕ) : Type 0 where
+pub record IsBrokenAt (setting : Setting) (place : ℕ) (journal : List Entry) (as_asked : Bool) (text : List ℕ) : Type 0 where
   pub ends : List (List End)
   pub unfinished : List (List End)
-  pub short : IsUnfinished script (drop place script.phases) unfinished (IsDueAt script journal ends)
-  pub run : PhasesInLine script 0 no_views script.phases journal (ends ++ unfinished)
+  pub short : IsUnfinished setting (drop place setting.script.phases) unfinished (IsDueAt setting journal ends)
+  pub run : PhasesRun (in_line setting) 0 none_held setting.script.phases journal (ends ++ unfinished)
   pub outcomes : List Outcome
-  pub told : PhasesTold script (take place script.phases) ends outcomes
-  pub lines : text ≡ report_of script (tasks_of (take place script.phases)) outcomes
+  pub told : PhasesTold setting (take place setting.script.phases) ends outcomes
+  pub lines : text ≡ report_of setting.script (tasks_of (take place setting.script.phases)) outcomes
   pub flag : as_asked ≡ list_all is_as_asked outcomes
 
 -- a run so far
-abbrev pub HasRun : Script → List Entry → Type 0
-HasRun script journal = (ends : List (List End)) × PhasesInLine script 0 no_views script.phases journal ends
+abbrev pub HasRun : Setting → List Entry → Type 0
+HasRun setting journal =
+    (ends : List (List End)) × PhasesRun (in_line setting) 0 none_held setting.script.phases journal ends
+    × AreInTurn (in_line setting) 0 setting.script.phases ends
 
 -- what a phase leaves
-abbrev pub PhaseStep : Script → ℕ → List Gateway → List Entry → Bool → List ℕ → Result (Unit {0}) Broken → Type 0
-PhaseStep script place gateways journal as_asked text (Ok done) = Reached script (place + 1) gateways journal as_asked text
-PhaseStep script place gateways journal as_asked text (Err broken.Full) = IsBrokenAt script place journal as_asked text
-PhaseStep script place gateways journal as_asked text (Err broken.NoMemory) = HasRun script journal
+abbrev pub PhaseStep : Setting → ℕ → List Gateway → List Entry → Bool → List ℕ → Result (Unit {0}) Broken → Type 0
+PhaseStep setting place gateways journal as_asked text (Ok done) = Reached setting (place + 1) gateways journal as_asked text
+PhaseStep setting place gateways journal as_asked text (Err broken.Full) = IsBrokenAt setting place journal as_asked text
+PhaseStep setting place gateways journal as_asked text (Err broken.NoMemory) = HasRun setting journal
 
 -- what all phases leave
-abbrev pub RunCame : Script → List Gateway → List Entry → Bool → List ℕ → Result (Unit {0}) Broken → Type 0
-RunCame script gateways journal as_asked text (Ok done) = Reached script (length script.phases) gateways journal as_asked text
-RunCame script gateways journal as_asked text (Err broken.Full) = (place : ℕ) × (place < length script.phases) × IsBrokenAt script place journal as_asked text
-RunCame script gateways journal as_asked text (Err broken.NoMemory) = HasRun script journal
+abbrev pub RunCame : Setting → List Gateway → List Entry → Bool → List ℕ → Result (Unit {0}) Broken → Type 0
+RunCame setting gateways journal as_asked text (Ok done) = Reached setting (length setting.script.phases) gateways journal as_asked text
+RunCame setting gateways journal as_asked text (Err broken.Full) = (place : ℕ) × (place < length setting.script.phases) × IsBrokenAt setting place journal as_asked text
+RunCame setting gateways journal as_asked text (Err broken.NoMemory) = HasRun setting journal

@@ -9,8 +9,9 @@ use Rattle.script_core.specs.declared.script.Script.{Script}
 use Rattle.script_workers.specs.declared.task.Task.{Task}
 use Rattle.script_workers.specs.declared.work.Work.TheVariants as work
 use Rattle.lifecycle_core.specs.Guarantees.{Answered, IsGiven, IsSound}
+use Rattle.lifecycle_core.specs.Holdings.{Use}
+use Rattle.lifecycle_core.specs.Setting.{Setting}
 use Rattle.lifecycle_core.specs.Tasks.{End}
-use Rattle.lifecycle_core.specs.Views.{Use}
 use Rattle.replay_cli.specs.Verdicts.{tasks_of}
 use Rattle.replay_cli.specs.declared.outcome.Outcome.{Outcome}
 use Rattle.replay_cli.specs.declared.outcome.Outcome.TheVariants as outcome
@@ -38,7 +39,7 @@ abbrev pub answered_with : Use → ToldAnswer → Answered
 answered_with used answer = record { low = answer.low; high = answer.high; selector = answer.selector; uses = used ∷ []; samples = triples_of answer.series; sources = answer.sources }
 
 -- A gateway of the run gave the answer with one of its views, and it is sound; or the script has no gateway, and the answer is empty.
-abbrev pub IsWorth : Script → List Entry → List (List (List End)) → ToldAnswer → Type 0
-IsWorth script journal ends answer =
-    ((used : Use) × IsGiven script ends (answered_with used answer) × IsSound script journal (answered_with used answer))
-    ⊎ ((script.gateways ≡ []) × (answer.series ≡ []) × (answer.sources ≡ []))
+abbrev pub IsWorth : Setting → List Entry → List (List (List End)) → ToldAnswer → Type 0
+IsWorth setting journal ends answer =
+    ((used : Use) × IsGiven setting ends (answered_with used answer) × IsSound setting journal (answered_with used answer))
+    ⊎ ((setting.script.gateways ≡ []) × (answer.series ≡ []) × (answer.sources ≡ []))

@@ -14,9 +14,12 @@ use Rattle.script_core.specs.declared.script.Script.{Script}
 use Rattle.script_core.specs.declared.script_refusal.ScriptRefusal.TheVariants.{TooLong}
 use Rattle.script_workers.specs.declared.task.Task.{Task}
 use Rattle.lifecycle_core.specs.Guarantees.{IsGuaranteed, IsGuaranteedJournal}
+use Rattle.lifecycle_core.specs.Holdings.{none_held}
 use Rattle.lifecycle_core.specs.InLine.{IsInLine}
-use Rattle.lifecycle_core.specs.Phases.{AreFinished, AreUnfinished, IsOperationDue, IsRunOf}
+use Rattle.lifecycle_core.specs.Phases.{IsFinished, IsRunOf, by_workers}
+use Rattle.lifecycle_core.specs.Setting.{Setting, setting_of}
 use Rattle.lifecycle_core.specs.Tasks.{End}
+use Rattle.lifecycle_core.specs.Ways.{AreFinished, AreUnfinished, IsOperationDue}
 use Rattle.replay_cli.specs.Kept.{HoldsNothing, IsNotAsked, IsOpened, told_of}
 use Rattle.replay_cli.specs.Outcomes.{PhasesCame}
 use Rattle.replay_cli.specs.Output.{IsWrittenInPart}
@@ -70,12 +73,12 @@ pub record IsReport (script : Script) (phases : List Phase) (ends : List (List (
 
 -- The journal is that of the whole script: each of its phases was begun, all its tasks have come to their ends, and the text
 -- is their report. All that is guaranteed of these ends holds.
-pub record IsWholeRun (script : Script) (as_asked : Bool) (text : List ℕ) (journal : List Entry) : Type 0 where
+pub record IsWholeRun (setting : Setting) (as_asked : Bool) (text : List ℕ) (journal : List Entry) : Type 0 where
   pub ends : List (List (List End))
-  pub run : IsRunOf script journal ends
-  pub finished : AreFinished script 0 script.phases ends
-  pub report : IsReport script script.phases ends as_asked text
-  pub guaranteed : IsGuaranteed script journal ends
+  pub run : IsRunOf setting journal ends
+  pub finished : IsFinished setting ends
+  pub report : IsReport setting.script setting.script.phases ends as_asked text
+  pub guaranteed : IsGuaranteed setting journal ends
 
 -- what holds where a phase was begun after those that are told
 abbrev pub WhereBegun : List (List (List End)) → Type 0 → Type 0
@@ -84,23 +87,23 @@ WhereBegun (own ∷ ends) P = P
 
 -- The journal is that of a run which the full journal broke off: some first phases are finished, and the text is their
 -- report; of the phases left, none was begun, or the first one alone, and an operation of it is due.
-pub record IsFullRun (script : Script) (text : List ℕ) (journal : List Entry) : Type 0 where
+pub record IsFullRun (setting : Setting) (text : List ℕ) (journal : List Entry) : Type 0 where
   pub ends : List (List (List End))
-  pub run : IsRunOf script journal ends
+  pub run : IsRunOf setting journal ends
   pub full : IsFull journal
   pub done : List Phase
   pub left : List Phase
-  pub phases : script.phases ≡ done ++ left
+  pub phases : setting.script.phases ≡ done ++ left
   pub more : left ≢ []
   pub told : List (List (List End))
   pub untold : List (List (List End))
   pub parts : ends ≡ told ++ untold
-  pub unfinished : AreUnfinished script (length done) untold
-  pub due : WhereBegun untold (IsOperationDue script journal told)
-  pub finished : AreFinished script 0 done told
+  pub unfinished : AreUnfinished (by_workers setting) (length done) left untold
+  pub due : WhereBegun untold (IsOperationDue (by_workers setting) none_held setting.script.phases journal told)
+  pub finished : AreFinished (by_workers setting) 0 done told
   pub as_asked : Bool
-  pub report : IsReport script done told as_asked text
-  pub guaranteed : IsGuaranteed script journal ends
+  pub report : IsReport setting.script done told as_asked text
+  pub guaranteed : IsGuaranteed setting journal ends
 
 -- ---- causes
 
@@ -146,13 +149,13 @@ around_call left source_faults script read buckets next_bucket shelves next_shel
 -- Why a script's run comes to a verdict: by what the bucket held before, where that is told; by whether something could not
 -- be opened, or the bucket not listed; and by the journal that is handed back. Whatever it comes to, the journal is lawful
 -- for the script, and its tasks were done in the order of their lines.
-abbrev pub IsRun : Script → Option Contents → Type 0 → Option (List Entry) → Verdict → Type 0
-IsRun script before site_failed journal SiteFault = site_failed × IfSome journal (λ entries. entries ≡ [])
-IsRun script before site_failed journal (NotEmpty name) = IfSome before (λ contents. IsPage contents [] [] 1 (name ∷ [])) × IsSomeAnd journal (λ entries. entries ≡ [])
-IsRun script before site_failed journal (Full lines) = IfSome before HoldsNothing × IsSomeAnd journal (λ entries. IsInLine script entries × IsFullRun script lines.items entries)
-IsRun script before site_failed journal (Report lines as_asked) = IfSome before HoldsNothing × IsSomeAnd journal (λ entries. IsInLine script entries × IsWholeRun script as_asked lines.items entries)
-IsRun script before site_failed journal NoMemory = IfSome journal (λ entries. IsInLine script entries × IsGuaranteedJournal script entries)
-IsRun script before site_failed journal other = ⊥
+abbrev pub IsRun : Setting → Option Contents → Type 0 → Option (List Entry) → Verdict → Type 0
+IsRun setting before site_failed journal SiteFault = site_failed × IfSome journal (λ entries. entries ≡ [])
+IsRun setting before site_failed journal (NotEmpty name) = IfSome before (λ contents. IsPage contents [] [] 1 (name ∷ [])) × IsSomeAnd journal (λ entries. entries ≡ [])
+IsRun setting before site_failed journal (Full lines) = IfSome before HoldsNothing × IsSomeAnd journal (λ entries. IsInLine setting entries × IsFullRun setting lines.items entries)
+IsRun setting before site_failed journal (Report lines as_asked) = IfSome before HoldsNothing × IsSomeAnd journal (λ entries. IsInLine setting entries × IsWholeRun setting as_asked lines.items entries)
+IsRun setting before site_failed journal NoMemory = IfSome journal (λ entries. IsInLine setting entries × IsGuaranteedJournal setting entries)
+IsRun setting before site_failed journal other = ⊥
 
 -- what holds where a verdict comes behind all openings
 abbrev pub BehindOpening : Verdict → Type 0 → Type 0
@@ -172,7 +175,7 @@ pub record IsRunOfText (around : Around) (verdict : Verdict) : Type 0 where
   pub taken : IfSome around.text (λ bytes. around.left ≡ Some [])
   pub lawful : IsLawfulScript script
   pub opened : BehindOpening verdict around.opened
-  pub run : IsRun script around.before around.site_failed around.journal verdict
+  pub run : IsRun (setting_of script) around.before around.site_failed around.journal verdict
 
 -- why no script was read: by the source, or by its text, which was read to its end unless it was too long
 abbrev pub IsUnread : Option (List ℕ) → Option (List ℕ) → Type 0 → Verdict → Type 0

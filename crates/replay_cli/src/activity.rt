@@ -8,7 +8,8 @@ ghost use Rattle.store_gateway.specs.SeriesRuns.{SeriesRun, asking};
 ghost use Rattle.script_core.specs.Lawful.{IsLawfulBlock};
 ghost use Rattle.script_workers.specs.declared.work.Work.TheVariants as works;
 ghost use Rattle.lifecycle_core.specs.Tasks.{End, BlockUpload, answered, sync_rules, synced};
-ghost use Rattle.lifecycle_core.specs.Views.{Use};
+ghost use Rattle.lifecycle_core.specs.Holdings.{Use};
+ghost use Rattle.lifecycle_core.specs.Setting.{Setting, setting_of};
 ghost use Rattle.replay_cli.specs.Outcomes.{call_outcome, sync_outcome, upload_outcome};
 ghost use Rattle.replay_cli.specs.Drives.{call_came, driven_end, sync_came, upload_came};
 ghost use Rattle.replay_cli.specs.Progress.{Adds, CameBy, view_by};
@@ -20,7 +21,7 @@ use bucket_core::Bucket;
 use matchers::Selector;
 use meta_fetcher::{Sync, SyncEnd, SyncRules, View};
 use moment_core::{Partition, Rules};
-use script_core::Block;
+use script_core::{Block, Script};
 use shipper::{Upload, UploadEnd};
 use std::alloc::Global;
 use store_gateway::{Gateway, SeriesCall, SeriesEnd};
@@ -37,8 +38,8 @@ pub(crate) fn upload<B: Bucket>(
 ) -> (Came, World<B>)
     requires { IsLawfulBlock block.now }
     ensures full { result.0 ≡ Err Broken.Full → IsFull result.1.journal }
-    ensures ran { (ulid : ℕ) → (end : Option End)
-        × Adds (BlockUpload block.now stop) seat world.journal result.1.journal end result.0
+    ensures ran { (setting : Setting) (ulid : ℕ) → (end : Option End)
+        × Adds (BlockUpload setting block.now stop) seat world.journal result.1.journal end result.0
         × CameBy (works.Upload ulid stop) end result.0 }
     ensures tick { result.1.tick ≡ world.tick }
 {
@@ -78,19 +79,20 @@ fn upload_outcome(end: UploadEnd) -> UploadOutcome
 #[tactic(auto, using(crate::proofs::Syncs::nothing_synced))]
 pub(crate) fn sync<B: Bucket>(
     alloc: Global,
-    rules: &Rules,
+    script: &Script,
     gateway: &mut Gateway,
     world: World<B>,
     seat: u32,
 ) -> (Came, World<B>)
-    requires { 1 ≤ rules.now.page_limit }
+    requires { 1 ≤ script.now.rules.page_limit }
     ensures full { result.0 ≡ Err Broken.Full → IsFull result.1.journal }
     ensures ran { (place : ℕ) → (end : Option SyncEnd)
-        × Adds (SyncRun (sync_rules rules.now)) seat world.journal result.1.journal end result.0
+        × Adds (SyncRun (sync_rules (setting_of script.now) place)) seat world.journal result.1.journal end result.0
         × CameBy (works.Sync place) (option_map synced end) result.0
         × (gateway.new.view ≡ view_by gateway.old.view end) }
     ensures tick { result.1.tick ≡ world.tick }
 {
+    let rules = &script.rules;
     let asked = SyncRules {
         consistency: rules.consistency,
         mark_delay: rules.ignore,

@@ -3,29 +3,29 @@ ghost use Rattle.world_core.specs.Standing.{IsHonest};
 ghost use Rattle.world_core.specs.Worlds.{failed_count};
 ghost use Rattle.world_core.specs.declared.entry.Entry.{Entry};
 ghost use Rattle.script_core.specs.Lawful.{IsLawfulScript};
-ghost use Rattle.script_core.specs.declared.script.Script.{Script};
+ghost use Rattle.lifecycle_core.specs.Setting.{Setting};
 ghost use Rattle.replay_cli.specs.ToldAnswers.{IsTold, IsWorth, ToldAnswer};
 ghost use Rattle.replay_cli.specs.Verdicts.{IsFullRun, IsWholeRun};
 
 /// A law: each answer that the report of a whole run tells was given in it and is sound, where the journal is honest; and so is
 /// each that is told of a run which the full journal broke off.
 pub fn told_answers_are_sound()
-    ensures whole { (script : Script) (as_asked : Bool) (text : List ℕ) (journal : List Entry)
-        (run : IsWholeRun script as_asked text journal) → IsLawfulScript script → IsHonest journal
+    ensures whole { (setting : Setting) (as_asked : Bool) (text : List ℕ) (journal : List Entry)
+        (run : IsWholeRun setting as_asked text journal) → IsLawfulScript setting.script → IsHonest journal
         → (place : ℕ) (answer : ToldAnswer)
-        → IsTold script script.phases run.report.outcomes place answer
-        → IsWorth script journal run.ends answer }
-    ensures full { (script : Script) (text : List ℕ) (journal : List Entry)
-        (run : IsFullRun script text journal) → IsLawfulScript script → IsHonest journal
+        → IsTold setting.script setting.script.phases run.report.outcomes place answer
+        → IsWorth setting journal run.ends answer }
+    ensures full { (setting : Setting) (text : List ℕ) (journal : List Entry)
+        (run : IsFullRun setting text journal) → IsLawfulScript setting.script → IsHonest journal
         → (place : ℕ) (answer : ToldAnswer)
-        → IsTold script run.done run.report.outcomes place answer
-        → IsWorth script journal run.ends answer }
+        → IsTold setting.script run.done run.report.outcomes place answer
+        → IsWorth setting journal run.ends answer }
 {}
 
 /// A law: where the bucket is honest and no call to it failed, a whole run ends as asked: no line tells of a fault, of something
 /// missing, damaged or too many, or of a view that is not there.
 pub fn calm_runs_end_as_asked()
-    ensures { (script : Script) (as_asked : Bool) (text : List ℕ) (journal : List Entry)
-        → IsWholeRun script as_asked text journal → IsHonest journal → failed_count journal ≡ 0
+    ensures { (setting : Setting) (as_asked : Bool) (text : List ℕ) (journal : List Entry)
+        → IsWholeRun setting as_asked text journal → IsHonest journal → failed_count journal ≡ 0
         → as_asked ≡ true }
 {}

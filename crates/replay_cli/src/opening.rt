@@ -1,6 +1,6 @@
 ghost use Rattle.std.specs.Prelude.{◌≡◌, ◌≤◌, [], Some, IfOk, IfErr, IsSome, is_some};
 ghost use Rattle.bucket_core.specs.Causes.{Rose};
-ghost use Rattle.script_core.specs.declared.script.Script.{Script};
+ghost use Rattle.lifecycle_core.specs.Setting.{Setting};
 ghost use Rattle.replay_cli.specs.Kept.{IsHandedBack, IsNotAsked, IsShelfOf};
 ghost use Rattle.replay_cli.specs.Verdicts.{IsRun};
 ghost use Rattle.replay_cli.specs.Words.{named_by};
@@ -49,7 +49,7 @@ pub(crate) fn without_shelf<B: Bucket>(
     refusal: SiteRefusal,
     bucket: B,
 ) -> Conclusion<B>
-    ensures cause { (script : Script) → IsRun script (B.contents bucket)
+    ensures cause { (setting : Setting) → IsRun setting (B.contents bucket)
         (refusal ≡ SiteRefusal.Failed) result.journal result.verdict }
     ensures failed { refusal ≡ SiteRefusal.Failed → result.verdict ≡ Verdict.SiteFault }
     ensures none { refusal ≡ SiteRefusal.NoMemory → result.verdict ≡ Verdict.NoMemory }

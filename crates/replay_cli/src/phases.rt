@@ -6,10 +6,11 @@ ghost use Rattle.store_gateway.specs.declared.gateway.Gateway.{Gateway};
 ghost use Rattle.script_core.specs.Workers.{seats_before};
 ghost use Rattle.script_core.specs.Lawful.{IsLawfulScript};
 ghost use Rattle.lifecycle_core.specs.InLine.{seat_of};
-ghost use Rattle.lifecycle_core.specs.Phases.{BeginsPhase};
-ghost use Rattle.lifecycle_core.specs.Views.{Views};
+ghost use Rattle.lifecycle_core.specs.Ways.{BeginsPhase};
+ghost use Rattle.lifecycle_core.specs.Holdings.{Holdings};
 ghost use Rattle.replay_cli.specs.Progress.{Allows, PhaseStep, Reached, RunCame, Shows, TasksBroken, TasksDone};
 ghost use Rattle.replay_cli.specs.Reports.{activity_text, is_as_asked};
+ghost use Rattle.lifecycle_core.specs.Setting.{setting_of};
 
 use crate::came::Broken;
 use crate::outcome::Outcome;
@@ -85,11 +86,11 @@ pub(crate) fn run_phases<B: Bucket>(
     requires lawful { IsLawfulScript script.now }
     requires ready { length progress.old.gateways.items ≡ length script.now.gateways }
     requires workers { progress.old.workers ≡ seats_before script.now 0 }
-    requires reached { Reached script.now 0 progress.old.gateways.items world.journal
+    requires reached { Reached (setting_of script.now) 0 progress.old.gateways.items world.journal
         progress.old.report.as_asked progress.old.report.text.items }
     ensures full { result.0 ≡ Err Broken.Full → IsFull result.1.journal }
     ensures tick { result.1.tick ≡ world.tick }
-    ensures came { RunCame script.now progress.new.gateways.items result.1.journal
+    ensures came { RunCame (setting_of script.now) progress.new.gateways.items result.1.journal
         progress.new.report.as_asked progress.new.report.text.items result.0 }
 {
     let mut world = world;
@@ -116,14 +117,14 @@ fn run_phase<B: Bucket>(
     requires at { slice_get script.now.phases place ≡ Some phase.now }
     requires ready { length progress.old.gateways.items ≡ length script.now.gateways }
     requires workers { progress.old.workers ≡ seats_before script.now place }
-    requires reached { Reached script.now place progress.old.gateways.items world.journal
+    requires reached { Reached (setting_of script.now) place progress.old.gateways.items world.journal
         progress.old.report.as_asked progress.old.report.text.items }
     ensures full { result.0 ≡ Err Broken.Full → IsFull result.1.journal }
     ensures tick { result.1.tick ≡ world.tick }
     ensures ready { length progress.new.gateways.items ≡ length script.now.gateways }
     ensures workers { result.0 ≡ Ok tt
         → progress.new.workers ≡ seats_before script.now (place + 1) }
-    ensures step { PhaseStep script.now place progress.new.gateways.items result.1.journal
+    ensures step { PhaseStep (setting_of script.now) place progress.new.gateways.items result.1.journal
         progress.new.report.as_asked progress.new.report.text.items result.0 }
 {
     let Ok(seats) = Seats::new(alloc, script, place, progress.workers) else {
@@ -207,12 +208,12 @@ fn run_tasks<B: Bucket>(
     requires ready { length progress.old.gateways.items ≡ length script.now.gateways }
     ensures full { result.0 ≡ Err Broken.Full → IsFull result.1.journal }
     ensures tick { result.1.tick ≡ world.tick }
-    ensures came { (views : Views) → Shows views progress.old.gateways.items
+    ensures came { (views : Holdings) → Shows views progress.old.gateways.items
         → MatchResult result.0
-        (λ lines. TasksDone script.now
+        (λ lines. TasksDone (setting_of script.now)
         (seat_of seats.now.workers) tasks.now views progress.new.gateways.items world.journal
         result.1.journal lines.as_asked lines.text.items)
-        (λ broken. TasksBroken script.now
+        (λ broken. TasksBroken (setting_of script.now)
         (seat_of seats.now.workers) tasks.now views world.journal result.1.journal broken) }
     ensures report { progress.new.report ≡ progress.old.report }
     ensures workers { progress.new.workers ≡ progress.old.workers }
@@ -252,15 +253,15 @@ fn next_task<B: Bucket>(
     requires ready { length progress.old.gateways.items ≡ length script.now.gateways }
     ensures full { result.0 ≡ Err Broken.Full → IsFull result.1.journal }
     ensures tick { result.1.tick ≡ world.tick }
-    ensures came { (views : Views) (start : List Entry)
-        → TasksDone script.now (seat_of seats.now.workers)
+    ensures came { (views : Holdings) (start : List Entry)
+        → TasksDone (setting_of script.now) (seat_of seats.now.workers)
         (take place tasks.now) views progress.old.gateways.items start world.journal
         lines.old.as_asked lines.old.text.items
         → MatchResult result.0
-        (λ done. TasksDone script.now (seat_of seats.now.workers)
+        (λ done. TasksDone (setting_of script.now) (seat_of seats.now.workers)
         (take (place + 1) tasks.now) views progress.new.gateways.items start result.1.journal
         lines.new.as_asked lines.new.text.items)
-        (λ broken. TasksBroken script.now
+        (λ broken. TasksBroken (setting_of script.now)
         (seat_of seats.now.workers) tasks.now views start result.1.journal broken) }
     ensures report { progress.new.report ≡ progress.old.report }
     ensures workers { progress.new.workers ≡ progress.old.workers }

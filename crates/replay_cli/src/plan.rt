@@ -3,6 +3,7 @@ ghost use Rattle.block_keys.specs.Blocks.{IsBlock};
 ghost use Rattle.block_meta.specs.Lawful.{AreLawfulTimes};
 ghost use Rattle.script_core.specs.Lawful.{IsLawfulBlock};
 ghost use Rattle.script_core.specs.declared.body.Body.TheVariants.{Inline};
+ghost use Rattle.lifecycle_core.specs.Setting.{Setting};
 ghost use Rattle.lifecycle_core.specs.Shipped.{IsPlanOf, IsShipped};
 
 use block_files::{BuildRefusal, build, files_objects};
@@ -17,7 +18,7 @@ use std::alloc::Global;
 pub(crate) fn objects_of(alloc: Global, block: &Block) -> Result<ObjectList, NoMemory>
     requires { IsLawfulBlock block.now }
     ensures block { IfOk result (λ objects. IsBlock block.now.ulid objects) }
-    ensures shipped { IfOk result (λ objects. IsShipped block.now objects) }
+    ensures shipped { (setting : Setting) → IfOk result (λ objects. IsShipped setting block.now objects) }
 {
     let Body::Inline {
         min_time,
@@ -38,7 +39,7 @@ fn inline_objects(
     requires lawful { IsLawfulBlock block.now }
     requires body { block.now.body ≡ Inline min_time max_time series.now }
     ensures block { IfOk result (λ objects. IsBlock block.now.ulid objects) }
-    ensures shipped { IfOk result (λ objects. IsShipped block.now objects) }
+    ensures shipped { (setting : Setting) → IfOk result (λ objects. IsShipped setting block.now objects) }
 {
     let plan = plan_of(alloc, block, min_time, max_time)?;
     match build(alloc, &plan, series) {

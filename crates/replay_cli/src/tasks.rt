@@ -5,8 +5,9 @@ ghost use Rattle.world_core.specs.Keeping.{IsFull};
 ghost use Rattle.script_core.specs.Lawful.{IsLawfulScript};
 ghost use Rattle.script_workers.specs.declared.work.Work.TheVariants as works;
 ghost use Rattle.lifecycle_core.specs.InLine.{seat_of};
-ghost use Rattle.lifecycle_core.specs.Views.{Views};
+ghost use Rattle.lifecycle_core.specs.Holdings.{Holdings};
 ghost use Rattle.replay_cli.specs.Progress.{Allows, Shows, TaskStep};
+ghost use Rattle.lifecycle_core.specs.Setting.{setting_of};
 
 use crate::activity::{call, sync, upload};
 use crate::came::{Broken, Came};
@@ -38,8 +39,8 @@ pub(crate) fn run_task<B: Bucket>(
     requires ready { length progress.old.gateways.items ≡ length script.now.gateways }
     ensures full { result.0 ≡ Err Broken.Full → IsFull result.1.journal }
     ensures tick { result.1.tick ≡ world.tick }
-    ensures step { (views : Views) → Shows views progress.old.gateways.items
-        → TaskStep script.now
+    ensures step { (views : Holdings) → Shows views progress.old.gateways.items
+        → TaskStep (setting_of script.now)
         (seat_of seats.now.workers) place task.now views progress.new.gateways.items world.journal
         result.1.journal result.0 }
     ensures report { progress.new.report ≡ progress.old.report }
@@ -55,7 +56,7 @@ pub(crate) fn run_task<B: Bucket>(
         Work::Sync(number) => {
             let seat = seats.seat_of(Hand::Gateway(*number));
             let gateway = &mut progress.gateways[*number as usize];
-            sync(alloc, &script.rules, gateway, world, seat)
+            sync(alloc, script, gateway, world, seat)
         }
         Work::Query {
             low,
@@ -84,9 +85,9 @@ fn run_query<B: Bucket>(
     requires ready { length gateways.now ≡ length script.now.gateways }
     ensures full { result.0 ≡ Err Broken.Full → IsFull result.1.journal }
     ensures tick { result.1.tick ≡ world.tick }
-    ensures step { (views : Views) (place line number : ℕ) → Shows views gateways.now
+    ensures step { (views : Holdings) (place line number : ℕ) → Shows views gateways.now
         → slice_get script.now.selectors number ≡ Some selector.now
-        → TaskStep script.now (seat_of seats.now.workers) place
+        → TaskStep (setting_of script.now) (seat_of seats.now.workers) place
         (record { line = line; work = works.Query low high number }) views gateways.now
         world.journal result.1.journal result.0 }
 {

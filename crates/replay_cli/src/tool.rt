@@ -7,6 +7,7 @@ ghost use Rattle.replay_cli.specs.Kept.{IsHandedBack, IsHandedOut, IsOpened, IsS
 ghost use Rattle.replay_cli.specs.Statuses.{number_of};
 ghost use Rattle.replay_cli.specs.Verdicts.{BehindOpening, IsCaused, IsWorked, IsUnread, IsRun, IsSaid, SiteFailed, around_call, saying_to};
 ghost use Rattle.replay_cli.specs.Words.{bucket_word, named_by, shelf_word};
+ghost use Rattle.lifecycle_core.specs.Setting.{setting_of};
 
 use crate::came::Broken;
 use crate::conclusion::{Conclusion, Ended};
@@ -166,7 +167,7 @@ fn over_site<S: Site>(
     site: &mut S,
 ) -> Ended<S::Store, S::Files>
     requires { IsLawfulScript script.now }
-    ensures cause { IsRun script.now (S.next_bucket site.old bucket.now)
+    ensures cause { IsRun (setting_of script.now) (S.next_bucket site.old bucket.now)
         (SiteFailed S.faults site.old site.new S.Store.faults result.conclusion.store)
         result.conclusion.journal result.conclusion.verdict }
     ensures opened { BehindOpening result.conclusion.verdict
@@ -198,7 +199,7 @@ fn over_shelf<S: Site>(
     site: &mut S,
 ) -> Ended<S::Store, S::Files>
     requires { IsLawfulScript script.now }
-    ensures cause { IsRun script.now (S.Store.contents bucket)
+    ensures cause { IsRun (setting_of script.now) (S.Store.contents bucket)
         (Rose (S.faults site.old) (S.faults site.new)
         ⊎ IsSomeAnd result.conclusion.store
         (λ store. Rose (S.Store.faults bucket) (S.Store.faults store)))
@@ -231,7 +232,7 @@ fn over_shelf<S: Site>(
 #[tactic(auto, using(crate::proofs::Verdicts::run_empty))]
 fn over_bucket<B: Bucket>(alloc: Global, script: &Script, bucket: B) -> Conclusion<B>
     requires { IsLawfulScript script.now }
-    ensures cause { IsRun script.now (B.contents bucket)
+    ensures cause { IsRun (setting_of script.now) (B.contents bucket)
         (IsSomeAnd result.store (λ store. Rose (B.faults bucket) (B.faults store))) result.journal
         result.verdict }
     ensures store { IsSome result.store }
@@ -266,7 +267,7 @@ fn over_world<B: Bucket>(alloc: Global, script: &Script, world: World<B>) -> Con
     requires lawful { IsLawfulScript script.now }
     requires fresh { world.journal ≡ [] }
     requires tick { world.tick ≡ script.now.rules.tick.ms }
-    ensures cause { IsRun script.now (Some nothing) ⊥ result.journal result.verdict }
+    ensures cause { IsRun (setting_of script.now) (Some nothing) ⊥ result.journal result.verdict }
     ensures store { IsSome result.store }
     ensures journal { IsSome result.journal }
     ensures back { IsHandedBack B.contents B.faults result.journal result.store }

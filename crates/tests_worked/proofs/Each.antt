@@ -1,5 +1,7 @@
 -- What holds of each entry of a list that is written out.
-use Rattle.std.proofs.Common.{List, [], ◌∷◌, ◌++◌, sym, subst, append-nil, append_assoc}
+use Rattle.std.proofs.Common.{◌⊎◌, inl, inr, ℕ, Contains, List, [], ◌∷◌, ◌++◌, sym, subst, append-nil, append_assoc}
+use Rattle.std.specs.List.{All}
+use Rattle.std.proofs.lemmas.List.Elements.{All-weaker}
 use Rattle.world_core.specs.Journals.{Each}
 use Rattle.world_core.specs.declared.entry.Entry.{Entry}
 use Rattle.world_core.proofs.Growing.{Each-none, Each-push}
@@ -21,3 +23,10 @@ pub each_after : (P : List Entry → Entry → Type 0) (before one other : List 
 each_after P before [] other first rest = subst (λ es. EachAfter P es other) (append-nil before) rest
 each_after P before (e ∷ one) other first rest =
     (first.0, each_after P (before ++ e ∷ []) one other first.1 (subst (λ es. EachAfter P es other) (sym (append_assoc before (e ∷ []) one)) rest))
+
+-- entries that are all of workers' seats
+pub by_workers_alone : (seats : List ℕ) (entries : List Entry) → All (λ (e : Entry). Contains seats e.seat) entries → All (λ (e : Entry). Contains seats e.seat ⊎ ⊥) entries
+by_workers_alone seats entries all = All-weaker (λ (e : Entry). Contains seats e.seat) (λ (e : Entry). Contains seats e.seat ⊎ ⊥) (λ e sits. inl sits) entries all
+
+pub workers_seats : (seats : List ℕ) (entries : List Entry) → All (λ (e : Entry). Contains seats e.seat ⊎ ⊥) entries → All (λ (e : Entry). Contains seats e.seat) entries
+workers_seats seats entries all = All-weaker (λ (e : Entry). Contains seats e.seat ⊎ ⊥) (λ (e : Entry). Contains seats e.seat) (λ e sits. elim sits [ inl own ↦ own | inr none ↦ absurd none ]) entries all

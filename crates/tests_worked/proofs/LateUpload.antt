@@ -11,13 +11,15 @@ use Rattle.script_core.specs.Workers.{workers_of}
 use Rattle.script_workers.specs.declared.task.Task.{Task}
 use Rattle.script_workers.specs.declared.work.Work.TheVariants as works
 use Rattle.script_workers.specs.declared.worker.Worker.{Worker}
-use Rattle.lifecycle_core.specs.Phases.{IsRunOf, PhaseRun, PhasesRun}
+use Rattle.lifecycle_core.specs.Conducts.{PhaseRun}
+use Rattle.lifecycle_core.specs.Holdings.{none_held, nothing_held}
+use Rattle.lifecycle_core.specs.Phases.{IsRunOf, by_script, by_workers}
 use Rattle.lifecycle_core.specs.Tasks.{End, uploaded}
-use Rattle.lifecycle_core.specs.Views.{no_views}
+use Rattle.lifecycle_core.specs.Ways.{PhasesRun}
 use Rattle.tests_worked.specs.Entries.{clock}
 use Rattle.tests_worked.specs.LateUpload as late
 use Rattle.tests_worked.specs.SmallBlock as small
-use Rattle.tests_worked.proofs.Each.{each_of}
+use Rattle.tests_worked.proofs.Each.{each_of, by_workers_alone}
 use Rattle.tests_worked.proofs.OneBlock.{uploader}
 use Rattle.tests_worked.proofs.SmallTasks.{upload_task}
 
@@ -31,15 +33,15 @@ tasks = record { line = 4; work = works.Upload small.a None } ∷ []
 abbrev first_ends : List (List End)
 first_ends = (uploaded (shipped.Done 3) ∷ []) ∷ []
 
-phase : PhaseRun late.script tasks (uploader ∷ []) no_views late.upload first_ends no_views
+phase : PhaseRun (by_script late.setting) tasks (uploader ∷ []) none_held late.upload first_ends none_held
 phase = record {
-  seats = All-from_recursion (λ (e : Entry). Contains (1 ∷ []) e.seat) late.upload ((0, lit< tt, refl), ((0, lit< tt, refl), ((0, lit< tt, refl), ((0, lit< tt, refl), tt))));
+  seats = by_workers_alone (1 ∷ []) late.upload (All-from_recursion (λ (e : Entry). Contains (1 ∷ []) e.seat) late.upload ((0, lit< tt, refl), ((0, lit< tt, refl), ((0, lit< tt, refl), ((0, lit< tt, refl), tt)))));
   runs = (
     record {
-      own = tasks;
-      are = (refl, refl);
-      last = None;
-      runs = inl (late.upload, [], uploaded (shipped.Done 3), [], refl, upload_task late.script refl 2 1 1_800_001, refl, (refl, refl, refl));
+      own = record { place = 0; task = record { line = 4; work = works.Upload small.a None } } ∷ [];
+      are = ((refl, refl), refl);
+      last = nothing_held;
+      runs = inl (late.upload, [], uploaded (shipped.Done 3), [], nothing_held, refl, (upload_task late.setting refl 2 1 1_800_001, refl), refl, (refl, refl, refl));
       leaves = λ gateway is. absurd (cc);
     },
     tt,
@@ -47,19 +49,19 @@ phase = record {
   kept = λ gateway none. refl;
 }
 
-phases : PhasesRun late.script 0 no_views late.script.phases late.journal late.ends
+phases : PhasesRun (by_workers late.setting) 0 none_held late.script.phases late.journal late.ends
 phases = inr (
   clock 1 1_800_000,
   late.upload,
   [],
   first_ends,
   [],
-  no_views,
+  none_held,
   refl,
   record { seat = refl; sets = refl },
-  subst (λ (ws : List Worker). PhaseRun late.script tasks ws no_views late.upload first_ends no_views) (sym workers) phase,
+  subst (λ (ws : List Worker). PhaseRun (by_script late.setting) tasks ws none_held late.upload first_ends none_held) (sym workers) phase,
   refl,
-  inl (refl, refl),
+  (refl, refl),
 )
 
 kept : IsJournal 1 late.journal
@@ -72,5 +74,5 @@ kept = record {
   small = each_of (λ before e. e.moment.ms < 2 ^ 48) late.journal (lit< tt, (lit< tt, (lit< tt, (lit< tt, (lit< tt, tt)))));
 }
 
-pub run : IsRunOf late.script late.journal late.ends
+pub run : IsRunOf late.setting late.journal late.ends
 run = record { kept = kept; phases = phases }

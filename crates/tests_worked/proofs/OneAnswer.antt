@@ -14,12 +14,12 @@ use Rattle.world_core.specs.declared.entry.Entry.{Entry}
 use Rattle.store_gateway.specs.declared.series_end.SeriesEnd.TheVariants as called
 use Rattle.script_workers.specs.declared.worker.Worker.{Worker}
 use Rattle.script_workers.specs.declared.work.Work.TheVariants as works
-use Rattle.lifecycle_core.specs.Completed.{PutsMeta, IsCompletedAt, IsUploadedBefore, IsSettled}
-use Rattle.lifecycle_core.specs.Guarantees.{IsExact, NamesUploads, IsGiven}
-use Rattle.lifecycle_core.specs.Held.{held_by, held}
-use Rattle.lifecycle_core.specs.Phases.{CameTo}
-use Rattle.lifecycle_core.specs.Tasks.{synced, answered}
-use Rattle.lifecycle_core.specs.Views.{Use}
+use Rattle.lifecycle_core.specs.Completed.{IsCompletedAt, IsSettled, IsUploadedBefore, PutsMeta}
+use Rattle.lifecycle_core.specs.Conducts.{CameTo}
+use Rattle.lifecycle_core.specs.Guarantees.{IsExact, IsGiven, NamesUploads}
+use Rattle.lifecycle_core.specs.Held.{held, held_by}
+use Rattle.lifecycle_core.specs.Holdings.{Use}
+use Rattle.lifecycle_core.specs.Tasks.{answered, synced}
 use Rattle.meta_fetcher.specs.declared.sync_end.SyncEnd.TheVariants as fetched
 use Rattle.tests_worked.specs.Entries.{clock, stored, absent}
 use Rattle.tests_worked.specs.SmallBlock as small
@@ -35,7 +35,7 @@ answer_came = record {
   came = (1, lit< tt, refl);
 }
 
-pub given : IsGiven one.script one.ends one.asked
+pub given : IsGiven one.setting one.ends one.asked
 unfolding triples_of triples_under
 given = record {
   phase_number = 1;
@@ -57,7 +57,7 @@ given = record {
   uses = refl;
 }
 
-pub exact : IsExact one.script one.asked
+pub exact : IsExact one.setting one.asked
 unfolding held held_by triples_under selected is_selected is_match accepts is_accepted value_or_empty value_of final_of without is_among in_order placed IsDistinct IsStrictlySortedBy
 exact = record {
   ascending = (tt, tt);
@@ -82,13 +82,13 @@ complete = record {
   first = All-from_recursion (λ (e : Entry). ¬ PutsMeta small.a e) fresh (λ put. cc (put.1), (λ put. cc (put.1), (λ put. cc (put.1), (λ put. cc (put.1), tt))));
 }
 
-uploaded_before : (last : ℕ) → 5 < last → IsUploadedBefore one.script one.journal small.a last
+uploaded_before : (last : ℕ) → 5 < last → IsUploadedBefore one.setting one.journal small.a last
 uploaded_before last later = record { is_declared = refl; seq = 5; completed = complete; earlier = later }
 
-pub names : NamesUploads one.script one.journal one.asked
-names = All-cons (λ ulid. (used : Use) × Contains (one.used ∷ []) used × IsUploadedBefore one.script one.journal ulid used.last) small.a []
+pub names : NamesUploads one.setting one.journal one.asked
+names = All-cons (λ ulid. (used : Use) × Contains (one.used ∷ []) used × IsUploadedBefore one.setting one.journal ulid used.last) small.a []
     (one.used, (0, lit< tt, refl), uploaded_before 9 (lit< tt))
-    (All-nil (λ ulid. (used : Use) × Contains (one.used ∷ []) used × IsUploadedBefore one.script one.journal ulid used.last))
+    (All-nil (λ ulid. (used : Use) × Contains (one.used ∷ []) used × IsUploadedBefore one.setting one.journal ulid used.last))
 
-pub settled : IsSettled one.script one.journal one.used small.a
+pub settled : IsSettled one.setting one.journal one.used small.a
 settled = record { uploaded = uploaded_before 7 (lit< tt); old = lit≤ tt }

@@ -10,32 +10,38 @@ use Rattle.script_workers.specs.Hands.{hands_of_task, with_hands, hands_from, pl
 use Rattle.script_core.specs.Workers.{workers_of}
 use Rattle.script_workers.specs.declared.task.Task.{Task}
 use Rattle.script_workers.specs.declared.worker.Worker.{Worker}
-use Rattle.lifecycle_core.specs.Phases.{TasksRun, PhaseRun, PhasesRun, AreDone, AreFinished, IsRunOf, of_seat}
+use Rattle.lifecycle_core.specs.Conducts.{AreDone, Assigned, PhaseRun, TasksRun, of_seat, who_of}
+use Rattle.lifecycle_core.specs.Holdings.{Holding, Holdings, none_held, nothing_held}
+use Rattle.lifecycle_core.specs.Phases.{IsFinished, IsRunOf, by_script, by_workers}
+use Rattle.lifecycle_core.specs.Tasks.{End, QueryTask, SyncTask, UploadTask, answered, synced, uploaded}
+use Rattle.lifecycle_core.specs.Ways.{PhasesRun}
 use Rattle.world_core.specs.declared.entry.Entry.{Entry}
 use Rattle.shipper.specs.declared.upload_end.UploadEnd.TheVariants as shipped
 use Rattle.meta_fetcher.specs.declared.sync_end.SyncEnd.TheVariants as fetched
 use Rattle.script_workers.specs.declared.work.Work.TheVariants as works
 use Rattle.store_gateway.specs.declared.series_end.SeriesEnd.{SeriesEnd}
 use Rattle.store_gateway.specs.declared.series_end.SeriesEnd.TheVariants as called
-use Rattle.lifecycle_core.specs.Tasks.{End, UploadTask, SyncTask, QueryTask, uploaded, synced, answered}
-use Rattle.lifecycle_core.specs.Views.{Views, no_views}
 use Rattle.tests_worked.specs.SmallBlock as small
 use Rattle.tests_worked.specs.OneBlock as one
 use Rattle.tests_worked.specs.Entries.{clock}
-use Rattle.tests_worked.proofs.Each.{each_of}
+use Rattle.tests_worked.proofs.Each.{each_of, by_workers_alone}
 use Rattle.tests_worked.proofs.Bucket.{page, shows_meta, shows_index, shows_segment, shows_no_mark}
 use Rattle.tests_worked.specs.SmallRuns as runs
 use Rattle.tests_worked.proofs.SmallTasks.{upload_task, sync_run, question, merge_up, query_run}
 
 -- ---- the tasks
 
-upload_end : UploadTask one.script small.a None one.upload (Some (uploaded (shipped.Done 3)))
-upload_end = upload_task one.script refl 2 1 1
+-- what the gateway holds after its sync
+abbrev pub holding : Holding
+holding = record { used = Some one.used }
 
-sync_end : SyncTask one.script one.sync (Some (synced (fetched.View one.view)))
-sync_end = (Some (fetched.View one.view), sync_run 7 2 1_800_001 (runs.seen 1_800_001 ∷ []) refl, refl)
+upload_end : UploadTask one.setting small.a None one.upload (Some (uploaded (shipped.Done 3)))
+upload_end = upload_task one.setting refl 2 1 1
 
-query_end : QueryTask one.script (Some one.used) (Some (question one.selector)) one.query (Some (answered one.used (called.Answer (small.up ∷ []) (small.a ∷ []))))
+sync_end : SyncTask one.setting 0 nothing_held one.sync (Some (synced (fetched.View one.view))) holding
+sync_end = (Some (fetched.View one.view), sync_run 7 2 1_800_001 (runs.seen 1_800_001 ∷ []) refl, refl, refl)
+
+query_end : QueryTask (Some one.used) (Some (question one.selector)) one.query (Some (answered one.used (called.Answer (small.up ∷ []) (small.a ∷ []))))
 query_end = (Some (called.Answer (small.up ∷ []) (small.a ∷ [])), query_run one.selector merge_up 7 1_800_001 1_800_003 1_800_002 1_800_003 10 2 1_800_004, refl)
 
 -- ---- the phases
@@ -60,6 +66,12 @@ first_tasks = record { line = 6; work = works.Upload small.a None } ∷ []
 abbrev pub second_tasks : List Task
 second_tasks = record { line = 8; work = works.Sync 0 } ∷ record { line = 9; work = works.Query (pos 0) (pos 5000) 0 } ∷ []
 
+abbrev pub first_own : List Assigned
+first_own = record { place = 0; task = record { line = 6; work = works.Upload small.a None } } ∷ []
+
+abbrev pub second_own : List Assigned
+second_own = record { place = 0; task = record { line = 8; work = works.Sync 0 } } ∷ record { place = 1; task = record { line = 9; work = works.Query (pos 0) (pos 5000) 0 } } ∷ []
+
 abbrev pub first_ends : List (List End)
 first_ends = (uploaded (shipped.Done 3) ∷ []) ∷ []
 
@@ -71,23 +83,23 @@ abbrev pub second_ends : List (List End)
 second_ends = second_ends_by (called.Answer (small.up ∷ []) (small.a ∷ []))
 
 -- the views after the sync
-abbrev views : Views
-views zero = Some one.used
-views (suc other) = None
+abbrev views : Holdings
+views zero = holding
+views (suc other) = nothing_held
 
-kept_else : (other : ℕ) → Some 0 ≢ Some other → views other ≡ None
+kept_else : (other : ℕ) → Some 0 ≢ Some other → views other ≡ nothing_held
 kept_else zero differ = absurd (differ refl)
 kept_else (suc other) differ = refl
 
-first_phase : PhaseRun one.script first_tasks (uploader ∷ []) no_views one.upload first_ends no_views
+first_phase : PhaseRun (by_script one.setting) first_tasks (uploader ∷ []) none_held one.upload first_ends none_held
 first_phase = record {
-  seats = All-from_recursion (λ (e : Entry). Contains (1 ∷ []) e.seat) one.upload ((0, lit< tt, refl), ((0, lit< tt, refl), ((0, lit< tt, refl), ((0, lit< tt, refl), tt))));
+  seats = by_workers_alone (1 ∷ []) one.upload (All-from_recursion (λ (e : Entry). Contains (1 ∷ []) e.seat) one.upload ((0, lit< tt, refl), ((0, lit< tt, refl), ((0, lit< tt, refl), ((0, lit< tt, refl), tt)))));
   runs = (
     record {
-      own = first_tasks;
-      are = (refl, refl);
-      last = None;
-      runs = inl (one.upload, [], uploaded (shipped.Done 3), [], refl, upload_end, refl, (refl, refl, refl));
+      own = first_own;
+      are = ((refl, refl), refl);
+      last = nothing_held;
+      runs = inl (one.upload, [], uploaded (shipped.Done 3), [], nothing_held, refl, (upload_end, refl), refl, (refl, refl, refl));
       leaves = λ gateway is. absurd (cc);
     },
     tt,
@@ -100,30 +112,31 @@ first_done = ap (map (λ (w : Worker). length w.tasks)) first_workers
 
 -- with these entries of the query, and this end of it
 module _ (made : List Entry) (came : SeriesEnd) (seats : All (λ (e : Entry). Contains (2 ∷ []) e.seat) made) (own : of_seat 2 made ≡ made)
-    (asked : QueryTask one.script (Some one.used) (Some (question one.selector)) made (Some (answered one.used came))) where
-  tasks_run : TasksRun one.script None second_tasks (of_seat 2 (one.sync ++ made)) (synced (fetched.View one.view) ∷ answered one.used came ∷ []) (Some one.used)
-  tasks_run = subst (λ (es : List Entry). TasksRun one.script None second_tasks (one.sync ++ es) (synced (fetched.View one.view) ∷ answered one.used came ∷ []) (Some one.used)) (sym own) (inl (
+    (asked : QueryTask (Some one.used) (Some (question one.selector)) made (Some (answered one.used came))) where
+  tasks_run : TasksRun (by_script one.setting) (who_of gateway) (one.sync ++ made) nothing_held second_own (of_seat 2 (one.sync ++ made)) (synced (fetched.View one.view) ∷ answered one.used came ∷ []) holding
+  tasks_run = subst (λ (es : List Entry). TasksRun (by_script one.setting) (who_of gateway) (one.sync ++ made) nothing_held second_own (one.sync ++ es) (synced (fetched.View one.view) ∷ answered one.used came ∷ []) holding) (sym own) (inl (
     one.sync,
     made,
     synced (fetched.View one.view),
     answered one.used came ∷ [],
+    holding,
     refl,
     sync_end,
     refl,
-    inl (made, [], answered one.used came, [], sym (append-nil made), asked, refl, (refl, refl, refl)),
+    inl (made, [], answered one.used came, [], holding, sym (append-nil made), (asked, refl), refl, (refl, refl, refl)),
   ))
 
-  second_phase : PhaseRun one.script second_tasks (gateway ∷ []) no_views (one.sync ++ made) (second_ends_by came) views
+  second_phase : PhaseRun (by_script one.setting) second_tasks (gateway ∷ []) none_held (one.sync ++ made) (second_ends_by came) views
   second_phase = record {
-    seats = All-append (λ (e : Entry). Contains (2 ∷ []) e.seat) one.sync made
-        (All-from_recursion (λ (e : Entry). Contains (2 ∷ []) e.seat) one.sync ((0, lit< tt, refl), ((0, lit< tt, refl), ((0, lit< tt, refl), tt)))) seats;
+    seats = by_workers_alone (2 ∷ []) (one.sync ++ made) (All-append (λ (e : Entry). Contains (2 ∷ []) e.seat) one.sync made
+        (All-from_recursion (λ (e : Entry). Contains (2 ∷ []) e.seat) one.sync ((0, lit< tt, refl), ((0, lit< tt, refl), ((0, lit< tt, refl), tt)))) seats);
     runs = (
       record {
-        own = second_tasks;
-        are = (refl, (refl, refl));
-        last = Some one.used;
+        own = second_own;
+        are = ((refl, refl), ((refl, refl), refl));
+        last = holding;
         runs = tasks_run;
-        leaves = λ other is. let same : 0 ≡ other = cc in subst (λ (x : ℕ). views x ≡ Some one.used) same refl;
+        leaves = λ other is. let same : 0 ≡ other = cc in subst (λ (x : ℕ). views x ≡ holding) same refl;
       },
       tt,
     );
@@ -133,40 +146,37 @@ module _ (made : List Entry) (came : SeriesEnd) (seats : All (λ (e : Entry). Co
   second_done : AreDone (workers_of one.script 1) (second_ends_by came)
   second_done = ap (map (λ (w : Worker). length w.tasks)) second_workers
 
-  phases : PhasesRun one.script 0 no_views one.script.phases (clock 1 0 ∷ one.upload ++ clock 6 1_800_000 ∷ one.sync ++ made) (first_ends ∷ second_ends_by came ∷ [])
+  phases : PhasesRun (by_workers one.setting) 0 none_held one.script.phases (clock 1 0 ∷ one.upload ++ clock 6 1_800_000 ∷ one.sync ++ made) (first_ends ∷ second_ends_by came ∷ [])
   phases = inr (
     clock 1 0,
     one.upload,
     clock 6 1_800_000 ∷ one.sync ++ made,
     first_ends,
     second_ends_by came ∷ [],
-    no_views,
+    none_held,
     refl,
     record { seat = refl; sets = refl },
-    subst (λ (ws : List Worker). PhaseRun one.script first_tasks ws no_views one.upload first_ends no_views) (sym first_workers) first_phase,
+    subst (λ (ws : List Worker). PhaseRun (by_script one.setting) first_tasks ws none_held one.upload first_ends none_held) (sym first_workers) first_phase,
     refl,
     inr (
-      first_done,
-      inr (
-        clock 6 1_800_000,
-        one.sync ++ made,
-        [],
-        second_ends_by came,
-        [],
-        views,
-        ap (λ (es : List Entry). clock 6 1_800_000 ∷ one.sync ++ es) (sym (append-nil made)),
-        record { seat = refl; sets = refl },
-        subst (λ (ws : List Worker). PhaseRun one.script second_tasks ws no_views (one.sync ++ made) (second_ends_by came) views) (sym second_workers) second_phase,
-        refl,
-        inl (refl, refl),
-      ),
+      clock 6 1_800_000,
+      one.sync ++ made,
+      [],
+      second_ends_by came,
+      [],
+      views,
+      ap (λ (es : List Entry). clock 6 1_800_000 ∷ one.sync ++ es) (sym (append-nil made)),
+      record { seat = refl; sets = refl },
+      subst (λ (ws : List Worker). PhaseRun (by_script one.setting) second_tasks ws none_held (one.sync ++ made) (second_ends_by came) views) (sym second_workers) second_phase,
+      refl,
+      (refl, refl),
     ),
   )
 
-  pub run_by : IsJournal 1 (clock 1 0 ∷ one.upload ++ clock 6 1_800_000 ∷ one.sync ++ made) → IsRunOf one.script (clock 1 0 ∷ one.upload ++ clock 6 1_800_000 ∷ one.sync ++ made) (first_ends ∷ second_ends_by came ∷ [])
+  pub run_by : IsJournal 1 (clock 1 0 ∷ one.upload ++ clock 6 1_800_000 ∷ one.sync ++ made) → IsRunOf one.setting (clock 1 0 ∷ one.upload ++ clock 6 1_800_000 ∷ one.sync ++ made) (first_ends ∷ second_ends_by came ∷ [])
   run_by kept = record { kept = kept; phases = phases }
 
-  pub finished_by : AreFinished one.script 0 one.script.phases (first_ends ∷ second_ends_by came ∷ [])
+  pub finished_by : IsFinished one.setting (first_ends ∷ second_ends_by came ∷ [])
   finished_by = (first_done, (second_done, refl))
 
 -- ---- the journal
@@ -184,10 +194,10 @@ kept = record {
 query_seats : All (λ (e : Entry). Contains (2 ∷ []) e.seat) one.query
 query_seats = All-from_recursion (λ (e : Entry). Contains (2 ∷ []) e.seat) one.query ((0, lit< tt, refl), ((0, lit< tt, refl), tt))
 
-pub run : IsRunOf one.script one.journal one.ends
+pub run : IsRunOf one.setting one.journal one.ends
 run = run_by one.query (called.Answer (small.up ∷ []) (small.a ∷ [])) query_seats refl query_end kept
 
-pub finished : AreFinished one.script 0 one.script.phases one.ends
+pub finished : IsFinished one.setting one.ends
 finished = finished_by one.query (called.Answer (small.up ∷ []) (small.a ∷ [])) query_seats refl query_end
 
 pub honest : IsHonest one.journal

@@ -18,10 +18,11 @@ use Rattle.script_workers.specs.declared.task.Task.{Task}
 use Rattle.script_workers.specs.declared.work.Work.TheVariants as works
 use Rattle.lifecycle_core.specs.Breaches.{honesty}
 use Rattle.lifecycle_core.specs.Causes.{IsDamaged, IsExplained, IsFault, IsWell}
+use Rattle.lifecycle_core.specs.Conducts.{CameTo}
 use Rattle.lifecycle_core.specs.Guarantees.{Answered, IsGiven, IsGuaranteed, IsSound}
-use Rattle.lifecycle_core.specs.Phases.{AreFinished, CameTo, IsRunOf}
-use Rattle.lifecycle_core.specs.Tasks.{End, QueryTask, synced, answered}
-use Rattle.lifecycle_core.specs.Views.{Use}
+use Rattle.lifecycle_core.specs.Holdings.{Use}
+use Rattle.lifecycle_core.specs.Phases.{IsFinished, IsRunOf}
+use Rattle.lifecycle_core.specs.Tasks.{End, QueryTask, answered, synced}
 use Rattle.tests_worked.specs.LostIndex as lost
 use Rattle.tests_worked.specs.OneBlock as one
 use Rattle.tests_worked.specs.SmallBlock as small
@@ -96,7 +97,7 @@ answer_came hand end came =
     ]
 
 -- the run gives this answer, and no other
-given_is : (query : Answered) → IsGiven one.script one.ends query → one.asked ≡ query
+given_is : (query : Answered) → IsGiven one.setting one.ends query → one.asked ≡ query
 given_is query g = elim (own_phase g.phase_number g.phase g.in_phases) [
   | inl is ↦ absurd (no_query g.place g.selector_number g.task query.low query.high (subst (λ (p : Phase). slice_get p.tasks g.place ≡ Some g.task) (sym is) g.in_tasks) g.asks)
   | inr (number, is) ↦
@@ -117,31 +118,31 @@ given_is query g = elim (own_phase g.phase_number g.phase g.in_phases) [
       asked.2 asked.3 (cc (selects)) (ap (λ (u : Use). u ∷ []) used ∙ sym g.uses) (sym up_triples ∙ ap triples_of series ∙ sym g.samples) sources
 ]
 
-sound : IsSound one.script one.journal one.asked
+sound : IsSound one.setting one.journal one.asked
 sound = record { exact = exact; named = names; covered = λ uploaded used among synced ulid settled. leaves_none_out used ulid among settled }
 
-pub guaranteed : IsGuaranteed one.script one.journal one.ends
+pub guaranteed : IsGuaranteed one.setting one.journal one.ends
 guaranteed = record {
   explained = λ used number came. absurd (of_each (λ end. end ≡ answered used (called.Missing number) → ⊥) one.ends (answered used (called.Missing number))
       (all_ends (λ end. end ≡ answered used (called.Missing number) → ⊥) _ _ _ (λ e. cc (e)) (λ e. cc (e)) (λ e. cc (e))) came refl);
   faults = λ end number came fault. absurd (of_each (λ end. (n : ℕ) → ¬ IsFault end n) one.ends end (all_ends (λ end. (n : ℕ) → ¬ IsFault end n) _ _ _ (λ n f. f) (λ n f. f) (λ n f. f)) came number fault);
   undamaged = λ honest end came. of_each (λ end. ¬ IsDamaged end) one.ends end (all_ends (λ end. ¬ IsDamaged end) _ _ _ (λ d. d) (λ d. d) (λ d. d)) came;
-  sound = λ honest query given. subst (IsSound one.script one.journal) (given_is query given) sound;
-  complete = λ honest none end came. of_each IsWell one.ends end (all_ends IsWell _ _ _ tt tt tt) came;
+  sound = λ honest query given. subst (IsSound one.setting one.journal) (given_is query given) sound;
+  complete = λ turns honest none end came. of_each IsWell one.ends end (all_ends IsWell _ _ _ tt tt tt) came;
 }
 
 -- ---- where the index is lost
 
-missing_run : QueryTask one.script (Some one.used) (Some (question one.selector)) (lost.lost ∷ []) (Some lost.missing)
+missing_run : QueryTask (Some one.used) (Some (question one.selector)) (lost.lost ∷ []) (Some lost.missing)
 missing_run = (Some (called.Missing 10), (reads.missing 10, (refl, (refl, inr refl)), refl), refl)
 
-pub lost_run : IsRunOf one.script lost.journal lost.ends
+pub lost_run : IsRunOf one.setting lost.journal lost.ends
 lost_run = run_with Absent (called.Missing 10) tt missing_run
 
-pub lost_finished : AreFinished one.script 0 one.script.phases lost.ends
+pub lost_finished : IsFinished one.setting lost.ends
 lost_finished = finished_with Absent (called.Missing 10) missing_run
 
-pub lost_explained : IsExplained one.script lost.journal 10
+pub lost_explained : IsExplained one.setting lost.journal 10
 lost_explained = record {
   missed = lost.lost;
   key = key.Index small.a;
@@ -163,13 +164,13 @@ lost_explained = record {
 lost_is_dishonest : ¬ IsHonest lost.journal
 lost_is_dishonest honest = let told : full (key_text (key.Index small.a)) ≡ None = honest front [] lost.lost refl in cc (told, shows_index)
 
-pub lost_guaranteed : IsGuaranteed one.script lost.journal lost.ends
+pub lost_guaranteed : IsGuaranteed one.setting lost.journal lost.ends
 lost_guaranteed = record {
-  explained = λ used number came. of_each (λ end. end ≡ answered used (called.Missing number) → IsExplained one.script lost.journal number) lost.ends (answered used (called.Missing number))
-      (all_ends (λ end. end ≡ answered used (called.Missing number) → IsExplained one.script lost.journal number) _ _ _ (λ e. absurd (cc (e))) (λ e. absurd (cc (e)))
-      (λ e. let same : 10 ≡ number = cc (e) in subst (IsExplained one.script lost.journal) same lost_explained)) came refl;
+  explained = λ used number came. of_each (λ end. end ≡ answered used (called.Missing number) → IsExplained one.setting lost.journal number) lost.ends (answered used (called.Missing number))
+      (all_ends (λ end. end ≡ answered used (called.Missing number) → IsExplained one.setting lost.journal number) _ _ _ (λ e. absurd (cc (e))) (λ e. absurd (cc (e)))
+      (λ e. let same : 10 ≡ number = cc (e) in subst (IsExplained one.setting lost.journal) same lost_explained)) came refl;
   faults = λ end number came fault. absurd (of_each (λ end. (n : ℕ) → ¬ IsFault end n) lost.ends end (all_ends (λ end. (n : ℕ) → ¬ IsFault end n) _ _ _ (λ n f. f) (λ n f. f) (λ n f. f)) came number fault);
   undamaged = λ honest end came. absurd (lost_is_dishonest honest);
   sound = λ honest query given. absurd (lost_is_dishonest honest);
-  complete = λ honest none end came. absurd (lost_is_dishonest honest);
+  complete = λ turns honest none end came. absurd (lost_is_dishonest honest);
 }

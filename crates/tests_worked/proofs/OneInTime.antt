@@ -6,7 +6,7 @@ use Rattle.block_keys.specs.declared.key.Key.TheVariants as key
 use Rattle.sync_filters.specs.Filters.{time_of}
 use Rattle.world_core.specs.declared.entry.Entry.{Entry}
 use Rattle.lifecycle_core.specs.Guarantees.{IsSyncOf, LeavesNoneOut}
-use Rattle.lifecycle_core.specs.TimeRules.{PutsMark, PutsObject, IsMarkedInTime, IsReadInTime, IsUploadedInTime, IsSyncedInTime}
+use Rattle.lifecycle_core.specs.TimeRules.{IsMarkedInTime, IsReadInTime, IsSyncedInTime, IsUploadedInTime, PutsMark, PutsObject}
 use Rattle.tests_worked.specs.SmallBlock as small
 use Rattle.tests_worked.specs.Entries.{absent, found, listed}
 use Rattle.tests_worked.specs.OneBlock as one
@@ -85,6 +85,6 @@ same_ulid : (ulid : ℕ) (b : Bool) → b ≡ (small.a == ulid) → is_some (con
 same_ulid ulid true is some = grind (arith, nat_tests)
 same_ulid ulid false is some = absurd (cc)
 
-pub leaves_none_out : LeavesNoneOut one.script one.journal one.asked
+pub leaves_none_out : LeavesNoneOut one.setting one.journal one.asked
 leaves_none_out used ulid among settled =
     let same = same_ulid ulid (small.a == ulid) refl settled.uploaded.is_declared in (0, lit< tt, same)

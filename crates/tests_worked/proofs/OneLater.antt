@@ -16,14 +16,16 @@ use Rattle.store_gateway.specs.declared.series_end.SeriesEnd.{SeriesEnd}
 use Rattle.script_workers.specs.declared.task.Task.{Task}
 use Rattle.script_workers.specs.declared.work.Work.TheVariants as works
 use Rattle.script_workers.specs.declared.worker.Worker.{Worker}
-use Rattle.lifecycle_core.specs.Phases.{PhasesRun, PhaseRun, WorkerRun, TasksRun, TasksAt, of_seat}
-use Rattle.lifecycle_core.specs.Tasks.{End, synced, view_after, last_number}
-use Rattle.lifecycle_core.specs.Views.{Use, Views}
+use Rattle.lifecycle_core.specs.Conducts.{Assigned, PhaseRun, TasksAt, TasksRun, WorkerRun, of_seat, who_of}
+use Rattle.lifecycle_core.specs.Holdings.{Holding, Holdings, Use, nothing_held}
+use Rattle.lifecycle_core.specs.Phases.{by_script, by_workers}
+use Rattle.lifecycle_core.specs.Tasks.{End, last_number, synced, synced_with}
+use Rattle.lifecycle_core.specs.Ways.{PhasesRun}
 use Rattle.tests_worked.specs.SmallBlock as small
 use Rattle.tests_worked.specs.Entries.{absent, found, listed}
 use Rattle.tests_worked.specs.OneBlock as one
 use Rattle.tests_worked.proofs.SmallTasks.{rules, question}
-use Rattle.tests_worked.proofs.OneBlock.{gateway, second_tasks, second_workers}
+use Rattle.tests_worked.proofs.OneBlock.{gateway, second_tasks, second_workers, second_own}
 use Rattle.tests_worked.proofs.OneUpload.{second}
 
 -- ---- a sync that finds no meta
@@ -82,8 +84,8 @@ whole_sync more (Some end) run =
 
 -- ---- no query reads after it
 
-abbrev query : Task
-query = record { line = 9; work = works.Query (pos 0) (pos 5000) 0 }
+abbrev query : Assigned
+query = record { place = 1; task = record { line = 9; work = works.Query (pos 0) (pos 5000) 0 } }
 
 nothing_read : (view : View) → view.kept ≡ [] → (question : Query) (entries : List Entry) (end : Option SeriesEnd) → SeriesRun view question entries end → entries ≡ []
 nothing_read view none question entries None run =
@@ -91,75 +93,86 @@ nothing_read view none question entries None run =
 nothing_read view none question entries (Some end) (told, run, is) =
     (subst (λ (kept : List Found). Runs (reading question [] (to_read question kept)) entries (Some told)) none run).0
 
-no_query : (used : Use) → used.view.kept ≡ [] → (read : Entry) (rest : List Entry) (ends : List End) (last : Option Use) → TasksRun one.script (Some used) (query ∷ []) (read ∷ rest) ends last → ⊥
-no_query used none read rest ends last (inl r) =
-    let made : r.0 ≡ read ∷ rest = sym (r.4 ∙ ap (λ es. r.0 ++ es) r.7.0 ∙ append-nil r.0) in
-    let nothing : r.0 ≡ [] = nothing_read used.view none (question one.selector) r.0 r.5.0 r.5.1 in
+no_query : (all : List Entry) (used : Use) → used.view.kept ≡ [] → (read : Entry) (rest : List Entry) (ends : List End) (last : Holding) → TasksRun (by_script one.setting) (who_of gateway) all (record { used = Some used }) (query ∷ []) (read ∷ rest) ends last → ⊥
+no_query all used none read rest ends last (inl r) =
+    let made : r.0 ≡ read ∷ rest = sym (r.5 ∙ ap (λ es. r.0 ++ es) r.8.0 ∙ append-nil r.0) in
+    let nothing : r.0 ≡ [] = nothing_read used.view none (question one.selector) r.0 r.6.0.0 r.6.0.1 in
     cc (made, nothing)
-no_query used none read rest ends last (inr r) =
-    let nothing : read ∷ rest ≡ [] = nothing_read used.view none (question one.selector) (read ∷ rest) r.0.0 r.0.1 in
+no_query all used none read rest ends last (inr r) =
+    let nothing : read ∷ rest ≡ [] = nothing_read used.view none (question one.selector) (read ∷ rest) r.0.0.0 r.0.0.1 in
     cc (nothing)
 
-module _ (read : Entry) (rest : List Entry) (later : List End) (last : Option Use) (end : End) where
-  by_sync : (made others : List Entry) (own : Option SyncEnd) → page ∷ mark ∷ no_meta ∷ read ∷ rest ≡ made ++ others → SyncRun rules made own → Some end ≡ option_map synced own
-      → TasksRun one.script (view_after None made end) (query ∷ []) others later last → ⊥
-  by_sync [] others own is run ended more = let none = no_page own run in cc (ended, ap (option_map synced) none)
-  by_sync (a ∷ []) others own is run ended more =
+module _ (all : List Entry) (read : Entry) (rest : List Entry) (later : List End) (last next : Holding) (end : End) where
+  by_sync : (made others : List Entry) (own : Option SyncEnd) → page ∷ mark ∷ no_meta ∷ read ∷ rest ≡ made ++ others → SyncRun rules made own → Some end ≡ option_map synced own → next ≡ synced_with nothing_held made own
+      → TasksRun (by_script one.setting) (who_of gateway) all next (query ∷ []) others later last → ⊥
+  by_sync [] others own is run ended left_is more = let none = no_page own run in cc (ended, ap (option_map synced) none)
+  by_sync (a ∷ []) others own is run ended left_is more =
       let same : a ∷ [] ≡ page ∷ [] = cc (is) in
       let none = only_page own (subst (λ (es : List Entry). SyncRun rules es own) same run) in cc (ended, ap (option_map synced) none)
-  by_sync (a ∷ b ∷ []) others own is run ended more =
+  by_sync (a ∷ b ∷ []) others own is run ended left_is more =
       let same : a ∷ b ∷ [] ≡ page ∷ mark ∷ [] = cc (is) in
       let none = only_mark own (subst (λ (es : List Entry). SyncRun rules es own) same run) in cc (ended, ap (option_map synced) none)
-  by_sync (a ∷ b ∷ c ∷ left) others own is run ended more =
+  by_sync (a ∷ b ∷ c ∷ left) others own is run ended left_is more =
       let same : a ∷ b ∷ c ∷ left ≡ page ∷ mark ∷ no_meta ∷ left = cc (is) in
       let whole = whole_sync left own (subst (λ (es : List Entry). SyncRun rules es own) same run) in
       elim whole.1 [
         | inl none ↦ cc (ended, ap (option_map synced) none)
         | inr some ↦
-            let ends : end ≡ synced (fetched.View some.0) = cc (ended ∙ ap (option_map synced) some.1) in
             let others_are : others ≡ read ∷ rest = cc (is, whole.0) in
-            no_query (record { view = some.0; last = last_number (a ∷ b ∷ c ∷ left) }) some.2 read rest later last
-            (subst (λ (es : List Entry). TasksRun one.script (Some (record { view = some.0; last = last_number (a ∷ b ∷ c ∷ left) })) (query ∷ []) es later last) others_are
-            (subst (λ (e : End). TasksRun one.script (view_after None (a ∷ b ∷ c ∷ left) e) (query ∷ []) others later last) ends more))
+            let held : next ≡ record { used = Some (record { view = some.0; last = last_number (a ∷ b ∷ c ∷ left) }) } = left_is ∙ ap (synced_with nothing_held (a ∷ b ∷ c ∷ left)) some.1 in
+            no_query all (record { view = some.0; last = last_number (a ∷ b ∷ c ∷ left) }) some.2 read rest later last
+            (subst (λ (es : List Entry). TasksRun (by_script one.setting) (who_of gateway) all (record { used = Some (record { view = some.0; last = last_number (a ∷ b ∷ c ∷ left) }) }) (query ∷ []) es later last) others_are
+            (subst (λ (h : Holding). TasksRun (by_script one.setting) (who_of gateway) all h (query ∷ []) others later last) held more))
       ]
 
-no_read : (read : Entry) (rest : List Entry) (ends : List End) (last : Option Use) → TasksRun one.script None second_tasks (page ∷ mark ∷ no_meta ∷ read ∷ rest) ends last → ⊥
-no_read read rest ends last (inl r) = by_sync read rest r.3 last r.2 r.0 r.1 r.5.0 r.4 r.5.1 r.5.2 r.7
-no_read read rest ends last (inr r) = let whole = whole_sync (read ∷ rest) r.0.0 r.0.1 in cc (whole.0)
+no_read : (all : List Entry) (read : Entry) (rest : List Entry) (ends : List End) (last : Holding) → TasksRun (by_script one.setting) (who_of gateway) all nothing_held second_own (page ∷ mark ∷ no_meta ∷ read ∷ rest) ends last → ⊥
+no_read all read rest ends last (inl r) = by_sync all read rest r.3 last r.4 r.2 r.0 r.1 r.6.0 r.5 r.6.1 r.6.2 r.6.3 r.8
+no_read all read rest ends last (inr r) = let whole = whole_sync (read ∷ rest) r.0.0 r.0.1 in cc (whole.0)
 
 -- ---- the gateway's worker
 
-own_tasks : (own : List Task) → TasksAt second_tasks (0 ∷ 1 ∷ []) own → own ≡ second_tasks
+same_own : (own : Assigned) (place : ℕ) (task : Task) → own.place ≡ place → Some task ≡ Some own.task → own ≡ record { place = place; task = task }
+same_own own place task at is = let same : task ≡ own.task = cc (is) in λ i. record { place = at i; task = sym same i }
+
+own_tasks : (own : List Assigned) → TasksAt second_tasks (0 ∷ 1 ∷ []) own → own ≡ second_own
 own_tasks [] at = absurd at
 own_tasks (task ∷ []) at = absurd at.1
-own_tasks (task ∷ other ∷ tasks) at = cc (at.0, at.1.0, at.1.1)
+own_tasks (task ∷ other ∷ tasks) at =
+    let one = same_own task 0 (record { line = 8; work = works.Sync 0 }) at.0.0 at.0.1 in
+    let two = same_own other 1 (record { line = 9; work = works.Query (pos 0) (pos 5000) 0 }) at.1.0.0 at.1.0.1 in
+    cc (one, two, at.1.1)
 
-gateway_run : (views after : Views) (made : List Entry) (ends : List (List End)) → PhaseRun one.script second_tasks (gateway ∷ []) views made ends after
-    → (own : List End) × (last : Option Use) × TasksRun one.script (views 0) second_tasks (of_seat 2 made) own last
+-- the gateway's worker in a phase with these entries
+abbrev Gateways : Holding → List Entry → List Entry → List End → Holding → Type 0
+Gateways held all entries own last = TasksRun (by_script one.setting) (who_of gateway) all held second_own entries own last
+
+gateway_run : (views after : Holdings) (made : List Entry) (ends : List (List End)) → PhaseRun (by_script one.setting) second_tasks (gateway ∷ []) views made ends after
+    → (own : List End) × (last : Holding) × Gateways (views 0) made (of_seat 2 made) own last
 gateway_run views after made ends run = go ends run.runs
   where
-    go : (ends : List (List End)) → AllZip (WorkerRun one.script second_tasks views made after) (gateway ∷ []) ends → (own : List End) × (last : Option Use) × TasksRun one.script (views 0) second_tasks (of_seat 2 made) own last
+    go : (ends : List (List End)) → AllZip (WorkerRun (by_script one.setting) second_tasks views made after) (gateway ∷ []) ends → (own : List End) × (last : Holding) × Gateways (views 0) made (of_seat 2 made) own last
     go [] runs = absurd runs
     go (own ∷ ends) runs =
         let worker = runs.0 in
-        (own, worker.last, subst (λ (ts : List Task). TasksRun one.script (views 0) ts (of_seat 2 made) own worker.last) (own_tasks worker.own worker.are) worker.runs)
+        (own, worker.last, subst (λ (ts : List Assigned). TasksRun (by_script one.setting) (who_of gateway) made (views 0) ts (of_seat 2 made) own worker.last) (own_tasks worker.own worker.are) worker.runs)
 
 -- the second phase is all that follows
-second_made : (views : Views) (first : Entry) (entries : List Entry) (ends : List (List (List End))) → PhasesRun one.script 1 views (second ∷ []) (first ∷ entries) ends
-    → (own : List End) × (last : Option Use) × TasksRun one.script (views 0) second_tasks (of_seat 2 entries) own last
+second_made : (views : Holdings) (first : Entry) (entries : List Entry) (ends : List (List (List End))) → PhasesRun (by_workers one.setting) 1 views (second ∷ []) (first ∷ entries) ends
+    → (own : List End) × (last : Holding) × Gateways (views 0) entries (of_seat 2 entries) own last
 second_made views first entries ends (inl none) = absurd (cc (none.0))
 second_made views first entries ends (inr r) =
-    let none : r.2 ≡ [] = elim r.10 [ inl n ↦ n.0 | inr m ↦ m.1.0 ] in
+    let none : r.2 ≡ [] = r.10.0 in
     let same : r.1 ≡ entries = sym (append-nil r.1) ∙ ap (λ es. r.1 ++ es) (sym none) ∙ cc (r.6) in
-    let run = gateway_run views r.5 r.1 r.3 (subst (λ (ws : List Worker). PhaseRun one.script second_tasks ws views r.1 r.3 r.5) second_workers r.8) in
-    (run.0, run.1, subst (λ (es : List Entry). TasksRun one.script (views 0) second_tasks (of_seat 2 es) run.0 run.1) same run.2)
+    let run = gateway_run views r.5 r.1 r.3 (subst (λ (ws : List Worker). PhaseRun (by_script one.setting) second_tasks ws views r.1 r.3 r.5) second_workers r.8) in
+    (run.0, run.1, subst (λ (es : List Entry). Gateways (views 0) es (of_seat 2 es) run.0 run.1) same run.2)
 
 abbrev index_read : Entry
 index_read = found 10 2 1_800_004 (key.Index small.a) small.index
 
-pub no_read_after_absent : (views : Views) → views 0 ≡ None → (first : Entry) (rest : List Entry) (ends : List (List (List End)))
-    → PhasesRun one.script 1 views (second ∷ []) (first ∷ page ∷ mark ∷ no_meta ∷ index_read ∷ rest) ends → ⊥
+pub no_read_after_absent : (views : Holdings) → views 0 ≡ nothing_held → (first : Entry) (rest : List Entry) (ends : List (List (List End)))
+    → PhasesRun (by_workers one.setting) 1 views (second ∷ []) (first ∷ page ∷ mark ∷ no_meta ∷ index_read ∷ rest) ends → ⊥
 no_read_after_absent views none first rest ends run =
-    let made = second_made views first (page ∷ mark ∷ no_meta ∷ index_read ∷ rest) ends run in
-    no_read index_read (of_seat 2 rest) made.0 made.1
-    (subst (λ (v : Option Use). TasksRun one.script v second_tasks (page ∷ mark ∷ no_meta ∷ index_read ∷ of_seat 2 rest) made.0 made.1) none made.2)
+    let all = page ∷ mark ∷ no_meta ∷ index_read ∷ rest in
+    let made = second_made views first all ends run in
+    no_read all index_read (of_seat 2 rest) made.0 made.1
+    (subst (λ (h : Holding). Gateways h all (page ∷ mark ∷ no_meta ∷ index_read ∷ of_seat 2 rest) made.0 made.1) none made.2)

@@ -11,8 +11,8 @@ use Rattle.script_workers.specs.declared.hand.Hand.TheVariants as hands
 use Rattle.script_workers.specs.declared.task.Task.{Task}
 use Rattle.script_workers.specs.declared.work.Work.TheVariants as works
 use Rattle.script_workers.specs.declared.worker.Worker.{Worker}
-use Rattle.lifecycle_core.specs.Phases.{CameTo}
-use Rattle.lifecycle_core.specs.Tasks.{End, uploaded, synced, answered}
+use Rattle.lifecycle_core.specs.Conducts.{CameTo}
+use Rattle.lifecycle_core.specs.Tasks.{End, answered, synced, uploaded}
 use Rattle.replay_cli.specs.Outcomes.{IsOutcome, TaskCame, TasksCame, PhasesCame}
 use Rattle.replay_cli.specs.Verdicts.{IsReport, report_of}
 use Rattle.replay_cli.specs.declared.outcome.Outcome.{Outcome}

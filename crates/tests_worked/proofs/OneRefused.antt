@@ -1,5 +1,5 @@
 -- Journals that are no run of the script of one block.
-use Rattle.std.proofs.Common.{◌≡◌, ◌≢◌, inl, inr, ℕ, List, [], ◌∷◌, ◌++◌, All, Contains, Some, None, refl, sym, ap, subst, ◌∙◌, arith}
+use Rattle.std.proofs.Common.{◌≡◌, ◌≢◌, ℕ, List, [], ◌∷◌, ◌++◌, All, Contains, Some, refl, sym, ap, subst, ◌∙◌, arith}
 use Rattle.std.proofs.lemmas.List.Elements.{All-nil, All-cons, All-head, All-tail}
 use Rattle.block_keys.specs.declared.key.Key.TheVariants as key
 use Rattle.world_core.specs.declared.entry.Entry.{Entry}
@@ -8,9 +8,11 @@ use Rattle.std.specs.List.{AllByRecursion}
 use Rattle.world_core.specs.Standing.{IsHonest}
 use Rattle.world_core.specs.declared.op.Op.TheVariants as op
 use Rattle.script_workers.specs.declared.worker.Worker.{Worker}
-use Rattle.lifecycle_core.specs.Phases.{IsLawfulJournal, PhasesRun, of_seat}
+use Rattle.lifecycle_core.specs.Conducts.{of_seat}
+use Rattle.lifecycle_core.specs.Holdings.{Holdings, nothing_held}
+use Rattle.lifecycle_core.specs.Phases.{IsLawfulJournal, by_workers}
 use Rattle.lifecycle_core.specs.Tasks.{End}
-use Rattle.lifecycle_core.specs.Views.{Views}
+use Rattle.lifecycle_core.specs.Ways.{PhasesRun}
 use Rattle.tests_worked.proofs.Bucket.{shows_meta}
 use Rattle.tests_worked.proofs.OneBlock.{uploader}
 use Rattle.tests_worked.specs.SmallBlock as small
@@ -20,8 +22,9 @@ use Rattle.tests_worked.specs.OneBlockChanged as changed
 use Rattle.tests_worked.proofs.OneLater.{no_read_after_absent}
 use Rattle.list_core.proofs.Membership.{only_member}
 use Rattle.tests_worked.proofs.OneUpload.{BeginsAnew, FirstPhase, second, first_phase_of, stays, upload_of, uploads_of, Uploads, first_is_look, second_is_put}
+use Rattle.tests_worked.proofs.Each.{workers_seats}
 
-pub no_look_refused : (rest : List Entry) → ¬ IsLawfulJournal one.script (changed.no_look ++ rest)
+pub no_look_refused : (rest : List Entry) → ¬ IsLawfulJournal one.setting (changed.no_look ++ rest)
 no_look_refused rest lawful =
     let put : Entry = stored 2 1 1 (key.Segment small.a 1) small.segment in
     let phase = first_phase_of (clock 1 0) (put ∷ rest) lawful in
@@ -31,7 +34,7 @@ no_look_refused rest lawful =
     let look = first_is_look put (of_seat 1 one.0) (subst (λ es. Uploads (of_seat 1 es)) one.1 uploads) in
     cc (look)
 
-pub index_first_refused : (rest : List Entry) → ¬ IsLawfulJournal one.script (changed.index_first ++ rest)
+pub index_first_refused : (rest : List Entry) → ¬ IsLawfulJournal one.setting (changed.index_first ++ rest)
 index_first_refused rest lawful =
     let look : Entry = absent 2 1 1 (key.Meta small.a) in
     let put : Entry = stored 3 1 2 (key.Index small.a) small.index in
@@ -44,17 +47,17 @@ index_first_refused rest lawful =
     let segment = second_is_put look put (of_seat 1 two.0) refl (subst (λ es. Uploads (of_seat 1 es)) {y = look ∷ put ∷ two.0} made uploads) in
     cc (segment.1)
 
-pub seat_refused : (rest : List Entry) → ¬ IsLawfulJournal one.script (changed.at_gateways_seat ++ rest)
+pub seat_refused : (rest : List Entry) → ¬ IsLawfulJournal one.setting (changed.at_gateways_seat ++ rest)
 seat_refused rest lawful =
     let look : Entry = absent 2 2 1 (key.Meta small.a) in
     let puts : List Entry = stored 3 2 2 (key.Segment small.a 1) small.segment ∷ stored 4 2 3 (key.Index small.a) small.index ∷ stored 5 2 4 (key.Meta small.a) small.meta ∷ rest in
     let phase = first_phase_of (clock 1 0) (look ∷ puts) lawful in
     let one = stays phase.1 phase.0 look puts phase.3.parts phase.3.anew (λ moment is. cc (is)) in
-    let first : Contains {X = ℕ} (1 ∷ []) 2 = All-head (λ (e : Entry). Contains (1 ∷ []) e.seat) look one.0 (subst (All (λ (e : Entry). Contains (1 ∷ []) e.seat)) one.1 phase.3.run.seats) in
+    let first : Contains {X = ℕ} (1 ∷ []) 2 = All-head (λ (e : Entry). Contains (1 ∷ []) e.seat) look one.0 (subst (All (λ (e : Entry). Contains (1 ∷ []) e.seat)) one.1 (workers_seats (1 ∷ []) phase.1 phase.3.run.seats)) in
     let same : 1 ≡ 2 = only_member 1 2 first in
     omega (arith, same)
 
-pub clock_refused : (rest : List Entry) → ¬ IsLawfulJournal one.script (changed.clock_stands ++ rest)
+pub clock_refused : (rest : List Entry) → ¬ IsLawfulJournal one.setting (changed.clock_stands ++ rest)
 clock_refused rest lawful =
     let reads : List Entry = absent 8 2 1_800_001 (key.Mark small.a) ∷ found 9 2 1_800_002 (key.Meta small.a) small.meta ∷ rest in
     let moves : 1_800_000 ≡ 1_800_001 = lawful.1.kept.moments (clock 1 0 ∷ one.upload ++ clock 6 1_800_000 ∷ []) reads (listed 7 2 1_800_000 (small.a_text ∷ [])) refl in
@@ -89,21 +92,18 @@ after_upload made others tail is anew seats =
     let none = no_clock rest.0 others tail rest.1 rest.2 in
     cc (rest.1, ap (λ es. es ++ others) none)
 
-second_begins : (entries others made : List Entry) (after : Views) (tail : List Entry) → FirstPhase entries others made after → entries ≡ one.upload ++ clock 6 1_800_000 ∷ tail
-    → (ends : List (List (List End))) × PhasesRun one.script 1 after (second ∷ []) (clock 6 1_800_000 ∷ tail) ends × (after 0 ≡ None)
+second_begins : (entries others made : List Entry) (after : Holdings) (tail : List Entry) → FirstPhase entries others made after → entries ≡ one.upload ++ clock 6 1_800_000 ∷ tail
+    → (ends : List (List (List End))) × PhasesRun (by_workers one.setting) 1 after (second ∷ []) (clock 6 1_800_000 ∷ tail) ends × (after 0 ≡ nothing_held)
 second_begins entries others made after tail phase is =
-    let next = after_upload made others tail (sym is ∙ phase.parts) phase.anew phase.run.seats in
+    let next = after_upload made others tail (sym is ∙ phase.parts) phase.anew (workers_seats (1 ∷ []) made phase.run.seats) in
     let none = phase.run.kept 0 (All-cons (λ (w : Worker). w.gateway ≢ Some 0) uploader [] (λ h. cc (h)) (All-nil (λ (w : Worker). w.gateway ≢ Some 0))) in
-    elim phase.later [
-      | inl nothing ↦ absurd (cc (next, nothing))
-      | inr later ↦ (later.0, subst (λ (es : List Entry). PhasesRun one.script 1 after (second ∷ []) es later.0) next later.1, none)
-    ]
+    (phase.later.0, subst (λ (es : List Entry). PhasesRun (by_workers one.setting) 1 after (second ∷ []) es phase.later.0) next phase.later.1, none)
 
 abbrev after_clock : List Entry → List Entry
 after_clock rest =
     listed 7 2 1_800_001 (small.a_text ∷ []) ∷ absent 8 2 1_800_002 (key.Mark small.a) ∷ absent 9 2 1_800_003 (key.Meta small.a) ∷ found 10 2 1_800_004 (key.Index small.a) small.index ∷ rest
 
-pub meta_absent_refused : (rest : List Entry) → ¬ IsLawfulJournal one.script (changed.meta_absent ++ rest)
+pub meta_absent_refused : (rest : List Entry) → ¬ IsLawfulJournal one.setting (changed.meta_absent ++ rest)
 meta_absent_refused rest lawful =
     let phase = first_phase_of (clock 1 0) (one.upload ++ clock 6 1_800_000 ∷ after_clock rest) lawful in
     let later = second_begins (one.upload ++ clock 6 1_800_000 ∷ after_clock rest) phase.0 phase.1 phase.2 (after_clock rest) phase.3 refl in

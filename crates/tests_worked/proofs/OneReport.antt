@@ -11,7 +11,7 @@ use Rattle.meta_fetcher.specs.declared.sync_end.SyncEnd.TheVariants as fetched
 use Rattle.store_gateway.specs.declared.series_end.SeriesEnd.TheVariants as called
 use Rattle.script_workers.specs.Hands.{hands_of_task}
 use Rattle.script_workers.specs.declared.worker.Worker.{Worker}
-use Rattle.lifecycle_core.specs.Tasks.{uploaded, synced, answered}
+use Rattle.lifecycle_core.specs.Tasks.{answered, synced, uploaded}
 use Rattle.replay_cli.specs.Outcomes.{TasksCame, PhasesCame}
 use Rattle.replay_cli.specs.Reports.{upload_words, sync_words, source_line, series_line, counts_text, answer_text, query_text, activity_text}
 use Rattle.replay_cli.specs.Verdicts.{IsReport, report_of}

@@ -11,29 +11,30 @@ use Rattle.script_core.specs.Workers.{workers_of}
 use Rattle.script_workers.specs.declared.worker.Worker.{Worker}
 use Rattle.meta_fetcher.specs.Syncs.{SyncRun}
 use Rattle.meta_fetcher.specs.declared.sync_end.SyncEnd.TheVariants as fetched
-use Rattle.lifecycle_core.specs.Tasks.{sync_rules}
 use Rattle.lifecycle_core.specs.Breaches.{IsSeatOf, IsSyncIn, IsViewAt, Refuses, mark_time, sync_time, view_time}
+use Rattle.lifecycle_core.specs.Setting.{setting_of}
+use Rattle.lifecycle_core.specs.Tasks.{sync_rules}
 use Rattle.tests_worked.specs.SmallBlock as small
 use Rattle.tests_worked.specs.Entries.{absent, listed, stored}
 use Rattle.tests_worked.specs.OneBlock as one
-use Rattle.tests_worked.specs.OneStrict.{rules_with, script_with, hasty, idle, last_read, first_call}
+use Rattle.tests_worked.specs.OneStrict.{script_with, hasty, idle, last_read, first_call}
 use Rattle.tests_worked.proofs.SmallTasks.{sync_run_by}
 use Rattle.tests_worked.proofs.OneBlock.{gateway}
 
-sync_run : (ignore : Span) → SyncRun (sync_rules (rules_with ignore)) one.sync (Some (fetched.View one.view))
+sync_run : (ignore : Span) → SyncRun (sync_rules (setting_of (script_with ignore)) 0) one.sync (Some (fetched.View one.view))
 sync_run ignore = sync_run_by (minutes 30) ignore 2 7 1_800_001 8 1_800_002 9 1_800_003 one.view.kept refl
 
 workers : (ignore : Span) → workers_of (script_with ignore) 1 ≡ gateway ∷ []
 unfolding hands_of_task with_hands hands_from places_from workers_from seats_from
 workers ignore = refl
 
-seat_is : (ignore : Span) → IsSeatOf (script_with ignore) 0 2
+seat_is : (ignore : Span) → IsSeatOf (setting_of (script_with ignore)) 0 2
 seat_is ignore = (1, gateway, subst (λ (ws : List Worker). Contains ws gateway) (sym (workers ignore)) (0, lit< tt, refl), refl, refl)
 
-sync_seen : (ignore : Span) → IsSyncIn (script_with ignore) one.journal 0 one.sync (Some (fetched.View one.view))
+sync_seen : (ignore : Span) → IsSyncIn (setting_of (script_with ignore)) one.journal 0 one.sync (Some (fetched.View one.view))
 sync_seen ignore = record { seat = 2; sits = seat_is ignore; before = []; after = one.query; parts = refl; run = sync_run ignore; whole = λ none. absurd (cc (none)) }
 
-view_seen : (ignore : Span) → IsViewAt (script_with ignore) one.journal 0 10 one.view
+view_seen : (ignore : Span) → IsViewAt (setting_of (script_with ignore)) one.journal 0 10 one.view
 view_seen ignore = record { entries = one.sync; gave = sync_seen ignore; before = lit< tt; last = λ others other seen less. omega (arith, less) }
 
 pub slow_sync : (before : List Entry) → Refuses hasty one.journal sync_time before last_read 1_801_003 1_801_001
@@ -54,5 +55,5 @@ pub old_view : (before : List Entry) → Refuses idle one.journal view_time befo
 old_view before = (0, one.view, (seat_is (hours 48), (key.Index small.a, refl, tt)), view_seen (hours 48), (refl, refl, lit< tt))
 
 pub late_mark : (entries before : List Entry) (bytes : List ℕ) (mark : MarkFields) → IsMarkText bytes mark → mark.deletion_time ≡ 0
-    → Refuses one.script entries mark_time before (stored 1 1 86_400_001 (key.Mark small.a) bytes) 86_400_001 86_400_000
+    → Refuses one.setting entries mark_time before (stored 1 1 86_400_001 (key.Mark small.a) bytes) 86_400_001 86_400_000
 late_mark entries before bytes mark is zero = (small.a, 0, (bytes, mark, refl, refl, is, zero), (refl, refl, lit< tt))

@@ -1,4 +1,4 @@
--- No entry of the run of the script of one block breaks a rule.
+-- No entry of the run of the setting of one block breaks a rule.
 use Rattle.std.proofs.Common.{◌≡◌, ◌<◌, ◌≤◌, ℕ, List, [], ◌∷◌, ◌++◌, codes, inl, inr, refl, sym, ap, subst, arith, lit<, lit≤}
 use Rattle.block_keys.specs.declared.key.Key.{Key}
 use Rattle.block_keys.specs.declared.key.Key.TheVariants as key
@@ -9,11 +9,12 @@ use Rattle.world_core.specs.Operations.{IsReplyTo}
 use Rattle.world_core.specs.Standing.{stands, Tells}
 use Rattle.world_core.specs.declared.entry.Entry.{Entry}
 use Rattle.world_core.proofs.Growing.{Each-push}
+use Rattle.lifecycle_core.specs.Breaches.{IsBreach, IsKept, IsLie, IsUnbroken, Refuses, Rule, honesty, mark_time, rank, sync_time, upload_time, view_time}
 use Rattle.lifecycle_core.specs.Causes.{IsExplained}
+use Rattle.lifecycle_core.specs.Setting.{Setting}
+use Rattle.lifecycle_core.specs.TimeRules.{PutsMark}
 use Rattle.world_core.specs.declared.op.Op.TheVariants as op
 use Rattle.world_core.specs.declared.reply.Reply.TheVariants.{Found}
-use Rattle.lifecycle_core.specs.Breaches.{IsBreach, IsKept, IsLie, IsUnbroken, Refuses, Rule, rank, honesty, mark_time, sync_time, upload_time, view_time}
-use Rattle.lifecycle_core.specs.TimeRules.{PutsMark}
 use Rattle.tests_worked.specs.Entries.{absent, clock, stored, listed}
 use Rattle.tests_worked.specs.SmallBlock as small
 use Rattle.tests_worked.specs.OneBlock as one
@@ -21,50 +22,49 @@ use Rattle.tests_worked.specs.LostIndex as lost
 use Rattle.tests_worked.specs.LateUpload as late
 use Rattle.moment_core.specs.StandardRules.{standard_rules}
 use Rattle.moment_core.specs.declared.rules.Rules.{Rules}
-use Rattle.script_core.specs.declared.script.Script.{Script}
 use Rattle.tests_worked.proofs.Bucket.{full, page, shows_meta, shows_index, shows_segment, shows_no_mark}
 use Rattle.tests_worked.proofs.Each.{EachAfter, each_after, each_of}
 use Rattle.lifecycle_core.proofs.journals.Honesty.{no_lie}
 use Rattle.tests_worked.proofs.OneInTime.{InTime, in_time}
 
 -- An entry of the first half hour can only be a lie, where it puts objects in time, and no mark.
-only_lies : (script : Script) → script.rules ≡ standard_rules → (journal before : List Entry) (e : Entry) → e.moment.ms ≤ 1_800_005 → ((ulid : ℕ) → InTime ulid e) → ((ulid second : ℕ) → ¬ PutsMark ulid second e)
-    → (rule : Rule) (x y : ℕ) → Refuses script journal rule before e x y → rule ≡ honesty
-only_lies script standard journal before e early timely unmarked honesty x y lie = refl
-only_lies script standard journal before e early timely unmarked upload_time x y (ulid, puts, inl (is, most, over)) = let limits = timely ulid puts in absurd (omega (arith, limits.0, over))
-only_lies script standard journal before e early timely unmarked upload_time x y (ulid, puts, inr (is, most, over)) =
+only_lies : (setting : Setting) → setting.script.rules ≡ standard_rules → (journal before : List Entry) (e : Entry) → e.moment.ms ≤ 1_800_005 → ((ulid : ℕ) → InTime ulid e) → ((ulid second : ℕ) → ¬ PutsMark ulid second e)
+    → (rule : Rule) (x y : ℕ) → Refuses setting journal rule before e x y → rule ≡ honesty
+only_lies setting standard journal before e early timely unmarked honesty x y lie = refl
+only_lies setting standard journal before e early timely unmarked upload_time x y (ulid, puts, inl (is, most, over)) = let limits = timely ulid puts in absurd (omega (arith, limits.0, over))
+only_lies setting standard journal before e early timely unmarked upload_time x y (ulid, puts, inr (is, most, over)) =
     let limits = timely ulid puts in absurd (omega (arith, limits.1, over, ap (λ (r : Rules). r.upload.ms) standard))
-only_lies script standard journal before e early timely unmarked mark_time x y (ulid, second, puts, (is, most, over)) = absurd (unmarked ulid second puts)
-only_lies script standard journal before e early timely unmarked sync_time x y (gateway, entries, end, first, others, front, sync, begins, ends, (is, most, over)) =
+only_lies setting standard journal before e early timely unmarked mark_time x y (ulid, second, puts, (is, most, over)) = absurd (unmarked ulid second puts)
+only_lies setting standard journal before e early timely unmarked sync_time x y (gateway, entries, end, first, others, front, sync, begins, ends, (is, most, over)) =
     absurd (omega (arith, early, over, ap (λ (r : Rules). r.ignore.ms) standard))
-only_lies script standard journal before e early timely unmarked view_time x y (gateway, view, reads, has, (is, most, over)) =
+only_lies setting standard journal before e early timely unmarked view_time x y (gateway, view, reads, has, (is, most, over)) =
     absurd (omega (arith, early, over, ap (λ (r : Rules). r.ignore.ms) standard, ap (λ (r : Rules). r.delete.ms) standard))
 
 -- so it breaks no rule where it is no lie
-keeps : (script : Script) → script.rules ≡ standard_rules → (journal before : List Entry) (e : Entry) → e.moment.ms ≤ 1_800_005 → ((x y : ℕ) → ¬ IsLie before e x y) → ((ulid : ℕ) → InTime ulid e) → ((ulid second : ℕ) → ¬ PutsMark ulid second e)
-    → IsKept script journal before e
-keeps script standard journal before e early true_is timely unmarked rule x y refused =
-    let lies = only_lies script standard journal before e early timely unmarked rule x y refused in
-    true_is x y (subst (λ (r : Rule). Refuses script journal r before e x y) lies refused)
+keeps : (setting : Setting) → setting.script.rules ≡ standard_rules → (journal before : List Entry) (e : Entry) → e.moment.ms ≤ 1_800_005 → ((x y : ℕ) → ¬ IsLie before e x y) → ((ulid : ℕ) → InTime ulid e) → ((ulid second : ℕ) → ¬ PutsMark ulid second e)
+    → IsKept setting journal before e
+keeps setting standard journal before e early true_is timely unmarked rule x y refused =
+    let lies = only_lies setting standard journal before e early timely unmarked rule x y refused in
+    true_is x y (subst (λ (r : Rule). Refuses setting journal r before e x y) lies refused)
 
 -- where it shows what stands
-true_keeps : (script : Script) → script.rules ≡ standard_rules → (journal before : List Entry) (e : Entry) → e.moment.ms ≤ 1_800_005 → IsReplyTo e.op e.reply → Tells (stands before) e.op e.reply → ((ulid : ℕ) → InTime ulid e)
-    → ((ulid second : ℕ) → ¬ PutsMark ulid second e) → IsKept script journal before e
-true_keeps script standard journal before e early kind tells timely unmarked = keeps script standard journal before e early (λ x y. no_lie before e x y kind tells) timely unmarked
+true_keeps : (setting : Setting) → setting.script.rules ≡ standard_rules → (journal before : List Entry) (e : Entry) → e.moment.ms ≤ 1_800_005 → IsReplyTo e.op e.reply → Tells (stands before) e.op e.reply → ((ulid : ℕ) → InTime ulid e)
+    → ((ulid second : ℕ) → ¬ PutsMark ulid second e) → IsKept setting journal before e
+true_keeps setting standard journal before e early kind tells timely unmarked = keeps setting standard journal before e early (λ x y. no_lie before e x y kind tells) timely unmarked
 
-clock_keeps : (script : Script) → script.rules ≡ standard_rules → (journal before : List Entry) (seq moment : ℕ) → moment ≤ 1_800_005 → IsKept script journal before (clock seq moment)
-clock_keeps script standard journal before seq moment early = true_keeps script standard journal before (clock seq moment) early tt tt (λ ulid p. cc (p.2)) (λ ulid second p. cc (p.2))
+clock_keeps : (setting : Setting) → setting.script.rules ≡ standard_rules → (journal before : List Entry) (seq moment : ℕ) → moment ≤ 1_800_005 → IsKept setting journal before (clock seq moment)
+clock_keeps setting standard journal before seq moment early = true_keeps setting standard journal before (clock seq moment) early tt tt (λ ulid p. cc (p.2)) (λ ulid second p. cc (p.2))
 
-get_keeps : (script : Script) → script.rules ≡ standard_rules → (journal before : List Entry) (e : Entry) (k : Key) → e.moment.ms ≤ 1_800_005 → e.op ≡ op.Get k → IsReplyTo e.op e.reply → Tells (stands before) e.op e.reply → IsKept script journal before e
-get_keeps script standard journal before e k early is kind tells = true_keeps script standard journal before e early kind tells (λ ulid p. cc (is, p.2)) (λ ulid second p. cc (is, p.2))
+get_keeps : (setting : Setting) → setting.script.rules ≡ standard_rules → (journal before : List Entry) (e : Entry) (k : Key) → e.moment.ms ≤ 1_800_005 → e.op ≡ op.Get k → IsReplyTo e.op e.reply → Tells (stands before) e.op e.reply → IsKept setting journal before e
+get_keeps setting standard journal before e k early is kind tells = true_keeps setting standard journal before e early kind tells (λ ulid p. cc (is, p.2)) (λ ulid second p. cc (is, p.2))
 
 put_keeps : (journal before : List Entry) (seq seat moment : ℕ) (k : Key) (bytes : List ℕ) → moment ≤ 1_800_000 → ((ulid : ℕ) → InTime ulid (stored seq seat moment k bytes)) → ((ulid second : ℕ) → ¬ PutsMark ulid second (stored seq seat moment k bytes))
-    → IsKept one.script journal before (stored seq seat moment k bytes)
-put_keeps journal before seq seat moment k bytes early timely unmarked = true_keeps one.script refl journal before (stored seq seat moment k bytes) (omega (arith, early)) tt tt timely unmarked
+    → IsKept one.setting journal before (stored seq seat moment k bytes)
+put_keeps journal before seq seat moment k bytes early timely unmarked = true_keeps one.setting refl journal before (stored seq seat moment k bytes) (omega (arith, early)) tt tt timely unmarked
 
-page_keeps : (journal before : List Entry) (seq seat moment : ℕ) → moment ≤ 1_800_005 → stands before ≡ full → IsKept one.script journal before (listed seq seat moment (small.a_text ∷ []))
+page_keeps : (journal before : List Entry) (seq seat moment : ℕ) → moment ≤ 1_800_005 → stands before ≡ full → IsKept one.setting journal before (listed seq seat moment (small.a_text ∷ []))
 page_keeps journal before seq seat moment early stood =
-    true_keeps one.script refl journal before (listed seq seat moment (small.a_text ∷ [])) early tt (subst (λ (c : Contents). IsPage c [] [] 1_000 (small.a_text ∷ [])) (sym stood) page) (λ ulid p. cc (p.2)) (λ ulid second p. cc (p.2))
+    true_keeps one.setting refl journal before (listed seq seat moment (small.a_text ∷ [])) early tt (subst (λ (c : Contents). IsPage c [] [] 1_000 (small.a_text ∷ [])) (sym stood) page) (λ ulid p. cc (p.2)) (λ ulid second p. cc (p.2))
 
 -- ---- entry by entry
 
@@ -77,11 +77,11 @@ lost_is_lie = (Found small.index, codes "A", codes "F" ++ small.index, tt, shows
 
 module _ (journal : List Entry) where
   abbrev Keeps : List Entry → Entry → Type 0
-  Keeps = IsKept one.script journal
+  Keeps = IsKept one.setting journal
 
   uploads_keep : EachAfter Keeps (clock 1 0 ∷ []) one.upload
   uploads_keep = (
-    get_keeps one.script refl journal _ _ (key.Meta small.a) (lit≤ tt) refl tt refl,
+    get_keeps one.setting refl journal _ _ (key.Meta small.a) (lit≤ tt) refl tt refl,
     (
       put_keeps journal _ 3 1 2 (key.Segment small.a 1) small.segment (lit≤ tt) (λ ulid p. in_time ulid 2 (lit≤ tt) (cc (p.2, p.3))) (λ ulid second p. cc (p.2)),
       (
@@ -95,15 +95,15 @@ module _ (journal : List Entry) where
   sync_keeps = (
     page_keeps journal _ 7 2 1_800_001 (lit≤ tt) refl,
     (
-      get_keeps one.script refl journal _ _ (key.Mark small.a) (lit≤ tt) refl tt shows_no_mark,
-      (get_keeps one.script refl journal _ _ (key.Meta small.a) (lit≤ tt) refl tt shows_meta, tt),
+      get_keeps one.setting refl journal _ _ (key.Mark small.a) (lit≤ tt) refl tt shows_no_mark,
+      (get_keeps one.setting refl journal _ _ (key.Meta small.a) (lit≤ tt) refl tt shows_meta, tt),
     ),
   )
 
   front_keeps : EachAfter Keeps [] front
   front_keeps = (
-    clock_keeps one.script refl journal [] 1 0 (lit≤ tt),
-    each_after Keeps (clock 1 0 ∷ []) one.upload (clock 6 1_800_000 ∷ one.sync) uploads_keep (clock_keeps one.script refl journal (clock 1 0 ∷ one.upload) 6 1_800_000 (lit≤ tt), sync_keeps),
+    clock_keeps one.setting refl journal [] 1 0 (lit≤ tt),
+    each_after Keeps (clock 1 0 ∷ []) one.upload (clock 6 1_800_000 ∷ one.sync) uploads_keep (clock_keeps one.setting refl journal (clock 1 0 ∷ one.upload) 6 1_800_000 (lit≤ tt), sync_keeps),
   )
 
   -- the entries up to the end of the sync
@@ -111,14 +111,14 @@ module _ (journal : List Entry) where
   front_is_kept = each_of Keeps front front_keeps
 
   query_keeps : EachAfter Keeps front one.query
-  query_keeps = (get_keeps one.script refl journal _ _ (key.Index small.a) (lit≤ tt) refl tt shows_index, (get_keeps one.script refl journal _ _ (key.Segment small.a 1) (lit≤ tt) refl tt shows_segment, tt))
+  query_keeps = (get_keeps one.setting refl journal _ _ (key.Index small.a) (lit≤ tt) refl tt shows_index, (get_keeps one.setting refl journal _ _ (key.Segment small.a 1) (lit≤ tt) refl tt shows_segment, tt))
 
-pub unbroken : IsUnbroken one.script one.journal
-unbroken = each_of (IsKept one.script one.journal) one.journal (each_after (IsKept one.script one.journal) [] front one.query (front_keeps one.journal) (query_keeps one.journal))
+pub unbroken : IsUnbroken one.setting one.journal
+unbroken = each_of (IsKept one.setting one.journal) one.journal (each_after (IsKept one.setting one.journal) [] front one.query (front_keeps one.journal) (query_keeps one.journal))
 
 -- ---- where the index is lost
 
-pub lost_is_breach : IsBreach one.script lost.journal honesty 10 65 70
+pub lost_is_breach : IsBreach one.setting lost.journal honesty 10 65 70
 lost_is_breach = record {
   before = front;
   entry = lost.lost;
@@ -132,28 +132,28 @@ lost_is_breach = record {
 
 -- no other rule refuses an entry
 abbrev OnlyLies : List Entry → Entry → Type 0
-OnlyLies before e = (rule : Rule) (x y : ℕ) → Refuses one.script lost.journal rule before e x y → rule ≡ honesty
+OnlyLies before e = (rule : Rule) (x y : ℕ) → Refuses one.setting lost.journal rule before e x y → rule ≡ honesty
 
 lost_entries : Each OnlyLies lost.journal
 lost_entries = Each-push OnlyLies front lost.lost (λ before after e parts rule x y refused. absurd (front_is_kept lost.journal before after e parts rule x y refused))
-    (only_lies one.script refl lost.journal front lost.lost (lit≤ tt) (λ ulid p. cc (p.2)) (λ ulid second p. cc (p.2)))
+    (only_lies one.setting refl lost.journal front lost.lost (lit≤ tt) (λ ulid p. cc (p.2)) (λ ulid second p. cc (p.2)))
 
-pub lost_is_only_cause : (cause : IsExplained one.script lost.journal 10) → cause.rule ≡ honesty
+pub lost_is_only_cause : (cause : IsExplained one.setting lost.journal 10) → cause.rule ≡ honesty
 lost_is_only_cause cause = lost_entries cause.before cause.after cause.entry cause.parts cause.rule cause.x cause.y cause.refused
 
 -- ---- where the block is uploaded too late
 
-late_put : Refuses late.script late.journal upload_time (clock 1 1_800_000 ∷ absent 2 1 1_800_001 (key.Meta small.a) ∷ []) (stored 3 1 1_800_002 (key.Segment small.a 1) small.segment) 1_800_002 1_800_000
+late_put : Refuses late.setting late.journal upload_time (clock 1 1_800_000 ∷ absent 2 1 1_800_001 (key.Meta small.a) ∷ []) (stored 3 1 1_800_002 (key.Segment small.a 1) small.segment) 1_800_002 1_800_000
 late_put = (small.a, (key.Segment small.a 1, small.segment, refl, refl, tt), inr (refl, refl, lit< tt))
 
-late_first : (other : Rule) (x y : ℕ) → rank other < 1 → ¬ Refuses late.script late.journal other (clock 1 1_800_000 ∷ absent 2 1 1_800_001 (key.Meta small.a) ∷ []) (stored 3 1 1_800_002 (key.Segment small.a 1) small.segment) x y
+late_first : (other : Rule) (x y : ℕ) → rank other < 1 → ¬ Refuses late.setting late.journal other (clock 1 1_800_000 ∷ absent 2 1 1_800_001 (key.Meta small.a) ∷ []) (stored 3 1 1_800_002 (key.Segment small.a 1) small.segment) x y
 late_first honesty x y less = no_lie (clock 1 1_800_000 ∷ absent 2 1 1_800_001 (key.Meta small.a) ∷ []) (stored 3 1 1_800_002 (key.Segment small.a 1) small.segment) x y tt tt
 late_first upload_time x y less = absurd (omega (arith, less))
 late_first mark_time x y less = absurd (omega (arith, less))
 late_first sync_time x y less = absurd (omega (arith, less))
 late_first view_time x y less = absurd (omega (arith, less))
 
-pub late_is_breach : IsBreach late.script late.journal upload_time 3 1_800_002 1_800_000
+pub late_is_breach : IsBreach late.setting late.journal upload_time 3 1_800_002 1_800_000
 late_is_breach = record {
   before = clock 1 1_800_000 ∷ absent 2 1 1_800_001 (key.Meta small.a) ∷ [];
   entry = stored 3 1 1_800_002 (key.Segment small.a 1) small.segment;
@@ -161,7 +161,7 @@ late_is_breach = record {
   parts = refl;
   is = refl;
   refused = late_put;
-  first = each_of (IsKept late.script late.journal) (clock 1 1_800_000 ∷ absent 2 1 1_800_001 (key.Meta small.a) ∷ [])
-      (clock_keeps late.script refl late.journal [] 1 1_800_000 (lit≤ tt), (get_keeps late.script refl late.journal _ _ (key.Meta small.a) (lit≤ tt) refl tt refl, tt));
+  first = each_of (IsKept late.setting late.journal) (clock 1 1_800_000 ∷ absent 2 1 1_800_001 (key.Meta small.a) ∷ [])
+      (clock_keeps late.setting refl late.journal [] 1 1_800_000 (lit≤ tt), (get_keeps late.setting refl late.journal _ _ (key.Meta small.a) (lit≤ tt) refl tt refl, tt));
   foremost = late_first;
 }

@@ -10,11 +10,11 @@ use Rattle.matchers.specs.Selected.{is_selected, selected}
 use Rattle.matchers.specs.Selectors.{is_match, accepts, is_accepted, value_or_empty}
 use Rattle.store_gateway.specs.declared.series_end.SeriesEnd.TheVariants as called
 use Rattle.lifecycle_core.specs.Causes.{IsExplained}
-use Rattle.tests_worked.proofs.OtherReads.{query_came}
 use Rattle.lifecycle_core.specs.Completed.{IsUploadedBefore}
 use Rattle.lifecycle_core.specs.Guarantees.{IsExact, IsGuaranteed, LeavesNoneOut, NamesUploads}
-use Rattle.lifecycle_core.specs.Held.{held_by, held}
-use Rattle.lifecycle_core.specs.Views.{Use}
+use Rattle.lifecycle_core.specs.Held.{held, held_by}
+use Rattle.lifecycle_core.specs.Holdings.{Use}
+use Rattle.tests_worked.proofs.OtherReads.{query_came}
 use Rattle.lifecycle_core.proofs.journals.Unbroken.{explains_nothing}
 use Rattle.tests_worked.specs.LostIndex as lost
 use Rattle.tests_worked.specs.OneBlock as one
@@ -23,23 +23,23 @@ use Rattle.tests_worked.specs.SmallBlock as small
 use Rattle.tests_worked.proofs.OneAnswer.{settled}
 use Rattle.tests_worked.proofs.OneUnbroken.{unbroken}
 
-pub nothing_leaves_out : ¬ LeavesNoneOut one.script one.journal changed.nothing_answered
+pub nothing_leaves_out : ¬ LeavesNoneOut one.setting one.journal changed.nothing_answered
 nothing_leaves_out none = let among = none one.used small.a (0, lit< tt, refl) settled in omega (arith, among.1)
 
-pub not_exact : ¬ IsExact one.script changed.nothing_of_block
+pub not_exact : ¬ IsExact one.setting changed.nothing_of_block
 unfolding held held_by triples_under selected is_selected is_match accepts is_accepted value_or_empty value_of final_of without is_among in_order placed
 not_exact exact =
     let no : list_any (has_same_key small.triple) [] ≡ true = All-head (λ (t : Triple). list_any (has_same_key t) [] ≡ true) small.triple [] exact.one_to_one.complete in
     cc (no)
 
-pub strange_refused : ¬ NamesUploads one.script one.journal changed.strange_source
+pub strange_refused : ¬ NamesUploads one.setting one.journal changed.strange_source
 strange_refused named =
-    let first = All-head (λ ulid. (used : Use) × Contains (one.used ∷ []) used × IsUploadedBefore one.script one.journal ulid used.last) 11 [] named in
+    let first = All-head (λ ulid. (used : Use) × Contains (one.used ∷ []) used × IsUploadedBefore one.setting one.journal ulid used.last) 11 [] named in
     let no : false ≡ true = (first.2).is_declared in
     cc (no)
 
-pub no_cause : (number : ℕ) → ¬ IsExplained one.script one.journal number
-no_cause number = explains_nothing one.script one.journal number unbroken
+pub no_cause : (number : ℕ) → ¬ IsExplained one.setting one.journal number
+no_cause number = explains_nothing one.setting one.journal number unbroken
 
-pub no_guarantee : ¬ IsGuaranteed one.script one.journal lost.ends
+pub no_guarantee : ¬ IsGuaranteed one.setting one.journal lost.ends
 no_guarantee guaranteed = no_cause 10 (guaranteed.explained one.used 10 (query_came (called.Missing 10)))

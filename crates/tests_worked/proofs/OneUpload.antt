@@ -1,5 +1,5 @@
 -- What the first phase of every lawful journal of the script of one block is.
-use Rattle.std.proofs.Common.{◌≡◌, ◌⊎◌, inl, inr, ℕ, List, [], ◌∷◌, ◌++◌, length, Option, Some, None, sym, ap, subst, ◌∙◌, append-nil}
+use Rattle.std.proofs.Common.{◌≡◌, inl, inr, ℕ, List, [], ◌∷◌, ◌++◌, length, Option, Some, None, sym, ap, subst, ◌∙◌, append-nil}
 use Rattle.std.specs.List.{AllZip}
 use Rattle.moment_core.specs.declared.moment.Moment.{Moment}
 use Rattle.block_keys.specs.declared.key.Key.TheVariants as key
@@ -14,17 +14,18 @@ use Rattle.shipper.specs.declared.upload_end.UploadEnd.TheVariants.{Already, Fau
 use Rattle.shipper.specs.declared.upload_end.UploadEnd.{UploadEnd}
 use Rattle.script_core.specs.declared.block.Block.{Block}
 use Rattle.script_workers.specs.declared.phase.Phase.{Phase}
-use Rattle.script_core.specs.declared.script.Script.{Script}
-use Rattle.script_workers.specs.declared.task.Task.{Task}
 use Rattle.script_workers.specs.declared.work.Work.TheVariants as works
 use Rattle.script_workers.specs.declared.worker.Worker.{Worker}
+use Rattle.lifecycle_core.specs.Conducts.{Assigned, PhaseRun, TasksAt, TasksRun, Who, WorkerRun, of_seat, who_of}
+use Rattle.lifecycle_core.specs.Holdings.{Holding, Holdings, none_held, nothing_held}
+use Rattle.lifecycle_core.specs.Phases.{IsLawfulJournal, by_script, by_workers}
+use Rattle.lifecycle_core.specs.Setting.{Setting}
 use Rattle.lifecycle_core.specs.Shipped.{IsShipped}
-use Rattle.lifecycle_core.specs.Phases.{IsLawfulJournal, PhasesRun, PhaseRun, WorkerRun, TasksRun, TasksAt, of_seat}
-use Rattle.lifecycle_core.specs.Tasks.{End, TaskRun, UploadTask}
-use Rattle.lifecycle_core.specs.Views.{Use, Views, no_views}
+use Rattle.lifecycle_core.specs.Tasks.{End, UploadTask}
+use Rattle.lifecycle_core.specs.Ways.{PhasesRun}
 use Rattle.tests_worked.specs.SmallBlock as small
 use Rattle.tests_worked.specs.OneBlock as one
-use Rattle.tests_worked.proofs.OneBlock.{uploader, first_workers, first_tasks, second_tasks}
+use Rattle.tests_worked.proofs.OneBlock.{uploader, first_workers, first_tasks, second_tasks, first_own}
 
 -- ---- the phases of a journal
 
@@ -32,10 +33,10 @@ use Rattle.tests_worked.proofs.OneBlock.{uploader, first_workers, first_tasks, s
 abbrev pub BeginsAnew : List Entry → Type 0
 BeginsAnew entries = (e : Entry) (more : List Entry) → entries ≡ e ∷ more → (moment : Moment) × (e.op ≡ op.Clock moment)
 
-pub phases_begin : (script : Script) (number : ℕ) (views : Views) (phases : List Phase) (entries : List Entry) (ends : List (List (List End))) → PhasesRun script number views phases entries ends → BeginsAnew entries
-phases_begin script number views [] entries ends run e more is = absurd (cc (run.0))
-phases_begin script number views (phase ∷ phases) entries ends (inl none) e more is = absurd (cc (none.0))
-phases_begin script number views (phase ∷ phases) entries ends (inr r) e more is =
+pub phases_begin : (setting : Setting) (number : ℕ) (views : Holdings) (phases : List Phase) (entries : List Entry) (ends : List (List (List End))) → PhasesRun (by_workers setting) number views phases entries ends → BeginsAnew entries
+phases_begin setting number views [] entries ends run e more is = absurd (cc (run.0))
+phases_begin setting number views (phase ∷ phases) entries ends (inl none) e more is = absurd (cc (none.0))
+phases_begin setting number views (phase ∷ phases) entries ends (inr r) e more is =
     let same : r.0 ≡ e = cc (r.6) in (phase.moment, subst (λ (x : Entry). x.op ≡ op.Clock phase.moment) same r.7.sets)
 
 -- an entry that sets no clock belongs to the phase
@@ -49,18 +50,18 @@ stays (x ∷ left) others e more is anew other = (left, cc, cc)
 abbrev pub second : Phase
 second = record { line = 7; moment = record { ms = 1_800_000 }; tasks = second_tasks }
 
-pub record FirstPhase (entries : List Entry) (others : List Entry) (made : List Entry) (after : Views) : Type 0 where
+pub record FirstPhase (entries : List Entry) (others : List Entry) (made : List Entry) (after : Holdings) : Type 0 where
   pub ends : List (List End)
   pub parts : entries ≡ made ++ others
-  pub run : PhaseRun one.script first_tasks (uploader ∷ []) no_views made ends after
+  pub run : PhaseRun (by_script one.setting) first_tasks (uploader ∷ []) none_held made ends after
   pub anew : BeginsAnew others
-  pub later : (others ≡ []) ⊎ ((left : List (List (List End))) × PhasesRun one.script 1 after (second ∷ []) others left)
+  pub later : (left : List (List (List End))) × PhasesRun (by_workers one.setting) 1 after (second ∷ []) others left
 
-pub first_phase_of : (clock : Entry) (entries : List Entry) → IsLawfulJournal one.script (clock ∷ entries)
-    → (others : List Entry) × (made : List Entry) × (after : Views) × FirstPhase entries others made after
+pub first_phase_of : (clock : Entry) (entries : List Entry) → IsLawfulJournal one.setting (clock ∷ entries)
+    → (others : List Entry) × (made : List Entry) × (after : Holdings) × FirstPhase entries others made after
 first_phase_of clock entries lawful = go lawful.0 lawful.1.phases
   where
-    go : (ends : List (List (List End))) → PhasesRun one.script 0 no_views one.script.phases (clock ∷ entries) ends → (others : List Entry) × (made : List Entry) × (after : Views) × FirstPhase entries others made after
+    go : (ends : List (List (List End))) → PhasesRun (by_workers one.setting) 0 none_held one.script.phases (clock ∷ entries) ends → (others : List Entry) × (made : List Entry) × (after : Holdings) × FirstPhase entries others made after
     go ends (inl none) = absurd (cc (none.0))
     go ends (inr r) = (
       r.2,
@@ -69,37 +70,36 @@ first_phase_of clock entries lawful = go lawful.0 lawful.1.phases
       record {
         ends = r.3;
         parts = cc (r.6);
-        run = subst (λ (ws : List Worker). PhaseRun one.script first_tasks ws no_views r.1 r.3 r.5) first_workers r.8;
-        anew = elim r.10 [
-          | inl none ↦ λ e more is. absurd (cc (none.0))
-          | inr more ↦ phases_begin one.script 1 r.5 (second ∷ []) r.2 r.4 more.1
-        ];
-        later = elim r.10 [ inl none ↦ inl none.0 | inr more ↦ inr (r.4, more.1) ];
+        run = subst (λ (ws : List Worker). PhaseRun (by_script one.setting) first_tasks ws none_held r.1 r.3 r.5) first_workers r.8;
+        anew = phases_begin one.setting 1 r.5 (second ∷ []) r.2 r.4 r.10;
+        later = (r.4, r.10);
       },
     )
 
 -- ---- the upload in it
 
-own_task : (own : List Task) → TasksAt first_tasks (0 ∷ []) own → own ≡ first_tasks
+own_task : (own : List Assigned) → TasksAt first_tasks (0 ∷ []) own → own ≡ first_own
 own_task [] at = absurd at
-own_task (task ∷ tasks) at = cc (at.0, at.1)
+own_task (own ∷ tasks) at =
+    let task : record { line = 6; work = works.Upload small.a None } ≡ own.task = cc (at.0.1) in
+    λ i. record { place = at.0.0 i; task = sym task i } ∷ at.1 i
 
-one_task : (script : Script) (task : Task) (entries : List Entry) (ends : List End) (last : Option Use) → TasksRun script None (task ∷ []) entries ends last
-    → (end : Option End) × TaskRun script None task.work entries end
-one_task script task entries ends last (inl r) =
-    (Some r.2, subst (λ es. TaskRun script None task.work es (Some r.2)) (sym (r.4 ∙ ap (λ es. r.0 ++ es) r.7.0 ∙ append-nil r.0)) r.5)
-one_task script task entries ends last (inr r) = (None, r.0)
+one_task : (setting : Setting) (who : Who) (all entries : List Entry) (ends : List End) (last : Holding) → TasksRun (by_script setting) who all nothing_held first_own entries ends last
+    → (end : Option End) × UploadTask setting small.a None entries end
+one_task setting who all entries ends last (inl r) =
+    (Some r.2, subst (λ es. UploadTask setting small.a None es (Some r.2)) (sym (r.5 ∙ ap (λ es. r.0 ++ es) r.8.0 ∙ append-nil r.0)) r.6.0)
+one_task setting who all entries ends last (inr r) = (None, r.0.0)
 
-pub upload_of : (made : List Entry) (ends : List (List End)) (after : Views) → PhaseRun one.script first_tasks (uploader ∷ []) no_views made ends after
-    → (end : Option End) × UploadTask one.script small.a None (of_seat 1 made) end
+pub upload_of : (made : List Entry) (ends : List (List End)) (after : Holdings) → PhaseRun (by_script one.setting) first_tasks (uploader ∷ []) none_held made ends after
+    → (end : Option End) × UploadTask one.setting small.a None (of_seat 1 made) end
 upload_of made ends after run = go ends run.runs
   where
-    go : (ends : List (List End)) → AllZip (WorkerRun one.script first_tasks no_views made after) (uploader ∷ []) ends → (end : Option End) × UploadTask one.script small.a None (of_seat 1 made) end
+    go : (ends : List (List End)) → AllZip (WorkerRun (by_script one.setting) first_tasks none_held made after) (uploader ∷ []) ends → (end : Option End) × UploadTask one.setting small.a None (of_seat 1 made) end
     go [] runs = absurd runs
     go (own ∷ ends) runs =
         let worker = runs.0 in
-        one_task one.script (record { line = 6; work = works.Upload small.a None }) (of_seat 1 made) own worker.last
-        (subst (λ (ts : List Task). TasksRun one.script None ts (of_seat 1 made) own worker.last) (own_task worker.own worker.are) worker.runs)
+        one_task one.setting (who_of uploader) made (of_seat 1 made) own worker.last
+        (subst (λ (ts : List Assigned). TasksRun (by_script one.setting) (who_of uploader) made nothing_held ts (of_seat 1 made) own worker.last) (own_task worker.own worker.are) worker.runs)
 
 pub record Uploads (entries : List Entry) : Type 0 where
   pub objects : List Object
@@ -110,11 +110,11 @@ pub record Uploads (entries : List Entry) : Type 0 where
   pub are : objects ≡ objects_of small.a (segment ∷ []) index meta
   pub run : Runs (upload small.a objects) entries end
 
-pub uploads_of : (entries : List Entry) (end : Option End) → UploadTask one.script small.a None entries end → Uploads entries
+pub uploads_of : (entries : List Entry) (end : Option End) → UploadTask one.setting small.a None entries end → Uploads entries
 unfolding segments_of
 uploads_of entries end task =
     let same : task.0 ≡ small.block = cc (task.1) in
-    let shipped = subst (λ (b : Block). IsShipped b task.2.0) same task.2.2 in
+    let shipped = subst (λ (b : Block). IsShipped one.setting b task.2.0) same task.2.2 in
     record {
       objects = task.2.0;
       end = task.2.1;

@@ -14,7 +14,7 @@ use Rattle.store_gateway.specs.SeriesRuns as reads
 use Rattle.store_gateway.specs.declared.series_end.SeriesEnd.{SeriesEnd}
 use Rattle.store_gateway.specs.declared.series_end.SeriesEnd.TheVariants as called
 use Rattle.lifecycle_core.specs.Causes.{AreUndamaged, AreWell, SomeCame}
-use Rattle.lifecycle_core.specs.Phases.{AreFinished, IsRunOf}
+use Rattle.lifecycle_core.specs.Phases.{IsFinished, IsRunOf}
 use Rattle.lifecycle_core.specs.Tasks.{QueryTask, answered}
 use Rattle.tests_worked.specs.SmallBlock as small
 use Rattle.tests_worked.specs.OneBlock as one
@@ -39,12 +39,12 @@ kept_with reply kind = record {
 
 -- the query came to this end by that read alone
 abbrev Came : Reply → SeriesEnd → Type 0
-Came reply came = QueryTask one.script (Some one.used) (Some (question one.selector)) (other.index_read reply ∷ []) (Some (answered one.used came))
+Came reply came = QueryTask (Some one.used) (Some (question one.selector)) (other.index_read reply ∷ []) (Some (answered one.used came))
 
-pub run_with : (reply : Reply) (came : SeriesEnd) → IsReplyTo (op.Get (key.Index small.a)) reply → Came reply came → IsRunOf one.script (other.journal_with reply) (other.ends_with came)
+pub run_with : (reply : Reply) (came : SeriesEnd) → IsReplyTo (op.Get (key.Index small.a)) reply → Came reply came → IsRunOf one.setting (other.journal_with reply) (other.ends_with came)
 run_with reply came kind task = run_by (other.index_read reply ∷ []) came (read_seat reply) refl task (kept_with reply kind)
 
-pub finished_with : (reply : Reply) (came : SeriesEnd) → Came reply came → AreFinished one.script 0 one.script.phases (other.ends_with came)
+pub finished_with : (reply : Reply) (came : SeriesEnd) → Came reply came → IsFinished one.setting (other.ends_with came)
 finished_with reply came task = finished_by (other.index_read reply ∷ []) came (read_seat reply) refl task
 
 pub query_came : (came : SeriesEnd) → SomeCame (other.ends_with came) (answered one.used came)
@@ -55,7 +55,7 @@ query_came came = (_, _, (1, lit< tt, refl), (0, lit< tt, refl), (1, lit< tt, re
 spoiled_task : Came (reply.Found []) (called.Damaged 10)
 spoiled_task = (Some (called.Damaged 10), (reads.damaged 10, (refl, (refl, inr refl)), refl), refl)
 
-pub spoiled_run : IsRunOf one.script other.spoiled other.spoiled_ends
+pub spoiled_run : IsRunOf one.setting other.spoiled other.spoiled_ends
 spoiled_run = run_with (reply.Found []) (called.Damaged 10) tt spoiled_task
 
 pub damaged : ¬ AreUndamaged other.spoiled_ends
@@ -63,7 +63,7 @@ damaged none = none (answered one.used (called.Damaged 10)) (query_came (called.
 
 -- ---- where the call fails
 
-pub failed_run : IsRunOf one.script other.failed other.failed_ends
+pub failed_run : IsRunOf one.setting other.failed other.failed_ends
 failed_run = run_with (reply.Failed false) (called.Fault 10) tt (Some (called.Fault 10), (reads.fault 10, (refl, (refl, inr refl)), refl), refl)
 
 pub failed_honest : IsHonest other.failed

@@ -25,19 +25,21 @@ use Rattle.script_core.specs.Workers.{workers_of}
 use Rattle.script_workers.specs.declared.work.Work.TheVariants as works
 use Rattle.script_workers.specs.declared.worker.Worker.{Worker}
 use Rattle.lifecycle_core.specs.Completed.{IsCompletedAt, IsUploadedBefore, PutsMeta}
+use Rattle.lifecycle_core.specs.Conducts.{CameTo, PhaseRun, WorkerRun}
 use Rattle.lifecycle_core.specs.Guarantees.{IsGiven}
-use Rattle.lifecycle_core.specs.Phases.{CameTo, IsRunOf, PhaseRun, PhasesRun, WorkerRun}
-use Rattle.lifecycle_core.specs.Tasks.{End, uploaded, synced, answered}
-use Rattle.lifecycle_core.specs.Views.{Use, no_views}
+use Rattle.lifecycle_core.specs.Holdings.{Use, none_held, nothing_held}
+use Rattle.lifecycle_core.specs.Phases.{IsRunOf, by_script, by_workers}
+use Rattle.lifecycle_core.specs.Tasks.{End, answered, synced, uploaded}
+use Rattle.lifecycle_core.specs.Ways.{PhasesRun}
 use Rattle.tests_worked.specs.Entries.{clock, stored, found, absent, listed}
 use Rattle.tests_worked.specs.SmallBlock as small
 use Rattle.tests_worked.specs.SideBySide as side
 use Rattle.tests_worked.proofs.Bucket.{segment_key, index_key, meta_key, mark_key, one_folder, page_of, segment_folder}
 use Rattle.tests_worked.proofs.Bytes.{meta_is}
-use Rattle.tests_worked.proofs.Each.{each_of}
+use Rattle.tests_worked.proofs.Each.{each_of, by_workers_alone}
 use Rattle.list_core.proofs.Membership.{only_member}
 use Rattle.tests_worked.proofs.SmallTasks.{upload_task_by, sync_run_by, merge_all, query_run}
-use Rattle.tests_worked.proofs.YoungBlock.{with, kept_else}
+use Rattle.tests_worked.proofs.YoungBlock.{with, kept_else, holding}
 
 -- ---- the workers and their tasks
 
@@ -80,30 +82,31 @@ upload =
     ∷ stored 10 2 9 (key.Meta small.a) small.meta
     ∷ []
 
-gateway_run : WorkerRun side.script side.tasks no_views side.made (with side.used) gateway gateway_ends
+gateway_run : WorkerRun (by_script side.setting) side.tasks none_held side.made (with side.used) gateway gateway_ends
 gateway_run = record {
-  own = record { line = 8; work = works.Sync 0 } ∷ record { line = 9; work = works.Query (pos 0) (pos 5000) 0 } ∷ [];
-  are = (refl, (refl, refl));
-  last = Some side.used;
+  own = record { place = 0; task = record { line = 8; work = works.Sync 0 } } ∷ record { place = 1; task = record { line = 9; work = works.Query (pos 0) (pos 5000) 0 } } ∷ [];
+  are = ((refl, refl), ((refl, refl), refl));
+  last = holding side.used;
   runs = inl (
     sync,
     side.query,
     synced (fetched.View side.view),
     answer ∷ [],
+    holding side.used,
     refl,
-    (Some (fetched.View side.view), sync_run_by (minutes 0) (hours 24) 1 4 3 11 10 12 11 (small.found 10 11 ∷ []) refl, refl),
+    (Some (fetched.View side.view), sync_run_by (minutes 0) (hours 24) 1 4 3 11 10 12 11 (small.found 10 11 ∷ []) refl, refl, refl),
     refl,
-    inl (side.query, [], answer, [], refl, (Some (called.Answer (small.up ∷ []) (small.a ∷ [])), query_run [] merge_all 4 3 11 10 11 13 1 12, refl), refl, (refl, refl, refl)),
+    inl (side.query, [], answer, [], holding side.used, refl, ((Some (called.Answer (small.up ∷ []) (small.a ∷ [])), query_run [] merge_all 4 3 11 10 11 13 1 12, refl), refl), refl, (refl, refl, refl)),
   );
-  leaves = λ other is. let same : 0 ≡ other = cc in subst (λ (x : ℕ). with side.used x ≡ Some side.used) same refl;
+  leaves = λ other is. let same : 0 ≡ other = cc in subst (λ (x : ℕ). with side.used x ≡ holding side.used) same refl;
 }
 
-upload_run : WorkerRun side.script side.tasks no_views side.made (with side.used) uploader upload_ends
+upload_run : WorkerRun (by_script side.setting) side.tasks none_held side.made (with side.used) uploader upload_ends
 upload_run = record {
-  own = record { line = 10; work = works.Upload small.a None } ∷ [];
-  are = (refl, refl);
-  last = None;
-  runs = inl (upload, [], uploaded (shipped.Done 3), [], refl, upload_task_by side.script small.a small.meta meta_is refl upload (refl, (refl, (refl, (refl, (refl, inr refl))))), refl, (refl, refl, refl));
+  own = record { place = 2; task = record { line = 10; work = works.Upload small.a None } } ∷ [];
+  are = ((refl, refl), refl);
+  last = nothing_held;
+  runs = inl (upload, [], uploaded (shipped.Done 3), [], nothing_held, refl, (upload_task_by side.setting small.a small.meta meta_is refl upload (refl, (refl, (refl, (refl, (refl, inr refl))))), refl), refl, (refl, refl, refl));
   leaves = λ gateway is. absurd (cc);
 }
 
@@ -111,12 +114,12 @@ other_text : meta_text (fields_of (small.said_of side.b)) ≡ side.other_meta
 unfolding side.other_meta
 other_text = refl
 
-other_run : WorkerRun side.script side.tasks no_views side.made (with side.used) other_uploader upload_ends
+other_run : WorkerRun (by_script side.setting) side.tasks none_held side.made (with side.used) other_uploader upload_ends
 other_run = record {
-  own = record { line = 11; work = works.Upload side.b None } ∷ [];
-  are = (refl, refl);
-  last = None;
-  runs = inl (side.other_upload, [], uploaded (shipped.Done 3), [], refl, upload_task_by side.script side.b side.other_meta other_text refl side.other_upload (refl, (refl, (refl, (refl, (refl, inr refl))))), refl, (refl, refl, refl));
+  own = record { place = 3; task = record { line = 11; work = works.Upload side.b None } } ∷ [];
+  are = ((refl, refl), refl);
+  last = nothing_held;
+  runs = inl (side.other_upload, [], uploaded (shipped.Done 3), [], nothing_held, refl, (upload_task_by side.setting side.b side.other_meta other_text refl side.other_upload (refl, (refl, (refl, (refl, (refl, inr refl))))), refl), refl, (refl, refl, refl));
   leaves = λ gateway is. absurd (cc);
 }
 
@@ -137,15 +140,15 @@ by_upload = (1, lit< tt, refl)
 by_other : Contains all_seats 3
 by_other = (2, lit< tt, refl)
 
-phase : PhaseRun side.script side.tasks workers no_views side.made phase_ends (with side.used)
+phase : PhaseRun (by_script side.setting) side.tasks workers none_held side.made phase_ends (with side.used)
 phase = record {
-  seats = All-from_recursion IsSeat side.made
-      (by_upload, (by_upload, (by_gateway, (by_other, (by_other, (by_other, (by_other, (by_upload, (by_upload, (by_gateway, (by_gateway, (by_gateway, (by_gateway, tt)))))))))))));
+  seats = by_workers_alone all_seats side.made (All-from_recursion IsSeat side.made
+      (by_upload, (by_upload, (by_gateway, (by_other, (by_other, (by_other, (by_other, (by_upload, (by_upload, (by_gateway, (by_gateway, (by_gateway, (by_gateway, tt))))))))))))));
   runs = (gateway_run, (upload_run, (other_run, tt)));
-  kept = λ other differ. kept_else side.used no_views (λ o. refl) other (All-head (λ (w : Worker). w.gateway ≢ Some other) gateway (uploader ∷ other_uploader ∷ []) differ);
+  kept = λ other differ. kept_else side.used none_held (λ o. refl) other (All-head (λ (w : Worker). w.gateway ≢ Some other) gateway (uploader ∷ other_uploader ∷ []) differ);
 }
 
-phases : PhasesRun side.script 0 no_views side.script.phases side.journal side.ends
+phases : PhasesRun (by_workers side.setting) 0 none_held side.script.phases side.journal side.ends
 phases = inr (
   clock 1 0,
   side.made,
@@ -155,9 +158,9 @@ phases = inr (
   with side.used,
   refl,
   record { seat = refl; sets = refl },
-  subst (λ (ws : List Worker). PhaseRun side.script side.tasks ws no_views side.made phase_ends (with side.used)) (sym workers_are) phase,
+  subst (λ (ws : List Worker). PhaseRun (by_script side.setting) side.tasks ws none_held side.made phase_ends (with side.used)) (sym workers_are) phase,
   refl,
-  inl (refl, refl),
+  (refl, refl),
 )
 
 kept : IsJournal 1 side.journal
@@ -170,7 +173,7 @@ kept = record {
   small = each_of (λ before e. e.moment.ms < 2 ^ 48) side.journal (lit< tt, (lit< tt, (lit< tt, (lit< tt, (lit< tt, (lit< tt, (lit< tt, (lit< tt, (lit< tt, (lit< tt, (lit< tt, (lit< tt, (lit< tt, (lit< tt, tt))))))))))))));
 }
 
-pub run : IsRunOf side.script side.journal side.ends
+pub run : IsRunOf side.setting side.journal side.ends
 run = record { kept = kept; phases = phases }
 
 -- ---- what the bucket shows
@@ -234,7 +237,7 @@ honest = each_of (λ before e. Tells (stands before) e.op e.reply) side.journal
 came : CameTo workers phase_ends (Some 0) 1 answer
 came = record { worker = gateway; own = gateway_ends; among = (0, lit< tt, refl); is = refl; came = (1, lit< tt, refl) }
 
-pub given : IsGiven side.script side.ends side.asked
+pub given : IsGiven side.setting side.ends side.asked
 unfolding triples_of triples_under
 given = record {
   phase_number = 0;
@@ -296,7 +299,7 @@ completed_late seq done =
 
 pub not_early : ¬ side.NamesEarlyUploads
 not_early named =
-    let first = All-head (λ ulid. (own : Use) × Contains side.asked.uses own × IsUploadedBefore side.script side.journal ulid own.view.first) small.a [] named in
+    let first = All-head (λ ulid. (own : Use) × Contains side.asked.uses own × IsUploadedBefore side.setting side.journal ulid own.view.first) small.a [] named in
     let same : side.used ≡ first.0 = only_member side.used first.0 first.1 in
     let begin : 4 ≡ (first.0).view.first = ap (λ (own : Use). own.view.first) same in
     omega (arith, completed_late (first.2).seq (first.2).completed, (first.2).earlier, begin)
@@ -309,7 +312,7 @@ other_first : All (λ e. ¬ PutsMeta side.b e) before_other
 other_first = All-from_recursion (λ (e : Entry). ¬ PutsMeta side.b e) before_other
     (λ put. cc (put.1), (λ put. cc (put.1), (λ put. cc (put.1), (λ put. cc (put.1), (λ put. cc (put.1), (λ put. cc (put.1), (λ put. cc (put.1), tt)))))))
 
-other_uploaded : IsUploadedBefore side.script side.journal side.b 12
+other_uploaded : IsUploadedBefore side.setting side.journal side.b 12
 other_uploaded = record {
   is_declared = refl;
   seq = 8;

@@ -1,5 +1,5 @@
 -- The tasks over the small block are done as the definitions say.
-use Rattle.std.proofs.Common.{◌≡◌, ◌≢◌, ◌+◌, inl, inr, ℕ, suc, pos, Bool, true, false, cond, ◌||◌, List, [], ◌∷◌, Some, None, map, refl, sym, ap, subst, arith}
+use Rattle.std.proofs.Common.{◌≡◌, ◌≢◌, ◌+◌, inl, inr, ℕ, suc, pos, true, false, cond, ◌||◌, List, [], ◌∷◌, Some, None, map, refl, sym, ap, subst, arith}
 use Rattle.std.proofs.lemmas.List.Elements.{All-nil, All-cons}
 use Rattle.std.specs.List.{find, list_any}
 use Rattle.std.specs.List.Sorted.{IsStrictlyIncreasing, IsStrictlySortedBy}
@@ -8,7 +8,7 @@ use Rattle.label_sets.specs.Finals.{is_among, without, final_of}
 use Rattle.label_sets.specs.Labels.{value_of}
 use Rattle.label_sets.specs.Ordered.{in_order, placed}
 use Rattle.label_sets.specs.Triples.{Triple, triples_under, triples_of, has_same_key}
-use Rattle.moment_core.specs.StandardRules.{standard_rules, minutes, hours}
+use Rattle.moment_core.specs.StandardRules.{minutes, hours}
 use Rattle.moment_core.specs.declared.span.Span.{Span}
 use Rattle.block_keys.specs.declared.key.Key.TheVariants as key
 use Rattle.world_core.specs.declared.entry.Entry.{Entry}
@@ -31,10 +31,10 @@ use Rattle.meta_fetcher.specs.declared.sync_end.SyncEnd.TheVariants as fetched
 use Rattle.lifecycle_core.proofs.blocks.SegmentsAgain.{segment_once}
 use Rattle.store_gateway.specs.SeriesRuns.{Query, took, wanted, seen_under, IsSetOf, SeriesRun}
 use Rattle.store_gateway.specs.declared.series_end.SeriesEnd.TheVariants as called
-use Rattle.script_core.specs.declared.script.Script.{Script}
 use Rattle.lifecycle_core.specs.Held.{declared}
+use Rattle.lifecycle_core.specs.Setting.{Setting}
 use Rattle.lifecycle_core.specs.Shipped.{IsShipped}
-use Rattle.lifecycle_core.specs.Tasks.{UploadTask, all_times, sync_rules, uploaded}
+use Rattle.lifecycle_core.specs.Tasks.{UploadTask, all_times, uploaded}
 use Rattle.tests_worked.specs.SmallBlock as small
 use Rattle.tests_worked.specs.SmallRuns as runs
 use Rattle.tests_worked.specs.Entries.{absent, found, listed}
@@ -43,30 +43,31 @@ use Rattle.tests_worked.proofs.Bytes.{meta_is, plan_of, objects_are, meta_reads,
 
 -- ---- uploads
 
-shipped_objects : (ulid : ℕ) (text : List ℕ) → meta_text (fields_of (small.said_of ulid)) ≡ text → IsShipped (small.block_of ulid) (small.objects_with ulid text)
+shipped_objects : (setting : Setting) (ulid : ℕ) (text : List ℕ) → meta_text (fields_of (small.said_of ulid)) ≡ text → IsShipped setting (small.block_of ulid) (small.objects_with ulid text)
 unfolding plan_of
-shipped_objects ulid text is =
+shipped_objects setting ulid text is =
     (plan_of ulid, record { ulid = refl; early = refl; late = refl; level = refl; sources = refl; parents = refl; labels = refl; source = refl }, objects_are ulid text is)
 
 -- the upload of such a block, by its entries
-pub upload_task_by : (script : Script) (ulid : ℕ) (text : List ℕ) → meta_text (fields_of (small.said_of ulid)) ≡ text → declared script ulid ≡ Some (small.block_of ulid)
-    → (entries : List Entry) → Runs (upload ulid (small.objects_with ulid text)) entries (Some (shipped.Done 3)) → UploadTask script ulid None entries (Some (uploaded (shipped.Done 3)))
-upload_task_by script ulid text is declares entries run =
-    (small.block_of ulid, declares, (small.objects_with ulid text, Some (shipped.Done 3), shipped_objects ulid text is, run, inl (refl, λ n no. absurd (cc))))
+pub upload_task_by : (setting : Setting) (ulid : ℕ) (text : List ℕ) → meta_text (fields_of (small.said_of ulid)) ≡ text → declared setting.script ulid ≡ Some (small.block_of ulid)
+    → (entries : List Entry) → Runs (upload ulid (small.objects_with ulid text)) entries (Some (shipped.Done 3)) → UploadTask setting ulid None entries (Some (uploaded (shipped.Done 3)))
+upload_task_by setting ulid text is declares entries run =
+    (small.block_of ulid, declares, (small.objects_with ulid text, Some (shipped.Done 3), shipped_objects setting ulid text is, run, inl (refl, λ n no. absurd (cc))))
 
-pub upload_task : (script : Script) → declared script small.a ≡ Some small.block → (seq seat moment : ℕ)
-    → UploadTask script small.a None (runs.upload seq seat moment) (Some (uploaded (shipped.Done 3)))
-upload_task script is seq seat moment =
-    upload_task_by script small.a small.meta meta_is is (runs.upload seq seat moment) (refl, (refl, (refl, (refl, (refl, inr refl)))))
+pub upload_task : (setting : Setting) → declared setting.script small.a ≡ Some small.block → (seq seat moment : ℕ)
+    → UploadTask setting small.a None (runs.upload seq seat moment) (Some (uploaded (shipped.Done 3)))
+upload_task setting is seq seat moment =
+    upload_task_by setting small.a small.meta meta_is is (runs.upload seq seat moment) (refl, (refl, (refl, (refl, (refl, inr refl)))))
 
 -- ---- syncs
-
-abbrev pub rules : SyncRules
-rules = sync_rules standard_rules
 
 -- rules with this consistency delay, by which marks are passed over after this delay
 abbrev pub rules_by : Span → Span → SyncRules
 rules_by consistency delay = record { consistency = consistency; mark_delay = delay; page_limit = 1_000; partition = all_times }
+
+-- the standard ones
+abbrev pub rules : SyncRules
+rules = rules_by (minutes 30) (hours 24)
 
 block_meta_reads : block_meta small.a small.meta ≡ Some (fields_of small.said)
 block_meta_reads = rw meta_reads refl

@@ -10,11 +10,11 @@ use Rattle.script_workers.specs.declared.worker.Worker.{Worker}
 use Rattle.script_workers.specs.declared.work.Work.TheVariants as works
 use Rattle.world_core.specs.declared.entry.Entry.{Entry}
 use Rattle.lifecycle_core.specs.Completed.{IsSettled, IsUploadedBefore, PutsMeta}
+use Rattle.lifecycle_core.specs.Conducts.{CameTo}
 use Rattle.lifecycle_core.specs.Guarantees.{IsExact, IsGiven}
 use Rattle.lifecycle_core.specs.Held.{held, held_by}
-use Rattle.lifecycle_core.specs.Phases.{CameTo}
+use Rattle.lifecycle_core.specs.Holdings.{Use}
 use Rattle.lifecycle_core.specs.Tasks.{synced}
-use Rattle.lifecycle_core.specs.Views.{Use}
 use Rattle.label_sets.specs.Finals.{is_among, without, final_of}
 use Rattle.label_sets.specs.Ordered.{in_order, placed}
 use Rattle.matchers.specs.Selectors.{is_match}
@@ -34,7 +34,7 @@ none_came used = record {
   came = (1, lit< tt, refl);
 }
 
-pub none_given : (early late : Use) → IsGiven young.script (young.ends_by early late) (young.first_asked early)
+pub none_given : (early late : Use) → IsGiven young.setting (young.ends_by early late) (young.first_asked early)
 unfolding triples_of
 none_given early late = record {
   phase_number = 0;
@@ -56,7 +56,7 @@ none_given early late = record {
   uses = refl;
 }
 
-pub none_exact : (used : Use) → IsExact young.script (young.first_asked used)
+pub none_exact : (used : Use) → IsExact young.setting (young.first_asked used)
 unfolding held selected IsDistinct IsStrictlySortedBy
 none_exact used = record {
   ascending = tt;
@@ -64,14 +64,14 @@ none_exact used = record {
 }
 
 -- no block is old enough for a view that began in the first half hour
-pub not_settled : (journal : List Entry) (used : Use) → used.view.begin.ms < 1_800_000 → (ulid : ℕ) → ¬ IsSettled young.script journal used ulid
+pub not_settled : (journal : List Entry) (used : Use) → used.view.begin.ms < 1_800_000 → (ulid : ℕ) → ¬ IsSettled young.setting journal used ulid
 not_settled journal used early ulid settled = omega (arith, settled.old)
 
 -- with the upload first, the block was complete before the first sync began
 abbrev before_meta : List Entry
 before_meta = clock 1 0 ∷ absent 2 2 1 (key.Meta small.a) ∷ stored 3 2 2 (key.Segment small.a 1) small.segment ∷ stored 4 2 3 (key.Index small.a) small.index ∷ []
 
-early_upload : IsUploadedBefore young.script young.journal_turned small.a 6
+early_upload : IsUploadedBefore young.setting young.journal_turned small.a 6
 early_upload = record {
   is_declared = refl;
   seq = 5;
@@ -101,7 +101,7 @@ some_came used = record {
   came = (1, lit< tt, refl);
 }
 
-pub some_given : (early late : Use) → IsGiven young.script (young.ends_by early late) (young.second_asked late)
+pub some_given : (early late : Use) → IsGiven young.setting (young.ends_by early late) (young.second_asked late)
 unfolding triples_of triples_under
 some_given early late = record {
   phase_number = 1;
@@ -123,7 +123,7 @@ some_given early late = record {
   uses = refl;
 }
 
-pub some_exact : (used : Use) → IsExact young.script (young.second_asked used)
+pub some_exact : (used : Use) → IsExact young.setting (young.second_asked used)
 unfolding held held_by triples_under selected is_selected is_match final_of without is_among in_order placed IsDistinct IsStrictlySortedBy
 some_exact used = record {
   ascending = (tt, tt);

@@ -14,14 +14,16 @@ use Rattle.script_core.specs.Workers.{workers_of}
 use Rattle.script_workers.specs.declared.task.Task.{Task}
 use Rattle.script_workers.specs.declared.worker.Worker.{Worker}
 use Rattle.script_workers.specs.declared.work.Work.TheVariants as works
-use Rattle.lifecycle_core.specs.Phases.{TasksRun, of_seat, PhaseRun, PhasesRun, AreDone, AreFinished, IsRunOf}
-use Rattle.lifecycle_core.specs.Tasks.{End, TaskRun, uploaded, synced}
-use Rattle.lifecycle_core.specs.Views.{Use, Views, no_views}
+use Rattle.lifecycle_core.specs.Conducts.{AreDone, Assigned, PhaseRun, TasksRun, of_seat, who_of}
+use Rattle.lifecycle_core.specs.Holdings.{Holding, Holdings, Use, none_held, nothing_held}
+use Rattle.lifecycle_core.specs.Phases.{IsFinished, IsRunOf, by_script, by_workers}
+use Rattle.lifecycle_core.specs.Tasks.{End, UploadTask, synced, uploaded}
+use Rattle.lifecycle_core.specs.Ways.{PhasesRun}
 use Rattle.tests_worked.specs.SmallBlock as small
 use Rattle.tests_worked.specs.SmallRuns as runs
 use Rattle.tests_worked.specs.Entries.{clock, listed}
 use Rattle.tests_worked.specs.YoungBlock as young
-use Rattle.tests_worked.proofs.Each.{each_of}
+use Rattle.tests_worked.proofs.Each.{each_of, by_workers_alone}
 use Rattle.tests_worked.proofs.Bucket.{page, nothing_listed, shows_meta, shows_index, shows_segment, shows_no_mark}
 use Rattle.tests_worked.proofs.SmallTasks.{upload_task, sync_run, empty_sync_run, question, merge_all, query_run, empty_query_run}
 
@@ -59,6 +61,9 @@ second_sync = record { line = 10; work = works.Sync 0 }
 abbrev second_query : Task
 second_query = record { line = 11; work = works.Query (pos 0) (pos 5000) 1 }
 
+abbrev at : ℕ → Task → Assigned
+at place task = record { place = place; task = task }
+
 abbrev pub first_tasks : List Task
 first_tasks = sync ∷ upload ∷ query ∷ []
 
@@ -73,47 +78,51 @@ abbrev pub second_ends : Use → List (List End)
 second_ends used = (synced (fetched.View used.view) ∷ young.block_answer used ∷ []) ∷ []
 
 -- the views after a phase
-abbrev pub with : Use → Views
-with used zero = Some used
-with used (suc other) = None
+abbrev pub holding : Use → Holding
+holding used = record { used = Some used }
+
+abbrev pub with : Use → Holdings
+with used zero = holding used
+with used (suc other) = nothing_held
 
 -- ---- a phase, by its gateway's run and its upload
 
 abbrev IsSeat : List ℕ → Entry → Type 0
 IsSeat seats e = Contains seats e.seat
 
-pub kept_else : (used : Use) (views : Views) → ((other : ℕ) → views (suc other) ≡ None) → (other : ℕ) → Some 0 ≢ Some other → with used other ≡ views other
+pub kept_else : (used : Use) (views : Holdings) → ((other : ℕ) → views (suc other) ≡ nothing_held) → (other : ℕ) → Some 0 ≢ Some other → with used other ≡ views other
 kept_else used views none zero differ = absurd (differ refl)
 kept_else used views none (suc other) differ = sym (none other)
 
 first_phase : (made uploads : List Entry) (used : Use) → All (IsSeat (1 ∷ 2 ∷ [])) made
-    → TasksRun young.script None (sync ∷ query ∷ []) (of_seat 1 made) (synced (fetched.View used.view) ∷ young.no_answer used ∷ []) (Some used)
-    → of_seat 2 made ≡ uploads → TaskRun young.script None upload.work uploads (Some (uploaded (shipped.Done 3)))
-    → PhaseRun young.script first_tasks (first_gateway ∷ uploader ∷ []) no_views made (first_ends used) (with used)
+    → TasksRun (by_script young.setting) (who_of first_gateway) made nothing_held (at 0 sync ∷ at 2 query ∷ []) (of_seat 1 made) (synced (fetched.View used.view) ∷ young.no_answer used ∷ []) (holding used)
+    → of_seat 2 made ≡ uploads → UploadTask young.setting small.a None uploads (Some (uploaded (shipped.Done 3)))
+    → PhaseRun (by_script young.setting) first_tasks (first_gateway ∷ uploader ∷ []) none_held made (first_ends used) (with used)
 first_phase made uploads used seats run is own = record {
-  seats = seats;
+  seats = by_workers_alone (1 ∷ 2 ∷ []) made seats;
   runs = (
-    record { own = sync ∷ query ∷ []; are = (refl, (refl, refl)); last = Some used; runs = run; leaves = λ other is. let same : 0 ≡ other = cc in subst (λ (x : ℕ). with used x ≡ Some used) same refl },
+    record { own = at 0 sync ∷ at 2 query ∷ []; are = ((refl, refl), ((refl, refl), refl)); last = holding used; runs = run; leaves = λ other is. let same : 0 ≡ other = cc in subst (λ (x : ℕ). with used x ≡ holding used) same refl },
     (
       record {
-        own = upload ∷ [];
-        are = (refl, refl);
-        last = None;
-        runs = subst (λ (es : List Entry). TasksRun young.script None (upload ∷ []) es (uploaded (shipped.Done 3) ∷ []) None) (sym is) (inl (uploads, [], uploaded (shipped.Done 3), [], sym (append-nil uploads), own, refl, (refl, refl, refl)));
+        own = at 1 upload ∷ [];
+        are = ((refl, refl), refl);
+        last = nothing_held;
+        runs = subst (λ (es : List Entry). TasksRun (by_script young.setting) (who_of uploader) made nothing_held (at 1 upload ∷ []) es (uploaded (shipped.Done 3) ∷ []) nothing_held) (sym is)
+            (inl (uploads, [], uploaded (shipped.Done 3), [], nothing_held, sym (append-nil uploads), (own, refl), refl, (refl, refl, refl)));
         leaves = λ gateway is. absurd (cc);
       },
       tt,
     ),
   );
-  kept = λ other differ. kept_else used no_views (λ o. refl) other (All-head (λ (w : Worker). w.gateway ≢ Some other) first_gateway (uploader ∷ []) differ);
+  kept = λ other differ. kept_else used none_held (λ o. refl) other (All-head (λ (w : Worker). w.gateway ≢ Some other) first_gateway (uploader ∷ []) differ);
 }
 
 second_phase : (made : List Entry) (before used : Use) → All (IsSeat (3 ∷ [])) made
-    → TasksRun young.script (Some before) (second_sync ∷ second_query ∷ []) (of_seat 3 made) (synced (fetched.View used.view) ∷ young.block_answer used ∷ []) (Some used)
-    → PhaseRun young.script second_tasks (second_gateway ∷ []) (with before) made (second_ends used) (with used)
+    → TasksRun (by_script young.setting) (who_of second_gateway) made (holding before) (at 0 second_sync ∷ at 1 second_query ∷ []) (of_seat 3 made) (synced (fetched.View used.view) ∷ young.block_answer used ∷ []) (holding used)
+    → PhaseRun (by_script young.setting) second_tasks (second_gateway ∷ []) (with before) made (second_ends used) (with used)
 second_phase made before used seats run = record {
-  seats = seats;
-  runs = (record { own = second_sync ∷ second_query ∷ []; are = (refl, (refl, refl)); last = Some used; runs = run; leaves = λ other is. let same : 0 ≡ other = cc in subst (λ (x : ℕ). with used x ≡ Some used) same refl }, tt);
+  seats = by_workers_alone (3 ∷ []) made seats;
+  runs = (record { own = at 0 second_sync ∷ at 1 second_query ∷ []; are = ((refl, refl), ((refl, refl), refl)); last = holding used; runs = run; leaves = λ other is. let same : 0 ≡ other = cc in subst (λ (x : ℕ). with used x ≡ holding used) same refl }, tt);
   kept = λ other differ. kept_else used (with before) (λ o. refl) other (All-head (λ (w : Worker). w.gateway ≢ Some other) second_gateway [] differ);
 }
 
@@ -124,9 +133,9 @@ second_done : (used : Use) → AreDone (workers_of young.script 1) (second_ends 
 second_done used = ap (map (λ (w : Worker). length w.tasks)) second_workers
 
 both_phases : (seq : ℕ) (first second : List Entry) (early late : Use)
-    → PhaseRun young.script first_tasks (first_gateway ∷ uploader ∷ []) no_views first (first_ends early) (with early)
-    → PhaseRun young.script second_tasks (second_gateway ∷ []) (with early) second (second_ends late) (with late)
-    → PhasesRun young.script 0 no_views young.script.phases (clock 1 0 ∷ first ++ clock seq 1_800_000 ∷ second) (young.ends_by early late)
+    → PhaseRun (by_script young.setting) first_tasks (first_gateway ∷ uploader ∷ []) none_held first (first_ends early) (with early)
+    → PhaseRun (by_script young.setting) second_tasks (second_gateway ∷ []) (with early) second (second_ends late) (with late)
+    → PhasesRun (by_workers young.setting) 0 none_held young.script.phases (clock 1 0 ∷ first ++ clock seq 1_800_000 ∷ second) (young.ends_by early late)
 both_phases seq first second early late one other = inr (
   clock 1 0,
   first,
@@ -136,32 +145,29 @@ both_phases seq first second early late one other = inr (
   with early,
   refl,
   record { seat = refl; sets = refl },
-  subst (λ (ws : List Worker). PhaseRun young.script first_tasks ws no_views first (first_ends early) (with early)) (sym first_workers) one,
+  subst (λ (ws : List Worker). PhaseRun (by_script young.setting) first_tasks ws none_held first (first_ends early) (with early)) (sym first_workers) one,
   refl,
   inr (
-    first_done early,
-    inr (
-      clock seq 1_800_000,
-      second,
-      [],
-      second_ends late,
-      [],
-      with late,
-      ap (λ es. clock seq 1_800_000 ∷ es) (sym (append-nil second)),
-      record { seat = refl; sets = refl },
-      subst (λ (ws : List Worker). PhaseRun young.script second_tasks ws (with early) second (second_ends late) (with late)) (sym second_workers) other,
-      refl,
-      inl (refl, refl),
-    ),
+    clock seq 1_800_000,
+    second,
+    [],
+    second_ends late,
+    [],
+    with late,
+    ap (λ es. clock seq 1_800_000 ∷ es) (sym (append-nil second)),
+    record { seat = refl; sets = refl },
+    subst (λ (ws : List Worker). PhaseRun (by_script young.setting) second_tasks ws (with early) second (second_ends late) (with late)) (sym second_workers) other,
+    refl,
+    (refl, refl),
   ),
 )
 
-pub finished : (early late : Use) → AreFinished young.script 0 young.script.phases (young.ends_by early late)
+pub finished : (early late : Use) → IsFinished young.setting (young.ends_by early late)
 finished early late = (first_done early, (second_done late, refl))
 
 -- ---- in the order of the lines
 
-first_lines : PhaseRun young.script first_tasks (first_gateway ∷ uploader ∷ []) no_views young.first_journal (first_ends young.early) (with young.early)
+first_lines : PhaseRun (by_script young.setting) first_tasks (first_gateway ∷ uploader ∷ []) none_held young.first_journal (first_ends young.early) (with young.early)
 first_lines = first_phase young.first_journal (runs.upload 3 2 2) young.early
     (All-from_recursion (IsSeat (1 ∷ 2 ∷ [])) young.first_journal ((0, lit< tt, refl), ((1, lit< tt, refl), ((1, lit< tt, refl), ((1, lit< tt, refl), ((1, lit< tt, refl), tt))))))
     (inl (
@@ -169,15 +175,16 @@ first_lines = first_phase young.first_journal (runs.upload 3 2 2) young.early
       [],
       synced (fetched.View young.early.view),
       young.no_answer young.early ∷ [],
+      holding young.early,
       refl,
-      (Some (fetched.View young.early.view), empty_sync_run 2 1 1, refl),
+      (Some (fetched.View young.early.view), empty_sync_run 2 1 1, refl, refl),
       refl,
-      inl ([], [], young.no_answer young.early, [], refl, (Some (called.Answer [] []), empty_query_run young.early.view refl (question []), refl), refl, (refl, refl, refl)),
+      inl ([], [], young.no_answer young.early, [], holding young.early, refl, ((Some (called.Answer [] []), empty_query_run young.early.view refl (question []), refl), refl), refl, (refl, refl, refl)),
     ))
     refl
-    (upload_task young.script refl 3 2 2)
+    (upload_task young.setting refl 3 2 2)
 
-second_lines : PhaseRun young.script second_tasks (second_gateway ∷ []) (with young.early) young.second_journal (second_ends young.late) (with young.late)
+second_lines : PhaseRun (by_script young.setting) second_tasks (second_gateway ∷ []) (with young.early) young.second_journal (second_ends young.late) (with young.late)
 second_lines = second_phase young.second_journal young.early young.late
     (All-from_recursion (IsSeat (3 ∷ [])) young.second_journal ((0, lit< tt, refl), ((0, lit< tt, refl), ((0, lit< tt, refl), ((0, lit< tt, refl), ((0, lit< tt, refl), tt))))))
     (inl (
@@ -185,10 +192,11 @@ second_lines = second_phase young.second_journal young.early young.late
       runs.query 11 3 1_800_004,
       synced (fetched.View young.late.view),
       young.block_answer young.late ∷ [],
+      holding young.late,
       refl,
-      (Some (fetched.View young.late.view), sync_run 8 3 1_800_001 (runs.seen 1_800_001 ∷ []) refl, refl),
+      (Some (fetched.View young.late.view), sync_run 8 3 1_800_001 (runs.seen 1_800_001 ∷ []) refl, refl, refl),
       refl,
-      inl (runs.query 11 3 1_800_004, [], young.block_answer young.late, [], refl, (Some (called.Answer (small.up ∷ []) (small.a ∷ [])), query_run [] merge_all 8 1_800_001 1_800_003 1_800_002 1_800_003 11 3 1_800_004, refl), refl, (refl, refl, refl)),
+      inl (runs.query 11 3 1_800_004, [], young.block_answer young.late, [], holding young.late, refl, ((Some (called.Answer (small.up ∷ []) (small.a ∷ [])), query_run [] merge_all 8 1_800_001 1_800_003 1_800_002 1_800_003 11 3 1_800_004, refl), refl), refl, (refl, refl, refl)),
     ))
 
 kept : IsJournal 1 young.journal
@@ -201,7 +209,7 @@ kept = record {
   small = each_of (λ before e. e.moment.ms < 2 ^ 48) young.journal (lit< tt, (lit< tt, (lit< tt, (lit< tt, (lit< tt, (lit< tt, (lit< tt, (lit< tt, (lit< tt, (lit< tt, (lit< tt, (lit< tt, tt))))))))))));
 }
 
-pub run : IsRunOf young.script young.journal young.ends
+pub run : IsRunOf young.setting young.journal young.ends
 run = record { kept = kept; phases = both_phases 7 young.first_journal young.second_journal young.early young.late first_lines second_lines }
 
 pub honest : IsHonest young.journal
@@ -209,7 +217,7 @@ honest = each_of (λ before e. Tells (stands before) e.op e.reply) young.journal
 
 -- ---- with the upload first
 
-first_turned : PhaseRun young.script first_tasks (first_gateway ∷ uploader ∷ []) no_views young.first_journal_turned (first_ends young.early_turned) (with young.early_turned)
+first_turned : PhaseRun (by_script young.setting) first_tasks (first_gateway ∷ uploader ∷ []) none_held young.first_journal_turned (first_ends young.early_turned) (with young.early_turned)
 first_turned = first_phase young.first_journal_turned (runs.upload 2 2 1) young.early_turned
     (All-from_recursion (IsSeat (1 ∷ 2 ∷ [])) young.first_journal_turned ((1, lit< tt, refl), ((1, lit< tt, refl), ((1, lit< tt, refl), ((1, lit< tt, refl), ((0, lit< tt, refl), ((0, lit< tt, refl), ((0, lit< tt, refl), tt))))))))
     (inl (
@@ -217,15 +225,16 @@ first_turned = first_phase young.first_journal_turned (runs.upload 2 2 1) young.
       [],
       synced (fetched.View young.early_turned.view),
       young.no_answer young.early_turned ∷ [],
+      holding young.early_turned,
       refl,
-      (Some (fetched.View young.early_turned.view), sync_run 6 1 5 [] refl, refl),
+      (Some (fetched.View young.early_turned.view), sync_run 6 1 5 [] refl, refl, refl),
       refl,
-      inl ([], [], young.no_answer young.early_turned, [], refl, (Some (called.Answer [] []), empty_query_run young.early_turned.view refl (question []), refl), refl, (refl, refl, refl)),
+      inl ([], [], young.no_answer young.early_turned, [], holding young.early_turned, refl, ((Some (called.Answer [] []), empty_query_run young.early_turned.view refl (question []), refl), refl), refl, (refl, refl, refl)),
     ))
     refl
-    (upload_task young.script refl 2 2 1)
+    (upload_task young.setting refl 2 2 1)
 
-second_turned : PhaseRun young.script second_tasks (second_gateway ∷ []) (with young.early_turned) young.second_journal_turned (second_ends young.late_turned) (with young.late_turned)
+second_turned : PhaseRun (by_script young.setting) second_tasks (second_gateway ∷ []) (with young.early_turned) young.second_journal_turned (second_ends young.late_turned) (with young.late_turned)
 second_turned = second_phase young.second_journal_turned young.early_turned young.late_turned
     (All-from_recursion (IsSeat (3 ∷ [])) young.second_journal_turned ((0, lit< tt, refl), ((0, lit< tt, refl), ((0, lit< tt, refl), ((0, lit< tt, refl), ((0, lit< tt, refl), tt))))))
     (inl (
@@ -233,10 +242,11 @@ second_turned = second_phase young.second_journal_turned young.early_turned youn
       runs.query 13 3 1_800_004,
       synced (fetched.View young.late_turned.view),
       young.block_answer young.late_turned ∷ [],
+      holding young.late_turned,
       refl,
-      (Some (fetched.View young.late_turned.view), sync_run 10 3 1_800_001 (runs.seen 1_800_001 ∷ []) refl, refl),
+      (Some (fetched.View young.late_turned.view), sync_run 10 3 1_800_001 (runs.seen 1_800_001 ∷ []) refl, refl, refl),
       refl,
-      inl (runs.query 13 3 1_800_004, [], young.block_answer young.late_turned, [], refl, (Some (called.Answer (small.up ∷ []) (small.a ∷ [])), query_run [] merge_all 10 1_800_001 1_800_003 1_800_002 1_800_003 13 3 1_800_004, refl), refl, (refl, refl, refl)),
+      inl (runs.query 13 3 1_800_004, [], young.block_answer young.late_turned, [], holding young.late_turned, refl, ((Some (called.Answer (small.up ∷ []) (small.a ∷ [])), query_run [] merge_all 10 1_800_001 1_800_003 1_800_002 1_800_003 13 3 1_800_004, refl), refl), refl, (refl, refl, refl)),
     ))
 
 kept_turned : IsJournal 1 young.journal_turned
@@ -249,7 +259,7 @@ kept_turned = record {
   small = each_of (λ before e. e.moment.ms < 2 ^ 48) young.journal_turned (lit< tt, (lit< tt, (lit< tt, (lit< tt, (lit< tt, (lit< tt, (lit< tt, (lit< tt, (lit< tt, (lit< tt, (lit< tt, (lit< tt, (lit< tt, (lit< tt, tt))))))))))))));
 }
 
-pub run_turned : IsRunOf young.script young.journal_turned young.ends_turned
+pub run_turned : IsRunOf young.setting young.journal_turned young.ends_turned
 run_turned = record { kept = kept_turned; phases = both_phases 9 young.first_journal_turned young.second_journal_turned young.early_turned young.late_turned first_turned second_turned }
 
 pub honest_turned : IsHonest young.journal_turned

@@ -10,8 +10,8 @@ use Rattle.shipper.specs.declared.upload_end.UploadEnd.TheVariants as shipped
 use Rattle.meta_fetcher.specs.declared.sync_end.SyncEnd.TheVariants as fetched
 use Rattle.script_workers.specs.Hands.{hands_of_task}
 use Rattle.script_workers.specs.declared.worker.Worker.{Worker}
-use Rattle.lifecycle_core.specs.Tasks.{End, uploaded, synced}
-use Rattle.lifecycle_core.specs.Views.{Use}
+use Rattle.lifecycle_core.specs.Holdings.{Use}
+use Rattle.lifecycle_core.specs.Tasks.{End, synced, uploaded}
 use Rattle.replay_cli.specs.Outcomes.{TasksCame}
 use Rattle.replay_cli.specs.Reports.{upload_words, sync_words, source_line, series_line, counts_text, answer_text, query_text, activity_text}
 use Rattle.replay_cli.specs.Verdicts.{IsReport, report_of}

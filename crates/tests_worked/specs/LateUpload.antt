@@ -5,6 +5,7 @@ use Rattle.world_core.specs.declared.entry.Entry.{Entry}
 use Rattle.shipper.specs.declared.upload_end.UploadEnd.TheVariants as shipped
 use Rattle.script_core.specs.declared.script.Script.{Script}
 use Rattle.script_workers.specs.declared.work.Work.TheVariants.{Upload}
+use Rattle.lifecycle_core.specs.Setting.{Setting, setting_of}
 use Rattle.lifecycle_core.specs.Tasks.{End, uploaded}
 use Rattle.tests_worked.specs.SmallBlock as small
 use Rattle.tests_worked.specs.SmallRuns as runs
@@ -24,6 +25,9 @@ script = record {
         ∷ [];
   } ∷ [];
 }
+
+abbrev pub setting : Setting
+setting = setting_of script
 
 abbrev pub upload : List Entry
 upload = runs.upload 2 1 1_800_001

@@ -6,6 +6,7 @@ use Rattle.moment_core.specs.declared.rules.Rules.{Rules}
 use Rattle.moment_core.specs.declared.span.Span.{Span}
 use Rattle.world_core.specs.declared.entry.Entry.{Entry}
 use Rattle.script_core.specs.declared.script.Script.{Script}
+use Rattle.lifecycle_core.specs.Setting.{Setting, setting_of}
 use Rattle.tests_worked.specs.Entries.{found, stored}
 use Rattle.tests_worked.specs.OneBlock as one
 use Rattle.tests_worked.specs.SmallBlock as small
@@ -33,12 +34,12 @@ script_with ignore = record {
 }
 
 -- marks are ignored for a second
-abbrev pub hasty : Script
-hasty = script_with (record { ms = 1_000 })
+abbrev pub hasty : Setting
+hasty = setting_of (script_with (record { ms = 1_000 }))
 
 -- marks are ignored for as long as objects stand after their mark
-abbrev pub idle : Script
-idle = script_with (hours 48)
+abbrev pub idle : Setting
+idle = setting_of (script_with (hours 48))
 
 -- the sync's last read, and the query's first one
 abbrev pub last_read : Entry

@@ -29,8 +29,9 @@ use Rattle.script_workers.specs.declared.task.Task.{Task}
 use Rattle.script_workers.specs.declared.work.Work.TheVariants.{Upload, Sync, Query}
 use Rattle.lifecycle_core.specs.Completed.{IsUploadedBefore}
 use Rattle.lifecycle_core.specs.Guarantees.{Answered}
+use Rattle.lifecycle_core.specs.Setting.{Setting, setting_of}
 use Rattle.lifecycle_core.specs.Tasks.{End, uploaded, synced, answered}
-use Rattle.lifecycle_core.specs.Views.{Use}
+use Rattle.lifecycle_core.specs.Holdings.{Use}
 use Rattle.tests_worked.specs.SmallBlock as small
 use Rattle.tests_worked.specs.SmallRuns as runs
 use Rattle.tests_worked.specs.Entries.{clock, stored, found, absent, listed}
@@ -67,6 +68,9 @@ script = record {
   selectors = [] ∷ [];
   phases = record { line = 7; moment = record { ms = 0 }; tasks = tasks } ∷ [];
 }
+
+abbrev pub setting : Setting
+setting = setting_of script
 
 -- ---- the run: the gateway has seat 1, the uploads have seats 2 and 3
 
@@ -131,11 +135,11 @@ asked = record {
 abbrev pub NamesEarlyUploads : Type 0
 NamesEarlyUploads =
     All (λ ulid.
-    (own : Use) × Contains asked.uses own × IsUploadedBefore script journal ulid own.view.first)
+    (own : Use) × Contains asked.uses own × IsUploadedBefore setting journal ulid own.view.first)
     asked.sources
 
 -- it names each block, old enough, that was complete before the sync ended
 abbrev pub NamesLateUploads : Type 0
 NamesLateUploads =
-    (own : Use) (ulid : ℕ) → Contains asked.uses own → IsUploadedBefore script journal ulid own.last
+    (own : Use) (ulid : ℕ) → Contains asked.uses own → IsUploadedBefore setting journal ulid own.last
     → time_of ulid + script.rules.consistency.ms ≤ own.view.begin.ms → Contains asked.sources ulid

@@ -9,8 +9,9 @@ use Rattle.meta_fetcher.specs.declared.sync_end.SyncEnd.TheVariants as fetched
 use Rattle.store_gateway.specs.declared.series_end.SeriesEnd.TheVariants as called
 use Rattle.script_core.specs.declared.script.Script.{Script}
 use Rattle.script_workers.specs.declared.work.Work.TheVariants.{Upload, Sync, Query}
+use Rattle.lifecycle_core.specs.Setting.{Setting, setting_of}
 use Rattle.lifecycle_core.specs.Tasks.{End, uploaded, synced, answered}
-use Rattle.lifecycle_core.specs.Views.{Use}
+use Rattle.lifecycle_core.specs.Holdings.{Use}
 use Rattle.lifecycle_core.specs.Completed.{IsUploadedBefore}
 use Rattle.sync_filters.specs.Filters.{time_of}
 use Rattle.lifecycle_core.specs.Guarantees.{Answered}
@@ -61,6 +62,9 @@ script = record {
       }
       ∷ [];
 }
+
+abbrev pub setting : Setting
+setting = setting_of script
 
 -- how a query's line ends that answers nothing, and one that answers the block
 abbrev pub no_answer : Use → End
@@ -134,7 +138,7 @@ report = join_with_byte 10 (
 -- with the upload first, the block was complete before the first sync began, however young
 abbrev pub IsUploadedEarly : Use → ℕ → Type 0
 IsUploadedEarly used ulid =
-    IsUploadedBefore script journal_turned ulid used.view.first
+    IsUploadedBefore setting journal_turned ulid used.view.first
     × (time_of ulid ≤ used.view.begin.ms)
 
 -- the answer names each block of which this holds

@@ -4,35 +4,35 @@ ghost use Rattle.world_core.specs.Worlds.{failed_count};
 ghost use Rattle.lifecycle_core.specs.Breaches.{IsBreach, honesty, upload_time, mark_time, sync_time, view_time};
 ghost use Rattle.lifecycle_core.specs.Causes.{AreWell, IsBlamed, IsExplained};
 ghost use Rattle.lifecycle_core.specs.Guarantees.{IsGuaranteed};
-ghost use Rattle.lifecycle_core.specs.Phases.{IsRunOf, AreFinished};
+ghost use Rattle.lifecycle_core.specs.Phases.{IsFinished, IsRunOf};
 ghost use Rattle.tests_worked.specs.Entries.{stored};
 ghost use Rattle.tests_worked.specs.LostIndex.{journal, ends, lost};
-ghost use Rattle.tests_worked.specs.OneBlock.{script};
+ghost use Rattle.tests_worked.specs.OneBlock.{setting};
 ghost use Rattle.tests_worked.specs.SmallBlock.{a};
 
 /// A law: a gateway says that the object at entry 10 is missing, in a lawful journal in which no call failed.
 pub fn lost_index_runs()
-    ensures run { IsRunOf script journal ends }
-    ensures finished { AreFinished script 0 script.phases ends }
+    ensures run { IsRunOf setting journal ends }
+    ensures finished { IsFinished setting ends }
     ensures calm { failed_count journal ≡ 0 }
 {}
 
 /// A law: that entry is the first one that breaks a rule. It shows `A`, for absent, and owes `F`, for found.
 pub fn lost_index_is_the_breach()
-    ensures { IsBreach script journal honesty 10 65 70 }
+    ensures { IsBreach setting journal honesty 10 65 70 }
 {}
 
 /// A law: so the journal explains the missing object, and all that is guaranteed of the run holds.
 pub fn lost_index_is_explained()
-    ensures explained { IsExplained script journal 10 }
-    ensures guaranteed { IsGuaranteed script journal ends }
+    ensures explained { IsExplained setting journal 10 }
+    ensures guaranteed { IsGuaranteed setting journal ends }
 {}
 
 /// A law: not every task ended well then. The lie is the only cause: no entry breaks another rule. And what another block was put
 /// or marked with, a sync, and another read are not to blame.
 pub fn lost_index_has_no_other_cause()
     ensures unwell { ¬ AreWell ends }
-    ensures lie { (cause : IsExplained script journal 10) → cause.rule ≡ honesty }
+    ensures lie { (cause : IsExplained setting journal 10) → cause.rule ≡ honesty }
     ensures other_put { ¬ IsBlamed a 10 upload_time (stored 2 1 1 (key.Index 11) []) }
     ensures other_mark { ¬ IsBlamed a 10 mark_time (stored 2 1 1 (key.Mark 11) []) }
     ensures no_sync { ¬ IsBlamed a 10 sync_time lost }

@@ -5,10 +5,10 @@ ghost use Rattle.script_core.specs.Spelling.{Spells};
 ghost use Rattle.lifecycle_core.specs.Breaches.{IsUnbroken};
 ghost use Rattle.lifecycle_core.specs.Completed.{IsSettled};
 ghost use Rattle.lifecycle_core.specs.Guarantees.{IsExact, IsGiven, IsGuaranteed, IsSyncOf, LeavesNoneOut, NamesUploads};
-ghost use Rattle.lifecycle_core.specs.Phases.{IsRunOf, AreFinished};
+ghost use Rattle.lifecycle_core.specs.Phases.{IsFinished, IsRunOf};
 ghost use Rattle.lifecycle_core.specs.TimeRules.{IsMarkedInTime, IsReadInTime, IsSyncedInTime, IsUploadedInTime};
 ghost use Rattle.replay_cli.specs.Verdicts.{IsReport, IsWholeRun};
-ghost use Rattle.tests_worked.specs.OneBlock.{text, script, journal, ends, report, sync, query, used, asked};
+ghost use Rattle.tests_worked.specs.OneBlock.{text, setting, script, journal, ends, report, sync, query, used, asked};
 ghost use Rattle.tests_worked.specs.SmallBlock.{a};
 
 /// A law: the script is what its text spells, and lawful.
@@ -19,7 +19,7 @@ pub fn one_block_is_spelled()
 
 /// A law: the journal is that of a run of the script that comes to these ends.
 pub fn one_block_runs()
-    ensures { IsRunOf script journal ends }
+    ensures { IsRunOf setting journal ends }
 {}
 
 /// A law: the bucket gave back what was put.
@@ -29,19 +29,19 @@ pub fn one_block_is_honest()
 
 /// A law: all is done, and what is printed says so. Nothing else may be printed.
 pub fn one_block_is_reported()
-    ensures finished { AreFinished script 0 script.phases ends }
+    ensures finished { IsFinished setting ends }
     ensures report { IsReport script script.phases ends true report }
     ensures only { (as_asked : Bool) (other : List ℕ)
         → IsReport script script.phases ends as_asked other → other ≡ report }
-    ensures whole { IsWholeRun script true report journal }
+    ensures whole { IsWholeRun setting true report journal }
 {}
 
 /// A law: the query's answer is the run's, it is exact, and it names a complete upload, as it has to.
 pub fn one_block_is_answered()
-    ensures given { IsGiven script ends asked }
-    ensures exact { IsExact script asked }
-    ensures named { NamesUploads script journal asked }
-    ensures settled { IsSettled script journal used a }
+    ensures given { IsGiven setting ends asked }
+    ensures exact { IsExact setting asked }
+    ensures named { NamesUploads setting journal asked }
+    ensures settled { IsSettled setting journal used a }
 {}
 
 /// A law: the run keeps the rules of time, so that its query may leave no block out, and it leaves none out.
@@ -50,15 +50,15 @@ pub fn one_block_is_in_time()
     ensures marked { (ulid : ℕ) → IsMarkedInTime script.rules ulid journal }
     ensures synced { IsSyncOf journal used sync × IsSyncedInTime script.rules sync }
     ensures read { All (IsReadInTime script.rules used.view) query }
-    ensures covered { LeavesNoneOut script journal asked }
+    ensures covered { LeavesNoneOut setting journal asked }
 {}
 
 /// A law: so no entry of it breaks a rule.
 pub fn one_block_breaks_no_rule()
-    ensures { IsUnbroken script journal }
+    ensures { IsUnbroken setting journal }
 {}
 
 /// A law: all that is guaranteed of a run holds of it.
 pub fn one_block_is_guaranteed()
-    ensures { IsGuaranteed script journal ends }
+    ensures { IsGuaranteed setting journal ends }
 {}

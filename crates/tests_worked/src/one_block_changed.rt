@@ -6,33 +6,33 @@ ghost use Rattle.lifecycle_core.specs.Guarantees.{IsExact, IsGuaranteed, LeavesN
 ghost use Rattle.lifecycle_core.specs.Phases.{IsLawfulJournal};
 ghost use Rattle.replay_cli.specs.Verdicts.{IsReport};
 ghost use Rattle.tests_worked.specs.LostIndex as lost;
-ghost use Rattle.tests_worked.specs.OneBlock.{script, journal, ends};
+ghost use Rattle.tests_worked.specs.OneBlock.{setting, script, journal, ends};
 ghost use Rattle.tests_worked.specs.OneBlockChanged.{at_gateways_seat, clock_stands, index_first, meta_absent, no_look};
 ghost use Rattle.tests_worked.specs.OneBlockChanged.{nothing_answered, nothing_of_block, report_without_source, strange_source};
 
 /// A law: no lawful journal puts the index before the segment, whatever follows.
 pub fn index_before_segment_is_refused()
-    ensures { (rest : List Entry) → ¬ IsLawfulJournal script (index_first ++ rest) }
+    ensures { (rest : List Entry) → ¬ IsLawfulJournal setting (index_first ++ rest) }
 {}
 
 /// A law: no lawful journal puts an object of the block before the look at its meta.
 pub fn put_without_look_is_refused()
-    ensures { (rest : List Entry) → ¬ IsLawfulJournal script (no_look ++ rest) }
+    ensures { (rest : List Entry) → ¬ IsLawfulJournal setting (no_look ++ rest) }
 {}
 
 /// A law: no lawful journal has the upload's entries at the gateway's seat.
 pub fn upload_at_gateways_seat_is_refused()
-    ensures { (rest : List Entry) → ¬ IsLawfulJournal script (at_gateways_seat ++ rest) }
+    ensures { (rest : List Entry) → ¬ IsLawfulJournal setting (at_gateways_seat ++ rest) }
 {}
 
 /// A law: no lawful journal has an operation that takes no time.
 pub fn clock_that_stands_is_refused()
-    ensures { (rest : List Entry) → ¬ IsLawfulJournal script (clock_stands ++ rest) }
+    ensures { (rest : List Entry) → ¬ IsLawfulJournal setting (clock_stands ++ rest) }
 {}
 
 /// A law: no lawful journal has a query that reads a block whose meta its sync found absent, whatever the views are said to be.
 pub fn read_of_absent_block_is_refused()
-    ensures { (rest : List Entry) → ¬ IsLawfulJournal script (meta_absent ++ rest) }
+    ensures { (rest : List Entry) → ¬ IsLawfulJournal setting (meta_absent ++ rest) }
 {}
 
 /// A law: nor is a journal honest where the meta is absent after it was put.
@@ -48,21 +48,21 @@ pub fn report_without_source_is_refused()
 
 /// A law: an answer that names no block leaves out the one that was complete and old enough.
 pub fn answer_of_nothing_leaves_one_out()
-    ensures { ¬ LeavesNoneOut script journal nothing_answered }
+    ensures { ¬ LeavesNoneOut setting journal nothing_answered }
 {}
 
 /// A law: an answer without the block's sample is not exact where it names the block.
 pub fn answer_without_sample_is_not_exact()
-    ensures { ¬ IsExact script nothing_of_block }
+    ensures { ¬ IsExact setting nothing_of_block }
 {}
 
 /// A law: no answer may name a block that the script does not declare.
 pub fn strange_source_is_refused()
-    ensures { ¬ NamesUploads script journal strange_source }
+    ensures { ¬ NamesUploads setting journal strange_source }
 {}
 
 /// A law: the run's own journal explains no missing object, so that a run which says that one was missing is not guaranteed.
 pub fn missing_without_cause_is_refused()
-    ensures unexplained { (number : ℕ) → ¬ IsExplained script journal number }
-    ensures unguaranteed { ¬ IsGuaranteed script journal lost.ends }
+    ensures unexplained { (number : ℕ) → ¬ IsExplained setting journal number }
+    ensures unguaranteed { ¬ IsGuaranteed setting journal lost.ends }
 {}

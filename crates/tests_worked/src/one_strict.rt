@@ -3,7 +3,7 @@ ghost use Rattle.block_meta.specs.MetaFields.{MarkFields};
 ghost use Rattle.block_meta.specs.MetaText.{IsMarkText};
 ghost use Rattle.world_core.specs.declared.entry.Entry.{Entry};
 ghost use Rattle.lifecycle_core.specs.Breaches.{Refuses, mark_time, sync_time, view_time};
-ghost use Rattle.tests_worked.specs.OneBlock.{script, journal};
+ghost use Rattle.tests_worked.specs.OneBlock.{setting, journal};
 ghost use Rattle.tests_worked.specs.OneStrict.{hasty, idle, last_read, first_call, late_mark};
 
 /// A law: where marks are ignored for a second, the sync's last read comes too late; where they are ignored for as long as
@@ -19,5 +19,5 @@ pub fn strict_rules_are_broken()
 pub fn late_mark_is_refused()
     ensures { (entries before : List Entry) (bytes : List ℕ) (mark : MarkFields)
         → IsMarkText bytes mark → mark.deletion_time ≡ 0
-        → Refuses script entries mark_time before (late_mark bytes) 86_400_001 86_400_000 }
+        → Refuses setting entries mark_time before (late_mark bytes) 86_400_001 86_400_000 }
 {}

@@ -4,10 +4,10 @@ ghost use Rattle.script_core.specs.Lawful.{IsLawfulScript};
 ghost use Rattle.script_core.specs.Spelling.{Spells};
 ghost use Rattle.lifecycle_core.specs.Completed.{IsSettled};
 ghost use Rattle.lifecycle_core.specs.Guarantees.{IsExact, IsGiven};
-ghost use Rattle.lifecycle_core.specs.Phases.{IsRunOf, AreFinished};
-ghost use Rattle.lifecycle_core.specs.Views.{Use};
+ghost use Rattle.lifecycle_core.specs.Phases.{IsFinished, IsRunOf};
+ghost use Rattle.lifecycle_core.specs.Holdings.{Use};
 ghost use Rattle.replay_cli.specs.Verdicts.{IsReport};
-ghost use Rattle.tests_worked.specs.YoungBlock.{IsUploadedEarly, NamesAll, text, script, report, first_asked, second_asked};
+ghost use Rattle.tests_worked.specs.YoungBlock.{IsUploadedEarly, NamesAll, text, setting, script, report, first_asked, second_asked};
 ghost use Rattle.tests_worked.specs.YoungBlock.{journal, ends, early, late, journal_turned, ends_turned, early_turned, late_turned};
 
 /// A law: the script is what its text spells, and lawful.
@@ -18,33 +18,33 @@ pub fn young_block_is_spelled()
 
 /// A law: so it runs in the order of the lines, where the first sync finds nothing.
 pub fn young_block_runs()
-    ensures run { IsRunOf script journal ends }
+    ensures run { IsRunOf setting journal ends }
     ensures honest { IsHonest journal }
 {}
 
 /// A law: so it runs with the upload first, where the first sync finds the block and does not keep it.
 pub fn young_block_is_not_kept()
-    ensures run { IsRunOf script journal_turned ends_turned }
+    ensures run { IsRunOf setting journal_turned ends_turned }
     ensures honest { IsHonest journal_turned }
 {}
 
 /// A law: all is done, and what is printed says so. It is the same after both.
 pub fn young_block_is_reported()
-    ensures finished { AreFinished script 0 script.phases ends }
+    ensures finished { IsFinished setting ends }
     ensures report { IsReport script script.phases ends true report }
-    ensures turned_finished { AreFinished script 0 script.phases ends_turned }
+    ensures turned_finished { IsFinished setting ends_turned }
     ensures turned_report { IsReport script script.phases ends_turned true report }
 {}
 
 /// A law: the first query answers nothing in both, which is exact for the sources that it names, none. It does not have to
 /// name the block, which is not old enough.
 pub fn young_block_is_not_answered()
-    ensures given { IsGiven script ends (first_asked early) }
-    ensures exact { IsExact script (first_asked early) }
-    ensures unsettled { (ulid : ℕ) → ¬ IsSettled script journal early ulid }
-    ensures turned_given { IsGiven script ends_turned (first_asked early_turned) }
-    ensures turned_exact { IsExact script (first_asked early_turned) }
-    ensures turned_unsettled { (ulid : ℕ) → ¬ IsSettled script journal_turned early_turned ulid }
+    ensures given { IsGiven setting ends (first_asked early) }
+    ensures exact { IsExact setting (first_asked early) }
+    ensures unsettled { (ulid : ℕ) → ¬ IsSettled setting journal early ulid }
+    ensures turned_given { IsGiven setting ends_turned (first_asked early_turned) }
+    ensures turned_exact { IsExact setting (first_asked early_turned) }
+    ensures turned_unsettled { (ulid : ℕ) → ¬ IsSettled setting journal_turned early_turned ulid }
 {}
 
 /// A law: a block that was complete before a sync began is not named where it was too young.
@@ -54,7 +54,7 @@ pub fn young_block_is_left_out()
 
 /// A law: the second query answers the block in both, exactly.
 pub fn young_block_is_answered_later()
-    ensures given { IsGiven script ends (second_asked late) }
-    ensures turned_given { IsGiven script ends_turned (second_asked late_turned) }
-    ensures exact { (used : Use) → IsExact script (second_asked used) }
+    ensures given { IsGiven setting ends (second_asked late) }
+    ensures turned_given { IsGiven setting ends_turned (second_asked late_turned) }
+    ensures exact { (used : Use) → IsExact setting (second_asked used) }
 {}

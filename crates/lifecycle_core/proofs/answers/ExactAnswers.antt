@@ -28,9 +28,9 @@ use Rattle.script_core.specs.Spelling.{IsWithin}
 use Rattle.script_core.specs.declared.block.Block.{Block}
 use Rattle.script_core.specs.declared.body.Body.{Body}
 use Rattle.script_core.specs.declared.body.Body.TheVariants.{Inline}
-use Rattle.script_core.specs.declared.script.Script.{Script}
 use Rattle.script_core.proofs.SpelledValues.{within_spelled}
 use Rattle.lifecycle_core.specs.Held.{given_by, held, held_by}
+use Rattle.lifecycle_core.specs.Setting.{Setting}
 use Rattle.lifecycle_core.proofs.answers.Calls.{IsDeclared, IsTrueEnd, asked_of, held_under, true_end}
 use Rattle.lifecycle_core.proofs.journals.Positions.{of_filter}
 use Rattle.lifecycle_core.proofs.journals.Told.{IsPart, IsReadable, IsTold, IsTrueFound, Spans}
@@ -50,10 +50,10 @@ same_one_to_one kept one other into from is = record {
 -- ---- times
 
 -- samples of a block lie within its times
-timed_in : (body : Body) (labels : List Label) (replicas : List (List ℕ)) (first last : ℤ) (t : Triple) → IsLawfulBody body → Spans body first last
-    → Contains (flat_map (λ (s : Series). triples_under (final_of s.labels labels replicas) s.samples) (given_by body)) t → (first ≤ℤ t.time) × (t.time <ℤ last)
+timed_in : (setting : Setting) (ulid : ℕ) (body : Body) (labels : List Label) (replicas : List (List ℕ)) (first last : ℤ) (t : Triple) → IsLawfulBody body → Spans body first last
+    → Contains (flat_map (λ (s : Series). triples_under (final_of s.labels labels replicas) s.samples) (given_by setting ulid body)) t → (first ≤ℤ t.time) × (t.time <ℤ last)
 unfolding triples_under
-timed_in (Inline min_time max_time series) labels replicas first last t lawful (early, late) among =
+timed_in setting ulid (Inline min_time max_time series) labels replicas first last t lawful (early, late) among =
     let m = of_flat_map (λ (s : Series). triples_under (final_of s.labels labels replicas) s.samples) series t among in
     let one : Series = m.0 in
     let under : List Label = final_of one.labels labels replicas in
@@ -64,9 +64,9 @@ timed_in (Inline min_time max_time series) labels replicas first last t lawful (
     let time : sample.time ≡ t.time = ap (λ (x : Triple). x.time) s.2 in
     (subst (λ z. z ≤ℤ t.time) (sym early) (subst (λ z. min_time ≤ℤ z) time within.from), subst (λ z. t.time <ℤ z) (sym late) (subst (λ z. z <ℤ max_time) time within.below))
 
-timed : (replicas : List (List ℕ)) (block : Block) (first last : ℤ) (t : Triple) → IsLawfulBody block.body → Spans block.body first last → Contains (held_by replicas block) t → (first ≤ℤ t.time) × (t.time <ℤ last)
+timed : (setting : Setting) (replicas : List (List ℕ)) (block : Block) (first last : ℤ) (t : Triple) → IsLawfulBody block.body → Spans block.body first last → Contains (held_by setting replicas block) t → (first ≤ℤ t.time) × (t.time <ℤ last)
 unfolding held_by
-timed replicas block first last t lawful spans among = timed_in block.body block.labels replicas first last t lawful spans among
+timed setting replicas block first last t lawful spans among = timed_in setting block.ulid block.body block.labels replicas first last t lawful spans among
 
 right_holds : (a b : Bool) → (a && b) ≡ true → b ≡ true
 right_holds true b both = both
@@ -116,103 +116,103 @@ module _ (p : Triple → Bool) (h : ℕ → List Triple) (m : Found → Bool) (k
 
 -- ---- sources
 
-source_found : (script : Script) (kept : List Found) (sources : List ℕ) → All (IsTrueFound script) kept → IsSetOf (sources_of kept) sources
+source_found : (setting : Setting) (kept : List Found) (sources : List ℕ) → All (IsTrueFound setting) kept → IsSetOf (sources_of kept) sources
     → (ulid : ℕ) → Contains sources ulid → (found : Found) × Contains kept found × (found.ulid ≡ ulid)
-source_found script kept sources all set ulid among =
+source_found setting kept sources all set ulid among =
     let f = of_flat_map (λ (b : Found). b.meta.sources) kept ulid ((set.members ulid).0 among) in
     let found : Found = f.0 in
-    let true_one : IsTrueFound script found = All-contains (IsTrueFound script) kept found all f.1 in
+    let true_one : IsTrueFound setting found = All-contains (IsTrueFound setting) kept found all f.1 in
     elim (member_cases found.ulid ulid [] (subst (λ (us : List ℕ). Contains us ulid) true_one.sources f.2)) [
       | inl same ↦ (found, f.1, same)
       | inr none ↦ absurd (no_member ulid none)
     ]
 
-found_source : (script : Script) (kept : List Found) (sources : List ℕ) → All (IsTrueFound script) kept → IsSetOf (sources_of kept) sources
+found_source : (setting : Setting) (kept : List Found) (sources : List ℕ) → All (IsTrueFound setting) kept → IsSetOf (sources_of kept) sources
     → (found : Found) → Contains kept found → Contains sources found.ulid
-found_source script kept sources all set found among =
-    let true_one : IsTrueFound script found = All-contains (IsTrueFound script) kept found all among in
+found_source setting kept sources all set found among =
+    let true_one : IsTrueFound setting found = All-contains (IsTrueFound setting) kept found all among in
     let own : Contains found.meta.sources found.ulid = subst (λ (us : List ℕ). Contains us found.ulid) (sym true_one.sources) (contains_first found.ulid []) in
     (set.members found.ulid).1 (into_flat_map (λ (b : Found). b.meta.sources) kept found found.ulid among own)
 
 -- ---- calls
 
-to_declared : (script : Script) (kept : List Found) → AllByRecursion (IsTrueFound script) kept
-    → AllByRecursion (IsDeclared script) (map known kept)
-to_declared script [] all = tt
-to_declared script (b ∷ kept) all =
-    let f : IsTrueFound script b = all.0 in (record { block = f.block; is = f.is; small = f.small; labels = f.labels }, to_declared script kept all.1)
+to_declared : (setting : Setting) (kept : List Found) → AllByRecursion (IsTrueFound setting) kept
+    → AllByRecursion (IsDeclared setting) (map known kept)
+to_declared setting [] all = tt
+to_declared setting (b ∷ kept) all =
+    let f : IsTrueFound setting b = all.0 in (record { block = f.block; is = f.is; small = f.small; labels = f.labels }, to_declared setting kept all.1)
 
-told_part : (script : Script) (journal entries : List Entry) → All (IsTold script journal) journal → IsPart journal entries → AllByRecursion (IsTold script journal) entries
-told_part script journal entries told part =
-    recursion_from_All (IsTold script journal) entries
-    (All-weaker (Contains entries) (IsTold script journal) (λ e among. All-contains (IsTold script journal) journal e told (part.among e among)) entries (All-contains_itself entries))
+told_part : (setting : Setting) (journal entries : List Entry) → All (IsTold setting journal) journal → IsPart journal entries → AllByRecursion (IsTold setting journal) entries
+told_part setting journal entries told part =
+    recursion_from_All (IsTold setting journal) entries
+    (All-weaker (Contains entries) (IsTold setting journal) (λ e among. All-contains (IsTold setting journal) journal e told (part.among e among)) entries (All-contains_itself entries))
 
 -- what is taken in a call over these blocks
-abbrev taken_of : Script → Question → List Found → List Triple
-taken_of script query kept = flat_map (λ (b : ToRead). asked_of script query b.ulid) (to_read query kept)
+abbrev taken_of : Setting → Question → List Found → List Triple
+taken_of setting query kept = flat_map (λ (b : ToRead). asked_of setting query b.ulid) (to_read query kept)
 
-end_of_call : (script : Script) (journal entries : List Entry) (view : View) (query : Question) (end : Option SeriesEnd) → IsReadable script → All (IsTold script journal) journal → IsPart journal entries
-    → All (IsTrueFound script) view.kept → SeriesRun view query entries end → IsTrueEnd (taken_of script query view.kept) (sources_of view.kept) end
-end_of_call script journal entries view query end readable told part kept run =
-    let those : All (IsTrueFound script) (filter (meets query) view.kept) = All-filter (meets query) (IsTrueFound script) view.kept kept in
-    true_end script journal readable query (sources_of view.kept) (to_read query view.kept) [] (taken_of script query view.kept) entries end refl
-    (to_declared script (filter (meets query) view.kept) (recursion_from_All (IsTrueFound script) (filter (meets query) view.kept) those)) (told_part script journal entries told part) run
+end_of_call : (setting : Setting) (journal entries : List Entry) (view : View) (query : Question) (end : Option SeriesEnd) → IsReadable setting → All (IsTold setting journal) journal → IsPart journal entries
+    → All (IsTrueFound setting) view.kept → SeriesRun view query entries end → IsTrueEnd (taken_of setting query view.kept) (sources_of view.kept) end
+end_of_call setting journal entries view query end readable told part kept run =
+    let those : All (IsTrueFound setting) (filter (meets query) view.kept) = All-filter (meets query) (IsTrueFound setting) view.kept kept in
+    true_end setting journal readable query (sources_of view.kept) (to_read query view.kept) [] (taken_of setting query view.kept) entries end refl
+    (to_declared setting (filter (meets query) view.kept) (recursion_from_All (IsTrueFound setting) (filter (meets query) view.kept) those)) (told_part setting journal entries told part) run
 
 -- no object of such a call is damaged
-pub calls_undamaged : (script : Script) (journal entries : List Entry) (view : View) (query : Question) (number : ℕ) → IsReadable script → All (IsTold script journal) journal → IsPart journal entries
-    → All (IsTrueFound script) view.kept → ¬ SeriesRun view query entries (Some (called.Damaged number))
-calls_undamaged script journal entries view query number readable told part kept run =
-    (end_of_call script journal entries view query (Some (called.Damaged number)) readable told part kept run).undamaged number refl
+pub calls_undamaged : (setting : Setting) (journal entries : List Entry) (view : View) (query : Question) (number : ℕ) → IsReadable setting → All (IsTold setting journal) journal → IsPart journal entries
+    → All (IsTrueFound setting) view.kept → ¬ SeriesRun view query entries (Some (called.Damaged number))
+calls_undamaged setting journal entries view query number readable told part kept run =
+    (end_of_call setting journal entries view query (Some (called.Damaged number)) readable told part kept run).undamaged number refl
 
 -- it names the blocks of its view
-pub sources_are : (script : Script) (journal entries : List Entry) (view : View) (query : Question) (series : List Series) (sources : List ℕ) → IsReadable script → All (IsTold script journal) journal
-    → IsPart journal entries → All (IsTrueFound script) view.kept → SeriesRun view query entries (Some (called.Answer series sources))
+pub sources_are : (setting : Setting) (journal entries : List Entry) (view : View) (query : Question) (series : List Series) (sources : List ℕ) → IsReadable setting → All (IsTold setting journal) journal
+    → IsPart journal entries → All (IsTrueFound setting) view.kept → SeriesRun view query entries (Some (called.Answer series sources))
     → (ulid : ℕ) → Contains sources ulid ↔ ((found : Found) × Contains view.kept found × (found.ulid ≡ ulid))
-sources_are script journal entries view query series sources readable told part kept run ulid =
-    let end = end_of_call script journal entries view query (Some (called.Answer series sources)) readable told part kept run in
+sources_are setting journal entries view query series sources readable told part kept run ulid =
+    let end = end_of_call setting journal entries view query (Some (called.Answer series sources)) readable told part kept run in
     let set : IsSetOf (sources_of view.kept) sources = (end.answer series sources refl).1 in
-    (source_found script view.kept sources kept set ulid, λ f. subst (Contains sources) f.2 (found_source script view.kept sources kept set f.0 f.1))
+    (source_found setting view.kept sources kept set ulid, λ f. subst (Contains sources) f.2 (found_source setting view.kept sources kept set f.0 f.1))
 
 -- ---- exact answers
 
-module _ (script : Script) (lawful : IsLawfulScript script) (matchers : List Matcher) (low high : ℤ) where
+module _ (setting : Setting) (lawful : IsLawfulScript setting.script) (matchers : List Matcher) (low high : ℤ) where
   abbrev asked : Question
-  asked = record { selector = matchers; replicas = script.rules.replicas; low = low; high = high }
+  asked = record { selector = matchers; replicas = setting.script.rules.replicas; low = low; high = high }
 
   -- a block of which a sample is asked for meets the range
-  meets_asked : (found : Found) → IsTrueFound script found → (t : Triple) → Contains (held_under script script.rules.replicas found.ulid) t → is_selected matchers low high t ≡ true → meets asked found ≡ true
+  meets_asked : (found : Found) → IsTrueFound setting found → (t : Triple) → Contains (held_under setting setting.script.rules.replicas found.ulid) t → is_selected matchers low high t ≡ true → meets asked found ≡ true
   meets_asked found is t among passes =
-      let own : Contains (held_by script.rules.replicas is.block) t = subst (λ (o : Option Block). Contains (option_map_or (held_by script.rules.replicas) o []) t) is.is among in
-      let law : IsLawfulBlock is.block = declared_lawful script found.ulid is.block is.is lawful in
-      let times = timed script.rules.replicas is.block found.meta.min_time found.meta.max_time t law.body is.times own in
+      let own : Contains (held_by setting setting.script.rules.replicas is.block) t = subst (λ (o : Option Block). Contains (option_map_or (held_by setting setting.script.rules.replicas) o []) t) is.is among in
+      let law : IsLawfulBlock is.block = declared_lawful setting found.ulid is.block is.is lawful in
+      let times = timed setting setting.script.rules.replicas is.block found.meta.min_time found.meta.max_time t law.body is.times own in
       meets_range low high found.meta.min_time found.meta.max_time t.time (range_holds matchers low high t passes) times.0 times.1
 
-  into_held : (kept : List Found) (sources : List ℕ) → All (IsTrueFound script) kept → IsSetOf (sources_of kept) sources
-      → (t : Triple) → Contains (taken_of script asked kept) t → Contains (selected matchers low high (held script sources)) t
+  into_held : (kept : List Found) (sources : List ℕ) → All (IsTrueFound setting) kept → IsSetOf (sources_of kept) sources
+      → (t : Triple) → Contains (taken_of setting asked kept) t → Contains (selected matchers low high (held setting sources)) t
   unfolding selected held
   into_held kept sources all set t among =
-      taken_held (is_selected matchers low high) (held_under script script.rules.replicas) (meets asked) kept sources (found_source script kept sources all set) t among
+      taken_held (is_selected matchers low high) (held_under setting setting.script.rules.replicas) (meets asked) kept sources (found_source setting kept sources all set) t among
 
-  from_held : (kept : List Found) (sources : List ℕ) → All (IsTrueFound script) kept → IsSetOf (sources_of kept) sources
-      → (t : Triple) → Contains (selected matchers low high (held script sources)) t → Contains (taken_of script asked kept) t
+  from_held : (kept : List Found) (sources : List ℕ) → All (IsTrueFound setting) kept → IsSetOf (sources_of kept) sources
+      → (t : Triple) → Contains (selected matchers low high (held setting sources)) t → Contains (taken_of setting asked kept) t
   unfolding selected held
   from_held kept sources all set t among =
-      held_taken (is_selected matchers low high) (held_under script script.rules.replicas) (meets asked) kept sources (source_found script kept sources all set)
-      (λ found c. meets_asked found (All-contains (IsTrueFound script) kept found all c)) t among
+      held_taken (is_selected matchers low high) (held_under setting setting.script.rules.replicas) (meets asked) kept sources (source_found setting kept sources all set)
+      (λ found c. meets_asked found (All-contains (IsTrueFound setting) kept found all c)) t among
 
 -- a call's answer is exact
-pub answer_is_exact : (script : Script) (journal entries : List Entry) (view : View) (matchers : List Matcher) (low high : ℤ) (series : List Series) (sources : List ℕ)
-    → IsLawfulScript script → IsReadable script → All (IsTold script journal) journal → IsPart journal entries → All (IsTrueFound script) view.kept
-    → SeriesRun view (record { selector = matchers; replicas = script.rules.replicas; low = low; high = high }) entries (Some (called.Answer series sources))
-    → IsAnswer matchers low high (triples_of series) (held script sources)
-answer_is_exact script journal entries view matchers low high series sources lawful readable told part kept run =
-    let query : Question = record { selector = matchers; replicas = script.rules.replicas; low = low; high = high } in
-    let end = end_of_call script journal entries view query (Some (called.Answer series sources)) readable told part kept run in
+pub answer_is_exact : (setting : Setting) (journal entries : List Entry) (view : View) (matchers : List Matcher) (low high : ℤ) (series : List Series) (sources : List ℕ)
+    → IsLawfulScript setting.script → IsReadable setting → All (IsTold setting journal) journal → IsPart journal entries → All (IsTrueFound setting) view.kept
+    → SeriesRun view (record { selector = matchers; replicas = setting.script.rules.replicas; low = low; high = high }) entries (Some (called.Answer series sources))
+    → IsAnswer matchers low high (triples_of series) (held setting sources)
+answer_is_exact setting journal entries view matchers low high series sources lawful readable told part kept run =
+    let query : Question = record { selector = matchers; replicas = setting.script.rules.replicas; low = low; high = high } in
+    let end = end_of_call setting journal entries view query (Some (called.Answer series sources)) readable told part kept run in
     let answer = end.answer series sources refl in
-    let total : List Triple = taken_of script query view.kept in
+    let total : List Triple = taken_of setting query view.kept in
     let dedup : IsDeduplication (triples_of series) total = deduplicates total total series refl answer.0 in
     record {
       ascending = dedup.ascending;
-      one_to_one = same_one_to_one (triples_of series) total (selected matchers low high (held script sources))
-          (into_held script lawful matchers low high view.kept sources kept answer.1) (from_held script lawful matchers low high view.kept sources kept answer.1) dedup.one_to_one;
+      one_to_one = same_one_to_one (triples_of series) total (selected matchers low high (held setting sources))
+          (into_held setting lawful matchers low high view.kept sources kept answer.1) (from_held setting lawful matchers low high view.kept sources kept answer.1) dedup.one_to_one;
     }

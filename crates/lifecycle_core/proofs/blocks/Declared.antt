@@ -4,22 +4,22 @@ use Rattle.std.proofs.Common.{◌≡◌, ◌^◌, ◌<◌, ◌==◌, ℕ, Contai
 use Rattle.std.proofs.lemmas.Bool.Decides.{nat_tests}
 use Rattle.std.proofs.lemmas.List.Elements.{All-contains_itself}
 use Rattle.script_core.specs.declared.block.Block.{Block}
-use Rattle.script_core.specs.declared.script.Script.{Script}
 use Rattle.script_core.specs.Lawful.{IsLawfulBlock, IsLawfulScript}
 use Rattle.lifecycle_core.specs.Held.{declared}
+use Rattle.lifecycle_core.specs.Setting.{Setting}
 
-module _ (script : Script) (ulid : ℕ) (block : Block) (is : declared script ulid ≡ Some block) where
+module _ (setting : Setting) (ulid : ℕ) (block : Block) (is : declared setting.script ulid ≡ Some block) where
   -- it is one of the script's blocks, and has this ULID
-  pub declared_among : Contains script.blocks block
-  declared_among = find_holds (Contains script.blocks) (λ (b : Block). b.ulid == ulid) script.blocks block (All-contains_itself script.blocks) is
+  pub declared_among : Contains setting.script.blocks block
+  declared_among = find_holds (Contains setting.script.blocks) (λ (b : Block). b.ulid == ulid) setting.script.blocks block (All-contains_itself setting.script.blocks) is
 
   pub declared_ulid : block.ulid ≡ ulid
   declared_ulid =
-      let test : (block.ulid == ulid) ≡ true = find_passes (λ (b : Block). b.ulid == ulid) script.blocks block is in
+      let test : (block.ulid == ulid) ≡ true = find_passes (λ (b : Block). b.ulid == ulid) setting.script.blocks block is in
       grind (arith, nat_tests, test)
 
-  pub declared_lawful : IsLawfulScript script → IsLawfulBlock block
-  declared_lawful lawful = find_holds IsLawfulBlock (λ (b : Block). b.ulid == ulid) script.blocks block lawful.blocks.each is
+  pub declared_lawful : IsLawfulScript setting.script → IsLawfulBlock block
+  declared_lawful lawful = find_holds IsLawfulBlock (λ (b : Block). b.ulid == ulid) setting.script.blocks block lawful.blocks.each is
 
-  pub blocks_are_small : IsLawfulScript script → ulid < 2 ^ 128
+  pub blocks_are_small : IsLawfulScript setting.script → ulid < 2 ^ 128
   blocks_are_small lawful = subst (λ n. n < 2 ^ 128) declared_ulid (declared_lawful lawful).ulid

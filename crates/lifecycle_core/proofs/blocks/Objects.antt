@@ -13,8 +13,8 @@ use Rattle.block_files.specs.PlainForm.{plain_index}
 use Rattle.script_core.specs.declared.block.Block.{Block}
 use Rattle.script_core.specs.declared.body.Body.{Body}
 use Rattle.script_core.specs.declared.body.Body.TheVariants.{Inline}
-use Rattle.script_core.specs.declared.script.Script.{Script}
 use Rattle.lifecycle_core.specs.Held.{declared, given, given_by}
+use Rattle.lifecycle_core.specs.Setting.{Setting}
 use Rattle.lifecycle_core.specs.Shipped.{AreBuilt}
 use Rattle.lifecycle_core.proofs.journals.Told.{IsShippedObject}
 
@@ -33,7 +33,7 @@ unfolding objects_of segments_of segment_objects
 objects_are ulid [] meta = All-from_recursion (λ (o : Object). IsObjectOf ulid [] meta o.key o.bytes) (objects_of ulid (segments_of []) plain_index meta) ((refl, refl), ((refl, refl), tt))
 objects_are ulid (s ∷ ss) meta = All-from_recursion (λ (o : Object). IsObjectOf ulid (s ∷ ss) meta o.key o.bytes) (objects_of ulid (segments_of (s ∷ ss)) plain_index meta) ((refl, refl), ((refl, refl), ((refl, refl), tt)))
 
-module _ (block : Block) (low high : ℤ) (series : List Series) (objects : List Object) (k : Key) (bytes : List ℕ) (built : AreBuilt block (Inline low high series) objects)
+module _ (setting : Setting) (block : Block) (low high : ℤ) (series : List Series) (objects : List Object) (k : Key) (bytes : List ℕ) (built : AreBuilt setting block (Inline low high series) objects)
     (among : Contains objects (record { key = k; bytes = bytes })) where
   pub built_object : IsObjectOf block.ulid series (meta_text (built_meta built.0 series)) k bytes
   built_object =
@@ -48,25 +48,25 @@ own_ulid ulid series meta (key.Segment own number) bytes is = is.0
 own_ulid ulid series meta (key.Mark own) bytes is = absurd is
 
 -- its key has the block's ULID
-pub built_ulid : (block : Block) (body : Body) (objects : List Object) (k : Key) (bytes : List ℕ) → AreBuilt block body objects → Contains objects (record { key = k; bytes = bytes }) → key_ulid k ≡ block.ulid
-built_ulid block (Inline low high series) objects k bytes built among =
-    own_ulid block.ulid series (meta_text (built_meta built.0 series)) k bytes (built_object block low high series objects k bytes built among)
+pub built_ulid : (setting : Setting) (block : Block) (body : Body) (objects : List Object) (k : Key) (bytes : List ℕ) → AreBuilt setting block body objects → Contains objects (record { key = k; bytes = bytes }) → key_ulid k ≡ block.ulid
+built_ulid setting block (Inline low high series) objects k bytes built among =
+    own_ulid block.ulid series (meta_text (built_meta built.0 series)) k bytes (built_object setting block low high series objects k bytes built among)
 
-index_built : (block : Block) (body : Body) (objects : List Object) (u : ℕ) (bytes : List ℕ) → AreBuilt block body objects → Contains objects (record { key = key.Index u; bytes = bytes }) → bytes ≡ plain_index
-index_built block (Inline low high series) objects u bytes built among = (built_object block low high series objects (key.Index u) bytes built among).1
+index_built : (setting : Setting) (block : Block) (body : Body) (objects : List Object) (u : ℕ) (bytes : List ℕ) → AreBuilt setting block body objects → Contains objects (record { key = key.Index u; bytes = bytes }) → bytes ≡ plain_index
+index_built setting block (Inline low high series) objects u bytes built among = (built_object setting block low high series objects (key.Index u) bytes built among).1
 
-segment_built : (block : Block) (body : Body) (objects : List Object) (u : ℕ) (bytes : List ℕ) → AreBuilt block body objects → Contains objects (record { key = key.Segment u 1; bytes = bytes }) → bytes ≡ segment_text (given_by body)
-segment_built block (Inline low high series) objects u bytes built among = (built_object block low high series objects (key.Segment u 1) bytes built among).1
+segment_built : (setting : Setting) (block : Block) (body : Body) (objects : List Object) (u : ℕ) (bytes : List ℕ) → AreBuilt setting block body objects → Contains objects (record { key = key.Segment u 1; bytes = bytes }) → bytes ≡ segment_text (given_by setting block.ulid body)
+segment_built setting block (Inline low high series) objects u bytes built among = (built_object setting block low high series objects (key.Segment u 1) bytes built among).1
 
 -- ---- of a declared block
 
-pub index_found : (script : Script) (u : ℕ) (bytes : List ℕ) → IsShippedObject script (key.Index u) bytes → bytes ≡ plain_index
-index_found script u bytes is = index_built is.block is.block.body is.objects u bytes is.shipped is.among
+pub index_found : (setting : Setting) (u : ℕ) (bytes : List ℕ) → IsShippedObject setting (key.Index u) bytes → bytes ≡ plain_index
+index_found setting u bytes is = index_built setting is.block is.block.body is.objects u bytes is.shipped is.among
 
-same_block : (script : Script) (ulid : ℕ) (one other : Block) → declared script ulid ≡ Some one → declared script ulid ≡ Some other → one ≡ other
-same_block script ulid one other first second = let e : Some one ≡ Some other = sym first ∙ second in cc (e)
+same_block : (setting : Setting) (ulid : ℕ) (one other : Block) → declared setting.script ulid ≡ Some one → declared setting.script ulid ≡ Some other → one ≡ other
+same_block setting ulid one other first second = let e : Some one ≡ Some other = sym first ∙ second in cc (e)
 
-pub segment_found : (script : Script) (u : ℕ) (block : Block) (bytes : List ℕ) → declared script u ≡ Some block → IsShippedObject script (key.Segment u 1) bytes → bytes ≡ segment_text (given block)
-segment_found script u block bytes is found =
-    subst (λ (b : Block). bytes ≡ segment_text (given b)) (same_block script u found.block block found.is is)
-    (segment_built found.block found.block.body found.objects u bytes found.shipped found.among)
+pub segment_found : (setting : Setting) (u : ℕ) (block : Block) (bytes : List ℕ) → declared setting.script u ≡ Some block → IsShippedObject setting (key.Segment u 1) bytes → bytes ≡ segment_text (given setting block)
+segment_found setting u block bytes is found =
+    subst (λ (b : Block). bytes ≡ segment_text (given setting b)) (same_block setting u found.block block found.is is)
+    (segment_built setting found.block found.block.body found.objects u bytes found.shipped found.among)

@@ -32,7 +32,6 @@ use Rattle.block_files.proofs.Unbroken.{same_parts, not_whole, sample_without, l
 use Rattle.script_core.specs.declared.block.Block.{Block}
 use Rattle.script_core.specs.declared.body.Body.{Body}
 use Rattle.script_core.specs.declared.body.Body.TheVariants.{Inline}
-use Rattle.script_core.specs.declared.script.Script.{Script}
 use Rattle.script_core.specs.Lawful.{AreLawfulLabels, HasLawfulSamples, IsLawfulBody, IsLawfulScript}
 use Rattle.script_core.specs.Spelling.{IsNear, IsWithin}
 use Rattle.std.specs.List.Sorted.{IsStrictlySortedBy}
@@ -40,6 +39,7 @@ use Rattle.std.specs.Ordering.{int_cmp}
 use Rattle.script_core.proofs.SpelledValues.{near_tested, within_spelled}
 use Rattle.script_core.proofs.ValueLaws.{time_fits}
 use Rattle.lifecycle_core.specs.Held.{declared, given, given_by}
+use Rattle.lifecycle_core.specs.Setting.{Setting}
 use Rattle.lifecycle_core.proofs.blocks.Declared.{declared_lawful}
 
 -- ---- ASCII
@@ -243,8 +243,8 @@ lines_again low high (s ∷ ss) early late labels samples = (
   lines_again low high ss early late (All-tail HasLawfulLabels s ss labels) (All-tail (HasLawfulSamples low high) s ss samples),
 )
 
-body_again : (body : Body) → IsLawfulBody body → IsPlainSegment (segment_text (given_by body)) (given_by body)
-body_again (Inline low high series) lawful = record {
+body_again : (setting : Setting) (ulid : ℕ) (body : Body) → IsLawfulBody body → IsPlainSegment (segment_text (given_by setting ulid body)) (given_by setting ulid body)
+body_again setting ulid (Inline low high series) lawful = record {
   text_is_utf8 = segment_utf8 series lawful.labels;
   lines = lines_again low high series lawful.early lawful.late lawful.labels lawful.samples;
   ascending = lawful.ordered;
@@ -303,11 +303,11 @@ segment_once text one other is others = lines_once text one other is.lines other
 -- ---- declared blocks
 
 -- the segment's text has the block's series
-pub segments_again : (script : Script) → IsLawfulScript script → (ulid : ℕ) (block : Block) → declared script ulid ≡ Some block → IsPlainSegment (segment_text (given block)) (given block)
-segments_again script lawful ulid block is = body_again block.body (declared_lawful script ulid block is lawful).body
+pub segments_again : (setting : Setting) → IsLawfulScript setting.script → (ulid : ℕ) (block : Block) → declared setting.script ulid ≡ Some block → IsPlainSegment (segment_text (given setting block)) (given setting block)
+segments_again setting lawful ulid block is = body_again setting block.ulid block.body (declared_lawful setting ulid block is lawful).body
 
 -- and no others
-pub segments_once : (script : Script) → IsLawfulScript script → (ulid : ℕ) (block : Block) → declared script ulid ≡ Some block
-    → (series : List Series) → IsPlainSegment (segment_text (given block)) series → series ≡ given block
-segments_once script lawful ulid block is series read =
-    lines_once (segment_text (given block)) series (given block) read.lines (segments_again script lawful ulid block is).lines
+pub segments_once : (setting : Setting) → IsLawfulScript setting.script → (ulid : ℕ) (block : Block) → declared setting.script ulid ≡ Some block
+    → (series : List Series) → IsPlainSegment (segment_text (given setting block)) series → series ≡ given setting block
+segments_once setting lawful ulid block is series read =
+    lines_once (segment_text (given setting block)) series (given setting block) read.lines (segments_again setting lawful ulid block is).lines

@@ -54,7 +54,7 @@ pub more_before : (one other : List Entry) (e : Entry) → ((x : Entry) → Cont
 more_before one other e more is = record { keeps = is.keeps; ships = λ ulid bytes put k own. let p = is.ships ulid bytes put k own in (p.0, more p.0 p.1, p.2) }
 
 -- a read does neither
-reads_in_order : (before : List Entry) (e : Entry) → IsRead e.op → IsInOrder before e
+pub reads_in_order : (before : List Entry) (e : Entry) → IsRead e.op → IsInOrder before e
 reads_in_order before e reads = record { keeps = λ k is. subst IsRead is reads; ships = λ ulid bytes is k own. absurd (subst IsRead is reads) }
 
 -- it holds of each of the entries, after those before it

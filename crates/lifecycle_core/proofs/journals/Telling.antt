@@ -30,11 +30,10 @@ use Rattle.world_core.specs.declared.op.Op.TheVariants as op
 use Rattle.world_core.specs.declared.reply.Reply.{Reply}
 use Rattle.world_core.specs.declared.reply.Reply.TheVariants as reply
 use Rattle.script_core.specs.Lawful.{IsLawfulScript}
-use Rattle.script_core.specs.declared.script.Script.{Script}
 use Rattle.lifecycle_core.specs.Phases.{IsRunOf}
+use Rattle.lifecycle_core.specs.Setting.{Setting}
 use Rattle.lifecycle_core.specs.Tasks.{End}
-use Rattle.lifecycle_core.specs.Views.{no_views}
-use Rattle.lifecycle_core.proofs.misses.Explaining.{WasPut, parted, phases_in_order, put_stays, was_put}
+use Rattle.lifecycle_core.proofs.misses.Explaining.{WasPut, parted, run_in_order, put_stays, was_put}
 use Rattle.lifecycle_core.proofs.journals.Positions.{split, stands_in}
 use Rattle.lifecycle_core.proofs.journals.TellingPuts.{PutsShipped, puts_are_shipped}
 use Rattle.lifecycle_core.proofs.journals.Told.{IsDeclaredName, IsReadable, IsShippedObject, IsTold, Rises, WasPutBefore}
@@ -102,7 +101,7 @@ standing (Some bytes) is = (bytes, refl)
 
 -- ---- what one entry tells
 
-module _ (script : Script) (journal : List Entry) (readable : IsReadable script) (kept : IsJournal script.rules.tick.ms journal) (puts : All (PutsShipped script) journal)
+module _ (setting : Setting) (journal : List Entry) (readable : IsReadable setting) (kept : IsJournal setting.script.rules.tick.ms journal) (puts : All (PutsShipped setting) journal)
     (keeps : (x : Entry) → Contains journal x → (k : Key) → x.op ≢ op.Delete k) (honest : IsHonest journal) (before after : List Entry) (e : Entry) (parts : journal ≡ before ++ e ∷ after) where
   number : e.seq ≡ length before + 1
   number = kept.numbered before after e parts
@@ -126,18 +125,18 @@ module _ (script : Script) (journal : List Entry) (readable : IsReadable script)
       put_stays before nothing k (λ x inside. keeps x (subst (λ es. Contains es x) (sym parts) (Contains-append_left before (e ∷ after) x inside))) (p, lower_before p among lower, (bytes, is, landed))
 
   -- and what stands was put before, as a shipped object
-  put_found : (k : Key) (bytes : List ℕ) → key_ulid k < 2 ^ 128 → IsLawfulKey k → WasPut before (key_text k) bytes → IsShippedObject script k bytes × WasPutBefore journal k bytes e.seq
+  put_found : (k : Key) (bytes : List ℕ) → key_ulid k < 2 ^ 128 → IsLawfulKey k → WasPut before (key_text k) bytes → IsShippedObject setting k bytes × WasPutBefore journal k bytes e.seq
   put_found k bytes small lawful w =
       let back = w.back ++ e ∷ after in
       let here : journal ≡ w.front ++ w.entry ∷ back = parts ∙ ap (λ es. es ++ e ∷ after) w.parts ∙ append_assoc w.front (w.entry ∷ w.back) (e ∷ after) in
       let among : Contains journal w.entry = subst (λ es. Contains es w.entry) (sym here) (stands_in w.front back w.entry) in
       let own : (w.entry).seq ≡ length w.front + 1 = kept.numbered w.front back w.entry here in
       let lower : (w.entry).seq < e.seq = omega (arith, own, number, ap (length {A = Entry}) w.parts, length-append w.front (w.entry ∷ w.back)) in
-      let shipped : IsShippedObject script w.key_is bytes = All-contains (PutsShipped script) journal w.entry puts among w.key_is bytes w.puts in
+      let shipped : IsShippedObject setting w.key_is bytes = All-contains (PutsShipped setting) journal w.entry puts among w.key_is bytes w.puts in
       let same : w.key_is ≡ k = one_key w.key_is k (subst IsLawful w.puts (kept.lawful w.front back w.entry here)) lawful (readable.small (key_ulid w.key_is) shipped.block shipped.is) small w.same in
-      (subst (λ x. IsShippedObject script x bytes) same shipped, (w.entry, among, w.puts ∙ ap (λ x. op.Put x bytes) same, w.landed, lower))
+      (subst (λ x. IsShippedObject setting x bytes) same shipped, (w.entry, among, w.puts ∙ ap (λ x. op.Put x bytes) same, w.landed, lower))
 
-  found_put : (k : Key) (bytes : List ℕ) → key_ulid k < 2 ^ 128 → e.op ≡ op.Get k → e.reply ≡ reply.Found bytes → IsShippedObject script k bytes × WasPutBefore journal k bytes e.seq
+  found_put : (k : Key) (bytes : List ℕ) → key_ulid k < 2 ^ 128 → e.op ≡ op.Get k → e.reply ≡ reply.Found bytes → IsShippedObject setting k bytes × WasPutBefore journal k bytes e.seq
   found_put k bytes small asked told = elim (was_put before nothing (key_text k) bytes (shows (op.Get k) (reply.Found bytes) asked told)) [
     | inl w ↦ put_found k bytes small (subst IsLawful asked (kept.lawful before after e parts)) w
     | inr none ↦ absurd (cc (none))
@@ -153,13 +152,13 @@ module _ (script : Script) (journal : List Entry) (readable : IsReadable script)
   page_lists cursor limit names page ulid bytes put later = page.whole (text_of ulid) (key_text (key.Meta ulid), ap is_some (put_stands (key.Meta ulid) bytes put).1, root_name (key.Meta ulid)) later
 
   -- what stands under a text is listed under a declared block's ULID
-  put_listed : (text name bytes : List ℕ) → name ≡ before_first (λ byte. byte == 47) text → WasPut before text bytes → IsDeclaredName script name
+  put_listed : (text name bytes : List ℕ) → name ≡ before_first (λ byte. byte == 47) text → WasPut before text bytes → IsDeclaredName setting name
   put_listed text name bytes lists w =
       let among : Contains journal w.entry = subst (λ es. Contains es w.entry) (sym parts) (Contains-append_left before (e ∷ after) w.entry (subst (λ es. Contains es w.entry) (sym w.parts) (stands_in w.front w.back w.entry))) in
-      let shipped : IsShippedObject script w.key_is bytes = All-contains (PutsShipped script) journal w.entry puts among w.key_is bytes w.puts in
+      let shipped : IsShippedObject setting w.key_is bytes = All-contains (PutsShipped setting) journal w.entry puts among w.key_is bytes w.puts in
       (key_ulid w.key_is, shipped.block, shipped.is, lists ∙ ap (before_first (λ byte. byte == 47)) (sym w.same) ∙ sym (root_name w.key_is))
 
-  name_declared : (name : List ℕ) → IsName (stands before) [] name → IsDeclaredName script name
+  name_declared : (name : List ℕ) → IsName (stands before) [] name → IsDeclaredName setting name
   name_declared name (text, stand, lists) =
       let here = standing (stands before text) stand in
       elim (was_put before nothing text here.0 here.1) [
@@ -167,19 +166,19 @@ module _ (script : Script) (journal : List Entry) (readable : IsReadable script)
         | inr none ↦ absurd (cc (none))
       ]
 
-  entry_told : IsTold script journal e
+  entry_told : IsTold setting journal e
   entry_told = record {
     found = found_put;
     absent = absent_unput;
     ascend = λ cursor limit names asked told. (shows (op.RootPage cursor limit) (reply.Names names) asked told).ascend;
     listed = λ cursor limit names asked told. page_lists cursor limit names (shows (op.RootPage cursor limit) (reply.Names names) asked told);
-    only = λ cursor limit names asked told. All-weaker (IsName (stands before) []) (IsDeclaredName script) name_declared names (shows (op.RootPage cursor limit) (reply.Names names) asked told).stand;
+    only = λ cursor limit names asked told. All-weaker (IsName (stands before) []) (IsDeclaredName setting) name_declared names (shows (op.RootPage cursor limit) (reply.Names names) asked told).stand;
   }
 
 -- each entry of an honest journal tells of the script's blocks
-pub all_told : (script : Script) (journal : List Entry) (ends : List (List (List End))) → IsLawfulScript script → IsReadable script → IsRunOf script journal ends → IsHonest journal → All (IsTold script journal) journal
-all_told script journal ends lawful readable run honest =
+pub all_told : (setting : Setting) (journal : List Entry) (ends : List (List (List End))) → IsLawfulScript setting.script → IsReadable setting → IsRunOf setting journal ends → IsHonest journal → All (IsTold setting journal) journal
+all_told setting journal ends lawful readable run honest =
     let keeps : (x : Entry) → Contains journal x → (k : Key) → x.op ≢ op.Delete k = λ x among.
-    let at = parted journal x among in (phases_in_order script lawful 0 no_views script.phases journal ends run.phases at.0 at.1 x at.2).keeps in
-    All-weaker (Contains journal) (IsTold script journal) (λ e among. let at = parted journal e among in entry_told script journal readable run.kept (puts_are_shipped script journal ends run) keeps honest at.0 at.1 e at.2)
+    let at = parted journal x among in (run_in_order setting journal ends lawful run at.0 at.1 x at.2).keeps in
+    All-weaker (Contains journal) (IsTold setting journal) (λ e among. let at = parted journal e among in entry_told setting journal readable run.kept (puts_are_shipped setting journal ends run) keeps honest at.0 at.1 e at.2)
     journal (All-contains_itself journal)

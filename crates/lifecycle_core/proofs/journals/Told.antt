@@ -1,6 +1,6 @@
 -- The words of the proofs about answers: what the entries of an honest journal tell of the blocks that a script declares, from
 -- which runs a view and an end come, and when a view is true of the script.
-use Rattle.std.specs.Prelude.{◌≡◌, ◌⊎◌, ℕ, ◌<◌, ◌≤◌, ◌^◌, ℤ, IsTrue, List, [], ◌∷◌, length, All, Contains, Option, Some, Ok}
+use Rattle.std.specs.Prelude.{◌≡◌, ◌⊎◌, ℕ, ◌<◌, ◌≤◌, ◌^◌, ℤ, IsTrue, List, [], ◌∷◌, length, All, Contains, Some, Ok}
 use Rattle.ulid_core.specs.UlidText.{text_of}
 use Rattle.label_sets.specs.declared.series.Series.{Series}
 use Rattle.block_keys.specs.Keys.{key_ulid}
@@ -23,22 +23,23 @@ use Rattle.meta_fetcher.specs.declared.sync_end.SyncEnd.TheVariants as fetched
 use Rattle.script_core.specs.declared.block.Block.{Block}
 use Rattle.script_core.specs.declared.body.Body.{Body}
 use Rattle.script_core.specs.declared.body.Body.TheVariants.{Inline}
-use Rattle.script_core.specs.declared.script.Script.{Script}
 use Rattle.script_workers.specs.declared.task.Task.{Task}
 use Rattle.lifecycle_core.specs.Completed.{IsSettled, IsUploadedBefore}
+use Rattle.lifecycle_core.specs.Conducts.{Who}
 use Rattle.lifecycle_core.specs.Held.{declared, given}
+use Rattle.lifecycle_core.specs.Holdings.{Holding, Use}
+use Rattle.lifecycle_core.specs.Setting.{Setting}
 use Rattle.lifecycle_core.specs.Shipped.{IsPlanOf, IsShipped}
 use Rattle.lifecycle_core.specs.Tasks.{End, TaskRun, last_number, sync_rules}
-use Rattle.lifecycle_core.specs.Views.{Use}
 
 -- ---- what entries tell
 
 -- the object is one of those with which the script's block is shipped
-pub record IsShippedObject (script : Script) (k : Key) (bytes : List ℕ) : Type 0 where
+pub record IsShippedObject (setting : Setting) (k : Key) (bytes : List ℕ) : Type 0 where
   pub block : Block
-  pub is : declared script (key_ulid k) ≡ Some block
+  pub is : declared setting.script (key_ulid k) ≡ Some block
   pub objects : List Object
-  pub shipped : IsShipped block objects
+  pub shipped : IsShipped setting block objects
   pub among : Contains objects (record { key = k; bytes = bytes })
 
 -- a put of these bytes under the key landed, at an entry of the journal before that of a number
@@ -46,14 +47,14 @@ abbrev pub WasPutBefore : List Entry → Key → List ℕ → ℕ → Type 0
 WasPutBefore journal k bytes number = (p : Entry) × Contains journal p × (p.op ≡ op.Put k bytes) × IsTrue (has_landed p.reply) × (p.seq < number)
 
 -- the name is that of a declared block
-abbrev pub IsDeclaredName : Script → List ℕ → Type 0
-IsDeclaredName script name = (ulid : ℕ) × (block : Block) × (declared script ulid ≡ Some block) × (name ≡ text_of ulid)
+abbrev pub IsDeclaredName : Setting → List ℕ → Type 0
+IsDeclaredName setting name = (ulid : ℕ) × (block : Block) × (declared setting.script ulid ≡ Some block) × (name ≡ text_of ulid)
 
 -- What the entry tells of the script's blocks. Nothing deletes.
-pub record IsTold (script : Script) (journal : List Entry) (e : Entry) : Type 0 where
+pub record IsTold (setting : Setting) (journal : List Entry) (e : Entry) : Type 0 where
   -- found bytes are those of a shipped object, which was put before
   pub found : (k : Key) (bytes : List ℕ) → key_ulid k < 2 ^ 128 → e.op ≡ op.Get k → e.reply ≡ reply.Found bytes
-      → IsShippedObject script k bytes × WasPutBefore journal k bytes e.seq
+      → IsShippedObject setting k bytes × WasPutBefore journal k bytes e.seq
   -- what was put before is not absent
   pub absent : (k : Key) (bytes : List ℕ) → e.op ≡ op.Get k → e.reply ≡ reply.Absent → ¬ WasPutBefore journal k bytes e.seq
   -- the names of a page ascend after its cursor
@@ -63,7 +64,7 @@ pub record IsTold (script : Script) (journal : List Entry) (e : Entry) : Type 0 
       → (ulid : ℕ) (bytes : List ℕ) → WasPutBefore journal (key.Meta ulid) bytes e.seq → Before after (text_of ulid)
       → Contains names (text_of ulid) ⊎ ((length names ≡ limit) × All (λ name. Before name (text_of ulid)) names)
   -- a page has no names but those of declared blocks
-  pub only : (after : List ℕ) (limit : ℕ) (names : List (List ℕ)) → e.op ≡ op.RootPage after limit → e.reply ≡ reply.Names names → All (IsDeclaredName script) names
+  pub only : (after : List ℕ) (limit : ℕ) (names : List (List ℕ)) → e.op ≡ op.RootPage after limit → e.reply ≡ reply.Names names → All (IsDeclaredName setting) names
 
 -- numbers rise along the entries, and moments do not fall
 abbrev pub Rises : List Entry → Type 0
@@ -78,31 +79,35 @@ pub record IsPart (journal entries : List Entry) : Type 0 where
 -- ---- where views and ends come from
 
 -- the sync that gave a view
-pub record IsOrigin (script : Script) (journal : List Entry) (used : Use) : Type 0 where
+pub record IsOrigin (setting : Setting) (journal : List Entry) (used : Use) : Type 0 where
+  pub gateway : ℕ
   pub entries : List Entry
-  pub run : SyncRun (sync_rules script.rules) entries (Some (fetched.View used.view))
+  pub run : SyncRun (sync_rules setting gateway) entries (Some (fetched.View used.view))
   pub last : used.last ≡ last_number entries
   pub part : IsPart journal entries
 
 -- the run of a task that came to an end
-pub record IsMade (script : Script) (journal : List Entry) (task : Task) (end : End) : Type 0 where
-  pub view : Option Use
+pub record IsMade (setting : Setting) (journal : List Entry) (task : Task) (end : End) : Type 0 where
+  pub who : Who
+  pub place : ℕ
+  pub held : Holding
+  pub after : Holding
   pub entries : List Entry
-  pub run : TaskRun script view task.work entries (Some end)
+  pub run : TaskRun setting who place task.work held entries (Some end) after
   pub part : IsPart journal entries
-  pub origin : (used : Use) → view ≡ Some used → IsOrigin script journal used
+  pub origin : (used : Use) → held.used ≡ Some used → IsOrigin setting journal used
 
 -- ---- what is read again
 
 -- The texts with which the script's blocks are shipped are read as what they were written of, and as nothing else.
-pub record IsReadable (script : Script) : Type 0 where
-  pub small : (ulid : ℕ) (block : Block) → declared script ulid ≡ Some block → ulid < 2 ^ 128
-  pub metas : (ulid : ℕ) (block : Block) → declared script ulid ≡ Some block
+pub record IsReadable (setting : Setting) : Type 0 where
+  pub small : (ulid : ℕ) (block : Block) → declared setting.script ulid ≡ Some block → ulid < 2 ^ 128
+  pub metas : (ulid : ℕ) (block : Block) → declared setting.script ulid ≡ Some block
       → (low high : ℤ) (series : List Series) → block.body ≡ Inline low high series → (plan : BlockPlan) → IsPlanOf block low high plan
       → meta_of_text (meta_text (built_meta plan series)) ≡ Ok (built_meta plan series)
-  pub segments : (ulid : ℕ) (block : Block) → declared script ulid ≡ Some block → IsPlainSegment (segment_text (given block)) (given block)
-  pub once : (ulid : ℕ) (block : Block) → declared script ulid ≡ Some block
-      → (series : List Series) → IsPlainSegment (segment_text (given block)) series → series ≡ given block
+  pub segments : (ulid : ℕ) (block : Block) → declared setting.script ulid ≡ Some block → IsPlainSegment (segment_text (given setting block)) (given setting block)
+  pub once : (ulid : ℕ) (block : Block) → declared setting.script ulid ≡ Some block
+      → (series : List Series) → IsPlainSegment (segment_text (given setting block)) series → series ≡ given setting block
 
 -- ---- true views
 
@@ -111,16 +116,16 @@ abbrev pub Spans : Body → ℤ → ℤ → Type 0
 Spans (Inline min_time max_time series) low high = (low ≡ min_time) × (high ≡ max_time)
 
 -- the block that was found is one that the script declares, with what was shipped of it
-pub record IsTrueFound (script : Script) (found : Found) : Type 0 where
+pub record IsTrueFound (setting : Setting) (found : Found) : Type 0 where
   pub block : Block
-  pub is : declared script found.ulid ≡ Some block
+  pub is : declared setting.script found.ulid ≡ Some block
   pub small : found.ulid < 2 ^ 128
   pub sources : found.meta.sources ≡ found.ulid ∷ []
   pub labels : found.meta.labels ≡ block.labels
   pub times : Spans block.body found.meta.min_time found.meta.max_time
 
 -- The view keeps such blocks, which were complete before its sync's last entry, and each that was settled.
-pub record IsTrueView (script : Script) (journal : List Entry) (used : Use) : Type 0 where
-  pub kept : All (IsTrueFound script) used.view.kept
-  pub uploaded : All (λ (found : Found). IsUploadedBefore script journal found.ulid used.last) used.view.kept
-  pub settled : (ulid : ℕ) → IsSettled script journal used ulid → (found : Found) × Contains used.view.kept found × (found.ulid ≡ ulid)
+pub record IsTrueView (setting : Setting) (journal : List Entry) (used : Use) : Type 0 where
+  pub kept : All (IsTrueFound setting) used.view.kept
+  pub uploaded : All (λ (found : Found). IsUploadedBefore setting journal found.ulid used.last) used.view.kept
+  pub settled : (ulid : ℕ) → IsSettled setting journal used ulid → (found : Found) × Contains used.view.kept found × (found.ulid ≡ ulid)

@@ -26,18 +26,21 @@ use Rattle.store_gateway.specs.declared.series_end.SeriesEnd.TheVariants as call
 use Rattle.script_core.specs.Workers.{workers_of}
 use Rattle.script_core.specs.Lawful.{IsLawfulScript}
 use Rattle.script_workers.specs.declared.phase.Phase.{Phase}
-use Rattle.script_core.specs.declared.script.Script.{Script}
 use Rattle.script_workers.specs.declared.task.Task.{Task}
+use Rattle.script_workers.specs.declared.work.Work.{Work}
 use Rattle.script_workers.specs.declared.worker.Worker.{Worker}
 use Rattle.lifecycle_core.specs.Breaches.{IsLie, honesty, read_key, shown_by}
 use Rattle.lifecycle_core.specs.Causes.{AreFound, AreMissesExplained, IsExplained, SomeCame}
-use Rattle.lifecycle_core.specs.Phases.{IsRunOf, PhaseRun, PhasesRun, WorkerRun, of_seat}
+use Rattle.lifecycle_core.specs.Conducts.{Conduct, PhaseRun, Who, WorkerRun, of_seat, who_of}
+use Rattle.lifecycle_core.specs.Holdings.{Holdings, Use, holding_of, none_held}
+use Rattle.lifecycle_core.specs.Phases.{IsRunOf, by_script, by_workers}
+use Rattle.lifecycle_core.specs.Setting.{Setting}
 use Rattle.lifecycle_core.specs.Tasks.{End, answered}
-use Rattle.lifecycle_core.specs.Views.{Use, Views, no_views, view_of}
-use Rattle.lifecycle_core.proofs.misses.Misses.{Leaves, MissesAt, ViewSeen, misses_within, seen_among, tasks_in_order, tasks_leave, view_among}
+use Rattle.lifecycle_core.specs.Ways.{PhasesRun, Way}
+use Rattle.lifecycle_core.proofs.misses.Misses.{Leaves, MissesAt, ViewSeen, misses_within, seen_among, task_in_order, tasks_in_order, tasks_leave, view_among}
 use Rattle.lifecycle_core.proofs.phases.PhaseViews.{views_left}
 use Rattle.lifecycle_core.proofs.journals.Positions.{filtered, of_filter, split, stands_in, unfilter, zip_left, zip_right}
-use Rattle.lifecycle_core.proofs.journals.RunEntries.{HasPut, PrecedesMeta, IsInOrder, in_order_at, more_before}
+use Rattle.lifecycle_core.proofs.journals.RunEntries.{AreInOrder, HasPut, IsRead, PrecedesMeta, IsInOrder, in_order_at, more_before, reads_in_order}
 
 -- ---- a phase
 
@@ -47,25 +50,32 @@ more_left before one other more x among = elim (Contains-append_cases before one
   | inr later ↦ Contains-append_right before other x (more x later)
 ]
 
-module _ (script : Script) (tasks : List Task) (workers : List Worker) (views : Views) (made : List Entry) (ends : List (List End)) (after : Views) (run : PhaseRun script tasks workers views made ends after) where
+module _ {State E : Type 0} (conduct : Conduct State E)
+    (each : (who : Who) (place : ℕ) (w : Work) (all : List Entry) (before : State) (made : List Entry) (end : Option E) (after : State) → conduct.does who place w all before made end after → AreInOrder [] made)
+    (others_read : (e : Entry) → conduct.bystands e → IsRead e.op)
+    (tasks : List Task) (workers : List Worker) (before : ℕ → State) (made : List Entry) (ends : List (List E)) (after : ℕ → State) (run : PhaseRun conduct tasks workers before made ends after) where
+  phase_in_order : (front back : List Entry) (e : Entry) → made ≡ front ++ e ∷ back → IsInOrder front e
+  phase_in_order front back e parts =
+      elim (All-contains (λ (x : Entry). Contains (map (λ (w : Worker). w.seat) workers) x.seat ⊎ conduct.bystands x) made e run.seats (subst (λ es. Contains es e) (sym parts) (stands_in front back e))) [
+        | inl sits ↦
+            let who = of_map (λ (w : Worker). w.seat) workers e.seat sits in
+            let own = zip_right (WorkerRun conduct tasks before made after) workers ends who.0 run.runs who.1 in
+            let seat = (who.0).seat in
+            let test : (e.seat == seat) ≡ true = grind (arith, nat_tests, who.2) in
+            let all = tasks_in_order conduct each (who_of who.0) made (conduct.opens before who.0) (own.2).own (of_seat seat made) own.0 (own.2).last (own.2).runs in
+            let is : of_seat seat made ≡ of_seat seat front ++ e ∷ of_seat seat back = ap (of_seat seat) parts ∙ filtered (λ (x : Entry). x.seat == seat) front back e test in
+            let here : IsInOrder ([] ++ of_seat seat front) e = in_order_at [] (of_seat seat made) (of_seat seat front) (of_seat seat back) e all is in
+            more_before (of_seat seat front) front e (λ x among. of_filter (λ (y : Entry). y.seat == seat) front x among) here
+        | inr stands ↦ reads_in_order front e (others_read e stands)
+      ]
+
+module _ (setting : Setting) (tasks : List Task) (workers : List Worker) (views : Holdings) (made : List Entry) (ends : List (List End)) (after : Holdings) (run : PhaseRun (by_script setting) tasks workers views made ends after) where
   abbrev Own : Worker → List End → Type 0
-  Own = WorkerRun script tasks views made after
+  Own = WorkerRun (by_script setting) tasks views made after
 
-  phase_in_order : IsLawfulScript script → (front back : List Entry) (e : Entry) → made ≡ front ++ e ∷ back → IsInOrder front e
-  phase_in_order lawful front back e parts =
-      let sits = All-contains (λ (x : Entry). Contains (map (λ (w : Worker). w.seat) workers) x.seat) made e run.seats (subst (λ es. Contains es e) (sym parts) (stands_in front back e)) in
-      let who = of_map (λ (w : Worker). w.seat) workers e.seat sits in
-      let own = zip_right Own workers ends who.0 run.runs who.1 in
-      let seat = (who.0).seat in
-      let test : (e.seat == seat) ≡ true = grind (arith, nat_tests, who.2) in
-      let all = tasks_in_order script lawful (view_of views (who.0).gateway) (own.2).last (own.2).own (of_seat seat made) own.0 (own.2).runs in
-      let is : of_seat seat made ≡ of_seat seat front ++ e ∷ of_seat seat back = ap (of_seat seat) parts ∙ filtered (λ (x : Entry). x.seat == seat) front back e test in
-      let here : IsInOrder ([] ++ of_seat seat front) e = in_order_at [] (of_seat seat made) (of_seat seat front) (of_seat seat back) e all is in
-      more_before (of_seat seat front) front e (λ x among. of_filter (λ (y : Entry). y.seat == seat) front x among) here
-
-  module _ (before : List Entry) (seen : (gateway : Option ℕ) → ViewSeen before (view_of views gateway)) where
+  module _ (before : List Entry) (seen : (gateway : Option ℕ) → ViewSeen before (holding_of views gateway)) where
     leaves : (worker : Worker) (own : List End) (w : Own worker own) → Leaves before (of_seat worker.seat made) own w.last
-    leaves worker own w = tasks_leave script before (view_of views worker.gateway) w.last w.own (of_seat worker.seat made) own (seen worker.gateway) w.runs
+    leaves worker own w = tasks_leave setting (who_of worker) made before (holding_of views worker.gateway) w.last w.own (of_seat worker.seat made) own (seen worker.gateway) w.runs
 
     phase_misses : (own : List End) (used : Use) (number : ℕ) → Contains ends own → Contains own (answered used (called.Missing number)) → MissesAt before made number
     phase_misses own used number among end =
@@ -87,8 +97,8 @@ module _ (script : Script) (tasks : List Task) (workers : List Worker) (views : 
           seen = seen_among (before ++ m.front) (before ++ at.0) m.ulid (more_left before m.front at.0 (λ x own'. of_filter p at.0 x (subst (λ es. Contains es x) (sym at.3) own'))) m.seen;
         }
 
-    after_seen : (gateway : Option ℕ) → ViewSeen (before ++ made) (view_of after gateway)
-    after_seen = views_left script tasks workers views made ends after run (ViewSeen (before ++ made))
+    after_seen : (gateway : Option ℕ) → ViewSeen (before ++ made) (holding_of after gateway)
+    after_seen = views_left setting tasks workers views made ends after run (ViewSeen (before ++ made))
         (λ worker own w. view_among (before ++ of_seat worker.seat made) (before ++ made) w.last (more_left before (of_seat worker.seat made) made (λ x among. of_filter (λ (y : Entry). y.seat == worker.seat) made x among)) (leaves worker own w).seen)
         (λ used is. absurd (cc (is)))
         (λ gateway. view_among before (before ++ made) (views gateway) (λ x among. Contains-append_left before made x among) (seen (Some gateway)))
@@ -115,44 +125,49 @@ one_in_order clock made others entries parts own one other (x ∷ front) back e 
           more_before more (x ∷ front) e (λ y among. Contains-append_right (x ∷ []) front y (subst (λ es. Contains es y) (sym here) (Contains-append_right made more y among))) (other more back e two)
     ]
 
-pub phases_in_order : (script : Script) → IsLawfulScript script → (number : ℕ) (views : Views) (phases : List Phase) (entries : List Entry) (ends : List (List (List End))) → PhasesRun script number views phases entries ends → AllInOrder entries
-phases_in_order script lawful number views [] entries ends run = none_in_order entries run.0
-phases_in_order script lawful number views (phase ∷ phases) entries ends (inl none) = none_in_order entries none.0
-phases_in_order script lawful number views (phase ∷ phases) entries ends (inr (clock, made, others, first, later, after, parts, begins, run, are, inl none)) =
-    one_in_order clock made others entries parts (clock_in_order [] clock phase begins.sets) (phase_in_order script phase.tasks (workers_of script number) views made first after run lawful) (none_in_order others none.0)
-phases_in_order script lawful number views (phase ∷ phases) entries ends (inr (clock, made, others, first, later, after, parts, begins, run, are, inr (done, go))) =
-    one_in_order clock made others entries parts (clock_in_order [] clock phase begins.sets) (phase_in_order script phase.tasks (workers_of script number) views made first after run lawful)
-    (phases_in_order script lawful (number + 1) after phases others later go)
+-- in phases whose own entries are in order, all are
+pub phases_in_order : {State Ends : Type 0} (way : Way State Ends) → ((number : ℕ) (phase : Phase) (before : ℕ → State) (made : List Entry) (ends : Ends) (after : ℕ → State) → way.works number phase before made ends after → AllInOrder made)
+    → (number : ℕ) (before : ℕ → State) (phases : List Phase) (entries : List Entry) (ends : List Ends) → PhasesRun way number before phases entries ends → AllInOrder entries
+phases_in_order way each number before [] entries ends run = none_in_order entries run.0
+phases_in_order way each number before (phase ∷ phases) entries ends (inl none) = none_in_order entries none.0
+phases_in_order way each number before (phase ∷ phases) entries ends (inr (clock, made, others, first, later, after, parts, begins, run, are, go)) =
+    one_in_order clock made others entries parts (clock_in_order [] clock phase begins.sets) (each number phase before made first after run) (phases_in_order way each (number + 1) after phases others later go)
+
+-- the entries of a run of a lawful script are in order
+pub run_in_order : (setting : Setting) (journal : List Entry) (ends : List (List (List End))) → IsLawfulScript setting.script → IsRunOf setting journal ends → AllInOrder journal
+run_in_order setting journal ends lawful run =
+    phases_in_order (by_workers setting)
+    (λ number phase before made own after works.
+    phase_in_order (by_script setting) (λ who place w all held es end left does. task_in_order setting lawful who place w held left es end does) (λ e none. absurd none)
+    phase.tasks (workers_of setting.script number) before made own after works)
+    0 none_held setting.script.phases journal ends run.phases
 
 -- what was seen before the clock's setting was seen before the phase
-from_clock : (before : List Entry) (clock : Entry) (views : Views) → ((gateway : Option ℕ) → ViewSeen before (view_of views gateway)) → (gateway : Option ℕ) → ViewSeen (before ++ clock ∷ []) (view_of views gateway)
-from_clock before clock views seen gateway = view_among before (before ++ clock ∷ []) (view_of views gateway) (λ x among. Contains-append_left before (clock ∷ []) x among) (seen gateway)
+from_clock : (before : List Entry) (clock : Entry) (views : Holdings) → ((gateway : Option ℕ) → ViewSeen before (holding_of views gateway)) → (gateway : Option ℕ) → ViewSeen (before ++ clock ∷ []) (holding_of views gateway)
+from_clock before clock views seen gateway = view_among before (before ++ clock ∷ []) (holding_of views gateway) (λ x among. Contains-append_left before (clock ∷ []) x among) (seen gateway)
 
-first_misses : (script : Script) (phase : Phase) (number : ℕ) (views : Views) (clock : Entry) (made others : List Entry) (first : List (List End)) (after : Views) → PhaseRun script phase.tasks (workers_of script number) views made first after
-    → (before : List Entry) → ((gateway : Option ℕ) → ViewSeen before (view_of views gateway)) → (used : Use) (missing : ℕ) (told : List (List End)) (own : List End) → Contains (first ∷ []) told → Contains told own → Contains own (answered used (called.Missing missing))
+first_misses : (setting : Setting) (phase : Phase) (number : ℕ) (views : Holdings) (clock : Entry) (made others : List Entry) (first : List (List End)) (after : Holdings) → PhaseRun (by_script setting) phase.tasks (workers_of setting.script number) views made first after
+    → (before : List Entry) → ((gateway : Option ℕ) → ViewSeen before (holding_of views gateway)) → (used : Use) (missing : ℕ) (told : List (List End)) (own : List End) → Contains (first ∷ []) told → Contains told own → Contains own (answered used (called.Missing missing))
     → MissesAt before (clock ∷ made ++ others) missing
-first_misses script phase number views clock made others first after run before seen used missing told own (suc k, below, is) two three = absurd (omega (arith, below))
-first_misses script phase number views clock made others first after run before seen used missing told own (zero, below, is) two three =
+first_misses setting phase number views clock made others first after run before seen used missing told own (suc k, below, is) two three = absurd (omega (arith, below))
+first_misses setting phase number views clock made others first after run before seen used missing told own (zero, below, is) two three =
     misses_within before (clock ∷ []) made others missing
-    (phase_misses script phase.tasks (workers_of script number) views made first after run (before ++ clock ∷ []) (from_clock before clock views seen) own used missing (subst (λ (l : List (List End)). Contains l own) (sym is) two) three)
+    (phase_misses setting phase.tasks (workers_of setting.script number) views made first after run (before ++ clock ∷ []) (from_clock before clock views seen) own used missing (subst (λ (l : List (List End)). Contains l own) (sym is) two) three)
 
-later_seen : (script : Script) (phase : Phase) (number : ℕ) (views : Views) (clock : Entry) (made : List Entry) (first : List (List End)) (after : Views) → PhaseRun script phase.tasks (workers_of script number) views made first after
-    → (before : List Entry) → ((gateway : Option ℕ) → ViewSeen before (view_of views gateway)) → (gateway : Option ℕ) → ViewSeen (before ++ (clock ∷ made)) (view_of after gateway)
-later_seen script phase number views clock made first after run before seen gateway =
-    subst (λ es. ViewSeen es (view_of after gateway)) (append_assoc before (clock ∷ []) made) (after_seen script phase.tasks (workers_of script number) views made first after run (before ++ clock ∷ []) (from_clock before clock views seen) gateway)
+later_seen : (setting : Setting) (phase : Phase) (number : ℕ) (views : Holdings) (clock : Entry) (made : List Entry) (first : List (List End)) (after : Holdings) → PhaseRun (by_script setting) phase.tasks (workers_of setting.script number) views made first after
+    → (before : List Entry) → ((gateway : Option ℕ) → ViewSeen before (holding_of views gateway)) → (gateway : Option ℕ) → ViewSeen (before ++ (clock ∷ made)) (holding_of after gateway)
+later_seen setting phase number views clock made first after run before seen gateway =
+    subst (λ es. ViewSeen es (holding_of after gateway)) (append_assoc before (clock ∷ []) made) (after_seen setting phase.tasks (workers_of setting.script number) views made first after run (before ++ clock ∷ []) (from_clock before clock views seen) gateway)
 
-phases_miss : (script : Script) (lawful : IsLawfulScript script) (number : ℕ) (views : Views) (phases : List Phase) (before entries : List Entry) (ends : List (List (List End))) → ((gateway : Option ℕ) → ViewSeen before (view_of views gateway))
-    → PhasesRun script number views phases entries ends → (used : Use) (missing : ℕ) → SomeCame ends (answered used (called.Missing missing)) → MissesAt before entries missing
-phases_miss script lawful number views [] before entries ends seen run used missing (phase, own, (k, below, at), two, three) = absurd (omega (arith, below, ap (length {A = List (List End)}) run.1))
-phases_miss script lawful number views (phase ∷ phases) before entries ends seen (inl none) used missing (told, own, (k, below, at), two, three) = absurd (omega (arith, below, ap (length {A = List (List End)}) none.1))
-phases_miss script lawful number views (phase ∷ phases) before entries ends seen (inr (clock, made, others, first, later, after, parts, begins, run, are, inl none)) used missing (told, own, one, two, three) =
-    let own_only : Contains (first ∷ []) told = subst (λ (l : List (List (List End))). Contains (first ∷ l) told) none.1 (subst (λ (l : List (List (List End))). Contains l told) are one) in
-    subst (λ (es : List Entry). MissesAt before es missing) (sym parts) (first_misses script phase number views clock made others first after run before seen used missing told own own_only two three)
-phases_miss script lawful number views (phase ∷ phases) before entries ends seen (inr (clock, made, others, first, later, after, parts, begins, run, are, inr (done, go))) used missing (told, own, one, two, three) =
+phases_miss : (setting : Setting) (number : ℕ) (views : Holdings) (phases : List Phase) (before entries : List Entry) (ends : List (List (List End))) → ((gateway : Option ℕ) → ViewSeen before (holding_of views gateway))
+    → PhasesRun (by_workers setting) number views phases entries ends → (used : Use) (missing : ℕ) → SomeCame ends (answered used (called.Missing missing)) → MissesAt before entries missing
+phases_miss setting number views [] before entries ends seen run used missing (phase, own, (k, below, at), two, three) = absurd (omega (arith, below, ap (length {A = List (List End)}) run.1))
+phases_miss setting number views (phase ∷ phases) before entries ends seen (inl none) used missing (told, own, (k, below, at), two, three) = absurd (omega (arith, below, ap (length {A = List (List End)}) none.1))
+phases_miss setting number views (phase ∷ phases) before entries ends seen (inr (clock, made, others, first, later, after, parts, begins, run, are, go)) used missing (told, own, one, two, three) =
     subst (λ (es : List Entry). MissesAt before es missing) (sym parts) (elim (Contains-append_cases (first ∷ []) later told (subst (λ (l : List (List (List End))). Contains l told) are one)) [
-      | inl here ↦ first_misses script phase number views clock made others first after run before seen used missing told own here two three
+      | inl here ↦ first_misses setting phase number views clock made others first after run before seen used missing told own here two three
       | inr tail ↦
-          let m = phases_miss script lawful (number + 1) after phases (before ++ (clock ∷ made)) others later (later_seen script phase number views clock made first after run before seen) go used missing (told, own, tail, two, three) in
+          let m = phases_miss setting (number + 1) after phases (before ++ (clock ∷ made)) others later (later_seen setting phase number views clock made first after run before seen) go used missing (told, own, tail, two, three) in
           subst (λ es. MissesAt before (clock ∷ made ++ es) missing) (append-nil others) (misses_within before (clock ∷ made) others [] missing m)
     ])
 
@@ -313,13 +328,13 @@ parted [] x (k, below, is) = absurd (omega (arith, below))
 parted (y ∷ xs) x (zero, below, is) = ([], xs, ap (λ z. z ∷ xs) is)
 parted (y ∷ xs) x (suc k, below, is) = let rest = parted xs x (k, omega (arith, below), is) in (y ∷ rest.0, rest.1, ap (λ es. y ∷ es) rest.2)
 
-module _ (script : Script) (journal : List Entry) (numbered : IsNumbered journal) (ordered : (front back : List Entry) (e : Entry) → journal ≡ front ++ e ∷ back → IsInOrder front e) (number : ℕ) (m : MissesAt [] journal number) where
+module _ (setting : Setting) (journal : List Entry) (numbered : IsNumbered journal) (ordered : (front back : List Entry) (e : Entry) → journal ≡ front ++ e ∷ back → IsInOrder front e) (number : ℕ) (m : MissesAt [] journal number) where
   nothing_deleted : (e : Entry) → Contains m.front e → (k : Key) → e.op ≢ op.Delete k
   nothing_deleted e among =
       let at = parted m.front e among in
       (ordered at.0 (at.1 ++ m.entry ∷ m.back) e (m.parts ∙ ap (λ es. es ++ m.entry ∷ m.back) at.2 ∙ append_assoc at.0 (e ∷ at.1) (m.entry ∷ m.back))).keeps
 
-  blame : (front back : List Entry) (e : Entry) (x y : ℕ) → journal ≡ front ++ e ∷ back → e.seq ≤ number → IsLie front e x y → IsExplained script journal number
+  blame : (front back : List Entry) (e : Entry) (x y : ℕ) → journal ≡ front ++ e ∷ back → e.seq ≤ number → IsLie front e x y → IsExplained setting journal number
   blame front back e x y parts early lie = record {
     missed = m.entry;
     key = m.key_is;
@@ -355,12 +370,12 @@ module _ (script : Script) (journal : List Entry) (numbered : IsNumbered journal
     | inr none ↦ absurd (cc (none))
   ]
 
-  stood : (front back : List Entry) (e : Entry) (bytes : List ℕ) → m.front ≡ front ++ e ∷ back → stands front (key_text (key.Meta m.ulid)) ≡ Some bytes → IsExplained script journal number
+  stood : (front back : List Entry) (e : Entry) (bytes : List ℕ) → m.front ≡ front ++ e ∷ back → stands front (key_text (key.Meta m.ulid)) ≡ Some bytes → IsExplained setting journal number
   stood front back e bytes parts is =
       let own = object_stands front back e bytes parts is in
       blame m.front m.back m.entry 65 70 m.parts (omega (arith, m.is)) (absent_is_lie m.front m.entry m.key_is own.0 m.reads m.absent own.1)
 
-  at_meta : (front back : List Entry) (e : Entry) (bytes : List ℕ) (o : Option (List ℕ)) → m.front ≡ front ++ e ∷ back → e.op ≡ op.Get (key.Meta m.ulid) → e.reply ≡ reply.Found bytes → stands front (key_text (key.Meta m.ulid)) ≡ o → IsExplained script journal number
+  at_meta : (front back : List Entry) (e : Entry) (bytes : List ℕ) (o : Option (List ℕ)) → m.front ≡ front ++ e ∷ back → e.op ≡ op.Get (key.Meta m.ulid) → e.reply ≡ reply.Found bytes → stands front (key_text (key.Meta m.ulid)) ≡ o → IsExplained setting journal number
   at_meta front back e bytes (Some standing) parts reads found is = stood front back e standing parts is
   at_meta front back e bytes None parts reads found is =
       let here : journal ≡ front ++ e ∷ (back ++ m.entry ∷ m.back) = m.parts ∙ ap (λ es. es ++ m.entry ∷ m.back) parts ∙ append_assoc front (e ∷ back) (m.entry ∷ m.back) in
@@ -368,7 +383,7 @@ module _ (script : Script) (journal : List Entry) (numbered : IsNumbered journal
       let two = numbered m.front m.back m.entry m.parts in
       blame front (back ++ m.entry ∷ m.back) e 70 65 here (omega (arith, one, two, m.is, ap (length {A = Entry}) parts, length-append front (e ∷ back))) (found_is_lie front e (key.Meta m.ulid) bytes reads found is)
 
-  pub explained : IsExplained script journal number
+  pub explained : IsExplained setting journal number
   explained =
       let s = m.seen in
       let at = parted m.front s.0 s.1 in
@@ -387,18 +402,18 @@ module _ (script : Script) (journal : List Entry) (numbered : IsNumbered journal
       subst (λ o. Tells (stands m.front) o reply.Absent) m.reads (subst (λ r. Tells (stands m.front) (m.entry).op r) m.absent (honest m.front m.back m.entry m.parts)) in
       cc (lost, own.1)
 
-no_view_yet : (gateway : Option ℕ) → ViewSeen [] (view_of no_views gateway)
+no_view_yet : (gateway : Option ℕ) → ViewSeen [] (holding_of none_held gateway)
 no_view_yet None = λ used is. absurd (cc (is))
 no_view_yet (Some gateway) = λ used is. absurd (cc (is))
 
 -- in every lawful journal of a script
-pub misses_explained : (script : Script) (journal : List Entry) (ends : List (List (List End))) → IsLawfulScript script → IsRunOf script journal ends → AreMissesExplained script journal ends
-misses_explained script journal ends lawful run = λ used number came.
-    explained script journal run.kept.numbered (phases_in_order script lawful 0 no_views script.phases journal ends run.phases) number
-    (phases_miss script lawful 0 no_views script.phases [] journal ends no_view_yet run.phases used number came)
+pub misses_explained : (setting : Setting) (journal : List Entry) (ends : List (List (List End))) → IsLawfulScript setting.script → IsRunOf setting journal ends → AreMissesExplained setting journal ends
+misses_explained setting journal ends lawful run = λ used number came.
+    explained setting journal run.kept.numbered (run_in_order setting journal ends lawful run) number
+    (phases_miss setting 0 none_held setting.script.phases [] journal ends no_view_yet run.phases used number came)
 
 -- and in an honest one no call misses an object
-pub honest_misses_nothing : (script : Script) (journal : List Entry) (ends : List (List (List End))) → IsLawfulScript script → IsRunOf script journal ends → IsHonest journal → AreFound ends
-honest_misses_nothing script journal ends lawful run honest = λ used number came.
-    honest_finds script journal run.kept.numbered (phases_in_order script lawful 0 no_views script.phases journal ends run.phases) number
-    (phases_miss script lawful 0 no_views script.phases [] journal ends no_view_yet run.phases used number came) honest
+pub honest_misses_nothing : (setting : Setting) (journal : List Entry) (ends : List (List (List End))) → IsLawfulScript setting.script → IsRunOf setting journal ends → IsHonest journal → AreFound ends
+honest_misses_nothing setting journal ends lawful run honest = λ used number came.
+    honest_finds setting journal run.kept.numbered (run_in_order setting journal ends lawful run) number
+    (phases_miss setting 0 none_held setting.script.phases [] journal ends no_view_yet run.phases used number came) honest

@@ -1,15 +1,10 @@
 -- A run that ended with a failed call has an entry of that number which was answered so.
-use Rattle.list_core.proofs.Membership.{contains_first, contains_later}
-use Rattle.std.proofs.Common.{◌≡◌, inl, inr, ℕ, Bool, IsTrue, List, [], ◌∷◌, ◌++◌, length, Contains, Option, Some, None, refl, ap, subst}
+use Rattle.std.proofs.Common.{◌≡◌, ℕ, Bool, IsTrue, List, [], ◌∷◌, ◌++◌, length, Contains, Option, Some, None, refl, ap, subst}
 use Rattle.std.specs.Prelude.{fold}
-use Rattle.block_keys.specs.declared.key.Key.{Key}
 use Rattle.block_keys.specs.declared.key.Key.TheVariants as key
 use Rattle.block_keys.specs.declared.object.Object.{Object}
-use Rattle.label_sets.specs.Triples.{Triple}
-use Rattle.label_sets.specs.declared.series.Series.{Series}
 use Rattle.world_core.specs.Operations.{has_failed}
 use Rattle.world_core.specs.declared.entry.Entry.{Entry}
-use Rattle.world_core.specs.declared.reply.Reply.{Reply}
 use Rattle.world_core.specs.declared.reply.Reply.TheVariants as reply
 use Rattle.world_core.specs.Plans.{Runs, ends as comes_to}
 use Rattle.world_core.proofs.PlanLaws.{EndsAre, end_is, nothing_given}

@@ -27,37 +27,37 @@ use Rattle.script_core.specs.Lawful.{HasSeries, IsLawfulScript}
 use Rattle.script_core.specs.declared.block.Block.{Block}
 use Rattle.script_core.specs.declared.body.Body.{Body}
 use Rattle.script_core.specs.declared.body.Body.TheVariants.{Inline}
-use Rattle.script_core.specs.declared.script.Script.{Script}
-use Rattle.script_workers.specs.declared.task.Task.{Task}
 use Rattle.script_workers.specs.declared.work.Work.{Work}
 use Rattle.script_workers.specs.declared.work.Work.TheVariants.{Upload, Sync, Query}
-use Rattle.lifecycle_core.specs.Phases.{TasksRun}
+use Rattle.lifecycle_core.specs.Conducts.{Assigned, Conduct, TasksRun, Who}
+use Rattle.lifecycle_core.specs.Holdings.{Holding, Use}
+use Rattle.lifecycle_core.specs.Phases.{by_script}
+use Rattle.lifecycle_core.specs.Setting.{Setting}
 use Rattle.lifecycle_core.specs.Shipped.{AreBuilt}
-use Rattle.lifecycle_core.specs.Tasks.{End, QueryTask, TaskRun, answered, asked_by, last_number, synced, sync_rules, uploaded, view_after}
-use Rattle.lifecycle_core.specs.Views.{Use}
+use Rattle.lifecycle_core.specs.Tasks.{End, QueryTask, TaskRun, answered, asked_by, last_number, sync_rules, synced, uploaded}
 use Rattle.lifecycle_core.proofs.misses.GatewayEntries.{IsSeen, calls, seen_left, syncs}
 use Rattle.lifecycle_core.proofs.journals.RunEntries.{AreInOrder, PrecedesMeta, all_read, in_order_both, more_before, upload_in_order}
 use Rattle.lifecycle_core.proofs.phases.TaskRuns.{task_leaves}
 
 -- ---- the order of one task's entries
 
-built_in_order : (block : Block) (body : Body) (objects : List Object) (entries : List Entry) (end : Option UploadEnd) → HasSeries body → AreBuilt block body objects → Runs (upload block.ulid objects) entries end → AreInOrder [] entries
+built_in_order : (setting : Setting) (block : Block) (body : Body) (objects : List Object) (entries : List Entry) (end : Option UploadEnd) → HasSeries body → AreBuilt setting block body objects → Runs (upload block.ulid objects) entries end → AreInOrder [] entries
 unfolding objects_of segments_of segment_objects
-built_in_order block (Inline low high []) objects entries end some built run = absurd (some refl)
-built_in_order block (Inline low high (s ∷ series)) objects entries end some (plan, is, are) run =
+built_in_order setting block (Inline low high []) objects entries end some built run = absurd (some refl)
+built_in_order setting block (Inline low high (s ∷ series)) objects entries end some (plan, is, are) run =
     upload_in_order block.ulid (segment_text (s ∷ series)) plain_index (meta_text (built_meta plan (s ∷ series))) entries end (subst (λ os. Runs (upload block.ulid os) entries end) are run)
 
-query_in_order : (script : Script) (view : Option Use) (asked : Option Question) (entries : List Entry) (end : Option End) → QueryTask script view asked entries end → AreInOrder [] entries
-query_in_order script None asked entries end (nil, how) = subst (AreInOrder []) (sym nil) tt
-query_in_order script (Some used) None entries end run = absurd run
-query_in_order script (Some used) (Some q) entries end (own, run, is) =
+query_in_order : (used : Option Use) (asked : Option Question) (entries : List Entry) (end : Option End) → QueryTask used asked entries end → AreInOrder [] entries
+query_in_order None asked entries end (nil, how) = subst (AreInOrder []) (sym nil) tt
+query_in_order (Some used) None entries end run = absurd run
+query_in_order (Some used) (Some q) entries end (own, run, is) =
     all_read [] entries (calls (λ u. Unit {0}) used.view q entries own (λ k d below. tt) run).reads
 
-task_in_order : (script : Script) → IsLawfulScript script → (view : Option Use) (w : Work) (entries : List Entry) (end : Option End) → TaskRun script view w entries end → AreInOrder [] entries
-task_in_order script lawful view (Upload ulid stop) entries end (block, is, (objects, own, shipped, run, how)) =
-    built_in_order block block.body objects entries own (All-contains (λ (b : Block). HasSeries b.body) script.blocks block lawful.full (declared_among script ulid block is)) shipped run
-task_in_order script lawful view (Sync gateway) entries end (own, run, is) = all_read [] entries (syncs (sync_rules script.rules) [] entries own run).reads
-task_in_order script lawful view (Query low high selector) entries end run = query_in_order script view (asked_by script selector low high) entries end run
+pub task_in_order : (setting : Setting) → IsLawfulScript setting.script → (who : Who) (place : ℕ) (w : Work) (held after : Holding) (entries : List Entry) (end : Option End) → TaskRun setting who place w held entries end after → AreInOrder [] entries
+task_in_order setting lawful who place (Upload ulid stop) held after entries end ((block, is, (objects, own, shipped, run, how)), left) =
+    built_in_order setting block block.body objects entries own (All-contains (λ (b : Block). HasSeries b.body) setting.script.blocks block lawful.full (declared_among setting ulid block is)) shipped run
+task_in_order setting lawful who place (Sync gateway) held after entries end (own, run, is, left) = all_read [] entries (syncs (sync_rules setting gateway) [] entries own run).reads
+task_in_order setting lawful who place (Query low high selector) held after entries end (run, left) = query_in_order held.used (asked_by setting who.gateway selector low high) entries end run
 
 -- others may stand before all of them
 in_order_after : (others before entries : List Entry) → AreInOrder before entries → AreInOrder (others ++ before) entries
@@ -67,38 +67,41 @@ in_order_after others before (e ∷ entries) all = (
   subst (λ es. AreInOrder es entries) (sym (append_assoc others before (e ∷ []))) (in_order_after others (before ++ e ∷ []) entries all.1),
 )
 
-pub tasks_in_order : (script : Script) → IsLawfulScript script → (view last : Option Use) (tasks : List Task) (entries : List Entry) (ends : List End) → TasksRun script view tasks entries ends last → AreInOrder [] entries
-tasks_in_order script lawful view last [] entries ends run = subst (AreInOrder []) (sym run.0) tt
-tasks_in_order script lawful view last (task ∷ tasks) entries ends (inl (made, others, end, later, parts, run, is, rest)) =
-    let one = task_in_order script lawful view task.work made (Some end) run in
-    let other = tasks_in_order script lawful (view_after view made end) last tasks others later rest in
-    subst (AreInOrder []) (sym parts) (in_order_both [] made others one (subst (λ es. AreInOrder es others) (append-nil made) (in_order_after made [] others other)))
-tasks_in_order script lawful view last (task ∷ tasks) entries ends (inr (run, is, same)) = task_in_order script lawful view task.work entries None run
+module _ {State E : Type 0} (conduct : Conduct State E)
+    (each : (who : Who) (place : ℕ) (w : Work) (all : List Entry) (before : State) (made : List Entry) (end : Option E) (after : State) → conduct.does who place w all before made end after → AreInOrder [] made) where
+  -- a worker's entries are in order where those of each task are
+  pub tasks_in_order : (who : Who) (all : List Entry) (before : State) (tasks : List Assigned) (entries : List Entry) (ends : List E) (last : State) → TasksRun conduct who all before tasks entries ends last → AreInOrder [] entries
+  tasks_in_order who all before [] entries ends last run = subst (AreInOrder []) (sym run.0) tt
+  tasks_in_order who all before (own ∷ tasks) entries ends last (inl (made, others, end, later, next, parts, run, is, rest)) =
+      let one = each who own.place own.task.work all before made (Some end) next run in
+      let other = tasks_in_order who all next tasks others later last rest in
+      subst (AreInOrder []) (sym parts) (in_order_both [] made others one (subst (λ es. AreInOrder es others) (append-nil made) (in_order_after made [] others other)))
+  tasks_in_order who all before (own ∷ tasks) entries ends last (inr (run, is)) = each who own.place own.task.work all before entries None last run
 
 -- ---- what a worker's view keeps was seen
 
-abbrev pub ViewSeen : List Entry → Option Use → Type 0
-ViewSeen entries view = (used : Use) → view ≡ Some used → All (λ (block : Found). IsSeen entries block.ulid) used.view.kept
+abbrev pub ViewSeen : List Entry → Holding → Type 0
+ViewSeen entries held = (used : Use) → held.used ≡ Some used → All (λ (block : Found). IsSeen entries block.ulid) used.view.kept
 
 pub seen_among : (one other : List Entry) (ulid : ℕ) → ((x : Entry) → Contains one x → Contains other x) → IsSeen one ulid → IsSeen other ulid
 seen_among one other ulid more (e, among, seen) = (e, more e among, seen)
 
-pub view_among : (one other : List Entry) (view : Option Use) → ((x : Entry) → Contains one x → Contains other x) → ViewSeen one view → ViewSeen other view
+pub view_among : (one other : List Entry) (view : Holding) → ((x : Entry) → Contains one x → Contains other x) → ViewSeen one view → ViewSeen other view
 view_among one other view more seen = λ used is k d below. seen_among one other _ more (seen used is k d below)
 
-view_left : (one other : List Entry) (view : Option Use) → ViewSeen one view → ViewSeen (one ++ other) view
+view_left : (one other : List Entry) (view : Holding) → ViewSeen one view → ViewSeen (one ++ other) view
 view_left one other view seen = view_among one (one ++ other) view (λ x among. Contains-append_left one other x among) seen
 
-same_view : (before made : List Entry) (one other : Option Use) → one ≡ other → ViewSeen before other → ViewSeen (before ++ made) one
+same_view : (before made : List Entry) (one other : Holding) → one ≡ other → ViewSeen before other → ViewSeen (before ++ made) one
 same_view before made one other is seen = subst (ViewSeen (before ++ made)) (sym is) (view_left before made other seen)
 
-view_given : (script : Script) (before made : List Entry) (own : Option SyncEnd) → SyncRun (sync_rules script.rules) made own → (v : View) → own ≡ Some (fetched.View v) → ViewSeen (before ++ made) (Some (record { view = v; last = last_number made }))
-view_given script before made own run v is = λ used same.
+view_given : (setting : Setting) (before made : List Entry) (gateway : ℕ) (own : Option SyncEnd) → SyncRun (sync_rules setting gateway) made own → (v : View) → own ≡ Some (fetched.View v) → ViewSeen (before ++ made) (record { used = Some (record { view = v; last = last_number made }) })
+view_given setting before made gateway own run v is = λ used same.
     let one : record { view = v; last = last_number made } ≡ used = cc (same) in
-    subst (λ (o : Use). All (λ (block : Found). IsSeen (before ++ made) block.ulid) o.view.kept) one ((syncs (sync_rules script.rules) before made own run).sees v is)
+    subst (λ (o : Use). All (λ (block : Found). IsSeen (before ++ made) block.ulid) o.view.kept) one ((syncs (sync_rules setting gateway) before made own run).sees v is)
 
-after_task : (script : Script) (before made : List Entry) (view : Option Use) (w : Work) (end : End) → ViewSeen before view → TaskRun script view w made (Some end) → ViewSeen (before ++ made) (view_after view made end)
-after_task script before made view w end seen run = task_leaves (ViewSeen (before ++ made)) script view (view_left before made view seen) made w end (view_given script before made) run
+after_task : (setting : Setting) (who : Who) (place : ℕ) (before made : List Entry) (held after : Holding) (w : Work) (end : Option End) → ViewSeen before held → TaskRun setting who place w held made end after → ViewSeen (before ++ made) after
+after_task setting who place before made held after w end seen run = task_leaves (ViewSeen (before ++ made)) setting who place held (view_left before made held seen) made w end after (view_given setting before made) run
 
 -- ---- a missing object
 
@@ -132,12 +135,12 @@ misses_within before front entries back number m = record {
   seen = subst (λ es. IsSeen es m.ulid) (append_assoc before front m.front) m.seen;
 }
 
-query_misses : (script : Script) (before made : List Entry) (view : Option Use) (asked : Option Question) (used : Use) (number : ℕ) → ViewSeen before view → QueryTask script view asked made (Some (answered used (called.Missing number))) → MissesAt before made number
-query_misses script before made None asked used number seen (nil, inl none) = absurd (cc (none))
-query_misses script before made None asked used number seen (nil, inr is) = absurd (cc (is))
-query_misses script before made (Some own) None used number seen run = absurd run
-query_misses script before made (Some own) (Some q) used number seen (None, run, is) = absurd (cc (is))
-query_misses script before made (Some own) (Some q) used number seen (Some ended, run, is) =
+query_misses : (before made : List Entry) (held : Option Use) (asked : Option Question) (used : Use) (number : ℕ) → ViewSeen before (record { used = held }) → QueryTask held asked made (Some (answered used (called.Missing number))) → MissesAt before made number
+query_misses before made None asked used number seen (nil, inl none) = absurd (cc (none))
+query_misses before made None asked used number seen (nil, inr is) = absurd (cc (is))
+query_misses before made (Some own) None used number seen run = absurd run
+query_misses before made (Some own) (Some q) used number seen (None, run, is) = absurd (cc (is))
+query_misses before made (Some own) (Some q) used number seen (Some ended, run, is) =
     let e : called.Missing number ≡ ended = cc (is) in
     let m = (calls (IsSeen before) own.view q made (Some ended) (seen own refl) run).misses number (ap (λ x. Some x) (sym e)) in
     record { front = m.front; back = []; entry = m.entry; ulid = m.ulid; key_is = m.key_is; parts = m.last; is = m.is; reads = m.reads; absent = m.absent; own = m.own; seen = seen_left before m.front m.ulid m.holds }
@@ -150,34 +153,34 @@ no_sync_misses : (used : Use) (number : ℕ) (own : Option SyncEnd) → Some (an
 no_sync_misses used number None is = cc (is)
 no_sync_misses used number (Some end) is = cc (is)
 
-task_misses : (script : Script) (before made : List Entry) (view : Option Use) (w : Work) (used : Use) (number : ℕ) → ViewSeen before view → TaskRun script view w made (Some (answered used (called.Missing number))) → MissesAt before made number
-task_misses script before made view (Upload ulid stop) used number seen (block, is, (objects, own, shipped, run, inl (same, early))) = absurd (no_upload_misses used number own same)
-task_misses script before made view (Upload ulid stop) used number seen (block, is, (objects, own, shipped, run, inr (n, stops, above, length_is, same))) = absurd (cc (same))
-task_misses script before made view (Sync gateway) used number seen (own, run, is) = absurd (no_sync_misses used number own is)
-task_misses script before made view (Query low high selector) used number seen run = query_misses script before made view (asked_by script selector low high) used number seen run
+task_misses : (setting : Setting) (who : Who) (place : ℕ) (before made : List Entry) (held after : Holding) (w : Work) (used : Use) (number : ℕ) → ViewSeen before held → TaskRun setting who place w held made (Some (answered used (called.Missing number))) after → MissesAt before made number
+task_misses setting who place before made held after (Upload ulid stop) used number seen ((block, is, (objects, own, shipped, run, inl (same, early))), left) = absurd (no_upload_misses used number own same)
+task_misses setting who place before made held after (Upload ulid stop) used number seen ((block, is, (objects, own, shipped, run, inr (n, stops, above, length_is, same))), left) = absurd (cc (same))
+task_misses setting who place before made held after (Sync gateway) used number seen (own, run, is, left) = absurd (no_sync_misses used number own is)
+task_misses setting who place before made held after (Query low high selector) used number seen (run, left) = query_misses before made held.used (asked_by setting who.gateway selector low high) used number seen run
 
 -- what a worker's runs leave: the view after them was seen, and each call that missed an object is found
-pub record Leaves (before entries : List Entry) (ends : List End) (last : Option Use) : Type 0 where
+pub record Leaves (before entries : List Entry) (ends : List End) (last : Holding) : Type 0 where
   pub seen : ViewSeen (before ++ entries) last
   pub misses : (used : Use) (number : ℕ) → Contains ends (answered used (called.Missing number)) → MissesAt before entries number
 
-no_ends : (before entries : List Entry) (ends : List End) (last : Option Use) → ends ≡ [] → ViewSeen (before ++ entries) last → Leaves before entries ends last
+no_ends : (before entries : List Entry) (ends : List End) (last : Holding) → ends ≡ [] → ViewSeen (before ++ entries) last → Leaves before entries ends last
 no_ends before entries ends last nil seen = record { seen = seen; misses = λ used number among. let none : Contains [] (answered used (called.Missing number)) = subst (λ (es : List End). Contains es (answered used (called.Missing number))) nil among in absurd (omega (arith, none.1)) }
 
-one_more : (script : Script) (before made others : List Entry) (view last : Option Use) (w : Work) (end : End) (later : List End) → ViewSeen before view → TaskRun script view w made (Some end) → Leaves (before ++ made) others later last → Leaves before (made ++ others) (end ∷ later) last
-one_more script before made others view last w end later seen run rest = record {
+one_more : (setting : Setting) (who : Who) (place : ℕ) (before made others : List Entry) (held next last : Holding) (w : Work) (end : End) (later : List End) → ViewSeen before held → TaskRun setting who place w held made (Some end) next → Leaves (before ++ made) others later last → Leaves before (made ++ others) (end ∷ later) last
+one_more setting who place before made others held next last w end later seen run rest = record {
   seen = subst (λ es. ViewSeen es last) (append_assoc before made others) rest.seen;
   misses = λ used number among. elim (Contains-append_cases (end ∷ []) later (answered used (called.Missing number)) among) [
     | inl (zero, below, is) ↦ misses_within before [] made others number
-        (subst (λ es. MissesAt es made number) (sym (append-nil before)) (task_misses script before made view w used number seen (subst (λ x. TaskRun script view w made (Some x)) is run)))
+        (subst (λ es. MissesAt es made number) (sym (append-nil before)) (task_misses setting who place before made held next w used number seen (subst (λ x. TaskRun setting who place w held made (Some x) next) is run)))
     | inl (suc k, below, is) ↦ absurd (omega (arith, below))
     | inr later ↦ subst (λ es. MissesAt before (made ++ es) number) (append-nil others) (misses_within before made others [] number (rest.misses used number later))
   ];
 }
 
-pub tasks_leave : (script : Script) (before : List Entry) (view last : Option Use) (tasks : List Task) (entries : List Entry) (ends : List End) → ViewSeen before view → TasksRun script view tasks entries ends last → Leaves before entries ends last
-tasks_leave script before view last [] entries ends seen (nil, none, same) = no_ends before entries ends last none (same_view before entries last view same seen)
-tasks_leave script before view last (task ∷ tasks) entries ends seen (inl (made, others, end, later, parts, run, is, rest)) =
-    let tail = tasks_leave script (before ++ made) (view_after view made end) last tasks others later (after_task script before made view task.work end seen run) rest in
-    subst (λ (es : List Entry). Leaves before es ends last) (sym parts) (subst (λ (l : List End). Leaves before (made ++ others) l last) (sym is) (one_more script before made others view last task.work end later seen run tail))
-tasks_leave script before view last (task ∷ tasks) entries ends seen (inr (run, none, same)) = no_ends before entries ends last none (same_view before entries last view same seen)
+pub tasks_leave : (setting : Setting) (who : Who) (all before : List Entry) (held last : Holding) (tasks : List Assigned) (entries : List Entry) (ends : List End) → ViewSeen before held → TasksRun (by_script setting) who all held tasks entries ends last → Leaves before entries ends last
+tasks_leave setting who all before held last [] entries ends seen (nil, none, same) = no_ends before entries ends last none (same_view before entries last held same seen)
+tasks_leave setting who all before held last (own ∷ tasks) entries ends seen (inl (made, others, end, later, next, parts, run, is, rest)) =
+    let tail = tasks_leave setting who all (before ++ made) next last tasks others later (after_task setting who own.place before made held next own.task.work (Some end) seen run) rest in
+    subst (λ (es : List Entry). Leaves before es ends last) (sym parts) (subst (λ (l : List End). Leaves before (made ++ others) l last) (sym is) (one_more setting who own.place before made others held next last own.task.work end later seen run tail))
+tasks_leave setting who all before held last (own ∷ tasks) entries ends seen (inr (run, none)) = no_ends before entries ends last none (after_task setting who own.place before entries held last own.task.work None seen run)

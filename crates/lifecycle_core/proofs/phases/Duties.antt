@@ -4,7 +4,7 @@ use Rattle.std.proofs.lemmas.Bool.Decides.{nat_tests}
 use Rattle.script_workers.specs.Hands.{same_hand}
 use Rattle.script_workers.specs.declared.hand.Hand.{Hand}
 use Rattle.script_workers.specs.declared.hand.Hand.TheVariants as hands
-use Rattle.script_workers.specs.declared.task.Task.{Task}
+use Rattle.lifecycle_core.specs.Conducts.{Assigned}
 use Rattle.lifecycle_core.specs.InLine.{Duty}
 use Rattle.lifecycle_core.specs.Tasks.{End}
 
@@ -29,8 +29,8 @@ ends_by hand [] ends = []
 ends_by hand (duty ∷ duties) [] = []
 ends_by hand (duty ∷ duties) (end ∷ ends) = cond (same_hand hand duty.hand) (end ∷ ends_by hand duties ends) (ends_by hand duties ends)
 
-abbrev pub tasks_of : List Duty → List Task
-tasks_of duties = map (λ duty. duty.task) duties
+abbrev pub tasks_of : List Duty → List Assigned
+tasks_of duties = map (λ duty. record { place = duty.place; task = duty.task }) duties
 
 pub part_own : (hand : Hand) (duty : Duty) (duties : List Duty) → same_hand hand duty.hand ≡ true → part hand (duty ∷ duties) ≡ duty ∷ part hand duties
 unfolding part

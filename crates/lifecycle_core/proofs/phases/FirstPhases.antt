@@ -6,16 +6,16 @@ use Rattle.world_core.specs.Worlds.{IsJournal}
 use Rattle.world_core.specs.declared.entry.Entry.{Entry}
 use Rattle.world_core.proofs.Growing.{Each-none}
 use Rattle.script_workers.specs.declared.phase.Phase.{Phase}
-use Rattle.script_core.specs.declared.script.Script.{Script}
-use Rattle.lifecycle_core.specs.InLine.{IsInLine}
-use Rattle.lifecycle_core.specs.Phases.{IsLawfulJournal, IsRunOf, PhasesRun, BeginsPhase}
-use Rattle.lifecycle_core.specs.Tasks.{End}
-use Rattle.lifecycle_core.specs.Views.{Views, no_views}
-use Rattle.lifecycle_core.proofs.phases.Joined.{no_phase_yet}
+use Rattle.lifecycle_core.specs.Holdings.{none_held}
+use Rattle.lifecycle_core.specs.InLine.{IsInLine, in_line}
+use Rattle.lifecycle_core.specs.Phases.{IsLawfulJournal, IsRunOf, by_workers}
+use Rattle.lifecycle_core.specs.Setting.{Setting}
+use Rattle.lifecycle_core.specs.Ways.{BeginsPhase, PhasesRun, Way}
 
-no_phase : (script : Script) (phases : List Phase) → PhasesRun script 0 no_views phases [] []
-no_phase script [] = (refl, refl)
-no_phase script (phase ∷ phases) = inl (refl, refl)
+-- no phase was begun, whatever the way
+pub no_phase : {State Ends : Type 0} (way : Way State Ends) (number : ℕ) (before : ℕ → State) (phases : List Phase) → PhasesRun way number before phases [] []
+no_phase way number before [] = (refl, refl)
+no_phase way number before (phase ∷ phases) = inl (refl, refl)
 
 no_journal : (tick : ℕ) → IsJournal tick []
 no_journal tick = record {
@@ -27,23 +27,23 @@ no_journal tick = record {
   small = Each-none (λ before e. e.moment.ms < 2 ^ 48);
 }
 
-pub none_run : (script : Script) → IsRunOf script [] []
-none_run script = record { kept = no_journal script.rules.tick.ms; phases = no_phase script script.phases }
+pub none_run : (setting : Setting) → IsRunOf setting [] []
+none_run setting = record { kept = no_journal setting.script.rules.tick.ms; phases = no_phase (by_workers setting) 0 none_held setting.script.phases }
 
-pub none_lawful : (script : Script) → IsLawfulJournal script []
-none_lawful script = ([], none_run script)
+pub none_lawful : (setting : Setting) → IsLawfulJournal setting []
+none_lawful setting = ([], none_run setting)
 
-pub none_in_line : (script : Script) → IsInLine script []
-none_in_line script = ([], record { kept = no_journal script.rules.tick.ms; phases = no_phase_yet script 0 no_views script.phases })
+pub none_in_line : (setting : Setting) → IsInLine setting []
+none_in_line setting = ([], record { kept = no_journal setting.script.rules.tick.ms; phases = no_phase (in_line setting) 0 none_held setting.script.phases; turns = tt })
 
-first_phase : (script : Script) (number : ℕ) (views : Views) (phases : List Phase) (first : Entry) (others : List Entry) (ends : List (List (List End)))
-    → PhasesRun script number views phases (first ∷ others) ends → (phase : Phase) × (later : List Phase) × (phases ≡ phase ∷ later) × BeginsPhase phase first
-first_phase script number views [] first others ends run = absurd (cc (run.0))
-first_phase script number views (phase ∷ phases) first others ends (inl none) = absurd (cc (none.0))
-first_phase script number views (phase ∷ phases) first others ends (inr begun) =
+first_phase : {State Ends : Type 0} (way : Way State Ends) (number : ℕ) (before : ℕ → State) (phases : List Phase) (first : Entry) (others : List Entry) (ends : List Ends)
+    → PhasesRun way number before phases (first ∷ others) ends → (phase : Phase) × (later : List Phase) × (phases ≡ phase ∷ later) × BeginsPhase phase first
+first_phase way number before [] first others ends run = absurd (cc (run.0))
+first_phase way number before (phase ∷ phases) first others ends (inl none) = absurd (cc (none.0))
+first_phase way number before (phase ∷ phases) first others ends (inr begun) =
     let same : first ≡ begun.0 = cc (begun.6) in
     (phase, phases, refl, subst (BeginsPhase phase) (sym same) begun.7)
 
-pub begins : (script : Script) (first : Entry) (others : List Entry) → IsLawfulJournal script (first ∷ others)
-    → (phase : Phase) × (later : List Phase) × (script.phases ≡ phase ∷ later) × BeginsPhase phase first
-begins script first others lawful = first_phase script 0 no_views script.phases first others lawful.0 lawful.1.phases
+pub begins : (setting : Setting) (first : Entry) (others : List Entry) → IsLawfulJournal setting (first ∷ others)
+    → (phase : Phase) × (later : List Phase) × (setting.script.phases ≡ phase ∷ later) × BeginsPhase phase first
+begins setting first others lawful = first_phase (by_workers setting) 0 none_held setting.script.phases first others lawful.0 lawful.1.phases

@@ -1,11 +1,11 @@
 -- Fronts of lawful journals are lawful.
 use Rattle.std.proofs.lemmas.Bool.{or_parts}
-use Rattle.std.proofs.Common.{◌≡◌, ◌≢◌, ◌⊎◌, inl, inr, ℕ, ◌+◌, ◌==◌, true, false, List, [], ◌∷◌, ◌++◌, length, map, Contains, Option, Some, None, refl, sym, ◌∙◌, ap, subst, arith, append-nil}
+use Rattle.std.proofs.Common.{◌≡◌, ◌≢◌, ◌⊎◌, inl, inr, ℕ, suc, ◌+◌, ◌==◌, true, false, List, [], ◌∷◌, ◌++◌, length, map, Contains, Option, Some, None, refl, sym, ◌∙◌, ap, subst, arith, append-nil}
 use Rattle.std.specs.Prelude.{get_or, slice_get, ◌<◌, ◌^◌}
 use Rattle.std.proofs.lemmas.List.{length-append}
 use Rattle.std.specs.List.{All, AllZip, list_any}
 use Rattle.std.proofs.lemmas.Bool.Decides.{nat_tests}
-use Rattle.std.proofs.lemmas.List.Elements.{All-cons, All-contains, All-contains_itself, All-head, All-nil, All-tail, Contains-append_left, filter-append}
+use Rattle.std.proofs.lemmas.List.Elements.{All-cons, All-contains, All-contains_itself, All-head, All-nil, All-tail, Contains-append_left, Contains-append_right, filter-append}
 use Rattle.world_core.specs.Moments.{moment_after, last_moment}
 use Rattle.world_core.specs.Operations.{IsLawful, IsReplyTo}
 use Rattle.world_core.specs.Worlds.{IsJournal}
@@ -16,13 +16,17 @@ use Rattle.script_core.specs.Workers.{seats_before, workers_after, workers_of}
 use Rattle.script_workers.specs.declared.hand.Hand.{Hand}
 use Rattle.script_workers.specs.declared.hand.Hand.TheVariants as hands
 use Rattle.script_workers.specs.declared.phase.Phase.{Phase}
-use Rattle.script_core.specs.declared.script.Script.{Script}
 use Rattle.script_workers.specs.declared.task.Task.{Task}
 use Rattle.script_workers.specs.declared.worker.Worker.{Worker}
-use Rattle.lifecycle_core.specs.Phases.{IsLawfulJournal, PhaseRun, PhasesRun, TasksAt, TasksRun, WorkerRun, of_seat}
-use Rattle.lifecycle_core.specs.Tasks.{End, TaskRun, view_after}
-use Rattle.lifecycle_core.specs.Views.{Use, Views, no_views, view_of, with_view}
+use Rattle.lifecycle_core.specs.Conducts.{Assigned, Conduct, PhaseRun, TasksAt, TasksRun, Who, WorkerRun, of_seat, who_of}
+use Rattle.lifecycle_core.specs.Holdings.{Holding, Holdings, none_held, with_holding}
+use Rattle.lifecycle_core.specs.Phases.{IsLawfulJournal, by_script, by_workers}
+use Rattle.lifecycle_core.specs.Setting.{Setting}
+use Rattle.lifecycle_core.specs.Ways.{PhasesRun, Way}
 use Rattle.lifecycle_core.proofs.phases.HandLists.{Apart, joins_from}
+use Rattle.script_workers.specs.declared.work.Work.{Work}
+use Rattle.lifecycle_core.proofs.journals.Positions.{of_filter}
+use Rattle.lifecycle_core.proofs.phases.FirstPhases.{no_phase}
 use Rattle.lifecycle_core.proofs.phases.RunFronts.{task_cut}
 
 -- ---- two ways to part a list
@@ -43,31 +47,135 @@ nil_front : {X : Type 0} (xs ys : List X) → xs ++ ys ≡ [] → xs ≡ []
 nil_front [] ys is = refl
 nil_front (x ∷ xs) ys is = absurd (cc (is))
 
+all_back : {X : Type 0} (P : X → Type 0) (xs ys : List X) → All P (xs ++ ys) → All P ys
+all_back P xs ys all = λ k d below. All-contains P (xs ++ ys) (get_or ys k d) all (Contains-append_right xs ys (get_or ys k d) (All-contains_itself ys k d below))
+
 all_front : {X : Type 0} (P : X → Type 0) (xs ys : List X) → All P (xs ++ ys) → All P xs
 all_front P xs ys all = λ k d below. All-contains P (xs ++ ys) (get_or xs k d) all (Contains-append_left xs ys (get_or xs k d) (All-contains_itself xs k d below))
 
--- ---- a worker's tasks
+seat_parts : (seat : ℕ) (xs ys : List Entry) → of_seat seat (xs ++ ys) ≡ of_seat seat xs ++ of_seat seat ys
+seat_parts seat xs ys = filter-append (λ (e : Entry). e.seat == seat) xs ys
 
-abbrev TasksCut : Script → Option Use → List Task → List Entry → Type 0
-TasksCut script view tasks entries = (ends : List End) × (last : Option Use) × TasksRun script view tasks entries ends last
+-- ---- a conduct
 
-unended : (script : Script) (view : Option Use) (task : Task) (tasks : List Task) (entries : List Entry) → TaskRun script view task.work entries None → TasksCut script view (task ∷ tasks) entries
-unended script view task tasks entries run = ([], view, inr (run, refl, refl))
+-- What a conduct has to be like, so that each front of a phase's run is one: a front of a task's run is a run without an end, and
+-- what happens later in the phase does not matter; and whatever workers leave, there are states after the phase.
+pub record IsCutWell {State E : Type 0} (conduct : Conduct State E) : Type 0 where
+  pub cut : (who : Who) (place : ℕ) (w : Work) (front back : List Entry) (before after : State) (xs : List Entry) (y : Entry) (rest : List Entry) (end : Option E) → All (Contains front) xs
+      → conduct.does who place w (front ++ back) before (xs ++ y ∷ rest) end after → (left : State) × conduct.does who place w front before xs None left
+  pub whole : (who : Who) (place : ℕ) (w : Work) (front back : List Entry) (before after : State) (made : List Entry) (end : Option E) → All (Contains front) made
+      → conduct.does who place w (front ++ back) before made end after → conduct.does who place w front before made end after
+  pub joins : (number : ℕ) (before : ℕ → State) (lasts : List State) → length lasts ≡ length (conduct.workers number)
+      → (after : ℕ → State) × AllZip (λ w last. conduct.leaves w last after) (conduct.workers number) lasts
+      × ((gateway : ℕ) → All (λ (w : Worker). w.gateway ≢ Some gateway) (conduct.workers number) → after gateway ≡ before gateway)
 
-cut_or_whole : (script : Script) (view : Option Use) (task : Task) (tasks : List Task) (xs ys : List Entry) → TaskRun script view task.work (xs ++ ys) None → TasksCut script view (task ∷ tasks) xs
-cut_or_whole script view task tasks xs [] run = unended script view task tasks xs (subst (λ es. TaskRun script view task.work es None) (append-nil xs) run)
-cut_or_whole script view task tasks xs (y ∷ ys) run = unended script view task tasks xs (task_cut script view task.work xs y ys None run)
+module _ {State E : Type 0} (conduct : Conduct State E) (well : IsCutWell conduct) where
+  -- ---- a worker's tasks
 
-tasks_front : (script : Script) (view : Option Use) (tasks : List Task) (xs ys : List Entry) (ends : List End) (last : Option Use) → TasksRun script view tasks (xs ++ ys) ends last → TasksCut script view tasks xs
-tasks_front script view [] xs ys ends last (nil, none, same) = ([], view, (nil_front xs ys nil, refl, refl))
-tasks_front script view (task ∷ tasks) xs ys ends last (inl (made, others, end, later, parts, run, is, rest)) =
-    elim (aligned xs ys made others parts) [
-      | inl (zs, one, two) ↦
-          let tail = tasks_front script (view_after view made end) tasks zs ys later last (subst (λ es. TasksRun script (view_after view made end) tasks es later last) two rest) in
-          (end ∷ tail.0, tail.1, inl (made, zs, end, tail.0, one, run, refl, tail.2))
-      | inr (y, zs, one) ↦ unended script view task tasks xs (task_cut script view task.work xs y zs (Some end) (subst (λ es. TaskRun script view task.work es (Some end)) one run))
-    ]
-tasks_front script view (task ∷ tasks) xs ys ends last (inr (run, none, same)) = cut_or_whole script view task tasks xs ys run
+  abbrev TasksCut : Who → List Entry → State → List Assigned → List Entry → Type 0
+  TasksCut who all before tasks entries = (ends : List E) × (last : State) × TasksRun conduct who all before tasks entries ends last
+
+  unended : (who : Who) (all : List Entry) (before : State) (own : Assigned) (tasks : List Assigned) (entries : List Entry) → (last : State) × conduct.does who own.place own.task.work all before entries None last → TasksCut who all before (own ∷ tasks) entries
+  unended who all before own tasks entries (last, run) = ([], last, inr (run, refl))
+
+  cut_or_whole : (who : Who) (front back : List Entry) (before last : State) (own : Assigned) (tasks : List Assigned) (xs ys : List Entry) → All (Contains front) xs
+      → conduct.does who own.place own.task.work (front ++ back) before (xs ++ ys) None last → TasksCut who front before (own ∷ tasks) xs
+  cut_or_whole who front back before last own tasks xs [] inside run =
+      unended who front before own tasks xs (last, well.whole who own.place own.task.work front back before last xs None inside (subst (λ es. conduct.does who own.place own.task.work (front ++ back) before es None last) (append-nil xs) run))
+  cut_or_whole who front back before last own tasks xs (y ∷ ys) inside run = unended who front before own tasks xs (well.cut who own.place own.task.work front back before last xs y ys None inside run)
+
+  tasks_front : (who : Who) (front back : List Entry) (before : State) (tasks : List Assigned) (xs ys : List Entry) (ends : List E) (last : State) → All (Contains front) xs
+      → TasksRun conduct who (front ++ back) before tasks (xs ++ ys) ends last → TasksCut who front before tasks xs
+  tasks_front who front back before [] xs ys ends last inside (nil, none, same) = ([], before, (nil_front xs ys nil, refl, refl))
+  tasks_front who front back before (own ∷ tasks) xs ys ends last inside (inl (made, others, end, later, next, parts, run, is, rest)) =
+      elim (aligned xs ys made others parts) [
+        | inl (zs, one, two) ↦
+            let both : All (Contains front) (made ++ zs) = subst (All (Contains front)) one inside in
+            let tail = tasks_front who front back next tasks zs ys later last (all_back (Contains front) made zs both) (subst (λ es. TasksRun conduct who (front ++ back) next tasks es later last) two rest) in
+            (end ∷ tail.0, tail.1, inl (made, zs, end, tail.0, next, one, well.whole who own.place own.task.work front back before next made (Some end) (all_front (Contains front) made zs both) run, refl, tail.2))
+        | inr (y, zs, one) ↦
+            unended who front before own tasks xs (well.cut who own.place own.task.work front back before next xs y zs (Some end) inside (subst (λ es. conduct.does who own.place own.task.work (front ++ back) before es (Some end) next) one run))
+      ]
+  tasks_front who front back before (own ∷ tasks) xs ys ends last inside (inr (run, none)) = cut_or_whole who front back before last own tasks xs ys inside run
+
+  -- ---- a phase
+
+  -- a worker's run, apart from what it leaves
+  record Ran (tasks : List Task) (before : ℕ → State) (entries : List Entry) (worker : Worker) (ends : List E) (last : State) : Type 0 where
+    own : List Assigned
+    are : TasksAt tasks worker.tasks own
+    runs : TasksRun conduct (who_of worker) entries (conduct.opens before worker) own (of_seat worker.seat entries) ends last
+
+  abbrev AllRan : List Task → (ℕ → State) → List Entry → List Worker → List (List E) → List State → Type 0
+  AllRan tasks before entries [] [] [] = Unit {0}
+  AllRan tasks before entries (w ∷ ws) (own ∷ ends) (last ∷ lasts) = Ran tasks before entries w own last × AllRan tasks before entries ws ends lasts
+  AllRan tasks before entries ws ends lasts = ⊥
+
+  workers_front : (tasks : List Task) (before : ℕ → State) (xs ys : List Entry) (after : ℕ → State) (ws : List Worker) (ends : List (List E)) → AllZip (WorkerRun conduct tasks before (xs ++ ys) after) ws ends
+      → (ends' : List (List E)) × (lasts : List State) × (length lasts ≡ length ws) × AllRan tasks before xs ws ends' lasts
+  workers_front tasks before xs ys after [] [] all = ([], [], refl, tt)
+  workers_front tasks before xs ys after [] (own ∷ ends) all = absurd all
+  workers_front tasks before xs ys after (w ∷ ws) [] all = absurd all
+  workers_front tasks before xs ys after (w ∷ ws) (own ∷ ends) all =
+      let run = all.0 in
+      let inside : All (Contains xs) (of_seat w.seat xs) = λ k d below. of_filter (λ (e : Entry). e.seat == w.seat) xs (get_or (of_seat w.seat xs) k d) (All-contains_itself (of_seat w.seat xs) k d below) in
+      let cut = tasks_front (who_of w) xs ys (conduct.opens before w) run.own (of_seat w.seat xs) (of_seat w.seat ys) own run.last inside
+      (subst (λ es. TasksRun conduct (who_of w) (xs ++ ys) (conduct.opens before w) run.own es own run.last) (seat_parts w.seat xs ys) run.runs) in
+      let rest = workers_front tasks before xs ys after ws ends all.1 in
+      (cut.0 ∷ rest.0, cut.1 ∷ rest.1, ap suc rest.2, (record { own = run.own; are = run.are; runs = cut.2 }, rest.3))
+
+  -- with states that agree with what is left, each run is a worker's
+  with_left : (tasks : List Task) (before : ℕ → State) (entries : List Entry) (after : ℕ → State) (ws : List Worker) (ends : List (List E)) (lasts : List State) → AllRan tasks before entries ws ends lasts
+      → AllZip (λ w last. conduct.leaves w last after) ws lasts → AllZip (WorkerRun conduct tasks before entries after) ws ends
+  with_left tasks before entries after [] [] [] all left = tt
+  with_left tasks before entries after [] [] (last ∷ lasts) all left = tt
+  with_left tasks before entries after [] (own ∷ ends) lasts all left = absurd all
+  with_left tasks before entries after (w ∷ ws) [] lasts all left = absurd all
+  with_left tasks before entries after (w ∷ ws) (own ∷ ends) [] all left = absurd all
+  with_left tasks before entries after (w ∷ ws) (own ∷ ends) (last ∷ lasts) all left = (
+    record { own = (all.0).own; are = (all.0).are; last = last; runs = (all.0).runs; leaves = left.0 },
+    with_left tasks before entries after ws ends lasts all.1 left.1,
+  )
+
+  phase_front : (number : ℕ) (phase : Phase) (before : ℕ → State) (xs ys : List Entry) (ends : List (List E)) (after : ℕ → State) → PhaseRun conduct phase.tasks (conduct.workers number) before (xs ++ ys) ends after
+      → (ends' : List (List E)) × (after' : ℕ → State) × PhaseRun conduct phase.tasks (conduct.workers number) before xs ends' after'
+  phase_front number phase before xs ys ends after run =
+      let cut = workers_front phase.tasks before xs ys after (conduct.workers number) ends run.runs in
+      let left = well.joins number before cut.1 cut.2 in (
+        cut.0,
+        left.0,
+        record {
+          seats = all_front (λ (e : Entry). Contains (map (λ (w : Worker). w.seat) (conduct.workers number)) e.seat ⊎ conduct.bystands e) xs ys run.seats;
+          runs = with_left phase.tasks before xs left.0 (conduct.workers number) cut.0 cut.1 cut.3 left.1;
+          kept = left.2;
+        },
+      )
+
+-- ---- phases
+
+module _ {State Ends : Type 0} (way : Way State Ends)
+    (works_front : (number : ℕ) (phase : Phase) (before : ℕ → State) (xs ys : List Entry) (ends : Ends) (after : ℕ → State) → way.works number phase before (xs ++ ys) ends after
+    → (ends' : Ends) × (after' : ℕ → State) × way.works number phase before xs ends' after') where
+  abbrev PhasesCut : ℕ → (ℕ → State) → List Phase → List Entry → Type 0
+  PhasesCut number before phases entries = (ends : List Ends) × PhasesRun way number before phases entries ends
+
+  unbegun : (number : ℕ) (before : ℕ → State) (phases : List Phase) (xs : List Entry) → xs ≡ [] → PhasesCut number before phases xs
+  unbegun number before phases xs nil = ([], subst (λ es. PhasesRun way number before phases es []) (sym nil) (no_phase way number before phases))
+
+  pub phases_front : (number : ℕ) (before : ℕ → State) (phases : List Phase) (xs ys : List Entry) (ends : List Ends) → PhasesRun way number before phases (xs ++ ys) ends → PhasesCut number before phases xs
+  phases_front number before [] xs ys ends run = unbegun number before [] xs (nil_front xs ys run.0)
+  phases_front number before (phase ∷ phases) xs ys ends (inl none) = unbegun number before (phase ∷ phases) xs (nil_front xs ys none.0)
+  phases_front number before (phase ∷ phases) [] ys ends (inr r) = unbegun number before (phase ∷ phases) [] refl
+  phases_front number before (phase ∷ phases) (x ∷ xs) ys ends (inr (clock, made, others, first, later, after, parts, begins, run, are, go)) =
+      let same : x ≡ clock = cc (parts) in
+      elim (aligned xs ys made others (cc (parts))) [
+        | inl (zs, one, two) ↦
+            let rest = phases_front (number + 1) after phases zs ys later (subst (λ es. PhasesRun way (number + 1) after phases es later) two go) in
+            (first ∷ rest.0, inr (clock, made, zs, first, rest.0, after, cc (same, one), begins, run, refl, rest.1))
+        | inr (y, zs, one) ↦
+            let cut = works_front number phase before xs (y ∷ zs) first after (subst (λ es. way.works number phase before es first after) one run) in
+            (cut.0 ∷ [], inr (clock, xs, [], cut.0, [], cut.1, cc (same, append-nil xs), begins, cut.2, refl, no_phase way (number + 1) cut.1 phases))
+      ]
 
 -- ---- no two workers of a phase are of one gateway
 
@@ -98,142 +206,74 @@ workers_apart gateways before tasks (hand ∷ hs) apart = (
   workers_apart gateways (seats_after before 1) tasks hs apart.1,
 )
 
-apart_after : (script : Script) (before : ℕ) (o : Option Phase) → AreApart (workers_after script before o)
-apart_after script before None = tt
-apart_after script before (Some phase) =
-    let gateways = gateway_count script.gateways in
+apart_after : (setting : Setting) (before : ℕ) (o : Option Phase) → AreApart (workers_after setting.script before o)
+apart_after setting before None = tt
+apart_after setting before (Some phase) =
+    let gateways = gateway_count setting.script.gateways in
     workers_apart gateways before phase.tasks (hands_of gateways phase.tasks) ((joins_from (λ (h : Hand). Unit {0}) gateways [] 0 phase.tasks).apart tt)
 
-apart_of : (script : Script) (number : ℕ) → AreApart (workers_of script number)
-apart_of script number = apart_after script (seats_before script number) (slice_get script.phases number)
+apart_of : (setting : Setting) (number : ℕ) → AreApart (workers_of setting.script number)
+apart_of setting number = apart_after setting (seats_before setting.script number) (slice_get setting.script.phases number)
 
--- ---- a phase
+-- ---- what the script's workers leave
 
--- what each worker leaves, over the views before
-abbrev left_by : List Worker → List (Option Use) → Views → Views
+-- what each worker leaves, over what gateways held before
+abbrev left_by : List Worker → List Holding → Holdings → Holdings
 left_by [] lasts views = views
 left_by (w ∷ ws) [] views = views
-left_by (w ∷ ws) (last ∷ lasts) views = with_view (left_by ws lasts views) w.gateway last
+left_by (w ∷ ws) (last ∷ lasts) views = with_holding (left_by ws lasts views) w.gateway last
 
--- a worker's run, apart from what it leaves
-record Runs (script : Script) (tasks : List Task) (views : Views) (entries : List Entry) (worker : Worker) (ends : List End) (last : Option Use) : Type 0 where
-  own : List Task
-  are : TasksAt tasks worker.tasks own
-  runs : TasksRun script (view_of views worker.gateway) own (of_seat worker.seat entries) ends last
-
-abbrev AllRun : Script → List Task → Views → List Entry → List Worker → List (List End) → List (Option Use) → Type 0
-AllRun script tasks views entries [] [] [] = Unit {0}
-AllRun script tasks views entries (w ∷ ws) (own ∷ ends) (last ∷ lasts) = Runs script tasks views entries w own last × AllRun script tasks views entries ws ends lasts
-AllRun script tasks views entries ws ends lasts = ⊥
-
-own_view : (views : Views) (o : Option ℕ) (gateway : ℕ) (used : Option Use) → o ≡ Some gateway → with_view views o used gateway ≡ used
+own_view : (views : Holdings) (o : Option ℕ) (gateway : ℕ) (used : Holding) → o ≡ Some gateway → with_holding views o used gateway ≡ used
 own_view views None gateway used is = absurd (cc (is))
 own_view views (Some own) gateway used is =
     let same : own ≡ gateway = cc (is) in let e : (gateway == own) ≡ true = grind (arith, nat_tests, same) in rw e refl
 
-other_view : (views : Views) (o : Option ℕ) (gateway : ℕ) (used : Option Use) → o ≢ Some gateway → with_view views o used gateway ≡ views gateway
+other_view : (views : Holdings) (o : Option ℕ) (gateway : ℕ) (used : Holding) → o ≢ Some gateway → with_holding views o used gateway ≡ views gateway
 other_view views None gateway used differ = refl
 other_view views (Some own) gateway used differ =
     let apart : own ≢ gateway = λ is. differ (ap (λ n. Some n) is) in let e : (gateway == own) ≡ false = grind (arith, nat_tests, apart) in rw e refl
 
 -- a gateway without a worker keeps its view
-kept_by : (views : Views) (ws : List Worker) (lasts : List (Option Use)) (gateway : ℕ) → All (λ (w : Worker). w.gateway ≢ Some gateway) ws → left_by ws lasts views gateway ≡ views gateway
+kept_by : (views : Holdings) (ws : List Worker) (lasts : List (Holding)) (gateway : ℕ) → All (λ (w : Worker). w.gateway ≢ Some gateway) ws → left_by ws lasts views gateway ≡ views gateway
 kept_by views [] lasts gateway none = refl
 kept_by views (w ∷ ws) [] gateway none = refl
 kept_by views (w ∷ ws) (last ∷ lasts) gateway none =
     other_view (left_by ws lasts views) w.gateway gateway last (All-head (λ (x : Worker). x.gateway ≢ Some gateway) w ws none)
     ∙ kept_by views ws lasts gateway (All-tail (λ (x : Worker). x.gateway ≢ Some gateway) w ws none)
 
-module _ (script : Script) (tasks : List Task) (views : Views) (entries : List Entry) where
-  -- with views that agree with what is left, each run is a worker's
-  abbrev Agree : Views → List Worker → List (Option Use) → Type 0
-  Agree after [] lasts = Unit {0}
-  Agree after (w ∷ ws) [] = Unit {0}
-  Agree after (w ∷ ws) (last ∷ lasts) = ((gateway : ℕ) → w.gateway ≡ Some gateway → after gateway ≡ last) × Agree after ws lasts
+-- a worker leaves what it holds last
+abbrev Left : Holdings → Worker → Holding → Type 0
+Left after w last = (gateway : ℕ) → w.gateway ≡ Some gateway → after gateway ≡ last
 
-  -- another worker's view in front changes nothing for those that are apart from it
-  agree_more : (after : Views) (o : Option ℕ) (used : Option Use) (ws : List Worker) (lasts : List (Option Use)) → ((gateway : ℕ) → o ≡ Some gateway → All (λ (x : Worker). x.gateway ≢ Some gateway) ws) → Agree after ws lasts → Agree (with_view after o used) ws lasts
-  agree_more after o used [] lasts apart own = tt
-  agree_more after o used (w ∷ ws) [] apart own = tt
-  agree_more after o used (w ∷ ws) (last ∷ lasts) apart own = (
-    λ gateway is. other_view after o gateway used (λ same. All-head (λ (x : Worker). x.gateway ≢ Some gateway) w ws (apart gateway same) is) ∙ own.0 gateway is,
-    agree_more after o used ws lasts (λ gateway same. All-tail (λ (x : Worker). x.gateway ≢ Some gateway) w ws (apart gateway same)) own.1,
-  )
+-- another worker's holding in front changes nothing for those that are apart from it
+agree_more : (after : Holdings) (o : Option ℕ) (used : Holding) (ws : List Worker) (lasts : List Holding) → ((gateway : ℕ) → o ≡ Some gateway → All (λ (x : Worker). x.gateway ≢ Some gateway) ws) → AllZip (Left after) ws lasts → AllZip (Left (with_holding after o used)) ws lasts
+agree_more after o used [] [] apart own = tt
+agree_more after o used [] (last ∷ lasts) apart own = absurd own
+agree_more after o used (w ∷ ws) [] apart own = absurd own
+agree_more after o used (w ∷ ws) (last ∷ lasts) apart own = (
+  λ gateway is. other_view after o gateway used (λ same. All-head (λ (x : Worker). x.gateway ≢ Some gateway) w ws (apart gateway same) is) ∙ own.0 gateway is,
+  agree_more after o used ws lasts (λ gateway same. All-tail (λ (x : Worker). x.gateway ≢ Some gateway) w ws (apart gateway same)) own.1,
+)
 
-  agrees : (ws : List Worker) (lasts : List (Option Use)) → AreApart ws → Agree (left_by ws lasts views) ws lasts
-  agrees [] lasts apart = tt
-  agrees (w ∷ ws) [] apart = tt
-  agrees (w ∷ ws) (last ∷ lasts) apart = (
-    λ gateway is. own_view (left_by ws lasts views) w.gateway gateway last is,
-    agree_more (left_by ws lasts views) w.gateway last ws lasts apart.0 (agrees ws lasts apart.1),
-  )
+agrees : (views : Holdings) (ws : List Worker) (lasts : List Holding) → length lasts ≡ length ws → AreApart ws → AllZip (Left (left_by ws lasts views)) ws lasts
+agrees views [] [] long apart = tt
+agrees views [] (last ∷ lasts) long apart = absurd (omega (arith, long))
+agrees views (w ∷ ws) [] long apart = absurd (omega (arith, long))
+agrees views (w ∷ ws) (last ∷ lasts) long apart = (
+  λ gateway is. own_view (left_by ws lasts views) w.gateway gateway last is,
+  agree_more (left_by ws lasts views) w.gateway last ws lasts apart.0 (agrees views ws lasts (omega (arith, long)) apart.1),
+)
 
-  zipped : (after : Views) (ws : List Worker) (ends : List (List End)) (lasts : List (Option Use)) → AllRun script tasks views entries ws ends lasts → Agree after ws lasts → AllZip (WorkerRun script tasks views entries after) ws ends
-  zipped after [] [] [] all agree = tt
-  zipped after [] [] (last ∷ lasts) all agree = tt
-  zipped after [] (own ∷ ends) lasts all agree = absurd all
-  zipped after (w ∷ ws) [] lasts all agree = absurd all
-  zipped after (w ∷ ws) (own ∷ ends) [] all agree = absurd all
-  zipped after (w ∷ ws) (own ∷ ends) (last ∷ lasts) all agree = (
-    record { own = (all.0).own; are = (all.0).are; last = last; runs = (all.0).runs; leaves = agree.0 },
-    zipped after ws ends lasts all.1 agree.1,
-  )
-
-seat_parts : (seat : ℕ) (xs ys : List Entry) → of_seat seat (xs ++ ys) ≡ of_seat seat xs ++ of_seat seat ys
-seat_parts seat xs ys = filter-append (λ (e : Entry). e.seat == seat) xs ys
-
-workers_front : (script : Script) (tasks : List Task) (views : Views) (xs ys : List Entry) (after : Views) (ws : List Worker) (ends : List (List End)) → AllZip (WorkerRun script tasks views (xs ++ ys) after) ws ends
-    → (ends' : List (List End)) × (lasts : List (Option Use)) × AllRun script tasks views xs ws ends' lasts
-workers_front script tasks views xs ys after [] ends all = ([], [], tt)
-workers_front script tasks views xs ys after (w ∷ ws) [] all = absurd all
-workers_front script tasks views xs ys after (w ∷ ws) (own ∷ ends) all =
-    let run = all.0 in
-    let cut = tasks_front script (view_of views w.gateway) run.own (of_seat w.seat xs) (of_seat w.seat ys) own run.last
-    (subst (λ es. TasksRun script (view_of views w.gateway) run.own es own run.last) (seat_parts w.seat xs ys) run.runs) in
-    let rest = workers_front script tasks views xs ys after ws ends all.1 in
-    (cut.0 ∷ rest.0, cut.1 ∷ rest.1, (record { own = run.own; are = run.are; runs = cut.2 }, rest.2))
-
-phase_front : (script : Script) (tasks : List Task) (workers : List Worker) (views : Views) (xs ys : List Entry) (ends : List (List End)) (after : Views) → AreApart workers → PhaseRun script tasks workers views (xs ++ ys) ends after
-    → (ends' : List (List End)) × (after' : Views) × PhaseRun script tasks workers views xs ends' after'
-phase_front script tasks workers views xs ys ends after apart run =
-    let cut = workers_front script tasks views xs ys after workers ends run.runs in (
-      cut.0,
-      left_by workers cut.1 views,
-      record {
-        seats = all_front (λ (e : Entry). Contains (map (λ (w : Worker). w.seat) workers) e.seat) xs ys run.seats;
-        runs = zipped script tasks views xs (left_by workers cut.1 views) workers cut.0 cut.1 cut.2 (agrees script tasks views xs workers cut.1 apart);
-        kept = λ gateway none. kept_by views workers cut.1 gateway none;
-      },
-    )
-
--- ---- phases
-
-abbrev PhasesCut : Script → ℕ → Views → List Phase → List Entry → Type 0
-PhasesCut script number views phases entries = (ends : List (List (List End))) × PhasesRun script number views phases entries ends
-
-unbegun : (script : Script) (number : ℕ) (views : Views) (phases : List Phase) (xs : List Entry) → xs ≡ [] → PhasesCut script number views phases xs
-unbegun script number views [] xs nil = ([], (nil, refl))
-unbegun script number views (phase ∷ phases) xs nil = ([], inl (nil, refl))
-
-phases_front : (script : Script) (number : ℕ) (views : Views) (phases : List Phase) (xs ys : List Entry) (ends : List (List (List End))) → PhasesRun script number views phases (xs ++ ys) ends → PhasesCut script number views phases xs
-phases_front script number views [] xs ys ends run = unbegun script number views [] xs (nil_front xs ys run.0)
-phases_front script number views (phase ∷ phases) xs ys ends (inl none) = unbegun script number views (phase ∷ phases) xs (nil_front xs ys none.0)
-phases_front script number views (phase ∷ phases) [] ys ends (inr r) = unbegun script number views (phase ∷ phases) [] refl
-phases_front script number views (phase ∷ phases) (x ∷ xs) ys ends (inr (clock, made, others, first, later, after, parts, begins, run, are, goes)) =
-    let same : x ≡ clock = cc (parts) in
-    elim (aligned xs ys made others (cc (parts))) [
-      | inl (zs, one, two) ↦ elim goes [
-        | inl (none, last) ↦
-            let nil : zs ≡ [] = nil_front zs ys (sym two ∙ none) in
-            (first ∷ [], inr (clock, made, [], first, [], after, cc (same, one, nil), begins, run, refl, inl (refl, refl)))
-        | inr (done, go) ↦
-            let rest = phases_front script (number + 1) after phases zs ys later (subst (λ es. PhasesRun script (number + 1) after phases es later) two go) in
-            (first ∷ rest.0, inr (clock, made, zs, first, rest.0, after, cc (same, one), begins, run, refl, inr (done, rest.1)))
-      ]
-      | inr (y, zs, one) ↦
-          let cut = phase_front script phase.tasks (workers_of script number) views xs (y ∷ zs) first after (apart_of script number) (subst (λ es. PhaseRun script phase.tasks (workers_of script number) views es first after) one run) in
-          (cut.0 ∷ [], inr (clock, xs, [], cut.0, [], cut.1, cc (same, append-nil xs), begins, cut.2, refl, inl (refl, refl)))
-    ]
+script_is_cut_well : (setting : Setting) → IsCutWell (by_script setting)
+script_is_cut_well setting = record {
+  cut = λ who place w front back before after xs y rest end inside run. (before, task_cut setting who place w before after xs y rest end run);
+  whole = λ who place w front back before after made end inside run. run;
+  joins = λ number before lasts long. (
+    left_by (workers_of setting.script number) lasts before,
+    agrees before (workers_of setting.script number) lasts long (apart_of setting number),
+    λ gateway none. kept_by before (workers_of setting.script number) lasts gateway none,
+  );
+}
 
 -- ---- journals
 
@@ -247,7 +287,7 @@ journal_front tick front others is = record {
   small = Each-front (λ before e. e.moment.ms < 2 ^ 48) front others is.small;
 }
 
-pub front_is_lawful : (script : Script) (front others : List Entry) → IsLawfulJournal script (front ++ others) → IsLawfulJournal script front
-front_is_lawful script front others (ends, run) =
-    let cut = phases_front script 0 no_views script.phases front others ends run.phases in
-    (cut.0, record { kept = journal_front script.rules.tick.ms front others run.kept; phases = cut.1 })
+pub front_is_lawful : (setting : Setting) (front others : List Entry) → IsLawfulJournal setting (front ++ others) → IsLawfulJournal setting front
+front_is_lawful setting front others (ends, run) =
+    let cut = phases_front (by_workers setting) (phase_front (by_script setting) (script_is_cut_well setting)) 0 none_held setting.script.phases front others ends run.phases in
+    (cut.0, record { kept = journal_front setting.script.rules.tick.ms front others run.kept; phases = cut.1 })

@@ -1,60 +1,72 @@
 -- Runs in line one after another.
-use Rattle.std.proofs.Common.{◌≡◌, ℕ, zero, suc, ◌+◌, ◌<◌, ◌≤◌, List, [], ◌∷◌, ◌++◌, length, map, take, drop, get_or, refl, sym, ◌∙◌, ap, subst, inl, inr, arith, append_assoc, take-append-drop}
+use Rattle.std.proofs.Common.{◌≡◌, ℕ, zero, suc, ◌+◌, ◌<◌, ◌≤◌, ◌==◌, Bool, true, false, cond, Option, Some, None, List, [], ◌∷◌, ◌++◌, length, map, take, drop, get_or, refl, sym, ◌∙◌, ap, subst, inl, inr, arith, append_assoc, take-append-drop}
 use Rattle.std.specs.List.{All, AllByRecursion}
+use Rattle.std.proofs.lemmas.Bool.Decides.{nat_tests}
 use Rattle.std.proofs.lemmas.List.Elements.{All-head, All-nil, All-tail}
 use Rattle.std.proofs.lemmas.List.{take_more}
 use Rattle.world_core.specs.declared.entry.Entry.{Entry}
 use Rattle.script_workers.specs.Hands.{gateway_of, hands_of_task}
 use Rattle.script_workers.specs.declared.hand.Hand.{Hand}
-use Rattle.script_workers.specs.declared.phase.Phase.{Phase}
-use Rattle.script_core.specs.declared.script.Script.{Script}
 use Rattle.script_workers.specs.declared.task.Task.{Task}
-use Rattle.lifecycle_core.specs.InLine.{Duty, duties_from, InLine, PhasesInLine}
-use Rattle.lifecycle_core.specs.Tasks.{End, view_after}
-use Rattle.lifecycle_core.specs.Views.{Views, view_of, with_view}
+use Rattle.lifecycle_core.specs.Holdings.{Holdings, holding_of, with_holding}
+use Rattle.lifecycle_core.specs.InLine.{Duty, InLine, duties_from, who_does}
+use Rattle.lifecycle_core.specs.Setting.{Setting}
+use Rattle.lifecycle_core.specs.Tasks.{End}
 use Rattle.lifecycle_core.proofs.phases.TaskRuns.{MayBegin}
 
 -- the work of each duty may begin
-abbrev pub MayAllBegin : Script → List Duty → Type 0
-MayAllBegin script duties = AllByRecursion (λ d. MayBegin script d.task.work) duties
+abbrev pub MayAllBegin : Setting → List Duty → Type 0
+MayAllBegin setting duties = AllByRecursion (λ d. MayBegin setting d.task.work) duties
 
-module _ (script : Script) (seat : Hand → ℕ) where
+at_gateway : (views : Holdings) (gateway other : ℕ) (b : Bool) → (other == gateway) ≡ b → views other ≡ cond b (views gateway) (views other)
+at_gateway views gateway other true is = let same : other ≡ gateway = grind (arith, nat_tests, is) in ap views same
+at_gateway views gateway other false is = refl
+
+-- what is held stays so where it is set
+pub same_holdings : (views : Holdings) (o : Option ℕ) → views ≡ with_holding views o (holding_of views o)
+same_holdings views None = refl
+same_holdings views (Some gateway) = λ i other. at_gateway views gateway other (other == gateway) refl i
+
+module _ (setting : Setting) (seat : Hand → ℕ) where
   -- one after the other, where the first came to all its ends
-  pub both : (views mid after : Views) (one other : List Duty) (made more : List Entry) (ends later : List End)
-      → InLine script seat views one made ends mid → length ends ≡ length one → InLine script seat mid other more later after
-      → InLine script seat views (one ++ other) (made ++ more) (ends ++ later) after
+  pub both : (views mid after : Holdings) (one other : List Duty) (made more : List Entry) (ends later : List End)
+      → InLine setting seat views one made ends mid → length ends ≡ length one → InLine setting seat mid other more later after
+      → InLine setting seat views (one ++ other) (made ++ more) (ends ++ later) after
   both views mid after [] other made more ends later first same rest =
-      subst (λ (es : List Entry). InLine script seat views other (es ++ more) (ends ++ later) after) (sym first.0)
-      (subst (λ (l : List End). InLine script seat views other more (l ++ later) after) (sym first.1)
-      (subst (λ (v : Views). InLine script seat v other more later after) first.2 rest))
+      subst (λ (es : List Entry). InLine setting seat views other (es ++ more) (ends ++ later) after) (sym first.0)
+      (subst (λ (l : List End). InLine setting seat views other more (l ++ later) after) (sym first.1)
+      (subst (λ (v : Holdings). InLine setting seat v other more later after) first.2 rest))
   both views mid after (d ∷ ds) other made more ends later (inl r) same rest =
-      let n : length r.3 ≡ length ds = omega (arith, same, ap (length {A = End}) r.7) in
+      let n : length r.3 ≡ length ds = omega (arith, same, ap (length {A = End}) r.8) in
       inl (
         r.0,
         r.1 ++ more,
         r.2,
         r.3 ++ later,
-        ap (λ (l : List Entry). l ++ more) r.4 ∙ append_assoc r.0 r.1 more,
-        r.5,
+        r.4,
+        ap (λ (l : List Entry). l ++ more) r.5 ∙ append_assoc r.0 r.1 more,
         r.6,
-        ap (λ (l : List End). l ++ later) r.7,
-        both (with_view views (gateway_of d.hand) (view_after (view_of views (gateway_of d.hand)) r.0 r.2)) mid after ds other r.1 more r.3 later r.8 n rest,
+        r.7,
+        ap (λ (l : List End). l ++ later) r.8,
+        both (with_holding views (gateway_of d.hand) r.4) mid after ds other r.1 more r.3 later r.9 n rest,
       )
-  both views mid after (d ∷ ds) other made more ends later (inr r) same rest = absurd (omega (arith, same, ap (length {A = End}) r.2))
+  both views mid after (d ∷ ds) other made more ends later (inr r) same rest = absurd (omega (arith, same, ap (length {A = End}) r.3))
 
-  nothing : (views : Views) (duties : List Duty) → MayAllBegin script duties → InLine script seat views duties [] [] views
+  nothing : (views : Holdings) (duties : List Duty) → MayAllBegin setting duties → InLine setting seat views duties [] [] views
   nothing views [] begins = (refl, refl, refl)
-  nothing views (d ∷ ds) begins = inr (All-nil (λ e. e.seat ≡ seat d.hand), begins.0 (view_of views (gateway_of d.hand)), refl, refl)
+  nothing views (d ∷ ds) begins =
+      let held = holding_of views (gateway_of d.hand) in
+      inr (held, All-nil (λ e. e.seat ≡ seat d.hand), begins.0 (who_does seat d.hand) d.place held, refl, same_holdings views (gateway_of d.hand))
 
   -- and nothing after it
-  pub cut : (views after : Views) (one other : List Duty) (made : List Entry) (ends : List End) → MayAllBegin script other
-      → InLine script seat views one made ends after → InLine script seat views (one ++ other) made ends after
+  pub cut : (views after : Holdings) (one other : List Duty) (made : List Entry) (ends : List End) → MayAllBegin setting other
+      → InLine setting seat views one made ends after → InLine setting seat views (one ++ other) made ends after
   cut views after [] other made ends begins first =
-      subst (λ (es : List Entry). InLine script seat views other es ends after) (sym first.0)
-      (subst (λ (l : List End). InLine script seat views other [] l after) (sym first.1)
-      (subst (λ (v : Views). InLine script seat views other [] [] v) (sym first.2) (nothing views other begins)))
+      subst (λ (es : List Entry). InLine setting seat views other es ends after) (sym first.0)
+      (subst (λ (l : List End). InLine setting seat views other [] l after) (sym first.1)
+      (subst (λ (v : Holdings). InLine setting seat views other [] [] v) (sym first.2) (nothing views other begins)))
   cut views after (d ∷ ds) other made ends begins (inl r) =
-      inl (r.0, r.1, r.2, r.3, r.4, r.5, r.6, r.7, cut (with_view views (gateway_of d.hand) (view_after (view_of views (gateway_of d.hand)) r.0 r.2)) after ds other r.1 r.3 begins r.8)
+      inl (r.0, r.1, r.2, r.3, r.4, r.5, r.6, r.7, r.8, cut (with_holding views (gateway_of d.hand) r.4) after ds other r.1 r.3 begins r.9)
   cut views after (d ∷ ds) other made ends begins (inr r) = inr r
 
 -- ---- the duties of tasks
@@ -87,22 +99,16 @@ duties_more gateways place tasks task below is =
 pub duties_parts : (gateways place : ℕ) (tasks : List Task) → duties_from gateways 0 tasks ≡ duties_from gateways 0 (take place tasks) ++ duties_from gateways (0 + length (take place tasks)) (drop place tasks)
 duties_parts gateways place tasks = ap (duties_from gateways 0) (sym (take-append-drop place tasks)) ∙ duties_append gateways 0 (take place tasks) (drop place tasks)
 
-one_begins : (script : Script) (place : ℕ) (task : Task) (hs : List Hand) (rest : List Duty) → MayBegin script task.work
-    → MayAllBegin script rest → MayAllBegin script (map (λ hand. record { place = place; hand = hand; task = task }) hs ++ rest)
-one_begins script place task [] rest begins all = all
-one_begins script place task (h ∷ hs) rest begins all = (begins, one_begins script place task hs rest begins all)
+one_begins : (setting : Setting) (place : ℕ) (task : Task) (hs : List Hand) (rest : List Duty) → MayBegin setting task.work
+    → MayAllBegin setting rest → MayAllBegin setting (map (λ hand. record { place = place; hand = hand; task = task }) hs ++ rest)
+one_begins setting place task [] rest begins all = all
+one_begins setting place task (h ∷ hs) rest begins all = (begins, one_begins setting place task hs rest begins all)
 
 -- the duties of tasks that may begin may begin
-pub duties_begin : (script : Script) (gateways place : ℕ) (tasks : List Task) → All (λ t. MayBegin script t.work) tasks
-    → MayAllBegin script (duties_from gateways place tasks)
+pub duties_begin : (setting : Setting) (gateways place : ℕ) (tasks : List Task) → All (λ t. MayBegin setting t.work) tasks
+    → MayAllBegin setting (duties_from gateways place tasks)
 unfolding duties_from
-duties_begin script gateways place [] all = tt
-duties_begin script gateways place (task ∷ tasks) all =
-    one_begins script place task (hands_of_task gateways place task.work) (duties_from gateways (place + 1) tasks) (All-head (λ t. MayBegin script t.work) task tasks all)
-    (duties_begin script gateways (place + 1) tasks (All-tail (λ t. MayBegin script t.work) task tasks all))
-
--- ---- phases
-
-pub no_phase_yet : (script : Script) (number : ℕ) (views : Views) (phases : List Phase) → PhasesInLine script number views phases [] []
-no_phase_yet script number views [] = (refl, refl)
-no_phase_yet script number views (phase ∷ phases) = inl (refl, refl)
+duties_begin setting gateways place [] all = tt
+duties_begin setting gateways place (task ∷ tasks) all =
+    one_begins setting place task (hands_of_task gateways place task.work) (duties_from gateways (place + 1) tasks) (All-head (λ t. MayBegin setting t.work) task tasks all)
+    (duties_begin setting gateways (place + 1) tasks (All-tail (λ t. MayBegin setting t.work) task tasks all))

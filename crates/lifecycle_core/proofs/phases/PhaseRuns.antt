@@ -1,24 +1,25 @@
 -- A phase whose tasks are done in line is a run of the phase.
 use Rattle.list_core.proofs.Membership.{contains_first, contains_later}
 use Rattle.std.proofs.lemmas.Bool.{or_left, or_right}
-use Rattle.std.proofs.Common.{◌≡◌, ◌≢◌, ℕ, suc, ◌+◌, ◌<◌, ◌≤◌, Bool, true, false, ◌||◌, cond, List, [], ◌∷◌, length, map, refl, sym, ◌∙◌, ap, subst, inl, inr, arith}
+use Rattle.std.proofs.Common.{◌≡◌, ◌≢◌, ◌⊎◌, ℕ, suc, ◌+◌, ◌<◌, ◌≤◌, Bool, true, false, ◌||◌, cond, List, [], ◌∷◌, length, map, refl, sym, ◌∙◌, ap, subst, inl, inr, arith}
 use Rattle.std.specs.Prelude.{◌==◌, Option, Some, slice_get}
 use Rattle.std.specs.List.{All, AllByRecursion, AllZip, Contains, zip, list_any}
 use Rattle.std.proofs.lemmas.Bool.Decides.{nat_tests}
-use Rattle.std.proofs.lemmas.List.Elements.{All-append, All-head, All-nil, All-tail}
+use Rattle.std.proofs.lemmas.List.Elements.{All-append, All-head, All-nil, All-tail, All-weaker}
 use Rattle.std.proofs.lemmas.List.{length-map}
 use Rattle.std.proofs.lemmas.Option.{slice_get_within, get_or_from_slice_get}
 use Rattle.world_core.specs.declared.entry.Entry.{Entry}
 use Rattle.script_workers.specs.Hands.{same_hand, gateway_of, hands_of, places_from, workers_from, greatest}
 use Rattle.script_workers.specs.declared.hand.Hand.{Hand}
 use Rattle.script_workers.specs.declared.hand.Hand.TheVariants as hands
-use Rattle.script_core.specs.declared.script.Script.{Script}
 use Rattle.script_workers.specs.declared.task.Task.{Task}
 use Rattle.script_workers.specs.declared.worker.Worker.{Worker}
-use Rattle.lifecycle_core.specs.InLine.{Duty, duties_from, seat_of, InLine}
-use Rattle.lifecycle_core.specs.Phases.{TasksAt, TasksRun, WorkerRun, PhaseRun, AreDone, CameTo, of_seat}
-use Rattle.lifecycle_core.specs.Tasks.{End, view_after}
-use Rattle.lifecycle_core.specs.Views.{Use, Views, view_of, with_view}
+use Rattle.lifecycle_core.specs.Conducts.{AreDone, CameTo, PhaseRun, TasksAt, TasksRun, WorkerRun, of_seat}
+use Rattle.lifecycle_core.specs.Holdings.{Holding, Holdings, holding_of, with_holding}
+use Rattle.lifecycle_core.specs.InLine.{Duty, InLine, duties_from, seat_of}
+use Rattle.lifecycle_core.specs.Phases.{by_script}
+use Rattle.lifecycle_core.specs.Setting.{Setting}
+use Rattle.lifecycle_core.specs.Tasks.{End}
 use Rattle.lifecycle_core.proofs.phases.Duties.{same_is, same_self, part, ends_by, tasks_of}
 use Rattle.lifecycle_core.proofs.phases.HandLists.{JoinsAll, joins_from, hands_in}
 use Rattle.lifecycle_core.proofs.phases.Places.{IsDuty, all_duties, places_are, places_in, tasks_at, upload_place}
@@ -58,44 +59,44 @@ placed_hands gateways tasks (d ∷ ds) all = (
   placed_hands gateways tasks ds all.1,
 )
 
-begins_at : (script : Script) (tasks : List Task) (place : ℕ) (task : Task) → All (λ t. MayBegin script t.work) tasks → slice_get tasks place ≡ Some task
-    → MayBegin script task.work
-begins_at script tasks place task all at =
-    subst (λ (t : Task). MayBegin script t.work) (get_or_from_slice_get tasks place task task at) (all place task (slice_get_within tasks place task at))
+begins_at : (setting : Setting) (tasks : List Task) (place : ℕ) (task : Task) → All (λ t. MayBegin setting t.work) tasks → slice_get tasks place ≡ Some task
+    → MayBegin setting task.work
+begins_at setting tasks place task all at =
+    subst (λ (t : Task). MayBegin setting t.work) (get_or_from_slice_get tasks place task task at) (all place task (slice_get_within tasks place task at))
 
-all_fit : (script : Script) (tasks : List Task) (gateways before : ℕ) (workers : List Worker) (hand : Hand) (worker : Worker) (ds : List Duty)
-    → All (λ t. MayBegin script t.work) tasks → IsWorkerOf gateways tasks before workers hand worker → AllByRecursion (IsDuty tasks) ds
-    → AllByRecursion (Fits script (seat_of workers) hand worker.seat) ds
-all_fit script tasks gateways before workers hand worker [] lawful is all = tt
-all_fit script tasks gateways before workers hand worker (d ∷ ds) lawful is all = (
-  record { same = is.same d.hand; other = is.other d.hand; upload = λ p e. ((all.0).upload p e).1; begins = begins_at script tasks d.place d.task lawful (all.0).at },
-  all_fit script tasks gateways before workers hand worker ds lawful is all.1,
+all_fit : (setting : Setting) (tasks : List Task) (gateways before : ℕ) (workers : List Worker) (hand : Hand) (worker : Worker) (ds : List Duty)
+    → All (λ t. MayBegin setting t.work) tasks → IsWorkerOf gateways tasks before workers hand worker → AllByRecursion (IsDuty tasks) ds
+    → AllByRecursion (Fits setting (seat_of workers) hand worker.seat) ds
+all_fit setting tasks gateways before workers hand worker [] lawful is all = tt
+all_fit setting tasks gateways before workers hand worker (d ∷ ds) lawful is all = (
+  record { same = is.same d.hand; other = is.other d.hand; upload = λ p e. ((all.0).upload p e).1; begins = begins_at setting tasks d.place d.task lawful (all.0).at },
+  all_fit setting tasks gateways before workers hand worker ds lawful is all.1,
 )
 
 -- ---- seats and views
 
-seated : (script : Script) (seat : Hand → ℕ) (seats : List ℕ) (views : Views) (ds : List Duty) (entries : List Entry) (ends : List End) (after : Views)
-    → AllByRecursion (λ d. Contains seats (seat d.hand)) ds → InLine script seat views ds entries ends after → All (λ e. Contains seats e.seat) entries
-seated script seat seats views [] entries ends after each run = subst (All (λ e. Contains seats e.seat)) (sym run.0) (All-nil (λ e. Contains seats e.seat))
-seated script seat seats views (d ∷ ds) entries ends after each (inl r) =
-    let rest = seated script seat seats (with_view views (gateway_of d.hand) (view_after (view_of views (gateway_of d.hand)) r.0 r.2)) ds r.1 r.3 after each.1 r.8 in
-    subst (All (λ e. Contains seats e.seat)) (sym r.4)
-    (All-append (λ e. Contains seats e.seat) r.0 r.1 (λ k x below. subst (Contains seats) (sym (r.5 k x below)) each.0) rest)
-seated script seat seats views (d ∷ ds) entries ends after each (inr r) = λ k x below. subst (Contains seats) (sym (r.0 k x below)) each.0
+seated : (setting : Setting) (seat : Hand → ℕ) (seats : List ℕ) (views : Holdings) (ds : List Duty) (entries : List Entry) (ends : List End) (after : Holdings)
+    → AllByRecursion (λ d. Contains seats (seat d.hand)) ds → InLine setting seat views ds entries ends after → All (λ e. Contains seats e.seat) entries
+seated setting seat seats views [] entries ends after each run = subst (All (λ e. Contains seats e.seat)) (sym run.0) (All-nil (λ e. Contains seats e.seat))
+seated setting seat seats views (d ∷ ds) entries ends after each (inl r) =
+    let rest = seated setting seat seats (with_holding views (gateway_of d.hand) r.4) ds r.1 r.3 after each.1 r.9 in
+    subst (All (λ e. Contains seats e.seat)) (sym r.5)
+    (All-append (λ e. Contains seats e.seat) r.0 r.1 (λ k x below. subst (Contains seats) (sym (r.6 k x below)) each.0) rest)
+seated setting seat seats views (d ∷ ds) entries ends after each (inr r) = λ k x below. subst (Contains seats) (sym (r.1 k x below)) each.0
 
-same_view : (views : Views) (hand : Hand) (gateway : ℕ) (used : Option Use) → hand ≢ hands.Gateway gateway → with_view views (gateway_of hand) used gateway ≡ views gateway
+same_view : (views : Holdings) (hand : Hand) (gateway : ℕ) (used : Holding) → hand ≢ hands.Gateway gateway → with_holding views (gateway_of hand) used gateway ≡ views gateway
 same_view views (hands.Upload p) gateway used differ = refl
 same_view views (hands.Gateway p) gateway used differ =
     let apart : p ≢ gateway = λ e. differ (ap hands.Gateway e) in
     let e : (gateway == p) ≡ false = grind (arith, nat_tests, apart) in rw e refl
 
-kept_view : (script : Script) (seat : Hand → ℕ) (gateway : ℕ) (views : Views) (ds : List Duty) (entries : List Entry) (ends : List End) (after : Views)
-    → AllByRecursion (λ d. d.hand ≢ hands.Gateway gateway) ds → InLine script seat views ds entries ends after → after gateway ≡ views gateway
-kept_view script seat gateway views [] entries ends after each run = ap (λ (v : Views). v gateway) run.2
-kept_view script seat gateway views (d ∷ ds) entries ends after each (inl r) =
-    kept_view script seat gateway (with_view views (gateway_of d.hand) (view_after (view_of views (gateway_of d.hand)) r.0 r.2)) ds r.1 r.3 after each.1 r.8
-    ∙ same_view views d.hand gateway (view_after (view_of views (gateway_of d.hand)) r.0 r.2) each.0
-kept_view script seat gateway views (d ∷ ds) entries ends after each (inr r) = ap (λ (v : Views). v gateway) r.3
+kept_view : (setting : Setting) (seat : Hand → ℕ) (gateway : ℕ) (views : Holdings) (ds : List Duty) (entries : List Entry) (ends : List End) (after : Holdings)
+    → AllByRecursion (λ d. d.hand ≢ hands.Gateway gateway) ds → InLine setting seat views ds entries ends after → after gateway ≡ views gateway
+kept_view setting seat gateway views [] entries ends after each run = ap (λ (v : Holdings). v gateway) run.2
+kept_view setting seat gateway views (d ∷ ds) entries ends after each (inl r) =
+    kept_view setting seat gateway (with_holding views (gateway_of d.hand) r.4) ds r.1 r.3 after each.1 r.9
+    ∙ same_view views d.hand gateway r.4 each.0
+kept_view setting seat gateway views (d ∷ ds) entries ends after each (inr r) = ap (λ (v : Holdings). v gateway) r.4 ∙ same_view views d.hand gateway r.0 each.0
 
 no_first : (gateways before gateway : ℕ) (tasks : List Task) (all : List Worker) (h : Hand) (w : Worker) (b c : Bool) → same_hand (hands.Gateway gateway) h ≡ b → IsWorkerOf gateways tasks before all h w
     → w.gateway ≢ Some gateway → (c ≡ true → ⊥) → (same_hand (hands.Gateway gateway) h || c) ≡ true → ⊥
@@ -249,7 +250,7 @@ undone_by gateways before tasks all hand (h ∷ hs) (w ∷ ws) ds ends few are l
 
 -- ---- the phase
 
-module _ (script : Script) (gateways before : ℕ) (tasks : List Task) (views after : Views) (entries : List Entry) (ends : List End) where
+module _ (setting : Setting) (gateways before : ℕ) (tasks : List Task) (views after : Holdings) (entries : List Entry) (ends : List End) where
   abbrev own_hands : List Hand
   own_hands = hands_of gateways tasks
 
@@ -274,23 +275,23 @@ module _ (script : Script) (gateways before : ℕ) (tasks : List Task) (views af
   workers_are : before + length own_hands ≤ greatest → AllZip (IsWorkerOf gateways tasks before own_workers) own_hands own_workers
   workers_are room = each_worker gateways tasks before own_hands hands_placed ((hands_join (IsPlaced gateways tasks)).apart tt) room
 
-  worker_run : gateways ≤ 1 → All (λ t. MayBegin script t.work) tasks
-      → InLine script (seat_of own_workers) views own_duties entries ends after → (hand : Hand) (worker : Worker) → IsWorkerOf gateways tasks before own_workers hand worker
-      → WorkerRun script tasks views entries after worker (ends_by hand own_duties ends)
+  worker_run : gateways ≤ 1 → All (λ t. MayBegin setting t.work) tasks
+      → InLine setting (seat_of own_workers) views own_duties entries ends after → (hand : Hand) (worker : Worker) → IsWorkerOf gateways tasks before own_workers hand worker
+      → WorkerRun (by_script setting) tasks views entries after worker (ends_by hand own_duties ends)
   worker_run few lawful run hand worker is =
       let places : places_in (part hand own_duties) ≡ worker.tasks = sym (is.places ∙ places_are gateways hand 0 tasks few) in
-      let runs = did script (seat_of own_workers) hand worker.seat views own_duties entries ends after (all_fit script tasks gateways before own_workers hand worker own_duties lawful is duties_are) run in
+      let runs = did setting (seat_of own_workers) hand worker.seat entries views own_duties entries ends after (all_fit setting tasks gateways before own_workers hand worker own_duties lawful is duties_are) run in
       record {
         own = tasks_of (part hand own_duties);
         are = subst (λ (ps : List ℕ). TasksAt tasks ps (tasks_of (part hand own_duties))) places (tasks_at hand tasks own_duties duties_are);
-        last = view_of after (gateway_of hand);
-        runs = subst (λ (g : Option ℕ). TasksRun script (view_of views g) (tasks_of (part hand own_duties)) (of_seat worker.seat entries) (ends_by hand own_duties ends) (view_of after (gateway_of hand))) (sym is.gateway) runs;
-        leaves = λ g e. sym (ap (view_of after) (sym is.gateway ∙ e));
+        last = holding_of after (gateway_of hand);
+        runs = subst (λ (g : Option ℕ). TasksRun (by_script setting) (record { seat = worker.seat; gateway = g }) entries (holding_of views g) (tasks_of (part hand own_duties)) (of_seat worker.seat entries) (ends_by hand own_duties ends) (holding_of after (gateway_of hand))) (sym is.gateway) runs;
+        leaves = λ g e. sym (ap (holding_of after) (sym is.gateway ∙ e));
       }
 
-  all_runs : gateways ≤ 1 → All (λ t. MayBegin script t.work) tasks
-      → InLine script (seat_of own_workers) views own_duties entries ends after → (hs : List Hand) (ws : List Worker) → AllZip (IsWorkerOf gateways tasks before own_workers) hs ws
-      → AllZip (WorkerRun script tasks views entries after) ws (ends_of own_duties ends hs)
+  all_runs : gateways ≤ 1 → All (λ t. MayBegin setting t.work) tasks
+      → InLine setting (seat_of own_workers) views own_duties entries ends after → (hs : List Hand) (ws : List Worker) → AllZip (IsWorkerOf gateways tasks before own_workers) hs ws
+      → AllZip (WorkerRun (by_script setting) tasks views entries after) ws (ends_of own_duties ends hs)
   all_runs few lawful run [] [] zipped = tt
   all_runs few lawful run [] (w ∷ ws) zipped = absurd zipped
   all_runs few lawful run (h ∷ hs) [] zipped = absurd zipped
@@ -324,13 +325,14 @@ module _ (script : Script) (gateways before : ℕ) (tasks : List Task) (views af
   came_all few room (d ∷ ds) (e ∷ es) among near = (came_one few room d e among.0 (λ h. (near h).0), came_all few room ds es among.1 (λ h. (near h).1))
 
   -- the phase's run, by its workers
-  pub phase_run : gateways ≤ 1 → before + length own_hands ≤ greatest → All (λ t. MayBegin script t.work) tasks
-      → InLine script (seat_of own_workers) views own_duties entries ends after
-      → PhaseRun script tasks own_workers views entries (ends_of own_duties ends own_hands) after
+  pub phase_run : gateways ≤ 1 → before + length own_hands ≤ greatest → All (λ t. MayBegin setting t.work) tasks
+      → InLine setting (seat_of own_workers) views own_duties entries ends after
+      → PhaseRun (by_script setting) tasks own_workers views entries (ends_of own_duties ends own_hands) after
   phase_run few room lawful run = record {
-    seats = seated script (seat_of own_workers) (map (λ (w : Worker). w.seat) own_workers) views own_duties entries ends after (seats_known own_duties hands_among) run;
+    seats = All-weaker (λ e. Contains (map (λ (w : Worker). w.seat) own_workers) e.seat) (λ e. Contains (map (λ (w : Worker). w.seat) own_workers) e.seat ⊎ ⊥) (λ e sits. inl sits) entries
+        (seated setting (seat_of own_workers) (map (λ (w : Worker). w.seat) own_workers) views own_duties entries ends after (seats_known own_duties hands_among) run);
     runs = all_runs few lawful run own_hands own_workers (workers_are room);
-    kept = λ g none. kept_view script (seat_of own_workers) g views own_duties entries ends after (apart_from gateways before g tasks own_workers own_hands own_workers own_duties (workers_are room) none hands_among) run;
+    kept = λ g none. kept_view setting (seat_of own_workers) g views own_duties entries ends after (apart_from gateways before g tasks own_workers own_hands own_workers own_duties (workers_are room) none hands_among) run;
   }
 
   -- each duty's end is one to which its worker came

@@ -4,18 +4,19 @@ use Rattle.std.specs.List.{All, AllZip}
 use Rattle.std.proofs.lemmas.Bool.Decides.{nat_tests}
 use Rattle.std.proofs.lemmas.List.Elements.{All-cons, All-nil}
 use Rattle.world_core.specs.declared.entry.Entry.{Entry}
-use Rattle.script_core.specs.declared.script.Script.{Script}
 use Rattle.script_workers.specs.declared.task.Task.{Task}
 use Rattle.script_workers.specs.declared.worker.Worker.{Worker}
-use Rattle.lifecycle_core.specs.Phases.{PhaseRun, WorkerRun}
+use Rattle.lifecycle_core.specs.Conducts.{PhaseRun, WorkerRun}
+use Rattle.lifecycle_core.specs.Holdings.{Holding, Holdings, holding_of, nothing_held}
+use Rattle.lifecycle_core.specs.Phases.{by_script}
+use Rattle.lifecycle_core.specs.Setting.{Setting}
 use Rattle.lifecycle_core.specs.Tasks.{End}
-use Rattle.lifecycle_core.specs.Views.{Use, Views, view_of}
 
-module _ (script : Script) (tasks : List Task) (workers : List Worker) (views : Views) (made : List Entry) (ends : List (List End)) (after : Views) (run : PhaseRun script tasks workers views made ends after) where
+module _ (setting : Setting) (tasks : List Task) (workers : List Worker) (views : Holdings) (made : List Entry) (ends : List (List End)) (after : Holdings) (run : PhaseRun (by_script setting) tasks workers views made ends after) where
   abbrev Own : Worker → List End → Type 0
-  Own = WorkerRun script tasks views made after
+  Own = WorkerRun (by_script setting) tasks views made after
 
-  module _ (Holds : Option Use → Type 0) (leaves : (worker : Worker) (own : List End) (w : Own worker own) → Holds w.last) where
+  module _ (Holds : Holding → Type 0) (leaves : (worker : Worker) (own : List End) (w : Own worker own) → Holds w.last) where
     abbrev same_gateway : ℕ → Option ℕ → Bool
     same_gateway gateway None = false
     same_gateway gateway (Some other) = other == gateway
@@ -39,7 +40,7 @@ module _ (script : Script) (tasks : List Task) (workers : List Worker) (views : 
     search gateway (w ∷ ws) (own ∷ es) all = search_first gateway w ws own (search gateway ws es all.1) w.gateway (same_gateway gateway w.gateway) refl refl all.0
 
     -- what holds of the workers' last views and of those from before holds of all
-    pub views_left : Holds None → ((gateway : ℕ) → Holds (views gateway)) → (gateway : Option ℕ) → Holds (view_of after gateway)
+    pub views_left : Holds nothing_held → ((gateway : ℕ) → Holds (views gateway)) → (gateway : Option ℕ) → Holds (holding_of after gateway)
     views_left without before None = without
     views_left without before (Some gateway) = elim (search gateway workers ends run.runs) [
       | inl found ↦ found

@@ -10,8 +10,8 @@ use Rattle.script_workers.specs.declared.work.Work.{Work}
 use Rattle.script_workers.specs.declared.work.Work.TheVariants as works
 use Rattle.script_workers.specs.declared.task.Task.{Task}
 use Rattle.script_workers.proofs.HandLists.{no_upload_among}
+use Rattle.lifecycle_core.specs.Conducts.{TasksAt}
 use Rattle.lifecycle_core.specs.InLine.{Duty, duties_from}
-use Rattle.lifecycle_core.specs.Phases.{TasksAt}
 use Rattle.lifecycle_core.proofs.phases.Duties.{part, tasks_of}
 use Rattle.lifecycle_core.proofs.phases.HandLists.{one_hand}
 
@@ -69,7 +69,7 @@ all_duties whole gateways place (task ∷ tasks) same =
 part_tasks : (hand : Hand) (whole : List Task) (duty : Duty) (duties : List Duty) (b : Bool) → same_hand hand duty.hand ≡ b → slice_get whole duty.place ≡ Some duty.task
     → TasksAt whole (places_in (part hand duties)) (tasks_of (part hand duties)) → TasksAt whole (places_in (part hand (duty ∷ duties))) (tasks_of (part hand (duty ∷ duties)))
 unfolding part
-part_tasks hand whole duty duties true e is later = rw e (is, later)
+part_tasks hand whole duty duties true e is later = rw e ((refl, is), later)
 part_tasks hand whole duty duties false e is later = rw e later
 
 -- the tasks of a hand stand at its places

@@ -1,27 +1,19 @@
 -- Fronts of runs: what was cut off before its last entry is a run without an end.
-use Rattle.std.proofs.Common.{◌≡◌, ◌⊎◌, inl, inr, ℕ, Bool, true, false, List, [], ◌∷◌, ◌++◌, Option, Some, None, refl, arith}
-use Rattle.std.specs.Prelude.{MatchBool}
+use Rattle.std.proofs.Common.{◌≡◌, ◌⊎◌, inl, inr, ℕ, List, [], ◌∷◌, ◌++◌, Option, Some, None, refl, arith}
 use Rattle.std.proofs.lemmas.List.{length-append}
-use Rattle.block_keys.specs.declared.key.Key.{Key}
-use Rattle.block_keys.specs.declared.key.Key.TheVariants as key
-use Rattle.label_sets.specs.Triples.{Triple}
-use Rattle.label_sets.specs.declared.series.Series.{Series}
 use Rattle.world_core.specs.declared.entry.Entry.{Entry}
-use Rattle.world_core.specs.declared.reply.Reply.{Reply}
-use Rattle.world_core.specs.declared.reply.Reply.TheVariants as reply
 use Rattle.world_core.proofs.PlanLaws.{comes_front, front}
 use Rattle.shipper.specs.Uploads.{upload}
 use Rattle.meta_fetcher.specs.Syncs.{IsEnd, SyncRun, sync}
 use Rattle.meta_fetcher.specs.declared.rules.SyncRules.{SyncRules}
 use Rattle.meta_fetcher.specs.declared.sync_end.SyncEnd.{SyncEnd}
-use Rattle.meta_fetcher.specs.declared.view.View.{View}
 use Rattle.store_gateway.specs.SeriesRuns.{Query as Question, IsEnd as IsCallEnd, series_call, sources_of}
-use Rattle.store_gateway.specs.declared.series_end.SeriesEnd.{SeriesEnd}
-use Rattle.script_core.specs.declared.script.Script.{Script}
 use Rattle.script_workers.specs.declared.work.Work.{Work}
 use Rattle.script_workers.specs.declared.work.Work.TheVariants.{Upload, Sync, Query}
+use Rattle.lifecycle_core.specs.Conducts.{Who}
+use Rattle.lifecycle_core.specs.Holdings.{Holding, Use}
+use Rattle.lifecycle_core.specs.Setting.{Setting}
 use Rattle.lifecycle_core.specs.Tasks.{End, IsBefore, IsStop, QueryTask, TaskRun, asked_by, sync_rules}
-use Rattle.lifecycle_core.specs.Views.{Use}
 
 pub not_nil : {X : Type 0} (xs : List X) (y : X) (rest : List X) → xs ++ y ∷ rest ≡ [] → ⊥
 not_nil [] y rest is = cc (is)
@@ -40,14 +32,15 @@ before_stop stop xs y rest own end (inl (is, early)) = λ n same above. let belo
 before_stop stop xs y rest own end (inr (n, is, above, count, same)) = λ m other above'.
     let equal : n ≡ m = cc (is, other) in omega (arith, equal, count, length-append xs (y ∷ rest))
 
-query_cut : (script : Script) (view : Option Use) (asked : Option Question) (xs : List Entry) (y : Entry) (rest : List Entry) (end : Option End) → QueryTask script view asked (xs ++ y ∷ rest) end → QueryTask script view asked xs None
-query_cut script None asked xs y rest end (nil, how) = absurd (not_nil xs y rest nil)
-query_cut script (Some used) None xs y rest end run = run
-query_cut script (Some used) (Some asked) xs y rest end (own, run, is) = (None, comes_front (series_call used.view asked) (IsCallEnd (sources_of used.view.kept)) xs y rest own run, refl)
+query_cut : (used : Option Use) (asked : Option Question) (xs : List Entry) (y : Entry) (rest : List Entry) (end : Option End) → QueryTask used asked (xs ++ y ∷ rest) end → QueryTask used asked xs None
+query_cut None asked xs y rest end (nil, how) = absurd (not_nil xs y rest nil)
+query_cut (Some used) None xs y rest end run = run
+query_cut (Some used) (Some asked) xs y rest end (own, run, is) = (None, comes_front (series_call used.view asked) (IsCallEnd (sources_of used.view.kept)) xs y rest own run, refl)
 
 -- entries of a task's run before its last are a run without an end
-pub task_cut : (script : Script) (view : Option Use) (w : Work) (xs : List Entry) (y : Entry) (rest : List Entry) (end : Option End) → TaskRun script view w (xs ++ y ∷ rest) end → TaskRun script view w xs None
-task_cut script view (Upload ulid stop) xs y rest end (block, is, (objects, own, ships, run, how)) =
-    (block, is, (objects, None, ships, front (upload block.ulid objects) xs y rest own run, inl (refl, before_stop stop xs y rest _ end how)))
-task_cut script view (Sync gateway) xs y rest end (own, run, is) = (None, sync_cut (sync_rules script.rules) xs y rest own run, refl)
-task_cut script view (Query low high selector) xs y rest end run = query_cut script view (asked_by script selector low high) xs y rest end run
+pub task_cut : (setting : Setting) (who : Who) (place : ℕ) (w : Work) (before after : Holding) (xs : List Entry) (y : Entry) (rest : List Entry) (end : Option End)
+    → TaskRun setting who place w before (xs ++ y ∷ rest) end after → TaskRun setting who place w before xs None before
+task_cut setting who place (Upload ulid stop) before after xs y rest end ((block, is, (objects, own, ships, run, how)), same) =
+    ((block, is, (objects, None, ships, front (upload block.ulid objects) xs y rest own run, inl (refl, before_stop stop xs y rest _ end how))), refl)
+task_cut setting who place (Sync gateway) before after xs y rest end (own, run, is, same) = (None, sync_cut (sync_rules setting gateway) xs y rest own run, refl, refl)
+task_cut setting who place (Query low high selector) before after xs y rest end (run, same) = (query_cut before.used (asked_by setting who.gateway selector low high) xs y rest end run, refl)

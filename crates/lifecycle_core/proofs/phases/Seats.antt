@@ -6,7 +6,7 @@ use Rattle.std.specs.Prelude.{◌==◌}
 use Rattle.std.specs.List.{All, filter}
 use Rattle.std.proofs.lemmas.Bool.Decides.{nat_tests}
 use Rattle.world_core.specs.declared.entry.Entry.{Entry}
-use Rattle.lifecycle_core.specs.Phases.{of_seat}
+use Rattle.lifecycle_core.specs.Conducts.{of_seat}
 
 filter_front : {X : Type 0} (p : X → Bool) (xs ys : List X) → All (λ x. p x ≡ true) xs → filter p (xs ++ ys) ≡ xs ++ filter p ys
 filter_front p xs ys all = filter-append p xs ys ∙ ap (λ l. l ++ filter p ys) (filter_all p xs all)

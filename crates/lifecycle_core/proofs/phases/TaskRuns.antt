@@ -1,5 +1,5 @@
 -- What every task may do: nothing yet; and what a task leaves of a view.
-use Rattle.std.proofs.Common.{◌≡◌, ℕ, ℤ, zero, suc, ◌<◌, Bool, true, false, List, [], ◌∷◌, length, refl, sym, ap, subst, inl, inr, arith}
+use Rattle.std.proofs.Common.{◌≡◌, ℕ, ℤ, zero, suc, ◌<◌, Bool, true, false, List, [], ◌∷◌, length, refl, sym, ap, subst, inl, arith}
 use Rattle.std.specs.Prelude.{◌==◌, Option, Some, None, option_map, slice_get, codes, find}
 use Rattle.std.specs.List.{All, list_any}
 use Rattle.std.specs.List.Sorted.{IsStrictlyIncreasing}
@@ -10,25 +10,24 @@ use Rattle.block_meta.specs.declared.block_plan.BlockPlan.{BlockPlan}
 use Rattle.block_meta.specs.MetaValue.{meta_text}
 use Rattle.block_files.specs.Built.{built_meta, segments_of, objects_of}
 use Rattle.block_files.specs.PlainForm.{plain_index}
-use Rattle.shipper.specs.declared.upload_end.UploadEnd.{UploadEnd}
 use Rattle.meta_fetcher.specs.Syncs.{SyncRun}
 use Rattle.meta_fetcher.specs.declared.view.View.{View}
 use Rattle.meta_fetcher.specs.declared.sync_end.SyncEnd.{SyncEnd}
 use Rattle.meta_fetcher.specs.declared.sync_end.SyncEnd.TheVariants as fetched
 use Rattle.store_gateway.specs.SeriesRuns.{Query as Question, series_call}
 use Rattle.world_core.proofs.PlanLaws.{breaks_off}
-use Rattle.label_sets.specs.Triples.{Triple}
 use Rattle.matchers.specs.declared.matcher.Matcher.{Matcher}
 use Rattle.script_core.specs.Lawful.{IsLawfulBlock, IsLawfulBody, IsLawfulWork}
 use Rattle.script_core.specs.declared.block.Block.{Block}
 use Rattle.script_core.specs.declared.body.Body.{Body}
 use Rattle.script_core.specs.declared.body.Body.TheVariants.{Inline}
-use Rattle.script_core.specs.declared.script.Script.{Script}
 use Rattle.script_workers.specs.declared.work.Work.{Work}
 use Rattle.script_workers.specs.declared.work.Work.TheVariants.{Upload, Sync, Query}
+use Rattle.lifecycle_core.specs.Conducts.{Who}
+use Rattle.lifecycle_core.specs.Holdings.{Holding, Use}
+use Rattle.lifecycle_core.specs.Setting.{Setting}
 use Rattle.lifecycle_core.specs.Shipped.{AreBuilt}
-use Rattle.lifecycle_core.specs.Tasks.{End, uploaded, stopped, synced, answered, without_view, TaskRun, QueryTask, asked_by, last_number, sync_rules, view_after}
-use Rattle.lifecycle_core.specs.Views.{Use}
+use Rattle.lifecycle_core.specs.Tasks.{End, QueryTask, TaskRun, asked_by, last_number, sync_rules, synced_with}
 
 found_first : {X : Type 0} (P : X → Type 0) (p : X → Bool) (x : X) (xs : List X) (b : Bool) → p x ≡ b → P x → (list_any p xs ≡ true → (y : X) × (find p xs ≡ Some y) × P y) → list_any p (x ∷ xs) ≡ true
     → (y : X) × (find p (x ∷ xs) ≡ Some y) × P y
@@ -43,8 +42,8 @@ found_by P p (x ∷ xs) all e = found_first P p x xs (p x) refl (All-head P x xs
 one_rises : (n : ℕ) → IsStrictlyIncreasing (n ∷ [])
 one_rises n = λ k below. absurd (omega (arith, below))
 
-pub built_by : (block : Block) (body : Body) → IsLawfulBody body → (objects : List Object) × AreBuilt block body objects
-built_by block (Inline min_time max_time series) lawful =
+pub built_by : (setting : Setting) (block : Block) (body : Body) → IsLawfulBody body → (objects : List Object) × AreBuilt setting block body objects
+built_by setting block (Inline min_time max_time series) lawful =
     let plan : BlockPlan = record {
       ulid = block.ulid;
       min_time = min_time;
@@ -66,62 +65,46 @@ got [] i below = absurd (omega (arith, below))
 got (x ∷ xs) zero below = (x, refl)
 got (x ∷ xs) (suc i) below = got xs i (omega (arith, below))
 
-query_none : (script : Script) (view : Option Use) (asked : Option Question) → ((q : Question) × (asked ≡ Some q)) → QueryTask script view asked [] None
-query_none script None asked is = (refl, inl refl)
-query_none script (Some used) None is = absurd (cc (is.1))
-query_none script (Some used) (Some q) is = (None, breaks_off (series_call used.view q), refl)
+query_none : (used : Option Use) (asked : Option Question) → ((q : Question) × (asked ≡ Some q)) → QueryTask used asked [] None
+query_none None asked is = (refl, inl refl)
+query_none (Some used) None is = absurd (cc (is.1))
+query_none (Some used) (Some q) is = (None, breaks_off (series_call used.view q), refl)
 
-asked_some : (script : Script) (selector : ℕ) (low high : ℤ) → selector < length script.selectors → (q : Question) × (asked_by script selector low high ≡ Some q)
-asked_some script selector low high below =
-    let g = got script.selectors selector below in
-    (record { selector = g.0; replicas = script.rules.replicas; low = low; high = high }, ap (λ o. option_map (λ (m : List Matcher). record { selector = m; replicas = script.rules.replicas; low = low; high = high }) o) g.1)
+asked_some : (setting : Setting) (gateway : Option ℕ) (selector : ℕ) (low high : ℤ) → selector < length setting.script.selectors → (q : Question) × (asked_by setting gateway selector low high ≡ Some q)
+asked_some setting gateway selector low high below =
+    let g = got setting.script.selectors selector below in
+    (record { selector = g.0; replicas = setting.script.rules.replicas; low = low; high = high }, ap (λ o. option_map (λ (m : List Matcher). record { selector = m; replicas = setting.script.rules.replicas; low = low; high = high }) o) g.1)
 
--- a run of the work may be broken off before its first entry
-abbrev pub MayBegin : Script → Work → Type 0
-MayBegin script w = (view : Option Use) → TaskRun script view w [] None
+-- a run of the work may be broken off before its first entry, and then nothing has changed
+abbrev pub MayBegin : Setting → Work → Type 0
+MayBegin setting w = (who : Who) (place : ℕ) (before : Holding) → TaskRun setting who place w before [] None before
 
-pub none_yet : (script : Script) (w : Work) → All IsLawfulBlock script.blocks → IsLawfulWork script.gateways script.blocks (length script.selectors) w → MayBegin script w
-none_yet script (Upload ulid stop) blocks lawful = λ view.
-    let f = found_by IsLawfulBlock (λ (block : Block). block.ulid == ulid) script.blocks blocks lawful in
-    let b = built_by f.0 (f.0).body (f.2).body in
-    (f.0, f.1, (b.0, None, b.1, refl, inl (refl, λ n e above. above)))
-none_yet script (Sync gateway) blocks lawful = λ view. (None, refl, refl)
-none_yet script (Query low high selector) blocks lawful = λ view. query_none script view (asked_by script selector low high) (asked_some script selector low high lawful.3)
+pub none_yet : (setting : Setting) (w : Work) → All IsLawfulBlock setting.script.blocks → IsLawfulWork setting.script.gateways setting.script.blocks (length setting.script.selectors) w → MayBegin setting w
+none_yet setting (Upload ulid stop) blocks lawful = λ who place before.
+    let f = found_by IsLawfulBlock (λ (block : Block). block.ulid == ulid) setting.script.blocks blocks lawful in
+    let b = built_by setting f.0 (f.0).body (f.2).body in
+    ((f.0, f.1, (b.0, None, b.1, refl, inl (refl, λ n e above. above))), refl)
+none_yet setting (Sync gateway) blocks lawful = λ who place before. (None, refl, refl, refl)
+none_yet setting (Query low high selector) blocks lawful = λ who place before.
+    (query_none before.used (asked_by setting who.gateway selector low high) (asked_some setting who.gateway selector low high lawful.3), refl)
 
-keeps_uploaded : (view : Option Use) (made : List Entry) (end : End) (own : Option UploadEnd) → Some end ≡ option_map uploaded own → view_after view made end ≡ view
-keeps_uploaded view made end None e = absurd (cc (e))
-keeps_uploaded view made end (Some own) e = let is : end ≡ uploaded own = cc (e) in ap (view_after view made) is
+-- no upload changes what a worker holds
+pub upload_keeps : (setting : Setting) (who : Who) (place : ℕ) (before after : Holding) (ulid : ℕ) (stop : Option ℕ) (made : List Entry) (end : Option End) → TaskRun setting who place (Upload ulid stop) before made end after → after ≡ before
+upload_keeps setting who place before after ulid stop made end run = run.1
 
--- no upload changes a view
-pub upload_keeps : (script : Script) (view old : Option Use) (ulid : ℕ) (stop : Option ℕ) (made : List Entry) (end : End) → TaskRun script view (Upload ulid stop) made (Some end) → view_after old made end ≡ old
-upload_keeps script view old ulid stop made end run =
-    elim (run.2).4 [ inl went ↦ keeps_uploaded old made end (run.2).1 went.0 | inr went ↦ let is : end ≡ stopped went.0 = cc (went.4) in ap (view_after old made) is ]
-
--- ---- what a task leaves of a view
-
-query_keeps : (script : Script) (view : Option Use) (asked : Option Question) (made : List Entry) (end : End) → QueryTask script view asked made (Some end) → view_after view made end ≡ view
-query_keeps script None asked made end (nil, inl none) = absurd (cc (none))
-query_keeps script None asked made end (nil, inr is) = let e : end ≡ without_view = cc (is) in ap (view_after None made) e
-query_keeps script (Some used) None made end run = absurd run
-query_keeps script (Some used) (Some q) made end (None, run, is) = absurd (cc (is))
-query_keeps script (Some used) (Some q) made end (Some own, run, is) = let e : end ≡ answered used own = cc (is) in ap (view_after (Some used) made) e
-
--- what holds of the view before a task and of one that its sync gives holds of the view after it
-module _ (Holds : Option Use → Type 0) (script : Script) (view : Option Use) (before : Holds view) (made : List Entry) where
+-- what holds of what a worker held before a task, and of a view that its sync gives, holds of what it holds after the task
+module _ (Holds : Holding → Type 0) (setting : Setting) (who : Who) (place : ℕ) (before : Holding) (known : Holds before) (made : List Entry) where
   abbrev Given : Option SyncEnd → Type 0
-  Given own = (new : View) → own ≡ Some (fetched.View new) → Holds (Some (record { view = new; last = last_number made }))
+  Given own = (new : View) → own ≡ Some (fetched.View new) → Holds (record { used = Some (record { view = new; last = last_number made }) })
 
-  leaves : (end : End) (other : Option Use) → view_after view made end ≡ other → Holds other → Holds (view_after view made end)
-  leaves end other is holds = subst Holds (sym is) holds
+  sync_leaves : (own : Option SyncEnd) (after : Holding) → Given own → after ≡ synced_with before made own → Holds after
+  sync_leaves None after given is = subst Holds (sym is) known
+  sync_leaves (Some (fetched.View new)) after given is = subst Holds (sym is) (given new refl)
+  sync_leaves (Some (fetched.Fault n)) after given is = subst Holds (sym is) known
+  sync_leaves (Some (fetched.Damaged n)) after given is = subst Holds (sym is) known
+  sync_leaves (Some fetched.TooMany) after given is = subst Holds (sym is) known
 
-  sync_leaves : (end : End) (own : Option SyncEnd) → Given own → Some end ≡ option_map synced own → Holds (view_after view made end)
-  sync_leaves end None given is = absurd (cc (is))
-  sync_leaves end (Some (fetched.View new)) given is = let e : end ≡ synced (fetched.View new) = cc (is) in leaves end (Some (record { view = new; last = last_number made })) (ap (view_after view made) e) (given new refl)
-  sync_leaves end (Some (fetched.Fault n)) given is = let e : end ≡ synced (fetched.Fault n) = cc (is) in leaves end view (ap (view_after view made) e) before
-  sync_leaves end (Some (fetched.Damaged n)) given is = let e : end ≡ synced (fetched.Damaged n) = cc (is) in leaves end view (ap (view_after view made) e) before
-  sync_leaves end (Some fetched.TooMany) given is = let e : end ≡ synced fetched.TooMany = cc (is) in leaves end view (ap (view_after view made) e) before
-
-  pub task_leaves : (w : Work) (end : End) → ((own : Option SyncEnd) → SyncRun (sync_rules script.rules) made own → Given own) → TaskRun script view w made (Some end) → Holds (view_after view made end)
-  task_leaves (Upload ulid stop) end gives run = leaves end view (upload_keeps script view view ulid stop made end run) before
-  task_leaves (Sync gateway) end gives (own, run, is) = sync_leaves end own (gives own run) is
-  task_leaves (Query low high selector) end gives run = leaves end view (query_keeps script view (asked_by script selector low high) made end run) before
+  pub task_leaves : (w : Work) (end : Option End) (after : Holding) → ((gateway : ℕ) (own : Option SyncEnd) → SyncRun (sync_rules setting gateway) made own → Given own) → TaskRun setting who place w before made end after → Holds after
+  task_leaves (Upload ulid stop) end after gives run = subst Holds (sym run.1) known
+  task_leaves (Sync gateway) end after gives (own, run, is, same) = sync_leaves own after (gives gateway own run) same
+  task_leaves (Query low high selector) end after gives run = subst Holds (sym run.1) known

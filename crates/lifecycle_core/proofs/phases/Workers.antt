@@ -9,7 +9,7 @@ use Rattle.script_workers.specs.declared.hand.Hand.{Hand}
 use Rattle.script_workers.specs.declared.hand.Hand.TheVariants as hands
 use Rattle.script_workers.specs.declared.task.Task.{Task}
 use Rattle.script_workers.specs.declared.worker.Worker.{Worker}
-use Rattle.lifecycle_core.specs.InLine.{serves, seat_of}
+use Rattle.lifecycle_core.specs.InLine.{seat_of, serves}
 use Rattle.lifecycle_core.proofs.phases.Duties.{same_is}
 use Rattle.lifecycle_core.proofs.phases.HandLists.{Apart, same_turned}
 

@@ -22,13 +22,14 @@ use Rattle.meta_fetcher.specs.declared.sync_end.SyncEnd.TheVariants as fetched
 use Rattle.store_gateway.specs.SeriesRuns.{Query as Question}
 use Rattle.script_core.specs.Lawful.{IsLawfulScript}
 use Rattle.script_core.specs.declared.block.Block.{Block}
-use Rattle.script_core.specs.declared.script.Script.{Script}
 use Rattle.script_workers.specs.declared.work.Work.{Work}
 use Rattle.script_workers.specs.declared.work.Work.TheVariants.{Upload, Sync, Query}
 use Rattle.lifecycle_core.specs.Causes.{SomeCame}
+use Rattle.lifecycle_core.specs.Conducts.{Who}
+use Rattle.lifecycle_core.specs.Holdings.{Holding, Use}
 use Rattle.lifecycle_core.specs.Phases.{IsRunOf}
+use Rattle.lifecycle_core.specs.Setting.{Setting}
 use Rattle.lifecycle_core.specs.Tasks.{End, QueryTask, TaskRun, asked_by, sync_rules, synced}
-use Rattle.lifecycle_core.specs.Views.{Use}
 use Rattle.lifecycle_core.proofs.misses.Explaining.{parted}
 use Rattle.lifecycle_core.proofs.phases.TasksMade.{ends_are_made}
 use Rattle.lifecycle_core.proofs.journals.Told.{IsDeclaredName, IsPart, IsReadable, IsTold, Rises}
@@ -73,24 +74,24 @@ few_ascend after (name ∷ names) texts up among =
 
 -- ---- names of declared blocks
 
-abbrev texts_of : Script → List (List ℕ)
-texts_of script = map (λ (b : Block). text_of b.ulid) script.blocks
+abbrev texts_of : Setting → List (List ℕ)
+texts_of setting = map (λ (b : Block). text_of b.ulid) setting.script.blocks
 
-declared_text : (script : Script) (name : List ℕ) → IsDeclaredName script name → Contains (texts_of script) name
-declared_text script name (ulid, block, is, same) =
-    let among : Contains script.blocks block = declared_among script ulid block is in
-    subst (Contains (texts_of script)) (ap text_of (declared_ulid script ulid block is) ∙ sym same) (into_map (λ (b : Block). text_of b.ulid) script.blocks block among)
+declared_text : (setting : Setting) (name : List ℕ) → IsDeclaredName setting name → Contains (texts_of setting) name
+declared_text setting name (ulid, block, is, same) =
+    let among : Contains setting.script.blocks block = declared_among setting ulid block is in
+    subst (Contains (texts_of setting)) (ap text_of (declared_ulid setting ulid block is) ∙ sym same) (into_map (λ (b : Block). text_of b.ulid) setting.script.blocks block among)
 
 -- what was listed: names of declared blocks, in order
-record AreListed (script : Script) (names : List (List ℕ)) : Type 0 where
+record AreListed (setting : Setting) (names : List (List ℕ)) : Type 0 where
   pub ascend : Ascends [] names
-  pub declared_names : All (IsDeclaredName script) names
+  pub declared_names : All (IsDeclaredName setting) names
 
-listed_few : (script : Script) (names : List (List ℕ)) → IsLawfulScript script → AreListed script names → length names ≤ 4_096
-listed_few script names lawful listed =
-    let few : length names ≤ length (texts_of script) = few_ascend [] names (texts_of script) listed.ascend
-    (λ x inside. declared_text script x (All-contains (IsDeclaredName script) names x listed.declared_names inside)) in
-    omega (arith, few, length-map script.blocks (λ (b : Block). text_of b.ulid), lawful.blocks.few)
+listed_few : (setting : Setting) (names : List (List ℕ)) → IsLawfulScript setting.script → AreListed setting names → length names ≤ 4_096
+listed_few setting names lawful listed =
+    let few : length names ≤ length (texts_of setting) = few_ascend [] names (texts_of setting) listed.ascend
+    (λ x inside. declared_text setting x (All-contains (IsDeclaredName setting) names x listed.declared_names inside)) in
+    omega (arith, few, length-map setting.script.blocks (λ (b : Block). text_of b.ulid), lawful.blocks.few)
 
 too_few : (n : ℕ) → n ≤ 4_096 → nat_le 1_000_000 n ≡ true → ⊥
 too_few n few many = omega (arith, few, leb-true 1_000_000 n many)
@@ -104,15 +105,15 @@ AreFew made (sync_told.fault number) = Unit {0}
 AreFew made (sync_told.damaged number) = Unit {0}
 AreFew made sync_told.too_many = ⊥
 
-module _ (script : Script) (lawful : IsLawfulScript script) (journal : List Entry) (first : Entry) (entries : List Entry) where
-  more_listed : (limit : ℕ) (listed names : List (List ℕ)) (page : Entry) → Comes (IsOwn script journal first entries) (AreListed script listed) (page_after limit listed) (reply.Names names) page
-      → AreListed script (listed ++ names)
+module _ (setting : Setting) (lawful : IsLawfulScript setting.script) (journal : List Entry) (first : Entry) (entries : List Entry) where
+  more_listed : (limit : ℕ) (listed names : List (List ℕ)) (page : Entry) → Comes (IsOwn setting journal first entries) (AreListed setting listed) (page_after limit listed) (reply.Names names) page
+      → AreListed setting (listed ++ names)
   more_listed limit listed names page came = record {
     ascend = ascends_joined None listed names came.before.ascend (came.given.told.ascend _ limit names came.asks came.shows);
-    declared_names = All-append (IsDeclaredName script) listed names came.before.declared_names (came.given.told.only _ limit names came.asks came.shows);
+    declared_names = All-append (IsDeclaredName setting) listed names came.before.declared_names (came.given.told.only _ limit names came.asks came.shows);
   }
 
-  few_reads : KeptByReads (IsOwn script journal first entries) AreFew (λ made sightings ulids. Unit {0})
+  few_reads : KeptByReads (IsOwn setting journal first entries) AreFew (λ made sightings ulids. Unit {0})
   few_reads = record {
     over = λ made sightings j. tt;
     mark_failed = λ made sightings ulid ulids e landed came. tt;
@@ -124,13 +125,13 @@ module _ (script : Script) (lawful : IsLawfulScript script) (journal : List Entr
     missed = λ made sightings ulid ulids e came. tt;
   }
 
-  few_pages : (limit : ℕ) → KeptByPages (IsOwn script journal first entries) AreFew limit (λ made. AreListed script) (λ made listed. Unit {0})
+  few_pages : (limit : ℕ) → KeptByPages (IsOwn setting journal first entries) AreFew limit (λ made. AreListed setting) (λ made listed. Unit {0})
   few_pages limit = record {
     failed = λ made listed page landed came. tt;
     unordered = λ made listed names page came down. tt;
     short = λ made listed names page came up few. tt;
     full = λ made listed names page came up many. more_listed limit listed names page came;
-    many = λ made names i many. too_few (length names) (listed_few script names lawful i) many;
+    many = λ made names i many. too_few (length names) (listed_few setting names lawful i) many;
   }
 
 -- an end that is no other
@@ -142,39 +143,40 @@ not_too_many rules made (sync_told.damaged number) course few is = cc (is)
 not_too_many rules made sync_told.too_many course few is = few
 
 -- no sync of the journal finds too many names
-pub syncs_find_few : (script : Script) (journal entries : List Entry) → IsLawfulScript script → IsReadable script → All (IsTold script journal) journal → IsPart journal entries
-    → ¬ SyncRun (sync_rules script.rules) entries (Some fetched.TooMany)
-syncs_find_few script journal [] lawful readable told part run = (let none = run.1 in cc (none))
-syncs_find_few script journal (first ∷ entries) lawful readable told part run =
-    let s = walked (IsOwn script journal first entries) AreFew (sync_rules script.rules) (λ made. AreListed script) (λ made listed. Unit {0}) (λ made sightings ulids. Unit {0})
-    (few_pages script lawful journal first entries script.rules.page_limit) (few_reads script lawful journal first entries)
-    (record { ascend = tt; declared_names = All-nil (IsDeclaredName script) }) (λ made names l. tt)
-    (first ∷ entries) fetched.TooMany (own_entries script journal first entries told part) run in
-    not_too_many (sync_rules script.rules) (first ∷ entries) s.0 (fold with_entry None (first ∷ entries)) s.1 s.2
+pub syncs_find_few : (setting : Setting) (gateway : ℕ) (journal entries : List Entry) → IsLawfulScript setting.script → IsReadable setting → All (IsTold setting journal) journal → IsPart journal entries
+    → ¬ SyncRun (sync_rules setting gateway) entries (Some fetched.TooMany)
+syncs_find_few setting gateway journal [] lawful readable told part run = (let none = run.1 in cc (none))
+syncs_find_few setting gateway journal (first ∷ entries) lawful readable told part run =
+    let s = walked (IsOwn setting journal first entries) AreFew (sync_rules setting gateway) (λ made. AreListed setting) (λ made listed. Unit {0}) (λ made sightings ulids. Unit {0})
+    (few_pages setting lawful journal first entries setting.script.rules.page_limit) (few_reads setting lawful journal first entries)
+    (record { ascend = tt; declared_names = All-nil (IsDeclaredName setting) }) (λ made names l. tt)
+    (first ∷ entries) fetched.TooMany (own_entries setting journal first entries told part) run in
+    not_too_many (sync_rules setting gateway) (first ∷ entries) s.0 (fold with_entry None (first ∷ entries)) s.1 s.2
 
 -- ---- the ends
 
-query_finds_few : (script : Script) (view : Option Use) (asked : Option Question) (entries : List Entry) → ¬ QueryTask script view asked entries (Some (synced fetched.TooMany))
-query_finds_few script None asked entries (nil, inl none) = cc (none)
-query_finds_few script None asked entries (nil, inr same) = cc (same)
-query_finds_few script (Some used) None entries run = run
-query_finds_few script (Some used) (Some asked) entries (None, run, same) = cc (same)
-query_finds_few script (Some used) (Some asked) entries (Some own, run, same) = cc (same)
+query_finds_few : (used : Option Use) (asked : Option Question) (entries : List Entry) → ¬ QueryTask used asked entries (Some (synced fetched.TooMany))
+query_finds_few None asked entries (nil, inl none) = cc (none)
+query_finds_few None asked entries (nil, inr same) = cc (same)
+query_finds_few (Some used) None entries run = run
+query_finds_few (Some used) (Some asked) entries (None, run, same) = cc (same)
+query_finds_few (Some used) (Some asked) entries (Some own, run, same) = cc (same)
 
-task_finds_few : (script : Script) (view : Option Use) (w : Work) (entries : List Entry) → ¬ SyncRun (sync_rules script.rules) entries (Some fetched.TooMany) → ¬ TaskRun script view w entries (Some (synced fetched.TooMany))
-task_finds_few script view (Upload ulid stop) entries few (block, is, (objects, None, shipped, run, inl (same, early))) = cc (same)
-task_finds_few script view (Upload ulid stop) entries few (block, is, (objects, Some own, shipped, run, inl (same, early))) = cc (same)
-task_finds_few script view (Upload ulid stop) entries few (block, is, (objects, own, shipped, run, inr (n, stops, above, count, same))) = cc (same)
-task_finds_few script view (Sync gateway) entries few (None, run, same) = cc (same)
-task_finds_few script view (Sync gateway) entries few (Some own, run, same) =
+task_finds_few : (setting : Setting) (who : Who) (place : ℕ) (w : Work) (held after : Holding) (entries : List Entry) → ((gateway : ℕ) → ¬ SyncRun (sync_rules setting gateway) entries (Some fetched.TooMany))
+    → ¬ TaskRun setting who place w held entries (Some (synced fetched.TooMany)) after
+task_finds_few setting who place (Upload ulid stop) held after entries few ((block, is, (objects, None, shipped, run, inl (same, early))), left) = cc (same)
+task_finds_few setting who place (Upload ulid stop) held after entries few ((block, is, (objects, Some own, shipped, run, inl (same, early))), left) = cc (same)
+task_finds_few setting who place (Upload ulid stop) held after entries few ((block, is, (objects, own, shipped, run, inr (n, stops, above, count, same))), left) = cc (same)
+task_finds_few setting who place (Sync gateway) held after entries few (None, run, same, left) = cc (same)
+task_finds_few setting who place (Sync gateway) held after entries few (Some own, run, same, left) =
     let one : own ≡ fetched.TooMany = cc (same) in
-    few (subst (λ (x : SyncEnd). SyncRun (sync_rules script.rules) entries (Some x)) one run)
-task_finds_few script view (Query low high selector) entries few run = query_finds_few script view (asked_by script selector low high) entries run
+    few gateway (subst (λ (x : SyncEnd). SyncRun (sync_rules setting gateway) entries (Some x)) one run)
+task_finds_few setting who place (Query low high selector) held after entries few (run, left) = query_finds_few held.used (asked_by setting who.gateway selector low high) entries run
 
 -- no worker says that a sync found too many names
-pub none_found_many : (script : Script) (journal : List Entry) (ends : List (List (List End))) → IsLawfulScript script → IsReadable script → Rises journal → All (IsTold script journal) journal → IsRunOf script journal ends
+pub none_found_many : (setting : Setting) (journal : List Entry) (ends : List (List (List End))) → IsLawfulScript setting.script → IsReadable setting → Rises journal → All (IsTold setting journal) journal → IsRunOf setting journal ends
     → ¬ SomeCame ends (synced fetched.TooMany)
-none_found_many script journal ends lawful readable rises told run came =
-    let made = ends_are_made script journal ends rises run (synced fetched.TooMany) came in
+none_found_many setting journal ends lawful readable rises told run came =
+    let made = ends_are_made setting journal ends rises run (synced fetched.TooMany) came in
     let m = made.1 in
-    task_finds_few script m.view (made.0).work m.entries (syncs_find_few script journal m.entries lawful readable told m.part) m.run
+    task_finds_few setting m.who m.place (made.0).work m.held m.after m.entries (λ gateway. syncs_find_few setting gateway journal m.entries lawful readable told m.part) m.run

@@ -21,16 +21,16 @@ use Rattle.meta_fetcher.proofs.SyncLaws.{Comes, KeptByPages, KeptByReads, course
 use Rattle.meta_fetcher.specs.declared.rules.SyncRules.{SyncRules}
 use Rattle.meta_fetcher.specs.declared.sync_end.SyncEnd.TheVariants as fetched
 use Rattle.meta_fetcher.specs.declared.view.View.{View}
-use Rattle.script_core.specs.declared.script.Script.{Script}
 use Rattle.lifecycle_core.proofs.journals.Told.{IsTold, WasPutBefore}
 use Rattle.lifecycle_core.proofs.views.Pages.{AreSmall, IsToBeListed, before_first_page, listed_at_last, listed_on, ulid_listed, ulids_small}
+use Rattle.lifecycle_core.specs.Setting.{Setting}
 
 -- ---- what is known of the sync
 
-module _ (script : Script) (journal : List Entry) (first : Entry) (entries : List Entry) where
+module _ (setting : Setting) (journal : List Entry) (first : Entry) (entries : List Entry) where
   -- the entry is one of the sync's, whose first entry is this
   pub record IsOwn (e : Entry) : Type 0 where
-    pub told : IsTold script journal e
+    pub told : IsTold setting journal e
     pub among : Contains (first ∷ entries) e
     pub later : first.seq ≤ e.seq
     pub after : first.moment.ms ≤ e.moment.ms

@@ -10,10 +10,10 @@ use Rattle.world_core.specs.Standing.{has_landed}
 use Rattle.world_core.specs.declared.entry.Entry.{Entry}
 use Rattle.world_core.specs.declared.op.Op.{Op}
 use Rattle.world_core.specs.declared.op.Op.TheVariants as op
-use Rattle.script_core.specs.declared.script.Script.{Script}
 use Rattle.script_core.specs.declared.block.Block.{Block}
 use Rattle.lifecycle_core.specs.Completed.{IsCompletedAt, IsUploadedBefore, PutsMeta}
 use Rattle.lifecycle_core.specs.Held.{declared}
+use Rattle.lifecycle_core.specs.Setting.{Setting}
 use Rattle.lifecycle_core.specs.Tasks.{last_number}
 use Rattle.lifecycle_core.proofs.journals.Positions.{stands_in}
 use Rattle.lifecycle_core.proofs.journals.Told.{Rises, WasPutBefore}
@@ -94,15 +94,15 @@ first_put ulid (e ∷ entries) p rises (suc k, below, is) puts =
 completed_by : (ulid number : ℕ) (journal : List Entry) (f : FirstPut ulid number journal) → IsCompletedAt journal ulid f.entry.seq
 completed_by ulid number journal f = record { before = f.before; entry = f.entry; after = f.after; is = f.is; number = refl; put = f.put; first = f.first }
 
-uploaded_by : (script : Script) (journal : List Entry) (ulid number most : ℕ) → IsSome (declared script ulid) → FirstPut ulid number journal → number < most → IsUploadedBefore script journal ulid most
-uploaded_by script journal ulid number most known f less =
+uploaded_by : (setting : Setting) (journal : List Entry) (ulid number most : ℕ) → IsSome (declared setting.script ulid) → FirstPut ulid number journal → number < most → IsUploadedBefore setting journal ulid most
+uploaded_by setting journal ulid number most known f less =
     record { is_declared = known; seq = f.entry.seq; completed = completed_by ulid number journal f; earlier = omega (arith, f.early, less) }
 
 -- A declared block whose meta was put before an entry was uploaded before each number that is not below the entry's.
-pub uploaded_before : (script : Script) (journal : List Entry) (ulid number most : ℕ) (bytes : List ℕ) (block : Block) → Rises journal → declared script ulid ≡ Some block
-    → WasPutBefore journal (key.Meta ulid) bytes number → number ≤ most → IsUploadedBefore script journal ulid most
-uploaded_before script journal ulid number most bytes block rises is (p, among, puts, landed, early) late =
-    uploaded_by script journal ulid p.seq most (ap (λ o. is_some o) is) (first_put ulid journal p rises among (bytes, puts, landed)) (omega (arith, early, late))
+pub uploaded_before : (setting : Setting) (journal : List Entry) (ulid number most : ℕ) (bytes : List ℕ) (block : Block) → Rises journal → declared setting.script ulid ≡ Some block
+    → WasPutBefore journal (key.Meta ulid) bytes number → number ≤ most → IsUploadedBefore setting journal ulid most
+uploaded_before setting journal ulid number most bytes block rises is (p, among, puts, landed, early) late =
+    uploaded_by setting journal ulid p.seq most (ap (λ o. is_some o) is) (first_put ulid journal p rises among (bytes, puts, landed)) (omega (arith, early, late))
 
 -- ---- the last number
 

@@ -2,9 +2,9 @@
 -- complete before the sync's last entry, and each one that was settled before the sync began. And no sync finds anything damaged.
 use Rattle.list_core.proofs.Membership.{contains_first, contains_later}
 use Rattle.lifecycle_core.proofs.blocks.Declared.{declared_lawful}
-use Rattle.std.proofs.Common.{◌≡◌, ℕ, ◌+◌, ◌<◌, ◌≤◌, ◌^◌, ◌-◌, suc, zero, Bool, true, false, ◌&&◌, cond, List, [], ◌∷◌, Contains, Option, Some, None, ℤ, pos, negsuc, refl, sym, ◌∙◌, ap, subst, arith}
+use Rattle.std.proofs.Common.{◌≡◌, ℕ, ◌+◌, ◌<◌, ◌≤◌, ◌^◌, ◌-◌, true, ◌&&◌, List, [], ◌∷◌, Contains, Option, Some, None, ℤ, pos, negsuc, refl, sym, ap, subst, arith}
 use Rattle.std.specs.Prelude.{fold, int_le, is_some, neg_ℤ, ◌≤ℤ◌, ◌<ℤ◌}
-use Rattle.std.specs.List.{All, AllByRecursion, filter}
+use Rattle.std.specs.List.{All, AllByRecursion}
 use Rattle.std.proofs.lemmas.Bool.{both_ways, le-leb, or_left}
 use Rattle.std.proofs.lemmas.Int.{ints}
 use Rattle.std.proofs.lemmas.List.Elements.{All-contains, All-filter, All-tail, All-weaker}
@@ -25,29 +25,19 @@ use Rattle.meta_fetcher.specs.declared.view.View.{View}
 use Rattle.script_core.specs.Lawful.{IsLawfulBody, IsLawfulScript}
 use Rattle.script_core.specs.declared.body.Body.{Body}
 use Rattle.script_core.specs.declared.body.Body.TheVariants.{Inline}
-use Rattle.script_core.specs.declared.script.Script.{Script}
 use Rattle.lifecycle_core.specs.Completed.{IsUploadedBefore}
 use Rattle.lifecycle_core.specs.Held.{declared}
+use Rattle.lifecycle_core.specs.Holdings.{Use}
+use Rattle.lifecycle_core.specs.Setting.{Setting}
 use Rattle.lifecycle_core.specs.Tasks.{all_times, last_number, sync_rules}
-use Rattle.lifecycle_core.specs.Views.{Use}
 use Rattle.lifecycle_core.proofs.journals.Told.{IsOrigin, IsPart, IsReadable, IsTold, IsTrueFound, IsTrueView, Rises, Spans}
 use Rattle.lifecycle_core.proofs.views.Finds.{FindsPast, IsOwn, IsPast, IsSighted, finds_past}
 use Rattle.lifecycle_core.proofs.views.Metas.{IsMetaOf, meta_found, no_mark}
 use Rattle.lifecycle_core.proofs.views.Pages.{AreSmall, ascends_after, ulids_small}
+use Rattle.lifecycle_core.proofs.journals.Positions.{passing}
 use Rattle.lifecycle_core.proofs.views.Puts.{put_before, uploaded_before, within_last}
 
 -- ---- what passes the filters
-
-among_if : {X : Type 0} (b : Bool) (x y : X) (rest : List X) → Contains rest x → Contains (cond b (y ∷ rest) rest) x
-among_if true x y rest among = contains_later y x rest among
-among_if false x y rest among = among
-
-filter_among : {X : Type 0} (p : X → Bool) (xs : List X) (x : X) → p x ≡ true → Contains xs x → Contains (filter p xs) x
-filter_among p [] x passes (k, below, is) = absurd (omega (arith, below))
-filter_among p (y ∷ xs) x passes (zero, below, is) =
-    let test : p y ≡ true = ap p is ∙ passes in
-    subst (λ b. Contains (cond b (y ∷ filter p xs) (filter p xs)) x) (sym test) (0, omega arith, is)
-filter_among p (y ∷ xs) x passes (suc k, below, is) = among_if (p y) x y (filter p xs) (filter_among p xs x passes (k, omega (arith, below), is))
 
 times_within : (low high : ℤ) → neg_ℤ (pos (2 ^ 62)) ≤ℤ low → low <ℤ high → high ≤ℤ pos (2 ^ 62) → int_le (negsuc (2 ^ 63 - 1)) high && int_le low (pos (2 ^ 63 - 1)) ≡ true
 times_within low high early ascend late = grind (arith, ints)
@@ -57,21 +47,21 @@ body_within (Inline min_time max_time series) low high lawful (one, other) =
     subst (λ h. int_le (negsuc (2 ^ 63 - 1)) h && int_le low (pos (2 ^ 63 - 1)) ≡ true) (sym other)
     (subst (λ l. int_le (negsuc (2 ^ 63 - 1)) max_time && int_le l (pos (2 ^ 63 - 1)) ≡ true) (sym one) (times_within min_time max_time lawful.early lawful.ascend lawful.late))
 
-in_partition : (script : Script) → IsLawfulScript script → (f : Found) → IsTrueFound script f → is_in_partition f.meta all_times ≡ true
-in_partition script lawful f t =
-    body_within t.block.body f.meta.min_time f.meta.max_time (declared_lawful script f.ulid t.block t.is lawful).body t.times
+in_partition : (setting : Setting) → IsLawfulScript setting.script → (f : Found) → IsTrueFound setting f → is_in_partition f.meta all_times ≡ true
+in_partition setting lawful f t =
+    body_within t.block.body f.meta.min_time f.meta.max_time (declared_lawful setting f.ulid t.block t.is lawful).body t.times
 
 consistent : (f : Found) (delay : Span) → time_of f.ulid + delay.ms ≤ f.meta_read.ms → is_consistent f delay ≡ true
 consistent f delay old = or_left _ (is_late_source f.meta.source) (le-leb (time_of f.ulid + delay.ms) f.meta_read.ms old)
 
 -- ---- the entries of a sync
 
-module _ (script : Script) (journal : List Entry) (first : Entry) (entries : List Entry) (told : All (IsTold script journal) journal) (part : IsPart journal (first ∷ entries)) where
-  own_entry : (e : Entry) → Contains (first ∷ entries) e → first.seq ≤ e.seq → first.moment.ms ≤ e.moment.ms → IsOwn script journal first entries e
-  own_entry e among later after = record { told = All-contains (IsTold script journal) journal e told (part.among e among); among = among; later = later; after = after }
+module _ (setting : Setting) (journal : List Entry) (first : Entry) (entries : List Entry) (told : All (IsTold setting journal) journal) (part : IsPart journal (first ∷ entries)) where
+  own_entry : (e : Entry) → Contains (first ∷ entries) e → first.seq ≤ e.seq → first.moment.ms ≤ e.moment.ms → IsOwn setting journal first entries e
+  own_entry e among later after = record { told = All-contains (IsTold setting journal) journal e told (part.among e among); among = among; later = later; after = after }
 
   own_later : (es : List Entry) → ((e : Entry) → Contains es e → Contains (first ∷ entries) e) → All (λ (x : Entry). (first.seq < x.seq) × (first.moment.ms ≤ x.moment.ms)) es
-      → AllByRecursion (IsOwn script journal first entries) es
+      → AllByRecursion (IsOwn setting journal first entries) es
   own_later [] within all = tt
   own_later (e ∷ es) within all =
       let own = all 0 e (omega arith) in (
@@ -79,13 +69,13 @@ module _ (script : Script) (journal : List Entry) (first : Entry) (entries : Lis
         own_later es (λ x among. within x (contains_later e x es among)) (All-tail (λ (x : Entry). (first.seq < x.seq) × (first.moment.ms ≤ x.moment.ms)) e es all),
       )
 
-  pub own_entries : AllByRecursion (IsOwn script journal first entries) (first ∷ entries)
+  pub own_entries : AllByRecursion (IsOwn setting journal first entries) (first ∷ entries)
   own_entries = (own_entry first (contains_first first entries) (omega arith) (omega arith), own_later entries (λ e among. contains_later first e entries among) part.rises.0)
 
 -- ---- what a sync found
 
-meta_true : (script : Script) (f : Found) (meta : MetaFields) → meta ≡ fields_of f.meta → f.ulid < 2 ^ 128 → IsMetaOf script f.ulid meta → IsTrueFound script f
-meta_true script f meta same small m = record {
+meta_true : (setting : Setting) (f : Found) (meta : MetaFields) → meta ≡ fields_of f.meta → f.ulid < 2 ^ 128 → IsMetaOf setting f.ulid meta → IsTrueFound setting f
+meta_true setting f meta same small m = record {
   block = m.block;
   is = m.is;
   small = small;
@@ -101,68 +91,68 @@ some_of : {X : Type 0} (o : Option X) → is_some o ≡ true → (x : X) × (o �
 some_of None is = absurd (cc (is))
 some_of (Some x) is = (x, refl)
 
-module _ (script : Script) (readable : IsReadable script) (journal : List Entry) (first : Entry) (entries : List Entry) where
+module _ (setting : Setting) (readable : IsReadable setting) (journal : List Entry) (first : Entry) (entries : List Entry) where
   -- it is a block of the script
-  sighted_true : (f : Found) → IsSighted script journal first entries (sighting_of f) → IsTrueFound script f
+  sighted_true : (f : Found) → IsSighted setting journal first entries (sighting_of f) → IsTrueFound setting f
   sighted_true f s =
       let shipped = s.own.told.found (key.Meta f.ulid) s.bytes s.small s.asks s.found in
-      let m = meta_found script readable f.ulid s.bytes shipped.0 in
-      meta_true script f m.0 (same_meta m.0 (fields_of f.meta) _ m.1 s.read) s.small m.2
+      let m = meta_found setting readable f.ulid s.bytes shipped.0 in
+      meta_true setting f m.0 (same_meta m.0 (fields_of f.meta) _ m.1 s.read) s.small m.2
 
   -- and was complete before the sync's last entry
-  sighted_uploaded : Rises journal → IsPart journal (first ∷ entries) → (f : Found) → IsSighted script journal first entries (sighting_of f) → IsUploadedBefore script journal f.ulid (last_number (first ∷ entries))
+  sighted_uploaded : Rises journal → IsPart journal (first ∷ entries) → (f : Found) → IsSighted setting journal first entries (sighting_of f) → IsUploadedBefore setting journal f.ulid (last_number (first ∷ entries))
   sighted_uploaded rises part f s =
       let shipped = s.own.told.found (key.Meta f.ulid) s.bytes s.small s.asks s.found in
-      uploaded_before script journal f.ulid s.entry.seq (last_number (first ∷ entries)) s.bytes shipped.0.block rises shipped.0.is shipped.1
+      uploaded_before setting journal f.ulid s.entry.seq (last_number (first ∷ entries)) s.bytes shipped.0.block rises shipped.0.is shipped.1
       (within_last s.entry (first ∷ entries) part.rises s.own.among)
 
-  past_of : (ulid : ℕ) → IsUploadedBefore script journal ulid first.seq → IsPast script journal first entries ulid
+  past_of : (ulid : ℕ) → IsUploadedBefore setting journal ulid first.seq → IsPast setting journal first entries ulid
   past_of ulid uploaded =
-      let is = some_of (declared script ulid) uploaded.is_declared in
+      let is = some_of (declared setting.script ulid) uploaded.is_declared in
       let put = put_before journal ulid uploaded.seq first.seq uploaded.completed uploaded.earlier in
       record { small = readable.small ulid is.0 is.1; bytes = put.0; put = put.1 }
 
-  old_enough : (f : Found) (ulid c begin : ℕ) → f.ulid ≡ ulid → time_of ulid + c ≤ begin → begin ≤ first.moment.ms → IsSighted script journal first entries (sighting_of f) → time_of f.ulid + c ≤ f.meta_read.ms
+  old_enough : (f : Found) (ulid c begin : ℕ) → f.ulid ≡ ulid → time_of ulid + c ≤ begin → begin ≤ first.moment.ms → IsSighted setting journal first entries (sighting_of f) → time_of f.ulid + c ≤ f.meta_read.ms
   old_enough f ulid c begin same old late s =
       let read : f.meta_read.ms ≡ s.entry.moment.ms = ap (λ m. m.ms) s.at_moment in
       subst (λ u. time_of u + c ≤ f.meta_read.ms) (sym same) (omega (arith, old, late, s.own.after, read))
 
   -- what was settled before the sync began is kept
-  settled_kept : IsLawfulScript script → (view : View) → FindsPast script journal first entries (sync_rules script.rules) view → (ulid : ℕ) → IsUploadedBefore script journal ulid view.first
-      → time_of ulid + script.rules.consistency.ms ≤ view.begin.ms → (f : Found) × Contains view.kept f × (f.ulid ≡ ulid)
-  settled_kept lawful view finds ulid uploaded old =
-      let past = past_of ulid (subst (IsUploadedBefore script journal ulid) finds.number uploaded) in
+  settled_kept : IsLawfulScript setting.script → (gateway : ℕ) (view : View) → FindsPast setting journal first entries (sync_rules setting gateway) view → (ulid : ℕ) → IsUploadedBefore setting journal ulid view.first
+      → time_of ulid + setting.script.rules.consistency.ms ≤ view.begin.ms → (f : Found) × Contains view.kept f × (f.ulid ≡ ulid)
+  settled_kept lawful gateway view finds ulid uploaded old =
+      let past = past_of ulid (subst (IsUploadedBefore setting journal ulid) finds.number uploaded) in
       let found = finds.past ulid past in
       let f = found.0 in
-      let s = All-contains (λ (x : Found). IsSighted script journal first entries (sighting_of x)) finds.found f finds.all found.1 in
-      let time = old_enough f ulid script.rules.consistency.ms view.begin.ms found.2 old (omega (arith, ap (λ m. m.ms) finds.begin)) s in
-      let one = filter_among (λ (b : Found). is_in_partition b.meta all_times) finds.found f (in_partition script lawful f (sighted_true f s)) found.1 in
-      let two = filter_among (λ (b : Found). is_consistent b script.rules.consistency) _ f (consistent f script.rules.consistency time) one in
+      let s = All-contains (λ (x : Found). IsSighted setting journal first entries (sighting_of x)) finds.found f finds.all found.1 in
+      let time = old_enough f ulid setting.script.rules.consistency.ms view.begin.ms found.2 old (omega (arith, ap (λ m. m.ms) finds.begin)) s in
+      let one = passing (λ (b : Found). is_in_partition b.meta all_times) finds.found f found.1 (in_partition setting lawful f (sighted_true f s)) in
+      let two = passing (λ (b : Found). is_consistent b setting.script.rules.consistency) _ f one (consistent f setting.script.rules.consistency time) in
       (f, subst (λ fs. Contains fs f) (sym finds.kept) two, found.2)
 
-  of_found : (P : Found → Type 0) (view : View) (finds : FindsPast script journal first entries (sync_rules script.rules) view) → ((f : Found) → IsSighted script journal first entries (sighting_of f) → P f) → All P view.kept
-  of_found P view finds each =
-      let all = All-weaker (λ (x : Found). IsSighted script journal first entries (sighting_of x)) P each finds.found finds.all in
+  of_found : (gateway : ℕ) (P : Found → Type 0) (view : View) (finds : FindsPast setting journal first entries (sync_rules setting gateway) view) → ((f : Found) → IsSighted setting journal first entries (sighting_of f) → P f) → All P view.kept
+  of_found gateway P view finds each =
+      let all = All-weaker (λ (x : Found). IsSighted setting journal first entries (sighting_of x)) P each finds.found finds.all in
       subst (All P) (sym finds.kept) (All-filter _ P _ (All-filter _ P finds.found all))
 
 -- ---- true views
 
-true_from : (script : Script) (journal : List Entry) (used : Use) → IsLawfulScript script → IsReadable script → Rises journal → All (IsTold script journal) journal → (entries : List Entry)
-    → SyncRun (sync_rules script.rules) entries (Some (fetched.View used.view)) → used.last ≡ last_number entries → IsPart journal entries → IsTrueView script journal used
-true_from script journal used lawful readable rises told [] run last part = absurd ((let none = run.1 in cc (none)))
-true_from script journal used lawful readable rises told (first ∷ entries) run last part =
-    let finds = finds_past script journal first entries (sync_rules script.rules) used.view (own_entries script journal first entries told part) run in
+true_from : (setting : Setting) (journal : List Entry) (used : Use) → IsLawfulScript setting.script → IsReadable setting → Rises journal → All (IsTold setting journal) journal → (gateway : ℕ) (entries : List Entry)
+    → SyncRun (sync_rules setting gateway) entries (Some (fetched.View used.view)) → used.last ≡ last_number entries → IsPart journal entries → IsTrueView setting journal used
+true_from setting journal used lawful readable rises told gateway [] run last part = absurd ((let none = run.1 in cc (none)))
+true_from setting journal used lawful readable rises told gateway (first ∷ entries) run last part =
+    let finds = finds_past setting journal first entries (sync_rules setting gateway) used.view (own_entries setting journal first entries told part) run in
     record {
-      kept = of_found script readable journal first entries (IsTrueFound script) used.view finds (sighted_true script readable journal first entries);
-      uploaded = of_found script readable journal first entries (λ (f : Found). IsUploadedBefore script journal f.ulid used.last) used.view finds
-          (λ f s. subst (IsUploadedBefore script journal f.ulid) (sym last) (sighted_uploaded script readable journal first entries rises part f s));
-      settled = λ ulid settled. settled_kept script readable journal first entries lawful used.view finds ulid settled.uploaded settled.old;
+      kept = of_found setting readable journal first entries gateway (IsTrueFound setting) used.view finds (sighted_true setting readable journal first entries);
+      uploaded = of_found setting readable journal first entries gateway (λ (f : Found). IsUploadedBefore setting journal f.ulid used.last) used.view finds
+          (λ f s. subst (IsUploadedBefore setting journal f.ulid) (sym last) (sighted_uploaded setting readable journal first entries rises part f s));
+      settled = λ ulid settled. settled_kept setting readable journal first entries lawful gateway used.view finds ulid settled.uploaded settled.old;
     }
 
 -- a view that a sync of the journal gave is true
-pub origin_is_true : (script : Script) (journal : List Entry) (used : Use) → IsLawfulScript script → IsReadable script → Rises journal → All (IsTold script journal) journal
-    → IsOrigin script journal used → IsTrueView script journal used
-origin_is_true script journal used lawful readable rises told origin = true_from script journal used lawful readable rises told origin.entries origin.run origin.last origin.part
+pub origin_is_true : (setting : Setting) (journal : List Entry) (used : Use) → IsLawfulScript setting.script → IsReadable setting → Rises journal → All (IsTold setting journal) journal
+    → IsOrigin setting journal used → IsTrueView setting journal used
+origin_is_true setting journal used lawful readable rises told origin = true_from setting journal used lawful readable rises told origin.gateway origin.entries origin.run origin.last origin.part
 
 -- ---- nothing is damaged
 
@@ -173,22 +163,22 @@ IsUndamaged made (sync_told.fault number) = Unit {0}
 IsUndamaged made (sync_told.damaged number) = ⊥
 IsUndamaged made sync_told.too_many = Unit {0}
 
-module _ (script : Script) (readable : IsReadable script) (journal : List Entry) (first : Entry) (entries : List Entry) where
-  undamaged_reads : KeptByReads (IsOwn script journal first entries) IsUndamaged (λ made sightings ulids. AreSmall ulids)
+module _ (setting : Setting) (readable : IsReadable setting) (journal : List Entry) (first : Entry) (entries : List Entry) where
+  undamaged_reads : KeptByReads (IsOwn setting journal first entries) IsUndamaged (λ made sightings ulids. AreSmall ulids)
   undamaged_reads = record {
     over = λ made sightings small. tt;
     mark_failed = λ made sightings ulid ulids e landed came. tt;
-    marked = λ made sightings ulid ulids e bytes came. no_mark script ulid bytes (came.given.told.found (key.Mark ulid) bytes came.before.0 came.asks came.shows).0;
+    marked = λ made sightings ulid ulids e bytes came. no_mark setting ulid bytes (came.given.told.found (key.Mark ulid) bytes came.before.0 came.asks came.shows).0;
     unmarked = λ made sightings ulid ulids e came. came.before;
     meta_failed = λ made sightings ulid ulids e landed came. tt;
     unread = λ made sightings ulid ulids e bytes came none.
-        let m = meta_found script readable ulid bytes (came.given.told.found (key.Meta ulid) bytes came.before.0 came.asks came.shows).0 in
+        let m = meta_found setting readable ulid bytes (came.given.told.found (key.Meta ulid) bytes came.before.0 came.asks came.shows).0 in
         cc (none, m.1);
     seen = λ made sightings ulid ulids e bytes mark_read meta came read. came.before.1;
     missed = λ made sightings ulid ulids e came. came.before.1;
   }
 
-  undamaged_pages : (limit : ℕ) → KeptByPages (IsOwn script journal first entries) IsUndamaged limit (λ made listed. Unit {0}) (λ made listed. Unit {0})
+  undamaged_pages : (limit : ℕ) → KeptByPages (IsOwn setting journal first entries) IsUndamaged limit (λ made listed. Unit {0}) (λ made listed. Unit {0})
   undamaged_pages limit = record {
     failed = λ made listed page landed came. tt;
     unordered = λ made listed names page came down. both_ways _ down (ascends_after (last_listed listed) names (came.given.told.ascend _ limit names came.asks came.shows));
@@ -205,11 +195,11 @@ not_damaged rules made (sync_told.damaged other) course number own is = own
 not_damaged rules made sync_told.too_many course number own is = cc (is)
 
 -- no sync of the journal finds names or bytes that are not of the form
-pub syncs_undamaged : (script : Script) (journal entries : List Entry) (number : ℕ) → IsLawfulScript script → IsReadable script → All (IsTold script journal) journal → IsPart journal entries
-    → ¬ SyncRun (sync_rules script.rules) entries (Some (fetched.Damaged number))
-syncs_undamaged script journal [] number lawful readable told part run = (let none = run.1 in cc (none))
-syncs_undamaged script journal (first ∷ entries) number lawful readable told part run =
-    let s = synced (IsOwn script journal first entries) IsUndamaged (sync_rules script.rules) (λ made listed. Unit {0}) (λ made listed. Unit {0}) (λ made sightings ulids. AreSmall ulids)
-    (undamaged_pages script readable journal first entries script.rules.page_limit) (undamaged_reads script readable journal first entries) tt (λ made names l. ulids_small names)
-    (first ∷ entries) (fetched.Damaged number) (own_entries script journal first entries told part) run in
-    not_damaged (sync_rules script.rules) (first ∷ entries) s.0 (fold with_entry None (first ∷ entries)) number s.1 s.2
+pub syncs_undamaged : (setting : Setting) (gateway : ℕ) (journal entries : List Entry) (number : ℕ) → IsLawfulScript setting.script → IsReadable setting → All (IsTold setting journal) journal → IsPart journal entries
+    → ¬ SyncRun (sync_rules setting gateway) entries (Some (fetched.Damaged number))
+syncs_undamaged setting gateway journal [] number lawful readable told part run = (let none = run.1 in cc (none))
+syncs_undamaged setting gateway journal (first ∷ entries) number lawful readable told part run =
+    let s = synced (IsOwn setting journal first entries) IsUndamaged (sync_rules setting gateway) (λ made listed. Unit {0}) (λ made listed. Unit {0}) (λ made sightings ulids. AreSmall ulids)
+    (undamaged_pages setting readable journal first entries setting.script.rules.page_limit) (undamaged_reads setting readable journal first entries) tt (λ made names l. ulids_small names)
+    (first ∷ entries) (fetched.Damaged number) (own_entries setting journal first entries told part) run in
+    not_damaged (sync_rules setting gateway) (first ∷ entries) s.0 (fold with_entry None (first ∷ entries)) number s.1 s.2

@@ -23,7 +23,6 @@ use Rattle.script_workers.specs.Works.{has_sync, is_sync_of, works_in, works_of}
 use Rattle.script_workers.specs.declared.hand.Hand.{Hand}
 use Rattle.script_workers.specs.declared.hand.Hand.TheVariants as hands
 use Rattle.script_workers.specs.declared.phase.Phase.{Phase}
-use Rattle.script_core.specs.declared.script.Script.{Script}
 use Rattle.script_workers.specs.declared.task.Task.{Task}
 use Rattle.script_workers.specs.declared.work.Work.{Work}
 use Rattle.script_workers.specs.declared.work.Work.TheVariants.{Upload, Sync, Query}
@@ -31,17 +30,23 @@ use Rattle.script_workers.specs.declared.worker.Worker.{Worker}
 use Rattle.script_workers.proofs.HandLaws.{does_for, for_does, tested}
 use Rattle.script_workers.proofs.StaffLaws.{is_staff, next_place}
 use Rattle.lifecycle_core.specs.Causes.{SomeCame}
-use Rattle.lifecycle_core.specs.Phases.{AreDone, IsRunOf, PhaseRun, PhasesRun, TasksAt, TasksRun, WorkerRun, of_seat}
-use Rattle.lifecycle_core.specs.Tasks.{End, QueryTask, TaskRun, asked_by, stopped, synced, uploaded, view_after, without_view}
-use Rattle.lifecycle_core.specs.Views.{Use, Views, no_views, view_of}
+use Rattle.lifecycle_core.specs.Conducts.{AreDone, Assigned, PhaseRun, TasksAt, TasksRun, Who, WorkerRun, of_seat}
+use Rattle.lifecycle_core.specs.Holdings.{Holding, Holdings, Use, holding_of, none_held, nothing_held}
+use Rattle.lifecycle_core.specs.Phases.{IsInTurn, IsRunOf, by_script, by_workers}
+use Rattle.lifecycle_core.specs.Setting.{Setting}
+use Rattle.lifecycle_core.specs.Tasks.{End, QueryTask, TaskRun, asked_by, stopped, synced, synced_with, uploaded, without_view}
+use Rattle.lifecycle_core.specs.Ways.{AreInTurn, PhasesRun}
 use Rattle.lifecycle_core.proofs.phases.Duties.{same_is}
 use Rattle.lifecycle_core.proofs.journals.Positions.{zip_left, zip_right}
-use Rattle.lifecycle_core.proofs.phases.TaskRuns.{task_leaves}
 
 -- there is a view
-abbrev HasView : Option Use → Type 0
-HasView None = ⊥
-HasView (Some used) = Unit {0}
+abbrev IsThere : Option Use → Type 0
+IsThere None = ⊥
+IsThere (Some used) = Unit {0}
+
+-- a worker holds a view
+abbrev HasView : Holding → Type 0
+HasView held = IsThere held.used
 
 -- an end that is a sync's gives a view
 abbrev GivesView : End → Type 0
@@ -89,39 +94,37 @@ module _ (count g : ℕ) where
 
 -- ---- a task's end
 
-sync_end : (view : Option Use) (made : List Entry) (end : End) (own : Option SyncEnd) → GivesView end → Some end ≡ option_map synced own → HasView (view_after view made end) × (end ≢ without_view)
-sync_end view made end None good is = absurd (cc (is))
-sync_end view made end (Some e) good is =
+sync_end : (held after : Holding) (made : List Entry) (end : End) (own : Option SyncEnd) → GivesView end → Some end ≡ option_map synced own → after ≡ synced_with held made own → HasView after × (end ≢ without_view)
+sync_end held after made end None good is left = absurd (cc (is))
+sync_end held after made end (Some e) good is left =
     let same : end ≡ synced e = cc (is) in
     let v = good e same in
-    let all : end ≡ synced (fetched.View v.0) = same ∙ ap (λ x. synced x) v.1 in
-    (subst (λ x. HasView (view_after view made x)) (sym all) tt, λ no. absurd (cc (all, no)))
+    let all : after ≡ synced_with held made (Some (fetched.View v.0)) = left ∙ ap (λ (x : SyncEnd). synced_with held made (Some x)) v.1 in
+    (subst HasView (sym all) tt, λ no. absurd (cc (same, no)))
 
 uploaded_end : (end : End) (own : Option UploadEnd) → Some end ≡ option_map uploaded own → end ≢ without_view
 uploaded_end end None is = absurd (cc (is))
 uploaded_end end (Some e) is = λ no. absurd (cc (is, no))
 
-query_end : (script : Script) (view : Option Use) (asked : Option Question) (made : List Entry) (end : End) → HasView view → QueryTask script view asked made (Some end) → end ≢ without_view
-query_end script None asked made end has run = absurd has
-query_end script (Some used) None made end has run = absurd run
-query_end script (Some used) (Some q) made end has (None, run, is) = absurd (cc (is))
-query_end script (Some used) (Some q) made end has (Some own, run, is) = λ no. absurd (cc (is, no))
+query_end : (used : Option Use) (asked : Option Question) (made : List Entry) (end : End) → IsThere used → QueryTask used asked made (Some end) → end ≢ without_view
+query_end None asked made end has run = absurd has
+query_end (Some used) None made end has run = absurd run
+query_end (Some used) (Some q) made end has (None, run, is) = absurd (cc (is))
+query_end (Some used) (Some q) made end has (Some own, run, is) = λ no. absurd (cc (is, no))
 
 -- with a view where one is needed, no task ends for want of one
-ends_well : (script : Script) (w : Work) (view : Option Use) (made : List Entry) (end : End) → GivesView end → (IsQuery w → HasView view) → TaskRun script view w made (Some end) → end ≢ without_view
-ends_well script (Upload ulid stop) view made end good known run =
-    elim (run.2).4 [ inl went ↦ uploaded_end end (run.2).1 went.0 | inr went ↦ λ no. let is : end ≡ stopped went.0 = cc (went.4) in absurd (cc (is, no)) ]
-ends_well script (Sync own) view made end good known run = (sync_end view made end run.0 good run.2).1
-ends_well script (Query low high selector) view made end good known run = query_end script view (asked_by script selector low high) made end (known tt) run
+ends_well : (setting : Setting) (who : Who) (place : ℕ) (w : Work) (held after : Holding) (made : List Entry) (end : End) → GivesView end → (IsQuery w → HasView held) → TaskRun setting who place w held made (Some end) after → end ≢ without_view
+ends_well setting who place (Upload ulid stop) held after made end good known ((block, is, (objects, own, shipped, run, how)), left) =
+    elim how [ inl went ↦ uploaded_end end own went.0 | inr went ↦ λ no. let same : end ≡ stopped went.0 = cc (went.4) in absurd (cc (same, no)) ]
+ends_well setting who place (Sync gateway) held after made end good known (own, run, is, left) = (sync_end held after made end own good is left).1
+ends_well setting who place (Query low high selector) held after made end good known (run, left) = query_end held.used (asked_by setting who.gateway selector low high) made end (known tt) run
 
 -- and a view is there after it where a sync was seen before it, or it is one
-leaves_well : (script : Script) (g : ℕ) (seen : Bool) (w : Work) (view : Option Use) (made : List Entry) (end : End) → GivesView end → (seen ≡ true → HasView view) → TaskRun script view w made (Some end) → (seen || is_sync_of g w) ≡ true
-    → HasView (view_after view made end)
-leaves_well script g seen (Upload ulid stop) view made end good known run h =
-    task_leaves HasView script view (known (or_none seen false refl h)) made (Upload ulid stop) end (λ own sync new is. tt) run
-leaves_well script g seen (Sync own) view made end good known run h = (sync_end view made end run.0 good run.2).0
-leaves_well script g seen (Query low high selector) view made end good known run h =
-    task_leaves HasView script view (known (or_none seen false refl h)) made (Query low high selector) end (λ own sync new is. tt) run
+leaves_well : (setting : Setting) (g : ℕ) (seen : Bool) (who : Who) (place : ℕ) (w : Work) (held after : Holding) (made : List Entry) (end : End) → GivesView end → (seen ≡ true → HasView held) → TaskRun setting who place w held made (Some end) after → (seen || is_sync_of g w) ≡ true
+    → HasView after
+leaves_well setting g seen who place (Upload ulid stop) held after made end good known (run, left) h = subst HasView (sym left) (known (or_none seen false refl h))
+leaves_well setting g seen who place (Sync gateway) held after made end good known (own, run, is, left) h = (sync_end held after made end own good is left).0
+leaves_well setting g seen who place (Query low high selector) held after made end good known (run, left) h = subst HasView (sym left) (known (or_none seen false refl h))
 
 -- ---- a gateway's own tasks
 
@@ -149,21 +152,22 @@ for_upload gateways p place w (syncs gateway is who) query = subst IsQuery is qu
 for_upload gateways p place w (asks low high selector gateway is who below) query = absurd (cc (who))
 
 -- the tasks of a hand, from a place on
-unfoldable owned : ℕ → Hand → ℕ → List Task → List Task
+unfoldable owned : ℕ → Hand → ℕ → List Task → List Assigned
 owned gateways hand base [] = []
-owned gateways hand base (task ∷ tasks) = cond (does gateways hand base task.work) (task ∷ owned gateways hand (base + 1) tasks) (owned gateways hand (base + 1) tasks)
+owned gateways hand base (task ∷ tasks) =
+    cond (does gateways hand base task.work) (record { place = base; task = task } ∷ owned gateways hand (base + 1) tasks) (owned gateways hand (base + 1) tasks)
 
-owned_by : (whole : List Task) (base : ℕ) (task : Task) (places : List ℕ) (others found : List Task) (b : Bool) → slice_get whole base ≡ Some task → ((f : List Task) → TasksAt whole places f → f ≡ others)
-    → TasksAt whole (cond b (base ∷ places) places) found → found ≡ cond b (task ∷ others) others
+owned_by : (whole : List Task) (base : ℕ) (task : Task) (places : List ℕ) (others found : List Assigned) (b : Bool) → slice_get whole base ≡ Some task → ((f : List Assigned) → TasksAt whole places f → f ≡ others)
+    → TasksAt whole (cond b (base ∷ places) places) found → found ≡ cond b (record { place = base; task = task } ∷ others) others
 owned_by whole base task places others [] true is later at = absurd at
 owned_by whole base task places others (t ∷ found) true is later at =
-    let one : t ≡ task = cc (is, at.0) in
+    let one : t.task ≡ task = cc (is, (at.0).1) in
     let more : found ≡ others = later found at.1 in
-    cc (one, more)
+    λ i. record { place = (at.0).0 i; task = one i } ∷ more i
 owned_by whole base task places others found false is later at = later found at
 
 -- they stand at the hand's places
-owned_are : (gateways : ℕ) (hand : Hand) (whole : List Task) (base : ℕ) (tasks found : List Task) → ((k : ℕ) → slice_get tasks k ≡ slice_get whole (base + k)) → TasksAt whole (places_from gateways hand base tasks) found
+owned_are : (gateways : ℕ) (hand : Hand) (whole : List Task) (base : ℕ) (tasks : List Task) (found : List Assigned) → ((k : ℕ) → slice_get tasks k ≡ slice_get whole (base + k)) → TasksAt whole (places_from gateways hand base tasks) found
     → found ≡ owned gateways hand base tasks
 unfolding places_from owned
 owned_are gateways hand whole base [] found tails at = at
@@ -173,7 +177,7 @@ owned_are gateways hand whole base (task ∷ tasks) found tails at =
     (sym (tails 0 ∙ ap (slice_get whole) zeroth))
     (λ f are. owned_are gateways hand whole (base + 1) tasks f (λ k. tails (suc k) ∙ ap (slice_get whole) (next_place base k)) are) at
 
-long_at : (whole : List Task) (places : List ℕ) (found : List Task) → TasksAt whole places found → length found ≡ length places
+long_at : (whole : List Task) (places : List ℕ) (found : List Assigned) → TasksAt whole places found → length found ≡ length places
 long_at whole [] found at = ap length at
 long_at whole (place ∷ places) [] at = absurd at
 long_at whole (place ∷ places) (task ∷ found) at = ap (λ n. suc n) (long_at whole places found at.1)
@@ -191,12 +195,12 @@ not_in : (ends : List End) → ends ≡ [] → Contains ends without_view → �
 not_in [] none (k, below, is) = omega (arith, below)
 not_in (end ∷ ends) none among = absurd (cc (none))
 
-module _ (script : Script) where
+module _ (setting : Setting) where
   -- no task among these asks
-  abbrev NoQuery : List Task → Type 0
-  NoQuery own = AllByRecursion (λ (t : Task). IsQuery t.work → ⊥) own
+  abbrev NoQuery : List Assigned → Type 0
+  NoQuery own = AllByRecursion (λ (t : Assigned). IsQuery t.task.work → ⊥) own
 
-  no_query_by : (task : Task) (others : List Task) (b : Bool) → (b ≡ true → IsQuery task.work → ⊥) → NoQuery others → NoQuery (cond b (task ∷ others) others)
+  no_query_by : (task : Assigned) (others : List Assigned) (b : Bool) → (b ≡ true → IsQuery task.task.work → ⊥) → NoQuery others → NoQuery (cond b (task ∷ others) others)
   no_query_by task others true one rest = (one refl, rest)
   no_query_by task others false one rest = rest
 
@@ -204,49 +208,49 @@ module _ (script : Script) where
   unfolding owned
   no_query gateways p base [] = tt
   no_query gateways p base (task ∷ tasks) =
-      no_query_by task (owned gateways (hands.Upload p) (base + 1) tasks) (does gateways (hands.Upload p) base task.work) (λ is. for_upload gateways p base task.work (does_for gateways (hands.Upload p) base task.work is))
+      no_query_by (record { place = base; task = task }) (owned gateways (hands.Upload p) (base + 1) tasks) (does gateways (hands.Upload p) base task.work) (λ is. for_upload gateways p base task.work (does_for gateways (hands.Upload p) base task.work is))
       (no_query gateways p (base + 1) tasks)
 
   -- who asks nothing never wants for a view
-  unasked : (own : List Task) (view last : Option Use) (entries : List Entry) (ends : List End) → NoQuery own → GiveViews ends → TasksRun script view own entries ends last → Contains ends without_view → ⊥
-  unasked [] view last entries ends none good (nil, is, same) = not_in ends is
-  unasked (task ∷ own) view last entries ends none good (inr (run, is, same)) = not_in ends is
-  unasked (task ∷ own) view last entries ends none good (inl (made, others, end, later, parts, run, is, rest)) =
+  unasked : (who : Who) (all : List Entry) (own : List Assigned) (held last : Holding) (entries : List Entry) (ends : List End) → NoQuery own → GiveViews ends → TasksRun (by_script setting) who all held own entries ends last → Contains ends without_view → ⊥
+  unasked who all [] held last entries ends none good (nil, is, same) = not_in ends is
+  unasked who all (task ∷ own) held last entries ends none good (inr (run, is)) = not_in ends is
+  unasked who all (task ∷ own) held last entries ends none good (inl (made, others, end, later, next, parts, run, is, rest)) =
       let gives : GiveViews (end ∷ later) = subst GiveViews is good in
-      let one : end ≢ without_view = ends_well script task.work view made end (gives end (contains_first end later)) (λ query. absurd (none.0 query)) run in
-      let more = unasked own (view_after view made end) last others later none.1 (λ e among. gives e (contains_later end e later among)) rest in
+      let one : end ≢ without_view = ends_well setting who task.place task.task.work held next made end (gives end (contains_first end later)) (λ query. absurd (none.0 query)) run in
+      let more = unasked who all own next last others later none.1 (λ e among. gives e (contains_later end e later among)) rest in
       λ among. not_first end later one more (subst (λ l. Contains l without_view) is among)
 
   -- where a sync that was seen gave a view, these tasks ask one, and where they are done, each sync that is seen then gave one
-  abbrev AreAsked : Bool → Bool → List Task → Type 0
+  abbrev AreAsked : Bool → Bool → List Assigned → Type 0
   AreAsked seen final own =
-      (view last : Option Use) (entries : List Entry) (ends : List End) → (seen ≡ true → HasView view) → GiveViews ends → TasksRun script view own entries ends last
+      (who : Who) (all : List Entry) (held last : Holding) (entries : List Entry) (ends : List End) → (seen ≡ true → HasView held) → GiveViews ends → TasksRun (by_script setting) who all held own entries ends last
       → (Contains ends without_view → ⊥) × (length ends ≡ length own → final ≡ true → HasView last)
 
   module _ (g : ℕ) where
-    asked_one : (seen final : Bool) (task : Task) (others : List Task) → (IsQuery task.work → seen ≡ true) → AreAsked (seen || is_sync_of g task.work) final others → AreAsked seen final (task ∷ others)
-    asked_one seen final task others query rest view last entries ends known good (inr (run, is, same)) =
+    asked_one : (seen final : Bool) (task : Assigned) (others : List Assigned) → (IsQuery task.task.work → seen ≡ true) → AreAsked (seen || is_sync_of g task.task.work) final others → AreAsked seen final (task ∷ others)
+    asked_one seen final task others query rest who all held last entries ends known good (inr (run, is)) =
         (not_in ends is, λ long h. let none : length ends ≡ 0 = ap length is in absurd (omega (arith, none, long)))
-    asked_one seen final task others query rest view last entries ends known good (inl (made, more, end, later, parts, run, is, go)) =
+    asked_one seen final task others query rest who all held last entries ends known good (inl (made, more, end, later, next, parts, run, is, go)) =
         let gives : GiveViews (end ∷ later) = subst GiveViews is good in
         let own = gives end (contains_first end later) in
-        let one : end ≢ without_view = ends_well script task.work view made end own (λ q. known (query q)) run in
-        let next = rest (view_after view made end) last more later (leaves_well script g seen task.work view made end own known run) (λ e among. gives e (contains_later end e later among)) go in
+        let one : end ≢ without_view = ends_well setting who task.place task.task.work held next made end own (λ q. known (query q)) run in
+        let tail = rest who all next last more later (leaves_well setting g seen who task.place task.task.work held next made end own known run) (λ e among. gives e (contains_later end e later among)) go in
         let size : length ends ≡ suc (length later) = ap length is in
-        (λ among. not_first end later one next.0 (subst (λ l. Contains l without_view) is among), λ long. next.1 (omega (arith, size, long)))
+        (λ among. not_first end later one tail.0 (subst (λ l. Contains l without_view) is among), λ long. tail.1 (omega (arith, size, long)))
 
-    asked_by_test : (seen final : Bool) (task : Task) (others : List Task) (b : Bool) → (b ≡ true → IsQuery task.work → seen ≡ true) → (b ≡ false → is_sync_of g task.work ≡ false)
-        → AreAsked (seen || is_sync_of g task.work) final others → AreAsked seen final (cond b (task ∷ others) others)
+    asked_by_test : (seen final : Bool) (task : Assigned) (others : List Assigned) (b : Bool) → (b ≡ true → IsQuery task.task.work → seen ≡ true) → (b ≡ false → is_sync_of g task.task.work ≡ false)
+        → AreAsked (seen || is_sync_of g task.task.work) final others → AreAsked seen final (cond b (task ∷ others) others)
     asked_by_test seen final task others true query apart rest = asked_one seen final task others (query refl) rest
-    asked_by_test seen final task others false query apart rest = λ view last entries ends known good run.
-        rest view last entries ends (λ h. known (or_none seen (is_sync_of g task.work) (apart refl) h)) good run
+    asked_by_test seen final task others false query apart rest = λ who all held last entries ends known good run.
+        rest who all held last entries ends (λ h. known (or_none seen (is_sync_of g task.task.work) (apart refl) h)) good run
 
     are_asked : (gateways count : ℕ) → gateways ≤ count → (seen : Bool) (base : ℕ) (tasks : List Task) → AreSynced count g seen (works_in tasks) → AreAsked seen (seen || has_sync (works_in tasks) g) (owned gateways (hands.Gateway g) base tasks)
     unfolding owned
-    are_asked gateways count few seen base [] all = λ view last entries ends known good run.
+    are_asked gateways count few seen base [] ordered = λ who all held last entries ends known good run.
         (not_in ends run.1, λ long h. subst HasView (sym run.2) (known (or_none seen false refl h)))
     are_asked gateways count few seen base (task ∷ tasks) all =
-        asked_by_test seen (seen || has_sync (works_in (task ∷ tasks)) g) task (owned gateways (hands.Gateway g) (base + 1) tasks) (does gateways (hands.Gateway g) base task.work)
+        asked_by_test seen (seen || has_sync (works_in (task ∷ tasks)) g) (record { place = base; task = task }) (owned gateways (hands.Gateway g) (base + 1) tasks) (does gateways (hands.Gateway g) base task.work)
         (λ is query. let below = for_query gateways g base task.work (does_for gateways (hands.Gateway g) base task.work is) query in all.0 query (omega (arith, below, few)))
         (not_own gateways g base task.work)
         (subst (λ f. AreAsked (seen || is_sync_of g task.work) f (owned gateways (hands.Gateway g) (base + 1) tasks)) (or_assoc seen (is_sync_of g task.work) (has_sync (works_in tasks) g))
@@ -335,33 +339,33 @@ with_done Own (w ∷ ws) (e ∷ es) all done =
     let more : AreDone ws es = cc (done) in
     ((all.0, one), with_done Own ws es all.1 more)
 
-module _ (script : Script) (gateways : ℕ) (few : gateways ≤ length script.gateways) (tasks : List Task) (workers : List Worker) (views : Views) (made : List Entry) (ends : List (List End)) (after : Views)
-    (run : PhaseRun script tasks workers views made ends after) (of_hand : AllByRecursion (OfHand gateways tasks) workers) (seen : ℕ → Bool) (ordered : (g : ℕ) → AreSynced (length script.gateways) g (seen g) (works_in tasks))
+module _ (setting : Setting) (gateways : ℕ) (few : gateways ≤ length setting.script.gateways) (tasks : List Task) (workers : List Worker) (views : Holdings) (made : List Entry) (ends : List (List End)) (after : Holdings)
+    (run : PhaseRun (by_script setting) tasks workers views made ends after) (of_hand : AllByRecursion (OfHand gateways tasks) workers) (seen : ℕ → Bool) (ordered : (g : ℕ) → AreSynced (length setting.script.gateways) g (seen g) (works_in tasks))
     (known : (g : ℕ) → seen g ≡ true → HasView (views g)) (gives : (own : List End) → Contains ends own → GiveViews own) where
   abbrev Own : Worker → List End → Type 0
-  Own worker own = OfHand gateways tasks worker × WorkerRun script tasks views made after worker own
+  Own worker own = OfHand gateways tasks worker × WorkerRun (by_script setting) tasks views made after worker own
 
   owns : AllZip Own workers ends
-  owns = with_hands (OfHand gateways tasks) (WorkerRun script tasks views made after) workers ends of_hand run.runs
+  owns = with_hands (OfHand gateways tasks) (WorkerRun (by_script setting) tasks views made after) workers ends of_hand run.runs
 
-  its_tasks : (hand : Hand) (worker : Worker) (own : List End) → worker.tasks ≡ places_from gateways hand 0 tasks → (w : WorkerRun script tasks views made after worker own) → w.own ≡ owned gateways hand 0 tasks
+  its_tasks : (hand : Hand) (worker : Worker) (own : List End) → worker.tasks ≡ places_from gateways hand 0 tasks → (w : WorkerRun (by_script setting) tasks views made after worker own) → w.own ≡ owned gateways hand 0 tasks
   its_tasks hand worker own places w =
       owned_are gateways hand tasks 0 tasks w.own (λ k. let same : k ≡ 0 + k = omega arith in ap (slice_get tasks) same) (subst (λ p. TasksAt tasks p w.own) places w.are)
 
-  its_runs : (hand : Hand) (worker : Worker) (own : List End) → worker.gateway ≡ gateway_of hand → worker.tasks ≡ places_from gateways hand 0 tasks → (w : WorkerRun script tasks views made after worker own)
-      → TasksRun script (view_of views (gateway_of hand)) (owned gateways hand 0 tasks) (of_seat worker.seat made) own w.last
+  its_runs : (hand : Hand) (worker : Worker) (own : List End) → worker.gateway ≡ gateway_of hand → worker.tasks ≡ places_from gateways hand 0 tasks → (w : WorkerRun (by_script setting) tasks views made after worker own)
+      → TasksRun (by_script setting) (record { seat = worker.seat; gateway = gateway_of hand }) made (holding_of views (gateway_of hand)) (owned gateways hand 0 tasks) (of_seat worker.seat made) own w.last
   its_runs hand worker own gateway places w =
-      subst (λ ts. TasksRun script (view_of views (gateway_of hand)) ts (of_seat worker.seat made) own w.last) (its_tasks hand worker own places w)
-      (subst (λ g. TasksRun script (view_of views g) w.own (of_seat worker.seat made) own w.last) gateway w.runs)
+      subst (λ ts. TasksRun (by_script setting) (record { seat = worker.seat; gateway = gateway_of hand }) made (holding_of views (gateway_of hand)) ts (of_seat worker.seat made) own w.last) (its_tasks hand worker own places w)
+      (subst (λ g. TasksRun (by_script setting) (record { seat = worker.seat; gateway = g }) made (holding_of views g) w.own (of_seat worker.seat made) own w.last) gateway w.runs)
 
-  gateway_asks : (g : ℕ) → AreAsked script (seen g) (seen g || has_sync (works_in tasks) g) (owned gateways (hands.Gateway g) 0 tasks)
-  gateway_asks g = are_asked script g gateways (length script.gateways) few (seen g) 0 tasks (ordered g)
+  gateway_asks : (g : ℕ) → AreAsked setting (seen g) (seen g || has_sync (works_in tasks) g) (owned gateways (hands.Gateway g) 0 tasks)
+  gateway_asks g = are_asked setting g gateways (length setting.script.gateways) few (seen g) 0 tasks (ordered g)
 
   worker_none : (worker : Worker) (own : List End) → Own worker own → GiveViews own → Contains own without_view → ⊥
   worker_none worker own ((hands.Upload p, gateway, places), w) good =
-      unasked script (owned gateways (hands.Upload p) 0 tasks) None w.last (of_seat worker.seat made) own (no_query script gateways p 0 tasks) good (its_runs (hands.Upload p) worker own gateway places w)
+      unasked setting (record { seat = worker.seat; gateway = None }) made (owned gateways (hands.Upload p) 0 tasks) nothing_held w.last (of_seat worker.seat made) own (no_query setting gateways p 0 tasks) good (its_runs (hands.Upload p) worker own gateway places w)
   worker_none worker own ((hands.Gateway g, gateway, places), w) good =
-      (gateway_asks g (views g) w.last (of_seat worker.seat made) own (known g) good (its_runs (hands.Gateway g) worker own gateway places w)).0
+      (gateway_asks g (record { seat = worker.seat; gateway = Some g }) made (views g) w.last (of_seat worker.seat made) own (known g) good (its_runs (hands.Gateway g) worker own gateway places w)).0
 
   worker_has : (g : ℕ) (worker : Worker) (own : List End) → Own worker own → worker.gateway ≡ Some g → length worker.tasks ≡ length own → GiveViews own → (seen g || has_sync (works_in tasks) g) ≡ true → HasView (after g)
   worker_has g worker own ((hands.Upload p, gateway, places), w) is long good h = absurd (cc (gateway, is))
@@ -369,7 +373,7 @@ module _ (script : Script) (gateways : ℕ) (few : gateways ≤ length script.ga
       let same : own_g ≡ g = cc (gateway, is) in
       let at : worker.tasks ≡ places_from gateways (hands.Gateway g) 0 tasks = subst (λ n. worker.tasks ≡ places_from gateways (hands.Gateway n) 0 tasks) same places in
       let size : length own ≡ length (owned gateways (hands.Gateway g) 0 tasks) = sym long ∙ sym (long_at tasks worker.tasks w.own w.are) ∙ ap length (its_tasks (hands.Gateway g) worker own at w) in
-      let last = (gateway_asks g (views g) w.last (of_seat worker.seat made) own (known g) good (its_runs (hands.Gateway g) worker own is at w)).1 size h in
+      let last = (gateway_asks g (record { seat = worker.seat; gateway = Some g }) made (views g) w.last (of_seat worker.seat made) own (known g) good (its_runs (hands.Gateway g) worker own is at w)).1 size h in
       subst HasView (sym (w.leaves g is)) last
 
   -- nobody in the phase wants for a view
@@ -390,18 +394,18 @@ module _ (script : Script) (gateways : ℕ) (few : gateways ≤ length script.ga
 
 -- ---- all phases
 
-module _ (script : Script) where
+module _ (setting : Setting) where
   abbrev gateways : ℕ
-  gateways = gateway_count script.gateways
+  gateways = gateway_count setting.script.gateways
 
-  workers_are : (number : ℕ) (phase : Phase) → slice_get script.phases number ≡ Some phase → workers_of script number ≡ workers_from gateways (seats_before script number) phase.tasks (hands_of gateways phase.tasks)
-  workers_are number phase is = ap (workers_after script (seats_before script number)) is
+  workers_are : (number : ℕ) (phase : Phase) → slice_get setting.script.phases number ≡ Some phase → workers_of setting.script number ≡ workers_from gateways (seats_before setting.script number) phase.tasks (hands_of gateways phase.tasks)
+  workers_are number phase is = ap (workers_after setting.script (seats_before setting.script number)) is
 
-  are_of_hands : (number : ℕ) (phase : Phase) → slice_get script.phases number ≡ Some phase → AllByRecursion (OfHand gateways phase.tasks) (workers_of script number)
-  are_of_hands number phase is = subst (AllByRecursion (OfHand gateways phase.tasks)) (sym (workers_are number phase is)) (of_hands gateways phase.tasks (seats_before script number) (hands_of gateways phase.tasks))
+  are_of_hands : (number : ℕ) (phase : Phase) → slice_get setting.script.phases number ≡ Some phase → AllByRecursion (OfHand gateways phase.tasks) (workers_of setting.script number)
+  are_of_hands number phase is = subst (AllByRecursion (OfHand gateways phase.tasks)) (sym (workers_are number phase is)) (of_hands gateways phase.tasks (seats_before setting.script number) (hands_of gateways phase.tasks))
 
-  has_worker : (number : ℕ) (phase : Phase) → slice_get script.phases number ≡ Some phase → (g : ℕ) → All (λ (w : Worker). w.gateway ≢ Some g) (workers_of script number) → has_sync (works_in phase.tasks) g ≡ true → ⊥
-  has_worker number phase is g none = sync_there gateways phase.tasks (seats_before script number) g (subst (All (λ (w : Worker). w.gateway ≢ Some g)) (workers_are number phase is) none)
+  has_worker : (number : ℕ) (phase : Phase) → slice_get setting.script.phases number ≡ Some phase → (g : ℕ) → All (λ (w : Worker). w.gateway ≢ Some g) (workers_of setting.script number) → has_sync (works_in phase.tasks) g ≡ true → ⊥
+  has_worker number phase is g none = sync_there gateways phase.tasks (seats_before setting.script number) g (subst (All (λ (w : Worker). w.gateway ≢ Some g)) (workers_are number phase is) none)
 
   -- each sync that came to an end gave a view
   abbrev AllGive : List (List (List End)) → Type 0
@@ -421,29 +425,34 @@ module _ (script : Script) where
   first_or_later first later here more (told, own, (zero, below, is), two, three) = here own (subst (λ (l : List (List End)). Contains l own) (sym is) two) three
   first_or_later first later here more (told, own, (suc k, below, is), two, three) = more (told, own, (k, omega (arith, below), is), two, three)
 
-  phases_none : gateways ≤ length script.gateways → (number : ℕ) (seen : ℕ → Bool) (views : Views) (phases : List Phase) (entries : List Entry) (ends : List (List (List End))) → ((k : ℕ) → slice_get phases k ≡ slice_get script.phases (number + k))
-      → ((g : ℕ) → AreSynced (length script.gateways) g (seen g) (works_of phases)) → ((g : ℕ) → seen g ≡ true → HasView (views g)) → AllGive ends → PhasesRun script number views phases entries ends → SomeCame ends without_view → ⊥
-  phases_none few number seen views [] entries ends tails ordered known gives run = none_came ends run.1
-  phases_none few number seen views (phase ∷ phases) entries ends tails ordered known gives (inl none) = none_came ends none.1
-  phases_none few number seen views (phase ∷ phases) entries ends tails ordered known gives (inr (clock, made, others, first, later, after, parts, begins, run, are, how)) =
-      let at : slice_get script.phases number ≡ Some phase = let same : number + 0 ≡ number = omega arith in sym (tails 0 ∙ ap (slice_get script.phases) same) in
+  -- nobody wants for a view in phases of which none was begun
+  later_none : (later : List (List (List End))) → (later ≢ [] → SomeCame later without_view → ⊥) → SomeCame later without_view → ⊥
+  later_none [] more came = none_came [] refl came
+  later_none (first ∷ later) more came = more (λ none. cc (none)) came
+
+  phases_none : gateways ≤ length setting.script.gateways → (number : ℕ) (seen : ℕ → Bool) (views : Holdings) (phases : List Phase) (entries : List Entry) (ends : List (List (List End))) → ((k : ℕ) → slice_get phases k ≡ slice_get setting.script.phases (number + k))
+      → ((g : ℕ) → AreSynced (length setting.script.gateways) g (seen g) (works_of phases)) → ((g : ℕ) → seen g ≡ true → HasView (views g)) → AllGive ends → AreInTurn (by_workers setting) number phases ends → PhasesRun (by_workers setting) number views phases entries ends → SomeCame ends without_view → ⊥
+  phases_none few number seen views [] entries ends tails ordered known gives turns run = none_came ends run.1
+  phases_none few number seen views (phase ∷ phases) entries ends tails ordered known gives turns (inl none) = none_came ends none.1
+  phases_none few number seen views (phase ∷ phases) entries ends tails ordered known gives turns (inr (clock, made, others, first, later, after, parts, begins, run, are, go)) =
+      let at : slice_get setting.script.phases number ≡ Some phase = let same : number + 0 ≡ number = omega arith in sym (tails 0 ∙ ap (slice_get setting.script.phases) same) in
       let own : AllGive (first ∷ later) = subst AllGive are gives in
-      let halves : (g : ℕ) → AreSynced (length script.gateways) g (seen g) (works_in phase.tasks) × AreSynced (length script.gateways) g (seen g || has_sync (works_in phase.tasks) g) (works_of phases) =
-      λ g. synced_parts (length script.gateways) g (seen g) (works_in phase.tasks) (works_of phases) (ordered g) in
-      let workers = workers_of script number in
+      let halves : (g : ℕ) → AreSynced (length setting.script.gateways) g (seen g) (works_in phase.tasks) × AreSynced (length setting.script.gateways) g (seen g || has_sync (works_in phase.tasks) g) (works_of phases) =
+      λ g. synced_parts (length setting.script.gateways) g (seen g) (works_in phase.tasks) (works_of phases) (ordered g) in
+      let workers = workers_of setting.script number in
       let of_hand = are_of_hands number phase at in
-      let here = phase_none script gateways few phase.tasks workers views made first after run of_hand seen (λ g. (halves g).0) known (give_first first later own) in
-      λ came. first_or_later first later here (elim how [
-        | inl none ↦ none_came later none.1
-        | inr go ↦ phases_none few (number + 1) (λ g. seen g || has_sync (works_in phase.tasks) g) after phases others later (λ k. tails (suc k) ∙ ap (slice_get script.phases) (next_place number k)) (λ g. (halves g).1)
-            (λ g. phase_has script gateways few phase.tasks workers views made first after run of_hand seen (λ n. (halves n).0) known (give_first first later own) go.0 g (has_worker number phase at g))
-            (give_later first later own) go.1
-      ]) (subst (λ es. SomeCame es without_view) are came)
+      let here = phase_none setting gateways few phase.tasks workers views made first after run of_hand seen (λ g. (halves g).0) known (give_first first later own) in
+      let turn : AreInTurn (by_workers setting) number (phase ∷ phases) (first ∷ later) = subst (AreInTurn (by_workers setting) number (phase ∷ phases)) are turns in
+      λ came. first_or_later first later here
+      (later_none later (λ more. phases_none few (number + 1) (λ g. seen g || has_sync (works_in phase.tasks) g) after phases others later (λ k. tails (suc k) ∙ ap (slice_get setting.script.phases) (next_place number k)) (λ g. (halves g).1)
+      (λ g. phase_has setting gateways few phase.tasks workers views made first after run of_hand seen (λ n. (halves n).0) known (give_first first later own) (turn.0 more) g (has_worker number phase at g))
+      (give_later first later own) turn.1 go))
+      (subst (λ es. SomeCame es without_view) are came)
 
 -- in a lawful script whose syncs give views no gateway is asked before it has one
-pub views_are_there : (script : Script) (journal : List Entry) (ends : List (List (List End))) → IsLawfulScript script → IsRunOf script journal ends
+pub views_are_there : (setting : Setting) (journal : List Entry) (ends : List (List (List End))) → IsLawfulScript setting.script → IsInTurn setting ends → IsRunOf setting journal ends
     → ((e : SyncEnd) → SomeCame ends (synced e) → (v : View) × (e ≡ fetched.View v)) → ¬ SomeCame ends without_view
-views_are_there script journal ends lawful run gives =
-    phases_none script (min-le_left (length script.gateways) greatest) 0 (λ g. false) no_views script.phases journal ends (λ k. let same : k ≡ 0 + k = omega arith in ap (slice_get script.phases) same)
-    (λ g. are_synced (length script.gateways) g false (works_of script.phases) (λ before after low high selector is below. lawful.phases.synced before after low high selector g is below))
-    (λ g h. absurd (cc (h))) gives run.phases
+views_are_there setting journal ends lawful turns run gives =
+    phases_none setting (min-le_left (length setting.script.gateways) greatest) 0 (λ g. false) none_held setting.script.phases journal ends (λ k. let same : k ≡ 0 + k = omega arith in ap (slice_get setting.script.phases) same)
+    (λ g. are_synced (length setting.script.gateways) g false (works_of setting.script.phases) (λ before after low high selector is below. lawful.phases.synced before after low high selector g is below))
+    (λ g h. absurd (cc (h))) gives turns run.phases

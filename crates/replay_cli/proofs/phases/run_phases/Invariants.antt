@@ -2,11 +2,12 @@ use Rattle.std.proofs.Common.{◌≡◌, length}
 use Rattle.script_core.specs.Workers.{seats_before}
 use Rattle.replay_cli.specs.Progress.{Reached}
 use Rattle.replay_cli.proofs.phases.run_phases.Given as goal
+use Rattle.lifecycle_core.specs.Setting.{setting_of}
 
 -- the phases so far are done and told
 abbrev pub invariant-loop-place : goal.invariant-loop-place
 invariant-loop-place g l = record {
-  reached : Reached l.script l.place l.progress.gateways.items l.world.journal l.progress.report.as_asked l.progress.report.text.items;
+  reached : Reached (setting_of l.script) l.place l.progress.gateways.items l.world.journal l.progress.report.as_asked l.progress.report.text.items;
   tick : l.world.tick ≡ l.initial.world.tick;
   workers : l.progress.workers ≡ seats_before l.script l.place;
   ready : length l.progress.gateways.items ≡ length l.script.gateways;

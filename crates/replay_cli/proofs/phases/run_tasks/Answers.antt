@@ -1,6 +1,7 @@
 use Rattle.std.proofs.Common.{◌+◌, take, refl, ◌∙◌, subst, arith, List}
 use Rattle.std.proofs.lemmas.Result.{MatchResult-at_err, MatchResult-at_ok}
 use Rattle.lifecycle_core.specs.InLine.{seat_of}
+use Rattle.lifecycle_core.specs.Setting.{setting_of}
 use Rattle.script_workers.specs.declared.task.Task.{Task}
 use Rattle.replay_cli.specs.Progress.{TasksBroken, TasksDone}
 use Rattle.replay_cli.proofs.Told.{done_none, take_whole}
@@ -8,7 +9,7 @@ use Rattle.replay_cli.proofs.phases.run_tasks.Goals as goal
 
 pub loop-place-init : goal.loop-place-init
 loop-place-init g c = record {
-  done = λ views shows. done_none c.args.script.now (seat_of c.args.seats.now.workers) c.args.tasks.now views c.args.progress.now.gateways.items c.args.world.journal _ c.new.result.items shows refl c.new.ensures.items;
+  done = λ views shows. done_none (setting_of c.args.script.now) (seat_of c.args.seats.now.workers) c.args.tasks.now views c.args.progress.now.gateways.items c.args.world.journal _ c.new.result.items shows refl c.new.ensures.items;
   tick = refl;
   report = refl;
   workers = refl;
@@ -17,12 +18,12 @@ loop-place-init g c = record {
 
 pub returns-in-Err-clause-came : goal.returns-in-Err-clause-came
 returns-in-Err-clause-came g c = λ views shows.
-    MatchResult-at_err _ (λ broken. TasksBroken c.args.script.now (seat_of c.args.seats.now.workers) c.args.tasks.now views c.args.world.journal c.next_task-came.result.1.journal broken)
+    MatchResult-at_err _ (λ broken. TasksBroken (setting_of c.args.script.now) (seat_of c.args.seats.now.workers) c.args.tasks.now views c.args.world.journal c.next_task-came.result.1.journal broken)
     c.in-Err.broken c.in-Err.is (c.next_task-came.ensures.came views c.args.world.journal (c.loop-place.invariant.done views shows))
 
 pub loop-place-preserved : goal.loop-place-preserved
 loop-place-preserved g c = record {
-  done = λ views shows. MatchResult-at_ok (λ done. TasksDone c.args.script.now (seat_of c.args.seats.now.workers) (take (c.loop-place.place + 1) c.args.tasks.now) views c.next_task-came.new.progress.gateways.items c.args.world.journal c.next_task-came.result.1.journal c.next_task-came.new.lines.as_asked c.next_task-came.new.lines.text.items)
+  done = λ views shows. MatchResult-at_ok (λ done. TasksDone (setting_of c.args.script.now) (seat_of c.args.seats.now.workers) (take (c.loop-place.place + 1) c.args.tasks.now) views c.next_task-came.new.progress.gateways.items c.args.world.journal c.next_task-came.result.1.journal c.next_task-came.new.lines.as_asked c.next_task-came.new.lines.text.items)
       _ c.in_default.field-0 c.in_default.is (c.next_task-came.ensures.came views c.args.world.journal (c.loop-place.invariant.done views shows));
   tick = c.next_task-came.ensures.tick ∙ c.loop-place.invariant.tick;
   report = c.next_task-came.ensures.report ∙ c.loop-place.invariant.report;
@@ -32,5 +33,5 @@ loop-place-preserved g c = record {
 
 pub returns-clause-came : goal.returns-clause-came
 returns-clause-came g c = λ views shows.
-    subst (λ (ts : List Task). TasksDone c.args.script.now (seat_of c.args.seats.now.workers) ts views c.loop-place.progress.gateways.items c.args.world.journal c.loop-place.world.journal c.loop-place.lines.as_asked c.loop-place.lines.text.items)
+    subst (λ (ts : List Task). TasksDone (setting_of c.args.script.now) (seat_of c.args.seats.now.workers) ts views c.loop-place.progress.gateways.items c.args.world.journal c.loop-place.world.journal c.loop-place.lines.as_asked c.loop-place.lines.text.items)
     (take_whole c.args.tasks.now c.loop-place.place (omega (arith, c.loop-place-test.false))) (c.loop-place.invariant.done views shows)

@@ -2,6 +2,7 @@ use Rattle.std.proofs.Common.{◌∙◌}
 use Rattle.replay_cli.proofs.HandedBack.{back_of_none}
 use Rattle.replay_cli.proofs.Runs.{opened_told}
 use Rattle.replay_cli.proofs.tool.over_bucket.Goals as goal
+use Rattle.lifecycle_core.specs.Setting.{setting_of}
 
 pub returns-in-Err-clause-back : goal.returns-in-Err-clause-back
 returns-in-Err-clause-back g c =
@@ -9,6 +10,6 @@ returns-in-Err-clause-back g c =
 
 pub returns-in-Err-clause-cause : goal.returns-in-Err-clause-cause
 returns-in-Err-clause-cause g c =
-    opened_told c.args.script.now (g.B.Bucket.contents c.args.bucket) g.B.Bucket.faults c.args.bucket c.in-Err.store c.in-Err.refusal c.with_bucket.result.verdict c.empty.result c.with_bucket.result.journal c.with_bucket.result.store
+    opened_told (setting_of c.args.script.now) (g.B.Bucket.contents c.args.bucket) g.B.Bucket.faults c.args.bucket c.in-Err.store c.in-Err.refusal c.with_bucket.result.verdict c.empty.result c.with_bucket.result.journal c.with_bucket.result.store
     c.with_bucket.ensures.journal c.empty.ensures c.with_bucket.ensures.store c.in-Err.ensures.failed c.in-Err.ensures.not_empty
     (λ is. c.with_bucket.ensures.verdict ∙ c.unopened.ensures.failed is) (λ name is. c.with_bucket.ensures.verdict ∙ c.unopened.ensures.not_empty name is) (λ is. c.with_bucket.ensures.verdict ∙ c.unopened.ensures.none is)

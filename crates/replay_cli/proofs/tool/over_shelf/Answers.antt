@@ -2,6 +2,7 @@ use Rattle.std.proofs.Common.{◌≡◌, ◌⊎◌, inl}
 use Rattle.std.specs.Prelude.{None, IsSomeAnd, is_some}
 use Rattle.bucket_core.specs.Causes.{Rose}
 use Rattle.bucket_core.specs.declared.site_refusal.SiteRefusal.TheVariants as site
+use Rattle.lifecycle_core.specs.Setting.{setting_of}
 use Rattle.replay_cli.specs.Words.{named_by}
 use Rattle.replay_cli.proofs.Verdicts.{before_opening, behind_opening, run_weaker}
 use Rattle.replay_cli.proofs.tool.over_shelf.Goals as goal
@@ -11,9 +12,9 @@ returns-in-Ok-clause-opened g c = behind_opening c.over_bucket.result.verdict (i
 
 pub returns-in-Err-clause-cause : goal.returns-in-Err-clause-cause
 returns-in-Err-clause-cause g c =
-    run_weaker c.args.script.now (g.S.Store.Bucket.contents c.args.bucket) (c.in-Err.refusal ≡ site.Failed)
+    run_weaker (setting_of c.args.script.now) (g.S.Store.Bucket.contents c.args.bucket) (c.in-Err.refusal ≡ site.Failed)
     (Rose (g.S.Site.faults c.args.site.now) (g.S.Site.faults c.open_shelf.new.site) ⊎ IsSomeAnd c.without_shelf.result.store (λ store. Rose (g.S.Store.Bucket.faults c.args.bucket) (g.S.Store.Bucket.faults store)))
-    c.without_shelf.result.journal c.without_shelf.result.verdict (λ is. inl (c.in-Err.ensures.cause is)) (c.without_shelf.ensures.cause c.args.script.now)
+    c.without_shelf.result.journal c.without_shelf.result.verdict (λ is. inl (c.in-Err.ensures.cause is)) (c.without_shelf.ensures.cause (setting_of c.args.script.now))
 
 pub returns-in-Err-clause-opened : goal.returns-in-Err-clause-opened
 returns-in-Err-clause-opened g c = before_opening c.in-Err.refusal c.without_shelf.result.verdict (is_some {T = g.row.S-Files.Denot} None ≡ is_some (named_by c.args.shelf.now)) c.without_shelf.ensures.failed c.without_shelf.ensures.none
