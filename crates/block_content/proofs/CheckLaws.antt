@@ -18,8 +18,8 @@ use Rattle.block_content.specs.Firsts.{AreEach, IsFirstAt}
 use Rattle.block_content.specs.Content.{HoldsSeries, IsContent}
 use Rattle.block_content.specs.ContentReading.{index_at, refused_index, chunked_at, contents_at, content_at}
 use Rattle.block_content.specs.ContentRefusals.{RefusesContent}
-use Rattle.block_content.specs.Checking.{IsOwn, Passes, RefusesBlock}
-use Rattle.block_content.specs.CheckReading.{is_alone, own_at, has_series, some_at, files_at, check_at}
+use Rattle.block_content.specs.Checking.{IsOwn, Passes, HasPassed, RefusesBlock}
+use Rattle.block_content.specs.CheckReading.{is_alone, own_at, has_series, some_at, files_at, check_at, indexed_at}
 use Rattle.block_files.specs.declared.block_files.BlockFiles.{BlockFiles}
 use Rattle.block_content.specs.declared.check_refusal.CheckRefusal.{CheckRefusal}
 use Rattle.block_content.specs.declared.check_refusal.CheckRefusal.TheVariants.{NoFile, BadMeta, UlidDiffers, NotLevelOne, SourcesNotSelf, Downsampled, TooLarge, BadIndex, EmptyBlock, BadChunk, OutsideRange, Repeated, NoMemory}
@@ -298,8 +298,11 @@ module _ (files : BlockFiles) (index : List ℕ) (segments : List (List ℕ)) (i
   moved_refusal e (inl none) = inl none
   moved_refusal e (inr h) = inr (sym same_check ∙ h)
 
-  pub held : (series samples : ℕ) → HasCounts ulid files.meta index segments series samples → (list : List Series) × Passes ulid files list × (series ≡ length list) × (samples ≡ sample_count list)
+  held : (series samples : ℕ) → HasCounts ulid files.meta index segments series samples → (list : List Series) × Passes ulid files list × (series ≡ length list) × (samples ≡ sample_count list)
   held series samples counts = counts_hold files own_bytes all_bytes ulid series samples (moved_counts series samples counts)
+
+  pub held_passes : (series samples : ℕ) → HasCounts ulid files.meta index segments series samples → HasPassed ulid files series samples
+  held_passes series samples counts = let h = held series samples counts in record { list = h.0; passes = h.1; series_are = h.2; samples_are = h.3 }
 
   pub held_only : (series samples : ℕ) (list : List Series) → HasCounts ulid files.meta index segments series samples → Passes ulid files list → (series ≡ length list) × (samples ≡ sample_count list)
   held_only series samples list counts is = counts_only files own_bytes all_bytes ulid series samples list (moved_counts series samples counts) is
@@ -329,3 +332,29 @@ stopped_why Q (Err y) e is q = subst Q (sym is) q
 pub stopped_other : {X : Type 0} (r : Result X CheckRefusal) (e refusal : CheckRefusal) → IsErrAnd r (λ x. x ≡ e) → (e ≡ refusal) ⊎ (e ≡ NoMemory) → (r ≡ Err refusal) ⊎ (r ≡ Err NoMemory)
 stopped_other r e refusal is (inl same) = inl (stopped_with r e refusal is same)
 stopped_other r e refusal is (inr none) = inr (stopped_with r e NoMemory is none)
+
+-- ---- where the index was read before
+
+indexed_is : (ulid : ℕ) (meta : Meta) (index : List ℕ) (segments : List (List ℕ)) (indexed : List IndexSeries) → index_at index ≡ Ok indexed → check_at ulid meta index segments ≡ indexed_at ulid meta segments indexed
+unfolding check_at files_at indexed_at
+indexed_is ulid meta index segments indexed read = rw read refl
+
+module _ (ulid : ℕ) (meta : Meta) (index : List ℕ) (segments : List (List ℕ)) (indexed seen : List IndexSeries) (read : index_at index ≡ Ok indexed) (lent : seen ≡ indexed) where
+  same_reading : check_at ulid meta index segments ≡ indexed_at ulid meta segments seen
+  same_reading = indexed_is ulid meta index segments indexed read ∙ ap (indexed_at ulid meta segments) (sym lent)
+
+  pub indexed_counts : (series samples : ℕ) → ((list : List Series) × (indexed_at ulid meta segments seen ≡ Ok list) × (series ≡ length list) × (samples ≡ sample_count list)) → HasCounts ulid meta index segments series samples
+  indexed_counts series samples (list, is, many, count) = (list, same_reading ∙ is, many, count)
+
+  pub indexed_refused : (e : CheckRefusal) → (e ≡ NoMemory) ⊎ (indexed_at ulid meta segments seen ≡ Err e) → (e ≡ NoMemory) ⊎ (check_at ulid meta index segments ≡ Err e)
+  indexed_refused e (inl none) = inl none
+  indexed_refused e (inr h) = inr (same_reading ∙ h)
+
+-- ---- what is inside a checked block
+
+pub moved_passed : (ulid : ℕ) (files : BlockFiles) (series samples more_series more_samples : ℕ) → more_series ≡ series → more_samples ≡ samples → HasPassed ulid files series samples → HasPassed ulid files more_series more_samples
+moved_passed ulid files series samples more_series more_samples many count is = record { list = is.list; passes = is.passes; series_are = many ∙ is.series_are; samples_are = count ∙ is.samples_are }
+
+-- a block passes under its own ULID
+pub own_passed : (ulid : ℕ) (files : BlockFiles) (series samples : ℕ) → HasPassed ulid files series samples → HasPassed files.meta.ulid files series samples
+own_passed ulid files series samples is = subst (λ (u : ℕ). HasPassed u files series samples) (sym is.passes.own.ulid_is) is

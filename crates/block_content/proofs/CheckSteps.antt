@@ -1,19 +1,20 @@
 -- What the steps of checking a block come to.
-use Rattle.std.proofs.Common.{◌≡◌, ℕ, List, [], ◌∷◌, length, Bool, true, false, Option, None, Some, Result, Ok, Err, ℤ, refl, sym, ap, subst, ◌∙◌, ◌⊎◌, inl, inr}
-use Rattle.reading_core.specs.Reading.{refused_as}
+use Rattle.std.proofs.lemmas.Bool.{true≢false}
+use Rattle.std.proofs.lemmas.Bool.Decides.{Decides-eqb}
+use Rattle.std.proofs.Common.{◌≡◌, ℕ, suc, arith, List, [], ◌∷◌, length, Bool, true, false, Option, None, Some, Result, Ok, Err, ℤ, refl, sym, ap, subst, ◌∙◌, ◌⊎◌, inl, inr}
 use Rattle.reading_core.proofs.Binds.{err_is}
 use Rattle.block_content.proofs.FirstLaws.{each_many}
 use Rattle.block_content.proofs.Counting.{length-list_of}
 use Rattle.label_sets.specs.declared.series.Series.{Series}
 use Rattle.index_file.specs.declared.index_series.IndexSeries.{IndexSeries}
 use Rattle.block_meta.specs.declared.meta.Meta.{Meta}
-use Rattle.std.specs.Prelude.{MatchOption, MatchResult, IsErrAnd, IsTrue, ◌↔◌}
+use Rattle.std.specs.Prelude.{MatchOption, MatchResult, IsErrAnd, ◌==◌}
 use Rattle.label_sets.specs.Counts.{sample_count}
 use Rattle.block_content.specs.Firsts.{each_at, first_at}
-use Rattle.block_content.specs.ContentReading.{refused_index, index_at, chunks_at, list_of, first_outside, repeated_in, fitted, chunked_at}
+use Rattle.block_content.specs.ContentReading.{chunks_at, list_of, first_outside, repeated_in, fitted, chunked_at}
 use Rattle.block_content.proofs.ChunkWalks.{SeriesStopped}
 use Rattle.block_content.proofs.ContentSteps.{chunks_refused, times_refused, order_refused, all_read}
-use Rattle.block_content.specs.CheckReading.{has_series, some_at, files_at, found_at, IsFirstFound}
+use Rattle.block_content.specs.CheckReading.{has_series, some_at, found_at, IsFirstFound, HaveCounts}
 use Rattle.label_sets.specs.declared.sample.Sample.{Sample}
 use Rattle.block_content.specs.declared.check_refusal.CheckRefusal.{CheckRefusal}
 use Rattle.block_content.specs.declared.check_refusal.CheckRefusal.TheVariants.{EmptyBlock, OutsideRange, Repeated, NoMemory}
@@ -38,66 +39,48 @@ module _ (meta : Meta) (segments : List (List ℕ)) (indexed : List IndexSeries)
   passed_by None (Some series) none order h = absurd cc
   passed_by None None none none' h = all_read meta segments indexed parts all_parts none none'
 
-module _ (meta : Meta) (index : List ℕ) (segments : List (List ℕ)) where
-  pub index_stopped : (e : CheckRefusal) → (e ≡ NoMemory) ⊎ (refused_as refused_index (index_at index) ≡ Err e) → (e ≡ NoMemory) ⊎ (files_at meta index segments ≡ Err e)
-  unfolding files_at
-  index_stopped e (inl none) = inl none
-  index_stopped e (inr h) = inr (rw h refl)
+module _ (meta : Meta) (segments : List (List ℕ)) (indexed : List IndexSeries) where
+  pub empty_stopped : indexed ≡ [] → some_at meta segments indexed ≡ Err EmptyBlock
+  unfolding some_at
+  empty_stopped none = let empty : has_series indexed ≡ false = ap has_series none in rw empty refl
 
-  module _ (indexed : List IndexSeries) (read : refused_as refused_index (index_at index) ≡ Ok indexed) where
-    pub empty_stopped : indexed ≡ [] → files_at meta index segments ≡ Err EmptyBlock
-    unfolding files_at some_at
-    empty_stopped none = let empty : refused_as refused_index (index_at index) ≡ Ok [] = read ∙ ap (λ (xs : List IndexSeries). Ok xs) none in rw empty refl
+  chunks_follow : (indexed ≡ [] → ⊥) → some_at meta segments indexed ≡ chunked_at meta segments indexed
+  unfolding some_at
+  chunks_follow some = rw (has_some indexed some) refl
 
-    pub chunks_follow : (indexed ≡ [] → ⊥) → files_at meta index segments ≡ chunked_at meta segments indexed
-    unfolding files_at some_at
-    chunks_follow some = rw (read, has_some indexed some) refl
+  chunks_stopped : (e : CheckRefusal) → (indexed ≡ [] → ⊥) → (e ≡ NoMemory) ⊎ (chunked_at meta segments indexed ≡ Err e) → (e ≡ NoMemory) ⊎ (some_at meta segments indexed ≡ Err e)
+  chunks_stopped e some (inl none) = inl none
+  chunks_stopped e some (inr h) = inr (chunks_follow some ∙ h)
 
-    pub chunks_stopped : (e : CheckRefusal) → (indexed ≡ [] → ⊥) → (e ≡ NoMemory) ⊎ (chunked_at meta segments indexed ≡ Err e) → (e ≡ NoMemory) ⊎ (files_at meta index segments ≡ Err e)
-    chunks_stopped e some (inl none) = inl none
-    chunks_stopped e some (inr h) = inr (chunks_follow some ∙ h)
+  pub counts_refused : (indexed ≡ [] → ⊥) → (e : CheckRefusal) → SeriesStopped segments indexed e → (e ≡ NoMemory) ⊎ (some_at meta segments indexed ≡ Err e)
+  counts_refused some e stopped = chunks_stopped e some (chunks_refused meta segments indexed e stopped)
 
-    module _ (some : indexed ≡ [] → ⊥) (parts : List (List (List Sample))) (all_parts : each_at (chunks_at segments) indexed ≡ Ok parts) (outside : Option (ℕ × ℤ)) (repeated : Option ℕ) (times : IsFirstFound (first_at (first_outside meta) (list_of indexed parts)) outside)
-        (order : MatchOption repeated (first_at repeated_in indexed ≡ None) (λ found. (place : ℕ) × (first_at repeated_in indexed ≡ Some (place, tt)) × (found ≡ fitted place))) where
-      pub tests_refused : (e : CheckRefusal) → found_at outside repeated ≡ Err e → files_at meta index segments ≡ Err e
-      tests_refused e h = chunks_follow some ∙ refused_by meta segments indexed parts all_parts outside repeated times order e h
+  module _ (some : indexed ≡ [] → ⊥) (samples : ℕ) (outside : Option (ℕ × ℤ)) (repeated : Option ℕ)
+      (counted : (parts : List (List (List Sample))) × (each_at (chunks_at segments) indexed ≡ Ok parts) × ((samples ≡ sample_count (list_of indexed parts)) × IsFirstFound (first_at (first_outside meta) (list_of indexed parts)) outside))
+      (order : MatchOption repeated (first_at repeated_in indexed ≡ None) (λ found. (place : ℕ) × (first_at repeated_in indexed ≡ Some (place, tt)) × (found ≡ fitted place))) where
+    pub found_refused : (e : CheckRefusal) → found_at outside repeated ≡ Err e → some_at meta segments indexed ≡ Err e
+    found_refused e h = chunks_follow some ∙ refused_by meta segments indexed counted.0 counted.1 outside repeated counted.2.1 order e h
 
-      pub tests_passed : found_at outside repeated ≡ Ok tt → files_at meta index segments ≡ Ok (list_of indexed parts)
-      tests_passed h = chunks_follow some ∙ passed_by meta segments indexed parts all_parts outside repeated times order h
+    pub found_passed : (series : ℕ) → found_at outside repeated ≡ Ok tt → series ≡ length indexed → HaveCounts (some_at meta segments indexed) (series, samples)
+    found_passed series h many = (
+      list_of indexed counted.0,
+      chunks_follow some ∙ passed_by meta segments indexed counted.0 counted.1 outside repeated counted.2.1 order h,
+      many ∙ sym (length-list_of indexed counted.0 (each_many (chunks_at segments) indexed counted.0 counted.1)),
+      counted.2.0,
+    )
 
 -- ---- what the calls say
 
-pub count_stops : (meta : Meta) (index : List ℕ) (segments : List (List ℕ)) (r : Result (ℕ × ℕ) CheckRefusal) (e : CheckRefusal) → IsErrAnd r (λ d. d ≡ e) → (e ≡ NoMemory) ⊎ (files_at meta index segments ≡ Err e)
-    → MatchResult r (λ counts. (list : List Series) × (files_at meta index segments ≡ Ok list) × (counts.0 ≡ length list) × (counts.1 ≡ sample_count list)) (λ d. (d ≡ NoMemory) ⊎ (files_at meta index segments ≡ Err d))
-count_stops meta index segments (Ok counts) e is why = absurd is
-count_stops meta index segments (Err d) e is why = subst (λ (c : CheckRefusal). (c ≡ NoMemory) ⊎ (files_at meta index segments ≡ Err c)) (sym is) why
+pub count_stops : (read : Result (List Series) CheckRefusal) (r : Result (ℕ × ℕ) CheckRefusal) (e : CheckRefusal) → IsErrAnd r (λ d. d ≡ e) → (e ≡ NoMemory) ⊎ (read ≡ Err e) → MatchResult r (HaveCounts read) (λ d. (d ≡ NoMemory) ⊎ (read ≡ Err d))
+count_stops read (Ok counts) e is why = absurd is
+count_stops read (Err d) e is why = subst (λ (c : CheckRefusal). (c ≡ NoMemory) ⊎ (read ≡ Err c)) (sym is) why
 
--- a list is empty exactly where this is told of it
-pub not_empty : (indexed : List IndexSeries) (b : Bool) → (IsTrue b ↔ (indexed ≡ [])) → b ≡ false → indexed ≡ [] → ⊥
-not_empty indexed true told no' none = absurd cc
-not_empty indexed false told no' none = let yes' = told.1 none in absurd cc
+-- a list is empty exactly where its length is nothing
+pub no_members : (indexed : List IndexSeries) (b : Bool) → b ≡ (length indexed == 0) → b ≡ true → indexed ≡ []
+no_members [] b is yes' = refl
+no_members (one ∷ indexed) b is yes' = let none : suc (length indexed) ≡ 0 = (Decides-eqb (suc (length indexed)) 0).0 (sym is ∙ yes') in absurd (omega (arith, none))
 
-pub counts_refused : (meta : Meta) (index : List ℕ) (segments : List (List ℕ)) (indexed seen : List IndexSeries) → refused_as refused_index (index_at index) ≡ Ok indexed → seen ≡ indexed → (indexed ≡ [] → ⊥) → (e : CheckRefusal) → SeriesStopped segments seen e → (e ≡ NoMemory) ⊎ (files_at meta index segments ≡ Err e)
-counts_refused meta index segments indexed seen read same some e stopped =
-    chunks_stopped meta index segments indexed read e some (chunks_refused meta segments indexed e (subst (λ (xs : List IndexSeries). SeriesStopped segments xs e) same stopped))
-
-pub found_refused : (meta : Meta) (index : List ℕ) (segments : List (List ℕ)) (indexed seen again : List IndexSeries) → refused_as refused_index (index_at index) ≡ Ok indexed → seen ≡ indexed → again ≡ indexed → (indexed ≡ [] → ⊥) → (samples : ℕ) (outside : Option (ℕ × ℤ)) (repeated : Option ℕ)
-    → ((parts : List (List (List Sample))) × (each_at (chunks_at segments) seen ≡ Ok parts) × ((samples ≡ sample_count (list_of seen parts)) × IsFirstFound (first_at (first_outside meta) (list_of seen parts)) outside))
-    → MatchOption repeated (first_at repeated_in again ≡ None) (λ found. (place : ℕ) × (first_at repeated_in again ≡ Some (place, tt)) × (found ≡ fitted place)) → (e : CheckRefusal) → found_at outside repeated ≡ Err e → files_at meta index segments ≡ Err e
-found_refused meta index segments indexed seen again read same same' some samples outside repeated (parts, all_parts, (count, times)) order e h =
-    tests_refused meta index segments indexed read some parts (ap (each_at (chunks_at segments)) (sym same) ∙ all_parts) outside repeated
-    (subst (λ (xs : List IndexSeries). IsFirstFound (first_at (first_outside meta) (list_of xs parts)) outside) same times)
-    (subst (λ (xs : List IndexSeries). MatchOption repeated (first_at repeated_in xs ≡ None) (λ found. (place : ℕ) × (first_at repeated_in xs ≡ Some (place, tt)) × (found ≡ fitted place))) same' order) e h
-
-pub found_passed : (meta : Meta) (index : List ℕ) (segments : List (List ℕ)) (indexed seen again : List IndexSeries) → refused_as refused_index (index_at index) ≡ Ok indexed → seen ≡ indexed → again ≡ indexed → (indexed ≡ [] → ⊥) → (series samples : ℕ) (outside : Option (ℕ × ℤ)) (repeated : Option ℕ)
-    → ((parts : List (List (List Sample))) × (each_at (chunks_at segments) seen ≡ Ok parts) × ((samples ≡ sample_count (list_of seen parts)) × IsFirstFound (first_at (first_outside meta) (list_of seen parts)) outside))
-    → MatchOption repeated (first_at repeated_in again ≡ None) (λ found. (place : ℕ) × (first_at repeated_in again ≡ Some (place, tt)) × (found ≡ fitted place)) → found_at outside repeated ≡ Ok tt → series ≡ length indexed
-    → (list : List Series) × (files_at meta index segments ≡ Ok list) × (series ≡ length list) × (samples ≡ sample_count list)
-found_passed meta index segments indexed seen again read same same' some series samples outside repeated (parts, all_parts, (count, times)) order h many =
-    let whole : each_at (chunks_at segments) indexed ≡ Ok parts = ap (each_at (chunks_at segments)) (sym same) ∙ all_parts in (
-      list_of indexed parts,
-      tests_passed meta index segments indexed read some parts whole outside repeated (subst (λ (xs : List IndexSeries). IsFirstFound (first_at (first_outside meta) (list_of xs parts)) outside) same times)
-          (subst (λ (xs : List IndexSeries). MatchOption repeated (first_at repeated_in xs ≡ None) (λ found. (place : ℕ) × (first_at repeated_in xs ≡ Some (place, tt)) × (found ≡ fitted place))) same' order) h,
-      many ∙ sym (length-list_of indexed parts (each_many (chunks_at segments) indexed parts whole)),
-      count ∙ ap (λ (xs : List IndexSeries). sample_count (list_of xs parts)) same,
-    )
+pub some_members : (indexed : List IndexSeries) (b : Bool) → b ≡ (length indexed == 0) → b ≡ false → indexed ≡ [] → ⊥
+some_members indexed b is no' none =
+    let empty : (length indexed == 0) ≡ true = (Decides-eqb (length indexed) 0).1 (ap length none) in
+    true≢false (sym empty ∙ sym is ∙ no')

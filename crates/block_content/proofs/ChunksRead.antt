@@ -82,7 +82,7 @@ time_again : (sample : Option Sample) (time : ℤ) → option_map (λ s. s.time)
 time_again None time e = absurd cc
 time_again (Some sample) time e = (Decides-int_eq sample.time time).1 (some_is sample.time time e)
 
-times_found : (place : ChunkPlace) (samples : List Sample) → have_times_of place samples ≡ true → HaveTimesOf place samples
+pub times_found : (place : ChunkPlace) (samples : List Sample) → have_times_of place samples ≡ true → HaveTimesOf place samples
 times_found place samples e =
     let parts = and_parts _ _ e in
     record {

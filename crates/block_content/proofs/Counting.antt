@@ -30,7 +30,7 @@ or_else_again : {X : Type 0} (a b c : Option X) → or_else a (or_else b c) ≡ 
 or_else_again None b c = refl
 or_else_again (Some x) b c = refl
 
-time_cons : (meta : Meta) (x : Sample) (xs : List Sample) → first_time meta (x ∷ xs) ≡ or_else (outside_of meta x) (first_time meta xs)
+pub time_cons : (meta : Meta) (x : Sample) (xs : List Sample) → first_time meta (x ∷ xs) ≡ or_else (outside_of meta x) (first_time meta xs)
 unfolding first_at
 time_cons meta x xs = mapped_joins (outside_of meta x) (first_at (outside_of meta) xs)
 

@@ -8,3 +8,6 @@ pub mod ContentSteps
 pub mod Counting
 pub mod CheckLaws
 pub mod CheckSteps
+pub mod Appending
+pub mod ListedFiles
+pub mod SlashNames

@@ -1,8 +1,9 @@
 -- What checking a block gives: the series that it holds, or the first refusal.
-use Rattle.std.specs.Prelude.{◌≡◌, ℕ, ℤ, List, [], ◌∷◌, Bool, true, false, Result, Ok, Err, pos, ◌==◌, Option, None, Some, MatchOption}
+use Rattle.std.specs.Prelude.{◌≡◌, ℕ, ℤ, List, [], ◌∷◌, length, Bool, true, false, Result, Ok, Err, pos, ◌==◌, Option, None, Some, MatchOption}
 use Rattle.std.specs.Ordering.{int_eq}
 use Rattle.reading_core.specs.Reading.{◌>>=◌, ◌>>◌, unless, refused_as}
 use Rattle.label_sets.specs.declared.series.Series.{Series}
+use Rattle.label_sets.specs.Counts.{sample_count}
 use Rattle.index_file.specs.declared.index_series.IndexSeries.{IndexSeries}
 use Rattle.block_meta.specs.declared.meta.Meta.{Meta}
 use Rattle.block_content.specs.ContentReading.{index_at, refused_index, chunked_at, fitted}
@@ -43,7 +44,17 @@ check_at ulid meta index segments = do
   own_at ulid meta
   files_at meta index segments
 
+-- the same of a block whose index was read
+unfoldable pub indexed_at : ℕ → Meta → List (List ℕ) → List IndexSeries → Result (List Series) CheckRefusal
+indexed_at ulid meta segments indexed = do
+  own_at ulid meta
+  some_at meta segments indexed
+
 -- ---- what is counted
+
+-- how many series and samples were read
+abbrev pub HaveCounts : Result (List Series) CheckRefusal → ℕ × ℕ → Type 0
+HaveCounts read counts = (list : List Series) × (read ≡ Ok list) × (counts.0 ≡ length list) × (counts.1 ≡ sample_count list)
 
 -- what was found first, if anything was, with the number of the series as one of 32 bits
 abbrev pub IsFirstFound : Option (ℕ × ℤ) → Option (ℕ × ℤ) → Type 0

@@ -1,6 +1,7 @@
 -- Which blocks pass, and why another does not: first what the meta says, in its order, and then what the files hold.
-use Rattle.std.specs.Prelude.{◌≡◌, ◌≢◌, ℕ, List, [], ◌∷◌, pos}
+use Rattle.std.specs.Prelude.{◌≡◌, ◌≢◌, ℕ, List, [], ◌∷◌, length, pos}
 use Rattle.label_sets.specs.declared.series.Series.{Series}
+use Rattle.label_sets.specs.Counts.{sample_count}
 use Rattle.index_file.specs.IndexFile.{IsIndex}
 use Rattle.block_meta.specs.declared.meta.Meta.{Meta}
 use Rattle.block_content.specs.Content.{IsContent}
@@ -21,6 +22,13 @@ pub record Passes (ulid : ℕ) (files : BlockFiles) (list : List Series) : Type 
   pub own : IsOwn ulid files.meta
   pub content : IsContent files list
   pub some : list ≢ []
+
+-- The block passes, and holds so many series and samples.
+pub record HasPassed (ulid : ℕ) (files : BlockFiles) (series samples : ℕ) : Type 0 where
+  pub list : List Series
+  pub passes : Passes ulid files list
+  pub series_are : series ≡ length list
+  pub samples_are : samples ≡ sample_count list
 
 -- The block does not pass, and this is why.
 abbrev pub RefusesBlock : ℕ → BlockFiles → CheckRefusal → Type 0

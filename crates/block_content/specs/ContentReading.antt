@@ -1,6 +1,6 @@
 -- What reading a block's content gives, or the first refusal.
-use Rattle.std.specs.Prelude.{ℕ, ◌*◌, ◌≤◌, ◌-◌, ◌^◌, min, sum_by, List, [], ◌∷◌, length, slice_get, Option, None, Some, option_map, Bool, true, false, ◌&&◌, Result, Ok, Err, ◌≡◌, ◌⊎◌, MatchResult, ℤ, int_lt, int_le, if◌then◌else◌}
-use Rattle.std.specs.List.{flat_map}
+use Rattle.std.specs.Prelude.{ℕ, ◌*◌, ◌≤◌, ◌-◌, ◌^◌, min, sum_by, List, [], ◌∷◌, length, slice_get, Option, None, Some, option_map, Bool, true, false, ◌&&◌, Result, Ok, Err, ◌≡◌, ◌⊎◌, MatchResult, ℤ, ◌≤ℤ◌, int_lt, int_le, if◌then◌else◌}
+use Rattle.std.specs.List.{AllByRecursion, flat_map}
 use Rattle.std.specs.Ordering.{int_eq}
 use Rattle.reading_core.specs.Reading.{◌>>=◌, ◌>>◌, unless, refused_as}
 use Rattle.label_sets.specs.declared.sample.Sample.{Sample}
@@ -47,6 +47,10 @@ have_times_of place samples = is_time (slice_get samples 0) place.min && is_time
 abbrev pub are_some : List Sample → Bool
 are_some [] = false
 are_some (sample ∷ samples) = true
+
+-- whether samples are those of a chunk at the place
+abbrev pub part_at : ChunkPlace → List Sample → Result (Unit {0}) ChunkCause
+part_at place samples = unless (are_some samples) NoSamples >> unless (have_times_of place samples) TimesDiffer
 
 -- the samples that the data of a chunk stands for
 unfoldable pub samples_at : ChunkPlace → List ℕ → Result (List Sample) ChunkCause
@@ -110,6 +114,14 @@ outside_of meta sample = if is_within meta sample then None else Some sample.tim
 -- the first such time
 abbrev pub first_time : Meta → List Sample → Option ℤ
 first_time meta samples = option_map (λ (r : ℕ × ℤ). r.1) (first_at (outside_of meta) samples)
+
+-- the place lies within the block's times
+abbrev pub lies_within : Meta → ChunkPlace → Bool
+lies_within meta place = int_le meta.min_time place.min && int_lt place.max meta.max_time
+
+-- each sample lies within the times that the place tells
+abbrev pub LieBetween : ChunkPlace → List Sample → Type 0
+LieBetween place samples = AllByRecursion (λ s. (place.min ≤ℤ s.time) × (s.time ≤ℤ place.max)) samples
 
 abbrev pub first_outside : Meta → Series → Option ℤ
 first_outside meta series = first_time meta series.samples

@@ -2,6 +2,8 @@ pub use Rattle.label_sets.specs.Labels
 pub use Rattle.label_sets.specs.SetText
 pub use Rattle.label_sets.specs.SampleText
 pub use Rattle.block_keys.specs.Blocks
+pub use Rattle.block_keys.specs.KeyText
+pub use Rattle.block_files.specs.Built
 pub use Rattle.block_meta.specs.MetaFields
 pub use Rattle.block_meta.specs.MetaValue
 pub use Rattle.xor_chunks.specs.Grammar
@@ -17,3 +19,5 @@ pub mod ContentReading
 pub mod ContentRefusals
 pub mod Checking
 pub mod CheckReading
+pub mod Checked
+pub mod Shipped

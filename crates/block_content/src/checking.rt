@@ -7,30 +7,22 @@ ghost use Rattle.reading_core.specs.Reading.{Answers};
 ghost use Rattle.label_sets.specs.declared.series.Series.{Series};
 ghost use Rattle.label_sets.specs.Counts.{sample_count};
 ghost use Rattle.block_content.specs.Firsts.{or_else, first_at};
-ghost use Rattle.block_content.specs.ContentReading.{joined, list_of, first_time, first_outside, WalksChunks, WalksSeries};
-ghost use Rattle.block_content.specs.Checking.{Passes, RefusesBlock};
-ghost use Rattle.block_content.specs.CheckReading.{is_alone, own_at, files_at, check_at, found_at, IsFirstFound};
+ghost use Rattle.block_content.specs.ContentReading.{index_at, joined, list_of, first_time, first_outside, lies_within, LieBetween, WalksChunks, WalksSeries};
+ghost use Rattle.block_content.specs.Checked.{checked_files, checked_series, checked_samples};
+ghost use Rattle.block_content.specs.Checking.{Passes, HasPassed, RefusesBlock};
+ghost use Rattle.block_content.specs.CheckReading.{is_alone, own_at, some_at, check_at, indexed_at, found_at, IsFirstFound, HaveCounts};
 
-use crate::CheckRefusal;
-use crate::chunk_reading::{chunk_samples, refused_chunk};
+use crate::chunk_reading::{append_chunk, refused_chunk};
 use crate::content_reading::{budget_of, first_repeated, first_time, read_index};
+use crate::{CheckRefusal, Checked};
 use block_files::BlockFiles;
 use block_meta::Meta;
 use index_parts::ChunkPlace;
-use index_v2::IndexSeries;
+use index_v2::{IndexSeries, IndexSeriesList};
 use label_sets::Sample;
 use std::alloc::Global;
 use ulid_core::Ulid;
 use wire_bytes::Blob;
-
-/// A block that may be shipped, and how much it holds.
-#[derive(Drop)]
-pub struct Checked {
-    pub files: BlockFiles,
-    pub series: u64,
-    /// How many samples there are, or the greatest number of 64 bits where there are more.
-    pub samples: u64,
-}
 
 /// Tests what a block says of itself.
 #[tactic(auto, unfolding(crate::specs::CheckReading::own_at))]
@@ -72,12 +64,28 @@ struct Counted {
     left: usize,
 }
 
-/// The time that was found, or the first one of these samples outside the block's times.
-fn found_or_first(found: Option<i64>, meta: &Meta, samples: &[Sample]) -> Option<i64>
+/// Whether a place lies within the block's times.
+fn lies_within(meta: &Meta, place: &ChunkPlace) -> bool
+    ensures { result ≡ lies_within meta.now place.now }
+{
+    meta.min_time <= place.min && place.max < meta.max_time
+}
+
+/// The time that was found, or the first one of a chunk's samples outside the block's times. No sample is looked at where
+/// the place lies within these.
+#[tactic(auto, using(crate::proofs::Appending::none_outside))]
+fn found_or_first(
+    found: Option<i64>,
+    meta: &Meta,
+    place: &ChunkPlace,
+    samples: &[Sample],
+) -> Option<i64>
+    requires { LieBetween place.now samples.now }
     ensures { result ≡ or_else found (first_time meta.now samples.now) }
 {
     match found {
         Some(time) => Some(time),
+        None if lies_within(meta, place) => None,
         None => first_time(meta, samples),
     }
 }
@@ -99,13 +107,17 @@ fn count_series(
     let mut outside = None;
     let mut left = budget;
     let mut chunk = 0u32;
+    // the samples of one chunk after another
+    let mut part = Vec::new(alloc);
     for place in chunks {
-        let (part, rest) = match chunk_samples(alloc, segments, *place, left) {
+        part.clear();
+        let (read, rest) = match append_chunk(part, segments, *place, left) {
             Ok(read) => read,
             Err(cause) => return Err(refused_chunk(series, chunk, cause)),
         };
-        samples = samples.saturating_add(part.len() as u64);
-        outside = found_or_first(outside, meta, part.members());
+        samples = samples.saturating_add(read.len() as u64);
+        outside = found_or_first(outside, meta, place, read.as_slice());
+        part = read;
         left = rest;
         chunk = chunk.saturating_add(1);
     }
@@ -174,32 +186,29 @@ fn test_found(outside: Option<(u32, i64)>, repeated: Option<u32>) -> Result<(), 
     }
 }
 
-/// Counts what the files hold, each chunk of which is read once, and none kept.
-fn count_files(
+/// Counts what series of an index hold, each chunk of which is read once, and none kept.
+fn count_some(
     alloc: Global,
     meta: &Meta,
-    index: &[u8],
     segments: &[Blob],
+    indexed: &[IndexSeries],
     budget: usize,
 ) -> Result<(u64, u64), CheckRefusal>
     ensures { MatchResult result
-        (λ counts. (list : List Series)
-        × (files_at meta.now index.now segments.now ≡ Ok list)
-        × (counts.0 ≡ length list) × (counts.1 ≡ sample_count list))
+        (HaveCounts (some_at meta.now segments.now indexed.now))
         (λ e. (e ≡ CheckRefusal.NoMemory)
-        ⊎ (files_at meta.now index.now segments.now ≡ Err e)) }
+        ⊎ (some_at meta.now segments.now indexed.now ≡ Err e)) }
 {
-    let indexed = read_index(alloc, index)?;
     if indexed.is_empty() {
         return Err(CheckRefusal::EmptyBlock);
     }
-    let counts = count_all(alloc, meta, segments, indexed.members(), budget)?;
-    test_found(counts.outside, first_repeated(indexed.members()))?;
+    let counts = count_all(alloc, meta, segments, indexed, budget)?;
+    test_found(counts.outside, first_repeated(indexed))?;
     Ok((indexed.len() as u64, counts.samples))
 }
 
 /// The series and the samples of a block that may be shipped under a ULID.
-#[tactic(auto, unfolding(crate::specs::CheckReading::check_at))]
+#[tactic(auto, unfolding(crate::specs::CheckReading::check_at, crate::specs::CheckReading::files_at))]
 fn count_block(
     alloc: Global,
     ulid: Ulid,
@@ -208,27 +217,45 @@ fn count_block(
     segments: &[Blob],
 ) -> Result<(u64, u64), CheckRefusal>
     ensures exact { MatchResult result
-        (λ counts. (list : List Series)
-        × (check_at ulid meta.now index.now segments.now ≡ Ok list)
-        × (counts.0 ≡ length list) × (counts.1 ≡ sample_count list))
+        (HaveCounts (check_at ulid meta.now index.now segments.now))
         (λ e. (e ≡ CheckRefusal.NoMemory)
         ⊎ (check_at ulid meta.now index.now segments.now ≡ Err e)) }
     ensures bytes { IsBytes index.now × AllByRecursion IsBytes segments.now }
 {
     let budget = budget_of(segments);
     test_meta(ulid, meta)?;
-    count_files(alloc, meta, index, segments, budget)
+    let indexed = read_index(alloc, index)?;
+    count_some(alloc, meta, segments, indexed.members(), budget)
+}
+
+/// The same of a block whose index was read.
+#[tactic(auto, unfolding(crate::specs::CheckReading::indexed_at))]
+fn count_indexed(
+    alloc: Global,
+    ulid: Ulid,
+    meta: &Meta,
+    segments: &[Blob],
+    indexed: &[IndexSeries],
+) -> Result<(u64, u64), CheckRefusal>
+    ensures exact { MatchResult result
+        (HaveCounts (indexed_at ulid meta.now segments.now indexed.now))
+        (λ e. (e ≡ CheckRefusal.NoMemory)
+        ⊎ (indexed_at ulid meta.now segments.now indexed.now ≡ Err e)) }
+    ensures bytes { AllByRecursion IsBytes segments.now }
+{
+    let budget = budget_of(segments);
+    test_meta(ulid, meta)?;
+    count_some(alloc, meta, segments, indexed, budget)
 }
 
 /// Tests whether a block may be shipped under a ULID. The files of a refused block are dropped.
 pub fn check(alloc: Global, ulid: Ulid, files: BlockFiles) -> Result<Checked, CheckRefusal>
     // A block that passes is handed back with its counts, and no other is.
-    ensures found { IfOk result (λ checked. (checked.files ≡ files)
-        × ((list : List Series) × Passes ulid files list
-        × (checked.series ≡ length list) × (checked.samples ≡ sample_count list))) }
+    ensures found { IfOk result (λ checked. (checked_files checked ≡ files)
+        × HasPassed ulid files (checked_series checked) (checked_samples checked)) }
     ensures passes { (list : List Series) → Passes ulid files list
-        → IsOkAnd result (λ checked. (checked.files ≡ files)
-        × (checked.series ≡ length list) × (checked.samples ≡ sample_count list))
+        → IsOkAnd result (λ checked. (checked_files checked ≡ files)
+        × (checked_series checked ≡ length list) × (checked_samples checked ≡ sample_count list))
         ⊎ (result ≡ Err CheckRefusal.NoMemory) }
 
     // A refusal is the first of the whole block.
@@ -244,9 +271,38 @@ pub fn check(alloc: Global, ulid: Ulid, files: BlockFiles) -> Result<Checked, Ch
         files.index.bytes(),
         files.segments.members(),
     )?;
-    Ok(Checked {
-        files,
-        series,
-        samples,
-    })
+    Ok(Checked::new(ulid, files, series, samples))
+}
+
+/// Tests whether a block may be shipped under a ULID, as `check` does, where the series of its index were read before.
+pub fn check_indexed(
+    alloc: Global,
+    ulid: Ulid,
+    files: BlockFiles,
+    indexed: &IndexSeriesList,
+) -> Result<Checked, CheckRefusal>
+    requires bytes { IsBytes files.index }
+    requires read { index_at files.index ≡ Ok indexed.now }
+    // A block that passes is handed back with its counts, and no other is.
+    ensures found { IfOk result (λ checked. (checked_files checked ≡ files)
+        × HasPassed ulid files (checked_series checked) (checked_samples checked)) }
+    ensures passes { (list : List Series) → Passes ulid files list
+        → IsOkAnd result (λ checked. (checked_files checked ≡ files)
+        × (checked_series checked ≡ length list) × (checked_samples checked ≡ sample_count list))
+        ⊎ (result ≡ Err CheckRefusal.NoMemory) }
+
+    // A refusal is the first of the whole block.
+    ensures refused { IfErr result
+        (λ refusal. (refusal ≡ CheckRefusal.NoMemory) ⊎ RefusesBlock ulid files refusal) }
+    ensures refuses { (refusal : CheckRefusal) → RefusesBlock ulid files refusal
+        → (result ≡ Err refusal) ⊎ (result ≡ Err CheckRefusal.NoMemory) }
+{
+    let (series, samples) = count_indexed(
+        alloc,
+        ulid,
+        &files.meta,
+        files.segments.members(),
+        indexed.members(),
+    )?;
+    Ok(Checked::new(ulid, files, series, samples))
 }

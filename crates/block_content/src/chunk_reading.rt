@@ -1,15 +1,16 @@
 //! The samples of one chunk.
-ghost use Rattle.std.specs.Prelude.{◌≡◌, ◌+◌, ◌*◌, ◌≤◌, ◌<◌, length, option_copied, IfOk, MatchResult};
+ghost use Rattle.std.specs.Prelude.{◌≡◌, ◌+◌, ◌*◌, ◌≤◌, ◌++◌, List, length, drop, option_copied, IfOk, MatchResult};
+ghost use Rattle.label_sets.specs.declared.sample.Sample.{Sample};
+ghost use Rattle.xor_chunks.specs.Data.{with_samples};
 ghost use Rattle.reading_core.specs.Reading.{Answers, Gives};
-ghost use Rattle.block_content.specs.ContentReading.{data_of, is_time, have_times_of, samples_at, chunk_at, chunk_bytes, refused_cause};
+ghost use Rattle.block_content.specs.ContentReading.{data_of, is_time, have_times_of, part_at, samples_at, chunk_at, chunk_bytes, refused_cause, LieBetween};
 
 use crate::{CheckRefusal, ChunkCause};
 use chunk_files::{ChunkRefusal, read_chunk};
 use index_parts::ChunkPlace;
-use label_sets::{Sample, SampleList};
-use std::alloc::Global;
+use label_sets::Sample;
 use wire_bytes::Blob;
-use xor_chunks::{XorRefusal, decode_stored};
+use xor_chunks::{XorRefusal, append_stored};
 
 /// The XOR data of the chunk at a place.
 fn data_of<'a>(segments: &'a [Blob], place: ChunkPlace) -> Result<&'a [u8], ChunkRefusal>
@@ -38,21 +39,45 @@ fn have_times_of(place: &ChunkPlace, samples: &[Sample]) -> bool
     is_at(samples.first(), place.min) && is_at(samples.last(), place.max)
 }
 
-/// The samples that a chunk's data stands for.
-#[tactic(auto, unfolding(crate::specs::ContentReading::samples_at))]
-fn samples_of(alloc: Global, content: &[u8], place: &ChunkPlace) -> Result<SampleList, ChunkCause>
-    ensures exact { Gives (ChunkCause.Data XorRefusal.NoMemory)
-        (λ samples. samples) result (samples_at place.now content.now) }
-    ensures few { IfOk result (λ samples. length samples ≤ 8 * length content.now) }
+/// Tests whether samples are those of a chunk at a place.
+fn test_part(part: &[Sample], place: &ChunkPlace) -> Result<(), ChunkCause>
+    ensures { Answers (λ x. x) result (part_at place.now part.now) }
 {
-    let samples = decode_stored(alloc, content)?;
-    if samples.is_empty() {
+    if part.is_empty() {
         return Err(ChunkCause::NoSamples);
     }
-    if !have_times_of(place, samples.members()) {
+    if !have_times_of(place, part) {
         return Err(ChunkCause::TimesDiffer);
     }
-    Ok(samples)
+    Ok(())
+}
+
+/// The samples behind so many.
+fn behind(samples: &[Sample], count: usize) -> &[Sample]
+    requires { count ≤ length samples.now }
+    ensures { result.now ≡ drop count samples.now }
+{
+    &samples[count..]
+}
+
+/// Reads the samples that a chunk's data stands for, behind others.
+fn append_samples(
+    samples: Vec<Sample>,
+    content: &[u8],
+    place: &ChunkPlace,
+) -> Result<Vec<Sample>, ChunkCause>
+    ensures exact { Gives (ChunkCause.Data XorRefusal.NoMemory)
+        (λ all. all.items) result
+        (with_samples samples.items (samples_at place.now content.now)) }
+    ensures few { IfOk result
+        (λ all. length all.items ≤ length samples.items + 8 * length content.now) }
+    ensures between { IfOk result (λ all. (part : List Sample)
+        × (all.items ≡ samples.items ++ part) × LieBetween place.now part) }
+{
+    let before = samples.len();
+    let all = append_stored(samples, content)?;
+    test_part(behind(all.as_slice(), before), place)?;
+    Ok(all)
 }
 
 /// What is left of a budget behind so many bytes.
@@ -62,23 +87,26 @@ fn spend(left: usize, bytes: usize) -> Result<usize, XorRefusal>
     left.checked_sub(bytes).ok_or(XorRefusal::NoMemory)
 }
 
-/// The samples of the chunk at a place, and what is left of a budget of bytes behind its data.
-#[tactic(auto, unfolding(crate::specs::ContentReading::chunk_at))]
-pub(crate) fn chunk_samples(
-    alloc: Global,
+/// Reads the samples of the chunk at a place, behind others; with them comes what is left of a budget of bytes behind its data.
+pub(crate) fn append_chunk(
+    samples: Vec<Sample>,
     segments: &[Blob],
     place: ChunkPlace,
     left: usize,
-) -> Result<(SampleList, usize), ChunkCause>
+) -> Result<(Vec<Sample>, usize), ChunkCause>
     ensures exact { Gives (ChunkCause.Data XorRefusal.NoMemory)
-        (λ read. read.0) result (chunk_at segments.now place) }
+        (λ read. read.0.items) result
+        (with_samples samples.items (chunk_at segments.now place)) }
     ensures spent { IfOk result (λ read. read.1 + chunk_bytes segments.now place ≡ left) }
-    ensures few { IfOk result (λ read. length read.0 ≤ 8 * chunk_bytes segments.now place) }
+    ensures few { IfOk result (λ read. length read.0.items
+        ≤ length samples.items + 8 * chunk_bytes segments.now place) }
+    ensures between { IfOk result (λ read. (part : List Sample)
+        × (read.0.items ≡ samples.items ++ part) × LieBetween place part) }
 {
     let content = data_of(segments, place)?;
     let rest = spend(left, content.len())?;
-    let samples = samples_of(alloc, content, &place)?;
-    Ok((samples, rest))
+    let all = append_samples(samples, content, &place)?;
+    Ok((all, rest))
 }
 
 /// A chunk's cause, as the block's refusal.

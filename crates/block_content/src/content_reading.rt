@@ -14,7 +14,7 @@ ghost use Rattle.block_content.specs.ContentRefusals.{RefusesContent};
 ghost use Rattle.block_content.specs.ContentReading.{index_at, refused_index, joined, list_of, series_bytes, chunk_bytes, is_within, first_time, first_outside, begins_after, follow, repeated_in, fitted, contents_at, content_at, AreFew, WalksChunks, WalksSeries};
 
 use crate::CheckRefusal;
-use crate::chunk_reading::{chunk_samples, refused_chunk};
+use crate::chunk_reading::{append_chunk, refused_chunk};
 use block_files::BlockFiles;
 use block_meta::Meta;
 use index_parts::ChunkPlace;
@@ -33,8 +33,8 @@ fn whole_index(alloc: Global, index: &[u8]) -> Result<IndexSeriesList, IndexRefu
     reader.whole(alloc)
 }
 
-/// The same, with a refusal as the block's.
-pub(crate) fn read_index(alloc: Global, index: &[u8]) -> Result<IndexSeriesList, CheckRefusal>
+/// The series of an index, with a refusal as the block's.
+pub fn read_index(alloc: Global, index: &[u8]) -> Result<IndexSeriesList, CheckRefusal>
     ensures exact { Gives CheckRefusal.NoMemory
         (λ list. list) result (refused_as refused_index (index_at index.now)) }
     ensures bytes { IsBytes index.now }
@@ -85,11 +85,11 @@ fn series_samples(
     let mut left = budget;
     let mut chunk = 0u32;
     for place in chunks {
-        let (part, rest) = match chunk_samples(alloc, segments, *place, left) {
+        let (all, rest) = match append_chunk(samples, segments, *place, left) {
             Ok(read) => read,
             Err(cause) => return Err(refused_chunk(series, chunk, cause)),
         };
-        samples.extend_from_slice(part.members())?;
+        samples = all;
         left = rest;
         chunk = chunk.saturating_add(1);
     }

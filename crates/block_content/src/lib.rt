@@ -3,12 +3,15 @@
 #![tactic(auto)]
 
 mod check_refusal;
+mod checked;
 mod checking;
 mod chunk_cause;
 mod chunk_reading;
 mod content_reading;
+mod shipping;
 
 pub use check_refusal::CheckRefusal;
-pub use checking::{Checked, check};
+pub use checked::Checked;
+pub use checking::{check, check_indexed};
 pub use chunk_cause::ChunkCause;
-pub use content_reading::content;
+pub use content_reading::{content, read_index};

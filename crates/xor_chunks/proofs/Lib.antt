@@ -16,3 +16,4 @@ pub mod SamplesWritten
 pub mod FieldsRead
 pub mod SamplesRead
 pub mod TextsRead
+pub mod Appending

@@ -85,3 +85,7 @@ data_at most bytes = do
 -- what was read before, and what is read now
 abbrev pub with_front : List Sample → Result (List Sample × List Bool) XorRefusal → Result (List Sample × List Bool) XorRefusal
 with_front front read = read >>= λ x. Ok (front ++ x.0, x.1)
+
+-- samples, and behind them those that are read
+abbrev pub with_samples : {E : Type 0} → List Sample → Result (List Sample) E → Result (List Sample) E
+with_samples {E} front read = read >>= λ samples. Ok (front ++ samples)

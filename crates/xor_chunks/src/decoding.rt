@@ -1,10 +1,11 @@
-ghost use Rattle.std.specs.Prelude.{◌≡◌, ◌≤◌, ◌*◌, ◌⊎◌, ◌++◌, ◌∷◌, [], length, List, IfOk, MatchResult, Ok, Err};
+ghost use Rattle.std.specs.Prelude.{◌≡◌, ◌+◌, ◌≤◌, ◌*◌, ◌⊎◌, ◌++◌, ◌∷◌, [], length, List, IfOk, MatchResult, Ok, Err};
+ghost use Rattle.std.specs.Result.{IsOkAnd};
 ghost use Rattle.label_sets.specs.declared.sample.Sample.{Sample};
 ghost use Rattle.xor_chunks.specs.Grammar.{IsText};
 ghost use Rattle.xor_chunks.specs.Known.{state_of};
 ghost use Rattle.reading_core.specs.Reading.{Answers, Gives};
 ghost use Rattle.reading_core.specs.Grammar.{IsBytes};
-ghost use Rattle.xor_chunks.specs.Data.{count_at, first_at, gap_at, others_at, rest_at, samples_at, data_at, is_filling, with_front};
+ghost use Rattle.xor_chunks.specs.Data.{count_at, first_at, gap_at, others_at, rest_at, samples_at, data_at, is_filling, with_front, with_samples};
 
 use crate::last::Last;
 use crate::step::{follow, next};
@@ -121,20 +122,19 @@ fn push_rest<'a>(
 }
 
 /// Reads `count` samples.
-#[tactic(auto, unfolding(crate::specs::Data::samples_at))]
-fn samples_of(
-    alloc: Global,
+fn push_samples(
+    mut samples: Vec<Sample>,
     count: u16,
     bytes: &[u8],
 ) -> Result<(Vec<Sample>, BitReader<'_>), XorRefusal>
     ensures { Gives XorRefusal.NoMemory (λ x. (x.0.items, x.1)) result
-        (samples_at count bytes.now) }
+        (with_front samples.items (samples_at count bytes.now)) }
 {
     if count == 0 {
-        return Ok((Vec::new(alloc), BitReader::new(bytes)));
+        return Ok((samples, BitReader::new(bytes)));
     }
     let (first, rest) = first_of(bytes)?;
-    let mut samples = Vec::with_capacity(alloc, room_for(count, bytes))?;
+    samples.reserve(room_for(count, bytes))?;
     samples.push(first)?;
     push_rest(samples, count - 1, Last::begun(first), rest)
 }
@@ -159,18 +159,28 @@ fn is_filling(mut reader: BitReader<'_>, most: u32) -> bool
     }
 }
 
+/// Reads the samples of all the bytes, after which at most `most` bits are left, all zero.
+fn push_data(samples: Vec<Sample>, bytes: &[u8], most: u32) -> Result<Vec<Sample>, XorRefusal>
+    requires { most ≤ 64 }
+    ensures exact { Gives XorRefusal.NoMemory
+        (λ all. all.items) result (with_samples samples.items (data_at most bytes.now)) }
+    ensures bytes { IsBytes bytes.now }
+{
+    let (count, rest) = count_of(bytes)?;
+    let (samples, reader) = push_samples(samples, count, rest)?;
+    if !is_filling(reader, most) {
+        return Err(XorRefusal::Trailing);
+    }
+    Ok(samples)
+}
+
 /// The samples of all the bytes, after which at most `most` bits are left, all zero.
-#[tactic(auto, unfolding(crate::specs::Data::data_at))]
 fn data_of(alloc: Global, bytes: &[u8], most: u32) -> Result<SampleList, XorRefusal>
     requires { most ≤ 64 }
     ensures exact { Gives XorRefusal.NoMemory (λ samples. samples) result (data_at most bytes.now) }
     ensures bytes { IsBytes bytes.now }
 {
-    let (count, rest) = count_of(bytes)?;
-    let (samples, reader) = samples_of(alloc, count, rest)?;
-    if !is_filling(reader, most) {
-        return Err(XorRefusal::Trailing);
-    }
+    let samples = push_data(Vec::new(alloc), bytes, most)?;
     Ok(List::from_vec(samples))
 }
 
@@ -200,4 +210,22 @@ pub fn decode_stored(alloc: Global, bytes: &[u8]) -> Result<SampleList, XorRefus
     ensures few { IfOk result (λ samples. length samples ≤ 8 * length bytes.now) }
 {
     data_of(alloc, bytes, 8)
+}
+
+/// Reads stored XOR data, as `decode_stored` does, and puts its samples behind others. The others are lost where it is refused.
+pub fn append_stored(samples: Vec<Sample>, bytes: &[u8]) -> Result<Vec<Sample>, XorRefusal>
+    // What is put behind is what the bytes stand for, and bytes that stand for samples are read.
+    ensures found { IfOk result (λ all. (read : List Sample) × IsText 8 bytes.now read
+        × (all.items ≡ samples.items ++ read)) }
+    ensures only { (read : List Sample) → IsText 8 bytes.now read
+        → IsOkAnd result (λ all. all.items ≡ samples.items ++ read)
+        ⊎ (result ≡ Err XorRefusal.NoMemory) }
+
+    // A refusal is that of the first sample that cannot be read, by its first case.
+    ensures exact { Gives XorRefusal.NoMemory
+        (λ all. all.items) result (with_samples samples.items (data_at 8 bytes.now)) }
+    ensures few { IfOk result
+        (λ all. length all.items ≤ length samples.items + 8 * length bytes.now) }
+{
+    push_data(samples, bytes, 8)
 }

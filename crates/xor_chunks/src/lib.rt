@@ -19,7 +19,7 @@ mod window_setting;
 
 pub use bit_reader::BitReader;
 pub use bit_writer::BitWriter;
-pub use decoding::{decode, decode_stored};
+pub use decoding::{append_stored, decode, decode_stored};
 pub use encoding::encode;
 pub use fitting::fit_a_chunk;
 pub use refusal::XorRefusal;

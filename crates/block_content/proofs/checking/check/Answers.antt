@@ -1,15 +1,23 @@
-use Rattle.std.proofs.Common.{◌≡◌, ◌⊎◌, inl, inr, refl}
+use Rattle.std.proofs.Common.{◌≡◌, ◌⊎◌, ◌∙◌, inl, inr, refl}
 use Rattle.block_content.specs.Checking.{RefusesBlock}
 use Rattle.block_content.specs.declared.check_refusal.CheckRefusal.{CheckRefusal}
 use Rattle.block_content.specs.declared.check_refusal.CheckRefusal.TheVariants.{NoMemory}
-use Rattle.block_content.proofs.CheckLaws.{held, held_only, held_not_refused, refused_why, refused_passing, refused_other, stopped_with, stopped_why, stopped_other}
+use Rattle.block_content.proofs.CheckLaws.{held_passes, held_only, held_not_refused, refused_why, refused_passing, refused_other, stopped_with, stopped_why, stopped_other, moved_passed}
 use Rattle.block_content.proofs.checking.check.Goals as goal
 
+pub new-requires : goal.new-requires
+new-requires c = held_passes c.args.files c.bytes.result.now c.members.result.now c.bytes.ensures c.members.ensures c.count_block.ensures.bytes c.args.ulid c.in_ok-series.series c.in_ok-series.samples c.in_ok-series.ensures.exact
+
 pub returns-clause-found : goal.returns-clause-found
-returns-clause-found c = (refl, held c.args.files c.bytes.result.now c.members.result.now c.bytes.ensures c.members.ensures c.count_block.ensures.bytes c.args.ulid c.in_ok-series.series c.in_ok-series.samples c.in_ok-series.ensures.exact)
+returns-clause-found c = (
+  c.new.ensures.files,
+  moved_passed c.args.ulid c.args.files c.in_ok-series.series c.in_ok-series.samples _ _ c.new.ensures.series c.new.ensures.samples
+      (held_passes c.args.files c.bytes.result.now c.members.result.now c.bytes.ensures c.members.ensures c.count_block.ensures.bytes c.args.ulid c.in_ok-series.series c.in_ok-series.samples c.in_ok-series.ensures.exact),
+)
 
 pub returns-clause-passes : goal.returns-clause-passes
-returns-clause-passes c = λ list is. let counts = held_only c.args.files c.bytes.result.now c.members.result.now c.bytes.ensures c.members.ensures c.count_block.ensures.bytes c.args.ulid c.in_ok-series.series c.in_ok-series.samples list c.in_ok-series.ensures.exact is in inl (refl, counts.0, counts.1)
+returns-clause-passes c = λ list is. let counts = held_only c.args.files c.bytes.result.now c.members.result.now c.bytes.ensures c.members.ensures c.count_block.ensures.bytes c.args.ulid c.in_ok-series.series c.in_ok-series.samples list c.in_ok-series.ensures.exact is in
+    inl (c.new.ensures.files, c.new.ensures.series ∙ counts.0, c.new.ensures.samples ∙ counts.1)
 
 pub returns-clause-refuses : goal.returns-clause-refuses
 returns-clause-refuses c = λ refusal is. absurd (held_not_refused c.args.files c.bytes.result.now c.members.result.now c.bytes.ensures c.members.ensures c.count_block.ensures.bytes c.args.ulid c.in_ok-series.series c.in_ok-series.samples refusal c.in_ok-series.ensures.exact is)
