@@ -36,7 +36,8 @@ pub fn run_tool<S: Site, R: Source, K: Sink>(
     ensures verdict { (verdict : Verdict) × (status : Status)
         × IsCaused (IsSome (bucket_word words.now))
         (around_call R.left R.faults script.old script.new
-        S.buckets S.next_bucket S.shelves S.next_shelf S.faults (bucket_word words.now) (shelf_word words.now)
+        S.buckets S.next_bucket S.shelves S.next_shelf S.faults
+        (bucket_word words.now) (shelf_word words.now)
         site.old site.new S.Store.faults result.store result.shelf result.journal) verdict
         × IsSaid verdict (saying_to K.faults K.written out.old out.new) status
         × (result.status ≡ number_of status) }
@@ -82,8 +83,10 @@ fn come_to<S: Site, R: Source>(
 ) -> Ended<S::Store, S::Files>
     ensures cause { IsCaused (IsSome (bucket_word words.now))
         (around_call R.left R.faults script.old script.new
-        S.buckets S.next_bucket S.shelves S.next_shelf S.faults (bucket_word words.now) (shelf_word words.now)
-        site.old site.new S.Store.faults result.conclusion.store result.shelf result.conclusion.journal)
+        S.buckets S.next_bucket S.shelves S.next_shelf S.faults
+        (bucket_word words.now) (shelf_word words.now)
+        site.old site.new S.Store.faults result.conclusion.store result.shelf
+        result.conclusion.journal)
         result.conclusion.verdict }
     ensures handed { IsHandedOut S.buckets site.old site.new result.conclusion.store }
     ensures kept { is_some result.conclusion.journal ≡ is_some result.conclusion.store }
@@ -114,8 +117,10 @@ fn read_and_run<S: Site, R: Source>(
 ) -> Ended<S::Store, S::Files>
     ensures cause { IsWorked
         (around_call R.left R.faults script.old script.new
-        S.buckets S.next_bucket S.shelves S.next_shelf S.faults (Some bucket.now) (named_by shelf.now)
-        site.old site.new S.Store.faults result.conclusion.store result.shelf result.conclusion.journal)
+        S.buckets S.next_bucket S.shelves S.next_shelf S.faults
+        (Some bucket.now) (named_by shelf.now)
+        site.old site.new S.Store.faults result.conclusion.store result.shelf
+        result.conclusion.journal)
         result.conclusion.verdict }
     ensures handed { IsHandedOut S.buckets site.old site.new result.conclusion.store }
     ensures kept { is_some result.conclusion.journal ≡ is_some result.conclusion.store }

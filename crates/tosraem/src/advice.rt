@@ -5,12 +5,10 @@ use replay_cli::Status;
 pub(crate) fn advice(status: Status) -> &'static str {
     match status {
         Status::Done | Status::ActivityFailed => "",
-        Status::WordsRefused => {
-            "usage: tosraem serial BUCKET SHELF < SCRIPT\n"
-        }
+        Status::WordsRefused => "usage: tosraem serial BUCKET SHELF < SCRIPT\n",
         Status::ScriptRefused => "Mend the script at the line that is named, and run again.\n",
         Status::SourceFault => {
-            "The script is read from standard input: see that its file can be read, and run again.\n"
+            "The script comes from standard input: see that it can be read, and run again.\n"
         }
         Status::SinkFault => {
             "The report goes to standard output: see that there is room for it, and run again.\n"
@@ -20,7 +18,7 @@ pub(crate) fn advice(status: Status) -> &'static str {
             "A run begins with an empty bucket: empty the folder, or name another one.\n"
         }
         Status::JournalFull => {
-            "One run takes some million operations: split the script into several runs.\n"
+            "One run takes about a million operations: split the script into several runs.\n"
         }
         Status::SiteFault => {
             "See that BUCKET and SHELF name folders that can be opened, and run again.\n"
