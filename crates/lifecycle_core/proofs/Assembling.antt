@@ -2,9 +2,9 @@
 use Rattle.list_core.proofs.Membership.{contains_first}
 use Rattle.std.proofs.Common.{◌≡◌, ◌≢◌, ◌↔◌, inl, inr, ℕ, zero, suc, ℤ, Bool, List, [], ◌∷◌, ◌++◌, length, All, Contains, Option, Some, None, refl, sym, ◌∙◌, ap, subst, arith}
 use Rattle.std.specs.Prelude.{option_map, slice_get, count_by, get_or}
-use Rattle.std.specs.List.{filter}
+use Rattle.std.specs.List.{AllZip, filter, flat_map}
 use Rattle.std.proofs.lemmas.List.{length-append}
-use Rattle.std.proofs.lemmas.List.Elements.{All-contains, All-contains_itself}
+use Rattle.std.proofs.lemmas.List.Elements.{All-contains, All-contains_itself, All-weaker}
 use Rattle.std.proofs.lemmas.List.Sums.{length-filter}
 use Rattle.label_sets.specs.Triples.{Triple}
 use Rattle.label_sets.specs.declared.series.Series.{Series}
@@ -29,25 +29,34 @@ use Rattle.script_core.specs.Lawful.{IsLawfulScript}
 use Rattle.script_workers.specs.declared.work.Work.{Work}
 use Rattle.script_workers.specs.declared.work.Work.TheVariants.{Upload, Sync, Query}
 use Rattle.lifecycle_core.specs.Causes.{AreFaultsShown, AreUndamaged, AreWell, IsDamaged, IsFault, IsWell, SomeCame}
-use Rattle.lifecycle_core.specs.Completed.{IsSettled, IsUploadedBefore}
+use Rattle.lifecycle_core.specs.Completed.{IsUploadedBefore}
 use Rattle.lifecycle_core.specs.Conducts.{Who}
-use Rattle.lifecycle_core.specs.Guarantees.{Answered, IsExact, IsGiven, IsGuaranteed, IsGuaranteedJournal, IsSound, LeavesNoneOut, NamesUploads}
+use Rattle.lifecycle_core.specs.Guarantees.{Answered, IsExact, IsGiven, IsGuaranteed, IsGuaranteedJournal, IsPartGiven, IsSound, LeavesNoneOut, Named, NamesAll, NamesUploads, asked_of}
 use Rattle.lifecycle_core.specs.Held.{held}
 use Rattle.lifecycle_core.specs.Holdings.{Holding, Use}
 use Rattle.lifecycle_core.specs.Phases.{IsInTurn, IsRunOf}
 use Rattle.lifecycle_core.specs.Setting.{Setting}
+use Rattle.lifecycle_core.specs.SyncsAndCalls.{IsViewOf}
+use Rattle.lifecycle_core.specs.TimeRules.{IsSyncedInTime}
 use Rattle.lifecycle_core.specs.Tasks.{End, QueryTask, TaskRun, answered, asked_by, stopped, sync_rules, synced, uploaded, without_view}
 use Rattle.lifecycle_core.proofs.misses.Explaining.{honest_misses_nothing, misses_explained, parted, the_entry}
+use Rattle.lifecycle_core.proofs.answers.Joining.{joined}
 use Rattle.lifecycle_core.proofs.answers.ExactAnswers.{answer_is_exact, calls_undamaged, sources_are}
 use Rattle.lifecycle_core.proofs.phases.FirstPhases.{none_run}
 use Rattle.lifecycle_core.proofs.misses.Faults.{ShowsFault, call_shows, sync_shows, upload_shows}
-use Rattle.lifecycle_core.proofs.journals.Positions.{filtered}
+use Rattle.lifecycle_core.proofs.journals.Positions.{filtered, zip_right}
 use Rattle.lifecycle_core.proofs.views.FewNames.{none_found_many}
 use Rattle.lifecycle_core.proofs.views.ViewsThere.{views_are_there}
 use Rattle.lifecycle_core.proofs.blocks.Readable.{is_readable}
 use Rattle.lifecycle_core.proofs.phases.TasksMade.{answers_are_made, ends_are_made}
 use Rattle.lifecycle_core.proofs.journals.Telling.{all_told, journal_rises}
-use Rattle.lifecycle_core.proofs.journals.Told.{IsMade, IsOrigin, IsReadable, IsTold, IsTrueView, Rises}
+use Rattle.lifecycle_core.proofs.journals.TellingPuts.{PutsShipped, puts_are_shipped}
+use Rattle.lifecycle_core.proofs.journals.Told.{IsMade, IsOrigin, IsReadable, IsTold, IsTrueView, PutsTexts, Rises}
+use Rattle.lifecycle_core.proofs.phases.PhaseRuns.{zip_weaken}
+use Rattle.lifecycle_core.proofs.views.Metas.{puts_texts}
+use Rattle.vertical_merge.specs.Merged.{IsDeduplication}
+use Rattle.label_sets.specs.Triples.{triples_of}
+use Rattle.script_core.specs.Workers.{workers_of}
 use Rattle.lifecycle_core.proofs.views.TrueViews.{origin_is_true, syncs_undamaged}
 
 -- ---- failed calls
@@ -167,9 +176,9 @@ well (stopped n) faults damaged missing few there = tt
 -- ---- an answer
 
 -- the series call behind an answer, and the selector that it was asked for
-record Called (setting : Setting) (view : Option Use) (entries : List Entry) (used : Use) (series : List Series) (sources : List ℕ) (low high : ℤ) (selector : List Matcher) : Type 0 where
-  is : view ≡ Some used
-  run : SeriesRun used.view (record { selector = selector; replicas = setting.script.rules.replicas; low = low; high = high }) entries (Some (called.Answer series sources))
+pub record Called (setting : Setting) (view : Option Use) (entries : List Entry) (used : Use) (series : List Series) (sources : List ℕ) (low high : ℤ) (selector : List Matcher) : Type 0 where
+  pub is : view ≡ Some used
+  pub run : SeriesRun used.view (record { selector = selector; replicas = setting.script.rules.replicas; low = low; high = high }) entries (Some (called.Answer series sources))
 
 query_called : (setting : Setting) (view : Option Use) (low high : ℤ) (o : Option (List Matcher)) (entries : List Entry) (used : Use) (series : List Series) (sources : List ℕ) (selector : List Matcher) → o ≡ Some selector
     → QueryTask view (option_map (λ matchers. record { selector = matchers; replicas = setting.script.rules.replicas; low = low; high = high }) o) entries (Some (answered used (called.Answer series sources)))
@@ -189,15 +198,11 @@ query_called setting (Some own) low high (Some matchers) entries used series sou
           (subst (λ (x : SeriesEnd). SeriesRun own.view (record { selector = matchers; replicas = setting.script.rules.replicas; low = low; high = high }) entries (Some x)) two run));
     }
 
-task_called : (setting : Setting) (who : Who) (place : ℕ) (w : Work) (held after : Holding) (entries : List Entry) (used : Use) (series : List Series) (sources : List ℕ) (low high : ℤ) (number : ℕ) (selector : List Matcher)
+pub task_called : (setting : Setting) (who : Who) (place : ℕ) (w : Work) (held after : Holding) (entries : List Entry) (used : Use) (series : List Series) (sources : List ℕ) (low high : ℤ) (number : ℕ) (selector : List Matcher)
     → w ≡ Query low high number → slice_get setting.script.selectors number ≡ Some selector → TaskRun setting who place w held entries (Some (answered used (called.Answer series sources))) after → Called setting held.used entries used series sources low high selector
 task_called setting who place w held after entries used series sources low high number selector is selects run =
     query_called setting held.used low high (slice_get setting.script.selectors number) entries used series sources selector selects
     (subst (λ (x : Work). TaskRun setting who place x held entries (Some (answered used (called.Answer series sources))) after) is run).0
-
-the_only : (one other : Use) → Contains (one ∷ []) other → one ≡ other
-the_only one other (zero, below, is) = is
-the_only one other (suc k, below, is) = absurd (omega (arith, below))
 
 -- ---- an honest journal
 
@@ -211,8 +216,11 @@ module _ (setting : Setting) (journal : List Entry) (ends : List (List (List End
   told : All (IsTold setting journal) journal
   told = all_told setting journal ends lawful readable run honest
 
+  texts : PutsTexts journal
+  texts = puts_texts setting journal readable (λ e among. All-contains (PutsShipped setting) journal e (puts_are_shipped setting journal ends run) among)
+
   view_is_true : (used : Use) → IsOrigin setting journal used → IsTrueView setting journal used
-  view_is_true used origin = origin_is_true setting journal used lawful readable rising told origin
+  view_is_true used origin = origin_is_true setting journal used lawful readable rising texts told origin
 
   undamaged : AreUndamaged ends
   undamaged end came =
@@ -222,42 +230,68 @@ module _ (setting : Setting) (journal : List Entry) (ends : List (List (List End
       (λ used is q number. calls_undamaged setting journal m.entries used.view q number readable told m.part (view_is_true used (m.origin used is)).kept) m.run
 
   module _ (query : Answered) (given : IsGiven setting ends query) where
-    made : IsMade setting journal given.task (answered given.used (called.Answer given.series query.sources))
-    made = answers_are_made setting journal ends rising run given.phase_number given.phase given.phase_ends (Some given.gateway) given.place given.task
-        (answered given.used (called.Answer given.series query.sources)) given.in_phases given.in_tasks given.phase_came given.answer
+    abbrev Part : Named → List Series → Type 0
+    Part = IsPartGiven (workers_of setting.script given.phase_number) given.phase_ends given.place given.low given.high
 
-    the_call : Called setting made.held.used made.entries given.used given.series query.sources query.low query.high query.selector
-    the_call = task_called setting made.who made.place given.task.work made.held made.after made.entries given.used given.series query.sources query.low query.high given.selector_number query.selector given.asks given.selects made.run
+    -- one gateway's part
+    module _ (named : Named) (series : List Series) (part : Part named series) where
+      made : IsMade setting journal given.task (answered named.used (called.Answer series named.sources))
+      made = answers_are_made setting journal ends rising run given.phase_number given.phase given.phase_ends (Some named.gateway) given.place given.task
+          (answered named.used (called.Answer series named.sources)) given.in_phases given.in_tasks given.phase_came part.came
 
-    view : IsTrueView setting journal given.used
-    view = view_is_true given.used (made.origin given.used the_call.is)
+      the_call : Called setting made.held.used made.entries named.used series named.sources given.low given.high query.selector
+      the_call = task_called setting made.who made.place given.task.work made.held made.after made.entries named.used series named.sources given.low given.high given.selector_number query.selector given.asks given.selects made.run
+
+      view : IsTrueView setting journal named.used
+      view = view_is_true named.used (made.origin named.used the_call.is)
+
+      part_exact : IsDeduplication (triples_of series) (asked_of setting query.selector named)
+      part_exact =
+          subst (λ (z : ℤ). IsAnswer query.selector z named.high (triples_of series) (held setting named.sources)) (sym part.from)
+          (subst (λ (z : ℤ). IsAnswer query.selector given.low z (triples_of series) (held setting named.sources)) (sym part.upto)
+          (answer_is_exact setting journal made.entries named.used.view query.selector given.low given.high series named.sources lawful readable told made.part view.kept the_call.run))
+
+      named_by : (ulid : ℕ) → Contains named.sources ulid ↔ ((found : Found) × Contains named.used.view.kept found × (found.ulid ≡ ulid))
+      named_by = sources_are setting journal made.entries named.used.view (record { selector = query.selector; replicas = setting.script.rules.replicas; low = given.low; high = given.high }) series named.sources readable told made.part view.kept the_call.run
+
+      part_names : All (λ ulid. IsUploadedBefore setting journal ulid named.used.last) named.sources
+      part_names = λ k d below.
+          let ulid = get_or named.sources k d in
+          let found = (named_by ulid).0 (All-contains_itself named.sources k d below) in
+          subst (λ (u : ℕ). IsUploadedBefore setting journal u named.used.last) found.2 (All-contains (λ (f : Found). IsUploadedBefore setting journal f.ulid named.used.last) named.used.view.kept found.0 view.uploaded found.1)
+
+      part_covers : NamesAll setting journal named
+      part_covers ulid settled = (named_by ulid).1 (view.settled named.gateway ulid settled)
+
+    all_exact : (named : List Named) (parts : List (List Series)) → AllZip Part named parts → AllZip (λ n series. IsDeduplication (triples_of series) (asked_of setting query.selector n)) named parts
+    all_exact named parts all = zip_weaken Part (λ n series. IsDeduplication (triples_of series) (asked_of setting query.selector n)) part_exact named parts all
 
     exact : IsExact setting query
-    exact = subst (λ (ts : List Triple). IsAnswer query.selector query.low query.high ts (held setting query.sources)) (sym given.samples)
-        (answer_is_exact setting journal made.entries given.used.view query.selector query.low query.high given.series query.sources lawful readable told made.part view.kept the_call.run)
+    exact = subst (λ (ts : List Triple). IsDeduplication ts (flat_map (asked_of setting query.selector) query.named)) (sym given.samples)
+        (joined (asked_of setting query.selector) query.named given.parts (all_exact query.named given.parts given.given) given.series given.merged)
 
-    named_by : (ulid : ℕ) → Contains query.sources ulid ↔ ((found : Found) × Contains given.used.view.kept found × (found.ulid ≡ ulid))
-    named_by = sources_are setting journal made.entries given.used.view (record { selector = query.selector; replicas = setting.script.rules.replicas; low = query.low; high = query.high }) given.series query.sources readable told made.part view.kept the_call.run
-
-    its_own : Contains query.uses given.used
-    its_own = subst (λ (us : List Use). Contains us given.used) (sym given.uses) (contains_first given.used [])
-
-    only_one : (used : Use) → Contains query.uses used → given.used ≡ used
-    only_one used among = the_only given.used used (subst (λ (us : List Use). Contains us used) given.uses among)
+    -- what holds of each gateway's part holds of all that are named
+    of_parts : (P : Named → Type 0) → ((n : Named) (series : List Series) → Part n series → P n) → All P query.named
+    of_parts P each = λ k d below.
+        let n = get_or query.named k d in
+        let part = zip_right Part query.named given.parts n given.given (All-contains_itself query.named k d below) in
+        each n part.0 part.2
 
     names : NamesUploads setting journal query
-    names = λ k d below.
-        let ulid = get_or query.sources k d in
-        let found = (named_by ulid).0 (All-contains_itself query.sources k d below) in
-        (given.used, its_own, subst (λ (u : ℕ). IsUploadedBefore setting journal u given.used.last) found.2 (All-contains (λ (f : Found). IsUploadedBefore setting journal f.ulid given.used.last) given.used.view.kept found.0 view.uploaded found.1))
+    names = of_parts (λ n. All (λ ulid. IsUploadedBefore setting journal ulid n.used.last) n.sources) part_names
 
-    covers : (used : Use) (ulid : ℕ) → Contains query.uses used → IsSettled setting journal used ulid → Contains query.sources ulid
-    covers used ulid among settled =
-        let found = view.settled ulid (subst (λ (u : Use). IsSettled setting journal u ulid) (sym (only_one used among)) settled) in
-        (named_by ulid).1 found
+    covers : LeavesNoneOut setting journal query
+    covers = of_parts (NamesAll setting journal) part_covers
+
+    -- so too where the syncs were in time
+    abbrev Covered : Named → Type 0
+    Covered n = ((entries : List Entry) → IsViewOf (sync_rules setting n.gateway) journal n.used entries → IsSyncedInTime setting.script.rules entries) → NamesAll setting journal n
+
+    in_time : All Covered query.named
+    in_time = All-weaker (NamesAll setting journal) Covered (λ n all synced. all) query.named covers
 
     is_sound : IsSound setting journal query
-    is_sound = record { exact = exact; named = names; covered = λ uploaded used among synced ulid settled. covers used ulid among settled }
+    is_sound = record { exact = exact; named = names; covered = λ uploaded. in_time }
 
   few : ¬ SomeCame ends (synced fetched.TooMany)
   few = none_found_many setting journal ends lawful readable rising told run
@@ -274,7 +308,7 @@ module _ (setting : Setting) (journal : List Entry) (ends : List (List (List End
   complete : IsInTurn setting ends → failed_count journal ≡ 0 → AreWell ends
   complete turns none end came =
       well end (no_fault none end came) (undamaged end came)
-      (λ used number is. honest_misses_nothing setting journal ends lawful run honest used number (subst (SomeCame ends) is came))
+      (λ used number is. honest_misses_nothing setting journal ends lawful run honest (answered used (called.Missing number)) number (subst (SomeCame ends) is came) refl)
       (λ is. few (subst (SomeCame ends) is came))
       (λ is. views_are_there setting journal ends lawful turns run (views_given none) (subst (SomeCame ends) is came))
 
@@ -301,7 +335,7 @@ none_guaranteed setting = (
   none_run setting,
   tt,
   record {
-    explained = λ used number came. absurd (no_end_came _ came);
+    explained = λ end number came missing. absurd (no_end_came end came);
     faults = λ end number came fault. absurd (no_end_came end came);
     undamaged = λ honest end came. absurd (no_end_came end came);
     sound = λ honest query given. absurd (nothing_given setting query given);

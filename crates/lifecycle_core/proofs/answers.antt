@@ -1,3 +1,7 @@
 -- That an answer over a true view is exact.
 pub mod Calls
 pub mod ExactAnswers
+pub mod Joining
+pub mod ActingCalls
+pub mod OneGateway
+pub mod EndsAreCalls

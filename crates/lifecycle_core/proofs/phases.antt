@@ -13,5 +13,6 @@ pub mod RunsInLine
 pub mod Joined
 pub mod RunFronts
 pub mod Fronts
+pub mod ActingRuns
 pub mod PhaseViews
 pub mod TasksMade

@@ -1,5 +1,5 @@
 -- Which entry of a journal shows first that the bucket lied, or that somebody acted at another time than the rules allow.
-use Rattle.std.specs.Prelude.{◌≡◌, ◌≢◌, ◌⊎◌, ◌+◌, ◌*◌, ◌<◌, ◌≤◌, ℕ, List, [], ◌∷◌, ◌++◌, Contains, Option, Some, None, codes}
+use Rattle.std.specs.Prelude.{◌≡◌, ◌≢◌, ◌⊎◌, ◌+◌, ◌*◌, ◌<◌, ◌≤◌, ℕ, List, [], ◌∷◌, ◌++◌, length, Contains, Option, Some, None, codes}
 use Rattle.std.specs.List.{flat_map}
 use Rattle.block_keys.specs.declared.key.Key.{Key}
 use Rattle.block_keys.specs.declared.key.Key.TheVariants.{Meta, Index, Segment, Mark}
@@ -12,14 +12,13 @@ use Rattle.world_core.specs.declared.op.Op.TheVariants.{Get, GetRange}
 use Rattle.world_core.specs.declared.reply.Reply.{Reply}
 use Rattle.world_core.specs.declared.reply.Reply.TheVariants.{Found, Absent, Names}
 use Rattle.sync_filters.specs.Filters.{time_of}
-use Rattle.meta_fetcher.specs.Syncs.{SyncRun}
 use Rattle.meta_fetcher.specs.declared.sync_end.SyncEnd.{SyncEnd}
 use Rattle.meta_fetcher.specs.declared.sync_end.SyncEnd.TheVariants as fetched
 use Rattle.meta_fetcher.specs.declared.view.View.{View}
 use Rattle.script_core.specs.Workers.{workers_of}
 use Rattle.script_workers.specs.declared.worker.Worker.{Worker}
-use Rattle.lifecycle_core.specs.Conducts.{of_seat}
 use Rattle.lifecycle_core.specs.Setting.{Setting}
+use Rattle.lifecycle_core.specs.SyncsAndCalls.{IsSyncBy}
 use Rattle.lifecycle_core.specs.Tasks.{last_number, sync_rules}
 use Rattle.lifecycle_core.specs.TimeRules.{PutsMark, PutsObject}
 
@@ -82,16 +81,16 @@ IsSeatOf setting gateway seat =
     (number : ℕ) × (worker : Worker) × Contains (workers_of setting.script number) worker
     × (worker.gateway ≡ Some gateway) × (worker.seat ≡ seat)
 
--- The entries are one whole sync of a gateway, which came to this end. One without an end was broken off, and is its seat's last.
+-- The entries are one whole sync of a gateway, which came to this end.
 pub record IsSyncIn (setting : Setting) (journal : List Entry) (gateway : ℕ) (entries : List Entry)
     (end : Option SyncEnd) : Type 0 where
   pub seat : ℕ
   pub sits : IsSeatOf setting gateway seat
-  pub before : List Entry
-  pub after : List Entry
-  pub parts : of_seat seat journal ≡ before ++ entries ++ after
-  pub run : SyncRun (sync_rules setting gateway) entries end
-  pub whole : end ≡ None → after ≡ []
+  pub sync : IsSyncBy (sync_rules setting gateway) journal seat entries end
+  -- no sync that began earlier reaches into it
+  pub alone : (others : List Entry) (own : Option SyncEnd)
+      → (other : IsSyncBy (sync_rules setting gateway) journal seat others own)
+      → length other.before < length sync.before → length other.before + length others ≤ length sync.before
 
 -- the view that a gateway has at the entry of a number: that of its last sync before it which gave one
 pub record IsViewAt (setting : Setting) (journal : List Entry) (gateway number : ℕ)

@@ -11,9 +11,8 @@ use Rattle.meta_fetcher.specs.declared.sync_end.SyncEnd.TheVariants as fetched
 use Rattle.store_gateway.specs.declared.series_end.SeriesEnd.TheVariants as called
 use Rattle.lifecycle_core.specs.Setting.{Setting}
 use Rattle.lifecycle_core.specs.Breaches.{Rule, honesty, upload_time, mark_time, sync_time, view_time, Refuses, read_key}
-use Rattle.lifecycle_core.specs.Tasks.{End, uploaded, synced, answered, stopped}
+use Rattle.lifecycle_core.specs.Tasks.{End, uploaded, synced, answered, without_view, stopped}
 use Rattle.lifecycle_core.specs.TimeRules.{PutsMark, PutsObject}
-use Rattle.lifecycle_core.specs.Holdings.{Use}
 
 -- some worker came to this end
 abbrev pub SomeCame : List (List (List End)) → End → Type 0
@@ -48,21 +47,40 @@ pub record IsExplained (setting : Setting) (journal : List Entry) (number : ℕ)
   pub refused : Refuses setting journal rule before entry x y
   pub blamed : IsBlamed (key_ulid key) number rule entry
 
--- Where a series call says that an object was missing, the journal shows why.
+-- a call found an object missing, at the entry of this number
+abbrev pub IsMissing : End → ℕ → Type 0
+IsMissing (uploaded end) number = ⊥
+IsMissing (synced end) number = ⊥
+IsMissing (answered used (called.Answer series sources)) number = ⊥
+IsMissing (answered used (called.Missing entry)) number = entry ≡ number
+IsMissing (answered used (called.Damaged entry)) number = ⊥
+IsMissing (answered used (called.Fault entry)) number = ⊥
+IsMissing without_view number = ⊥
+IsMissing (stopped count) number = ⊥
+
+-- Where a worker says that an object was missing, the journal shows why.
 abbrev pub AreMissesExplained : Setting → List Entry → List (List (List End)) → Type 0
 AreMissesExplained setting journal ends =
-    (used : Use) (number : ℕ) → SomeCame ends (answered used (called.Missing number))
+    (end : End) (number : ℕ) → SomeCame ends end → IsMissing end number
     → IsExplained setting journal number
 
--- No series call says that an object was missing.
+-- No worker says that an object was missing.
 abbrev pub AreFound : List (List (List End)) → Type 0
-AreFound ends = (used : Use) (number : ℕ) → ¬ SomeCame ends (answered used (called.Missing number))
+AreFound ends = (end : End) (number : ℕ) → SomeCame ends end → ¬ IsMissing end number
 
 -- bytes or names were not of the form
 abbrev pub IsDamaged : End → Type 0
+IsDamaged (uploaded end) = ⊥
+IsDamaged (synced (fetched.View view)) = ⊥
+IsDamaged (synced (fetched.Fault entry)) = ⊥
 IsDamaged (synced (fetched.Damaged entry)) = Unit {0}
+IsDamaged (synced fetched.TooMany) = ⊥
+IsDamaged (answered used (called.Answer series sources)) = ⊥
+IsDamaged (answered used (called.Missing entry)) = ⊥
 IsDamaged (answered used (called.Damaged entry)) = Unit {0}
-IsDamaged other = ⊥
+IsDamaged (answered used (called.Fault entry)) = ⊥
+IsDamaged without_view = ⊥
+IsDamaged (stopped count) = ⊥
 
 -- no worker says that bytes or names were not of the form
 abbrev pub AreUndamaged : List (List (List End)) → Type 0
@@ -70,10 +88,19 @@ AreUndamaged ends = (end : End) → SomeCame ends end → ¬ IsDamaged end
 
 -- a call failed, at the entry of this number
 abbrev pub IsFault : End → ℕ → Type 0
+IsFault (uploaded (shipped.Done count)) number = ⊥
+IsFault (uploaded shipped.Already) number = ⊥
 IsFault (uploaded (shipped.Fault entry)) number = entry ≡ number
+IsFault (synced (fetched.View view)) number = ⊥
 IsFault (synced (fetched.Fault entry)) number = entry ≡ number
+IsFault (synced (fetched.Damaged entry)) number = ⊥
+IsFault (synced fetched.TooMany) number = ⊥
+IsFault (answered used (called.Answer series sources)) number = ⊥
+IsFault (answered used (called.Missing entry)) number = ⊥
+IsFault (answered used (called.Damaged entry)) number = ⊥
 IsFault (answered used (called.Fault entry)) number = entry ≡ number
-IsFault other number = ⊥
+IsFault without_view number = ⊥
+IsFault (stopped count) number = ⊥
 
 -- Where a worker says that a call failed, the entry that it names was answered so.
 abbrev pub AreFaultsShown : List Entry → List (List (List End)) → Type 0
@@ -85,10 +112,17 @@ AreFaultsShown journal ends =
 abbrev pub IsWell : End → Type 0
 IsWell (uploaded (shipped.Done count)) = Unit {0}
 IsWell (uploaded shipped.Already) = Unit {0}
+IsWell (uploaded (shipped.Fault entry)) = ⊥
 IsWell (synced (fetched.View view)) = Unit {0}
+IsWell (synced (fetched.Fault entry)) = ⊥
+IsWell (synced (fetched.Damaged entry)) = ⊥
+IsWell (synced fetched.TooMany) = ⊥
 IsWell (answered used (called.Answer series sources)) = Unit {0}
+IsWell (answered used (called.Missing entry)) = ⊥
+IsWell (answered used (called.Damaged entry)) = ⊥
+IsWell (answered used (called.Fault entry)) = ⊥
+IsWell without_view = ⊥
 IsWell (stopped count) = Unit {0}
-IsWell other = ⊥
 
 -- every task that came to its end came to such a one
 abbrev pub AreWell : List (List (List End)) → Type 0

@@ -1,6 +1,9 @@
 -- Which uploads a journal shows to be complete, and which of them a sync has to see.
 use Rattle.std.specs.Prelude.{◌≡◌, ◌<◌, ◌≤◌, ◌+◌, ℕ, List, ◌∷◌, ◌++◌, All, IsTrue, IsSome}
 use Rattle.block_keys.specs.declared.key.Key.TheVariants.{Meta}
+use Rattle.block_meta.specs.MetaFields.{MetaFields}
+use Rattle.block_meta.specs.MetaText.{IsMetaText}
+use Rattle.meta_fetcher.specs.declared.rules.SyncRules.{SyncRules}
 use Rattle.world_core.specs.Standing.{has_landed}
 use Rattle.world_core.specs.declared.op.Op.TheVariants.{Put}
 use Rattle.world_core.specs.declared.entry.Entry.{Entry}
@@ -13,24 +16,29 @@ use Rattle.lifecycle_core.specs.Holdings.{Use}
 abbrev pub PutsMeta : ℕ → Entry → Type 0
 PutsMeta ulid e = (bytes : List ℕ) × (e.op ≡ Put (Meta ulid) bytes) × IsTrue (has_landed e.reply)
 
--- The block was complete from the entry of this number on: its meta, which is put last, landed there for the first time.
-pub record IsCompletedAt (journal : List Entry) (ulid seq : ℕ) : Type 0 where
+-- The block was complete from the entry of this number on, with this meta: the block's meta, which is put last, landed there for
+-- the first time.
+pub record IsCompletedAt (journal : List Entry) (ulid seq : ℕ) (meta : MetaFields) : Type 0 where
   pub before : List Entry
   pub entry : Entry
   pub after : List Entry
   pub is : journal ≡ before ++ entry ∷ after
   pub number : entry.seq ≡ seq
-  pub put : PutsMeta ulid entry
+  pub bytes : List ℕ
+  pub puts : entry.op ≡ Put (Meta ulid) bytes
+  pub landed : IsTrue (has_landed entry.reply)
+  pub text : IsMetaText bytes meta
   pub first : All (λ e. ¬ PutsMeta ulid e) before
 
 -- a block that the script declares, complete before the entry of this number
 pub record IsUploadedBefore (setting : Setting) (journal : List Entry) (ulid last : ℕ) : Type 0 where
   pub is_declared : IsSome (declared setting.script ulid)
   pub seq : ℕ
-  pub completed : IsCompletedAt journal ulid seq
+  pub meta : MetaFields
+  pub completed : IsCompletedAt journal ulid seq meta
   pub earlier : seq < last
 
--- The block was complete before the sync of a view began, and the consistency delay was over by then.
-pub record IsSettled (setting : Setting) (journal : List Entry) (used : Use) (ulid : ℕ) : Type 0 where
+-- The block was complete before the sync of a view began, and the consistency delay of the rules by which it synced was over by then.
+pub record IsSettled (setting : Setting) (journal : List Entry) (rules : SyncRules) (used : Use) (ulid : ℕ) : Type 0 where
   pub uploaded : IsUploadedBefore setting journal ulid used.view.first
-  pub old : time_of ulid + setting.script.rules.consistency.ms ≤ used.view.begin.ms
+  pub old : time_of ulid + rules.consistency.ms ≤ used.view.begin.ms

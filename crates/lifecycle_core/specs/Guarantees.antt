@@ -1,9 +1,12 @@
 -- What a query's answer is worth: the statement about each answered query of a lawful journal.
-use Rattle.std.specs.Prelude.{◌≡◌, ◌==◌, ◌&&◌, nat_le, ℕ, ℤ, List, [], ◌∷◌, All, Contains, Some, slice_get, filter}
+use Rattle.std.specs.Prelude.{◌≡◌, ◌≢◌, ℕ, ℤ, List, map, All, Contains, Option, Some, slice_get}
+use Rattle.std.specs.List.{AllZip, flat_map, range_with_len}
 use Rattle.label_sets.specs.Triples.{triples_of}
 use Rattle.label_sets.specs.declared.series.Series.{Series}
 use Rattle.world_core.specs.Standing.{IsHonest}
 use Rattle.world_core.specs.Worlds.{failed_count}
+use Rattle.store_gateway.specs.SeriesRuns.{Query as Question}
+use Rattle.store_gateway.specs.declared.series_end.SeriesEnd.{SeriesEnd}
 use Rattle.store_gateway.specs.declared.series_end.SeriesEnd.TheVariants as ended
 use Rattle.script_core.specs.Workers.{workers_of}
 use Rattle.script_workers.specs.declared.phase.Phase.{Phase}
@@ -12,10 +15,15 @@ use Rattle.script_workers.specs.declared.work.Work.TheVariants as work
 use Rattle.lifecycle_core.specs.Causes.{AreFaultsShown, AreMissesExplained, AreUndamaged, AreWell}
 use Rattle.lifecycle_core.specs.Conducts.{CameTo}
 use Rattle.lifecycle_core.specs.Phases.{IsInTurn, IsRunOf}
-use Rattle.lifecycle_core.specs.Tasks.{End, answered}
+use Rattle.lifecycle_core.specs.Tasks.{End, answered, sync_rules}
 use Rattle.lifecycle_core.specs.TimeRules.{IsUploadedInTime, IsSyncedInTime}
 use Rattle.label_sets.specs.Triples.{Triple}
-use Rattle.matchers.specs.Selected.{IsAnswer}
+use Rattle.matchers.specs.Selected.{IsAnswer, selected}
+use Rattle.meta_fetcher.specs.declared.rules.SyncRules.{SyncRules}
+use Rattle.vertical_merge.specs.Merged.{IsDeduplication, IsMerge}
+use Rattle.script_workers.specs.Hands.{gateway_count}
+use Rattle.script_workers.specs.declared.worker.Worker.{Worker}
+use Rattle.lifecycle_core.specs.SyncsAndCalls.{IsViewOf}
 use Rattle.matchers.specs.declared.matcher.Matcher.{Matcher}
 use Rattle.world_core.specs.declared.entry.Entry.{Entry}
 use Rattle.lifecycle_core.specs.Setting.{Setting}
@@ -23,79 +31,98 @@ use Rattle.lifecycle_core.specs.Completed.{IsUploadedBefore, IsSettled}
 use Rattle.lifecycle_core.specs.Held.{held}
 use Rattle.lifecycle_core.specs.Holdings.{Use}
 
--- an answered query: what it asked, which views it used, and what it answered
-pub record Answered : Type 0 where
+-- what a gateway gave to a query
+pub record Named : Type 0 where
+  pub gateway : ℕ
+  -- the view that it used
+  pub used : Use
+  -- the times of which it was asked
   pub low : ℤ
   pub high : ℤ
-  pub selector : List Matcher
-  pub uses : List Use
-  pub samples : List Triple
+  -- the blocks that it names
   pub sources : List ℕ
 
--- The answer has each matching sample of the blocks that it names once, and nothing else.
-abbrev pub IsExact : Setting → Answered → Type 0
-IsExact setting query =
-    IsAnswer query.selector query.low query.high query.samples (held setting query.sources)
+-- an answered query: what it selected, what each gateway gave to it, and its samples
+pub record Answered : Type 0 where
+  pub selector : List Matcher
+  pub named : List Named
+  pub samples : List Triple
 
--- Each block that it names is declared, and was complete before the sync of a view that the query used had ended.
+-- of the blocks that a gateway names, the samples for which it was asked
+abbrev pub asked_of : Setting → List Matcher → Named → List Triple
+asked_of setting selector named = selected selector named.low named.high (held setting named.sources)
+
+-- The answer has each matching sample of the blocks that are named once, and nothing else.
+abbrev pub IsExact : Setting → Answered → Type 0
+IsExact setting query = IsDeduplication query.samples (flat_map (asked_of setting query.selector) query.named)
+
+-- Each block that a gateway names is declared, and was complete before the sync of the view that it used had ended.
 abbrev pub NamesUploads : Setting → List Entry → Answered → Type 0
 NamesUploads setting journal query =
-    All (λ ulid.
-    (used : Use) × Contains query.uses used × IsUploadedBefore setting journal ulid used.last)
-    query.sources
+    All (λ named. All (λ ulid. IsUploadedBefore setting journal ulid named.used.last) named.sources) query.named
 
--- It names each block that was complete, and old enough, before the sync of such a view began.
+-- the gateway names each block that was complete, and old enough, before the sync of its view began
+abbrev pub NamesAll : Setting → List Entry → Named → Type 0
+NamesAll setting journal named =
+    (ulid : ℕ) → IsSettled setting journal (sync_rules setting named.gateway) named.used ulid → Contains named.sources ulid
+
+-- Each gateway names each such block.
 abbrev pub LeavesNoneOut : Setting → List Entry → Answered → Type 0
-LeavesNoneOut setting journal query =
-    (used : Use) (ulid : ℕ) → Contains query.uses used → IsSettled setting journal used ulid
-    → Contains query.sources ulid
+LeavesNoneOut setting journal query = All (NamesAll setting journal) query.named
 
--- Some gateway's worker gave this answer, to the query at some place of some phase. Where a script has one gateway, it is the
--- query's answer; where it has none, a query has no worker, and stands outside this.
+-- the series with which a gateway's worker answered in the task at a place of a phase, whose query asks for these times
+pub record IsPartGiven (workers : List Worker) (ends : List (List End)) (place : ℕ) (low high : ℤ)
+    (named : Named) (series : List Series) : Type 0 where
+  pub came : CameTo workers ends (Some named.gateway) place (answered named.used (ended.Answer series named.sources))
+  pub from : named.low ≡ low
+  pub upto : named.high ≡ high
+
+-- Each gateway gave its part of the answer, to the query at some place of some phase, and the answer is the merge of all parts.
 pub record IsGiven (setting : Setting) (ends : List (List (List End)))
     (query : Answered) : Type 0 where
   pub phase_number : ℕ
   pub phase : Phase
   pub place : ℕ
   pub task : Task
+  pub low : ℤ
+  pub high : ℤ
   pub selector_number : ℕ
   pub in_phases : slice_get setting.script.phases phase_number ≡ Some phase
   pub in_tasks : slice_get phase.tasks place ≡ Some task
-  pub asks : task.work ≡ work.Query query.low query.high selector_number
+  pub asks : task.work ≡ work.Query low high selector_number
   pub selects : slice_get setting.script.selectors selector_number ≡ Some query.selector
   pub phase_ends : List (List End)
-  pub gateway : ℕ
-  pub used : Use
-  pub series : List Series
   pub phase_came : slice_get ends phase_number ≡ Some phase_ends
-  pub answer :
-      CameTo (workers_of setting.script phase_number) phase_ends (Some gateway) place
-      (answered used (ended.Answer series query.sources))
+  pub parts : List (List Series)
+  pub given : AllZip (IsPartGiven (workers_of setting.script phase_number) phase_ends place low high) query.named parts
+  -- every gateway is asked
+  pub every : map (λ named. named.gateway) query.named ≡ range_with_len 0 (gateway_count setting.script.gateways)
+  pub series : List Series
+  pub merged : IsMerge (flat_map triples_of parts) series
   pub samples : query.samples ≡ triples_of series
-  pub uses : query.uses ≡ used ∷ []
 
--- the entries of the sync that gave a view
-pub record IsSyncOf (journal : List Entry) (used : Use) (entries : List Entry) : Type 0 where
-  pub first : Entry
-  pub others : List Entry
-  pub begins : entries ≡ first ∷ others
-  pub number : first.seq ≡ used.view.first
-  pub seat : All (λ e. e.seat ≡ first.seat) entries
-  pub within :
-      entries
-      ≡ filter (λ e. (e.seat == first.seat) && (nat_le used.view.first e.seq && nat_le e.seq used.last))
-      journal
-
--- What an answered query is worth: it is exact, it names complete uploads, and where blocks were uploaded in time, and the sync of a
--- view that it used did not last too long, it names each block that this sync has to see.
+-- What an answered query is worth: it is exact, it names complete uploads, and where blocks were uploaded in time, each gateway whose
+-- view's sync did not last too long names each block that this sync has to see.
 pub record IsSound (setting : Setting) (journal : List Entry) (query : Answered) : Type 0 where
   pub exact : IsExact setting query
   pub named : NamesUploads setting journal query
   pub covered : ((ulid : ℕ) → IsUploadedInTime setting.script.rules ulid journal)
-      → (used : Use) → Contains query.uses used
-      → ((entries : List Entry) → IsSyncOf journal used entries
-      → IsSyncedInTime setting.script.rules entries)
-      → (ulid : ℕ) → IsSettled setting journal used ulid → Contains query.sources ulid
+      → All (λ named. ((entries : List Entry) → IsViewOf (sync_rules setting named.gateway) journal named.used entries
+      → IsSyncedInTime setting.script.rules entries) → NamesAll setting journal named) query.named
+
+-- What a call over a view is worth where the bucket is honest, by the question and the end to which it came: it misses nothing, and
+-- finds nothing damaged; its answer is exact for the blocks that it names, each of which was complete before the sync of the view
+-- had ended; and it names each block that this sync has to see.
+pub record IsWorth (setting : Setting) (journal : List Entry) (rules : SyncRules) (used : Use) (question : Question)
+    (end : Option SeriesEnd) : Type 0 where
+  pub found : (number : ℕ) → end ≢ Some (ended.Missing number)
+  pub undamaged : (number : ℕ) → end ≢ Some (ended.Damaged number)
+  pub exact : (series : List Series) (sources : List ℕ) → end ≡ Some (ended.Answer series sources)
+      → IsAnswer question.selector question.low question.high (triples_of series) (held setting sources)
+  pub named : (series : List Series) (sources : List ℕ) → end ≡ Some (ended.Answer series sources)
+      → All (λ ulid. IsUploadedBefore setting journal ulid used.last) sources
+  pub covered : (series : List Series) (sources : List ℕ) → end ≡ Some (ended.Answer series sources)
+      → (ulid : ℕ) → IsSettled setting journal rules used ulid → Contains sources ulid
 
 -- What is guaranteed of a run that came to these ends. A missing object is explained by the journal, and a failed call shown by it,
 -- whatever the bucket does. Where the bucket is honest, nothing is found damaged and each answered query is sound; and where, besides,

@@ -8,6 +8,8 @@ pub mod Conducts
 pub mod Tasks
 pub mod Phases
 pub mod InLine
+pub mod Acting
+pub mod SyncsAndCalls
 pub mod TimeRules
 pub mod Breaches
 pub mod Causes

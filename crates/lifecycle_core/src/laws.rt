@@ -1,4 +1,5 @@
-ghost use Rattle.std.specs.Prelude.{◌≡◌, ℕ, List, [], ◌∷◌, ◌++◌, Option};
+ghost use Rattle.std.specs.Prelude.{◌≡◌, ℕ, ℤ, List, [], ◌∷◌, ◌++◌, Option, Some};
+ghost use Rattle.matchers.specs.declared.matcher.Matcher.{Matcher};
 ghost use Rattle.world_core.specs.Journals.{Each};
 ghost use Rattle.world_core.specs.Moments.{HasMoments};
 ghost use Rattle.world_core.specs.Standing.{IsHonest};
@@ -6,15 +7,21 @@ ghost use Rattle.world_core.specs.Worlds.{IsJournal};
 ghost use Rattle.world_core.specs.declared.entry.Entry.{Entry};
 ghost use Rattle.meta_fetcher.specs.declared.sync_end.SyncEnd.{SyncEnd};
 ghost use Rattle.meta_fetcher.specs.declared.view.View.{View};
+ghost use Rattle.store_gateway.specs.SeriesRuns.{Query as Question, asking};
+ghost use Rattle.store_gateway.specs.declared.series_end.SeriesEnd.{SeriesEnd};
+ghost use Rattle.store_gateway.specs.declared.series_end.SeriesEnd.TheVariants as ended;
 ghost use Rattle.script_workers.specs.declared.phase.Phase.{Phase};
 ghost use Rattle.lifecycle_core.specs.Setting.{Setting};
 ghost use Rattle.script_core.specs.Lawful.{IsLawfulScript};
+ghost use Rattle.lifecycle_core.specs.Acting.{IsActing};
 ghost use Rattle.lifecycle_core.specs.Breaches.{IsBreach, IsCallRead, IsLie, IsSyncIn, IsUnbroken, IsViewAt, Rule};
-ghost use Rattle.lifecycle_core.specs.Causes.{AreFound, AreMissesExplained, IsExplained};
-ghost use Rattle.lifecycle_core.specs.Guarantees.{Answered, IsGiven, IsGuaranteed, LeavesNoneOut};
+ghost use Rattle.lifecycle_core.specs.Causes.{AreFound, AreMissesExplained, IsExplained, SomeCame};
+ghost use Rattle.lifecycle_core.specs.Guarantees.{Answered, IsGiven, IsGuaranteed, IsWorth, LeavesNoneOut};
+ghost use Rattle.lifecycle_core.specs.Holdings.{Use};
+ghost use Rattle.lifecycle_core.specs.SyncsAndCalls.{IsCallIn, IsViewOf};
 ghost use Rattle.lifecycle_core.specs.InLine.{IsRunInLine};
 ghost use Rattle.lifecycle_core.specs.Phases.{IsLawfulJournal, IsRunOf};
-ghost use Rattle.lifecycle_core.specs.Tasks.{End};
+ghost use Rattle.lifecycle_core.specs.Tasks.{End, answered, sync_rules};
 ghost use Rattle.lifecycle_core.specs.Ways.{BeginsPhase};
 ghost use Rattle.lifecycle_core.specs.TimeRules.{IsMarkedInTime, IsReadInTime, IsSyncedInTime, IsUploadedInTime};
 
@@ -34,7 +41,47 @@ pub fn journals_begin_with_the_first_phase()
 /// A law: a run that does a lawful script's tasks one after another, in the order of their lines, leaves a lawful journal.
 pub fn runs_in_line_are_lawful()
     ensures { (setting : Setting) (journal : List Entry) (ends : List (List End))
-        → IsLawfulScript setting.script → IsRunInLine setting journal ends → IsLawfulJournal setting journal }
+        → IsLawfulScript setting.script → IsRunInLine setting journal ends
+        → IsLawfulJournal setting journal }
+{}
+
+/// A law: every lawful journal of a lawful script is acting.
+pub fn lawful_journals_are_acting()
+    ensures { (setting : Setting) (journal : List Entry)
+        → IsLawfulScript setting.script → IsLawfulJournal setting journal
+        → IsActing setting journal }
+{}
+
+/// A law: a call over the view of a sync that ended before it misses an object only where the journal shows why; and where the
+/// bucket is honest, the call is worth what is said. The journal is acting, and tells which entries are the sync and the call.
+pub fn calls_are_worth_it()
+    ensures explained { (setting : Setting) (journal : List Entry) (gateway : ℕ) (used : Use)
+        (sync entries : List Entry) (question : Question) (number : ℕ)
+        → IsLawfulScript setting.script → IsActing setting journal
+        → IsViewOf (sync_rules setting gateway) journal used sync
+        → IsCallIn journal used question entries (Some (ended.Missing number))
+        → IsExplained setting journal number }
+    ensures worth { (setting : Setting) (journal : List Entry) (gateway : ℕ) (used : Use)
+        (sync entries : List Entry) (selector : List Matcher) (low high : ℤ)
+        (end : Option SeriesEnd)
+        → IsLawfulScript setting.script → IsActing setting journal
+        → IsViewOf (sync_rules setting gateway) journal used sync → IsHonest journal
+        → IsCallIn journal used (asking selector setting.script.rules.replicas low high) entries end
+        → IsWorth setting journal (sync_rules setting gateway) used
+        (asking selector setting.script.rules.replicas low high) end }
+{}
+
+/// A law: each end of a gateway's call in a run is that of a call in the journal, over the view of a sync in it, for a selector
+/// and times that were asked for.
+pub fn ends_are_calls()
+    ensures { (setting : Setting) (journal : List Entry) (ends : List (List (List End)))
+        (used : Use) (end : SeriesEnd)
+        → IsRunOf setting journal ends → SomeCame ends (answered used end)
+        → (gateway : ℕ) × (sync : List Entry) × (entries : List Entry)
+        × (selector : List Matcher) × (low : ℤ) × (high : ℤ)
+        × IsViewOf (sync_rules setting gateway) journal used sync
+        × IsCallIn journal used (asking selector setting.script.rules.replicas low high) entries
+        (Some end) }
 {}
 
 /// A law: a front of a lawful journal is one.
@@ -53,7 +100,8 @@ pub fn misses_are_explained()
 /// A law: where the bucket is honest, no series call misses an object, since no script deletes one.
 pub fn honest_buckets_miss_nothing()
     ensures { (setting : Setting) (journal : List Entry) (ends : List (List (List End)))
-        → IsLawfulScript setting.script → IsRunOf setting journal ends → IsHonest journal → AreFound ends }
+        → IsLawfulScript setting.script → IsRunOf setting journal ends → IsHonest journal
+        → AreFound ends }
 {}
 
 /// A law: an honest journal shows no lie.
@@ -85,10 +133,12 @@ pub fn unbroken_journals_are_in_time()
     ensures synced { (setting : Setting) (journal : List Entry) → IsUnbroken setting journal
         → (tick : ℕ) → HasMoments tick journal
         → (gateway : ℕ) (entries : List Entry) (end : Option SyncEnd)
-        → IsSyncIn setting journal gateway entries end → IsSyncedInTime setting.script.rules entries }
+        → IsSyncIn setting journal gateway entries end
+        → IsSyncedInTime setting.script.rules entries }
     ensures read { (setting : Setting) (journal : List Entry) → IsUnbroken setting journal
         → (gateway : ℕ) (view : View)
-        → Each (λ before e. IsCallRead setting gateway e → IsViewAt setting journal gateway e.seq view
+        → Each (λ before e. IsCallRead setting gateway e
+        → IsViewAt setting journal gateway e.seq view
         → IsReadInTime setting.script.rules view e) journal }
 {}
 
@@ -96,7 +146,8 @@ pub fn unbroken_journals_are_in_time()
 /// broken off.
 pub fn runs_are_guaranteed()
     ensures { (setting : Setting) (journal : List Entry) (ends : List (List (List End)))
-        → IsLawfulScript setting.script → IsRunOf setting journal ends → IsGuaranteed setting journal ends }
+        → IsLawfulScript setting.script → IsRunOf setting journal ends
+        → IsGuaranteed setting journal ends }
 {}
 
 /// A law: where the bucket is honest, an answered query leaves no settled upload out, whatever the rules of time, since no script

@@ -1,7 +1,11 @@
 -- Each answer that a report tells was given by the gateway.
-use Rattle.std.proofs.Common.{◌≡◌, ◌⊎◌, inl, inr, ℕ, zero, suc, ◌+◌, ◌≤◌, ℤ, Bool, append-nil, List, [], ◌∷◌, ◌++◌, length, Some, refl, sym, ap, subst, arith}
-use Rattle.std.specs.Prelude.{slice_get, map}
-use Rattle.std.specs.List.{AllZip, range_with_len}
+use Rattle.std.proofs.Common.{◌≡◌, ◌≢◌, ◌⊎◌, inl, inr, true, Contains, ℕ, zero, suc, ◌+◌, ◌≤◌, ℤ, Bool, append-nil, List, [], ◌∷◌, ◌++◌, length, Some, refl, sym, ap, subst, arith}
+use Rattle.std.specs.Prelude.{find, slice_get, map}
+use Rattle.std.specs.List.{AllZip, list_any, range_with_len}
+use Rattle.std.specs.List.Sorted.{IsStrictlySortedBy}
+use Rattle.std.proofs.lemmas.List.Elements.{All-nil}
+use Rattle.label_sets.specs.Triples.{has_same_key, triples_of}
+use Rattle.vertical_merge.specs.Merged.{IsMerge}
 use Rattle.label_sets.specs.declared.series.Series.{Series}
 use Rattle.world_core.specs.Standing.{IsHonest}
 use Rattle.world_core.specs.declared.entry.Entry.{Entry}
@@ -17,12 +21,14 @@ use Rattle.script_workers.specs.declared.work.Work.{Work}
 use Rattle.script_workers.specs.declared.work.Work.TheVariants as work
 use Rattle.script_workers.specs.declared.worker.Worker.{Worker}
 use Rattle.lifecycle_core.specs.Conducts.{CameTo}
-use Rattle.lifecycle_core.specs.Guarantees.{IsGiven}
+use Rattle.lifecycle_core.specs.Guarantees.{Answered, IsGiven, IsSound, Named}
 use Rattle.lifecycle_core.specs.Holdings.{Use}
+use Rattle.lifecycle_core.specs.Phases.{IsRunOf}
 use Rattle.lifecycle_core.specs.Setting.{Setting}
+use Rattle.lifecycle_core.proofs.answers.OneGateway.{IsGivenByOne, given_by_one}
 use Rattle.lifecycle_core.specs.Tasks.{End, answered, stopped, synced, uploaded, without_view}
 use Rattle.replay_cli.specs.Outcomes.{IsOutcome, PhasesCame, TaskCame, TasksCame, call_outcome}
-use Rattle.replay_cli.specs.ToldAnswers.{IsTold, IsWorth, ToldAnswer, answered_with}
+use Rattle.replay_cli.specs.ToldAnswers.{IsTold, IsWorth, ToldAnswer, answered_by}
 use Rattle.replay_cli.specs.Verdicts.{IsFullRun, IsWholeRun, tasks_of}
 use Rattle.replay_cli.specs.declared.outcome.Outcome.{Outcome}
 use Rattle.replay_cli.specs.declared.outcome.Outcome.TheVariants as outcome
@@ -133,25 +139,76 @@ no_end : (workers : List Worker) (ends : List (List End)) (place : ℕ) (low hig
 no_end workers ends place low high n [] series sources all is = (cc (is), cc (is))
 no_end workers ends place low high n (end ∷ more) series sources all is = absurd all
 
+-- an answer with nothing in it
+pub none_merged : IsMerge [] []
+unfolding triples_of IsStrictlySortedBy
+none_merged = record {
+  ascending = tt;
+  inhabited = All-nil (λ s. s.samples ≢ []);
+  first = record { ascending = tt; first = All-nil (λ t. find (has_same_key t) [] ≡ Some t); complete = All-nil (λ t. list_any (has_same_key t) [] ≡ true) };
+}
+
+-- what the one gateway names
+abbrev named_by_one : Use → ToldAnswer → Named
+named_by_one used answer = record { gateway = 0; used = used; low = answer.low; high = answer.high; sources = answer.sources }
+
 module _ (setting : Setting) (journal : List Entry) (phases left : List Phase) (ends untold : List (List (List End))) (outcomes : List Outcome) where
   slice_left : {X : Type 0} (xs more : List X) (k : ℕ) (x : X) → slice_get xs k ≡ Some x → slice_get (xs ++ more) k ≡ Some x
   slice_left [] more k x at = absurd (cc (at))
   slice_left (y ∷ xs) more zero x at = at
   slice_left (y ∷ xs) more (suc k) x at = slice_left xs more k x at
 
+  -- with no gateway
+  module _ (answer : ToldAnswer) (sound : (query : Answered) → IsGiven setting (ends ++ untold) query → IsSound setting journal query) (none : gateway_count setting.script.gateways ≡ 0) (series : answer.series ≡ []) (sources : answer.sources ≡ []) (task : Task) (selector_number : ℕ)
+      (asks : task.work ≡ work.Query answer.low answer.high selector_number) (selects : slice_get setting.script.selectors selector_number ≡ Some answer.selector) (p : IsOfPhase setting 0 phases ends task (outcome.Query (query.Answer answer.series answer.sources))) (parts : setting.script.phases ≡ phases ++ left) where
+    none_asked : [] ≡ range_with_len 0 (gateway_count setting.script.gateways)
+    none_asked = ap (range_with_len 0) (sym none)
+
+    given_by_none : IsGiven setting (ends ++ untold) (answered_by [] answer)
+    given_by_none = record {
+      phase_number = p.k;
+      phase = p.phase;
+      place = p.place;
+      task = task;
+      low = answer.low;
+      high = answer.high;
+      selector_number = selector_number;
+      in_phases = subst (λ l. slice_get l p.k ≡ Some p.phase) (sym parts) (slice_left phases left p.k p.phase p.in_phases);
+      in_tasks = p.in_tasks;
+      asks = asks;
+      selects = selects;
+      phase_ends = p.own;
+      phase_came = slice_left ends untold p.k p.own p.in_ends;
+      parts = [];
+      given = tt;
+      every = none_asked;
+      series = [];
+      merged = none_merged;
+      samples = ap triples_of series;
+    }
+
+    worth_none : IsWorth setting journal (ends ++ untold) answer
+    worth_none = record {
+      named = [];
+      sources = λ ulid. (λ among. subst (λ (l : List ℕ). Contains l ulid) sources among, λ among. subst (λ (l : List ℕ). Contains l ulid) (sym sources) among);
+      given = given_by_none;
+      sound = sound (answered_by [] answer) given_by_none;
+    }
+
   by_gateways : (names : List (List ℕ)) → setting.script.gateways ≡ names → length names ≤ 1 → setting.script.phases ≡ phases ++ left → PhasesCame setting.script 0 phases ends outcomes
-      → ((answer : ToldAnswer) (used : Use) → IsGiven setting (ends ++ untold) (answered_with used answer) → IsWorth setting journal (ends ++ untold) answer)
+      → ((answer : ToldAnswer) (used : Use) → IsGivenByOne setting (ends ++ untold) answer.low answer.high answer.selector used answer.series answer.sources → gateway_count setting.script.gateways ≡ 1 → IsGiven setting (ends ++ untold) (answered_by (named_by_one used answer ∷ []) answer))
+      → ((query : Answered) → IsGiven setting (ends ++ untold) query → IsSound setting journal query)
       → (place : ℕ) (answer : ToldAnswer) → IsTold setting.script phases outcomes place answer → IsWorth setting journal (ends ++ untold) answer
   unfolding hands_of_task
-  by_gateways [] are few parts came worth place answer told =
+  by_gateways [] are few parts came by_one sound place answer told =
       let p = phase_of setting 0 phases ends outcomes came place told.task (outcome.Query (query.Answer answer.series answer.sources)) told.at told.came in
       let no_one : gateway_count setting.script.gateways ≡ 0 = ap gateway_count are in
       let is = subst (λ (w : Work). IsOutcome w p.came.own (outcome.Query (query.Answer answer.series answer.sources))) told.asks p.came.is in
       let all = subst (λ (w : Work). AllZip (λ hand end. CameTo (workers_of setting.script (0 + p.k)) p.own (gateway_of hand) p.place end) (hands_of_task (gateway_count setting.script.gateways) p.place w) p.came.own) told.asks p.came.came in
       let none = subst (λ n. AllZip (λ hand end. CameTo (workers_of setting.script (0 + p.k)) p.own (gateway_of hand) p.place end) (map hands.Gateway (range_with_len 0 n)) p.came.own) no_one all in
       let empty = no_end (workers_of setting.script (0 + p.k)) p.own p.place answer.low answer.high told.selector_number p.came.own answer.series answer.sources none is in
-      inr (are, empty.0, empty.1)
-  by_gateways (name ∷ []) are few parts came worth place answer told =
+      worth_none answer sound no_one empty.0 empty.1 told.task told.selector_number told.asks told.selects p parts
+  by_gateways (name ∷ []) are few parts came by_one sound place answer told =
       let p = phase_of setting 0 phases ends outcomes came place told.task (outcome.Query (query.Answer answer.series answer.sources)) told.at told.came in
       let one : gateway_count setting.script.gateways ≡ 1 = ap gateway_count are in
       let is = subst (λ (w : Work). IsOutcome w p.came.own (outcome.Query (query.Answer answer.series answer.sources))) told.asks p.came.is in
@@ -159,7 +216,7 @@ module _ (setting : Setting) (journal : List Entry) (phases left : List Phase) (
       let single = subst (λ n. AllZip (λ hand end. CameTo (workers_of setting.script (0 + p.k)) p.own (gateway_of hand) p.place end) (map hands.Gateway (range_with_len 0 n)) p.came.own) one all in
       let end = one_end (workers_of setting.script (0 + p.k)) p.own p.place answer.low answer.high told.selector_number p.came.own answer.series answer.sources single is in
       let number : 0 + p.k ≡ p.k = omega arith in
-      worth answer end.0 (record {
+      let given = by_one answer end.0 (record {
         phase_number = p.k;
         phase = p.phase;
         place = p.place;
@@ -170,26 +227,31 @@ module _ (setting : Setting) (journal : List Entry) (phases left : List Phase) (
         asks = told.asks;
         selects = told.selects;
         phase_ends = p.own;
-        gateway = 0;
-        used = end.0;
-        series = answer.series;
         phase_came = slice_left ends untold p.k p.own p.in_ends;
-        answer = subst (λ n. CameTo (workers_of setting.script n) p.own (Some 0) p.place (answered end.0 (called.Answer answer.series answer.sources))) number end.1;
-        samples = refl;
-        uses = refl;
-      })
-  by_gateways (name ∷ other ∷ names) are few parts came worth place answer told = absurd (omega (arith, few))
+        came = subst (λ n. CameTo (workers_of setting.script n) p.own (Some 0) p.place (answered end.0 (called.Answer answer.series answer.sources))) number end.1;
+      }) one in
+      let only : answer.sources ++ [] ≡ answer.sources = append-nil answer.sources in
+      record {
+        named = named_by_one end.0 answer ∷ [];
+        sources = λ ulid. (λ among. subst (λ (l : List ℕ). Contains l ulid) (sym only) among, λ among. subst (λ (l : List ℕ). Contains l ulid) only among);
+        given = given;
+        sound = sound (answered_by (named_by_one end.0 answer ∷ []) answer) given;
+      }
+  by_gateways (name ∷ other ∷ names) are few parts came by_one sound place answer told = absurd (omega (arith, few))
 
 pub whole_answers : (setting : Setting) (as_asked : Bool) (text : List ℕ) (journal : List Entry) (run : IsWholeRun setting as_asked text journal) → IsLawfulScript setting.script → IsHonest journal
     → (place : ℕ) (answer : ToldAnswer) → IsTold setting.script setting.script.phases run.report.outcomes place answer → IsWorth setting journal run.ends answer
 whole_answers setting as_asked text journal run lawful honest place answer told =
-    subst (λ es. IsWorth setting journal es answer) (append-nil run.ends)
+    let same : run.ends ++ [] ≡ run.ends = append-nil run.ends in
+    subst (λ es. IsWorth setting journal es answer) same
     (by_gateways setting journal setting.script.phases [] run.ends [] run.report.outcomes setting.script.gateways refl lawful.few_gateways (sym (append-nil setting.script.phases)) run.report.came
-    (λ a used given. inl (used, given, run.guaranteed.sound honest (answered_with used a) (subst (λ es. IsGiven setting es (answered_with used a)) (append-nil run.ends) given))) place answer told)
+    (λ a used given one. given_by_one setting journal (run.ends ++ []) lawful (subst (IsRunOf setting journal) (sym same) run.run) honest a.low a.high a.selector used a.series a.sources given one)
+    (λ q given. run.guaranteed.sound honest q (subst (λ es. IsGiven setting es q) same given)) place answer told)
 
 pub full_answers : (setting : Setting) (text : List ℕ) (journal : List Entry) (run : IsFullRun setting text journal) → IsLawfulScript setting.script → IsHonest journal
     → (place : ℕ) (answer : ToldAnswer) → IsTold setting.script run.done run.report.outcomes place answer → IsWorth setting journal run.ends answer
 full_answers setting text journal run lawful honest place answer told =
     subst (λ es. IsWorth setting journal es answer) (sym run.parts)
     (by_gateways setting journal run.done run.left run.told run.untold run.report.outcomes setting.script.gateways refl lawful.few_gateways run.phases run.report.came
-    (λ a used given. inl (used, given, run.guaranteed.sound honest (answered_with used a) (subst (λ es. IsGiven setting es (answered_with used a)) (sym run.parts) given))) place answer told)
+    (λ a used given one. given_by_one setting journal (run.told ++ run.untold) lawful (subst (IsRunOf setting journal) run.parts run.run) honest a.low a.high a.selector used a.series a.sources given one)
+    (λ q given. run.guaranteed.sound honest q (subst (λ es. IsGiven setting es q) (sym run.parts) given)) place answer told)

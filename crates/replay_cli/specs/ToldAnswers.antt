@@ -1,5 +1,6 @@
 -- What the answers are worth that a report tells.
-use Rattle.std.specs.Prelude.{◌≡◌, ◌⊎◌, ℕ, ℤ, List, [], ◌∷◌, Some, slice_get}
+use Rattle.std.specs.Prelude.{◌≡◌, ◌↔◌, ℕ, ℤ, List, Contains, Some, slice_get}
+use Rattle.std.specs.List.{flat_map}
 use Rattle.label_sets.specs.Triples.{triples_of}
 use Rattle.label_sets.specs.declared.series.Series.{Series}
 use Rattle.matchers.specs.declared.matcher.Matcher.{Matcher}
@@ -8,8 +9,7 @@ use Rattle.script_workers.specs.declared.phase.Phase.{Phase}
 use Rattle.script_core.specs.declared.script.Script.{Script}
 use Rattle.script_workers.specs.declared.task.Task.{Task}
 use Rattle.script_workers.specs.declared.work.Work.TheVariants as work
-use Rattle.lifecycle_core.specs.Guarantees.{Answered, IsGiven, IsSound}
-use Rattle.lifecycle_core.specs.Holdings.{Use}
+use Rattle.lifecycle_core.specs.Guarantees.{Answered, IsGiven, IsSound, Named}
 use Rattle.lifecycle_core.specs.Setting.{Setting}
 use Rattle.lifecycle_core.specs.Tasks.{End}
 use Rattle.replay_cli.specs.Verdicts.{tasks_of}
@@ -34,12 +34,14 @@ pub record IsTold (script : Script) (phases : List Phase) (outcomes : List Outco
   pub selects : slice_get script.selectors selector_number ≡ Some answer.selector
   pub came : slice_get outcomes place ≡ Some (outcome.Query (query.Answer answer.series answer.sources))
 
--- the query as it was answered with a view
-abbrev pub answered_with : Use → ToldAnswer → Answered
-answered_with used answer = record { low = answer.low; high = answer.high; selector = answer.selector; uses = used ∷ []; samples = triples_of answer.series; sources = answer.sources }
+-- the query as these gateways answered it
+abbrev pub answered_by : List Named → ToldAnswer → Answered
+answered_by named answer = record { selector = answer.selector; named = named; samples = triples_of answer.series }
 
--- A gateway of the run gave the answer with one of its views, and it is sound; or the script has no gateway, and the answer is empty.
-abbrev pub IsWorth : Setting → List Entry → List (List (List End)) → ToldAnswer → Type 0
-IsWorth setting journal ends answer =
-    ((used : Use) × IsGiven setting ends (answered_with used answer) × IsSound setting journal (answered_with used answer))
-    ⊎ ((setting.script.gateways ≡ []) × (answer.series ≡ []) × (answer.sources ≡ []))
+-- The script's gateways gave the answer, each with one of its views, and it is sound; the blocks that its line names are those that
+-- they name.
+pub record IsWorth (setting : Setting) (journal : List Entry) (ends : List (List (List End))) (answer : ToldAnswer) : Type 0 where
+  pub named : List Named
+  pub sources : (ulid : ℕ) → Contains answer.sources ulid ↔ Contains (flat_map (λ one. one.sources) named) ulid
+  pub given : IsGiven setting ends (answered_by named answer)
+  pub sound : IsSound setting journal (answered_by named answer)

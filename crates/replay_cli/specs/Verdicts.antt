@@ -2,9 +2,11 @@
 use Rattle.std.specs.Prelude.{◌≡◌, ◌≢◌, ◌⊎◌, ◌<◌, ℕ, List, [], ◌∷◌, ◌++◌, length, Bool, true, false, Option, Some, None, option_map, IfSome, IsSomeAnd, Ok, Err, codes}
 use Rattle.std.specs.List.{flat_map, list_all}
 use Rattle.bucket_core.specs.Causes.{Rose}
-use Rattle.bucket_core.specs.Contents.{Contents}
+use Rattle.bucket_core.specs.Contents.{Contents, nothing}
 use Rattle.bucket_core.specs.Pages.{IsPage}
 use Rattle.world_core.specs.Keeping.{IsFull}
+use Rattle.world_core.specs.Standing.{IsHonest}
+use Rattle.world_core.specs.Worlds.{failed_count}
 use Rattle.world_core.specs.declared.entry.Entry.{Entry}
 use Rattle.script_core.specs.Lawful.{IsLawfulScript}
 use Rattle.script_core.specs.Reading.{script_of}
@@ -218,3 +220,17 @@ IsSaid verdict saying result =
     ((result ≡ status_of verdict) × IsAdded (text_of verdict) saying)
     ⊎ ((result ≡ status.SinkFault) × (verdict ≢ NoMemory) × Rose saying.faults_before saying.faults_after × IsWrittenInPart (text_of verdict) saying.written_before saying.written_after)
     ⊎ ((result ≡ status.NoMemory) × (saying.written_after ≡ saying.written_before))
+
+-- A call is calm: its words are a form of one, the source tells a text that spells a script, the bucket held nothing, nothing failed,
+-- and the journal is honest and not full.
+pub record IsCalm (accepted : Type 0) (around : Around) (saying : Saying) : Type 0 where
+  pub accepts : accepted
+  pub text : List ℕ
+  pub told : around.text ≡ Some text
+  pub script : Script
+  pub spelled : script_of text ≡ Ok script
+  pub empty : around.before ≡ Some nothing
+  pub source : ¬ around.source_failed
+  pub site : ¬ around.site_failed
+  pub sink : ¬ Rose saying.faults_before saying.faults_after
+  pub journal : IfSome around.journal (λ entries. (¬ IsFull entries) × IsHonest entries × (failed_count entries ≡ 0))

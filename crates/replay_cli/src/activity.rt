@@ -87,7 +87,8 @@ pub(crate) fn sync<B: Bucket>(
     requires { 1 ≤ script.now.rules.page_limit }
     ensures full { result.0 ≡ Err Broken.Full → IsFull result.1.journal }
     ensures ran { (place : ℕ) → (end : Option SyncEnd)
-        × Adds (SyncRun (sync_rules (setting_of script.now) place)) seat world.journal result.1.journal end result.0
+        × Adds (SyncRun (sync_rules (setting_of script.now) place)) seat
+        world.journal result.1.journal end result.0
         × CameBy (works.Sync place) (option_map synced end) result.0
         × (gateway.new.view ≡ view_by gateway.old.view end) }
     ensures tick { result.1.tick ≡ world.tick }

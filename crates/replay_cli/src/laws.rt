@@ -11,12 +11,14 @@ ghost use Rattle.replay_cli.specs.Verdicts.{IsFullRun, IsWholeRun};
 /// each that is told of a run which the full journal broke off.
 pub fn told_answers_are_sound()
     ensures whole { (setting : Setting) (as_asked : Bool) (text : List ℕ) (journal : List Entry)
-        (run : IsWholeRun setting as_asked text journal) → IsLawfulScript setting.script → IsHonest journal
+        (run : IsWholeRun setting as_asked text journal)
+        → IsLawfulScript setting.script → IsHonest journal
         → (place : ℕ) (answer : ToldAnswer)
         → IsTold setting.script setting.script.phases run.report.outcomes place answer
         → IsWorth setting journal run.ends answer }
     ensures full { (setting : Setting) (text : List ℕ) (journal : List Entry)
-        (run : IsFullRun setting text journal) → IsLawfulScript setting.script → IsHonest journal
+        (run : IsFullRun setting text journal)
+        → IsLawfulScript setting.script → IsHonest journal
         → (place : ℕ) (answer : ToldAnswer)
         → IsTold setting.script run.done run.report.outcomes place answer
         → IsWorth setting journal run.ends answer }

@@ -117,15 +117,15 @@ fn run_phase<B: Bucket>(
     requires at { slice_get script.now.phases place ≡ Some phase.now }
     requires ready { length progress.old.gateways.items ≡ length script.now.gateways }
     requires workers { progress.old.workers ≡ seats_before script.now place }
-    requires reached { Reached (setting_of script.now) place progress.old.gateways.items world.journal
-        progress.old.report.as_asked progress.old.report.text.items }
+    requires reached { Reached (setting_of script.now) place progress.old.gateways.items
+        world.journal progress.old.report.as_asked progress.old.report.text.items }
     ensures full { result.0 ≡ Err Broken.Full → IsFull result.1.journal }
     ensures tick { result.1.tick ≡ world.tick }
     ensures ready { length progress.new.gateways.items ≡ length script.now.gateways }
     ensures workers { result.0 ≡ Ok tt
         → progress.new.workers ≡ seats_before script.now (place + 1) }
-    ensures step { PhaseStep (setting_of script.now) place progress.new.gateways.items result.1.journal
-        progress.new.report.as_asked progress.new.report.text.items result.0 }
+    ensures step { PhaseStep (setting_of script.now) place progress.new.gateways.items
+        result.1.journal progress.new.report.as_asked progress.new.report.text.items result.0 }
 {
     let Ok(seats) = Seats::new(alloc, script, place, progress.workers) else {
         return (Err(Broken::NoMemory), world);

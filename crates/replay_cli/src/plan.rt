@@ -18,7 +18,8 @@ use std::alloc::Global;
 pub(crate) fn objects_of(alloc: Global, block: &Block) -> Result<ObjectList, NoMemory>
     requires { IsLawfulBlock block.now }
     ensures block { IfOk result (λ objects. IsBlock block.now.ulid objects) }
-    ensures shipped { (setting : Setting) → IfOk result (λ objects. IsShipped setting block.now objects) }
+    ensures shipped { (setting : Setting)
+        → IfOk result (λ objects. IsShipped setting block.now objects) }
 {
     let Body::Inline {
         min_time,
@@ -39,7 +40,8 @@ fn inline_objects(
     requires lawful { IsLawfulBlock block.now }
     requires body { block.now.body ≡ Inline min_time max_time series.now }
     ensures block { IfOk result (λ objects. IsBlock block.now.ulid objects) }
-    ensures shipped { (setting : Setting) → IfOk result (λ objects. IsShipped setting block.now objects) }
+    ensures shipped { (setting : Setting)
+        → IfOk result (λ objects. IsShipped setting block.now objects) }
 {
     let plan = plan_of(alloc, block, min_time, max_time)?;
     match build(alloc, &plan, series) {

@@ -5,7 +5,7 @@ ghost use Rattle.script_core.specs.Reading.{script_of};
 ghost use Rattle.script_core.specs.Lawful.{IsLawfulScript};
 ghost use Rattle.replay_cli.specs.Kept.{IsHandedBack, IsHandedOut, IsOpened, IsShelfOf, IsUntouched, told_of};
 ghost use Rattle.replay_cli.specs.Statuses.{number_of};
-ghost use Rattle.replay_cli.specs.Verdicts.{BehindOpening, IsCaused, IsWorked, IsUnread, IsRun, IsSaid, SiteFailed, around_call, saying_to};
+ghost use Rattle.replay_cli.specs.Verdicts.{BehindOpening, IsCalm, IsCaused, IsWorked, IsUnread, IsRun, IsSaid, SiteFailed, around_call, saying_to};
 ghost use Rattle.replay_cli.specs.Words.{bucket_word, named_by, shelf_word};
 ghost use Rattle.lifecycle_core.specs.Setting.{setting_of};
 
@@ -41,6 +41,14 @@ pub fn run_tool<S: Site, R: Source, K: Sink>(
         site.old site.new S.Store.faults result.store result.shelf result.journal) verdict
         × IsSaid verdict (saying_to K.faults K.written out.old out.new) status
         × (result.status ≡ number_of status) }
+
+    // A calm call ends as asked, unless there is no memory.
+    ensures calm { IsCalm (IsSome (bucket_word words.now))
+        (around_call R.left R.faults script.old script.new
+        S.buckets S.next_bucket S.shelves S.next_shelf S.faults (bucket_word words.now) (shelf_word words.now)
+        site.old site.new S.Store.faults result.store result.shelf result.journal)
+        (saying_to K.faults K.written out.old out.new)
+        → (result.status ≡ 0) ⊎ (result.status ≡ 6) }
 
     ensures handed { IsHandedOut S.buckets site.old site.new result.store }
     ensures kept { is_some result.journal ≡ is_some result.store }

@@ -8,7 +8,9 @@ use Rattle.std.proofs.lemmas.Str.{IsUtf8-from_is_utf8}
 use Rattle.std.proofs.lemmas.List.Elements.{All-nil, All-cons}
 use Rattle.std.specs.List.Sorted.{IsStrictlySortedBy}
 use Rattle.std.proofs.lemmas.List.Sorted.{IsPermutation-refl}
+use Rattle.block_meta.proofs.FoundTexts.{meta_text_found}
 use Rattle.block_meta.proofs.Plain.{meta_is_object}
+use Rattle.block_meta.specs.MetaText.{IsMetaText}
 use Rattle.block_meta.specs.declared.block_plan.BlockPlan.{BlockPlan}
 use Rattle.serde_json.proofs.OnLiterals.{serde_json_on_literals}
 use Rattle.reading_core.specs.Decimal.{decimal_text, signed_text}
@@ -63,6 +65,10 @@ segment_utf8 = refl
 pub meta_reads : meta_of_text small.meta ≡ Ok (fields_of small.said)
 unfolding meta_of_text object_of
 meta_reads = rw (meta_value_read, meta_is_object (fields_of small.said)) meta_fields_read
+
+-- so it is the text of a meta
+pub is_meta_text : IsMetaText small.meta (fields_of small.said)
+is_meta_text = (meta_text_found small.meta).holds (fields_of small.said) meta_reads
 
 -- ---- what a query reads
 

@@ -2,7 +2,17 @@
 use Rattle.std.proofs.Common.{◌≡◌, ℕ, ℤ, zero, suc, pos, List, [], ◌∷◌, All, Option, Some, None, inl, inr, refl, sym, ◌∙◌, ap, subst, arith, lit≤}
 use Rattle.std.proofs.Common.{◌⊎◌}
 use Rattle.std.specs.Prelude.{slice_get}
-use Rattle.std.proofs.lemmas.List.Elements.{All-from_recursion}
+use Rattle.std.proofs.lemmas.List.Elements.{All-from_recursion, All-weaker}
+use Rattle.std.specs.List.{AllZip, flat_map}
+use Rattle.std.specs.Prelude.{map}
+use Rattle.list_core.proofs.Membership.{only_member}
+use Rattle.label_sets.specs.declared.series.Series.{Series}
+use Rattle.vertical_merge.specs.Merged.{IsMerge, PatternsAgree}
+use Rattle.vertical_merge.proofs.Laws.{deduplicates, only_one}
+use Rattle.world_core.specs.declared.entry.Entry.{Entry}
+use Rattle.lifecycle_core.specs.SyncsAndCalls.{IsViewOf}
+use Rattle.lifecycle_core.specs.TimeRules.{IsSyncedInTime}
+use Rattle.tests_worked.proofs.SmallTasks.{merge_given}
 use Rattle.block_keys.specs.declared.key.Key.TheVariants as key
 use Rattle.label_sets.specs.Triples.{Triple, triples_of, triples_under}
 use Rattle.matchers.specs.declared.matcher.Matcher.{Matcher}
@@ -17,17 +27,17 @@ use Rattle.script_workers.specs.declared.phase.Phase.{Phase}
 use Rattle.script_workers.specs.declared.task.Task.{Task}
 use Rattle.script_workers.specs.declared.work.Work.TheVariants as works
 use Rattle.lifecycle_core.specs.Breaches.{honesty}
-use Rattle.lifecycle_core.specs.Causes.{IsDamaged, IsExplained, IsFault, IsWell}
+use Rattle.lifecycle_core.specs.Causes.{IsDamaged, IsExplained, IsFault, IsMissing, IsWell}
 use Rattle.lifecycle_core.specs.Conducts.{CameTo}
-use Rattle.lifecycle_core.specs.Guarantees.{Answered, IsGiven, IsGuaranteed, IsSound}
+use Rattle.lifecycle_core.specs.Guarantees.{Answered, IsGiven, IsGuaranteed, IsPartGiven, IsSound, Named, NamesAll}
 use Rattle.lifecycle_core.specs.Holdings.{Use}
 use Rattle.lifecycle_core.specs.Phases.{IsFinished, IsRunOf}
-use Rattle.lifecycle_core.specs.Tasks.{End, QueryTask, answered, synced}
+use Rattle.lifecycle_core.specs.Tasks.{End, QueryTask, answered, sync_rules, synced}
 use Rattle.tests_worked.specs.LostIndex as lost
 use Rattle.tests_worked.specs.OneBlock as one
 use Rattle.tests_worked.specs.SmallBlock as small
 use Rattle.tests_worked.proofs.Ends.{of_each}
-use Rattle.tests_worked.proofs.OneAnswer.{exact, names}
+use Rattle.tests_worked.proofs.OneAnswer.{exact, names, one_named}
 use Rattle.tests_worked.proofs.Bucket.{full, shows_index}
 use Rattle.tests_worked.proofs.SmallTasks.{question}
 use Rattle.tests_worked.proofs.OneBlock.{first_tasks, gateway, second_ends, second_tasks, second_workers}
@@ -46,11 +56,17 @@ all_ends Q one two three first second third =
 
 -- ---- the answered query
 
-abbrev ask : ℤ → ℤ → List Matcher → List Use → List Triple → List ℕ → Answered
-ask low high selector uses samples sources = record { low = low; high = high; selector = selector; uses = uses; samples = samples; sources = sources }
+abbrev ask : List Matcher → List Named → List Triple → Answered
+ask selector named samples = record { selector = selector; named = named; samples = samples }
 
-same_query : (l h l' h' : ℤ) (s s' : List Matcher) (u u' : List Use) (t t' : List Triple) (o o' : List ℕ) → l ≡ l' → h ≡ h' → s ≡ s' → u ≡ u' → t ≡ t' → o ≡ o' → ask l h s u t o ≡ ask l' h' s' u' t' o'
-same_query l h l' h' s s' u u' t t' o o' a b c d e f = cc (a, b, c, d, e, f)
+same_query : (s s' : List Matcher) (n n' : List Named) (t t' : List Triple) → s ≡ s' → n ≡ n' → t ≡ t' → ask s n t ≡ ask s' n' t'
+same_query s s' n n' t t' a b c = cc (a, b, c)
+
+abbrev name : ℕ → Use → ℤ → ℤ → List ℕ → Named
+name gateway used low high sources = record { gateway = gateway; used = used; low = low; high = high; sources = sources }
+
+same_named : (g g' : ℕ) (u u' : Use) (l l' h h' : ℤ) (o o' : List ℕ) → g ≡ g' → u ≡ u' → l ≡ l' → h ≡ h' → o ≡ o' → name g u l h o ≡ name g' u' l' h' o'
+same_named g g' u u' l l' h h' o o' a b c d e = cc (a, b, c, d, e)
 
 abbrev answer : End
 answer = answered one.used (called.Answer (small.up ∷ []) (small.a ∷ []))
@@ -96,35 +112,79 @@ answer_came hand end came =
       | inr is ↦ ap (λ (p : ℕ × End). p.1) is
     ]
 
+-- what the one gateway gave, to this query
+record IsOnly (workers : List Worker) (ends : List (List End)) (place : ℕ) (low high : ℤ) (named : List Named) (parts : List (List Series)) : Type 0 where
+  n : Named
+  part : List Series
+  are : n ∷ [] ≡ named
+  parts_are : parts ≡ part ∷ []
+  gateway_is : 0 ≡ n.gateway
+  given : IsPartGiven workers ends place low high n part
+
+only_part : (workers : List Worker) (ends : List (List End)) (place : ℕ) (low high : ℤ) (named : List Named) (parts : List (List Series)) → map (λ (n : Named). n.gateway) named ≡ 0 ∷ [] → AllZip (IsPartGiven workers ends place low high) named parts
+    → IsOnly workers ends place low high named parts
+only_part workers ends place low high [] parts every given = absurd (cc (every))
+only_part workers ends place low high (n ∷ []) [] every given = absurd given
+only_part workers ends place low high (n ∷ []) (part ∷ []) every given = record { n = n; part = part; are = refl; parts_are = refl; gateway_is = cc (every); given = given.0 }
+only_part workers ends place low high (n ∷ []) (part ∷ other ∷ parts) every given = absurd given.1
+only_part workers ends place low high (n ∷ other ∷ named) parts every given = absurd (cc (every))
+
+patterns_agree : PatternsAgree (small.triple ∷ [])
+patterns_agree one other among too same =
+    let first : small.triple ≡ one = only_member small.triple one among in
+    let second : small.triple ≡ other = only_member small.triple other too in
+    ap (λ (t : Triple). t.pattern) (sym first ∙ second)
+
+total_is : flat_map triples_of ((small.up ∷ []) ∷ []) ≡ small.triple ∷ []
+unfolding triples_of triples_under
+total_is = refl
+
+-- such parts have one merge
+one_merge : (parts : List (List Series)) (series : List Series) → parts ≡ (small.up ∷ []) ∷ [] → IsMerge (flat_map triples_of parts) series → small.triple ∷ [] ≡ triples_of series
+one_merge parts series are merge =
+    let mine : IsMerge (small.triple ∷ []) (small.up ∷ []) = subst (λ (ts : List Triple). IsMerge ts (small.up ∷ [])) total_is merge_given in
+    let other : IsMerge (small.triple ∷ []) series = subst (λ (ts : List Triple). IsMerge ts series) (ap (flat_map triples_of) are ∙ total_is) merge in
+    sym up_triples ∙ only_one (small.triple ∷ []) (small.triple ∷ []) series refl other patterns_agree (triples_of (small.up ∷ [])) (deduplicates (small.triple ∷ []) (small.triple ∷ []) (small.up ∷ []) refl mine)
+
 -- the run gives this answer, and no other
 given_is : (query : Answered) → IsGiven one.setting one.ends query → one.asked ≡ query
 given_is query g = elim (own_phase g.phase_number g.phase g.in_phases) [
-  | inl is ↦ absurd (no_query g.place g.selector_number g.task query.low query.high (subst (λ (p : Phase). slice_get p.tasks g.place ≡ Some g.task) (sym is) g.in_tasks) g.asks)
+  | inl is ↦ absurd (no_query g.place g.selector_number g.task g.low g.high (subst (λ (p : Phase). slice_get p.tasks g.place ≡ Some g.task) (sym is) g.in_tasks) g.asks)
   | inr (number, is) ↦
-      let asked = the_query g.place g.selector_number g.task query.low query.high (subst (λ (p : Phase). slice_get p.tasks g.place ≡ Some g.task) (sym is) g.in_tasks) g.asks in
+      let asked = the_query g.place g.selector_number g.task g.low g.high (subst (λ (p : Phase). slice_get p.tasks g.place ≡ Some g.task) (sym is) g.in_tasks) g.asks in
       let selects : slice_get one.script.selectors 0 ≡ Some query.selector = subst (λ (n : ℕ). slice_get one.script.selectors n ≡ Some query.selector) asked.1 g.selects in
       let ends : slice_get one.ends 1 ≡ Some g.phase_ends = subst (λ (n : ℕ). slice_get one.ends n ≡ Some g.phase_ends) number g.phase_came in
       let are : second_ends ≡ g.phase_ends = cc (ends) in
-      let end : End = answered g.used (called.Answer g.series query.sources) in
-      let here : CameTo (workers_of one.script 1) g.phase_ends (Some g.gateway) g.place end = subst (λ (n : ℕ). CameTo (workers_of one.script n) g.phase_ends (Some g.gateway) g.place end) number g.answer in
-      let among : CameTo (gateway ∷ []) g.phase_ends (Some g.gateway) g.place end = subst (λ (ws : List Worker). CameTo ws g.phase_ends (Some g.gateway) g.place end) second_workers here in
-      let came : CameTo (gateway ∷ []) second_ends (Some g.gateway) 1 end =
-      subst (λ (n : ℕ). CameTo (gateway ∷ []) second_ends (Some g.gateway) n end) asked.0 (subst (λ (l : List (List End)). CameTo (gateway ∷ []) l (Some g.gateway) g.place end) (sym are) among) in
-      let told : answer ≡ end = answer_came (Some g.gateway) end came in
-      let used : one.used ≡ g.used = cc (told) in
-      let series : small.up ∷ [] ≡ g.series = cc (told) in
-      let sources : small.a ∷ [] ≡ query.sources = cc (told) in
-      same_query (pos 0) (pos 5000) query.low query.high one.selector query.selector (one.used ∷ []) query.uses (small.triple ∷ []) query.samples (small.a ∷ []) query.sources
-      asked.2 asked.3 (cc (selects)) (ap (λ (u : Use). u ∷ []) used ∙ sym g.uses) (sym up_triples ∙ ap triples_of series ∙ sym g.samples) sources
+      let only = only_part (workers_of one.script g.phase_number) g.phase_ends g.place g.low g.high query.named g.parts g.every g.given in
+      let end : End = answered only.n.used (called.Answer only.part only.n.sources) in
+      let here : CameTo (workers_of one.script 1) g.phase_ends (Some only.n.gateway) g.place end = subst (λ (n : ℕ). CameTo (workers_of one.script n) g.phase_ends (Some only.n.gateway) g.place end) number only.given.came in
+      let among : CameTo (gateway ∷ []) g.phase_ends (Some only.n.gateway) g.place end = subst (λ (ws : List Worker). CameTo ws g.phase_ends (Some only.n.gateway) g.place end) second_workers here in
+      let came : CameTo (gateway ∷ []) second_ends (Some only.n.gateway) 1 end =
+      subst (λ (n : ℕ). CameTo (gateway ∷ []) second_ends (Some only.n.gateway) n end) asked.0 (subst (λ (l : List (List End)). CameTo (gateway ∷ []) l (Some only.n.gateway) g.place end) (sym are) among) in
+      let told : answer ≡ end = answer_came (Some only.n.gateway) end came in
+      let used : one.used ≡ only.n.used = cc (told) in
+      let series : small.up ∷ [] ≡ only.part = cc (told) in
+      let sources : small.a ∷ [] ≡ only.n.sources = cc (told) in
+      let parts : g.parts ≡ (small.up ∷ []) ∷ [] = only.parts_are ∙ ap (λ (p : List Series). p ∷ []) (sym series) in
+      let named : one_named ≡ only.n =
+      same_named 0 only.n.gateway one.used only.n.used (pos 0) only.n.low (pos 5000) only.n.high (small.a ∷ []) only.n.sources only.gateway_is used (asked.2 ∙ sym only.given.from) (asked.3 ∙ sym only.given.upto) sources in
+      same_query one.selector query.selector (one_named ∷ []) query.named (small.triple ∷ []) query.samples
+      (cc (selects)) (ap (λ (n : Named). n ∷ []) named ∙ only.are) (one_merge g.parts g.series parts g.merged ∙ sym g.samples)
 ]
 
+-- whatever is said of the syncs
+abbrev Covered : Named → Type 0
+Covered n = ((entries : List Entry) → IsViewOf (sync_rules one.setting n.gateway) one.journal n.used entries → IsSyncedInTime one.script.rules entries) → NamesAll one.setting one.journal n
+
+in_time : All Covered one.asked.named
+in_time = All-weaker (NamesAll one.setting one.journal) Covered (λ n all synced. all) one.asked.named leaves_none_out
+
 sound : IsSound one.setting one.journal one.asked
-sound = record { exact = exact; named = names; covered = λ uploaded used among synced ulid settled. leaves_none_out used ulid among settled }
+sound = record { exact = exact; named = names; covered = λ uploaded. in_time }
 
 pub guaranteed : IsGuaranteed one.setting one.journal one.ends
 guaranteed = record {
-  explained = λ used number came. absurd (of_each (λ end. end ≡ answered used (called.Missing number) → ⊥) one.ends (answered used (called.Missing number))
-      (all_ends (λ end. end ≡ answered used (called.Missing number) → ⊥) _ _ _ (λ e. cc (e)) (λ e. cc (e)) (λ e. cc (e))) came refl);
+  explained = λ end number came missing. absurd (of_each (λ end. (n : ℕ) → ¬ IsMissing end n) one.ends end (all_ends (λ end. (n : ℕ) → ¬ IsMissing end n) _ _ _ (λ n f. f) (λ n f. f) (λ n f. f)) came number missing);
   faults = λ end number came fault. absurd (of_each (λ end. (n : ℕ) → ¬ IsFault end n) one.ends end (all_ends (λ end. (n : ℕ) → ¬ IsFault end n) _ _ _ (λ n f. f) (λ n f. f) (λ n f. f)) came number fault);
   undamaged = λ honest end came. of_each (λ end. ¬ IsDamaged end) one.ends end (all_ends (λ end. ¬ IsDamaged end) _ _ _ (λ d. d) (λ d. d) (λ d. d)) came;
   sound = λ honest query given. subst (IsSound one.setting one.journal) (given_is query given) sound;
@@ -166,9 +226,9 @@ lost_is_dishonest honest = let told : full (key_text (key.Index small.a)) ≡ No
 
 pub lost_guaranteed : IsGuaranteed one.setting lost.journal lost.ends
 lost_guaranteed = record {
-  explained = λ used number came. of_each (λ end. end ≡ answered used (called.Missing number) → IsExplained one.setting lost.journal number) lost.ends (answered used (called.Missing number))
-      (all_ends (λ end. end ≡ answered used (called.Missing number) → IsExplained one.setting lost.journal number) _ _ _ (λ e. absurd (cc (e))) (λ e. absurd (cc (e)))
-      (λ e. let same : 10 ≡ number = cc (e) in subst (IsExplained one.setting lost.journal) same lost_explained)) came refl;
+  explained = λ end number came missing. of_each (λ end. (n : ℕ) → IsMissing end n → IsExplained one.setting lost.journal n) lost.ends end
+      (all_ends (λ end. (n : ℕ) → IsMissing end n → IsExplained one.setting lost.journal n) _ _ _ (λ n f. absurd f) (λ n f. absurd f)
+      (λ n same. subst (IsExplained one.setting lost.journal) same lost_explained)) came number missing;
   faults = λ end number came fault. absurd (of_each (λ end. (n : ℕ) → ¬ IsFault end n) lost.ends end (all_ends (λ end. (n : ℕ) → ¬ IsFault end n) _ _ _ (λ n f. f) (λ n f. f) (λ n f. f)) came number fault);
   undamaged = λ honest end came. absurd (lost_is_dishonest honest);
   sound = λ honest query given. absurd (lost_is_dishonest honest);

@@ -1,11 +1,15 @@
 -- The run of the script of one block keeps the rules of time, and its query leaves no block out.
 use Rattle.std.proofs.Common.{◌≡◌, ◌+◌, ◌*◌, ◌≤◌, ◌==◌, ℕ, All, Bool, true, false, cond, [], ◌∷◌, Some, None, is_some, refl, ap, subst, arith, lit<, lit≤}
 use Rattle.std.proofs.lemmas.Bool.Decides.{nat_tests}
-use Rattle.std.proofs.lemmas.List.Elements.{All-contains, All-from_recursion}
+use Rattle.std.proofs.lemmas.List.Elements.{All-cons, All-contains, All-from_recursion, All-nil}
 use Rattle.block_keys.specs.declared.key.Key.TheVariants as key
 use Rattle.sync_filters.specs.Filters.{time_of}
 use Rattle.world_core.specs.declared.entry.Entry.{Entry}
-use Rattle.lifecycle_core.specs.Guarantees.{IsSyncOf, LeavesNoneOut}
+use Rattle.lifecycle_core.specs.Guarantees.{LeavesNoneOut, Named, NamesAll}
+use Rattle.lifecycle_core.specs.SyncsAndCalls.{IsViewOf}
+use Rattle.lifecycle_core.specs.Tasks.{sync_rules}
+use Rattle.tests_worked.proofs.SmallTasks.{sync_run}
+use Rattle.tests_worked.proofs.OneAnswer.{one_named}
 use Rattle.lifecycle_core.specs.TimeRules.{IsMarkedInTime, IsReadInTime, IsSyncedInTime, IsUploadedInTime, PutsMark, PutsObject}
 use Rattle.tests_worked.specs.SmallBlock as small
 use Rattle.tests_worked.specs.Entries.{absent, found, listed}
@@ -42,14 +46,11 @@ uploaded_in_time ulid = All-from_recursion (InTime ulid) one.journal (
 
 -- ---- the sync
 
-pub sync_is : IsSyncOf one.journal one.used one.sync
+pub sync_is : IsViewOf (sync_rules one.setting 0) one.journal one.used one.sync
 sync_is = record {
-  first = listed 7 2 1_800_001 (small.a_text ∷ []);
-  others = absent 8 2 1_800_002 (key.Mark small.a) ∷ found 9 2 1_800_003 (key.Meta small.a) small.meta ∷ [];
-  begins = refl;
-  number = refl;
-  seat = All-from_recursion (λ (e : Entry). e.seat ≡ 2) one.sync (refl, (refl, (refl, tt)));
-  within = refl;
+  seat = 2;
+  sync = record { before = []; after = one.query; parts = refl; run = sync_run 7 2 1_800_001 one.view.kept refl; whole = λ none. absurd (cc (none)) };
+  last = refl;
 }
 
 pub synced_in_time : IsSyncedInTime one.script.rules one.sync
@@ -86,5 +87,6 @@ same_ulid ulid true is some = grind (arith, nat_tests)
 same_ulid ulid false is some = absurd (cc)
 
 pub leaves_none_out : LeavesNoneOut one.setting one.journal one.asked
-leaves_none_out used ulid among settled =
-    let same = same_ulid ulid (small.a == ulid) refl settled.uploaded.is_declared in (0, lit< tt, same)
+leaves_none_out = All-cons (NamesAll one.setting one.journal) one_named []
+    (λ ulid settled. let same = same_ulid ulid (small.a == ulid) refl settled.uploaded.is_declared in (0, lit< tt, same))
+    (All-nil (NamesAll one.setting one.journal))

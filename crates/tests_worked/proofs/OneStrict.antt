@@ -32,7 +32,12 @@ seat_is : (ignore : Span) → IsSeatOf (setting_of (script_with ignore)) 0 2
 seat_is ignore = (1, gateway, subst (λ (ws : List Worker). Contains ws gateway) (sym (workers ignore)) (0, lit< tt, refl), refl, refl)
 
 sync_seen : (ignore : Span) → IsSyncIn (setting_of (script_with ignore)) one.journal 0 one.sync (Some (fetched.View one.view))
-sync_seen ignore = record { seat = 2; sits = seat_is ignore; before = []; after = one.query; parts = refl; run = sync_run ignore; whole = λ none. absurd (cc (none)) }
+sync_seen ignore = record {
+  seat = 2;
+  sits = seat_is ignore;
+  sync = record { before = []; after = one.query; parts = refl; run = sync_run ignore; whole = λ none. absurd (cc (none)) };
+  alone = λ others own other earlier. omega (arith, earlier);
+}
 
 view_seen : (ignore : Span) → IsViewAt (setting_of (script_with ignore)) one.journal 0 10 one.view
 view_seen ignore = record { entries = one.sync; gave = sync_seen ignore; before = lit< tt; last = λ others other seen less. omega (arith, less) }

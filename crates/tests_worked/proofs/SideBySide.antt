@@ -1,8 +1,19 @@
 -- The run in which two blocks are uploaded while a gateway syncs.
-use Rattle.std.proofs.Common.{◌≡◌, ◌≢◌, inl, inr, ℕ, ◌+◌, ◌^◌, ◌<◌, ◌≤◌, pos, Bool, true, false, cond, List, [], ◌∷◌, ◌++◌, length, All, Contains, Some, None, is_some, codes, refl, sym, ap, subst, arith, lit<, lit≤}
+use Rattle.std.proofs.Common.{◌≡◌, ◌≢◌, inl, inr, ℕ, ◌+◌, ◌^◌, ◌<◌, ◌≤◌, pos, Bool, true, false, cond, List, [], ◌∷◌, ◌++◌, length, All, Contains, Ok, Some, None, is_some, codes, refl, sym, ap, subst, arith, lit<, lit≤}
 use Rattle.std.proofs.lemmas.List.Elements.{All-contains, All-from_recursion, All-head, Contains-append_right}
 use Rattle.ulid_core.specs.FixedDigits.{fixed_digits}
-use Rattle.ulid_core.specs.UlidText.{text_of, character, alphabet}
+use Rattle.ulid_core.specs.UlidText.{text_of, character, alphabet, bad_place, digit_of, number_of, ulid_of}
+use Rattle.std.specs.Str.{is_utf8, chars}
+use Rattle.std.specs.Fmt.{digits}
+use Rattle.block_meta.proofs.FoundTexts.{meta_text_found}
+use Rattle.block_meta.proofs.Plain.{meta_is_object}
+use Rattle.block_meta.specs.MetaText.{IsMetaText}
+use Rattle.block_meta.specs.Lawful.{are_lawful_times}
+use Rattle.block_meta.specs.Members.{json_of, object_of, member_of, needed_of, of_kind, unsigned_of, signed_of, whole_of, version_of, section_of, count_of, each, list_of}
+use Rattle.block_meta.specs.Members as members
+use Rattle.block_meta.specs.MetaReading.{meta_of_text, meta_of, times_of, stats_of, stats_members_of, compaction_of, compaction_members_of, level_of, sources_of, thanos_of, thanos_members_of, labels_of, labels_from, resolution_of, text_or_empty, file_of, parent_of}
+use Rattle.serde_json.proofs.OnLiterals.{serde_json_on_literals}
+use Rattle.sync_filters.specs.Filters.{time_of}
 use Rattle.block_keys.specs.Keys.{key_ulid}
 use Rattle.block_keys.specs.KeyText.{key_text, name_of, six_digits}
 use Rattle.block_keys.specs.declared.key.Key.TheVariants as key
@@ -10,8 +21,8 @@ use Rattle.bucket_core.specs.Contents.{Contents, nothing, with_object}
 use Rattle.bucket_core.specs.Pages.{IsPage, IsName}
 use Rattle.label_sets.specs.Triples.{triples_of, triples_under}
 use Rattle.moment_core.specs.StandardRules.{minutes, hours}
-use Rattle.block_meta.specs.MetaFields.{fields_of}
-use Rattle.block_meta.specs.MetaValue.{meta_text}
+use Rattle.block_meta.specs.MetaFields.{MetaFields, fields_of}
+use Rattle.block_meta.specs.MetaValue.{ulid_value, items_value, file_value, label_members, stats_value, compaction_value, thanos_value, meta_value, meta_text}
 use Rattle.world_core.specs.Moments.{moment_after, last_moment}
 use Rattle.world_core.specs.Operations.{IsLawful, IsReplyTo}
 use Rattle.world_core.specs.Standing.{stands, Tells, IsHonest}
@@ -26,7 +37,7 @@ use Rattle.script_workers.specs.declared.work.Work.TheVariants as works
 use Rattle.script_workers.specs.declared.worker.Worker.{Worker}
 use Rattle.lifecycle_core.specs.Completed.{IsCompletedAt, IsUploadedBefore, PutsMeta}
 use Rattle.lifecycle_core.specs.Conducts.{CameTo, PhaseRun, WorkerRun}
-use Rattle.lifecycle_core.specs.Guarantees.{IsGiven}
+use Rattle.lifecycle_core.specs.Guarantees.{IsGiven, Named}
 use Rattle.lifecycle_core.specs.Holdings.{Use, none_held, nothing_held}
 use Rattle.lifecycle_core.specs.Phases.{IsRunOf, by_script, by_workers}
 use Rattle.lifecycle_core.specs.Tasks.{End, answered, synced, uploaded}
@@ -38,7 +49,7 @@ use Rattle.tests_worked.proofs.Bucket.{segment_key, index_key, meta_key, mark_ke
 use Rattle.tests_worked.proofs.Bytes.{meta_is}
 use Rattle.tests_worked.proofs.Each.{each_of, by_workers_alone}
 use Rattle.list_core.proofs.Membership.{only_member}
-use Rattle.tests_worked.proofs.SmallTasks.{upload_task_by, sync_run_by, merge_all, query_run}
+use Rattle.tests_worked.proofs.SmallTasks.{upload_task_by, sync_run_by, merge_all, merge_given, query_run}
 use Rattle.tests_worked.proofs.YoungBlock.{with, kept_else, holding}
 
 -- ---- the workers and their tasks
@@ -244,19 +255,21 @@ given = record {
   phase = record { line = 7; moment = record { ms = 0 }; tasks = side.tasks };
   place = 1;
   task = record { line = 9; work = works.Query (pos 0) (pos 5000) 0 };
+  low = pos 0;
+  high = pos 5000;
   selector_number = 0;
   in_phases = refl;
   in_tasks = refl;
   asks = refl;
   selects = refl;
   phase_ends = phase_ends;
-  gateway = 0;
-  used = side.used;
-  series = small.up ∷ [];
   phase_came = refl;
-  answer = subst (λ (ws : List Worker). CameTo ws phase_ends (Some 0) 1 answer) (sym workers_are) came;
+  parts = (small.up ∷ []) ∷ [];
+  given = (record { came = subst (λ (ws : List Worker). CameTo ws phase_ends (Some 0) 1 answer) (sym workers_are) came; from = refl; upto = refl }, tt);
+  every = refl;
+  series = small.up ∷ [];
+  merged = merge_given;
   samples = refl;
-  uses = refl;
 }
 
 -- ---- what is not guaranteed
@@ -291,20 +304,41 @@ all_late = All-from_recursion IsLate side.journal (
   ),
 )
 
-completed_late : (seq : ℕ) → IsCompletedAt side.journal small.a seq → 10 ≤ seq
-completed_late seq done =
+completed_late : (seq : ℕ) (meta : MetaFields) → IsCompletedAt side.journal small.a seq meta → 10 ≤ seq
+completed_late seq meta done =
     let among : Contains side.journal done.entry = subst (λ (es : List Entry). Contains es done.entry) (sym done.is) (Contains-append_right done.before (done.entry ∷ done.after) done.entry (0, omega arith, refl)) in
-    let late = All-contains IsLate side.journal done.entry all_late among done.put in
+    let late = All-contains IsLate side.journal done.entry all_late among (done.bytes, done.puts, done.landed) in
     omega (arith, late, done.number)
+
+abbrev side_named : Named
+side_named = record { gateway = 0; used = side.used; low = pos 0; high = pos 5000; sources = small.a ∷ [] }
 
 pub not_early : ¬ side.NamesEarlyUploads
 not_early named =
-    let first = All-head (λ ulid. (own : Use) × Contains side.asked.uses own × IsUploadedBefore side.setting side.journal ulid own.view.first) small.a [] named in
-    let same : side.used ≡ first.0 = only_member side.used first.0 first.1 in
-    let begin : 4 ≡ (first.0).view.first = ap (λ (own : Use). own.view.first) same in
-    omega (arith, completed_late (first.2).seq (first.2).completed, (first.2).earlier, begin)
+    let all = All-head (λ (n : Named). All (λ ulid. IsUploadedBefore side.setting side.journal ulid n.used.view.first) n.sources) side_named [] named in
+    let first = All-head (λ ulid. IsUploadedBefore side.setting side.journal ulid side.used.view.first) small.a [] all in
+    let begin : 4 ≡ side.used.view.first = refl in
+    omega (arith, completed_late first.seq first.meta first.completed, first.earlier, begin)
 
--- the other block's meta lands at entry 8
+-- the other block's meta
+other_value_read : json_of side.other_meta ≡ Ok (meta_value (fields_of (small.said_of side.b)))
+unfolding side.other_meta meta_text json_of is_utf8 chars meta_value thanos_value compaction_value stats_value label_members file_value items_value ulid_value text_of character alphabet fixed_digits digits serde_json_on_literals
+other_value_read = refl
+
+other_fields_read : meta_of (meta_value (fields_of (small.said_of side.b))) ≡ Ok (fields_of (small.said_of side.b))
+unfolding meta_value thanos_value compaction_value stats_value label_members file_value items_value ulid_value text_of character alphabet fixed_digits
+    meta_of times_of stats_of stats_members_of compaction_of compaction_members_of level_of sources_of thanos_of thanos_members_of labels_of labels_from resolution_of text_or_empty file_of parent_of
+    member_of needed_of of_kind unsigned_of signed_of whole_of members.text_of members.ulid_of version_of section_of count_of each list_of are_lawful_times ulid_of bad_place digit_of number_of
+other_fields_read = refl
+
+other_reads : meta_of_text side.other_meta ≡ Ok (fields_of (small.said_of side.b))
+unfolding meta_of_text object_of
+other_reads = rw (other_value_read, meta_is_object (fields_of (small.said_of side.b))) other_fields_read
+
+other_meta_text : IsMetaText side.other_meta (fields_of (small.said_of side.b))
+other_meta_text = (meta_text_found side.other_meta).holds (fields_of (small.said_of side.b)) other_reads
+
+-- it lands at entry 8
 abbrev before_other : List Entry
 before_other = clock 1 0 ∷ side.begun ++ absent 5 3 4 (key.Meta side.b) ∷ stored 6 3 5 (key.Segment side.b 1) small.segment ∷ stored 7 3 6 (key.Index side.b) small.index ∷ []
 
@@ -316,17 +350,23 @@ other_uploaded : IsUploadedBefore side.setting side.journal side.b 12
 other_uploaded = record {
   is_declared = refl;
   seq = 8;
+  meta = fields_of (small.said_of side.b);
   completed = record {
     before = before_other;
     entry = stored 8 3 7 (key.Meta side.b) side.other_meta;
     after = side.completed ++ side.query;
     is = refl;
     number = refl;
-    put = (side.other_meta, refl, refl);
+    bytes = side.other_meta;
+    puts = refl;
+    landed = refl;
+    text = other_meta_text;
     first = other_first;
   };
   earlier = lit< tt;
 }
 
 pub not_late : ¬ side.NamesLateUploads
-not_late names = omega (arith, only_member small.a side.b (names side.used side.b (0, lit< tt, refl) other_uploaded (lit≤ tt)))
+not_late names =
+    let first = All-head (λ (n : Named). (ulid : ℕ) → IsUploadedBefore side.setting side.journal ulid n.used.last → time_of ulid + side.script.rules.consistency.ms ≤ n.used.view.begin.ms → Contains n.sources ulid) side_named [] names in
+    omega (arith, only_member small.a side.b (first side.b other_uploaded (lit≤ tt)))

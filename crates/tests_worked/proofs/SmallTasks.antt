@@ -7,6 +7,7 @@ use Rattle.label_sets.specs.declared.series.Series.{Series}
 use Rattle.label_sets.specs.Finals.{is_among, without, final_of}
 use Rattle.label_sets.specs.Labels.{value_of}
 use Rattle.label_sets.specs.Ordered.{in_order, placed}
+use Rattle.std.specs.List.{flat_map}
 use Rattle.label_sets.specs.Triples.{Triple, triples_under, triples_of, has_same_key}
 use Rattle.moment_core.specs.StandardRules.{minutes, hours}
 use Rattle.moment_core.specs.declared.span.Span.{Span}
@@ -130,6 +131,11 @@ merge_up = record { ascending = (tt, tt); inhabited = All-cons (λ s. s.samples 
 pub merge_all : IsMerge (wanted (question []) [] (small.up ∷ [])) (small.up ∷ [])
 unfolding wanted seen_under selected is_selected is_match final_of without is_among in_order placed triples_of triples_under IsStrictlySortedBy
 merge_all = record { ascending = (tt, tt); inhabited = All-cons (λ s. s.samples ≢ []) small.up [] (λ none. cc) (All-nil (λ (s : Series). s.samples ≢ [])); first = only_first _ refl }
+
+-- the one gateway's series are the merge of all that gateways gave
+pub merge_given : IsMerge (flat_map triples_of ((small.up ∷ []) ∷ [])) (small.up ∷ [])
+unfolding triples_of triples_under IsStrictlySortedBy
+merge_given = record { ascending = (tt, tt); inhabited = All-cons (λ s. s.samples ≢ []) small.up [] (λ none. cc) (All-nil (λ (s : Series). s.samples ≢ [])); first = only_first _ refl }
 
 one_source : IsSetOf (small.a ∷ []) (small.a ∷ [])
 one_source = record { increasing = λ k more. omega (arith, more); members = λ x. (λ h. h, λ h. h) }

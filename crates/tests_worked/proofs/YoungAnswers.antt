@@ -1,6 +1,6 @@
 -- The answered queries of the script of a young block.
 use Rattle.std.proofs.Common.{◌≡◌, ◌<◌, ℕ, pos, true, List, [], ◌∷◌, ◌++◌, Contains, Some, refl, sym, subst, arith, lit<, lit≤}
-use Rattle.std.proofs.lemmas.List.Elements.{All-nil, All-cons, All-from_recursion}
+use Rattle.std.proofs.lemmas.List.Elements.{All-nil, All-cons, All-from_recursion, All-head}
 use Rattle.std.specs.List.{IsDistinct, list_any}
 use Rattle.std.specs.List.Sorted.{IsStrictlySortedBy}
 use Rattle.label_sets.specs.Triples.{Triple, triples_under, triples_of, has_same_key}
@@ -11,10 +11,10 @@ use Rattle.script_workers.specs.declared.work.Work.TheVariants as works
 use Rattle.world_core.specs.declared.entry.Entry.{Entry}
 use Rattle.lifecycle_core.specs.Completed.{IsSettled, IsUploadedBefore, PutsMeta}
 use Rattle.lifecycle_core.specs.Conducts.{CameTo}
-use Rattle.lifecycle_core.specs.Guarantees.{IsExact, IsGiven}
+use Rattle.lifecycle_core.specs.Guarantees.{IsExact, IsGiven, Named}
 use Rattle.lifecycle_core.specs.Held.{held, held_by}
 use Rattle.lifecycle_core.specs.Holdings.{Use}
-use Rattle.lifecycle_core.specs.Tasks.{synced}
+use Rattle.lifecycle_core.specs.Tasks.{sync_rules, synced}
 use Rattle.label_sets.specs.Finals.{is_among, without, final_of}
 use Rattle.label_sets.specs.Ordered.{in_order, placed}
 use Rattle.matchers.specs.Selectors.{is_match}
@@ -23,6 +23,10 @@ use Rattle.tests_worked.specs.SmallBlock as small
 use Rattle.tests_worked.specs.SmallRuns as runs
 use Rattle.tests_worked.specs.Entries.{clock, stored, absent}
 use Rattle.tests_worked.specs.YoungBlock as young
+use Rattle.block_meta.specs.MetaFields.{fields_of}
+use Rattle.tests_worked.proofs.Bytes.{is_meta_text}
+use Rattle.tests_worked.proofs.SmallTasks.{merge_given}
+use Rattle.replay_cli.proofs.ToldAnswers.{none_merged}
 use Rattle.tests_worked.proofs.YoungBlock.{first_gateway, uploader, second_gateway, first_workers, second_workers, first_tasks, second_tasks, first_ends, second_ends}
 
 none_came : (used : Use) → CameTo (first_gateway ∷ uploader ∷ []) (first_ends used) (Some 0) 2 (young.no_answer used)
@@ -41,19 +45,28 @@ none_given early late = record {
   phase = record { line = 5; moment = record { ms = 0 }; tasks = first_tasks };
   place = 2;
   task = record { line = 8; work = works.Query (pos 0) (pos 5000) 0 };
+  low = pos 0;
+  high = pos 5000;
   selector_number = 0;
   in_phases = refl;
   in_tasks = refl;
   asks = refl;
   selects = refl;
   phase_ends = first_ends early;
-  gateway = 0;
-  used = early;
-  series = [];
   phase_came = refl;
-  answer = subst (λ (ws : List Worker). CameTo ws (first_ends early) (Some 0) 2 (young.no_answer early)) (sym first_workers) (none_came early);
+  parts = [] ∷ [];
+  given = (
+    record {
+      came = subst (λ (ws : List Worker). CameTo ws (first_ends early) (Some 0) 2 (young.no_answer early)) (sym first_workers) (none_came early);
+      from = refl;
+      upto = refl;
+    },
+    tt,
+  );
+  every = refl;
+  series = [];
+  merged = none_merged;
   samples = refl;
-  uses = refl;
 }
 
 pub none_exact : (used : Use) → IsExact young.setting (young.first_asked used)
@@ -64,7 +77,7 @@ none_exact used = record {
 }
 
 -- no block is old enough for a view that began in the first half hour
-pub not_settled : (journal : List Entry) (used : Use) → used.view.begin.ms < 1_800_000 → (ulid : ℕ) → ¬ IsSettled young.setting journal used ulid
+pub not_settled : (journal : List Entry) (used : Use) → used.view.begin.ms < 1_800_000 → (ulid : ℕ) → ¬ IsSettled young.setting journal (sync_rules young.setting 0) used ulid
 not_settled journal used early ulid settled = omega (arith, settled.old)
 
 -- with the upload first, the block was complete before the first sync began
@@ -75,20 +88,26 @@ early_upload : IsUploadedBefore young.setting young.journal_turned small.a 6
 early_upload = record {
   is_declared = refl;
   seq = 5;
+  meta = fields_of small.said;
   completed = record {
     before = before_meta;
     entry = stored 5 2 4 (key.Meta small.a) small.meta;
     after = runs.sync 6 1 5 ++ clock 9 1_800_000 ∷ young.second_journal_turned;
     is = refl;
     number = refl;
-    put = (small.meta, refl, refl);
+    bytes = small.meta;
+    puts = refl;
+    landed = refl;
+    text = is_meta_text;
     first = All-from_recursion (λ (e : Entry). ¬ PutsMeta small.a e) before_meta (λ put. cc (put.1), (λ put. cc (put.1), (λ put. cc (put.1), (λ put. cc (put.1), tt))));
   };
   earlier = lit< tt;
 }
 
 pub young_left_out : ¬ young.NamesAll young.IsUploadedEarly (young.first_asked young.early_turned)
-young_left_out names = let among = names young.early_turned small.a (0, lit< tt, refl) (early_upload, lit≤ tt) in omega (arith, among.1)
+young_left_out names =
+    let first = All-head (λ (n : Named). (ulid : ℕ) → young.IsUploadedEarly n.used ulid → Contains n.sources ulid) (record { gateway = 0; used = young.early_turned; low = pos 0; high = pos 5000; sources = [] }) [] names in
+    let among = first small.a (early_upload, lit≤ tt) in omega (arith, among.1)
 
 -- ---- the second query
 
@@ -108,19 +127,28 @@ some_given early late = record {
   phase = record { line = 9; moment = record { ms = 1_800_000 }; tasks = second_tasks };
   place = 1;
   task = record { line = 11; work = works.Query (pos 0) (pos 5000) 1 };
+  low = pos 0;
+  high = pos 5000;
   selector_number = 1;
   in_phases = refl;
   in_tasks = refl;
   asks = refl;
   selects = refl;
   phase_ends = second_ends late;
-  gateway = 0;
-  used = late;
-  series = small.up ∷ [];
   phase_came = refl;
-  answer = subst (λ (ws : List Worker). CameTo ws (second_ends late) (Some 0) 1 (young.block_answer late)) (sym second_workers) (some_came late);
+  parts = (small.up ∷ []) ∷ [];
+  given = (
+    record {
+      came = subst (λ (ws : List Worker). CameTo ws (second_ends late) (Some 0) 1 (young.block_answer late)) (sym second_workers) (some_came late);
+      from = refl;
+      upto = refl;
+    },
+    tt,
+  );
+  every = refl;
+  series = small.up ∷ [];
+  merged = merge_given;
   samples = refl;
-  uses = refl;
 }
 
 pub some_exact : (used : Use) → IsExact young.setting (young.second_asked used)

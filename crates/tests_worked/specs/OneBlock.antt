@@ -110,10 +110,7 @@ report = join_with_byte 10 (
 -- the answered query
 abbrev pub asked : Answered
 asked = record {
-  low = pos 0;
-  high = pos 5000;
   selector = selector;
-  uses = used ∷ [];
+  named = record { gateway = 0; used = used; low = pos 0; high = pos 5000; sources = small.a ∷ [] } ∷ [];
   samples = small.triple ∷ [];
-  sources = small.a ∷ [];
 }

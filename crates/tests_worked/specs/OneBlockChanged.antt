@@ -1,5 +1,5 @@
 -- What is no run of the script of one block, and not its report: each time one thing differs from what `OneBlock` has.
-use Rattle.std.specs.Prelude.{ℕ, List, [], ◌∷◌, ◌++◌, codes}
+use Rattle.std.specs.Prelude.{ℕ, pos, List, [], ◌∷◌, ◌++◌, codes}
 use Rattle.std.specs.List.{join_with_byte}
 use Rattle.block_keys.specs.declared.key.Key.TheVariants as key
 use Rattle.label_sets.specs.Triples.{Triple}
@@ -52,12 +52,9 @@ report_without_source = join_with_byte 10 (
 
 abbrev pub with_answer : List Triple → List ℕ → Answered
 with_answer samples sources = record {
-  low = one.asked.low;
-  high = one.asked.high;
   selector = one.selector;
-  uses = one.used ∷ [];
+  named = record { gateway = 0; used = one.used; low = pos 0; high = pos 5000; sources = sources } ∷ [];
   samples = samples;
-  sources = sources;
 }
 
 -- it names no block, and has no sample

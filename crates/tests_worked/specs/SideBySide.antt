@@ -121,12 +121,9 @@ ends =
 -- the answered query
 abbrev pub asked : Answered
 asked = record {
-  low = pos 0;
-  high = pos 5000;
   selector = [];
-  uses = used ∷ [];
+  named = record { gateway = 0; used = used; low = pos 0; high = pos 5000; sources = small.a ∷ [] } ∷ [];
   samples = small.triple ∷ [];
-  sources = small.a ∷ [];
 }
 
 -- ---- what is not guaranteed
@@ -134,12 +131,11 @@ asked = record {
 -- each block that the answer names was complete before the sync began
 abbrev pub NamesEarlyUploads : Type 0
 NamesEarlyUploads =
-    All (λ ulid.
-    (own : Use) × Contains asked.uses own × IsUploadedBefore setting journal ulid own.view.first)
-    asked.sources
+    All (λ one. All (λ ulid. IsUploadedBefore setting journal ulid one.used.view.first) one.sources)
+    asked.named
 
 -- it names each block, old enough, that was complete before the sync ended
 abbrev pub NamesLateUploads : Type 0
 NamesLateUploads =
-    (own : Use) (ulid : ℕ) → Contains asked.uses own → IsUploadedBefore setting journal ulid own.last
-    → time_of ulid + script.rules.consistency.ms ≤ own.view.begin.ms → Contains asked.sources ulid
+    All (λ one. (ulid : ℕ) → IsUploadedBefore setting journal ulid one.used.last
+    → time_of ulid + script.rules.consistency.ms ≤ one.used.view.begin.ms → Contains one.sources ulid) asked.named

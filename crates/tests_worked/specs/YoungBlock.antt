@@ -1,6 +1,6 @@
 -- A block is not shown before it has been in the bucket for the consistency delay, which is half an hour. In the first phase a
 -- sync, an upload and a query stand, in the second one a sync and a query.
-use Rattle.std.specs.Prelude.{◌≤◌, ℕ, pos, Contains, List, [], ◌∷◌, ◌++◌, codes, None}
+use Rattle.std.specs.Prelude.{◌≤◌, ℕ, pos, All, Contains, List, [], ◌∷◌, ◌++◌, codes, None}
 use Rattle.std.specs.List.{join_with_byte}
 use Rattle.moment_core.specs.StandardRules.{standard_rules}
 use Rattle.world_core.specs.declared.entry.Entry.{Entry}
@@ -141,28 +141,21 @@ IsUploadedEarly used ulid =
     IsUploadedBefore setting journal_turned ulid used.view.first
     × (time_of ulid ≤ used.view.begin.ms)
 
--- the answer names each block of which this holds
+-- each gateway names each block of which this holds
 abbrev pub NamesAll : (Use → ℕ → Type 0) → Answered → Type 0
-NamesAll Is query =
-    (used : Use) (ulid : ℕ) → Contains query.uses used → Is used ulid → Contains query.sources ulid
+NamesAll Is query = All (λ one. (ulid : ℕ) → Is one.used ulid → Contains one.sources ulid) query.named
 
 -- the two answered queries
 abbrev pub first_asked : Use → Answered
 first_asked used = record {
-  low = pos 0;
-  high = pos 5000;
   selector = [];
-  uses = used ∷ [];
+  named = record { gateway = 0; used = used; low = pos 0; high = pos 5000; sources = [] } ∷ [];
   samples = [];
-  sources = [];
 }
 
 abbrev pub second_asked : Use → Answered
 second_asked used = record {
-  low = pos 0;
-  high = pos 5000;
   selector = [];
-  uses = used ∷ [];
+  named = record { gateway = 0; used = used; low = pos 0; high = pos 5000; sources = small.a ∷ [] } ∷ [];
   samples = small.triple ∷ [];
-  sources = small.a ∷ [];
 }

@@ -4,8 +4,10 @@ ghost use Rattle.script_core.specs.Lawful.{IsLawfulScript};
 ghost use Rattle.script_core.specs.Spelling.{Spells};
 ghost use Rattle.lifecycle_core.specs.Breaches.{IsUnbroken};
 ghost use Rattle.lifecycle_core.specs.Completed.{IsSettled};
-ghost use Rattle.lifecycle_core.specs.Guarantees.{IsExact, IsGiven, IsGuaranteed, IsSyncOf, LeavesNoneOut, NamesUploads};
+ghost use Rattle.lifecycle_core.specs.Guarantees.{IsExact, IsGiven, IsGuaranteed, LeavesNoneOut, NamesUploads};
 ghost use Rattle.lifecycle_core.specs.Phases.{IsFinished, IsRunOf};
+ghost use Rattle.lifecycle_core.specs.SyncsAndCalls.{IsViewOf};
+ghost use Rattle.lifecycle_core.specs.Tasks.{sync_rules};
 ghost use Rattle.lifecycle_core.specs.TimeRules.{IsMarkedInTime, IsReadInTime, IsSyncedInTime, IsUploadedInTime};
 ghost use Rattle.replay_cli.specs.Verdicts.{IsReport, IsWholeRun};
 ghost use Rattle.tests_worked.specs.OneBlock.{text, setting, script, journal, ends, report, sync, query, used, asked};
@@ -41,14 +43,15 @@ pub fn one_block_is_answered()
     ensures given { IsGiven setting ends asked }
     ensures exact { IsExact setting asked }
     ensures named { NamesUploads setting journal asked }
-    ensures settled { IsSettled setting journal used a }
+    ensures settled { IsSettled setting journal (sync_rules setting 0) used a }
 {}
 
 /// A law: the run keeps the rules of time, so that its query may leave no block out, and it leaves none out.
 pub fn one_block_is_in_time()
     ensures uploaded { (ulid : ℕ) → IsUploadedInTime script.rules ulid journal }
     ensures marked { (ulid : ℕ) → IsMarkedInTime script.rules ulid journal }
-    ensures synced { IsSyncOf journal used sync × IsSyncedInTime script.rules sync }
+    ensures synced { IsViewOf (sync_rules setting 0) journal used sync
+        × IsSyncedInTime script.rules sync }
     ensures read { All (IsReadInTime script.rules used.view) query }
     ensures covered { LeavesNoneOut setting journal asked }
 {}

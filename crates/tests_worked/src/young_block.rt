@@ -6,6 +6,7 @@ ghost use Rattle.lifecycle_core.specs.Completed.{IsSettled};
 ghost use Rattle.lifecycle_core.specs.Guarantees.{IsExact, IsGiven};
 ghost use Rattle.lifecycle_core.specs.Phases.{IsFinished, IsRunOf};
 ghost use Rattle.lifecycle_core.specs.Holdings.{Use};
+ghost use Rattle.lifecycle_core.specs.Tasks.{sync_rules};
 ghost use Rattle.replay_cli.specs.Verdicts.{IsReport};
 ghost use Rattle.tests_worked.specs.YoungBlock.{IsUploadedEarly, NamesAll, text, setting, script, report, first_asked, second_asked};
 ghost use Rattle.tests_worked.specs.YoungBlock.{journal, ends, early, late, journal_turned, ends_turned, early_turned, late_turned};
@@ -41,10 +42,11 @@ pub fn young_block_is_reported()
 pub fn young_block_is_not_answered()
     ensures given { IsGiven setting ends (first_asked early) }
     ensures exact { IsExact setting (first_asked early) }
-    ensures unsettled { (ulid : ℕ) → ¬ IsSettled setting journal early ulid }
+    ensures unsettled { (ulid : ℕ) → ¬ IsSettled setting journal (sync_rules setting 0) early ulid }
     ensures turned_given { IsGiven setting ends_turned (first_asked early_turned) }
     ensures turned_exact { IsExact setting (first_asked early_turned) }
-    ensures turned_unsettled { (ulid : ℕ) → ¬ IsSettled setting journal_turned early_turned ulid }
+    ensures turned_unsettled { (ulid : ℕ) → ¬ IsSettled setting journal_turned
+        (sync_rules setting 0) early_turned ulid }
 {}
 
 /// A law: a block that was complete before a sync began is not named where it was too young.

@@ -1,6 +1,6 @@
 -- An answer over a view of true blocks is exact: it is the deduplication of the samples of the blocks that it names which the query
 -- asks for. No object of such a call is damaged, and the answer names the blocks of the view.
-use Rattle.list_core.proofs.Membership.{contains_first, of_map, into_filter, into_flat_map, into_map, member_cases, member_passes, no_member, of_flat_map}
+use Rattle.list_core.proofs.Membership.{contains_first, into_filter, into_flat_map, into_map, member_cases, member_passes, no_member, of_filter, of_flat_map, of_map}
 use Rattle.lifecycle_core.proofs.blocks.Declared.{declared_lawful}
 use Rattle.std.proofs.Common.{◌≡◌, inl, inr, ℕ, ℤ, ◌≤ℤ◌, ◌<ℤ◌, Bool, true, false, ◌&&◌, List, [], ◌∷◌, map, Contains, Option, Some, refl, sym, ap, subst, arith, is_le, is_lt, int_cmp, ◌↔◌}
 use Rattle.std.specs.List.{All, AllByRecursion, filter, flat_map, list_any}
@@ -32,7 +32,6 @@ use Rattle.script_core.proofs.SpelledValues.{within_spelled}
 use Rattle.lifecycle_core.specs.Held.{given_by, held, held_by}
 use Rattle.lifecycle_core.specs.Setting.{Setting}
 use Rattle.lifecycle_core.proofs.answers.Calls.{IsDeclared, IsTrueEnd, asked_of, held_under, true_end}
-use Rattle.lifecycle_core.proofs.journals.Positions.{of_filter}
 use Rattle.lifecycle_core.proofs.journals.Told.{IsPart, IsReadable, IsTold, IsTrueFound, Spans}
 
 -- ---- deduplications
@@ -151,7 +150,7 @@ told_part setting journal entries told part =
 abbrev taken_of : Setting → Question → List Found → List Triple
 taken_of setting query kept = flat_map (λ (b : ToRead). asked_of setting query b.ulid) (to_read query kept)
 
-end_of_call : (setting : Setting) (journal entries : List Entry) (view : View) (query : Question) (end : Option SeriesEnd) → IsReadable setting → All (IsTold setting journal) journal → IsPart journal entries
+pub end_of_call : (setting : Setting) (journal entries : List Entry) (view : View) (query : Question) (end : Option SeriesEnd) → IsReadable setting → All (IsTold setting journal) journal → IsPart journal entries
     → All (IsTrueFound setting) view.kept → SeriesRun view query entries end → IsTrueEnd (taken_of setting query view.kept) (sources_of view.kept) end
 end_of_call setting journal entries view query end readable told part kept run =
     let those : All (IsTrueFound setting) (filter (meets query) view.kept) = All-filter (meets query) (IsTrueFound setting) view.kept kept in

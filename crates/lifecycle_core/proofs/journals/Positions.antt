@@ -1,6 +1,6 @@
 -- Where the entries of a list and of the lists that it is made of stand.
 use Rattle.list_core.proofs.Membership.{contains_first, contains_later}
-use Rattle.std.proofs.Common.{◌≡◌, ◌⊎◌, inl, inr, suc, zero, Bool, true, false, cond, List, [], ◌∷◌, ◌++◌, Contains, refl, sym, ◌∙◌, ap, subst, arith}
+use Rattle.std.proofs.Common.{◌≡◌, ◌⊎◌, inl, inr, suc, zero, Bool, true, false, List, [], ◌∷◌, ◌++◌, Contains, refl, ◌∙◌, ap, subst, arith}
 use Rattle.std.specs.List.{AllZip, filter, zip}
 use Rattle.std.proofs.lemmas.List.Elements.{filter-append, Contains-append_cases, Contains-append_left, Contains-append_right}
 
@@ -45,32 +45,6 @@ pub filtered : {X : Type 0} (p : X → Bool) (front back : List X) (x : X) → p
 filtered {X} p front back x test =
     let one : filter p (x ∷ back) ≡ x ∷ filter p back = rw test refl in
     filter-append p front (x ∷ back) ∙ ap (λ (l : List X). filter p front ++ l) one
-
--- what passes a test is a member
-of_filter_first : {X : Type 0} (p : X → Bool) (y : X) (xs : List X) (x : X) (rest : Contains (filter p xs) x → Contains xs x) (b : Bool) → p y ≡ b → Contains (filter p (y ∷ xs)) x → Contains (y ∷ xs) x
-of_filter_first p y xs x rest true test among =
-    let e : Contains (y ∷ filter p xs) x = rw test at among in
-    elim (Contains-append_cases (y ∷ []) (filter p xs) x e) [
-      | inl first ↦ Contains-append_left (y ∷ []) xs x first
-      | inr later ↦ contains_later y x xs (rest later)
-    ]
-of_filter_first p y xs x rest false test among = let e : Contains (filter p xs) x = rw test at among in contains_later y x xs (rest e)
-
-pub of_filter : {X : Type 0} (p : X → Bool) (xs : List X) (x : X) → Contains (filter p xs) x → Contains xs x
-of_filter p [] x among = among
-of_filter p (y ∷ xs) x among = of_filter_first p y xs x (of_filter p xs x) (p y) refl among
-
--- a member that passes a test is one of those that do
-among_if : {X : Type 0} (b : Bool) (x y : X) (rest : List X) → Contains rest x → Contains (cond b (y ∷ rest) rest) x
-among_if true x y rest among = contains_later y x rest among
-among_if false x y rest among = among
-
-pub passing : {X : Type 0} (p : X → Bool) (xs : List X) (x : X) → Contains xs x → p x ≡ true → Contains (filter p xs) x
-passing p [] x (k, below, is) passes = absurd (omega (arith, below))
-passing p (y ∷ xs) x (zero, below, is) passes =
-    let test : p y ≡ true = ap p is ∙ passes in
-    subst (λ b. Contains (cond b (y ∷ filter p xs) (filter p xs)) x) (sym test) (0, omega arith, is)
-passing p (y ∷ xs) x (suc k, below, is) passes = among_if (p y) x y (filter p xs) (passing p xs x (k, omega (arith, below), is) passes)
 
 -- the other half of a pair
 pub zip_left : {A B : Type 0} (R : A → B → Type 0) (xs : List A) (ys : List B) (y : B) → AllZip R xs ys → Contains ys y → (x : A) × Contains xs x × R x y

@@ -16,19 +16,10 @@ use Rattle.world_core.proofs.PlanWords.{gets_ask, puts_ask}
 use Rattle.shipper.specs.Uploads.{putting, upload}
 use Rattle.shipper.specs.declared.upload_end.UploadEnd.{UploadEnd}
 use Rattle.shipper.specs.declared.upload_end.UploadEnd.TheVariants.{Already, Fault}
+use Rattle.lifecycle_core.specs.Acting.{IsRead}
 use Rattle.lifecycle_core.proofs.journals.Positions.{stands_in}
 
 -- ---- entries
-
--- the operation reads
-abbrev pub IsRead : Op → Type 0
-IsRead (op.Clock moment) = ⊥
-IsRead (op.Put key bytes) = ⊥
-IsRead (op.Get key) = Unit {0}
-IsRead (op.GetRange key from len) = Unit {0}
-IsRead (op.Delete key) = ⊥
-IsRead (op.RootPage after limit) = Unit {0}
-IsRead (op.BlockPage ulid after limit) = Unit {0}
 
 -- a put of the key has landed among the entries
 abbrev pub HasPut : List Entry → Key → Type 0

@@ -33,7 +33,7 @@ use Rattle.script_core.specs.Lawful.{IsLawfulScript}
 use Rattle.lifecycle_core.specs.Phases.{IsRunOf}
 use Rattle.lifecycle_core.specs.Setting.{Setting}
 use Rattle.lifecycle_core.specs.Tasks.{End}
-use Rattle.lifecycle_core.proofs.misses.Explaining.{WasPut, parted, run_in_order, put_stays, was_put}
+use Rattle.lifecycle_core.proofs.misses.Explaining.{AllInOrder, WasPut, parted, run_in_order, put_stays, was_put}
 use Rattle.lifecycle_core.proofs.journals.Positions.{split, stands_in}
 use Rattle.lifecycle_core.proofs.journals.TellingPuts.{PutsShipped, puts_are_shipped}
 use Rattle.lifecycle_core.proofs.journals.Told.{IsDeclaredName, IsReadable, IsShippedObject, IsTold, Rises, WasPutBefore}
@@ -175,10 +175,15 @@ module _ (setting : Setting) (journal : List Entry) (readable : IsReadable setti
     only = λ cursor limit names asked told. All-weaker (IsName (stands before) []) (IsDeclaredName setting) name_declared names (shows (op.RootPage cursor limit) (reply.Names names) asked told).stand;
   }
 
--- each entry of an honest journal tells of the script's blocks
+-- each entry of an honest journal tells of the script's blocks, where puts are of shipped objects and nothing is deleted
+pub all_told_by : (setting : Setting) (journal : List Entry) → IsReadable setting → IsJournal setting.script.rules.tick.ms journal → All (PutsShipped setting) journal → AllInOrder journal → IsHonest journal → All (IsTold setting journal) journal
+all_told_by setting journal readable kept puts ordered honest =
+    let keeps : (x : Entry) → Contains journal x → (k : Key) → x.op ≢ op.Delete k = λ x among.
+    let at = parted journal x among in (ordered at.0 at.1 x at.2).keeps in
+    All-weaker (Contains journal) (IsTold setting journal) (λ e among. let at = parted journal e among in entry_told setting journal readable kept puts keeps honest at.0 at.1 e at.2)
+    journal (All-contains_itself journal)
+
+-- as in a run of a lawful script
 pub all_told : (setting : Setting) (journal : List Entry) (ends : List (List (List End))) → IsLawfulScript setting.script → IsReadable setting → IsRunOf setting journal ends → IsHonest journal → All (IsTold setting journal) journal
 all_told setting journal ends lawful readable run honest =
-    let keeps : (x : Entry) → Contains journal x → (k : Key) → x.op ≢ op.Delete k = λ x among.
-    let at = parted journal x among in (run_in_order setting journal ends lawful run at.0 at.1 x at.2).keeps in
-    All-weaker (Contains journal) (IsTold setting journal) (λ e among. let at = parted journal e among in entry_told setting journal readable run.kept (puts_are_shipped setting journal ends run) keeps honest at.0 at.1 e at.2)
-    journal (All-contains_itself journal)
+    all_told_by setting journal readable run.kept (puts_are_shipped setting journal ends run) (run_in_order setting journal ends lawful run) honest

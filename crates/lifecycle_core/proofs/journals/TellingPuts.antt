@@ -32,7 +32,8 @@ use Rattle.lifecycle_core.specs.Shipped.{IsShipped}
 use Rattle.lifecycle_core.specs.Tasks.{End, QueryTask, TaskRun, asked_by, sync_rules}
 use Rattle.lifecycle_core.proofs.phases.EachEntry.{phase_each, phases_each}
 use Rattle.lifecycle_core.proofs.misses.GatewayEntries.{calls, syncs}
-use Rattle.lifecycle_core.proofs.journals.RunEntries.{IsRead}
+use Rattle.lifecycle_core.proofs.journals.Positions.{filtered, stands_in, zip_right}
+use Rattle.lifecycle_core.specs.Acting.{IsRead}
 use Rattle.lifecycle_core.proofs.journals.Told.{IsShippedObject}
 
 -- ---- an upload
@@ -77,6 +78,10 @@ shipped_object setting ulid block objects k bytes is shipped among =
 -- where the entry puts, it puts a shipped object
 abbrev pub PutsShipped : Setting → Entry → Type 0
 PutsShipped setting e = (k : Key) (bytes : List ℕ) → e.op ≡ op.Put k bytes → IsShippedObject setting k bytes
+
+-- a read puts nothing
+pub reads_put : (setting : Setting) (e : Entry) → IsRead e.op → PutsShipped setting e
+reads_put setting e read k bytes is = absurd (subst IsRead is read)
 
 reads_put_none : (setting : Setting) (entries : List Entry) → AllByRecursion (λ (e : Entry). IsRead e.op) entries → All (PutsShipped setting) entries
 reads_put_none setting entries reads = All-weaker (λ (e : Entry). IsRead e.op) (PutsShipped setting) (λ e read k bytes is. absurd (subst IsRead is read)) entries (All-from_recursion (λ (e : Entry). IsRead e.op) entries reads)

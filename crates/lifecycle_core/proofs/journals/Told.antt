@@ -1,6 +1,6 @@
 -- The words of the proofs about answers: what the entries of an honest journal tell of the blocks that a script declares, from
 -- which runs a view and an end come, and when a view is true of the script.
-use Rattle.std.specs.Prelude.{◌≡◌, ◌⊎◌, ℕ, ◌<◌, ◌≤◌, ◌^◌, ℤ, IsTrue, List, [], ◌∷◌, length, All, Contains, Some, Ok}
+use Rattle.std.specs.Prelude.{◌≡◌, ◌⊎◌, ℕ, ◌<◌, ◌≤◌, ◌^◌, ℤ, IsTrue, List, [], ◌∷◌, ◌++◌, length, All, Contains, Some, Ok}
 use Rattle.ulid_core.specs.UlidText.{text_of}
 use Rattle.label_sets.specs.declared.series.Series.{Series}
 use Rattle.block_keys.specs.Keys.{key_ulid}
@@ -8,6 +8,8 @@ use Rattle.block_keys.specs.declared.key.Key.{Key}
 use Rattle.block_keys.specs.declared.key.Key.TheVariants as key
 use Rattle.block_keys.specs.declared.object.Object.{Object}
 use Rattle.block_meta.specs.declared.block_plan.BlockPlan.{BlockPlan}
+use Rattle.block_meta.specs.MetaFields.{MetaFields}
+use Rattle.block_meta.specs.MetaText.{IsMetaText}
 use Rattle.block_meta.specs.MetaReading.{meta_of_text}
 use Rattle.block_meta.specs.MetaValue.{meta_text}
 use Rattle.block_files.specs.Built.{built_meta, segment_text}
@@ -25,7 +27,7 @@ use Rattle.script_core.specs.declared.body.Body.{Body}
 use Rattle.script_core.specs.declared.body.Body.TheVariants.{Inline}
 use Rattle.script_workers.specs.declared.task.Task.{Task}
 use Rattle.lifecycle_core.specs.Completed.{IsSettled, IsUploadedBefore}
-use Rattle.lifecycle_core.specs.Conducts.{Who}
+use Rattle.lifecycle_core.specs.Conducts.{Who, of_seat}
 use Rattle.lifecycle_core.specs.Held.{declared, given}
 use Rattle.lifecycle_core.specs.Holdings.{Holding, Use}
 use Rattle.lifecycle_core.specs.Setting.{Setting}
@@ -45,6 +47,10 @@ pub record IsShippedObject (setting : Setting) (k : Key) (bytes : List ℕ) : Ty
 -- a put of these bytes under the key landed, at an entry of the journal before that of a number
 abbrev pub WasPutBefore : List Entry → Key → List ℕ → ℕ → Type 0
 WasPutBefore journal k bytes number = (p : Entry) × Contains journal p × (p.op ≡ op.Put k bytes) × IsTrue (has_landed p.reply) × (p.seq < number)
+
+-- each put of a meta puts the text of one
+abbrev pub PutsTexts : List Entry → Type 0
+PutsTexts journal = (e : Entry) → Contains journal e → (ulid : ℕ) (bytes : List ℕ) → e.op ≡ op.Put (key.Meta ulid) bytes → (meta : MetaFields) × IsMetaText bytes meta
 
 -- the name is that of a declared block
 abbrev pub IsDeclaredName : Setting → List ℕ → Type 0
@@ -78,6 +84,12 @@ pub record IsPart (journal entries : List Entry) : Type 0 where
 
 -- ---- where views and ends come from
 
+-- the entries follow one another among those of a seat
+pub record IsStretch (journal : List Entry) (seat : ℕ) (entries : List Entry) : Type 0 where
+  pub before : List Entry
+  pub after : List Entry
+  pub parts : of_seat seat journal ≡ before ++ entries ++ after
+
 -- the sync that gave a view
 pub record IsOrigin (setting : Setting) (journal : List Entry) (used : Use) : Type 0 where
   pub gateway : ℕ
@@ -85,6 +97,8 @@ pub record IsOrigin (setting : Setting) (journal : List Entry) (used : Use) : Ty
   pub run : SyncRun (sync_rules setting gateway) entries (Some (fetched.View used.view))
   pub last : used.last ≡ last_number entries
   pub part : IsPart journal entries
+  pub seat : ℕ
+  pub stretch : IsStretch journal seat entries
 
 -- the run of a task that came to an end
 pub record IsMade (setting : Setting) (journal : List Entry) (task : Task) (end : End) : Type 0 where
@@ -96,6 +110,8 @@ pub record IsMade (setting : Setting) (journal : List Entry) (task : Task) (end 
   pub run : TaskRun setting who place task.work held entries (Some end) after
   pub part : IsPart journal entries
   pub origin : (used : Use) → held.used ≡ Some used → IsOrigin setting journal used
+  -- it was made after the sync of the view that it used
+  pub later : (used : Use) → held.used ≡ Some used → All (λ e. used.last < e.seq) entries
 
 -- ---- what is read again
 
@@ -128,4 +144,4 @@ pub record IsTrueFound (setting : Setting) (found : Found) : Type 0 where
 pub record IsTrueView (setting : Setting) (journal : List Entry) (used : Use) : Type 0 where
   pub kept : All (IsTrueFound setting) used.view.kept
   pub uploaded : All (λ (found : Found). IsUploadedBefore setting journal found.ulid used.last) used.view.kept
-  pub settled : (ulid : ℕ) → IsSettled setting journal used ulid → (found : Found) × Contains used.view.kept found × (found.ulid ≡ ulid)
+  pub settled : (gateway ulid : ℕ) → IsSettled setting journal (sync_rules setting gateway) used ulid → (found : Found) × Contains used.view.kept found × (found.ulid ≡ ulid)

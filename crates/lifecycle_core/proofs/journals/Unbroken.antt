@@ -1,4 +1,5 @@
 -- What holds of an unbroken journal by the other words.
+use Rattle.list_core.proofs.Membership.{of_filter}
 use Rattle.std.proofs.Common.{◌≡◌, ◌<◌, ◌≤◌, ◌+◌, ◌*◌, ◌==◌, ℕ, zero, suc, List, [], ◌∷◌, ◌++◌, Contains, Option, inl, inr, refl, sym, ◌∙◌, ap, subst, append-nil, append_assoc, arith}
 use Rattle.std.specs.List.{All}
 use Rattle.std.proofs.lemmas.List.Elements.{All-cons, All-nil, Contains-append_cases, Contains-append_right}
@@ -16,7 +17,7 @@ use Rattle.lifecycle_core.specs.Causes.{IsExplained}
 use Rattle.lifecycle_core.specs.Conducts.{of_seat}
 use Rattle.lifecycle_core.specs.Setting.{Setting}
 use Rattle.lifecycle_core.specs.TimeRules.{IsMarkedInTime, IsReadInTime, IsSyncedInTime, IsUploadedInTime, PutsMark, PutsObject}
-use Rattle.lifecycle_core.proofs.journals.Positions.{of_filter, unfilter}
+use Rattle.lifecycle_core.proofs.journals.Positions.{unfilter}
 
 pub explains_nothing : (setting : Setting) (journal : List Entry) (number : ℕ) → IsUnbroken setting journal → ¬ IsExplained setting journal number
 explains_nothing setting journal number unbroken e = unbroken e.before e.after e.entry e.parts e.rule e.x e.y e.refused
@@ -99,17 +100,17 @@ module _ (setting : Setting) (journal : List Entry) (unbroken : IsUnbroken setti
       → (last.moment.ms + 1000 ≤ first.moment.ms + setting.script.rules.ignore.ms)
       × ((one : List Entry) × (two : List Entry) × (journal ≡ one ++ last ∷ two) × ((x : Entry) → Contains front x → Contains one x))
   last_synced gateway entries end first last others front sync begins ends =
-      let within : of_seat sync.seat journal ≡ (sync.before ++ (front ++ last ∷ [])) ++ sync.after = sync.parts ∙ ap (λ (es : List Entry). (sync.before ++ es) ++ sync.after) ends in
-      let moved : (sync.before ++ (front ++ last ∷ [])) ++ sync.after ≡ ((sync.before ++ front) ++ last ∷ []) ++ sync.after = ap (λ (es : List Entry). es ++ sync.after) (sym (append_assoc sync.before front (last ∷ []))) in
-      let parts : of_seat sync.seat journal ≡ (sync.before ++ front) ++ last ∷ sync.after = within ∙ moved ∙ append_assoc (sync.before ++ front) (last ∷ []) sync.after in
-      let at = unfilter (λ (e : Entry). e.seat == sync.seat) journal (sync.before ++ front) sync.after last parts in (
+      let within : of_seat sync.seat journal ≡ (sync.sync.before ++ (front ++ last ∷ [])) ++ sync.sync.after = sync.sync.parts ∙ ap (λ (es : List Entry). (sync.sync.before ++ es) ++ sync.sync.after) ends in
+      let moved : (sync.sync.before ++ (front ++ last ∷ [])) ++ sync.sync.after ≡ ((sync.sync.before ++ front) ++ last ∷ []) ++ sync.sync.after = ap (λ (es : List Entry). es ++ sync.sync.after) (sym (append_assoc sync.sync.before front (last ∷ []))) in
+      let parts : of_seat sync.seat journal ≡ (sync.sync.before ++ front) ++ last ∷ sync.sync.after = within ∙ moved ∙ append_assoc (sync.sync.before ++ front) (last ∷ []) sync.sync.after in
+      let at = unfilter (λ (e : Entry). e.seat == sync.seat) journal (sync.sync.before ++ front) sync.sync.after last parts in (
         not_over (last.moment.ms + 1000) (first.moment.ms + setting.script.rules.ignore.ms)
             (λ over. unbroken at.0 at.1 last at.2 sync_time (last.moment.ms + 1000) (first.moment.ms + setting.script.rules.ignore.ms) (gateway, entries, end, first, others, front, sync, begins, ends, (refl, refl, over))),
         (
           at.0,
           at.1,
           at.2,
-          λ x among. of_filter (λ (e : Entry). e.seat == sync.seat) at.0 x (subst (λ (es : List Entry). Contains es x) (sym at.3) (Contains-append_right sync.before front x among)),
+          λ x among. of_filter (λ (e : Entry). e.seat == sync.seat) at.0 x (subst (λ (es : List Entry). Contains es x) (sym at.3) (Contains-append_right sync.sync.before front x among)),
         ),
       )
 

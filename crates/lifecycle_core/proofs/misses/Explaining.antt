@@ -1,5 +1,5 @@
 -- A call that misses an object reads what was put, so that the bucket lied: in every lawful journal of a script.
-use Rattle.list_core.proofs.Membership.{contains_first, of_map}
+use Rattle.list_core.proofs.Membership.{contains_first, of_filter, of_map}
 use Rattle.ulid_core.proofs.UlidLaws.{length-text_of}
 use Rattle.std.proofs.Common.{◌≡◌, ◌≢◌, ◌⊎◌, inl, inr, ℕ, zero, suc, ◌+◌, ◌-◌, ◌≤◌, ◌==◌, Bool, true, false, cond, IsTrue, List, [], ◌∷◌, ◌++◌, map, length, get_or, codes, Contains, Option, Some, None, refl, sym, ◌∙◌, ap, subst, append_assoc, append-nil, arith}
 use Rattle.std.specs.Prelude.{slice_get}
@@ -30,17 +30,18 @@ use Rattle.script_workers.specs.declared.task.Task.{Task}
 use Rattle.script_workers.specs.declared.work.Work.{Work}
 use Rattle.script_workers.specs.declared.worker.Worker.{Worker}
 use Rattle.lifecycle_core.specs.Breaches.{IsLie, honesty, read_key, shown_by}
-use Rattle.lifecycle_core.specs.Causes.{AreFound, AreMissesExplained, IsExplained, SomeCame}
+use Rattle.lifecycle_core.specs.Causes.{AreFound, AreMissesExplained, IsExplained, IsMissing, SomeCame}
 use Rattle.lifecycle_core.specs.Conducts.{Conduct, PhaseRun, Who, WorkerRun, of_seat, who_of}
 use Rattle.lifecycle_core.specs.Holdings.{Holdings, Use, holding_of, none_held}
 use Rattle.lifecycle_core.specs.Phases.{IsRunOf, by_script, by_workers}
 use Rattle.lifecycle_core.specs.Setting.{Setting}
-use Rattle.lifecycle_core.specs.Tasks.{End, answered}
+use Rattle.lifecycle_core.specs.Tasks.{End, answered, stopped, synced, uploaded, without_view}
 use Rattle.lifecycle_core.specs.Ways.{PhasesRun, Way}
 use Rattle.lifecycle_core.proofs.misses.Misses.{Leaves, MissesAt, ViewSeen, misses_within, seen_among, task_in_order, tasks_in_order, tasks_leave, view_among}
 use Rattle.lifecycle_core.proofs.phases.PhaseViews.{views_left}
-use Rattle.lifecycle_core.proofs.journals.Positions.{filtered, of_filter, split, stands_in, unfilter, zip_left, zip_right}
-use Rattle.lifecycle_core.proofs.journals.RunEntries.{AreInOrder, HasPut, IsRead, PrecedesMeta, IsInOrder, in_order_at, more_before, reads_in_order}
+use Rattle.lifecycle_core.proofs.journals.Positions.{filtered, split, stands_in, unfilter, zip_left, zip_right}
+use Rattle.lifecycle_core.specs.Acting.{IsRead}
+use Rattle.lifecycle_core.proofs.journals.RunEntries.{AreInOrder, HasPut, PrecedesMeta, IsInOrder, in_order_at, more_before, reads_in_order}
 
 -- ---- a phase
 
@@ -54,7 +55,7 @@ module _ {State E : Type 0} (conduct : Conduct State E)
     (each : (who : Who) (place : ℕ) (w : Work) (all : List Entry) (before : State) (made : List Entry) (end : Option E) (after : State) → conduct.does who place w all before made end after → AreInOrder [] made)
     (others_read : (e : Entry) → conduct.bystands e → IsRead e.op)
     (tasks : List Task) (workers : List Worker) (before : ℕ → State) (made : List Entry) (ends : List (List E)) (after : ℕ → State) (run : PhaseRun conduct tasks workers before made ends after) where
-  phase_in_order : (front back : List Entry) (e : Entry) → made ≡ front ++ e ∷ back → IsInOrder front e
+  pub phase_in_order : (front back : List Entry) (e : Entry) → made ≡ front ++ e ∷ back → IsInOrder front e
   phase_in_order front back e parts =
       elim (All-contains (λ (x : Entry). Contains (map (λ (w : Worker). w.seat) workers) x.seat ⊎ conduct.bystands x) made e run.seats (subst (λ es. Contains es e) (sym parts) (stands_in front back e))) [
         | inl sits ↦
@@ -108,7 +109,7 @@ module _ (setting : Setting) (tasks : List Task) (workers : List Worker) (views 
 clock_in_order : (before : List Entry) (clock : Entry) (phase : Phase) → clock.op ≡ op.Clock phase.moment → IsInOrder before clock
 clock_in_order before clock phase is = record { keeps = λ k same. cc (is, same); ships = λ ulid bytes same k own. absurd (cc (is, same)) }
 
-abbrev AllInOrder : List Entry → Type 0
+abbrev pub AllInOrder : List Entry → Type 0
 AllInOrder entries = (front back : List Entry) (e : Entry) → entries ≡ front ++ e ∷ back → IsInOrder front e
 
 none_in_order : (entries : List Entry) → entries ≡ [] → AllInOrder entries
@@ -406,14 +407,28 @@ no_view_yet : (gateway : Option ℕ) → ViewSeen [] (holding_of none_held gatew
 no_view_yet None = λ used is. absurd (cc (is))
 no_view_yet (Some gateway) = λ used is. absurd (cc (is))
 
+-- a missing object is what a series call says
+missing_is : (end : End) (number : ℕ) → IsMissing end number → (used : Use) × (end ≡ answered used (called.Missing number))
+missing_is (uploaded own) number is = absurd is
+missing_is (synced own) number is = absurd is
+missing_is (answered used (called.Answer series sources)) number is = absurd is
+missing_is (answered used (called.Missing n)) number is = (used, ap (λ (m : ℕ). answered used (called.Missing m)) is)
+missing_is (answered used (called.Damaged n)) number is = absurd is
+missing_is (answered used (called.Fault n)) number is = absurd is
+missing_is without_view number is = absurd is
+missing_is (stopped count) number is = absurd is
+
+ends_miss : (setting : Setting) (journal : List Entry) (ends : List (List (List End))) → IsRunOf setting journal ends → (end : End) (number : ℕ) → SomeCame ends end → IsMissing end number → MissesAt [] journal number
+ends_miss setting journal ends run end number came missing =
+    let is = missing_is end number missing in
+    phases_miss setting 0 none_held setting.script.phases [] journal ends no_view_yet run.phases is.0 number (subst (SomeCame ends) is.1 came)
+
 -- in every lawful journal of a script
 pub misses_explained : (setting : Setting) (journal : List Entry) (ends : List (List (List End))) → IsLawfulScript setting.script → IsRunOf setting journal ends → AreMissesExplained setting journal ends
-misses_explained setting journal ends lawful run = λ used number came.
-    explained setting journal run.kept.numbered (run_in_order setting journal ends lawful run) number
-    (phases_miss setting 0 none_held setting.script.phases [] journal ends no_view_yet run.phases used number came)
+misses_explained setting journal ends lawful run = λ end number came missing.
+    explained setting journal run.kept.numbered (run_in_order setting journal ends lawful run) number (ends_miss setting journal ends run end number came missing)
 
 -- and in an honest one no call misses an object
 pub honest_misses_nothing : (setting : Setting) (journal : List Entry) (ends : List (List (List End))) → IsLawfulScript setting.script → IsRunOf setting journal ends → IsHonest journal → AreFound ends
-honest_misses_nothing setting journal ends lawful run honest = λ used number came.
-    honest_finds setting journal run.kept.numbered (run_in_order setting journal ends lawful run) number
-    (phases_miss setting 0 none_held setting.script.phases [] journal ends no_view_yet run.phases used number came) honest
+honest_misses_nothing setting journal ends lawful run honest = λ end number came missing.
+    honest_finds setting journal run.kept.numbered (run_in_order setting journal ends lawful run) number (ends_miss setting journal ends run end number came missing) honest

@@ -26,7 +26,8 @@ use Rattle.world_core.proofs.PlanLaws.{EndsAre, asked_are, each_op, end_is, noth
 use Rattle.store_gateway.specs.declared.series_end.SeriesEnd.{SeriesEnd}
 use Rattle.store_gateway.specs.declared.series_end.SeriesEnd.TheVariants as called
 use Rattle.lifecycle_core.proofs.journals.Positions.{stands_in}
-use Rattle.lifecycle_core.proofs.journals.RunEntries.{PrecedesMeta, IsRead}
+use Rattle.lifecycle_core.specs.Acting.{IsRead}
+use Rattle.lifecycle_core.proofs.journals.RunEntries.{PrecedesMeta}
 
 -- ---- what was seen
 

@@ -1,7 +1,7 @@
 -- What holds of each entry of a task's run holds of each entry of a whole run.
-use Rattle.list_core.proofs.Membership.{of_map}
-use Rattle.std.proofs.Common.{◌≡◌, ◌⊎◌, inl, inr, ℕ, ◌+◌, ◌==◌, true, List, [], ◌∷◌, ◌++◌, map, Contains, Option, Some, None, sym, subst, arith}
-use Rattle.std.specs.List.{All}
+use Rattle.list_core.proofs.Membership.{into_filter, of_map}
+use Rattle.std.proofs.Common.{◌≡◌, ◌⊎◌, inl, inr, ℕ, ◌+◌, ◌==◌, Bool, true, List, [], ◌∷◌, ◌++◌, map, Contains, Option, Some, None, sym, subst, arith}
+use Rattle.std.specs.List.{All, filter}
 use Rattle.std.proofs.lemmas.Bool.Decides.{nat_tests}
 use Rattle.std.proofs.lemmas.List.Elements.{All-append, All-cons, All-contains, All-contains_itself, All-nil, All-weaker}
 use Rattle.world_core.specs.declared.entry.Entry.{Entry}
@@ -11,7 +11,7 @@ use Rattle.script_workers.specs.declared.work.Work.{Work}
 use Rattle.script_workers.specs.declared.worker.Worker.{Worker}
 use Rattle.lifecycle_core.specs.Conducts.{Assigned, Conduct, PhaseRun, TasksRun, Who, WorkerRun, of_seat, who_of}
 use Rattle.lifecycle_core.specs.Ways.{BeginsPhase, PhasesRun, Way}
-use Rattle.lifecycle_core.proofs.journals.Positions.{passing, zip_right}
+use Rattle.lifecycle_core.proofs.journals.Positions.{zip_right}
 
 none_each : (P : Entry → Type 0) (entries : List Entry) → entries ≡ [] → All P entries
 none_each P entries nil = subst (All P) (sym nil) (All-nil P)
@@ -34,7 +34,7 @@ module _ {State End : Type 0} (conduct : Conduct State End) (P : Entry → Type 
           let seat = (who.0).seat in
           let test : (e.seat == seat) ≡ true = grind (arith, nat_tests, who.2) in
           let all = tasks_each (who_of who.0) made (conduct.opens before who.0) (own.2).own (of_seat seat made) own.0 (own.2).last (own.2).runs in
-          All-contains P (of_seat seat made) e all (passing (λ (x : Entry). x.seat == seat) made e among test)
+          All-contains P (of_seat seat made) e all (into_filter (λ (x : Entry). x.seat == seat) made e among test)
       | inr stands ↦ others_each e stands
     ]
 

@@ -1,4 +1,5 @@
 -- Fronts of lawful journals are lawful.
+use Rattle.list_core.proofs.Membership.{of_filter}
 use Rattle.std.proofs.lemmas.Bool.{or_parts}
 use Rattle.std.proofs.Common.{◌≡◌, ◌≢◌, ◌⊎◌, inl, inr, ℕ, suc, ◌+◌, ◌==◌, true, false, List, [], ◌∷◌, ◌++◌, length, map, Contains, Option, Some, None, refl, sym, ◌∙◌, ap, subst, arith, append-nil}
 use Rattle.std.specs.Prelude.{get_or, slice_get, ◌<◌, ◌^◌}
@@ -25,7 +26,6 @@ use Rattle.lifecycle_core.specs.Setting.{Setting}
 use Rattle.lifecycle_core.specs.Ways.{PhasesRun, Way}
 use Rattle.lifecycle_core.proofs.phases.HandLists.{Apart, joins_from}
 use Rattle.script_workers.specs.declared.work.Work.{Work}
-use Rattle.lifecycle_core.proofs.journals.Positions.{of_filter}
 use Rattle.lifecycle_core.proofs.phases.FirstPhases.{no_phase}
 use Rattle.lifecycle_core.proofs.phases.RunFronts.{task_cut}
 

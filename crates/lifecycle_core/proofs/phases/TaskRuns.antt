@@ -60,7 +60,7 @@ built_by setting block (Inline min_time max_time series) lawful =
       (plan, record { ulid = refl; early = refl; late = refl; level = refl; sources = refl; parents = refl; labels = refl; source = refl }, refl),
     )
 
-got : {X : Type 0} (xs : List X) (i : ℕ) → i < length xs → (x : X) × (slice_get xs i ≡ Some x)
+pub got : {X : Type 0} (xs : List X) (i : ℕ) → i < length xs → (x : X) × (slice_get xs i ≡ Some x)
 got [] i below = absurd (omega (arith, below))
 got (x ∷ xs) zero below = (x, refl)
 got (x ∷ xs) (suc i) below = got xs i (omega (arith, below))

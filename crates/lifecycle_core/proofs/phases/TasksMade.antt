@@ -1,10 +1,13 @@
 -- Whence the ends of a run come: each from a task's run, whose entries are part of the journal, with a view that such a run gave.
-use Rattle.std.proofs.Common.{◌≡◌, inl, inr, ℕ, zero, suc, ◌+◌, ◌<◌, ◌≤◌, ◌==◌, Bool, true, false, List, [], ◌∷◌, ◌++◌, Contains, Option, Some, None, refl, sym, ap, subst, arith}
-use Rattle.std.specs.Prelude.{slice_get}
+use Rattle.list_core.proofs.Membership.{of_filter}
+use Rattle.std.proofs.Common.{◌≡◌, inl, inr, ℕ, zero, suc, ◌+◌, ◌<◌, ◌≤◌, ◌==◌, Bool, true, false, List, [], ◌∷◌, ◌++◌, Contains, Option, Some, None, refl, sym, ◌∙◌, ap, subst, append_assoc, arith}
+use Rattle.std.specs.Prelude.{fold, slice_get}
 use Rattle.std.specs.List.{All, AllZip, filter, zip}
-use Rattle.std.proofs.lemmas.List.Elements.{All-contains, All-contains_itself, All-filter, All-weaker, Contains-append_left, Contains-append_right}
+use Rattle.std.proofs.lemmas.List.Elements.{All-append, All-contains, All-contains_itself, All-filter, All-weaker, Contains-append_left, Contains-append_right, filter-append}
 use Rattle.world_core.specs.declared.entry.Entry.{Entry}
-use Rattle.meta_fetcher.specs.Syncs.{SyncRun}
+use Rattle.world_core.specs.Plans.{Runs, noting}
+use Rattle.meta_fetcher.specs.Syncs.{Course, SyncRun, Synced, listing, with_entry}
+use Rattle.meta_fetcher.specs.declared.rules.SyncRules.{SyncRules}
 use Rattle.meta_fetcher.specs.declared.view.View.{View}
 use Rattle.meta_fetcher.specs.declared.sync_end.SyncEnd.{SyncEnd}
 use Rattle.meta_fetcher.specs.declared.sync_end.SyncEnd.TheVariants as fetched
@@ -22,9 +25,9 @@ use Rattle.lifecycle_core.specs.Tasks.{End, TaskRun, last_number, sync_rules}
 use Rattle.lifecycle_core.specs.Ways.{PhasesRun}
 use Rattle.lifecycle_core.proofs.phases.PhaseRuns.{zip_weaken}
 use Rattle.lifecycle_core.proofs.phases.PhaseViews.{views_left}
-use Rattle.lifecycle_core.proofs.journals.Positions.{of_filter, zip_left, zipped}
+use Rattle.lifecycle_core.proofs.journals.Positions.{zip_left, zipped}
 use Rattle.lifecycle_core.proofs.phases.TaskRuns.{task_leaves}
-use Rattle.lifecycle_core.proofs.journals.Told.{IsMade, IsOrigin, IsPart, Rises}
+use Rattle.lifecycle_core.proofs.journals.Told.{IsMade, IsOrigin, IsPart, IsStretch, Rises}
 
 -- ---- parts of a journal
 
@@ -67,23 +70,81 @@ part_middle journal xs ys zs part = part_left journal ys zs (part_right journal 
 pub part_filter : (journal : List Entry) (p : Entry → Bool) (es : List Entry) → IsPart journal es → IsPart journal (filter p es)
 part_filter journal p es part = record { among = λ e own. part.among e (of_filter p es e own); rises = rises_filter p es part.rises }
 
+all_right : (P : Entry → Type 0) (xs ys : List Entry) → All P (xs ++ ys) → All P ys
+all_right P xs ys all = All-weaker (Contains ys) P (λ x among. All-contains P (xs ++ ys) x all (Contains-append_right xs ys x among)) ys (All-contains_itself ys)
+
+all_before : (p : Entry → Bool) (P : Entry → Type 0) (es beyond : List Entry) → All P (es ++ beyond) → All P (filter p es ++ beyond)
+all_before p P es beyond all = All-append P (filter p es) beyond (All-filter p P es (all_left P es beyond all)) (all_right P es beyond all)
+
+rises_on : (p : Entry → Bool) (e : Entry) (es beyond : List Entry) (b : Bool) → p e ≡ b → All (Follows e) (es ++ beyond) → Rises (filter p es ++ beyond) → Rises (filter p (e ∷ es) ++ beyond)
+rises_on p e es beyond true is all rises = rw is (all_before p (Follows e) es beyond all, rises)
+rises_on p e es beyond false is all rises = rw is rises
+
+-- what passes a test rises before what follows
+rises_before : (p : Entry → Bool) (es beyond : List Entry) → Rises (es ++ beyond) → Rises (filter p es ++ beyond)
+rises_before p [] beyond rises = rises
+rises_before p (e ∷ es) beyond rises = rises_on p e es beyond (p e) refl rises.0 (rises_before p es beyond rises.1)
+
+-- ---- what comes after a sync
+
+below : (n : ℕ) (es beyond : List Entry) → All (λ (x : Entry). n < x.seq) beyond → Rises (es ++ beyond) → All (λ (x : Entry). fold (λ last e. e.seq) n es < x.seq) beyond
+below n [] beyond all rises = all
+below n (e ∷ es) beyond all rises = below e.seq es beyond (All-weaker (Follows e) (λ (x : Entry). e.seq < x.seq) (λ x follows. follows.0) beyond (all_right (Follows e) es beyond rises.0)) rises.1
+
+-- a sync without an entry gave no view
+no_listing : (rules : SyncRules) (more : ℕ) (told : Synced × Option Course) → Runs (noting with_entry None (listing rules (suc more) [])) [] (Some told) → ⊥
+no_listing rules more told run = cc (run)
+
+after_last : (rules : SyncRules) (made beyond : List Entry) (view : View) → SyncRun rules made (Some (fetched.View view)) → Rises (made ++ beyond) → All (λ (x : Entry). last_number made < x.seq) beyond
+after_last rules [] beyond view run rises = absurd (no_listing rules 999_999 run.0 run.1)
+after_last rules (e ∷ made) beyond view run rises = below e.seq made beyond (All-weaker (Follows e) (λ (x : Entry). e.seq < x.seq) (λ x follows. follows.0) beyond (all_right (Follows e) made beyond rises.0)) rises.1
+
+-- ---- stretches
+
+regroup : (a b c d : List Entry) → (a ++ (b ++ c)) ++ d ≡ (a ++ b) ++ (c ++ d)
+regroup a b c d = ap (λ (l : List Entry). l ++ d) (sym (append_assoc a b c)) ∙ append_assoc (a ++ b) c d
+
+stretch_left : (journal : List Entry) (seat : ℕ) (made others : List Entry) → IsStretch journal seat (made ++ others) → IsStretch journal seat made
+stretch_left journal seat made others s = record { before = s.before; after = others ++ s.after; parts = s.parts ∙ regroup s.before made others s.after }
+
+stretch_right : (journal : List Entry) (seat : ℕ) (made others : List Entry) → IsStretch journal seat (made ++ others) → IsStretch journal seat others
+stretch_right journal seat made others s = record { before = s.before ++ made; after = s.after; parts = s.parts ∙ ap (λ (l : List Entry). l ++ s.after) (sym (append_assoc s.before made others)) }
+
+stretch_within : (journal : List Entry) (seat : ℕ) (front made back : List Entry) → journal ≡ front ++ (made ++ back) → IsStretch journal seat (of_seat seat made)
+stretch_within journal seat front made back is =
+    let p : Entry → Bool = λ x. x.seat == seat in record {
+      before = of_seat seat front;
+      after = of_seat seat back;
+      parts = ap (of_seat seat) is ∙ filter-append p front (made ++ back) ∙ ap (λ (l : List Entry). of_seat seat front ++ l) (filter-append p made back) ∙ sym (append_assoc (of_seat seat front) (of_seat seat made) (of_seat seat back));
+    }
+
 module _ (setting : Setting) (journal : List Entry) where
   -- ---- a worker's tasks
 
-  -- the view that is held is that of a sync of the journal
-  abbrev HasOrigin : Holding → Type 0
-  HasOrigin held = (used : Use) → held.used ≡ Some used → IsOrigin setting journal used
+  -- The view that is held is that of a sync of the journal, which ended before these entries.
+  abbrev IsKnown : List Entry → Holding → Type 0
+  IsKnown rest held = (used : Use) → held.used ≡ Some used → IsOrigin setting journal used × All (λ (e : Entry). used.last < e.seq) rest
 
-  same_held : (one other : Holding) → one ≡ other → HasOrigin other → HasOrigin one
-  same_held one other is known = subst HasOrigin (sym is) known
+  same_held : (rest : List Entry) (one other : Holding) → one ≡ other → IsKnown rest other → IsKnown rest one
+  same_held rest one other is known = subst (IsKnown rest) (sym is) known
 
-  view_given : (made : List Entry) → IsPart journal made → (gateway : ℕ) (own : Option SyncEnd) → SyncRun (sync_rules setting gateway) made own → (v : View) → own ≡ Some (fetched.View v) → HasOrigin (record { used = Some (record { view = v; last = last_number made }) })
-  view_given made part gateway own run v is = λ used same.
+  known_after : (xs ys : List Entry) (held : Holding) → IsKnown (xs ++ ys) held → IsKnown ys held
+  known_after xs ys held known = λ used is. ((known used is).0, all_right (λ (e : Entry). used.last < e.seq) xs ys (known used is).1)
+
+  view_given : (made rest : List Entry) (seat : ℕ) → IsPart journal made → IsStretch journal seat made → Rises (made ++ rest) → (gateway : ℕ) (own : Option SyncEnd) → SyncRun (sync_rules setting gateway) made own → (v : View) → own ≡ Some (fetched.View v)
+      → IsKnown rest (record { used = Some (record { view = v; last = last_number made }) })
+  view_given made rest seat part stretch rises gateway own run v is = λ used same.
       let one : record { view = v; last = last_number made } ≡ used = cc (same) in
-      subst (IsOrigin setting journal) one (record { gateway = gateway; entries = made; run = subst (SyncRun (sync_rules setting gateway) made) is run; last = refl; part = part })
+      let mine : SyncRun (sync_rules setting gateway) made (Some (fetched.View v)) = subst (SyncRun (sync_rules setting gateway) made) is run in
+      subst (λ (u : Use). IsOrigin setting journal u × All (λ (e : Entry). u.last < e.seq) rest) one (
+        record { gateway = gateway; entries = made; run = mine; last = refl; part = part; seat = seat; stretch = stretch },
+        after_last (sync_rules setting gateway) made rest v mine rises,
+      )
 
-  after_task : (who : Who) (place : ℕ) (made : List Entry) (held after : Holding) (w : Work) (end : Option End) → HasOrigin held → IsPart journal made → TaskRun setting who place w held made end after → HasOrigin after
-  after_task who place made held after w end known part run = task_leaves HasOrigin setting who place held known made w end after (view_given made part) run
+  after_task : (who : Who) (place : ℕ) (made rest : List Entry) (held after : Holding) (w : Work) (end : Option End) → IsKnown (made ++ rest) held → IsPart journal made → IsStretch journal who.seat made → Rises (made ++ rest)
+      → TaskRun setting who place w held made end after → IsKnown rest after
+  after_task who place made rest held after w end known part stretch rises run =
+      task_leaves (IsKnown rest) setting who place held (known_after made rest held known) made w end after (view_given made rest who.seat part stretch rises) run
 
   -- the first tasks came to these ends, each in a run of its own
   abbrev AreMade : List Assigned → List End → Type 0
@@ -91,17 +152,34 @@ module _ (setting : Setting) (journal : List Entry) where
   AreMade [] (end ∷ ends) = ⊥
   AreMade (own ∷ tasks) (end ∷ ends) = IsMade setting journal own.task end × AreMade tasks ends
 
-  -- a worker's tasks are made, and the view that they leave has its origin
-  tasks_made : (who : Who) (all : List Entry) (held last : Holding) (tasks : List Assigned) (entries : List Entry) (ends : List End) → HasOrigin held → IsPart journal entries → TasksRun (by_script setting) who all held tasks entries ends last → AreMade tasks ends × HasOrigin last
-  tasks_made who all held last [] entries ends known part (nil, none, same) = (subst (AreMade []) (sym none) tt, same_held last held same known)
-  tasks_made who all held last (own ∷ tasks) entries ends known part (inl (made, others, end, later, next, parts, run, is, rest)) =
+  -- a worker's tasks are made, and the view that they leave is known
+  tasks_made : (who : Who) (all : List Entry) (held last : Holding) (tasks : List Assigned) (entries beyond : List Entry) (ends : List End) → IsKnown (entries ++ beyond) held → IsPart journal entries → IsStretch journal who.seat entries → Rises (entries ++ beyond)
+      → TasksRun (by_script setting) who all held tasks entries ends last → AreMade tasks ends × IsKnown beyond last
+  tasks_made who all held last [] entries beyond ends known part stretch rises (nil, none, same) = (subst (AreMade []) (sym none) tt, same_held beyond last held same (known_after entries beyond held known))
+  tasks_made who all held last (own ∷ tasks) entries beyond ends known part stretch rises (inl (made, others, end, later, next, parts, run, is, rest)) =
+      let all_same : entries ++ beyond ≡ made ++ (others ++ beyond) = ap (λ (l : List Entry). l ++ beyond) parts ∙ append_assoc made others beyond in
       let both : IsPart journal (made ++ others) = subst (IsPart journal) parts part in
+      let whole : IsStretch journal who.seat (made ++ others) = subst (IsStretch journal who.seat) parts stretch in
+      let up : Rises (made ++ (others ++ beyond)) = subst Rises all_same rises in
+      let had : IsKnown (made ++ (others ++ beyond)) held = subst (λ (l : List Entry). IsKnown l held) all_same known in
       let mine = part_left journal made others both in
-      let tail = tasks_made who all next last tasks others later (after_task who own.place made held next own.task.work (Some end) known mine run) (part_right journal made others both) rest in
-      let one : IsMade setting journal own.task end = record { who = who; place = own.place; held = held; after = next; entries = made; run = run; part = mine; origin = known } in
+      let own_stretch = stretch_left journal who.seat made others whole in
+      let tail = tasks_made who all next last tasks others beyond later (after_task who own.place made (others ++ beyond) held next own.task.work (Some end) had mine own_stretch up run)
+      (part_right journal made others both) (stretch_right journal who.seat made others whole) (rises_right made (others ++ beyond) up) rest in
+      let one : IsMade setting journal own.task end = record {
+        who = who;
+        place = own.place;
+        held = held;
+        after = next;
+        entries = made;
+        run = run;
+        part = mine;
+        origin = λ used same. (had used same).0;
+        later = λ used same. all_left (λ (e : Entry). used.last < e.seq) made (others ++ beyond) (had used same).1;
+      } in
       (subst (AreMade (own ∷ tasks)) (sym is) (one, tail.0), tail.1)
-  tasks_made who all held last (own ∷ tasks) entries ends known part (inr (run, none)) =
-      (subst (AreMade (own ∷ tasks)) (sym none) tt, after_task who own.place entries held last own.task.work None known part run)
+  tasks_made who all held last (own ∷ tasks) entries beyond ends known part stretch rises (inr (run, none)) =
+      (subst (AreMade (own ∷ tasks)) (sym none) tt, after_task who own.place entries beyond held last own.task.work None known part stretch rises run)
 
   -- some task came to an end
   some_task : (tasks : List Assigned) (ends : List End) (end : End) → AreMade tasks ends → Contains ends end → (task : Task) × IsMade setting journal task end
@@ -132,16 +210,22 @@ module _ (setting : Setting) (journal : List Entry) where
   abbrev PhaseMade : List Task → List Worker → List (List End) → Type 0
   PhaseMade tasks workers ends = AllZip (WorkerMade tasks) workers ends
 
-  module _ (tasks : List Task) (workers : List Worker) (views : Holdings) (made : List Entry) (ends : List (List End)) (after : Holdings) (run : PhaseRun (by_script setting) tasks workers views made ends after) (part : IsPart journal made) (known : (gateway : Option ℕ) → HasOrigin (holding_of views gateway)) where
-    worker_made : (worker : Worker) (own : List End) (w : WorkerRun (by_script setting) tasks views made after worker own) → AreMade w.own own × HasOrigin w.last
+  module _ (tasks : List Task) (workers : List Worker) (views : Holdings) (made : List Entry) (ends : List (List End)) (after : Holdings) (run : PhaseRun (by_script setting) tasks workers views made ends after) (part : IsPart journal made)
+      (front beyond : List Entry) (is : journal ≡ front ++ (made ++ beyond)) (rises : Rises (made ++ beyond)) (known : (gateway : Option ℕ) → IsKnown (made ++ beyond) (holding_of views gateway)) where
+    worker_made : (worker : Worker) (own : List End) (w : WorkerRun (by_script setting) tasks views made after worker own) → AreMade w.own own × IsKnown beyond w.last
     worker_made worker own w =
-        tasks_made (who_of worker) made (holding_of views worker.gateway) w.last w.own (of_seat worker.seat made) own (known worker.gateway) (part_filter journal (λ (x : Entry). x.seat == worker.seat) made part) w.runs
+        let p : Entry → Bool = λ x. x.seat == worker.seat in
+        tasks_made (who_of worker) made (holding_of views worker.gateway) w.last w.own (of_seat worker.seat made) beyond own
+        (λ used same. ((known worker.gateway used same).0, all_before p (λ (e : Entry). used.last < e.seq) made beyond (known worker.gateway used same).1))
+        (part_filter journal p made part) (stretch_within journal worker.seat front made beyond is) (rises_before p made beyond rises) w.runs
 
     phase_made : PhaseMade tasks workers ends
     phase_made = zip_weaken (WorkerRun (by_script setting) tasks views made after) (WorkerMade tasks) (λ worker own w. (w.own, w.are, (worker_made worker own w).0)) workers ends run.runs
 
-    after_phase : (gateway : Option ℕ) → HasOrigin (holding_of after gateway)
-    after_phase = views_left setting tasks workers views made ends after run HasOrigin (λ worker own w. (worker_made worker own w).1) (known None) (λ gateway. known (Some gateway))
+    after_phase : (gateway : Option ℕ) → IsKnown beyond (holding_of after gateway)
+    after_phase =
+        views_left setting tasks workers views made ends after run (IsKnown beyond) (λ worker own w. (worker_made worker own w).1)
+        (known_after made beyond (holding_of views None) (known None)) (λ gateway. known_after made beyond (holding_of views (Some gateway)) (known (Some gateway)))
 
   -- ---- all phases
 
@@ -154,27 +238,33 @@ module _ (setting : Setting) (journal : List Entry) where
   no_phases : (number : ℕ) (phases : List Phase) (ends : List (List (List End))) → ends ≡ [] → PhasesMade number phases ends
   no_phases number phases ends none = subst (PhasesMade number phases) (sym none) tt
 
-  phases_made : (number : ℕ) (views : Holdings) (phases : List Phase) (entries : List Entry) (ends : List (List (List End))) → ((gateway : Option ℕ) → HasOrigin (holding_of views gateway)) → IsPart journal entries
+  phases_made : (number : ℕ) (views : Holdings) (phases : List Phase) (front entries : List Entry) (ends : List (List (List End))) → ((gateway : Option ℕ) → IsKnown entries (holding_of views gateway)) → IsPart journal entries → journal ≡ front ++ entries
       → PhasesRun (by_workers setting) number views phases entries ends → PhasesMade number phases ends
-  phases_made number views [] entries ends known part (nil, none) = no_phases number [] ends none
-  phases_made number views (phase ∷ phases) entries ends known part (inl (nil, none)) = no_phases number (phase ∷ phases) ends none
-  phases_made number views (phase ∷ phases) entries ends known part (inr (clock, made, others, first, later, after, parts, begins, run, are, go)) =
+  phases_made number views [] front entries ends known part is (nil, none) = no_phases number [] ends none
+  phases_made number views (phase ∷ phases) front entries ends known part is (inl (nil, none)) = no_phases number (phase ∷ phases) ends none
+  phases_made number views (phase ∷ phases) front entries ends known part is (inr (clock, made, others, first, later, after, parts, begins, run, are, go)) =
       let all : IsPart journal (clock ∷ made ++ others) = subst (IsPart journal) parts part in
+      let had : (gateway : Option ℕ) → IsKnown (clock ∷ made ++ others) (holding_of views gateway) = λ gateway. subst (λ (l : List Entry). IsKnown l (holding_of views gateway)) parts (known gateway) in
+      let start : journal ≡ front ++ (clock ∷ made ++ others) = is ∙ ap (λ (l : List Entry). front ++ l) parts in
+      let begun : journal ≡ (front ++ clock ∷ []) ++ (made ++ others) = start ∙ sym (append_assoc front (clock ∷ []) (made ++ others)) in
       let own = part_middle journal (clock ∷ []) made others all in
       let rest = part_right journal (clock ∷ made) others all in
-      let one = phase_made phase.tasks (workers_of setting.script number) views made first after run own known in
-      let next = after_phase phase.tasks (workers_of setting.script number) views made first after run own known in
+      let up = rises_right (clock ∷ []) (made ++ others) all.rises in
+      let mine : (gateway : Option ℕ) → IsKnown (made ++ others) (holding_of views gateway) = λ gateway. known_after (clock ∷ []) (made ++ others) (holding_of views gateway) (had gateway) in
+      let one = phase_made phase.tasks (workers_of setting.script number) views made first after run own (front ++ clock ∷ []) others begun up mine in
+      let next = after_phase phase.tasks (workers_of setting.script number) views made first after run own (front ++ clock ∷ []) others begun up mine in
+      let ended : journal ≡ (front ++ clock ∷ made) ++ others = start ∙ sym (append_assoc front (clock ∷ made) others) in
       subst (PhasesMade number (phase ∷ phases)) (sym are) (
         one,
-        phases_made (number + 1) after phases others later next rest go,
+        phases_made (number + 1) after phases (front ++ clock ∷ made) others later next rest ended go,
       )
 
-  no_view_yet : (gateway : Option ℕ) → HasOrigin (holding_of none_held gateway)
+  no_view_yet : (gateway : Option ℕ) → IsKnown journal (holding_of none_held gateway)
   no_view_yet None = λ used is. absurd (cc (is))
   no_view_yet (Some gateway) = λ used is. absurd (cc (is))
 
   run_made : (ends : List (List (List End))) → Rises journal → IsRunOf setting journal ends → PhasesMade 0 setting.script.phases ends
-  run_made ends rises run = phases_made 0 none_held setting.script.phases journal ends no_view_yet (part_whole journal rises) run.phases
+  run_made ends rises run = phases_made 0 none_held setting.script.phases [] journal ends no_view_yet (part_whole journal rises) refl run.phases
 
   -- the phase at a place is made
   phase_at : (number k : ℕ) (phases : List Phase) (ends : List (List (List End))) (phase : Phase) (own : List (List End)) → PhasesMade number phases ends → slice_get phases k ≡ Some phase → slice_get ends k ≡ Some own

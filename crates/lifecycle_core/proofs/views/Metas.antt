@@ -20,7 +20,11 @@ use Rattle.script_core.specs.declared.body.Body.TheVariants.{Inline}
 use Rattle.lifecycle_core.specs.Held.{declared}
 use Rattle.lifecycle_core.specs.Setting.{Setting}
 use Rattle.lifecycle_core.specs.Shipped.{AreBuilt, IsPlanOf}
-use Rattle.lifecycle_core.proofs.journals.Told.{IsReadable, IsShippedObject, Spans}
+use Rattle.block_keys.specs.declared.key.Key.{Key}
+use Rattle.block_meta.proofs.FoundTexts.{meta_text_found}
+use Rattle.world_core.specs.declared.entry.Entry.{Entry}
+use Rattle.world_core.specs.declared.op.Op.TheVariants as op
+use Rattle.lifecycle_core.proofs.journals.Told.{IsReadable, IsShippedObject, PutsTexts, Spans}
 
 -- ---- metas
 
@@ -62,6 +66,12 @@ built_meta_read setting readable ulid block (Inline low high series) objects byt
 -- a shipped object under the key of a meta is read as the block's meta
 meta_read_as : (setting : Setting) → IsReadable setting → (ulid : ℕ) (bytes : List ℕ) → IsShippedObject setting (key.Meta ulid) bytes → IsReadAsMeta setting ulid bytes
 meta_read_as setting readable ulid bytes o = built_meta_read setting readable ulid o.block o.block.body o.objects bytes o.is refl o.shipped o.among
+
+-- so puts of metas put their texts, where each put is of a shipped object
+pub puts_texts : (setting : Setting) (journal : List Entry) → IsReadable setting → ((e : Entry) → Contains journal e → (k : Key) (bytes : List ℕ) → e.op ≡ op.Put k bytes → IsShippedObject setting k bytes) → PutsTexts journal
+puts_texts setting journal readable shipped e among ulid bytes puts =
+    let read = meta_read_as setting readable ulid bytes (shipped e among (key.Meta ulid) bytes puts) in
+    (read.0, (meta_text_found bytes).holds read.0 read.1)
 
 no_mark_built : (setting : Setting) (block : Block) (body : Body) (objects : List Object) (ulid : ℕ) (bytes : List ℕ) → AreBuilt setting block body objects → Contains objects (record { key = key.Mark ulid; bytes = bytes }) → ⊥
 no_mark_built setting block (Inline low high series) objects ulid bytes built among = built_object setting block low high series objects (key.Mark ulid) bytes built among

@@ -6,6 +6,7 @@ use Rattle.std.proofs.lemmas.Bool.{cases_Bool, cases_eq, both_ways}
 use Rattle.std.proofs.lemmas.List.Elements.{All-contains, All-cons, All-nil, All-weaker}
 use Rattle.block_keys.specs.declared.key.Key.{Key}
 use Rattle.block_keys.specs.declared.key.Key.TheVariants as key
+use Rattle.block_meta.specs.MetaFields.{MetaFields}
 use Rattle.world_core.specs.Standing.{has_landed}
 use Rattle.world_core.specs.declared.entry.Entry.{Entry}
 use Rattle.world_core.specs.declared.op.Op.{Op}
@@ -16,7 +17,7 @@ use Rattle.lifecycle_core.specs.Held.{declared}
 use Rattle.lifecycle_core.specs.Setting.{Setting}
 use Rattle.lifecycle_core.specs.Tasks.{last_number}
 use Rattle.lifecycle_core.proofs.journals.Positions.{stands_in}
-use Rattle.lifecycle_core.proofs.journals.Told.{Rises, WasPutBefore}
+use Rattle.lifecycle_core.proofs.journals.Told.{PutsTexts, Rises, WasPutBefore}
 
 -- ---- the first put
 
@@ -91,18 +92,22 @@ first_put ulid (e ∷ entries) p rises (suc k, below, is) puts =
       | inr other ↦ put_later ulid p.seq e entries other (first_put ulid entries p rises.1 (k, omega (arith, below), is) puts)
     ]
 
-completed_by : (ulid number : ℕ) (journal : List Entry) (f : FirstPut ulid number journal) → IsCompletedAt journal ulid f.entry.seq
-completed_by ulid number journal f = record { before = f.before; entry = f.entry; after = f.after; is = f.is; number = refl; put = f.put; first = f.first }
-
-uploaded_by : (setting : Setting) (journal : List Entry) (ulid number most : ℕ) → IsSome (declared setting.script ulid) → FirstPut ulid number journal → number < most → IsUploadedBefore setting journal ulid most
-uploaded_by setting journal ulid number most known f less =
-    record { is_declared = known; seq = f.entry.seq; completed = completed_by ulid number journal f; earlier = omega (arith, f.early, less) }
+uploaded_by : (setting : Setting) (journal : List Entry) (ulid number most : ℕ) → PutsTexts journal → IsSome (declared setting.script ulid) → FirstPut ulid number journal → number < most → IsUploadedBefore setting journal ulid most
+uploaded_by setting journal ulid number most texts known f less =
+    let meta = texts f.entry (subst (λ es. Contains es f.entry) (sym f.is) (stands_in f.before f.after f.entry)) ulid f.put.0 f.put.1 in
+    record {
+      is_declared = known;
+      seq = f.entry.seq;
+      meta = meta.0;
+      completed = record { before = f.before; entry = f.entry; after = f.after; is = f.is; number = refl; bytes = f.put.0; puts = f.put.1; landed = f.put.2; text = meta.1; first = f.first };
+      earlier = omega (arith, f.early, less);
+    }
 
 -- A declared block whose meta was put before an entry was uploaded before each number that is not below the entry's.
-pub uploaded_before : (setting : Setting) (journal : List Entry) (ulid number most : ℕ) (bytes : List ℕ) (block : Block) → Rises journal → declared setting.script ulid ≡ Some block
+pub uploaded_before : (setting : Setting) (journal : List Entry) (ulid number most : ℕ) (bytes : List ℕ) (block : Block) → Rises journal → PutsTexts journal → declared setting.script ulid ≡ Some block
     → WasPutBefore journal (key.Meta ulid) bytes number → number ≤ most → IsUploadedBefore setting journal ulid most
-uploaded_before setting journal ulid number most bytes block rises is (p, among, puts, landed, early) late =
-    uploaded_by setting journal ulid p.seq most (ap (λ o. is_some o) is) (first_put ulid journal p rises among (bytes, puts, landed)) (omega (arith, early, late))
+uploaded_before setting journal ulid number most bytes block rises texts is (p, among, puts, landed, early) late =
+    uploaded_by setting journal ulid p.seq most texts (ap (λ o. is_some o) is) (first_put ulid journal p rises among (bytes, puts, landed)) (omega (arith, early, late))
 
 -- ---- the last number
 
@@ -125,6 +130,6 @@ pub within_last : (x : Entry) (entries : List Entry) → Rises entries → Conta
 within_last x entries rises among = reaches 0 x entries rises among
 
 -- what is completed before a number was put before it
-pub put_before : (journal : List Entry) (ulid seq number : ℕ) → IsCompletedAt journal ulid seq → seq < number → (bytes : List ℕ) × WasPutBefore journal (key.Meta ulid) bytes number
-put_before journal ulid seq number c early =
-    (c.put.0, (c.entry, subst (λ es. Contains es c.entry) (sym c.is) (stands_in c.before c.after c.entry), c.put.1, c.put.2, omega (arith, c.number, early)))
+pub put_before : (journal : List Entry) (ulid seq number : ℕ) (meta : MetaFields) → IsCompletedAt journal ulid seq meta → seq < number → (bytes : List ℕ) × WasPutBefore journal (key.Meta ulid) bytes number
+put_before journal ulid seq number meta c early =
+    (c.bytes, (c.entry, subst (λ es. Contains es c.entry) (sym c.is) (stands_in c.before c.after c.entry), c.puts, c.landed, omega (arith, c.number, early)))

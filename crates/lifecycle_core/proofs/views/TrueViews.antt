@@ -1,6 +1,6 @@
 -- A view whose sync is told of by an honest journal is true of the script: it keeps blocks that the script declares, which were
 -- complete before the sync's last entry, and each one that was settled before the sync began. And no sync finds anything damaged.
-use Rattle.list_core.proofs.Membership.{contains_first, contains_later}
+use Rattle.list_core.proofs.Membership.{contains_first, contains_later, into_filter}
 use Rattle.lifecycle_core.proofs.blocks.Declared.{declared_lawful}
 use Rattle.std.proofs.Common.{◌≡◌, ℕ, ◌+◌, ◌<◌, ◌≤◌, ◌^◌, ◌-◌, true, ◌&&◌, List, [], ◌∷◌, Contains, Option, Some, None, ℤ, pos, negsuc, refl, sym, ap, subst, arith}
 use Rattle.std.specs.Prelude.{fold, int_le, is_some, neg_ℤ, ◌≤ℤ◌, ◌<ℤ◌}
@@ -30,11 +30,10 @@ use Rattle.lifecycle_core.specs.Held.{declared}
 use Rattle.lifecycle_core.specs.Holdings.{Use}
 use Rattle.lifecycle_core.specs.Setting.{Setting}
 use Rattle.lifecycle_core.specs.Tasks.{all_times, last_number, sync_rules}
-use Rattle.lifecycle_core.proofs.journals.Told.{IsOrigin, IsPart, IsReadable, IsTold, IsTrueFound, IsTrueView, Rises, Spans}
+use Rattle.lifecycle_core.proofs.journals.Told.{IsOrigin, IsPart, IsReadable, IsTold, PutsTexts, IsTrueFound, IsTrueView, Rises, Spans}
 use Rattle.lifecycle_core.proofs.views.Finds.{FindsPast, IsOwn, IsPast, IsSighted, finds_past}
 use Rattle.lifecycle_core.proofs.views.Metas.{IsMetaOf, meta_found, no_mark}
 use Rattle.lifecycle_core.proofs.views.Pages.{AreSmall, ascends_after, ulids_small}
-use Rattle.lifecycle_core.proofs.journals.Positions.{passing}
 use Rattle.lifecycle_core.proofs.views.Puts.{put_before, uploaded_before, within_last}
 
 -- ---- what passes the filters
@@ -100,16 +99,16 @@ module _ (setting : Setting) (readable : IsReadable setting) (journal : List Ent
       meta_true setting f m.0 (same_meta m.0 (fields_of f.meta) _ m.1 s.read) s.small m.2
 
   -- and was complete before the sync's last entry
-  sighted_uploaded : Rises journal → IsPart journal (first ∷ entries) → (f : Found) → IsSighted setting journal first entries (sighting_of f) → IsUploadedBefore setting journal f.ulid (last_number (first ∷ entries))
-  sighted_uploaded rises part f s =
+  sighted_uploaded : Rises journal → PutsTexts journal → IsPart journal (first ∷ entries) → (f : Found) → IsSighted setting journal first entries (sighting_of f) → IsUploadedBefore setting journal f.ulid (last_number (first ∷ entries))
+  sighted_uploaded rises texts part f s =
       let shipped = s.own.told.found (key.Meta f.ulid) s.bytes s.small s.asks s.found in
-      uploaded_before setting journal f.ulid s.entry.seq (last_number (first ∷ entries)) s.bytes shipped.0.block rises shipped.0.is shipped.1
+      uploaded_before setting journal f.ulid s.entry.seq (last_number (first ∷ entries)) s.bytes shipped.0.block rises texts shipped.0.is shipped.1
       (within_last s.entry (first ∷ entries) part.rises s.own.among)
 
   past_of : (ulid : ℕ) → IsUploadedBefore setting journal ulid first.seq → IsPast setting journal first entries ulid
   past_of ulid uploaded =
       let is = some_of (declared setting.script ulid) uploaded.is_declared in
-      let put = put_before journal ulid uploaded.seq first.seq uploaded.completed uploaded.earlier in
+      let put = put_before journal ulid uploaded.seq first.seq uploaded.meta uploaded.completed uploaded.earlier in
       record { small = readable.small ulid is.0 is.1; bytes = put.0; put = put.1 }
 
   old_enough : (f : Found) (ulid c begin : ℕ) → f.ulid ≡ ulid → time_of ulid + c ≤ begin → begin ≤ first.moment.ms → IsSighted setting journal first entries (sighting_of f) → time_of f.ulid + c ≤ f.meta_read.ms
@@ -126,8 +125,8 @@ module _ (setting : Setting) (readable : IsReadable setting) (journal : List Ent
       let f = found.0 in
       let s = All-contains (λ (x : Found). IsSighted setting journal first entries (sighting_of x)) finds.found f finds.all found.1 in
       let time = old_enough f ulid setting.script.rules.consistency.ms view.begin.ms found.2 old (omega (arith, ap (λ m. m.ms) finds.begin)) s in
-      let one = passing (λ (b : Found). is_in_partition b.meta all_times) finds.found f found.1 (in_partition setting lawful f (sighted_true f s)) in
-      let two = passing (λ (b : Found). is_consistent b setting.script.rules.consistency) _ f one (consistent f setting.script.rules.consistency time) in
+      let one = into_filter (λ (b : Found). is_in_partition b.meta all_times) finds.found f found.1 (in_partition setting lawful f (sighted_true f s)) in
+      let two = into_filter (λ (b : Found). is_consistent b setting.script.rules.consistency) _ f one (consistent f setting.script.rules.consistency time) in
       (f, subst (λ fs. Contains fs f) (sym finds.kept) two, found.2)
 
   of_found : (gateway : ℕ) (P : Found → Type 0) (view : View) (finds : FindsPast setting journal first entries (sync_rules setting gateway) view) → ((f : Found) → IsSighted setting journal first entries (sighting_of f) → P f) → All P view.kept
@@ -137,22 +136,22 @@ module _ (setting : Setting) (readable : IsReadable setting) (journal : List Ent
 
 -- ---- true views
 
-true_from : (setting : Setting) (journal : List Entry) (used : Use) → IsLawfulScript setting.script → IsReadable setting → Rises journal → All (IsTold setting journal) journal → (gateway : ℕ) (entries : List Entry)
+true_from : (setting : Setting) (journal : List Entry) (used : Use) → IsLawfulScript setting.script → IsReadable setting → Rises journal → PutsTexts journal → All (IsTold setting journal) journal → (gateway : ℕ) (entries : List Entry)
     → SyncRun (sync_rules setting gateway) entries (Some (fetched.View used.view)) → used.last ≡ last_number entries → IsPart journal entries → IsTrueView setting journal used
-true_from setting journal used lawful readable rises told gateway [] run last part = absurd ((let none = run.1 in cc (none)))
-true_from setting journal used lawful readable rises told gateway (first ∷ entries) run last part =
+true_from setting journal used lawful readable rises texts told gateway [] run last part = absurd ((let none = run.1 in cc (none)))
+true_from setting journal used lawful readable rises texts told gateway (first ∷ entries) run last part =
     let finds = finds_past setting journal first entries (sync_rules setting gateway) used.view (own_entries setting journal first entries told part) run in
     record {
       kept = of_found setting readable journal first entries gateway (IsTrueFound setting) used.view finds (sighted_true setting readable journal first entries);
       uploaded = of_found setting readable journal first entries gateway (λ (f : Found). IsUploadedBefore setting journal f.ulid used.last) used.view finds
-          (λ f s. subst (IsUploadedBefore setting journal f.ulid) (sym last) (sighted_uploaded setting readable journal first entries rises part f s));
-      settled = λ ulid settled. settled_kept setting readable journal first entries lawful gateway used.view finds ulid settled.uploaded settled.old;
+          (λ f s. subst (IsUploadedBefore setting journal f.ulid) (sym last) (sighted_uploaded setting readable journal first entries rises texts part f s));
+      settled = λ other ulid settled. settled_kept setting readable journal first entries lawful gateway used.view finds ulid settled.uploaded settled.old;
     }
 
 -- a view that a sync of the journal gave is true
-pub origin_is_true : (setting : Setting) (journal : List Entry) (used : Use) → IsLawfulScript setting.script → IsReadable setting → Rises journal → All (IsTold setting journal) journal
+pub origin_is_true : (setting : Setting) (journal : List Entry) (used : Use) → IsLawfulScript setting.script → IsReadable setting → Rises journal → PutsTexts journal → All (IsTold setting journal) journal
     → IsOrigin setting journal used → IsTrueView setting journal used
-origin_is_true setting journal used lawful readable rises told origin = true_from setting journal used lawful readable rises told origin.gateway origin.entries origin.run origin.last origin.part
+origin_is_true setting journal used lawful readable rises texts told origin = true_from setting journal used lawful readable rises texts told origin.gateway origin.entries origin.run origin.last origin.part
 
 -- ---- nothing is damaged
 

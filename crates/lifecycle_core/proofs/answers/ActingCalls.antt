@@ -1,0 +1,191 @@
+-- What a call over a view is worth in an acting journal, whoever made it, and whoever's sync gave the view.
+use Rattle.list_core.proofs.Membership.{contains_later, member_cases}
+use Rattle.std.proofs.Common.{◌≡◌, ◌≢◌, ◌↔◌, inl, inr, ℕ, zero, suc, ◌+◌, ◌<◌, ◌≤◌, ◌==◌, ℤ, Bool, List, [], ◌∷◌, ◌++◌, length, Contains, Option, Some, None, refl, sym, ◌∙◌, ap, subst, append_assoc, arith}
+use Rattle.std.specs.Prelude.{get_or}
+use Rattle.std.specs.List.{All, AllPairs}
+use Rattle.std.proofs.lemmas.List.{length-append}
+use Rattle.std.proofs.lemmas.List.Elements.{All-contains, All-contains_itself, All-weaker}
+use Rattle.label_sets.specs.declared.series.Series.{Series}
+use Rattle.matchers.specs.declared.matcher.Matcher.{Matcher}
+use Rattle.world_core.specs.Journals.{IsNumbered}
+use Rattle.world_core.specs.Standing.{IsHonest}
+use Rattle.world_core.specs.declared.entry.Entry.{Entry}
+use Rattle.sync_filters.specs.declared.found.Found.{Found}
+use Rattle.meta_fetcher.specs.declared.sync_end.SyncEnd.TheVariants as fetched
+use Rattle.store_gateway.specs.SeriesRuns.{Query as Question, SeriesRun, asking}
+use Rattle.store_gateway.specs.declared.series_end.SeriesEnd.{SeriesEnd}
+use Rattle.store_gateway.specs.declared.series_end.SeriesEnd.TheVariants as called
+use Rattle.script_core.specs.Lawful.{IsLawfulScript}
+use Rattle.script_workers.specs.declared.phase.Phase.{Phase}
+use Rattle.lifecycle_core.specs.Acting.{IsActing, IsRead, acting, uploaders}
+use Rattle.lifecycle_core.specs.Causes.{IsExplained}
+use Rattle.lifecycle_core.specs.Completed.{IsSettled, IsUploadedBefore}
+use Rattle.lifecycle_core.specs.Conducts.{of_seat, working}
+use Rattle.lifecycle_core.specs.Guarantees.{IsWorth}
+use Rattle.lifecycle_core.specs.Holdings.{Use, none_held}
+use Rattle.lifecycle_core.specs.Setting.{Setting}
+use Rattle.lifecycle_core.specs.SyncsAndCalls.{IsCallIn, IsSyncBy, IsViewOf}
+use Rattle.lifecycle_core.specs.Tasks.{last_number, sync_rules}
+use Rattle.lifecycle_core.proofs.answers.ExactAnswers.{answer_is_exact, calls_undamaged, sources_are}
+use Rattle.lifecycle_core.proofs.blocks.Readable.{is_readable}
+use Rattle.lifecycle_core.proofs.journals.Positions.{split, stands_in}
+use Rattle.lifecycle_core.proofs.journals.Telling.{all_told_by, journal_rises}
+use Rattle.lifecycle_core.proofs.journals.TellingPuts.{PutsShipped, reads_put, task_puts}
+use Rattle.lifecycle_core.proofs.journals.Told.{IsOrigin, IsPart, IsReadable, IsTold, IsTrueView, Rises}
+use Rattle.lifecycle_core.proofs.misses.Explaining.{AllInOrder, explained, honest_finds, parted, phase_in_order, phases_in_order}
+use Rattle.lifecycle_core.proofs.misses.GatewayEntries.{IsSeen, calls, syncs}
+use Rattle.lifecycle_core.proofs.misses.Misses.{MissesAt, task_in_order}
+use Rattle.lifecycle_core.proofs.phases.EachEntry.{phase_each, phases_each}
+use Rattle.lifecycle_core.proofs.phases.TasksMade.{part_filter, part_middle, part_whole}
+use Rattle.lifecycle_core.proofs.views.Metas.{puts_texts}
+use Rattle.lifecycle_core.proofs.views.Puts.{within_last}
+use Rattle.lifecycle_core.proofs.views.TrueViews.{origin_is_true}
+
+-- ---- an acting journal
+
+acting_in_order : (setting : Setting) (journal : List Entry) → IsLawfulScript setting.script → IsActing setting journal → AllInOrder journal
+acting_in_order setting journal lawful acts =
+    phases_in_order (working (acting setting acts.seats))
+    (λ number phase before made own after works.
+    phase_in_order (acting setting acts.seats) (λ who place w all held es end left does. task_in_order setting lawful who place w held left es end does) (λ e stands. stands.1)
+    phase.tasks (uploaders setting acts.seats number) before made own after works)
+    0 none_held setting.script.phases journal acts.ends acts.phases
+
+acting_puts : (setting : Setting) (journal : List Entry) → IsActing setting journal → All (PutsShipped setting) journal
+acting_puts setting journal acts =
+    phases_each (working (acting setting acts.seats)) (PutsShipped setting)
+    (λ number phase before made own after works.
+    phase_each (acting setting acts.seats) (PutsShipped setting) (λ who place w all held es end left does. task_puts setting who place w held left es end does) (λ e stands. reads_put setting e stands.1)
+    phase.tasks (uploaders setting acts.seats number) before made own after works)
+    (λ phase clock begins k bytes is. absurd (cc (begins.sets, is)))
+    0 none_held setting.script.phases journal acts.ends acts.phases
+
+-- ---- parts of a journal
+
+-- an entry with a greater number is no earlier
+moments_follow : (journal : List Entry) → Rises journal → (e x : Entry) → Contains journal e → Contains journal x → e.seq < x.seq → e.moment.ms ≤ x.moment.ms
+moments_follow [] rises e x (k, below, is) other less = absurd (omega (arith, below))
+moments_follow (y ∷ ys) rises e x one other less = elim (member_cases y e ys one) [
+  | inl first ↦ elim (member_cases y x ys other) [
+    | inl same ↦ let q : e.seq ≡ x.seq = ap (λ (z : Entry). z.seq) (sym first ∙ same) in absurd (omega (arith, less, q))
+    | inr later ↦
+        let follows = All-contains (λ (z : Entry). (y.seq < z.seq) × (y.moment.ms ≤ z.moment.ms)) ys x rises.0 later in
+        subst (λ (z : Entry). z.moment.ms ≤ x.moment.ms) first follows.1
+  ]
+  | inr inside ↦ elim (member_cases y x ys other) [
+    | inl same ↦
+        let follows = All-contains (λ (z : Entry). (y.seq < z.seq) × (y.moment.ms ≤ z.moment.ms)) ys e rises.0 inside in
+        let q : y.seq ≡ x.seq = ap (λ (z : Entry). z.seq) same in
+        absurd (omega (arith, less, q, follows.0))
+    | inr later ↦ moments_follow ys rises.1 e x inside later less
+  ]
+]
+
+rises_by : (journal : List Entry) → Rises journal → (entries : List Entry) → AllPairs (λ (one other : Entry). one.seq < other.seq) entries → ((e : Entry) → Contains entries e → Contains journal e) → Rises entries
+rises_by journal rises [] pairs among = tt
+rises_by journal rises (e ∷ entries) pairs among = (
+  λ k d below.
+      let less : e.seq < (get_or entries k d).seq = pairs 0 (suc k) d (omega arith) (omega (arith, below)) in
+      (less, moments_follow journal rises e (get_or entries k d) (among e (0, omega arith, refl)) (among (get_or entries k d) (contains_later e (get_or entries k d) entries (All-contains_itself entries k d below))) less),
+  rises_by journal rises entries (λ i j d one two. pairs (suc i) (suc j) d (omega (arith, one)) (omega (arith, two))) (λ x own. among x (contains_later e x entries own)),
+)
+
+module _ (setting : Setting) (journal : List Entry) (lawful : IsLawfulScript setting.script) (acts : IsActing setting journal) where
+  abbrev rising : Rises journal
+  rising = journal_rises setting.script.rules.tick.ms journal acts.kept
+
+  call_part : (used : Use) (question : Question) (entries : List Entry) (end : Option SeriesEnd) → IsCallIn journal used question entries end → IsPart journal entries
+  call_part used question entries end call = record { among = call.among; rises = rises_by journal rising entries call.rising call.among }
+
+  module _ (gateway : ℕ) (used : Use) (sync : List Entry) (gave : IsViewOf (sync_rules setting gateway) journal used sync) where
+    sync_part : IsPart journal sync
+    sync_part =
+        let s = gave.sync in
+        let own : IsPart journal (of_seat gave.seat journal) = part_filter journal (λ (e : Entry). e.seat == gave.seat) journal (part_whole journal rising) in
+        part_middle journal s.before sync s.after (subst (IsPart journal) (s.parts ∙ append_assoc s.before sync s.after) own)
+
+    origin : IsOrigin setting journal used
+    origin = record { gateway = gateway; entries = sync; run = gave.sync.run; last = gave.last; part = sync_part; seat = gave.seat; stretch = record { before = gave.sync.before; after = gave.sync.after; parts = gave.sync.parts } }
+
+    -- ---- a missing object
+
+    before_call : (front back : List Entry) (e x : Entry) → journal ≡ front ++ e ∷ back → Contains journal x → x.seq < e.seq → Contains front x
+    before_call front back e x parts among lower =
+        let at = parted journal x among in
+        let own : x.seq ≡ length at.0 + 1 = acts.kept.numbered at.0 at.1 x at.2 in
+        let number : e.seq ≡ length front + 1 = acts.kept.numbered front back e parts in
+        elim (split front (e ∷ back) at.0 at.1 x (sym parts ∙ at.2)) [
+          | inl (rest, here, two) ↦ subst (λ es. Contains es x) (sym here) (stands_in at.0 rest x)
+          | inr (more, here, two) ↦ absurd (omega (arith, own, number, lower, ap (length {A = Entry}) here, length-append front more))
+        ]
+
+    seen_in : (front back : List Entry) (e : Entry) (ulid : ℕ) → journal ≡ front ++ e ∷ back → used.last < e.seq → IsSeen sync ulid → IsSeen front ulid
+    seen_in front back e ulid parts later (s, among, seen) =
+        let most : s.seq ≤ last_number sync = within_last s sync sync_part.rises among in
+        (s, before_call front back e s parts (sync_part.among s among) (omega (arith, most, later, gave.last)), seen)
+
+    misses_at : (question : Question) (entries : List Entry) (number : ℕ) → IsCallIn journal used question entries (Some (called.Missing number)) → MissesAt [] journal number
+    misses_at question entries number call =
+        let kept : All (λ (b : Found). IsSeen sync b.ulid) used.view.kept = (syncs (sync_rules setting gateway) [] sync (Some (fetched.View used.view)) gave.sync.run).sees used.view refl in
+        let m = (calls (IsSeen sync) used.view question entries (Some (called.Missing number)) kept call.run).misses number refl in
+        let among : Contains entries m.entry = subst (λ es. Contains es m.entry) (sym m.last) (stands_in m.front [] m.entry) in
+        let at = parted journal m.entry (call.among m.entry among) in
+        record {
+          front = at.0;
+          back = at.1;
+          entry = m.entry;
+          ulid = m.ulid;
+          key_is = m.key_is;
+          parts = at.2;
+          is = m.is;
+          reads = m.reads;
+          absent = m.absent;
+          own = m.own;
+          seen = seen_in at.0 at.1 m.entry m.ulid at.2 (All-contains (λ (e : Entry). used.last < e.seq) entries m.entry call.later among) m.holds;
+        }
+
+    -- a call's miss is explained
+    pub miss_is_explained : (question : Question) (entries : List Entry) (number : ℕ) → IsCallIn journal used question entries (Some (called.Missing number)) → IsExplained setting journal number
+    miss_is_explained question entries number call =
+        explained setting journal acts.kept.numbered (acting_in_order setting journal lawful acts) number (misses_at question entries number call)
+
+    -- ---- where the bucket is honest
+
+    module _ (honest : IsHonest journal) (selector : List Matcher) (low high : ℤ) (entries : List Entry) where
+      abbrev question : Question
+      question = asking selector setting.script.rules.replicas low high
+
+      readable : IsReadable setting
+      readable = is_readable setting lawful
+
+      told : All (IsTold setting journal) journal
+      told = all_told_by setting journal readable acts.kept (acting_puts setting journal acts) (acting_in_order setting journal lawful acts) honest
+
+      view : IsTrueView setting journal used
+      view = origin_is_true setting journal used lawful readable rising (puts_texts setting journal readable (λ e among. All-contains (PutsShipped setting) journal e (acting_puts setting journal acts) among)) told origin
+
+      named_by : (series : List Series) (sources : List ℕ) → IsCallIn journal used question entries (Some (called.Answer series sources)) → (ulid : ℕ)
+          → Contains sources ulid ↔ ((found : Found) × Contains used.view.kept found × (found.ulid ≡ ulid))
+      named_by series sources call = sources_are setting journal entries used.view question series sources readable told (call_part used question entries (Some (called.Answer series sources)) call) view.kept call.run
+
+      names : (series : List Series) (sources : List ℕ) → IsCallIn journal used question entries (Some (called.Answer series sources)) → All (λ ulid. IsUploadedBefore setting journal ulid used.last) sources
+      names series sources call = λ k d below.
+          let ulid = get_or sources k d in
+          let found = (named_by series sources call ulid).0 (All-contains_itself sources k d below) in
+          subst (λ (u : ℕ). IsUploadedBefore setting journal u used.last) found.2 (All-contains (λ (f : Found). IsUploadedBefore setting journal f.ulid used.last) used.view.kept found.0 view.uploaded found.1)
+
+      same_end : (one other : Option SeriesEnd) → one ≡ other → IsCallIn journal used question entries one → IsCallIn journal used question entries other
+      same_end one other is call = subst (IsCallIn journal used question entries) is call
+
+      pub call_is_worth : (end : Option SeriesEnd) → IsCallIn journal used question entries end → IsWorth setting journal (sync_rules setting gateway) used question end
+      call_is_worth end call = record {
+        found = λ number is. honest_finds setting journal acts.kept.numbered (acting_in_order setting journal lawful acts) number (misses_at question entries number (same_end end (Some (called.Missing number)) is call)) honest;
+        undamaged = λ number is.
+            let own = same_end end (Some (called.Damaged number)) is call in
+            calls_undamaged setting journal entries used.view question number readable told (call_part used question entries (Some (called.Damaged number)) own) view.kept own.run;
+        exact = λ series sources is.
+            let own = same_end end (Some (called.Answer series sources)) is call in
+            answer_is_exact setting journal entries used.view selector low high series sources lawful readable told (call_part used question entries (Some (called.Answer series sources)) own) view.kept own.run;
+        named = λ series sources is. names series sources (same_end end (Some (called.Answer series sources)) is call);
+        covered = λ series sources is ulid settled. (named_by series sources (same_end end (Some (called.Answer series sources)) is call) ulid).1 (view.settled gateway ulid settled);
+      }

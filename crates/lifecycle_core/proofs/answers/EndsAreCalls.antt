@@ -1,0 +1,95 @@
+-- Each end of a gateway's call in a run is that of a call in the journal, over the view of a sync in it.
+use Rattle.std.proofs.Common.{◌≡◌, inl, inr, ℕ, ℤ, zero, suc, ◌<◌, List, [], ◌∷◌, Contains, Option, Some, None, refl, sym, ap, subst, arith}
+use Rattle.std.specs.Prelude.{option_map, slice_get}
+use Rattle.matchers.specs.declared.matcher.Matcher.{Matcher}
+use Rattle.std.specs.List.{AllPairs}
+use Rattle.world_core.specs.declared.entry.Entry.{Entry}
+use Rattle.shipper.specs.declared.upload_end.UploadEnd.{UploadEnd}
+use Rattle.meta_fetcher.specs.declared.sync_end.SyncEnd.{SyncEnd}
+use Rattle.meta_fetcher.specs.declared.sync_end.SyncEnd.TheVariants as fetched
+use Rattle.store_gateway.specs.SeriesRuns.{Query as Question, SeriesRun, asking}
+use Rattle.store_gateway.specs.declared.series_end.SeriesEnd.{SeriesEnd}
+use Rattle.script_workers.specs.declared.work.Work.{Work}
+use Rattle.script_workers.specs.declared.work.Work.TheVariants.{Upload, Sync, Query}
+use Rattle.lifecycle_core.specs.Causes.{SomeCame}
+use Rattle.lifecycle_core.specs.Conducts.{Who}
+use Rattle.lifecycle_core.specs.Holdings.{Holding, Use}
+use Rattle.lifecycle_core.specs.Phases.{IsRunOf}
+use Rattle.lifecycle_core.specs.Setting.{Setting}
+use Rattle.lifecycle_core.specs.SyncsAndCalls.{IsCallIn, IsViewOf}
+use Rattle.lifecycle_core.specs.Tasks.{End, QueryTask, TaskRun, answered, stopped, sync_rules, synced, uploaded, without_view}
+use Rattle.lifecycle_core.proofs.journals.Telling.{journal_rises}
+use Rattle.lifecycle_core.proofs.journals.Told.{IsOrigin, Rises}
+use Rattle.lifecycle_core.proofs.phases.TasksMade.{ends_are_made}
+
+-- the call behind an end
+record IsAsked (setting : Setting) (held : Option Use) (entries : List Entry) (used : Use) (end : SeriesEnd) : Type 0 where
+  selector : List Matcher
+  low : ℤ
+  high : ℤ
+  is : held ≡ Some used
+  run : SeriesRun used.view (asking selector setting.script.rules.replicas low high) entries (Some end)
+
+query_asked : (setting : Setting) (held : Option Use) (o : Option (List Matcher)) (low high : ℤ) (entries : List Entry) (used : Use) (end : SeriesEnd)
+    → QueryTask held (option_map (λ matchers. record { selector = matchers; replicas = setting.script.rules.replicas; low = low; high = high }) o) entries (Some (answered used end)) → IsAsked setting held entries used end
+query_asked setting None o low high entries used end (nil, inl none) = absurd (cc (none))
+query_asked setting None o low high entries used end (nil, inr same) = absurd (cc (same))
+query_asked setting (Some own) None low high entries used end run = absurd run
+query_asked setting (Some own) (Some matchers) low high entries used end (None, run, same) = absurd (cc (same))
+query_asked setting (Some own) (Some matchers) low high entries used end (Some ended, run, same) =
+    let question : Question = asking matchers setting.script.rules.replicas low high in
+    let one : own ≡ used = cc (same) in
+    let two : ended ≡ end = cc (same) in
+    record {
+      selector = matchers;
+      low = low;
+      high = high;
+      is = ap (λ (u : Use). Some u) one;
+      run = subst (λ (u : Use). SeriesRun u.view question entries (Some end)) one (subst (λ (x : SeriesEnd). SeriesRun own.view question entries (Some x)) two run);
+    }
+
+no_upload_answers : (used : Use) (end : SeriesEnd) (own : Option UploadEnd) → Some (answered used end) ≡ option_map uploaded own → ⊥
+no_upload_answers used end None is = cc (is)
+no_upload_answers used end (Some one) is = cc (is)
+
+no_sync_answers : (used : Use) (end : SeriesEnd) (own : Option SyncEnd) → Some (answered used end) ≡ option_map synced own → ⊥
+no_sync_answers used end None is = cc (is)
+no_sync_answers used end (Some one) is = cc (is)
+
+task_asked : (setting : Setting) (who : Who) (place : ℕ) (w : Work) (held after : Holding) (entries : List Entry) (used : Use) (end : SeriesEnd) → TaskRun setting who place w held entries (Some (answered used end)) after → IsAsked setting held.used entries used end
+task_asked setting who place (Upload ulid stop) held after entries used end ((block, is, (objects, own, shipped, run, inl (same, early))), left) = absurd (no_upload_answers used end own same)
+task_asked setting who place (Upload ulid stop) held after entries used end ((block, is, (objects, own, shipped, run, inr (n, stops, above, count, same))), left) = absurd (cc (same))
+task_asked setting who place (Sync gateway) held after entries used end (own, run, is, left) = absurd (no_sync_answers used end own is)
+task_asked setting who place (Query low high selector) held after entries used end (run, left) = query_asked setting held.used (slice_get setting.script.selectors selector) low high entries used end run
+
+pairs_of : (entries : List Entry) → Rises entries → AllPairs (λ (one other : Entry). one.seq < other.seq) entries
+pairs_of [] rises i j d less inside = absurd (omega (arith, inside))
+pairs_of (e ∷ entries) rises zero zero d less inside = absurd (omega (arith, less))
+pairs_of (e ∷ entries) rises zero (suc j) d less inside = (rises.0 j d (omega (arith, inside))).0
+pairs_of (e ∷ entries) rises (suc i) zero d less inside = absurd (omega (arith, less))
+pairs_of (e ∷ entries) rises (suc i) (suc j) d less inside = pairs_of entries rises.1 i j d (omega (arith, less)) (omega (arith, inside))
+
+view_of : (setting : Setting) (journal : List Entry) (used : Use) (o : IsOrigin setting journal used) → IsViewOf (sync_rules setting o.gateway) journal used o.entries
+view_of setting journal used o = record {
+  seat = o.seat;
+  sync = record { before = o.stretch.before; after = o.stretch.after; parts = o.stretch.parts; run = o.run; whole = λ none. absurd (cc (none)) };
+  last = o.last;
+}
+
+pub ends_are_calls : (setting : Setting) (journal : List Entry) (ends : List (List (List End))) (used : Use) (end : SeriesEnd) → IsRunOf setting journal ends → SomeCame ends (answered used end)
+    → (gateway : ℕ) × (sync : List Entry) × (entries : List Entry) × (selector : List Matcher) × (low : ℤ) × (high : ℤ) × IsViewOf (sync_rules setting gateway) journal used sync
+    × IsCallIn journal used (asking selector setting.script.rules.replicas low high) entries (Some end)
+ends_are_calls setting journal ends used end run came =
+    let made = ends_are_made setting journal ends (journal_rises setting.script.rules.tick.ms journal run.kept) run (answered used end) came in
+    let m = made.1 in
+    let call = task_asked setting m.who m.place (made.0).work m.held m.after m.entries used end m.run in
+    let origin = m.origin used call.is in (
+      origin.gateway,
+      origin.entries,
+      m.entries,
+      call.selector,
+      call.low,
+      call.high,
+      view_of setting journal used origin,
+      record { among = m.part.among; rising = pairs_of m.entries m.part.rises; later = m.later used call.is; run = call.run },
+    )

@@ -1,0 +1,315 @@
+-- Every lawful journal of a lawful script is an acting one: gateways do nothing but read, each at a seat of its own.
+use Rattle.std.proofs.Common.{◌≡◌, ◌≢◌, ◌⊎◌, inl, inr, ℕ, zero, suc, ◌+◌, ◌<◌, ◌≤◌, ◌==◌, Bool, true, false, cond, List, [], ◌∷◌, ◌++◌, length, map, Contains, Option, Some, None, refl, sym, ◌∙◌, ap, subst, arith}
+use Rattle.std.specs.Prelude.{get_or, is_none, slice_get}
+use Rattle.std.specs.List.{All, AllByRecursion, AllZip, filter}
+use Rattle.std.proofs.lemmas.Bool.Decides.{nat_tests}
+use Rattle.std.proofs.lemmas.List.{length-append}
+use Rattle.std.proofs.lemmas.List.Elements.{All-append, All-contains, All-contains_itself, All-from_recursion, All-nil, All-weaker, recursion_from_All}
+use Rattle.std.proofs.lemmas.Option.{slice_get_within}
+use Rattle.list_core.proofs.Membership.{contains_first, contains_later, into_filter, into_map, member_passes, of_filter, of_map}
+use Rattle.world_core.specs.declared.entry.Entry.{Entry}
+use Rattle.store_gateway.specs.SeriesRuns.{Query as Question}
+use Rattle.script_core.proofs.SeatLaws.{are_seated}
+use Rattle.script_core.specs.Lawful.{IsLawfulScript}
+use Rattle.script_core.specs.Workers.{workers_before, workers_of}
+use Rattle.script_core.specs.declared.script.Script.{Script}
+use Rattle.script_workers.specs.Hands.{gateway_count, gateway_of, hands_of}
+use Rattle.script_workers.specs.Staff.{AreSeated, ArePlacesOf, IsWorkerOf}
+use Rattle.script_workers.specs.Whose.{IsFor, IsTaskOf, ships, syncs, asks}
+use Rattle.script_workers.specs.declared.hand.Hand.{Hand}
+use Rattle.script_workers.specs.declared.hand.Hand.TheVariants as hands
+use Rattle.script_workers.specs.declared.phase.Phase.{Phase}
+use Rattle.script_workers.specs.declared.task.Task.{Task}
+use Rattle.script_workers.specs.declared.work.Work.{Work}
+use Rattle.script_workers.specs.declared.work.Work.TheVariants.{Upload, Sync, Query}
+use Rattle.script_workers.specs.declared.worker.Worker.{Worker}
+use Rattle.lifecycle_core.specs.Acting.{IsActing, IsRead, acting, uploaders}
+use Rattle.lifecycle_core.specs.Conducts.{Assigned, Conduct, PhaseRun, TasksAt, TasksRun, Who, WorkerRun, of_seat, who_of, working}
+use Rattle.lifecycle_core.specs.Holdings.{Holding, Holdings, Use, holding_of, none_held, nothing_held}
+use Rattle.lifecycle_core.specs.Phases.{IsRunOf, by_script, by_workers}
+use Rattle.lifecycle_core.specs.Setting.{Setting}
+use Rattle.lifecycle_core.specs.Tasks.{End, QueryTask, TaskRun, asked_by, sync_rules}
+use Rattle.lifecycle_core.specs.Ways.{PhasesRun}
+use Rattle.lifecycle_core.proofs.journals.Positions.{zip_right}
+use Rattle.lifecycle_core.proofs.misses.GatewayEntries.{calls, syncs as sync_entries}
+use Rattle.lifecycle_core.proofs.phases.TaskRuns.{got}
+
+-- ---- seats
+
+contains_at : {X : Type 0} (xs : List X) (x : X) → Contains xs x → (k : ℕ) × (slice_get xs k ≡ Some x)
+contains_at [] x (k, below, is) = absurd (omega (arith, below))
+contains_at (y ∷ ys) x (zero, below, is) = (zero, ap (λ z. Some z) is)
+contains_at (y ∷ ys) x (suc k, below, is) = let rest = contains_at ys x (k, omega (arith, below), is) in (suc rest.0, rest.1)
+
+-- where a worker of a phase stands, and which hand's it is
+record Stands (script : Script) (number : ℕ) (worker : Worker) : Type 0 where
+  place : ℕ
+  at : slice_get (workers_of script number) place ≡ Some worker
+  within : place < length (workers_of script number)
+  seat : worker.seat ≡ length (workers_before script number) + place + 1
+  phase : Phase
+  is : slice_get script.phases number ≡ Some phase
+  hand : Hand
+  own : IsWorkerOf (gateway_count script.gateways) phase.tasks hand (length (workers_before script number) + place + 1) worker
+
+stands_by : (script : Script) (number : ℕ) (worker : Worker) → IsLawfulScript script → Contains (workers_of script number) worker → (o : Option Phase) → slice_get script.phases number ≡ o → Stands script number worker
+stands_by script number worker lawful among None is =
+    let none : workers_of script number ≡ [] = rw is refl in
+    let lost : Contains [] worker = subst (λ ws. Contains ws worker) none among in
+    absurd (omega (arith, lost.1))
+stands_by script number worker lawful among (Some phase) is =
+    let at = contains_at (workers_of script number) worker among in
+    let within = slice_get_within (workers_of script number) at.0 worker at.1 in
+    let seated = are_seated script number phase lawful is in
+    let hand = got (hands_of (gateway_count script.gateways) phase.tasks) at.0 (omega (arith, within, seated.count)) in
+    let own = seated.each at.0 hand.0 worker hand.1 at.1 in
+    record { place = at.0; at = at.1; within = within; seat = own.seat; phase = phase; is = is; hand = hand.0; own = own }
+
+stands : (script : Script) (number : ℕ) (worker : Worker) → IsLawfulScript script → Contains (workers_of script number) worker → Stands script number worker
+stands script number worker lawful among = stands_by script number worker lawful among (slice_get script.phases number) refl
+
+grows_by : (script : Script) (one other : ℕ) (b : Bool) → (one == other) ≡ b → one < suc other
+    → (one < other → length (workers_before script one) + length (workers_of script one) ≤ length (workers_before script other)) → length (workers_before script one) + length (workers_of script one) ≤ length (workers_before script (suc other))
+grows_by script one other true is below rest =
+    let same : one ≡ other = grind (arith, nat_tests, is) in
+    let here : length (workers_before script one) + length (workers_of script one) ≡ length (workers_before script other) + length (workers_of script other) = ap (λ n. length (workers_before script n) + length (workers_of script n)) same in
+    omega (arith, here, length-append (workers_before script other) (workers_of script other))
+grows_by script one other false is below rest =
+    let differ : one ≢ other = λ q. absurd (grind (arith, nat_tests, is, q)) in
+    let more = rest (omega (arith, below, differ)) in
+    omega (arith, more, length-append (workers_before script other) (workers_of script other))
+
+-- the workers of a phase are among those before a later one
+grows : (script : Script) (one other : ℕ) → one < other → length (workers_before script one) + length (workers_of script one) ≤ length (workers_before script other)
+grows script one zero below = absurd (omega (arith, below))
+grows script one (suc other) below = grows_by script one other (one == other) refl below (grows script one other)
+
+same_place : (script : Script) (number : ℕ) (one other : Worker) → (a : Stands script number one) (b : Stands script number other) → one.seat ≡ other.seat → one ≡ other
+same_place script number one other a b same =
+    let place : a.place ≡ b.place = omega (arith, a.seat, b.seat, same) in
+    let at : Some one ≡ Some other = sym a.at ∙ ap (slice_get (workers_of script number)) place ∙ b.at in
+    cc (at)
+
+order : (one other : ℕ) → (one < other → ⊥) → (other < one → ⊥) → one ≡ other
+order one other less more = omega (arith, less, more)
+
+-- no two workers have one seat
+one_seat : (script : Script) (n m : ℕ) (one other : Worker) → Stands script n one → Stands script m other → one.seat ≡ other.seat → n ≡ m
+one_seat script n m one other a b same =
+    order n m
+    (λ below. let more = grows script n m below in absurd (omega (arith, more, a.seat, b.seat, a.within, same)))
+    (λ below. let more = grows script m n below in absurd (omega (arith, more, a.seat, b.seat, b.within, same)))
+
+one_worker : (script : Script) (n m : ℕ) (one other : Worker) → (a : Stands script n one) → Stands script m other → one.seat ≡ other.seat → one ≡ other
+one_worker script n m one other a b same =
+    let number : m ≡ n = sym (one_seat script n m one other a b same) in
+    same_place script n one other a (subst (λ k. Stands script k other) number b) same
+
+-- ---- a gateway's worker reads
+
+is_gateway : (hand : Hand) (gateway : ℕ) → gateway_of hand ≡ Some gateway → hand ≡ hands.Gateway gateway
+is_gateway (hands.Upload place) gateway is = absurd (cc (is))
+is_gateway (hands.Gateway own) gateway is = ap hands.Gateway (cc (is))
+
+-- a work that is no upload
+abbrev IsOther : Work → Type 0
+IsOther (Upload ulid stop) = ⊥
+IsOther (Sync gateway) = Unit {0}
+IsOther (Query low high selector) = Unit {0}
+
+for_gateway : (gateways gateway place : ℕ) (w : Work) → IsFor gateways (hands.Gateway gateway) place w → IsOther w
+for_gateway gateways gateway place w (ships ulid stop is who) = absurd (cc (who))
+for_gateway gateways gateway place w (syncs own is who) = subst IsOther (sym is) tt
+for_gateway gateways gateway place w (asks low high selector own is who below) = subst IsOther (sym is) tt
+
+abbrev AllRead : List Entry → Type 0
+AllRead entries = All (λ (e : Entry). IsRead e.op) entries
+
+none_read : (entries : List Entry) → entries ≡ [] → AllRead entries
+none_read entries nil = subst AllRead (sym nil) (All-nil (λ (e : Entry). IsRead e.op))
+
+query_reads : (used : Option Use) (asked : Option Question) (entries : List Entry) (end : Option End) → QueryTask used asked entries end → AllRead entries
+query_reads None asked entries end (nil, how) = none_read entries nil
+query_reads (Some used) None entries end run = absurd run
+query_reads (Some used) (Some q) entries end (own, run, is) =
+    All-from_recursion (λ (e : Entry). IsRead e.op) entries (calls (λ u. Unit {0}) used.view q entries own (λ k d below. tt) run).reads
+
+task_reads : (setting : Setting) (who : Who) (place : ℕ) (w : Work) (held after : Holding) (entries : List Entry) (end : Option End) → IsOther w → TaskRun setting who place w held entries end after → AllRead entries
+task_reads setting who place (Upload ulid stop) held after entries end other run = absurd other
+task_reads setting who place (Sync gateway) held after entries end other (own, run, is, left) =
+    All-from_recursion (λ (e : Entry). IsRead e.op) entries (sync_entries (sync_rules setting gateway) [] entries own run).reads
+task_reads setting who place (Query low high selector) held after entries end other (run, left) = query_reads held.used (asked_by setting who.gateway selector low high) entries end run
+
+abbrev NoUploads : List Assigned → Type 0
+NoUploads own = AllByRecursion (λ (a : Assigned). IsOther a.task.work) own
+
+tasks_read : (setting : Setting) (who : Who) (all : List Entry) (held last : Holding) (tasks : List Assigned) (entries : List Entry) (ends : List End) → NoUploads tasks → TasksRun (by_script setting) who all held tasks entries ends last → AllRead entries
+tasks_read setting who all held last [] entries ends none run = none_read entries run.0
+tasks_read setting who all held last (own ∷ tasks) entries ends none (inl (made, others, end, later, next, parts, run, is, rest)) =
+    subst AllRead (sym parts) (All-append (λ (e : Entry). IsRead e.op) made others (task_reads setting who own.place own.task.work held next made (Some end) none.0 run)
+    (tasks_read setting who all next last tasks others later none.1 rest))
+tasks_read setting who all held last (own ∷ tasks) entries ends none (inr (run, is)) = task_reads setting who own.place own.task.work held last entries None none.0 run
+
+-- the tasks at a gateway's places are no uploads
+no_uploads : (gateways gateway : ℕ) (tasks : List Task) (places : List ℕ) (own : List Assigned) → AllByRecursion (IsTaskOf gateways tasks (hands.Gateway gateway)) places → TasksAt tasks places own → NoUploads own
+no_uploads gateways gateway tasks [] own each at = subst NoUploads (sym at) tt
+no_uploads gateways gateway tasks (place ∷ places) [] each at = tt
+no_uploads gateways gateway tasks (place ∷ places) (a ∷ own) each at =
+    let task = each.0 in
+    let same : task.task ≡ a.task = cc (task.is, (at.0).1) in
+    (subst (λ (t : Task). IsOther t.work) same (for_gateway gateways gateway place (task.task).work task.whose), no_uploads gateways gateway tasks places own each.1 at.1)
+
+-- ---- a phase
+
+abbrev same_seat : ℕ → ℕ
+same_seat seat = seat
+
+-- a worker at its own seat
+abbrev again : Worker → Worker
+again worker = record { seat = same_seat worker.seat; gateway = worker.gateway; tasks = worker.tasks }
+
+-- the ends of the uploads' workers
+abbrev shipped_by : List Worker → List (List End) → List (List End)
+shipped_by [] ends = []
+shipped_by (w ∷ ws) [] = []
+shipped_by (w ∷ ws) (own ∷ ends) = cond (is_none w.gateway) (own ∷ shipped_by ws ends) (shipped_by ws ends)
+
+no_gateway : (o : Option ℕ) → is_none o ≡ true → o ≡ None
+no_gateway None is = refl
+no_gateway (Some g) is = absurd (cc (is))
+
+a_gateway : (o : Option ℕ) → is_none o ≡ false → (g : ℕ) × (o ≡ Some g)
+a_gateway None is = absurd (cc (is))
+a_gateway (Some g) is = (g, refl)
+
+-- runs of tasks, where what one may do the other may
+pub tasks_same : {State E : Type 0} (one other : Conduct State E) → ((who : Who) (place : ℕ) (w : Work) (all : List Entry) (before : State) (made : List Entry) (end : Option E) (after : State) → one.does who place w all before made end after → other.does who place w all before made end after)
+    → (who : Who) (all : List Entry) (before : State) (tasks : List Assigned) (entries : List Entry) (ends : List E) (last : State) → TasksRun one who all before tasks entries ends last → TasksRun other who all before tasks entries ends last
+tasks_same one other f who all before [] entries ends last run = run
+tasks_same one other f who all before (own ∷ tasks) entries ends last (inl (made, others, end, later, next, parts, run, is, rest)) =
+    inl (made, others, end, later, next, parts, f who own.place own.task.work all before made (Some end) next run, is, tasks_same one other f who all next tasks others later last rest)
+tasks_same one other f who all before (own ∷ tasks) entries ends last (inr (run, is)) = inr (f who own.place own.task.work all before entries None last run, is)
+
+module _ (setting : Setting) (tasks : List Task) (views after : Holdings) (made : List Entry) where
+  -- an upload's worker does what it did
+  ships_again : (worker : Worker) (own : List End) → worker.gateway ≡ None → WorkerRun (by_script setting) tasks views made after worker own → WorkerRun (acting setting same_seat) tasks none_held made none_held (again worker) own
+  ships_again worker own none run = record {
+    own = run.own;
+    are = run.are;
+    last = run.last;
+    runs = tasks_same (by_script setting) (acting setting same_seat) (λ who place w all before es end next does. does) (who_of worker) made nothing_held run.own (of_seat worker.seat made) own run.last
+        (subst (λ (g : Option ℕ). TasksRun (by_script setting) (who_of worker) made (holding_of views g) run.own (of_seat worker.seat made) own run.last) none run.runs);
+    leaves = tt;
+  }
+
+  first_again : (w : Worker) (ws : List Worker) (own : List End) (ends : List (List End)) (b : Bool) → is_none w.gateway ≡ b → WorkerRun (by_script setting) tasks views made after w own
+      → AllZip (WorkerRun (acting setting same_seat) tasks none_held made none_held) (map again (filter (λ (x : Worker). is_none x.gateway) ws)) (shipped_by ws ends)
+      → AllZip (WorkerRun (acting setting same_seat) tasks none_held made none_held) (map again (cond b (w ∷ filter (λ (x : Worker). is_none x.gateway) ws) (filter (λ (x : Worker). is_none x.gateway) ws)))
+      (cond b (own ∷ shipped_by ws ends) (shipped_by ws ends))
+  first_again w ws own ends true is run rest = (ships_again w own (no_gateway w.gateway is) run, rest)
+  first_again w ws own ends false is run rest = rest
+
+  all_again : (ws : List Worker) (ends : List (List End)) → AllZip (WorkerRun (by_script setting) tasks views made after) ws ends
+      → AllZip (WorkerRun (acting setting same_seat) tasks none_held made none_held) (map again (filter (λ (x : Worker). is_none x.gateway) ws)) (shipped_by ws ends)
+  all_again [] [] all = tt
+  all_again [] (own ∷ ends) all = absurd all
+  all_again (w ∷ ws) [] all = absurd all
+  all_again (w ∷ ws) (own ∷ ends) all = first_again w ws own ends (is_none w.gateway) refl all.0 (all_again ws ends all.1)
+
+module _ (setting : Setting) (lawful : IsLawfulScript setting.script) (number : ℕ) (phase : Phase) (at : slice_get setting.script.phases number ≡ Some phase) (views after : Holdings) (made : List Entry) (ends : List (List End))
+    (run : PhaseRun (by_script setting) phase.tasks (workers_of setting.script number) views made ends after) where
+  -- no upload's worker has a gateway's seat
+  apart_from_uploads : (worker : Worker) (g : ℕ) → Contains (workers_of setting.script number) worker → worker.gateway ≡ Some g → (other : ℕ) → Contains (map (λ (w : Worker). w.seat) (uploaders setting same_seat other)) worker.seat → ⊥
+  apart_from_uploads worker g among is other sits =
+      let one = of_map (λ (w : Worker). w.seat) (uploaders setting same_seat other) worker.seat sits in
+      let two = of_map again (filter (λ (x : Worker). is_none x.gateway) (workers_of setting.script other)) one.0 one.1 in
+      let whose = two.0 in
+      let inside : Contains (workers_of setting.script other) whose = of_filter (λ (x : Worker). is_none x.gateway) (workers_of setting.script other) whose two.1 in
+      let alone : is_none whose.gateway ≡ true = member_passes (λ (x : Worker). is_none x.gateway) (workers_of setting.script other) whose two.1 in
+      let seat : whose.seat ≡ worker.seat = ap (λ (w : Worker). w.seat) two.2 ∙ one.2 in
+      let same : whose ≡ worker = one_worker setting.script other number whose worker (stands setting.script other whose lawful inside) (stands setting.script number worker lawful among) seat in
+      cc (ap (λ (w : Worker). w.gateway) same, is, no_gateway whose.gateway alone)
+
+  gateway_reads : (worker : Worker) (g : ℕ) (own : List End) → Contains (workers_of setting.script number) worker → worker.gateway ≡ Some g → WorkerRun (by_script setting) phase.tasks views made after worker own → AllRead (of_seat worker.seat made)
+  gateway_reads worker g own among is w =
+      let s = stands setting.script number worker lawful among in
+      let same_phase : s.phase ≡ phase = cc (s.is, at) in
+      let hand : s.hand ≡ hands.Gateway g = is_gateway s.hand g (sym s.own.gateway ∙ is) in
+      let each : All (IsTaskOf (gateway_count setting.script.gateways) phase.tasks (hands.Gateway g)) worker.tasks =
+      subst (λ (p : Phase). All (IsTaskOf (gateway_count setting.script.gateways) p.tasks (hands.Gateway g)) worker.tasks) same_phase
+      (subst (λ (h : Hand). All (IsTaskOf (gateway_count setting.script.gateways) s.phase.tasks h) worker.tasks) hand s.own.places.only) in
+      tasks_read setting (who_of worker) made (holding_of views worker.gateway) w.last w.own (of_seat worker.seat made) own
+      (no_uploads (gateway_count setting.script.gateways) g phase.tasks worker.tasks w.own (recursion_from_All (IsTaskOf (gateway_count setting.script.gateways) phase.tasks (hands.Gateway g)) worker.tasks each) w.are) w.runs
+
+  abbrev Sits : Entry → Type 0
+  Sits e = Contains (map (λ (w : Worker). w.seat) (uploaders setting same_seat number)) e.seat ⊎ (acting setting same_seat).bystands e
+
+  sits_by : (e : Entry) (worker : Worker) (own : List End) (b : Bool) → Contains made e → Contains (workers_of setting.script number) worker → worker.seat ≡ e.seat → is_none worker.gateway ≡ b
+      → WorkerRun (by_script setting) phase.tasks views made after worker own → Sits e
+  sits_by e worker own true inside among seat is w =
+      inl (subst (Contains (map (λ (x : Worker). x.seat) (uploaders setting same_seat number))) seat
+      (into_map (λ (x : Worker). x.seat) (uploaders setting same_seat number) (again worker)
+      (into_map again (filter (λ (x : Worker). is_none x.gateway) (workers_of setting.script number)) worker (into_filter (λ (x : Worker). is_none x.gateway) (workers_of setting.script number) worker among is))))
+  sits_by e worker own false inside among seat is w =
+      let g = a_gateway worker.gateway is in
+      let s = stands setting.script number worker lawful among in
+      let test : (e.seat == worker.seat) ≡ true = grind (arith, nat_tests, seat) in
+      inr (
+        (λ zero_seat. absurd (omega (arith, s.seat, seat, zero_seat))),
+        All-contains (λ (x : Entry). IsRead x.op) (of_seat worker.seat made) e (gateway_reads worker g.0 own among g.1 w) (into_filter (λ (x : Entry). x.seat == worker.seat) made e inside test),
+        (λ other sits. apart_from_uploads worker g.0 among g.1 other (subst (Contains (map (λ (x : Worker). x.seat) (uploaders setting same_seat other))) (sym seat) sits)),
+      )
+
+  one_sits : (e : Entry) → Contains made e → Sits e
+  one_sits e inside = elim (All-contains (λ (x : Entry). Contains (map (λ (w : Worker). w.seat) (workers_of setting.script number)) x.seat ⊎ ⊥) made e run.seats inside) [
+    | inl sits ↦
+        let who = of_map (λ (w : Worker). w.seat) (workers_of setting.script number) e.seat sits in
+        let own = zip_right (WorkerRun (by_script setting) phase.tasks views made after) (workers_of setting.script number) ends who.0 run.runs who.1 in
+        sits_by e who.0 own.0 (is_none (who.0).gateway) inside who.1 who.2 refl own.2
+    | inr none ↦ absurd none
+  ]
+
+  phase_acts : PhaseRun (acting setting same_seat) phase.tasks (uploaders setting same_seat number) none_held made (shipped_by (workers_of setting.script number) ends) none_held
+  phase_acts = record {
+    seats = All-weaker (Contains made) Sits one_sits made (All-contains_itself made);
+    runs = all_again setting phase.tasks views after made (workers_of setting.script number) ends run.runs;
+    kept = λ gateway none. refl;
+  }
+
+-- ---- all phases
+
+abbrev ends_acted : Setting → ℕ → List (List (List End)) → List (List (List End))
+ends_acted setting number [] = []
+ends_acted setting number (own ∷ ends) = shipped_by (workers_of setting.script number) own ∷ ends_acted setting (number + 1) ends
+
+phases_act : (setting : Setting) → IsLawfulScript setting.script → (number : ℕ) (views : Holdings) (phases : List Phase) (entries : List Entry) (ends : List (List (List End))) → ((k : ℕ) (p : Phase) → slice_get phases k ≡ Some p → slice_get setting.script.phases (number + k) ≡ Some p)
+    → PhasesRun (by_workers setting) number views phases entries ends → PhasesRun (working (acting setting same_seat)) number none_held phases entries (ends_acted setting number ends)
+phases_act setting lawful number views [] entries ends same run = (run.0, ap (ends_acted setting number) run.1)
+phases_act setting lawful number views (phase ∷ phases) entries ends same (inl none) = inl (none.0, ap (ends_acted setting number) none.1)
+phases_act setting lawful number views (phase ∷ phases) entries ends same (inr (clock, made, others, first, later, after, parts, begins, run, are, go)) =
+    let at : slice_get setting.script.phases number ≡ Some phase = ap (slice_get setting.script.phases) (omega arith) ∙ same 0 phase refl in
+    let next : (k : ℕ) (p : Phase) → slice_get phases k ≡ Some p → slice_get setting.script.phases (number + 1 + k) ≡ Some p = λ k p own. ap (slice_get setting.script.phases) (omega arith) ∙ same (suc k) p own in
+    inr (
+      clock,
+      made,
+      others,
+      shipped_by (workers_of setting.script number) first,
+      ends_acted setting (number + 1) later,
+      none_held,
+      parts,
+      begins,
+      phase_acts setting lawful number phase at views after made first run,
+      ap (ends_acted setting number) are,
+      phases_act setting lawful (number + 1) after phases others later next go,
+    )
+
+-- a lawful journal is acting
+pub runs_act : (setting : Setting) (journal : List Entry) (ends : List (List (List End))) → IsLawfulScript setting.script → IsRunOf setting journal ends → IsActing setting journal
+runs_act setting journal ends lawful run = record {
+  seats = same_seat;
+  above = λ seat above. above;
+  apart = λ one other same. same;
+  ends = ends_acted setting 0 ends;
+  kept = run.kept;
+  phases = phases_act setting lawful 0 none_held setting.script.phases journal ends (λ k p own. ap (slice_get setting.script.phases) (omega arith) ∙ own) run.phases;
+}

@@ -1,0 +1,38 @@
+-- Which entries of a journal are a sync, and which are a gateway's call: by the journal alone, whoever made them.
+use Rattle.std.specs.Prelude.{◌≡◌, ◌<◌, ℕ, List, [], ◌++◌, All, Contains, Option, Some, None}
+use Rattle.std.specs.List.{AllPairs}
+use Rattle.world_core.specs.declared.entry.Entry.{Entry}
+use Rattle.meta_fetcher.specs.Syncs.{SyncRun}
+use Rattle.meta_fetcher.specs.declared.rules.SyncRules.{SyncRules}
+use Rattle.meta_fetcher.specs.declared.sync_end.SyncEnd.{SyncEnd}
+use Rattle.meta_fetcher.specs.declared.sync_end.SyncEnd.TheVariants as fetched
+use Rattle.store_gateway.specs.SeriesRuns.{Query as Question, SeriesRun}
+use Rattle.store_gateway.specs.declared.series_end.SeriesEnd.{SeriesEnd}
+use Rattle.lifecycle_core.specs.Conducts.{of_seat}
+use Rattle.lifecycle_core.specs.Holdings.{Use}
+use Rattle.lifecycle_core.specs.Tasks.{last_number}
+
+-- The entries are a stretch of a seat's, and a sync by these rules that came to this end. One without an end was broken off, and
+-- is the last of its seat.
+pub record IsSyncBy (rules : SyncRules) (journal : List Entry) (seat : ℕ) (entries : List Entry)
+    (end : Option SyncEnd) : Type 0 where
+  pub before : List Entry
+  pub after : List Entry
+  pub parts : of_seat seat journal ≡ before ++ entries ++ after
+  pub run : SyncRun rules entries end
+  pub whole : end ≡ None → after ≡ []
+
+-- the entries are the sync that gave a view
+pub record IsViewOf (rules : SyncRules) (journal : List Entry) (used : Use) (entries : List Entry) : Type 0 where
+  pub seat : ℕ
+  pub sync : IsSyncBy rules journal seat entries (Some (fetched.View used.view))
+  pub last : used.last ≡ last_number entries
+
+-- The entries are some of the journal's, in their order, all of them made after the sync that gave the view, and a call over that
+-- view that came to this end.
+pub record IsCallIn (journal : List Entry) (used : Use) (question : Question) (entries : List Entry)
+    (end : Option SeriesEnd) : Type 0 where
+  pub among : (e : Entry) → Contains entries e → Contains journal e
+  pub rising : AllPairs (λ one other. one.seq < other.seq) entries
+  pub later : All (λ e. used.last < e.seq) entries
+  pub run : SeriesRun used.view question entries end
