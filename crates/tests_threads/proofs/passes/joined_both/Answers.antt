@@ -1,4 +1,4 @@
-use Rattle.std.proofs.Common.{rules, ◌≡◌, ℕ, List, [], ◌∷◌, ◌++◌, ap, ◌∙◌}
+use Rattle.std.proofs.Common.{ℕ, List, [], ◌∷◌, ◌++◌, ap, ◌∙◌}
 use Rattle.world_core.specs.declared.entry.Entry.{Entry}
 use Rattle.world_turn.specs.Passes.{view_of}
 use Rattle.tests_threads.proofs.Joined.{two_joined}

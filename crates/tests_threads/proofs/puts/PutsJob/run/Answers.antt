@@ -1,6 +1,5 @@
-use Rattle.std.proofs.Common.{rules}
 use Rattle.world_core.specs.Machines.{gained}
-use Rattle.tests_threads.proofs.Acting.{Did, did_nothing, did_more}
+use Rattle.tests_threads.proofs.Acting.{did_nothing, did_more}
 use Rattle.tests_threads.proofs.puts.PutsJob.run.Goals as goal
 
 pub loop-init : goal.loop-init
