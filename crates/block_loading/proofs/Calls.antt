@@ -1,17 +1,14 @@
 -- What the calls say: of loading, and of loading with a check behind it.
-use Rattle.std.proofs.Common.{◌≡◌, ℕ, List, length, Result, Ok, Err, refl, sym, ap, subst, ◌∙◌, ◌⊎◌, inl, inr}
-use Rattle.std.specs.Prelude.{IfOk, IfErr, IsOkAnd, IsErrAnd}
+use Rattle.std.proofs.Common.{◌≡◌, ℕ, Result, Ok, Err, refl, sym, ap, subst, ◌∙◌, ◌⊎◌, inl, inr}
+use Rattle.std.specs.Prelude.{IfOk, IsOkAnd, IsErrAnd}
 use Rattle.reading_core.proofs.Binds.{ok_is, err_is}
-use Rattle.label_sets.specs.declared.series.Series.{Series}
-use Rattle.label_sets.specs.Counts.{sample_count}
 use Rattle.block_files.specs.declared.block_files.BlockFiles.{BlockFiles}
-use Rattle.block_content.specs.Checking.{Passes, RefusesBlock}
-use Rattle.block_content.specs.Checked.{checked_files, checked_series, checked_samples}
+use Rattle.block_content.specs.Checking.{RefusesBlock}
 use Rattle.block_content.specs.declared.checked.Checked.{Checked}
 use Rattle.block_content.specs.declared.check_refusal.CheckRefusal.{CheckRefusal}
 use Rattle.block_content.specs.declared.check_refusal.CheckRefusal.TheVariants.{NoFile, BadMeta, UlidDiffers, NotLevelOne, SourcesNotSelf, Downsampled, TooLarge, BadIndex, EmptyBlock, BadChunk, OutsideRange, Repeated, NoMemory}
 use Rattle.bucket_core.specs.Contents.{Contents}
-use Rattle.block_loading.specs.Loading.{IsLoaded, RefusesLoad, PassesOnShelf, RefusesOnShelf}
+use Rattle.block_loading.specs.Loading.{IsLoaded, RefusesLoad, RefusesOnShelf}
 use Rattle.block_loading.specs.LoadReading.{IsBrokenOff, WasBrokenOff, Loads, refused_block, BlockParts, parts_of, load_at}
 use Rattle.block_loading.specs.declared.load_refusal.LoadRefusal.{LoadRefusal}
 use Rattle.block_loading.specs.declared.load_refusal.LoadRefusal.TheVariants.{Refused, ShelfFault, NoMemory as WithoutMemory}

@@ -1,8 +1,8 @@
 -- Loading a block: what the functions give is what the relations say.
-use Rattle.std.proofs.Common.{◌≡◌, ℕ, ◌+◌, ◌≤◌, List, [], ◌∷◌, length, Result, Ok, Err, Some, refl, sym, ap, subst, ◌∙◌, arith, ◌⊎◌, inl, inr}
-use Rattle.std.specs.Prelude.{IfOk, IsOkAnd, MatchResult, ◌≢◌}
-use Rattle.reading_core.specs.Reading.{◌>>=◌, refused_as}
-use Rattle.reading_core.proofs.Binds.{bind_ok, bind_err, ok_is, err_is, refused_as_ok, refused_as_err}
+use Rattle.std.proofs.Common.{◌≡◌, ℕ, List, length, Ok, Err, refl, sym, ap, subst, ◌∙◌, arith, inl, inr}
+use Rattle.std.specs.Prelude.{◌≢◌}
+use Rattle.reading_core.specs.Reading.{refused_as}
+use Rattle.reading_core.proofs.Binds.{bind_ok, bind_err, ok_is, refused_as_ok, refused_as_err}
 use Rattle.block_keys.specs.declared.key.Key.{Key}
 use Rattle.block_keys.specs.declared.key.Key.TheVariants.{Meta, Index, Segment, Mark}
 use Rattle.block_meta.specs.MetaFields.{MetaFields, fields_of}
@@ -18,9 +18,9 @@ use Rattle.block_content.specs.declared.check_refusal.CheckRefusal.{CheckRefusal
 use Rattle.block_content.specs.declared.check_refusal.CheckRefusal.TheVariants.{NoFile, BadMeta, UlidDiffers, NotLevelOne, SourcesNotSelf, Downsampled, TooLarge, BadIndex, EmptyBlock, BadChunk, OutsideRange, Repeated, NoMemory}
 use Rattle.bucket_core.specs.Contents.{Contents}
 use Rattle.block_loading.specs.Loading.{HasFile, HasMeta, HasIndex, HasSegments, last_segment, IsLoaded, ReachesSegment, Reaches, RefusesLoad}
-use Rattle.block_loading.specs.LoadReading.{IsBrokenOff, WasBrokenOff, Loads, refused_block, refused_meta, file_at, meta_at, index_in, segments_at, BlockParts, parts_of, load_at}
+use Rattle.block_loading.specs.LoadReading.{refused_block, refused_meta, file_at, meta_at, index_in, segments_at, BlockParts, parts_of, load_at}
 use Rattle.block_loading.specs.declared.load_refusal.LoadRefusal.{LoadRefusal}
-use Rattle.block_loading.specs.declared.load_refusal.LoadRefusal.TheVariants.{Refused, ShelfFault, NoMemory as WithoutMemory}
+use Rattle.block_loading.specs.declared.load_refusal.LoadRefusal.TheVariants.{Refused}
 use Rattle.block_loading.proofs.FileLaws.{RefusesFile, file_found, file_again, file_refused, file_absent, file_large}
 use Rattle.block_loading.proofs.SegmentLaws.{segments_found, segments_again, segments_refused, segments_refuses}
 

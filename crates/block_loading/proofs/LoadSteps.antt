@@ -1,5 +1,5 @@
 -- The steps of loading, each as it goes on or stops.
-use Rattle.std.proofs.Common.{◌≡◌, ℕ, List, length, Bool, true, false, Option, Some, Result, Ok, Err, refl, sym, ap, subst, ◌∙◌, ◌⊎◌, inl, inr}
+use Rattle.std.proofs.Common.{◌≡◌, ℕ, List, false, Result, Ok, Err, refl, sym, ap, subst, ◌∙◌, ◌⊎◌, inl, inr}
 use Rattle.std.specs.Prelude.{IsErrAnd}
 use Rattle.reading_core.specs.Reading.{refused_as}
 use Rattle.block_keys.specs.declared.key.Key.TheVariants.{Meta, Index}
@@ -16,7 +16,6 @@ use Rattle.bucket_core.specs.Contents.{Contents}
 use Rattle.block_loading.specs.Loading.{last_segment}
 use Rattle.block_loading.specs.LoadReading.{IsBrokenOff, Loads, is_fault, refused_block, refused_meta, file_at, meta_at, index_in, segments_at, load_at}
 use Rattle.block_loading.specs.declared.load_refusal.LoadRefusal.{LoadRefusal}
-use Rattle.block_loading.specs.declared.load_refusal.LoadRefusal.TheVariants.{NoMemory}
 
 -- a call that stopped with a refusal of another
 pub stops : {X Y : Type 0} (view : X → Y) (read : Result Y LoadRefusal) (r : Result X LoadRefusal) (e : LoadRefusal) → IsErrAnd r (λ d. d ≡ e) → IsBrokenOff e ⊎ (read ≡ Err e) → Loads view r read

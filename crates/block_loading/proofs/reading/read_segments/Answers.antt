@@ -1,4 +1,4 @@
-use Rattle.std.proofs.Common.{List, [], ◌∷◌, length, ◌+◌, ◌-◌, ap, sym, ◌∙◌, false, arith}
+use Rattle.std.proofs.Common.{[], ◌∷◌, length, ◌+◌, ◌-◌, ap, sym, ◌∙◌, false, arith}
 use Rattle.std.proofs.lemmas.List.{length-append}
 use Rattle.block_keys.specs.declared.key.Key.TheVariants.{Segment}
 use Rattle.block_loading.specs.LoadReading.{file_at, segments_at}
