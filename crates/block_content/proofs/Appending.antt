@@ -1,11 +1,11 @@
 -- Samples of a chunk that are read behind others, and between which times they lie.
-use Rattle.std.proofs.Common.{◌≡◌, ℕ, zero, suc, ◌+◌, ◌-◌, ◌*◌, ◌≤◌, List, [], ◌∷◌, ◌++◌, length, drop, map, Bool, true, false, ◌&&◌, Option, None, Some, Result, Ok, Err, ℤ, pos, ◌+ℤ◌, ◌≤ℤ◌, refl, sym, ap, subst, ◌∙◌, length-append, arith, ◌⊎◌, inl, inr}
-use Rattle.std.specs.Prelude.{slice_get, int_lt, int_le, ◌<ℤ◌, IsErrAnd}
+use Rattle.std.proofs.Common.{◌≡◌, ℕ, suc, ◌-◌, List, [], ◌∷◌, ◌++◌, length, drop, Bool, true, false, ◌&&◌, Option, None, Some, Result, Ok, Err, ℤ, ◌≤ℤ◌, refl, sym, ap, subst, ◌∙◌, arith, ◌⊎◌, inl, inr}
+use Rattle.std.specs.Prelude.{slice_get, ◌<ℤ◌, IsErrAnd}
 use Rattle.std.specs.List.{AllByRecursion}
 use Rattle.std.proofs.lemmas.Bool.{and_parts}
 use Rattle.std.proofs.lemmas.Int.{ints}
 use Rattle.std.proofs.Math.Dec.{T}
-use Rattle.reading_core.specs.Reading.{◌>>=◌, ◌>>◌, unless, refused_as, Gives}
+use Rattle.reading_core.specs.Reading.{◌>>◌, unless, Gives}
 use Rattle.reading_core.proofs.Binds.{ok_is}
 use Rattle.label_sets.specs.declared.sample.Sample.{Sample}
 use Rattle.index_parts.specs.declared.chunk_place.ChunkPlace.{ChunkPlace}
@@ -18,7 +18,7 @@ use Rattle.xor_chunks.specs.Grammar.{AreOthers, IsText, Follows}
 use Rattle.chunk_files.specs.declared.refusal.ChunkRefusal.{ChunkRefusal}
 use Rattle.block_content.specs.Content.{HaveTimesOf, times_of}
 use Rattle.block_content.specs.Firsts.{first_at}
-use Rattle.block_content.specs.ContentReading.{data_of, have_times_of, part_at, samples_at, chunk_at, is_within, outside_of, first_time, lies_within, LieBetween}
+use Rattle.block_content.specs.ContentReading.{data_of, part_at, samples_at, chunk_at, is_within, outside_of, first_time, lies_within, LieBetween}
 use Rattle.block_content.specs.declared.chunk_cause.ChunkCause.{ChunkCause}
 use Rattle.block_content.specs.declared.chunk_cause.ChunkCause.TheVariants.{File, Data, NoSamples, TimesDiffer}
 use Rattle.block_content.proofs.FirstLaws.{some_is}

@@ -1,9 +1,9 @@
 -- What stands behind the first slash of a key's text, and of a segment's name.
-use Rattle.std.proofs.Common.{◌≡◌, ℕ, zero, suc, ◌<◌, ◌≤◌, List, [], ◌∷◌, ◌++◌, length, map, get_or, Option, None, Some, Result, Ok, Err, refl, sym, ap, subst, ◌∙◌, arith, codes, append_assoc, Bor}
+use Rattle.std.proofs.Common.{◌≡◌, ℕ, zero, suc, ◌<◌, List, [], ◌∷◌, length, map, get_or, Option, Result, Ok, Err, sym, subst, ◌∙◌, arith, codes, append_assoc, Bor}
 use Rattle.std.specs.Prelude.{◌≢◌, MatchOption, IfOk}
 use Rattle.std.specs.Int.Digits.{AllBelowBase}
 use Rattle.std.proofs.lemmas.Str.Pattern.{IsSplitOnceResult, split_after}
-use Rattle.ulid_core.specs.UlidText.{IsUlidText, text_of, character}
+use Rattle.ulid_core.specs.UlidText.{text_of, character}
 use Rattle.ulid_core.proofs.Tables.{character-range}
 use Rattle.ulid_core.proofs.UlidLaws.{IsUlidText-unique}
 use Rattle.block_keys.specs.declared.key.Key.{Key}

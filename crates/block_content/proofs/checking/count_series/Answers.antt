@@ -1,4 +1,4 @@
-use Rattle.std.proofs.Common.{refl, sym, ap, ◌∙◌, List, length, Ok, [], arith}
+use Rattle.std.proofs.Common.{refl, sym, ap, ◌∙◌, List, length, arith}
 use Rattle.label_sets.specs.declared.sample.Sample.{Sample}
 use Rattle.xor_chunks.specs.declared.refusal.XorRefusal.TheVariants as xor
 use Rattle.block_content.specs.ContentReading.{chunk_at}

@@ -1,5 +1,4 @@
-use Rattle.std.proofs.Common.{refl, ap, ◌∙◌, List, length, length-append, arith}
-use Rattle.label_sets.specs.declared.sample.Sample.{Sample}
+use Rattle.std.proofs.Common.{refl, ap, length, length-append, arith}
 use Rattle.xor_chunks.specs.declared.refusal.XorRefusal.TheVariants as xor
 use Rattle.block_content.specs.ContentReading.{chunk_at}
 use Rattle.block_content.specs.declared.chunk_cause.ChunkCause.TheVariants.{Data}

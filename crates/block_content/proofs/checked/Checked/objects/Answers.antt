@@ -1,5 +1,4 @@
-use Rattle.std.proofs.Common.{◌∙◌, sym, ap}
-use Rattle.block_meta.specs.MetaFields.{MetaFields}
+use Rattle.std.proofs.Common.{ap}
 use Rattle.block_meta.specs.MetaValue.{meta_text}
 use Rattle.block_content.proofs.ListedFiles.{shipped_ulid, moved_block, moved_objects}
 use Rattle.block_content.proofs.checked.Checked.objects.Goals as goal

@@ -1,0 +1,8 @@
+pub mod Kept
+pub mod Greatest
+pub mod FileLaws
+pub mod SegmentLaws
+pub mod LoadLaws
+pub mod SameFiles
+pub mod Calls
+pub mod LoadSteps

@@ -1,0 +1,9 @@
+use Rattle.std.proofs.Common.{inl, inr}
+use Rattle.block_loading.proofs.Calls.{answered, passed_on}
+use Rattle.block_loading.proofs.loading.load.Goals as goal
+
+pub returns-in_err-files-clause-only : goal.returns-in_err-files-clause-only
+returns-in_err-files-clause-only g c = λ told h files is. inr (passed_on c.from_residual.result c.in_err-files.field-0.0 c.from_residual.ensures.1 (c.in_err-files.ensures.only told h files is))
+
+pub returns-clause-only : goal.returns-clause-only
+returns-clause-only g c = λ told h files is. inl (answered _ (c.in_ok-files.ensures.only told h files is))

@@ -1,0 +1,24 @@
+use Rattle.std.proofs.Common.{◌∙◌, ap}
+use Rattle.block_meta.specs.MetaFields.{fields_of}
+use Rattle.block_loading.specs.Loading.{last_segment}
+use Rattle.block_loading.specs.LoadReading.{meta_at, index_in, segments_at, load_at, parts_of}
+use Rattle.block_loading.proofs.LoadSteps.{stops, stops_first, without_meta, without_index, without_segment, all_loaded}
+use Rattle.block_loading.proofs.loading.read_block.Goals as goal
+
+pub returns-in_err-meta-clause-loaded : goal.returns-in_err-meta-clause-loaded
+returns-in_err-meta-clause-loaded g c = λ told h. stops (λ x. parts_of x.0) (load_at told c.args.ulid) c.from_residual.result c.in_err-meta.field-0.0 c.from_residual.ensures.1
+    (stops_first (meta_at told c.args.ulid) (load_at told c.args.ulid) c.in_err-meta.field-0.0 (without_meta told c.args.ulid c.in_err-meta.field-0.0) (c.in_err-meta.ensures.read told h))
+
+pub returns-in_err-index-clause-loaded : goal.returns-in_err-index-clause-loaded
+returns-in_err-index-clause-loaded g c = λ told h. stops (λ x. parts_of x.0) (load_at told c.args.ulid) c.from_residual-in_err-index.result c.in_err-index.field-0.0 c.from_residual-in_err-index.ensures.1
+    (stops_first (index_in told c.args.ulid) (load_at told c.args.ulid) c.in_err-index.field-0.0 (without_index told c.args.ulid (fields_of c.in_ok-meta.meta) (c.in_ok-meta.ensures.read told h) c.in_err-index.field-0.0) (c.in_err-index.ensures.read told (c.in_ok-meta.ensures.kept.same ∙ h)))
+
+pub returns-in_err-segments-clause-loaded : goal.returns-in_err-segments-clause-loaded
+returns-in_err-segments-clause-loaded g c = λ told h. stops (λ x. parts_of x.0) (load_at told c.args.ulid) c.from_residual-in_err-segments.result c.in_err-segments.field-0.0 c.from_residual-in_err-segments.ensures.1
+    (stops_first (segments_at told c.args.ulid 1 c.last_segment.result) (load_at told c.args.ulid) c.in_err-segments.field-0.0
+    (without_segment told c.args.ulid (fields_of c.in_ok-meta.meta) (c.in_ok-meta.ensures.read told h) c.in_ok-index.index c.in_ok-index.indexed (c.in_ok-index.ensures.read told (c.in_ok-meta.ensures.kept.same ∙ h)) c.last_segment.result (c.last_segment.ensures.value ∙ ap last_segment c.members.ensures) c.in_err-segments.field-0.0)
+    (c.in_err-segments.ensures.read told (c.in_ok-index.ensures.kept.same ∙ (c.in_ok-meta.ensures.kept.same ∙ h))))
+
+pub returns-clause-loaded : goal.returns-clause-loaded
+returns-clause-loaded g c = λ told h. all_loaded told c.args.ulid (fields_of c.in_ok-meta.meta) (c.in_ok-meta.ensures.read told h) c.in_ok-index.index c.in_ok-index.indexed (c.in_ok-index.ensures.read told (c.in_ok-meta.ensures.kept.same ∙ h)) c.last_segment.result
+    (c.last_segment.ensures.value ∙ ap last_segment c.members.ensures) c.in_ok-segments.segments (c.in_ok-segments.ensures.read told (c.in_ok-index.ensures.kept.same ∙ (c.in_ok-meta.ensures.kept.same ∙ h)))

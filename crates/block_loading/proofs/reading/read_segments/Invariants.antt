@@ -1,0 +1,13 @@
+use Rattle.std.proofs.Common.{◌≡◌, ◌+◌, ◌-◌, Some, false, length}
+use Rattle.bucket_core.specs.Contents.{Contents}
+use Rattle.block_loading.specs.LoadReading.{KeepsShelf, segments_at}
+use Rattle.block_loading.proofs.SegmentLaws.{with_front}
+use Rattle.block_loading.proofs.reading.read_segments.Given as goal
+
+-- what was read, before what is left to read, is all that there is
+abbrev pub invariant-loop-number : goal.invariant-loop-number
+invariant-loop-number g l = record {
+  many : length l.segments ≡ l.number;
+  read : (told : Contents) → g.F.Shelf.files l.fn.shelf ≡ Some told → segments_at told l.ulid 1 l.last ≡ with_front l.segments (segments_at told l.ulid (l.number + 1) (l.last - l.number));
+  kept : KeepsShelf g.F.Shelf.files g.F.Shelf.faults l.fn.shelf l.shelf false;
+}

@@ -1,0 +1,107 @@
+-- What loading a block from told files gives, or the first refusal.
+use Rattle.std.specs.Prelude.{◌≡◌, ◌⊎◌, ℕ, zero, suc, ◌≤◌, List, [], ◌∷◌, length, Option, None, Some, Bool, true, false, IsTrue, Result, Ok, Err, MatchResult, nat_lt, if◌then◌else◌}
+use Rattle.reading_core.specs.Reading.{◌>>=◌, refused_as}
+use Rattle.block_keys.specs.declared.key.Key.{Key}
+use Rattle.block_keys.specs.declared.key.Key.TheVariants.{Meta, Index, Segment}
+use Rattle.block_keys.specs.KeyText.{key_text}
+use Rattle.block_meta.specs.MetaFields.{MetaFields, fields_of}
+use Rattle.block_meta.specs.MetaReading.{meta_of_text}
+use Rattle.block_meta.specs.declared.refusal.MetaRefusal.{MetaRefusal}
+use Rattle.block_meta.specs.declared.refusal.MetaRefusal.TheVariants as meta
+use Rattle.index_file.specs.declared.index_series.IndexSeries.{IndexSeries}
+use Rattle.block_files.specs.declared.block_files.BlockFiles.{BlockFiles}
+use Rattle.block_content.specs.ContentReading.{index_at, refused_index}
+use Rattle.block_content.specs.declared.check_refusal.CheckRefusal.{CheckRefusal}
+use Rattle.block_content.specs.declared.check_refusal.CheckRefusal.TheVariants as check
+use Rattle.bucket_core.specs.Causes.{Rose}
+use Rattle.bucket_core.specs.Contents.{Contents}
+use Rattle.bucket_core.specs.Files.{file_limit}
+use Rattle.block_loading.specs.Loading.{last_segment}
+use Rattle.block_loading.specs.declared.load_refusal.LoadRefusal.{LoadRefusal}
+use Rattle.block_loading.specs.declared.load_refusal.LoadRefusal.TheVariants.{Refused, ShelfFault, NoMemory}
+
+-- ---- calls
+
+-- loading was broken off
+abbrev pub IsBrokenOff : LoadRefusal → Type 0
+IsBrokenOff e = (e ≡ NoMemory) ⊎ (e ≡ ShelfFault)
+
+abbrev pub WasBrokenOff : {X : Type 0} → Result X LoadRefusal → Type 0
+WasBrokenOff {X} result = (result ≡ Err NoMemory) ⊎ (result ≡ Err ShelfFault)
+
+-- What a call returned, seen by view, is what the reading function gives, unless it was broken off.
+abbrev pub Loads : {X Y : Type 0} → (X → Y) → Result X LoadRefusal → Result Y LoadRefusal → Type 0
+Loads {X} {Y} view result read = MatchResult result (λ x. read ≡ Ok (view x)) (λ e. IsBrokenOff e ⊎ (read ≡ Err e))
+
+abbrev pub is_fault : LoadRefusal → Bool
+is_fault (Refused refusal) = false
+is_fault ShelfFault = true
+is_fault NoMemory = false
+
+-- whether a call ended with a fault of the shelf
+abbrev pub was_fault : {X : Type 0} → Result X LoadRefusal → Bool
+was_fault {X} (Ok x) = false
+was_fault {X} (Err e) = is_fault e
+
+-- A call read files of a shelf, and ended with a fault or not. It leaves the files as they were. The count of faults rises
+-- where the call ended with a fault, and there alone.
+pub record KeepsShelf {S : Type 0} (files : S → Option Contents) (faults : S → ℕ) (old new : S) (fault : Bool) : Type 0 where
+  pub same : files new ≡ files old
+  pub later : faults old ≤ faults new
+  pub cause : IsTrue fault → Rose (faults old) (faults new)
+  pub calm : fault ≡ false → faults new ≡ faults old
+
+-- ---- reading
+
+-- a refusal of the block, of which one for want of memory is none
+abbrev pub refused_block : CheckRefusal → LoadRefusal
+refused_block check.NoMemory = NoMemory
+refused_block refusal = Refused refusal
+
+abbrev pub refused_meta : MetaRefusal → LoadRefusal
+refused_meta meta.NoMemory = NoMemory
+refused_meta refusal = Refused (check.BadMeta refusal)
+
+-- the bytes of a file, if there is one
+abbrev pub file_in : Key → Option (List ℕ) → Result (List ℕ) LoadRefusal
+file_in key None = Err (Refused (check.NoFile key))
+file_in key (Some bytes) = if nat_lt file_limit (length bytes) then Err (Refused (check.TooLarge key)) else Ok bytes
+
+unfoldable pub file_at : Contents → Key → Result (List ℕ) LoadRefusal
+file_at told key = file_in key (told (key_text key))
+
+unfoldable pub meta_at : Contents → ℕ → Result MetaFields LoadRefusal
+meta_at told ulid = do
+  text ← file_at told (Meta ulid)
+  refused_as refused_meta (meta_of_text text)
+
+-- the index, and its series
+unfoldable pub index_in : Contents → ℕ → Result (List ℕ × List IndexSeries) LoadRefusal
+index_in told ulid = do
+  index ← file_at told (Index ulid)
+  indexed ← refused_as (λ e. refused_block (refused_index e)) (index_at index)
+  Ok (index, indexed)
+
+-- so many segments, of which the first has this number
+unfoldable pub segments_at : Contents → ℕ → ℕ → ℕ → Result (List (List ℕ)) LoadRefusal
+segments_at told ulid number zero = Ok []
+segments_at told ulid number (suc count) = do
+  segment ← file_at told (Segment ulid number)
+  others ← segments_at told ulid (suc number) count
+  Ok (segment ∷ others)
+
+-- the files of a block
+pub record BlockParts : Type 0 where
+  pub meta : MetaFields
+  pub index : List ℕ
+  pub segments : List (List ℕ)
+
+abbrev pub parts_of : BlockFiles → BlockParts
+parts_of files = record { meta = fields_of files.meta; index = files.index; segments = files.segments }
+
+unfoldable pub load_at : Contents → ℕ → Result BlockParts LoadRefusal
+load_at told ulid = do
+  meta ← meta_at told ulid
+  index ← index_in told ulid
+  segments ← segments_at told ulid 1 (last_segment index.1)
+  Ok (record { meta = meta; index = index.0; segments = segments })

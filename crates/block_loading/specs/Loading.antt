@@ -1,0 +1,116 @@
+-- Which block a shelf has under a ULID, and why it has none that is shipped. The files of a block are its meta, its index, and
+-- the segments from the first to the greatest that the index names. They are looked at in this order.
+use Rattle.std.specs.Prelude.{◌≡◌, ◌≢◌, ◌⊎◌, ℕ, ◌+◌, ◌<◌, ◌≤◌, min, max, List, [], ◌∷◌, length, map, slice_get, None, Some, IsSomeAnd, Ok, Err}
+use Rattle.std.specs.List.{flat_map}
+use Rattle.label_sets.specs.declared.series.Series.{Series}
+use Rattle.block_keys.specs.declared.key.Key.{Key}
+use Rattle.block_keys.specs.declared.key.Key.TheVariants.{Meta, Index, Segment, Mark}
+use Rattle.block_keys.specs.KeyText.{key_text}
+use Rattle.block_meta.specs.MetaFields.{MetaFields, fields_of}
+use Rattle.block_meta.specs.MetaReading.{meta_of_text}
+use Rattle.block_meta.specs.declared.refusal.MetaRefusal.TheVariants as meta
+use Rattle.index_parts.specs.declared.chunk_place.ChunkPlace.{ChunkPlace}
+use Rattle.index_file.specs.declared.index_series.IndexSeries.{IndexSeries}
+use Rattle.index_v2.specs.declared.refusal.IndexRefusal.TheVariants as index
+use Rattle.block_files.specs.declared.block_files.BlockFiles.{BlockFiles}
+use Rattle.block_content.specs.ContentReading.{index_at}
+use Rattle.block_content.specs.Checking.{Passes, RefusesBlock}
+use Rattle.block_content.specs.declared.check_refusal.CheckRefusal.{CheckRefusal}
+use Rattle.block_content.specs.declared.check_refusal.CheckRefusal.TheVariants.{NoFile, BadMeta, UlidDiffers, NotLevelOne, SourcesNotSelf, Downsampled, TooLarge, BadIndex, EmptyBlock, BadChunk, OutsideRange, Repeated, NoMemory}
+use Rattle.bucket_core.specs.Contents.{Contents}
+use Rattle.bucket_core.specs.Files.{file_limit}
+
+-- ---- files
+
+-- The file under the key has these bytes, and does not pass the limit.
+pub record HasFile (told : Contents) (key : Key) (bytes : List ℕ) : Type 0 where
+  pub stands : told (key_text key) ≡ Some bytes
+  pub within : length bytes ≤ file_limit
+
+-- the meta of the block is this one
+pub record HasMeta (told : Contents) (ulid : ℕ) (meta : MetaFields) : Type 0 where
+  pub text : List ℕ
+  pub file : HasFile told (Meta ulid) text
+  pub reads : meta_of_text text ≡ Ok meta
+
+-- the index of the block is this one, and is of these series
+pub record HasIndex (told : Contents) (ulid : ℕ) (index : List ℕ) (indexed : List IndexSeries) : Type 0 where
+  pub file : HasFile told (Index ulid) index
+  pub reads : index_at index ≡ Ok indexed
+
+-- the segments of the block, which are numbered from 1, begin with these
+abbrev pub HasSegments : Contents → ℕ → List (List ℕ) → Type 0
+HasSegments told ulid segments = (place : ℕ) (bytes : List ℕ) → slice_get segments place ≡ Some bytes → HasFile told (Segment ulid (place + 1)) bytes
+
+-- ---- the segments that an index names
+
+-- the number of the file in which a chunk stands, of which none passes 999,999
+abbrev pub file_number : ChunkPlace → ℕ
+file_number place = min (place.segment + 1) 999_999
+
+unfoldable pub greatest : List ℕ → ℕ
+greatest [] = 0
+greatest (number ∷ numbers) = max number (greatest numbers)
+
+-- the greatest number of a file that the series name, and 0 where they have no chunks
+unfoldable pub last_segment : List IndexSeries → ℕ
+last_segment indexed = greatest (map file_number (flat_map (λ one. one.chunks) indexed))
+
+-- ---- the block
+
+-- The shelf has these files of the block, and these are all that its index names.
+pub record IsLoaded (told : Contents) (ulid : ℕ) (files : BlockFiles) : Type 0 where
+  pub indexed : List IndexSeries
+  pub meta_is : HasMeta told ulid (fields_of files.meta)
+  pub index_is : HasIndex told ulid files.index indexed
+  pub segments_are : HasSegments told ulid files.segments
+  pub all : length files.segments ≡ last_segment indexed
+
+-- ---- why there is none
+
+-- The index names a segment of this number or of a greater one, and all before it stand.
+pub record ReachesSegment (told : Contents) (ulid number : ℕ) : Type 0 where
+  pub meta : MetaFields
+  pub meta_is : HasMeta told ulid meta
+  pub index : List ℕ
+  pub indexed : List IndexSeries
+  pub index_is : HasIndex told ulid index indexed
+  pub first : 1 ≤ number
+  pub named : number ≤ last_segment indexed
+  pub before : List (List ℕ)
+  pub before_are : HasSegments told ulid before
+  pub all_before : length before + 1 ≡ number
+
+-- The file is one of the block's, and all that are looked at before it stand and are read.
+abbrev pub Reaches : Contents → ℕ → Key → Type 0
+Reaches told ulid (Meta owner) = owner ≡ ulid
+Reaches told ulid (Index owner) = (owner ≡ ulid) × ((meta : MetaFields) × HasMeta told ulid meta)
+Reaches told ulid (Segment owner number) = (owner ≡ ulid) × ReachesSegment told ulid number
+Reaches told ulid (Mark owner) = ⊥
+
+-- The block cannot be loaded, and this is why.
+abbrev pub RefusesLoad : Contents → ℕ → CheckRefusal → Type 0
+RefusesLoad told ulid (NoFile key) = Reaches told ulid key × (told (key_text key) ≡ None)
+RefusesLoad told ulid (TooLarge key) = Reaches told ulid key × IsSomeAnd (told (key_text key)) (λ bytes. file_limit < length bytes)
+RefusesLoad told ulid (BadMeta refusal) = (text : List ℕ) × HasFile told (Meta ulid) text × (meta_of_text text ≡ Err refusal) × (refusal ≢ meta.NoMemory)
+RefusesLoad told ulid (BadIndex refusal) = (fields : MetaFields) × (bytes : List ℕ) × HasMeta told ulid fields × HasFile told (Index ulid) bytes × (index_at bytes ≡ Err refusal) × (refusal ≢ index.NoMemory)
+RefusesLoad told ulid UlidDiffers = ⊥
+RefusesLoad told ulid NotLevelOne = ⊥
+RefusesLoad told ulid SourcesNotSelf = ⊥
+RefusesLoad told ulid Downsampled = ⊥
+RefusesLoad told ulid EmptyBlock = ⊥
+RefusesLoad told ulid (BadChunk series chunk cause) = ⊥
+RefusesLoad told ulid (OutsideRange series time) = ⊥
+RefusesLoad told ulid (Repeated series) = ⊥
+RefusesLoad told ulid NoMemory = ⊥
+
+-- ---- loaded and checked
+
+-- The shelf has the block, and it passes and holds these series.
+pub record PassesOnShelf (told : Contents) (ulid : ℕ) (files : BlockFiles) (list : List Series) : Type 0 where
+  pub loaded : IsLoaded told ulid files
+  pub passes : Passes ulid files list
+
+-- why a block of the shelf is not shipped: why it cannot be loaded, and else why it does not pass
+abbrev pub RefusesOnShelf : Contents → ℕ → CheckRefusal → Type 0
+RefusesOnShelf told ulid refusal = RefusesLoad told ulid refusal ⊎ ((files : BlockFiles) × IsLoaded told ulid files × RefusesBlock ulid files refusal)

@@ -1,0 +1,106 @@
+//! Loading a block's files from a shelf.
+ghost use Rattle.std.specs.Prelude.{◌≡◌, ◌⊎◌, ◌≤◌, List, Some, Ok, Err, IfOk, IfSome, length, false};
+ghost use Rattle.std.specs.Result.{IsOkAnd};
+ghost use Rattle.reading_core.specs.Grammar.{IsBytes};
+ghost use Rattle.index_file.specs.declared.index_series.IndexSeries.{IndexSeries};
+ghost use Rattle.block_files.specs.declared.block_files.BlockFiles.{BlockFiles};
+ghost use Rattle.block_content.specs.ContentReading.{index_at};
+ghost use Rattle.block_content.specs.declared.check_refusal.CheckRefusal.{CheckRefusal};
+ghost use Rattle.bucket_core.specs.Contents.{Contents};
+ghost use Rattle.block_loading.specs.Loading.{last_segment, IsLoaded, RefusesLoad};
+ghost use Rattle.block_loading.specs.LoadReading.{Loads, KeepsShelf, WasBrokenOff, was_fault, parts_of, load_at};
+
+use crate::LoadRefusal;
+use crate::reading::{last_segment, read_meta, read_segments, read_series};
+use block_files::BlockFiles;
+use bucket_core::Shelf;
+use index_v2::IndexSeriesList;
+use std::alloc::Global;
+use ulid_core::Ulid;
+
+/// Reads the meta of a block, its index, and the segments from the first to the greatest that the index names.
+fn read_block<F: Shelf>(
+    alloc: Global,
+    shelf: &mut F,
+    ulid: Ulid,
+) -> Result<(BlockFiles, IndexSeriesList), LoadRefusal>
+    ensures loaded { (told : Contents) → F.files shelf.old ≡ Some told
+        → Loads (λ x. parts_of x.0) result (load_at told ulid) }
+    ensures read { IfOk result (λ x. IsBytes x.0.index × (index_at x.0.index ≡ Ok x.1)) }
+    ensures named { IfOk result (λ x. length x.0.segments ≡ last_segment x.1) }
+    ensures kept { KeepsShelf F.files F.faults shelf.old shelf.new (was_fault result) }
+{
+    let meta = read_meta(alloc, shelf, ulid)?;
+    let (index, indexed) = read_series(alloc, shelf, ulid)?;
+    let segments = read_segments(alloc, shelf, ulid, last_segment(indexed.members()))?;
+    let files = BlockFiles {
+        meta,
+        index,
+        segments,
+    };
+    Ok((files, indexed))
+}
+
+/// Loads a block's files from a shelf, as `load` does, with the series that were read of its index.
+pub fn load_indexed<F: Shelf>(
+    alloc: Global,
+    shelf: &mut F,
+    ulid: Ulid,
+) -> Result<(BlockFiles, IndexSeriesList), LoadRefusal>
+    // Where the shelf tells its files, they are the block's, and a block that the shelf has is loaded.
+    ensures found { (told : Contents) → F.files shelf.old ≡ Some told
+        → IfOk result (λ x. IsLoaded told ulid x.0) }
+    ensures only { (told : Contents) → F.files shelf.old ≡ Some told
+        → (files : BlockFiles) → IsLoaded told ulid files
+        → IsOkAnd result (λ x. x.0 ≡ files) ⊎ WasBrokenOff result }
+
+    // A refusal is the first in the order of reading.
+    ensures refused { (told : Contents) → F.files shelf.old ≡ Some told
+        → (refusal : CheckRefusal) → result ≡ Err (LoadRefusal.Refused refusal)
+        → RefusesLoad told ulid refusal }
+    ensures refuses { (told : Contents) → F.files shelf.old ≡ Some told
+        → (refusal : CheckRefusal) → RefusesLoad told ulid refusal
+        → (result ≡ Err (LoadRefusal.Refused refusal)) ⊎ WasBrokenOff result }
+
+    // Whatever the shelf tells, the series are those of the index, and exactly the segments up to the last that they name are
+    // loaded.
+    ensures read { IfOk result (λ x. IsBytes x.0.index × (index_at x.0.index ≡ Ok x.1)) }
+    ensures named { IfOk result (λ x. length x.0.segments ≡ last_segment x.1) }
+
+    // The files stay as they are, and the shelf's count rises just where a fault is answered.
+    ensures kept { KeepsShelf F.files F.faults shelf.old shelf.new (was_fault result) }
+{
+    read_block(alloc, shelf, ulid)
+}
+
+/// Loads a block's files from a shelf.
+///
+/// The meta is read first, then the index, then the segments from 1 to the greatest that the index names, or to 999,999 where
+/// that is less. Each file is refused where it is read.
+pub fn load<F: Shelf>(alloc: Global, shelf: &mut F, ulid: Ulid) -> Result<BlockFiles, LoadRefusal>
+    // Where the shelf tells its files, they are the block's, and a block that the shelf has is loaded.
+    ensures found { (told : Contents) → F.files shelf.old ≡ Some told
+        → IfOk result (λ files. IsLoaded told ulid files) }
+    ensures only { (told : Contents) → F.files shelf.old ≡ Some told
+        → (files : BlockFiles) → IsLoaded told ulid files
+        → IsOkAnd result (λ loaded. loaded ≡ files) ⊎ WasBrokenOff result }
+
+    // A refusal is the first in the order of reading.
+    ensures refused { (told : Contents) → F.files shelf.old ≡ Some told
+        → (refusal : CheckRefusal) → result ≡ Err (LoadRefusal.Refused refusal)
+        → RefusesLoad told ulid refusal }
+    ensures refuses { (told : Contents) → F.files shelf.old ≡ Some told
+        → (refusal : CheckRefusal) → RefusesLoad told ulid refusal
+        → (result ≡ Err (LoadRefusal.Refused refusal)) ⊎ WasBrokenOff result }
+
+    // Whatever the shelf tells, exactly the segments up to the last that the index names are loaded.
+    ensures named { IfOk result (λ files. (indexed : List IndexSeries)
+        × (index_at files.index ≡ Ok indexed)
+        × (length files.segments ≡ last_segment indexed)) }
+
+    // The files stay as they are, and the shelf's count rises just where a fault is answered.
+    ensures kept { KeepsShelf F.files F.faults shelf.old shelf.new (was_fault result) }
+{
+    let (files, _) = load_indexed(alloc, shelf, ulid)?;
+    Ok(files)
+}

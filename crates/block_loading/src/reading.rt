@@ -1,0 +1,162 @@
+//! The files of a block, each as it is read from a shelf.
+ghost use Rattle.std.specs.Prelude.{◌≡◌, ◌+◌, ◌≤◌, ℕ, Option, Some, Ok, List, IfOk, length, map, max};
+ghost use Rattle.std.specs.List.{flat_map};
+ghost use Rattle.reading_core.specs.Grammar.{IsBytes};
+ghost use Rattle.block_keys.specs.Keys.{IsLawfulKey};
+ghost use Rattle.block_meta.specs.MetaFields.{fields_of};
+ghost use Rattle.block_content.specs.ContentReading.{index_at};
+ghost use Rattle.bucket_core.specs.Causes.{file_failed};
+ghost use Rattle.bucket_core.specs.Contents.{Contents};
+ghost use Rattle.bucket_core.specs.Files.{IsWithinLimit, ShowsFile};
+ghost use Rattle.block_loading.specs.Loading.{file_number, greatest, last_segment};
+ghost use Rattle.block_loading.specs.LoadReading.{Loads, KeepsShelf, was_fault, refused_block, refused_meta, file_in, file_at, meta_at, index_in, segments_at};
+
+use crate::LoadRefusal;
+use block_content::{CheckRefusal, read_index};
+use block_files::BlobList;
+use block_keys::Key;
+use block_meta::{Meta, MetaRefusal};
+use bucket_core::{Shelf, ShelfAnswer};
+use index_parts::ChunkPlace;
+use index_v2::{IndexSeries, IndexSeriesList};
+use std::alloc::Global;
+use ulid_core::Ulid;
+use wire_bytes::Blob;
+
+/// The greatest number that a segment's file may have, as its name has six digits.
+const LAST_NUMBER: u32 = 999_999;
+
+/// What a file's reading was answered, as the file under a key.
+fn file_of(key: &Key, answer: ShelfAnswer) -> Result<Blob, LoadRefusal>
+    requires { IsWithinLimit answer }
+    ensures read { (file : Option (List ℕ)) → ShowsFile file answer
+        → Loads (λ bytes. bytes) result (file_in key.now file) }
+    ensures failed { was_fault result ≡ file_failed answer }
+{
+    match answer {
+        ShelfAnswer::Found(bytes) => Ok(bytes),
+        ShelfAnswer::Absent => Err(LoadRefusal::Refused(CheckRefusal::NoFile(*key))),
+        ShelfAnswer::TooLarge => Err(LoadRefusal::Refused(CheckRefusal::TooLarge(*key))),
+        ShelfAnswer::Failed => Err(LoadRefusal::ShelfFault),
+        ShelfAnswer::NoMemory => Err(LoadRefusal::NoMemory),
+    }
+}
+
+/// Reads the file under a key.
+fn read_file<F: Shelf>(alloc: Global, shelf: &mut F, key: &Key) -> Result<Blob, LoadRefusal>
+    requires { IsLawfulKey key.now }
+    ensures read { (told : Contents) → F.files shelf.old ≡ Some told
+        → Loads (λ bytes. bytes) result (file_at told key.now) }
+    ensures kept { KeepsShelf F.files F.faults shelf.old shelf.new (was_fault result) }
+{
+    let name = key.text(alloc)?;
+    let answer = shelf.read(name.as_str());
+    file_of(key, answer)
+}
+
+/// A refusal of a block.
+pub(crate) fn refused_block(refusal: CheckRefusal) -> LoadRefusal
+    ensures { result ≡ refused_block refusal }
+{
+    match refusal {
+        CheckRefusal::NoMemory => LoadRefusal::NoMemory,
+        refusal => LoadRefusal::Refused(refusal),
+    }
+}
+
+/// A refusal of a meta.
+fn refused_meta(refusal: MetaRefusal) -> LoadRefusal
+    ensures { result ≡ refused_meta refusal }
+{
+    match refusal {
+        MetaRefusal::NoMemory => LoadRefusal::NoMemory,
+        refusal => LoadRefusal::Refused(CheckRefusal::BadMeta(refusal)),
+    }
+}
+
+/// Reads the meta of a block.
+pub(crate) fn read_meta<F: Shelf>(
+    alloc: Global,
+    shelf: &mut F,
+    ulid: Ulid,
+) -> Result<Meta, LoadRefusal>
+    ensures read { (told : Contents) → F.files shelf.old ≡ Some told
+        → Loads fields_of result (meta_at told ulid) }
+    ensures kept { KeepsShelf F.files F.faults shelf.old shelf.new (was_fault result) }
+{
+    let text = read_file(alloc, shelf, &Key::Meta(ulid))?;
+    match Meta::read(alloc, text.bytes()) {
+        Ok(meta) => Ok(meta),
+        Err(refusal) => Err(refused_meta(refusal)),
+    }
+}
+
+/// Reads the index of a block, and its series.
+pub(crate) fn read_series<F: Shelf>(
+    alloc: Global,
+    shelf: &mut F,
+    ulid: Ulid,
+) -> Result<(Blob, IndexSeriesList), LoadRefusal>
+    ensures read { (told : Contents) → F.files shelf.old ≡ Some told
+        → Loads (λ x. (x.0, x.1)) result (index_in told ulid) }
+    ensures bytes { IfOk result (λ x. IsBytes x.0) }
+    ensures indexed { IfOk result (λ x. index_at x.0 ≡ Ok x.1) }
+    ensures kept { KeepsShelf F.files F.faults shelf.old shelf.new (was_fault result) }
+{
+    let index = read_file(alloc, shelf, &Key::Index(ulid))?;
+    match read_index(alloc, index.bytes()) {
+        Ok(indexed) => Ok((index, indexed)),
+        Err(refusal) => Err(refused_block(refusal)),
+    }
+}
+
+/// The number of the file in which a chunk stands.
+fn file_number(place: &ChunkPlace) -> u32
+    ensures { result ≡ file_number place.now }
+{
+    place.segment.saturating_add(1).min(LAST_NUMBER)
+}
+
+/// The greater one of a number and of the files' in which chunks stand.
+fn last_of(chunks: &[ChunkPlace], before: u32) -> u32
+    ensures { result ≡ max before (greatest (map file_number chunks.now)) }
+{
+    let mut last = before;
+    for place in chunks {
+        last = last.max(file_number(place));
+    }
+    last
+}
+
+/// The greatest number of a file that series name.
+pub(crate) fn last_segment(indexed: &[IndexSeries]) -> u32
+    ensures value { result ≡ last_segment indexed.now }
+    ensures most { result ≤ 999_999 }
+{
+    let mut last = 0;
+    for one in indexed {
+        last = last_of(one.chunks.members(), last);
+    }
+    last
+}
+
+/// Reads so many segments of a block.
+pub(crate) fn read_segments<F: Shelf>(
+    alloc: Global,
+    shelf: &mut F,
+    ulid: Ulid,
+    last: u32,
+) -> Result<BlobList, LoadRefusal>
+    requires { last ≤ 999_999 }
+    ensures read { (told : Contents) → F.files shelf.old ≡ Some told
+        → Loads (λ segments. segments) result (segments_at told ulid 1 last) }
+    ensures many { IfOk result (λ segments. length segments ≡ last) }
+    ensures kept { KeepsShelf F.files F.faults shelf.old shelf.new (was_fault result) }
+{
+    let mut segments = BlobList::new(alloc);
+    for number in 0..last {
+        let segment = read_file(alloc, shelf, &Key::Segment(ulid, number + 1))?;
+        segments.push(segment)?;
+    }
+    Ok(segments)
+}
