@@ -8,4 +8,4 @@ use Rattle.replay_cli.proofs.tool.run_tool.Goals as goal
 pub returns-clause-calm : goal.returns-clause-calm
 returns-clause-calm g c = λ calm.
     subst (λ (n : ℕ). (n ≡ 0) ⊎ (n ≡ 6)) (sym c.number.ensures)
-    (calm_end (IsSome (bucket_word c.args.words.now)) _ _ c.come_to-conclusion.result.conclusion.verdict c.say.result calm c.come_to-conclusion.ensures.cause c.say.ensures)
+    (calm_end (IsSome (bucket_word c.args.words.now)) _ _ c.come_to-conclusion.result.conclusion.verdict c.say-status.result calm c.come_to-conclusion.ensures.cause c.say-status.ensures)
