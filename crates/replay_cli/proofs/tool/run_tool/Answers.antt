@@ -1,6 +1,5 @@
-use Rattle.std.proofs.Common.{◌≡◌, ◌⊎◌, ℕ, ap, sym, subst, ◌∙◌}
+use Rattle.std.proofs.Common.{◌≡◌, ◌⊎◌, ℕ, sym, subst}
 use Rattle.std.specs.Prelude.{IsSome}
-use Rattle.replay_cli.specs.Statuses.{number_of}
 use Rattle.replay_cli.specs.Words.{bucket_word}
 use Rattle.replay_cli.proofs.Calm.{calm_end}
 use Rattle.replay_cli.proofs.tool.run_tool.Goals as goal
