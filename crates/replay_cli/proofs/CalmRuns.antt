@@ -79,7 +79,7 @@ none_asked (work.Upload ulid stop) o is = absurd is
 none_asked (work.Sync gateway) o is = absurd is
 none_asked (work.Query low high n) o is = asked_as o _ is refl
 
-more_asked : (w : Work) (one other : End) (ends : List End) (o : Outcome) → IsOutcome w (one ∷ other ∷ ends) o → ⊥
+pub more_asked : (w : Work) (one other : End) (ends : List End) (o : Outcome) → IsOutcome w (one ∷ other ∷ ends) o → ⊥
 more_asked (work.Upload ulid stop) (uploaded e) other ends o is = is
 more_asked (work.Upload ulid stop) (synced e) other ends o is = is
 more_asked (work.Upload ulid stop) (answered used e) other ends o is = is
@@ -104,7 +104,7 @@ of_zip (a ∷ xs) [] x y (k, below, at) = absurd (omega (arith, below))
 of_zip {X} {Y} (a ∷ xs) (b ∷ ys) x y (zero, below, at) = let same : b ≡ y = ap (λ (p : X × Y). p.1) at in subst (Contains (b ∷ ys)) same (contains_first b ys)
 of_zip (a ∷ xs) (b ∷ ys) x y (suc k, below, at) = contains_later b y ys (of_zip xs ys x y (k, omega (arith, below), at))
 
-end_came : (workers : List Worker) (ends : List (List End)) (gateway : Option ℕ) (place : ℕ) (end : End) → CameTo workers ends gateway place end → (own : List End) × Contains ends own × Contains own end
+pub end_came : (workers : List Worker) (ends : List (List End)) (gateway : Option ℕ) (place : ℕ) (end : End) → CameTo workers ends gateway place end → (own : List End) × Contains ends own × Contains own end
 end_came workers ends gateway place end c = (c.own, of_zip workers ends c.worker c.own c.among, of_zip (c.worker).tasks c.own place end c.came)
 
 module _ (workers : List Worker) (ends : List (List End)) (well : (own : List End) (end : End) → Contains ends own → Contains own end → IsWell end) where

@@ -1,11 +1,15 @@
-ghost use Rattle.std.specs.Prelude.{◌≡◌, ℕ, Bool, true, List};
+ghost use Rattle.std.specs.Prelude.{◌≡◌, ℕ, Bool, true, List, Contains};
 ghost use Rattle.world_core.specs.Standing.{IsHonest};
 ghost use Rattle.world_core.specs.Worlds.{failed_count};
 ghost use Rattle.world_core.specs.declared.entry.Entry.{Entry};
 ghost use Rattle.script_core.specs.Lawful.{IsLawfulScript};
+ghost use Rattle.lifecycle_core.specs.Causes.{IsExplained};
 ghost use Rattle.lifecycle_core.specs.Setting.{Setting};
 ghost use Rattle.replay_cli.specs.ToldAnswers.{IsTold, IsWorth, ToldAnswer};
 ghost use Rattle.replay_cli.specs.Verdicts.{IsFullRun, IsWholeRun};
+ghost use Rattle.replay_cli.specs.declared.outcome.Outcome.TheVariants as outcome;
+ghost use Rattle.replay_cli.specs.declared.outcome.QueryOutcome.TheVariants as query;
+ghost use Rattle.replay_cli.specs.declared.outcome.NoAnswer.TheVariants as none;
 
 /// A law: each answer that the report of a whole run tells was given in it and is sound, where the journal is honest; and so is
 /// each that is told of a run which the full journal broke off.
@@ -22,6 +26,20 @@ pub fn told_answers_are_sound()
         → (place : ℕ) (answer : ToldAnswer)
         → IsTold setting.script run.done run.report.outcomes place answer
         → IsWorth setting journal run.ends answer }
+{}
+
+/// A law: where a query's line tells of a missing object, the journal shows why.
+pub fn told_misses_are_explained()
+    ensures whole { (setting : Setting) (as_asked : Bool) (text : List ℕ) (journal : List Entry)
+        (run : IsWholeRun setting as_asked text journal) (gateway number : ℕ)
+        → Contains run.report.outcomes
+        (outcome.Query (query.NoAnswer gateway (none.Missing number)))
+        → IsExplained setting journal number }
+    ensures full { (setting : Setting) (text : List ℕ) (journal : List Entry)
+        (run : IsFullRun setting text journal) (gateway number : ℕ)
+        → Contains run.report.outcomes
+        (outcome.Query (query.NoAnswer gateway (none.Missing number)))
+        → IsExplained setting journal number }
 {}
 
 /// A law: where the bucket is honest and no call to it failed, a whole run ends as asked: no line tells of a fault, of something

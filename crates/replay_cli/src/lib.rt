@@ -26,7 +26,7 @@ mod words;
 
 pub use input::read_all;
 pub use input_refusal::InputRefusal;
-pub use laws::{calm_runs_end_as_asked, told_answers_are_sound};
+pub use laws::{calm_runs_end_as_asked, told_answers_are_sound, told_misses_are_explained};
 pub use outcome::{NoAnswer, Outcome, OutcomeList, QueryOutcome, SyncOutcome, UploadOutcome};
 pub use output::{SinkFault, write_all};
 pub use run::Run;

@@ -45,7 +45,8 @@ pub fn run_tool<S: Site, R: Source, K: Sink>(
     // A calm call ends as asked, unless there is no memory.
     ensures calm { IsCalm (IsSome (bucket_word words.now))
         (around_call R.left R.faults script.old script.new
-        S.buckets S.next_bucket S.shelves S.next_shelf S.faults (bucket_word words.now) (shelf_word words.now)
+        S.buckets S.next_bucket S.shelves S.next_shelf S.faults
+        (bucket_word words.now) (shelf_word words.now)
         site.old site.new S.Store.faults result.store result.shelf result.journal)
         (saying_to K.faults K.written out.old out.new)
         → (result.status ≡ 0) ⊎ (result.status ≡ 6) }

@@ -2,17 +2,16 @@
 use Rattle.std.proofs.Common.{◌≡◌, ◌+◌, ◌*◌, ◌≤◌, ◌==◌, ℕ, All, Bool, true, false, cond, [], ◌∷◌, Some, None, is_some, refl, ap, subst, arith, lit<, lit≤}
 use Rattle.std.proofs.lemmas.Bool.Decides.{nat_tests}
 use Rattle.std.proofs.lemmas.List.Elements.{All-cons, All-contains, All-from_recursion, All-nil}
-use Rattle.block_keys.specs.declared.key.Key.TheVariants as key
 use Rattle.sync_filters.specs.Filters.{time_of}
 use Rattle.world_core.specs.declared.entry.Entry.{Entry}
-use Rattle.lifecycle_core.specs.Guarantees.{LeavesNoneOut, Named, NamesAll}
+use Rattle.lifecycle_core.specs.Guarantees.{LeavesNoneOut, NamesAll}
 use Rattle.lifecycle_core.specs.SyncsAndCalls.{IsViewOf}
 use Rattle.lifecycle_core.specs.Tasks.{sync_rules}
 use Rattle.tests_worked.proofs.SmallTasks.{sync_run}
 use Rattle.tests_worked.proofs.OneAnswer.{one_named}
 use Rattle.lifecycle_core.specs.TimeRules.{IsMarkedInTime, IsReadInTime, IsSyncedInTime, IsUploadedInTime, PutsMark, PutsObject}
 use Rattle.tests_worked.specs.SmallBlock as small
-use Rattle.tests_worked.specs.Entries.{absent, found, listed}
+use Rattle.tests_worked.specs.Entries.{listed}
 use Rattle.tests_worked.specs.OneBlock as one
 
 -- ---- uploads

@@ -38,7 +38,7 @@ use Rattle.script_workers.specs.declared.worker.Worker.{Worker}
 use Rattle.lifecycle_core.specs.Completed.{IsCompletedAt, IsUploadedBefore, PutsMeta}
 use Rattle.lifecycle_core.specs.Conducts.{CameTo, PhaseRun, WorkerRun}
 use Rattle.lifecycle_core.specs.Guarantees.{IsGiven, Named}
-use Rattle.lifecycle_core.specs.Holdings.{Use, none_held, nothing_held}
+use Rattle.lifecycle_core.specs.Holdings.{none_held, nothing_held}
 use Rattle.lifecycle_core.specs.Phases.{IsRunOf, by_script, by_workers}
 use Rattle.lifecycle_core.specs.Tasks.{End, answered, synced, uploaded}
 use Rattle.lifecycle_core.specs.Ways.{PhasesRun}

@@ -1,30 +1,28 @@
 -- What a call over a view is worth in an acting journal, whoever made it, and whoever's sync gave the view.
 use Rattle.list_core.proofs.Membership.{contains_later, member_cases}
-use Rattle.std.proofs.Common.{◌≡◌, ◌≢◌, ◌↔◌, inl, inr, ℕ, zero, suc, ◌+◌, ◌<◌, ◌≤◌, ◌==◌, ℤ, Bool, List, [], ◌∷◌, ◌++◌, length, Contains, Option, Some, None, refl, sym, ◌∙◌, ap, subst, append_assoc, arith}
+use Rattle.std.proofs.Common.{◌≡◌, ◌↔◌, inl, inr, ℕ, suc, ◌+◌, ◌<◌, ◌≤◌, ◌==◌, ℤ, List, [], ◌∷◌, ◌++◌, length, Contains, Option, Some, refl, sym, ◌∙◌, ap, subst, append_assoc, arith}
 use Rattle.std.specs.Prelude.{get_or}
 use Rattle.std.specs.List.{All, AllPairs}
 use Rattle.std.proofs.lemmas.List.{length-append}
-use Rattle.std.proofs.lemmas.List.Elements.{All-contains, All-contains_itself, All-weaker}
+use Rattle.std.proofs.lemmas.List.Elements.{All-contains, All-contains_itself}
 use Rattle.label_sets.specs.declared.series.Series.{Series}
 use Rattle.matchers.specs.declared.matcher.Matcher.{Matcher}
-use Rattle.world_core.specs.Journals.{IsNumbered}
 use Rattle.world_core.specs.Standing.{IsHonest}
 use Rattle.world_core.specs.declared.entry.Entry.{Entry}
 use Rattle.sync_filters.specs.declared.found.Found.{Found}
 use Rattle.meta_fetcher.specs.declared.sync_end.SyncEnd.TheVariants as fetched
-use Rattle.store_gateway.specs.SeriesRuns.{Query as Question, SeriesRun, asking}
+use Rattle.store_gateway.specs.SeriesRuns.{Query as Question, asking}
 use Rattle.store_gateway.specs.declared.series_end.SeriesEnd.{SeriesEnd}
 use Rattle.store_gateway.specs.declared.series_end.SeriesEnd.TheVariants as called
 use Rattle.script_core.specs.Lawful.{IsLawfulScript}
-use Rattle.script_workers.specs.declared.phase.Phase.{Phase}
-use Rattle.lifecycle_core.specs.Acting.{IsActing, IsRead, acting, uploaders}
+use Rattle.lifecycle_core.specs.Acting.{IsActing, acting, uploaders}
 use Rattle.lifecycle_core.specs.Causes.{IsExplained}
-use Rattle.lifecycle_core.specs.Completed.{IsSettled, IsUploadedBefore}
+use Rattle.lifecycle_core.specs.Completed.{IsUploadedBefore}
 use Rattle.lifecycle_core.specs.Conducts.{of_seat, working}
 use Rattle.lifecycle_core.specs.Guarantees.{IsWorth}
 use Rattle.lifecycle_core.specs.Holdings.{Use, none_held}
 use Rattle.lifecycle_core.specs.Setting.{Setting}
-use Rattle.lifecycle_core.specs.SyncsAndCalls.{IsCallIn, IsSyncBy, IsViewOf}
+use Rattle.lifecycle_core.specs.SyncsAndCalls.{IsCallIn, IsViewOf}
 use Rattle.lifecycle_core.specs.Tasks.{last_number, sync_rules}
 use Rattle.lifecycle_core.proofs.answers.ExactAnswers.{answer_is_exact, calls_undamaged, sources_are}
 use Rattle.lifecycle_core.proofs.blocks.Readable.{is_readable}

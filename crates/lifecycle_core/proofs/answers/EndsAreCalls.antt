@@ -1,12 +1,11 @@
 -- Each end of a gateway's call in a run is that of a call in the journal, over the view of a sync in it.
-use Rattle.std.proofs.Common.{◌≡◌, inl, inr, ℕ, ℤ, zero, suc, ◌<◌, List, [], ◌∷◌, Contains, Option, Some, None, refl, sym, ap, subst, arith}
+use Rattle.std.proofs.Common.{◌≡◌, inl, inr, ℕ, ℤ, zero, suc, ◌<◌, List, [], ◌∷◌, Option, Some, None, ap, subst, arith}
 use Rattle.std.specs.Prelude.{option_map, slice_get}
 use Rattle.matchers.specs.declared.matcher.Matcher.{Matcher}
 use Rattle.std.specs.List.{AllPairs}
 use Rattle.world_core.specs.declared.entry.Entry.{Entry}
 use Rattle.shipper.specs.declared.upload_end.UploadEnd.{UploadEnd}
 use Rattle.meta_fetcher.specs.declared.sync_end.SyncEnd.{SyncEnd}
-use Rattle.meta_fetcher.specs.declared.sync_end.SyncEnd.TheVariants as fetched
 use Rattle.store_gateway.specs.SeriesRuns.{Query as Question, SeriesRun, asking}
 use Rattle.store_gateway.specs.declared.series_end.SeriesEnd.{SeriesEnd}
 use Rattle.script_workers.specs.declared.work.Work.{Work}
@@ -17,7 +16,7 @@ use Rattle.lifecycle_core.specs.Holdings.{Holding, Use}
 use Rattle.lifecycle_core.specs.Phases.{IsRunOf}
 use Rattle.lifecycle_core.specs.Setting.{Setting}
 use Rattle.lifecycle_core.specs.SyncsAndCalls.{IsCallIn, IsViewOf}
-use Rattle.lifecycle_core.specs.Tasks.{End, QueryTask, TaskRun, answered, stopped, sync_rules, synced, uploaded, without_view}
+use Rattle.lifecycle_core.specs.Tasks.{End, QueryTask, TaskRun, answered, sync_rules, synced, uploaded}
 use Rattle.lifecycle_core.proofs.journals.Telling.{journal_rises}
 use Rattle.lifecycle_core.proofs.journals.Told.{IsOrigin, Rises}
 use Rattle.lifecycle_core.proofs.phases.TasksMade.{ends_are_made}

@@ -1,15 +1,15 @@
 -- The answers of several gateways, merged, are exact for all that they name.
 use Rattle.list_core.proofs.Membership.{any_of_member, into_flat_map, member_of_any, of_flat_map}
-use Rattle.std.proofs.Common.{◌≡◌, ℤ, Bool, true, false, List, [], ◌∷◌, Contains, Option, Some, refl, sym, ◌∙◌, ap, subst}
+use Rattle.std.proofs.Common.{◌≡◌, ℤ, Bool, true, false, List, [], ◌∷◌, Contains, Some, refl, ◌∙◌, ap}
 use Rattle.std.specs.Prelude.{find}
-use Rattle.std.specs.List.{All, AllByRecursion, AllZip, flat_map, list_any}
+use Rattle.std.specs.List.{AllByRecursion, AllZip, flat_map, list_any}
 use Rattle.std.specs.List.Sorted.{IsStrictlySortedBy}
 use Rattle.std.specs.Ordering.{int_cmp, is_eq, ordering_then}
 use Rattle.std.specs.declared.cmp.Ordering.TheVariants.{Less, Equal}
 use Rattle.std.proofs.lemmas.Cmp.{tied_itself}
 use Rattle.std.proofs.lemmas.List.Elements.{All-contains, All-contains_itself, All-from_recursion, All-weaker}
 use Rattle.label_sets.specs.Labels.{compare_sets}
-use Rattle.label_sets.specs.Triples.{IsOneToOne, Triple, compare_keys, has_same_key, triples_of}
+use Rattle.label_sets.specs.Triples.{Triple, compare_keys, has_same_key, triples_of}
 use Rattle.label_sets.specs.declared.label.Label.{Label}
 use Rattle.label_sets.specs.declared.series.Series.{Series}
 use Rattle.vertical_merge.specs.Merged.{IsDeduplication, IsMerge}

@@ -2,7 +2,7 @@
 use Rattle.list_core.proofs.Membership.{contains_first, contains_later}
 use Rattle.std.proofs.Common.{◌≡◌, ◌⊎◌, inl, inr, suc, zero, Bool, true, false, List, [], ◌∷◌, ◌++◌, Contains, refl, ◌∙◌, ap, subst, arith}
 use Rattle.std.specs.List.{AllZip, filter, zip}
-use Rattle.std.proofs.lemmas.List.Elements.{filter-append, Contains-append_cases, Contains-append_left, Contains-append_right}
+use Rattle.std.proofs.lemmas.List.Elements.{filter-append, Contains-append_right}
 
 -- a member of two lists one after the other stands in the first or in the second
 pub split : {X : Type 0} (xs ys before after : List X) (x : X) → xs ++ ys ≡ before ++ x ∷ after

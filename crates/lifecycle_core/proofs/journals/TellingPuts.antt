@@ -32,7 +32,6 @@ use Rattle.lifecycle_core.specs.Shipped.{IsShipped}
 use Rattle.lifecycle_core.specs.Tasks.{End, QueryTask, TaskRun, asked_by, sync_rules}
 use Rattle.lifecycle_core.proofs.phases.EachEntry.{phase_each, phases_each}
 use Rattle.lifecycle_core.proofs.misses.GatewayEntries.{calls, syncs}
-use Rattle.lifecycle_core.proofs.journals.Positions.{filtered, stands_in, zip_right}
 use Rattle.lifecycle_core.specs.Acting.{IsRead}
 use Rattle.lifecycle_core.proofs.journals.Told.{IsShippedObject}
 

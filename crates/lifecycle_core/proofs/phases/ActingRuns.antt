@@ -1,12 +1,12 @@
 -- Every lawful journal of a lawful script is an acting one: gateways do nothing but read, each at a seat of its own.
-use Rattle.std.proofs.Common.{◌≡◌, ◌≢◌, ◌⊎◌, inl, inr, ℕ, zero, suc, ◌+◌, ◌<◌, ◌≤◌, ◌==◌, Bool, true, false, cond, List, [], ◌∷◌, ◌++◌, length, map, Contains, Option, Some, None, refl, sym, ◌∙◌, ap, subst, arith}
-use Rattle.std.specs.Prelude.{get_or, is_none, slice_get}
+use Rattle.std.proofs.Common.{◌≡◌, ◌≢◌, ◌⊎◌, inl, inr, ℕ, zero, suc, ◌+◌, ◌<◌, ◌≤◌, ◌==◌, Bool, true, false, cond, List, [], ◌∷◌, length, map, Contains, Option, Some, None, refl, sym, ◌∙◌, ap, subst, arith}
+use Rattle.std.specs.Prelude.{is_none, slice_get}
 use Rattle.std.specs.List.{All, AllByRecursion, AllZip, filter}
 use Rattle.std.proofs.lemmas.Bool.Decides.{nat_tests}
 use Rattle.std.proofs.lemmas.List.{length-append}
 use Rattle.std.proofs.lemmas.List.Elements.{All-append, All-contains, All-contains_itself, All-from_recursion, All-nil, All-weaker, recursion_from_All}
 use Rattle.std.proofs.lemmas.Option.{slice_get_within}
-use Rattle.list_core.proofs.Membership.{contains_first, contains_later, into_filter, into_map, member_passes, of_filter, of_map}
+use Rattle.list_core.proofs.Membership.{into_filter, into_map, member_passes, of_filter, of_map}
 use Rattle.world_core.specs.declared.entry.Entry.{Entry}
 use Rattle.store_gateway.specs.SeriesRuns.{Query as Question}
 use Rattle.script_core.proofs.SeatLaws.{are_seated}
@@ -14,7 +14,7 @@ use Rattle.script_core.specs.Lawful.{IsLawfulScript}
 use Rattle.script_core.specs.Workers.{workers_before, workers_of}
 use Rattle.script_core.specs.declared.script.Script.{Script}
 use Rattle.script_workers.specs.Hands.{gateway_count, gateway_of, hands_of}
-use Rattle.script_workers.specs.Staff.{AreSeated, ArePlacesOf, IsWorkerOf}
+use Rattle.script_workers.specs.Staff.{IsWorkerOf}
 use Rattle.script_workers.specs.Whose.{IsFor, IsTaskOf, ships, syncs, asks}
 use Rattle.script_workers.specs.declared.hand.Hand.{Hand}
 use Rattle.script_workers.specs.declared.hand.Hand.TheVariants as hands

@@ -1,0 +1,123 @@
+-- A missing object that a report tells of is one that a call found missing.
+use Rattle.list_core.proofs.Membership.{contains_later}
+use Rattle.std.proofs.Common.{◌≡◌, inl, inr, ℕ, zero, suc, ◌+◌, ℤ, Bool, List, [], ◌∷◌, Contains, refl, sym, ap, subst, arith}
+use Rattle.std.specs.List.{AllZip}
+use Rattle.std.proofs.lemmas.List.Elements.{Contains-append_cases, Contains-append_left}
+use Rattle.world_core.specs.declared.entry.Entry.{Entry}
+use Rattle.store_gateway.specs.declared.series_end.SeriesEnd.{SeriesEnd}
+use Rattle.store_gateway.specs.declared.series_end.SeriesEnd.TheVariants as called
+use Rattle.script_workers.specs.Hands.{gateway_count, gateway_of, hands_of_task}
+use Rattle.script_core.specs.Workers.{workers_of}
+use Rattle.script_core.specs.declared.script.Script.{Script}
+use Rattle.script_workers.specs.declared.hand.Hand.{Hand}
+use Rattle.script_workers.specs.declared.phase.Phase.{Phase}
+use Rattle.script_workers.specs.declared.task.Task.{Task}
+use Rattle.script_workers.specs.declared.work.Work.{Work}
+use Rattle.script_workers.specs.declared.work.Work.TheVariants as work
+use Rattle.script_workers.specs.declared.worker.Worker.{Worker}
+use Rattle.lifecycle_core.specs.Causes.{IsExplained, SomeCame}
+use Rattle.lifecycle_core.specs.Conducts.{CameTo}
+use Rattle.lifecycle_core.specs.Holdings.{Use}
+use Rattle.lifecycle_core.specs.Setting.{Setting}
+use Rattle.lifecycle_core.specs.Tasks.{End, answered, stopped, synced, uploaded, without_view}
+use Rattle.replay_cli.specs.Outcomes.{IsOutcome, PhasesCame, TaskCame, TasksCame}
+use Rattle.replay_cli.specs.Verdicts.{IsFullRun, IsWholeRun}
+use Rattle.replay_cli.specs.declared.outcome.Outcome.{Outcome}
+use Rattle.replay_cli.specs.declared.outcome.Outcome.TheVariants as outcome
+use Rattle.replay_cli.specs.declared.outcome.QueryOutcome.TheVariants as query
+use Rattle.replay_cli.specs.declared.outcome.NoAnswer.TheVariants as none
+use Rattle.replay_cli.proofs.CalmRuns.{end_came, more_asked}
+
+-- a line that tells of a missing object
+abbrev missing : ℕ → ℕ → Outcome
+missing gateway number = outcome.Query (query.NoAnswer gateway (none.Missing number))
+
+-- one end of its task was such a call's
+abbrev Missed : List End → ℕ → Type 0
+Missed own number = (used : Use) × (own ≡ answered used (called.Missing number) ∷ [])
+
+query_missed : (low high : ℤ) (n gateway number : ℕ) (used : Use) (end : SeriesEnd) → IsOutcome (work.Query low high n) (answered used end ∷ []) (missing gateway number) → Missed (answered used end ∷ []) number
+query_missed low high n gateway number used (called.Answer series sources) is = absurd (cc (is))
+query_missed low high n gateway number used (called.Missing m) is = let same : number ≡ m = cc (is) in (used, ap (λ (k : ℕ). answered used (called.Missing k) ∷ []) (sym same))
+query_missed low high n gateway number used (called.Damaged m) is = absurd (cc (is))
+query_missed low high n gateway number used (called.Fault m) is = absurd (cc (is))
+
+one_missed : (w : Work) (end : End) (gateway number : ℕ) → IsOutcome w (end ∷ []) (missing gateway number) → Missed (end ∷ []) number
+one_missed (work.Upload ulid stop) (uploaded e) gateway number is = absurd (cc (is))
+one_missed (work.Upload ulid stop) (stopped count) gateway number is = absurd (cc (is))
+one_missed (work.Upload ulid stop) (synced e) gateway number is = absurd is
+one_missed (work.Upload ulid stop) (answered used e) gateway number is = absurd is
+one_missed (work.Upload ulid stop) without_view gateway number is = absurd is
+one_missed (work.Sync own) (synced e) gateway number is = absurd (cc (is))
+one_missed (work.Sync own) (uploaded e) gateway number is = absurd is
+one_missed (work.Sync own) (answered used e) gateway number is = absurd is
+one_missed (work.Sync own) without_view gateway number is = absurd is
+one_missed (work.Sync own) (stopped count) gateway number is = absurd is
+one_missed (work.Query low high n) (answered used e) gateway number is = query_missed low high n gateway number used e is
+one_missed (work.Query low high n) (uploaded e) gateway number is = absurd is
+one_missed (work.Query low high n) (synced e) gateway number is = absurd is
+one_missed (work.Query low high n) without_view gateway number is = absurd (cc (is))
+one_missed (work.Query low high n) (stopped count) gateway number is = absurd is
+
+none_missed : (w : Work) (gateway number : ℕ) → IsOutcome w [] (missing gateway number) → ⊥
+none_missed (work.Upload ulid stop) gateway number is = is
+none_missed (work.Sync own) gateway number is = is
+none_missed (work.Query low high n) gateway number is = cc (is)
+
+all_missed : (w : Work) (own : List End) (gateway number : ℕ) → IsOutcome w own (missing gateway number) → Missed own number
+all_missed w [] gateway number is = absurd (none_missed w gateway number is)
+all_missed w (end ∷ []) gateway number is = one_missed w end gateway number is
+all_missed w (end ∷ other ∷ own) gateway number is = absurd (more_asked w end other own (missing gateway number) is)
+
+-- ---- among the ends of a run
+
+-- some worker of the phase came to such an end
+abbrev PhaseMissed : List (List End) → ℕ → Type 0
+PhaseMissed ends number = (used : Use) × (own : List End) × Contains ends own × Contains own (answered used (called.Missing number))
+
+first_missed : (workers : List Worker) (ends : List (List End)) (place : ℕ) (hs : List Hand) (used : Use) (number : ℕ) → AllZip (λ hand end. CameTo workers ends (gateway_of hand) place end) hs (answered used (called.Missing number) ∷ []) → PhaseMissed ends number
+first_missed workers ends place [] used number all = absurd all
+first_missed workers ends place (h ∷ hs) used number all =
+    let came = end_came workers ends (gateway_of h) place (answered used (called.Missing number)) all.0 in (used, came.0, came.1, came.2)
+
+task_missed : (script : Script) (workers : List Worker) (ends : List (List End)) (place : ℕ) (task : Task) (gateway number : ℕ) → TaskCame script workers ends place task (missing gateway number) → PhaseMissed ends number
+task_missed script workers ends place task gateway number t =
+    let hs : List Hand = hands_of_task (gateway_count script.gateways) place task.work in
+    let m = all_missed task.work t.own gateway number t.is in
+    first_missed workers ends place hs m.0 number (subst (AllZip (λ hand end. CameTo workers ends (gateway_of hand) place end) hs) m.1 t.came)
+
+tasks_missed : (script : Script) (workers : List Worker) (ends : List (List End)) (place : ℕ) (tasks : List Task) (outcomes : List Outcome) (gateway number : ℕ) → TasksCame script workers ends place tasks outcomes
+    → Contains outcomes (missing gateway number) → PhaseMissed ends number
+tasks_missed script workers ends place [] outcomes gateway number came among = let none = subst (λ (os : List Outcome). Contains os (missing gateway number)) came among in absurd (omega (arith, none.1))
+tasks_missed script workers ends place (task ∷ tasks) [] gateway number came among = absurd came
+tasks_missed script workers ends place (task ∷ tasks) (o ∷ outcomes) gateway number came (zero, below, at) = task_missed script workers ends place task gateway number (subst (TaskCame script workers ends place task) at came.0)
+tasks_missed script workers ends place (task ∷ tasks) (o ∷ outcomes) gateway number came (suc k, below, at) = tasks_missed script workers ends (place + 1) tasks outcomes gateway number came.1 (k, omega (arith, below), at)
+
+abbrev RunMissed : List (List (List End)) → ℕ → Type 0
+RunMissed ends number = (used : Use) × SomeCame ends (answered used (called.Missing number))
+
+phases_missed : (script : Script) (place : ℕ) (phases : List Phase) (ends : List (List (List End))) (outcomes : List Outcome) (gateway number : ℕ) → PhasesCame script place phases ends outcomes
+    → Contains outcomes (missing gateway number) → RunMissed ends number
+phases_missed script place [] ends outcomes gateway number came among = let none = subst (λ (os : List Outcome). Contains os (missing gateway number)) came.1 among in absurd (omega (arith, none.1))
+phases_missed script place (phase ∷ phases) [] outcomes gateway number came among = absurd came
+phases_missed script place (phase ∷ phases) (first ∷ later) outcomes gateway number (own, others, parts, here, rest) among =
+    elim (Contains-append_cases own others (missing gateway number) (subst (λ (os : List Outcome). Contains os (missing gateway number)) parts among)) [
+      | inl one ↦ let m = tasks_missed script (workers_of script place) first 0 phase.tasks own gateway number here one in (m.0, (first, m.1, (0, omega arith, refl), m.2, m.3))
+      | inr other ↦
+          let m = phases_missed script (place + 1) phases later others gateway number rest other in
+          let s = m.1 in (m.0, (s.0, s.1, contains_later first s.0 later s.2, s.3, s.4))
+    ]
+
+pub whole_misses : (setting : Setting) (as_asked : Bool) (text : List ℕ) (journal : List Entry) (run : IsWholeRun setting as_asked text journal) (gateway number : ℕ)
+    → Contains run.report.outcomes (missing gateway number) → IsExplained setting journal number
+whole_misses setting as_asked text journal run gateway number among =
+    let m = phases_missed setting.script 0 setting.script.phases run.ends run.report.outcomes gateway number run.report.came among in
+    run.guaranteed.explained (answered m.0 (called.Missing number)) number m.1 refl
+
+pub full_misses : (setting : Setting) (text : List ℕ) (journal : List Entry) (run : IsFullRun setting text journal) (gateway number : ℕ)
+    → Contains run.report.outcomes (missing gateway number) → IsExplained setting journal number
+full_misses setting text journal run gateway number among =
+    let m = phases_missed setting.script 0 run.done run.told run.report.outcomes gateway number run.report.came among in
+    let s = m.1 in
+    let all : Contains run.ends s.0 = subst (λ (es : List (List (List End))). Contains es s.0) (sym run.parts) (Contains-append_left run.told run.untold s.0 s.2) in
+    run.guaranteed.explained (answered m.0 (called.Missing number)) number (s.0, s.1, all, s.3, s.4) refl
