@@ -75,8 +75,8 @@ pub fn load_indexed<F: Shelf>(
 
 /// Loads a block's files from a shelf.
 ///
-/// The meta is read first, then the index, then the segments from 1 to the greatest that the index names, or to 999,999 where
-/// that is less. Each file is refused where it is read.
+/// The meta comes first, and then the index, whose chunks tell how many segments follow. A segment's number has six digits, so
+/// there are no more than these. The first file that is refused ends the load, and none behind it is read.
 pub fn load<F: Shelf>(alloc: Global, shelf: &mut F, ulid: Ulid) -> Result<BlockFiles, LoadRefusal>
     // Where the shelf tells its files, they are the block's, and a block that the shelf has is loaded.
     ensures found { (told : Contents) → F.files shelf.old ≡ Some told
