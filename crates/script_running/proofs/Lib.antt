@@ -1,0 +1,4 @@
+pub mod Blocks
+pub mod Uploads
+pub mod Syncs
+pub mod TaskSteps

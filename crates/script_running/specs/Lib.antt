@@ -1,0 +1,5 @@
+pub mod Outcomes
+pub mod Drives
+pub mod Tasks
+pub use Rattle.world_core.specs.Machines
+pub use Rattle.world_core.specs.Keeping

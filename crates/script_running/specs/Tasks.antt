@@ -1,0 +1,83 @@
+-- What a worker's hand gains by one task, and what the task came to.
+use Rattle.std.specs.Prelude.{◌≡◌, ℕ, Bool, true, false, List, [], ◌∷◌, ◌++◌, length, All, Option, Some, None, option_map, Ok, Err}
+use Rattle.world_core.specs.Operations.{IsAnswer, IsLawful, entry_of}
+use Rattle.world_core.specs.declared.entry.Entry.{Entry}
+use Rattle.world_core.specs.declared.op.Op.{Op}
+use Rattle.world_core.specs.declared.seen.Seen.{Seen}
+use Rattle.meta_fetcher.specs.declared.sync_end.SyncEnd.{SyncEnd}
+use Rattle.meta_fetcher.specs.declared.sync_end.SyncEnd.TheVariants as fetched
+use Rattle.meta_fetcher.specs.declared.view.View.{View}
+use Rattle.script_core.specs.Lawful.{IsLawfulWork}
+use Rattle.script_core.specs.declared.script.Script.{Script}
+use Rattle.script_workers.specs.declared.work.Work.{Work}
+use Rattle.script_workers.specs.declared.work.Work.TheVariants as works
+use Rattle.lifecycle_core.specs.Conducts.{Who}
+use Rattle.lifecycle_core.specs.Holdings.{Holding, Use}
+use Rattle.lifecycle_core.specs.Setting.{Setting}
+use Rattle.lifecycle_core.specs.Tasks.{End, TaskRun}
+use Rattle.script_running.specs.Drives.{Came}
+use Rattle.script_running.specs.Outcomes.{IsOutcome}
+use Rattle.script_running.specs.declared.came.Broken.TheVariants as broken
+
+-- the script allows the work
+abbrev pub Allows : Script → Work → Type 0
+Allows script work = IsLawfulWork script.gateways script.blocks (length script.selectors) work
+
+-- what holds where an operation was answered that the journal is full
+abbrev pub WhenFull : Came → Type 0 → Type 0
+WhenFull (Ok o) P = Unit {0}
+WhenFull (Err broken.Full) P = P
+WhenFull (Err broken.NoMemory) P = Unit {0}
+
+-- whether an operation was answered that the journal is full
+abbrev pub is_full_came : Came → Bool
+is_full_came (Ok o) = false
+is_full_came (Err broken.Full) = true
+is_full_came (Err broken.NoMemory) = false
+
+-- An operation of the seat is due in a run that made these entries: whatever the reply to it, its entry goes on with the run.
+abbrev pub IsDueAfter : {E : Type 0} → (List Entry → E → Type 0) → ℕ → List Entry → Type 0
+IsDueAfter {E} is_run seat made = (op : Op) × IsLawful op × ((seen : Seen) → IsAnswer op seen → (end : E) × is_run (made ++ entry_of seat op seen ∷ []) end)
+
+-- entries that one seat added, which with this end are such a run
+pub record Adds {E : Type 0} (is_run : List Entry → E → Type 0) (seat : ℕ) (old new : List Entry) (end : E) (came : Came) : Type 0 where
+  pub made : List Entry
+  pub entries : new ≡ old ++ made
+  pub seats : All (λ e. e.seat ≡ seat) made
+  pub run : is_run made end
+  pub due : WhenFull came (IsDueAfter is_run seat made)
+
+-- A task that one worker does comes to its end, or breaks off without one.
+abbrev pub CameBy : Work → Option End → Came → Type 0
+CameBy work (Some end) (Ok o) = IsOutcome work (end ∷ []) o
+CameBy work (Some end) (Err broken.Full) = ⊥
+CameBy work (Some end) (Err broken.NoMemory) = ⊥
+CameBy work None (Ok o) = ⊥
+CameBy work None (Err broken.Full) = Unit {0}
+CameBy work None (Err broken.NoMemory) = Unit {0}
+
+-- the view that a sync leaves
+abbrev pub view_by : Option View → Option SyncEnd → Option View
+view_by before (Some (fetched.View view)) = Some view
+view_by before other = before
+
+-- a worker that holds this sees by this view
+abbrev pub Sees : Holding → Option View → Type 0
+Sees held view = option_map (λ (used : Use). used.view) held.used ≡ view
+
+-- an end of a worker's run of a task, and what the worker holds then
+abbrev pub Does : Setting → Who → ℕ → Work → Holding → List Entry → Option End → Type 0
+Does setting who place work before made end = (after : Holding) × TaskRun setting who place work before made end after
+
+-- A worker that held this did a task: what its hand's list gained is a run of the task, with the end by which it came out. It
+-- holds what the run leaves, and sees by this view.
+pub record HasDone (setting : Setting) (who : Who) (place : ℕ) (work : Work) (before : Holding) (seat : ℕ) (old new : List Entry) (view : Option View) (came : Came) : Type 0 where
+  pub made : List Entry
+  pub entries : new ≡ old ++ made
+  pub seats : All (λ e. e.seat ≡ seat) made
+  pub end : Option End
+  pub after : Holding
+  pub run : TaskRun setting who place work before made end after
+  pub sees : Sees after view
+  pub by : CameBy work end came
+  pub due : WhenFull came (IsDueAfter (Does setting who place work before) seat made)

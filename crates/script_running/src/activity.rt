@@ -1,0 +1,184 @@
+ghost use Rattle.std.specs.Prelude.{◌≡◌, ◌≤◌, ◌||◌, ℕ, ℤ, Option, Some, Err, option_map, IfSome};
+ghost use Rattle.world_core.specs.Machines.{end_of};
+ghost use Rattle.world_core.specs.Keeping.{IsFull};
+ghost use Rattle.meta_fetcher.specs.declared.sync_end.SyncEnd.{SyncEnd};
+ghost use Rattle.meta_fetcher.specs.Syncs.{SyncRun};
+ghost use Rattle.store_gateway.specs.declared.series_end.SeriesEnd.{SeriesEnd};
+ghost use Rattle.store_gateway.specs.SeriesRuns.{SeriesRun, asking};
+ghost use Rattle.script_core.specs.Lawful.{IsLawfulBlock};
+ghost use Rattle.script_workers.specs.declared.work.Work.TheVariants as works;
+ghost use Rattle.lifecycle_core.specs.Tasks.{End, BlockUpload, answered, sync_rules, synced};
+ghost use Rattle.lifecycle_core.specs.Holdings.{Use};
+ghost use Rattle.lifecycle_core.specs.Setting.{Setting, setting_of};
+ghost use Rattle.script_running.specs.Outcomes.{call_outcome, sync_outcome, upload_outcome};
+ghost use Rattle.script_running.specs.Drives.{call_came, driven_end, sync_came, upload_came};
+ghost use Rattle.script_running.specs.Tasks.{Adds, CameBy, is_full_came, view_by};
+
+use crate::plan::objects_of;
+use crate::{Broken, Came, NoAnswer, Outcome, QueryOutcome, SyncOutcome, UploadOutcome};
+use matchers::Selector;
+use meta_fetcher::{Sync, SyncEnd, SyncRules, View};
+use moment_core::{Partition, Rules};
+use script_core::{Block, Script};
+use shipper::{Upload, UploadEnd};
+use std::alloc::Global;
+use store_gateway::{SeriesCall, SeriesEnd};
+use world_core::{Driven, Hand, drive};
+
+/// Ships a declared block, and stops after so many operations where the script says so.
+#[tactic(auto, using(crate::proofs::Uploads::nothing_shipped))]
+pub(crate) fn upload<H: Hand>(alloc: Global, block: &Block, stop: Option<u32>, hand: &mut H) -> Came
+    requires { IsLawfulBlock block.now }
+    ensures ran { (setting : Setting) (ulid : ℕ) → (end : Option End)
+        × Adds (BlockUpload setting block.now stop) (H.seat hand.old) (H.entries hand.old)
+        (H.entries hand.new) end result
+        × CameBy (works.Upload ulid stop) end result }
+    ensures seat { H.seat hand.new ≡ H.seat hand.old }
+    ensures keeps { H.keeps hand.old hand.new }
+    ensures refused { H.refused hand.new ≡ (H.refused hand.old || is_full_came result) }
+    ensures full { result ≡ Err Broken.Full → IfSome (H.front hand.new) IsFull }
+{
+    let Ok(objects) = objects_of(alloc, block) else {
+        return Err(Broken::NoMemory);
+    };
+    let Ok(mut machine) = Upload::start(objects) else {
+        return Err(Broken::NoMemory);
+    };
+    upload_came(drive(&mut machine, hand, stop))
+}
+
+/// What a drive of an upload came to.
+fn upload_came(driven: Driven<UploadEnd>) -> Came
+    ensures { result ≡ upload_came driven }
+{
+    match driven {
+        Driven::Ended(end) => Ok(Outcome::Upload(upload_outcome(end))),
+        Driven::Stopped(count) => Ok(Outcome::Upload(UploadOutcome::Stopped(count))),
+        Driven::Full => Err(Broken::Full),
+        Driven::NoMemory => Err(Broken::NoMemory),
+    }
+}
+
+fn upload_outcome(end: UploadEnd) -> UploadOutcome
+    ensures { result ≡ upload_outcome end }
+{
+    match end {
+        UploadEnd::Done(count) => UploadOutcome::Done(count),
+        UploadEnd::Already => UploadOutcome::Already,
+        UploadEnd::Fault(entry) => UploadOutcome::Fault(entry),
+    }
+}
+
+/// A sync of a gateway, whose view it sets where it ends with one.
+#[tactic(auto, using(crate::proofs::Syncs::nothing_synced))]
+pub(crate) fn sync<H: Hand>(
+    alloc: Global,
+    script: &Script,
+    view: &mut Option<View>,
+    hand: &mut H,
+) -> Came
+    requires { 1 ≤ script.now.rules.page_limit }
+    ensures ran { (place : ℕ) → (end : Option SyncEnd)
+        × Adds (SyncRun (sync_rules (setting_of script.now) place)) (H.seat hand.old)
+        (H.entries hand.old) (H.entries hand.new) end result
+        × CameBy (works.Sync place) (option_map synced end) result
+        × (view.new ≡ view_by view.old end) }
+    ensures seat { H.seat hand.new ≡ H.seat hand.old }
+    ensures keeps { H.keeps hand.old hand.new }
+    ensures refused { H.refused hand.new ≡ (H.refused hand.old || is_full_came result) }
+    ensures full { result ≡ Err Broken.Full → IfSome (H.front hand.new) IsFull }
+{
+    let rules = &script.rules;
+    let asked = SyncRules {
+        consistency: rules.consistency,
+        mark_delay: rules.ignore,
+        page_limit: rules.page_limit,
+        partition: Partition {
+            low: i64::MIN,
+            high: i64::MAX,
+        },
+    };
+    let Ok(mut machine) = Sync::start(alloc, asked) else {
+        return Err(Broken::NoMemory);
+    };
+    take_view(drive(&mut machine, hand, None), view)
+}
+
+/// What a drive of a sync came to. A view that it gave is the gateway's from now on.
+fn take_view(driven: Driven<SyncEnd>, view: &mut Option<View>) -> Came
+    ensures came { result ≡ sync_came driven }
+    ensures view { view.new ≡ view_by view.old (end_of driven) }
+{
+    Ok(Outcome::Sync(sync_outcome(driven_end(driven)?, view)))
+}
+
+fn sync_outcome(end: SyncEnd, view: &mut Option<View>) -> SyncOutcome
+    ensures outcome { result ≡ sync_outcome end }
+    ensures view { view.new ≡ view_by view.old (Some end) }
+{
+    match end {
+        SyncEnd::View(found) => {
+            let count = found.kept.len() as u64;
+            *view = Some(found);
+            SyncOutcome::Blocks(count)
+        }
+        SyncEnd::Fault(entry) => SyncOutcome::Fault(entry),
+        SyncEnd::Damaged(entry) => SyncOutcome::Damaged(entry),
+        SyncEnd::TooMany => SyncOutcome::TooMany,
+    }
+}
+
+/// A gateway's call over a view, for the series that the selector matches, with their samples from `low` to `high`.
+pub(crate) fn call<H: Hand>(
+    alloc: Global,
+    rules: &Rules,
+    view: &View,
+    selector: &Selector,
+    low: i64,
+    high: i64,
+    hand: &mut H,
+) -> Came
+    ensures ran { (used : Use) (line_low line_high : ℤ) (number : ℕ) → (end : Option SeriesEnd)
+        × Adds (SeriesRun view.now (asking selector.now rules.now.replicas low high))
+        (H.seat hand.old) (H.entries hand.old) (H.entries hand.new) end result
+        × CameBy (works.Query line_low line_high number) (option_map (answered used) end) result }
+    ensures seat { H.seat hand.new ≡ H.seat hand.old }
+    ensures keeps { H.keeps hand.old hand.new }
+    ensures refused { H.refused hand.new ≡ (H.refused hand.old || is_full_came result) }
+    ensures full { result ≡ Err Broken.Full → IfSome (H.front hand.new) IsFull }
+{
+    let Ok(mut machine) = SeriesCall::start(alloc, view, selector, &rules.replicas, low, high)
+    else {
+        return Err(Broken::NoMemory);
+    };
+    call_came(drive(&mut machine, hand, None))
+}
+
+/// What a drive of a gateway's call came to.
+fn call_came(driven: Driven<SeriesEnd>) -> Came
+    ensures { result ≡ call_came driven }
+{
+    Ok(Outcome::Query(call_outcome(driven_end(driven)?)))
+}
+
+fn call_outcome(end: SeriesEnd) -> QueryOutcome
+    ensures { result ≡ call_outcome 0 end }
+{
+    match end {
+        SeriesEnd::Answer { series, sources } => QueryOutcome::Answer(series, sources),
+        SeriesEnd::Missing(entry) => QueryOutcome::NoAnswer(0, NoAnswer::Missing(entry)),
+        SeriesEnd::Damaged(entry) => QueryOutcome::NoAnswer(0, NoAnswer::Damaged(entry)),
+        SeriesEnd::Fault(entry) => QueryOutcome::NoAnswer(0, NoAnswer::Fault(entry)),
+    }
+}
+
+/// The end to which a machine was driven that nothing stops, or why it was broken off.
+fn driven_end<E: Drop>(driven: Driven<E>) -> Result<E, Broken>
+    ensures { result ≡ driven_end driven }
+{
+    match driven {
+        Driven::Ended(end) => Ok(end),
+        Driven::Full => Err(Broken::Full),
+        Driven::Stopped(_) | Driven::NoMemory => Err(Broken::NoMemory),
+    }
+}
