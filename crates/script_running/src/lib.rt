@@ -1,3 +1,4 @@
+//! The tasks of a script, done by its workers through hands of whatever kind.
 #![tactic(auto)]
 
 mod activity;
@@ -6,7 +7,9 @@ mod declared;
 mod outcome;
 mod plan;
 mod task;
+mod worker;
 
 pub use came::{Broken, Came};
 pub use outcome::{NoAnswer, Outcome, OutcomeList, QueryOutcome, SyncOutcome, UploadOutcome};
 pub use task::run_task;
+pub use worker::{WorkerEnd, WorkerJob};

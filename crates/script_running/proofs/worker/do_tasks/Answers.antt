@@ -1,0 +1,45 @@
+use Rattle.std.proofs.Common.{◌+◌, ◌<◌, ◌∷◌, [], length, length-append, refl, ap, ◌∙◌, arith}
+use Rattle.std.proofs.lemmas.List.{take_all}
+use Rattle.lifecycle_core.specs.Setting.{setting_of}
+use Rattle.script_running.proofs.WorkerSteps.{all_worked, default_any, none_done, none_worked, step_broken, step_worked}
+use Rattle.script_running.proofs.worker.do_tasks.Goals as goal
+
+pub returns-in_default-clause-worked : goal.returns-in_default-clause-worked
+returns-in_default-clause-worked g c = λ who held sees.
+    none_done (setting_of c.args.script.now) c.args.tasks.now who c.args.places.now held (g.H.Hand.seat c.args.hand.now) (g.H.Hand.entries c.args.hand.now) c.args.view c.wanting.result
+    c.requires.lawful c.requires.tasks c.requires.places sees c.wanting.ensures.0 c.wanting.ensures.1 c.wanting.ensures.2
+
+pub loop-number-init : goal.loop-number-init
+loop-number-init g c = record {
+  worked = λ who held sees. none_worked (setting_of c.args.script.now) c.args.tasks.now who held (g.H.Hand.seat c.args.hand.now) (g.H.Hand.entries c.args.hand.now) c.args.view [] c.in-Ok.outcomes.items refl c.in-Ok.ensures.items sees;
+  seat = refl;
+  keeps = g.met.H.Hand.keeps_none _;
+  count = ap length c.in-Ok.ensures.items;
+  room = omega (arith, c.in-Ok.ensures.capacity);
+}
+
+pub returns-in-Err-clause-worked : goal.returns-in-Err-clause-worked
+returns-in-Err-clause-worked g c = λ who held sees.
+    let below : c.loop-number.number < length c.args.places.now = omega (arith, c.loop-number-test.true) in
+    step_broken (setting_of c.args.script.now) c.args.tasks.now who c.args.places.now held (g.H.Hand.seat c.args.hand.now) (g.H.Hand.seat c.loop-number.hand) (g.H.Hand.entries c.args.hand.now) (g.H.Hand.entries c.loop-number.hand) (g.H.Hand.entries c.run_task.new.hand)
+    c.loop-number.view c.run_task.new.view c.loop-number.outcomes.items c.loop-number.number _ c.index-tasks-places.result below (default_any c.args.places.now c.loop-number.number 0 _ below) c.requires.places c.index-tasks-places.is c.loop-number.invariant.seat
+    (c.loop-number.invariant.worked who held sees) c.in-Err.broken c.run_task.result _ c.requires.lawful c.requires.tasks c.in-Err.is refl refl refl (λ h s. c.run_task.ensures.done who _ h s)
+
+pub loop-number-preserved : goal.loop-number-preserved
+loop-number-preserved g c =
+    let below : c.loop-number.number < length c.args.places.now = omega (arith, c.loop-number-test.true) in
+    record {
+      worked = λ who held sees.
+          step_worked (setting_of c.args.script.now) c.args.tasks.now who c.args.places.now held (g.H.Hand.seat c.args.hand.now) (g.H.Hand.seat c.loop-number.hand) (g.H.Hand.entries c.args.hand.now) (g.H.Hand.entries c.loop-number.hand) (g.H.Hand.entries c.run_task.new.hand)
+          c.loop-number.view c.run_task.new.view c.loop-number.outcomes.items c.loop-number.number _ c.index-tasks-places.result below (default_any c.args.places.now c.loop-number.number 0 _ below) c.requires.places c.index-tasks-places.is c.loop-number.invariant.seat
+          (c.loop-number.invariant.worked who held sees) c.push_reserved.new.self.items c.in-Ok-run_task.outcome c.run_task.result c.in-Ok-run_task.is c.push_reserved.ensures.items (λ h s. c.run_task.ensures.done who _ h s);
+      seat = c.run_task.ensures.seat ∙ c.loop-number.invariant.seat;
+      keeps = g.met.H.Hand.keeps_more _ _ _ c.loop-number.invariant.keeps c.run_task.ensures.keeps;
+      count = ap length c.push_reserved.ensures.items ∙ length-append c.loop-number.outcomes.items (c.in-Ok-run_task.outcome ∷ []) ∙ ap (λ n. n + 1) c.loop-number.invariant.count;
+      room = (let a = c.loop-number.invariant.room in let b = c.push_reserved.ensures.capacity in omega arith);
+    }
+
+pub returns-clause-worked : goal.returns-clause-worked
+returns-clause-worked g c = λ who held sees.
+    all_worked (setting_of c.args.script.now) c.args.tasks.now who _ c.args.places.now held (g.H.Hand.seat c.args.hand.now) (g.H.Hand.entries c.args.hand.now) (g.H.Hand.entries c.loop-number.hand) c.loop-number.view c.loop-number.outcomes.items _
+    (take_all c.loop-number.number c.args.places.now (omega (arith, c.loop-number-test.false))) refl refl refl (c.loop-number.invariant.worked who held sees)

@@ -1,0 +1,20 @@
+use Rattle.std.proofs.Common.{◌≡◌, ◌≤◌, length, take}
+use Rattle.lifecycle_core.specs.Conducts.{Who}
+use Rattle.lifecycle_core.specs.Holdings.{Holding}
+use Rattle.lifecycle_core.specs.Setting.{setting_of}
+use Rattle.script_running.specs.Tasks.{Sees}
+use Rattle.script_running.proofs.WorkerSteps.{Worked}
+use Rattle.script_running.proofs.worker.do_tasks.Given as goal
+
+-- the tasks so far are done
+abbrev pub invariant-loop-number : goal.invariant-loop-number
+invariant-loop-number g l =
+    let h = g.H.Hand in
+    record {
+      worked : (who : Who) (held : Holding) → Sees held l.initial.view
+          → Worked (setting_of l.script) l.tasks who (take l.number l.places) held (h.seat l.initial.hand) (h.entries l.initial.hand) (h.entries l.hand) l.view l.outcomes.items;
+      seat : h.seat l.hand ≡ h.seat l.initial.hand;
+      keeps : h.keeps l.initial.hand l.hand;
+      count : length l.outcomes.items ≡ l.number;
+      room : length l.places ≤ l.outcomes.cap;
+    }

@@ -1,0 +1,82 @@
+-- A worker of a phase: its post, and what it leaves.
+use Rattle.std.specs.Prelude.{◌≡◌, ℕ, ◌<◌, List, [], ◌∷◌, ◌++◌, length, All, Option, Some, Result, Ok, Err, IfSome, slice_get}
+use Rattle.world_core.specs.Keeping.{IsFull}
+use Rattle.world_core.specs.declared.entry.Entry.{Entry}
+use Rattle.meta_fetcher.specs.declared.view.View.{View}
+use Rattle.script_core.specs.Lawful.{IsLawfulScript}
+use Rattle.script_core.specs.Reading.{script_of}
+use Rattle.script_core.specs.declared.script.Script.{Script}
+use Rattle.script_workers.specs.declared.phase.Phase.{Phase}
+use Rattle.script_workers.specs.declared.task.Task.{Task}
+use Rattle.script_workers.specs.declared.worker.Worker.{Worker}
+use Rattle.lifecycle_core.specs.Conducts.{Assigned, TasksAt, TasksRun, Who, who_of}
+use Rattle.lifecycle_core.specs.Holdings.{Holding}
+use Rattle.lifecycle_core.specs.Phases.{by_script}
+use Rattle.lifecycle_core.specs.Setting.{Setting, setting_of}
+use Rattle.lifecycle_core.specs.Tasks.{End}
+use Rattle.script_running.specs.Outcomes.{IsOutcome}
+use Rattle.script_running.specs.Tasks.{IsDueAfter, Sees}
+use Rattle.script_running.specs.declared.came.Broken.{Broken}
+use Rattle.script_running.specs.declared.came.Broken.TheVariants as broken
+use Rattle.script_running.specs.declared.outcome.Outcome.{Outcome}
+use Rattle.script_running.specs.declared.worker.WorkerEnd.{WorkerEnd}
+
+-- what a worker is sent to do: by the script that a text spells, in the phase at a place, with the view that its gateway has
+pub record Post : Type 0 where
+  pub text : List ℕ
+  pub phase : ℕ
+  pub worker : Worker
+  pub view : Option View
+
+-- The text spells a lawful script, whose phase at this place has tasks at the worker's places.
+pub record IsAtWork (text : List ℕ) (number : ℕ) (worker : Worker) : Type 0 where
+  pub script : Script
+  pub spelled : script_of text ≡ Ok script
+  pub lawful : IsLawfulScript script
+  pub phase : Phase
+  pub at : slice_get script.phases number ≡ Some phase
+  pub within : All (λ place. place < length phase.tasks) worker.tasks
+
+-- How a worker's first tasks came out, by the ends to which they came.
+abbrev pub AreOutcomes : List Assigned → List End → List Outcome → Type 0
+AreOutcomes own [] outcomes = outcomes ≡ []
+AreOutcomes [] (end ∷ ends) outcomes = ⊥
+AreOutcomes (task ∷ own) (end ∷ ends) [] = ⊥
+AreOutcomes (task ∷ own) (end ∷ ends) (o ∷ outcomes) =
+    IsOutcome task.task.work (end ∷ []) o × AreOutcomes own ends outcomes
+
+-- a worker's run of its tasks, whatever the others of its phase do
+abbrev pub OwnRun : Setting → Who → Holding → List Assigned → List Entry → List End → Holding → Type 0
+OwnRun setting who before own made ends last = (all : List Entry) → TasksRun (by_script setting) who all before own made ends last
+
+-- All tasks have come to their ends, or an operation is due in the first one that has not, if the full journal broke it off.
+abbrev pub IsBrokenOff : Setting → Who → ℕ → Holding → List Assigned → List Entry → List End → Result (Unit {0}) Broken → Type 0
+IsBrokenOff setting who seat before own made ends (Ok done) = length ends ≡ length own
+IsBrokenOff setting who seat before own made ends (Err broken.Full) =
+    (length ends < length own)
+    × IsDueAfter (λ entries (run : List End × Holding). OwnRun setting who before own entries run.0 run.1) seat made
+IsBrokenOff setting who seat before own made ends (Err broken.NoMemory) = Unit {0}
+
+-- A worker that held this did its tasks, those at these places of the phase, one after another, with these entries of its seat.
+-- Its outcomes are those of the tasks that came to their ends.
+pub record HasWorked (setting : Setting) (tasks : List Task) (who : Who) (places : List ℕ) (before : Holding) (seat : ℕ)
+    (old new : List Entry) (end : WorkerEnd) : Type 0 where
+  pub made : List Entry
+  pub entries : new ≡ old ++ made
+  pub seats : All (λ e. e.seat ≡ seat) made
+  pub own : List Assigned
+  pub are : TasksAt tasks places own
+  pub ends : List End
+  pub last : Holding
+  pub run : OwnRun setting who before own made ends last
+  pub outcomes : AreOutcomes own ends end.outcomes.items
+  pub sees : Sees last end.view
+  pub broken : IsBrokenOff setting who seat before own made ends end.came
+
+-- What the job of a worker may do, by the script that its text spells. Where the full journal broke it off, it has seen that the
+-- journal is full.
+pub record MayWork (post : Post) (seat : ℕ) (made : List Entry) (front : Option (List Entry)) (end : WorkerEnd) : Type 0 where
+  pub worked : (script : Script) (phase : Phase) (held : Holding) → script_of post.text ≡ Ok script
+      → slice_get script.phases post.phase ≡ Some phase → Sees held post.view
+      → HasWorked (setting_of script) phase.tasks (who_of post.worker) post.worker.tasks held seat [] made end
+  pub full : end.came ≡ Err broken.Full → IfSome front IsFull

@@ -1,0 +1,161 @@
+//! A worker of a phase: it does its tasks one after another.
+
+ghost use Rattle.std.specs.Prelude.{◌≡◌, ◌++◌, ◌<◌, ◌||◌, [], Ok, Err, IfSome, length};
+ghost use Rattle.std.specs.List.{All};
+ghost use Rattle.world_core.specs.Keeping.{IsFull};
+ghost use Rattle.script_core.specs.Lawful.{IsLawfulScript};
+ghost use Rattle.lifecycle_core.specs.Conducts.{Who};
+ghost use Rattle.lifecycle_core.specs.Holdings.{Holding};
+ghost use Rattle.lifecycle_core.specs.Setting.{setting_of};
+ghost use Rattle.script_running.specs.Tasks.{Allows, Sees};
+ghost use Rattle.script_running.specs.Workers.{IsAtWork, HasWorked};
+
+use crate::{Broken, Outcome, run_task};
+use list_core::NoMemory;
+use meta_fetcher::View;
+use phase_runner::Job;
+use script_core::{Script, Task, Worker};
+use std::alloc::Global;
+use std::marker::Model;
+use world_core::Hand;
+
+/// A worker of a phase and what its gateway sees. It lends the script as a text, and reads it for itself, since the patterns
+/// of a script that was read do not cross threads.
+#[derive(Drop)]
+pub struct WorkerJob<'a> {
+    alloc: Global,
+    text: &'a [u8],
+    phase: usize,
+    worker: Worker,
+    view: Option<View>,
+}
+
+impl<'a> Model for WorkerJob<'a> {
+    ghost use Rattle.script_running.specs.Workers.{IsAtWork, Post};
+
+    ghost Value = { Post };
+
+    ghost view = { λ job. record {
+      text = job.text.now;
+      phase = job.phase;
+      worker = job.worker;
+      view = job.view;
+    } };
+
+    ghost invariant = { λ job. IsAtWork job.text.now job.phase job.worker };
+}
+
+/// What a worker leaves.
+#[derive(Drop)]
+pub struct WorkerEnd {
+    /// How those of its tasks came out that came to their ends, in the order of their lines.
+    pub outcomes: Vec<Outcome>,
+    /// What broke it off, if anything did.
+    pub came: Result<(), Broken>,
+    /// What its gateway sees from now on.
+    pub view: Option<View>,
+}
+
+impl<'a> WorkerJob<'a> {
+    /// The job of a worker of the phase at a place, by the script that the text spells.
+    pub fn new(
+        alloc: Global,
+        text: &'a [u8],
+        phase: usize,
+        worker: Worker,
+        view: Option<View>,
+    ) -> WorkerJob<'a>
+        requires { IsAtWork text.now phase worker }
+        ensures { (result.text ≡ text.now) × (result.phase ≡ phase) × (result.worker ≡ worker)
+            × (result.view ≡ view) }
+    {
+        WorkerJob {
+            alloc,
+            text,
+            phase,
+            worker,
+            view,
+        }
+    }
+}
+
+impl<'a> Job for WorkerJob<'a> {
+    ghost use Rattle.script_running.specs.Workers.{MayWork};
+
+    type End = WorkerEnd;
+
+    ghost may = { MayWork };
+
+    fn run<H: Hand>(self, hand: &mut H) -> WorkerEnd {
+        let WorkerJob {
+            alloc,
+            text,
+            phase,
+            worker,
+            view,
+        } = self;
+        match Script::read(alloc, text) {
+            Ok(script) => {
+                let tasks = script.phases.members()[phase].tasks.members();
+                do_tasks(alloc, &script, tasks, worker.tasks.members(), view, hand)
+            }
+            Err(_) => wanting(alloc, view),
+        }
+    }
+}
+
+/// Nothing was done, for want of memory.
+fn wanting(alloc: Global, view: Option<View>) -> WorkerEnd
+    ensures { (result.outcomes.items ≡ []) × (result.came ≡ Err Broken.NoMemory)
+        × (result.view ≡ view) }
+{
+    WorkerEnd {
+        outcomes: Vec::new(alloc),
+        came: Err(Broken::NoMemory),
+        view,
+    }
+}
+
+/// Does the tasks at these places one after another, until one of them is broken off. It takes its memory for their
+/// outcomes first.
+fn do_tasks<H: Hand>(
+    alloc: Global,
+    script: &Script,
+    tasks: &[Task],
+    places: &[u64],
+    view: Option<View>,
+    hand: &mut H,
+) -> WorkerEnd
+    requires lawful { IsLawfulScript script.now }
+    requires tasks { All (λ task. Allows script.now task.work) tasks.now }
+    requires places { All (λ place. place < length tasks.now) places.now }
+    ensures worked { (who : Who) (held : Holding) → Sees held view
+        → HasWorked (setting_of script.now) tasks.now who places.now held (H.seat hand.old)
+        (H.entries hand.old) (H.entries hand.new) result }
+    ensures seat { H.seat hand.new ≡ H.seat hand.old }
+    ensures keeps { H.keeps hand.old hand.new }
+    ensures full { result.came ≡ Err Broken.Full → IfSome (H.front hand.new) IsFull }
+{
+    let mut view = view;
+    let Ok(mut outcomes) = Vec::with_capacity(alloc, places.len()) else {
+        return wanting(alloc, view);
+    };
+    for number in 0..places.len() {
+        let task = &tasks[places[number] as usize];
+        match run_task(alloc, script, &task.work, &mut view, hand) {
+            Ok(outcome) => outcomes.push_reserved(outcome),
+            Err(broken) => {
+                return WorkerEnd {
+                    outcomes,
+                    came: Err(broken),
+                    view,
+                };
+            }
+        }
+    }
+    WorkerEnd {
+        outcomes,
+        came: Ok(()),
+        view,
+    }
+}
