@@ -14,28 +14,10 @@ use Rattle.script_core.specs.declared.script.Script.{Script}
 use Rattle.script_core.specs.declared.script_refusal.ScriptRefusal.TheVariants.{TooLong}
 use Rattle.script_core.specs.Limits.{longest_text}
 use Rattle.replay_cli.specs.Kept.{HoldsNothing}
-use Rattle.replay_cli.specs.Verdicts.{Around, BehindOpening, IsRun, IsUnread, IsWorked, IsCaused}
+use Rattle.replay_cli.specs.Verdicts.{Around, BehindOpening, IsRun, IsUnread, IsWorked}
 use Rattle.replay_cli.specs.declared.verdict.Verdict.{Verdict}
-use Rattle.replay_cli.specs.declared.verdict.Verdict.TheVariants.{WordsRefused, SourceFault, ScriptRefused, SiteFault, NotEmpty, Full, Report, NoMemory}
+use Rattle.replay_cli.specs.declared.verdict.Verdict.TheVariants.{WordsRefused, SourceFault, ScriptRefused, SiteFault, NotEmpty, Full, Report, Checked, NoMemory}
 use Rattle.lifecycle_core.specs.Setting.{Setting, setting_of}
-
-pub caused : (accepted : Type 0) (around : Around) (v : Verdict) → accepted → IsWorked around v → IsCaused accepted around v
-caused accepted around WordsRefused a (inl w) = absurd w.0
-caused accepted around WordsRefused a (inr w) = absurd w.run
-caused accepted around SourceFault a w = (a, w)
-caused accepted around (ScriptRefused refusal) a w = (a, w)
-caused accepted around SiteFault a w = (a, w)
-caused accepted around (NotEmpty name) a w = (a, w)
-caused accepted around (Full lines) a w = (a, w)
-caused accepted around (Report lines as_asked) a w = (a, w)
-caused accepted around NoMemory a w = (a, w)
-
--- the same, where the bucket and the shelf are named by words
-pub caused_named : (accepted : Type 0) (around : Option (List ℕ) → Option (List ℕ) → Around) (bucket other_bucket shelf other_shelf : Option (List ℕ)) (v : Verdict)
-    → accepted → bucket ≡ other_bucket → shelf ≡ other_shelf → IsWorked (around bucket shelf) v → IsCaused accepted (around other_bucket other_shelf) v
-caused_named accepted around bucket other_bucket shelf other_shelf v a same too w =
-    caused accepted (around other_bucket other_shelf) v a
-    (subst (λ (b : Option (List ℕ)). IsWorked (around b other_shelf) v) same (subst (λ (s : Option (List ℕ)). IsWorked (around bucket s) v) too w))
 
 -- a word that names something names it
 pub is_named : (name : List ℕ) (word : Option (List ℕ)) → Some name ≡ word → IsSome word
@@ -49,6 +31,7 @@ behind_opening SiteFault P holds = tt
 behind_opening (NotEmpty name) P holds = holds
 behind_opening (Full lines) P holds = holds
 behind_opening (Report lines as_asked) P holds = holds
+behind_opening (Checked block outcome) P holds = holds
 behind_opening NoMemory P holds = tt
 
 -- where the site refuses to open something, no verdict comes behind it
@@ -64,7 +47,7 @@ pub unread : (around : Around) (v : Verdict) → IsUnread around.text around.lef
 unread around v why none unasked = inl (why, none, unasked)
 
 -- what holds of what is told holds of what was told before, where that is the same
-if_told : (P : Contents → Type 0) (before told : Option Contents) → IfSome before (λ c. told ≡ Some c) → IfSome told P → IfSome before P
+pub if_told : (P : Contents → Type 0) (before told : Option Contents) → IfSome before (λ c. told ≡ Some c) → IfSome told P → IfSome before P
 if_told P None told same holds = tt
 if_told P (Some c) told same holds = subst (λ o. IfSome o P) same holds
 
@@ -77,6 +60,7 @@ run_told setting before told failed other journal SiteFault same weaker run = (w
 run_told setting before told failed other journal (NotEmpty name) same weaker run = (if_told (λ c. IsPage c [] [] 1 (name ∷ [])) before told same run.0, run.1)
 run_told setting before told failed other journal (Full lines) same weaker run = (if_told HoldsNothing before told same run.0, run.1)
 run_told setting before told failed other journal (Report lines as_asked) same weaker run = (if_told HoldsNothing before told same run.0, run.1)
+run_told setting before told failed other journal (Checked block outcome) same weaker run = absurd run
 run_told setting before told failed other journal NoMemory same weaker run = run
 
 as_told : (told : Option Contents) → IfSome told (λ c. told ≡ Some c)
@@ -102,6 +86,7 @@ run_empty setting told failed journal SiteFault is run = absurd run.0
 run_empty setting told failed journal (NotEmpty name) is run = (if_nothing (λ c. IsPage c [] [] 1 (name ∷ [])) told is run.0, run.1)
 run_empty setting told failed journal (Full lines) is run = (is, run.1)
 run_empty setting told failed journal (Report lines as_asked) is run = (is, run.1)
+run_empty setting told failed journal (Checked block outcome) is run = absurd run
 run_empty setting told failed journal NoMemory is run = run
 
 -- a count that was 0 and rose is above 0

@@ -1,3 +1,5 @@
+pub mod Checks
+pub mod CheckVerdicts
 pub mod Drives
 pub mod Kept
 pub mod Outcomes

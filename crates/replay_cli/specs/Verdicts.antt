@@ -1,5 +1,5 @@
 -- What a call of the program comes to, why, and what it then writes.
-use Rattle.std.specs.Prelude.{◌≡◌, ◌≢◌, ◌⊎◌, ◌<◌, ℕ, List, [], ◌∷◌, ◌++◌, length, Bool, true, false, Option, Some, None, option_map, IfSome, IsSomeAnd, Ok, Err, codes}
+use Rattle.std.specs.Prelude.{◌≡◌, ◌≢◌, ◌⊎◌, ◌<◌, ℕ, List, [], ◌∷◌, ◌++◌, length, Bool, true, false, Option, Some, None, option_map, IfSome, IsSome, IsSomeAnd, Ok, Err, codes}
 use Rattle.std.specs.List.{flat_map, list_all}
 use Rattle.bucket_core.specs.Causes.{Rose}
 use Rattle.bucket_core.specs.Contents.{Contents, nothing}
@@ -22,15 +22,18 @@ use Rattle.lifecycle_core.specs.Phases.{IsFinished, IsRunOf, by_workers}
 use Rattle.lifecycle_core.specs.Setting.{Setting, setting_of}
 use Rattle.lifecycle_core.specs.Tasks.{End}
 use Rattle.lifecycle_core.specs.Ways.{AreFinished, AreUnfinished, IsOperationDue}
+use Rattle.replay_cli.specs.Checks.{check_line, check_status, files_of, IsCheckOf}
 use Rattle.replay_cli.specs.Kept.{HoldsNothing, IsNotAsked, IsOpened, told_of}
 use Rattle.replay_cli.specs.Outcomes.{PhasesCame}
 use Rattle.replay_cli.specs.Output.{IsWrittenInPart}
 use Rattle.replay_cli.specs.Reports.{activity_text, is_as_asked, newline}
+use Rattle.replay_cli.specs.Statuses.{number_of}
+use Rattle.replay_cli.specs.declared.check_outcome.CheckOutcome.{CheckOutcome}
 use Rattle.replay_cli.specs.declared.outcome.Outcome.{Outcome}
 use Rattle.replay_cli.specs.declared.status.Status.{Status}
 use Rattle.replay_cli.specs.declared.status.Status.TheVariants as status
 use Rattle.replay_cli.specs.declared.verdict.Verdict.{Verdict}
-use Rattle.replay_cli.specs.declared.verdict.Verdict.TheVariants.{WordsRefused, SourceFault, ScriptRefused, SiteFault, NotEmpty, Full, Report, NoMemory}
+use Rattle.replay_cli.specs.declared.verdict.Verdict.TheVariants.{WordsRefused, SourceFault, ScriptRefused, SiteFault, NotEmpty, Full, Report, Checked, NoMemory}
 
 abbrev pub status_of : Verdict → Status
 status_of WordsRefused = status.WordsRefused
@@ -41,6 +44,7 @@ status_of (NotEmpty name) = status.BucketNotEmpty
 status_of (Full lines) = status.JournalFull
 status_of (Report lines true) = status.Done
 status_of (Report lines false) = status.ActivityFailed
+status_of (Checked block outcome) = check_status outcome
 status_of NoMemory = status.NoMemory
 
 abbrev pub text_of : Verdict → List ℕ
@@ -51,6 +55,7 @@ text_of SiteFault = codes "site fault" ++ newline
 text_of (NotEmpty name) = codes "bucket not empty: " ++ name ++ newline
 text_of (Full lines) = lines.items ++ codes "journal full" ++ newline
 text_of (Report lines as_asked) = lines.items
+text_of (Checked block outcome) = check_line block outcome
 text_of NoMemory = []
 
 -- ---- reports
@@ -111,6 +116,10 @@ pub record IsFullRun (setting : Setting) (text : List ℕ) (journal : List Entry
 
 -- what is told of the world around a call
 pub record Around : Type 1 where
+  -- the words ask for the run of a script
+  pub run : Type 0
+  -- the block that the words ask to be checked
+  pub block : Option ℕ
   -- the text of the script, where the source tells it
   pub text : Option (List ℕ)
   -- what the source then holds still, where it tells
@@ -125,6 +134,10 @@ pub record Around : Type 1 where
   pub opened : Type 0
   -- the site was asked for nothing
   pub unasked : Type 0
+  -- the files of the shelf that the words name, where the site tells them
+  pub files : Option Contents
+  -- the shelf could not be opened, or a reading of it failed
+  pub shelf_failed : Type 0
   -- the journal that is handed back
   pub journal : Option (List Entry)
 
@@ -133,18 +146,22 @@ abbrev pub SiteFailed : {S B : Type 0} → (S → ℕ) → S → S → (B → �
 SiteFailed site_faults old new faults store = Rose (site_faults old) (site_faults new) ⊎ IsSomeAnd store (λ bucket. 0 < faults bucket)
 
 -- The world around a call that took a source from `script` to `read` and a site from `site` to `asked`, and handed back a bucket
--- and a journal, or neither, and a shelf or none. The first word names the bucket, the second one the shelf.
+-- and a journal, or neither, and a shelf or none. The words name the bucket, the shelf and the block, each where it is asked for.
 abbrev pub around_call : {R S B F : Type 0} → (R → Option (List ℕ)) → (R → ℕ) → R → R
-    → (S → ℕ) → (S → List ℕ → Option Contents) → (S → ℕ) → (S → List ℕ → Option Contents) → (S → ℕ) → Option (List ℕ) → Option (List ℕ) → S → S
-    → (B → ℕ) → Option B → Option F → Option (List Entry) → Around
-around_call left source_faults script read buckets next_bucket shelves next_shelf site_faults bucket_word shelf_word site asked faults store shelf journal = record {
+    → (S → ℕ) → (S → List ℕ → Option Contents) → (S → ℕ) → (S → List ℕ → Option Contents) → (S → ℕ) → Option (List ℕ) → Option (List ℕ) → Option ℕ → S → S
+    → (B → ℕ) → (F → ℕ) → Option B → Option F → Option (List Entry) → Around
+around_call left source_faults script read buckets next_bucket shelves next_shelf site_faults bucket_word shelf_word block_word site asked store_faults shelf_faults store shelf journal = record {
+  run = IsSome bucket_word;
+  block = block_word;
   text = left script;
   left = left read;
   source_failed = Rose (source_faults script) (source_faults read);
   before = told_of (next_bucket site) bucket_word;
-  site_failed = SiteFailed site_faults site asked faults store;
+  site_failed = SiteFailed site_faults site asked store_faults store;
   opened = IsOpened bucket_word shelf_word store shelf;
   unasked = IsNotAsked buckets next_bucket site asked × IsNotAsked shelves next_shelf site asked;
+  files = files_of (next_shelf site) shelf_word;
+  shelf_failed = SiteFailed site_faults site asked shelf_faults shelf;
   journal = journal;
 }
 
@@ -164,6 +181,7 @@ abbrev pub BehindOpening : Verdict → Type 0 → Type 0
 BehindOpening (NotEmpty name) P = P
 BehindOpening (Full lines) P = P
 BehindOpening (Report lines as_asked) P = P
+BehindOpening (Checked block outcome) P = P
 BehindOpening WordsRefused P = Unit {0}
 BehindOpening SourceFault P = Unit {0}
 BehindOpening (ScriptRefused refusal) P = Unit {0}
@@ -190,11 +208,31 @@ IsUnread text left source_failed other = ⊥
 abbrev pub IsWorked : Around → Verdict → Type 0
 IsWorked around verdict = (IsUnread around.text around.left around.source_failed verdict × (around.journal ≡ None) × around.unasked) ⊎ IsRunOfText around verdict
 
--- why a call comes to a verdict, by whether its words are a form of one; where they are none, the source was not read and the site
--- asked for nothing
-abbrev pub IsCaused : Type 0 → Around → Verdict → Type 0
-IsCaused accepted around WordsRefused = (¬ accepted) × (around.journal ≡ None) × (around.left ≡ around.text) × around.unasked
-IsCaused accepted around other = accepted × IsWorked around other
+-- Why the check of a block comes to a verdict: by the files of its shelf, where they are told, or by a failure of the site or of
+-- the shelf.
+abbrev pub IsChecked : Option Contents → ℕ → Type 0 → Verdict → Type 0
+IsChecked files ulid failed (Checked block outcome) = (block ≡ ulid) × IsCheckOf files ulid outcome
+IsChecked files ulid failed SiteFault = failed
+IsChecked files ulid failed NoMemory = Unit {0}
+IsChecked files ulid failed other = ⊥
+
+-- no script was to be run: none was read, and no journal begun
+pub record IsNoRun (around : Around) : Type 0 where
+  pub none : ¬ around.run
+  pub journal : around.journal ≡ None
+  pub unread : around.left ≡ around.text
+
+-- the words name a block, and its check comes to the verdict; a shelf was handed out just where the words name one
+abbrev pub IsCheckDone : Around → Verdict → Type 0
+IsCheckDone around verdict = IsNoRun around × IsSomeAnd around.block (λ ulid. IsChecked around.files ulid around.shelf_failed verdict) × BehindOpening verdict around.opened
+
+-- Why a call comes to a verdict, by what its words ask for: the run of a script; or the check of a block; or they are no form of a
+-- call, and then the site is asked for nothing.
+abbrev pub IsCaused : Around → Verdict → Type 0
+IsCaused around verdict =
+    (around.run × (around.block ≡ None) × IsWorked around verdict)
+    ⊎ IsCheckDone around verdict
+    ⊎ (IsNoRun around × (around.block ≡ None) × (verdict ≡ WordsRefused) × around.unasked)
 
 -- ---- what is said
 
@@ -221,10 +259,16 @@ IsSaid verdict saying result =
     ⊎ ((result ≡ status.SinkFault) × (verdict ≢ NoMemory) × Rose saying.faults_before saying.faults_after × IsWrittenInPart (text_of verdict) saying.written_before saying.written_after)
     ⊎ ((result ≡ status.NoMemory) × (saying.written_after ≡ saying.written_before))
 
--- A call is calm: its words are a form of one, the source tells a text that spells a script, the bucket held nothing, nothing failed,
+-- With the status of a check, the line of the block's check was written, and it tells how the check ended.
+abbrev pub IsCheckSaid : Option Contents → ℕ → Saying → ℕ → Type 0
+IsCheckSaid files ulid saying number =
+    (number ≡ 0) ⊎ (number ≡ 5)
+    → (outcome : CheckOutcome) × IsCheckOf files ulid outcome × (number ≡ number_of (check_status outcome)) × IsAdded (check_line ulid outcome) saying
+
+-- A call is calm: its words ask for a run, the source tells a text that spells a script, the bucket held nothing, nothing failed,
 -- and the journal is honest and not full.
-pub record IsCalm (accepted : Type 0) (around : Around) (saying : Saying) : Type 0 where
-  pub accepts : accepted
+pub record IsCalm (around : Around) (saying : Saying) : Type 0 where
+  pub accepts : around.run
   pub text : List ℕ
   pub told : around.text ≡ Some text
   pub script : Script

@@ -1,19 +1,35 @@
 -- The words of a command line, and what they name.
-use Rattle.std.specs.Prelude.{ℕ, String, List, [], ◌∷◌, Option, Some, None, if◌then◌else◌, codes}
+use Rattle.std.specs.Prelude.{ℕ, String, List, [], ◌∷◌, Option, Some, None, is_some, if◌then◌else◌, codes}
+use Rattle.std.specs.Result.{result_ok}
 use Rattle.std.specs.Str.{bytes_eq}
 use Rattle.std.specs.String.{string_bytes}
 use Rattle.std.specs.declared.alloc.Global.{Global}
+use Rattle.ulid_core.specs.UlidText.{ulid_of}
 
 -- the bucket of a run, which the words `serial BUCKET SHELF` name
 abbrev pub bucket_word : List (String Global) → Option (List ℕ)
 bucket_word (call ∷ bucket ∷ shelf ∷ []) = if bytes_eq (string_bytes call) (codes "serial") then Some (string_bytes bucket) else None
 bucket_word other = None
 
+-- the block to be checked, which the words `check SHELF ULID` name
+abbrev pub block_word : List (String Global) → Option ℕ
+block_word (call ∷ shelf ∷ block ∷ []) = if bytes_eq (string_bytes call) (codes "check") then result_ok (ulid_of (string_bytes block)) else None
+block_word other = None
+
 -- the shelf that a word names, which is none where it is `none`
 abbrev pub named_by : List ℕ → Option (List ℕ)
 named_by word = if bytes_eq word (codes "none") then None else Some word
 
--- the shelf of a run, where the words `serial BUCKET SHELF` name one
+-- the shelf of a run
+abbrev pub run_shelf : List (String Global) → Option (List ℕ)
+run_shelf (call ∷ bucket ∷ shelf ∷ []) = named_by (string_bytes shelf)
+run_shelf other = None
+
+-- the shelf of a block that is to be checked
+abbrev pub block_shelf : List (String Global) → Option (List ℕ)
+block_shelf (call ∷ shelf ∷ block ∷ []) = named_by (string_bytes shelf)
+block_shelf other = None
+
+-- the shelf of a run, or of a block that is to be checked, where the words name one
 abbrev pub shelf_word : List (String Global) → Option (List ℕ)
-shelf_word (call ∷ bucket ∷ shelf ∷ []) = if bytes_eq (string_bytes call) (codes "serial") then named_by (string_bytes shelf) else None
-shelf_word other = None
+shelf_word words = if is_some (bucket_word words) then run_shelf words else (if is_some (block_word words) then block_shelf words else None)

@@ -3,6 +3,8 @@
 
 mod activity;
 mod came;
+mod check;
+mod check_outcome;
 mod conclusion;
 mod declared;
 mod input;
@@ -24,6 +26,7 @@ mod tool;
 mod verdict;
 mod words;
 
+pub use check_outcome::CheckOutcome;
 pub use input::read_all;
 pub use input_refusal::InputRefusal;
 pub use laws::{calm_runs_end_as_asked, told_answers_are_sound, told_misses_are_explained};

@@ -1,4 +1,4 @@
-ghost use Rattle.std.specs.Prelude.{◌≡◌, ◌≤◌, [], Some, IfOk, IfErr, IsSome, is_some};
+ghost use Rattle.std.specs.Prelude.{◌≡◌, ◌≤◌, [], Some, IfOk, IfErr, IfSome, IsSome, is_some};
 ghost use Rattle.bucket_core.specs.Causes.{Rose};
 ghost use Rattle.lifecycle_core.specs.Setting.{Setting};
 ghost use Rattle.replay_cli.specs.Kept.{IsHandedBack, IsNotAsked, IsShelfOf};
@@ -15,6 +15,7 @@ use world_core::Journal;
 pub(crate) fn open_shelf<S: Site>(site: &mut S, word: &str) -> Result<Option<S::Files>, SiteRefusal>
     ensures shelf { IfOk result (IsShelfOf S.shelves S.next_shelf S.Files.files
         (named_by word.now) site.old site.new) }
+    ensures fresh { IfOk result (λ shelf. IfSome shelf (λ s. S.Files.faults s ≡ 0)) }
     ensures named { IfOk result (λ shelf. is_some shelf ≡ is_some (named_by word.now)) }
     ensures refused { IfErr result (λ _. S.shelves site.new ≡ S.shelves site.old) }
     ensures asked { IfErr result (λ _. IsSome (named_by word.now)) }

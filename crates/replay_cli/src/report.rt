@@ -2,8 +2,10 @@ ghost use Rattle.std.specs.Prelude.{◌≡◌, ◌++◌, ◌∷◌, [], codes, l
 ghost use Rattle.std.specs.List.{flat_map};
 ghost use Rattle.reading_core.specs.Decimal.{decimal_text, signed_text};
 ghost use Rattle.ulid_core.specs.UlidText.{text_of};
+ghost use Rattle.replay_cli.specs.Checks.{check_line};
 ghost use Rattle.replay_cli.specs.Reports.{activity_text, gateway_name, upload_line, sync_line, query_line, query_text, no_answer_words, answer_text, counts_text, source_line, series_line, newline};
 
+use crate::check_outcome::CheckOutcome;
 use crate::outcome::{NoAnswer, Outcome, QueryOutcome, SyncOutcome, UploadOutcome};
 use label_sets::{Series, SeriesList, sample_count};
 use list_core::NoMemory;
@@ -58,6 +60,28 @@ fn put_numbered(out: &mut Vec<u8>, before: &str, number: u64, after: &str) -> Re
     put_text(out, before)?;
     put_unsigned(out, number)?;
     put_text(out, after)
+}
+
+/// Appends the line of a checked block.
+#[tactic(auto, unfolding(crate::specs::Checks::check_words, crate::specs::Checks::check_line))]
+pub(crate) fn put_check(
+    out: &mut Vec<u8>,
+    block: Ulid,
+    outcome: CheckOutcome,
+) -> Result<(), NoMemory>
+    ensures { OnOk result (out.new.items ≡ out.old.items ++ check_line block outcome) }
+{
+    put_text(out, "check ")?;
+    block.put_text(out)?;
+    put_text(out, ": ")?;
+    match outcome {
+        CheckOutcome::Passed(series, samples) => {
+            put_numbered(out, "ok ", series, " series ")?;
+            put_numbered(out, "", samples, " samples")?;
+        }
+        CheckOutcome::Refused(number) => put_numbered(out, "refused ", u64::from(number), "")?,
+    }
+    put_text(out, "\n")
 }
 
 #[tactic(auto, unfolding(crate::specs::Reports::upload_words))]

@@ -3,19 +3,21 @@ ghost use Rattle.bucket_core.specs.Causes.{Rose};
 ghost use Rattle.bucket_core.specs.Contents.{nothing};
 ghost use Rattle.script_core.specs.Reading.{script_of};
 ghost use Rattle.script_core.specs.Lawful.{IsLawfulScript};
-ghost use Rattle.replay_cli.specs.Kept.{IsHandedBack, IsHandedOut, IsOpened, IsShelfOf, IsUntouched, told_of};
+ghost use Rattle.replay_cli.specs.Checks.{files_of};
+ghost use Rattle.replay_cli.specs.Kept.{IsHandedBack, IsHandedOut, IsNotAsked, IsOpened, IsShelfOf, IsUntouched, told_of};
 ghost use Rattle.replay_cli.specs.Statuses.{number_of};
-ghost use Rattle.replay_cli.specs.Verdicts.{BehindOpening, IsCalm, IsCaused, IsWorked, IsUnread, IsRun, IsSaid, SiteFailed, around_call, saying_to};
-ghost use Rattle.replay_cli.specs.Words.{bucket_word, named_by, shelf_word};
+ghost use Rattle.replay_cli.specs.Verdicts.{BehindOpening, IsCalm, IsCaused, IsCheckSaid, IsWorked, IsUnread, IsRun, IsSaid, SiteFailed, around_call, saying_to};
+ghost use Rattle.replay_cli.specs.Words.{block_word, bucket_word, named_by, shelf_word};
 ghost use Rattle.lifecycle_core.specs.Setting.{setting_of};
 
 use crate::came::Broken;
+use crate::check::check_block;
 use crate::conclusion::{Conclusion, Ended};
 use crate::input::read_all;
 use crate::opening::{open_shelf, refused, without_shelf};
 use crate::output::write_all;
 use crate::phases::{Lines, Progress, run_phases};
-use crate::words::read_words;
+use crate::words::{read_check, read_serial};
 use crate::{InputRefusal, Run, Status, Verdict};
 use bucket_core::{Bucket, Sink, Site, Source};
 use script_core::{Script, ScriptRefusal};
@@ -23,7 +25,7 @@ use std::alloc::Global;
 use world_core::{Journal, OpenRefusal, World};
 
 /// Does all that the program does: it reads the script to its end, runs it over the bucket that the site hands out, and
-/// writes the report. The words are those of the command line after the program's name.
+/// writes the report; or it checks a block of a shelf. The words are those of the command line after the program's name.
 pub fn run_tool<S: Site, R: Source, K: Sink>(
     alloc: Global,
     words: &[String],
@@ -34,22 +36,29 @@ pub fn run_tool<S: Site, R: Source, K: Sink>(
     // The call comes to a verdict that has its cause, and says it: its status and its text, or that the sink failed or
     // memory ran out as it was said.
     ensures verdict { (verdict : Verdict) × (status : Status)
-        × IsCaused (IsSome (bucket_word words.now))
+        × IsCaused
         (around_call R.left R.faults script.old script.new
         S.buckets S.next_bucket S.shelves S.next_shelf S.faults
         (bucket_word words.now) (shelf_word words.now)
-        site.old site.new S.Store.faults result.store result.shelf result.journal) verdict
+        (block_word words.now) site.old site.new S.Store.faults S.Files.faults
+        result.store result.shelf result.journal) verdict
         × IsSaid verdict (saying_to K.faults K.written out.old out.new) status
         × (result.status ≡ number_of status) }
 
     // A calm call ends as asked, unless there is no memory.
-    ensures calm { IsCalm (IsSome (bucket_word words.now))
+    ensures calm { IsCalm
         (around_call R.left R.faults script.old script.new
         S.buckets S.next_bucket S.shelves S.next_shelf S.faults
         (bucket_word words.now) (shelf_word words.now)
-        site.old site.new S.Store.faults result.store result.shelf result.journal)
+        (block_word words.now) site.old site.new S.Store.faults S.Files.faults
+        result.store result.shelf result.journal)
         (saying_to K.faults K.written out.old out.new)
         → (result.status ≡ 0) ⊎ (result.status ≡ 6) }
+
+    // Where the words ask for the check of a block, the statuses 0 and 5 say that its line was written.
+    ensures checked { (block : ℕ) → block_word words.now ≡ Some block
+        → IsCheckSaid (files_of (S.next_shelf site.old) (shelf_word words.now)) block
+        (saying_to K.faults K.written out.old out.new) result.status }
 
     ensures handed { IsHandedOut S.buckets site.old site.new result.store }
     ensures kept { is_some result.journal ≡ is_some result.store }
@@ -59,6 +68,10 @@ pub fn run_tool<S: Site, R: Source, K: Sink>(
     ensures back { IsHandedBack S.Store.contents S.Store.faults result.journal result.store }
     ensures untouched { IfSome (told_of (S.next_bucket site.old) (bucket_word words.now))
         (λ c. IsUntouched S.Store.contents c result.journal result.store) }
+
+    // No bucket is asked for where no word names one.
+    ensures closed { bucket_word words.now ≡ None
+        → IsNotAsked S.buckets S.next_bucket site.old site.new }
 
     // So is the shelf, and no shelf is asked for where no word names one.
     ensures shelf { IsShelfOf S.shelves S.next_shelf S.Files.files (shelf_word words.now)
@@ -75,19 +88,18 @@ pub fn run_tool<S: Site, R: Source, K: Sink>(
 }
 
 /// Does all but the writing.
-#[tactic(auto, using(crate::proofs::Verdicts::caused))]
 fn come_to<S: Site, R: Source>(
     alloc: Global,
     words: &[String],
     site: &mut S,
     script: &mut R,
 ) -> Ended<S::Store, S::Files>
-    ensures cause { IsCaused (IsSome (bucket_word words.now))
+    ensures cause { IsCaused
         (around_call R.left R.faults script.old script.new
         S.buckets S.next_bucket S.shelves S.next_shelf S.faults
         (bucket_word words.now) (shelf_word words.now)
-        site.old site.new S.Store.faults result.conclusion.store result.shelf
-        result.conclusion.journal)
+        (block_word words.now) site.old site.new S.Store.faults S.Files.faults
+        result.conclusion.store result.shelf result.conclusion.journal)
         result.conclusion.verdict }
     ensures handed { IsHandedOut S.buckets site.old site.new result.conclusion.store }
     ensures kept { is_some result.conclusion.journal ≡ is_some result.conclusion.store }
@@ -95,11 +107,16 @@ fn come_to<S: Site, R: Source>(
         result.conclusion.store }
     ensures untouched { IfSome (told_of (S.next_bucket site.old) (bucket_word words.now))
         (λ c. IsUntouched S.Store.contents c result.conclusion.journal result.conclusion.store) }
+    ensures closed { bucket_word words.now ≡ None
+        → IsNotAsked S.buckets S.next_bucket site.old site.new }
     ensures shelf { IsShelfOf S.shelves S.next_shelf S.Files.files (shelf_word words.now)
         site.old site.new result.shelf }
 {
-    match read_words(words) {
-        Some(named) => read_and_run(alloc, named.bucket, named.shelf, site, script),
+    if let Some(named) = read_serial(words) {
+        return read_and_run(alloc, named.bucket, named.shelf, site, script);
+    }
+    match read_check(words) {
+        Some(asked) => check_block(alloc, asked.shelf, asked.block, site),
         None => Ended {
             conclusion: Conclusion::without_bucket(Verdict::WordsRefused),
             shelf: None,
@@ -120,8 +137,8 @@ fn read_and_run<S: Site, R: Source>(
         (around_call R.left R.faults script.old script.new
         S.buckets S.next_bucket S.shelves S.next_shelf S.faults
         (Some bucket.now) (named_by shelf.now)
-        site.old site.new S.Store.faults result.conclusion.store result.shelf
-        result.conclusion.journal)
+        None site.old site.new S.Store.faults S.Files.faults
+        result.conclusion.store result.shelf result.conclusion.journal)
         result.conclusion.verdict }
     ensures handed { IsHandedOut S.buckets site.old site.new result.conclusion.store }
     ensures kept { is_some result.conclusion.journal ≡ is_some result.conclusion.store }

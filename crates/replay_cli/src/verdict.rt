@@ -1,13 +1,16 @@
 ghost use Rattle.std.specs.Prelude.{◌≡◌, ◌≢◌, ◌++◌, ◌∷◌, [], codes, IfOk, OnOk};
+ghost use Rattle.replay_cli.specs.Checks.{check_line};
 ghost use Rattle.replay_cli.specs.Reports.{newline};
 ghost use Rattle.script_core.specs.Wording.{refusal_text};
 ghost use Rattle.replay_cli.specs.Verdicts.{status_of, text_of};
 
-use crate::Status;
+use crate::report::put_check;
+use crate::{CheckOutcome, Status};
 use label_sets::Text;
 use list_core::NoMemory;
 use script_core::ScriptRefusal;
 use std::alloc::Global;
+use ulid_core::Ulid;
 
 /// What a call of the program comes to, before a word of it is written.
 #[derive(Drop)]
@@ -26,6 +29,8 @@ pub enum Verdict {
     Full(Vec<u8>),
     /// The script was run to its end. The flag tells whether every activity ended as asked.
     Report(Vec<u8>, bool),
+    /// The block was checked.
+    Checked(Ulid, CheckOutcome),
     NoMemory,
 }
 
@@ -43,6 +48,8 @@ impl Verdict {
             Verdict::Full(_) => Status::JournalFull,
             Verdict::Report(_, true) => Status::Done,
             Verdict::Report(_, false) => Status::ActivityFailed,
+            Verdict::Checked(_, CheckOutcome::Passed(..)) => Status::Done,
+            Verdict::Checked(_, CheckOutcome::Refused(_)) => Status::ActivityFailed,
             Verdict::NoMemory => Status::NoMemory,
         }
     }
@@ -60,6 +67,7 @@ impl Verdict {
             Verdict::NotEmpty(name) => name_line(alloc, &name),
             Verdict::Full(lines) => with_full(lines),
             Verdict::Report(lines, _) => Ok(lines),
+            Verdict::Checked(block, outcome) => check_line(alloc, block, outcome),
             Verdict::NoMemory => Err(NoMemory),
         }
     }
@@ -97,5 +105,13 @@ fn with_full(lines: Vec<u8>) -> Result<Vec<u8>, NoMemory>
 {
     let mut text = lines;
     text.extend_from_slice(b"journal full\n")?;
+    Ok(text)
+}
+
+fn check_line(alloc: Global, block: Ulid, outcome: CheckOutcome) -> Result<Vec<u8>, NoMemory>
+    ensures { IfOk result (λ text. text.items ≡ check_line block outcome) }
+{
+    let mut text = Vec::new(alloc);
+    put_check(&mut text, block, outcome)?;
     Ok(text)
 }

@@ -1,18 +1,20 @@
-ghost use Rattle.std.specs.Prelude.{◌≡◌, Some, IfSome, option_map};
-ghost use Rattle.replay_cli.specs.Words.{bucket_word, named_by, shelf_word};
+ghost use Rattle.std.specs.Prelude.{◌≡◌, Some, None, IfSome, option_map};
+ghost use Rattle.replay_cli.specs.Words.{block_word, bucket_word, named_by, shelf_word};
 
-/// The words that name the bucket and the shelf of a call.
+use ulid_core::Ulid;
+
+/// The words that name the bucket and the shelf of a run.
 #[derive(Clone, Copy)]
 pub(crate) struct Named<'a> {
     pub bucket: &'a str,
     pub shelf: &'a str,
 }
 
-/// Reads the words `serial BUCKET SHELF`, the one form of a call today.
-pub(crate) fn read_words(words: &[String]) -> Option<Named<'_>>
+/// Reads the words `serial BUCKET SHELF`.
+pub(crate) fn read_serial(words: &[String]) -> Option<Named<'_>>
     ensures bucket { option_map (λ named. named.bucket.now) result ≡ bucket_word words.now }
     ensures shelf { IfSome result (λ named. named_by named.shelf.now ≡ shelf_word words.now) }
-    ensures none { result ≡ None → shelf_word words.now ≡ None }
+    ensures block { IfSome result (λ named. None ≡ block_word words.now) }
 {
     let [call, bucket, shelf] = words else {
         return None;
@@ -24,4 +26,33 @@ pub(crate) fn read_words(words: &[String]) -> Option<Named<'_>>
         bucket: bucket.as_str(),
         shelf: shelf.as_str(),
     })
+}
+
+/// The word that names a shelf, and the block of it that is to be checked.
+#[derive(Clone, Copy)]
+pub(crate) struct Asked<'a> {
+    pub shelf: &'a str,
+    pub block: Ulid,
+}
+
+/// Reads the words `check SHELF ULID`.
+pub(crate) fn read_check(words: &[String]) -> Option<Asked<'_>>
+    ensures block { option_map (λ asked. asked.block) result ≡ block_word words.now }
+    ensures shelf { IfSome result (λ asked. named_by asked.shelf.now ≡ shelf_word words.now) }
+    ensures run { IfSome result (λ asked. bucket_word words.now ≡ None) }
+    ensures none { result ≡ None → bucket_word words.now ≡ None → shelf_word words.now ≡ None }
+{
+    let [call, shelf, block] = words else {
+        return None;
+    };
+    if call.as_str() != "check" {
+        return None;
+    }
+    match Ulid::read(block.as_str()) {
+        Ok(block) => Some(Asked {
+            shelf: shelf.as_str(),
+            block,
+        }),
+        Err(_) => None,
+    }
 }

@@ -1,11 +1,16 @@
 //! What standard error is told of a call that wrote no report.
 use replay_cli::Status;
 
-/// How the program is called, a line a form; or what to do about a call that wrote no report. Nothing where it wrote one.
+/// How the program is called, a line a form.
+const USAGE: &str = "usage: tosraem serial BUCKET SHELF < SCRIPT
+       tosraem check SHELF ULID
+";
+
+/// How the program is called; or what to do about a call that wrote no report. Nothing where it wrote one.
 pub(crate) fn advice(status: Status) -> &'static str {
     match status {
         Status::Done | Status::ActivityFailed => "",
-        Status::WordsRefused => "usage: tosraem serial BUCKET SHELF < SCRIPT\n",
+        Status::WordsRefused => USAGE,
         Status::ScriptRefused => "Mend the script at the line that is named, and run again.\n",
         Status::SourceFault => {
             "The script comes from standard input: see that it can be read, and run again.\n"
@@ -21,7 +26,7 @@ pub(crate) fn advice(status: Status) -> &'static str {
             "One run takes about a million operations: split the script into several runs.\n"
         }
         Status::SiteFault => {
-            "See that BUCKET and SHELF name folders that can be opened, and run again.\n"
+            "See that the words name folders that can be opened and read, and run again.\n"
         }
     }
 }
