@@ -29,11 +29,11 @@ use Rattle.lifecycle_core.specs.Setting.{Setting}
 use Rattle.lifecycle_core.specs.Tasks.{End, answered, stopped, synced, uploaded, without_view}
 use Rattle.lifecycle_core.specs.Ways.{AreFinished, AreInTurn, Way}
 use Rattle.list_core.proofs.Membership.{contains_first, contains_later}
-use Rattle.replay_cli.specs.Outcomes.{IsOutcome, PhasesCame, TasksCame, call_outcome, sync_outcome, upload_outcome}
-use Rattle.replay_cli.specs.Reports.{is_as_asked}
+use Rattle.script_running.specs.Outcomes.{IsOutcome, PhasesCame, TasksCame, call_outcome, sync_outcome, upload_outcome}
+use Rattle.script_running.specs.Outcomes.{is_as_asked}
 use Rattle.replay_cli.specs.Verdicts.{IsWholeRun}
-use Rattle.replay_cli.specs.declared.outcome.Outcome.{Outcome}
-use Rattle.replay_cli.specs.declared.outcome.Outcome.TheVariants as outcome
+use Rattle.script_running.specs.declared.outcome.Outcome.{Outcome}
+use Rattle.script_running.specs.declared.outcome.Outcome.TheVariants as outcome
 
 -- ---- one task
 

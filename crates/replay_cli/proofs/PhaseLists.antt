@@ -22,13 +22,13 @@ use Rattle.lifecycle_core.proofs.phases.PhaseRuns.{ends_of}
 use Rattle.script_core.proofs.SeatLaws.{workers_at}
 use Rattle.lifecycle_core.proofs.phases.FirstPhases.{no_phase}
 use Rattle.lifecycle_core.proofs.phases.RunsInLine.{AreWhole, by_none, by_parts, ends_by_workers, finished, own_came, own_undone, run_by, runs, turns_by}
-use Rattle.replay_cli.specs.Outcomes.{PhasesCame}
+use Rattle.script_running.specs.Outcomes.{PhasesCame}
 use Rattle.replay_cli.specs.Progress.{HasRun, IsBrokenAt, IsDueAt, IsDueInLine, IsUnfinished, PhaseStep, PhasesTold, Reached, Shows, RunCame, TasksBroken, TasksDone, TasksTold, duties_at}
-use Rattle.replay_cli.specs.Reports.{is_as_asked}
+use Rattle.script_running.specs.Outcomes.{is_as_asked}
 use Rattle.replay_cli.specs.Verdicts.{IsFullRun, IsWholeRun, WhereBegun, report_of, tasks_of}
-use Rattle.replay_cli.specs.declared.came.Broken.{Broken}
-use Rattle.replay_cli.specs.declared.came.Broken.TheVariants as broken
-use Rattle.replay_cli.specs.declared.outcome.Outcome.{Outcome}
+use Rattle.script_running.specs.declared.came.Broken.{Broken}
+use Rattle.script_running.specs.declared.came.Broken.TheVariants as broken
+use Rattle.script_running.specs.declared.outcome.Outcome.{Outcome}
 use Rattle.replay_cli.proofs.ReportLists.{all_append, report_append, tasks_append}
 use Rattle.replay_cli.proofs.Told.{tasks_came, told_length, told_outcomes}
 use Rattle.lifecycle_core.specs.Guarantees.{IsGuaranteedJournal}

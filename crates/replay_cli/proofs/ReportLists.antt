@@ -4,10 +4,11 @@ use Rattle.std.proofs.Math.Bool.{and_assoc}
 use Rattle.std.specs.List.{list_all}
 use Rattle.script_core.specs.declared.script.Script.{Script}
 use Rattle.script_workers.specs.declared.task.Task.{Task}
-use Rattle.replay_cli.specs.Reports.{activity_text, is_as_asked}
+use Rattle.replay_cli.specs.Reports.{activity_text}
+use Rattle.script_running.specs.Outcomes.{is_as_asked}
 use Rattle.replay_cli.specs.Verdicts.{report_of, tasks_of}
 use Rattle.script_workers.specs.declared.phase.Phase.{Phase}
-use Rattle.replay_cli.specs.declared.outcome.Outcome.{Outcome}
+use Rattle.script_running.specs.declared.outcome.Outcome.{Outcome}
 
 pub all_append : (one other : List Outcome) → list_all is_as_asked (one ++ other) ≡ list_all is_as_asked one && list_all is_as_asked other
 all_append [] other = refl

@@ -23,8 +23,8 @@ use Rattle.lifecycle_core.proofs.phases.FirstPhases.{none_in_line}
 use Rattle.lifecycle_core.proofs.Assembling.{none_guaranteed}
 use Rattle.replay_cli.specs.Progress.{RunCame}
 use Rattle.replay_cli.specs.Verdicts.{IsRun}
-use Rattle.replay_cli.specs.declared.came.Broken.{Broken}
-use Rattle.replay_cli.specs.declared.came.Broken.TheVariants as broken
+use Rattle.script_running.specs.declared.came.Broken.{Broken}
+use Rattle.script_running.specs.declared.came.Broken.TheVariants as broken
 use Rattle.replay_cli.specs.declared.phases.Lines.{Lines}
 use Rattle.replay_cli.specs.declared.verdict.Verdict.{Verdict}
 use Rattle.replay_cli.specs.declared.verdict.Verdict.TheVariants as verdict

@@ -20,14 +20,15 @@ use Rattle.lifecycle_core.proofs.phases.Joined.{both, cut, duties_begin, duties_
 use Rattle.lifecycle_core.proofs.phases.RunsInLine.{may_begin}
 use Rattle.lifecycle_core.proofs.phases.TaskRuns.{MayBegin}
 use Rattle.std.proofs.lemmas.List.Elements.{All-drop}
-use Rattle.replay_cli.specs.Outcomes.{IsOutcome, TasksCame}
+use Rattle.script_running.specs.Outcomes.{IsOutcome, TasksCame}
 use Rattle.replay_cli.specs.Progress.{IsDueInLine, Shows, TaskStep, TasksBroken, TasksDone, TasksTold, duties_at}
-use Rattle.replay_cli.specs.Reports.{activity_text, is_as_asked}
+use Rattle.replay_cli.specs.Reports.{activity_text}
+use Rattle.script_running.specs.Outcomes.{is_as_asked}
 use Rattle.replay_cli.specs.Verdicts.{report_of}
-use Rattle.replay_cli.specs.declared.came.Broken.{Broken}
-use Rattle.replay_cli.specs.declared.came.Broken.TheVariants as broken
-use Rattle.replay_cli.specs.Drives.{Came}
-use Rattle.replay_cli.specs.declared.outcome.Outcome.{Outcome}
+use Rattle.script_running.specs.declared.came.Broken.{Broken}
+use Rattle.script_running.specs.declared.came.Broken.TheVariants as broken
+use Rattle.script_running.specs.Drives.{Came}
+use Rattle.script_running.specs.declared.outcome.Outcome.{Outcome}
 use Rattle.replay_cli.proofs.ReportLists.{all_append, report_append}
 
 -- one task more

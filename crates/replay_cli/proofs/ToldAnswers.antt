@@ -27,12 +27,12 @@ use Rattle.lifecycle_core.specs.Phases.{IsRunOf}
 use Rattle.lifecycle_core.specs.Setting.{Setting}
 use Rattle.lifecycle_core.proofs.answers.OneGateway.{IsGivenByOne, given_by_one}
 use Rattle.lifecycle_core.specs.Tasks.{End, answered, stopped, synced, uploaded, without_view}
-use Rattle.replay_cli.specs.Outcomes.{IsOutcome, PhasesCame, TaskCame, TasksCame, call_outcome}
+use Rattle.script_running.specs.Outcomes.{IsOutcome, PhasesCame, TaskCame, TasksCame, call_outcome}
 use Rattle.replay_cli.specs.ToldAnswers.{IsTold, IsWorth, ToldAnswer, answered_by}
 use Rattle.replay_cli.specs.Verdicts.{IsFullRun, IsWholeRun, tasks_of}
-use Rattle.replay_cli.specs.declared.outcome.Outcome.{Outcome}
-use Rattle.replay_cli.specs.declared.outcome.Outcome.TheVariants as outcome
-use Rattle.replay_cli.specs.declared.outcome.QueryOutcome.TheVariants as query
+use Rattle.script_running.specs.declared.outcome.Outcome.{Outcome}
+use Rattle.script_running.specs.declared.outcome.Outcome.TheVariants as outcome
+use Rattle.script_running.specs.declared.outcome.QueryOutcome.TheVariants as query
 
 -- ---- which task an outcome is of
 

@@ -20,12 +20,12 @@ use Rattle.lifecycle_core.specs.Conducts.{CameTo}
 use Rattle.lifecycle_core.specs.Holdings.{Use}
 use Rattle.lifecycle_core.specs.Setting.{Setting}
 use Rattle.lifecycle_core.specs.Tasks.{End, answered, stopped, synced, uploaded, without_view}
-use Rattle.replay_cli.specs.Outcomes.{IsOutcome, PhasesCame, TaskCame, TasksCame}
+use Rattle.script_running.specs.Outcomes.{IsOutcome, PhasesCame, TaskCame, TasksCame}
 use Rattle.replay_cli.specs.Verdicts.{IsFullRun, IsWholeRun}
-use Rattle.replay_cli.specs.declared.outcome.Outcome.{Outcome}
-use Rattle.replay_cli.specs.declared.outcome.Outcome.TheVariants as outcome
-use Rattle.replay_cli.specs.declared.outcome.QueryOutcome.TheVariants as query
-use Rattle.replay_cli.specs.declared.outcome.NoAnswer.TheVariants as none
+use Rattle.script_running.specs.declared.outcome.Outcome.{Outcome}
+use Rattle.script_running.specs.declared.outcome.Outcome.TheVariants as outcome
+use Rattle.script_running.specs.declared.outcome.QueryOutcome.TheVariants as query
+use Rattle.script_running.specs.declared.outcome.NoAnswer.TheVariants as none
 use Rattle.replay_cli.proofs.CalmRuns.{end_came, more_asked}
 
 -- a line that tells of a missing object

@@ -1,8 +1,6 @@
 pub mod Checks
 pub mod CheckVerdicts
-pub mod Drives
 pub mod Kept
-pub mod Outcomes
 pub mod Output
 pub mod Progress
 pub mod Reports

@@ -1,79 +1,42 @@
 -- How far a run in the order of the lines has come, as the contracts of its parts say it.
-use Rattle.std.specs.Prelude.{◌≡◌, ℕ, ◌+◌, ◌<◌, Bool, List, [], ◌∷◌, ◌++◌, length, take, drop, All, Option, Some, None, option_map, slice_get, Result, Ok, Err}
+use Rattle.std.specs.Prelude.{◌≡◌, ℕ, ◌+◌, ◌<◌, Bool, List, [], ◌∷◌, ◌++◌, length, take, drop, Some, slice_get, Result, Ok, Err}
 use Rattle.std.specs.List.{list_all}
 use Rattle.world_core.specs.Operations.{IsAnswer, IsLawful, entry_of}
 use Rattle.world_core.specs.declared.entry.Entry.{Entry}
 use Rattle.world_core.specs.declared.op.Op.{Op}
 use Rattle.world_core.specs.declared.seen.Seen.{Seen}
-use Rattle.meta_fetcher.specs.declared.sync_end.SyncEnd.{SyncEnd}
-use Rattle.meta_fetcher.specs.declared.sync_end.SyncEnd.TheVariants as fetched
-use Rattle.meta_fetcher.specs.declared.view.View.{View}
 use Rattle.store_gateway.specs.declared.gateway.Gateway.{Gateway}
 use Rattle.script_workers.specs.Hands.{gateway_count}
-use Rattle.script_core.specs.Lawful.{IsLawfulWork}
 use Rattle.script_workers.specs.declared.hand.Hand.{Hand}
 use Rattle.script_workers.specs.declared.phase.Phase.{Phase}
-use Rattle.script_core.specs.declared.script.Script.{Script}
 use Rattle.script_workers.specs.declared.task.Task.{Task}
-use Rattle.script_workers.specs.declared.work.Work.{Work}
-use Rattle.lifecycle_core.specs.Holdings.{Use, Holdings, none_held}
+use Rattle.lifecycle_core.specs.Holdings.{Holdings, none_held}
 use Rattle.lifecycle_core.specs.InLine.{Duty, duties_from, InLine, in_line}
 use Rattle.lifecycle_core.specs.Setting.{Setting}
 use Rattle.lifecycle_core.specs.Tasks.{End}
 use Rattle.lifecycle_core.specs.Ways.{AreInTurn, IsOperationDue, PhasesRun}
-use Rattle.replay_cli.specs.Outcomes.{IsOutcome}
-use Rattle.replay_cli.specs.Reports.{is_as_asked}
+use Rattle.script_running.specs.Outcomes.{IsOutcome}
+use Rattle.script_running.specs.Tasks.{Sees, WhenFull}
+use Rattle.script_running.specs.Outcomes.{is_as_asked}
 use Rattle.replay_cli.specs.Verdicts.{report_of, tasks_of}
-use Rattle.replay_cli.specs.declared.came.Broken.{Broken}
-use Rattle.replay_cli.specs.declared.came.Broken.TheVariants as broken
-use Rattle.replay_cli.specs.Drives.{Came}
-use Rattle.replay_cli.specs.declared.outcome.Outcome.{Outcome}
-
--- the script allows the work
-abbrev pub Allows : Script → Work → Type 0
-Allows script work = IsLawfulWork script.gateways script.blocks (length script.selectors) work
+use Rattle.script_running.specs.declared.came.Broken.{Broken}
+use Rattle.script_running.specs.declared.came.Broken.TheVariants as broken
+use Rattle.script_running.specs.Drives.{Came}
+use Rattle.script_running.specs.declared.outcome.Outcome.{Outcome}
 
 -- ---- one task
 
--- what holds where an operation was answered that the journal is full
-abbrev pub WhenFull : Came → Type 0 → Type 0
-WhenFull (Ok o) P = Unit {0}
-WhenFull (Err broken.Full) P = P
-WhenFull (Err broken.NoMemory) P = Unit {0}
-
--- An operation of the seat is due in a run that made these entries: whatever the reply to it, its entry goes on with the run.
-abbrev pub IsDueAfter : {E : Type 0} → (List Entry → E → Type 0) → ℕ → List Entry → Type 0
-IsDueAfter {E} is_run seat made = (op : Op) × IsLawful op × ((seen : Seen) → IsAnswer op seen → (end : E) × is_run (made ++ entry_of seat op seen ∷ []) end)
-
--- entries that one seat added, which with this end are such a run
-pub record Adds {E : Type 0} (is_run : List Entry → E → Type 0) (seat : ℕ) (old new : List Entry) (end : E) (came : Came) : Type 0 where
-  pub made : List Entry
-  pub entries : new ≡ old ++ made
-  pub seats : All (λ e. e.seat ≡ seat) made
-  pub run : is_run made end
-  pub due : WhenFull came (IsDueAfter is_run seat made)
-
--- A task that one worker does comes to its end, or breaks off without one.
-abbrev pub CameBy : Work → Option End → Came → Type 0
-CameBy work (Some end) (Ok o) = IsOutcome work (end ∷ []) o
-CameBy work (Some end) (Err broken.Full) = ⊥
-CameBy work (Some end) (Err broken.NoMemory) = ⊥
-CameBy work None (Ok o) = ⊥
-CameBy work None (Err broken.Full) = Unit {0}
-CameBy work None (Err broken.NoMemory) = Unit {0}
-
--- the view that a sync leaves
-abbrev pub view_by : Option View → Option SyncEnd → Option View
-view_by before (Some (fetched.View view)) = Some view
-view_by before other = before
-
 -- gateways that have these views
 abbrev pub Shows : Holdings → List Gateway → Type 0
-Shows views gateways = (place : ℕ) (gateway : Gateway) → slice_get gateways place ≡ Some gateway → option_map (λ (used : Use). used.view) (views place).used ≡ gateway.view
+Shows views gateways = (place : ℕ) (gateway : Gateway) → slice_get gateways place ≡ Some gateway → Sees (views place) gateway.view
 
 -- the duties of the task at a place
 abbrev pub duties_at : Setting → ℕ → List Task → List Duty
 duties_at setting place tasks = duties_from (gateway_count setting.script.gateways) place tasks
+
+-- the hand alone does the task at a place
+abbrev pub IsOnlyHand : Setting → ℕ → Task → Hand → Type 0
+IsOnlyHand setting place task hand = duties_at setting place (task ∷ []) ≡ record { place = place; hand = hand; task = task } ∷ []
 
 -- the task has come to all its ends, or the full journal left one out
 abbrev pub IsWhole : Setting → ℕ → Task → List End → Came → Type 0

@@ -1,5 +1,5 @@
 -- The lines of a report: one for each activity, and more for an answered query.
-use Rattle.std.specs.Prelude.{ℕ, ℤ, Bool, true, false, List, [], ◌∷◌, ◌++◌, length, codes, slice_get}
+use Rattle.std.specs.Prelude.{ℕ, ℤ, List, [], ◌∷◌, ◌++◌, length, codes, slice_get}
 use Rattle.std.specs.List.{flat_map}
 use Rattle.std.specs.Option.{option_map_or}
 use Rattle.reading_core.specs.Decimal.{decimal_text, signed_text}
@@ -10,16 +10,16 @@ use Rattle.label_sets.specs.declared.series.Series.{Series}
 use Rattle.script_core.specs.declared.script.Script.{Script}
 use Rattle.script_workers.specs.declared.work.Work.{Work}
 use Rattle.script_workers.specs.declared.work.Work.TheVariants as work
-use Rattle.replay_cli.specs.declared.outcome.Outcome.{Outcome}
-use Rattle.replay_cli.specs.declared.outcome.Outcome.TheVariants as outcome
-use Rattle.replay_cli.specs.declared.outcome.UploadOutcome.{UploadOutcome}
-use Rattle.replay_cli.specs.declared.outcome.UploadOutcome.TheVariants as upload
-use Rattle.replay_cli.specs.declared.outcome.SyncOutcome.{SyncOutcome}
-use Rattle.replay_cli.specs.declared.outcome.SyncOutcome.TheVariants as sync
-use Rattle.replay_cli.specs.declared.outcome.QueryOutcome.{QueryOutcome}
-use Rattle.replay_cli.specs.declared.outcome.QueryOutcome.TheVariants as query
-use Rattle.replay_cli.specs.declared.outcome.NoAnswer.{NoAnswer}
-use Rattle.replay_cli.specs.declared.outcome.NoAnswer.TheVariants as none
+use Rattle.script_running.specs.declared.outcome.Outcome.{Outcome}
+use Rattle.script_running.specs.declared.outcome.Outcome.TheVariants as outcome
+use Rattle.script_running.specs.declared.outcome.UploadOutcome.{UploadOutcome}
+use Rattle.script_running.specs.declared.outcome.UploadOutcome.TheVariants as upload
+use Rattle.script_running.specs.declared.outcome.SyncOutcome.{SyncOutcome}
+use Rattle.script_running.specs.declared.outcome.SyncOutcome.TheVariants as sync
+use Rattle.script_running.specs.declared.outcome.QueryOutcome.{QueryOutcome}
+use Rattle.script_running.specs.declared.outcome.QueryOutcome.TheVariants as query
+use Rattle.script_running.specs.declared.outcome.NoAnswer.{NoAnswer}
+use Rattle.script_running.specs.declared.outcome.NoAnswer.TheVariants as none
 
 -- a line ends with a newline
 abbrev pub newline : List ℕ
@@ -66,19 +66,6 @@ answer_text series sources = counts_text series sources ++ flat_map source_line 
 unfoldable pub query_text : Script → QueryOutcome → List ℕ
 query_text script (query.Answer series sources) = answer_text series sources
 query_text script (query.NoAnswer gateway why) = gateway_name script gateway ++ codes " " ++ no_answer_words why ++ newline
-
--- the activity ended as asked
-abbrev pub is_as_asked : Outcome → Bool
-is_as_asked (outcome.Upload (upload.Done count)) = true
-is_as_asked (outcome.Upload upload.Already) = true
-is_as_asked (outcome.Upload (upload.Fault entry)) = false
-is_as_asked (outcome.Upload (upload.Stopped count)) = true
-is_as_asked (outcome.Sync (sync.Blocks count)) = true
-is_as_asked (outcome.Sync (sync.Fault entry)) = false
-is_as_asked (outcome.Sync (sync.Damaged entry)) = false
-is_as_asked (outcome.Sync sync.TooMany) = false
-is_as_asked (outcome.Query (query.Answer series sources)) = true
-is_as_asked (outcome.Query (query.NoAnswer gateway why)) = false
 
 abbrev pub upload_line : ℕ → UploadOutcome → List ℕ
 upload_line ulid end = codes "upload " ++ text_of ulid ++ codes ": " ++ upload_words end ++ newline

@@ -13,9 +13,9 @@ use Rattle.lifecycle_core.specs.Guarantees.{Answered, IsGiven, IsSound, Named}
 use Rattle.lifecycle_core.specs.Setting.{Setting}
 use Rattle.lifecycle_core.specs.Tasks.{End}
 use Rattle.replay_cli.specs.Verdicts.{tasks_of}
-use Rattle.replay_cli.specs.declared.outcome.Outcome.{Outcome}
-use Rattle.replay_cli.specs.declared.outcome.Outcome.TheVariants as outcome
-use Rattle.replay_cli.specs.declared.outcome.QueryOutcome.TheVariants as query
+use Rattle.script_running.specs.declared.outcome.Outcome.{Outcome}
+use Rattle.script_running.specs.declared.outcome.Outcome.TheVariants as outcome
+use Rattle.script_running.specs.declared.outcome.QueryOutcome.TheVariants as query
 
 -- a query, and the answer that its lines tell
 pub record ToldAnswer : Type 0 where

@@ -24,12 +24,13 @@ use Rattle.lifecycle_core.specs.Tasks.{End}
 use Rattle.lifecycle_core.specs.Ways.{AreFinished, AreUnfinished, IsOperationDue}
 use Rattle.replay_cli.specs.Checks.{check_line, check_status, files_of, IsCheckOf}
 use Rattle.replay_cli.specs.Kept.{HoldsNothing, IsNotAsked, IsOpened, told_of}
-use Rattle.replay_cli.specs.Outcomes.{PhasesCame}
+use Rattle.script_running.specs.Outcomes.{PhasesCame}
 use Rattle.replay_cli.specs.Output.{IsWrittenInPart}
-use Rattle.replay_cli.specs.Reports.{activity_text, is_as_asked, newline}
+use Rattle.replay_cli.specs.Reports.{activity_text, newline}
+use Rattle.script_running.specs.Outcomes.{is_as_asked}
 use Rattle.replay_cli.specs.Statuses.{number_of}
 use Rattle.replay_cli.specs.declared.check_outcome.CheckOutcome.{CheckOutcome}
-use Rattle.replay_cli.specs.declared.outcome.Outcome.{Outcome}
+use Rattle.script_running.specs.declared.outcome.Outcome.{Outcome}
 use Rattle.replay_cli.specs.declared.status.Status.{Status}
 use Rattle.replay_cli.specs.declared.status.Status.TheVariants as status
 use Rattle.replay_cli.specs.declared.verdict.Verdict.{Verdict}

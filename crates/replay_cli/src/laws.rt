@@ -7,9 +7,9 @@ ghost use Rattle.lifecycle_core.specs.Causes.{IsExplained};
 ghost use Rattle.lifecycle_core.specs.Setting.{Setting};
 ghost use Rattle.replay_cli.specs.ToldAnswers.{IsTold, IsWorth, ToldAnswer};
 ghost use Rattle.replay_cli.specs.Verdicts.{IsFullRun, IsWholeRun};
-ghost use Rattle.replay_cli.specs.declared.outcome.Outcome.TheVariants as outcome;
-ghost use Rattle.replay_cli.specs.declared.outcome.QueryOutcome.TheVariants as query;
-ghost use Rattle.replay_cli.specs.declared.outcome.NoAnswer.TheVariants as none;
+ghost use Rattle.script_running.specs.declared.outcome.Outcome.TheVariants as outcome;
+ghost use Rattle.script_running.specs.declared.outcome.QueryOutcome.TheVariants as query;
+ghost use Rattle.script_running.specs.declared.outcome.NoAnswer.TheVariants as none;
 
 /// A law: each answer that the report of a whole run tells was given in it and is sound, where the journal is honest; and so is
 /// each that is told of a run which the full journal broke off.

@@ -1,20 +1,15 @@
 //! The program as a library: it reads words and a script, runs the script over a bucket, and writes the report.
 #![tactic(auto)]
 
-mod activity;
-mod came;
 mod check;
 mod check_outcome;
 mod conclusion;
-mod declared;
 mod input;
 mod input_refusal;
 mod laws;
 mod opening;
-mod outcome;
 mod output;
 mod phases;
-mod plan;
 mod report;
 mod run;
 mod seats;
@@ -30,9 +25,11 @@ pub use check_outcome::CheckOutcome;
 pub use input::read_all;
 pub use input_refusal::InputRefusal;
 pub use laws::{calm_runs_end_as_asked, told_answers_are_sound, told_misses_are_explained};
-pub use outcome::{NoAnswer, Outcome, OutcomeList, QueryOutcome, SyncOutcome, UploadOutcome};
 pub use output::{SinkFault, write_all};
 pub use run::Run;
+pub use script_running::{
+    NoAnswer, Outcome, OutcomeList, QueryOutcome, SyncOutcome, UploadOutcome,
+};
 pub use standard::{ReaderSource, WriterSink};
 pub use status::Status;
 pub use tool::run_tool;

@@ -8,15 +8,17 @@ ghost use Rattle.script_core.specs.Lawful.{IsLawfulScript};
 ghost use Rattle.lifecycle_core.specs.InLine.{seat_of};
 ghost use Rattle.lifecycle_core.specs.Ways.{BeginsPhase};
 ghost use Rattle.lifecycle_core.specs.Holdings.{Holdings};
-ghost use Rattle.replay_cli.specs.Progress.{Allows, PhaseStep, Reached, RunCame, Shows, TasksBroken, TasksDone};
-ghost use Rattle.replay_cli.specs.Reports.{activity_text, is_as_asked};
+ghost use Rattle.replay_cli.specs.Progress.{PhaseStep, Reached, RunCame, Shows, TasksBroken, TasksDone};
+ghost use Rattle.script_running.specs.Tasks.{Allows};
+ghost use Rattle.replay_cli.specs.Reports.{activity_text};
+ghost use Rattle.script_running.specs.Outcomes.{is_as_asked};
 ghost use Rattle.lifecycle_core.specs.Setting.{setting_of};
 
-use crate::came::Broken;
-use crate::outcome::Outcome;
+use script_running::Broken;
+use script_running::Outcome;
 use crate::report::put_activity;
 use crate::seats::Seats;
-use crate::tasks::run_task;
+use crate::tasks::do_task;
 use bucket_core::Bucket;
 use list_core::{NoMemory, TryCopy};
 use script_core::{Phase, Script, Task};
@@ -268,7 +270,7 @@ fn next_task<B: Bucket>(
     ensures ready { length progress.new.gateways.items ≡ length script.now.gateways }
 {
     let task = &tasks[place];
-    let (came, world) = run_task(alloc, script, task, place, seats, progress, world);
+    let (came, world) = do_task(alloc, script, task, place, seats, progress, world);
     match came {
         Ok(outcome) => match lines.tell(script, task, &outcome) {
             Ok(()) => (Ok(()), world),

@@ -6,7 +6,7 @@ ghost use Rattle.replay_cli.specs.Checks.{check_line};
 ghost use Rattle.replay_cli.specs.Reports.{activity_text, gateway_name, upload_line, sync_line, query_line, query_text, no_answer_words, answer_text, counts_text, source_line, series_line, newline};
 
 use crate::check_outcome::CheckOutcome;
-use crate::outcome::{NoAnswer, Outcome, QueryOutcome, SyncOutcome, UploadOutcome};
+use script_running::{NoAnswer, Outcome, QueryOutcome, SyncOutcome, UploadOutcome};
 use label_sets::{Series, SeriesList, sample_count};
 use list_core::NoMemory;
 use reading_core::{put_signed, put_unsigned};

@@ -10,7 +10,7 @@ ghost use Rattle.replay_cli.specs.Verdicts.{BehindOpening, IsCalm, IsCaused, IsC
 ghost use Rattle.replay_cli.specs.Words.{block_word, bucket_word, named_by, shelf_word};
 ghost use Rattle.lifecycle_core.specs.Setting.{setting_of};
 
-use crate::came::Broken;
+use script_running::Broken;
 use crate::check::check_block;
 use crate::conclusion::{Conclusion, Ended};
 use crate::input::read_all;

@@ -13,13 +13,13 @@ use Rattle.script_workers.specs.declared.work.Work.TheVariants as works
 use Rattle.script_workers.specs.declared.worker.Worker.{Worker}
 use Rattle.lifecycle_core.specs.Conducts.{CameTo}
 use Rattle.lifecycle_core.specs.Tasks.{End, answered, synced, uploaded}
-use Rattle.replay_cli.specs.Outcomes.{IsOutcome, TaskCame, TasksCame, PhasesCame}
+use Rattle.script_running.specs.Outcomes.{IsOutcome, TaskCame, TasksCame, PhasesCame}
 use Rattle.replay_cli.specs.Verdicts.{IsReport, report_of}
-use Rattle.replay_cli.specs.declared.outcome.Outcome.{Outcome}
-use Rattle.replay_cli.specs.declared.outcome.Outcome.TheVariants as outcome
-use Rattle.replay_cli.specs.declared.outcome.UploadOutcome.TheVariants as uploads
-use Rattle.replay_cli.specs.declared.outcome.SyncOutcome.TheVariants as syncs
-use Rattle.replay_cli.specs.declared.outcome.QueryOutcome.TheVariants as queries
+use Rattle.script_running.specs.declared.outcome.Outcome.{Outcome}
+use Rattle.script_running.specs.declared.outcome.Outcome.TheVariants as outcome
+use Rattle.script_running.specs.declared.outcome.UploadOutcome.TheVariants as uploads
+use Rattle.script_running.specs.declared.outcome.SyncOutcome.TheVariants as syncs
+use Rattle.script_running.specs.declared.outcome.QueryOutcome.TheVariants as queries
 use Rattle.tests_worked.specs.SmallBlock as small
 use Rattle.tests_worked.specs.OneBlock as one
 use Rattle.tests_worked.specs.OneBlockChanged as changed

@@ -12,14 +12,14 @@ use Rattle.script_workers.specs.Hands.{hands_of_task}
 use Rattle.script_workers.specs.declared.worker.Worker.{Worker}
 use Rattle.lifecycle_core.specs.Holdings.{Use}
 use Rattle.lifecycle_core.specs.Tasks.{End, synced, uploaded}
-use Rattle.replay_cli.specs.Outcomes.{TasksCame}
+use Rattle.script_running.specs.Outcomes.{TasksCame}
 use Rattle.replay_cli.specs.Reports.{upload_words, sync_words, source_line, series_line, counts_text, answer_text, query_text, activity_text}
 use Rattle.replay_cli.specs.Verdicts.{IsReport, report_of}
-use Rattle.replay_cli.specs.declared.outcome.Outcome.{Outcome}
-use Rattle.replay_cli.specs.declared.outcome.Outcome.TheVariants as outcome
-use Rattle.replay_cli.specs.declared.outcome.UploadOutcome.TheVariants as uploads
-use Rattle.replay_cli.specs.declared.outcome.SyncOutcome.TheVariants as syncs
-use Rattle.replay_cli.specs.declared.outcome.QueryOutcome.TheVariants as queries
+use Rattle.script_running.specs.declared.outcome.Outcome.{Outcome}
+use Rattle.script_running.specs.declared.outcome.Outcome.TheVariants as outcome
+use Rattle.script_running.specs.declared.outcome.UploadOutcome.TheVariants as uploads
+use Rattle.script_running.specs.declared.outcome.SyncOutcome.TheVariants as syncs
+use Rattle.script_running.specs.declared.outcome.QueryOutcome.TheVariants as queries
 use Rattle.tests_worked.specs.SmallBlock as small
 use Rattle.tests_worked.specs.YoungBlock as young
 use Rattle.tests_worked.proofs.YoungBlock.{first_gateway, uploader, second_gateway, first_workers, second_workers, first_tasks, second_tasks, first_ends, second_ends}
