@@ -6,8 +6,14 @@ ghost use Rattle.world_core.specs.Standing.{IsHonest};
 ghost use Rattle.world_core.specs.Worlds.{IsJournal, IsOfBytes, failed_count};
 ghost use Rattle.world_core.specs.declared.entry.Entry.{Entry};
 ghost use Rattle.meta_fetcher.specs.declared.sync_end.SyncEnd.{SyncEnd};
+ghost use Rattle.meta_fetcher.specs.Syncs.{SyncRun};
+ghost use Rattle.meta_fetcher.specs.declared.rules.SyncRules.{SyncRules};
 ghost use Rattle.meta_fetcher.specs.declared.view.View.{View};
-ghost use Rattle.store_gateway.specs.SeriesRuns.{Query as Question, asking};
+ghost use Rattle.shipper.specs.Uploads.{upload};
+ghost use Rattle.shipper.specs.declared.upload_end.UploadEnd.{UploadEnd};
+ghost use Rattle.world_core.specs.Plans.{Runs};
+ghost use Rattle.block_keys.specs.declared.object.Object.{Object};
+ghost use Rattle.store_gateway.specs.SeriesRuns.{Query as Question, SeriesRun, asking};
 ghost use Rattle.store_gateway.specs.declared.series_end.SeriesEnd.{SeriesEnd};
 ghost use Rattle.store_gateway.specs.declared.series_end.SeriesEnd.TheVariants as ended;
 ghost use Rattle.script_workers.specs.declared.phase.Phase.{Phase};
@@ -82,6 +88,18 @@ pub fn ends_are_calls()
         × IsViewOf (sync_rules setting gateway) journal used sync
         × IsCallIn journal used (asking selector setting.script.rules.replicas low high) entries
         (Some end) }
+{}
+
+/// A law: the entries of an upload, of a sync or of a call tell its end, so that what is reported of it is told by the journal.
+pub fn entries_tell_the_end()
+    ensures upload { (ulid : ℕ) (objects : List Object) (entries : List Entry)
+        (one other : UploadEnd) → Runs (upload ulid objects) entries (Some one)
+        → Runs (upload ulid objects) entries (Some other) → one ≡ other }
+    ensures sync { (rules : SyncRules) (entries : List Entry) (one other : SyncEnd)
+        → SyncRun rules entries (Some one) → SyncRun rules entries (Some other) → one ≡ other }
+    ensures call { (view : View) (question : Question) (entries : List Entry)
+        (one other : SeriesEnd) → SeriesRun view question entries (Some one)
+        → SeriesRun view question entries (Some other) → one ≡ other }
 {}
 
 /// A law: a front of a lawful journal is one.
