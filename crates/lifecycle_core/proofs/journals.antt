@@ -1,6 +1,9 @@
 -- What the entries of a journal show, and what they tell where the bucket is honest.
 pub mod Positions
 pub mod Honesty
+pub mod Differing
+pub mod OwedPages
+pub mod UnbrokenHonest
 pub mod Unbroken
 pub mod Told
 pub mod RunEntries

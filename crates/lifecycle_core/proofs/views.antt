@@ -4,5 +4,6 @@ pub mod Pages
 pub mod Puts
 pub mod Finds
 pub mod TrueViews
+pub mod OneView
 pub mod FewNames
 pub mod ViewsThere

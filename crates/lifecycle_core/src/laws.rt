@@ -3,11 +3,17 @@ ghost use Rattle.matchers.specs.declared.matcher.Matcher.{Matcher};
 ghost use Rattle.world_core.specs.Journals.{Each};
 ghost use Rattle.world_core.specs.Moments.{HasMoments};
 ghost use Rattle.world_core.specs.Standing.{IsHonest};
-ghost use Rattle.world_core.specs.Worlds.{IsJournal};
+ghost use Rattle.world_core.specs.Worlds.{IsJournal, IsOfBytes, failed_count};
 ghost use Rattle.world_core.specs.declared.entry.Entry.{Entry};
 ghost use Rattle.meta_fetcher.specs.declared.sync_end.SyncEnd.{SyncEnd};
+ghost use Rattle.meta_fetcher.specs.Syncs.{SyncRun};
+ghost use Rattle.meta_fetcher.specs.declared.rules.SyncRules.{SyncRules};
 ghost use Rattle.meta_fetcher.specs.declared.view.View.{View};
-ghost use Rattle.store_gateway.specs.SeriesRuns.{Query as Question, asking};
+ghost use Rattle.shipper.specs.Uploads.{upload};
+ghost use Rattle.shipper.specs.declared.upload_end.UploadEnd.{UploadEnd};
+ghost use Rattle.world_core.specs.Plans.{Runs};
+ghost use Rattle.block_keys.specs.declared.object.Object.{Object};
+ghost use Rattle.store_gateway.specs.SeriesRuns.{Query as Question, SeriesRun, asking};
 ghost use Rattle.store_gateway.specs.declared.series_end.SeriesEnd.{SeriesEnd};
 ghost use Rattle.store_gateway.specs.declared.series_end.SeriesEnd.TheVariants as ended;
 ghost use Rattle.script_workers.specs.declared.phase.Phase.{Phase};
@@ -15,12 +21,12 @@ ghost use Rattle.lifecycle_core.specs.Setting.{Setting};
 ghost use Rattle.script_core.specs.Lawful.{IsLawfulScript};
 ghost use Rattle.lifecycle_core.specs.Acting.{IsActing};
 ghost use Rattle.lifecycle_core.specs.Breaches.{IsBreach, IsCallRead, IsLie, IsSyncIn, IsUnbroken, IsViewAt, Rule};
-ghost use Rattle.lifecycle_core.specs.Causes.{AreFound, AreMissesExplained, IsExplained, SomeCame};
+ghost use Rattle.lifecycle_core.specs.Causes.{AreFound, AreMissesExplained, AreWell, IsExplained, SomeCame};
 ghost use Rattle.lifecycle_core.specs.Guarantees.{Answered, IsGiven, IsGuaranteed, IsWorth, LeavesNoneOut};
 ghost use Rattle.lifecycle_core.specs.Holdings.{Use};
 ghost use Rattle.lifecycle_core.specs.SyncsAndCalls.{IsCallIn, IsViewOf};
 ghost use Rattle.lifecycle_core.specs.InLine.{IsRunInLine};
-ghost use Rattle.lifecycle_core.specs.Phases.{IsLawfulJournal, IsRunOf};
+ghost use Rattle.lifecycle_core.specs.Phases.{IsInTurn, IsLawfulJournal, IsRunOf};
 ghost use Rattle.lifecycle_core.specs.Tasks.{End, answered, sync_rules};
 ghost use Rattle.lifecycle_core.specs.Ways.{BeginsPhase};
 ghost use Rattle.lifecycle_core.specs.TimeRules.{IsMarkedInTime, IsReadInTime, IsSyncedInTime, IsUploadedInTime};
@@ -84,6 +90,18 @@ pub fn ends_are_calls()
         (Some end) }
 {}
 
+/// A law: the entries of an upload, of a sync or of a call tell its end, so that what is reported of it is told by the journal.
+pub fn entries_tell_the_end()
+    ensures upload { (ulid : ℕ) (objects : List Object) (entries : List Entry)
+        (one other : UploadEnd) → Runs (upload ulid objects) entries (Some one)
+        → Runs (upload ulid objects) entries (Some other) → one ≡ other }
+    ensures sync { (rules : SyncRules) (entries : List Entry) (one other : SyncEnd)
+        → SyncRun rules entries (Some one) → SyncRun rules entries (Some other) → one ≡ other }
+    ensures call { (view : View) (question : Question) (entries : List Entry)
+        (one other : SeriesEnd) → SeriesRun view question entries (Some one)
+        → SeriesRun view question entries (Some other) → one ≡ other }
+{}
+
 /// A law: a front of a lawful journal is one.
 pub fn fronts_are_lawful()
     ensures { (setting : Setting) (front others : List Entry)
@@ -108,6 +126,21 @@ pub fn honest_buckets_miss_nothing()
 pub fn honest_journals_tell_no_lie()
     ensures { (tick : ℕ) (journal : List Entry) → IsJournal tick journal → IsHonest journal
         → Each (λ before e. (x y : ℕ) → ¬ IsLie before e x y) journal }
+{}
+
+/// A law: a journal in which no rule refuses an entry is honest, where what it puts and shows is bytes, as in every world's.
+pub fn unbroken_journals_are_honest()
+    ensures { (setting : Setting) (tick : ℕ) (journal : List Entry) → IsJournal tick journal
+        → IsOfBytes journal → IsUnbroken setting journal → IsHonest journal }
+{}
+
+/// A law: where no rule refuses an entry, no call failed, and each phase was done before the next one began, every task of a
+/// lawful script ends well, whether the bucket tells what it holds or not.
+pub fn unbroken_runs_end_well()
+    ensures { (setting : Setting) (journal : List Entry) (ends : List (List (List End)))
+        → IsLawfulScript setting.script → IsRunOf setting journal ends → IsInTurn setting ends
+        → IsOfBytes journal → IsUnbroken setting journal → failed_count journal ≡ 0
+        → AreWell ends }
 {}
 
 /// A law: where misses are explained and no entry breaks a rule, no series call misses an object.

@@ -4,7 +4,7 @@ use Rattle.std.specs.List.{count_by}
 use Rattle.std.proofs.lemmas.List.Sums.{fold-append, sum_by-append, count_by-le-length}
 use Rattle.bucket_core.specs.Causes.{Rose}
 use Rattle.bucket_core.specs.Contents.{Contents, nothing}
-use Rattle.world_core.specs.Operations.{IsLawful, IsReplyTo, has_failed, entry_of}
+use Rattle.world_core.specs.Operations.{IsLawful, IsReplyTo, PutsBytes, ShowsBytes, has_failed, entry_of}
 use Rattle.world_core.specs.Journals.{Each}
 use Rattle.world_core.specs.Moments.{moment_after, last_moment}
 use Rattle.world_core.specs.Keeping.{bytes_put, bytes_told, kept_bytes, IsFull}
@@ -80,8 +80,8 @@ still_true (Some c) new entries is_true left = rw left is_true
 
 module _ {B : Type 0} (contents : B → Option Contents) (faults : B → ℕ) (old_bucket new_bucket : B) (old new : List Entry) (tick last kept moment size : ℕ) (seat : ℕ) (op : Op) (seen : Seen) where
   -- a world after one more entry
-  pub sound_more : IsSound contents faults old_bucket old tick last kept → length old < 1048576 → IsLawful op → IsReplyTo op seen.reply → seen.seq ≡ length old + 1 → seen.moment.ms ≡ moment → moment ≡ moment_after tick (last_moment old) op → moment < 2 ^ 48 → size ≡ min (min (kept + bytes_put op) 18446744073709551615 + min (bytes_told seen.reply) 18446744073709551615) 18446744073709551615 → faults old_bucket ≤ faults new_bucket → (IsTrue (has_failed seen.reply) → Rose (faults old_bucket) (faults new_bucket)) → IfSome (contents old_bucket) (λ c. Tells c op seen.reply) → contents new_bucket ≡ option_map (left_by op seen.reply) (contents old_bucket) → new ≡ old ++ entry_of seat op seen ∷ [] → IsSound contents faults new_bucket new tick moment size
-  sound_more sound few lawful kind seq is_moment follows small is_size later cause told left added =
+  pub sound_more : IsSound contents faults old_bucket old tick last kept → length old < 1048576 → IsLawful op → IsReplyTo op seen.reply → PutsBytes op → ShowsBytes seen.reply → seen.seq ≡ length old + 1 → seen.moment.ms ≡ moment → moment ≡ moment_after tick (last_moment old) op → moment < 2 ^ 48 → size ≡ min (min (kept + bytes_put op) 18446744073709551615 + min (bytes_told seen.reply) 18446744073709551615) 18446744073709551615 → faults old_bucket ≤ faults new_bucket → (IsTrue (has_failed seen.reply) → Rose (faults old_bucket) (faults new_bucket)) → IfSome (contents old_bucket) (λ c. Tells c op seen.reply) → contents new_bucket ≡ option_map (left_by op seen.reply) (contents old_bucket) → new ≡ old ++ entry_of seat op seen ∷ [] → IsSound contents faults new_bucket new tick moment size
+  sound_more sound few lawful kind puts shows seq is_moment follows small is_size later cause told left added =
       let e = entry_of seat op seen in
       let longer = length-append old (e ∷ []) in
       let counted = sound.counted in
@@ -103,6 +103,7 @@ module _ {B : Type 0} (contents : B → Option Contents) (faults : B → ℕ) (o
             moments = Each-push (λ before x. x.moment.ms ≡ moment_after tick (last_moment before) x.op) old e journal.moments (is_moment ∙ follows);
             small = Each-push (λ before x. x.moment.ms < 2 ^ 48) old e journal.small (omega arith);
           };
+          bytes = Each-push (λ before x. PutsBytes x.op × ShowsBytes x.reply) old e sound.world.bytes (puts, shows);
           failures = let f = count_failed (has_failed seen.reply) (faults old_bucket) (faults new_bucket) (count_by (λ x. has_failed x.reply) old) later cause sound.world.failures (omega (arith, count_by-le-length (λ x. has_failed x.reply) old)) in omega (arith, f, failed_more old e);
           honest = true_more (contents old_bucket) (contents new_bucket) old e sound.world.honest told left;
         };
@@ -116,6 +117,7 @@ sound_later contents faults old_bucket new_bucket old new tick last kept sound l
       counted = sound.counted;
       world = record {
         journal = sound.world.journal;
+        bytes = sound.world.bytes;
         failures = omega (arith, sound.world.failures);
         honest = still_true (contents old_bucket) (contents new_bucket) old sound.world.honest left;
       };

@@ -6,7 +6,7 @@ use Rattle.bucket_core.specs.Contents.{Contents, IsKey, nothing}
 use Rattle.bucket_core.specs.Pages.{Before, IsPage}
 use Rattle.world_core.specs.Worlds.{IsTrueOf, IsSound}
 use Rattle.world_core.specs.Standing.{stands, Tells}
-use Rattle.world_core.specs.Operations.{IsLawful, IsReplyTo}
+use Rattle.world_core.specs.Operations.{IsLawful, IsReplyTo, PutsBytes, ShowsBytes}
 use Rattle.world_core.specs.Moments.{moment_after, last_moment}
 use Rattle.world_core.proofs.Growing.{Each-none}
 use Rattle.world_core.specs.declared.entry.Entry.{Entry}
@@ -60,6 +60,7 @@ opened_sound contents faults old new journal tick none short same empty =
           moments = Each-none (λ before x. x.moment.ms ≡ moment_after tick (last_moment before) x.op);
           small = Each-none (λ before x. x.moment.ms < 2 ^ 48);
         };
+        bytes = Each-none (λ before x. PutsBytes x.op × ShowsBytes x.reply);
         failures = omega arith;
         honest = opened_true (contents old) (contents new) same empty;
       };

@@ -1,5 +1,8 @@
 -- Which operations are lawful, and which replies an operation may have.
 use Rattle.std.specs.Prelude.{ℕ, ◌^◌, ◌<◌, ◌≤◌, Bool, true, false}
+use Rattle.std.specs.List.{AllByRecursion}
+use Rattle.std.specs.Str.{IsUtf8}
+use Rattle.reading_core.specs.Grammar.{IsBytes}
 use Rattle.block_keys.specs.Keys.{IsLawfulKey}
 use Rattle.world_core.specs.declared.op.Op.{Op}
 use Rattle.world_core.specs.declared.op.Op.TheVariants.{Clock, Put, Get, GetRange, Delete, RootPage, BlockPage}
@@ -37,6 +40,26 @@ IsReplyTo (BlockPage ulid after limit) (Names names) = Unit {0}
 IsReplyTo (BlockPage ulid after limit) (Failed false) = Unit {0}
 -- no other reply comes
 IsReplyTo op reply = ⊥
+
+-- what an operation puts is bytes
+abbrev pub PutsBytes : Op → Type 0
+PutsBytes (Clock moment) = Unit {0}
+PutsBytes (Put key bytes) = IsBytes bytes
+PutsBytes (Get key) = Unit {0}
+PutsBytes (GetRange key from len) = Unit {0}
+PutsBytes (Delete key) = Unit {0}
+PutsBytes (RootPage after limit) = Unit {0}
+PutsBytes (BlockPage ulid after limit) = Unit {0}
+
+-- what a reply shows is bytes, and names in UTF-8
+abbrev pub ShowsBytes : Reply → Type 0
+ShowsBytes Clocked = Unit {0}
+ShowsBytes Stored = Unit {0}
+ShowsBytes (Found bytes) = IsBytes bytes
+ShowsBytes Absent = Unit {0}
+ShowsBytes Deleted = Unit {0}
+ShowsBytes (Names names) = AllByRecursion IsUtf8 names
+ShowsBytes (Failed landed) = Unit {0}
 
 -- what a machine may rely on when its operation was done: the reply's kind, and a moment that fits a ULID
 pub record IsAnswer (op : Op) (seen : Seen) : Type 0 where

@@ -2,7 +2,7 @@
 use Rattle.std.specs.Prelude.{◌≡◌, ℕ, ◌+◌, ◌-◌, ◌*◌, ◌^◌, ◌<◌, ◌≤◌, min, List, length, count_by, Option, IfSome, refl}
 use Rattle.std.proofs.Common.{◌∙◌, arith}
 use Rattle.bucket_core.specs.Contents.{Contents}
-use Rattle.world_core.specs.Operations.{IsLawful, IsReplyTo, has_failed}
+use Rattle.world_core.specs.Operations.{IsLawful, IsReplyTo, PutsBytes, ShowsBytes, has_failed}
 use Rattle.world_core.specs.Journals.{Each, IsNumbered}
 use Rattle.world_core.specs.Keeping.{kept_bytes}
 use Rattle.moment_core.specs.Limits.{longest_tick}
@@ -33,6 +33,10 @@ pub record IsJournal (tick : ℕ) (journal : List Entry) : Type 0 where
   pub moments : HasMoments tick journal
   pub small : Each (λ before e. e.moment.ms < 2 ^ 48) journal
 
+-- all that the journal's entries put and show is bytes, and names in UTF-8
+abbrev pub IsOfBytes : List Entry → Type 0
+IsOfBytes journal = Each (λ before e. PutsBytes e.op × ShowsBytes e.reply) journal
+
 -- the journal is honest, and what stands at its end is what the bucket holds
 pub record IsTrueOf (contents : Contents) (journal : List Entry) : Type 0 where
   pub honest : IsHonest journal
@@ -41,6 +45,7 @@ pub record IsTrueOf (contents : Contents) (journal : List Entry) : Type 0 where
 -- what holds of every world
 pub record IsWorld {B : Type 0} (contents : B → Option Contents) (faults : B → ℕ) (world : WorldView B) : Type 0 where
   pub journal : IsJournal world.tick world.journal
+  pub bytes : IsOfBytes world.journal
   -- the bucket has failed at least as often as the journal's entries
   pub failures : failed_count world.journal ≤ faults world.bucket
   -- where the bucket tells what it holds

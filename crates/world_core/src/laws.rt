@@ -4,6 +4,7 @@ ghost use Rattle.block_keys.specs.declared.key.Key.{Key};
 ghost use Rattle.world_core.specs.Journals.{IsNumbered};
 ghost use Rattle.world_core.specs.Moments.{HasMoments};
 ghost use Rattle.world_core.specs.Standing.{has_landed, stands, IsHonest, IsUnchanged};
+ghost use Rattle.world_core.specs.Worlds.{IsOfBytes};
 ghost use Rattle.world_core.specs.declared.op.Op.TheVariants.{Put, Delete};
 ghost use Rattle.world_core.specs.declared.entry.Entry.{Entry};
 
@@ -25,5 +26,7 @@ pub fn fronts_are_journals()
         → IsNumbered front }
     ensures moments { (tick : ℕ) (front others : List Entry) → HasMoments tick (front ++ others)
         → HasMoments tick front }
+    ensures bytes { (front others : List Entry) → IsOfBytes (front ++ others)
+        → IsOfBytes front }
     ensures honest { (front others : List Entry) → IsHonest (front ++ others) → IsHonest front }
 {}

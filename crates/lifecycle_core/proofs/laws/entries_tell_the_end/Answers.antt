@@ -1,0 +1,12 @@
+use Rattle.world_core.proofs.PlanLaws.{one_end}
+use Rattle.shipper.specs.Uploads.{upload}
+use Rattle.lifecycle_core.proofs.answers.OneMerge.{call_tells}
+use Rattle.lifecycle_core.proofs.views.OneView.{sync_tells}
+use Rattle.lifecycle_core.proofs.laws.entries_tell_the_end.Goals as goal
+
+pub returns : goal.returns
+returns c = record {
+  upload = λ ulid objects. one_end (upload ulid objects);
+  sync = sync_tells;
+  call = call_tells;
+}
