@@ -32,7 +32,7 @@ use Rattle.index_slices.specs.Parts.{Part, file, known, IsPartOf, HoldsSection}
 use Rattle.index_v2.specs.declared.refusal.IndexRefusal.{IndexRefusal}
 use Rattle.index_v2.specs.declared.refusal.IndexRefusal.TheVariants.{NoMemory, BadSection, BadSeries}
 use Rattle.index_v2.specs.declared.lent_parts.IndexParts.{IndexParts}
-use Rattle.index_v2.specs.Held.{Held, opened_of, whole_file, IsWhole, IsHeldOf, AreSlicesOf, held_of}
+use Rattle.index_v2.specs.Held.{Held, opened_in, opened_of, whole_file, IsWhole, IsHeldOf, AreSlicesOf, held_of}
 use Rattle.index_v2.specs.Opening.{refused_in, contents_at, held_at, opened_at}
 use Rattle.index_v2.specs.PostingsLists.{row_of, list_of, postings_of}
 use Rattle.index_v2.specs.WholeReading.{present_at, behind_at, all_at, lists_at, difference, unless_differ, whole_at}
@@ -108,6 +108,13 @@ held_of_slices parts opened symbols rows is toc slices s r = record {
   series_are = inl refl;
 }
 
+-- of slices of any bytes, whatever these begin and end with
+pub held_of_bytes : (parts : IndexParts) (index : List ℕ) (symbols : List (List ℕ)) (rows : List PostingsRow) → AreSlicesOf parts index → Holds IsSymbols index parts.toc.symbols symbols → Holds IsPostingsTable index parts.toc.postings_table rows
+    → Holds IsSymbols index parts.toc.symbols symbols × Holds IsPostingsTable index parts.toc.postings_table rows × IsHeldOf (held_of parts symbols rows) (opened_in index (held_of parts symbols rows))
+held_of_bytes parts index symbols rows slices s r =
+    let held : IsHeldOf (held_of parts symbols rows) (opened_in index (held_of parts symbols rows)) = record { toc_is = refl; symbols_are = refl; rows_are = refl; lists_are = slices.lists_are; series_are = inl refl } in
+    (s, r, held)
+
 -- ---- what is read of parts is what is read of the index
 
 pub list_same : (here : Part) (index : List ℕ) → IsPartOf here index → (row : Option PostingsRow) → ((r : PostingsRow) → row ≡ Some r → HoldsSection here r.offset) → list_of here row ≡ list_of (file index) row
@@ -129,8 +136,8 @@ none_listed : (held : Held) → postings_of held [] [] ≡ Ok [] → whole_at he
 unfolding whole_at present_at
 none_listed held none = rw (none, nothing_read held.bytes held.symbols None) refl
 
-pub whole_same : (held : Held) (opened : Opened) → IsHeldOf held opened → ((row : PostingsRow) → Contains held.rows row → HoldsSection held.lists row.offset) → postings_of held [] [] ≡ Ok [] → whole_at held ≡ whole_at (whole_file opened)
-whole_same held opened is lie none =
+none_same : (held : Held) (opened : Opened) → IsHeldOf held opened → ((row : PostingsRow) → Contains held.rows row → HoldsSection held.lists row.offset) → postings_of held [] [] ≡ Ok [] → whole_at held ≡ whole_at (whole_file opened)
+none_same held opened is lie none =
     let first : postings_of held [] [] ≡ list_of (file opened.bytes) (row_of held.rows [] []) = list_same held.lists opened.bytes is.lists_are (row_of held.rows [] []) (λ row some. lie row (row_found held.rows [] [] row some).0) in
     let there : postings_of (whole_file opened) [] [] ≡ Ok [] = ap (λ (rows : List PostingsRow). list_of (file opened.bytes) (row_of rows [] [])) (sym is.rows_are) ∙ sym first ∙ none in
     let lists : lists_at held.lists held.rows ≡ lists_at (file opened.bytes) opened.rows = lists_same held.lists opened.bytes is.lists_are held.rows lie ∙ ap (lists_at (file opened.bytes)) is.rows_are in
@@ -138,6 +145,33 @@ whole_same held opened is lie none =
     ∙ ap (λ (r : Result (List (List ℕ)) IndexRefusal). r >>= λ lists. unless_differ (difference held.rows lists []) >> Ok []) lists
     ∙ ap (λ (rows : List PostingsRow). lists_at (file opened.bytes) opened.rows >>= λ lists. unless_differ (difference rows lists []) >> Ok []) is.rows_are
     ∙ sym (none_listed (whole_file opened) there)
+
+-- where the first list is refused, or a section that its series need is absent
+listed_refused : (held : Held) (d : IndexRefusal) → postings_of held [] [] ≡ Err d → whole_at held ≡ Err d
+unfolding whole_at
+listed_refused held d e = rw e refl
+
+section_absent : (held : Held) (numbers : List ℕ) (d : IndexRefusal) → postings_of held [] [] ≡ Ok numbers → present_at held.toc numbers ≡ Err d → whole_at held ≡ Err d
+unfolding whole_at
+section_absent held numbers d a b = rw (a, b) refl
+
+by_list : {E P : Type 0} (r : Result (List ℕ) E) → (r ≡ Ok [] → P) → ((n : ℕ) (ns : List ℕ) → r ≡ Ok (n ∷ ns) → P) → ((d : E) → r ≡ Err d → P) → P
+by_list (Ok []) f g h = f refl
+by_list (Ok (n ∷ ns)) f g h = g n ns refl
+by_list (Err d) f g h = h d refl
+
+by_unit : {E P : Type 0} (r : Result (Unit {0}) E) → (r ≡ Ok tt → P) → ((d : E) → r ≡ Err d → P) → P
+by_unit (Ok x) f g = f refl
+by_unit (Err d) f g = g d refl
+
+pub whole_same : (held : Held) (opened : Opened) → IsHeldOf held opened → ((row : PostingsRow) → Contains held.rows row → HoldsSection held.lists row.offset) → ((number : ℕ) (numbers : List ℕ) → postings_of held [] [] ≡ Ok (number ∷ numbers) → present_at held.toc (number ∷ numbers) ≡ Ok tt → ⊥) → whole_at held ≡ whole_at (whole_file opened)
+whole_same held opened is lie unread =
+    let first : postings_of held [] [] ≡ postings_of (whole_file opened) [] [] =
+    list_same held.lists opened.bytes is.lists_are (row_of held.rows [] []) (λ row some. lie row (row_found held.rows [] [] row some).0) ∙ ap (λ (rows : List PostingsRow). list_of (file opened.bytes) (row_of rows [] [])) is.rows_are in
+    by_list (postings_of held [] []) (none_same held opened is lie)
+    (λ n ns e. by_unit (present_at held.toc (n ∷ ns)) (λ present. absurd (unread n ns e present))
+    (λ d absent. section_absent held (n ∷ ns) d e absent ∙ sym (section_absent (whole_file opened) (n ∷ ns) d (sym first ∙ e) (ap (λ (toc : Toc). present_at toc (n ∷ ns)) (sym is.toc_is) ∙ absent))))
+    (λ d e. listed_refused held d e ∙ sym (listed_refused (whole_file opened) d (sym first ∙ e)))
 
 all_absent : (symbols : List (List ℕ)) (number : ℕ) (numbers : List ℕ) → all_at [] symbols None (number ∷ numbers) ≡ Err (BadSeries number (part.Short (16 * number)))
 unfolding all_at behind_at

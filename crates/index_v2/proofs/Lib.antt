@@ -12,6 +12,7 @@ pub mod HeldLaws
 pub mod ReadersOf
 pub mod OverLaws
 pub mod SeriesSlices
+pub mod SeriesOutside
 pub mod LabelTexts
 pub mod LabelPlaces
 pub mod LabelsOwned

@@ -1,6 +1,8 @@
 -- The row that the search finds is the first of its name and value.
-use Rattle.std.proofs.Common.{◌≡◌, ◌≢◌, ℕ, zero, suc, true, false, List, [], ◌∷◌, Some, None, Result, Ok, refl, sym, ap, ◌∙◌, arith, inl, inr}
-use Rattle.std.specs.Prelude.{slice_get, find}
+use Rattle.std.proofs.Common.{◌≡◌, ◌≢◌, ℕ, zero, suc, true, false, List, [], ◌∷◌, Some, None, Result, Ok, Err, refl, sym, ap, ◌∙◌, arith, inl, inr}
+use Rattle.std.specs.Prelude.{slice_get, find, IfSome, IfOk, IfErr}
+use Rattle.std.specs.Result.{result_ok}
+use Rattle.std.specs.List.{filter}
 use Rattle.std.specs.Str.{bytes_eq}
 use Rattle.std.specs.declared.cmp.Ordering.TheVariants.{Less, Equal}
 use Rattle.std.proofs.lemmas.Cmp.{tied_itself}
@@ -13,7 +15,7 @@ use Rattle.list_core.proofs.Order.{Less-at_places}
 use Rattle.label_sets.proofs.LabelValues.{by_bool, bytes_eq_self}
 use Rattle.index_parts.specs.declared.postings_row.PostingsRow.{PostingsRow}
 use Rattle.index_parts.specs.Rows.{compare_rows}
-use Rattle.index_v2.specs.RowOrder.{compare_row, IsRowAt, StandsAt}
+use Rattle.index_v2.specs.RowOrder.{compare_row, IsRowAt, StandsAt, IsAlone}
 use Rattle.index_slices.specs.Parts.{Part, list_in}
 use Rattle.reading_core.specs.Reading.{Gives, refused_as}
 use Rattle.index_v2.specs.declared.refusal.IndexRefusal.{IndexRefusal}
@@ -80,3 +82,47 @@ list_found view r part rows name value place row ascend is at given = rw (row_fo
 
 pub list_absent : (part : Part) (rows : List PostingsRow) (name value : List ℕ) (place : ℕ) → StandsAt rows name value place → list_of part (row_of rows name value) ≡ Ok []
 list_absent part rows name value place stands = rw (row_absent rows name value place stands) refl
+
+-- ---- there is one such row at most
+
+filter_none : (name value : List ℕ) (rows : List PostingsRow) → ((k : ℕ) (row : PostingsRow) → slice_get rows k ≡ Some row → is_row_of name value row ≡ false) → filter (is_row_of name value) rows ≡ []
+filter_none name value [] none = refl
+filter_none name value (row ∷ rows) none = rw (none 0 row refl) (filter_none name value rows (λ k other at. none (suc k) other at))
+
+pub rows_absent : (rows : List PostingsRow) (name value : List ℕ) (place : ℕ) → StandsAt rows name value place → filter (is_row_of name value) rows ≡ []
+rows_absent rows name value place stands = filter_none name value rows (λ k row at. not_row name value row (λ e.
+    elim (cases_lt k place) [
+      | inl below ↦ let less = stands.below k row below at in absurd cc
+      | inr above ↦ let greater = stands.above k row above at in absurd cc
+    ]))
+
+-- behind the row of a name and a value there is no other
+none_behind : (name value : List ℕ) (first : PostingsRow) (rows : List PostingsRow) → IsStrictlySortedBy compare_rows (first ∷ rows) → is_row_of name value first ≡ true → (k : ℕ) (row : PostingsRow) → slice_get rows k ≡ Some row → is_row_of name value row ≡ false
+none_behind name value first rows ascend is k row at =
+    let less : compare_rows first row ≡ Less = Less-at_places compare_rows (first ∷ rows) 0 (suc k) first row ascend (omega arith) refl at in
+    by_bool (is_row_of name value row) (λ yes. absurd (before_key name value first row less yes (equal_key name value first is))) (λ no. no)
+
+filter_one : (name value : List ℕ) (rows : List PostingsRow) (place : ℕ) (row : PostingsRow) → IsStrictlySortedBy compare_rows rows → slice_get rows place ≡ Some row → is_row_of name value row ≡ true → filter (is_row_of name value) rows ≡ row ∷ []
+filter_one name value [] place row ascend at is = absurd cc
+filter_one name value (first ∷ rows) zero row ascend at is =
+    let same : first ≡ row = cc in
+    let here : is_row_of name value first ≡ true = ap (is_row_of name value) same ∙ is in
+    rw here (ap (λ (xs : List PostingsRow). first ∷ xs) (filter_none name value rows (none_behind name value first rows ascend here)) ∙ ap (λ (r : PostingsRow). r ∷ []) same)
+filter_one name value (first ∷ rows) (suc place) row ascend at is =
+    let less : compare_rows first row ≡ Less = Less-at_places compare_rows (first ∷ rows) 0 (suc place) first row ascend (omega arith) refl at in
+    rw (not_row name value first (before_key name value first row less is)) (filter_one name value rows place row (sorted_tail compare_rows first rows ascend) at is)
+
+pub row_alone : (rows : List PostingsRow) (name value : List ℕ) (place : ℕ) → IsStrictlySortedBy compare_rows rows → IsRowAt rows name value place → IsAlone (is_row_of name value) rows place
+row_alone rows name value place ascend is = record {
+  row = is.row;
+  stands = is.stands;
+  only = filter_one name value rows place is.row ascend is.stands (row_test name value is.row is.name_is is.value_is);
+}
+
+pub found_alone : (r : Result ℕ ℕ) (rows : List PostingsRow) (name value : List ℕ) → IsStrictlySortedBy compare_rows rows → IfOk r (λ place. IsRowAt rows name value place) → IfSome (result_ok r) (λ place. IsAlone (is_row_of name value) rows place)
+found_alone (Ok place) rows name value ascend is = row_alone rows name value place ascend is
+found_alone (Err place) rows name value ascend is = tt
+
+pub found_none : (r : Result ℕ ℕ) (rows : List PostingsRow) (name value : List ℕ) → IfErr r (λ place. StandsAt rows name value place) → result_ok r ≡ None → filter (is_row_of name value) rows ≡ []
+found_none (Ok place) rows name value stands none = absurd cc
+found_none (Err place) rows name value stands none = rows_absent rows name value place stands

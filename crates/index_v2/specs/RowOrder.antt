@@ -1,5 +1,6 @@
 -- Where rows stand in a postings table.
-use Rattle.std.specs.Prelude.{◌≡◌, ◌≢◌, ℕ, ◌<◌, ◌≤◌, List, length, slice_get, Some}
+use Rattle.std.specs.Prelude.{◌≡◌, ◌≢◌, ℕ, ◌<◌, ◌≤◌, Bool, List, [], ◌∷◌, length, slice_get, Some}
+use Rattle.std.specs.List.{filter}
 use Rattle.std.specs.declared.cmp.Ordering.{Ordering}
 use Rattle.std.specs.declared.cmp.Ordering.TheVariants.{Less, Greater}
 use Rattle.label_sets.specs.Labels.{compare_texts}
@@ -28,3 +29,9 @@ pub record BeginsAt (rows : List PostingsRow) (name : List ℕ) (place : ℕ) : 
   pub within : place ≤ length rows
   pub below : (k : ℕ) (row : PostingsRow) → k < place → slice_get rows k ≡ Some row → compare_texts row.name name ≡ Less
   pub above : (k : ℕ) (row : PostingsRow) → place ≤ k → slice_get rows k ≡ Some row → compare_texts row.name name ≢ Less
+
+-- The row at a place is the only one that passes.
+pub record IsAlone (passes : PostingsRow → Bool) (rows : List PostingsRow) (place : ℕ) : Type 0 where
+  pub row : PostingsRow
+  pub stands : slice_get rows place ≡ Some row
+  pub only : filter passes rows ≡ row ∷ []

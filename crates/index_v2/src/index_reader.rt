@@ -1,20 +1,25 @@
-ghost use Rattle.std.specs.Prelude.{◌≡◌, ◌⊎◌, ◌+◌, ◌*◌, ◌^◌, ◌<◌, ◌≤◌, [], ◌∷◌, length, sum_by, All, slice_get, MatchResult, IfOk, IfErr, Ok, Err, Some, option_map};
+ghost use Rattle.std.specs.Prelude.{◌≡◌, ◌⊎◌, ◌+◌, ◌-◌, ◌*◌, ◌^◌, ◌<◌, ◌≤◌, [], ◌∷◌, length, sum_by, All, slice_get, MatchResult, IfOk, IfErr, IfSome, Ok, Err, Some, None, option_map};
 ghost use Rattle.std.specs.Result.{IsOkAnd};
 ghost use Rattle.std.specs.Option.{option_copied};
 ghost use Rattle.reading_core.specs.Reading.{Gives};
 ghost use Rattle.index_parts.specs.Postings.{IsPostings};
-ghost use Rattle.index_parts.specs.Rows.{compare_rows};
+ghost use Rattle.wire_bytes.specs.Fields.{uvarint_at};
+ghost use Rattle.wire_bytes.specs.declared.refusal.WireRefusal.TheVariants.{Overlong};
+ghost use Rattle.index_parts.specs.Placed.{at_place};
+ghost use Rattle.index_parts.specs.Rows.{compare_rows, IsPostingsTable};
+ghost use Rattle.index_parts.specs.Symbols.{IsSymbols};
+ghost use Rattle.index_file.specs.IndexFile.{Holds};
 ghost use Rattle.index_slices.specs.Parts.{part_of, file, known, IsPartOf, HoldsSection, HoldsSeries};
 ghost use Rattle.index_v2.specs.Held.{opened_in, opened_of, whole_file, IsWhole, IsHeldOf, IsReaderOf, HasList, AreSlicesOf, HoldTables};
 ghost use Rattle.index_v2.specs.Opening.{contents_at, opened_at, over_at};
 ghost use Rattle.index_v2.specs.SeriesLabels.{numbered_at};
-ghost use Rattle.index_v2.specs.Budget.{members_of, text_bytes};
+ghost use Rattle.index_v2.specs.Budget.{members_of, text_bytes, list_bytes};
 ghost use Rattle.index_v2.specs.WholeReading.{present_at, whole_at};
-ghost use Rattle.index_v2.specs.PostingsLists.{row_of, list_of, postings_of, values_of};
-ghost use Rattle.index_v2.specs.RowOrder.{BeginsAt};
+ghost use Rattle.index_v2.specs.PostingsLists.{is_row_of, row_of, list_of, postings_of, values_of};
+ghost use Rattle.index_v2.specs.RowOrder.{BeginsAt, IsAlone};
 ghost use Rattle.std.specs.List.Sorted.{IsStrictlyIncreasing, IsStrictlySortedBy};
 
-use crate::budget::text_budget_in;
+use crate::budget::{list_bytes, text_budget_in};
 use crate::numbered::{lent_series_of, series_of, series_of_file};
 use crate::opening::contents_of;
 use crate::postings::{list_at, list_of, values_of};
@@ -86,7 +91,7 @@ impl<'a> IndexReader<'a> {
     ghost use Rattle.std.specs.Prelude.{List, ℕ};
     ghost use Rattle.index_file.specs.Opened.{Opened};
     ghost use Rattle.index_v2.specs.Differing.{DifferFirstAt};
-    ghost use Rattle.std.specs.List.{Contains};
+    ghost use Rattle.std.specs.List.{Contains, filter};
     ghost use Rattle.reading_core.specs.Grammar.{IsBytes};
     ghost use Rattle.index_file.specs.IndexFile.{IsOpened, IsSeriesOf, IsIndex, AreNumbersOf, AreValuesOf};
     ghost use Rattle.index_file.specs.declared.index_series.IndexSeries.{IndexSeries};
@@ -157,6 +162,12 @@ impl<'a> IndexReader<'a> {
             → AreSlicesOf parts.entry index → HoldTables parts.entry
             → Gives IndexRefusal.NoMemory (opened_in index) result (opened_at index) }
 
+        // Of slices of any bytes, whose header nobody need have read, the tables stand there, and it holds parts of them.
+        ensures stands { (index : List ℕ) → AreSlicesOf parts.entry index
+            → IfOk result (λ reader. Holds IsSymbols index parts.entry.toc.symbols reader.symbols
+            × Holds IsPostingsTable index parts.entry.toc.postings_table reader.rows
+            × IsHeldOf reader (opened_in index reader)) }
+
         // The first refusal, with its place in the index: nothing stands behind a part.
         ensures exact { Gives IndexRefusal.NoMemory
             (λ reader. reader) result (over_at parts.entry) }
@@ -174,6 +185,10 @@ impl<'a> IndexReader<'a> {
         requires postings { parts.toc.postings + length parts.postings.now < 2 ^ 64 }
         ensures found { (opened : Opened) → IsOpened opened → parts.entry.toc ≡ opened.toc
             → AreSlicesOf parts.entry opened.bytes → IfOk result (λ reader. IsHeldOf reader opened) }
+        ensures stands { (index : List ℕ) → AreSlicesOf parts.entry index
+            → IfOk result (λ reader. Holds IsSymbols index parts.entry.toc.symbols reader.symbols
+            × Holds IsPostingsTable index parts.entry.toc.postings_table reader.rows
+            × IsHeldOf reader (opened_in index reader)) }
         ensures exact { Gives IndexRefusal.NoMemory
             (λ reader. reader) result (over_at parts.entry) }
         ensures few { IfOk result
@@ -271,6 +286,12 @@ impl<'a> IndexReader<'a> {
             → HoldsSeries (record { begin = at; bytes = part.now }) (16 * number)
             → Gives IndexRefusal.NoMemory
             (λ series. series) result (numbered_at index self.now.symbols number) }
+
+        // One that does not is not there, unless its length is no number, which is refused as such.
+        ensures outside { (HoldsSeries (record { begin = at; bytes = part.now }) (16 * number) → ⊥)
+            → (uvarint_at (at_place part.now (16 * number - at)) ≡ Err Overlong → ⊥)
+            → (result ≡ Err (IndexRefusal.BadSeries number (Short (16 * number))))
+            ⊎ (result ≡ Err IndexRefusal.NoMemory) }
 
         // In an index of a list the series that is listed under the number is read, where it lies within the part.
         ensures agrees { (index : List ℕ) (list : List IndexSeries) (is : IsIndex index list)
@@ -404,6 +425,34 @@ impl<'a> IndexReader<'a> {
         self.rows.first_of(name)
     }
 
+    /// The place of the row of a name and a value, if the table has it. The rows ascend, so it is found by halving.
+    pub fn find_row(&self, name: &str, value: &str) -> Option<usize>
+        // It is the only row of them.
+        ensures found { IfSome result (λ place. IsAlone
+            (is_row_of name.now value.now) self.now.rows place) }
+        ensures absent { result ≡ None → filter (is_row_of name.now value.now) self.now.rows ≡ [] }
+    {
+        self.rows.place_of(name, value).ok()
+    }
+
+    /// How many bytes the postings lists are read from.
+    pub fn lists_size(&self) -> usize
+        ensures { result ≡ length self.now.lists.bytes }
+    {
+        self.lists.bytes.len()
+    }
+
+    /// How many bytes the list of the row at a place is said to take, by the length that stands before it. It is 0 where no length
+    /// is there.
+    pub fn list_size(&self, place: usize) -> usize
+        requires { place < length self.now.rows }
+        ensures { (row : PostingsRow) → slice_get self.now.rows place ≡ Some row
+            → result ≡ list_bytes self.now.lists row }
+    {
+        let row = self.rows.get(place).unwrap();
+        list_bytes(self.lists, row.2)
+    }
+
     /// The numbers of the series that the row at a place lists.
     pub fn row_numbers(&self, alloc: Global, place: usize) -> Result<NumberList, IndexRefusal>
         requires { place < length self.now.rows }
@@ -490,7 +539,7 @@ impl<'a> IndexReader<'a> {
         // The first refusal.
         ensures exact { Gives IndexRefusal.NoMemory (λ list. list) result (whole_at self.now) }
 
-        // Where parts are there, the first listed series is not; and without series the lists are those of the index.
+        // Where parts are there, the first listed series is not; and where no series would be read it is as of the whole index.
         ensures absent { (number : ℕ) (numbers : List ℕ) → self.now.bytes ≡ []
             → postings_of self.now [] [] ≡ Ok (number ∷ numbers)
             → present_at self.now.toc (number ∷ numbers) ≡ Ok tt
@@ -499,7 +548,9 @@ impl<'a> IndexReader<'a> {
         ensures same { (opened : Opened) → IsHeldOf self.now opened
             → ((row : PostingsRow) → Contains self.now.rows row
             → HoldsSection self.now.lists row.offset)
-            → postings_of self.now [] [] ≡ Ok []
+            → ((number : ℕ) (numbers : List ℕ)
+            → postings_of self.now [] [] ≡ Ok (number ∷ numbers)
+            → present_at self.now.toc (number ∷ numbers) ≡ Ok tt → ⊥)
             → Gives IndexRefusal.NoMemory (λ list. list) result (whole_at (whole_file opened)) }
         ensures bounded { IfOk result (λ list. sum_by members_of list ≤ 8 * length self.now.bytes) }
         ensures texts { IfOk result (λ list. sum_by text_bytes list ≤ 64 * length self.now.bytes) }

@@ -1,8 +1,12 @@
-ghost use Rattle.std.specs.Prelude.{◌≡◌, ◌⊎◌, ◌+◌, ◌*◌, ◌^◌, ◌<◌, ◌≤◌, ℕ, List, length, IfOk, Ok, Err};
+ghost use Rattle.std.specs.Prelude.{◌≡◌, ◌⊎◌, ◌+◌, ◌-◌, ◌*◌, ◌^◌, ◌<◌, ◌≤◌, ℕ, List, length, IfOk, Ok, Err};
 ghost use Rattle.std.specs.Result.{IsOkAnd};
 ghost use Rattle.reading_core.specs.Reading.{Gives};
 ghost use Rattle.reading_core.specs.Grammar.{IsBytes};
 ghost use Rattle.index_file.specs.declared.index_series.IndexSeries.{IndexSeries};
+ghost use Rattle.wire_bytes.specs.Fields.{uvarint_at};
+ghost use Rattle.wire_bytes.specs.declared.refusal.WireRefusal.TheVariants.{Overlong};
+ghost use Rattle.index_parts.specs.Placed.{at_place};
+ghost use Rattle.index_parts.specs.declared.refusal.PartRefusal.TheVariants.{Short};
 ghost use Rattle.index_v2.specs.Budget.{text_bytes};
 ghost use Rattle.index_file.specs.IndexFile.{IsSeriesOf};
 ghost use Rattle.index_slices.specs.Parts.{part_of, known, IsPartOf, HoldsSeries};
@@ -88,6 +92,11 @@ pub(crate) fn series_of(
         → HoldsSeries (part_of part.entry) (16 * number)
         → Gives IndexRefusal.NoMemory
         (λ series. series) result (numbered_at index symbols.now number) }
+    ensures outside { (HoldsSeries (part_of part.entry) (16 * number) → ⊥)
+        → (uvarint_at (at_place part.entry.bytes.now (16 * number - part.entry.begin)) ≡ Err Overlong
+        → ⊥)
+        → (result ≡ Err (IndexRefusal.BadSeries number (Short (16 * number))))
+        ⊎ (result ≡ Err IndexRefusal.NoMemory) }
     ensures exact { Gives IndexRefusal.NoMemory
         (λ series. series) result (numbered_at (known (part_of part.entry)) symbols.now number) }
     ensures texts { IfOk result (λ series. text_bytes series ≤ most) }

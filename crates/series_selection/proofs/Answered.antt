@@ -27,7 +27,8 @@ use Rattle.index_v2.specs.Opening.{refused_in}
 use Rattle.index_v2.specs.Held.{Held, opened_of, IsWhole, IsHeldOf}
 use Rattle.index_v2.specs.PostingsLists.{list_of}
 use Rattle.index_v2.specs.WholeReading.{lists_at}
-use Rattle.index_v2.proofs.HeldLaws.{opened_whole, file_is}
+use Rattle.index_v2.proofs.HeldLaws.{opened_whole}
+use Rattle.index_v2.proofs.ReadersOf.{whole_holds}
 use Rattle.index_v2.proofs.PostingsLaws.{opened_is}
 use Rattle.series_selection.specs.Selections.{decides, deciding, rows_read, IsSelection, AreMatching}
 use Rattle.series_selection.specs.SelectionSteps.{is_one_of, kept, numbers_at, left_by_rows, selected_at, ListsStand}
@@ -120,9 +121,6 @@ module _ (held : Held) (external : List Label) (selector : List Matcher) where
 
   -- ---- of a whole file
 
-  held_whole : IsWhole held → IsHeldOf held (opened_of held)
-  held_whole whole = record { toc_is = refl; symbols_are = refl; rows_are = refl; lists_are = subst (λ (p : Part). IsPartOf p held.bytes) (sym whole.lists_are) (file_is held.bytes); series_are = inr refl }
-
   whole_refused : IsWhole held → (r : Result (List ℕ) IndexRefusal) → IfErr r (λ e. (e ≡ NoMemory) ⊎ (lists_at held.lists (rows_read external held.rows selector) ≡ Err e)) → IfErr r (λ e. (e ≡ NoMemory) ⊎ (lists_at (file held.bytes) (rows_read external held.rows selector) ≡ Err e))
   whole_refused whole (Ok x) why = tt
   whole_refused whole (Err e) (inl out) = inl out
@@ -136,7 +134,7 @@ module _ (held : Held) (external : List Label) (selector : List Matcher) where
       → MatchResult r (λ numbers. AreMatching is.listed external replicas selector numbers) (λ e. e ≡ NoMemory)
   agrees whole list is replicas none r given rise stand refused =
       let one : is.opened ≡ opened_of held = opened_is (opened_of held) (opened_whole held whole) list is in
-      let of_it : IsHeldOf held is.opened = subst (IsHeldOf held) (sym one) (held_whole whole) in
+      let of_it : IsHeldOf held is.opened = subst (IsHeldOf held) (sym one) (whole_holds held whole) in
       let why = whole_refused whole r refused in
       let P : Opened → Type 0 = λ o. IfErr r (λ e. (e ≡ NoMemory) ⊎ (lists_at (file o.bytes) (rows_read external o.rows selector) ≡ Err e)) in
       both (λ numbers. AreMatching is.listed external replicas selector numbers) r

@@ -1,8 +1,11 @@
 pub mod KeptNumbers
 pub mod NumbersRead
 pub mod Walk
+pub mod OneRow
+pub mod Fewer
 pub mod Taking
 pub mod Endings
 pub mod Matching
+pub mod ListsApart
 pub mod AllLeft
 pub mod Answered

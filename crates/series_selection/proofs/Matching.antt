@@ -63,13 +63,13 @@ no_empty_name (l ∷ ls) is = value_miss l ls [] is.0 ∙ no_empty_name ls is.3
 
 -- ---- numbers of a list that ascends stand for one series each
 
-abbrev first_of : ℕ × IndexSeries → ℕ
+abbrev pub first_of : ℕ × IndexSeries → ℕ
 first_of one = one.0
 
-rest_rises : (n : ℕ) (numbers : List ℕ) → IsStrictlyIncreasing (n ∷ numbers) → IsStrictlyIncreasing numbers
+pub rest_rises : (n : ℕ) (numbers : List ℕ) → IsStrictlyIncreasing (n ∷ numbers) → IsStrictlyIncreasing numbers
 rest_rises n numbers rise = λ k lt. subst (λ (i : ℕ). get_or numbers k 0 < get_or (n ∷ numbers) i 0) {x = suc k + 1} {y = suc (k + 1)} (omega arith) (rise (suc k) (omega arith))
 
-above_first : (n : ℕ) (numbers : List ℕ) (m : ℕ) → IsStrictlyIncreasing (n ∷ numbers) → Contains numbers m → n < m
+pub above_first : (n : ℕ) (numbers : List ℕ) (m : ℕ) → IsStrictlyIncreasing (n ∷ numbers) → Contains numbers m → n < m
 above_first n [] m rise among = absurd (no_member m among)
 above_first n (x ∷ numbers) m rise among =
     let next : n < x = rise 0 (omega arith) in
@@ -140,7 +140,7 @@ not_named replicas m selector e = nothing_named (is_among replicas m.name) m.nam
 -- ---- an index of a list
 
 module _ (bytes : List ℕ) (list : List IndexSeries) (is : IsIndex bytes list) where
-  row_has : (row : PostingsRow) (number : ℕ) → Contains is.opened.rows row → HasNumber (Stands is.opened.bytes) row number → (series : IndexSeries) × Contains is.listed (number, series) × BelongsTo row series
+  pub row_has : (row : PostingsRow) (number : ℕ) → Contains is.opened.rows row → HasNumber (Stands is.opened.bytes) row number → (series : IndexSeries) × Contains is.listed (number, series) × BelongsTo row series
   row_has row number among has =
       let exact = is.rows_are row among in
       exact.only number (subst (λ (xs : List ℕ). Contains xs number) (one_list is.opened.bytes row has.numbers exact.numbers has.list_is exact.stands) has.has)
@@ -163,7 +163,7 @@ module _ (bytes : List ℕ) (list : List IndexSeries) (is : IsIndex bytes list) 
     is_set = (is.series_are.stand number series has).lawful
 
     -- each row of the name that has the number has the series' value, the empty one where the series has no such label
-    row_value : (row : PostingsRow) → Contains is.opened.rows row → row.name ≡ m.name → HasNumber (Stands is.opened.bytes) row number → row.value ≡ unwrap_or (value_of series.labels m.name) []
+    pub row_value : (row : PostingsRow) → Contains is.opened.rows row → row.name ≡ m.name → HasNumber (Stands is.opened.bytes) row number → row.value ≡ unwrap_or (value_of series.labels m.name) []
     row_value row among name numbered =
         let found = row_has row number among numbered in
         let same : found.0 ≡ series = one_series is.listed number found.0 series (listed_rises is.opened.bytes is.opened.rows (map first_of is.listed) is.series_are.numbers_are) found.1 has in

@@ -1,13 +1,15 @@
 //! Numbers that are, or are not, among others.
-ghost use Rattle.std.specs.Prelude.{◌≡◌, ◌<◌, ◌≤◌, ℕ, length, slice_index, IfOk};
+ghost use Rattle.std.specs.Prelude.{◌≡◌, ◌+◌, ◌-◌, ◌==◌, ◌<◌, ◌≤◌, ℕ, length, slice_index, take, drop, IfOk, if◌then◌else◌, IsTrue, IsFalse};
 ghost use Rattle.std.specs.List.Sorted.{IsNonDecreasing, IsStrictlyIncreasing};
-ghost use Rattle.series_selection.specs.SelectionSteps.{is_one_of, kept};
+ghost use Rattle.series_selection.specs.SelectionSteps.{kept};
 
 use list_core::NoMemory;
 use std::alloc::Global;
 use wire_bytes::NumberList;
 
-/// Those of ascending numbers that are among others, or those that are not. One pass over both finds them. The others may repeat.
+/// Those of ascending numbers that are among others, or those that are not. The others may repeat.
+///
+/// Both lists are passed once, by leaps: where one of them has few members, hardly more than these are looked at.
 pub(crate) fn kept(
     alloc: Global,
     wanted: bool,
@@ -20,39 +22,106 @@ pub(crate) fn kept(
     ensures rises { IfOk result IsStrictlyIncreasing }
 {
     let mut left = Vec::new(alloc);
-    let mut place = 0;
-    for number in numbers {
-        place = first_from(others, place, *number);
-        if is_found(others, place, *number) == wanted {
-            left.push(*number)?;
-        }
+    let mut there = 0;
+    let mut here = 0;
+    while here < numbers.len() {
+        there = first_from(others, there, numbers[here]);
+        let end = apart_until(others, there, numbers, here);
+        let behind = behind_match(others, there, numbers, end);
+        left.extend_from_slice(part_kept(wanted, numbers, here, end, behind))?;
+        here = behind;
     }
     Ok(NumberList::from_vec(left))
 }
 
-/// The first place, from this one on, at which a number is not below the least.
+/// How far the numbers from a place on are below the next of the others.
+#[inline(always)]
+fn apart_until(others: &[u64], there: usize, numbers: &[u64], here: usize) -> usize
+    requires rise { IsNonDecreasing numbers.now }
+    requires within { here ≤ length numbers.now }
+    ensures within { result ≤ length numbers.now }
+    ensures behind { here ≤ result }
+    ensures below { (k : ℕ) → here ≤ k → k < result → there < length others.now
+        → slice_index numbers.now k < slice_index others.now there }
+    ensures left { result < length numbers.now → there < length others.now }
+    ensures reached { result < length numbers.now
+        → slice_index others.now there ≤ slice_index numbers.now result }
+{
+    if there < others.len() {
+        return first_from(numbers, here, others[there]);
+    }
+    numbers.len()
+}
+
+/// The place behind a number that is the next of the others, and else its own.
+#[inline(always)]
+fn behind_match(others: &[u64], there: usize, numbers: &[u64], end: usize) -> usize
+    requires left { end < length numbers.now → there < length others.now }
+    requires within { end ≤ length numbers.now }
+    ensures same { end < length numbers.now → slice_index numbers.now end ≡ slice_index others.now there → result ≡ end + 1 }
+    ensures other { (end < length numbers.now → slice_index numbers.now end ≡ slice_index others.now there → ⊥) → result ≡ end }
+{
+    if end < numbers.len() && numbers[end] == others[there] {
+        return end + 1;
+    }
+    end
+}
+
+/// What is kept of numbers of which those up to an end are not among the others, and the one behind it is, if there is one.
+#[inline(always)]
+fn part_kept(wanted: bool, numbers: &[u64], here: usize, end: usize, behind: usize) -> &[u64]
+    requires begins { here ≤ end }
+    requires goes { end ≤ behind }
+    requires ends { behind ≤ length numbers.now }
+    ensures { result.now ≡ (if wanted then take (behind - end) (drop end numbers.now) else take (end - here) (drop here numbers.now)) }
+{
+    if wanted {
+        return &numbers[end..behind];
+    }
+    &numbers[here..end]
+}
+
+/// The first place, from this one on, at which a number is not below the least. It is sought by leaps that grow, and then by
+/// halving.
+#[inline(always)]
 fn first_from(numbers: &[u64], from: usize, least: u64) -> usize
-    requires { from ≤ length numbers.now }
+    requires rise { IsNonDecreasing numbers.now }
+    requires within { from ≤ length numbers.now }
     ensures within { result ≤ length numbers.now }
     ensures behind { from ≤ result }
     ensures below { (k : ℕ) → from ≤ k → k < result → slice_index numbers.now k < least }
     ensures reached { result < length numbers.now → least ≤ slice_index numbers.now result }
 {
-    for place in from..numbers.len() {
-        if least <= numbers[place] {
-            return place;
-        }
+    let mut low = from;
+    let mut step = 1;
+    while step <= numbers.len() - low && numbers[low + step - 1] < least {
+        low += step;
+        step += step;
     }
-    numbers.len()
+    halved(numbers, low, numbers.len().min(low + step - 1), least)
 }
 
-/// Whether a number is among ascending ones, of which the first that is not below it would stand at a place.
-#[inline(always)]
-fn is_found(numbers: &[u64], place: usize, number: u64) -> bool
+/// The first place from a low one on at which a number is not below the least, where there is one at the high place or none
+/// behind it.
+fn halved(numbers: &[u64], from: usize, to: usize, least: u64) -> usize
     requires rise { IsNonDecreasing numbers.now }
-    requires below { (k : ℕ) → k < place → slice_index numbers.now k < number }
-    requires reached { place < length numbers.now → number ≤ slice_index numbers.now place }
-    ensures { result ≡ is_one_of numbers.now number }
+    requires order { from ≤ to }
+    requires within { to ≤ length numbers.now }
+    requires reached { to < length numbers.now → least ≤ slice_index numbers.now to }
+    ensures within { result ≤ length numbers.now }
+    ensures behind { from ≤ result }
+    ensures below { (k : ℕ) → from ≤ k → k < result → slice_index numbers.now k < least }
+    ensures reached { result < length numbers.now → least ≤ slice_index numbers.now result }
 {
-    place < numbers.len() && numbers[place] == number
+    let mut low = from;
+    let mut high = to;
+    while low < high {
+        let middle = low + (high - low) / 2;
+        if numbers[middle] < least {
+            low = middle + 1;
+        } else {
+            high = middle;
+        }
+    }
+    low
 }

@@ -2,7 +2,9 @@
 #![tactic(auto)]
 
 mod keeping;
+mod laws;
 mod rows;
 mod selection;
 
+pub use laws::lists_share_no_number;
 pub use selection::select_postings;

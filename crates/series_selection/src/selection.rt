@@ -1,8 +1,9 @@
-ghost use Rattle.std.specs.Prelude.{◌≡◌, ◌⊎◌, ℕ, List, [], Some, Ok, Err, IfOk, IfErr, IsOk, OnOk, MatchResult, if◌then◌else◌};
+ghost use Rattle.std.specs.Prelude.{◌≡◌, ◌⊎◌, ◌*◌, ◌^◌, ◌<◌, ◌≤◌, ℕ, List, [], All, length, Some, Ok, Err, IfOk, IfErr, IsOk, OnOk, MatchResult, true, if◌then◌else◌};
 ghost use Rattle.std.specs.List.{Contains, filter, flat_map};
-ghost use Rattle.std.specs.List.Sorted.{IsStrictlyIncreasing};
+ghost use Rattle.std.specs.List.Sorted.{IsStrictlyIncreasing, IsNonDecreasing, IsPermutation};
 ghost use Rattle.reading_core.specs.Reading.{Gives};
 ghost use Rattle.label_sets.specs.Labels.{value_of};
+ghost use Rattle.matchers.specs.declared.matcher.Matcher.{Matcher};
 ghost use Rattle.matchers.specs.Selectors.{is_accepted};
 ghost use Rattle.matchers.specs.SelectorText.{named_replicas};
 ghost use Rattle.index_parts.specs.Postings.{IsPostings};
@@ -17,21 +18,27 @@ ghost use Rattle.index_v2.specs.WholeReading.{lists_at};
 ghost use Rattle.index_v2.specs.declared.refusal.IndexRefusal.{IndexRefusal};
 ghost use Rattle.index_v2.specs.declared.refusal.IndexRefusal.TheVariants.{NoMemory};
 ghost use Rattle.series_selection.specs.Selections.{decides, deciding, rows_read, IsSelection, AreMatching};
-ghost use Rattle.series_selection.specs.SelectionSteps.{left_by, left_by_rows, left_at, selected_at, ListsStand};
+ghost use Rattle.series_selection.specs.SelectionSteps.{left_by, left_by_rows, left_at, selected_at, ListsStand, IsWithinBudget};
 
 use crate::keeping::kept;
-use crate::rows::{all_listed, listed_under};
+use crate::rows::{Listed, all_listed, listed_by};
 use index_v2::{IndexReader, IndexRefusal};
 use label_sets::LabelSet;
+use list_core::NoMemory as OutOfMemory;
 use matchers::{Matcher, Selector};
 use std::alloc::Global;
 use wire_bytes::NumberList;
 
 /// The numbers of the series that a selector takes from the index of a block with these external labels, ascending.
 ///
-/// Read are the list of the first row and those of the rows that decide what a matcher takes, and no series. The rows of a
-/// matcher's name are found by halving, and it is asked once for each of them. It takes time in proportion to these rows and
-/// to the numbers in the lists, times the logarithm of how many numbers a matcher's lists have.
+/// Read are the list of the first row and those of the rows that decide what a matcher takes, and no series. The row that
+/// decides for `=` or `!=` with a text is found by halving. So is the first row of another matcher's name, and it is asked once
+/// for each row of the name. It takes time in proportion to these rows and to the bytes of the lists, and where a matcher reads
+/// several lists, to their numbers times the logarithm of how many lists there are.
+///
+/// Where the lists of one matcher come to more than eight bytes and numbers for each byte of the part in which lists are read,
+/// it answers `NoMemory`. In an index whose lists lie apart they come to less than two, since the lists of one name share no
+/// number: only rows that share a list, or lists that lie within one another, ask for more.
 pub fn select_postings(
     alloc: Global,
     index: &IndexReader<'_>,
@@ -49,6 +56,12 @@ pub fn select_postings(
         (lists_at index.now.lists (rows_read external.now index.now.rows selector.now))) }
     ensures refused { IfErr result (λ e. (e ≡ NoMemory)
         ⊎ (lists_at index.now.lists (rows_read external.now index.now.rows selector.now) ≡ Err e)) }
+
+    // The numbers have 32 bits, and are no more than one list can have. What is read for a matcher is within its budget.
+    ensures small { IfOk result (All (λ n. n < 2 ^ 32)) }
+    ensures few { IfOk result (λ numbers. 4 * length numbers ≤ length index.now.lists.bytes) }
+    ensures budget { OnOk result ((matcher : Matcher) → Contains selector.now matcher
+        → IsWithinBudget index.now.lists (deciding external.now index.now.rows matcher)) }
 
     // Over the whole of an opened index, or over parts of it, it is what the selector takes by the lists that stand there.
     ensures found { (opened : Opened) → IsHeldOf index.now opened
@@ -98,8 +111,12 @@ fn selected(
     ensures gives { Gives NoMemory (λ numbers. numbers) result
         (selected_at index.now external.now selector.now) }
     ensures rises { IfOk result IsStrictlyIncreasing }
+    ensures small { IfOk result (All (λ n. n < 2 ^ 32)) }
+    ensures few { IfOk result (λ numbers. 4 * length numbers ≤ length index.now.lists.bytes) }
     ensures stand { OnOk result
         (ListsStand index.now (rows_read external.now index.now.rows selector.now)) }
+    ensures budget { OnOk result ((matcher : Matcher) → Contains selector.now matcher
+        → IsWithinBudget index.now.lists (deciding external.now index.now.rows matcher)) }
 {
     let listed = all_listed(alloc, index)?;
     left_by_all(alloc, index, selector.matchers(), external, listed)
@@ -119,6 +136,8 @@ fn left_by_all(
     ensures rises { IfOk result IsStrictlyIncreasing }
     ensures stand { OnOk result (ListsStand index.now
         (flat_map (deciding external.now index.now.rows) matchers.now)) }
+    ensures budget { OnOk result ((matcher : Matcher) → Contains matchers.now matcher
+        → IsWithinBudget index.now.lists (deciding external.now index.now.rows matcher)) }
 {
     let mut left = numbers;
     for matcher in matchers {
@@ -142,6 +161,8 @@ fn left_by(
     ensures rises { IfOk result IsStrictlyIncreasing }
     ensures stand { OnOk result
         (ListsStand index.now (deciding external.now index.now.rows matcher.now)) }
+    ensures budget { OnOk result
+        (IsWithinBudget index.now.lists (deciding external.now index.now.rows matcher.now)) }
 {
     match external.value(matcher.name.as_str()) {
         Some(value) => left_by_value(alloc, matcher, value, numbers),
@@ -183,12 +204,25 @@ fn left_by_rows(
     ensures rises { IfOk result IsStrictlyIncreasing }
     ensures stand { OnOk result
         (ListsStand index.now (filter (decides matcher.now) index.now.rows)) }
+    ensures budget { OnOk result
+        (IsWithinBudget index.now.lists (filter (decides matcher.now) index.now.rows)) }
 {
-    let mut searcher = matcher.condition.searcher()?;
-    let wanted = !searcher.accepts("");
-    // Lists that ascend are merged by the sort, which keeps what stands in order. Thousands of short lists cost a logarithm so,
-    // and not one pass over what was merged for each.
-    let mut listed = listed_under(alloc, index, matcher, &mut searcher, wanted)?;
-    listed.sort()?;
-    Ok(kept(alloc, wanted, listed.as_slice(), numbers.members())?)
+    let (wanted, listed) = listed_by(alloc, index, matcher)?;
+    let others = ascending(listed)?;
+    Ok(kept(alloc, wanted, others.as_slice(), numbers.members())?)
+}
+
+/// The numbers of lists, ascending. Several lists are merged by the sort, which keeps what stands in order: thousands of short
+/// lists cost a logarithm so, and not one pass over what was merged for each.
+fn ascending(listed: Listed) -> Result<Vec<u64>, OutOfMemory>
+    requires { listed.is_one ≡ true → IsStrictlyIncreasing listed.numbers.items }
+    ensures rises { IfOk result (λ all. IsNonDecreasing all.items) }
+    ensures same { IfOk result (λ all. IsPermutation listed.numbers.items all.items) }
+{
+    if listed.is_one {
+        return Ok(listed.numbers);
+    }
+    let mut all = listed.numbers;
+    all.sort()?;
+    Ok(all)
 }

@@ -3,7 +3,9 @@ use Rattle.index_parts.specs.declared.refusal.PartRefusal.TheVariants.{NoMemory}
 use Rattle.index_slices.specs.Parts.{part_of}
 use Rattle.index_slices.proofs.Slices.{fits_in}
 use Rattle.index_v2.specs.SeriesLabels.{labelled_at}
-use Rattle.index_v2.proofs.SeriesSlices.{series_known_told, series_index_told, series_stands_in, number_found, number_refused, series_few_in}
+use Rattle.index_v2.specs.declared.refusal.IndexRefusal.TheVariants.{BadSeries}
+use Rattle.index_v2.proofs.SeriesSlices.{series_known_told, series_index_told, series_stands_in, number_found, number_refused, series_few_in, refused_or_none}
+use Rattle.index_v2.proofs.SeriesOutside.{series_outside}
 use Rattle.index_v2.proofs.numbered.series_of.Goals as goal
 
 pub shifted-requires : goal.shifted-requires
@@ -33,3 +35,11 @@ returns-in-Err-clause-same c = λ index is lies.
 pub returns-in-Err-clause-exact : goal.returns-in-Err-clause-exact
 returns-in-Err-clause-exact c =
     number_refused c.args.number c.args.part.begin _ _ (series_known_told (part_of c.args.part) c.args.symbols.now (16 * c.args.number) c.requires.begins (omega (arith, c.ranges.number.fits)) c.requires.fits) c.in-Err.refusal c.shifted.result c.refused_of.result c.shifted.ensures c.refused_of.ensures (subst (λ (n : ℕ). (c.in-Err.refusal ≡ NoMemory) ⊎ (labelled_at c.args.part.bytes.now c.args.symbols.now (16 * n - c.args.part.begin) ≡ Err c.in-Err.refusal)) c.from.ensures c.in-Err.ensures.exact)
+
+pub returns-in-Ok-clause-outside : goal.returns-in-Ok-clause-outside
+returns-in-Ok-clause-outside c = λ outside told.
+    refused_or_none (λ s. s) (Ok c.in-Ok.series) _ _ (series_outside (part_of c.args.part) c.args.symbols.now c.args.number c.requires.begins (omega (arith, c.ranges.number.fits)) c.requires.fits outside told) (returns-in-Ok-clause-exact c)
+
+pub returns-in-Err-clause-outside : goal.returns-in-Err-clause-outside
+returns-in-Err-clause-outside c = λ outside told.
+    refused_or_none (λ s. s) (Err c.refused_of.result) _ _ (series_outside (part_of c.args.part) c.args.symbols.now c.args.number c.requires.begins (omega (arith, c.ranges.number.fits)) c.requires.fits outside told) (returns-in-Err-clause-exact c)

@@ -1,4 +1,5 @@
-use Rattle.std.proofs.Common.{◌≡◌}
+use Rattle.std.proofs.Common.{◌≡◌, true}
+use Rattle.std.specs.List.Sorted.{IsStrictlyIncreasing}
 use Rattle.matchers.specs.ConditionSearches.{condition_asked}
 use Rattle.index_v2.specs.RowOrder.{BeginsAt}
 use Rattle.series_selection.proofs.Walk.{ReadSoFar}
@@ -7,5 +8,6 @@ use Rattle.series_selection.proofs.rows.listed_under.Given as goal
 abbrev pub invariant-loop-place : goal.invariant-loop-place
 invariant-loop-place l =
     BeginsAt l.index.rows l.matcher.name l.initial.place
-    × ReadSoFar l.index l.matcher l.initial.place l.place l.listed.items
+    × ReadSoFar l.index l.matcher l.initial.place l.place l.listed.numbers.items l.listed.left
     × (condition_asked l.searcher ≡ l.matcher.condition)
+    × (l.listed.is_one ≡ true → IsStrictlyIncreasing l.listed.numbers.items)

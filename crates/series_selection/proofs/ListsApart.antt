@@ -1,0 +1,160 @@
+-- In an index of a list of series, the lists of the rows of one name share no number.
+use Rattle.std.proofs.Common.{◌≡◌, ℕ, zero, suc, ◌+◌, ◌<◌, ◌≤◌, Bool, true, false, List, [], ◌∷◌, ◌++◌, length, map, Option, Some, Result, Ok, Err, refl, sym, ap, subst, ◌∙◌, arith, inl, inr}
+use Rattle.std.specs.Prelude.{is_some, unwrap_or, if◌then◌else◌}
+use Rattle.std.specs.List.{Contains, filter}
+use Rattle.std.specs.List.Sorted.{IsStrictlyIncreasing, IsStrictlySortedBy}
+use Rattle.std.specs.declared.cmp.Ordering.TheVariants.{Less, Equal}
+use Rattle.std.specs.Str.{bytes_eq}
+use Rattle.std.specs.Cmp.Lexicographic.{bytes_decides}
+use Rattle.std.proofs.lemmas.Bool.{and_parts}
+use Rattle.std.proofs.lemmas.Cmp.{tied_itself}
+use Rattle.std.proofs.lemmas.Map.Keys.{sorted_tail}
+use Rattle.std.proofs.lemmas.List.{length-append, length-map}
+use Rattle.std.proofs.lemmas.List.Kept.{IsStrictlySortedBy-filter}
+use Rattle.std.proofs.lemmas.List.Elements.{Contains-append_left, Contains-append_right, Contains-append_cases}
+use Rattle.list_core.proofs.Order.{Less-at_places}
+use Rattle.list_core.proofs.Membership.{contains_first, contains_later, member_cases, no_member, into_map, place_of_member, of_filter, member_passes}
+use Rattle.reading_core.specs.Reading.{refused_as}
+use Rattle.reading_core.proofs.Binds.{ok_is}
+use Rattle.label_sets.specs.declared.label.Label.{Label}
+use Rattle.label_sets.specs.Labels.{value_of}
+use Rattle.label_sets.proofs.LabelValues.{by_bool, bytes_eq_self, bytes_eq_differs}
+use Rattle.matchers.specs.declared.matcher.Matcher.{Matcher}
+use Rattle.index_parts.specs.declared.postings_row.PostingsRow.{PostingsRow}
+use Rattle.index_parts.specs.Postings.{IsNextPosting}
+use Rattle.index_parts.specs.PostingsReading.{posting_at}
+use Rattle.index_parts.specs.Rows.{compare_rows}
+use Rattle.index_parts.proofs.ListLaws.{list_again}
+use Rattle.index_parts.proofs.PostingsLaws.{posting_turn}
+use Rattle.index_slices.specs.Parts.{file}
+use Rattle.index_file.specs.declared.index_series.IndexSeries.{IndexSeries}
+use Rattle.index_file.specs.IndexFile.{IsIndex}
+use Rattle.index_v2.specs.declared.refusal.IndexRefusal.{IndexRefusal}
+use Rattle.index_v2.specs.Opening.{refused_in}
+use Rattle.index_v2.specs.PostingsLists.{list_of}
+use Rattle.index_v2.proofs.RowPlaces.{rows_total, held_ascends}
+use Rattle.index_v2.proofs.ListNumbers.{numbers_rise}
+use Rattle.series_selection.specs.Selections.{HasNumber, decides, deciding}
+use Rattle.series_selection.specs.SelectionSteps.{numbers_at}
+use Rattle.series_selection.proofs.NumbersRead.{FirstRead, first_read, numbers_none, of_numbers}
+use Rattle.series_selection.proofs.Walk.{ok_same, other_name}
+use Rattle.series_selection.proofs.Matching.{Stands, first_of, rest_rises, above_first, row_has, row_value}
+
+-- ---- numbers of which none stands twice
+
+AreApart : List ℕ → Type 0
+AreApart [] = Unit {0}
+AreApart (x ∷ xs) = (Contains xs x → ⊥) × AreApart xs
+
+record Split (ys : List ℕ) (x : ℕ) : Type 0 where
+  pub front : List ℕ
+  pub back : List ℕ
+  pub is : ys ≡ front ++ x ∷ back
+
+split : (ys : List ℕ) (x : ℕ) → Contains ys x → Split ys x
+split [] x has = absurd (no_member x has)
+split (y ∷ ys) x has = elim (member_cases y x ys has) [
+  | inl same ↦ record { front = []; back = ys; is = ap (λ (z : ℕ). z ∷ ys) same }
+  | inr later ↦ let s = split ys x later in record { front = y ∷ s.front; back = s.back; is = ap (λ (zs : List ℕ). y ∷ zs) s.is }
+]
+
+-- they are no more than the numbers among which they are
+fewer : (xs ys : List ℕ) → AreApart xs → ((n : ℕ) → Contains xs n → Contains ys n) → length xs ≤ length ys
+unfolding AreApart
+fewer [] ys apart among = omega arith
+fewer (x ∷ xs) ys apart among =
+    let s = split ys x (among x (contains_first x xs)) in
+    let others : (n : ℕ) → Contains xs n → Contains (s.front ++ s.back) n = λ n has.
+    elim (Contains-append_cases s.front (x ∷ s.back) n (subst (λ (zs : List ℕ). Contains zs n) s.is (among n (contains_later x n xs has)))) [
+      | inl before ↦ Contains-append_left s.front s.back n before
+      | inr rest ↦ elim (member_cases x n s.back rest) [
+        | inl same ↦ absurd (apart.0 (subst (Contains xs) (sym same) has))
+        | inr behind ↦ Contains-append_right s.front s.back n behind
+      ]
+    ] in
+    let less = fewer xs (s.front ++ s.back) apart.1 others in
+    omega (arith, less, ap length s.is, length-append s.front (x ∷ s.back), length-append s.front s.back)
+
+apart_append : (xs ys : List ℕ) → AreApart xs → AreApart ys → ((n : ℕ) → Contains xs n → Contains ys n → ⊥) → AreApart (xs ++ ys)
+unfolding AreApart
+apart_append [] ys one other none = other
+apart_append (x ∷ xs) ys one other none = (
+  λ has. elim (Contains-append_cases xs ys x has) [
+    | inl here ↦ one.0 here
+    | inr there ↦ none x (contains_first x xs) there
+  ],
+  apart_append xs ys one.1 other (λ n a b. none n (contains_later x n xs a) b),
+)
+
+rising_apart : (xs : List ℕ) → IsStrictlyIncreasing xs → AreApart xs
+unfolding AreApart
+rising_apart [] rise = tt
+rising_apart (x ∷ xs) rise = (λ has. let less = above_first x xs x rise has in omega (arith, less), rising_apart xs (rest_rises x xs rise))
+
+-- ---- rows
+
+same_key : (one other : PostingsRow) → compare_rows one other ≡ Less → one.name ≡ other.name → one.value ≡ other.value → ⊥
+same_key one other less n v =
+    let same : compare_rows one other ≡ compare_rows one one = rw (← n, ← v) refl in
+    let tied : compare_rows one one ≡ Equal = tied_itself rows_total one in
+    let both : Less ≡ Equal = sym less ∙ same ∙ tied in
+    cc
+
+first_below : (row : PostingsRow) (rows : List PostingsRow) (other : PostingsRow) → IsStrictlySortedBy compare_rows (row ∷ rows) → Contains rows other → compare_rows row other ≡ Less
+first_below row rows other ascend among =
+    let at = place_of_member rows other among in
+    Less-at_places compare_rows (row ∷ rows) 0 (suc at.0) row other ascend (omega arith) refl at.1
+
+own_name : (m : Matcher) (row : PostingsRow) → decides m row ≡ true → row.name ≡ m.name
+own_name m row it = (bytes_decides row.name m.name).0 ((and_parts (bytes_eq row.name m.name) _ it).0)
+
+module _ (bytes : List ℕ) (list : List IndexSeries) (is : IsIndex bytes list) (m : Matcher) where
+  numbered : (row : PostingsRow) (read : List ℕ) (number : ℕ) → Contains is.opened.rows row → list_of (file is.opened.bytes) (Some row) ≡ Ok read → Contains read number → HasNumber (Stands is.opened.bytes) row number
+  numbered row read number among one has =
+      let exact = is.rows_are row among in
+      let same : read ≡ exact.numbers = ok_same read exact.numbers (list_of (file is.opened.bytes) (Some row)) one (ap (refused_as (refused_in 5)) (list_again IsNextPosting posting_at posting_turn is.opened.bytes row.offset exact.numbers exact.stands)) in
+      record { numbers = exact.numbers; list_is = exact.stands; has = subst (λ (xs : List ℕ). Contains xs number) same has }
+
+  rises : (row : PostingsRow) (read : List ℕ) → Contains is.opened.rows row → list_of (file is.opened.bytes) (Some row) ≡ Ok read → IsStrictlyIncreasing read
+  rises row read among one =
+      let exact = is.rows_are row among in
+      let same : read ≡ exact.numbers = ok_same read exact.numbers (list_of (file is.opened.bytes) (Some row)) one (ap (refused_as (refused_in 5)) (list_again IsNextPosting posting_at posting_turn is.opened.bytes row.offset exact.numbers exact.stands)) in
+      subst IsStrictlyIncreasing (sym same) (numbers_rise is.opened.bytes row.offset exact.numbers exact.stands)
+
+  same_value : (one other : PostingsRow) (number : ℕ) → Contains is.opened.rows one → Contains is.opened.rows other → one.name ≡ m.name → other.name ≡ m.name → HasNumber (Stands is.opened.bytes) one number → HasNumber (Stands is.opened.bytes) other number → one.value ≡ other.value
+  same_value one other number a b n k here there =
+      let s = row_has bytes list is one number a here in
+      row_value bytes list is number s.0 s.1 m one a n here ∙ sym (row_value bytes list is number s.0 s.1 m other b k there)
+
+  lists_apart : (rows : List PostingsRow) (numbers : List ℕ) → IsStrictlySortedBy compare_rows rows → ((row : PostingsRow) → Contains rows row → Contains is.opened.rows row) → ((row : PostingsRow) → Contains rows row → row.name ≡ m.name) → numbers_at (file is.opened.bytes) rows ≡ Ok numbers → AreApart numbers
+  lists_apart [] numbers ascend among named e = subst AreApart (ok_is {E = IndexRefusal} _ _ (sym (numbers_none (file is.opened.bytes)) ∙ e)) (rising_apart [] (λ k lt. absurd (omega arith)))
+  lists_apart (row ∷ rows) numbers ascend among named e =
+      let f = first_read (file is.opened.bytes) row rows numbers e in
+      let here = among row (contains_first row rows) in
+      let others = lists_apart rows f.others (sorted_tail compare_rows row rows ascend) (λ one has. among one (contains_later row one rows has)) (λ one has. named one (contains_later row one rows has)) f.others_are in
+      let none : (n : ℕ) → Contains f.list n → Contains f.others n → ⊥ = λ n a b.
+      let o = of_numbers (file is.opened.bytes) rows f.others n f.others_are b in
+      let there = among o.0 (contains_later row o.0 rows o.1) in
+      let value = same_value row o.0 n here there (named row (contains_first row rows)) (named o.0 (contains_later row o.0 rows o.1)) (numbered row f.list n here f.list_is a) (numbered o.0 o.2.0 n there o.2.1 o.2.2) in
+      same_key row o.0 (first_below row rows o.0 ascend o.1) (named row (contains_first row rows) ∙ sym (named o.0 (contains_later row o.0 rows o.1))) value in
+      subst AreApart (sym f.numbers_are) (apart_append f.list f.others (rising_apart f.list (rises row f.list here f.list_is)) others none)
+
+  all_listed : (rows : List PostingsRow) (numbers : List ℕ) → ((row : PostingsRow) → Contains rows row → Contains is.opened.rows row) → numbers_at (file is.opened.bytes) rows ≡ Ok numbers → (n : ℕ) → Contains numbers n → Contains (map first_of is.listed) n
+  all_listed rows numbers among e n has =
+      let o = of_numbers (file is.opened.bytes) rows numbers n e has in
+      let s = row_has bytes list is o.0 n (among o.0 o.1) (numbered o.0 o.2.0 n (among o.0 o.1) o.2.1 o.2.2) in
+      into_map first_of is.listed (n, s.0) s.1
+
+  by_rows : (rows : List PostingsRow) → IsStrictlySortedBy compare_rows rows → ((row : PostingsRow) → Contains rows row → Contains is.opened.rows row) → ((row : PostingsRow) → Contains rows row → row.name ≡ m.name) → (numbers : List ℕ) → numbers_at (file is.opened.bytes) rows ≡ Ok numbers → length numbers ≤ length is.listed
+  by_rows rows ascend among named numbers e =
+      let few = fewer numbers (map first_of is.listed) (lists_apart rows numbers ascend among named e) (all_listed rows numbers among e) in
+      omega (arith, few, length-map is.listed first_of)
+
+  by_choice : (external : Bool) (numbers : List ℕ) → numbers_at (file is.opened.bytes) (if external then [] else filter (decides m) is.opened.rows) ≡ Ok numbers → length numbers ≤ length is.listed
+  by_choice true numbers e = let none = ok_is {E = IndexRefusal} _ _ (sym (numbers_none (file is.opened.bytes)) ∙ e) in omega (arith, ap length none)
+  by_choice false numbers e =
+      by_rows (filter (decides m) is.opened.rows) (IsStrictlySortedBy-filter compare_rows (decides m) is.opened.rows (held_ascends is.opened.bytes is.opened.toc.postings_table is.opened.rows is.is_opened.rows_are))
+      (λ row has. of_filter (decides m) is.opened.rows row has) (λ row has. own_name m row (member_passes (decides m) is.opened.rows row has)) numbers e
+
+  pub no_more_than_all : (external : List Label) (numbers : List ℕ) → numbers_at (file is.opened.bytes) (deciding external is.opened.rows m) ≡ Ok numbers → length numbers ≤ length is.listed
+  no_more_than_all external numbers e = by_choice (is_some (value_of external m.name)) numbers e
