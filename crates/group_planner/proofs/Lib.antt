@@ -4,3 +4,7 @@ pub mod PartLaws
 pub mod SelectionLaws
 pub mod PlanLaws
 pub mod StretchStarts
+pub mod KeptOrder
+pub mod KeyOrders
+pub mod CutLaws
+pub mod GroupLaws

@@ -4,3 +4,5 @@ pub mod Overlaps
 pub mod Parts
 pub mod Selections
 pub mod Plans
+pub mod Groups
+pub mod Cuts

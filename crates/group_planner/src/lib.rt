@@ -2,13 +2,14 @@
 #![tactic(auto)]
 
 mod group;
+mod keyed;
 mod members;
 mod overlap;
 mod parts;
 mod planning;
 mod selection;
 
-pub use group::{Group, GroupList};
+pub use group::{Group, GroupList, groups};
 pub use members::{MetaList, UlidListList};
 pub use overlap::overlapping;
 pub use parts::split_by_range;

@@ -1,1 +1,5 @@
 mod Places
+mod EqualSources
+mod HolderLaws
+mod HolderPlaces
+mod Digests

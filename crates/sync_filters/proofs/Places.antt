@@ -1,10 +1,9 @@
 -- Searches among ascending ULIDs, and what a split is made of.
-use Rattle.std.proofs.Common.{◌≡◌, ◌≢◌, ℕ, ◌+◌, ◌-◌, ◌<◌, ◌≤◌, zero, suc, Bool, true, false, eqb, List, [], ◌∷◌, ◌++◌, length, get_or, take, map, append_assoc, refl, sym, ◌∙◌, ap, subst, arith, inl, inr, Result, Ok, Err, cond}
+use Rattle.std.proofs.Common.{◌≡◌, ℕ, ◌+◌, ◌-◌, ◌<◌, ◌≤◌, zero, suc, eqb, List, [], ◌∷◌, length, get_or, refl, sym, ◌∙◌, ap, subst, arith, inl, inr, Result, Ok, Err}
 use Rattle.std.specs.Prelude.{not, is_ok, IfOk}
 use Rattle.std.specs.List.{list_any, filter}
 use Rattle.std.specs.List.Sorted.{IsStrictlyIncreasing, IsBinarySearchResult, IsPermutation, IsNonDecreasingBy}
 use Rattle.std.specs.Ordering.{nat_cmp}
-use Rattle.std.specs.Result.{MatchResult}
 use Rattle.list_core.specs.declared.memory.NoMemory.{NoMemory}
 use Rattle.sync_filters.specs.Filters.{is_covered, Splits}
 use Rattle.sync_filters.specs.declared.found.Found.{Found}

@@ -1,5 +1,5 @@
 -- Which of the blocks that a sync finds it keeps.
-use Rattle.std.specs.Prelude.{◌≡◌, ℕ, pos, ◌+◌, ◌*◌, ◌/◌, ◌^◌, ◌==◌, nat_lt, nat_le, int_le, Bool, true, ◌&&◌, ◌||◌, not, List, length, Option, Some, None, codes}
+use Rattle.std.specs.Prelude.{◌≡◌, ℕ, pos, ◌+◌, ◌*◌, ◌/◌, ◌^◌, ◌==◌, nat_lt, nat_le, int_le, int_lt, ◌+ℤ◌, Bool, true, false, ◌&&◌, ◌||◌, not, List, length, Option, Some, None, codes}
 use Rattle.std.specs.List.{filter, list_any, list_all}
 use Rattle.std.specs.List.Sorted.{IsPermutation, IsNonDecreasingBy}
 use Rattle.std.specs.Ordering.{int_eq}
@@ -35,6 +35,11 @@ is_recent (Some mark) read delay = nat_le read.ms (1000 * mark.deletion_time + d
 -- no mark was found, or one that was not older than the delay
 abbrev pub is_unmarked : Found → Span → Bool
 is_unmarked found delay = is_recent found.mark found.mark_read delay
+
+-- a retention is set, no sample was dropped, and the moment is more than the retention after the block's end
+abbrev pub is_expired : Meta → Option Span → Moment → Bool
+is_expired meta None moment = false
+is_expired meta (Some retention) moment = int_eq meta.resolution (pos 0) && int_lt (meta.max_time +ℤ pos retention.ms) (pos moment.ms)
 
 -- each of the few is one of the many
 abbrev pub has_all : List ℕ → List ℕ → Bool

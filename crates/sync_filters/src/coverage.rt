@@ -1,8 +1,12 @@
-ghost use Rattle.std.specs.Prelude.{◌≡◌, ◌==◌, not, map, IfOk};
+ghost use Rattle.std.specs.Prelude.{◌≡◌, ◌==◌, pos, not, map, length, IfOk};
 ghost use Rattle.std.specs.List.{filter, list_any};
-ghost use Rattle.std.specs.List.Sorted.{IsStrictlyIncreasing, IsPermutation, IsNonDecreasingBy};
+ghost use Rattle.std.specs.List.Sorted.{IsStrictlyIncreasing, IsPermutation, IsNonDecreasingBy, IsSortedBy};
+ghost use Rattle.std.specs.Ordering.{int_eq};
 ghost use Rattle.sync_filters.specs.Filters.{is_better, is_covered as is_covered_by, has_more as has_more_than, has_all as has_each, Splits};
+ghost use Rattle.sync_filters.specs.Holders.{AreHolders, comes_before, covers_at, digest_alone, each_source};
 
+use crate::digest::digest;
+use crate::holders::{Holder, by_digest, by_source, fewest_larger, holders_of};
 use crate::{Found, FoundList};
 use block_meta::Meta;
 use list_core::NoMemory;
@@ -15,10 +19,17 @@ use ulid_core::Ulid;
 pub fn better(one: &Meta, other: &Meta) -> bool
     ensures { result ≡ is_better one.now other.now }
 {
-    one.resolution == 0
-        && other.resolution == 0
+    is_whole(one)
+        && is_whole(other)
         && has_more(one, other)
         && has_all(one.sources.members(), other.sources.members())
+}
+
+/// Whether no sample of the block was dropped.
+pub(crate) fn is_whole(meta: &Meta) -> bool
+    ensures { result ≡ int_eq meta.now.resolution (pos 0) }
+{
+    meta.resolution == 0
 }
 
 fn has_more(one: &Meta, other: &Meta) -> bool
@@ -44,7 +55,10 @@ fn has(ulids: &[Ulid], ulid: Ulid) -> bool
 
 /// Splits blocks into those that are kept and those that another one of them covers, each ascending by ULID.
 ///
-/// It compares each block with each other one.
+/// Blocks are looked up by their sources. One that covers another has the same sources, and then a digest of them leads to it; or
+/// it has more, and then it is among the larger blocks that have a source of the other: that source is taken which the fewest have.
+/// So the time is that of sorting all sources, and of comparing a block with these few. It grows beyond that only where each source
+/// of many blocks is one of many larger blocks too, of which none covers them.
 pub fn uncovered(alloc: Global, found: FoundList) -> Result<(FoundList, FoundList), NoMemory>
     ensures { IfOk result (λ split. Splits found split.0 split.1) }
 {
@@ -67,17 +81,55 @@ fn ascending(found: FoundList) -> Result<Vec<Found>, NoMemory>
 fn covered_places(alloc: Global, listed: &[Found]) -> Result<Vec<bool>, NoMemory>
     ensures { IfOk result (λ covered. covered.items ≡ map (is_covered_by listed.now) listed.now) }
 {
+    let equals = by_digest(alloc, listed)?;
+    let holders = by_source(alloc, listed)?;
     let mut covered = Vec::new(alloc);
     for block in listed {
-        covered.push(is_covered(listed, block))?;
+        covered.push(is_covered(listed, &equals, &holders, block))?;
     }
     Ok(covered)
 }
 
-fn is_covered(listed: &[Found], block: &Found) -> bool
+fn is_covered(listed: &[Found], equals: &[Holder], holders: &[Holder], block: &Found) -> bool
+    requires equals { AreHolders digest_alone (length listed.now) listed.now equals.now }
+    requires equals_sorted { IsSortedBy comes_before equals.now }
+    requires holders { AreHolders each_source (length listed.now) listed.now holders.now }
+    requires holders_sorted { IsSortedBy comes_before holders.now }
     ensures { result ≡ is_covered_by listed.now block.now }
 {
-    listed.iter().any(|other| better(&other.meta, &block.meta))
+    is_whole(&block.meta) && is_covered_by_some(listed, equals, holders, block)
+}
+
+fn is_covered_by_some(
+    listed: &[Found],
+    equals: &[Holder],
+    holders: &[Holder],
+    block: &Found,
+) -> bool
+    requires equals { AreHolders digest_alone (length listed.now) listed.now equals.now }
+    requires equals_sorted { IsSortedBy comes_before equals.now }
+    requires holders { AreHolders each_source (length listed.now) listed.now holders.now }
+    requires holders_sorted { IsSortedBy comes_before holders.now }
+    ensures { result ≡ is_covered_by listed.now block.now }
+{
+    let sources = block.meta.sources.members();
+    is_covered_by_one(listed, holders_of(equals, digest(sources)), block)
+        || is_covered_by_one(listed, fewest_larger(holders, sources), block)
+}
+
+fn is_covered_by_one(listed: &[Found], few: &[Holder], block: &Found) -> bool
+    ensures { result ≡ list_any (λ holder. covers_at listed.now block.now holder.place) few.now }
+{
+    few.iter().any(|holder| covers(listed, holder.place, block))
+}
+
+fn covers(listed: &[Found], place: usize, block: &Found) -> bool
+    ensures { result ≡ covers_at listed.now block.now place }
+{
+    match listed.get(place) {
+        Some(other) => better(&other.meta, &block.meta),
+        None => false,
+    }
 }
 
 fn split(

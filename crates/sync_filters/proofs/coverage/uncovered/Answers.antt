@@ -1,4 +1,3 @@
-use Rattle.std.proofs.Common.{◌≡◌}
 use Rattle.sync_filters.proofs.Places.{splits}
 use Rattle.sync_filters.proofs.coverage.uncovered.Goals as goal
 
