@@ -22,7 +22,7 @@ echo "index_c staticlib: list_core wire_bytes label_sets index_parts index_slice
 (cd "$own" && rt lib --cpu "$cpu" >"$made/lib.log" 2>&1) || { tail -20 "$made/lib.log"; exit 1; }
 
 sed '/^fn main() {$/,$d' "$limit" >"$made/index.rs"
-cat "$top/bench/index.rs" >>"$made/index.rs"
+cat "$top/bench/index_form.rs" "$top/bench/index.rs" >>"$made/index.rs"
 rustc --edition 2021 -C opt-level=3 -C target-cpu="${LIMIT_CPU:-native}" -A warnings -o "$made/index" "$made/index.rs" \
     -L "$own/out" -l static=index_c -C link-arg="$kit/c/liblibc_c.a"
 "$made/index" >"$made/lines"

@@ -22,8 +22,7 @@ echo "selection_c staticlib: list_core wire_bytes label_sets index_parts index_s
 (cd "$own" && rt lib --cpu "$cpu" >"$made/lib.log" 2>&1) || { tail -20 "$made/lib.log"; exit 1; }
 
 sed '/^fn main() {$/,$d' "$limit" >"$made/selection.rs"
-sed -n '/^fn put_number/,/^\/\/\/ How long writing/p' "$top/bench/index.rs" >>"$made/selection.rs"
-cat "$top/bench/selection.rs" >>"$made/selection.rs"
+cat "$top/bench/index_form.rs" "$top/bench/selection.rs" >>"$made/selection.rs"
 rustc --edition 2021 -C opt-level=3 -C target-cpu="${LIMIT_CPU:-native}" -A warnings -o "$made/selection" "$made/selection.rs" \
     -L "$own/out" -l static=selection_c -C link-arg="$kit/c/liblibc_c.a"
 "$made/selection" >"$made/lines"

@@ -1,5 +1,5 @@
 // The proved selection of series beside a tight loop over the same lists, on the same index in one run. Built by
-// run-selection.sh, which puts the yardstick's source and what writes an index in front of this file. Both sides have the
+// run-selection.sh, which puts the yardstick's source and index_form.rs in front of this file. Both sides have the
 // index opened before the clock starts, test the sum of each list that they read, and look at each row of a name once.
 
 unsafe extern "C" {
@@ -104,7 +104,7 @@ fn row(name: &str, count: usize, bytes: &[u8], selector: &str, tight: impl Fn() 
 
 fn main() {
     for count in [10_000usize, 100_000] {
-        let bytes = index_with(count, 4, pod_labels);
+        let bytes = index_of(&places_of(count, 4), pod_labels);
         let opened = Opened::new(&bytes);
         let equal = || {
             let mut left = opened.all();

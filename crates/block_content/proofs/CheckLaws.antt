@@ -1,7 +1,7 @@
 -- Which blocks pass: what the functions give is what the relations say.
 use Rattle.std.proofs.Common.{◌≡◌, ℕ, List, [], ◌∷◌, length, Bool, true, false, Result, Ok, Err, pos, refl, sym, ap, subst, ◌∙◌, ◌⊎◌, inl, inr}
-use Rattle.std.specs.Prelude.{IfErr, IsErrAnd, ◌≢◌, ◌==◌}
-use Rattle.std.specs.List.{AllByRecursion}
+use Rattle.std.specs.Prelude.{IfOk, IfErr, IsErrAnd, ◌≢◌, ◌==◌}
+use Rattle.std.specs.List.{AllByRecursion, AllZip}
 use Rattle.std.specs.Ordering.{int_eq}
 use Rattle.std.proofs.lemmas.Bool.Decides.{Decides-int_eq, Decides-eqb}
 use Rattle.reading_core.specs.Reading.{◌>>◌, unless, refused_as}
@@ -14,7 +14,7 @@ use Rattle.index_file.specs.IndexFile.{IsIndex}
 use Rattle.index_v2.specs.declared.refusal.IndexRefusal.{IndexRefusal}
 use Rattle.index_v2.specs.declared.refusal.IndexRefusal.TheVariants as index
 use Rattle.block_meta.specs.declared.meta.Meta.{Meta}
-use Rattle.block_content.specs.Firsts.{AreEach, IsFirstAt}
+use Rattle.block_content.specs.Firsts.{IsFirstAt}
 use Rattle.block_content.specs.Content.{HoldsSeries, IsContent}
 use Rattle.block_content.specs.ContentReading.{index_at, refused_index, chunked_at, contents_at, content_at}
 use Rattle.block_content.specs.ContentRefusals.{RefusesContent}
@@ -87,12 +87,12 @@ module _ (ulid : ℕ) (files : BlockFiles) where
 
 -- ---- whether there is a series
 
-some_of : {A B : Type 0} (Has : A → B → Type 0) (xs : List A) (ys : List B) → AreEach Has xs ys → ys ≢ [] → xs ≢ []
+some_of : {A B : Type 0} (Has : A → B → Type 0) (xs : List A) (ys : List B) → AllZip Has xs ys → ys ≢ [] → xs ≢ []
 some_of Has [] [] are some = λ e. some refl
 some_of Has [] (y ∷ ys) are some = absurd are
 some_of Has (x ∷ xs) ys are some = λ e. absurd cc
 
-some_with : {A B : Type 0} (Has : A → B → Type 0) (xs : List A) (ys : List B) → AreEach Has xs ys → xs ≢ [] → ys ≢ []
+some_with : {A B : Type 0} (Has : A → B → Type 0) (xs : List A) (ys : List B) → AllZip Has xs ys → xs ≢ [] → ys ≢ []
 some_with Has [] ys are some = absurd (some refl)
 some_with Has (x ∷ xs) [] are some = absurd are
 some_with Has (x ∷ xs) (y ∷ ys) are some = λ e. absurd cc
@@ -324,6 +324,10 @@ module _ (files : BlockFiles) (index : List ℕ) (segments : List (List ℕ)) (i
 pub stopped_with : {X : Type 0} (r : Result X CheckRefusal) (e d : CheckRefusal) → IsErrAnd r (λ x. x ≡ e) → e ≡ d → r ≡ Err d
 stopped_with (Ok x) e d is same = absurd is
 stopped_with (Err y) e d is same = ap (λ (x : CheckRefusal). Err x) (is ∙ same)
+
+pub stopped_not : {X : Type 0} (Q : X → Type 0) (r : Result X CheckRefusal) (e : CheckRefusal) → IsErrAnd r (λ x. x ≡ e) → IfOk r Q
+stopped_not Q (Ok x) e is = absurd is
+stopped_not Q (Err y) e is = tt
 
 pub stopped_why : {X : Type 0} (Q : CheckRefusal → Type 0) (r : Result X CheckRefusal) (e : CheckRefusal) → IsErrAnd r (λ x. x ≡ e) → Q e → IfErr r Q
 stopped_why Q (Ok x) e is q = absurd is

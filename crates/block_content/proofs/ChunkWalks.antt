@@ -1,7 +1,7 @@
 -- Walks over chunks and over series: what was read of the front, what is spent, and the first refusal.
 use Rattle.std.proofs.Common.{◌≡◌, ℕ, ◌+◌, ◌-◌, ◌*◌, ◌^◌, ◌<◌, ◌≤◌, min, List, [], ◌∷◌, ◌++◌, length, take, drop, map, get_or, sum_by, Result, Ok, Err, refl, sym, ap, subst, ◌∙◌, arith, ◌⊎◌, inl, inr}
 use Rattle.std.specs.Prelude.{IsErrAnd}
-use Rattle.std.specs.List.{AllByRecursion}
+use Rattle.std.specs.List.{AllByRecursion, AllZip}
 use Rattle.std.proofs.lemmas.List.{take_more, drop_more, append-nil, length-append, length-take-le, take-append-drop}
 use Rattle.std.proofs.lemmas.List.Sums.{sum_by-append, sum_by-cons}
 use Rattle.std.proofs.lemmas.List.Concat.{flat_map-append}
@@ -11,7 +11,7 @@ use Rattle.label_sets.specs.declared.sample.Sample.{Sample}
 use Rattle.label_sets.specs.declared.series.Series.{Series}
 use Rattle.index_parts.specs.declared.chunk_place.ChunkPlace.{ChunkPlace}
 use Rattle.index_file.specs.declared.index_series.IndexSeries.{IndexSeries}
-use Rattle.block_content.specs.Firsts.{AreEach, each_at}
+use Rattle.block_content.specs.Firsts.{each_at}
 use Rattle.block_content.specs.ContentReading.{chunk_at, chunk_bytes, chunks_at, series_bytes, joined, series_of, list_of, fitted, refused_cause, refused_chunk, WalksSeries}
 use Rattle.xor_chunks.specs.declared.refusal.XorRefusal.TheVariants as xor
 use Rattle.block_content.specs.declared.chunk_cause.ChunkCause.{ChunkCause}
@@ -103,7 +103,7 @@ pub record SeriesSoFar (segments : List (List ℕ)) (indexed : List IndexSeries)
   pub read : each_at (chunks_at segments) indexed ≡ Ok parts
   pub made_are : made ≡ list_of indexed parts
   pub spent : left + sum_by (series_bytes segments) indexed ≡ budget
-  pub few : AreEach (λ (one : IndexSeries) (made : Series). length made.samples ≤ 8 * series_bytes segments one) indexed made
+  pub few : AllZip (λ (one : IndexSeries) (made : Series). length made.samples ≤ 8 * series_bytes segments one) indexed made
   pub number : series ≡ fitted (length indexed)
 
 pub list_of_more : (indexed : List IndexSeries) (parts : List (List (List Sample))) (one : IndexSeries) (first : List (List Sample)) → length indexed ≡ length parts → list_of (indexed ++ one ∷ []) (parts ++ first ∷ []) ≡ list_of indexed parts ++ series_of one first ∷ []
@@ -113,7 +113,7 @@ list_of_more [] (p ∷ parts) one first many = absurd (omega (arith, many))
 list_of_more (x ∷ indexed) [] one first many = absurd (omega (arith, many))
 list_of_more (x ∷ indexed) (p ∷ parts) one first many = ap (λ (t : List Series). series_of x p ∷ t) (list_of_more indexed parts one first (omega (arith, many)))
 
-each_pushed : {A B : Type 0} (Has : A → B → Type 0) (xs : List A) (ys : List B) (x : A) (y : B) → AreEach Has xs ys → Has x y → AreEach Has (xs ++ x ∷ []) (ys ++ y ∷ [])
+each_pushed : {A B : Type 0} (Has : A → B → Type 0) (xs : List A) (ys : List B) (x : A) (y : B) → AllZip Has xs ys → Has x y → AllZip Has (xs ++ x ∷ []) (ys ++ y ∷ [])
 each_pushed Has [] [] x y are has = (has, tt)
 each_pushed Has [] (b ∷ ys) x y are has = absurd are
 each_pushed Has (a ∷ xs) [] x y are has = absurd are

@@ -3,7 +3,7 @@ use Rattle.std.proofs.Common.{◌≡◌, ℕ, List, [], ◌∷◌, Option, None,
 use Rattle.std.specs.Prelude.{◌≢◌, IfOk, IfErr}
 use Rattle.std.specs.Result.{IsOkAnd}
 use Rattle.index_parts.proofs.ListLaws.{found_from, only_from}
-use Rattle.std.specs.List.{AllByRecursion}
+use Rattle.std.specs.List.{AllByRecursion, AllZip}
 use Rattle.list_core.proofs.Lists.{cons_same}
 use Rattle.reading_core.specs.Reading.{◌>>◌, refused_as, Gives}
 use Rattle.reading_core.specs.Grammar.{IsBytes}
@@ -16,7 +16,7 @@ use Rattle.index_file.specs.declared.index_series.IndexSeries.{IndexSeries}
 use Rattle.index_file.specs.IndexFile.{IsIndex}
 use Rattle.index_v2.specs.declared.refusal.IndexRefusal.{IndexRefusal}
 use Rattle.index_v2.specs.declared.refusal.IndexRefusal.TheVariants as index
-use Rattle.block_content.specs.Firsts.{AreEach, IsFirstAt, each_at, first_at}
+use Rattle.block_content.specs.Firsts.{IsFirstAt, each_at, first_at}
 use Rattle.block_content.specs.Content.{IsChunkOf, HoldsSeries, AreWithin, IsContent}
 use Rattle.block_content.specs.ContentReading.{chunk_at, chunks_at, joined, series_of, list_of, first_outside, repeated_in, fitted, refused_index, refused_cause, refused_chunk, refused_time, refused_order, unless_found, index_at, tested_at, chunked_at, contents_at, content_at, AreFew}
 use Rattle.block_content.specs.ContentRefusals.{RefusesChunk, IsChunk, IsFirstBadChunk, HasBadChunk, HasOutside, HasRepeated, RefusesContent}
@@ -33,10 +33,10 @@ use Rattle.block_content.proofs.TimesAndOrder.{index_found, index_again, times_f
 
 -- all chunks of the series are read as these
 abbrev pub AreParts : List (List ℕ) → List IndexSeries → List (List (List Sample)) → Type 0
-AreParts segments indexed parts = AreEach (λ (one : IndexSeries) (first : List (List Sample)). AreEach (IsChunkOf segments) one.chunks first) indexed parts
+AreParts segments indexed parts = AllZip (λ (one : IndexSeries) (first : List (List Sample)). AllZip (IsChunkOf segments) one.chunks first) indexed parts
 
 module _ (segments : List (List ℕ)) (are : AllByRecursion IsBytes segments) where
-  series_tells : Tells (chunks_at segments) (λ one first. AreEach (IsChunkOf segments) one.chunks first) (λ one (r : ℕ × ChunkCause). IsFirstAt (IsChunk segments) (λ place. RefusesChunk segments place r.1) one.chunks r.0)
+  series_tells : Tells (chunks_at segments) (λ one first. AllZip (IsChunkOf segments) one.chunks first) (λ one (r : ℕ × ChunkCause). IsFirstAt (IsChunk segments) (λ place. RefusesChunk segments place r.1) one.chunks r.0)
   series_tells =
       let t = each_tells (chunk_at segments) (IsChunkOf segments) (RefusesChunk segments) (chunk_tells segments are) in
       record { found = λ one first e. t.found one.chunks first e; again = λ one first is. t.again one.chunks first is; refused = λ one r e. t.refused one.chunks r e; refuses = λ one r is. t.refuses one.chunks r is }
@@ -46,7 +46,7 @@ module _ (segments : List (List ℕ)) (are : AllByRecursion IsBytes segments) wh
       let t = each_tells (chunks_at segments) _ _ series_tells in
       record { found = t.found; again = t.again; refused = t.refused; refuses = t.refuses }
 
-pub held_found : (segments : List (List ℕ)) (indexed : List IndexSeries) (parts : List (List (List Sample))) → AreParts segments indexed parts → AreEach (HoldsSeries segments) indexed (list_of indexed parts)
+pub held_found : (segments : List (List ℕ)) (indexed : List IndexSeries) (parts : List (List (List Sample))) → AreParts segments indexed parts → AllZip (HoldsSeries segments) indexed (list_of indexed parts)
 unfolding list_of
 held_found segments [] [] are = tt
 held_found segments [] (first ∷ parts) are = absurd are
@@ -57,7 +57,7 @@ held_found segments (one ∷ indexed) (first ∷ parts) are =
 same_series : (series : Series) (one : IndexSeries) (parts : List (List Sample)) → series.labels ≡ one.labels → series.samples ≡ joined parts → series ≡ series_of one parts
 same_series series one parts e f = ap (λ (t : List Label). record { labels = t; samples = series.samples }) e ∙ ap (λ (t : List Sample). record { labels = one.labels; samples = t }) f
 
-pub held_again : (segments : List (List ℕ)) (indexed : List IndexSeries) (list : List Series) → AreEach (HoldsSeries segments) indexed list → (parts : List (List (List Sample))) × AreParts segments indexed parts × (list ≡ list_of indexed parts)
+pub held_again : (segments : List (List ℕ)) (indexed : List IndexSeries) (list : List Series) → AllZip (HoldsSeries segments) indexed list → (parts : List (List (List Sample))) × AreParts segments indexed parts × (list ≡ list_of indexed parts)
 unfolding list_of
 held_again segments [] [] are = ([], tt, refl)
 held_again segments [] (series ∷ list) are = absurd are
@@ -148,7 +148,7 @@ module _ (files : BlockFiles) (bytes : IsBytes files.index) (are : AllByRecursio
 
   -- refusals
 
-  tested_refused : (indexed : List IndexSeries) (list : List Series) (refusal : CheckRefusal) → IsIndex files.index indexed → AreEach (HoldsSeries files.segments) indexed list → tested_at files.meta indexed list ≡ Err refusal → RefusesContent files refusal
+  tested_refused : (indexed : List IndexSeries) (list : List Series) (refusal : CheckRefusal) → IsIndex files.index indexed → AllZip (HoldsSeries files.segments) indexed list → tested_at files.meta indexed list ≡ Err refusal → RefusesContent files refusal
   unfolding tested_at
   tested_refused indexed list refusal is held e =
       elim (found_parts refused_time (first_at (first_outside files.meta) list) (unless_found refused_order (first_at repeated_in indexed) >> Ok list) refusal e) [

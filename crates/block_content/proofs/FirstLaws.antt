@@ -1,11 +1,11 @@
 -- Lists whose members are read or tested one by one: what the functions give is what the relations say.
 use Rattle.std.proofs.Common.{◌≡◌, ℕ, zero, suc, List, [], ◌∷◌, ◌++◌, length, Option, None, Some, Result, Ok, Err, refl, sym, ap, subst, ◌∙◌, get_or, ◌+◌, ◌<◌, ◌≤◌, ◌⊎◌, inl, inr, arith}
 use Rattle.std.specs.Prelude.{slice_get, take, drop, option_map}
-use Rattle.std.specs.List.{AllByRecursion}
+use Rattle.std.specs.List.{AllByRecursion, AllZip}
 use Rattle.std.proofs.lemmas.List.{take_more, take_all, drop_more, length-take-le, take-append-drop}
 use Rattle.reading_core.specs.Reading.{◌>>=◌, refused_as}
 use Rattle.reading_core.proofs.Binds.{bind_ok, ok_is, refused_as_ok}
-use Rattle.block_content.specs.Firsts.{AreEach, IsFirstAt, each_at, or_else, first_at}
+use Rattle.block_content.specs.Firsts.{IsFirstAt, each_at, or_else, first_at}
 
 pub some_is : {A : Type 0} (x y : A) → ◌≡◌ {A = Option A} (Some x) (Some y) → x ≡ y
 some_is x y e = cc
@@ -43,16 +43,16 @@ refused_parts (Ok y) (Err s) r h = inr (y, s, refl, refl, cc)
 refused_parts (Ok y) (Ok ys) r h = absurd cc
 
 module _ {A B E : Type 0} (read : A → Result B E) (Good : A → B → Type 0) (Bad : A → E → Type 0) (tells : Tells read Good Bad) where
-  pub each_found : (xs : List A) (ys : List B) → each_at read xs ≡ Ok ys → AreEach Good xs ys
+  pub each_found : (xs : List A) (ys : List B) → each_at read xs ≡ Ok ys → AllZip Good xs ys
   unfolding each_at
-  each_found [] ys e = subst (λ (zs : List B). AreEach Good [] zs) (ok_is {E = ℕ × E} _ _ e) tt
+  each_found [] ys e = subst (λ (zs : List B). AllZip Good [] zs) (ok_is {E = ℕ × E} _ _ e) tt
   each_found (x ∷ xs) ys e =
       let one = bind_ok _ _ _ e in
       let others = bind_ok _ _ _ one.2 in
-      let pair : AreEach Good (x ∷ xs) (one.0 ∷ others.0) = (tells.found x one.0 (refused_as_ok _ _ _ one.1), each_found xs others.0 (refused_as_ok _ _ _ others.1)) in
-      subst (λ (zs : List B). AreEach Good (x ∷ xs) zs) (ok_is {E = ℕ × E} (one.0 ∷ others.0) ys others.2) pair
+      let pair : AllZip Good (x ∷ xs) (one.0 ∷ others.0) = (tells.found x one.0 (refused_as_ok _ _ _ one.1), each_found xs others.0 (refused_as_ok _ _ _ others.1)) in
+      subst (λ (zs : List B). AllZip Good (x ∷ xs) zs) (ok_is {E = ℕ × E} (one.0 ∷ others.0) ys others.2) pair
 
-  pub each_again : (xs : List A) (ys : List B) → AreEach Good xs ys → each_at read xs ≡ Ok ys
+  pub each_again : (xs : List A) (ys : List B) → AllZip Good xs ys → each_at read xs ≡ Ok ys
   unfolding each_at
   each_again [] [] are = refl
   each_again [] (y ∷ ys) are = absurd are
@@ -80,7 +80,7 @@ module _ {A B E : Type 0} (read : A → Result B E) (Good : A → B → Type 0) 
       rw (tells.again x parts.0.0 parts.0.1, each_refuses xs k e parts.1) refl
 
   -- so a list of lists is told by what tells its members
-  pub each_tells : Tells (each_at read) (AreEach Good) (λ (xs : List A) (r : ℕ × E). IsFirstAt (λ z. (y : B) × Good z y) (λ z. Bad z r.1) xs r.0)
+  pub each_tells : Tells (each_at read) (AllZip Good) (λ (xs : List A) (r : ℕ × E). IsFirstAt (λ z. (y : B) × Good z y) (λ z. Bad z r.1) xs r.0)
   each_tells = record { found = each_found; again = each_again; refused = each_refused; refuses = λ xs r is. each_refuses xs r.0 r.1 is }
 
 -- ---- testing

@@ -1,6 +1,6 @@
 -- What a block's files hold, apart from how it is read: series, each with its labels and its samples.
 use Rattle.std.specs.Prelude.{◌≡◌, ℕ, ◌-◌, List, length, map, slice_get, Option, None, Some, ℤ, ◌<ℤ◌, ◌≤ℤ◌}
-use Rattle.std.specs.List.{AllByRecursion, flat_map}
+use Rattle.std.specs.List.{AllByRecursion, flat_map, AllZip}
 use Rattle.label_sets.specs.declared.sample.Sample.{Sample}
 use Rattle.label_sets.specs.declared.series.Series.{Series}
 use Rattle.xor_chunks.specs.Grammar.{IsText}
@@ -10,7 +10,6 @@ use Rattle.index_parts.specs.declared.chunk_place.ChunkPlace.{ChunkPlace}
 use Rattle.index_file.specs.declared.index_series.IndexSeries.{IndexSeries}
 use Rattle.index_file.specs.IndexFile.{IsIndex}
 use Rattle.block_meta.specs.declared.meta.Meta.{Meta}
-use Rattle.block_content.specs.Firsts.{AreEach}
 use Rattle.block_files.specs.declared.block_files.BlockFiles.{BlockFiles}
 
 -- ---- a chunk
@@ -41,7 +40,7 @@ pub record IsChunkOf (segments : List (List ℕ)) (place : ChunkPlace) (samples 
 -- A series has the labels that the index tells, and the samples of its chunks one after another.
 pub record HoldsSeries (segments : List (List ℕ)) (indexed : IndexSeries) (series : Series) : Type 0 where
   pub parts : List (List Sample)
-  pub chunks_are : AreEach (IsChunkOf segments) indexed.chunks parts
+  pub chunks_are : AllZip (IsChunkOf segments) indexed.chunks parts
   pub labels_are : series.labels ≡ indexed.labels
   pub samples_are : series.samples ≡ flat_map (λ part. part) parts
 
@@ -68,6 +67,6 @@ AreWithin meta series = AllByRecursion (IsWithin meta) series.samples
 pub record IsContent (files : BlockFiles) (list : List Series) : Type 0 where
   pub indexed : List IndexSeries
   pub index_is : IsIndex files.index indexed
-  pub series_are : AreEach (HoldsSeries files.segments) indexed list
+  pub series_are : AllZip (HoldsSeries files.segments) indexed list
   pub within : AllByRecursion (AreWithin files.meta) list
   pub apart : AllByRecursion IsApart indexed

@@ -1,6 +1,6 @@
 -- What reading a block's content gives, or the first refusal.
 use Rattle.std.specs.Prelude.{ℕ, ◌*◌, ◌≤◌, ◌-◌, ◌^◌, min, sum_by, List, [], ◌∷◌, length, slice_get, Option, None, Some, option_map, Bool, true, false, ◌&&◌, Result, Ok, Err, ◌≡◌, ◌⊎◌, MatchResult, ℤ, ◌≤ℤ◌, int_lt, int_le, if◌then◌else◌}
-use Rattle.std.specs.List.{AllByRecursion, flat_map}
+use Rattle.std.specs.List.{AllByRecursion, flat_map, AllZip}
 use Rattle.std.specs.Ordering.{int_eq}
 use Rattle.reading_core.specs.Reading.{◌>>=◌, ◌>>◌, unless, refused_as}
 use Rattle.label_sets.specs.declared.sample.Sample.{Sample}
@@ -18,7 +18,7 @@ use Rattle.index_v2.specs.Held.{whole_file}
 use Rattle.index_v2.specs.Opening.{opened_at}
 use Rattle.index_v2.specs.WholeReading.{whole_at}
 use Rattle.block_meta.specs.declared.meta.Meta.{Meta}
-use Rattle.block_content.specs.Firsts.{AreEach, each_at, first_at}
+use Rattle.block_content.specs.Firsts.{each_at, first_at}
 use Rattle.block_files.specs.declared.block_files.BlockFiles.{BlockFiles}
 use Rattle.block_content.specs.declared.chunk_cause.ChunkCause.{ChunkCause}
 use Rattle.block_content.specs.declared.chunk_cause.ChunkCause.TheVariants.{File, Data, NoSamples, TimesDiffer}
@@ -80,7 +80,7 @@ series_bytes segments indexed = sum_by (chunk_bytes segments) indexed.chunks
 -- No series has more than eight samples for each byte of its chunks, and these bytes together are no more than eight for each
 -- byte of the segments.
 pub record AreFew (segments : List (List ℕ)) (indexed : List IndexSeries) (list : List Series) : Type 0 where
-  pub each : AreEach (λ (one : IndexSeries) (series : Series). length series.samples ≤ 8 * series_bytes segments one) indexed list
+  pub each : AllZip (λ (one : IndexSeries) (series : Series). length series.samples ≤ 8 * series_bytes segments one) indexed list
   pub together : sum_by (series_bytes segments) indexed ≤ 8 * sum_by length segments
 
 -- ---- the chunks of the block

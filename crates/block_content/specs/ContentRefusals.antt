@@ -1,6 +1,6 @@
 -- Why a block's files are refused: the first cause in the order index, chunks, times, order of chunks, each of the whole block.
 use Rattle.std.specs.Prelude.{◌≡◌, ◌≢◌, ℕ, List, [], Err, ℤ}
-use Rattle.std.specs.List.{AllByRecursion}
+use Rattle.std.specs.List.{AllByRecursion, AllZip}
 use Rattle.label_sets.specs.declared.sample.Sample.{Sample}
 use Rattle.label_sets.specs.declared.series.Series.{Series}
 use Rattle.xor_chunks.specs.Grammar.{IsText}
@@ -11,7 +11,7 @@ use Rattle.index_file.specs.declared.index_series.IndexSeries.{IndexSeries}
 use Rattle.index_file.specs.IndexFile.{IsIndex}
 use Rattle.index_v2.specs.declared.refusal.IndexRefusal.TheVariants as index
 use Rattle.block_meta.specs.declared.meta.Meta.{Meta}
-use Rattle.block_content.specs.Firsts.{AreEach, IsFirstAt}
+use Rattle.block_content.specs.Firsts.{IsFirstAt}
 use Rattle.block_content.specs.Content.{StandsAt, HaveTimesOf, IsChunkOf, HoldsSeries, IsApart, IsWithin, AreWithin}
 use Rattle.block_content.specs.ContentReading.{index_at, data_of, fitted}
 use Rattle.block_files.specs.declared.block_files.BlockFiles.{BlockFiles}
@@ -37,7 +37,7 @@ IsChunk segments place = (samples : List Sample) × IsChunkOf segments place sam
 
 -- each chunk of the series has samples
 abbrev pub AreChunks : List (List ℕ) → IndexSeries → Type 0
-AreChunks segments indexed = (parts : List (List Sample)) × AreEach (IsChunkOf segments) indexed.chunks parts
+AreChunks segments indexed = (parts : List (List Sample)) × AllZip (IsChunkOf segments) indexed.chunks parts
 
 -- ---- the first of its kind in the block
 
@@ -76,7 +76,7 @@ pub record HasOutside (files : BlockFiles) (series : ℕ) (time : ℤ) : Type 0 
   pub indexed : List IndexSeries
   pub list : List Series
   pub index_is : IsIndex files.index indexed
-  pub series_are : AreEach (HoldsSeries files.segments) indexed list
+  pub series_are : AllZip (HoldsSeries files.segments) indexed list
   pub at_series : ℕ
   pub first : IsFirstOutside files.meta list at_series time
   pub series_is : series ≡ fitted at_series
@@ -86,7 +86,7 @@ pub record HasRepeated (files : BlockFiles) (series : ℕ) : Type 0 where
   pub indexed : List IndexSeries
   pub list : List Series
   pub index_is : IsIndex files.index indexed
-  pub series_are : AreEach (HoldsSeries files.segments) indexed list
+  pub series_are : AllZip (HoldsSeries files.segments) indexed list
   pub within : AllByRecursion (AreWithin files.meta) list
   pub at_series : ℕ
   pub first : IsFirstRepeated indexed at_series

@@ -5,13 +5,6 @@ use Rattle.reading_core.specs.Reading.{◌>>=◌, refused_as}
 
 -- ---- relations
 
--- the members of two lists belong together, each to its own
-abbrev pub AreEach : {A B : Type 0} → (A → B → Type 0) → List A → List B → Type 0
-AreEach BelongTogether [] [] = Unit {0}
-AreEach BelongTogether [] (y ∷ ys) = ⊥
-AreEach BelongTogether (x ∷ xs) [] = ⊥
-AreEach BelongTogether (x ∷ xs) (y ∷ ys) = BelongTogether x y × AreEach BelongTogether xs ys
-
 -- The member at a place is bad, and all before it are good.
 pub record IsFirstAt {A : Type 0} (Good Bad : A → Type 0) (list : List A) (place : ℕ) : Type 0 where
   pub member : A

@@ -20,4 +20,5 @@ pub mod ContentRefusals
 pub mod Checking
 pub mod CheckReading
 pub mod Checked
+pub mod Verdict
 pub mod Shipped

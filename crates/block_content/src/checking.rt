@@ -8,8 +8,8 @@ ghost use Rattle.label_sets.specs.declared.series.Series.{Series};
 ghost use Rattle.label_sets.specs.Counts.{sample_count};
 ghost use Rattle.block_content.specs.Firsts.{or_else, first_at};
 ghost use Rattle.block_content.specs.ContentReading.{index_at, joined, list_of, first_time, first_outside, lies_within, LieBetween, WalksChunks, WalksSeries};
-ghost use Rattle.block_content.specs.Checked.{checked_files, checked_series, checked_samples};
-ghost use Rattle.block_content.specs.Checking.{Passes, HasPassed, RefusesBlock};
+ghost use Rattle.block_content.specs.Verdict.{IsVerdict};
+ghost use Rattle.block_content.specs.Checking.{HasPassed};
 ghost use Rattle.block_content.specs.CheckReading.{is_alone, own_at, some_at, check_at, indexed_at, found_at, IsFirstFound, HaveCounts};
 
 use crate::chunk_reading::{append_chunk, refused_chunk};
@@ -250,19 +250,7 @@ fn count_indexed(
 
 /// Tests whether a block may be shipped under a ULID. The files of a refused block are dropped.
 pub fn check(alloc: Global, ulid: Ulid, files: BlockFiles) -> Result<Checked, CheckRefusal>
-    // A block that passes is handed back with its counts, and no other is.
-    ensures found { IfOk result (λ checked. (checked_files checked ≡ files)
-        × HasPassed ulid files (checked_series checked) (checked_samples checked)) }
-    ensures passes { (list : List Series) → Passes ulid files list
-        → IsOkAnd result (λ checked. (checked_files checked ≡ files)
-        × (checked_series checked ≡ length list) × (checked_samples checked ≡ sample_count list))
-        ⊎ (result ≡ Err CheckRefusal.NoMemory) }
-
-    // A refusal is the first of the whole block.
-    ensures refused { IfErr result
-        (λ refusal. (refusal ≡ CheckRefusal.NoMemory) ⊎ RefusesBlock ulid files refusal) }
-    ensures refuses { (refusal : CheckRefusal) → RefusesBlock ulid files refusal
-        → (result ≡ Err refusal) ⊎ (result ≡ Err CheckRefusal.NoMemory) }
+    ensures { IsVerdict ulid files result }
 {
     let (series, samples) = count_block(
         alloc,
@@ -283,19 +271,7 @@ pub fn check_indexed(
 ) -> Result<Checked, CheckRefusal>
     requires bytes { IsBytes files.index }
     requires read { index_at files.index ≡ Ok indexed.now }
-    // A block that passes is handed back with its counts, and no other is.
-    ensures found { IfOk result (λ checked. (checked_files checked ≡ files)
-        × HasPassed ulid files (checked_series checked) (checked_samples checked)) }
-    ensures passes { (list : List Series) → Passes ulid files list
-        → IsOkAnd result (λ checked. (checked_files checked ≡ files)
-        × (checked_series checked ≡ length list) × (checked_samples checked ≡ sample_count list))
-        ⊎ (result ≡ Err CheckRefusal.NoMemory) }
-
-    // A refusal is the first of the whole block.
-    ensures refused { IfErr result
-        (λ refusal. (refusal ≡ CheckRefusal.NoMemory) ⊎ RefusesBlock ulid files refusal) }
-    ensures refuses { (refusal : CheckRefusal) → RefusesBlock ulid files refusal
-        → (result ≡ Err refusal) ⊎ (result ≡ Err CheckRefusal.NoMemory) }
+    ensures { IsVerdict ulid files result }
 {
     let (series, samples) = count_indexed(
         alloc,

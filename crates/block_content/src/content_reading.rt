@@ -1,14 +1,14 @@
 //! What a block's files hold.
 ghost use Rattle.std.specs.Prelude.{◌≡◌, ◌⊎◌, ◌+◌, ◌*◌, ◌≤◌, ℕ, List, length, sum_by, FitsSigned, None, Some, Ok, Err, IfOk, IfErr, IfSome, MatchOption};
 ghost use Rattle.std.specs.Int.{w64};
-ghost use Rattle.std.specs.List.{AllByRecursion};
+ghost use Rattle.std.specs.List.{AllByRecursion, AllZip};
 ghost use Rattle.std.specs.Result.{IsOkAnd};
 ghost use Rattle.reading_core.specs.Grammar.{IsBytes};
 ghost use Rattle.reading_core.specs.Reading.{Gives, refused_as};
 ghost use Rattle.label_sets.specs.declared.series.Series.{Series};
 ghost use Rattle.index_file.specs.declared.index_series.IndexSeries.{IndexSeries};
 ghost use Rattle.index_file.specs.IndexFile.{IsIndex};
-ghost use Rattle.block_content.specs.Firsts.{AreEach, first_at};
+ghost use Rattle.block_content.specs.Firsts.{first_at};
 ghost use Rattle.block_content.specs.Content.{IsContent};
 ghost use Rattle.block_content.specs.ContentRefusals.{RefusesContent};
 ghost use Rattle.block_content.specs.ContentReading.{index_at, refused_index, joined, list_of, series_bytes, chunk_bytes, is_within, first_time, first_outside, begins_after, follow, repeated_in, fitted, contents_at, content_at, AreFew, WalksChunks, WalksSeries};
@@ -105,7 +105,7 @@ fn all_series(
 ) -> Result<Vec<Series>, CheckRefusal>
     ensures read { WalksSeries segments.now indexed.items
         (λ made parts. made.items ≡ list_of indexed.items parts) result }
-    ensures few { IfOk result (λ made. AreEach (λ one series. length series.samples
+    ensures few { IfOk result (λ made. AllZip (λ one series. length series.samples
         ≤ 8 * series_bytes segments.now one) indexed.items made.items) }
     ensures spent { IfOk result
         (λ made. sum_by (series_bytes segments.now) indexed.items ≤ budget) }

@@ -1,7 +1,7 @@
 -- The files of what was put hold the series for which it stands, and no others.
 use Rattle.std.proofs.Common.{◌≡◌, ℕ, List, [], ◌∷◌, Some, refl, sym, ap, subst, ◌∙◌, ℤ}
 use Rattle.std.specs.Prelude.{◌≤ℤ◌, ◌<ℤ◌}
-use Rattle.std.specs.List.{flat_map, AllByRecursion}
+use Rattle.std.specs.List.{flat_map, AllByRecursion, AllZip}
 use Rattle.list_core.proofs.Lists.{AllByRecursion-append, AllByRecursion-weaker}
 use Rattle.reading_core.proofs.Binds.{ok_is}
 use Rattle.label_sets.specs.declared.sample.Sample.{Sample}
@@ -14,7 +14,6 @@ use Rattle.xor_chunks.specs.declared.refusal.XorRefusal.{XorRefusal}
 use Rattle.index_parts.specs.declared.chunk_place.ChunkPlace.{ChunkPlace}
 use Rattle.index_file.specs.declared.index_series.IndexSeries.{IndexSeries}
 use Rattle.block_files.specs.declared.block_files.BlockFiles.{BlockFiles}
-use Rattle.block_writing.specs.Each.{AreEach}
 use Rattle.block_writing.specs.Put.{PutChunk, PutSeries, PlanFields, Put, IsWithin, IsStored, IsEnded, IsPut}
 use Rattle.block_writing.specs.WrittenMeta.{meta_with, IsWritten}
 use Rattle.block_writing.specs.Built.{IsEncoded, IsPutAs, IsBuilt}
@@ -51,7 +50,7 @@ part_within plan chunk part stored text = subst (AllByRecursion (IsWithin plan))
 abbrev StandsFor : PutChunk → List Sample → Type 0
 StandsFor chunk part = IsText 8 chunk.content part
 
-chunks_held : (plan : PlanFields) (segments : List (List ℕ)) (chunks : List PutChunk) (places : List ChunkPlace) (parts : List (List Sample)) → AllByRecursion (IsStored plan) chunks → AreEach (IsAt segments) chunks places → AreEach StandsFor chunks parts → first.AreEach (IsChunkOf segments) places parts
+chunks_held : (plan : PlanFields) (segments : List (List ℕ)) (chunks : List PutChunk) (places : List ChunkPlace) (parts : List (List Sample)) → AllByRecursion (IsStored plan) chunks → AllZip (IsAt segments) chunks places → AllZip StandsFor chunks parts → first.AllZip (IsChunkOf segments) places parts
 chunks_held plan segments [] [] [] stored each texts = tt
 chunks_held plan segments [] (p ∷ places) parts stored each texts = absurd each
 chunks_held plan segments [] [] (x ∷ parts) stored each texts = absurd texts
@@ -59,7 +58,7 @@ chunks_held plan segments (c ∷ chunks) [] parts stored each texts = absurd eac
 chunks_held plan segments (c ∷ chunks) (p ∷ places) [] stored each texts = absurd texts
 chunks_held plan segments (c ∷ chunks) (p ∷ places) (x ∷ parts) stored each texts = (chunk_held plan segments c p x stored.0 each.0 texts.0, chunks_held plan segments chunks places parts stored.1 each.1 texts.1)
 
-samples_within : (plan : PlanFields) (chunks : List PutChunk) (parts : List (List Sample)) → AllByRecursion (IsStored plan) chunks → AreEach StandsFor chunks parts → AllByRecursion (IsWithin plan) (flat_map (λ part. part) parts)
+samples_within : (plan : PlanFields) (chunks : List PutChunk) (parts : List (List Sample)) → AllByRecursion (IsStored plan) chunks → AllZip StandsFor chunks parts → AllByRecursion (IsWithin plan) (flat_map (λ part. part) parts)
 samples_within plan [] [] stored texts = tt
 samples_within plan [] (x ∷ parts) stored texts = absurd texts
 samples_within plan (c ∷ chunks) [] stored texts = absurd texts
@@ -78,7 +77,7 @@ series_within plan put series ended is = subst (AllByRecursion (IsWithin plan)) 
 
 -- ---- all series
 
-all_held : (plan : PlanFields) (segments : List (List ℕ)) (puts : List PutSeries) (indexed : List IndexSeries) (list : List Series) → AllByRecursion (IsEnded plan) puts → AreEach (IsPlaced segments) puts indexed → AreSeriesOf puts list → first.AreEach (HoldsSeries segments) indexed list
+all_held : (plan : PlanFields) (segments : List (List ℕ)) (puts : List PutSeries) (indexed : List IndexSeries) (list : List Series) → AllByRecursion (IsEnded plan) puts → AllZip (IsPlaced segments) puts indexed → AreSeriesOf puts list → first.AllZip (HoldsSeries segments) indexed list
 all_held plan segments [] [] [] ended each are = tt
 all_held plan segments [] (i ∷ indexed) list ended each are = absurd each
 all_held plan segments [] [] (s ∷ list) ended each are = absurd are
@@ -92,7 +91,7 @@ all_within plan [] (s ∷ list) ended are = absurd are
 all_within plan (p ∷ puts) [] ended are = absurd are
 all_within plan (p ∷ puts) (s ∷ list) ended are = (series_within plan p s ended.0 are.0, all_within plan puts list ended.1 are.1)
 
-all_apart : (plan : PlanFields) (segments : List (List ℕ)) (puts : List PutSeries) (indexed : List IndexSeries) → AllByRecursion (IsEnded plan) puts → AreEach (IsPlaced segments) puts indexed → AllByRecursion IsApart indexed
+all_apart : (plan : PlanFields) (segments : List (List ℕ)) (puts : List PutSeries) (indexed : List IndexSeries) → AllByRecursion (IsEnded plan) puts → AllZip (IsPlaced segments) puts indexed → AllByRecursion IsApart indexed
 all_apart plan segments [] [] ended each = tt
 all_apart plan segments [] (i ∷ indexed) ended each = absurd each
 all_apart plan segments (p ∷ puts) [] ended each = absurd each
@@ -132,7 +131,7 @@ content_once files list other bytes is too =
 
 -- ---- what was put stands for series
 
-some_parts : (plan : PlanFields) (chunks : List PutChunk) → AllByRecursion (IsStored plan) chunks → (parts : List (List Sample)) × AreEach StandsFor chunks parts
+some_parts : (plan : PlanFields) (chunks : List PutChunk) → AllByRecursion (IsStored plan) chunks → (parts : List (List Sample)) × AllZip StandsFor chunks parts
 some_parts plan [] stored = ([], tt)
 some_parts plan (c ∷ chunks) stored = let others = some_parts plan chunks stored.1 in (stored.0.samples ∷ others.0, (stored.0.text_is, others.1))
 
@@ -154,13 +153,13 @@ written_only put files list bytes is held =
 
 -- ---- a block that is built
 
-texts_of : (parts : List (List Sample)) (chunks : List PutChunk) → AreEach IsEncoded parts chunks → AreEach StandsFor chunks parts
+texts_of : (parts : List (List Sample)) (chunks : List PutChunk) → AllZip IsEncoded parts chunks → AllZip StandsFor chunks parts
 texts_of [] [] each = tt
 texts_of [] (c ∷ chunks) each = absurd each
 texts_of (p ∷ parts) [] each = absurd each
 texts_of (p ∷ parts) (c ∷ chunks) each = (stored_text c.content p each.0.text_is, texts_of parts chunks each.1)
 
-pub built_series : (series : List Series) (puts : List PutSeries) → AreEach IsPutAs series puts → AreSeriesOf puts series
+pub built_series : (series : List Series) (puts : List PutSeries) → AllZip IsPutAs series puts → AreSeriesOf puts series
 built_series [] [] each = tt
 built_series [] (p ∷ puts) each = absurd each
 built_series (s ∷ series) [] each = absurd each

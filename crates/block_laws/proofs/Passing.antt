@@ -1,5 +1,6 @@
 -- A block of level 1 that is its own only source passes once it is written, unless it has no series.
 use Rattle.std.proofs.Common.{◌≡◌, List, [], ◌∷◌, refl, sym, ap, subst, ◌∙◌}
+use Rattle.std.specs.List.{AllZip}
 use Rattle.std.specs.Prelude.{◌≢◌}
 use Rattle.label_sets.specs.declared.series.Series.{Series}
 use Rattle.block_meta.specs.declared.block_plan.BlockPlan.{BlockPlan}
@@ -7,7 +8,6 @@ use Rattle.block_meta.specs.MetaFields.{MetaFields}
 use Rattle.index_file.specs.declared.index_series.IndexSeries.{IndexSeries}
 use Rattle.index_file.specs.IndexFile.{IsIndex}
 use Rattle.block_files.specs.declared.block_files.BlockFiles.{BlockFiles}
-use Rattle.block_writing.specs.Each.{AreEach}
 use Rattle.block_writing.specs.Put.{PutSeries, PlanFields, Put}
 use Rattle.block_writing.specs.Writing.{plan_fields}
 use Rattle.block_writing.specs.Files.{IsListed}
@@ -32,7 +32,7 @@ none_of [] list are none = refl
 none_of (p ∷ puts) [] are none = absurd are
 none_of (p ∷ puts) (s ∷ list) are none = absurd cc
 
-none_listed : (puts : List PutSeries) (listed : List IndexSeries) → AreEach IsListed puts listed → puts ≡ [] → listed ≡ []
+none_listed : (puts : List PutSeries) (listed : List IndexSeries) → AllZip IsListed puts listed → puts ≡ [] → listed ≡ []
 none_listed [] [] are none = refl
 none_listed [] (s ∷ listed) are none = absurd are
 none_listed (p ∷ puts) listed are none = absurd cc
@@ -63,7 +63,7 @@ built_passes plan series files is own some =
     subst (λ (p : PlanFields). Passes p.ulid files series) is.put_is.plan_is
     (written_passes is.put files series is.block_is (subst First (sym is.put_is.plan_is) own) (λ none. some (none_built series is.put.series are none)) are)
 
-none_put : (puts : List PutSeries) → AreEach IsPutAs [] puts → puts ≡ []
+none_put : (puts : List PutSeries) → AllZip IsPutAs [] puts → puts ≡ []
 none_put [] each = refl
 none_put (p ∷ puts) each = absurd each
 

@@ -1,7 +1,7 @@
 -- A block that is put series by series.
 use Rattle.std.proofs.Common.{◌≡◌, ℕ, zero, suc, ◌+◌, ◌-◌, ◌^◌, ◌<◌, ◌≤◌, List, [], ◌∷◌, ◌++◌, length, map, get_or, take, Option, Some, Result, Ok, Err, refl, sym, ap, subst, ◌∙◌, arith}
 use Rattle.std.specs.Prelude.{IfOk, slice_get, option_map}
-use Rattle.std.specs.List.{AllByRecursion, sum_by}
+use Rattle.std.specs.List.{AllByRecursion, sum_by, AllZip}
 use Rattle.std.specs.List.Sorted.{IsStrictlySortedBy}
 use Rattle.std.proofs.lemmas.List.{take_more, take_all, length-take}
 use Rattle.std.proofs.lemmas.List.Sums.{sum_by-append}
@@ -13,7 +13,6 @@ use Rattle.label_sets.specs.Labels.{compare_sets}
 use Rattle.label_sets.specs.declared.label.Label.{Label}
 use Rattle.label_sets.specs.declared.series.Series.{Series}
 use Rattle.block_meta.specs.Lawful.{AreLawfulTimes}
-use Rattle.block_writing.specs.Each.{AreEach}
 use Rattle.block_writing.specs.Put.{PlanFields, Put, IsAfterSeries, nothing_put}
 use Rattle.block_meta.specs.declared.block_plan.BlockPlan.{BlockPlan}
 use Rattle.block_files.specs.declared.block_files.BlockFiles.{BlockFiles}
@@ -31,14 +30,14 @@ same_some z y e = cc
 one_sum : (one : Series) → sum_by (λ (s : Series). length s.samples) (one ∷ []) ≡ length one.samples
 one_sum one = let e : 0 + length one.samples ≡ length one.samples = omega arith in e
 
-each_got : {A B : Type 0} (R : A → B → Type 0) (xs : List A) (ys : List B) (k : ℕ) (y : B) → AreEach R xs ys → slice_get ys k ≡ Some y → (x : A) × (slice_get xs k ≡ Some x) × R x y
+each_got : {A B : Type 0} (R : A → B → Type 0) (xs : List A) (ys : List B) (k : ℕ) (y : B) → AllZip R xs ys → slice_get ys k ≡ Some y → (x : A) × (slice_get xs k ≡ Some x) × R x y
 each_got R [] [] k y each at = absurd cc
 each_got R [] (z ∷ ys) k y each at = absurd each
 each_got R (x ∷ xs) [] k y each at = absurd each
 each_got {A} {B} R (x ∷ xs) (z ∷ ys) zero y each at = (x, refl, subst (R x) (same_some z y at) each.0)
 each_got R (x ∷ xs) (z ∷ ys) (suc k) y each at = each_got R xs ys k y each.1 at
 
-each_length : {A B : Type 0} (R : A → B → Type 0) (xs : List A) (ys : List B) → AreEach R xs ys → length xs ≡ length ys
+each_length : {A B : Type 0} (R : A → B → Type 0) (xs : List A) (ys : List B) → AllZip R xs ys → length xs ≡ length ys
 each_length R [] [] each = refl
 each_length R [] (y ∷ ys) each = absurd each
 each_length R (x ∷ xs) [] each = absurd each
@@ -80,7 +79,7 @@ pub none_put : (plan : PlanFields) (begin : Put) → begin ≡ nothing_put plan 
 unfolding sample_count
 none_put plan begin e = record {
   plan_is = ap (λ (p : Put). p.plan) e;
-  series_are = subst (AreEach IsPutAs []) (sym (ap (λ (p : Put). p.series) e)) tt;
+  series_are = subst (AllZip IsPutAs []) (sym (ap (λ (p : Put). p.series) e)) tt;
   nothing_left = ap (λ (p : Put). p.chunks) e;
   samples_are = ap (λ (p : Put). p.samples) e;
 }
@@ -93,12 +92,12 @@ pub one_more : (plan : PlanFields) (series : List Series) (k : ℕ) (one d : Ser
 unfolding sample_count
 one_more plan series k one d now new within at h more =
     let split : take (k + 1) series ≡ take k series ++ one ∷ [] = take_more series k d within ∙ ap (λ (s : Series). take k series ++ s ∷ []) (sym at) in
-    let are : AreEach IsPutAs (take k series ++ one ∷ []) (now.series ++ more.put ∷ []) = each_append IsPutAs (take k series) (one ∷ []) now.series (more.put ∷ []) h.series_are (more.put_is, tt) in
+    let are : AllZip IsPutAs (take k series ++ one ∷ []) (now.series ++ more.put ∷ []) = each_append IsPutAs (take k series) (one ∷ []) now.series (more.put ∷ []) h.series_are (more.put_is, tt) in
     let sum : sum_by (λ (s : Series). length s.samples) (take (k + 1) series) ≡ sum_by (λ (s : Series). length s.samples) (take k series) + length one.samples =
     ap (sum_by (λ (s : Series). length s.samples)) split ∙ sum_by-append (λ (s : Series). length s.samples) (take k series) (one ∷ []) ∙ ap (λ (n : ℕ). sum_by (λ (s : Series). length s.samples) (take k series) + n) (one_sum one) in
     record {
       plan_is = more.plan_is ∙ h.plan_is;
-      series_are = subst (λ (l : List Series). AreEach IsPutAs l new.series) (sym split) (subst (AreEach IsPutAs (take k series ++ one ∷ [])) (sym more.series_is) are);
+      series_are = subst (λ (l : List Series). AllZip IsPutAs l new.series) (sym split) (subst (AllZip IsPutAs (take k series ++ one ∷ [])) (sym more.series_is) are);
       nothing_left = more.nothing_left;
       samples_are = omega (arith, more.samples_is, h.samples_are, sum);
     }

@@ -1,7 +1,7 @@
 -- What a writer holds when no chunk is left over is a block's index and segments.
 use Rattle.std.proofs.Common.{◌≡◌, ◌⊎◌, ℕ, ◌<◌, ◌≤◌, List, [], ◌∷◌, ◌++◌, length, map, Result, Ok, Err, refl, sym, ap, subst, ◌∙◌, inl, inr, arith, ℤ}
 use Rattle.std.specs.Prelude.{IfOk}
-use Rattle.std.specs.List.{flat_map}
+use Rattle.std.specs.List.{flat_map, AllZip}
 use Rattle.std.proofs.lemmas.List.{map-append, length-map, append-nil}
 use Rattle.block_meta.specs.declared.block_plan.BlockPlan.{BlockPlan}
 use Rattle.index_parts.specs.declared.chunk_place.ChunkPlace.{ChunkPlace}
@@ -13,7 +13,6 @@ use Rattle.index_writing.specs.declared.write_refusal.IndexWriteRefusal.{IndexWr
 use Rattle.index_writing.specs.declared.write_refusal.IndexWriteRefusal.TheVariants as index
 use Rattle.block_meta.specs.MetaFields.{fields_of}
 use Rattle.block_writing.specs.declared.counts.Counts.{Counts}
-use Rattle.block_writing.specs.Each.{AreEach}
 use Rattle.block_writing.specs.Segments.{AreSegments}
 use Rattle.block_writing.specs.Standing.{content_at}
 use Rattle.block_writing.specs.Put.{PutChunk, Put, contents_of, fitted}
@@ -30,7 +29,7 @@ times_same : (segments : List (List ℕ)) (chunks : List ChunkPlace) → map pla
 times_same segments [] = refl
 times_same segments (c ∷ chunks) = ap (λ (l : List (ℤ × ℤ)). place_times c ∷ l) (times_same segments chunks)
 
-listed : (segments : List (List ℕ)) (list : List IndexSeries) → AreEach IsListed (map (series_in segments) list) list
+listed : (segments : List (List ℕ)) (list : List IndexSeries) → AllZip IsListed (map (series_in segments) list) list
 listed segments [] = tt
 listed segments (s ∷ list) = (record { labels_are = refl; times_are = times_same segments s.chunks }, listed segments list)
 

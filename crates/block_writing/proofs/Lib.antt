@@ -1,6 +1,7 @@
 pub mod Sums
 pub mod Lists
 pub mod Runs
+pub mod Tested
 pub mod OneText
 pub mod Placed
 pub mod DataLaws

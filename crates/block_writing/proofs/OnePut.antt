@@ -1,7 +1,7 @@
 -- Samples are put in one way: the chunks of a series are determined.
 use Rattle.std.proofs.Common.{◌≡◌, ◌⊎◌, ℕ, suc, ◌≤◌, List, [], ◌∷◌, ◌++◌, length, take, drop, Option, None, Some, Result, Ok, Err, refl, sym, ap, subst, ◌∙◌, length-append, arith, inl, inr, ℤ}
 use Rattle.std.specs.Prelude.{IfOk}
-use Rattle.std.specs.List.{AllByRecursion}
+use Rattle.std.specs.List.{AllByRecursion, AllZip}
 use Rattle.std.proofs.lemmas.List.{take_at, drop_at}
 use Rattle.reading_core.specs.Grammar.{IsBytes}
 use Rattle.label_sets.specs.declared.label.Label.{Label}
@@ -14,7 +14,6 @@ use Rattle.index_parts.specs.Turns.{InOrderAfter}
 use Rattle.block_files.specs.declared.block_files.BlockFiles.{BlockFiles}
 use Rattle.block_files.specs.declared.build_refusal.BuildRefusal.{BuildRefusal}
 use Rattle.block_files.specs.declared.build_refusal.BuildRefusal.TheVariants.{TooLarge, NoMemory}
-use Rattle.block_writing.specs.Each.{AreEach}
 use Rattle.block_writing.specs.Put.{PutChunk, PutSeries}
 use Rattle.block_writing.specs.Files.{HaveNoIndex}
 use Rattle.block_writing.specs.Built.{IsPart, IsEncoded, IsPutAs, IsBuilt, HaveNoBlock}
@@ -64,7 +63,7 @@ encoded_once part c d is too =
 -- ---- series
 
 module _ {A B : Type 0} (R : A → B → Type 0) (once : (x : A) (y z : B) → R x y → R x z → y ≡ z) where
-  each_once : (xs : List A) (ys zs : List B) → AreEach R xs ys → AreEach R xs zs → ys ≡ zs
+  each_once : (xs : List A) (ys zs : List B) → AllZip R xs ys → AllZip R xs zs → ys ≡ zs
   each_once [] [] [] is too = refl
   each_once [] (y ∷ ys) zs is too = absurd is
   each_once [] [] (z ∷ zs) is too = absurd too
@@ -75,10 +74,10 @@ module _ {A B : Type 0} (R : A → B → Type 0) (once : (x : A) (y z : B) → R
 series_once : (series : Series) (p q : PutSeries) → IsPutAs series p → IsPutAs series q → p ≡ q
 series_once series p q is too =
     let parts : is.parts ≡ too.parts = cut_once IsPart AreFew some_part part_full None None is.parts too.parts is.cut too.cut (few_each None is.parts is.cut) (few_each None too.parts too.cut) (is.whole ∙ sym too.whole) in
-    let chunks : p.chunks ≡ q.chunks = each_once IsEncoded encoded_once is.parts p.chunks q.chunks is.chunks (subst (λ (l : List (List Sample)). AreEach IsEncoded l q.chunks) (sym parts) too.chunks) in
+    let chunks : p.chunks ≡ q.chunks = each_once IsEncoded encoded_once is.parts p.chunks q.chunks is.chunks (subst (λ (l : List (List Sample)). AllZip IsEncoded l q.chunks) (sym parts) too.chunks) in
     ap (λ (l : List Label). record { labels = l; chunks = p.chunks }) (is.labels ∙ sym too.labels) ∙ ap (λ (l : List PutChunk). record { labels = q.labels; chunks = l }) chunks
 
-pub put_once : (series : List Series) (ps qs : List PutSeries) → AreEach IsPutAs series ps → AreEach IsPutAs series qs → ps ≡ qs
+pub put_once : (series : List Series) (ps qs : List PutSeries) → AllZip IsPutAs series ps → AllZip IsPutAs series qs → ps ≡ qs
 put_once series ps qs is too = each_once IsPutAs series_once series ps qs is too
 
 -- a block that was built has no index that is too large

@@ -1,6 +1,6 @@
 -- Series that are put have one index and one list of segments, since runs are cut in one way.
 use Rattle.std.proofs.Common.{◌≡◌, ℕ, ◌≤◌, List, [], ◌∷◌, ◌++◌, length, map, Option, None, Some, refl, sym, ap, subst, ◌∙◌, length-append, arith, ◌⊎◌, inl, inr, ℤ}
-use Rattle.std.specs.List.{flat_map, AllByRecursion}
+use Rattle.std.specs.List.{flat_map, AllByRecursion, AllZip}
 use Rattle.std.proofs.lemmas.Grind.{flat_map-append}
 use Rattle.list_core.proofs.Lists.{cons_parts}
 use Rattle.label_sets.specs.declared.label.Label.{Label}
@@ -11,7 +11,6 @@ use Rattle.index_writing.specs.Written.{written}
 use Rattle.chunk_files.specs.Layout.{greatest}
 use Rattle.chunk_files.specs.Chunk.{header, frame_text}
 use Rattle.block_writing.specs.declared.segment_place.SegmentPlace.{SegmentPlace}
-use Rattle.block_writing.specs.Each.{AreEach}
 use Rattle.block_writing.specs.Put.{PutSeries, contents_of}
 use Rattle.block_writing.specs.Segments.{segment_text, Begins, AreRuns, places_from}
 use Rattle.block_writing.specs.Writing.{part_of}
@@ -102,7 +101,7 @@ same_chunks (x ∷ xs) (y ∷ ys) more others times parts =
     let rest = same_chunks xs ys more others t.1 p.1 in
     (ap (λ (c : ChunkPlace). c ∷ xs) (same_place x y t.0 p.0) ∙ ap (λ (l : List ChunkPlace). y ∷ l) rest.0, rest.1)
 
-same_list : (series : List PutSeries) (xs ys : List IndexSeries) → AreEach IsListed series xs → AreEach IsListed series ys → places_in xs ≡ places_in ys → xs ≡ ys
+same_list : (series : List PutSeries) (xs ys : List IndexSeries) → AllZip IsListed series xs → AllZip IsListed series ys → places_in xs ≡ places_in ys → xs ≡ ys
 same_list [] [] [] is other parts = refl
 same_list [] (x ∷ xs) ys is other parts = absurd is
 same_list [] [] (y ∷ ys) is other parts = absurd other

@@ -4,7 +4,7 @@ use Rattle.std.specs.Prelude.{slice_get, min, ◌^◌, ◌<ℤ◌, ◌≤ℤ◌,
 use Rattle.std.specs.Int.{w64}
 use Rattle.std.proofs.lemmas.Int.{ints, to_z-of_z}
 use Rattle.std.specs.Ordering.{int_cmp}
-use Rattle.std.specs.List.{flat_map}
+use Rattle.std.specs.List.{flat_map, AllZip}
 use Rattle.std.specs.List.Sorted.{IsStrictlySortedBy}
 use Rattle.std.proofs.lemmas.Cmp.{int_ranked}
 use Rattle.std.proofs.lemmas.Grind.{flat_map-append}
@@ -20,7 +20,6 @@ use Rattle.xor_chunks.specs.Bits.{bits_in, filled}
 use Rattle.xor_chunks.specs.Grammar.{IsText}
 use Rattle.block_meta.specs.Lawful.{AreLawfulTimes}
 use Rattle.xor_chunks.specs.Written.{written, IsChunkTime, AreOfChunk}
-use Rattle.block_writing.specs.Each.{AreEach}
 use Rattle.block_writing.specs.Put.{PlanFields, PutChunk, Put, IsWithin, IsStored, IsAfterChunks, fitted, with_chunk}
 use Rattle.block_writing.specs.Built.{IsPart, IsEncoded, AreOfBlock, BeginAfter}
 use Rattle.block_writing.proofs.Runs.{ends, some_last, order_more}
@@ -83,7 +82,7 @@ pub record SoFar (begin : Put) (samples left : List Sample) (now : Put) : Type 0
   pub whole : flat_map (λ part. part) parts ++ left ≡ samples
   pub cut : InOrder IsPart parts
   pub full : (front : List (List Sample)) (last : List Sample) → 0 < length left → parts ≡ front ++ last ∷ [] → length last ≡ 120
-  pub chunks : AreEach IsEncoded parts now.chunks
+  pub chunks : AllZip IsEncoded parts now.chunks
   pub behind : BeginAfter now.chunks left
   pub plan_is : now.plan ≡ begin.plan
   pub series_is : now.series ≡ begin.series
@@ -98,7 +97,7 @@ none_yet begin samples are none counted = record {
   whole = refl;
   cut = tt;
   full = λ front last some e. absurd (some_last front last (sym e));
-  chunks = subst (AreEach IsEncoded []) (sym none) tt;
+  chunks = subst (AllZip IsEncoded []) (sym none) tt;
   behind = λ time at. subst (λ (l : List PutChunk). IsAfterChunks l time) (sym none) tt;
   plan_is = refl;
   series_is = refl;
@@ -164,7 +163,7 @@ part_more begin samples left part after now new k h some few part_is after_is (c
       whole = ap (λ (l : List Sample). l ++ after) (flat_more h.parts part) ∙ append_assoc (flat_map (λ p. p) h.parts) part after ∙ ap (λ (l : List Sample). flat_map (λ p. p) h.parts ++ l) whole ∙ h.whole;
       cut = cut_more h.parts part h.cut many most (λ front last e. h.full front last some e);
       full = λ front last more e. ap length (sym (pushed_parts h.parts front part last e).1) ∙ omega (arith, size, few, more, ap length after_is, length-drop k left);
-      chunks = subst (AreEach IsEncoded (h.parts ++ part ∷ [])) chunks_are (each_append IsEncoded h.parts (part ∷ []) now.chunks (chunk ∷ []) h.chunks (coded, tt));
+      chunks = subst (AllZip IsEncoded (h.parts ++ part ∷ [])) chunks_are (each_append IsEncoded h.parts (part ∷ []) now.chunks (chunk ∷ []) h.chunks (coded, tt));
       behind = λ time at. subst (λ (l : List PutChunk). IsAfterChunks l time) chunks_are (behind_last now.chunks chunk time (ends_before part after chunk time many coded ascend at));
       plan_is = ap (λ (p : Put). p.plan) new_is ∙ h.plan_is;
       series_is = ap (λ (p : Put). p.series) new_is ∙ h.series_is;
@@ -175,7 +174,7 @@ part_more begin samples left part after now new k h some few part_is after_is (c
 
 -- ---- the series as a whole
 
-no_parts : (parts : List (List Sample)) (chunks : List PutChunk) → AreEach IsEncoded parts chunks → chunks ≡ [] → flat_map (λ p. p) parts ≡ []
+no_parts : (parts : List (List Sample)) (chunks : List PutChunk) → AllZip IsEncoded parts chunks → chunks ≡ [] → flat_map (λ p. p) parts ≡ []
 no_parts [] chunks each none = refl
 no_parts (p ∷ parts) [] each none = absurd each
 no_parts (p ∷ parts) (c ∷ chunks) each none = absurd cc

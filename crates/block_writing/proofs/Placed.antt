@@ -2,7 +2,7 @@
 use Rattle.std.proofs.Common.{◌≡◌, ℕ, ◌+◌, ◌^◌, ◌<◌, ◌≤◌, List, [], ◌∷◌, ◌++◌, length, map, Some, refl, sym, ap, subst, ◌∙◌, append_assoc, length-append, arith}
 use Rattle.std.specs.Prelude.{slice_get}
 use Rattle.std.specs.Int.{w32, to_be_bytes}
-use Rattle.std.specs.List.{flat_map, AllByRecursion}
+use Rattle.std.specs.List.{flat_map, AllByRecursion, AllZip}
 use Rattle.std.proofs.lemmas.Grind.{flat_map-append}
 use Rattle.wire_bytes.specs.Crc.{crc}
 use Rattle.wire_bytes.specs.Written.{uvarint_text}
@@ -12,7 +12,6 @@ use Rattle.chunk_files.specs.Chunk.{IsChunk, IsPlace, IsFilled, header, frame_te
 use Rattle.chunk_files.proofs.SegmentLaws.{placed, still}
 use Rattle.chunk_files.proofs.ChunkLaws.{place_again}
 use Rattle.block_writing.specs.declared.segment_place.SegmentPlace.{SegmentPlace}
-use Rattle.block_writing.specs.Each.{AreEach}
 use Rattle.block_writing.specs.Segments.{segment_text, offsets_behind, place_in, places_from, AreSegments}
 use Rattle.block_writing.specs.Standing.{content_at}
 use Rattle.block_writing.proofs.Sums.{crc_low}
@@ -25,13 +24,13 @@ pub record StandsAt (segments : List (List ℕ)) (place : SegmentPlace) (content
 
 -- ---- members of two lists, each to its own
 
-pub each_append : {A B : Type 0} (R : A → B → Type 0) (xs more : List A) (ys others : List B) → AreEach R xs ys → AreEach R more others → AreEach R (xs ++ more) (ys ++ others)
+pub each_append : {A B : Type 0} (R : A → B → Type 0) (xs more : List A) (ys others : List B) → AllZip R xs ys → AllZip R more others → AllZip R (xs ++ more) (ys ++ others)
 each_append R [] more [] others one next = next
 each_append R [] more (y ∷ ys) others one next = absurd one
 each_append R (x ∷ xs) more [] others one next = absurd one
 each_append R (x ∷ xs) more (y ∷ ys) others one next = (one.0, each_append R xs more ys others one.1 next)
 
-pub each_map : {A B C : Type 0} (R : A → B → Type 0) (S : C → B → Type 0) (f : A → C) → ((x : A) (y : B) → R x y → S (f x) y) → (xs : List A) (ys : List B) → AreEach R xs ys → AreEach S (map f xs) ys
+pub each_map : {A B C : Type 0} (R : A → B → Type 0) (S : C → B → Type 0) (f : A → C) → ((x : A) (y : B) → R x y → S (f x) y) → (xs : List A) (ys : List B) → AllZip R xs ys → AllZip S (map f xs) ys
 each_map R S f turns [] [] each = tt
 each_map R S f turns [] (y ∷ ys) each = absurd each
 each_map R S f turns (x ∷ xs) [] each = absurd each
@@ -70,7 +69,7 @@ part_text front run = ap (λ (l : List ℕ). header ++ l) (flat_map-append frame
 part_size : (front run : List (List ℕ)) → length (segment_text (front ++ run)) ≡ length (segment_text front) + length (flat_map frame_text run)
 part_size front run = ap length (part_text front run) ∙ length-append (segment_text front) (flat_map frame_text run)
 
-in_run : (front run : List (List ℕ)) → length (segment_text (front ++ run)) ≤ greatest → AreEach (λ offset content. IsPlace (segment_text (front ++ run)) offset content) (offsets_behind (length (segment_text front)) run) run
+in_run : (front run : List (List ℕ)) → length (segment_text (front ++ run)) ≤ greatest → AllZip (λ offset content. IsPlace (segment_text (front ++ run)) offset content) (offsets_behind (length (segment_text front)) run) run
 in_run front [] fits = tt
 in_run front (content ∷ run) fits =
     let split : (front ++ content ∷ []) ++ run ≡ front ++ content ∷ run = append_assoc front (content ∷ []) run in
@@ -86,9 +85,9 @@ in_run front (content ∷ run) fits =
     omega (arith, part_size front (content ∷ []), length-append (frame_text content) []) in
     let fits_too : length (segment_text ((front ++ content ∷ []) ++ run)) ≤ greatest = omega (arith, fits, ap (λ (l : List (List ℕ)). length (segment_text l)) split) in
     let later = in_run (front ++ content ∷ []) run fits_too in
-    let moved : AreEach (λ offset one. IsPlace (segment_text (front ++ content ∷ run)) offset one) (offsets_behind (length (segment_text (front ++ content ∷ []))) run) run =
-    subst (λ (l : List (List ℕ)). AreEach (λ offset one. IsPlace (segment_text l) offset one) (offsets_behind (length (segment_text (front ++ content ∷ []))) run) run) split later in
-    (here, subst (λ (n : ℕ). AreEach (λ offset one. IsPlace (segment_text (front ++ content ∷ run)) offset one) (offsets_behind n run) run) next moved)
+    let moved : AllZip (λ offset one. IsPlace (segment_text (front ++ content ∷ run)) offset one) (offsets_behind (length (segment_text (front ++ content ∷ []))) run) run =
+    subst (λ (l : List (List ℕ)). AllZip (λ offset one. IsPlace (segment_text l) offset one) (offsets_behind (length (segment_text (front ++ content ∷ []))) run) run) split later in
+    (here, subst (λ (n : ℕ). AllZip (λ offset one. IsPlace (segment_text (front ++ content ∷ run)) offset one) (offsets_behind n run) run) next moved)
 
 -- ---- in all of them
 
@@ -96,25 +95,25 @@ named_at : (before after : List (List ℕ)) (segment : List ℕ) → slice_get (
 named_at [] after segment = refl
 named_at (first ∷ before) after segment = named_at before after segment
 
-in_runs : (before : List (List ℕ)) (runs : List (List (List ℕ))) → AllByRecursion (λ run. length (segment_text run) ≤ greatest) runs → AreEach (StandsAt (before ++ map segment_text runs)) (places_from (length before) runs) (flat_map (λ run. run) runs)
+in_runs : (before : List (List ℕ)) (runs : List (List (List ℕ))) → AllByRecursion (λ run. length (segment_text run) ≤ greatest) runs → AllZip (StandsAt (before ++ map segment_text runs)) (places_from (length before) runs) (flat_map (λ run. run) runs)
 in_runs before [] fit = tt
 in_runs before (run ∷ runs) fit =
-    let own : AreEach (StandsAt (before ++ segment_text run ∷ map segment_text runs)) (map (place_in (length before)) (offsets_behind header_size run)) run =
+    let own : AllZip (StandsAt (before ++ segment_text run ∷ map segment_text runs)) (map (place_in (length before)) (offsets_behind header_size run)) run =
     each_map (λ offset content. IsPlace (segment_text run) offset content) (StandsAt (before ++ segment_text run ∷ map segment_text runs)) (place_in (length before))
     (λ offset content is. record { segment = segment_text run; named = named_at before (map segment_text runs) (segment_text run); stands = is }) (offsets_behind header_size run) run (in_run [] run fit.0) in
     let split : (before ++ segment_text run ∷ []) ++ map segment_text runs ≡ before ++ segment_text run ∷ map segment_text runs = append_assoc before (segment_text run ∷ []) (map segment_text runs) in
     let next : length (before ++ segment_text run ∷ []) ≡ length before + 1 = omega (arith, length-append before (segment_text run ∷ [])) in
     let later = in_runs (before ++ segment_text run ∷ []) runs fit.1 in
-    let moved : AreEach (StandsAt (before ++ segment_text run ∷ map segment_text runs)) (places_from (length (before ++ segment_text run ∷ [])) runs) (flat_map (λ r. r) runs) =
-    subst (λ (l : List (List ℕ)). AreEach (StandsAt l) (places_from (length (before ++ segment_text run ∷ [])) runs) (flat_map (λ r. r) runs)) split later in
+    let moved : AllZip (StandsAt (before ++ segment_text run ∷ map segment_text runs)) (places_from (length (before ++ segment_text run ∷ [])) runs) (flat_map (λ r. r) runs) =
+    subst (λ (l : List (List ℕ)). AllZip (StandsAt l) (places_from (length (before ++ segment_text run ∷ [])) runs) (flat_map (λ r. r) runs)) split later in
     each_append (StandsAt (before ++ segment_text run ∷ map segment_text runs)) (map (place_in (length before)) (offsets_behind header_size run)) (places_from (length before + 1) runs) run (flat_map (λ r. r) runs) own
-    (subst (λ (n : ℕ). AreEach (StandsAt (before ++ segment_text run ∷ map segment_text runs)) (places_from n runs) (flat_map (λ r. r) runs)) next moved)
+    (subst (λ (n : ℕ). AllZip (StandsAt (before ++ segment_text run ∷ map segment_text runs)) (places_from n runs) (flat_map (λ r. r) runs)) next moved)
 
-pub all_stand : (contents : List (List ℕ)) (places : List SegmentPlace) (segments : List (List ℕ)) → AreSegments contents places segments → AreEach (StandsAt segments) places contents
+pub all_stand : (contents : List (List ℕ)) (places : List SegmentPlace) (segments : List (List ℕ)) → AreSegments contents places segments → AllZip (StandsAt segments) places contents
 all_stand contents places segments h =
-    subst (λ (l : List (List ℕ)). AreEach (StandsAt l) places contents) (sym h.segments_are)
-    (subst (λ (l : List SegmentPlace). AreEach (StandsAt (map segment_text h.runs)) l contents) (sym h.places_are)
-    (subst (λ (l : List (List ℕ)). AreEach (StandsAt (map segment_text h.runs)) (places_from 0 h.runs) l) h.runs_are.whole (in_runs [] h.runs h.runs_are.fit)))
+    subst (λ (l : List (List ℕ)). AllZip (StandsAt l) places contents) (sym h.segments_are)
+    (subst (λ (l : List SegmentPlace). AllZip (StandsAt (map segment_text h.runs)) l contents) (sym h.places_are)
+    (subst (λ (l : List (List ℕ)). AllZip (StandsAt (map segment_text h.runs)) (places_from 0 h.runs) l) h.runs_are.whole (in_runs [] h.runs h.runs_are.fit)))
 
 -- ---- what is read there
 
@@ -122,7 +121,7 @@ pub read_there : (segments : List (List ℕ)) (place : SegmentPlace) (content : 
 unfolding content_at
 read_there segments place content h = rw (h.named, place_again h.segment place.offset content h.stands) refl
 
-read_each : (segments : List (List ℕ)) (places : List SegmentPlace) (contents : List (List ℕ)) → AreEach (StandsAt segments) places contents → map (content_at segments) places ≡ contents
+read_each : (segments : List (List ℕ)) (places : List SegmentPlace) (contents : List (List ℕ)) → AllZip (StandsAt segments) places contents → map (content_at segments) places ≡ contents
 read_each segments [] [] each = refl
 read_each segments [] (content ∷ contents) each = absurd each
 read_each segments (place ∷ places) [] each = absurd each

@@ -1,7 +1,7 @@
 -- What a block that is built of samples is put together from.
 use Rattle.std.specs.Prelude.{◌≡◌, ◌+◌, ◌-◌, ◌<◌, ◌≤◌, List, [], ◌∷◌, ◌++◌, length, map, slice_get, Option, None, Some, ℤ}
 use Rattle.std.specs.Ordering.{int_cmp}
-use Rattle.std.specs.List.{flat_map, AllByRecursion}
+use Rattle.std.specs.List.{flat_map, AllByRecursion, AllZip}
 use Rattle.std.specs.List.Sorted.{IsStrictlySortedBy}
 use Rattle.reading_core.specs.Grammar.{IsBytes}
 use Rattle.label_sets.specs.Counts.{sample_count}
@@ -14,7 +14,6 @@ use Rattle.xor_chunks.specs.Written.{written}
 use Rattle.block_meta.specs.declared.block_plan.BlockPlan.{BlockPlan}
 use Rattle.index_parts.specs.Turns.{InOrder}
 use Rattle.block_files.specs.declared.block_files.BlockFiles.{BlockFiles}
-use Rattle.block_writing.specs.Each.{AreEach}
 use Rattle.block_writing.specs.Files.{HaveNoIndex}
 use Rattle.block_writing.specs.Put.{PutChunk, PutSeries, PlanFields, Put, IsWithin, IsAfterChunks, fitted}
 use Rattle.block_writing.specs.Writing.{plan_fields}
@@ -53,7 +52,7 @@ pub record IsPutAs (series : Series) (put : PutSeries) : Type 0 where
   pub parts : List (List Sample)
   pub whole : flat_map (λ part. part) parts ≡ series.samples
   pub cut : InOrder IsPart parts
-  pub chunks : AreEach IsEncoded parts put.chunks
+  pub chunks : AllZip IsEncoded parts put.chunks
   pub labels : put.labels ≡ series.labels
 
 -- ---- one series
@@ -76,7 +75,7 @@ BeginAfter chunks samples = (time : ℤ) → slice_get (map (λ s. s.time) sampl
 -- what was put of a plan and series
 pub record IsPutOf (plan : PlanFields) (series : List Series) (put : Put) : Type 0 where
   pub plan_is : put.plan ≡ plan
-  pub series_are : AreEach IsPutAs series put.series
+  pub series_are : AllZip IsPutAs series put.series
   pub nothing_left : put.chunks ≡ []
   pub samples_are : put.samples ≡ sample_count series
 

@@ -1,12 +1,11 @@
 -- Which index and which segments a block of these series has.
 use Rattle.std.specs.Prelude.{◌≡◌, ℕ, ◌<◌, List, length, map, ℤ}
-use Rattle.std.specs.List.{flat_map}
+use Rattle.std.specs.List.{flat_map, AllZip}
 use Rattle.index_parts.specs.declared.chunk_place.ChunkPlace.{ChunkPlace}
 use Rattle.index_file.specs.declared.index_series.IndexSeries.{IndexSeries}
 use Rattle.index_writing.specs.WriteSteps.{greatest}
 use Rattle.index_writing.specs.Written.{written}
 use Rattle.block_writing.specs.declared.segment_place.SegmentPlace.{SegmentPlace}
-use Rattle.block_writing.specs.Each.{AreEach}
 use Rattle.block_writing.specs.Put.{PutChunk, PutSeries, contents_of}
 use Rattle.block_writing.specs.Segments.{AreSegments}
 use Rattle.block_writing.specs.Writing.{part_of}
@@ -29,7 +28,7 @@ places_in listed = map part_of (flat_map (λ s. s.chunks) listed)
 -- The segments are those of the series' chunks in order, and the index is the one of the series, with these chunks' places.
 pub record AreFilesOf (series : List PutSeries) (index : List ℕ) (segments : List (List ℕ)) : Type 0 where
   pub listed : List IndexSeries
-  pub series_are : AreEach IsListed series listed
+  pub series_are : AllZip IsListed series listed
   pub segments_are : AreSegments (contents_of series) (places_in listed) segments
   pub index_is : index ≡ written listed
 

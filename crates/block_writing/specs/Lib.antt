@@ -7,7 +7,6 @@ pub use Rattle.chunk_files.specs.Chunk
 pub use Rattle.chunk_files.specs.ChunkReading
 pub use Rattle.index_file.specs.IndexFile
 pub use Rattle.index_writing.specs.Written
-pub mod Each
 pub mod Segments
 pub mod Standing
 pub mod Put

@@ -2,6 +2,7 @@
 #![tactic(auto)]
 
 mod block_writer;
+mod buildable;
 mod builder;
 mod counts;
 mod finishing;
@@ -11,5 +12,6 @@ mod written_meta;
 
 pub use block_files::{BlobList, BlockFiles, BuildRefusal};
 pub use block_writer::BlockWriter;
+pub use buildable::may_build;
 pub use builder::build;
 pub use segment_place::SegmentPlace;

@@ -1,0 +1,59 @@
+//! The test of what `build` asks of its series.
+ghost use Rattle.std.specs.Prelude.{IsTrue, ◌↔◌, map};
+ghost use Rattle.std.specs.Ordering.{int_cmp};
+ghost use Rattle.std.specs.List.Sorted.{IsStrictlySortedBy};
+ghost use Rattle.label_sets.specs.Labels.{compare_sets};
+ghost use Rattle.block_writing.specs.Built.{AreBuildable, AreOfBlock};
+ghost use Rattle.block_writing.specs.Put.{IsWithin};
+ghost use Rattle.block_writing.specs.Writing.{plan_fields};
+
+use block_meta::BlockPlan;
+use label_sets::{Sample, Series, SeriesList};
+
+/// Whether each time is after the one before.
+fn rise(samples: &[Sample]) -> bool
+    ensures { IsTrue result ↔ IsStrictlySortedBy int_cmp (map (λ s. s.time) samples.now) }
+{
+    samples.is_sorted_by(|one, next| one.time < next.time)
+}
+
+/// Whether each series comes after the one before, by its labels.
+fn ascend(series: &[Series]) -> bool
+    ensures { IsTrue result ↔ IsStrictlySortedBy compare_sets (map (λ s. s.labels) series.now) }
+{
+    series.is_sorted_by(|one, next| one.labels < next.labels)
+}
+
+fn is_within(plan: &BlockPlan, sample: &Sample) -> bool
+    ensures { IsTrue result ↔ IsWithin (plan_fields plan.now) sample.now }
+{
+    plan.min_time <= sample.time && sample.time < plan.max_time
+}
+
+/// Whether these are samples that a series of the plan's block can have.
+fn are_of_block(plan: &BlockPlan, samples: &[Sample]) -> bool
+    ensures { IsTrue result ↔ AreOfBlock (plan_fields plan.now) samples.now }
+{
+    if samples.is_empty() {
+        return false;
+    }
+    for sample in samples {
+        if !is_within(plan, sample) {
+            return false;
+        }
+    }
+    rise(samples)
+}
+
+/// Whether `build` may build a block of the plan of these series.
+pub fn may_build(plan: &BlockPlan, series: &SeriesList) -> bool
+    ensures { IsTrue result ↔ AreBuildable (plan_fields plan.now) series.now }
+{
+    let series = series.members();
+    for one in series {
+        if !are_of_block(plan, one.samples.members()) {
+            return false;
+        }
+    }
+    ascend(series)
+}
