@@ -44,7 +44,6 @@ impl Condition {
             Condition::MatchesNot(pattern) => Ok(!pattern.matches(value)?),
         }
     }
-
     /// What asks many values of this condition. Without a pattern it takes no memory.
     #[tactic(auto, unfolding(crate::specs::Selectors::has_pattern))]
     pub fn searcher(&self) -> Result<ConditionSearcher<'_>, NoMemory>
