@@ -18,7 +18,6 @@ use Rattle.block_writing.specs.Put.{PutChunk, PutSeries, PlanFields, Put, IsWith
 use Rattle.block_writing.specs.WrittenMeta.{meta_with, IsWritten}
 use Rattle.block_writing.specs.Built.{IsEncoded, IsPutAs, IsBuilt}
 use Rattle.block_writing.proofs.Parts.{stored_text}
-use Rattle.block_content.specs.Firsts as first
 use Rattle.block_content.specs.Content.{times_of, HaveTimesOf, IsChunkOf, HoldsSeries, IsApart, AreWithin, IsContent}
 use Rattle.block_content.specs.Content as content
 use Rattle.block_content.specs.declared.check_refusal.CheckRefusal.{CheckRefusal}
@@ -50,7 +49,7 @@ part_within plan chunk part stored text = subst (AllByRecursion (IsWithin plan))
 abbrev StandsFor : PutChunk → List Sample → Type 0
 StandsFor chunk part = IsText 8 chunk.content part
 
-chunks_held : (plan : PlanFields) (segments : List (List ℕ)) (chunks : List PutChunk) (places : List ChunkPlace) (parts : List (List Sample)) → AllByRecursion (IsStored plan) chunks → AllZip (IsAt segments) chunks places → AllZip StandsFor chunks parts → first.AllZip (IsChunkOf segments) places parts
+chunks_held : (plan : PlanFields) (segments : List (List ℕ)) (chunks : List PutChunk) (places : List ChunkPlace) (parts : List (List Sample)) → AllByRecursion (IsStored plan) chunks → AllZip (IsAt segments) chunks places → AllZip StandsFor chunks parts → AllZip (IsChunkOf segments) places parts
 chunks_held plan segments [] [] [] stored each texts = tt
 chunks_held plan segments [] (p ∷ places) parts stored each texts = absurd each
 chunks_held plan segments [] [] (x ∷ parts) stored each texts = absurd texts
@@ -77,7 +76,7 @@ series_within plan put series ended is = subst (AllByRecursion (IsWithin plan)) 
 
 -- ---- all series
 
-all_held : (plan : PlanFields) (segments : List (List ℕ)) (puts : List PutSeries) (indexed : List IndexSeries) (list : List Series) → AllByRecursion (IsEnded plan) puts → AllZip (IsPlaced segments) puts indexed → AreSeriesOf puts list → first.AllZip (HoldsSeries segments) indexed list
+all_held : (plan : PlanFields) (segments : List (List ℕ)) (puts : List PutSeries) (indexed : List IndexSeries) (list : List Series) → AllByRecursion (IsEnded plan) puts → AllZip (IsPlaced segments) puts indexed → AreSeriesOf puts list → AllZip (HoldsSeries segments) indexed list
 all_held plan segments [] [] [] ended each are = tt
 all_held plan segments [] (i ∷ indexed) list ended each are = absurd each
 all_held plan segments [] [] (s ∷ list) ended each are = absurd are
