@@ -2,6 +2,7 @@
 //! one that begins with `= ` is a heading. The long list of plans was computed by another program, and the rest by hand.
 #![tactic(auto)]
 
+mod grouped;
 mod metas;
 mod plans;
 

@@ -1,5 +1,6 @@
 ghost use Rattle.std.specs.Prelude.{pos, ◌<ℤ◌};
 
+use crate::grouped::print_groups;
 use crate::metas::metas_of;
 use block_meta::{BlockPlan, MetaRefusal};
 use group_planner::{Group, overlapping, plan, select, split_by_range};
@@ -22,6 +23,7 @@ pub(crate) fn print_row(rt: &HostRuntime, row: &str) -> io::Result<()> {
         "select" => print_places(rt, selection_of(rt.alloc(), text)),
         "overlapping" => print_places(rt, overlap_of(rt.alloc(), text)),
         "parts" => print_parts(rt, text),
+        "groups" => print_groups(rt, text),
         "compacted" => print_compacted(rt, compacted_of(rt.alloc(), text)),
         _ => println!(rt; " no row"),
     }

@@ -5,7 +5,7 @@ use list_core::TryCopy;
 use moment_core::{Moment, Span};
 use std::alloc::Global;
 use std::io;
-use sync_filters::{Found, FoundList, consistent, uncovered, unmarked};
+use sync_filters::{Found, FoundList, consistent, is_expired, uncovered, unmarked};
 
 /// How old a block has to be, half an hour.
 const DELAY: Span = Span { ms: 1_800_000 };
@@ -27,6 +27,7 @@ pub(crate) fn print_row(rt: &HostRuntime, row: &str) -> io::Result<()> {
         "young" => print_kept(rt, is_old(rt.alloc(), text)),
         "marked" => print_kept(rt, is_kept(rt.alloc(), Some(MARK), text)),
         "unmarked" => print_kept(rt, is_kept(rt.alloc(), None, text)),
+        "expiring" => print_kept(rt, is_retained(rt.alloc(), text)),
         "split" => print_split(rt, split_of(rt.alloc(), text)),
         "upload" => print_uploads(rt, text),
         _ => println!(rt; "no row"),
@@ -62,6 +63,18 @@ fn is_kept(alloc: Global, mark: Option<&str>, text: &str) -> Result<bool, MetaRe
     }
     found.mark_read = moment_of(text);
     Ok(unmarked(&found.copy()?, MARK_DELAY))
+}
+
+/// The row is a retention in milliseconds (`.` for none), the block's resolution, and a moment.
+fn is_retained(alloc: Global, text: &str) -> Result<bool, MetaRefusal> {
+    let (retention, rest) = text.split_once(' ').unwrap_or((text, ""));
+    let (resolution, moment) = rest.split_once(' ').unwrap_or((rest, ""));
+    let retention = match retention.parse() {
+        Ok(ms) => Some(Span { ms }),
+        Err(_) => None,
+    };
+    let found = found_of(alloc, "1", "1", resolution, "")?;
+    Ok(!is_expired(&found.meta, retention, moment_of(moment)))
 }
 
 fn found_of(
