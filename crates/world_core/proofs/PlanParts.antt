@@ -1,9 +1,8 @@
 -- Plans of plans.
-use Rattle.std.proofs.Common.{◌≡◌, ◌⊎◌, inl, inr, List, [], ◌∷◌, ◌++◌, Option, Some, None, refl, sym, ap, subst, ◌∙◌}
+use Rattle.std.proofs.Common.{◌≡◌, inl, inr, List, [], ◌∷◌, ◌++◌, Option, Some, None, refl, sym, ap, subst, ◌∙◌}
 use Rattle.std.specs.Prelude.{fold, option_map}
 use Rattle.world_core.specs.Plans.{Plan, ends, never, asks, finds, Runs, and_then, noting}
 use Rattle.world_core.specs.declared.entry.Entry.{Entry}
-use Rattle.world_core.proofs.PlanLaws.{untold}
 
 -- ---- notes
 

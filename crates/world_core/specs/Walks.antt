@@ -9,7 +9,6 @@ use Rattle.world_core.specs.Plans.{Plan, ends, never, asks, choose}
 use Rattle.world_core.specs.declared.op.Op.{Op}
 use Rattle.world_core.specs.declared.reply.Reply.{Reply}
 use Rattle.world_core.specs.declared.reply.Reply.TheVariants.{Names, Failed}
-use Rattle.world_core.specs.declared.entry.Entry.{Entry}
 
 -- a name is greater than the one before it, if there is one
 abbrev pub is_after : Option (List ℕ) → List ℕ → Bool

@@ -1,6 +1,6 @@
 -- Of what stands under finitely many keys there is each page.
 use Rattle.list_core.proofs.Membership.{contains_first, contains_later, member_cases, no_member}
-use Rattle.std.proofs.Common.{◌≡◌, ◌⊎◌, inl, inr, ℕ, zero, suc, ◌≤◌, true, false, List, [], ◌∷◌, ◌++◌, length, Contains, Option, Some, None, refl, sym, ◌∙◌, ap, subst, arith}
+use Rattle.std.proofs.Common.{◌≡◌, ◌⊎◌, inl, inr, ℕ, zero, suc, ◌≤◌, List, [], ◌∷◌, ◌++◌, length, Contains, Option, Some, None, refl, sym, ◌∙◌, ap, subst, arith}
 use Rattle.std.specs.Prelude.{IsSome, is_some, ◌==◌}
 use Rattle.std.specs.List.{AllByRecursion, before_first}
 use Rattle.std.specs.Ordering.{nat_cmp, is_eq, ordering_reverse}

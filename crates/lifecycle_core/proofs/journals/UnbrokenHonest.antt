@@ -1,13 +1,12 @@
 -- A journal without a lie is honest: there is a reply that shows what stands, and it differs from any other one in its text.
 use Rattle.list_core.proofs.Membership.{contains_first}
-use Rattle.std.proofs.Common.{◌≡◌, ◌⊎◌, inl, inr, ℕ, zero, suc, true, List, [], ◌∷◌, ◌++◌, length, codes, take, drop, Contains, Option, Some, None, refl, sym, ◌∙◌, ap, subst, arith, append_assoc}
+use Rattle.std.proofs.Common.{◌≡◌, inl, inr, ℕ, zero, suc, true, List, [], ◌∷◌, ◌++◌, codes, take, drop, Contains, Option, Some, None, refl, sym, ◌∙◌, ap, subst, arith, append_assoc}
 use Rattle.std.specs.Prelude.{IsSome, is_some, option_map, ltb}
-use Rattle.std.specs.List.{AllByRecursion, before_first, list_all}
+use Rattle.std.specs.List.{list_all}
 use Rattle.std.specs.Str.{IsAscii}
 use Rattle.std.proofs.lemmas.Bool.{and_parts, ltb-true}
 use Rattle.std.proofs.lemmas.Fmt.{IsAscii-from_digits}
 use Rattle.std.proofs.lemmas.List.Elements.{All-contains, Contains-append_left, Contains-append_right}
-use Rattle.reading_core.specs.Grammar.{IsBytes}
 use Rattle.wire_bytes.proofs.Division.{bytes_small}
 use Rattle.ulid_core.specs.UlidText.{text_of}
 use Rattle.ulid_core.proofs.AsciiTexts.{IsAscii-text_of}
@@ -28,7 +27,7 @@ use Rattle.world_core.specs.declared.reply.Reply.{Reply}
 use Rattle.world_core.specs.declared.reply.Reply.TheVariants.{Clocked, Stored, Found, Absent, Deleted, Names, Failed}
 use Rattle.lifecycle_core.specs.Breaches.{FirstDiffer, IsUnbroken, honesty, shown_by}
 use Rattle.lifecycle_core.specs.Setting.{Setting}
-use Rattle.lifecycle_core.proofs.journals.Differing.{AreBelow, AreNames, Differ, below_both, ended, ended_below, names_low, same_behind, same_names, same_or_differ}
+use Rattle.lifecycle_core.proofs.journals.Differing.{AreBelow, AreNames, below_both, ended, ended_below, names_low, same_behind, same_names, same_or_differ}
 use Rattle.lifecycle_core.proofs.journals.OwedPages.{page_there}
 use Rattle.lifecycle_core.proofs.misses.Explaining.{WasPut, was_put}
 

@@ -8,7 +8,6 @@ use Rattle.block_meta.specs.MetaFields.{MarkFields, MetaFields, fields_of, mark_
 use Rattle.block_meta.specs.declared.deletion_mark.DeletionMark.{DeletionMark}
 use Rattle.block_meta.specs.declared.meta.Meta.{Meta}
 use Rattle.moment_core.specs.declared.moment.Moment.{Moment}
-use Rattle.world_core.specs.Plans.{Runs}
 use Rattle.world_core.specs.declared.entry.Entry.{Entry}
 use Rattle.world_core.proofs.PlanLaws.{one_end}
 use Rattle.sync_filters.specs.declared.found.Found.{Found}
