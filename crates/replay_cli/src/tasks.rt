@@ -51,7 +51,9 @@ pub(crate) fn do_task<B: Bucket>(
             let mut unseen = None;
             do_over(alloc, script, &task.work, &mut unseen, world, seat)
         }
-        Work::Sync(number) => at_gateway(alloc, script, task, place, *number, seats, progress, world),
+        Work::Sync(number) => at_gateway(
+            alloc, script, task, place, *number, seats, progress, world,
+        ),
         Work::Query { .. } => {
             if progress.gateways.is_empty() {
                 return (Ok(answer_of_none(alloc)), world);

@@ -68,6 +68,7 @@ pub(crate) fn print_shared(rt: &HostRuntime, text: &str) -> io::Result<()> {
 
 /// Where the list stands, and the table behind it.
 const LIST: u64 = 16;
+
 const TABLE: u64 = 0x1000_0000;
 
 fn shared_count(
