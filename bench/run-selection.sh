@@ -1,6 +1,7 @@
 #!/usr/bin/env bash
 # Times the proved selection of series beside a tight unverified loop over the same lists, in one run, over indexes of 10,000
-# and of 100,000 series with four labels, and prints a table, and whether every bar is met.
+# and of 100,000 series with four labels, and prints a table, the load of the machine, and whether every bar is met. What is
+# taken is the processor's time of the one thread, which does not count the turns of others.
 # The source with the loop's sum and its clock, limit.rs, is the first argument; without one, ../shared/bench/limit.rs beside
 # the repository. CPU names the processor that the proved code is built for, LIMIT_CPU that of the loop.
 set -euo pipefail
@@ -26,16 +27,18 @@ cat "$top/bench/index_form.rs" "$top/bench/selection.rs" >>"$made/selection.rs"
 rustc --edition 2021 -C opt-level=3 -C target-cpu="${LIMIT_CPU:-native}" -A warnings -o "$made/selection" "$made/selection.rs" \
     -L "$own/out" -l static=selection_c -C link-arg="$kit/c/liblibc_c.a"
 "$made/selection" >"$made/lines"
-awk '!($1 in time) || $2 < time[$1] { time[$1] = $2 }
+awk -v load="$(cut -d' ' -f1 /proc/loadavg)" '!($1 in time) || $2 < time[$1] { time[$1] = $2 }
 END {
     print "| Selection | Tight loop | Proved | Unit | Ratio | Bar |\n|---|---|---|---|---|---|"
     split("10000 100000", counts)
     for (i = 1; i <= 2; i++) {
         row("one `=`", "equal", counts[i])
         row("`=` and `!=`", "differs", counts[i])
+        row("`=` on a label with a value for each series", "unique", counts[i])
         row("one pattern over 1,000 values", "pattern", counts[i])
     }
     print missed ? "\nMissed: " missed : "\nEvery bar is met."
+    print "The load was " load "."
 }
 function row(title, name, n,   limit, proved) {
     title = title ", " n " series"
