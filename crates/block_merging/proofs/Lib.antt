@@ -1,0 +1,10 @@
+pub mod Filters
+pub mod Chains
+pub mod Spans
+pub mod PlacedOrders
+pub mod Sweeps
+pub mod PartRuns
+pub mod Putting
+pub mod OneMerge
+pub mod Merged
+pub mod Sweeping

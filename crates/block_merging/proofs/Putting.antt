@@ -1,0 +1,64 @@
+-- A chunk that is carried, and samples that are read of chunks.
+use Rattle.std.proofs.Common.{◌≡◌, ℕ, ◌+◌, ◌<◌, List, [], ◌∷◌, ◌++◌, length, map, take, get_or, Result, Ok, Err, refl, sym, ap, subst, ◌∙◌, arith, ℤ, append-nil}
+use Rattle.std.specs.Prelude.{OnOk}
+use Rattle.std.proofs.lemmas.Grind.{flat_map-append}
+use Rattle.std.proofs.lemmas.List.{map-append, take_more}
+use Rattle.label_sets.specs.declared.label.Label.{Label}
+use Rattle.label_sets.specs.declared.sample.Sample.{Sample}
+use Rattle.xor_chunks.specs.Grammar.{IsText}
+use Rattle.block_writing.specs.Each.{AreEach}
+use Rattle.block_writing.specs.Put.{PutChunk, Put, IsStored, IsAfterChunks, with_chunk}
+use Rattle.block_writing.proofs.Placed.{each_append}
+use Rattle.block_writing.proofs.PutLaws.{behind_last}
+use Rattle.block_merging.specs.declared.placed_chunk.PlacedChunk.{PlacedChunk}
+use Rattle.block_merging.specs.Placed.{placed_chunk}
+use Rattle.block_merging.specs.Steps.{StandsFor, joined, HasRun}
+
+pub carried : {U E : Type 0} (r : Result U E) (old new : Put) (content : List ℕ) (min max min' max' : ℤ) → min' ≡ min → max' ≡ max
+    → ((samples : List Sample) → IsText 8 content samples → OnOk r (new ≡ with_chunk old (record { content = content; min = min'; max = max' }) (length samples)))
+    → (samples : List Sample) → IsText 8 content samples → OnOk r (new ≡ with_chunk old (record { content = content; min = min; max = max }) (length samples))
+carried r old new content min max min' max' e f ok samples text =
+    subst (λ (t : ℤ). OnOk r (new ≡ with_chunk old (record { content = content; min = t; max = max }) (length samples))) e
+    (subst (λ (t : ℤ). OnOk r (new ≡ with_chunk old (record { content = content; min = min'; max = t }) (length samples))) f (ok samples text))
+
+pub alone_put : {U E : Type 0} (r : Result U E) (old new : Put) (labels : List Label) (chunk : PutChunk) → IsStored old.plan chunk
+    → ((samples : List Sample) → IsText 8 chunk.content samples → OnOk r (new ≡ with_chunk old chunk (length samples))) → OnOk r (HasRun old labels (chunk ∷ []) new)
+alone_put (Err e) old new labels chunk stored ok = tt
+alone_put (Ok x) old new labels chunk stored ok =
+    let is : new ≡ with_chunk old chunk (length stored.samples) = ok stored.samples stored.text_is in
+    let flat : length (joined (stored.samples ∷ [])) ≡ length stored.samples = ap length (append-nil stored.samples) in
+    record {
+      made = chunk ∷ [];
+      becomes = refl;
+      parts = stored.samples ∷ [];
+      read = (stored.text_is, tt);
+      plan_is = ap (λ (p : Put). p.plan) is;
+      series_are = ap (λ (p : Put). p.series) is;
+      chunks_are = ap (λ (p : Put). p.chunks) is;
+      samples_are = omega (arith, ap (λ (p : Put). p.samples) is, flat);
+      behind = λ time all. subst (λ (l : List PutChunk). IsAfterChunks l time) (sym (ap (λ (p : Put). p.chunks) is)) (behind_last old.chunks chunk time all.0);
+    }
+
+-- ---- samples that are read
+
+pub record Read (chunks : List PlacedChunk) (samples : List Sample) : Type 0 where
+  pub parts : List (List Sample)
+  pub are : AreEach StandsFor (map placed_chunk chunks) parts
+  pub whole : samples ≡ joined parts
+
+pub none_read : Read [] []
+none_read = record { parts = []; are = tt; whole = refl }
+
+pub flat_more : {A : Type 0} (parts : List (List A)) (part : List A) → joined (parts ++ part ∷ []) ≡ joined parts ++ part
+flat_more {A} parts part = flat_map-append (λ (p : List A). p) parts (part ∷ []) ∙ ap (λ (l : List A). joined parts ++ l) (append-nil part)
+
+pub read_more : (chunks : List PlacedChunk) (k : ℕ) (d : PlacedChunk) (samples new : List Sample) → k < length chunks → Read (take k chunks) samples
+    → ((read : List Sample) × IsText 8 (get_or chunks k d).chunk.bytes.now read × (new ≡ samples ++ read)) → Read (take (k + 1) chunks) new
+read_more chunks k d samples new lt h (read, text, is) =
+    let split : take (k + 1) chunks ≡ take k chunks ++ get_or chunks k d ∷ [] = take_more chunks k d lt in
+    let mapped : map placed_chunk (take (k + 1) chunks) ≡ map placed_chunk (take k chunks) ++ placed_chunk (get_or chunks k d) ∷ [] = ap (map placed_chunk) split ∙ map-append placed_chunk (take k chunks) (get_or chunks k d ∷ []) in
+    record {
+      parts = h.parts ++ read ∷ [];
+      are = subst (λ (l : List PutChunk). AreEach StandsFor l (h.parts ++ read ∷ [])) (sym mapped) (each_append StandsFor (map placed_chunk (take k chunks)) (placed_chunk (get_or chunks k d) ∷ []) h.parts (read ∷ []) h.are (text, tt));
+      whole = is ∙ ap (λ (l : List Sample). l ++ read) h.whole ∙ sym (flat_more h.parts read);
+    }

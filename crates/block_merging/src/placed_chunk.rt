@@ -1,0 +1,47 @@
+//! Chunks with their places in the list in which they were given.
+ghost use Rattle.std.specs.Prelude.{◌≡◌, IfOk, OnOk};
+ghost use Rattle.list_core.specs.Ordered.{in_order};
+ghost use Rattle.block_merging.specs.Placed.{placed_from, begins_before, stands_before};
+
+use crate::InputChunk;
+use list_core::NoMemory;
+use std::alloc::Global;
+
+/// A chunk, and its place in the list in which it was given.
+#[derive(Clone, Copy)]
+pub(crate) struct PlacedChunk<'a> {
+    pub(crate) chunk: InputChunk<'a>,
+    pub(crate) place: usize,
+}
+
+pub(crate) fn placed<'a>(
+    alloc: Global,
+    chunks: &[InputChunk<'a>],
+) -> Result<Vec<PlacedChunk<'a>>, NoMemory>
+    ensures { IfOk result (λ made. made.items ≡ placed_from 0 chunks.now) }
+{
+    let mut made = Vec::new(alloc);
+    for (place, chunk) in chunks.iter().enumerate() {
+        made.push(PlacedChunk {
+            chunk: *chunk,
+            place,
+        })?;
+    }
+    Ok(made)
+}
+
+/// Puts chunks in the order of their begins.
+pub(crate) fn sort_by_begin(chunks: &mut Vec<PlacedChunk<'_>>) -> Result<(), NoMemory>
+    ensures { OnOk result (chunks.new.items ≡ in_order begins_before chunks.old.items) }
+{
+    chunks.sort_by_key(|one| one.chunk.min)?;
+    Ok(())
+}
+
+/// Puts chunks in the order in which they were given.
+pub(crate) fn sort_by_place(chunks: &mut Vec<PlacedChunk<'_>>) -> Result<(), NoMemory>
+    ensures { OnOk result (chunks.new.items ≡ in_order stands_before chunks.old.items) }
+{
+    chunks.sort_by_key(|one| one.place)?;
+    Ok(())
+}
