@@ -14,14 +14,13 @@ ghost use Rattle.replay_cli.specs.Reports.{activity_text};
 ghost use Rattle.script_running.specs.Outcomes.{is_as_asked};
 ghost use Rattle.lifecycle_core.specs.Setting.{setting_of};
 
-use script_running::Broken;
-use script_running::Outcome;
 use crate::report::put_activity;
 use crate::seats::Seats;
 use crate::tasks::do_task;
 use bucket_core::Bucket;
 use list_core::{NoMemory, TryCopy};
 use script_core::{Phase, Script, Task};
+use script_running::{Broken, Outcome};
 use std::alloc::Global;
 use store_gateway::Gateway;
 use world_core::{Acted, Op, World};

@@ -6,11 +6,11 @@ ghost use Rattle.replay_cli.specs.Checks.{check_line};
 ghost use Rattle.replay_cli.specs.Reports.{activity_text, gateway_name, upload_line, sync_line, query_line, query_text, no_answer_words, answer_text, counts_text, source_line, series_line, newline};
 
 use crate::check_outcome::CheckOutcome;
-use script_running::{NoAnswer, Outcome, QueryOutcome, SyncOutcome, UploadOutcome};
 use label_sets::{Series, SeriesList, sample_count};
 use list_core::NoMemory;
 use reading_core::{put_signed, put_unsigned};
 use script_core::{Script, Task, Work};
+use script_running::{NoAnswer, Outcome, QueryOutcome, SyncOutcome, UploadOutcome};
 use ulid_core::{Ulid, UlidList};
 
 /// Appends the lines of one activity, or a part of them where memory runs out.

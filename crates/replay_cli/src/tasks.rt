@@ -1,6 +1,6 @@
 //! One task of a script, done in the order of the lines.
 
-ghost use Rattle.std.specs.Prelude.{◌≡◌, ◌<◌, ℕ, Some, Err, length};
+ghost use Rattle.std.specs.Prelude.{◌≡◌, ◌<◌, [], ℕ, Err, length};
 ghost use Rattle.world_core.specs.Keeping.{IsFull};
 ghost use Rattle.script_core.specs.Lawful.{IsLawfulScript};
 ghost use Rattle.script_workers.specs.declared.hand.Hand.TheVariants as hands;
@@ -51,7 +51,9 @@ pub(crate) fn do_task<B: Bucket>(
             let mut unseen = None;
             do_over(alloc, script, &task.work, &mut unseen, world, seat)
         }
-        Work::Sync(number) => at_gateway(alloc, script, task, place, *number, seats, progress, world),
+        Work::Sync(number) => at_gateway(
+            alloc, script, task, place, *number, seats, progress, world,
+        ),
         Work::Query { .. } => {
             if progress.gateways.is_empty() {
                 return (Ok(answer_of_none(alloc)), world);

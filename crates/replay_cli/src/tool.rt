@@ -10,7 +10,6 @@ ghost use Rattle.replay_cli.specs.Verdicts.{BehindOpening, IsCalm, IsCaused, IsC
 ghost use Rattle.replay_cli.specs.Words.{block_word, bucket_word, named_by, shelf_word};
 ghost use Rattle.lifecycle_core.specs.Setting.{setting_of};
 
-use script_running::Broken;
 use crate::check::check_block;
 use crate::conclusion::{Conclusion, Ended};
 use crate::input::read_all;
@@ -21,6 +20,7 @@ use crate::words::{read_check, read_serial};
 use crate::{InputRefusal, Run, Status, Verdict};
 use bucket_core::{Bucket, Sink, Site, Source};
 use script_core::{Script, ScriptRefusal};
+use script_running::Broken;
 use std::alloc::Global;
 use world_core::{Journal, OpenRefusal, World};
 
