@@ -4,7 +4,7 @@ use Rattle.std.specs.Prelude.{◌==◌, Option, Some, None, slice_get, Ok, Err}
 use Rattle.std.specs.List.{All, range_with_len}
 use Rattle.std.proofs.Math.ListN.{set}
 use Rattle.std.proofs.lemmas.List.Elements.{All-push}
-use Rattle.std.proofs.lemmas.Bool.Decides.{nat_tests}
+use Rattle.std.proofs.lemmas.Bool.Decides.{Decides-eqb, nat_tests}
 use Rattle.std.proofs.lemmas.List.{append-nil}
 use Rattle.world_core.specs.Operations.{entry_of}
 use Rattle.world_core.specs.declared.entry.Entry.{Entry}
@@ -177,9 +177,8 @@ query_for setting place task gateways low high selector w few same some =
 
 -- whether there is a gateway
 pub no_member : (count : ℕ) (empty : Bool) → empty ≡ (count == 0) → empty ≡ true → count ≡ 0
-no_member zero empty is yes = refl
-no_member (suc n) empty is yes = absurd (cc (is, yes))
+no_member count empty is yes = (Decides-eqb count 0).0 (sym is ∙ yes)
 
 pub some_member : (count : ℕ) (empty : Bool) → empty ≡ (count == 0) → empty ≡ false → 0 < count
-some_member zero empty is not = absurd (cc (is, not))
+some_member zero empty is not = let yes : (0 == 0) ≡ true = (Decides-eqb 0 0).1 refl in absurd (cc (sym yes ∙ sym is ∙ not))
 some_member (suc n) empty is not = omega arith
