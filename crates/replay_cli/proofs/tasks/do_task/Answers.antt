@@ -1,4 +1,4 @@
-use Rattle.std.proofs.Common.{refl, sym, subst}
+use Rattle.std.proofs.Common.{refl, sym, subst, arith}
 use Rattle.std.specs.Prelude.{Ok}
 use Rattle.script_workers.specs.declared.hand.Hand.TheVariants as hands
 use Rattle.lifecycle_core.specs.Holdings.{nothing_held}
@@ -22,9 +22,9 @@ pub returns-then-is_empty-clause-step : goal.returns-then-is_empty-clause-step
 returns-then-is_empty-clause-step g c = λ views shows.
     subst (λ (o : Outcome). TaskStep (setting_of c.args.script.now) (seat_of c.args.seats.now.workers) c.args.place c.args.task.now views c.args.progress.now.gateways.items c.args.world.journal c.args.world.journal (Ok o)) (sym c.answer_of_none.ensures)
     (unasked_step (setting_of c.args.script.now) (seat_of c.args.seats.now.workers) c.args.place c.args.task.now views c.args.progress.now.gateways.items c.args.world.journal c.in-Query.low c.in-Query.high c.in-Query.selector c.in-Query.is
-    c.requires.ready (no_member _ c.is_empty.result c.is_empty.ensures c.if-is_empty.true) shows)
+    c.requires.ready (let none = no_member _ c.is_empty.result c.is_empty.ensures c.if-is_empty.true in let ok = c.args.progress.now.gateways.ok in omega arith) shows)
 
 pub at_gateway-requires-in-Query-clause-alone : goal.at_gateway-requires-in-Query-clause-alone
 at_gateway-requires-in-Query-clause-alone g c =
     query_for (setting_of c.args.script.now) c.args.place c.args.task.now c.args.progress.now.gateways.items c.in-Query.low c.in-Query.high c.in-Query.selector c.in-Query.is c.requires.lawful.few_gateways c.requires.ready
-    (some_member _ c.is_empty.result c.is_empty.ensures c.if-is_empty.false)
+    (let some = some_member _ c.is_empty.result c.is_empty.ensures c.if-is_empty.false in let ok = c.args.progress.now.gateways.ok in omega arith)
