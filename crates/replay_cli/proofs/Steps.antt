@@ -177,8 +177,8 @@ query_for setting place task gateways low high selector w few same some =
 
 -- whether there is a gateway
 pub no_member : (count : ℕ) (empty : Bool) → empty ≡ (count == 0) → empty ≡ true → count ≡ 0
-no_member count empty is yes = (Decides-eqb count 0).0 (sym is ∙ yes)
+no_member count empty is holds = (Decides-eqb count 0).0 (sym is ∙ holds)
 
 pub some_member : (count : ℕ) (empty : Bool) → empty ≡ (count == 0) → empty ≡ false → 0 < count
-some_member zero empty is not = let yes : (0 == 0) ≡ true = (Decides-eqb 0 0).1 refl in absurd (cc (sym yes ∙ sym is ∙ not))
-some_member (suc n) empty is not = omega arith
+some_member zero empty is fails = let same : (0 == 0) ≡ true = (Decides-eqb 0 0).1 refl in absurd (cc (sym same ∙ sym is ∙ fails))
+some_member (suc n) empty is fails = omega arith
