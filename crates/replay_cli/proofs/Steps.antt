@@ -1,10 +1,10 @@
 -- One task of a script: its run in line, and what it came to.
 use Rattle.std.proofs.Common.{◌≡◌, ◌≢◌, ℕ, ℤ, zero, suc, ◌<◌, ◌≤◌, Bool, true, false, List, [], ◌∷◌, ◌++◌, length, map, refl, sym, ◌∙◌, ap, subst, inl, inr, arith}
-use Rattle.std.specs.Prelude.{◌==◌, Option, Some, None, option_map, slice_get, Ok, Err}
+use Rattle.std.specs.Prelude.{◌==◌, Option, Some, None, slice_get, Ok, Err}
 use Rattle.std.specs.List.{All, range_with_len}
 use Rattle.std.proofs.Math.ListN.{set}
 use Rattle.std.proofs.lemmas.List.Elements.{All-push}
-use Rattle.std.proofs.lemmas.Bool.Decides.{nat_tests}
+use Rattle.std.proofs.lemmas.Bool.Decides.{Decides-eqb, nat_tests}
 use Rattle.std.proofs.lemmas.List.{append-nil}
 use Rattle.world_core.specs.Operations.{entry_of}
 use Rattle.world_core.specs.declared.entry.Entry.{Entry}
@@ -16,13 +16,13 @@ use Rattle.script_workers.specs.declared.hand.Hand.TheVariants as hands
 use Rattle.script_workers.specs.declared.task.Task.{Task}
 use Rattle.script_workers.specs.declared.work.Work.{Work}
 use Rattle.script_workers.specs.declared.work.Work.TheVariants as works
-use Rattle.lifecycle_core.specs.Holdings.{Holding, Holdings, Use, holding_of, nothing_held, with_holding}
+use Rattle.lifecycle_core.specs.Holdings.{Holding, Holdings, holding_of, nothing_held, with_holding}
 use Rattle.lifecycle_core.specs.InLine.{Duty, InLine, duties_from, who_does}
 use Rattle.lifecycle_core.specs.Setting.{Setting}
 use Rattle.lifecycle_core.specs.Tasks.{End, TaskRun}
 use Rattle.script_running.specs.Drives.{Came}
 use Rattle.script_running.specs.Outcomes.{IsOutcome}
-use Rattle.script_running.specs.Tasks.{CameBy, Does, HasDone, IsDueAfter, Sees, WhenFull}
+use Rattle.script_running.specs.Tasks.{CameBy, Does, HasDone, IsDueAfter, Sees}
 use Rattle.script_running.proofs.TaskSteps.{when_full}
 use Rattle.script_running.specs.declared.came.Broken.TheVariants as broken
 use Rattle.script_running.specs.declared.outcome.Outcome.TheVariants as outcome
@@ -174,3 +174,11 @@ pub query_for : (setting : Setting) (place : ℕ) (task : Task) (gateways : List
     → IsOnlyHand setting place task (hands.Gateway 0)
 query_for setting place task gateways low high selector w few same some =
     one_duty setting place task (hands.Gateway 0) (ap (hands_of_task (gateway_count setting.script.gateways) place) w ∙ none_asked setting place low high selector 1 (omega (arith, few, same, some)))
+
+-- whether there is a gateway
+pub no_member : (count : ℕ) (empty : Bool) → empty ≡ (count == 0) → empty ≡ true → count ≡ 0
+no_member count empty is holds = (Decides-eqb count 0).0 (sym is ∙ holds)
+
+pub some_member : (count : ℕ) (empty : Bool) → empty ≡ (count == 0) → empty ≡ false → 0 < count
+some_member zero empty is fails = let same : (0 == 0) ≡ true = (Decides-eqb 0 0).1 refl in absurd (cc (sym same ∙ sym is ∙ fails))
+some_member (suc n) empty is fails = omega arith

@@ -1,6 +1,6 @@
 //! One task of a script, done in the order of the lines.
 
-ghost use Rattle.std.specs.Prelude.{◌≡◌, ◌<◌, ℕ, Some, Err, length};
+ghost use Rattle.std.specs.Prelude.{◌≡◌, ◌<◌, [], ℕ, Err, length};
 ghost use Rattle.world_core.specs.Keeping.{IsFull};
 ghost use Rattle.script_core.specs.Lawful.{IsLawfulScript};
 ghost use Rattle.script_workers.specs.declared.hand.Hand.TheVariants as hands;

@@ -1,6 +1,6 @@
 -- A worker's job, from its tasks.
 use Rattle.std.proofs.Common.{◌≡◌, ℕ, zero, suc, ◌<◌, List, [], ◌∷◌, ◌++◌, length, drop, get_or, refl, sym, ◌∙◌, ap, subst}
-use Rattle.std.specs.Prelude.{Option, Some, None, Result, Ok, Err, IfSome, slice_get}
+use Rattle.std.specs.Prelude.{Option, Some, None, Ok, Err, IfSome, slice_get}
 use Rattle.std.specs.List.{All}
 use Rattle.world_core.specs.Keeping.{IsFull}
 use Rattle.world_core.specs.declared.entry.Entry.{Entry}

@@ -1,5 +1,5 @@
 -- One task of a worker: from the runs of its activity to a run of the task.
-use Rattle.std.proofs.Common.{◌≡◌, ℕ, ℤ, Bool, List, [], ◌∷◌, ◌++◌, refl, sym, ◌∙◌, ap, subst, inl, inr, arith, pos, ◌≤ℤ◌, ◌^◌}
+use Rattle.std.proofs.Common.{◌≡◌, ℕ, ℤ, List, [], ◌∷◌, ◌++◌, refl, sym, ◌∙◌, ap, subst, inr, arith, pos, ◌≤ℤ◌, ◌^◌}
 use Rattle.std.specs.Prelude.{neg_ℤ, Option, Some, None, option_map, slice_get, Ok, Err}
 use Rattle.std.specs.Int.{w64}
 use Rattle.std.proofs.lemmas.Int.{ints}

@@ -1,6 +1,6 @@
 -- A worker's tasks, one after another.
 use Rattle.std.proofs.Common.{◌≡◌, ℕ, zero, suc, ◌+◌, ◌<◌, List, [], ◌∷◌, ◌++◌, length, take, drop, get_or, refl, sym, ◌∙◌, ap, subst, inl, inr, append_assoc, arith}
-use Rattle.std.specs.Prelude.{Option, Some, None, Result, Ok, Err, slice_get}
+use Rattle.std.specs.Prelude.{Option, Some, None, Ok, Err, slice_get}
 use Rattle.std.specs.List.{All}
 use Rattle.std.proofs.lemmas.List.{append-nil, length-append, take_more}
 use Rattle.std.proofs.lemmas.Option.{slice_get-get_or}
@@ -10,16 +10,16 @@ use Rattle.world_core.specs.declared.entry.Entry.{Entry}
 use Rattle.meta_fetcher.specs.declared.view.View.{View}
 use Rattle.script_core.specs.Lawful.{IsLawfulScript, IsLawfulWork}
 use Rattle.script_workers.specs.declared.task.Task.{Task}
-use Rattle.lifecycle_core.specs.Conducts.{Assigned, TasksAt, TasksRun, Who}
+use Rattle.script_workers.specs.declared.work.Work.{Work}
+use Rattle.lifecycle_core.specs.Conducts.{Assigned, TasksAt, Who}
 use Rattle.lifecycle_core.specs.Holdings.{Holding}
-use Rattle.lifecycle_core.specs.Phases.{by_script}
 use Rattle.lifecycle_core.specs.Setting.{Setting}
 use Rattle.lifecycle_core.specs.Tasks.{End, TaskRun}
 use Rattle.lifecycle_core.proofs.phases.RunsInLine.{may_begin}
 use Rattle.lifecycle_core.proofs.phases.TaskRuns.{MayBegin}
 use Rattle.script_running.specs.Drives.{Came}
 use Rattle.script_running.specs.Outcomes.{IsOutcome}
-use Rattle.script_running.specs.Tasks.{CameBy, Does, HasDone, IsDueAfter, Sees}
+use Rattle.script_running.specs.Tasks.{CameBy, HasDone, Sees}
 use Rattle.script_running.specs.Workers.{AreOutcomes, HasWorked, IsBrokenOff, OwnRun}
 use Rattle.script_running.specs.declared.came.Broken.{Broken}
 use Rattle.script_running.specs.declared.came.Broken.TheVariants as broken
@@ -160,7 +160,7 @@ module _ (setting : Setting) (tasks : List Task) (who : Who) (places : List ℕ)
   on_by (a ∷ more) made (Some end) after begin run =
       ((w.ends ++ end ∷ [], after), w.onward (this ∷ a ∷ more) made (end ∷ []) after (λ all. inl (made, [], end, [], after, sym (append-nil made), run, refl, inr (begin 0 a (omega arith) who a.place after, refl))))
 
-  none_by : (work : _) (end : Option End) (why : Broken) → CameBy work end (Err why) → end ≡ None
+  none_by : (work : Work) (end : Option End) (why : Broken) → CameBy work end (Err why) → end ≡ None
   none_by work None why by = refl
   none_by work (Some end) broken.Full by = absurd by
   none_by work (Some end) broken.NoMemory by = absurd by

@@ -1,6 +1,6 @@
 //! A worker of a phase: it does its tasks one after another.
 
-ghost use Rattle.std.specs.Prelude.{◌≡◌, ◌++◌, ◌<◌, ◌||◌, [], Ok, Err, IfSome, length};
+ghost use Rattle.std.specs.Prelude.{◌≡◌, ◌<◌, [], Ok, Err, IfSome, length};
 ghost use Rattle.std.specs.List.{All};
 ghost use Rattle.world_core.specs.Keeping.{IsFull};
 ghost use Rattle.script_core.specs.Lawful.{IsLawfulScript};
@@ -11,7 +11,6 @@ ghost use Rattle.script_running.specs.Tasks.{Allows, Sees};
 ghost use Rattle.script_running.specs.Workers.{IsAtWork, HasWorked};
 
 use crate::{Broken, Outcome, run_task};
-use list_core::NoMemory;
 use meta_fetcher::View;
 use phase_runner::Job;
 use script_core::{Script, Task, Worker};
