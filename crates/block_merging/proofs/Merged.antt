@@ -1,7 +1,7 @@
 -- The merge of a run's chunks lies where they lie.
 use Rattle.std.proofs.Common.{◌≡◌, ◌≢◌, ℕ, suc, ◌-◌, ◌<◌, List, [], ◌∷◌, length, map, get_or, Option, Some, None, Result, Ok, Err, refl, sym, ap, subst, ◌∙◌, arith, inl, inr, ℤ, true, false, cond}
 use Rattle.std.specs.Prelude.{Contains, slice_get, OnOk, ◌≤ℤ◌, ◌<ℤ◌}
-use Rattle.std.specs.List.{AllByRecursion}
+use Rattle.std.specs.List.{AllByRecursion, AllZip}
 use Rattle.std.proofs.lemmas.Int.{ints}
 use Rattle.std.proofs.lemmas.List.Elements.{Contains-append_left, Contains-append_cases}
 use Rattle.std.proofs.lemmas.List.{length-map}
@@ -19,7 +19,6 @@ use Rattle.xor_chunks.proofs.TextsRead.{data_again}
 use Rattle.index_parts.specs.declared.chunk_place.ChunkPlace.{ChunkPlace}
 use Rattle.block_content.specs.Content.{HaveTimesOf}
 use Rattle.block_content.proofs.Appending.{text_between}
-use Rattle.block_writing.specs.Each.{AreEach}
 use Rattle.block_writing.specs.Put.{PlanFields, PutChunk, Put, IsWithin, IsStored, IsAfter, IsAfterChunks}
 use Rattle.block_writing.specs.Built.{AreOfBlock, BeginAfter, IsEncoded}
 use Rattle.block_writing.proofs.Parts.{stored_text}
@@ -68,7 +67,7 @@ is_timed plan chunk stored =
     let b = each_member (IsInside chunk) stored.samples s.0 (part_inside plan chunk stored.samples stored stored.text_is) s.1 in
     trans chunk.min (s.0).time chunk.max b.0 b.1
 
-pub samples_inside : (plan : PlanFields) (chunks : List PutChunk) (parts : List (List Sample)) (s : Sample) → AllByRecursion (IsStored plan) chunks → AreEach StandsFor chunks parts → Contains (joined parts) s
+pub samples_inside : (plan : PlanFields) (chunks : List PutChunk) (parts : List (List Sample)) (s : Sample) → AllByRecursion (IsStored plan) chunks → AllZip StandsFor chunks parts → Contains (joined parts) s
     → (c : PutChunk) × Contains chunks c × IsInside c s × IsWithin plan s
 samples_inside plan [] [] s stored each among = absurd (no_member s among)
 samples_inside plan [] (p ∷ parts) s stored each among = absurd each
@@ -78,7 +77,7 @@ samples_inside plan (c ∷ chunks) (p ∷ parts) s stored each among = elim (Con
   | inr later ↦ let w = samples_inside plan chunks parts s stored.1 each.1 later in (w.0, contains_later c w.0 chunks w.1, w.2, w.3)
 ]
 
-some_inside : (plan : PlanFields) (chunks : List PutChunk) (parts : List (List Sample)) (c : PutChunk) → AllByRecursion (IsStored plan) chunks → AreEach StandsFor chunks parts → Contains chunks c → (s : Sample) × Contains (joined parts) s
+some_inside : (plan : PlanFields) (chunks : List PutChunk) (parts : List (List Sample)) (c : PutChunk) → AllByRecursion (IsStored plan) chunks → AllZip StandsFor chunks parts → Contains chunks c → (s : Sample) × Contains (joined parts) s
 some_inside plan [] parts c stored each among = absurd (no_member c among)
 some_inside plan (d ∷ chunks) [] c stored each among = absurd each
 some_inside plan (d ∷ chunks) (p ∷ parts) c stored each among = let s = chunk_sample plan d p stored.0 each.0 in (s.0, Contains-append_left p (joined parts) s.0 s.1)
@@ -123,14 +122,14 @@ alone_told r old new labels run d one ok = subst (λ (l : List PutChunk). OnOk r
 -- ---- what is kept of a run
 
 pub samples_some : (plan : PlanFields) (run : List PlacedChunk) (samples : List Sample) → 1 < length run → AllByRecursion (IsStored plan) (map placed_chunk run)
-    → ((parts : List (List Sample)) × AreEach StandsFor (run_in run) parts × (samples ≡ joined parts)) → samples ≢ []
+    → ((parts : List (List Sample)) × AllZip StandsFor (run_in run) parts × (samples ≡ joined parts)) → samples ≢ []
 samples_some plan [] samples many stored read none = absurd (omega (arith, many))
 samples_some plan (x ∷ xs) samples many stored (parts, each, is) none =
     let s = some_inside plan (run_in (x ∷ xs)) parts (placed_chunk x) (in_run (IsStored plan) (x ∷ xs) stored) each (first_in_run x xs) in
     no_member s.0 (subst (λ (l : List Sample). Contains l s.0) (sym is ∙ none) s.1)
 
 pub kept_inside : (plan : PlanFields) (labels : List Label) (run : List PlacedChunk) (samples : List Sample) (kept : Series) (s : Sample) → AllByRecursion (IsStored plan) (map placed_chunk run)
-    → ((parts : List (List Sample)) × AreEach StandsFor (run_in run) parts × (samples ≡ joined parts)) → IsMerge (triples_under labels samples) (kept ∷ []) → Contains kept.samples s
+    → ((parts : List (List Sample)) × AllZip StandsFor (run_in run) parts × (samples ≡ joined parts)) → IsMerge (triples_under labels samples) (kept ∷ []) → Contains kept.samples s
     → (c : PutChunk) × Contains (run_in run) c × IsInside c s × IsWithin plan s
 kept_inside plan labels run samples kept s stored (parts, each, is) merged among =
     let g = kept_given labels samples kept s merged among in
@@ -142,7 +141,7 @@ some_length [] some = absurd (some refl)
 some_length (x ∷ xs) some = omega arith
 
 pub kept_of_block : (plan : PlanFields) (labels : List Label) (run : List PlacedChunk) (samples : List Sample) (kept : Series) → AllByRecursion (IsStored plan) (map placed_chunk run)
-    → ((parts : List (List Sample)) × AreEach StandsFor (run_in run) parts × (samples ≡ joined parts)) → IsMerge (triples_under labels samples) (kept ∷ []) → AreOfBlock plan kept.samples
+    → ((parts : List (List Sample)) × AllZip StandsFor (run_in run) parts × (samples ≡ joined parts)) → IsMerge (triples_under labels samples) (kept ∷ []) → AreOfBlock plan kept.samples
 kept_of_block plan labels run samples kept stored read merged = record {
   some = some_length kept.samples (merged.inhabited 0 kept (omega arith));
   ascend = kept_ascend labels samples kept merged;
@@ -155,20 +154,20 @@ after_later (Some c) a b le after = lt_le c.max a b after le
 
 pub kept_after : (plan : PlanFields) (chunks : List PutChunk) (labels : List Label) (run : List PlacedChunk) (samples : List Sample) (kept : Series) → AllByRecursion (IsStored plan) (map placed_chunk run)
     → AllByRecursion (λ c. IsAfterChunks chunks c.min) (map placed_chunk run)
-    → ((parts : List (List Sample)) × AreEach StandsFor (run_in run) parts × (samples ≡ joined parts)) → IsMerge (triples_under labels samples) (kept ∷ []) → BeginAfter chunks kept.samples
+    → ((parts : List (List Sample)) × AllZip StandsFor (run_in run) parts × (samples ≡ joined parts)) → IsMerge (triples_under labels samples) (kept ∷ []) → BeginAfter chunks kept.samples
 kept_after plan chunks labels run samples kept stored after read merged time at =
     let s = of_map (λ (x : Sample). x.time) kept.samples time (contains_place (map (λ (x : Sample). x.time) kept.samples) 0 time at) in
     let w = kept_inside plan labels run samples kept s.0 stored read merged s.1 in
     after_later (slice_get chunks (length chunks - 1)) (w.0).min time (subst (λ (t : ℤ). (w.0).min ≤ℤ t) s.2 w.2.0) (each_member (λ c. IsAfterChunks chunks c.min) (run_in run) w.0 (in_run (λ c. IsAfterChunks chunks c.min) run after) w.1)
 
-texts_of : (parts : List (List Sample)) (chunks : List PutChunk) → AreEach IsEncoded parts chunks → AreEach StandsFor chunks parts
+texts_of : (parts : List (List Sample)) (chunks : List PutChunk) → AllZip IsEncoded parts chunks → AllZip StandsFor chunks parts
 texts_of [] [] each = tt
 texts_of [] (c ∷ chunks) each = absurd each
 texts_of (p ∷ parts) [] each = absurd each
 texts_of (p ∷ parts) (c ∷ chunks) each = (stored_text c.content p each.0.text_is, texts_of parts chunks each.1)
 
 merged_put : (old new : Put) (labels : List Label) (run : List PlacedChunk) (samples : List Sample) (kept : Series) → 1 < length run → AllByRecursion (IsStored old.plan) (map placed_chunk run)
-    → ((parts : List (List Sample)) × AreEach StandsFor (run_in run) parts × (samples ≡ joined parts)) → IsMerge (triples_under labels samples) (kept ∷ []) → HasParts old kept.samples new → HasRun old labels (run_in run) new
+    → ((parts : List (List Sample)) × AllZip StandsFor (run_in run) parts × (samples ≡ joined parts)) → IsMerge (triples_under labels samples) (kept ∷ []) → HasParts old kept.samples new → HasRun old labels (run_in run) new
 merged_put old new labels run samples kept many stored (parts, each, is) merged has = record {
   made = has.made;
   becomes = becomes_many labels (run_in run) has.made (omega (arith, many, length_ordered run, length-map (in_order stands_before run) placed_chunk)) (record {
@@ -190,6 +189,6 @@ merged_put old new labels run samples kept many stored (parts, each, is) merged 
 }
 
 pub merged_told : {U E : Type 0} (r : Result U E) (old new : Put) (labels : List Label) (run : List PlacedChunk) (samples list : List Sample) (kept : Series) → 1 < length run → AllByRecursion (IsStored old.plan) (map placed_chunk run)
-    → ((parts : List (List Sample)) × AreEach StandsFor (run_in run) parts × (samples ≡ joined parts)) → IsMerge (triples_under labels samples) (kept ∷ []) → list ≡ kept.samples → OnOk r (HasParts old list new) → OnOk r (HasRun old labels (run_in run) new)
+    → ((parts : List (List Sample)) × AllZip StandsFor (run_in run) parts × (samples ≡ joined parts)) → IsMerge (triples_under labels samples) (kept ∷ []) → list ≡ kept.samples → OnOk r (HasParts old list new) → OnOk r (HasRun old labels (run_in run) new)
 merged_told (Err e) old new labels run samples list kept many stored read merged same ok = tt
 merged_told (Ok x) old new labels run samples list kept many stored read merged same ok = merged_put old new labels run samples kept many stored read merged (subst (λ (l : List Sample). HasParts old l new) same ok)

@@ -3,8 +3,7 @@ use Rattle.std.proofs.Common.{◌≡◌, ℕ, ◌-◌, ◌^◌, ◌<◌, List, [
 use Rattle.std.specs.Prelude.{min, ◌<ℤ◌, Contains}
 use Rattle.std.proofs.lemmas.List.Elements.{Contains-append_right}
 use Rattle.std.proofs.lemmas.List.{nil_from_length}
-use Rattle.block_writing.specs.Each.{AreEach}
-use Rattle.std.specs.List.{AllByRecursion}
+use Rattle.std.specs.List.{AllByRecursion, AllZip}
 use Rattle.label_sets.specs.declared.sample.Sample.{Sample}
 use Rattle.block_meta.specs.Lawful.{AreLawfulTimes}
 use Rattle.xor_chunks.specs.Written.{AreOfChunk}
@@ -57,7 +56,7 @@ run_more begin samples left part after now new k h some few part_is after_is (ch
 
 -- ---- all parts were put
 
-pub each_back : {A B : Type 0} (R : A → B → Type 0) (xs : List A) (ys : List B) (y : B) → AreEach R xs ys → Contains ys y → (x : A) × Contains xs x × R x y
+pub each_back : {A B : Type 0} (R : A → B → Type 0) (xs : List A) (ys : List B) (y : B) → AllZip R xs ys → Contains ys y → (x : A) × Contains xs x × R x y
 each_back R [] [] y each among = absurd (no_member y among)
 each_back R [] (z ∷ ys) y each among = absurd each
 each_back R (x ∷ xs) [] y each among = absurd each
@@ -67,7 +66,7 @@ each_back {A} {B} R (x ∷ xs) (z ∷ ys) y each among = elim (member_cases z y 
 ]
 
 -- the chunk ends at the time of one of the samples
-ends_at : (parts : List (List Sample)) (made : List PutChunk) (chunk : PutChunk) → AreEach IsEncoded parts made → Contains made chunk → (s : Sample) × Contains (joined parts) s × (s.time ≡ chunk.max)
+ends_at : (parts : List (List Sample)) (made : List PutChunk) (chunk : PutChunk) → AllZip IsEncoded parts made → Contains made chunk → (s : Sample) × Contains (joined parts) s × (s.time ≡ chunk.max)
 ends_at parts made chunk each among =
     let w = each_back IsEncoded parts made chunk each among in
     let at = of_map (λ (s : Sample). s.time) w.0 chunk.max (contains_place (map (λ (s : Sample). s.time) w.0) (length w.0 - 1) chunk.max w.2.ends) in

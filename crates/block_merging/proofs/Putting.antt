@@ -1,12 +1,12 @@
 -- A chunk that is carried, and samples that are read of chunks.
 use Rattle.std.proofs.Common.{◌≡◌, ℕ, ◌+◌, ◌<◌, List, [], ◌∷◌, ◌++◌, length, map, take, get_or, Result, Ok, Err, refl, sym, ap, subst, ◌∙◌, arith, ℤ, append-nil}
 use Rattle.std.specs.Prelude.{OnOk}
+use Rattle.std.specs.List.{AllZip}
 use Rattle.std.proofs.lemmas.Grind.{flat_map-append}
 use Rattle.std.proofs.lemmas.List.{map-append, take_more}
 use Rattle.label_sets.specs.declared.label.Label.{Label}
 use Rattle.label_sets.specs.declared.sample.Sample.{Sample}
 use Rattle.xor_chunks.specs.Grammar.{IsText}
-use Rattle.block_writing.specs.Each.{AreEach}
 use Rattle.block_writing.specs.Put.{PutChunk, Put, IsStored, IsAfterChunks, with_chunk}
 use Rattle.block_writing.proofs.Placed.{each_append}
 use Rattle.block_writing.proofs.PutLaws.{behind_last}
@@ -43,7 +43,7 @@ alone_put (Ok x) old new labels chunk stored ok =
 
 pub record Read (chunks : List PlacedChunk) (samples : List Sample) : Type 0 where
   pub parts : List (List Sample)
-  pub are : AreEach StandsFor (map placed_chunk chunks) parts
+  pub are : AllZip StandsFor (map placed_chunk chunks) parts
   pub whole : samples ≡ joined parts
 
 pub none_read : Read [] []
@@ -59,6 +59,6 @@ read_more chunks k d samples new lt h (read, text, is) =
     let mapped : map placed_chunk (take (k + 1) chunks) ≡ map placed_chunk (take k chunks) ++ placed_chunk (get_or chunks k d) ∷ [] = ap (map placed_chunk) split ∙ map-append placed_chunk (take k chunks) (get_or chunks k d ∷ []) in
     record {
       parts = h.parts ++ read ∷ [];
-      are = subst (λ (l : List PutChunk). AreEach StandsFor l (h.parts ++ read ∷ [])) (sym mapped) (each_append StandsFor (map placed_chunk (take k chunks)) (placed_chunk (get_or chunks k d) ∷ []) h.parts (read ∷ []) h.are (text, tt));
+      are = subst (λ (l : List PutChunk). AllZip StandsFor l (h.parts ++ read ∷ [])) (sym mapped) (each_append StandsFor (map placed_chunk (take k chunks)) (placed_chunk (get_or chunks k d) ∷ []) h.parts (read ∷ []) h.are (text, tt));
       whole = is ∙ ap (λ (l : List Sample). l ++ read) h.whole ∙ sym (flat_more h.parts read);
     }

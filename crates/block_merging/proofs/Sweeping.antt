@@ -1,7 +1,7 @@
 -- Runs that are put one after another.
 use Rattle.std.proofs.Common.{◌≡◌, ◌≢◌, ℕ, zero, suc, ◌+◌, ◌-◌, ◌^◌, ◌<◌, ◌≤◌, true, false, List, [], ◌∷◌, ◌++◌, length, map, take, drop, get_or, Result, Ok, Err, refl, sym, ap, subst, ◌∙◌, length-append, take-append-drop, arith, ℤ, append-nil}
 use Rattle.std.specs.Prelude.{Any, Contains, OnOk, ◌≤ℤ◌, ◌<ℤ◌}
-use Rattle.std.specs.List.{AllByRecursion, filter}
+use Rattle.std.specs.List.{AllByRecursion, filter, AllZip}
 use Rattle.std.specs.Ordering.{int_cmp, is_lt}
 use Rattle.std.proofs.lemmas.Int.{ints, by_lt_z}
 use Rattle.std.proofs.lemmas.Bool.{true≢false}
@@ -15,7 +15,6 @@ use Rattle.list_core.proofs.StableSorts.{NoneLess, Rises, Rises-in_order}
 use Rattle.label_sets.specs.declared.label.Label.{Label}
 use Rattle.label_sets.specs.declared.sample.Sample.{Sample}
 use Rattle.block_meta.specs.Lawful.{AreLawfulTimes}
-use Rattle.block_writing.specs.Each.{AreEach}
 use Rattle.block_writing.specs.Put.{PlanFields, PutChunk, PutSeries, Put, IsStored, IsAfterChunks, IsAfterSeries, fitted, with_series}
 use Rattle.block_writing.specs.Built.{IsEncoded}
 use Rattle.block_writing.proofs.Placed.{each_append}
@@ -147,9 +146,9 @@ pub record SweptSoFar (begin : Put) (labels : List Label) (sorted : List PlacedC
   pub whole : joined swept ++ drop start sorted ≡ sorted
   pub apart : AreSwept swept (drop start sorted)
   pub made : List (List PutChunk)
-  pub each : AreEach (Becomes labels) (map run_in swept) made
+  pub each : AllZip (Becomes labels) (map run_in swept) made
   pub parts : List (List Sample)
-  pub read : AreEach StandsFor (joined made) parts
+  pub read : AllZip StandsFor (joined made) parts
   pub plan_is : now.plan ≡ begin.plan
   pub series_are : now.series ≡ begin.series
   pub chunks_are : now.chunks ≡ joined made
@@ -207,9 +206,9 @@ sweep_more begin now new labels sorted start n by h first has =
       whole = joined_more h.swept part (drop (start + n) sorted) ∙ ap (λ l. joined h.swept ++ l) split ∙ h.whole;
       apart = areswept_more h.swept part (drop (start + n) sorted) (subst (AreSwept h.swept) (sym split) h.apart) (connected_front left n first) ended;
       made = h.made ++ has.made ∷ [];
-      each = subst (λ (l : List (List PutChunk)). AreEach (Becomes labels) l (h.made ++ has.made ∷ [])) (sym (map-append run_in h.swept (part ∷ []))) (each_append (Becomes labels) (map run_in h.swept) (run_in part ∷ []) h.made (has.made ∷ []) h.each (has.becomes, tt));
+      each = subst (λ (l : List (List PutChunk)). AllZip (Becomes labels) l (h.made ++ has.made ∷ [])) (sym (map-append run_in h.swept (part ∷ []))) (each_append (Becomes labels) (map run_in h.swept) (run_in part ∷ []) h.made (has.made ∷ []) h.each (has.becomes, tt));
       parts = h.parts ++ has.parts;
-      read = subst (λ (l : List PutChunk). AreEach StandsFor l (h.parts ++ has.parts)) (sym made_is) (each_append StandsFor (joined h.made) has.made h.parts has.parts h.read has.read);
+      read = subst (λ (l : List PutChunk). AllZip StandsFor l (h.parts ++ has.parts)) (sym made_is) (each_append StandsFor (joined h.made) has.made h.parts has.parts h.read has.read);
       plan_is = has.plan_is ∙ h.plan_is;
       series_are = has.series_are ∙ h.series_are;
       chunks_are = has.chunks_are ∙ ap (λ (l : List PutChunk). l ++ has.made) h.chunks_are ∙ sym made_is;
@@ -307,7 +306,7 @@ runs_told (Ok x) old new labels chunks sorted is stored ok = all_runs old new la
 
 -- ---- the series
 
-no_parts : (parts : List (List Sample)) → AreEach IsEncoded parts [] → joined parts ≡ []
+no_parts : (parts : List (List Sample)) → AllZip IsEncoded parts [] → joined parts ≡ []
 no_parts [] each = refl
 no_parts (p ∷ parts) each = absurd each
 
@@ -315,13 +314,13 @@ becomes_some : (labels : List Label) (run made : List PutChunk) → AreConnected
 becomes_some labels [] made connected becomes none = connected.some refl
 becomes_some labels (c ∷ []) made connected becomes none = absurd (let e : [] ≡ c ∷ [] = sym none ∙ becomes in cc)
 becomes_some labels (c ∷ d ∷ run) made connected becomes none =
-    becomes.kept_is.inhabited 0 becomes.kept (omega arith) (sym becomes.made_is.whole ∙ no_parts becomes.made_is.parts (subst (AreEach IsEncoded becomes.made_is.parts) none becomes.made_is.chunks))
+    becomes.kept_is.inhabited 0 becomes.kept (omega arith) (sym becomes.made_is.whole ∙ no_parts becomes.made_is.parts (subst (AllZip IsEncoded becomes.made_is.parts) none becomes.made_is.chunks))
 
 front_none : (xs ys : List PutChunk) → xs ++ ys ≡ [] → xs ≡ []
 front_none [] ys e = refl
 front_none (x ∷ xs) ys e = absurd cc
 
-made_some : (labels : List Label) (runs made : List (List PutChunk)) → AllByRecursion AreConnected runs → AreEach (Becomes labels) runs made → runs ≢ [] → joined made ≢ []
+made_some : (labels : List Label) (runs made : List (List PutChunk)) → AllByRecursion AreConnected runs → AllZip (Becomes labels) runs made → runs ≢ [] → joined made ≢ []
 made_some labels [] made connected each some none = some refl
 made_some labels (r ∷ runs) [] connected each some none = absurd each
 made_some labels (r ∷ runs) (m ∷ made) connected each some none = becomes_some labels r m connected.0 each.0 (front_none m (joined made) none)
@@ -355,7 +354,7 @@ whole_put old now new labels chunks has is =
       put = put;
       put_is = record { runs = has.runs; runs_are = has.runs_are; made = has.made; each = has.each; labels_are = refl; chunks_are = has.chunks_are };
       series = record { labels = labels; samples = joined has.parts };
-      series_is = record { parts = has.parts; chunks_are = subst (λ (l : List PutChunk). AreEach StandsFor l has.parts) (sym has.chunks_are) has.read; labels_are = refl; samples_are = refl };
+      series_is = record { parts = has.parts; chunks_are = subst (λ (l : List PutChunk). AllZip StandsFor l has.parts) (sym has.chunks_are) has.read; labels_are = refl; samples_are = refl };
       plan_is = ap (λ (p : Put). p.plan) is ∙ has.plan_is;
       series_are = ap (λ (p : Put). p.series) is ∙ ap (λ (l : List PutSeries). l ++ put ∷ []) has.series_are;
       nothing_left = ap (λ (p : Put). p.chunks) is;

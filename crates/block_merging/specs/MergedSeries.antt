@@ -1,11 +1,10 @@
 -- What becomes of the chunks of one series: those that share times are merged, and one that shares none is carried as it is.
 use Rattle.std.specs.Prelude.{◌≡◌, ◌+◌, List, [], ◌∷◌, ◌++◌, length}
-use Rattle.std.specs.List.{flat_map}
+use Rattle.std.specs.List.{flat_map, AllZip}
 use Rattle.label_sets.specs.declared.label.Label.{Label}
 use Rattle.label_sets.specs.declared.series.Series.{Series}
 use Rattle.label_sets.specs.Triples.{triples_under}
 use Rattle.vertical_merge.specs.Merged.{IsMerge}
-use Rattle.block_writing.specs.Each.{AreEach}
 use Rattle.block_writing.specs.Put.{PutChunk, PutSeries, Put, fitted}
 use Rattle.block_writing.specs.Built.{IsPutAs}
 use Rattle.block_laws.specs.PutContent.{IsSeriesOf}
@@ -30,7 +29,7 @@ pub record IsMergedSeries (labels : List Label) (chunks : List PutChunk) (put : 
   pub runs : List (List PutChunk)
   pub runs_are : AreRuns chunks runs
   pub made : List (List PutChunk)
-  pub each : AreEach (Becomes labels) runs made
+  pub each : AllZip (Becomes labels) runs made
   pub labels_are : put.labels ≡ labels
   pub chunks_are : put.chunks ≡ flat_map (λ part. part) made
 

@@ -1,12 +1,11 @@
 -- What a writer holds on the way to a merged series.
 use Rattle.std.specs.Prelude.{◌≡◌, ◌+◌, List, [], ◌∷◌, ◌++◌, length, map, ℤ, ◌<ℤ◌}
-use Rattle.std.specs.List.{flat_map, AllByRecursion}
+use Rattle.std.specs.List.{flat_map, AllByRecursion, AllZip}
 use Rattle.label_sets.specs.declared.label.Label.{Label}
 use Rattle.label_sets.specs.declared.sample.Sample.{Sample}
 use Rattle.xor_chunks.specs.Grammar.{IsText}
 use Rattle.index_parts.specs.Turns.{InOrder}
 use Rattle.list_core.specs.Ordered.{in_order}
-use Rattle.block_writing.specs.Each.{AreEach}
 use Rattle.block_writing.specs.Put.{PutChunk, Put, IsAfterChunks, fitted}
 use Rattle.block_writing.specs.Built.{IsPart, IsEncoded}
 use Rattle.block_merging.specs.declared.placed_chunk.PlacedChunk.{PlacedChunk}
@@ -30,7 +29,7 @@ pub record HasParts (old : Put) (samples : List Sample) (new : Put) : Type 0 whe
   pub whole : joined parts ≡ samples
   pub cut : InOrder IsPart parts
   pub made : List PutChunk
-  pub chunks : AreEach IsEncoded parts made
+  pub chunks : AllZip IsEncoded parts made
   pub plan_is : new.plan ≡ old.plan
   pub series_are : new.series ≡ old.series
   pub chunks_are : new.chunks ≡ old.chunks ++ made
@@ -42,7 +41,7 @@ pub record HasRun (old : Put) (labels : List Label) (run : List PutChunk) (new :
   pub made : List PutChunk
   pub becomes : Becomes labels run made
   pub parts : List (List Sample)
-  pub read : AreEach StandsFor made parts
+  pub read : AllZip StandsFor made parts
   pub plan_is : new.plan ≡ old.plan
   pub series_are : new.series ≡ old.series
   pub chunks_are : new.chunks ≡ old.chunks ++ made
@@ -54,9 +53,9 @@ pub record HasRuns (old : Put) (labels : List Label) (chunks : List PutChunk) (n
   pub runs : List (List PutChunk)
   pub runs_are : AreRuns chunks runs
   pub made : List (List PutChunk)
-  pub each : AreEach (Becomes labels) runs made
+  pub each : AllZip (Becomes labels) runs made
   pub parts : List (List Sample)
-  pub read : AreEach StandsFor (joined made) parts
+  pub read : AllZip StandsFor (joined made) parts
   pub plan_is : new.plan ≡ old.plan
   pub series_are : new.series ≡ old.series
   pub chunks_are : new.chunks ≡ joined made
@@ -77,9 +76,9 @@ pub record HasSwept (old : Put) (labels : List Label) (sorted : List PlacedChunk
   pub whole : joined swept ≡ sorted
   pub apart : AreSwept swept []
   pub made : List (List PutChunk)
-  pub each : AreEach (Becomes labels) (map run_in swept) made
+  pub each : AllZip (Becomes labels) (map run_in swept) made
   pub parts : List (List Sample)
-  pub read : AreEach StandsFor (joined made) parts
+  pub read : AllZip StandsFor (joined made) parts
   pub plan_is : new.plan ≡ old.plan
   pub series_are : new.series ≡ old.series
   pub chunks_are : new.chunks ≡ joined made

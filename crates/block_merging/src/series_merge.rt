@@ -1,6 +1,6 @@
 //! The merge of the chunks of one series.
 ghost use Rattle.std.specs.Prelude.{◌≡◌, ◌≢◌, ◌<◌, ◌^◌, ◌++◌, ◌∷◌, [], List, map, length, IfOk, OnOk};
-ghost use Rattle.std.specs.List.{AllByRecursion};
+ghost use Rattle.std.specs.List.{AllByRecursion, AllZip};
 ghost use Rattle.label_sets.specs.declared.label.Label.{Label};
 ghost use Rattle.label_sets.specs.declared.sample.Sample.{Sample};
 ghost use Rattle.label_sets.specs.declared.series.Series.{Series};
@@ -9,7 +9,6 @@ ghost use Rattle.vertical_merge.specs.Merged.{IsMerge};
 ghost use Rattle.xor_chunks.specs.Grammar.{IsText};
 ghost use Rattle.xor_chunks.specs.Written.{AreOfChunk};
 ghost use Rattle.block_meta.specs.Lawful.{AreLawfulTimes};
-ghost use Rattle.block_writing.specs.Each.{AreEach};
 ghost use Rattle.block_writing.specs.Put.{PutChunk, IsWithin, IsStored, IsAfterChunks, IsAfterSeries, with_chunk};
 ghost use Rattle.block_writing.specs.Built.{AreOfBlock, BeginAfter, IsEncoded};
 ghost use Rattle.block_merging.specs.Placed.{chunk_of, placed_chunk, AreByBegin};
@@ -154,7 +153,7 @@ fn carry(writer: &mut BlockWriter, chunk: &InputChunk<'_>) -> Result<(), NoMemor
 /// The samples of chunks one after another, in the order in which the chunks were given.
 fn run_samples(alloc: Global, run: &[PlacedChunk<'_>]) -> Result<Vec<Sample>, NoMemory>
     ensures { IfOk result (λ samples. (parts : List (List Sample))
-        × AreEach StandsFor (run_in run.now) parts × (samples.items ≡ joined parts)) }
+        × AllZip StandsFor (run_in run.now) parts × (samples.items ≡ joined parts)) }
 {
     let mut chunks = Vec::from_slice(alloc, run)?;
     sort_by_place(&mut chunks)?;
