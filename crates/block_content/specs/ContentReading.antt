@@ -12,6 +12,7 @@ use Rattle.chunk_files.specs.declared.refusal.ChunkRefusal.TheVariants.{Short}
 use Rattle.chunk_files.specs.ChunkReading.{segment_at}
 use Rattle.index_parts.specs.declared.chunk_place.ChunkPlace.{ChunkPlace}
 use Rattle.index_file.specs.declared.index_series.IndexSeries.{IndexSeries}
+use Rattle.index_file.specs.IndexFile.{IsIndex}
 use Rattle.index_v2.specs.declared.refusal.IndexRefusal.{IndexRefusal}
 use Rattle.index_v2.specs.declared.refusal.IndexRefusal.TheVariants as index
 use Rattle.index_v2.specs.Held.{whole_file}
@@ -82,6 +83,13 @@ series_bytes segments indexed = sum_by (chunk_bytes segments) indexed.chunks
 pub record AreFew (segments : List (List ℕ)) (indexed : List IndexSeries) (list : List Series) : Type 0 where
   pub each : AllZip (λ (one : IndexSeries) (series : Series). length series.samples ≤ 8 * series_bytes segments one) indexed list
   pub together : sum_by (series_bytes segments) indexed ≤ 8 * sum_by length segments
+
+-- The chunks that the index names, each counted as often as it is named, have no more than eight bytes together for each byte of
+-- the segments.
+pub record NamesFew (files : BlockFiles) : Type 0 where
+  pub indexed : List IndexSeries
+  pub index_is : IsIndex files.index indexed
+  pub together : sum_by (series_bytes files.segments) indexed ≤ 8 * sum_by length files.segments
 
 -- ---- the chunks of the block
 

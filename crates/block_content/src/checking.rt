@@ -1,13 +1,14 @@
 //! Whether a block may be shipped.
-ghost use Rattle.std.specs.Prelude.{◌≡◌, ◌⊎◌, ◌^◌, ◌-◌, min, ℕ, List, length, option_map, Ok, Err, IfOk, IfErr, MatchResult};
+ghost use Rattle.std.specs.Prelude.{◌≡◌, ◌⊎◌, ◌^◌, ◌-◌, ◌+◌, ◌*◌, ◌≤◌, min, ℕ, List, length, sum_by, option_map, Ok, Err, IfOk, IfErr, MatchResult};
 ghost use Rattle.std.specs.List.{AllByRecursion};
 ghost use Rattle.std.specs.Result.{IsOkAnd};
 ghost use Rattle.reading_core.specs.Grammar.{IsBytes};
 ghost use Rattle.reading_core.specs.Reading.{Answers};
 ghost use Rattle.label_sets.specs.declared.series.Series.{Series};
 ghost use Rattle.label_sets.specs.Counts.{sample_count};
+ghost use Rattle.index_file.specs.declared.index_series.IndexSeries.{IndexSeries};
 ghost use Rattle.block_content.specs.Firsts.{or_else, first_at};
-ghost use Rattle.block_content.specs.ContentReading.{index_at, joined, list_of, first_time, first_outside, lies_within, LieBetween, WalksChunks, WalksSeries};
+ghost use Rattle.block_content.specs.ContentReading.{index_at, chunk_bytes, series_bytes, joined, list_of, first_time, first_outside, lies_within, LieBetween, WalksChunks, WalksSeries};
 ghost use Rattle.block_content.specs.Verdict.{IsVerdict};
 ghost use Rattle.block_content.specs.Checking.{HasPassed};
 ghost use Rattle.block_content.specs.CheckReading.{is_alone, own_at, some_at, check_at, indexed_at, found_at, IsFirstFound, HaveCounts};
@@ -90,7 +91,7 @@ fn found_or_first(
     }
 }
 
-/// Reads the chunks of a series, and counts their samples.
+/// Reads the chunks of a series, and counts their samples and their bytes.
 fn count_series(
     alloc: Global,
     meta: &Meta,
@@ -99,9 +100,11 @@ fn count_series(
     chunks: &[ChunkPlace],
     budget: usize,
 ) -> Result<Counted, CheckRefusal>
-    ensures { WalksChunks segments.now series chunks.now
+    ensures read { WalksChunks segments.now series chunks.now
         (λ counted parts. (counted.samples ≡ min (length (joined parts)) (2 ^ 64 - 1))
         × (counted.outside ≡ first_time meta.now (joined parts))) result }
+    ensures spent { IfOk result
+        (λ counted. counted.left + sum_by (chunk_bytes segments.now) chunks.now ≡ budget) }
 {
     let mut samples = 0u64;
     let mut outside = None;
@@ -154,10 +157,12 @@ fn count_all(
     indexed: &[IndexSeries],
     budget: usize,
 ) -> Result<Counts, CheckRefusal>
-    ensures { WalksSeries segments.now indexed.now
+    ensures read { WalksSeries segments.now indexed.now
         (λ counts parts. (counts.samples ≡ sample_count (list_of indexed.now parts))
         × IsFirstFound (first_at (first_outside meta.now) (list_of indexed.now parts))
         counts.outside) result }
+    ensures spent { IfOk result
+        (λ counts. sum_by (series_bytes segments.now) indexed.now ≤ budget) }
 {
     let mut samples = 0u64;
     let mut outside = None;
@@ -194,10 +199,12 @@ fn count_some(
     indexed: &[IndexSeries],
     budget: usize,
 ) -> Result<(u64, u64), CheckRefusal>
-    ensures { MatchResult result
+    ensures exact { MatchResult result
         (HaveCounts (some_at meta.now segments.now indexed.now))
         (λ e. (e ≡ CheckRefusal.NoMemory)
         ⊎ (some_at meta.now segments.now indexed.now ≡ Err e)) }
+    ensures spent { IfOk result
+        (λ counts. sum_by (series_bytes segments.now) indexed.now ≤ budget) }
 {
     if indexed.is_empty() {
         return Err(CheckRefusal::EmptyBlock);
@@ -220,6 +227,9 @@ fn count_block(
         (HaveCounts (check_at ulid meta.now index.now segments.now))
         (λ e. (e ≡ CheckRefusal.NoMemory)
         ⊎ (check_at ulid meta.now index.now segments.now ≡ Err e)) }
+    ensures few { IfOk result (λ counts. (indexed : List IndexSeries)
+        × (index_at index.now ≡ Ok indexed)
+        × (sum_by (series_bytes segments.now) indexed ≤ 8 * sum_by length segments.now)) }
     ensures bytes { IsBytes index.now × AllByRecursion IsBytes segments.now }
 {
     let budget = budget_of(segments);
@@ -241,6 +251,8 @@ fn count_indexed(
         (HaveCounts (indexed_at ulid meta.now segments.now indexed.now))
         (λ e. (e ≡ CheckRefusal.NoMemory)
         ⊎ (indexed_at ulid meta.now segments.now indexed.now ≡ Err e)) }
+    ensures few { IfOk result (λ counts.
+        sum_by (series_bytes segments.now) indexed.now ≤ 8 * sum_by length segments.now) }
     ensures bytes { AllByRecursion IsBytes segments.now }
 {
     let budget = budget_of(segments);
