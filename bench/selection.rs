@@ -140,7 +140,7 @@ fn row(name: &str, count: usize, bytes: &[u8], selector: &str, tight: impl Fn() 
 
 fn main() {
     for count in [10_000usize, 100_000] {
-        let bytes = index_with(count, 4, pod_labels);
+        let bytes = index_of(&places_of(count, 4), pod_labels);
         let opened = Opened::new(&bytes);
         let equal = || {
             let mut left = opened.all();
