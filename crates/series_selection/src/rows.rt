@@ -1,5 +1,5 @@
 //! The rows that decide what a matcher takes, and the numbers in their lists.
-ghost use Rattle.std.specs.Prelude.{◌≡◌, ◌⊎◌, ◌+◌, ◌*◌, ◌^◌, ◌<◌, ◌≤◌, [], ◌++◌, not, true, All, length, slice_get, take, Err, IfOk, IfErr, IfSome, OnOk};
+ghost use Rattle.std.specs.Prelude.{◌≡◌, ◌⊎◌, ◌+◌, ◌-◌, ◌*◌, ◌^◌, ◌<◌, ◌≤◌, [], ◌++◌, not, true, All, length, min, slice_get, take, Err, IfOk, IfErr, IfSome, MatchResult, OnOk};
 ghost use Rattle.std.specs.List.{filter};
 ghost use Rattle.std.specs.List.Sorted.{IsStrictlyIncreasing};
 ghost use Rattle.reading_core.specs.Reading.{Gives};
@@ -47,7 +47,8 @@ pub(crate) struct Listed {
 fn none_listed(alloc: Global, index: &IndexReader<'_>) -> Listed
     ensures none { result.numbers.items ≡ [] }
     ensures one { result.is_one ≡ true }
-    ensures left { result.left ≤ 8 * length index.now.lists.bytes }
+    ensures left { result.left ≡ min (8 * length index.now.lists.bytes) (2 ^ 64 - 1) }
+    ensures bound { result.left ≤ 8 * length index.now.lists.bytes }
 {
     Listed {
         numbers: Vec::new(alloc),
@@ -58,7 +59,7 @@ fn none_listed(alloc: Global, index: &IndexReader<'_>) -> Listed
 
 /// What is left behind so many bytes and numbers.
 fn spend(left: usize, bytes: usize, numbers: usize) -> Result<usize, NoMemory>
-    ensures { IfOk result (λ rest. rest + (numbers + bytes) ≡ left) }
+    ensures { MatchResult result (λ rest. rest + (numbers + bytes) ≡ left) (λ _. left < numbers + bytes) }
 {
     match left.checked_sub(bytes) {
         Some(rest) => rest.checked_sub(numbers).ok_or(NoMemory),

@@ -15,7 +15,7 @@ pub returns-in-Some-clause-stand : goal.returns-in-Some-clause-stand
 returns-in-Some-clause-stand c = stands_by c.args.index.now (is_row_of c.args.name.now c.args.value.now) c.in-Some.place c.in-Some.ensures.found c.none_listed.result.numbers.items c.none_listed.result.left c.none_listed.ensures.none (λ (x : Listed). x.numbers.items) (λ (x : Listed). x.left) c.read_on.result c.read_on.ensures.read
 
 pub returns-in-Some-clause-budget : goal.returns-in-Some-clause-budget
-returns-in-Some-clause-budget c = within_by c.args.index.now (is_row_of c.args.name.now c.args.value.now) c.in-Some.place c.in-Some.ensures.found c.none_listed.result.numbers.items c.none_listed.result.left c.none_listed.ensures.none (λ (x : Listed). x.numbers.items) (λ (x : Listed). x.left) c.read_on.result c.none_listed.ensures.left c.read_on.ensures.read
+returns-in-Some-clause-budget c = within_by c.args.index.now (is_row_of c.args.name.now c.args.value.now) c.in-Some.place c.in-Some.ensures.found c.none_listed.result.numbers.items c.none_listed.result.left c.none_listed.ensures.none (λ (x : Listed). x.numbers.items) (λ (x : Listed). x.left) c.read_on.result c.none_listed.ensures.bound c.read_on.ensures.read
 
 pub returns-in-None-clause-gives : goal.returns-in-None-clause-gives
 returns-in-None-clause-gives c = nothing_given c.args.index.now (is_row_of c.args.name.now c.args.value.now) (c.in-None.ensures.absent refl) c.none_listed-in-None.result.numbers.items c.none_listed-in-None.ensures.none

@@ -12,7 +12,7 @@ use Rattle.series_selection.proofs.rows.listed_under.Goals.{then-accepts-wanted+
 pub loop-place-init : goal.loop-place-init
 loop-place-init c =
     let begins = subst (λ (n : List ℕ). BeginsAt c.args.index.now.rows n c.first_row-place.result) c.as_str-name.ensures c.first_row-place.ensures.begins in
-    (begins, walk_start c.args.index.now c.args.matcher.now _ _ c.none_listed-listed.result.left c.none_listed-listed.ensures.none c.none_listed-listed.ensures.left begins, c.requires.asks, λ _. nothing_rises c.none_listed-listed.result.numbers.items c.none_listed-listed.ensures.none)
+    (begins, walk_start c.args.index.now c.args.matcher.now _ _ c.none_listed-listed.result.left c.none_listed-listed.ensures.none c.none_listed-listed.ensures.bound begins, c.requires.asks, λ _. nothing_rises c.none_listed-listed.result.numbers.items c.none_listed-listed.ensures.none)
 
 pub loop-place-preserved : goal.loop-place-preserved
 loop-place-preserved c =
