@@ -18,7 +18,9 @@ pub(crate) fn advice(status: Status) -> &'static str {
         Status::SinkFault => {
             "The report goes to standard output: see that there is room for it, and run again.\n"
         }
-        Status::NoMemory => "There was not enough memory: run again where there is more.\n",
+        Status::NoMemory => {
+            "There was not enough memory, or a block's index names far more than its files hold: run again where there is more memory, or mend the block.\n"
+        }
         Status::BucketNotEmpty => {
             "A run begins with an empty bucket: empty the folder, or name another one.\n"
         }
