@@ -11,3 +11,5 @@ pub mod CheckSteps
 pub mod Appending
 pub mod ListedFiles
 pub mod SlashNames
+pub mod SameFiles
+pub mod FewListed

@@ -1,5 +1,5 @@
 -- What reading a block's content gives, or the first refusal.
-use Rattle.std.specs.Prelude.{ℕ, ◌*◌, ◌≤◌, ◌-◌, ◌^◌, min, sum_by, List, [], ◌∷◌, length, slice_get, Option, None, Some, option_map, Bool, true, false, ◌&&◌, Result, Ok, Err, ◌≡◌, ◌⊎◌, MatchResult, ℤ, ◌≤ℤ◌, int_lt, int_le, if◌then◌else◌}
+use Rattle.std.specs.Prelude.{ℕ, ◌+◌, ◌*◌, ◌≤◌, ◌-◌, ◌^◌, min, sum_by, All, List, [], ◌∷◌, length, slice_get, Option, None, Some, option_map, Bool, true, false, ◌&&◌, Result, Ok, Err, ◌≡◌, ◌⊎◌, MatchResult, ℤ, ◌≤ℤ◌, int_lt, int_le, if◌then◌else◌}
 use Rattle.std.specs.List.{AllByRecursion, flat_map, AllZip}
 use Rattle.std.specs.Ordering.{int_eq}
 use Rattle.reading_core.specs.Reading.{◌>>=◌, ◌>>◌, unless, refused_as}
@@ -15,6 +15,7 @@ use Rattle.index_file.specs.declared.index_series.IndexSeries.{IndexSeries}
 use Rattle.index_file.specs.IndexFile.{IsIndex}
 use Rattle.index_v2.specs.declared.refusal.IndexRefusal.{IndexRefusal}
 use Rattle.index_v2.specs.declared.refusal.IndexRefusal.TheVariants as index
+use Rattle.index_v2.specs.Budget.{members_of, text_bytes}
 use Rattle.index_v2.specs.Held.{whole_file}
 use Rattle.index_v2.specs.Opening.{opened_at}
 use Rattle.index_v2.specs.WholeReading.{whole_at}
@@ -180,6 +181,13 @@ refused_time r = OutsideRange (fitted r.0) r.1
 
 abbrev pub refused_order : ℕ × Unit {0} → CheckRefusal
 refused_order r = Repeated (fitted r.0)
+
+-- An index of so many bytes lists so few series, which have so few labels, chunks and letters.
+pub record ListsFew (index : List ℕ) (list : List IndexSeries) : Type 0 where
+  pub series : 4 * length list ≤ length index
+  pub each : All (λ (one : IndexSeries). 2 * length one.labels + 3 * length one.chunks ≤ length index) list
+  pub members : sum_by members_of list ≤ 8 * length index
+  pub texts : sum_by text_bytes list ≤ 64 * length index
 
 -- the times of the series that were read, and then the order of their chunks
 unfoldable pub tested_at : Meta → List IndexSeries → List Series → Result (List Series) CheckRefusal

@@ -12,7 +12,7 @@ use Rattle.block_content.specs.Checked.{checked_files, checked_series, checked_s
 use Rattle.block_content.specs.Checking.{Passes, HasPassed, RefusesBlock}
 
 -- A block that passes is handed back with its counts, and no other is. A refusal is the first of the whole block. Memory may run
--- out in place of either. The chunks that a block which passes names come to no more than is read of any block.
+-- out in place of either. The chunks that a passed block names are few, counted by their bytes.
 pub record IsVerdict (ulid : ℕ) (files : BlockFiles) (result : Result Checked CheckRefusal) : Type 0 where
   pub found : IfOk result (λ checked. (checked_files checked ≡ files) × HasPassed ulid files (checked_series checked) (checked_samples checked))
   pub passes : (list : List Series) → Passes ulid files list

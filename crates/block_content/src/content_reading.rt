@@ -11,7 +11,7 @@ ghost use Rattle.index_file.specs.IndexFile.{IsIndex};
 ghost use Rattle.block_content.specs.Firsts.{first_at};
 ghost use Rattle.block_content.specs.Content.{IsContent};
 ghost use Rattle.block_content.specs.ContentRefusals.{RefusesContent};
-ghost use Rattle.block_content.specs.ContentReading.{index_at, refused_index, joined, list_of, series_bytes, chunk_bytes, is_within, first_time, first_outside, begins_after, follow, repeated_in, fitted, contents_at, content_at, AreFew, WalksChunks, WalksSeries};
+ghost use Rattle.block_content.specs.ContentReading.{index_at, refused_index, joined, list_of, series_bytes, chunk_bytes, is_within, first_time, first_outside, begins_after, follow, repeated_in, fitted, contents_at, content_at, AreFew, ListsFew, WalksChunks, WalksSeries};
 
 use crate::CheckRefusal;
 use crate::chunk_reading::{append_chunk, refused_chunk};
@@ -27,7 +27,8 @@ use wire_bytes::Blob;
 /// All series of an index.
 #[tactic(auto, unfolding(crate::specs::ContentReading::index_at))]
 fn whole_index(alloc: Global, index: &[u8]) -> Result<IndexSeriesList, IndexRefusal>
-    ensures { Gives IndexRefusal.NoMemory (λ list. list) result (index_at index.now) }
+    ensures exact { Gives IndexRefusal.NoMemory (λ list. list) result (index_at index.now) }
+    ensures few { IfOk result (ListsFew index.now) }
 {
     let reader = IndexReader::open(alloc, index)?;
     reader.whole(alloc)
@@ -37,6 +38,7 @@ fn whole_index(alloc: Global, index: &[u8]) -> Result<IndexSeriesList, IndexRefu
 pub fn read_index(alloc: Global, index: &[u8]) -> Result<IndexSeriesList, CheckRefusal>
     ensures exact { Gives CheckRefusal.NoMemory
         (λ list. list) result (refused_as refused_index (index_at index.now)) }
+    ensures few { IfOk result (ListsFew index.now) }
     ensures bytes { IsBytes index.now }
 {
     match whole_index(alloc, index) {

@@ -1,3 +1,4 @@
 pub mod Standing
 pub mod Content
 pub mod Passing
+pub mod OneBlock

@@ -34,6 +34,12 @@ pub fn built_is_content()
         → AreBytes files → IsBuilt plan series files → IsContent files list → list ≡ series }
 {}
 
+/// A law: two blocks that are built of one plan and the same series are the same files.
+pub fn built_is_one()
+    ensures { (plan : BlockPlan) (series : List Series) (files other : BlockFiles)
+        → IsBuilt plan series files → IsBuilt plan series other → files ≡ other }
+{}
+
 /// A law: files hold no two contents, whoever wrote them.
 pub fn content_is_one()
     ensures { (files : BlockFiles) (list other : List Series)

@@ -4,6 +4,6 @@
 mod laws;
 
 pub use laws::{
-    built_blocks_pass, built_is_content, content_is_one, files_are_one, put_has_content,
-    written_blocks_pass, written_is_content,
+    built_blocks_pass, built_is_content, built_is_one, content_is_one, files_are_one,
+    put_has_content, written_blocks_pass, written_is_content,
 };

@@ -13,7 +13,7 @@ use Rattle.block_loading.specs.LoadReading.{IsBrokenOff, WasBrokenOff, Loads, re
 use Rattle.block_loading.specs.declared.load_refusal.LoadRefusal.{LoadRefusal}
 use Rattle.block_loading.specs.declared.load_refusal.LoadRefusal.TheVariants.{Refused, ShelfFault, NoMemory as WithoutMemory}
 use Rattle.block_loading.proofs.LoadLaws.{load_found, load_again, load_refused, load_refuses}
-use Rattle.block_loading.proofs.SameFiles.{same_files}
+use Rattle.block_content.proofs.SameFiles.{same_files}
 
 broken : {X : Type 0} (e : LoadRefusal) → IsBrokenOff e → WasBrokenOff {X = X} (Err e)
 broken {X} e (inl none) = inl (ap (λ (x : LoadRefusal). Err x) none)
@@ -31,7 +31,9 @@ module _ {X : Type 0} (view : X → BlockFiles) (told : Contents) (ulid : ℕ) w
   says_found (Err e) read = tt
 
   pub says_only : (r : Result X LoadRefusal) (files : BlockFiles) → Loads (λ x. parts_of (view x)) r (load_at told ulid) → IsLoaded told ulid files → IsOkAnd r (λ x. view x ≡ files) ⊎ WasBrokenOff r
-  says_only (Ok x) files read is = inl (same_files (view x) files (ok_is {E = LoadRefusal} _ _ (sym read ∙ load_again told ulid files is)))
+  says_only (Ok x) files read is =
+      let same : parts_of (view x) ≡ parts_of files = ok_is {E = LoadRefusal} _ _ (sym read ∙ load_again told ulid files is) in
+      inl (same_files (view x) files (ap (λ (p : BlockParts). p.meta) same) (ap (λ (p : BlockParts). p.index) same) (ap (λ (p : BlockParts). p.segments) same))
   says_only (Err e) files (inl off) is = inr (broken e off)
   says_only (Err e) files (inr refused) is = let both = sym refused ∙ load_again told ulid files is in absurd cc
 

@@ -3,6 +3,5 @@ pub mod Greatest
 pub mod FileLaws
 pub mod SegmentLaws
 pub mod LoadLaws
-pub mod SameFiles
 pub mod Calls
 pub mod LoadSteps

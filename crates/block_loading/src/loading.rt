@@ -4,7 +4,7 @@ ghost use Rattle.std.specs.Result.{IsOkAnd};
 ghost use Rattle.reading_core.specs.Grammar.{IsBytes};
 ghost use Rattle.index_file.specs.declared.index_series.IndexSeries.{IndexSeries};
 ghost use Rattle.block_files.specs.declared.block_files.BlockFiles.{BlockFiles};
-ghost use Rattle.block_content.specs.ContentReading.{index_at};
+ghost use Rattle.block_content.specs.ContentReading.{index_at, ListsFew};
 ghost use Rattle.block_content.specs.declared.check_refusal.CheckRefusal.{CheckRefusal};
 ghost use Rattle.bucket_core.specs.Contents.{Contents};
 ghost use Rattle.block_loading.specs.Loading.{last_segment, IsLoaded, RefusesLoad};
@@ -27,6 +27,7 @@ fn read_block<F: Shelf>(
     ensures loaded { (told : Contents) → F.files shelf.old ≡ Some told
         → Loads (λ x. parts_of x.0) result (load_at told ulid) }
     ensures read { IfOk result (λ x. IsBytes x.0.index × (index_at x.0.index ≡ Ok x.1)) }
+    ensures few { IfOk result (λ x. ListsFew x.0.index x.1) }
     ensures named { IfOk result (λ x. length x.0.segments ≡ last_segment x.1) }
     ensures kept { KeepsShelf F.files F.faults shelf.old shelf.new (was_fault result) }
 {
@@ -65,6 +66,7 @@ pub fn load_indexed<F: Shelf>(
     // Whatever the shelf tells, the series are those of the index, and exactly the segments up to the last that they name are
     // loaded.
     ensures read { IfOk result (λ x. IsBytes x.0.index × (index_at x.0.index ≡ Ok x.1)) }
+    ensures few { IfOk result (λ x. ListsFew x.0.index x.1) }
     ensures named { IfOk result (λ x. length x.0.segments ≡ last_segment x.1) }
 
     // The files stay as they are, and the shelf's count rises just where a fault is answered.

@@ -4,7 +4,7 @@ ghost use Rattle.std.specs.List.{flat_map};
 ghost use Rattle.reading_core.specs.Grammar.{IsBytes};
 ghost use Rattle.block_keys.specs.Keys.{IsLawfulKey};
 ghost use Rattle.block_meta.specs.MetaFields.{fields_of};
-ghost use Rattle.block_content.specs.ContentReading.{index_at};
+ghost use Rattle.block_content.specs.ContentReading.{index_at, ListsFew};
 ghost use Rattle.bucket_core.specs.Causes.{file_failed};
 ghost use Rattle.bucket_core.specs.Contents.{Contents};
 ghost use Rattle.bucket_core.specs.Files.{IsWithinLimit, ShowsFile};
@@ -101,6 +101,7 @@ pub(crate) fn read_series<F: Shelf>(
         → Loads (λ x. (x.0, x.1)) result (index_in told ulid) }
     ensures bytes { IfOk result (λ x. IsBytes x.0) }
     ensures indexed { IfOk result (λ x. index_at x.0 ≡ Ok x.1) }
+    ensures few { IfOk result (λ x. ListsFew x.0 x.1) }
     ensures kept { KeepsShelf F.files F.faults shelf.old shelf.new (was_fault result) }
 {
     let index = read_file(alloc, shelf, &Key::Index(ulid))?;

@@ -6,7 +6,6 @@ use Rattle.block_meta.specs.Lawful.{AreLawfulTimes}
 use Rattle.block_meta.specs.MetaFields.{MetaFields, fields_of}
 use Rattle.block_meta.specs.declared.meta.Meta.{Meta}
 use Rattle.block_files.specs.declared.block_files.BlockFiles.{BlockFiles}
-use Rattle.block_loading.specs.LoadReading.{BlockParts, parts_of}
 
 times_prop : (min max : ℤ) → IsProp (AreLawfulTimes min max)
 times_prop min max = hlevel props
@@ -52,8 +51,8 @@ same_segments : (meta : Meta) (index : List ℕ) (s t : List (List ℕ)) → s �
 same_segments meta index s t e few =
     subst (λ (u : List (List ℕ)). (few' : length u ≤ 999_999) → files_made meta index s few ≡ files_made meta index u few') e (λ few'. ap (λ (x : length s ≤ 999_999). files_made meta index s x) (few_prop s few few'))
 
-pub same_files : (a b : BlockFiles) → parts_of a ≡ parts_of b → a ≡ b
-same_files a b e =
-    same_segments a.meta a.index a.segments b.segments (ap (λ (p : BlockParts). p.segments) e) a.numbered b.numbered
-    ∙ ap (λ (i : List ℕ). files_made a.meta i b.segments b.numbered) (ap (λ (p : BlockParts). p.index) e)
-    ∙ ap (λ (m : Meta). files_made m b.index b.segments b.numbered) (same_meta a.meta b.meta (ap (λ (p : BlockParts). p.meta) e))
+pub same_files : (a b : BlockFiles) → fields_of a.meta ≡ fields_of b.meta → a.index ≡ b.index → a.segments ≡ b.segments → a ≡ b
+same_files a b fields index segments =
+    same_segments a.meta a.index a.segments b.segments segments a.numbered b.numbered
+    ∙ ap (λ (i : List ℕ). files_made a.meta i b.segments b.numbered) index
+    ∙ ap (λ (m : Meta). files_made m b.index b.segments b.numbered) (same_meta a.meta b.meta fields)
