@@ -59,7 +59,7 @@ fn series_of(alloc: Global, labels: &str, samples: SampleList) -> Option<Series>
 }
 
 /// The objects of a block from 1000 to 2000 with one series of one sample.
-fn objects_of_one(alloc: Global, text: &str) -> Option<ObjectList> {
+pub(crate) fn objects_of_one(alloc: Global, text: &str) -> Option<ObjectList> {
     let (sample, labels) = text.split_once(' ')?;
     let mut samples = SampleList::new(alloc);
     samples.push(Sample::read(sample).ok()?).ok()?;

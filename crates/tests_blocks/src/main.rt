@@ -6,10 +6,12 @@
 mod built;
 mod checks;
 mod objects;
+mod words;
 
 use crate::built::{print_built, print_counted};
 use crate::checks::{print_content, print_verdict};
 use crate::objects::print_shipped;
+use crate::words::print_words;
 use std::io;
 
 fn main(rt: HostRuntime) -> io::Result<()> {
@@ -27,6 +29,7 @@ fn print_row(rt: &HostRuntime, row: &str) -> io::Result<()> {
         "shipped" => print_shipped(rt, rest),
         "built" => print_built(rt, rest),
         "counted" => print_counted(rt, row, rest),
+        "words" => print_words(rt, row, rest),
         _ => println!(rt; "{row}"),
     }
 }
