@@ -61,6 +61,8 @@ fn frame_of(alloc: Global, content: &[u8]) -> Result<Vec<u8>, NoMemory>
     ensures chunk { IfOk result (λ _. IsChunk (frame_text content.now) content.now) }
 {
     let mut frame = Vec::new(alloc);
+    // a length of ten bytes at most, the encoding and the sum
+    frame.reserve(content.len() + 15)?;
     put_uvarint(&mut frame, content.len() as u64)?;
     let place = frame.len();
     put_u8(&mut frame, XOR)?;

@@ -204,13 +204,14 @@ fn put_rest(bytes: Vec<u8>, first: Sample, samples: &[Sample]) -> Result<BitWrit
     }
 }
 
-/// The bytes of how many samples there are and of the first.
+/// The bytes of how many samples there are and of the first, with room for eight bytes of each sample, which most take at most.
 fn head_of(alloc: Global, count: u16, first: Sample) -> Result<Vec<u8>, NoMemory>
     ensures bits { IfOk result (λ bytes. bits_in bytes.items
         ≡ bits_of 16 count ++ bits_in (varint_text first.time) ++ bits_of 64 first.pattern) }
     ensures pattern { first.pattern < 2 ^ 64 }
 {
     let mut bytes = Vec::new(alloc);
+    bytes.reserve(32 + 8 * usize::from(count))?;
     put_u16(&mut bytes, count)?;
     put_varint(&mut bytes, first.time)?;
     put_u64(&mut bytes, first.pattern)?;

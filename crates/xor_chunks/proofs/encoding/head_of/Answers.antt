@@ -8,5 +8,5 @@ use Rattle.xor_chunks.proofs.encoding.head_of.Goals as goal
 pub returns-clause-bits : goal.returns-clause-bits
 returns-clause-bits c =
     head_bits c.args.count c.args.first.pattern (varint_text c.args.first.time) c.put_u16.new.out.items c.put_varint.new.out.items c.put_u64.new.out.items
-    (c.in_ok-put_u16.ensures.ok ∙ ap (λ (x : List ℕ). x ++ to_be_bytes w16 c.args.count) c.new-bytes.ensures.items)
+    (c.in_ok-put_u16.ensures.ok ∙ ap (λ (x : List ℕ). x ++ to_be_bytes w16 c.args.count) (c.reserve.ensures.items ∙ c.new-bytes.ensures.items))
     (c.in_ok-put_varint.ensures.ok ∙ ap (λ (t : ℤ). c.put_u16.new.out.items ++ varint_text t) (to_z-of_z w64 c.args.first.time (search rules))) c.in_ok-put_u64.ensures.ok
