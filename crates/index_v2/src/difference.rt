@@ -1,9 +1,10 @@
-ghost use Rattle.std.specs.Prelude.{◌≡◌, ◌==◌, ◌^◌, ◌<◌, ◌≤◌, All, length, zip, IfSome};
+ghost use Rattle.std.specs.Prelude.{◌≡◌, ◌==◌, ◌^◌, ◌<◌, ◌≤◌, All, length, zip, None, Some, IfSome, if◌then◌else◌};
 ghost use Rattle.std.specs.List.{list_any, list_all};
 ghost use Rattle.index_v2.specs.WholeReading.{belongs, is_of_row, stray_from, gap_from, gap_of, gap_among, earlier, difference};
 ghost use Rattle.std.specs.List.Sorted.{IsStrictlyIncreasing};
 
 use crate::IndexSeries;
+use crate::nearby::{Spot, Walk, place_near};
 use crate::rows::Rows;
 use label_sets::Label;
 use wire_bytes::NumberList;
@@ -33,43 +34,61 @@ fn belongs(name: &str, value: &str, series: &IndexSeries) -> bool
     }
 }
 
-/// Whether this is the number of a listed series that stands in the row.
-fn is_of_row(numbers: &[u64], series: &[IndexSeries], row: (&str, &str, u64), number: u64) -> bool
+/// Whether this is the number of a listed series that stands in the row, and where that series stands.
+fn is_of_row(
+    numbers: &[u64],
+    series: &[IndexSeries],
+    row: (&str, &str, u64),
+    number: u64,
+    guess: usize,
+) -> (bool, usize)
     requires rise { IsStrictlyIncreasing numbers.now }
     requires as_many { length numbers.now ≡ length series.now }
-    ensures { result
+    ensures { result.0
         ≡ is_of_row (zip numbers.now series.now)
         (record { name = row.entry.0.now; value = row.entry.1.now; offset = row.entry.2 }) number }
 {
-    match numbers.binary_search(&number) {
-        Ok(place) => belongs(row.0, row.1, &series[place]),
-        Err(_) => false,
+    match place_near(numbers, number, guess) {
+        Ok(place) => (belongs(row.0, row.1, &series[place]), place),
+        Err(_) => (false, guess),
     }
 }
 
-/// Whether all numbers of a list are of series that stand in the row.
-fn are_of_row(numbers: &[u64], series: &[IndexSeries], row: (&str, &str, u64), list: &[u64]) -> bool
+/// Whether all numbers of a list are of series that stand in the row, and where the list of the next row probably begins.
+fn are_of_row(
+    numbers: &[u64],
+    series: &[IndexSeries],
+    row: (&str, &str, u64),
+    list: &[u64],
+    guess: usize,
+) -> (bool, usize)
     requires rise { IsStrictlyIncreasing numbers.now }
     requires as_many { length numbers.now ≡ length series.now }
-    ensures { result
+    ensures { result.0
         ≡ list_all (is_of_row (zip numbers.now series.now)
         (record { name = row.entry.0.now; value = row.entry.1.now; offset = row.entry.2 }))
         list.now }
 {
+    let mut walk = Walk::from(guess);
     for number in list {
-        if !is_of_row(numbers, series, row, *number) {
-            return false;
+        let (is, place) = is_of_row(numbers, series, row, *number, walk.guess());
+        if !is {
+            return (false, guess);
         }
+        walk = walk.with(place);
     }
-    true
+    (true, walk.next_row())
 }
 
-/// Whether a list, whose numbers ascend, has a number.
-fn has_number(list: &[u64], number: u64) -> bool
+/// Whether a list, whose numbers ascend, has a number, and where.
+fn has_number(list: &[u64], number: u64, guess: usize) -> (bool, usize)
     requires { IsStrictlyIncreasing list.now }
-    ensures { result ≡ list_any (λ n. n == number) list.now }
+    ensures { result.0 ≡ list_any (λ n. n == number) list.now }
 {
-    list.binary_search(&number).is_ok()
+    match place_near(list, number, guess) {
+        Ok(place) => (true, place),
+        Err(_) => (false, guess),
+    }
 }
 
 /// The place of the first row whose list has a number of another series.
@@ -85,41 +104,71 @@ pub(crate) fn first_stray(
     ensures few { length rows.now < 2 ^ 32 }
     ensures exact { result ≡ stray_from 0 rows.now lists.now (zip numbers.now series.now) }
 {
+    let mut guess = 0usize;
     for place in 0..rows.len() {
         let Some(row) = rows.get(place) else {
             return None;
         };
-        if !are_of_row(numbers, series, row, lists[place].members()) {
+        let (are, next) = are_of_row(numbers, series, row, lists[place].members(), guess);
+        if !are {
             return Some(place);
         }
+        guess = next;
     }
     None
 }
 
-/// The place of a label's row where its list lacks the number, or the place where the row would stand.
-fn gap_at(rows: &Rows<'_>, lists: &[NumberList], number: u64, label: &Label) -> Option<usize>
+/// The place of a row, unless its list has the number.
+fn unless_has(has: bool, place: usize) -> Option<usize>
+    ensures { result ≡ (if has then None else Some place) }
+{
+    if has { None } else { Some(place) }
+}
+
+/// The place of a label's row where its list lacks the number, or the place where the row would stand. With it comes where the
+/// label was found.
+fn gap_at(
+    rows: &Rows<'_>,
+    lists: &[NumberList],
+    number: u64,
+    label: &Label,
+    near: Spot,
+) -> (Option<usize>, Spot)
     requires rise { All IsStrictlyIncreasing lists.now }
     requires one_each { length rows.now ≡ length lists.now }
-    ensures { result ≡ gap_from 0 rows.now lists.now number label.now }
+    ensures { result.0 ≡ gap_from 0 rows.now lists.now number label.now }
 {
-    match rows.place_of(label.name.as_str(), label.value.as_str()) {
-        Ok(place) if has_number(lists[place].members(), number) => None,
-        Ok(place) => Some(place),
-        Err(place) => Some(place),
+    match rows.place_near(label.name.as_str(), label.value.as_str(), near.row) {
+        Ok(row) => {
+            let (has, place) = has_number(lists[row].members(), number, near.guess(row));
+            (unless_has(has, row), Spot { row, place })
+        }
+        Err(place) => (Some(place), near),
     }
 }
 
-/// The least of these places for the labels of a series.
-fn gap_of(rows: &Rows<'_>, lists: &[NumberList], number: u64, labels: &[Label]) -> Option<usize>
+/// The least of these places for the labels of a series, and where these were found, by their places in the series: those of the
+/// next one are probably found near. From the thirty-third on labels share the spots of those before them.
+fn gap_of(
+    rows: &Rows<'_>,
+    lists: &[NumberList],
+    number: u64,
+    labels: &[Label],
+    mut near: [Spot; 32],
+) -> (Option<usize>, [Spot; 32])
     requires rise { All IsStrictlyIncreasing lists.now }
     requires one_each { length rows.now ≡ length lists.now }
-    ensures { result ≡ gap_of rows.now lists.now number labels.now }
+    ensures { result.0 ≡ gap_of rows.now lists.now number labels.now }
 {
     let mut least = None;
+    let mut slot = 0usize;
     for label in labels {
-        least = earlier(least, gap_at(rows, lists, number, label));
+        let (gap, found) = gap_at(rows, lists, number, label, near[slot % 32]);
+        near[slot % 32] = found;
+        slot = slot.wrapping_add(1);
+        least = earlier(least, gap);
     }
-    least
+    (least, near)
 }
 
 /// The least of these places for all series.
@@ -135,9 +184,12 @@ pub(crate) fn first_gap(
     ensures { result ≡ gap_among rows.now lists.now (zip numbers.now series.now) }
 {
     let mut least = None;
+    let mut near = [Spot { row: 0, place: 0 }; 32];
     for place in 0..numbers.len() {
         let labels = series[place].labels.labels();
-        least = earlier(least, gap_of(rows, lists, numbers[place], labels));
+        let (gap, found) = gap_of(rows, lists, numbers[place], labels, near);
+        near = found;
+        least = earlier(least, gap);
     }
     least
 }

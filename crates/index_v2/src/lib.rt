@@ -8,6 +8,7 @@ mod label_fault;
 mod lent_label;
 mod lent_parts;
 mod lent_series;
+mod nearby;
 mod numbered;
 mod opening;
 mod postings;

@@ -1,5 +1,9 @@
+use Rattle.std.proofs.Common.{Ok, Err, refl}
 use Rattle.index_v2.proofs.Differences.{has_number_is}
 use Rattle.index_v2.proofs.difference.has_number.Goals as goal
 
-pub returns : goal.returns
-returns c = has_number_is _ _ c.binary_search.result _ c.requires c.binary_search.ensures.position c.is_ok.ensures.value
+pub returns-in-Ok : goal.returns-in-Ok
+returns-in-Ok c = has_number_is _ _ (Ok c.in-Ok.place) _ c.requires c.in-Ok.ensures.position refl
+
+pub returns-in-Err : goal.returns-in-Err
+returns-in-Err c = has_number_is _ _ (Err c.in-Err.field-0) _ c.requires c.in-Err.ensures.position refl
