@@ -1,7 +1,9 @@
 #!/usr/bin/env bash
 # Times the proved selection of series beside a tight unverified loop over the same lists, in one run, over indexes of 10,000
-# and of 100,000 series with four labels, and prints a table, the load of the machine, and whether every bar is met. What is
-# taken is the processor's time of the one thread, which does not count the turns of others.
+# and of 100,000 series with four labels, and prints a table, the load of the machine, and whether every bar is met. The index
+# is opened before the clock begins. What is taken is the processor's time of the one thread, which does not count the turns
+# of others. The function that the proved code calls behind each selection is C's, so the library is built where that is
+# allowed; it decides how often a selection is made, and no more.
 # The source with the loop's sum and its clock, limit.rs, is the first argument; without one, ../shared/bench/limit.rs beside
 # the repository. CPU names the processor that the proved code is built for, LIMIT_CPU that of the loop.
 set -euo pipefail
@@ -14,13 +16,13 @@ trap 'rm -rf "$made"' EXIT
 
 # A repository of its own for the function that C calls, over this one's crates and what their checks kept.
 own=$made/crates/selection_c
-mkdir -p "$own/src"
+mkdir -p "$own/src" "$own/c"
 cp "$top/bench/selection_c/lib.rt.txt" "$own/src/lib.rt"
 below="list_core reading_core wire_bytes label_sets index_parts index_slices index_file index_writing index_v2 matchers series_selection"
 for name in $below; do cp -a "$top/crates/$name" "$made/crates/$name"; done
 for name in $below; do grep "^$name:" "$top/crates.txt"; done >"$made/crates.txt"
 echo "selection_c staticlib: list_core wire_bytes label_sets index_parts index_slices index_file index_writing index_v2 matchers series_selection" >>"$made/crates.txt"
-(cd "$own" && rt lib --cpu "$cpu" >"$made/lib.log" 2>&1) || { tail -20 "$made/lib.log"; exit 1; }
+(cd "$own" && RT_ALLOW_C=selection_c rt lib --cpu "$cpu" >"$made/lib.log" 2>&1) || { tail -20 "$made/lib.log"; exit 1; }
 
 sed '/^fn main() {$/,$d' "$limit" >"$made/selection.rs"
 cat "$top/bench/index_form.rs" "$top/bench/selection.rs" >>"$made/selection.rs"
@@ -29,7 +31,7 @@ rustc --edition 2021 -C opt-level=3 -C target-cpu="${LIMIT_CPU:-native}" -A warn
 "$made/selection" >"$made/lines"
 awk -v load="$(cut -d' ' -f1 /proc/loadavg)" '!($1 in time) || $2 < time[$1] { time[$1] = $2 }
 END {
-    print "| Selection | Tight loop | Proved | Unit | Ratio | Bar |\n|---|---|---|---|---|---|"
+    print "| Selection | Tight loop | Proved | Unit | Ratio | Bar | Met |\n|---|---|---|---|---|---|---|"
     split("10000 100000", counts)
     for (i = 1; i <= 2; i++) {
         row("one `=`", "equal", counts[i])
@@ -44,6 +46,7 @@ function row(title, name, n,   limit, proved) {
     title = title ", " n " series"
     limit = time["tight_" name "_" n]
     proved = time["proved_" name "_" n]
-    printf "| %s | %.2f | %.2f | ns a series | %.2f | 2.5 |\n", title, limit, proved, proved / limit
-    if (proved > 2.5 * limit) missed = missed (missed ? "; " : "") title
+    met = proved <= 2.5 * limit
+    printf "| %s | %.2f | %.2f | ns a series | %.2f | 2.5 | %s |\n", title, limit, proved, proved / limit, met ? "yes" : "no"
+    if (!met) missed = missed (missed ? "; " : "") title
 }' "$made/lines"

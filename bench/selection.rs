@@ -4,7 +4,7 @@
 // ask a pattern once for each row of its name.
 
 unsafe extern "C" {
-    fn selection_sum(bytes: *const u8, count: usize, selector: *const u8, length: usize, times: u64) -> u64;
+    fn selection_run(bytes: *const u8, count: usize, selector: *const u8, length: usize) -> bool;
     fn clock_gettime(clock: i32, time: *mut [i64; 2]) -> i32;
 }
 
@@ -15,18 +15,48 @@ fn thread_time() -> i64 {
     time[0] * 1_000_000_000 + time[1]
 }
 
-/// The least time that a call takes, for each of so many: of forty turns of four milliseconds.
-fn least(count: usize, mut call: impl FnMut()) -> f64 {
-    let mut best = f64::INFINITY;
-    for _ in 0..40 {
-        let (begin, mut calls) = (thread_time(), 0);
-        while calls == 0 || thread_time() - begin < 4_000_000 {
-            call();
-            calls += 1;
-        }
-        best = best.min((thread_time() - begin) as f64 / calls as f64 / count as f64);
+/// The least time of a selection in forty turns of four milliseconds. The clock begins behind the first selection, so that
+/// opening the index does not count.
+struct Timer {
+    sum: u64,
+    begin: Option<i64>,
+    calls: u32,
+    turns: u32,
+    least: f64,
+}
+
+impl Timer {
+    fn new(sum: u64) -> Self {
+        Timer { sum, begin: None, calls: 0, turns: 0, least: f64::INFINITY }
     }
-    best
+
+    /// Takes the sum of the numbers that a selection gave, and tells whether one more is wanted.
+    fn goes_on(&mut self, sum: u64) -> bool {
+        assert_eq!(sum, self.sum);
+        let Some(begin) = self.begin else {
+            self.begin = Some(thread_time());
+            return true;
+        };
+        self.calls += 1;
+        let passed = thread_time() - begin;
+        if passed >= 4_000_000 {
+            self.least = self.least.min(passed as f64 / f64::from(self.calls));
+            self.turns += 1;
+            self.calls = 0;
+            self.begin = Some(thread_time());
+        }
+        self.turns < 40
+    }
+}
+
+thread_local! {
+    static TIMER: std::cell::RefCell<Timer> = std::cell::RefCell::new(Timer::new(0));
+}
+
+/// What the proved code calls behind each selection. The index is open by then.
+#[unsafe(no_mangle)]
+extern "C" fn selection_goes_on(sum: u64) -> bool {
+    TIMER.with_borrow_mut(|timer| timer.goes_on(sum))
 }
 
 /// Labels of which the one with a thousand values is the last, so that its lists interleave.
@@ -120,21 +150,26 @@ impl<'a> Opened<'a> {
     }
 }
 
-/// How long one selection takes, without opening the index: eleven times less once.
-fn proved(count: usize, bytes: &[u8], selector: &str, sum: u64) -> f64 {
-    let sums = |times: u64| unsafe { selection_sum(bytes.as_ptr(), bytes.len(), selector.as_ptr(), selector.len(), times) };
-    assert_eq!(sums(1), sum);
-    let once = least(count, || assert_eq!(sums(1), sum));
-    let more = least(count, || assert_eq!(sums(11), sum * 11));
-    (more - once) / 10.0
+/// How long a selection of the proved code takes over an index that it has opened.
+fn proved(bytes: &[u8], selector: &str, sum: u64) -> f64 {
+    TIMER.set(Timer::new(sum));
+    assert!(unsafe { selection_run(bytes.as_ptr(), bytes.len(), selector.as_ptr(), selector.len()) });
+    TIMER.with_borrow(|timer| timer.least)
 }
 
-fn row(name: &str, count: usize, bytes: &[u8], selector: &str, tight: impl Fn() -> Vec<u64>) {
-    let sum: u64 = tight().iter().sum();
+/// How long a selection of the loop takes.
+fn tight(sum: u64, select: impl Fn() -> Vec<u64>) -> f64 {
+    let mut timer = Timer::new(sum);
+    while timer.goes_on(select().iter().sum()) {}
+    timer.least
+}
+
+fn row(name: &str, count: usize, bytes: &[u8], selector: &str, select: impl Fn() -> Vec<u64>) {
+    let sum: u64 = select().iter().sum();
     assert!(sum > 0);
     for _ in 0..3 {
-        println!("proved_{name}_{count} {:.3}", proved(count, bytes, selector, sum));
-        println!("tight_{name}_{count} {:.3}", least(count, || assert_eq!(tight().iter().sum::<u64>(), sum)));
+        println!("proved_{name}_{count} {:.3}", proved(bytes, selector, sum) / count as f64);
+        println!("tight_{name}_{count} {:.3}", tight(sum, &select) / count as f64);
     }
 }
 

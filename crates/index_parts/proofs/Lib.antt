@@ -7,6 +7,7 @@ pub mod TurnLaws
 pub mod Loops
 pub mod ListLaws
 pub mod PostingsLaws
+pub mod Decoding
 pub mod SymbolLaws
 pub mod RowLaws
 pub mod SameNames

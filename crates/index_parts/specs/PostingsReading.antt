@@ -1,5 +1,5 @@
 -- What reading a postings list gives, or the first refusal.
-use Rattle.std.specs.Prelude.{ℕ, List, Option, Some, None, Bool, true, Result, Ok, nat_lt}
+use Rattle.std.specs.Prelude.{ℕ, ◌+◌, ◌≤◌, List, [], ◌∷◌, Option, Some, None, Bool, true, Result, Ok, nat_lt}
 use Rattle.std.specs.Int.{w32}
 use Rattle.reading_core.specs.Reading.{◌>>=◌, ◌>>◌, unless}
 use Rattle.wire_bytes.specs.Position.{Position}
@@ -21,3 +21,8 @@ posting_at s = do
 
 abbrev pub postings_at : List ℕ → ℕ → Result (List ℕ) PartRefusal
 postings_at = list_at posting_at
+
+-- The numbers ascend, and none is below the least.
+abbrev pub RiseFrom : ℕ → List ℕ → Type 0
+RiseFrom least [] = Unit {0}
+RiseFrom least (number ∷ numbers) = (least ≤ number) × RiseFrom (number + 1) numbers

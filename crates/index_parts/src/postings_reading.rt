@@ -1,8 +1,9 @@
-ghost use Rattle.std.specs.Prelude.{◌≡◌, ◌⊎◌, ◌≤◌, ◌*◌, List, ℕ, length, IfOk, Ok, Err, Some, MatchResult};
+ghost use Rattle.std.specs.Prelude.{◌≡◌, ◌⊎◌, ◌≤◌, ◌*◌, List, ℕ, length, map, IfOk, IfErr, IfSome, Ok, Err, Some, MatchResult};
+ghost use Rattle.std.specs.Int.{w32, from_be_bytes};
 ghost use Rattle.reading_core.specs.Reading.{Gives};
 ghost use Rattle.reading_core.specs.Grammar.{IsBytes};
 ghost use Rattle.index_parts.specs.Postings.{IsPostings};
-ghost use Rattle.index_parts.specs.PostingsReading.{posting_at, postings_at};
+ghost use Rattle.index_parts.specs.PostingsReading.{posting_at, postings_at, RiseFrom};
 ghost use Rattle.index_parts.specs.ListReading.{turns_at};
 ghost use Rattle.index_parts.specs.Moves.{MovesOnTo};
 
@@ -27,8 +28,52 @@ fn next_posting(cursor: &mut Cursor<'_>, before: Option<u64>) -> Result<u64, Par
     }
 }
 
-/// Reads `count` numbers.
-fn numbers_of(alloc: Global, count: u32, mut cursor: Cursor<'_>) -> Result<Vec<u64>, PartRefusal>
+/// The numbers of four bytes each, if they ascend. Whether they do is asked behind the last of them, and no number is left out
+/// of the loop, so that many are decoded at a time.
+fn decoded(alloc: Global, fronts: &[[u8; 4]]) -> Result<Option<Vec<u64>>, PartRefusal>
+    ensures decoded { IfOk result (λ found. IfSome found (λ numbers.
+        (numbers.items ≡ map (from_be_bytes w32) fronts.now) × RiseFrom 0 numbers.items)) }
+    ensures refused { IfErr result (λ e. e ≡ PartRefusal.NoMemory) }
+{
+    let mut numbers = Vec::with_capacity(alloc, fronts.len())?;
+    let mut ascend = true;
+    let mut least = 0;
+    for front in fronts {
+        let number = u64::from(u32::from_be_bytes(*front));
+        ascend = ascend & (least <= number);
+        least = number + 1;
+        numbers.push_reserved(number);
+    }
+    if ascend {
+        return Ok(Some(numbers));
+    }
+    Ok(None)
+}
+
+/// The numbers, if as many as are asked for are there and ascend.
+fn numbers_at_once(
+    alloc: Global,
+    count: u32,
+    cursor: &Cursor<'_>,
+) -> Result<Option<Vec<u64>>, PartRefusal>
+    ensures read { IfOk result (λ found. IfSome found (λ numbers.
+        turns_at posting_at count cursor.now ≡ Ok numbers.items)) }
+    ensures refused { IfErr result (λ e. e ≡ PartRefusal.NoMemory) }
+{
+    let (fronts, _) = cursor.rest().as_chunks::<4>();
+    let count = count as usize;
+    if fronts.len() < count {
+        return Ok(None);
+    }
+    decoded(alloc, &fronts[..count])
+}
+
+/// Reads `count` numbers one after another, up to the first that is refused.
+fn numbers_in_turn(
+    alloc: Global,
+    count: u32,
+    mut cursor: Cursor<'_>,
+) -> Result<Vec<u64>, PartRefusal>
     ensures { Gives PartRefusal.NoMemory (λ numbers. numbers.items) result
         (turns_at posting_at count cursor.entry) }
 {
@@ -40,6 +85,17 @@ fn numbers_of(alloc: Global, count: u32, mut cursor: Cursor<'_>) -> Result<Vec<u
         before = Some(number);
     }
     Ok(numbers)
+}
+
+/// Reads `count` numbers.
+fn numbers_of(alloc: Global, count: u32, cursor: Cursor<'_>) -> Result<Vec<u64>, PartRefusal>
+    ensures { Gives PartRefusal.NoMemory (λ numbers. numbers.items) result
+        (turns_at posting_at count cursor.entry) }
+{
+    match numbers_at_once(alloc, count, &cursor)? {
+        Some(numbers) => Ok(numbers),
+        None => numbers_in_turn(alloc, count, cursor),
+    }
 }
 
 #[tactic(auto, unfolding(crate::specs::ListReading::list_at))]

@@ -1,7 +1,7 @@
 //! Numbers that are, or are not, among others.
-ghost use Rattle.std.specs.Prelude.{◌≡◌, ◌+◌, ◌-◌, ◌==◌, ◌<◌, ◌≤◌, ℕ, length, slice_index, take, drop, IfOk, if◌then◌else◌, IsTrue, IsFalse};
+ghost use Rattle.std.specs.Prelude.{◌≡◌, ◌+◌, ◌-◌, ◌==◌, ◌<◌, ◌≤◌, ℕ, length, slice_index, take, drop, IfOk, true, if◌then◌else◌};
 ghost use Rattle.std.specs.List.Sorted.{IsNonDecreasing, IsStrictlyIncreasing};
-ghost use Rattle.series_selection.specs.SelectionSteps.{kept};
+ghost use Rattle.series_selection.specs.SelectionSteps.{is_one_of, kept};
 
 use list_core::NoMemory;
 use std::alloc::Global;
@@ -27,7 +27,7 @@ pub(crate) fn kept(
     while here < numbers.len() {
         there = first_from(others, there, numbers[here]);
         let end = apart_until(others, there, numbers, here);
-        let behind = behind_match(others, there, numbers, end);
+        let behind = behind_matches(others, there, numbers, end);
         left.extend_from_slice(part_kept(wanted, numbers, here, end, behind))?;
         here = behind;
     }
@@ -53,21 +53,27 @@ fn apart_until(others: &[u64], there: usize, numbers: &[u64], here: usize) -> us
     numbers.len()
 }
 
-/// The place behind a number that is the next of the others, and else its own.
+/// The place behind the numbers, from an end on, that are one after another the next of the others.
 #[inline(always)]
-fn behind_match(others: &[u64], there: usize, numbers: &[u64], end: usize) -> usize
-    requires left { end < length numbers.now → there < length others.now }
+fn behind_matches(others: &[u64], there: usize, numbers: &[u64], end: usize) -> usize
     requires within { end ≤ length numbers.now }
-    ensures same { end < length numbers.now → slice_index numbers.now end ≡ slice_index others.now there → result ≡ end + 1 }
-    ensures other { (end < length numbers.now → slice_index numbers.now end ≡ slice_index others.now there → ⊥) → result ≡ end }
+    ensures within { result ≤ length numbers.now }
+    ensures behind { end ≤ result }
+    ensures among { (k : ℕ) → end ≤ k → k < result
+        → is_one_of others.now (slice_index numbers.now k) ≡ true }
+    ensures moves { end < length numbers.now → there < length others.now
+        → slice_index numbers.now end ≡ slice_index others.now there → end < result }
 {
-    if end < numbers.len() && numbers[end] == others[there] {
-        return end + 1;
+    let mut behind = end;
+    let mut next = there;
+    while behind < numbers.len() && next < others.len() && numbers[behind] == others[next] {
+        behind += 1;
+        next += 1;
     }
-    end
+    behind
 }
 
-/// What is kept of numbers of which those up to an end are not among the others, and the one behind it is, if there is one.
+/// What is kept of numbers of which those up to an end are not among the others, and those behind it are.
 #[inline(always)]
 fn part_kept(wanted: bool, numbers: &[u64], here: usize, end: usize, behind: usize) -> &[u64]
     requires begins { here ≤ end }

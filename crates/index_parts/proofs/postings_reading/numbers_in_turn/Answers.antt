@@ -4,7 +4,7 @@ use Rattle.index_parts.specs.PostingsReading.{posting_at}
 use Rattle.index_parts.specs.ListReading.{turns_at}
 use Rattle.index_parts.specs.declared.refusal.PartRefusal.TheVariants.{NoMemory}
 use Rattle.index_parts.proofs.Loops.{turns_exit, turns_end}
-use Rattle.index_parts.proofs.postings_reading.numbers_of.Goals as goal
+use Rattle.index_parts.proofs.postings_reading.numbers_in_turn.Goals as goal
 
 pub loop-init : goal.loop-init
 loop-init c = search (rules, loop_start)
