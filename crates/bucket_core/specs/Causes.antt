@@ -19,11 +19,12 @@ use Rattle.bucket_core.specs.declared.answer.WriteAnswer.TheVariants as write
 abbrev pub Rose : ℕ → ℕ → Type 0
 Rose before now = min (before + 1) (2 ^ 64 - 1) ≤ now
 
--- A call took a bucket from `old` to `new`, and failed or not: the count of faults does not fall, a failure makes it rise, and
--- a quiet bucket does not fail and stays quiet.
+-- A call took a bucket from `old` to `new`, and failed or not: the count of faults does not fall, a failure makes it rise and
+-- nothing else does, and a quiet bucket does not fail and stays quiet.
 pub record KeepsFaults {B : Type 0} (faults : B → ℕ) (quiet : B → Type 0) (old new : B) (failed : Bool) : Type 0 where
   pub later : faults old ≤ faults new
   pub cause : IsTrue failed → Rose (faults old) (faults new)
+  pub only : failed ≡ false → faults new ≡ faults old
   pub calm : quiet old → quiet new × (failed ≡ false)
 
 -- whether a call failed, by its answer

@@ -45,7 +45,7 @@ impl Site for MemorySite {
 
     type Files = MemoryShelf;
 
-    ghost use Rattle.std.specs.Prelude.{◌≡◌, ◌≤◌, ◌+◌, ◌⊎◌, ◌↔◌, Some, None, IfOk, IfSome, IsTrue, is_ok, if◌then◌else◌, option_map};
+    ghost use Rattle.std.specs.Prelude.{◌≡◌, ◌≢◌, ◌≤◌, ◌+◌, ◌⊎◌, ◌↔◌, Some, None, IfOk, IfSome, IsTrue, is_ok, if◌then◌else◌, option_map};
     ghost use Rattle.bucket_core.specs.Causes.{Rose};
     ghost use Rattle.bucket_core.specs.MemoryBucket.{faults_counted as bucket_faults, objects_held};
     ghost use Rattle.bucket_core.specs.MemoryShelf.{faults_counted as shelf_faults, file_in, files_held};
@@ -70,6 +70,8 @@ impl Site for MemorySite {
         ensures later { faults_counted self.old ≤ faults_counted self.new }
         ensures cause { result ≡ Err SiteRefusal.Failed
             → Rose (faults_counted self.old) (faults_counted self.new) }
+        ensures calm { result ≢ Err SiteRefusal.Failed
+            → faults_counted self.new ≡ faults_counted self.old }
         ensures fails { result ≡ Err SiteRefusal.Failed
             ↔ (IsTrue (is_failing self.old) ⊎ (bucket_left self.old ≡ None)) }
         ensures only { result ≡ Err SiteRefusal.NoMemory → ⊥ }
@@ -97,6 +99,8 @@ impl Site for MemorySite {
         ensures later { faults_counted self.old ≤ faults_counted self.new }
         ensures cause { result ≡ Err SiteRefusal.Failed
             → Rose (faults_counted self.old) (faults_counted self.new) }
+        ensures calm { result ≢ Err SiteRefusal.Failed
+            → faults_counted self.new ≡ faults_counted self.old }
         ensures fails { result ≡ Err SiteRefusal.Failed
             ↔ (IsTrue (is_failing self.old) ⊎ (shelf_left self.old ≡ None)) }
         ensures only { result ≡ Err SiteRefusal.NoMemory → ⊥ }

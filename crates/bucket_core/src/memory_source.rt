@@ -38,7 +38,7 @@ impl MemorySource {
 }
 
 impl Source for MemorySource {
-    ghost use Rattle.std.specs.Prelude.{◌≡◌, ◌≤◌, ◌<◌, ◌↔◌, ◌++◌, length, take, option_map, IsTrue, Some};
+    ghost use Rattle.std.specs.Prelude.{◌≡◌, ◌≤◌, ◌<◌, ◌↔◌, ◌++◌, length, take, option_map, IsTrue, Some, false};
     ghost use Rattle.bucket_core.specs.Calls.{next_call};
     ghost use Rattle.bucket_core.specs.Causes.{Rose, read_failed};
     ghost use Rattle.bucket_core.specs.Streams.{count_got, EndsWhereNone};
@@ -57,6 +57,8 @@ impl Source for MemorySource {
         ensures later { faults_counted self.old ≤ faults_counted self.new }
         ensures cause { IsTrue (read_failed result)
             → Rose (faults_counted self.old) (faults_counted self.new) }
+        ensures calm { read_failed result ≡ false
+            → faults_counted self.new ≡ faults_counted self.old }
         ensures fails { IsTrue (read_failed result)
             ↔ (failing_call self.old ≡ Some (next_call (calls_made self.old))) }
         ensures counted { calls_made self.new ≡ next_call (calls_made self.old) }

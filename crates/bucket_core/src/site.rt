@@ -1,10 +1,10 @@
-ghost use Rattle.std.specs.Prelude.{◌≡◌, ℕ, ◌+◌, ◌≤◌, List, Option, Some, IfSome, IfOk, is_ok, if◌then◌else◌};
+ghost use Rattle.std.specs.Prelude.{◌≡◌, ◌≢◌, ℕ, ◌+◌, ◌≤◌, List, Option, Some, IfSome, IfOk, is_ok, if◌then◌else◌};
 ghost use Rattle.bucket_core.specs.Causes.{Rose};
 ghost use Rattle.bucket_core.specs.Contents.{Contents};
 
 use crate::{Bucket, Shelf, SiteRefusal};
 
-/// Where buckets and shelves are opened by name.
+/// Where buckets and shelves are opened by name. The count of faults rises by failures alone.
 pub trait Site {
     type Store: Bucket;
 
@@ -36,7 +36,8 @@ pub trait Site {
         ensures files { next_shelf self.new ≡ next_shelf self.old }
         ensures later { faults self.old ≤ faults self.new }
         ensures cause { result ≡ Err SiteRefusal.Failed
-            → Rose (faults self.old) (faults self.new) };
+            → Rose (faults self.old) (faults self.new) }
+        ensures calm { result ≢ Err SiteRefusal.Failed → faults self.new ≡ faults self.old };
 
     /// Hands out a shelf that has not failed yet. What is told of buckets stays.
     fn open_shelf(&mut self, name: &str) -> Result<Self::Files, SiteRefusal>
@@ -49,5 +50,6 @@ pub trait Site {
         ensures contents { next_bucket self.new ≡ next_bucket self.old }
         ensures later { faults self.old ≤ faults self.new }
         ensures cause { result ≡ Err SiteRefusal.Failed
-            → Rose (faults self.old) (faults self.new) };
+            → Rose (faults self.old) (faults self.new) }
+        ensures calm { result ≢ Err SiteRefusal.Failed → faults self.new ≡ faults self.old };
 }

@@ -1,4 +1,4 @@
-ghost use Rattle.std.specs.Prelude.{◌≡◌, ℕ, ◌<◌, ◌≤◌, List, ◌++◌, length, take, Option, option_map, IsTrue};
+ghost use Rattle.std.specs.Prelude.{◌≡◌, ℕ, ◌<◌, ◌≤◌, List, ◌++◌, length, take, Option, option_map, IsTrue, false};
 ghost use Rattle.bucket_core.specs.Causes.{Rose, read_failed};
 ghost use Rattle.bucket_core.specs.Streams.{count_got, EndsWhereNone};
 
@@ -20,5 +20,6 @@ pub trait Source {
             ≡ option_map (λ rest. take (count_got result) into.new ++ rest) (left self.new) }
         ensures end { EndsWhereNone result (left self.old) }
         ensures later { faults self.old ≤ faults self.new }
-        ensures cause { IsTrue (read_failed result) → Rose (faults self.old) (faults self.new) };
+        ensures cause { IsTrue (read_failed result) → Rose (faults self.old) (faults self.new) }
+        ensures calm { read_failed result ≡ false → faults self.new ≡ faults self.old };
 }

@@ -56,6 +56,8 @@ impl<R: Files + AllocGlobal + Clone + Drop> DirBucket<R> {
         ensures later { bucket_faults self.old ≤ bucket_faults self.new }
         ensures cause { IsTrue (get_failed result)
             → Rose (bucket_faults self.old) (bucket_faults self.new) }
+        ensures only { get_failed result ≡ false
+            → bucket_faults self.new ≡ bucket_faults self.old }
     {
         match read {
             Ok(bytes) => GetAnswer::Found(Blob::from_vec(bytes)),

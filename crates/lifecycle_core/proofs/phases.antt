@@ -16,3 +16,4 @@ pub mod Fronts
 pub mod ActingRuns
 pub mod PhaseViews
 pub mod TasksMade
+pub mod OneEnding

@@ -26,9 +26,9 @@ ghost use Rattle.lifecycle_core.specs.Guarantees.{Answered, IsGiven, IsGuarantee
 ghost use Rattle.lifecycle_core.specs.Holdings.{Use};
 ghost use Rattle.lifecycle_core.specs.SyncsAndCalls.{IsCallIn, IsViewOf};
 ghost use Rattle.lifecycle_core.specs.InLine.{IsRunInLine};
-ghost use Rattle.lifecycle_core.specs.Phases.{IsInTurn, IsLawfulJournal, IsRunOf};
+ghost use Rattle.lifecycle_core.specs.Phases.{IsFinished, IsInTurn, IsLawfulJournal, IsRunOf, by_workers};
 ghost use Rattle.lifecycle_core.specs.Tasks.{End, answered, sync_rules};
-ghost use Rattle.lifecycle_core.specs.Ways.{BeginsPhase};
+ghost use Rattle.lifecycle_core.specs.Ways.{AreFinished, BeginsPhase};
 ghost use Rattle.lifecycle_core.specs.TimeRules.{IsMarkedInTime, IsReadInTime, IsSyncedInTime, IsUploadedInTime};
 
 /// A law: a run that was broken off before its first entry is a run of every script.
@@ -100,6 +100,21 @@ pub fn entries_tell_the_end()
     ensures call { (view : View) (question : Question) (entries : List Entry)
         (one other : SeriesEnd) → SeriesRun view question entries (Some one)
         → SeriesRun view question entries (Some other) → one ≡ other }
+{}
+
+/// A law: a journal tells the ends of what was done. Two finished runs of one script that leave one journal came to the same ends;
+/// and so did two runs of which the same first phases were done.
+pub fn ends_are_one()
+    ensures finished { (setting : Setting) (journal : List Entry)
+        (one other : List (List (List End)))
+        → IsRunOf setting journal one → IsRunOf setting journal other
+        → IsFinished setting one → IsFinished setting other → one ≡ other }
+    ensures begun { (setting : Setting) (journal : List Entry) (done left : List Phase)
+        (one other more others : List (List (List End)))
+        → setting.script.phases ≡ done ++ left
+        → IsRunOf setting journal (one ++ more) → IsRunOf setting journal (other ++ others)
+        → AreFinished (by_workers setting) 0 done one
+        → AreFinished (by_workers setting) 0 done other → one ≡ other }
 {}
 
 /// A law: a front of a lawful journal is one.

@@ -43,7 +43,7 @@ last_more entries e = fold-append (λ last x. x.moment.ms) 0 entries (e ∷ [])
 kept_more : (entries : List Entry) (e : Entry) → kept_bytes (entries ++ e ∷ []) ≡ kept_bytes entries + (bytes_put e.op + bytes_told e.reply)
 kept_more entries e = let h = sum_by-append (λ x. bytes_put x.op + bytes_told x.reply) entries (e ∷ []) in omega (arith, h)
 
-failed_more : (entries : List Entry) (e : Entry) → count_by (λ x. has_failed x.reply) (entries ++ e ∷ []) ≡ count_by (λ x. has_failed x.reply) entries + cond (has_failed e.reply) 1 0
+pub failed_more : (entries : List Entry) (e : Entry) → count_by (λ x. has_failed x.reply) (entries ++ e ∷ []) ≡ count_by (λ x. has_failed x.reply) entries + cond (has_failed e.reply) 1 0
 failed_more entries e = let h = sum_by-append (λ x. cond (has_failed x.reply) 1 0) entries (e ∷ []) in omega (arith, h)
 
 -- no moment passes what the clock's limit and the ticks allow

@@ -4,6 +4,8 @@ pub mod Opening
 pub mod KeyTexts
 pub mod LastLanded
 pub mod Replies
+pub mod Untold
+pub mod GoingOn
 pub mod PlanLaws
 pub mod PlanMachines
 pub mod PlanWords

@@ -1,7 +1,7 @@
 -- What a machine promises of its calls, what a hand does, and what a drive leaves.
 use Rattle.std.specs.Prelude.{◌≡◌, ◌↔◌, ℕ, ◌<◌, ◌≤◌, Bool, true, false, List, [], ◌∷◌, ◌++◌, length, All, Option, Some, None, Result, Ok, Err}
 use Rattle.list_core.specs.declared.memory.NoMemory.{NoMemory}
-use Rattle.world_core.specs.Operations.{IsLawful, IsAnswer, entry_of}
+use Rattle.world_core.specs.Operations.{IsLawful, IsAnswer, entry_of, has_failed}
 use Rattle.world_core.specs.declared.op.Op.{Op}
 use Rattle.world_core.specs.declared.seen.Seen.{Seen}
 use Rattle.world_core.specs.declared.entry.Entry.{Entry}
@@ -43,6 +43,11 @@ gained seat op answer.NoMemory = []
 abbrev pub is_full : Acted → Bool
 is_full answer.Full = true
 is_full other = false
+
+-- the operation was done, and the call failed
+abbrev pub is_failed : Acted → Bool
+is_failed (answer.Done seen) = has_failed seen.reply
+is_failed other = false
 
 -- what is answered to an operation that was done
 abbrev pub IfDone : Acted → (Seen → Type 0) → Type 0

@@ -68,18 +68,23 @@ left_by_act op (Done seen) contents = left_by op seen.reply contents
 left_by_act op Full contents = contents
 left_by_act op NoMemory contents = contents
 
--- A world after operations: time goes on as it did, the bucket's faults never fall, and a bucket without faults stays so.
+-- A world after operations: time goes on as it did; the bucket's faults never fall, and rise only where a failed entry was added;
+-- and a bucket without faults stays so.
 pub record WorldGoesOn {B : Type 0} (faults : B → ℕ) (quiet : B → Type 0) (old new : WorldView B) : Type 0 where
   pub tick : new.tick ≡ old.tick
   pub later : faults old.bucket ≤ faults new.bucket
+  pub more : failed_count old.journal ≤ failed_count new.journal
+  pub only : failed_count new.journal ≡ failed_count old.journal → faults new.bucket ≡ faults old.bucket
   pub calm : quiet old.bucket → quiet new.bucket × (failed_count new.journal ≡ failed_count old.journal)
 
 pub goes_on-none : {B : Type 0} (faults : B → ℕ) (quiet : B → Type 0) (world : WorldView B) → WorldGoesOn faults quiet world world
-goes_on-none faults quiet world = record { tick = refl; later = omega arith; calm = λ q. (q, refl) }
+goes_on-none faults quiet world = record { tick = refl; later = omega arith; more = omega arith; only = λ same. refl; calm = λ q. (q, refl) }
 
 pub goes_on-more : {B : Type 0} (faults : B → ℕ) (quiet : B → Type 0) (first next last : WorldView B) → WorldGoesOn faults quiet first next → WorldGoesOn faults quiet next last → WorldGoesOn faults quiet first last
 goes_on-more faults quiet first next last one two = record {
   tick = two.tick ∙ one.tick;
   later = omega (arith, one.later, two.later);
+  more = omega (arith, one.more, two.more);
+  only = λ same. two.only (omega (arith, one.more, two.more, same)) ∙ one.only (omega (arith, one.more, two.more, same));
   calm = λ q. let a = one.calm q in let b = two.calm a.0 in (b.0, b.1 ∙ a.1);
 }

@@ -33,6 +33,8 @@ pub trait Hand {
         ensures seat { seat self.new ≡ seat self.old }
         ensures refused { refused self.new ≡ (refused self.old || is_full result) }
         ensures full { result ≡ Acted.Full → IfSome (front self.new) IsFull }
+        ensures memory { result ≡ Acted.NoMemory
+            → IfSome (front self.new) (λ entries. ¬ IsFull entries) }
         ensures keeps { keeps self.old self.new };
 
     /// What is kept holds where nothing was done.

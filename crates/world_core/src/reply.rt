@@ -17,12 +17,14 @@ pub enum Reply {
 
 impl TryCopy for Reply {
     ghost use Rattle.std.specs.Prelude.{◌≡◌, false, IfOk, OnErr};
+    ghost use Rattle.world_core.specs.Operations.{has_failed};
     ghost use Rattle.world_core.specs.Standing.{has_landed};
 
     /// Only bytes and names want memory.
     fn copy(&self) -> Result<Self, NoMemory>
         ensures equal { IfOk result (λ copied. copied ≡ self.now) }
         ensures memory { OnErr result (has_landed self.now ≡ false) }
+        ensures done { OnErr result (has_failed self.now ≡ false) }
     {
         Ok(match self {
             Reply::Clocked => Reply::Clocked,

@@ -7,7 +7,7 @@ ghost use Rattle.moment_core.specs.Limits.{longest_tick};
 ghost use Rattle.world_core.specs.Limits.{most_entries};
 ghost use Rattle.world_core.specs.Operations.{IsLawful, IsAnswer, has_failed};
 ghost use Rattle.bucket_core.specs.Causes.{Rose};
-ghost use Rattle.world_core.specs.Machines.{gained, IfDone, IfNotDone};
+ghost use Rattle.world_core.specs.Machines.{gained, is_failed, IfDone, IfNotDone};
 ghost use Rattle.world_core.specs.Moments.{moment_after, last_moment};
 
 use crate::keeping::{MAX_ENTRIES, MAX_KEPT, put_size, told_size};
@@ -58,11 +58,13 @@ impl<B: Bucket> World<B> {
         ensures not_empty { IfErr result (λ e. (name : List ℕ) → e.0 ≡ OpenRefusal.NotEmpty name →
             IfSome (B.contents bucket) (λ c. IsPage c [] [] 1 (name ∷ []))) }
 
-        // A failure has its cause in the bucket.
+        // A failure has its cause in the bucket, whose count of faults rises by it alone.
         ensures later { MatchResult result (λ world. B.faults bucket ≤ B.faults world.bucket)
             (λ e. B.faults bucket ≤ B.faults e.1) }
         ensures failed { IfErr result
             (λ e. e.0 ≡ OpenRefusal.Failed → Rose (B.faults bucket) (B.faults e.1)) }
+        ensures only { MatchResult result (λ world. B.faults world.bucket ≡ B.faults bucket)
+            (λ e. e.0 ≢ OpenRefusal.Failed → B.faults e.1 ≡ B.faults bucket) }
         ensures calm { B.quiet bucket
             → MatchResult result (λ world. B.quiet world.bucket)
             (λ e. B.quiet e.1 × (e.0 ≢ OpenRefusal.Failed)) }
@@ -110,11 +112,13 @@ impl<B: Bucket> World<B> {
         ensures left { B.contents self.new.bucket
             ≡ option_map (left_by_act op result) (B.contents self.old.bucket) }
 
-        // A failure has its cause in the bucket.
+        // A failure has its cause in the bucket, whose count of faults rises by it alone.
         ensures later { B.faults self.old.bucket ≤ B.faults self.new.bucket }
         ensures cause { IfDone result
             (λ seen. IsTrue (has_failed seen.reply)
             → Rose (B.faults self.old.bucket) (B.faults self.new.bucket)) }
+        ensures only { is_failed result ≡ false
+            → B.faults self.new.bucket ≡ B.faults self.old.bucket }
         ensures calm { B.quiet self.old.bucket → B.quiet self.new.bucket
             × IfDone result (λ seen. has_failed seen.reply ≡ false) }
         ensures holds { IsWorld B.contents B.faults self.new }

@@ -51,6 +51,7 @@ impl<B: Bucket> Hand for WorldHand<B> {
     ghost keeps_more = { λ first next last. goes_on-more B.faults B.quiet first.world next.world
         last.world };
 
+    #[tactic(auto, using(crate::proofs::GoingOn::acted_goes_on))]
     fn act(&mut self, op: Op) -> Acted {
         let acted = self.world.act(self.seat, op);
         if let Acted::Full = acted {

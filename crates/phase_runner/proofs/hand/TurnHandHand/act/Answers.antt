@@ -2,7 +2,7 @@ use Rattle.std.proofs.Common.{◌≡◌, Option, Some, refl, sym, ◌∙◌, sub
 use Rattle.world_turn.specs.Passes.{view_of}
 use Rattle.world_turn.specs.declared.pass.Pass.{Pass}
 use Rattle.phase_runner.specs.Hands.{HandView, GoesOn, view_in, seat_in}
-use Rattle.phase_runner.proofs.Refused.{front_full}
+use Rattle.phase_runner.proofs.Refused.{front_full, front_short}
 use Rattle.phase_runner.proofs.hand.TurnHandHand.act.Goals as goal
 
 pub returns-clause-keeps : goal.returns-clause-keeps
@@ -17,3 +17,6 @@ returns-clause-keeps g c =
 
 pub returns-clause-full : goal.returns-clause-full
 returns-clause-full g c full = front_full _ _ _ _ c.act-acted.ensures.acts full
+
+pub returns-clause-memory : goal.returns-clause-memory
+returns-clause-memory g c none = front_short _ _ _ _ c.act-acted.ensures.acts none

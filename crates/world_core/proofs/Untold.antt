@@ -1,0 +1,44 @@
+-- An operation was done, and no copy of its reply could be made: it has neither landed nor failed, so it is told as one for
+-- which memory was wanted.
+use Rattle.std.proofs.Common.{◌≡◌, ℕ, false, Option, Some, None, IfSome, option_map, refl, sym, ◌∙◌, ap, subst}
+use Rattle.std.specs.Prelude.{Result, Ok, Err, IfOk}
+use Rattle.list_core.specs.declared.memory.NoMemory.{NoMemory}
+use Rattle.bucket_core.specs.Causes.{KeepsFaults}
+use Rattle.bucket_core.specs.Contents.{Contents}
+use Rattle.world_core.specs.Operations.{has_failed}
+use Rattle.world_core.specs.Performing.{IsPerformed, left_after, reply_seen}
+use Rattle.world_core.specs.Standing.{has_landed, left_by}
+use Rattle.world_core.specs.declared.op.Op.{Op}
+use Rattle.world_core.specs.declared.op.Op.TheVariants.{Clock, Put, Get, GetRange, Delete, RootPage, BlockPage}
+use Rattle.world_core.specs.declared.reply.Reply.{Reply}
+use Rattle.world_core.specs.declared.seen.Seen.{Seen}
+
+unlanded : (op : Op) (reply : Reply) (c : Contents) → has_landed reply ≡ false → left_by op reply c ≡ c
+unlanded (Clock moment) reply c none = refl
+unlanded (Put key bytes) reply c none = rw none refl
+unlanded (Get key) reply c none = refl
+unlanded (GetRange key from len) reply c none = refl
+unlanded (Delete key) reply c none = rw none refl
+unlanded (RootPage after limit) reply c none = refl
+unlanded (BlockPage ulid after limit) reply c none = refl
+
+same_left : (op : Op) (reply : Reply) (o : Option Contents) → has_landed reply ≡ false → option_map (left_by op reply) o ≡ option_map (λ c. c) o
+same_left op reply None none = refl
+same_left op reply (Some c) none = ap (λ (x : Contents). Some x) (unlanded op reply c none)
+
+always : (o : Option Contents) → IfSome o (λ c. Unit {0})
+always None = tt
+always (Some c) = tt
+
+module _ {B : Type 0} (contents : B → Option Contents) (faults : B → ℕ) (quiet : B → Type 0) (old new : B) (op : Op) (reply : Reply) where
+  untold_reply : (none : NoMemory) → has_landed reply ≡ false → has_failed reply ≡ false → IsPerformed contents faults quiet old op (Ok reply) new → IsPerformed contents faults quiet old op (Err none) new
+  untold_reply none landed failed done = record {
+    kind = tt;
+    told = always (contents old);
+    left = done.left ∙ same_left op reply (contents old) landed;
+    kept = subst (KeepsFaults faults quiet old new) failed done.kept;
+  }
+
+  pub untold : (seen : Result Seen NoMemory) (none : NoMemory) → seen ≡ Err none → has_landed reply ≡ false → has_failed reply ≡ false → IsPerformed contents faults quiet old op (Ok reply) new → IsPerformed contents faults quiet old op (reply_seen seen) new
+  untold seen none is landed failed done =
+      subst (λ (r : Result Seen NoMemory). IsPerformed contents faults quiet old op (reply_seen r) new) (sym is) (untold_reply none landed failed done)
