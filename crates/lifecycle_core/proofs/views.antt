@@ -3,6 +3,7 @@ pub mod Metas
 pub mod Pages
 pub mod Puts
 pub mod Finds
+pub mod Soles
 pub mod TrueViews
 pub mod OneView
 pub mod FewNames

@@ -1,5 +1,5 @@
 -- A view's blocks ascend: the names of a walk do, and ULIDs are in the order of their texts.
-use Rattle.std.proofs.Common.{◌≡◌, ◌<◌, ◌^◌, ℕ, Bool, true, false, List, [], ◌∷◌, ◌++◌, refl, sym, ◌∙◌, ap, subst, Option, Some, None, Result, Ok, Err, cond, append_assoc, append-nil}
+use Rattle.std.proofs.Common.{◌≡◌, ◌<◌, ◌^◌, ℕ, Bool, true, false, not, List, [], ◌∷◌, ◌++◌, refl, sym, ◌∙◌, ap, subst, Option, Some, None, Result, Ok, Err, cond, append_assoc, append-nil}
 use Rattle.std.specs.Prelude.{◌&&◌, map}
 use Rattle.std.specs.List.{AllByRecursion, filter, cons_option, last_or}
 use Rattle.std.specs.List.Sorted.{IsStrictlyIncreasing, IsStrictlySortedBy}
@@ -18,9 +18,9 @@ use Rattle.world_core.specs.Plans.{Runs}
 use Rattle.world_core.specs.Walks.{ascends, is_after}
 use Rattle.world_core.specs.declared.entry.Entry.{Entry}
 use Rattle.world_core.proofs.PlanLaws.{nothing_given}
-use Rattle.sync_filters.specs.Filters.{is_consistent, is_in_partition}
+use Rattle.sync_filters.specs.Filters.{is_consistent, is_covered, is_in_partition, is_unmarked}
 use Rattle.sync_filters.specs.declared.found.Found.{Found}
-use Rattle.meta_fetcher.specs.Sightings.{Sighting, sighting_of, kept_by}
+use Rattle.meta_fetcher.specs.Sightings.{Sighting, sighting_of, passed_by, kept_by, covered_by}
 use Rattle.meta_fetcher.specs.Syncs.{Synced, sighted, fault, damaged, too_many, Course, sync, ulids_in}
 use Rattle.meta_fetcher.specs.SyncStates.{Ascend}
 use Rattle.meta_fetcher.specs.declared.rules.SyncRules.{SyncRules}
@@ -117,11 +117,12 @@ by_reads : KeptByReads AnyEntry IsInOrder (λ made sightings ulids. Ascending (u
 by_reads = record {
   over = λ made sightings up. subst Ascending (append-nil (ulids_of sightings)) up;
   mark_failed = λ made sightings ulid ulids e landed came. tt;
-  marked = λ made sightings ulid ulids e bytes came. tt;
+  no_mark = λ made sightings ulid ulids e bytes came none. tt;
+  marked = λ made sightings ulid ulids e bytes mark came some. came.before;
   unmarked = λ made sightings ulid ulids e came. came.before;
   meta_failed = λ made sightings ulid ulids e landed came. tt;
   unread = λ made sightings ulid ulids e bytes came none. tt;
-  seen = λ made sightings ulid ulids e bytes mark_read meta came some. ascending_seen sightings (sighting_at ulid mark_read e.moment meta) ulids came.before;
+  seen = λ made sightings ulid ulids e bytes mark mark_read meta looked came some. ascending_seen sightings (sighting_at ulid mark mark_read e.moment meta) ulids came.before;
   missed = λ made sightings ulid ulids e came. ascending_but (ulids_of sightings) ulid ulids came.before;
 }
 
@@ -151,7 +152,7 @@ sync_ascends rules entries (last, course) run =
 
 -- ---- what is kept of the blocks
 
-abbrev blocks_of : List Found → List ℕ
+abbrev pub blocks_of : List Found → List ℕ
 blocks_of found = map (λ block. block.ulid) found
 
 all_kept : (P : ℕ → Type 0) (test : Found → Bool) (found : List Found) → AllByRecursion P (blocks_of found) → AllByRecursion P (blocks_of (filter test found))
@@ -171,12 +172,24 @@ ascending_kept test (block ∷ found) up = one (test block) (ascending_kept test
     one true rest = (all_kept (λ other. nat_cmp block.ulid other ≡ Less) test found up.0, rest)
     one false rest = rest
 
--- what the filters keep ascends
+filter_ascends : (test : Found → Bool) (found : List Found) → IsStrictlyIncreasing (blocks_of found) → IsStrictlyIncreasing (blocks_of (filter test found))
+filter_ascends test found up =
+    IsStrictlyIncreasing-from_sorted (blocks_of (filter test found)) (ascending_kept test found (sorted_from_strictly_increasing (blocks_of found) up))
+
+-- what the filters by times and by marks pass ascends
+pub passed_ascend : (rules : SyncRules) (found : List Found) → IsStrictlyIncreasing (blocks_of found) → IsStrictlyIncreasing (blocks_of (passed_by rules found))
+passed_ascend rules found up =
+    let in_time = filter (λ block. is_in_partition block.meta rules.partition) found in
+    let old = filter (λ block. is_consistent block rules.consistency) in_time in
+    filter_ascends (λ block. is_unmarked block rules.mark_delay) old
+    (filter_ascends (λ block. is_consistent block rules.consistency) in_time (filter_ascends (λ block. is_in_partition block.meta rules.partition) found up))
+
+-- so does what is kept of it, and what is covered
 pub kept_ascend : (rules : SyncRules) (found : List Found) → IsStrictlyIncreasing (blocks_of found) → IsStrictlyIncreasing (blocks_of (kept_by rules found))
-kept_ascend rules found up =
-    IsStrictlyIncreasing-from_sorted (blocks_of (kept_by rules found))
-    (ascending_kept (λ block. is_consistent block rules.consistency) (filter (λ block. is_in_partition block.meta rules.partition) found)
-    (ascending_kept (λ block. is_in_partition block.meta rules.partition) found (sorted_from_strictly_increasing (blocks_of found) up)))
+kept_ascend rules found up = let passed = passed_by rules found in filter_ascends (λ block. not (is_covered passed block)) passed (passed_ascend rules found up)
+
+pub covered_ascend : (rules : SyncRules) (found : List Found) → IsStrictlyIncreasing (blocks_of found) → IsStrictlyIncreasing (blocks_of (covered_by rules found))
+covered_ascend rules found up = let passed = passed_by rules found in filter_ascends (is_covered passed) passed (passed_ascend rules found up)
 
 sighted_blocks : (found : List Found) → ulids_of (map sighting_of found) ≡ blocks_of found
 sighted_blocks [] = refl

@@ -5,3 +5,4 @@ mod Begin
 mod Steps
 mod Pages
 mod Metas
+mod SplitBlocks

@@ -1,8 +1,9 @@
 -- What the reads of a block lead to.
 use Rattle.std.proofs.Common.{◌≡◌, ℕ, Bool, List, [], ◌∷◌, ◌++◌, refl, sym, ◌∙◌, ap, subst, Option, Some, None, Result}
-use Rattle.std.specs.Prelude.{map}
+use Rattle.std.specs.Prelude.{map, option_map}
 use Rattle.std.proofs.lemmas.List.{map-append}
-use Rattle.block_meta.specs.MetaFields.{MetaFields, fields_of}
+use Rattle.block_meta.specs.declared.deletion_mark.DeletionMark.{DeletionMark}
+use Rattle.block_meta.specs.MetaFields.{MetaFields, MarkFields, fields_of, mark_fields_of}
 use Rattle.world_core.specs.Operations.{entry_of}
 use Rattle.world_core.specs.Plans.{Plan, ends, after_get}
 use Rattle.world_core.specs.declared.op.Op.{Op}
@@ -13,8 +14,8 @@ use Rattle.world_core.specs.declared.entry.Entry.{Entry}
 use Rattle.world_core.specs.declared.act.Act.{Act}
 use Rattle.list_core.specs.declared.memory.NoMemory.{NoMemory}
 use Rattle.sync_filters.specs.declared.found.Found.{Found}
-use Rattle.meta_fetcher.specs.Sightings.{Sighting, sighting_of, block_meta}
-use Rattle.meta_fetcher.specs.Syncs.{Synced, Course, fault, damaged, if_meta, reads_meta, reading}
+use Rattle.meta_fetcher.specs.Sightings.{Sighting, sighting_of, block_meta, block_mark}
+use Rattle.meta_fetcher.specs.Syncs.{Synced, Course, fault, damaged, if_mark, if_meta, reads_meta, reading}
 use Rattle.meta_fetcher.specs.SyncStates.{Onward, Goes, Leads, sightings_of, blocks_left, goes_after}
 use Rattle.meta_fetcher.specs.declared.rules.SyncRules.{SyncRules}
 use Rattle.meta_fetcher.specs.declared.stage.Stage.TheVariants.{Marking, Reading}
@@ -50,38 +51,57 @@ meta_found rules course seq o block sighting before after ulids entries end is s
     (subst (λ l. Goes rules course (reading l ulids) entries end)
     (ap (map sighting_of) pushed ∙ map-append sighting_of before (block ∷ []) ∙ ap (λ b. map sighting_of before ++ b ∷ []) sighted) run)
 
--- ---- the look for a mark
+-- ---- the read of a mark
+
+-- what was found is no mark of the block
+pub no_mark : (rules : SyncRules) (course : Option Course) (seq : ℕ) (o : Option MarkFields) (next : MarkFields → Plan Synced) → o ≡ None → Goes rules course (if_mark seq o next) [] (Some (Damaged seq))
+no_mark rules course seq o next is = subst (λ m. Goes rules course (if_mark seq m next) [] (Some (Damaged seq))) (sym is) (ended rules course (damaged seq) (Damaged seq) refl)
 
 module _ (s : Sync) (ulid seat : ℕ) (o : Op) (seen : Seen) where
   abbrev Now : Option Course
   Now = Some (record { first = s.first; begin = s.begin; end = seen.moment })
 
-  abbrev Marked : List ℕ → Plan Synced
-  Marked bytes = ends (damaged seen.seq)
-
   -- the read of the meta, and then of the blocks that wait
-  abbrev Unmarked : Plan Synced
-  Unmarked = reads_meta ulid (λ meta meta_read. reading (sightings_of s ++ record { ulid = ulid; mark = None; mark_read = seen.moment; meta = meta; meta_read = meta_read } ∷ []) s.waiting.items) (blocks_left s)
+  abbrev Left : Option MarkFields → Plan Synced
+  Left mark = reads_meta ulid (λ meta meta_read. reading (sightings_of s ++ record { ulid = ulid; mark = mark; mark_read = seen.moment; meta = meta; meta_read = meta_read } ∷ []) s.waiting.items) (blocks_left s)
 
-  pub mark_found : (bytes : List ℕ) → seen.reply ≡ reply.Found bytes → goes_after (Marking ulid) s (entry_of seat o seen) [] (Some (Damaged seen.seq))
-  mark_found bytes is = λ names more listed. get_found s.rules Now Marked Unmarked seen.seq seen.reply bytes [] (Some (Damaged seen.seq)) is (ended s.rules Now (damaged seen.seq) (Damaged seen.seq) refl)
+  abbrev Marked : List ℕ → Plan Synced
+  Marked bytes = if_mark seen.seq (block_mark ulid bytes) (λ mark. Left (Some mark))
+
+  pub mark_refused : (bytes : List ℕ) → seen.reply ≡ reply.Found bytes → block_mark ulid bytes ≡ None → goes_after (Marking ulid) s (entry_of seat o seen) [] (Some (Damaged seen.seq))
+  mark_refused bytes is none = λ names more listed.
+      get_found s.rules Now Marked (Left None) seen.seq seen.reply bytes [] (Some (Damaged seen.seq)) is (no_mark s.rules Now seen.seq (block_mark ulid bytes) (λ mark. Left (Some mark)) none)
+
+  pub mark_seen : (bytes : List ℕ) (mark : MarkFields) (r : Result (Act SyncEnd) NoMemory) (new : Sync) → seen.reply ≡ reply.Found bytes → block_mark ulid bytes ≡ Some mark
+      → Leads (Goes s.rules Now (Left (Some mark))) r new → Leads (goes_after (Marking ulid) s (entry_of seat o seen)) r new
+  mark_seen bytes mark r new is read leads =
+      leads_as (Goes s.rules Now (Left (Some mark))) (goes_after (Marking ulid) s (entry_of seat o seen)) r new
+      (λ entries end run. λ names more listed. get_found s.rules Now Marked (Left None) seen.seq seen.reply bytes entries end is
+      (subst (λ m. Goes s.rules Now (if_mark seen.seq m (λ mark. Left (Some mark))) entries end) (sym read) run)) leads
 
   pub mark_failed : (landed : Bool) → seen.reply ≡ reply.Failed landed → goes_after (Marking ulid) s (entry_of seat o seen) [] (Some (Fault seen.seq))
-  mark_failed landed is = λ names more listed. get_failed s.rules Now Marked Unmarked seen.seq seen.reply landed is
+  mark_failed landed is = λ names more listed. get_failed s.rules Now Marked (Left None) seen.seq seen.reply landed is
 
-  pub mark_absent : (r : Result (Act SyncEnd) NoMemory) (new : Sync) → seen.reply ≡ reply.Absent → Leads (Goes s.rules Now Unmarked) r new → Leads (goes_after (Marking ulid) s (entry_of seat o seen)) r new
+  pub mark_absent : (r : Result (Act SyncEnd) NoMemory) (new : Sync) → seen.reply ≡ reply.Absent → Leads (Goes s.rules Now (Left None)) r new → Leads (goes_after (Marking ulid) s (entry_of seat o seen)) r new
   mark_absent r new is leads =
-      leads_as (Goes s.rules Now Unmarked) (goes_after (Marking ulid) s (entry_of seat o seen)) r new
-      (λ entries end run. λ names more listed. get_absent s.rules Now Marked Unmarked seen.seq seen.reply entries end is run) leads
+      leads_as (Goes s.rules Now (Left None)) (goes_after (Marking ulid) s (entry_of seat o seen)) r new
+      (λ entries end run. λ names more listed. get_absent s.rules Now Marked (Left None) seen.seq seen.reply entries end is run) leads
 
 -- ---- the read of a meta
+
+-- what was seen of a block whose mark is this one
+pub marked_sighting : (block : Found) (mark : Option DeletionMark) → block.mark ≡ mark
+    → sighting_of block ≡ record { ulid = block.ulid; mark = option_map mark_fields_of mark; mark_read = block.mark_read; meta = fields_of block.meta; meta_read = block.meta_read }
+marked_sighting block mark is =
+    let seen_as : Option DeletionMark → Sighting = λ m. record { ulid = block.ulid; mark = option_map mark_fields_of m; mark_read = block.mark_read; meta = fields_of block.meta; meta_read = block.meta_read } in
+    ap seen_as is
 
 module _ (s : Sync) (ulid seat : ℕ) (o : Op) (seen : Seen) where
   abbrev Then : Option Course
   Then = Some (record { first = s.first; begin = s.begin; end = seen.moment })
 
   abbrev sighting : MetaFields → Sighting
-  sighting meta = record { ulid = ulid; mark = None; mark_read = s.last; meta = meta; meta_read = seen.moment }
+  sighting meta = record { ulid = ulid; mark = option_map mark_fields_of s.mark; mark_read = s.last; meta = meta; meta_read = seen.moment }
 
   abbrev Told : List ℕ → Plan Synced
   Told bytes = if_meta seen.seq (block_meta ulid bytes) (λ meta. reading (sightings_of s ++ sighting meta ∷ []) s.waiting.items)

@@ -3,7 +3,7 @@ use Rattle.std.proofs.Common.{◌≡◌, ℕ, zero, suc, Bool, true, false, List
 use Rattle.std.specs.Prelude.{nat_le, nat_lt, unwrap_or, fold}
 use Rattle.std.specs.List.{AllByRecursion}
 use Rattle.block_keys.specs.declared.key.Key.TheVariants as key
-use Rattle.block_meta.specs.MetaFields.{MetaFields}
+use Rattle.block_meta.specs.MetaFields.{MetaFields, MarkFields}
 use Rattle.moment_core.specs.declared.moment.Moment.{Moment}
 use Rattle.world_core.specs.Limits.{most_listed}
 use Rattle.world_core.specs.Plans.{Plan, ends, Runs, after_get}
@@ -16,16 +16,16 @@ use Rattle.world_core.specs.declared.reply.Reply.TheVariants as reply
 use Rattle.world_core.proofs.PlanLaws.{EndsAre, end_is, AsksFor, asked_are, each_op}
 use Rattle.world_core.proofs.PlanParts.{noted_end, noted_run}
 use Rattle.world_core.proofs.PlanWords.{chosen, gets_ask, pages_ask}
-use Rattle.meta_fetcher.specs.Sightings.{Sighting, block_meta}
-use Rattle.meta_fetcher.specs.Syncs.{Synced, sighted, fault, damaged, too_many, Course, with_entry, if_meta, reads_meta, reading, ulids_in, walk_ends, listing, sync, IsEnd, SyncRun}
+use Rattle.meta_fetcher.specs.Sightings.{Sighting, block_meta, block_mark}
+use Rattle.meta_fetcher.specs.Syncs.{Synced, sighted, fault, damaged, too_many, Course, with_entry, if_mark, if_meta, reads_meta, reading, ulids_in, walk_ends, listing, sync, IsEnd, SyncRun}
 use Rattle.meta_fetcher.specs.declared.rules.SyncRules.{SyncRules}
 use Rattle.meta_fetcher.specs.declared.sync_end.SyncEnd.{SyncEnd}
 
 -- ---- ends
 
--- what a block's meta gave
-abbrev pub sighting_at : ℕ → Moment → Moment → MetaFields → Sighting
-sighting_at ulid mark_read meta_read meta = record { ulid = ulid; mark = None; mark_read = mark_read; meta = meta; meta_read = meta_read }
+-- what a block's mark and its meta gave
+abbrev pub sighting_at : ℕ → Option MarkFields → Moment → Moment → MetaFields → Sighting
+sighting_at ulid mark mark_read meta_read meta = record { ulid = ulid; mark = mark; mark_read = mark_read; meta = meta; meta_read = meta_read }
 
 -- The entry, of which something is given, asks for that and is answered so, after entries of which J holds.
 pub record Comes (Given : Entry → Type 0) (J : Type 0) (asked : Op) (r : Reply) (e : Entry) : Type 0 where
@@ -34,22 +34,39 @@ pub record Comes (Given : Entry → Type 0) (J : Type 0) (asked : Op) (r : Reply
   pub asks : e.op ≡ asked
   pub shows : e.reply ≡ r
 
+-- what a reply tells of a block's mark
+abbrev pub TellsMark : ℕ → Option MarkFields → Reply → Type 0
+TellsMark ulid None r = r ≡ reply.Absent
+TellsMark ulid (Some mark) r = (bytes : List ℕ) × (r ≡ reply.Found bytes) × (block_mark ulid bytes ≡ Some mark)
+
+-- The last of the entries, of which something is given, read the block's mark.
+pub record IsMarkRead (Given : Entry → Type 0) (made : List Entry) (ulid : ℕ) (mark : Option MarkFields) (read : Moment) : Type 0 where
+  pub front : List Entry
+  pub entry : Entry
+  pub last : made ≡ front ++ entry ∷ []
+  pub given : Given entry
+  pub asks : entry.op ≡ op.Get (key.Mark ulid)
+  pub tells : TellsMark ulid mark entry.reply
+  pub moment : entry.moment ≡ read
+
 -- J is kept along the reads: of the entries until now, the sightings, and the blocks that are still to be read. What it comes to is such.
 pub record KeptByReads (Given : Entry → Type 0) (Is : List Entry → Synced → Type 0) (J : List Entry → List Sighting → List ℕ → Type 0) : Type 0 where
   pub over : (made : List Entry) (sightings : List Sighting) → J made sightings [] → Is made (sighted sightings)
   pub mark_failed : (made : List Entry) (sightings : List Sighting) (ulid : ℕ) (ulids : List ℕ) (e : Entry) (landed : Bool)
       → Comes Given (J made sightings (ulid ∷ ulids)) (op.Get (key.Mark ulid)) (reply.Failed landed) e → Is (made ++ e ∷ []) (fault e.seq)
-  pub marked : (made : List Entry) (sightings : List Sighting) (ulid : ℕ) (ulids : List ℕ) (e : Entry) (bytes : List ℕ)
-      → Comes Given (J made sightings (ulid ∷ ulids)) (op.Get (key.Mark ulid)) (reply.Found bytes) e → Is (made ++ e ∷ []) (damaged e.seq)
+  pub no_mark : (made : List Entry) (sightings : List Sighting) (ulid : ℕ) (ulids : List ℕ) (e : Entry) (bytes : List ℕ)
+      → Comes Given (J made sightings (ulid ∷ ulids)) (op.Get (key.Mark ulid)) (reply.Found bytes) e → block_mark ulid bytes ≡ None → Is (made ++ e ∷ []) (damaged e.seq)
+  pub marked : (made : List Entry) (sightings : List Sighting) (ulid : ℕ) (ulids : List ℕ) (e : Entry) (bytes : List ℕ) (mark : MarkFields)
+      → Comes Given (J made sightings (ulid ∷ ulids)) (op.Get (key.Mark ulid)) (reply.Found bytes) e → block_mark ulid bytes ≡ Some mark → J (made ++ e ∷ []) sightings (ulid ∷ ulids)
   pub unmarked : (made : List Entry) (sightings : List Sighting) (ulid : ℕ) (ulids : List ℕ) (e : Entry)
       → Comes Given (J made sightings (ulid ∷ ulids)) (op.Get (key.Mark ulid)) reply.Absent e → J (made ++ e ∷ []) sightings (ulid ∷ ulids)
   pub meta_failed : (made : List Entry) (sightings : List Sighting) (ulid : ℕ) (ulids : List ℕ) (e : Entry) (landed : Bool)
       → Comes Given (J made sightings (ulid ∷ ulids)) (op.Get (key.Meta ulid)) (reply.Failed landed) e → Is (made ++ e ∷ []) (fault e.seq)
   pub unread : (made : List Entry) (sightings : List Sighting) (ulid : ℕ) (ulids : List ℕ) (e : Entry) (bytes : List ℕ)
       → Comes Given (J made sightings (ulid ∷ ulids)) (op.Get (key.Meta ulid)) (reply.Found bytes) e → block_meta ulid bytes ≡ None → Is (made ++ e ∷ []) (damaged e.seq)
-  pub seen : (made : List Entry) (sightings : List Sighting) (ulid : ℕ) (ulids : List ℕ) (e : Entry) (bytes : List ℕ) (mark_read : Moment) (meta : MetaFields)
-      → Comes Given (J made sightings (ulid ∷ ulids)) (op.Get (key.Meta ulid)) (reply.Found bytes) e → block_meta ulid bytes ≡ Some meta
-      → J (made ++ e ∷ []) (sightings ++ sighting_at ulid mark_read e.moment meta ∷ []) ulids
+  pub seen : (made : List Entry) (sightings : List Sighting) (ulid : ℕ) (ulids : List ℕ) (e : Entry) (bytes : List ℕ) (mark : Option MarkFields) (mark_read : Moment) (meta : MetaFields)
+      → IsMarkRead Given made ulid mark mark_read → Comes Given (J made sightings (ulid ∷ ulids)) (op.Get (key.Meta ulid)) (reply.Found bytes) e → block_meta ulid bytes ≡ Some meta
+      → J (made ++ e ∷ []) (sightings ++ sighting_at ulid mark mark_read e.moment meta ∷ []) ulids
   pub missed : (made : List Entry) (sightings : List Sighting) (ulid : ℕ) (ulids : List ℕ) (e : Entry)
       → Comes Given (J made sightings (ulid ∷ ulids)) (op.Get (key.Meta ulid)) reply.Absent e → J (made ++ e ∷ []) sightings ulids
 
@@ -57,31 +74,49 @@ module _ (Given : Entry → Type 0) (Is : List Entry → Synced → Type 0) (J :
   abbrev Rest : List ℕ → Type 0
   Rest ulids = (made : List Entry) (sightings : List Sighting) → J made sightings ulids → EndsAre Given Is made (reading sightings ulids)
 
-  meta_found : (ulids : List ℕ) → Rest ulids → (made : List Entry) (sightings : List Sighting) (ulid : ℕ) (mark_read : Moment) (e : Entry) (bytes : List ℕ) (o : Option MetaFields) → block_meta ulid bytes ≡ o
+  meta_found : (ulids : List ℕ) → Rest ulids → (made : List Entry) (sightings : List Sighting) (ulid : ℕ) (mark : Option MarkFields) (mark_read : Moment) → IsMarkRead Given made ulid mark mark_read
+      → (e : Entry) (bytes : List ℕ) (o : Option MetaFields) → block_meta ulid bytes ≡ o
       → Comes Given (J made sightings (ulid ∷ ulids)) (op.Get (key.Meta ulid)) (reply.Found bytes) e
-      → EndsAre Given Is (made ++ e ∷ []) (if_meta e.seq o (λ meta. reading (sightings ++ sighting_at ulid mark_read e.moment meta ∷ []) ulids))
-  meta_found ulids rest made sightings ulid mark_read e bytes None read came = kept.unread made sightings ulid ulids e bytes came read
-  meta_found ulids rest made sightings ulid mark_read e bytes (Some meta) read came =
-      rest (made ++ e ∷ []) (sightings ++ sighting_at ulid mark_read e.moment meta ∷ []) (kept.seen made sightings ulid ulids e bytes mark_read meta came read)
+      → EndsAre Given Is (made ++ e ∷ []) (if_meta e.seq o (λ meta. reading (sightings ++ sighting_at ulid mark mark_read e.moment meta ∷ []) ulids))
+  meta_found ulids rest made sightings ulid mark mark_read looked e bytes None read came = kept.unread made sightings ulid ulids e bytes came read
+  meta_found ulids rest made sightings ulid mark mark_read looked e bytes (Some meta) read came =
+      rest (made ++ e ∷ []) (sightings ++ sighting_at ulid mark mark_read e.moment meta ∷ []) (kept.seen made sightings ulid ulids e bytes mark mark_read meta looked came read)
 
-  after_meta : (ulids : List ℕ) → Rest ulids → (made : List Entry) (sightings : List Sighting) (ulid : ℕ) (mark_read : Moment) (e : Entry) (r : Reply)
+  after_meta : (ulids : List ℕ) → Rest ulids → (made : List Entry) (sightings : List Sighting) (ulid : ℕ) (mark : Option MarkFields) (mark_read : Moment) → IsMarkRead Given made ulid mark mark_read → (e : Entry) (r : Reply)
       → Comes Given (J made sightings (ulid ∷ ulids)) (op.Get (key.Meta ulid)) r e
-      → EndsAre Given Is (made ++ e ∷ []) (after_get r (λ bytes. if_meta e.seq (block_meta ulid bytes) (λ meta. reading (sightings ++ sighting_at ulid mark_read e.moment meta ∷ []) ulids)) (reading sightings ulids) (ends (fault e.seq)))
-  after_meta ulids rest made sightings ulid mark_read e (reply.Found bytes) came = meta_found ulids rest made sightings ulid mark_read e bytes (block_meta ulid bytes) refl came
-  after_meta ulids rest made sightings ulid mark_read e reply.Absent came = rest (made ++ e ∷ []) sightings (kept.missed made sightings ulid ulids e came)
-  after_meta ulids rest made sightings ulid mark_read e (reply.Failed landed) came = kept.meta_failed made sightings ulid ulids e landed came
-  after_meta ulids rest made sightings ulid mark_read e reply.Clocked came = tt
-  after_meta ulids rest made sightings ulid mark_read e reply.Stored came = tt
-  after_meta ulids rest made sightings ulid mark_read e reply.Deleted came = tt
-  after_meta ulids rest made sightings ulid mark_read e (reply.Names names) came = tt
+      → EndsAre Given Is (made ++ e ∷ []) (after_get r (λ bytes. if_meta e.seq (block_meta ulid bytes) (λ meta. reading (sightings ++ sighting_at ulid mark mark_read e.moment meta ∷ []) ulids)) (reading sightings ulids) (ends (fault e.seq)))
+  after_meta ulids rest made sightings ulid mark mark_read looked e (reply.Found bytes) came = meta_found ulids rest made sightings ulid mark mark_read looked e bytes (block_meta ulid bytes) refl came
+  after_meta ulids rest made sightings ulid mark mark_read looked e reply.Absent came = rest (made ++ e ∷ []) sightings (kept.missed made sightings ulid ulids e came)
+  after_meta ulids rest made sightings ulid mark mark_read looked e (reply.Failed landed) came = kept.meta_failed made sightings ulid ulids e landed came
+  after_meta ulids rest made sightings ulid mark mark_read looked e reply.Clocked came = tt
+  after_meta ulids rest made sightings ulid mark mark_read looked e reply.Stored came = tt
+  after_meta ulids rest made sightings ulid mark mark_read looked e reply.Deleted came = tt
+  after_meta ulids rest made sightings ulid mark mark_read looked e (reply.Names names) came = tt
+
+  -- the read of the meta after that of the mark
+  then_meta : (ulids : List ℕ) → Rest ulids → (made : List Entry) (sightings : List Sighting) (ulid : ℕ) (mark : Option MarkFields) (mark_read : Moment) → IsMarkRead Given made ulid mark mark_read → J made sightings (ulid ∷ ulids)
+      → EndsAre Given Is made (reads_meta ulid (λ meta meta_read. reading (sightings ++ sighting_at ulid mark mark_read meta_read meta ∷ []) ulids) (reading sightings ulids))
+  then_meta ulids rest made sightings ulid mark mark_read looked j = λ next is given.
+      after_meta ulids rest made sightings ulid mark mark_read looked next next.reply (record { before = j; given = given; asks = is; shows = refl })
+
+  mark_found : (ulids : List ℕ) → Rest ulids → (made : List Entry) (sightings : List Sighting) (ulid : ℕ) (e : Entry) (bytes : List ℕ) (o : Option MarkFields) → block_mark ulid bytes ≡ o
+      → Comes Given (J made sightings (ulid ∷ ulids)) (op.Get (key.Mark ulid)) (reply.Found bytes) e
+      → EndsAre Given Is (made ++ e ∷ []) (if_mark e.seq o (λ mark.
+      reads_meta ulid (λ meta meta_read. reading (sightings ++ sighting_at ulid (Some mark) e.moment meta_read meta ∷ []) ulids) (reading sightings ulids)))
+  mark_found ulids rest made sightings ulid e bytes None read came = kept.no_mark made sightings ulid ulids e bytes came read
+  mark_found ulids rest made sightings ulid e bytes (Some mark) read came =
+      then_meta ulids rest (made ++ e ∷ []) sightings ulid (Some mark) e.moment
+      (record { front = made; entry = e; last = refl; given = came.given; asks = came.asks; tells = (bytes, came.shows, read); moment = refl }) (kept.marked made sightings ulid ulids e bytes mark came read)
 
   after_mark : (ulids : List ℕ) → Rest ulids → (made : List Entry) (sightings : List Sighting) (ulid : ℕ) (e : Entry) (r : Reply)
       → Comes Given (J made sightings (ulid ∷ ulids)) (op.Get (key.Mark ulid)) r e
-      → EndsAre Given Is (made ++ e ∷ []) (after_get r (λ bytes. ends (damaged e.seq))
-      (reads_meta ulid (λ meta meta_read. reading (sightings ++ sighting_at ulid e.moment meta_read meta ∷ []) ulids) (reading sightings ulids)) (ends (fault e.seq)))
-  after_mark ulids rest made sightings ulid e (reply.Found bytes) came = kept.marked made sightings ulid ulids e bytes came
-  after_mark ulids rest made sightings ulid e reply.Absent came = λ next is given.
-      after_meta ulids rest (made ++ e ∷ []) sightings ulid e.moment next next.reply (record { before = kept.unmarked made sightings ulid ulids e came; given = given; asks = is; shows = refl })
+      → EndsAre Given Is (made ++ e ∷ []) (after_get r (λ bytes. if_mark e.seq (block_mark ulid bytes) (λ mark.
+      reads_meta ulid (λ meta meta_read. reading (sightings ++ sighting_at ulid (Some mark) e.moment meta_read meta ∷ []) ulids) (reading sightings ulids)))
+      (reads_meta ulid (λ meta meta_read. reading (sightings ++ sighting_at ulid None e.moment meta_read meta ∷ []) ulids) (reading sightings ulids)) (ends (fault e.seq)))
+  after_mark ulids rest made sightings ulid e (reply.Found bytes) came = mark_found ulids rest made sightings ulid e bytes (block_mark ulid bytes) refl came
+  after_mark ulids rest made sightings ulid e reply.Absent came =
+      then_meta ulids rest (made ++ e ∷ []) sightings ulid None e.moment
+      (record { front = made; entry = e; last = refl; given = came.given; asks = came.asks; tells = came.shows; moment = refl }) (kept.unmarked made sightings ulid ulids e came)
   after_mark ulids rest made sightings ulid e (reply.Failed landed) came = kept.mark_failed made sightings ulid ulids e landed came
   after_mark ulids rest made sightings ulid e reply.Clocked came = tt
   after_mark ulids rest made sightings ulid e reply.Stored came = tt
@@ -174,17 +209,32 @@ module _ (P : Op → Type 0) (marks : (ulid : ℕ) → P (op.Get (key.Mark ulid)
   asked_meta made seq None next all = tt
   asked_meta made seq (Some meta) next all = all meta
 
+  asked_mark : (made : List Entry) (seq : ℕ) (o : Option MarkFields) (next : MarkFields → Plan Synced) → ((mark : MarkFields) → Asked made (next mark)) → Asked made (if_mark seq o next)
+  asked_mark made seq None next all = tt
+  asked_mark made seq (Some mark) next all = all mark
+
+  -- the read of a meta, where what follows it asks so
+  asked_then : (made : List Entry) (ulid : ℕ) (next : MetaFields → Moment → Plan Synced) (absent : Plan Synced) → ((now : List Entry) (meta : MetaFields) (read : Moment) → Asked now (next meta read))
+      → ((now : List Entry) → Asked now absent) → Asked made (reads_meta ulid next absent)
+  asked_then made ulid next absent all none =
+      gets_ask (λ before o. P o) made fault (key.Meta ulid) (λ e bytes. if_meta e.seq (block_meta ulid bytes) (λ meta. next meta e.moment)) (λ e. absent) (metas ulid)
+      (λ e bytes is found. asked_meta (made ++ e ∷ []) e.seq (block_meta ulid bytes) (λ meta. next meta e.moment) (λ meta. all (made ++ e ∷ []) meta e.moment))
+      (λ e is missing. none (made ++ e ∷ []))
+
   asked_reads : (ulids : List ℕ) (made : List Entry) (sightings : List Sighting) → Asked made (reading sightings ulids)
   asked_reads [] made sightings = tt
   asked_reads (ulid ∷ ulids) made sightings =
-      let Is : List Entry → Op → Type 0 = λ before o. P o in
-      gets_ask Is made fault (key.Mark ulid) (λ e bytes. ends (damaged e.seq))
-      (λ e. reads_meta ulid (λ meta meta_read. reading (sightings ++ sighting_at ulid e.moment meta_read meta ∷ []) ulids) (reading sightings ulids)) (marks ulid) (λ e bytes is found. tt)
-      (λ e is absent. gets_ask Is (made ++ e ∷ []) fault (key.Meta ulid)
-      (λ next bytes. if_meta next.seq (block_meta ulid bytes) (λ meta. reading (sightings ++ sighting_at ulid e.moment next.moment meta ∷ []) ulids)) (λ next. reading sightings ulids) (metas ulid)
-      (λ next bytes is' found. asked_meta ((made ++ e ∷ []) ++ next ∷ []) next.seq (block_meta ulid bytes) (λ meta. reading (sightings ++ sighting_at ulid e.moment next.moment meta ∷ []) ulids)
-      (λ meta. asked_reads ulids ((made ++ e ∷ []) ++ next ∷ []) (sightings ++ sighting_at ulid e.moment next.moment meta ∷ [])))
-      (λ next is' none. asked_reads ulids ((made ++ e ∷ []) ++ next ∷ []) sightings))
+      let Next : Option MarkFields → Moment → MetaFields → Moment → Plan Synced =
+      λ mark mark_read meta meta_read. reading (sightings ++ sighting_at ulid mark mark_read meta_read meta ∷ []) ulids in
+      let metas_ask : (now : List Entry) (mark : Option MarkFields) (mark_read : Moment) → Asked now (reads_meta ulid (Next mark mark_read) (reading sightings ulids)) =
+      λ now mark mark_read. asked_then now ulid (Next mark mark_read) (reading sightings ulids)
+      (λ later meta read. asked_reads ulids later (sightings ++ sighting_at ulid mark mark_read read meta ∷ [])) (λ later. asked_reads ulids later sightings) in
+      gets_ask (λ before o. P o) made fault (key.Mark ulid)
+      (λ e bytes. if_mark e.seq (block_mark ulid bytes) (λ mark. reads_meta ulid (Next (Some mark) e.moment) (reading sightings ulids)))
+      (λ e. reads_meta ulid (Next None e.moment) (reading sightings ulids)) (marks ulid)
+      (λ e bytes is found. asked_mark (made ++ e ∷ []) e.seq (block_mark ulid bytes) (λ mark. reads_meta ulid (Next (Some mark) e.moment) (reading sightings ulids))
+      (λ mark. metas_ask (made ++ e ∷ []) (Some mark) e.moment))
+      (λ e is absent. metas_ask (made ++ e ∷ []) None e.moment)
 
 plain_run : (rules : SyncRules) (entries : List Entry) (end : Option SyncEnd) → SyncRun rules entries end → (last : Option Synced) × Runs (listing rules most_listed []) entries last
 plain_run rules entries None run = (None, noted_run with_entry None (listing rules most_listed []) entries run)

@@ -1,12 +1,12 @@
 -- What a sync reads of a block, and the view that it comes to.
-use Rattle.std.specs.Prelude.{◌≡◌, ℕ, ◌==◌, if◌then◌else◌, List, [], map, Option, Some, None, option_map, Result, Ok, Err}
+use Rattle.std.specs.Prelude.{◌≡◌, ℕ, ◌==◌, if◌then◌else◌, List, map, Option, Some, None, option_map, not, Result, Ok, Err}
 use Rattle.std.specs.List.{filter}
 use Rattle.std.specs.List.Sorted.{IsStrictlyIncreasing}
 use Rattle.moment_core.specs.declared.moment.Moment.{Moment}
 use Rattle.block_meta.specs.MetaFields.{MetaFields, MarkFields, fields_of, mark_fields_of}
 use Rattle.block_meta.specs.declared.refusal.MetaRefusal.{MetaRefusal}
-use Rattle.block_meta.specs.MetaReading.{meta_of_text}
-use Rattle.sync_filters.specs.Filters.{is_consistent, is_in_partition}
+use Rattle.block_meta.specs.MetaReading.{meta_of_text, mark_of_text}
+use Rattle.sync_filters.specs.Filters.{is_consistent, is_covered, is_in_partition, is_unmarked}
 use Rattle.sync_filters.specs.declared.found.Found.{Found}
 use Rattle.meta_fetcher.specs.declared.rules.SyncRules.{SyncRules}
 use Rattle.meta_fetcher.specs.declared.view.View.{View}
@@ -30,11 +30,32 @@ named_meta ulid (Err refusal) = None
 abbrev pub block_meta : ℕ → List ℕ → Option MetaFields
 block_meta ulid bytes = named_meta ulid (meta_of_text bytes)
 
--- the blocks that pass the filters, one filter after another
+-- the mark that bytes are read as, where it is this block's
+abbrev pub named_mark : ℕ → Result MarkFields MetaRefusal → Option MarkFields
+named_mark ulid (Ok mark) = if mark.id == ulid then Some mark else None
+named_mark ulid (Err refusal) = None
+
+abbrev pub block_mark : ℕ → List ℕ → Option MarkFields
+block_mark ulid bytes = named_mark ulid (mark_of_text bytes)
+
+-- the blocks that pass the filters by times and by marks, one filter after another
+abbrev pub passed_by : SyncRules → List Found → List Found
+passed_by rules found =
+    let in_time = filter (λ block. is_in_partition block.meta rules.partition) found in
+    let old = filter (λ block. is_consistent block rules.consistency) in_time in
+    filter (λ block. is_unmarked block rules.mark_delay) old
+
+-- the blocks that pass and are kept: none that passes is better
 abbrev pub kept_by : SyncRules → List Found → List Found
 kept_by rules found =
-    let in_time = filter (λ block. is_in_partition block.meta rules.partition) found in
-    filter (λ block. is_consistent block rules.consistency) in_time
+    let passed = passed_by rules found in
+    filter (λ block. not (is_covered passed block)) passed
+
+-- the others that pass: one that passes is better
+abbrev pub covered_by : SyncRules → List Found → List Found
+covered_by rules found =
+    let passed = passed_by rules found in
+    filter (is_covered passed) passed
 
 -- The view of a sync whose first entry has that number, which began and ended at these moments, and which read this of the
 -- blocks that it found.
@@ -45,7 +66,7 @@ pub record IsView (rules : SyncRules) (number : ℕ) (begun ended : Moment) (sig
   pub found : List Found
   pub sighted : map sighting_of found ≡ sightings
   pub kept : view.kept ≡ kept_by rules found
-  -- each ULID is greater than the one before it
-  pub ascend : IsStrictlyIncreasing (map (λ block. block.ulid) view.kept)
-  -- no filter by sources yet
-  pub covered : view.covered ≡ []
+  pub covered : view.covered ≡ covered_by rules found
+  -- in both, each ULID is greater than the one before it
+  pub kept_ascend : IsStrictlyIncreasing (map (λ block. block.ulid) view.kept)
+  pub covered_ascend : IsStrictlyIncreasing (map (λ block. block.ulid) view.covered)

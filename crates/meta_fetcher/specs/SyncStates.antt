@@ -1,7 +1,8 @@
 -- What is left of a sync in each of its states.
-use Rattle.std.specs.Prelude.{◌≡◌, ℕ, suc, ◌+◌, ◌-◌, ◌*◌, ◌^◌, ◌≤◌, true, List, [], ◌∷◌, ◌++◌, length, map, Option, Some, None, Result, Ok, Err}
+use Rattle.std.specs.Prelude.{◌≡◌, ℕ, suc, ◌+◌, ◌-◌, ◌*◌, ◌^◌, ◌≤◌, true, List, [], ◌∷◌, ◌++◌, length, map, Option, Some, None, option_map, Result, Ok, Err}
 use Rattle.std.specs.List.Sorted.{IsStrictlyIncreasing}
 use Rattle.block_keys.specs.declared.key.Key.TheVariants as key
+use Rattle.block_meta.specs.MetaFields.{mark_fields_of}
 use Rattle.list_core.specs.declared.memory.NoMemory.{NoMemory}
 use Rattle.world_core.specs.Limits.{most_listed}
 use Rattle.world_core.specs.Operations.{IsLawful}
@@ -57,11 +58,11 @@ course_at (Reading ulid) sync = Some (course_of sync)
 abbrev pub blocks_left : Sync → Plan Synced
 blocks_left sync = reading (sightings_of sync) sync.waiting.items
 
--- the read of a block's meta, whose mark was looked for at the last entry, and then of the blocks that wait
+-- the read of a block's meta, whose mark was read at the last entry, and then of the blocks that wait
 abbrev pub meta_left : ℕ → Sync → Plan Synced
 meta_left ulid sync =
     reads_meta ulid (λ meta meta_read.
-    reading (sightings_of sync ++ record { ulid = ulid; mark = None; mark_read = sync.last; meta = meta; meta_read = meta_read } ∷ []) sync.waiting.items)
+    reading (sightings_of sync ++ record { ulid = ulid; mark = option_map mark_fields_of sync.mark; mark_read = sync.last; meta = meta; meta_read = meta_read } ∷ []) sync.waiting.items)
     (blocks_left sync)
 
 -- what is left where these names were listed, and at most so many pages follow on the next one

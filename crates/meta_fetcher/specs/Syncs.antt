@@ -12,7 +12,7 @@ use Rattle.world_core.specs.Plans.{Plan, ends, gets, noting, ComesTo}
 use Rattle.world_core.specs.Walks.{WalkEnds, pages}
 use Rattle.world_core.specs.declared.op.Op.TheVariants as op
 use Rattle.world_core.specs.declared.entry.Entry.{Entry}
-use Rattle.meta_fetcher.specs.Sightings.{Sighting, block_meta, IsView}
+use Rattle.meta_fetcher.specs.Sightings.{Sighting, block_meta, block_mark, IsView}
 use Rattle.meta_fetcher.specs.declared.rules.SyncRules.{SyncRules}
 use Rattle.meta_fetcher.specs.declared.view.View.{View}
 use Rattle.meta_fetcher.specs.declared.sync_end.SyncEnd.{SyncEnd}
@@ -31,12 +31,16 @@ pub data Synced : Type 0 where
 
 -- ---- the reads of the blocks
 
--- The read of a block's mark. It hands on the mark, which is none where there is no mark, and its moment.
+-- what follows where bytes are a block's mark; where they are not, the sync ends
+abbrev pub if_mark : ℕ → Option MarkFields → (MarkFields → Plan Synced) → Plan Synced
+if_mark seq None next = ends (damaged seq)
+if_mark seq (Some mark) next = next mark
+
+-- The read of a block's mark. It hands on the mark, which is none where there is no mark, and the moment of the read.
 abbrev pub reads_mark : ℕ → (Option MarkFields → Moment → Plan Synced) → Plan Synced
 reads_mark ulid next =
     gets fault (key.Mark ulid)
-    -- no part of the system puts marks yet
-    (λ e bytes. ends (damaged e.seq))
+    (λ e bytes. if_mark e.seq (block_mark ulid bytes) (λ mark. next (Some mark) e.moment))
     (λ e. next None e.moment)
 
 -- what follows where bytes are a block's meta; where they are not, the sync ends

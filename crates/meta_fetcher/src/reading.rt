@@ -1,8 +1,8 @@
 ghost use Rattle.std.specs.Prelude.{◌≡◌, option_map, IfOk};
-ghost use Rattle.block_meta.specs.MetaFields.{fields_of};
-ghost use Rattle.meta_fetcher.specs.Sightings.{block_meta as meta_named};
+ghost use Rattle.block_meta.specs.MetaFields.{fields_of, mark_fields_of};
+ghost use Rattle.meta_fetcher.specs.Sightings.{block_meta as meta_named, block_mark as mark_named};
 
-use block_meta::{Meta, MetaRefusal};
+use block_meta::{DeletionMark, Meta, MetaRefusal};
 use list_core::NoMemory;
 use std::alloc::Global;
 use ulid_core::Ulid;
@@ -18,6 +18,26 @@ pub(crate) fn meta_of(alloc: Global, ulid: Ulid, bytes: &[u8]) -> Result<Option<
     };
     if meta.ulid == ulid {
         Ok(Some(meta))
+    } else {
+        Ok(None)
+    }
+}
+
+/// The mark of a block, and none where the bytes are no mark or another block's.
+pub(crate) fn mark_of(
+    alloc: Global,
+    ulid: Ulid,
+    bytes: &[u8],
+) -> Result<Option<DeletionMark>, NoMemory>
+    ensures { IfOk result (λ mark. option_map mark_fields_of mark ≡ mark_named ulid bytes.now) }
+{
+    let mark = match DeletionMark::read(alloc, bytes) {
+        Ok(mark) => mark,
+        Err(MetaRefusal::NoMemory) => return Err(NoMemory),
+        Err(_) => return Ok(None),
+    };
+    if mark.id == ulid {
+        Ok(Some(mark))
     } else {
         Ok(None)
     }

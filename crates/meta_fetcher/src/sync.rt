@@ -7,19 +7,20 @@ ghost use Rattle.world_core.specs.declared.entry.Entry.{Entry};
 ghost use Rattle.meta_fetcher.specs.declared.sync_end.SyncEnd.{SyncEnd};
 ghost use Rattle.meta_fetcher.specs.Syncs.{SyncRun};
 
-use crate::filters::kept_blocks;
+use crate::filters::passed_blocks;
 use crate::names::{add_ulids, ascends, is_short, last_name};
-use crate::reading::meta_of;
+use crate::reading::{mark_of, meta_of};
 use crate::stage::Stage;
 use crate::{SyncEnd, SyncRules, View};
 use block_keys::Key;
+use block_meta::DeletionMark;
 use label_sets::{Text, TextList};
 use list_core::{NoMemory, TryCopy};
 use moment_core::Moment;
 use std::alloc::Global;
 use std::collections::VecDeque;
 use std::mem;
-use sync_filters::{Found, FoundList};
+use sync_filters::{Found, uncovered};
 use ulid_core::Ulid;
 use world_core::{Act, Machine, Op, Reply, Seen};
 
@@ -44,6 +45,8 @@ pub struct Sync {
     /// The blocks that are still to be read, ascending.
     waiting: VecDeque<Ulid>,
     found: Vec<Found>,
+    /// The mark of the block whose meta is waited for.
+    mark: Option<DeletionMark>,
     ghost limit: { 1 ≤ rules.page_limit },
 }
 
@@ -71,6 +74,7 @@ impl Sync {
             listed: 0,
             waiting: VecDeque::new(alloc),
             found: Vec::new(alloc),
+            mark: None,
         })
     }
 
@@ -148,27 +152,29 @@ impl Sync {
                 self.stage = Stage::Marking(ulid);
                 Ok(Act::Do(Op::Get(Key::Mark(ulid))))
             }
-            None => Ok(Act::Done(SyncEnd::View(self.take_view()))),
+            None => Ok(Act::Done(SyncEnd::View(self.take_view()?))),
         }
     }
 
     /// The view of what was found.
-    fn take_view(&mut self) -> View
-        ensures { IsStrictlyIncreasing (map (λ block. block.ulid) self.old.found.items)
+    fn take_view(&mut self) -> Result<View, NoMemory>
+        ensures { IfOk result (λ view. IsStrictlyIncreasing
+            (map (λ block. block.ulid) self.old.found.items)
             → IsView self.old.rules self.old.first self.old.begin self.old.last
-            (map sighting_of self.old.found.items) result }
+            (map sighting_of self.old.found.items) view) }
     {
         let found = mem::replace(&mut self.found, Vec::new(self.alloc));
-        View {
+        let (kept, covered) = uncovered(self.alloc, passed_blocks(found, self.rules))?;
+        Ok(View {
             first: self.first,
             begin: self.begin,
             end: self.last,
-            kept: kept_blocks(found, self.rules),
-            covered: FoundList::new(self.alloc),
-        }
+            kept,
+            covered,
+        })
     }
 
-    /// Goes on after the look for the mark of a block.
+    /// Goes on after the read of the mark of a block.
     fn after_mark(&mut self, ulid: Ulid, seen: Seen) -> Result<Act<SyncEnd>, NoMemory>
         requires stage { self.old.stage ≡ Stage.Marking ulid }
         requires answer { IsSomeAnd (asked_sync self.old) (λ op. IsAnswer op seen) }
@@ -180,21 +186,23 @@ impl Sync {
         let Seen { seq, moment, reply } = seen;
         self.last = moment;
         match reply {
-            // no part of the system puts marks yet
-            Reply::Found(_) => Ok(Act::Done(SyncEnd::Damaged(seq))),
+            Reply::Found(bytes) => match mark_of(self.alloc, ulid, bytes.bytes())? {
+                Some(mark) => self.ask_meta(ulid, Some(mark)),
+                None => Ok(Act::Done(SyncEnd::Damaged(seq))),
+            },
             Reply::Failed(_) => Ok(Act::Done(SyncEnd::Fault(seq))),
-            Reply::Absent => self.ask_meta(ulid),
+            Reply::Absent => self.ask_meta(ulid, None),
             _ => unreachable!(),
         }
     }
 
-    /// Asks for the meta of a block.
-    fn ask_meta(&mut self, ulid: Ulid) -> Result<Act<SyncEnd>, NoMemory>
-        ensures leads { Leads
-            (Goes self.old.rules (Some (course_of self.old)) (meta_left ulid self.old)) result
-            self.new }
+    /// Asks for the meta of a block whose mark was read.
+    fn ask_meta(&mut self, ulid: Ulid, mark: Option<DeletionMark>) -> Result<Act<SyncEnd>, NoMemory>
+        ensures leads { Leads (Goes self.old.rules (Some (course_of self.old))
+            (meta_left ulid (record self.old { mark = mark }))) result self.new }
         ensures falls { Falls (2 * length self.old.waiting.items + 2) result (count_of self.new) }
     {
+        self.mark = mark;
         self.stage = Stage::Reading(ulid);
         Ok(Act::Do(Op::Get(Key::Meta(ulid))))
     }
@@ -210,13 +218,14 @@ impl Sync {
     {
         let Seen { seq, moment, reply } = seen;
         let mark_read = self.last;
+        let mark = mem::replace(&mut self.mark, None);
         self.last = moment;
         match reply {
             Reply::Found(bytes) => match meta_of(self.alloc, ulid, bytes.bytes())? {
                 Some(meta) => {
                     self.found.push(Found {
                         ulid,
-                        mark: None,
+                        mark,
                         mark_read,
                         meta,
                         meta_read: moment,

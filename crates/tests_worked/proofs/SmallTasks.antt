@@ -1,7 +1,7 @@
 -- The tasks over the small block are done as the definitions say.
-use Rattle.std.proofs.Common.{◌≡◌, ◌≢◌, ◌+◌, inl, inr, ℕ, suc, pos, true, false, cond, ◌||◌, List, [], ◌∷◌, Some, None, map, refl, sym, ap, subst, arith}
+use Rattle.std.proofs.Common.{◌≡◌, ◌≢◌, ◌+◌, inl, inr, ℕ, suc, pos, Bool, true, false, cond, ◌||◌, List, [], ◌∷◌, Some, None, map, refl, sym, ap, subst, arith}
 use Rattle.std.proofs.lemmas.List.Elements.{All-nil, All-cons}
-use Rattle.std.specs.List.{find, list_any}
+use Rattle.std.specs.List.{filter, find, list_any}
 use Rattle.std.specs.List.Sorted.{IsStrictlyIncreasing, IsStrictlySortedBy}
 use Rattle.label_sets.specs.declared.series.Series.{Series}
 use Rattle.label_sets.specs.Finals.{is_among, without, final_of}
@@ -22,8 +22,9 @@ use Rattle.vertical_merge.specs.Merged.{AreFirst, IsMerge}
 use Rattle.world_core.specs.Plans.{Runs, noting}
 use Rattle.shipper.specs.Uploads.{upload}
 use Rattle.shipper.specs.declared.upload_end.UploadEnd.TheVariants as shipped
+use Rattle.sync_filters.specs.Filters.{is_consistent, is_covered, is_unmarked}
 use Rattle.sync_filters.specs.declared.found.Found.{Found}
-use Rattle.meta_fetcher.specs.Sightings.{block_meta, kept_by, sighting_of}
+use Rattle.meta_fetcher.specs.Sightings.{block_meta, covered_by, kept_by, sighting_of}
 use Rattle.meta_fetcher.specs.Syncs.{SyncRun, listing, sighted, with_entry}
 use Rattle.meta_fetcher.proofs.Ascending.{kept_ascend}
 use Rattle.meta_fetcher.specs.declared.rules.SyncRules.{SyncRules}
@@ -78,6 +79,15 @@ one_ascends : (rules : SyncRules) (block : Found) (kept : List Found) → kept �
 one_ascends rules block kept is =
     subst (λ (l : List Found). IsStrictlyIncreasing (map (λ b. b.ulid) l)) (sym is) (kept_ascend rules (block ∷ []) (λ k more. omega (arith, more)))
 
+-- one block is not covered, whether it is old enough to pass or not
+alone : (delay : Span) (mark_read meta_read : ℕ) (old : Bool)
+    → let passed = filter (λ block. is_unmarked block delay) (cond old (small.found mark_read meta_read ∷ []) []) in [] ≡ filter (is_covered passed) passed
+alone delay mark_read meta_read true = refl
+alone delay mark_read meta_read false = refl
+
+none_covered : (consistency delay : Span) (mark_read meta_read : ℕ) → [] ≡ covered_by (rules_by consistency delay) (small.found mark_read meta_read ∷ [])
+none_covered consistency delay mark_read meta_read = alone delay mark_read meta_read (is_consistent (small.found mark_read meta_read) consistency)
+
 -- the entries of a sync of the small block, which may have so many pages and one more
 small_sync : (more : ℕ) (consistency delay : Span) (seat first begin mark mark_read meta meta_read : ℕ)
     → Runs (noting with_entry None (listing (rules_by consistency delay) (suc more) [])) (listed first seat begin (small.a_text ∷ []) ∷ absent mark seat mark_read (key.Mark small.a) ∷ found meta seat meta_read (key.Meta small.a) small.meta ∷ [])
@@ -94,7 +104,17 @@ sync_run_by consistency delay seat first begin mark mark_read meta meta_read kep
   (
     runs.view_of first begin meta_read kept,
     refl,
-    record { first = refl; begin = refl; end = refl; found = small.found mark_read meta_read ∷ []; sighted = refl; kept = is; ascend = one_ascends (rules_by consistency delay) (small.found mark_read meta_read) kept is; covered = refl },
+    record {
+      first = refl;
+      begin = refl;
+      end = refl;
+      found = small.found mark_read meta_read ∷ [];
+      sighted = refl;
+      kept = is;
+      covered = none_covered consistency delay mark_read meta_read;
+      kept_ascend = one_ascends (rules_by consistency delay) (small.found mark_read meta_read) kept is;
+      covered_ascend = λ k more. omega (arith, more);
+    },
   ),
 )
 
@@ -107,7 +127,7 @@ pub empty_sync_run : (seq seat moment : ℕ)
 empty_sync_run seq seat moment = (
   (sighted [], Some (record { first = seq; begin = record { ms = moment }; end = record { ms = moment } })),
   (refl, (refl, inr refl)),
-  (_, refl, record { first = refl; begin = refl; end = refl; found = []; sighted = refl; kept = refl; ascend = λ k more. omega (arith, more); covered = refl }),
+  (_, refl, record { first = refl; begin = refl; end = refl; found = []; sighted = refl; kept = refl; covered = refl; kept_ascend = λ k more. omega (arith, more); covered_ascend = λ k more. omega (arith, more) }),
 )
 
 -- ---- queries

@@ -136,6 +136,7 @@ pub record IsTrueFound (setting : Setting) (found : Found) : Type 0 where
   pub block : Block
   pub is : declared setting.script found.ulid ≡ Some block
   pub small : found.ulid < 2 ^ 128
+  pub own : found.meta.ulid ≡ found.ulid
   pub sources : found.meta.sources ≡ found.ulid ∷ []
   pub labels : found.meta.labels ≡ block.labels
   pub times : Spans block.body found.meta.min_time found.meta.max_time

@@ -77,11 +77,12 @@ sync_reads_show : KeptByReads (λ e. Unit {0}) SyncShown Reads
 sync_reads_show = record {
   over = λ made sightings j. tt;
   mark_failed = λ made sightings ulid ulids e landed came. shown_here made e landed came.shows;
-  marked = λ made sightings ulid ulids e bytes came. tt;
+  no_mark = λ made sightings ulid ulids e bytes came none. tt;
+  marked = λ made sightings ulid ulids e bytes mark came read. tt;
   unmarked = λ made sightings ulid ulids e came. tt;
   meta_failed = λ made sightings ulid ulids e landed came. shown_here made e landed came.shows;
   unread = λ made sightings ulid ulids e bytes came none. tt;
-  seen = λ made sightings ulid ulids e bytes mark_read meta came read. tt;
+  seen = λ made sightings ulid ulids e bytes mark mark_read meta looked came read. tt;
   missed = λ made sightings ulid ulids e came. tt;
 }
 

@@ -64,12 +64,13 @@ saw_reads : KeptByReads (λ e. Unit {0}) Saw (λ made sightings ulids. AreSeen m
 saw_reads = record {
   over = λ made sightings seen. seen;
   mark_failed = λ made sightings ulid ulids e landed came. tt;
-  marked = λ made sightings ulid ulids e bytes came. tt;
+  no_mark = λ made sightings ulid ulids e bytes came none. tt;
+  marked = λ made sightings ulid ulids e bytes mark came read. are_left made (e ∷ []) sightings came.before;
   unmarked = λ made sightings ulid ulids e came. are_left made (e ∷ []) sightings came.before;
   meta_failed = λ made sightings ulid ulids e landed came. tt;
   unread = λ made sightings ulid ulids e bytes came none. tt;
-  seen = λ made sightings ulid ulids e bytes mark_read meta came read.
-      are_more (made ++ e ∷ []) sightings (sighting_at ulid mark_read e.moment meta) (are_left made (e ∷ []) sightings came.before) (e, stands_in made [] e, (bytes, came.asks, came.shows));
+  seen = λ made sightings ulid ulids e bytes mark mark_read meta looked came read.
+      are_more (made ++ e ∷ []) sightings (sighting_at ulid mark mark_read e.moment meta) (are_left made (e ∷ []) sightings came.before) (e, stands_in made [] e, (bytes, came.asks, came.shows));
   missed = λ made sightings ulid ulids e came. are_left made (e ∷ []) sightings came.before;
 }
 
@@ -90,9 +91,11 @@ kept_seen : (rules : SyncRules) (before entries : List Entry) (last : Synced) (c
     → All (λ (block : Found). IsSeen (before ++ entries) block.ulid) other.kept
 kept_seen rules before entries (sync_told.sighted sightings) (Some course) view other seen (own, is, v) same =
     let P : ℕ → Type 0 = IsSeen (before ++ entries) in
+    let Q : Found → Type 0 = λ block. P block.ulid in
     let all : AllByRecursion (λ (s : Sighting). P s.ulid) (map sighting_of v.found) = subst (λ (ss : List Sighting). AreSeen (before ++ entries) ss) (sym v.sighted) (are_right before entries sightings seen) in
     let found : All (λ (block : Found). P block.ulid) v.found = All-from_recursion (λ (block : Found). P block.ulid) v.found (of_map P v.found all) in
-    let kept : All (λ (block : Found). P block.ulid) (kept_by rules v.found) = All-filter _ (λ (block : Found). P block.ulid) _ (All-filter _ (λ (block : Found). P block.ulid) v.found found) in
+    let kept : All (λ (block : Found). P block.ulid) (kept_by rules v.found) =
+    All-filter _ Q _ (All-filter _ Q _ (All-filter _ Q _ (All-filter _ Q v.found found))) in
     let one : own ≡ other = cc (is, same) in
     subst (λ (x : View). All (λ (block : Found). P block.ulid) x.kept) one (subst (All (λ (block : Found). P block.ulid)) (sym v.kept) kept)
 kept_seen rules before entries (sync_told.sighted sightings) None view other seen is same = absurd is

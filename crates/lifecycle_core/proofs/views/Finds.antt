@@ -1,12 +1,13 @@
 -- The sync that gave a view: what it found, told of by an honest journal, and that it found each block whose meta was put before.
 use Rattle.list_core.proofs.Membership.{contains_first, contains_later}
-use Rattle.std.proofs.Common.{◌≡◌, ◌⊎◌, inl, inr, ℕ, ◌<◌, ◌≤◌, ◌^◌, suc, zero, List, [], ◌∷◌, ◌++◌, map, length, Contains, Some, refl, sym, ◌∙◌, ap, subst, arith}
+use Rattle.std.proofs.Common.{◌≡◌, ◌⊎◌, inl, inr, ℕ, ◌<◌, ◌≤◌, ◌^◌, suc, zero, List, [], ◌∷◌, ◌++◌, map, length, Contains, Option, Some, None, refl, sym, ◌∙◌, ap, subst, arith}
 use Rattle.std.specs.Prelude.{fold, unwrap_or}
 use Rattle.std.specs.List.{All, AllByRecursion}
 use Rattle.std.proofs.lemmas.Bool.{ltb-true}
 use Rattle.std.proofs.lemmas.List.Elements.{All-from_recursion, Contains-append_left, Contains-push}
 use Rattle.ulid_core.specs.UlidText.{text_of}
 use Rattle.block_keys.specs.declared.key.Key.TheVariants as key
+use Rattle.block_meta.specs.MetaFields.{MarkFields}
 use Rattle.moment_core.specs.declared.moment.Moment.{Moment}
 use Rattle.bucket_core.specs.Pages.{Before}
 use Rattle.world_core.specs.Walks.{last_listed}
@@ -17,11 +18,12 @@ use Rattle.sync_filters.specs.declared.found.Found.{Found}
 use Rattle.meta_fetcher.specs.Sightings.{IsView, Sighting, block_meta, kept_by, sighting_of}
 use Rattle.meta_fetcher.specs.Syncs.{IsEnd, Synced, SyncRun}
 use Rattle.meta_fetcher.specs.Syncs as sync_told
-use Rattle.meta_fetcher.proofs.SyncLaws.{Comes, KeptByPages, KeptByReads, course_of_all, page_after, sighting_at, synced}
+use Rattle.meta_fetcher.proofs.SyncLaws.{Comes, IsMarkRead, KeptByPages, KeptByReads, course_of_all, page_after, sighting_at, synced}
 use Rattle.meta_fetcher.specs.declared.rules.SyncRules.{SyncRules}
 use Rattle.meta_fetcher.specs.declared.sync_end.SyncEnd.TheVariants as fetched
 use Rattle.meta_fetcher.specs.declared.view.View.{View}
 use Rattle.lifecycle_core.proofs.journals.Told.{IsTold, WasPutBefore}
+use Rattle.lifecycle_core.proofs.views.Metas.{no_mark}
 use Rattle.lifecycle_core.proofs.views.Pages.{AreSmall, IsToBeListed, before_first_page, listed_at_last, listed_on, ulid_listed, ulids_small}
 use Rattle.lifecycle_core.specs.Setting.{Setting}
 
@@ -44,7 +46,7 @@ module _ (setting : Setting) (journal : List Entry) (first : Entry) (entries : L
   past_before : (ulid number : ℕ) (past : IsPast ulid) → first.seq ≤ number → WasPutBefore journal (key.Meta ulid) past.bytes number
   past_before ulid number past late = let put = past.put in (put.0, put.1, put.2, put.3, omega (arith, put.4, late))
 
-  -- an entry of the sync found the meta that the sighting has
+  -- an entry of the sync found the meta that the sighting has, and one no mark
   pub record IsSighted (s : Sighting) : Type 0 where
     pub entry : Entry
     pub own : IsOwn entry
@@ -54,6 +56,7 @@ module _ (setting : Setting) (journal : List Entry) (first : Entry) (entries : L
     pub read : block_meta s.ulid bytes ≡ Some s.meta
     pub at_moment : s.meta_read ≡ entry.moment
     pub small : s.ulid < 2 ^ 128
+    pub unmarked : s.mark ≡ None
 
   abbrev ArePastListed : List (List ℕ) → Type 0
   ArePastListed listed = (ulid : ℕ) → IsPast ulid → IsToBeListed listed (text_of ulid)
@@ -92,6 +95,12 @@ module _ (setting : Setting) (journal : List Entry) (first : Entry) (entries : L
   not_missed u ulid e own is absent past same =
       own.told.absent (key.Meta ulid) past.bytes (is ∙ ap (λ n. op.Get (key.Meta n)) same) absent (past_before ulid e.seq past own.later)
 
+  -- no mark was read: nobody put one
+  no_mark_read : (made : List Entry) (ulid : ℕ) (mark : Option MarkFields) (read : Moment) → ulid < 2 ^ 128 → IsMarkRead IsOwn made ulid mark read → mark ≡ None
+  no_mark_read made ulid None read small looked = refl
+  no_mark_read made ulid (Some mark) read small looked =
+      absurd (no_mark setting ulid looked.tells.0 (looked.given.told.found (key.Mark ulid) looked.tells.0 small looked.asks looked.tells.1).0)
+
   -- what the view says, by the blocks that the sync found
   pub record FindsPast (rules : SyncRules) (view : View) : Type 0 where
     pub found : List Found
@@ -113,15 +122,16 @@ module _ (setting : Setting) (journal : List Entry) (first : Entry) (entries : L
     reads_kept = record {
       over = λ made sightings j. j;
       mark_failed = λ made sightings ulid ulids e landed came. tt;
-      marked = λ made sightings ulid ulids e bytes came. tt;
+      no_mark = λ made sightings ulid ulids e bytes came none. tt;
+      marked = λ made sightings ulid ulids e bytes mark came read. came.before;
       unmarked = λ made sightings ulid ulids e came. came.before;
       meta_failed = λ made sightings ulid ulids e landed came. tt;
       unread = λ made sightings ulid ulids e bytes came none. tt;
-      seen = λ made sightings ulid ulids e bytes mark_read meta came read. let j = came.before in record {
-        all = all_more sightings (sighting_at ulid mark_read e.moment meta) j.all
-            (record { entry = e; own = came.given; bytes = bytes; asks = came.asks; found = came.shows; read = read; at_moment = refl; small = j.small.0 });
+      seen = λ made sightings ulid ulids e bytes mark mark_read meta looked came read. let j = came.before in record {
+        all = all_more sightings (sighting_at ulid mark mark_read e.moment meta) j.all
+            (record { entry = e; own = came.given; bytes = bytes; asks = came.asks; found = came.shows; read = read; at_moment = refl; small = j.small.0; unmarked = no_mark_read made ulid mark mark_read j.small.0 looked });
         small = j.small.1;
-        past = λ other past. past_seen sightings (sighting_at ulid mark_read e.moment meta) ulid ulids other refl (j.past other past);
+        past = λ other past. past_seen sightings (sighting_at ulid mark mark_read e.moment meta) ulid ulids other refl (j.past other past);
       };
       missed = λ made sightings ulid ulids e came. let j = came.before in record {
         all = j.all;

@@ -11,7 +11,7 @@ use Rattle.moment_core.specs.declared.moment.Moment.{Moment}
 use Rattle.world_core.specs.declared.entry.Entry.{Entry}
 use Rattle.world_core.proofs.PlanLaws.{one_end}
 use Rattle.sync_filters.specs.declared.found.Found.{Found}
-use Rattle.meta_fetcher.specs.Sightings.{IsView, Sighting, kept_by, sighting_of}
+use Rattle.meta_fetcher.specs.Sightings.{IsView, Sighting, covered_by, kept_by, sighting_of}
 use Rattle.meta_fetcher.specs.Syncs.{Course, IsEnd, SyncRun, Synced, damaged, fault, sighted, sync, too_many}
 use Rattle.meta_fetcher.specs.declared.rules.SyncRules.{SyncRules}
 use Rattle.meta_fetcher.specs.declared.sync_end.SyncEnd.{SyncEnd}
@@ -98,8 +98,9 @@ one_view rules number begun ended sightings v w a b =
     let firsts : v.first ≡ w.first = a.first ∙ sym b.first in
     let begins : v.begin ≡ w.begin = a.begin ∙ sym b.begin in
     let ends : v.end ≡ w.end = a.end ∙ sym b.end in
-    let kept : v.kept ≡ w.kept = a.kept ∙ ap (kept_by rules) (same_founds a.found b.found (a.sighted ∙ sym b.sighted)) ∙ sym b.kept in
-    let covered : v.covered ≡ w.covered = a.covered ∙ sym b.covered in
+    let found : a.found ≡ b.found = same_founds a.found b.found (a.sighted ∙ sym b.sighted) in
+    let kept : v.kept ≡ w.kept = a.kept ∙ ap (kept_by rules) found ∙ sym b.kept in
+    let covered : v.covered ≡ w.covered = a.covered ∙ ap (covered_by rules) found ∙ sym b.covered in
     λ i. record { first = firsts i; begin = begins i; end = ends i; kept = kept i; covered = covered i }
 
 one_sync_end : (rules : SyncRules) (told : Synced) (course : Option Course) (one other : SyncEnd) → IsEnd rules (told, course) one → IsEnd rules (told, course) other → one ≡ other

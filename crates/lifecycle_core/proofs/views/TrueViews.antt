@@ -2,20 +2,22 @@
 -- complete before the sync's last entry, and each one that was settled before the sync began. And no sync finds anything damaged.
 use Rattle.list_core.proofs.Membership.{contains_first, contains_later, into_filter}
 use Rattle.lifecycle_core.proofs.blocks.Declared.{declared_lawful}
-use Rattle.std.proofs.Common.{◌≡◌, ℕ, ◌+◌, ◌<◌, ◌≤◌, ◌^◌, ◌-◌, true, ◌&&◌, List, [], ◌∷◌, Contains, Option, Some, None, ℤ, pos, negsuc, refl, sym, ap, subst, arith}
-use Rattle.std.specs.Prelude.{fold, int_le, is_some, neg_ℤ, ◌≤ℤ◌, ◌<ℤ◌}
+use Rattle.std.proofs.Common.{◌≡◌, ℕ, ◌+◌, ◌<◌, ◌≤◌, ◌^◌, ◌-◌, true, false, not, ◌&&◌, List, [], ◌∷◌, Contains, Option, Some, None, ℤ, pos, negsuc, refl, sym, ap, subst, arith}
+use Rattle.std.specs.Prelude.{fold, int_le, is_some, option_map, neg_ℤ, ◌≤ℤ◌, ◌<ℤ◌}
 use Rattle.std.specs.List.{All, AllByRecursion}
-use Rattle.std.proofs.lemmas.Bool.{both_ways, le-leb, or_left}
+use Rattle.std.proofs.lemmas.Bool.{both_ways, le-leb, not_from_false, or_left}
 use Rattle.std.proofs.lemmas.Int.{ints}
 use Rattle.std.proofs.lemmas.List.Elements.{All-contains, All-filter, All-tail, All-weaker}
 use Rattle.block_keys.specs.declared.key.Key.TheVariants as key
-use Rattle.block_meta.specs.MetaFields.{MetaFields, fields_of}
+use Rattle.block_meta.specs.declared.deletion_mark.DeletionMark.{DeletionMark}
+use Rattle.block_meta.specs.MetaFields.{MetaFields, fields_of, mark_fields_of}
+use Rattle.moment_core.specs.declared.moment.Moment.{Moment}
 use Rattle.moment_core.specs.declared.span.Span.{Span}
 use Rattle.world_core.specs.Walks.{last_listed}
 use Rattle.world_core.specs.declared.entry.Entry.{Entry}
-use Rattle.sync_filters.specs.Filters.{is_consistent, is_in_partition, is_late_source, time_of}
+use Rattle.sync_filters.specs.Filters.{is_consistent, is_covered, is_in_partition, is_late_source, is_recent, is_unmarked, time_of}
 use Rattle.sync_filters.specs.declared.found.Found.{Found}
-use Rattle.meta_fetcher.specs.Sightings.{sighting_of}
+use Rattle.meta_fetcher.specs.Sightings.{passed_by, sighting_of}
 use Rattle.meta_fetcher.specs.Syncs.{Course, IsEnd, Synced, SyncRun, with_entry}
 use Rattle.meta_fetcher.specs.Syncs as sync_told
 use Rattle.meta_fetcher.specs.declared.rules.SyncRules.{SyncRules}
@@ -33,6 +35,7 @@ use Rattle.lifecycle_core.specs.Tasks.{all_times, last_number, sync_rules}
 use Rattle.lifecycle_core.proofs.journals.Told.{IsOrigin, IsPart, IsReadable, IsTold, PutsTexts, IsTrueFound, IsTrueView, Rises, Spans}
 use Rattle.lifecycle_core.proofs.views.Finds.{FindsPast, IsOwn, IsPast, IsSighted, finds_past}
 use Rattle.lifecycle_core.proofs.views.Metas.{IsMetaOf, meta_found, no_mark}
+use Rattle.lifecycle_core.proofs.views.Soles.{IsSole, none_covered}
 use Rattle.lifecycle_core.proofs.views.Pages.{AreSmall, ascends_after, ulids_small}
 use Rattle.lifecycle_core.proofs.views.Puts.{put_before, uploaded_before, within_last}
 
@@ -52,6 +55,13 @@ in_partition setting lawful f t =
 
 consistent : (f : Found) (delay : Span) → time_of f.ulid + delay.ms ≤ f.meta_read.ms → is_consistent f delay ≡ true
 consistent f delay old = or_left _ (is_late_source f.meta.source) (le-leb (time_of f.ulid + delay.ms) f.meta_read.ms old)
+
+unmarked_kept : (mark : Option DeletionMark) (read : Moment) (delay : Span) → option_map mark_fields_of mark ≡ None → is_recent mark read delay ≡ true
+unmarked_kept None read delay none = refl
+unmarked_kept (Some mark) read delay none = absurd (cc (none))
+
+sole_found : {setting : Setting} (f : Found) → IsTrueFound setting f → IsSole f
+sole_found f t = record { own = t.own; sources = t.sources }
 
 -- ---- the entries of a sync
 
@@ -78,6 +88,7 @@ meta_true setting f meta same small m = record {
   block = m.block;
   is = m.is;
   small = small;
+  own = subst (λ (x : MetaFields). x.ulid ≡ f.ulid) same m.own;
   sources = subst (λ (x : MetaFields). x.sources ≡ f.ulid ∷ []) same m.sources;
   labels = subst (λ (x : MetaFields). x.labels ≡ m.block.labels) same m.labels;
   times = subst (λ (x : MetaFields). Spans m.block.body x.min_time x.max_time) same m.times;
@@ -116,6 +127,13 @@ module _ (setting : Setting) (readable : IsReadable setting) (journal : List Ent
       let read : f.meta_read.ms ≡ s.entry.moment.ms = ap (λ m. m.ms) s.at_moment in
       subst (λ u. time_of u + c ≤ f.meta_read.ms) (sym same) (omega (arith, old, late, s.own.after, read))
 
+  -- what passes was made of itself alone
+  passed_sole : {view : View} (gateway : ℕ) → (finds : FindsPast setting journal first entries (sync_rules setting gateway) view) → All IsSole (passed_by (sync_rules setting gateway) finds.found)
+  passed_sole gateway finds =
+      let each : All IsSole finds.found =
+      All-weaker (λ (x : Found). IsSighted setting journal first entries (sighting_of x)) IsSole (λ x s. sole_found x (sighted_true x s)) finds.found finds.all in
+      All-filter _ IsSole _ (All-filter _ IsSole _ (All-filter _ IsSole finds.found each))
+
   -- what was settled before the sync began is kept
   settled_kept : IsLawfulScript setting.script → (gateway : ℕ) (view : View) → FindsPast setting journal first entries (sync_rules setting gateway) view → (ulid : ℕ) → IsUploadedBefore setting journal ulid view.first
       → time_of ulid + setting.script.rules.consistency.ms ≤ view.begin.ms → (f : Found) × Contains view.kept f × (f.ulid ≡ ulid)
@@ -127,12 +145,16 @@ module _ (setting : Setting) (readable : IsReadable setting) (journal : List Ent
       let time = old_enough f ulid setting.script.rules.consistency.ms view.begin.ms found.2 old (omega (arith, ap (λ m. m.ms) finds.begin)) s in
       let one = into_filter (λ (b : Found). is_in_partition b.meta all_times) finds.found f found.1 (in_partition setting lawful f (sighted_true f s)) in
       let two = into_filter (λ (b : Found). is_consistent b setting.script.rules.consistency) _ f one (consistent f setting.script.rules.consistency time) in
-      (f, subst (λ fs. Contains fs f) (sym finds.kept) two, found.2)
+      let three = into_filter (λ (b : Found). is_unmarked b setting.script.rules.ignore) _ f two (unmarked_kept f.mark f.mark_read setting.script.rules.ignore s.unmarked) in
+      let passed = passed_by (sync_rules setting gateway) finds.found in
+      let none : is_covered passed f ≡ false = none_covered passed f (passed_sole gateway finds) (sole_found f (sighted_true f s)) in
+      let four = into_filter (λ (b : Found). not (is_covered passed b)) passed f three (not_from_false (is_covered passed f) none) in
+      (f, subst (λ fs. Contains fs f) (sym finds.kept) four, found.2)
 
   of_found : (gateway : ℕ) (P : Found → Type 0) (view : View) (finds : FindsPast setting journal first entries (sync_rules setting gateway) view) → ((f : Found) → IsSighted setting journal first entries (sighting_of f) → P f) → All P view.kept
   of_found gateway P view finds each =
       let all = All-weaker (λ (x : Found). IsSighted setting journal first entries (sighting_of x)) P each finds.found finds.all in
-      subst (All P) (sym finds.kept) (All-filter _ P _ (All-filter _ P finds.found all))
+      subst (All P) (sym finds.kept) (All-filter _ P _ (All-filter _ P _ (All-filter _ P _ (All-filter _ P finds.found all))))
 
 -- ---- true views
 
@@ -167,13 +189,14 @@ module _ (setting : Setting) (readable : IsReadable setting) (journal : List Ent
   undamaged_reads = record {
     over = λ made sightings small. tt;
     mark_failed = λ made sightings ulid ulids e landed came. tt;
-    marked = λ made sightings ulid ulids e bytes came. no_mark setting ulid bytes (came.given.told.found (key.Mark ulid) bytes came.before.0 came.asks came.shows).0;
+    no_mark = λ made sightings ulid ulids e bytes came none. no_mark setting ulid bytes (came.given.told.found (key.Mark ulid) bytes came.before.0 came.asks came.shows).0;
+    marked = λ made sightings ulid ulids e bytes mark came read. came.before;
     unmarked = λ made sightings ulid ulids e came. came.before;
     meta_failed = λ made sightings ulid ulids e landed came. tt;
     unread = λ made sightings ulid ulids e bytes came none.
         let m = meta_found setting readable ulid bytes (came.given.told.found (key.Meta ulid) bytes came.before.0 came.asks came.shows).0 in
         cc (none, m.1);
-    seen = λ made sightings ulid ulids e bytes mark_read meta came read. came.before.1;
+    seen = λ made sightings ulid ulids e bytes mark mark_read meta looked came read. came.before.1;
     missed = λ made sightings ulid ulids e came. came.before.1;
   }
 

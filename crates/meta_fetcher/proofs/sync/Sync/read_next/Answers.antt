@@ -16,8 +16,8 @@ returns-in-Some-clause-leads c =
           subst (λ (l : List ℕ). Goes s.rules (Some (course_of s)) (reading (sightings_of s) l) entries end) (sym c.in-Some.ensures.items) (run [] 0 tt);
     }
 
-pub returns-in-None-clause-leads : goal.returns-in-None-clause-leads
-returns-in-None-clause-leads c =
+pub returns-in_ok-take_view-in-None-clause-leads : goal.returns-in_ok-take_view-in-None-clause-leads
+returns-in_ok-take_view-in-None-clause-leads c =
     let s = c.args.self.now in
-    over s.rules (course_of s) (sightings_of s) s.waiting.items c.take_view.result (nil_from_length s.waiting.items (sym s.waiting.ok.0 ∙ c.in-None.ensures.cases.0))
-    (λ ascend. c.take_view.ensures (sighted_ascend s.found.items ascend))
+    over s.rules (course_of s) (sightings_of s) s.waiting.items c.in_ok-take_view-in-None.field-0 (nil_from_length s.waiting.items (sym s.waiting.ok.0 ∙ c.in-None.ensures.cases.0))
+    (λ ascend. c.in_ok-take_view-in-None.ensures (sighted_ascend s.found.items ascend))
