@@ -1,5 +1,5 @@
 -- What testing a block's files comes to.
-use Rattle.std.proofs.Common.{◌≡◌, ℕ, List, Option, Some, None, Result, Ok, Err, ℤ, refl, sym, ap, subst, ◌∙◌, ◌⊎◌, inl, inr}
+use Rattle.std.proofs.Common.{◌≡◌, ℕ, List, Option, Some, None, Result, Ok, Err, ℤ, sym, ap, subst, ◌∙◌, ◌⊎◌, inl, inr}
 use Rattle.std.specs.Prelude.{MatchOption, IfOk, IfErr, IsErrAnd}
 use Rattle.std.specs.List.{AllByRecursion}
 use Rattle.std.specs.Result.{IsOkAnd}
@@ -16,7 +16,7 @@ use Rattle.block_files.specs.declared.block_files.BlockFiles.{BlockFiles}
 use Rattle.block_content.specs.Content.{IsContent}
 use Rattle.block_content.specs.ContentRefusals.{RefusesContent}
 use Rattle.block_content.specs.Firsts.{each_at, first_at}
-use Rattle.block_content.specs.ContentReading.{chunks_at, list_of, first_outside, repeated_in, fitted, refused_index, index_at, contents_at, content_at}
+use Rattle.block_content.specs.ContentReading.{chunks_at, list_of, first_outside, repeated_in, fitted, refused_index, index_at, contents_at}
 use Rattle.block_content.specs.CheckReading.{found_at, IsFirstFound, IsTested}
 use Rattle.block_content.specs.declared.check_refusal.CheckRefusal.{CheckRefusal}
 use Rattle.block_content.specs.declared.check_refusal.CheckRefusal.TheVariants.{NoMemory}

@@ -179,7 +179,10 @@ pub(crate) fn count_all(
 }
 
 /// Refuses what was found.
-pub(crate) fn test_found(outside: Option<(u32, i64)>, repeated: Option<u32>) -> Result<(), CheckRefusal>
+pub(crate) fn test_found(
+    outside: Option<(u32, i64)>,
+    repeated: Option<u32>,
+) -> Result<(), CheckRefusal>
     ensures { result ≡ found_at outside repeated }
 {
     if let Some((series, time)) = outside {
