@@ -27,13 +27,13 @@ told_so : {A B : Type 0} (d e : CheckRefusal) → ◌≡◌ {A = Result A CheckR
 told_so {A} {B} d e h = ap (λ (c : CheckRefusal). Err c) (err_is {A = A} d e h)
 
 module _ (meta : Meta) (segments : List (List ℕ)) (indexed : List IndexSeries) (parts : List (List (List Sample))) (all_parts : each_at (chunks_at segments) indexed ≡ Ok parts) where
-  refused_by : (outside : Option (ℕ × ℤ)) (repeated : Option ℕ) → IsFirstFound (first_at (first_outside meta) (list_of indexed parts)) outside
+  pub refused_by : (outside : Option (ℕ × ℤ)) (repeated : Option ℕ) → IsFirstFound (first_at (first_outside meta) (list_of indexed parts)) outside
       → MatchOption repeated (first_at repeated_in indexed ≡ None) (λ found. (place : ℕ) × (first_at repeated_in indexed ≡ Some (place, tt)) × (found ≡ fitted place)) → (e : CheckRefusal) → found_at outside repeated ≡ Err e → chunked_at meta segments indexed ≡ Err e
   refused_by (Some told) repeated (place, found, is) order e h = times_refused meta segments indexed parts all_parts place told.0 told.1 found is ∙ told_so {B = List Series} (OutsideRange told.0 told.1) e h
   refused_by None (Some series) none (place, found, is) e h = order_refused meta segments indexed parts all_parts place series none found is ∙ told_so {B = List Series} (Repeated series) e h
   refused_by None None none none' e h = absurd cc
 
-  passed_by : (outside : Option (ℕ × ℤ)) (repeated : Option ℕ) → IsFirstFound (first_at (first_outside meta) (list_of indexed parts)) outside
+  pub passed_by : (outside : Option (ℕ × ℤ)) (repeated : Option ℕ) → IsFirstFound (first_at (first_outside meta) (list_of indexed parts)) outside
       → MatchOption repeated (first_at repeated_in indexed ≡ None) (λ found. (place : ℕ) × (first_at repeated_in indexed ≡ Some (place, tt)) × (found ≡ fitted place)) → found_at outside repeated ≡ Ok tt → chunked_at meta segments indexed ≡ Ok (list_of indexed parts)
   passed_by (Some told) repeated times order h = absurd cc
   passed_by None (Some series) none order h = absurd cc

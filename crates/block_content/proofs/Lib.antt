@@ -13,3 +13,4 @@ pub mod ListedFiles
 pub mod SlashNames
 pub mod SameFiles
 pub mod FewListed
+pub mod ContentTests

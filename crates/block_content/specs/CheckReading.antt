@@ -1,14 +1,14 @@
 -- What checking a block gives: the series that it holds, or the first refusal.
-use Rattle.std.specs.Prelude.{◌≡◌, ℕ, ℤ, List, [], ◌∷◌, length, Bool, true, false, Result, Ok, Err, pos, ◌==◌, Option, None, Some, MatchOption}
+use Rattle.std.specs.Prelude.{◌≡◌, ℕ, ℤ, List, [], ◌∷◌, length, Bool, true, false, Result, Ok, Err, pos, ◌==◌, Option, None, Some, MatchOption, MatchResult, ◌⊎◌}
 use Rattle.std.specs.Ordering.{int_eq}
 use Rattle.reading_core.specs.Reading.{◌>>=◌, ◌>>◌, unless, refused_as}
 use Rattle.label_sets.specs.declared.series.Series.{Series}
 use Rattle.label_sets.specs.Counts.{sample_count}
 use Rattle.index_file.specs.declared.index_series.IndexSeries.{IndexSeries}
 use Rattle.block_meta.specs.declared.meta.Meta.{Meta}
-use Rattle.block_content.specs.ContentReading.{index_at, refused_index, chunked_at, fitted}
+use Rattle.block_content.specs.ContentReading.{index_at, refused_index, chunked_at, contents_at, fitted}
 use Rattle.block_content.specs.declared.check_refusal.CheckRefusal.{CheckRefusal}
-use Rattle.block_content.specs.declared.check_refusal.CheckRefusal.TheVariants.{UlidDiffers, NotLevelOne, SourcesNotSelf, Downsampled, EmptyBlock, OutsideRange, Repeated}
+use Rattle.block_content.specs.declared.check_refusal.CheckRefusal.TheVariants.{UlidDiffers, NotLevelOne, SourcesNotSelf, Downsampled, EmptyBlock, OutsideRange, Repeated, NoMemory}
 
 -- a block is the only one of the sources
 abbrev pub is_alone : ℕ → List ℕ → Bool
@@ -65,3 +65,11 @@ abbrev pub found_at : Option (ℕ × ℤ) → Option ℕ → Result (Unit {0}) C
 found_at (Some told) repeated = Err (OutsideRange told.0 told.1)
 found_at None (Some series) = Err (Repeated series)
 found_at None None = Ok tt
+
+-- ---- what is tested alone
+
+-- The series of the index were read, and all that the files hold; or the first refusal of these, unless memory ran out.
+abbrev pub IsTested : Meta → List ℕ → List (List ℕ) → Result (List IndexSeries) CheckRefusal → Type 0
+IsTested meta index segments result = MatchResult result
+    (λ indexed. (index_at index ≡ Ok indexed) × ((list : List Series) × (contents_at meta index segments ≡ Ok list)))
+    (λ e. (e ≡ NoMemory) ⊎ (contents_at meta index segments ≡ Err e))

@@ -133,9 +133,9 @@ fn count_series(
 
 /// What was counted of a block: its samples, and the series and the time of the first sample outside its times.
 #[derive(Clone, Copy)]
-struct Counts {
+pub(crate) struct Counts {
     samples: u64,
-    outside: Option<(u32, i64)>,
+    pub(crate) outside: Option<(u32, i64)>,
 }
 
 /// The series and the time that were found, or those of the time in this series.
@@ -150,7 +150,7 @@ fn found_or_this(found: Option<(u32, i64)>, series: u32, time: Option<i64>) -> O
 }
 
 /// Reads all chunks of a block, each once, and keeps no samples.
-fn count_all(
+pub(crate) fn count_all(
     alloc: Global,
     meta: &Meta,
     segments: &[Blob],
@@ -179,7 +179,10 @@ fn count_all(
 }
 
 /// Refuses what was found.
-fn test_found(outside: Option<(u32, i64)>, repeated: Option<u32>) -> Result<(), CheckRefusal>
+pub(crate) fn test_found(
+    outside: Option<(u32, i64)>,
+    repeated: Option<u32>,
+) -> Result<(), CheckRefusal>
     ensures { result ≡ found_at outside repeated }
 {
     if let Some((series, time)) = outside {

@@ -9,9 +9,11 @@ mod chunk_cause;
 mod chunk_reading;
 mod content_reading;
 mod shipping;
+mod testing;
 
 pub use check_refusal::CheckRefusal;
 pub use checked::Checked;
 pub use checking::{check, check_indexed};
 pub use chunk_cause::ChunkCause;
 pub use content_reading::{content, read_index};
+pub use testing::test_content;

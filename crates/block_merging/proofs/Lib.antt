@@ -8,3 +8,17 @@ pub mod Putting
 pub mod OneMerge
 pub mod Merged
 pub mod Sweeping
+pub mod Grouping
+pub mod GroupLoops
+pub mod InputWalks
+pub mod SameLists
+pub mod OneCut
+pub mod StoredInputs
+pub mod OneMerged
+pub mod MergeAnswers
+pub mod PlansFit
+pub mod Firsts
+pub mod Rising
+pub mod FirstOfSeries
+pub mod FirstOfBlocks
+pub mod MergeLaws

@@ -77,7 +77,7 @@ samples_inside plan (c ∷ chunks) (p ∷ parts) s stored each among = elim (Con
   | inr later ↦ let w = samples_inside plan chunks parts s stored.1 each.1 later in (w.0, contains_later c w.0 chunks w.1, w.2, w.3)
 ]
 
-some_inside : (plan : PlanFields) (chunks : List PutChunk) (parts : List (List Sample)) (c : PutChunk) → AllByRecursion (IsStored plan) chunks → AllZip StandsFor chunks parts → Contains chunks c → (s : Sample) × Contains (joined parts) s
+pub some_inside : (plan : PlanFields) (chunks : List PutChunk) (parts : List (List Sample)) (c : PutChunk) → AllByRecursion (IsStored plan) chunks → AllZip StandsFor chunks parts → Contains chunks c → (s : Sample) × Contains (joined parts) s
 some_inside plan [] parts c stored each among = absurd (no_member c among)
 some_inside plan (d ∷ chunks) [] c stored each among = absurd each
 some_inside plan (d ∷ chunks) (p ∷ parts) c stored each among = let s = chunk_sample plan d p stored.0 each.0 in (s.0, Contains-append_left p (joined parts) s.0 s.1)
@@ -160,7 +160,7 @@ kept_after plan chunks labels run samples kept stored after read merged time at 
     let w = kept_inside plan labels run samples kept s.0 stored read merged s.1 in
     after_later (slice_get chunks (length chunks - 1)) (w.0).min time (subst (λ (t : ℤ). (w.0).min ≤ℤ t) s.2 w.2.0) (each_member (λ c. IsAfterChunks chunks c.min) (run_in run) w.0 (in_run (λ c. IsAfterChunks chunks c.min) run after) w.1)
 
-texts_of : (parts : List (List Sample)) (chunks : List PutChunk) → AllZip IsEncoded parts chunks → AllZip StandsFor chunks parts
+pub texts_of : (parts : List (List Sample)) (chunks : List PutChunk) → AllZip IsEncoded parts chunks → AllZip StandsFor chunks parts
 texts_of [] [] each = tt
 texts_of [] (c ∷ chunks) each = absurd each
 texts_of (p ∷ parts) [] each = absurd each

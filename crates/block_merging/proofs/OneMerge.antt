@@ -20,7 +20,7 @@ use Rattle.vertical_merge.specs.Merged.{AreFirst, IsMerge}
 use Rattle.vertical_merge.proofs.Orders.{set_itself}
 use Rattle.vertical_merge.proofs.Merging.{triple_of}
 
-under : (labels : List Label) (samples : List Sample) (t : Triple) → Contains (triples_under labels samples) t → t.labels ≡ labels
+pub under : (labels : List Label) (samples : List Sample) (t : Triple) → Contains (triples_under labels samples) t → t.labels ≡ labels
 unfolding triples_under
 under labels samples t among = let w = of_map (triple_of labels) samples t among in ap (λ (u : Triple). u.labels) (sym w.2)
 
@@ -82,7 +82,7 @@ one_told was begin copied kept labels samples list none is same all some merged 
 
 -- ---- the samples that are kept
 
-one_triples : (kept : Series) → triples_of (kept ∷ []) ≡ triples_under kept.labels kept.samples
+pub one_triples : (kept : Series) → triples_of (kept ∷ []) ≡ triples_under kept.labels kept.samples
 unfolding triples_of
 one_triples kept = append-nil (triples_under kept.labels kept.samples)
 

@@ -2,7 +2,16 @@ pub use Rattle.block_writing.specs.Put
 pub use Rattle.block_writing.specs.Built
 pub use Rattle.block_laws.specs.PutContent
 pub use Rattle.vertical_merge.specs.Merged
+pub use Rattle.vertical_merge.specs.Compacted
+pub use Rattle.label_sets.specs.Finals
+pub use Rattle.index_file.specs.IndexFile
+pub use Rattle.block_content.specs.Content
+pub use Rattle.block_content.specs.ContentRefusals
 pub mod Runs
 pub mod Placed
 pub mod MergedSeries
 pub mod Steps
+pub mod Inputs
+pub mod MergedBlock
+pub mod MergedContent
+pub mod MergeSteps

@@ -2,10 +2,19 @@
 //! carried as it is, and only the others are read, merged and written anew.
 #![tactic(auto)]
 
+mod block_merge;
 mod input_chunk;
+mod input_series;
+mod laws;
+mod merge_refusal;
+mod mergeable;
 mod placed_chunk;
 mod runs;
 mod series_merge;
 
+pub use block_merge::merge_blocks;
 pub use input_chunk::InputChunk;
+pub use laws::{compacted_blocks_fit, merge_has_content, merge_holds_first, merge_is_one};
+pub use merge_refusal::MergeRefusal;
+pub use mergeable::may_merge;
 pub use series_merge::merge_series;

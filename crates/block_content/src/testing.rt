@@ -1,0 +1,56 @@
+//! Testing what a block's files hold, without keeping it.
+ghost use Rattle.std.specs.Prelude.{◌≡◌, ◌⊎◌, List, Err, IfOk, IfErr};
+ghost use Rattle.std.specs.List.{AllByRecursion};
+ghost use Rattle.std.specs.Result.{IsOkAnd};
+ghost use Rattle.reading_core.specs.Grammar.{IsBytes};
+ghost use Rattle.label_sets.specs.declared.series.Series.{Series};
+ghost use Rattle.index_file.specs.IndexFile.{IsIndex};
+ghost use Rattle.block_content.specs.Content.{IsContent};
+ghost use Rattle.block_content.specs.ContentRefusals.{RefusesContent};
+ghost use Rattle.block_content.specs.CheckReading.{IsTested};
+
+use crate::CheckRefusal;
+use crate::checking::{count_all, test_found};
+use crate::content_reading::{budget_of, first_repeated, read_index};
+use block_files::BlockFiles;
+use block_meta::Meta;
+use index_v2::IndexSeriesList;
+use std::alloc::Global;
+use wire_bytes::Blob;
+
+fn test_files(
+    alloc: Global,
+    meta: &Meta,
+    index: &[u8],
+    segments: &[Blob],
+) -> Result<IndexSeriesList, CheckRefusal>
+    ensures exact { IsTested meta.now index.now segments.now result }
+    ensures bytes { IsBytes index.now × AllByRecursion IsBytes segments.now }
+{
+    let budget = budget_of(segments);
+    let indexed = read_index(alloc, index)?;
+    let counts = count_all(alloc, meta, segments, indexed.members(), budget)?;
+    test_found(counts.outside, first_repeated(indexed.members()))?;
+    Ok(indexed)
+}
+
+/// Tests whether a block's files hold something that can be read, as `content` reads it, and hands back the series of its index.
+/// The samples of one chunk are kept at a time.
+pub fn test_content(alloc: Global, files: &BlockFiles) -> Result<IndexSeriesList, CheckRefusal>
+    ensures found { IfOk result (λ indexed. IsIndex files.now.index indexed
+        × ((list : List Series) × IsContent files.now list)) }
+    ensures only { (list : List Series) → IsContent files.now list
+        → IsOkAnd result (IsIndex files.now.index) ⊎ (result ≡ Err CheckRefusal.NoMemory) }
+    ensures refused { IfErr result
+        (λ refusal. (refusal ≡ CheckRefusal.NoMemory) ⊎ RefusesContent files.now refusal) }
+    ensures refuses { (refusal : CheckRefusal) → RefusesContent files.now refusal
+        → (result ≡ Err refusal) ⊎ (result ≡ Err CheckRefusal.NoMemory) }
+    ensures bytes { IsBytes files.now.index }
+{
+    test_files(
+        alloc,
+        &files.meta,
+        files.index.bytes(),
+        files.segments.members(),
+    )
+}

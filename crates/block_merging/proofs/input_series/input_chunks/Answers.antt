@@ -1,0 +1,13 @@
+use Rattle.std.proofs.Common.{[], refl}
+use Rattle.block_writing.specs.Writing.{chunk_in}
+use Rattle.block_merging.specs.Placed.{chunk_of}
+use Rattle.block_merging.proofs.InputWalks.{mapped_more, mapped_all}
+use Rattle.block_merging.proofs.input_series.input_chunks.Goals as goal
+
+pub loop-place-preserved : goal.loop-place-preserved
+loop-place-preserved c =
+    mapped_more chunk_of (chunk_in c.args.segments.now) [] c.loop-place.made.items c.push.new.self.items c.input_chunk.result c.args.places.now c.loop-place.place-index _ c.loop-place-test.true c.loop-place.invariant c.input_chunk.ensures
+    c.in_ok-push.ensures.items
+
+pub returns : goal.returns
+returns c = mapped_all chunk_of (chunk_in c.args.segments.now) [] c.loop-place.made.items c.args.places.now c.args.places.now c.loop-place.place-index refl c.loop-place-test.false c.loop-place.invariant
