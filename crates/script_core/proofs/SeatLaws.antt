@@ -42,7 +42,7 @@ module _ (script : Script) where
         ap (seats_from gateways 0) upto ∙ seats_from-push gateways 0 (take number script.phases) phase ∙ sum
 
   -- seats that are taken are those of the workers before
-  seats_taken : (number : ℕ) (last : Phase) → IsLawfulScript script → number ≤ length script.phases → seats_before script number ≡ length (workers_before script number)
+  pub seats_taken : (number : ℕ) (last : Phase) → IsLawfulScript script → number ≤ length script.phases → seats_before script number ≡ length (workers_before script number)
   unfolding seats_from
   seats_taken zero last lawful within = refl
   seats_taken (suc number) last lawful within =

@@ -4,3 +4,17 @@ pub mod Syncs
 pub mod TaskSteps
 pub mod WorkerSteps
 pub mod JobSteps
+pub mod Cutting
+pub mod Begun
+pub mod Knowing
+pub mod Ending
+pub mod Due
+pub mod Taking
+pub mod Gathered
+pub mod Gathers
+pub mod Closing
+pub mod Rows
+pub mod Going
+pub mod Sending
+pub mod Phasing
+pub mod Running

@@ -224,13 +224,13 @@ member P [] i x all at = absurd (cc (at))
 member P (y ∷ ys) zero x all at = subst P (cc (at)) (All-head P y ys all)
 member P (y ∷ ys) (suc i) x all at = member P ys i x (All-tail P y ys all) at
 
-tasks_begin : (setting : Setting) (tasks : List Task) → All (λ t. MayBegin setting t.work) tasks → (places : List ℕ) (own : List Assigned) → TasksAt tasks places own → All (λ (a : Assigned). MayBegin setting a.task.work) own
+pub tasks_begin : (setting : Setting) (tasks : List Task) → All (λ t. MayBegin setting t.work) tasks → (places : List ℕ) (own : List Assigned) → TasksAt tasks places own → All (λ (a : Assigned). MayBegin setting a.task.work) own
 tasks_begin setting tasks begin [] [] are = All-nil (λ (a : Assigned). MayBegin setting a.task.work)
 tasks_begin setting tasks begin [] (a ∷ own) are = absurd (cc (are))
 tasks_begin setting tasks begin (p ∷ places) [] are = absurd are
 tasks_begin setting tasks begin (p ∷ places) (a ∷ own) are = All-cons (λ (a : Assigned). MayBegin setting a.task.work) a own (member (λ (t : Task). MayBegin setting t.work) tasks p a.task begin are.0.1) (tasks_begin setting tasks begin places own are.1)
 
-none_run : (setting : Setting) (who : Who) (before : Holding) (own : List Assigned) → All (λ (a : Assigned). MayBegin setting a.task.work) own → OwnRun setting who before own [] [] before
+pub none_run : (setting : Setting) (who : Who) (before : Holding) (own : List Assigned) → All (λ (a : Assigned). MayBegin setting a.task.work) own → OwnRun setting who before own [] [] before
 none_run setting who before [] begin = λ all. (refl, refl, refl)
 none_run setting who before (a ∷ own) begin = λ all. inr (begin 0 a (omega arith) who a.place before, refl)
 

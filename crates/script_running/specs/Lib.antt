@@ -2,5 +2,11 @@ pub mod Outcomes
 pub mod Drives
 pub mod Tasks
 pub mod Workers
+pub mod Cutting
+pub mod Begun
+pub mod Ended
+pub mod Beside
+pub mod Going
+pub mod Gathering
 pub use Rattle.world_core.specs.Machines
 pub use Rattle.world_core.specs.Keeping

@@ -2,13 +2,16 @@
 #![tactic(auto)]
 
 mod activity;
+mod beside;
 mod came;
 mod declared;
+mod gathering;
 mod outcome;
 mod plan;
 mod task;
 mod worker;
 
+pub use beside::{RunEnd, run_beside};
 pub use came::{Broken, Came};
 pub use outcome::{NoAnswer, Outcome, OutcomeList, QueryOutcome, SyncOutcome, UploadOutcome};
 pub use task::run_task;

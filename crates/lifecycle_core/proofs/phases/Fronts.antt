@@ -179,7 +179,7 @@ module _ {State Ends : Type 0} (way : Way State Ends)
 
 -- ---- no two workers of a phase are of one gateway
 
-abbrev AreApart : List Worker → Type 0
+abbrev pub AreApart : List Worker → Type 0
 AreApart [] = Unit {0}
 AreApart (w ∷ ws) = ((gateway : ℕ) → w.gateway ≡ Some gateway → All (λ (x : Worker). x.gateway ≢ Some gateway) ws) × AreApart ws
 
@@ -212,7 +212,7 @@ apart_after setting before (Some phase) =
     let gateways = gateway_count setting.script.gateways in
     workers_apart gateways before phase.tasks (hands_of gateways phase.tasks) ((joins_from (λ (h : Hand). Unit {0}) gateways [] 0 phase.tasks).apart tt)
 
-apart_of : (setting : Setting) (number : ℕ) → AreApart (workers_of setting.script number)
+pub apart_of : (setting : Setting) (number : ℕ) → AreApart (workers_of setting.script number)
 apart_of setting number = apart_after setting (seats_before setting.script number) (slice_get setting.script.phases number)
 
 -- ---- what the script's workers leave
@@ -264,7 +264,7 @@ agrees views (w ∷ ws) (last ∷ lasts) long apart = (
   agree_more (left_by ws lasts views) w.gateway last ws lasts apart.0 (agrees views ws lasts (omega (arith, long)) apart.1),
 )
 
-script_is_cut_well : (setting : Setting) → IsCutWell (by_script setting)
+pub script_is_cut_well : (setting : Setting) → IsCutWell (by_script setting)
 script_is_cut_well setting = record {
   cut = λ who place w front back before after xs y rest end inside run. (before, task_cut setting who place w before after xs y rest end run);
   whole = λ who place w front back before after made end inside run. run;

@@ -1,0 +1,235 @@
+-- A run beside whose world came out again is a run of the script.
+use Rattle.std.proofs.Common.{◌≡◌, ◌≢◌, inl, inr, ℕ, suc, ◌+◌, ◌<◌, ◌≤◌, List, [], ◌∷◌, ◌++◌, length, map, Contains, Option, Some, refl, sym, ◌∙◌, ap, subst, append_assoc, append-nil, arith}
+use Rattle.std.specs.Prelude.{Ok, Err, Result, slice_get}
+use Rattle.std.proofs.lemmas.List.{length-append}
+use Rattle.std.proofs.lemmas.List.Sums.{sum_by-append}
+use mathlib.Core.List.{IsPrefix}
+use Rattle.list_core.proofs.Lists.{cons_parts}
+use Rattle.list_core.proofs.Membership.{member_cases, no_member}
+use Rattle.world_core.specs.Keeping.{IsFull, bytes_put, bytes_told, kept_bytes}
+use Rattle.world_core.specs.Worlds.{IsJournal}
+use Rattle.world_core.specs.declared.entry.Entry.{Entry}
+use Rattle.world_turn.specs.Closing.{AllJoined, Closes}
+use Rattle.world_turn.specs.declared.view.View.{View as Known}
+use Rattle.world_turn.proofs.Fronts.{front_length, front_more}
+use Rattle.meta_fetcher.specs.declared.view.View.{View}
+use Rattle.script_core.specs.Lawful.{IsLawfulScript}
+use Rattle.script_core.specs.Workers.{workers_of}
+use Rattle.script_workers.specs.declared.phase.Phase.{Phase}
+use Rattle.script_workers.specs.declared.task.Task.{Task}
+use Rattle.script_workers.specs.declared.worker.Worker.{Worker}
+use Rattle.lifecycle_core.specs.Conducts.{AreDone, who_of}
+use Rattle.lifecycle_core.specs.Holdings.{Holding, Holdings, holding_of, none_held}
+use Rattle.lifecycle_core.specs.Phases.{IsInTurn, IsRunOf, by_script, by_workers}
+use Rattle.lifecycle_core.specs.Setting.{Setting}
+use Rattle.lifecycle_core.specs.Tasks.{End}
+use Rattle.lifecycle_core.specs.Ways.{AreFinished, AreInTurn, IsOperationDue, PhasesRun, Way}
+use Rattle.lifecycle_core.proofs.phases.Fronts.{IsCutWell}
+use Rattle.script_running.specs.Begun.{WasBegun, WereBegun}
+use Rattle.script_running.specs.Beside.{CameSoFar, HasRunBeside, IsCutShort}
+use Rattle.script_running.specs.Cutting.{AreParts, KnowsPhases, Passed}
+use Rattle.script_running.specs.Ended.{HasEnded, HaveEnded}
+use Rattle.script_running.specs.Going.{HasBrokenOff, HasFinished, HasGone, HasIdled, HasSeenFull, HasStopped, IfFull}
+use Rattle.script_running.specs.Outcomes.{PhasesCame}
+use Rattle.script_running.specs.Workers.{IsBrokenOff}
+use Rattle.script_running.specs.declared.came.Broken.{Broken}
+use Rattle.script_running.specs.declared.came.Broken.TheVariants as broken
+use Rattle.script_running.specs.declared.outcome.Outcome.{Outcome}
+use Rattle.script_running.specs.declared.worker.WorkerEnd.{WorkerEnd}
+use Rattle.script_running.proofs.Begun.{begun_more, phases_run}
+use Rattle.script_running.proofs.Cutting.{parts}
+use Rattle.script_running.proofs.Due.{is_due}
+use Rattle.script_running.proofs.Gathered.{tasks_long}
+use Rattle.script_running.proofs.Ending.{was_begun, was_idle, were_kept}
+
+-- ---- turns
+
+-- finished phases are in turn, and so is one begun behind them
+turns_none : {State Ends : Type 0} (way : Way State Ends) (number : ℕ) (done left : List Phase) (told : List Ends) → AreFinished way number done told → AreInTurn way number (done ++ left) told
+turns_none way number [] left [] finished = tt
+turns_none way number [] left (own ∷ told) finished = absurd (cc (finished))
+turns_none way number (phase ∷ done) left [] finished = tt
+turns_none way number (phase ∷ done) left (own ∷ told) finished = ((λ some. finished.0), turns_none way (number + 1) done left told finished.1)
+
+turns_one : {State Ends : Type 0} (way : Way State Ends) (number : ℕ) (done : List Phase) (phase : Phase) (left : List Phase) (told : List Ends) (own : Ends) → AreFinished way number done told → AreInTurn way number (done ++ phase ∷ left) (told ++ own ∷ [])
+turns_one way number [] phase left [] own finished = ((λ some. absurd (some refl)), tt)
+turns_one way number [] phase left (x ∷ told) own finished = absurd (cc (finished))
+turns_one way number (p ∷ done) phase left [] own finished = absurd finished
+turns_one way number (p ∷ done) phase left (x ∷ told) own finished = ((λ some. finished.0), turns_one way (number + 1) done phase left told own finished.1)
+
+-- ---- a full front
+
+full_more : (seen journal : List Entry) → IsPrefix seen journal → IsFull seen → IsFull journal
+full_more seen journal begins (inl long) = let more = front_length seen journal begins in inl (omega (arith, long, more))
+full_more seen journal begins (inr large) =
+    let both : kept_bytes journal ≡ kept_bytes seen + kept_bytes begins.0 = ap kept_bytes (sym begins.1) ∙ sum_by-append (λ (e : Entry). bytes_put e.op + bytes_told e.reply) seen begins.0 in
+    inr (omega (arith, large, both))
+
+-- ---- a worker that was broken off has not come to all its ends
+
+same_lengths : (w : Worker) (workers : List Worker) (own : List End) (ends : List (List End)) → AreDone (w ∷ workers) (own ∷ ends) → (length w.tasks ≡ length own) × AreDone workers ends
+same_lengths w workers own ends done = cons_parts (length w.tasks) (length own) (map (λ (x : Worker). length x.tasks) workers) (map length ends) done
+
+one_short : (setting : Setting) (tasks : List Task) (before : Holdings) (front : List Entry) (w : Worker) (kept : ℕ × List Entry) (end : WorkerEnd) (own : List End) (last : Holding) → HasEnded setting tasks before front w kept end own last → end.came ≡ Err broken.Full → length own < length w.tasks
+one_short setting tasks before front w kept end own last h full =
+    let b = subst (IsBrokenOff setting (who_of w) w.seat (holding_of before w.gateway) (h.was).own kept.1 own) full h.cut in
+    let short = b.0 in
+    let long = tasks_long tasks w.tasks (h.was).own (h.was).are in
+    omega (arith, short, long)
+
+not_done : (setting : Setting) (tasks : List Task) (before : Holdings) (front : List Entry) (workers : List Worker) (kept : List (ℕ × List Entry)) (others : List WorkerEnd) (ends : List (List End)) (lasts : List Holding) (end : WorkerEnd)
+    → HaveEnded setting tasks before front workers kept others ends lasts → Contains others end → end.came ≡ Err broken.Full → AreDone workers ends → ⊥
+not_done setting tasks before front [] [] [] [] [] end have among full done = no_member end among
+not_done setting tasks before front [] [] [] [] (last ∷ lasts) end have among full done = have
+not_done setting tasks before front [] [] [] (x ∷ ends) lasts end have among full done = have
+not_done setting tasks before front [] [] (o ∷ others) ends lasts end have among full done = have
+not_done setting tasks before front [] (k ∷ kept) others ends lasts end have among full done = have
+not_done setting tasks before front (w ∷ workers) [] others ends lasts end have among full done = have
+not_done setting tasks before front (w ∷ workers) (k ∷ kept) [] ends lasts end have among full done = have
+not_done setting tasks before front (w ∷ workers) (k ∷ kept) (o ∷ others) [] lasts end have among full done = have
+not_done setting tasks before front (w ∷ workers) (k ∷ kept) (o ∷ others) (x ∷ ends) [] end have among full done = have
+not_done setting tasks before front (w ∷ workers) (k ∷ kept) (o ∷ others) (x ∷ ends) (last ∷ lasts) end have among full done =
+    let same = same_lengths w workers x ends done in elim (member_cases o end others among) [
+      | inl here ↦ let short = one_short setting tasks before front w k o x last have.0 (ap (λ (y : WorkerEnd). y.came) here ∙ full) in let long = same.0 in omega (arith, short, long)
+      | inr later ↦ not_done setting tasks before front workers kept others ends lasts end have.1 later full same.1
+    ]
+
+-- a front of the root that a worker met is full
+met_full : (setting : Setting) (tasks : List Task) (before : Holdings) (front : List Entry) (workers : List Worker) (kept : List (ℕ × List Entry)) (others : List WorkerEnd) (ends : List (List End)) (lasts : List Holding) (end : WorkerEnd)
+    → HaveEnded setting tasks before front workers kept others ends lasts → Contains others end → end.came ≡ Err broken.Full → (seen : List Entry) × IsPrefix seen front × IsFull seen
+met_full setting tasks before front [] [] [] [] [] end have among full = absurd (no_member end among)
+met_full setting tasks before front [] [] [] [] (last ∷ lasts) end have among full = absurd have
+met_full setting tasks before front [] [] [] (x ∷ ends) lasts end have among full = absurd have
+met_full setting tasks before front [] [] (o ∷ others) ends lasts end have among full = absurd have
+met_full setting tasks before front [] (k ∷ kept) others ends lasts end have among full = absurd have
+met_full setting tasks before front (w ∷ workers) [] others ends lasts end have among full = absurd have
+met_full setting tasks before front (w ∷ workers) (k ∷ kept) [] ends lasts end have among full = absurd have
+met_full setting tasks before front (w ∷ workers) (k ∷ kept) (o ∷ others) [] lasts end have among full = absurd have
+met_full setting tasks before front (w ∷ workers) (k ∷ kept) (o ∷ others) (x ∷ ends) [] end have among full = absurd have
+met_full setting tasks before front (w ∷ workers) (k ∷ kept) (o ∷ others) (x ∷ ends) (last ∷ lasts) end have among full = elim (member_cases o end others among) [
+  | inl here ↦ (have.0).full (ap (λ (y : WorkerEnd). y.came) here ∙ full)
+  | inr later ↦ met_full setting tasks before front workers kept others ends lasts end have.1 later full
+]
+
+middle : (done : List Phase) (phase : Phase) (left : List Phase) → slice_get (done ++ phase ∷ left) (length done) ≡ Some phase
+middle [] phase left = refl
+middle (p ∷ done) phase left = middle done phase left
+
+-- ---- the whole run
+
+module _ (setting : Setting) (well : IsCutWell (by_script setting)) (root : Known) (tick : ℕ) (journal : List Entry) (closes : Closes root tick journal) (joined : AllJoined root) (kept : IsJournal setting.script.rules.tick.ms journal) where
+  cut : (passed : List Passed) → KnowsPhases root passed → AreParts passed journal
+  cut passed knows = parts root tick journal passed closes joined knows kept.numbered
+
+  -- the finished phases are a run, if no other was begun
+  run_of : (done left : List Phase) (passed : List Passed) (held : Holdings) → setting.script.phases ≡ done ++ left → (f : HasFinished setting done passed held) → KnowsPhases root passed → IsRunOf setting journal f.told
+  run_of done left passed held is f knows = record {
+    kept = kept;
+    phases = subst (λ (ps : List Phase). PhasesRun (by_workers setting) 0 none_held ps journal f.told) (sym is) (phases_run setting 0 none_held held done left passed f.told journal f.begun (cut passed knows));
+  }
+
+  turns_of : (done left : List Phase) (told : List (List (List End))) → setting.script.phases ≡ done ++ left → AreFinished (by_workers setting) 0 done told → IsInTurn setting told
+  turns_of done left told is finished = subst (λ (ps : List Phase). AreInTurn (by_workers setting) 0 ps told) (sym is) (turns_none (by_workers setting) 0 done left told finished)
+
+  pub all_ran : (views : List (Option View)) (outcomes : List Outcome) → HasGone setting root setting.script.phases views outcomes → HasRunBeside setting journal outcomes (Ok tt)
+  all_ran views outcomes gone =
+      let f = gone.so_far in
+      let is : setting.script.phases ≡ setting.script.phases ++ [] = sym (append-nil setting.script.phases) in
+      record {
+        ends = f.told;
+        run = run_of setting.script.phases [] gone.passed gone.held is f gone.knows;
+        turns = turns_of setting.script.phases [] f.told is f.finished;
+        far = (f.finished, gone.came);
+      }
+
+  -- with a phase that was begun, but not finished
+  run_on : (done : List Phase) (phase : Phase) (left : List Phase) (passed : List Passed) (held next : Holdings) (one : Passed) (ends : List (List End)) → setting.script.phases ≡ done ++ phase ∷ left → (f : HasFinished setting done passed held)
+      → WasBegun setting (length done) phase held one ends next → KnowsPhases root (passed ++ one ∷ []) → IsRunOf setting journal (f.told ++ ends ∷ [])
+  run_on done phase left passed held next one ends is f was knows =
+      let first : 0 + length done ≡ length done = omega arith in
+      let all = begun_more setting 0 none_held held next done passed f.told phase one ends f.begun (subst (λ (n : ℕ). WasBegun setting n phase held one ends next) (sym first) was) in
+      record {
+        kept = kept;
+        phases = subst (λ (ps : List Phase). PhasesRun (by_workers setting) 0 none_held ps journal (f.told ++ ends ∷ [])) (append_assoc done (phase ∷ []) left ∙ sym is)
+            (phases_run setting 0 none_held next (done ++ phase ∷ []) left (passed ++ one ∷ []) (f.told ++ ends ∷ []) journal all (cut (passed ++ one ∷ []) knows));
+      }
+
+  turns_on : (done : List Phase) (phase : Phase) (left : List Phase) (told : List (List (List End))) (ends : List (List End)) → setting.script.phases ≡ done ++ phase ∷ left → AreFinished (by_workers setting) 0 done told → IsInTurn setting (told ++ ends ∷ [])
+  turns_on done phase left told ends is finished = subst (λ (ps : List Phase). AreInTurn (by_workers setting) 0 ps (told ++ ends ∷ [])) (sym is) (turns_one (by_workers setting) 0 done phase left told ends finished)
+
+  module _ (done : List Phase) (phase : Phase) (left : List Phase) (is : setting.script.phases ≡ done ++ phase ∷ left) (passed : List Passed) (held : Holdings) (outcomes : List Outcome) (f : HasFinished setting done passed held) where
+    far_on : (why : Broken) → IfFull why (PhasesCame setting.script 0 done f.told outcomes) → (b : HasBrokenOff setting root done passed held phase why) → CameSoFar setting journal (f.told ++ b.ends ∷ []) outcomes (Err why)
+    far_on broken.NoMemory came b = tt
+    far_on broken.Full came b =
+        let ws = workers_of setting.script (length done) in
+        let seen = met_full setting phase.tasks held root.front ws b.one.kept b.others b.ends b.lasts b.met.0 b.have b.met.1 b.met.2 in
+        record {
+          full = full_more seen.0 journal (front_more seen.0 root.front journal seen.1 closes.front) seen.2;
+          done = done;
+          left = phase ∷ left;
+          phases = is;
+          more = λ none. absurd (cc (none));
+          told = f.told;
+          untold = b.ends ∷ [];
+          parts = refl;
+          unfinished = (not_done setting phase.tasks held root.front ws b.one.kept b.others b.ends b.lasts b.met.0 b.have b.met.1 b.met.2, refl);
+          due = subst (λ (ps : List Phase). IsOperationDue (by_workers setting) none_held ps journal f.told) (sym is)
+              (is_due setting well held done left phase passed b.one f.told root.front b.seat b.others b.ends b.lasts b.met.0 journal f.begun b.begins b.have b.row b.met.1 b.met.2 (cut (passed ++ b.one ∷ []) b.knows));
+          finished = f.finished;
+          came = came;
+        }
+
+    ran_on : (why : Broken) → IfFull why (PhasesCame setting.script 0 done f.told outcomes) → HasBrokenOff setting root done passed held phase why → HasRunBeside setting journal outcomes (Err why)
+    ran_on why came b =
+        let ws = workers_of setting.script (length done) in
+        let were = were_kept setting phase.tasks held root.front ws b.one.kept b.others b.ends b.lasts b.have in
+        let next = was_begun setting well (length done) phase held b.one b.ends b.lasts b.begins were.0 were.1 in
+        record {
+          ends = f.told ++ b.ends ∷ [];
+          run = run_on done phase left passed held next.0 b.one b.ends is f next.2 b.knows;
+          turns = turns_on done phase left f.told b.ends is f.finished;
+          far = far_on why came b;
+        }
+
+    idled : IsLawfulScript setting.script → (why : Broken) → why ≡ broken.NoMemory → HasIdled setting root passed phase → HasRunBeside setting journal outcomes (Err why)
+    idled lawful why wanting b =
+        let at : slice_get setting.script.phases (length done) ≡ Some phase = ap (λ (ps : List Phase). slice_get ps (length done)) is ∙ middle done phase left in
+        let next = was_idle setting well lawful (length done) phase held b.one at b.begins b.none in
+        subst (λ (w : Broken). HasRunBeside setting journal outcomes (Err w)) (sym wanting) (record {
+          ends = f.told ++ next.0 ∷ [];
+          run = run_on done phase left passed held next.1 b.one next.0 is f next.2 b.knows;
+          turns = turns_on done phase left f.told next.0 is f.finished;
+          far = tt;
+        })
+
+  -- no phase was begun behind the finished ones
+  before_it : (outcomes : List Outcome) (why : Broken) (s : HasStopped setting root outcomes why) (w : Broken) → IfFull w (PhasesCame setting.script 0 s.done (s.so_far).told outcomes) → IfFull w (HasSeenFull root) → CameSoFar setting journal (s.so_far).told outcomes (Err w)
+  before_it outcomes why s broken.NoMemory came seen = tt
+  before_it outcomes why s broken.Full came seen = record {
+    full = full_more seen.0 journal (front_more seen.0 root.front journal seen.1 closes.front) seen.2;
+    done = s.done;
+    left = s.phase ∷ s.left;
+    phases = s.phases;
+    more = λ none. absurd (cc (none));
+    told = (s.so_far).told;
+    untold = [];
+    parts = sym (append-nil (s.so_far).told);
+    unfinished = tt;
+    due = tt;
+    finished = (s.so_far).finished;
+    came = came;
+  }
+
+  pub all_stopped : IsLawfulScript setting.script → (outcomes : List Outcome) (why : Broken) → HasStopped setting root outcomes why → HasRunBeside setting journal outcomes (Err why)
+  all_stopped lawful outcomes why s = elim s.stands [
+    | inl (knows, seen) ↦ record {
+      ends = (s.so_far).told;
+      run = run_of s.done (s.phase ∷ s.left) s.passed s.held s.phases s.so_far knows;
+      turns = turns_of s.done (s.phase ∷ s.left) (s.so_far).told s.phases (s.so_far).finished;
+      far = before_it outcomes why s why s.came seen;
+    }
+    | inr begun ↦ elim begun [
+      | inl b ↦ ran_on s.done s.phase s.left s.phases s.passed s.held outcomes s.so_far why s.came b
+      | inr (wanting, b) ↦ idled s.done s.phase s.left s.phases s.passed s.held outcomes s.so_far lawful why wanting b
+    ]
+  ]

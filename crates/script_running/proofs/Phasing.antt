@@ -1,0 +1,356 @@
+-- One phase more of a run beside: where it broke off, and how it goes on.
+use Rattle.std.proofs.Common.{◌≡◌, ◌≢◌, inl, inr, ℕ, suc, ◌+◌, ◌<◌, ◌≤◌, List, [], ◌∷◌, ◌++◌, ◌^◌, length, map, take, drop, Contains, Option, None, Some, refl, sym, ◌∙◌, ap, subst, append-nil, arith, le_refl}
+use Rattle.std.specs.Prelude.{Bool, true, false, MatchBool, Ok, Err, IfSome, OnOk, Result, slice_get}
+use Rattle.std.specs.List.{All, AllZip}
+use Rattle.std.proofs.lemmas.List.{length-append, length-take-le, take-append-drop}
+use Rattle.std.proofs.lemmas.List.Elements.{All-contains, All-from_recursion, All-head, All-weaker}
+use Rattle.std.proofs.lemmas.Option.{slice_get_within}
+use mathlib.Core.List.{IsPrefix}
+use Rattle.list_core.proofs.Lists.{drop_place, take_place}
+use Rattle.list_core.proofs.Membership.{all_members, contains_place, place_of_member}
+use Rattle.world_core.specs.Keeping.{IsFull}
+use Rattle.world_core.specs.Operations.{entry_of}
+use Rattle.world_core.specs.declared.acted.Acted.TheVariants.{Done, Full, NoMemory}
+use Rattle.world_core.specs.declared.entry.Entry.{Entry}
+use Rattle.world_core.specs.declared.op.Op.TheVariants.{Clock}
+use Rattle.world_core.specs.declared.seen.Seen.{Seen}
+use Rattle.world_turn.specs.Passes.{table_of, view_of}
+use Rattle.world_turn.specs.Closing.{AllJoined}
+use Rattle.world_turn.specs.Turns.{Acts, IsLater, IsSame}
+use Rattle.world_turn.specs.declared.pass.Pass.{Pass}
+use Rattle.world_turn.specs.declared.view.View.{View as Known}
+use Rattle.phase_runner.specs.Phases.{HasRun, Runs}
+use Rattle.meta_fetcher.specs.declared.view.View.{View}
+use Rattle.script_workers.specs.Hands.{gateway_count, gateway_of, hands_of, places_from}
+use Rattle.script_workers.specs.Staff.{IsWorkerOf}
+use Rattle.script_workers.specs.Whose.{IsFor, IsTaskOf, asks, ships, syncs}
+use Rattle.script_workers.specs.declared.hand.Hand.{Hand}
+use Rattle.script_workers.specs.declared.hand.Hand.TheVariants as hands
+use Rattle.script_workers.specs.declared.phase.Phase.{Phase}
+use Rattle.script_workers.specs.declared.task.Task.{Task}
+use Rattle.script_workers.specs.declared.work.Work.{Work}
+use Rattle.script_workers.specs.declared.work.Work.TheVariants as works
+use Rattle.script_workers.specs.declared.worker.Worker.{Worker}
+use Rattle.script_workers.proofs.StaffLaws.{is_staff}
+use Rattle.script_core.proofs.SeatLaws.{are_seated, few_gateways, room, seats_taken}
+use Rattle.script_core.specs.Lawful.{IsLawfulPhase, IsLawfulScript, IsLawfulWork}
+use Rattle.script_core.specs.Reading.{script_of}
+use Rattle.script_core.specs.Workers.{seats_before, workers_after, workers_before, workers_of}
+use Rattle.script_core.specs.declared.script.Script.{Script}
+use Rattle.lifecycle_core.specs.Conducts.{AreDone}
+use Rattle.lifecycle_core.specs.Holdings.{Holding, Holdings}
+use Rattle.lifecycle_core.specs.Phases.{by_script}
+use Rattle.lifecycle_core.specs.Setting.{Setting, setting_of}
+use Rattle.lifecycle_core.specs.Tasks.{End}
+use Rattle.lifecycle_core.specs.Ways.{BeginsPhase}
+use Rattle.lifecycle_core.proofs.phases.Fronts.{AreApart as Apart, apart_of, script_is_cut_well}
+use Rattle.script_running.specs.Begun.{AreLeft, WasBegun, WereKept}
+use Rattle.script_running.specs.Beside.{AreSeen}
+use Rattle.script_running.specs.Cutting.{KnowsPhases, Passed}
+use Rattle.script_running.specs.Ended.{AreInRow, HaveEnded, IsPostOf}
+use Rattle.script_running.specs.Gathering.{AreApart, AreSeenBeside, Gathers}
+use Rattle.script_running.specs.Going.{HasBrokenOff, HasCome, HasFinished, HasGone, HasIdled, HasSeenFull, HasStopped, IfFull, IsClockSet}
+use Rattle.script_running.specs.Outcomes.{PhasesCame, TasksCame}
+use Rattle.script_running.specs.Workers.{IsAtWork, MayWork, Post}
+use Rattle.script_running.specs.declared.came.Broken.{Broken}
+use Rattle.script_running.specs.declared.came.Broken.TheVariants as broken
+use Rattle.script_running.specs.declared.outcome.Outcome.{Outcome}
+use Rattle.script_running.specs.declared.worker.WorkerEnd.{WorkerEnd}
+use Rattle.script_running.proofs.Ending.{have_ended, was_begun, were_kept}
+use Rattle.script_running.proofs.Gathered.{same_place}
+use Rattle.script_running.proofs.Going.{gone_more}
+use Rattle.script_running.proofs.JobSteps.{allowed}
+use Rattle.script_running.proofs.Knowing.{knows_more, knows_on}
+use Rattle.script_running.proofs.Rows.{workers_in_row}
+
+abbrev Kept : Type 0
+Kept = ℕ × List Entry
+
+-- one of two, by a test that is known
+pub if_true : {P : Type 0} (Q : Type 0) (b : Bool) → b ≡ true → MatchBool b P Q → P
+if_true Q true is p = p
+if_true Q false is p = absurd (cc (is))
+
+pub if_false : {Q : Type 0} (P : Type 0) (b : Bool) → b ≡ false → MatchBool b P Q → Q
+if_false P true is q = absurd (cc (is))
+if_false P false is q = q
+
+-- every pass is still joined
+pub joined_on : (v w : Known) → IsSame v w → AllJoined v → AllJoined w
+joined_on v w same all = λ seat some less. subst (λ (ks : List Kept). Contains (map (λ (k : Kept). k.0) ks) seat) (sym same.joined) (all seat some (subst (λ (n : ℕ). seat < n) same.seats less))
+
+if_full : {P : Type 0} (why : Broken) → P → IfFull why P
+if_full broken.Full p = p
+if_full broken.NoMemory p = tt
+
+pub as_many : {A B : Type 0} (R : A → B → Type 0) (xs : List A) (ys : List B) → AllZip R xs ys → length xs ≡ length ys
+as_many R [] [] all = refl
+as_many R [] (y ∷ ys) all = absurd all
+as_many R (x ∷ xs) [] all = absurd all
+as_many R (x ∷ xs) (y ∷ ys) all = ap suc (as_many R xs ys all.1)
+
+-- no two workers of a phase are of one gateway
+are_apart : (workers : List Worker) → Apart workers → AreApart workers
+are_apart [] apart = tt
+are_apart (w ∷ workers) apart = (apart.0, are_apart workers apart.1)
+
+pub phase_apart : (setting : Setting) (number : ℕ) → AreApart (workers_of setting.script number)
+phase_apart setting number = are_apart (workers_of setting.script number) (apart_of setting number)
+
+within_some : (o : Option ℕ) (count : ℕ) → ((gateway : ℕ) → o ≡ Some gateway → gateway < count) → IfSome o (λ gateway. gateway < count)
+within_some None count less = tt
+within_some (Some gateway) count less = less gateway refl
+
+-- ---- the workers of a phase
+
+module _ (script : Script) (lawful : IsLawfulScript script) (place : ℕ) (phase : Phase) (at : slice_get script.phases place ≡ Some phase) where
+  abbrev gateways : ℕ
+  gateways = gateway_count script.gateways
+
+  pub moment_lawful : phase.moment.ms < 2 ^ 47
+  moment_lawful = (All-contains (IsLawfulPhase script.gateways script.blocks (length script.selectors)) script.phases phase (lawful.phases).each (contains_place script.phases place phase at)).moment
+
+  pub row : (splits : ℕ) → splits ≡ seats_before script place → AreInRow (splits + 1) (workers_of script place)
+  row splits is =
+      let inside = slice_get_within script.phases place phase at in
+      let taken : seats_before script place ≡ length (workers_before script place) = seats_taken script place phase lawful (omega (arith, inside)) in
+      subst (λ (n : ℕ). AreInRow (n + 1) (workers_of script place)) (sym (is ∙ taken)) (workers_in_row script place phase lawful at)
+
+  pub next_seats : (before after count : ℕ) → before ≡ seats_before script place → count ≡ length (workers_of script place) → after ≡ before + count → after ≡ seats_before script (place + 1)
+  next_seats before after count is counted sum =
+      let inside = slice_get_within script.phases place phase at in
+      let taken = seats_taken script place phase lawful (omega (arith, inside)) in
+      let more = seats_taken script (suc place) phase lawful (omega (arith, inside)) in
+      let both = length-append (workers_before script place) (workers_of script place) in
+      let one_more : suc place ≡ place + 1 = omega arith in
+      let next : seats_before script (suc place) ≡ seats_before script (place + 1) = ap (seats_before script) one_more in
+      omega (arith, taken, more, both, next, is, counted, sum)
+
+  pub few_seats : (before count : ℕ) → before ≡ seats_before script place → count ≡ length (workers_of script place) → before + count < 2 ^ 32
+  few_seats before count is counted =
+      let fit = room script place phase lawful at in
+      let same = (are_seated script place phase lawful at).count in
+      omega (arith, fit, same, is, counted)
+
+  -- a worker's gateway is one of the script's
+  gateway_of_hand : (h : Hand) (g : ℕ) → Contains (hands_of gateways phase.tasks) h → h ≡ hands.Gateway g → g < length script.gateways
+  gateway_of_hand h g among is =
+      let staff = is_staff gateways phase.tasks in
+      some_task (places_from gateways h 0 phase.tasks) (All-contains (λ (x : Hand). places_from gateways x 0 phase.tasks ≢ []) (hands_of gateways phase.tasks) h staff.needed among) (staff.places h).only
+    where
+      of_task : (spot : ℕ) → IsTaskOf gateways phase.tasks h spot → g < length script.gateways
+      of_task spot t = by_work (t.task).work t.whose (All-contains (λ (x : Task). IsLawfulWork script.gateways script.blocks (length script.selectors) x.work) phase.tasks t.task
+          (allowed script place phase lawful at) (contains_place phase.tasks spot t.task t.is))
+        where
+          by_work : (w : Work) → IsFor gateways h spot w → IsLawfulWork script.gateways script.blocks (length script.selectors) w → g < length script.gateways
+          by_work w (ships ulid stop one whose) may = absurd (cc (whose, is))
+          by_work w (syncs gateway one whose) may =
+              let same : gateway ≡ g = cc (whose, is) in
+              let less : gateway < length script.gateways = subst (IsLawfulWork script.gateways script.blocks (length script.selectors)) one may in
+              omega (arith, same, less)
+          by_work w (asks low high selector gateway one whose less) may = let same : gateway ≡ g = cc (whose, is) in omega (arith, same, less)
+
+      some_task : (places : List ℕ) → places ≢ [] → All (IsTaskOf gateways phase.tasks h) places → g < length script.gateways
+      some_task [] some only = absurd (some refl)
+      some_task (p ∷ places) some only = of_task p (All-head (IsTaskOf gateways phase.tasks h) p places only)
+
+-- ---- the phases behind a place
+
+module _ (script : Script) (place : ℕ) (phase : Phase) (at : slice_get script.phases place ≡ Some phase) where
+  abbrev own : Setting
+  own = setting_of script
+
+  abbrev front_phases : List Phase
+  front_phases = take place script.phases
+
+  long : length front_phases ≡ place
+  long = let inside = slice_get_within script.phases place phase at in length-take-le place script.phases (omega (arith, inside))
+
+  parts : script.phases ≡ front_phases ++ phase ∷ drop (place + 1) script.phases
+  parts = sym (take-append-drop place script.phases) ∙ ap (λ (l : List Phase). front_phases ++ l) (drop_place script.phases place phase at)
+
+  module _ (before : Known) (views : List (Option View)) (outcomes : List Outcome) (g : HasGone own before front_phases views outcomes) where
+    -- the phase was not begun
+    unbegun : (now : Known) (why : Broken) → KnowsPhases now g.passed → IfFull why (HasSeenFull now) → HasStopped own now outcomes why
+    unbegun now why knows full = record {
+      done = front_phases;
+      phase = phase;
+      left = drop (place + 1) script.phases;
+      phases = parts;
+      passed = g.passed;
+      held = g.held;
+      so_far = g.so_far;
+      came = if_full why g.came;
+      stands = inl (knows, full);
+    }
+
+    pub no_room : HasStopped own before outcomes broken.NoMemory
+    no_room = unbegun before broken.NoMemory g.knows tt
+
+    pub clock_full : (after : Known) → Acts before (Clock phase.moment) Full after → IsLater before after → HasStopped own after outcomes broken.Full
+    clock_full after acts later =
+        unbegun after broken.Full (knows_on before after g.passed (acts.own ∙ append-nil before.own) acts.same.joined later.front g.knows)
+        (acts.journal, ([], append-nil acts.journal ∙ sym acts.front), acts.full.0 refl)
+
+    pub clock_wanting : (after : Known) → Acts before (Clock phase.moment) NoMemory after → IsLater before after → HasStopped own after outcomes broken.NoMemory
+    clock_wanting after acts later = unbegun after broken.NoMemory (knows_on before after g.passed (acts.own ∙ append-nil before.own) acts.same.joined later.front g.knows) tt
+
+    pub clock_refused : (after : Known) (why : Broken) → IsClockSet phase before after (Err why) → IsLater before after → HasStopped own after outcomes why
+    clock_refused after broken.Full set later = clock_full after set later
+    clock_refused after broken.NoMemory set later = clock_wanting after set later
+
+  module _ (root : Pass) (views : List (Option View)) (outcomes : List Outcome) (g : HasGone own (view_of root) front_phases views outcomes) (first : root.seat ≡ 0) (set : Pass) (seen : Seen) (acts : Acts (view_of root) (Clock phase.moment) (Done seen) (view_of set)) where
+    begins : BeginsPhase phase (entry_of (view_of root).seat (Clock phase.moment) seen)
+    begins = record { seat = root.rests.sits ∙ first; sets = refl }
+
+    -- none of its workers was begun
+    pub idled : set.seat ≡ 0 → HasStopped own (view_of set) outcomes broken.NoMemory
+    idled sits =
+        let none : HasRun set set 0 [] = record {
+          table = refl;
+          root = sits;
+          splits = omega arith;
+          own = refl;
+          front = ([], append-nil (view_of set).front);
+          known = le_refl (view_of set).known;
+          joined = sym (append-nil (view_of set).joined);
+          tick = refl;
+        } in
+        record {
+          done = front_phases;
+          phase = phase;
+          left = drop (place + 1) script.phases;
+          phases = parts;
+          passed = g.passed;
+          held = g.held;
+          so_far = g.so_far;
+          came = tt;
+          stands = inr (inr (
+            refl,
+            record {
+              one = record { clock = entry_of (view_of root).seat (Clock phase.moment) seen; kept = [] };
+              begins = begins;
+              none = refl;
+              knows = knows_more {J = Post} {E = WorkerEnd} MayWork root set set (Clock phase.moment) seen 0 [] 1 [] [] g.passed g.knows acts none (omega arith) tt;
+            },
+          ));
+        }
+
+    module _ (bytes : List ℕ) (lawful : IsLawfulScript script) (spelled : script_of bytes ≡ Ok script) (splits : ℕ) (splits_are : splits ≡ seats_before script place) (workers : List Worker) (workers_are : workers ≡ workers_of script place) (posts : List Post) (sent : AllZip (IsPostOf bytes place g.held) workers posts)
+        (after : Pass) (count : ℕ) (kept : List Kept) (run : HasRun set after count kept) (others : List WorkerEnd) (runs : Runs MayWork (view_of set).known (view_of after).front (splits + 1) posts others kept) where
+      abbrev one : Passed
+      one = record { clock = entry_of (view_of root).seat (Clock phase.moment) seen; kept = kept }
+
+      ended : (ends : List (List End)) × (lasts : List Holding) × HaveEnded own phase.tasks g.held (view_of after).front workers kept others ends lasts
+      ended = have_ended script bytes place phase g.held spelled at (view_of set).known (view_of after).front (splits + 1) workers posts others kept sent (subst (AreInRow (splits + 1)) (sym workers_are) (row script lawful place phase at splits splits_are)) runs
+
+      -- by the number of the finished phases
+      have : HaveEnded own phase.tasks g.held (view_of after).front (workers_of script (length front_phases)) kept others ended.0 ended.1
+      have = subst (λ (ws : List Worker). HaveEnded own phase.tasks g.held (view_of after).front ws kept others ended.0 ended.1) (workers_are ∙ ap (workers_of script) (sym long)) ended.2
+
+      were : WereKept own phase.tasks g.held (workers_of script (length front_phases)) kept ended.0 ended.1 × (length ended.1 ≡ length (workers_of script (length front_phases)))
+      were = were_kept own phase.tasks g.held (view_of after).front (workers_of script (length front_phases)) kept others ended.0 ended.1 have
+
+      next : (holdings : Holdings) × AreLeft g.held (workers_of script (length front_phases)) ended.1 holdings × WasBegun own (length front_phases) phase g.held one ended.0 holdings
+      next = was_begun own (script_is_cut_well own) (length front_phases) phase g.held one ended.0 ended.1 begins were.0 were.1
+
+      left : AreLeft g.held workers ended.1 next.0
+      left = subst (λ (ws : List Worker). AreLeft g.held ws ended.1 next.0) (sym (workers_are ∙ ap (workers_of script) (sym long))) next.1
+
+      knows : KnowsPhases (view_of after) (g.passed ++ one ∷ [])
+      knows = knows_more {J = Post} {E = WorkerEnd} MayWork root set after (Clock phase.moment) seen count kept (splits + 1) posts others g.passed g.knows acts run (omega arith) runs
+
+      in_row : AreInRow (splits + 1) (workers_of script (length front_phases))
+      in_row = subst (λ (n : ℕ). AreInRow (splits + 1) (workers_of script n)) (sym long) (row script lawful place phase at splits splits_are)
+
+      broke : (why : Broken) (later : List Outcome) → IfFull why ((later ≡ outcomes) × ((end : WorkerEnd) × Contains others end × (end.came ≡ Err broken.Full))) → HasStopped own (view_of after) later why
+      broke broken.NoMemory later met = record {
+        done = front_phases;
+        phase = phase;
+        left = drop (place + 1) script.phases;
+        phases = parts;
+        passed = g.passed;
+        held = g.held;
+        so_far = g.so_far;
+        came = tt;
+        stands = inr (inl (record { one = one; begins = begins; others = others; ends = ended.0; lasts = ended.1; have = have; seat = splits + 1; row = in_row; knows = knows; met = tt }));
+      }
+      broke broken.Full later met = record {
+        done = front_phases;
+        phase = phase;
+        left = drop (place + 1) script.phases;
+        phases = parts;
+        passed = g.passed;
+        held = g.held;
+        so_far = g.so_far;
+        came = subst (λ (os : List Outcome). PhasesCame script 0 front_phases (g.so_far).told os) (sym met.0) g.came;
+        stands = inr (inl (record { one = one; begins = begins; others = others; ends = ended.0; lasts = ended.1; have = have; seat = splits + 1; row = in_row; knows = knows; met = met.1 }));
+      }
+
+      -- what the phase comes to, by what its workers' ends come to together
+      phase_came : (seen_then : List (Option View)) (later : List Outcome) (came : Result (Unit {0}) Broken) → length seen_then ≡ length views → Gathers own phase workers ended.0 others next.0 seen_then outcomes later came
+          → HasCome own (view_of after) (take (place + 1) script.phases) seen_then later came
+      phase_came seen_then later (Err why) each gathers = broke why later gathers
+      phase_came seen_then later (Ok done) each (all, sees, (own_outcomes, are, tasks)) =
+          let same : workers ≡ workers_of script (length front_phases) = workers_are ∙ ap (workers_of script) (sym long) in
+          subst (λ (ps : List Phase). HasGone own (view_of after) ps seen_then later) (sym (take_place script.phases place phase at))
+          (subst (λ (os : List Outcome). HasGone own (view_of after) (front_phases ++ phase ∷ []) seen_then os) (sym are)
+          (gone_more own (view_of root) (view_of after) front_phases views seen_then outcomes own_outcomes phase one ended.0 next.0 g next.2 (subst (λ (ws : List Worker). AreDone ws ended.0) same all) (subst (λ (ws : List Worker). TasksCame script ws ended.0 0 phase.tasks own_outcomes) same tasks) knows each sees))
+
+      pub phase_comes : (seen_then : List (Option View)) (later : List Outcome) (came : Result (Unit {0}) Broken) → length seen_then ≡ length views
+          → ((holdings : Holdings) (each : List (List End)) (lasts : List Holding) → HaveEnded own phase.tasks g.held (view_of after).front workers kept others each lasts → AreLeft g.held workers lasts holdings → Gathers own phase workers each others holdings seen_then outcomes later came)
+          → HasCome own (view_of after) (take (place + 1) script.phases) seen_then later came
+      phase_comes seen_then later came each gathers = phase_came seen_then later came each (gathers next.0 ended.0 ended.1 ended.2 left)
+
+-- ---- the jobs
+
+module _ (script : Script) (bytes : List ℕ) (lawful : IsLawfulScript script) (spelled : script_of bytes ≡ Ok script) (place : ℕ) (phase : Phase) (at : slice_get script.phases place ≡ Some phase) where
+  seats_of : (w : Worker) → Contains (workers_of script place) w → (h : Hand) × (n : ℕ) × Contains (hands_of (gateway_count script.gateways) phase.tasks) h × IsWorkerOf (gateway_count script.gateways) phase.tasks h n w
+  seats_of w among =
+      let s = are_seated script place phase lawful at in
+      let k = place_of_member (workers_of script place) w among in
+      let h = same_place (workers_of script place) (hands_of (gateway_count script.gateways) phase.tasks) k.0 w s.count k.1 in
+      (h.0, length (workers_before script place) + k.0 + 1, contains_place (hands_of (gateway_count script.gateways) phase.tasks) k.0 h.0 h.1, s.each k.0 h.0 w h.1 k.1)
+
+  each_worker : (P : Worker → Type 0) → ((w : Worker) → Contains (workers_of script place) w → P w) → (workers : List Worker) → workers ≡ workers_of script place → All P workers
+  each_worker P each workers are = subst (All P) (sym are) (All-from_recursion P (workers_of script place) (all_members P (workers_of script place) each))
+
+  has_tasks : (w : Worker) → Contains (workers_of script place) w → All (λ p. p < length phase.tasks) w.tasks
+  has_tasks w among =
+      let s = seats_of w among in
+      All-weaker (IsTaskOf (gateway_count script.gateways) phase.tasks s.0) (λ p. p < length phase.tasks) (λ p t. slice_get_within phase.tasks p t.task t.is) w.tasks ((s.3).places).only
+
+  pub within_tasks : (workers : List Worker) (tasks : List Task) → workers ≡ workers_of script place → tasks ≡ phase.tasks → All (λ (w : Worker). All (λ p. p < length tasks) w.tasks) workers
+  within_tasks workers tasks are same = subst (λ (ts : List Task). All (λ (w : Worker). All (λ p. p < length ts) w.tasks) workers) (sym same) (each_worker (λ (w : Worker). All (λ p. p < length phase.tasks) w.tasks) has_tasks workers are)
+
+  pub at_work : (workers : List Worker) → workers ≡ workers_of script place → All (IsAtWork bytes place) workers
+  at_work workers are = each_worker (IsAtWork bytes place) (λ w among. record { script = script; spelled = spelled; lawful = lawful; phase = phase; at = at; within = has_tasks w among }) workers are
+
+  pub within_gateways : (workers : List Worker) (count : ℕ) → workers ≡ workers_of script place → count ≡ length script.gateways → All (λ (w : Worker). IfSome w.gateway (λ gateway. gateway < count)) workers
+  within_gateways workers count are same = each_worker (λ (w : Worker). IfSome w.gateway (λ gateway. gateway < count))
+      (λ w among. let s = seats_of w among in within_some w.gateway count (λ g is.
+      let less = gateway_of_hand script lawful place phase at s.0 g s.2 (named s.0 g (sym (s.3).gateway ∙ is)) in
+      omega (arith, less, same))) workers are
+    where
+      named : (h : Hand) (g : ℕ) → gateway_of h ≡ Some g → h ≡ hands.Gateway g
+      named (hands.Upload p) g is = absurd (cc (is))
+      named (hands.Gateway other) g is = ap hands.Gateway (cc (is))
+
+runs_long : (above : ℕ) (front : List Entry) (seat : ℕ) (posts : List Post) (others : List WorkerEnd) (kept : List Kept) → Runs {J = Post} {E = WorkerEnd} MayWork above front seat posts others kept → length posts ≡ length others
+runs_long above front seat [] [] [] runs = refl
+runs_long above front seat [] [] (k ∷ kept) runs = absurd runs
+runs_long above front seat [] (o ∷ others) kept runs = absurd runs
+runs_long above front seat (p ∷ posts) [] kept runs = absurd runs
+runs_long above front seat (p ∷ posts) (o ∷ others) [] runs = absurd runs
+runs_long above front seat (p ∷ posts) (o ∷ others) (k ∷ kept) runs = ap suc (runs_long above front (seat + 1) posts others kept runs.1)
+
+pub ends_long : (bytes : List ℕ) (number : ℕ) (held : Holdings) (workers : List Worker) (above : ℕ) (front : List Entry) (seat : ℕ) (posts : List Post) (others : List WorkerEnd) (kept : List Kept) → AllZip (IsPostOf bytes number held) workers posts → Runs {J = Post} {E = WorkerEnd} MayWork above front seat posts others kept
+    → length workers ≡ length others
+ends_long bytes number held workers above front seat posts others kept sent runs = as_many (IsPostOf bytes number held) workers posts sent ∙ runs_long above front seat posts others kept runs
+
+pub workers_here : (script : Script) (place splits : ℕ) (staff workers : List Worker) → workers ≡ staff → staff ≡ workers_after script splits (slice_get script.phases place) → splits ≡ seats_before script place → workers ≡ workers_of script place
+workers_here script place splits staff workers same are is = same ∙ are ∙ ap (λ (n : ℕ). workers_after script n (slice_get script.phases place)) is
+
+pub always : {P : Type 0} (came : Result (Unit {0}) Broken) → P → OnOk came P
+always (Ok done) p = p
+always (Err why) p = tt

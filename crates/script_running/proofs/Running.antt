@@ -1,0 +1,61 @@
+-- A run beside, from an empty journal to the world that comes out again.
+use Rattle.std.proofs.Common.{◌≡◌, ℕ, ◌<◌, List, [], length, take, Contains, Option, None, Some, refl, sym, ◌∙◌, ap, subst, arith}
+use Rattle.std.specs.Prelude.{Ok, Err, Result, slice_get}
+use Rattle.std.specs.List.{All}
+use Rattle.list_core.proofs.Lists.{take_none}
+use Rattle.world_core.specs.Worlds.{IsJournal}
+use Rattle.world_core.specs.declared.entry.Entry.{Entry}
+use Rattle.world_turn.specs.Closing.{AllJoined, Closes}
+use Rattle.world_turn.specs.Rule.{root}
+use Rattle.world_turn.specs.declared.view.View.{View as Known}
+use Rattle.meta_fetcher.specs.declared.view.View.{View}
+use Rattle.script_workers.specs.Hands.{gateway_count, seats_from}
+use Rattle.script_workers.specs.declared.phase.Phase.{Phase}
+use Rattle.script_core.specs.Lawful.{IsLawfulScript}
+use Rattle.script_core.specs.Workers.{seats_before}
+use Rattle.script_core.specs.declared.script.Script.{Script}
+use Rattle.lifecycle_core.specs.Holdings.{none_held}
+use Rattle.lifecycle_core.specs.Phases.{by_script, by_workers}
+use Rattle.lifecycle_core.specs.Setting.{Setting, setting_of}
+use Rattle.lifecycle_core.specs.Ways.{PhasesRun}
+use Rattle.lifecycle_core.proofs.phases.FirstPhases.{no_phase}
+use Rattle.lifecycle_core.proofs.phases.Fronts.{script_is_cut_well}
+use Rattle.script_running.specs.Beside.{HasRunBeside}
+use Rattle.script_running.specs.Going.{HasCome, HasGone}
+use Rattle.script_running.specs.declared.came.Broken.{Broken}
+use Rattle.script_running.specs.declared.came.Broken.TheVariants as broken
+use Rattle.script_running.specs.declared.outcome.Outcome.{Outcome}
+use Rattle.script_running.proofs.Closing.{all_ran, all_stopped}
+use Rattle.script_running.proofs.Going.{gone_none}
+use Rattle.script_running.proofs.Taking.{at_place}
+
+-- no phase takes a seat
+pub none_before : (script : Script) → seats_before script 0 ≡ 0
+unfolding seats_from
+none_before script = ap (seats_from (gateway_count script.gateways) 0) (take_none script.phases)
+
+pub fresh_joined : (tick : ℕ) (known : Known) → known ≡ root tick → AllJoined known
+fresh_joined tick known is = subst AllJoined (sym is) (λ seat some less. absurd (omega (arith, some, less)))
+
+pub first_gone : (setting : Setting) (tick : ℕ) (known : Known) (views : List (Option View)) (outcomes : List Outcome) → known ≡ root tick → length views ≡ length setting.script.gateways → All (λ (view : Option View). view ≡ None) views → outcomes ≡ [] → HasGone setting known [] views outcomes
+first_gone setting tick known views outcomes is each none empty =
+    subst (HasGone setting known [] views) (sym empty) (gone_none setting tick known views is each (λ place view at. at_place (λ (view : Option View). view ≡ None) views place view none at))
+
+pub no_run : (setting : Setting) (tick : ℕ) (journal : List Entry) (outcomes : List Outcome) (came : Result (Unit {0}) Broken) → IsJournal tick journal → tick ≡ setting.script.rules.tick.ms → journal ≡ [] → outcomes ≡ [] → came ≡ Err broken.NoMemory → HasRunBeside setting journal outcomes came
+no_run setting tick journal outcomes came kept same none empty wanting =
+    subst (HasRunBeside setting journal outcomes) (sym wanting) (record {
+      ends = [];
+      run = record {
+        kept = subst (λ (t : ℕ). IsJournal t journal) same kept;
+        phases = subst (λ (es : List Entry). PhasesRun (by_workers setting) 0 none_held setting.script.phases es []) (sym none) (no_phase (by_workers setting) 0 none_held setting.script.phases);
+      };
+      turns = tt;
+      far = tt;
+    })
+
+pub run_came : (setting : Setting) (root : Known) (tick : ℕ) (journal : List Entry) (views : List (Option View)) (outcomes : List Outcome) (came : Result (Unit {0}) Broken) → IsLawfulScript setting.script → Closes root tick journal → AllJoined root → IsJournal tick journal → tick ≡ setting.script.rules.tick.ms
+    → HasCome setting root setting.script.phases views outcomes came → HasRunBeside setting journal outcomes came
+run_came setting root tick journal views outcomes (Ok done) lawful closes joined kept same come =
+    all_ran setting (script_is_cut_well setting) root tick journal closes joined (subst (λ (t : ℕ). IsJournal t journal) same kept) views outcomes come
+run_came setting root tick journal views outcomes (Err why) lawful closes joined kept same come =
+    all_stopped setting (script_is_cut_well setting) root tick journal closes joined (subst (λ (t : ℕ). IsJournal t journal) same kept) lawful outcomes why come

@@ -1,0 +1,18 @@
+use Rattle.std.proofs.Common.{◌≡◌, take}
+use Rattle.script_core.specs.Workers.{seats_before}
+use Rattle.lifecycle_core.specs.Setting.{setting_of}
+use Rattle.world_turn.specs.Closing.{AllJoined}
+use Rattle.world_turn.specs.Passes.{table_of, view_of}
+use Rattle.script_running.specs.Going.{HasGone}
+use Rattle.script_running.proofs.beside.run_phases.Given as goal
+
+-- the phases so far are finished
+abbrev pub invariant-loop-place : goal.invariant-loop-place
+invariant-loop-place g l = record {
+  table : table_of l.root ≡ table_of l.initial.root;
+  seat : l.root.seat ≡ 0;
+  tick : (view_of l.root).tick ≡ (view_of l.initial.root).tick;
+  seats : l.root.splits ≡ seats_before l.script l.place;
+  all : AllJoined (view_of l.root);
+  gone : HasGone (setting_of l.script) (view_of l.root) (take l.place l.script.phases) l.standing.views.items l.standing.outcomes;
+}

@@ -1,0 +1,16 @@
+use Rattle.std.proofs.Common.{◌≡◌, Option, List, length, drop}
+use Rattle.script_running.specs.declared.outcome.Outcome.{Outcome}
+use Rattle.meta_fetcher.specs.declared.view.View.{View}
+use Rattle.script_running.specs.Gathering.{AreTakenIn, HaveCome}
+use Rattle.script_running.proofs.gathering.take_in.Given as goal
+
+-- what takes in the rest takes them all in
+abbrev pub invariant-loop-end : goal.invariant-loop-end
+invariant-loop-end l = record {
+  number : l.number ≡ length l.yielded;
+  long : length l.views.items ≡ length l.initial.views.items;
+  wide : length l.slots.items ≡ length l.initial.slots.items;
+  come : HaveCome l.yielded l.came;
+  onward : (seen : List (Option View)) (new : List (Option Outcome)) → AreTakenIn (drop l.number l.workers) (drop l.number l.fn.ends.items) l.views.items seen l.slots.items new
+      → AreTakenIn l.workers l.fn.ends.items l.initial.views.items seen l.initial.slots.items new;
+}

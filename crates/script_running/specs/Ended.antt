@@ -1,0 +1,44 @@
+-- The workers of a phase, as they were sent and as they came back.
+use Rattle.std.specs.Prelude.{◌≡◌, ℕ, ◌+◌, List, [], ◌∷◌, Err}
+use mathlib.Core.List.{IsPrefix}
+use Rattle.world_core.specs.Keeping.{IsFull}
+use Rattle.world_core.specs.declared.entry.Entry.{Entry}
+use Rattle.script_workers.specs.declared.task.Task.{Task}
+use Rattle.script_workers.specs.declared.worker.Worker.{Worker}
+use Rattle.lifecycle_core.specs.Conducts.{who_of}
+use Rattle.lifecycle_core.specs.Holdings.{Holding, Holdings, holding_of}
+use Rattle.lifecycle_core.specs.Setting.{Setting}
+use Rattle.lifecycle_core.specs.Tasks.{End}
+use Rattle.script_running.specs.Begun.{WasKept}
+use Rattle.script_running.specs.Tasks.{Sees}
+use Rattle.script_running.specs.Workers.{AreOutcomes, IsBrokenOff, Post}
+use Rattle.script_running.specs.declared.came.Broken.TheVariants as broken
+use Rattle.script_running.specs.declared.worker.WorkerEnd.{WorkerEnd}
+
+-- a worker's job, by the script that these bytes spell, with the view of what its gateway holds
+pub record IsPostOf (bytes : List ℕ) (number : ℕ) (before : Holdings) (worker : Worker) (post : Post) : Type 0 where
+  pub text_is : post.text ≡ bytes
+  pub phase_is : post.phase ≡ number
+  pub worker_is : post.worker ≡ worker
+  pub sees : Sees (holding_of before worker.gateway) post.view
+
+-- the workers have the seats from one on
+abbrev pub AreInRow : ℕ → List Worker → Type 0
+AreInRow seat [] = Unit {0}
+AreInRow seat (worker ∷ workers) = (worker.seat ≡ seat) × AreInRow (seat + 1) workers
+
+-- A worker was joined. What was kept of its seat are its runs, and by them it came back so. Where the full journal broke it off, a
+-- front that the root has seen is full.
+pub record HasEnded (setting : Setting) (tasks : List Task) (before : Holdings) (front : List Entry) (worker : Worker) (kept : ℕ × List Entry) (end : WorkerEnd) (ends : List End) (last : Holding) : Type 0 where
+  pub was : WasKept setting tasks before worker kept ends last
+  pub outcomes : AreOutcomes was.own ends end.outcomes.items
+  pub sees : Sees last end.view
+  pub cut : IsBrokenOff setting (who_of worker) worker.seat (holding_of before worker.gateway) was.own kept.1 ends end.came
+  pub full : end.came ≡ Err broken.Full → (seen : List Entry) × IsPrefix seen front × IsFull seen
+
+-- worker by worker
+abbrev pub HaveEnded : Setting → List Task → Holdings → List Entry → List Worker → List (ℕ × List Entry) → List WorkerEnd → List (List End) → List Holding → Type 0
+HaveEnded setting tasks before front [] [] [] [] [] = Unit {0}
+HaveEnded setting tasks before front (worker ∷ workers) (kept ∷ more) (end ∷ others) (own ∷ ends) (last ∷ lasts) =
+    HasEnded setting tasks before front worker kept end own last × HaveEnded setting tasks before front workers more others ends lasts
+HaveEnded setting tasks before front workers kept others ends lasts = ⊥

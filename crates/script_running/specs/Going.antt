@@ -1,0 +1,98 @@
+-- How far a run beside has come, by what its root knows: between two phases, and where it broke off.
+use Rattle.std.specs.Prelude.{◌≡◌, ◌≢◌, ◌⊎◌, ◌+◌, ℕ, List, [], ◌∷◌, ◌++◌, length, Contains, Option, Result, Ok, Err}
+use mathlib.Core.List.{IsPrefix}
+use Rattle.world_core.specs.Keeping.{IsFull}
+use Rattle.world_core.specs.declared.entry.Entry.{Entry}
+use Rattle.world_core.specs.declared.acted.Acted.TheVariants as answer
+use Rattle.world_core.specs.declared.op.Op.TheVariants.{Clock}
+use Rattle.world_core.specs.declared.seen.Seen.{Seen}
+use Rattle.world_turn.specs.Turns.{Acts}
+use Rattle.world_turn.specs.declared.view.View.{View as Known}
+use Rattle.meta_fetcher.specs.declared.view.View.{View}
+use Rattle.script_core.specs.Workers.{workers_of}
+use Rattle.script_workers.specs.declared.phase.Phase.{Phase}
+use Rattle.lifecycle_core.specs.Holdings.{Holding, Holdings, none_held}
+use Rattle.lifecycle_core.specs.Phases.{by_workers}
+use Rattle.lifecycle_core.specs.Setting.{Setting}
+use Rattle.lifecycle_core.specs.Tasks.{End}
+use Rattle.lifecycle_core.specs.Ways.{AreFinished, BeginsPhase}
+use Rattle.script_running.specs.Begun.{WereBegun}
+use Rattle.script_running.specs.Beside.{AreSeen}
+use Rattle.script_running.specs.Cutting.{KnowsPhases, Passed}
+use Rattle.script_running.specs.Ended.{AreInRow, HaveEnded}
+use Rattle.script_running.specs.Outcomes.{PhasesCame}
+use Rattle.script_running.specs.declared.came.Broken.{Broken}
+use Rattle.script_running.specs.declared.came.Broken.TheVariants as broken
+use Rattle.script_running.specs.declared.outcome.Outcome.{Outcome}
+use Rattle.script_running.specs.declared.worker.WorkerEnd.{WorkerEnd}
+
+-- the clock was set to a phase's moment, or why it was not
+abbrev pub IsClockSet : Phase → Known → Known → Result (Unit {0}) Broken → Type 0
+IsClockSet phase before after (Ok done) = (seen : Seen) × Acts before (Clock phase.moment) (answer.Done seen) after
+IsClockSet phase before after (Err broken.Full) = Acts before (Clock phase.moment) answer.Full after
+IsClockSet phase before after (Err broken.NoMemory) = Acts before (Clock phase.moment) answer.NoMemory after
+
+-- These phases are finished. Gateways hold this now.
+pub record HasFinished (setting : Setting) (done : List Phase) (passed : List Passed) (held : Holdings) : Type 0 where
+  pub told : List (List (List End))
+  pub begun : WereBegun setting 0 none_held done passed told held
+  pub finished : AreFinished (by_workers setting) 0 done told
+
+-- Between two phases: the root knows the finished ones, and no other was begun. These are their outcomes, and each gateway's view
+-- is that of what it holds.
+pub record HasGone (setting : Setting) (root : Known) (done : List Phase) (views : List (Option View)) (outcomes : List Outcome) : Type 0 where
+  pub passed : List Passed
+  pub held : Holdings
+  pub so_far : HasFinished setting done passed held
+  pub knows : KnowsPhases root passed
+  pub came : PhasesCame setting.script 0 done so_far.told outcomes
+  pub each : length views ≡ length setting.script.gateways
+  pub seen : AreSeen held views
+
+-- a front that the root has seen is full
+abbrev pub HasSeenFull : Known → Type 0
+HasSeenFull root = (seen : List Entry) × IsPrefix seen root.front × IsFull seen
+
+-- what holds where the full journal broke a run off
+abbrev pub IfFull : Broken → Type 0 → Type 0
+IfFull broken.Full P = P
+IfFull broken.NoMemory P = Unit {0}
+
+-- The phase behind the finished ones was begun. If the full journal broke it off, a worker met it.
+pub record HasBrokenOff (setting : Setting) (root : Known) (done : List Phase) (passed : List Passed) (held : Holdings) (phase : Phase) (why : Broken) : Type 0 where
+  pub one : Passed
+  pub begins : BeginsPhase phase one.clock
+  pub others : List WorkerEnd
+  pub ends : List (List End)
+  pub lasts : List Holding
+  pub have : HaveEnded setting phase.tasks held root.front (workers_of setting.script (length done)) one.kept others ends lasts
+  pub seat : ℕ
+  pub row : AreInRow seat (workers_of setting.script (length done))
+  pub knows : KnowsPhases root (passed ++ one ∷ [])
+  pub met : IfFull why ((end : WorkerEnd) × Contains others end × (end.came ≡ Err broken.Full))
+
+-- The phase behind the finished ones was begun, and none of its workers.
+pub record HasIdled (setting : Setting) (root : Known) (passed : List Passed) (phase : Phase) : Type 0 where
+  pub one : Passed
+  pub begins : BeginsPhase phase one.clock
+  pub none : one.kept ≡ []
+  pub knows : KnowsPhases root (passed ++ one ∷ [])
+
+-- A run that broke off behind some finished phases: at the next one's clock, or within it. If the full journal broke it off, these are
+-- the outcomes of the finished phases.
+pub record HasStopped (setting : Setting) (root : Known) (outcomes : List Outcome) (why : Broken) : Type 0 where
+  pub done : List Phase
+  pub phase : Phase
+  pub left : List Phase
+  pub phases : setting.script.phases ≡ done ++ phase ∷ left
+  pub passed : List Passed
+  pub held : Holdings
+  pub so_far : HasFinished setting done passed held
+  pub came : IfFull why (PhasesCame setting.script 0 done so_far.told outcomes)
+  pub stands : (KnowsPhases root passed × IfFull why (HasSeenFull root))
+      ⊎ (HasBrokenOff setting root done passed held phase why ⊎ ((why ≡ broken.NoMemory) × HasIdled setting root passed phase))
+
+-- what a run of these phases comes to, by what broke it off
+abbrev pub HasCome : Setting → Known → List Phase → List (Option View) → List Outcome → Result (Unit {0}) Broken → Type 0
+HasCome setting root done views outcomes (Ok none) = HasGone setting root done views outcomes
+HasCome setting root done views outcomes (Err why) = HasStopped setting root outcomes why

@@ -1,0 +1,232 @@
+//! A script's phases one after another, each with a thread for each of its workers.
+
+ghost use Rattle.std.specs.Prelude.{◌≡◌, ◌+◌, ◌<◌, ◌^◌, [], None, Ok, Err, Some, IfOk, OnOk, length, slice_get, take};
+ghost use Rattle.std.specs.List.{All};
+ghost use Rattle.script_core.specs.Lawful.{IsLawfulScript};
+ghost use Rattle.script_core.specs.Reading.{script_of};
+ghost use Rattle.script_core.specs.Workers.{seats_before};
+ghost use Rattle.lifecycle_core.specs.Setting.{setting_of};
+ghost use Rattle.script_running.specs.Beside.{HasRunBeside};
+ghost use Rattle.script_running.specs.Going.{HasCome, HasGone, IsClockSet};
+ghost use Rattle.world_turn.specs.Closing.{AllJoined};
+ghost use Rattle.world_turn.specs.Passes.{table_of, view_of};
+ghost use Rattle.world_turn.specs.Turns.{IsLater, IsSame};
+
+use crate::gathering::{gather, jobs_of};
+use crate::{Broken, OutcomeList};
+use bucket_core::Bucket;
+use list_core::NoMemory;
+use meta_fetcher::View;
+use phase_runner::{Gate, run_phase};
+use script_core::{Phase, Script};
+use std::alloc::Global;
+use std::sync::Wait;
+use std::thread::Threads;
+use world_core::{Acted, Op, World};
+use world_turn::{Pass, Shared};
+
+/// How a run came out.
+#[derive(Drop)]
+pub struct RunEnd {
+    /// How the tasks of the finished phases came out, in the order of their lines.
+    pub outcomes: OutcomeList,
+    /// What broke the run off, if anything did.
+    pub came: Result<(), Broken>,
+}
+
+/// What stays from one phase to the next.
+#[derive(Drop)]
+struct Standing {
+    /// What each gateway sees.
+    views: Vec<Option<View>>,
+    outcomes: OutcomeList,
+}
+
+/// Runs a script over a world: each phase's workers beside each other, and the phases one after another. No phase is begun
+/// after one that broke off.
+pub fn run_beside<B: Bucket + Send, G: Gate + Sync, R: Threads + Wait + Sync>(
+    rt: &R,
+    alloc: Global,
+    script: &Script,
+    text: &[u8],
+    world: World<B>,
+    gate: &G,
+) -> (RunEnd, World<B>)
+    requires lawful { IsLawfulScript script.now }
+    requires spelled { script_of text.now ≡ Ok script.now }
+    requires fresh { world.journal ≡ [] }
+    requires tick { world.tick ≡ script.now.rules.tick.ms }
+    ensures ran { HasRunBeside (setting_of script.now) result.1.journal result.0.outcomes
+        result.0.came }
+    ensures tick { result.1.tick ≡ world.tick }
+{
+    // what every world keeps, as this one does
+    let _before = world.journal();
+    let Ok(mut standing) = Standing::new(alloc, script) else {
+        return (without_memory(alloc), world);
+    };
+    match Shared::open(alloc, world) {
+        Ok((shared, root)) => {
+            let (came, root) = run_phases(
+                rt,
+                alloc,
+                script,
+                text,
+                &shared,
+                root,
+                gate,
+                &mut standing,
+            );
+            let world = shared.close(root);
+            let _after = world.journal();
+            let outcomes = standing.outcomes;
+            (RunEnd { outcomes, came }, world)
+        }
+        Err((NoMemory, world)) => (without_memory(alloc), world),
+    }
+}
+
+/// Nothing was run.
+fn without_memory(alloc: Global) -> RunEnd
+    ensures { (result.outcomes ≡ []) × (result.came ≡ Err Broken.NoMemory) }
+{
+    RunEnd {
+        outcomes: OutcomeList::new(alloc),
+        came: Err(Broken::NoMemory),
+    }
+}
+
+impl Standing {
+    /// No gateway has synced, and nothing was done.
+    fn new(alloc: Global, script: &Script) -> Result<Standing, NoMemory>
+        ensures each { IfOk result
+            (λ standing. length standing.views.items ≡ length script.now.gateways) }
+        ensures unseen { IfOk result
+            (λ standing. All (λ view. view ≡ None) standing.views.items) }
+        ensures empty { IfOk result (λ standing. standing.outcomes ≡ []) }
+    {
+        let mut views = Vec::new(alloc);
+        for _ in 0..script.gateways.len() {
+            views.push(None)?;
+        }
+        Ok(Standing {
+            views,
+            outcomes: OutcomeList::new(alloc),
+        })
+    }
+}
+
+/// Does the phases one after another, up to one that breaks off.
+fn run_phases<B: Bucket + Send, G: Gate + Sync, R: Threads + Wait + Sync>(
+    rt: &R,
+    alloc: Global,
+    script: &Script,
+    text: &[u8],
+    shared: &Shared<B>,
+    root: Pass,
+    gate: &G,
+    standing: &mut Standing,
+) -> (Result<(), Broken>, Pass)
+    requires lawful { IsLawfulScript script.now }
+    requires spelled { script_of text.now ≡ Ok script.now }
+    requires own { (table_of root ≡ shared.now.table.shared.table_id) × (root.seat ≡ 0) }
+    requires seats { root.splits ≡ seats_before script.now 0 }
+    requires all { AllJoined (view_of root) }
+    requires gone { HasGone (setting_of script.now) (view_of root) [] standing.old.views.items
+        standing.old.outcomes }
+    ensures pass { (table_of result.1 ≡ table_of root) × (result.1.seat ≡ 0) }
+    ensures tick { (view_of result.1).tick ≡ (view_of root).tick }
+    ensures all { AllJoined (view_of result.1) }
+    ensures came { HasCome (setting_of script.now) (view_of result.1) script.now.phases
+        standing.new.views.items standing.new.outcomes result.0 }
+{
+    let mut root = root;
+    for (place, phase) in script.phases.members().iter().enumerate() {
+        let (came, next) = phase_beside(
+            rt, alloc, script, text, shared, root, gate, place, phase, standing,
+        );
+        root = next;
+        if let Err(broken) = came {
+            return (Err(broken), root);
+        }
+    }
+    (Ok(()), root)
+}
+
+/// Sets the clock, and has the phase's workers do their tasks.
+fn phase_beside<B: Bucket + Send, G: Gate + Sync, R: Threads + Wait + Sync>(
+    rt: &R,
+    alloc: Global,
+    script: &Script,
+    text: &[u8],
+    shared: &Shared<B>,
+    root: Pass,
+    gate: &G,
+    place: usize,
+    phase: &Phase,
+    standing: &mut Standing,
+) -> (Result<(), Broken>, Pass)
+    requires lawful { IsLawfulScript script.now }
+    requires spelled { script_of text.now ≡ Ok script.now }
+    requires at { slice_get script.now.phases place ≡ Some phase.now }
+    requires own { (table_of root ≡ shared.now.table.shared.table_id) × (root.seat ≡ 0) }
+    requires seats { root.splits ≡ seats_before script.now place }
+    requires all { AllJoined (view_of root) }
+    requires gone { HasGone (setting_of script.now) (view_of root) (take place script.now.phases)
+        standing.old.views.items standing.old.outcomes }
+    ensures pass { (table_of result.1 ≡ table_of root) × (result.1.seat ≡ 0) }
+    ensures tick { (view_of result.1).tick ≡ (view_of root).tick }
+    ensures seats { OnOk result.0 (result.1.splits ≡ seats_before script.now (place + 1)) }
+    ensures all { AllJoined (view_of result.1) }
+    ensures came { HasCome (setting_of script.now) (view_of result.1)
+        (take (place + 1) script.now.phases) standing.new.views.items standing.new.outcomes result.0 }
+{
+    let Ok(staff) = script.workers_after(alloc, place, root.splits()) else {
+        return (Err(Broken::NoMemory), root);
+    };
+    let workers = staff.members();
+    let Ok(jobs) = jobs_of(alloc, text, place, workers, &mut standing.views) else {
+        return (Err(Broken::NoMemory), root);
+    };
+    let (begun, root) = begin_phase(rt, shared, root, phase);
+    if let Err(broken) = begun {
+        return (Err(broken), root);
+    }
+    let end = run_phase(rt, alloc, shared, root, jobs, gate);
+    if end.memory {
+        return (Err(Broken::NoMemory), end.root);
+    }
+    let came = gather(
+        alloc,
+        phase.tasks.members(),
+        workers,
+        end.ends,
+        &mut standing.views,
+        &mut standing.outcomes,
+    );
+    (came, end.root)
+}
+
+/// Sets the clock to the moment of the phase.
+fn begin_phase<B: Bucket, R: Wait>(
+    rt: &R,
+    shared: &Shared<B>,
+    root: Pass,
+    phase: &Phase,
+) -> (Result<(), Broken>, Pass)
+    requires own { table_of root ≡ shared.now.table.shared.table_id }
+    requires moment { phase.now.moment.ms < 2 ^ 47 }
+    ensures pass { (table_of result.1 ≡ table_of root) × (result.1.seat ≡ root.seat)
+        × (result.1.splits ≡ root.splits) }
+    ensures clock { IsClockSet phase.now (view_of root) (view_of result.1) result.0 }
+    ensures same { IsSame (view_of root) (view_of result.1) }
+    ensures later { IsLater (view_of root) (view_of result.1) }
+{
+    let (acted, root) = shared.act(rt, root, Op::Clock(phase.moment));
+    let begun = match acted {
+        Acted::Done(_) => Ok(()),
+        Acted::Full => Err(Broken::Full),
+        Acted::NoMemory => Err(Broken::NoMemory),
+    };
+    (begun, root)
+}
