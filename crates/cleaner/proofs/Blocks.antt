@@ -1,5 +1,5 @@
 -- What pages of the names of blocks, and reads of their marks and metas, lead to.
-use Rattle.std.proofs.Common.{◌≡◌, ℕ, suc, ◌+◌, ◌*◌, ◌-◌, ◌^◌, ◌<◌, ◌≤◌, Bool, true, false, List, [], ◌∷◌, ◌++◌, length, min, refl, sym, ◌∙◌, ap, subst, Option, Some, None, Result, arith, length-append}
+use Rattle.std.proofs.Common.{◌≡◌, ℕ, suc, ◌+◌, ◌*◌, ◌-◌, ◌^◌, ◌<◌, ◌≤◌, Bool, true, false, List, [], ◌∷◌, ◌++◌, length, min, sym, ◌∙◌, ap, subst, Option, Some, None, Result, arith, length-append}
 use Rattle.std.specs.Result.{result_ok}
 use Rattle.std.proofs.lemmas.List.Elements.{filter_map-append}
 use Rattle.list_core.specs.declared.memory.NoMemory.{NoMemory}
@@ -17,7 +17,7 @@ use Rattle.world_core.specs.declared.act.Act.{Act}
 use Rattle.cleaner.specs.Marks.{block_mark, is_old_mark, is_old_block}
 use Rattle.cleaner.specs.Pages.{page_of}
 use Rattle.cleaner.specs.Cleanings.{Counts, if_mark, reads_meta, deletion, looking, none_deleted, one_block_more, ulids_in, listing}
-use Rattle.cleaner.specs.CleanStates.{AreBlocks, CanCount, Onward, Leads, counts_of, blocks_left, blocks_after_partial, may_at, goes_after, goes_by_blocks, goes_to_blocks, goes_to_delete}
+use Rattle.cleaner.specs.CleanStates.{AreBlocks, Onward, Leads, counts_of, blocks_left, blocks_after_partial, may_at, goes_after, goes_by_blocks, goes_to_blocks}
 use Rattle.cleaner.specs.declared.page.Page.{Page}
 use Rattle.cleaner.specs.declared.page.Page.TheVariants as page_is
 use Rattle.cleaner.specs.declared.stage.Stage.TheVariants.{Listing, Marking, Reading}

@@ -6,18 +6,17 @@ use Rattle.block_keys.specs.declared.key.Key.{Key}
 use Rattle.block_keys.specs.declared.key.Key.TheVariants as key
 use Rattle.std.specs.Prelude.{IsSomeAnd}
 use Rattle.world_core.specs.Operations.{IsAnswer, entry_of}
-use Rattle.world_core.specs.Plans.{Plan, Runs, ends, after_delete}
+use Rattle.world_core.specs.Plans.{Runs, ends, after_delete}
 use Rattle.world_core.specs.Walks.{last_listed}
 use Rattle.world_core.specs.declared.op.Op.{Op}
-use Rattle.world_core.specs.declared.reply.Reply.{Reply}
 use Rattle.world_core.specs.declared.reply.Reply.TheVariants as reply
 use Rattle.world_core.specs.declared.seen.Seen.{Seen}
 use Rattle.world_core.specs.declared.entry.Entry.{Entry}
 use Rattle.world_core.specs.declared.act.Act.{Act}
 use Rattle.cleaner.specs.Objects.{data_named, data_keys, objects_of}
 use Rattle.cleaner.specs.Pages.{page_of}
-use Rattle.cleaner.specs.Cleanings.{deleting, walking, deletion}
-use Rattle.cleaner.specs.CleanStates.{AreObjects, CanCount, Onward, Leads, blocks_left, may_at, goes_after, goes_by_objects, goes_to_blocks, goes_to_delete, goes_to_objects, goes_to_deletes, first_delete, after_entry, asked_at, asked_clean}
+use Rattle.cleaner.specs.Cleanings.{deleting, walking}
+use Rattle.cleaner.specs.CleanStates.{AreObjects, CanCount, Onward, Leads, blocks_left, goes_after, goes_by_objects, goes_to_blocks, goes_to_delete, goes_to_objects, goes_to_deletes, first_delete, after_entry, asked_at, asked_clean}
 use Rattle.cleaner.specs.declared.page.Page.{Page}
 use Rattle.cleaner.specs.declared.page.Page.TheVariants as page_is
 use Rattle.cleaner.specs.declared.stage.Stage.TheVariants.{Walking, Deleting}

@@ -1,9 +1,9 @@
 -- Keys by the names of their objects, and lawful keys.
-use Rattle.std.proofs.Common.{Bor, ◌≡◌, ℕ, ◌+◌, ◌≤◌, Bool, true, false, not, Option, None, Some, Ok, Err, Result, cond, eqb, List, [], ◌∷◌, ◌++◌, map, length, take, drop, refl, sym, ap, subst, ◌∙◌, codes, append_assoc, length-append, arith}
+use Rattle.std.proofs.Common.{Bor, ◌≡◌, ℕ, ◌+◌, true, false, not, Option, None, Some, Ok, Err, Result, cond, eqb, List, [], ◌∷◌, ◌++◌, map, length, take, drop, refl, sym, ap, subst, ◌∙◌, codes, append_assoc, length-append, arith}
 use Rattle.std.specs.Prelude.{nat_le, IfSome, IfOk, MatchOption}
 use Rattle.std.specs.Option.{option_copied}
 use Rattle.std.specs.Slice.{IsItemAt}
-use Rattle.std.specs.List.{before_first, after_first, position_or_len, list_all}
+use Rattle.std.specs.List.{before_first, after_first, position_or_len}
 use Rattle.std.specs.Result.{result_ok}
 use Rattle.std.specs.Int.Digits.{AllBelowBase}
 use Rattle.std.proofs.Math.Numerals.{one-add}
@@ -11,7 +11,6 @@ use Rattle.std.proofs.Math.Seq.{take-append_seam, drop-append_seam}
 use Rattle.std.proofs.lemmas.Bool.{and_from, and_parts, le-leb, leb-true}
 use Rattle.std.proofs.lemmas.Bool.Decides.{nat_tests}
 use Rattle.std.proofs.lemmas.List.{length-map}
-use Rattle.std.proofs.lemmas.List.Folds.{list_all-append}
 use Rattle.ulid_core.specs.UlidText.{IsUlidText, text_of, ulid_of, character}
 use Rattle.ulid_core.proofs.Tables.{character-range}
 use Rattle.ulid_core.proofs.UlidLaws.{ulid_of-only}
@@ -19,7 +18,7 @@ use Rattle.block_keys.specs.Keys.{IsLawfulKey}
 use Rattle.block_keys.specs.KeyText.{key_named, key_within, key_of, is_slash}
 use Rattle.block_keys.specs.declared.key.Key.{Key}
 use Rattle.block_keys.specs.declared.key.Key.TheVariants.{Meta, Index, Segment, Mark}
-use Rattle.cleaner.specs.Objects.{only_data, data_named, is_lawful_key, have_lawful_keys}
+use Rattle.cleaner.specs.Objects.{only_data, is_lawful_key, have_lawful_keys}
 
 -- ---- names
 

@@ -6,9 +6,7 @@ use Rattle.std.specs.List.{last_or, cons_option, filter_map}
 use Rattle.std.specs.Result.{result_ok}
 use Rattle.std.proofs.lemmas.List.Elements.{filter_map-append}
 use Rattle.std.proofs.lemmas.List.{take_more}
-use Rattle.ulid_core.specs.UlidText.{ulid_of}
 use Rattle.world_core.specs.Walks.{last_listed}
-use Rattle.cleaner.specs.Cleanings.{ulids_in}
 
 -- ---- what is found among names
 

@@ -1,7 +1,7 @@
-use Rattle.std.proofs.Common.{◌∙◌, sym, ap}
+use Rattle.std.proofs.Common.{◌∙◌, ap}
 use Rattle.block_keys.specs.KeyText.{key_of}
 use Rattle.cleaner.specs.Objects.{only_data}
-use Rattle.cleaner.proofs.Keys.{key_of_name, lawful_data}
+use Rattle.cleaner.proofs.Keys.{key_of_name}
 use Rattle.cleaner.proofs.objects.data_key.Goals as goal
 
 pub returns-clause-value : goal.returns-clause-value

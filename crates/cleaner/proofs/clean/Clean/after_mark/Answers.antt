@@ -1,7 +1,7 @@
 use Rattle.std.proofs.Common.{◌∙◌, sym, ap, option_map}
 use Rattle.block_meta.specs.MetaFields.{mark_fields_of}
 use Rattle.cleaner.specs.Marks.{block_mark}
-use Rattle.cleaner.proofs.Blocks.{mark_failed, mark_refused, mark_absent, mark_young, mark_old}
+use Rattle.cleaner.proofs.Blocks.{mark_absent, mark_old}
 use Rattle.cleaner.proofs.clean.Clean.after_mark.Goals as goal
 
 pub returns-then-is_old_mark-clause-leads : goal.returns-then-is_old_mark-clause-leads

@@ -1,5 +1,5 @@
 use Rattle.std.proofs.Common.{◌∙◌, sym}
-use Rattle.cleaner.proofs.Blocks.{meta_failed, meta_found, partial_young, partial_old}
+use Rattle.cleaner.proofs.Blocks.{partial_old}
 use Rattle.cleaner.proofs.clean.Clean.after_meta.Goals as goal
 
 pub returns-then-is_old_block-clause-leads : goal.returns-then-is_old_block-clause-leads

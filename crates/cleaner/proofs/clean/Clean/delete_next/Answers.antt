@@ -1,4 +1,4 @@
-use Rattle.std.proofs.Common.{refl, sym, ap, []}
+use Rattle.std.proofs.Common.{ap, []}
 use Rattle.cleaner.specs.CleanStates.{goes_to_deletes, first_delete}
 use Rattle.cleaner.proofs.Deletions.{no_object}
 use Rattle.cleaner.proofs.Keys.{lawful_first}

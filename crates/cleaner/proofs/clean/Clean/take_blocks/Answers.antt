@@ -1,4 +1,4 @@
-use Rattle.std.proofs.Common.{◌∙◌, refl, sym, ap, Ok}
+use Rattle.std.proofs.Common.{◌∙◌, sym, ap, Ok}
 use Rattle.cleaner.specs.CleanStates.{goes_by_blocks}
 use Rattle.cleaner.proofs.Blocks.{blocks_unordered, blocks_too_many, blocks_last, blocks_full, blocks_last_falls, blocks_full_falls}
 use Rattle.cleaner.proofs.Steps.{falls_more, leads_as}

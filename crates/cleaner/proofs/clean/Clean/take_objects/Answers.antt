@@ -1,4 +1,4 @@
-use Rattle.std.proofs.Common.{◌∙◌, refl, sym, ap, Ok}
+use Rattle.std.proofs.Common.{◌∙◌, sym, ap, Ok}
 use Rattle.cleaner.specs.CleanStates.{goes_by_objects}
 use Rattle.cleaner.proofs.Deletions.{objects_unordered, objects_too_many, objects_last, objects_full, objects_last_falls, objects_full_falls}
 use Rattle.cleaner.proofs.Steps.{falls_more, leads_as}
