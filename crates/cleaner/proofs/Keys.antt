@@ -1,0 +1,105 @@
+-- Keys by the names of their objects, and lawful keys.
+use Rattle.std.proofs.Common.{Bor, ◌≡◌, ℕ, ◌+◌, true, false, not, Option, None, Some, Ok, Err, Result, cond, eqb, List, [], ◌∷◌, ◌++◌, map, length, take, drop, refl, sym, ap, subst, ◌∙◌, codes, append_assoc, length-append, arith}
+use Rattle.std.specs.Prelude.{nat_le, IfSome, IfOk, MatchOption}
+use Rattle.std.specs.Option.{option_copied}
+use Rattle.std.specs.Slice.{IsItemAt}
+use Rattle.std.specs.List.{before_first, after_first, position_or_len}
+use Rattle.std.specs.Result.{result_ok}
+use Rattle.std.specs.Int.Digits.{AllBelowBase}
+use Rattle.std.proofs.Math.Numerals.{one-add}
+use Rattle.std.proofs.Math.Seq.{take-append_seam, drop-append_seam}
+use Rattle.std.proofs.lemmas.Bool.{and_from, and_parts, le-leb, leb-true}
+use Rattle.std.proofs.lemmas.Bool.Decides.{nat_tests}
+use Rattle.std.proofs.lemmas.List.{length-map}
+use Rattle.ulid_core.specs.UlidText.{IsUlidText, text_of, ulid_of, character}
+use Rattle.ulid_core.proofs.Tables.{character-range}
+use Rattle.ulid_core.proofs.UlidLaws.{ulid_of-only}
+use Rattle.block_keys.specs.Keys.{IsLawfulKey}
+use Rattle.block_keys.specs.KeyText.{key_named, key_within, key_of, is_slash}
+use Rattle.block_keys.specs.declared.key.Key.{Key}
+use Rattle.block_keys.specs.declared.key.Key.TheVariants.{Meta, Index, Segment, Mark}
+use Rattle.cleaner.specs.Objects.{only_data, is_lawful_key, have_lawful_keys}
+
+-- ---- names
+
+before_slash : (digits name : List ℕ) → AllBelowBase 32 digits → position_or_len is_slash (map character digits ++ (47 ∷ name)) ≡ length digits
+before_slash [] name all = refl
+before_slash (d ∷ digits) name all =
+    let range = character-range d all.0 in
+    let other : eqb (character d) 47 ≡ false = grind (arith, nat_tests) in
+    ap (λ b. cond (not b) (1 + position_or_len is_slash (map character digits ++ (47 ∷ name))) 0) other
+    ∙ ap (λ n. 1 + n) (before_slash digits name all.1) ∙ one-add (length digits)
+
+cut : (digits name : List ℕ) → AllBelowBase 32 digits
+    → (before_first is_slash ((map character digits ++ codes "/") ++ name) ≡ map character digits) × (after_first is_slash ((map character digits ++ codes "/") ++ name) ≡ name)
+cut digits name all =
+    let text : List ℕ = (map character digits ++ codes "/") ++ name in
+    let split : text ≡ map character digits ++ (47 ∷ name) = append_assoc (map character digits) (47 ∷ []) name in
+    let place : position_or_len is_slash text ≡ length (map character digits) =
+    ap (position_or_len is_slash) split ∙ before_slash digits name all ∙ sym (length-map digits character) in
+    let longer : length (map character digits) + 1 ≡ length (map character digits ++ codes "/") = sym (length-append (map character digits) (47 ∷ [])) in (
+      ap (λ k. take k text) place ∙ ap (take (length (map character digits))) split ∙ take-append_seam (map character digits) (47 ∷ name),
+      ap (λ k. drop (k + 1) text) place ∙ ap (λ k. drop k text) longer ∙ drop-append_seam (map character digits ++ codes "/") name,
+    )
+
+-- the text of a block's name is that of the key with the name
+pub key_of_name : (ulid : ℕ) (name : List ℕ) → IsUlidText (text_of ulid) ulid → key_of (text_of ulid ++ codes "/" ++ name) ≡ key_named ulid name
+unfolding key_of
+key_of_name ulid name block =
+    let parts = cut block.digits name block.below_base in
+    let whole : text_of ulid ++ codes "/" ++ name ≡ (map character block.digits ++ codes "/") ++ name = ap (λ b. (b ++ codes "/") ++ name) block.characters in
+    let read : ulid_of (map character block.digits) ≡ Ok ulid = ap ulid_of (sym block.characters) ∙ ulid_of-only (text_of ulid) ulid block in
+    ap (λ t. key_within (ulid_of (before_first is_slash t)) (after_first is_slash t)) whole
+    ∙ ap (λ b. key_within (ulid_of b) (after_first is_slash ((map character block.digits ++ codes "/") ++ name))) parts.0
+    ∙ ap (λ r. key_within r (after_first is_slash ((map character block.digits ++ codes "/") ++ name))) read
+    ∙ ap (key_named ulid) parts.1
+
+-- ---- lawful keys
+
+lawful_test : (k : Key) → IsLawfulKey k → is_lawful_key k ≡ true
+lawful_test (Segment ulid number) is = and_from (nat_le 1 number) (nat_le number 999_999) (le-leb 1 number is.0) (le-leb number 999_999 is.1)
+lawful_test (Meta ulid) is = refl
+lawful_test (Index ulid) is = refl
+lawful_test (Mark ulid) is = refl
+
+lawful_key : (k : Key) → is_lawful_key k ≡ true → IsLawfulKey k
+lawful_key (Segment ulid number) e =
+    let parts : _ = and_parts (nat_le 1 number) (nat_le number 999_999) e in (leb-true 1 number parts.0, leb-true number 999_999 parts.1)
+lawful_key (Meta ulid) e = tt
+lawful_key (Index ulid) e = tt
+lawful_key (Mark ulid) e = tt
+
+-- what is read is lawful
+pub lawful_data : {E : Type 0} (r : Result Key E) → IfOk r IsLawfulKey → IfSome (only_data (result_ok r)) (λ k. is_lawful_key k ≡ true)
+lawful_data (Ok (Segment ulid number)) is = lawful_test (Segment ulid number) is
+lawful_data (Ok (Index ulid)) is = refl
+lawful_data (Ok (Meta ulid)) is = tt
+lawful_data (Ok (Mark ulid)) is = tt
+lawful_data (Err e) is = tt
+
+-- with one more
+pub lawful_more : (keys : List Key) (k : Key) → have_lawful_keys keys ≡ true → is_lawful_key k ≡ true → have_lawful_keys (keys ++ k ∷ []) ≡ true
+lawful_more [] k all one = and_from (is_lawful_key k) true one refl
+lawful_more (key ∷ keys) k all one =
+    let parts = and_parts (is_lawful_key key) (have_lawful_keys keys) all in
+    and_from (is_lawful_key key) (have_lawful_keys (keys ++ k ∷ [])) parts.0 (lawful_more keys k parts.1 one)
+
+-- the first of them
+pub lawful_first : (objects : List Key) (object : Key) → have_lawful_keys objects ≡ true → objects ≡ object ∷ drop 1 objects → IsLawfulKey object
+lawful_first objects object lawful is =
+    lawful_key object (and_parts (is_lawful_key object) (have_lawful_keys (drop 1 objects)) (ap have_lawful_keys (sym is) ∙ lawful)).0
+
+-- and the others
+pub lawful_others : (objects : List Key) → have_lawful_keys objects ≡ true → have_lawful_keys (drop 1 objects) ≡ true
+lawful_others [] lawful = refl
+lawful_others (object ∷ objects) lawful = (and_parts (is_lawful_key object) (have_lawful_keys objects) lawful).1
+
+-- the first one that is lent
+pub first_lent : (objects : List Key) (lent : Option (Bor Key)) → IsItemAt objects 0 lent → MatchOption (option_copied lent) (objects ≡ []) (λ object. objects ≡ object ∷ drop 1 objects)
+first_lent [] None item = refl
+first_lent (object ∷ objects) None item = absurd (omega (arith, item.3))
+first_lent [] (Some lent) item = absurd (omega (arith, item.3.0))
+first_lent (object ∷ objects) (Some lent) item = ap (λ o. o ∷ objects) (sym item.1)
+
+pub lawful_some : (o : Option Key) (k : Key) → IfSome o (λ key. is_lawful_key key ≡ true) → o ≡ Some k → is_lawful_key k ≡ true
+lawful_some o k some is = subst (λ (x : Option Key). IfSome x (λ key. is_lawful_key key ≡ true)) is some

@@ -1,0 +1,6 @@
+mod Steps
+mod Keys
+mod Names
+mod Walked
+mod Blocks
+mod Deletions

@@ -1,0 +1,85 @@
+-- What a page of names leads to in a walk.
+use Rattle.std.proofs.Common.{◌≡◌, ℕ, zero, suc, ◌+◌, ◌<◌, ◌≤◌, Bool, true, false, List, [], ◌++◌, length, refl, sym, ◌∙◌, ap, subst, Option, Some, arith, length-append}
+use Rattle.std.specs.Prelude.{nat_lt, nat_le}
+use Rattle.world_core.specs.Limits.{most_listed}
+use Rattle.world_core.specs.Plans.{Plan, Runs, ends, choose}
+use Rattle.world_core.specs.Walks.{after_page, ascends, last_listed}
+use Rattle.world_core.specs.declared.reply.Reply.{Reply}
+use Rattle.world_core.specs.declared.reply.Reply.TheVariants as reply
+use Rattle.world_core.specs.declared.entry.Entry.{Entry}
+use Rattle.cleaner.specs.Pages.{page_by, page_of}
+use Rattle.cleaner.specs.Cleanings.{walk_ends}
+use Rattle.cleaner.specs.CleanStates.{AreListed}
+use Rattle.cleaner.specs.declared.page.Page.{Page}
+use Rattle.cleaner.specs.declared.page.Page.TheVariants as page_is
+use Rattle.cleaner.specs.declared.walk.Walk.{Walk}
+use Rattle.cleaner.specs.declared.clean_end.CleanEnd.{CleanEnd}
+use Rattle.cleaner.specs.declared.clean_end.CleanEnd.TheVariants.{Damaged, Fault, TooMany}
+use Rattle.cleaner.proofs.Names.{last_listed-append}
+use Rattle.cleaner.proofs.Steps.{ended}
+
+-- what follows a page that is such
+abbrev pub followed : Page → ℕ → Plan CleanEnd → Plan CleanEnd → Plan CleanEnd
+followed page_is.Unordered seq last more = ends (Damaged seq)
+followed page_is.Last seq last more = last
+followed page_is.TooMany seq last more = ends TooMany
+followed page_is.Full seq last more = more
+
+by_tests : (up short many : Bool) (seq : ℕ) (last more : Plan CleanEnd) (entries : List Entry) (end : Option CleanEnd)
+    → Runs (followed (page_by up short many) seq last more) entries end
+    → Runs (choose up (choose short last (choose many (ends TooMany) more)) (ends (Damaged seq))) entries end
+by_tests false short many seq last more entries end run = run
+by_tests true true many seq last more entries end run = run
+by_tests true false true seq last more entries end run = run
+by_tests true false false seq last more entries end run = run
+
+-- it is the page that the walk makes of it
+pub page_follows : (limit seq : ℕ) (walk : Walk) (names page : List (List ℕ)) (left : ℕ) (next others : List (List ℕ) → Plan CleanEnd) (kind : Page) (entries : List Entry) (end : Option CleanEnd)
+    → AreListed walk names left → kind ≡ page_of limit walk.listed walk.last page
+    → Runs (followed kind seq (next (names ++ page)) (others (names ++ page))) entries end
+    → Runs (after_page walk_ends limit names seq (reply.Names page) next others) entries end
+page_follows limit seq walk names page left next others kind entries end listed is run =
+    let all : length (names ++ page) ≡ walk.listed + length page = length-append names page ∙ ap (λ n. n + length page) listed.many in
+    let same : page_of limit walk.listed walk.last page ≡ page_by (ascends (last_listed names) page) (nat_lt (length page) limit) (nat_le most_listed (length (names ++ page))) =
+    ap (λ l. page_by (ascends l page) (nat_lt (length page) limit) (nat_le most_listed (walk.listed + length page))) (sym listed.ends)
+    ∙ ap (λ n. page_by (ascends (last_listed names) page) (nat_lt (length page) limit) (nat_le most_listed n)) (sym all) in
+    by_tests (ascends (last_listed names) page) (nat_lt (length page) limit) (nat_le most_listed (length (names ++ page))) seq (next (names ++ page)) (others (names ++ page)) entries end
+    (subst (λ k. Runs (followed k seq (next (names ++ page)) (others (names ++ page))) entries end) (is ∙ same) run)
+
+-- the page came
+pub page_came : (limit seq : ℕ) (names page : List (List ℕ)) (next others : List (List ℕ) → Plan CleanEnd) (given : Reply) (entries : List Entry) (end : Option CleanEnd) → given ≡ reply.Names page
+    → Runs (after_page walk_ends limit names seq (reply.Names page) next others) entries end → Runs (after_page walk_ends limit names seq given next others) entries end
+page_came limit seq names page next others given entries end is run = subst (λ r. Runs (after_page walk_ends limit names seq r next others) entries end) (sym is) run
+
+-- the call failed
+pub page_failed : (limit seq : ℕ) (names : List (List ℕ)) (next others : List (List ℕ) → Plan CleanEnd) (given : Reply) (landed : Bool) → given ≡ reply.Failed landed
+    → Runs (after_page walk_ends limit names seq given next others) [] (Some (Fault seq))
+page_failed limit seq names next others given landed is =
+    subst (λ r. Runs (after_page walk_ends limit names seq r next others) [] (Some (Fault seq))) (sym is) (ended (Fault seq))
+
+-- the walk after a page that another follows
+pub record WalksOn (new : Walk) (names : List (List ℕ)) (left : ℕ) : Type 0 where
+  pub one_less : ℕ
+  pub is : left ≡ suc one_less
+  pub listed : AreListed new names one_less
+
+pub walks_on : (walk new : Walk) (names page : List (List ℕ)) (left : ℕ) → AreListed walk names left
+    → new.listed ≡ walk.listed + length page → new.listed < 1_000_000 → 0 < length page → new.last ≡ last_listed page
+    → WalksOn new (names ++ page) left
+walks_on walk new names page left listed counted few some last =
+    let both : length (names ++ page) ≡ length names + length page = length-append names page in
+    let many : length (names ++ page) ≡ new.listed = both ∙ ap (λ n. n + length page) listed.many ∙ sym counted in
+    less left listed.enough both many
+  where
+    less : (left : ℕ) → 1_000_000 ≤ length names + suc left → length (names ++ page) ≡ length names + length page → length (names ++ page) ≡ new.listed → WalksOn new (names ++ page) left
+    less zero enough both many = absurd (omega (arith, enough, both, many, few, some))
+    less (suc n) enough both many = record {
+      one_less = n;
+      is = refl;
+      listed = record {
+        many = many;
+        ends = last_listed-append names page some ∙ sym last;
+        few = omega (arith, many, few);
+        enough = omega (arith, enough, both, some);
+      };
+    }

@@ -1,0 +1,11 @@
+pub mod Marks
+pub mod Objects
+pub mod Cleanings
+pub mod Pages
+pub mod CleanStates
+pub use Rattle.block_meta.specs.MetaFields
+pub use Rattle.block_meta.specs.MetaReading
+pub use Rattle.block_keys.specs.KeyText
+pub use Rattle.ulid_core.specs.UlidText
+pub use Rattle.world_core.specs.Plans
+pub use Rattle.world_core.specs.Walks

@@ -1,0 +1,15 @@
+//! Cleaning: the deletion of blocks whose deletion mark is old, and of partials, which are blocks without a mark and a meta.
+#![tactic(auto)]
+
+mod ages;
+mod clean;
+mod clean_end;
+mod clean_rules;
+mod marks;
+mod objects;
+mod page;
+mod stage;
+mod walk;
+
+pub use clean::Clean;
+pub use clean_end::CleanEnd;

@@ -1,0 +1,109 @@
+ghost use Rattle.std.specs.Prelude.{◌≡◌, ◌+◌, ◌<◌, ◌≤◌, ◌^◌, nat_lt, [], length, None, Some, unwrap_or, Ok, IfOk};
+ghost use Rattle.std.specs.Option.{option_copied};
+ghost use Rattle.world_core.specs.Walks.{ascends as do_ascend, is_after as comes_after, last_listed};
+ghost use Rattle.cleaner.specs.Pages.{page_of};
+
+use crate::page::Page;
+use label_sets::Text;
+use list_core::{NoMemory, TryCopy};
+use std::alloc::Global;
+
+/// A walk that has listed so many names and has not come to its end is given up.
+const MOST_NAMES: u64 = 1_000_000;
+
+/// How far a walk of pages has come.
+#[derive(Drop)]
+pub(crate) struct Walk {
+    /// How many names were listed.
+    listed: u64,
+    /// The last of them, if there is one.
+    last: Option<Text>,
+}
+
+impl Walk {
+    /// A walk that was not begun.
+    pub(crate) fn new() -> Walk
+        ensures listed { result.listed ≡ 0 }
+        ensures last { result.last ≡ None }
+    {
+        Walk {
+            listed: 0,
+            last: None,
+        }
+    }
+
+    /// The name after which the next page begins, which is empty at first.
+    pub(crate) fn cursor(&self, alloc: Global) -> Result<Text, NoMemory>
+        ensures { IfOk result (λ name. name ≡ unwrap_or self.now.last []) }
+    {
+        match &self.last {
+            Some(name) => name.copy(),
+            None => Text::from_str(alloc, ""),
+        }
+    }
+
+    /// Goes on by the names of a page.
+    pub(crate) fn take(&mut self, names: &[Text], limit: u32) -> Result<Page, NoMemory>
+        requires { 1 ≤ limit }
+        ensures kind { IfOk result (λ page. page
+            ≡ page_of limit self.old.listed self.old.last names.now) }
+        ensures short { result ≡ Ok Page.Last → length names.now < 2 ^ 32 }
+        ensures listed { result ≡ Ok Page.Full
+            → self.new.listed ≡ self.old.listed + length names.now }
+        ensures some { result ≡ Ok Page.Full → 0 < length names.now }
+        ensures few { result ≡ Ok Page.Full → self.new.listed < 1_000_000 }
+        ensures last { result ≡ Ok Page.Full → self.new.last ≡ last_listed names.now }
+    {
+        if !ascends(self.last.as_ref(), names) {
+            return Ok(Page::Unordered);
+        }
+        if is_short(names.len(), limit) {
+            return Ok(Page::Last);
+        }
+        let listed = self.listed.saturating_add(names.len() as u64);
+        if listed >= MOST_NAMES {
+            return Ok(Page::TooMany);
+        }
+        self.listed = listed;
+        self.last = Some(last_name(names)?);
+        Ok(Page::Full)
+    }
+}
+
+/// Tells whether each name is greater than the one before it, where the first one may have one before it too.
+fn ascends(before: Option<&Text>, names: &[Text]) -> bool
+    ensures { result ≡ do_ascend (option_copied before.entry) names.now }
+{
+    let mut last = before;
+    for name in names {
+        if !is_after(last, name) {
+            return false;
+        }
+        last = Some(name);
+    }
+    true
+}
+
+fn is_after(before: Option<&Text>, name: &Text) -> bool
+    ensures { result ≡ comes_after (option_copied before.entry) name.now }
+{
+    match before {
+        Some(before) => before.as_str() < name.as_str(),
+        None => true,
+    }
+}
+
+/// Tells whether a page of so many names has fewer than it was asked for.
+fn is_short(count: usize, limit: u32) -> bool
+    ensures { result ≡ nat_lt count limit }
+{
+    (count as u64) < u64::from(limit)
+}
+
+/// A copy of the last name.
+fn last_name(names: &[Text]) -> Result<Text, NoMemory>
+    requires { 0 < length names.now }
+    ensures { IfOk result (λ name. last_listed names.now ≡ Some name) }
+{
+    names[names.len() - 1].copy()
+}
