@@ -1,0 +1,5 @@
+pub mod Behind
+pub mod Cutting
+pub mod Least
+pub mod Sorting
+pub mod SmallReads

@@ -1,0 +1,10 @@
+pub use Rattle.index_parts.specs.Contents
+pub mod Stretches
+pub mod OneCut
+pub mod IndexRanges
+pub mod ChunkRanges
+pub mod OneSet
+pub mod Reads
+pub mod IndexReads
+pub mod ChunkReads
+pub mod BlockReads
