@@ -1,3 +1,5 @@
+ghost use Rattle.world_core.specs.Operations.{IsLawful};
+
 use crate::filters::moment_of;
 use crate::metas::meta_text;
 use crate::syncs::{SYNC_SEAT, driven, print_driven, world};
@@ -53,7 +55,8 @@ pub(crate) fn put_meta(
     sources: &str,
 ) -> Result<(), NoMemory> {
     let text = meta_text(alloc, block, sources, "0", "")?;
-    put(alloc, world, Key::Meta(named(alloc, block)?), text.as_str())
+    let bytes = Blob::from_bytes(alloc, text.as_bytes())?;
+    put(world, Op::Put(Key::Meta(named(alloc, block)?), bytes))
 }
 
 /// Puts a mark of the block BLOCK that names the block ID, by a word BLOCK@ID@SECOND.
@@ -63,17 +66,14 @@ fn put_mark(alloc: Global, world: &mut World<MemoryBucket>, word: &str) -> Resul
     let text = format!(in alloc;
         "{{\"id\":\"0000000000000000000000000{id}\",\"version\":1,\"deletion_time\":{second}}}"
     )?;
-    put(alloc, world, Key::Mark(named(alloc, block)?), text.as_str())
+    let bytes = Blob::from_bytes(alloc, text.as_bytes())?;
+    put(world, Op::Put(Key::Mark(named(alloc, block)?), bytes))
 }
 
-fn put(
-    alloc: Global,
-    world: &mut World<MemoryBucket>,
-    key: Key,
-    text: &str,
-) -> Result<(), NoMemory> {
-    let bytes = Blob::from_bytes(alloc, text.as_bytes())?;
-    match world.act(1, Op::Put(key, bytes)) {
+fn put(world: &mut World<MemoryBucket>, op: Op) -> Result<(), NoMemory>
+    requires { IsLawful op }
+{
+    match world.act(1, op) {
         Acted::Done(_) => Ok(()),
         _ => Err(NoMemory),
     }
