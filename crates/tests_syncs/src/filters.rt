@@ -1,3 +1,4 @@
+use crate::marks::print_marked;
 use crate::metas::read_meta;
 use crate::uploads::print_uploads;
 use block_meta::{DeletionMark, MetaRefusal};
@@ -11,7 +12,7 @@ use sync_filters::{Found, FoundList, consistent, is_expired, uncovered, unmarked
 const DELAY: Span = Span { ms: 1_800_000 };
 
 /// How old a mark has to be, a day.
-const MARK_DELAY: Span = Span { ms: 86_400_000 };
+pub(crate) const MARK_DELAY: Span = Span { ms: 86_400_000 };
 
 /// A mark half an hour after 1970.
 const MARK: &str = r#"{"id":"00000000000000000000000001","version":1,"deletion_time":1800}"#;
@@ -30,6 +31,7 @@ pub(crate) fn print_row(rt: &HostRuntime, row: &str) -> io::Result<()> {
         "expiring" => print_kept(rt, is_retained(rt.alloc(), text)),
         "split" => print_split(rt, split_of(rt.alloc(), text)),
         "upload" => print_uploads(rt, text),
+        "sync" => print_marked(rt, text),
         _ => println!(rt; "no row"),
     }
 }
@@ -42,7 +44,7 @@ fn print_kept(rt: &HostRuntime, kept: Result<bool, MetaRefusal>) -> io::Result<(
     }
 }
 
-fn moment_of(text: &str) -> Moment {
+pub(crate) fn moment_of(text: &str) -> Moment {
     Moment {
         ms: text.parse().unwrap_or(0),
     }

@@ -4,6 +4,7 @@
 #![tactic(auto)]
 
 mod filters;
+mod marks;
 mod metas;
 mod syncs;
 mod turns;

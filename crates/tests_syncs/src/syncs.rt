@@ -1,21 +1,21 @@
 ghost use Rattle.std.specs.Prelude.{◌≡◌};
 
-use crate::filters::print_blocks;
-use crate::metas::meta_text;
+use crate::filters::{MARK_DELAY, print_blocks};
+use crate::marks::put_meta;
 use crate::turns::{finish, turn};
-use block_keys::Key;
 use bucket_core::{Fail, FailList, MemoryBucket};
 use list_core::NoMemory;
 use meta_fetcher::{Sync, SyncEnd, SyncRules};
 use moment_core::{Moment, Partition, Span};
 use std::alloc::Global;
 use std::io;
-use ulid_core::Ulid;
-use wire_bytes::Blob;
-use world_core::{Act, Acted, Driven, Machine, Op, World, drive_over};
+use world_core::{Act, Driven, Machine, Op, World, drive_over};
+
+/// The seat at which syncs are driven.
+pub(crate) const SYNC_SEAT: u32 = 3;
 
 /// A world whose bucket fails at this call.
-fn world(alloc: Global, failing_call: u64) -> Result<World<MemoryBucket>, NoMemory> {
+pub(crate) fn world(alloc: Global, failing_call: u64) -> Result<World<MemoryBucket>, NoMemory> {
     let mut failing = FailList::new(alloc);
     failing.push(Fail {
         call: failing_call,
@@ -27,13 +27,13 @@ fn world(alloc: Global, failing_call: u64) -> Result<World<MemoryBucket>, NoMemo
     }
 }
 
-/// Rules by which every block is kept, and a page has one name.
+/// Rules by which a page has one name, a block is kept at any age, and a marked one for a day.
 fn rules() -> SyncRules
     ensures { result.page_limit ≡ 1 }
 {
     SyncRules {
         consistency: Span { ms: 0 },
-        mark_delay: Span { ms: 0 },
+        mark_delay: MARK_DELAY,
         page_limit: 1,
         partition: Partition {
             low: i64::MIN,
@@ -42,33 +42,17 @@ fn rules() -> SyncRules
     }
 }
 
-/// Puts the meta of the block that is named so, whose ULID is that number.
-fn put_meta(
-    alloc: Global,
-    world: &mut World<MemoryBucket>,
-    block: &str,
-    number: u8,
-) -> Result<(), NoMemory> {
-    let text = meta_text(alloc, block, block, "0", "")?;
-    let bytes = Blob::from_bytes(alloc, text.as_bytes())?;
-    let key = Key::Meta(Ulid::from_parts(0, u128::from(number)));
-    match world.act(1, Op::Put(key, bytes)) {
-        Acted::Done(_) => Ok(()),
-        _ => Err(NoMemory),
-    }
-}
-
 /// Syncs while a block comes behind the cursor, and gives the world and how the sync ended.
 fn overtaken(alloc: Global) -> Result<(World<MemoryBucket>, SyncEnd), NoMemory> {
     let mut world = world(alloc, 0)?;
-    put_meta(alloc, &mut world, "B", 11)?;
-    put_meta(alloc, &mut world, "C", 12)?;
+    put_meta(alloc, &mut world, "B", "B")?;
+    put_meta(alloc, &mut world, "C", "C")?;
     let mut sync = Sync::start(alloc, rules())?;
     let act = match sync.first()? {
         Act::Do(op) => turn(&mut sync, &mut world, op)?,
         Act::Done(_) => return Err(NoMemory),
     };
-    put_meta(alloc, &mut world, "A", 10)?;
+    put_meta(alloc, &mut world, "A", "A")?;
     let end = finish(&mut sync, &mut world, act)?;
     Ok((world, end))
 }
@@ -88,20 +72,32 @@ pub(crate) fn print_two_syncs(rt: &HostRuntime) -> io::Result<()> {
 /// Prints how a sync ends.
 fn print_sync(rt: &HostRuntime, world: World<MemoryBucket>) -> io::Result<()> {
     match driven(rt.alloc(), world) {
-        Ok(Driven::Ended(end)) => print_end(rt, &end),
+        Ok((ended, _world)) => print_driven(rt, &ended),
+        Err(_) => println!(rt; "no end"),
+    }
+}
+
+pub(crate) fn driven(
+    alloc: Global,
+    world: World<MemoryBucket>,
+) -> Result<(Driven<SyncEnd>, World<MemoryBucket>), NoMemory> {
+    let mut sync = Sync::start(alloc, rules())?;
+    Ok(drive_over(&mut sync, world, SYNC_SEAT, None))
+}
+
+pub(crate) fn print_driven(rt: &HostRuntime, driven: &Driven<SyncEnd>) -> io::Result<()> {
+    match driven {
+        Driven::Ended(end) => print_end(rt, end),
         _ => println!(rt; "no end"),
     }
 }
 
-fn driven(alloc: Global, world: World<MemoryBucket>) -> Result<Driven<SyncEnd>, NoMemory> {
-    let mut sync = Sync::start(alloc, rules())?;
-    let (driven, _world) = drive_over(&mut sync, world, 3, None);
-    Ok(driven)
-}
-
 fn print_end(rt: &HostRuntime, end: &SyncEnd) -> io::Result<()> {
     match end {
-        SyncEnd::View(view) => print_blocks(rt, "a view of", &view.kept)?,
+        SyncEnd::View(view) => {
+            print_blocks(rt, "a view of", &view.kept)?;
+            print_blocks(rt, ", covered", &view.covered)?;
+        }
         SyncEnd::Fault(entry) => print!(rt; "a fault at entry {entry}")?,
         SyncEnd::Damaged(entry) => print!(rt; "damage at entry {entry}")?,
         SyncEnd::TooMany => print!(rt; "too many")?,

@@ -97,8 +97,10 @@ fn print_letters(rt: &HostRuntime, entries: &[Entry]) -> io::Result<()> {
     println!(rt; "")
 }
 
-fn letter_of(op: &Op) -> char {
+pub(crate) fn letter_of(op: &Op) -> char {
     match op {
+        Op::RootPage(_, _) => 'p',
+        Op::Get(Key::Mark(_)) => 'k',
         Op::Get(Key::Meta(_)) => 'm',
         Op::Put(Key::Segment(_, _), _) => 'S',
         Op::Put(Key::Index(_), _) => 'I',
