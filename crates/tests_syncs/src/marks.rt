@@ -1,6 +1,5 @@
 ghost use Rattle.world_core.specs.Operations.{IsLawful};
 
-use crate::filters::moment_of;
 use crate::metas::meta_text;
 use crate::syncs::{SYNC_SEAT, driven, print_driven, world};
 use crate::uploads::letter_of;
@@ -18,7 +17,7 @@ use world_core::{Acted, Driven, Entry, Op, World};
 /// Prints for what a sync over some objects asks, and to what it comes. The head of standard input says what the row means.
 pub(crate) fn print_marked(rt: &HostRuntime, text: &str) -> io::Result<()> {
     let (clock, words) = text.split_once(' ').unwrap_or((text, ""));
-    match synced(rt.alloc(), moment_of(clock), words) {
+    match synced(rt.alloc(), clock.parse().unwrap_or(0), words) {
         Ok((ended, world)) => {
             print_reads(rt, world.journal().entries())?;
             print_driven(rt, &ended)
@@ -29,14 +28,15 @@ pub(crate) fn print_marked(rt: &HostRuntime, text: &str) -> io::Result<()> {
 
 fn synced(
     alloc: Global,
-    clock: Moment,
+    clock: u32,
     words: &str,
 ) -> Result<(Driven<SyncEnd>, World<MemoryBucket>), NoMemory> {
     let mut world = world(alloc, 0)?;
     for word in words.split(' ') {
         put_word(alloc, &mut world, word)?;
     }
-    let _clock = world.act(0, Op::Clock(clock));
+    let ms = u64::from(clock);
+    let _clock = world.act(0, Op::Clock(Moment { ms }));
     driven(alloc, world)
 }
 
