@@ -3,7 +3,7 @@ use Rattle.std.proofs.Common.{◌≡◌, ℕ, ◌+◌, ◌<◌, ◌^◌, List, [
 use Rattle.std.specs.Prelude.{Option, Some, None, IfSome}
 use Rattle.bucket_core.specs.Contents.{Contents, nothing}
 use Rattle.world_core.specs.declared.entry.Entry.{Entry}
-use Rattle.world_core.specs.Operations.{IsLawful, IsReplyTo}
+use Rattle.world_core.specs.Operations.{IsLawful, IsReplyTo, PutsBytes, ShowsBytes}
 use Rattle.world_core.specs.Moments.{moment_after, last_moment}
 use Rattle.world_core.specs.Standing.{stands, Tells, IsHonest}
 use Rattle.world_core.specs.Worlds.{WorldView, IsWorld, IsJournal, IsTrueOf}
@@ -17,6 +17,7 @@ if_map (Some x) P Q f holds = f x holds
 true_of : {B : Type 0} (contents : B → Option Contents) (faults : B → ℕ) (world : WorldView B) → IsWorld contents faults world → IsTrueOfStore contents faults world.journal world.bucket
 true_of contents faults world is = record {
   journal = (world.tick, is.journal);
+  bytes = is.bytes;
   failures = is.failures;
   honest = if_map (contents world.bucket) (λ c. IsTrueOf c world.journal) (λ c. IsHonest world.journal) (λ c t. t.honest) is.honest;
   held = λ some. if_map (contents world.bucket) (λ c. IsTrueOf c world.journal) (λ c. c ≡ stands world.journal) (λ c t. t.held) is.honest;
@@ -59,6 +60,7 @@ back_of_none {B} contents faults store a j s none kept same =
     subst (λ (x : Option (List Entry)). IsHandedBack contents faults x s) (sym (kept ∙ ap (λ (l : List Entry). Some l) none))
     (subst (λ (y : Option B). IsHandedBack contents faults (Some []) y) (sym same) (record {
       journal = (0, no_journal);
+      bytes = Each-none (λ before e. PutsBytes e.op × ShowsBytes e.reply);
       failures = omega arith;
       honest = always (contents store) (IsHonest []) (Each-none (λ before e. Tells (stands before) e.op e.reply));
       held = λ some. absurd (some refl);

@@ -1,5 +1,5 @@
 -- Verdicts and their causes, from a run outwards to the whole call.
-use Rattle.std.proofs.Common.{◌≡◌, ◌≢◌, ◌⊎◌, inl, inr, ℕ, ◌<◌, ◌≤◌, List, [], ◌∷◌, length, refl, sym, subst, arith}
+use Rattle.std.proofs.Common.{◌≡◌, ◌⊎◌, inl, inr, ℕ, ◌<◌, ◌≤◌, List, [], ◌∷◌, length, refl, sym, subst, arith}
 use Rattle.std.specs.Prelude.{Option, Some, None, IfSome, IsSome, IsSomeAnd, Ok, Err}
 use Rattle.std.proofs.lemmas.Bool.{lt-ltb}
 use Rattle.bucket_core.specs.Causes.{Rose}
@@ -11,10 +11,11 @@ use Rattle.world_core.specs.declared.entry.Entry.{Entry}
 use Rattle.script_core.specs.Lawful.{IsLawfulScript}
 use Rattle.script_core.specs.Reading.{script_of}
 use Rattle.script_core.specs.declared.script.Script.{Script}
+use Rattle.script_core.specs.declared.script_refusal.ScriptRefusal.{ScriptRefusal}
 use Rattle.script_core.specs.declared.script_refusal.ScriptRefusal.TheVariants.{TooLong}
 use Rattle.script_core.specs.Limits.{longest_text}
 use Rattle.replay_cli.specs.Kept.{HoldsNothing}
-use Rattle.replay_cli.specs.Verdicts.{Around, BehindOpening, IsRun, IsUnread, IsWorked}
+use Rattle.replay_cli.specs.Verdicts.{Around, BehindOpening, IsRun, IsScriptRead, IsUnread, IsWorked}
 use Rattle.replay_cli.specs.declared.verdict.Verdict.{Verdict}
 use Rattle.replay_cli.specs.declared.verdict.Verdict.TheVariants.{WordsRefused, SourceFault, ScriptRefused, SiteFault, NotEmpty, Full, Report, Checked, NoMemory}
 use Rattle.lifecycle_core.specs.Setting.{Setting, setting_of}
@@ -39,9 +40,9 @@ pub before_opening : (refusal : SiteRefusal) (v : Verdict) (P : Type 0) → (ref
 before_opening site.Failed v P failed short = subst (λ (w : Verdict). BehindOpening w P) (sym (failed refl)) tt
 before_opening site.NoMemory v P failed short = subst (λ (w : Verdict). BehindOpening w P) (sym (short refl)) tt
 
-pub worked : (around : Around) (script : Script) (v : Verdict) → IfSome around.text (λ bytes. script_of bytes ≡ Ok script) → IfSome around.text (λ bytes. around.left ≡ Some []) → IsLawfulScript script
+pub worked : (around : Around) (script : Script) (v : Verdict) → IsScriptRead around.text around.left script → IsLawfulScript script
     → BehindOpening v around.opened → IsRun (setting_of script) around.before around.site_failed around.journal v → IsWorked around v
-worked around script v spelled taken lawful opened run = inr (record { script = script; spelled = spelled; taken = taken; lawful = lawful; opened = opened; run = run })
+worked around script v read lawful opened run = inr (record { script = script; read = read; lawful = lawful; opened = opened; run = run })
 
 pub unread : (around : Around) (v : Verdict) → IsUnread around.text around.left around.source_failed v → around.journal ≡ None → around.unasked → IsWorked around v
 unread around v why none unasked = inl (why, none, unasked)
@@ -108,6 +109,15 @@ unfolding script_of
 too_long text long = rw (lt-ltb _ _ long) refl
 
 -- a text that passes the limit is refused for that
-pub told_too_long : (told left : Option (List ℕ)) → IfSome told (λ text. longest_text < length text) → IfSome told (λ text. (script_of text ≡ Err TooLong) × (TooLong ≢ TooLong → left ≡ Some []))
-told_too_long None left long = tt
-told_too_long (Some text) left long = (too_long text long, λ other. absurd (other refl))
+told_too_long : (told : Option (List ℕ)) → IfSome told (λ text. longest_text < length text) → IfSome told (λ text. script_of text ≡ Err TooLong)
+told_too_long None long = tt
+told_too_long (Some text) long = too_long text long
+
+pub refused_too_long : (told left : Option (List ℕ)) (failed : Type 0) → IfSome told (λ text. longest_text < length text) → IsUnread told left failed (ScriptRefused TooLong)
+refused_too_long told left failed long = inl (refl, told_too_long told long)
+
+pub refused_whole : (told left : Option (List ℕ)) (failed : Type 0) (text : List ℕ) (refusal : ScriptRefusal) → IfSome told (λ all. (text ≡ all) × (left ≡ Some [])) → script_of text ≡ Err refusal → IsUnread told left failed (ScriptRefused refusal)
+refused_whole told left failed text refusal read is = inr (text, read, is)
+
+pub read_whole : (told left : Option (List ℕ)) (text : List ℕ) (script : Script) → IfSome told (λ all. (text ≡ all) × (left ≡ Some [])) → script_of text ≡ Ok script → IsScriptRead told left script
+read_whole told left text script read is = (text, read, is)

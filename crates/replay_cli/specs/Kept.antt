@@ -3,12 +3,14 @@ use Rattle.std.specs.Prelude.{◌≡◌, ◌≢◌, ◌≤◌, ◌+◌, ℕ, Lis
 use Rattle.bucket_core.specs.Contents.{Contents, nothing}
 use Rattle.world_core.specs.declared.entry.Entry.{Entry}
 use Rattle.world_core.specs.Standing.{stands, IsHonest}
-use Rattle.world_core.specs.Worlds.{IsJournal, failed_count}
+use Rattle.world_core.specs.Worlds.{IsJournal, IsOfBytes, failed_count}
 
--- The journal is one that a world keeps, and the bucket has failed at least as often as the journal shows. Where the bucket
--- tells what it holds, the journal is honest, and unless it is empty the bucket holds what stands at its end.
+-- The journal is one that a world keeps, all that it puts and shows is bytes, and the bucket has failed at least as often as the
+-- journal shows. Where the bucket tells what it holds, the journal is honest, and unless it is empty the bucket holds what stands
+-- at its end.
 pub record IsTrueOfStore {B : Type 0} (contents : B → Option Contents) (faults : B → ℕ) (entries : List Entry) (store : B) : Type 0 where
   pub journal : (tick : ℕ) × IsJournal tick entries
+  pub bytes : IsOfBytes entries
   pub failures : failed_count entries ≤ faults store
   pub honest : IfSome (contents store) (λ c. IsHonest entries)
   pub held : entries ≢ [] → IfSome (contents store) (λ c. c ≡ stands entries)

@@ -15,6 +15,7 @@ use Rattle.script_workers.specs.declared.phase.Phase.{Phase}
 use Rattle.script_core.specs.declared.script.Script.{Script}
 use Rattle.script_core.specs.declared.script_refusal.ScriptRefusal.TheVariants.{TooLong}
 use Rattle.script_workers.specs.declared.task.Task.{Task}
+use Rattle.lifecycle_core.specs.Breaches.{IsUnbroken}
 use Rattle.lifecycle_core.specs.Guarantees.{IsGuaranteed, IsGuaranteedJournal}
 use Rattle.lifecycle_core.specs.Holdings.{none_held}
 use Rattle.lifecycle_core.specs.InLine.{IsInLine}
@@ -189,21 +190,30 @@ BehindOpening (ScriptRefused refusal) P = Unit {0}
 BehindOpening SiteFault P = Unit {0}
 BehindOpening NoMemory P = Unit {0}
 
+-- The source was read to its end, and these are its bytes: those that it tells, where it tells them.
+abbrev pub IsReadWhole : Option (List ℕ) → Option (List ℕ) → List ℕ → Type 0
+IsReadWhole told left bytes = IfSome told (λ all. (bytes ≡ all) × (left ≡ Some []))
+
+-- The source was read to its end, and its text spells the script. One that tells nothing was of some text.
+abbrev pub IsScriptRead : Option (List ℕ) → Option (List ℕ) → Script → Type 0
+IsScriptRead told left script = (text : List ℕ) × IsReadWhole told left text × (script_of text ≡ Ok script)
+
 -- the text was read to its end and spells a lawful script, whose run comes to the verdict
 pub record IsRunOfText (around : Around) (verdict : Verdict) : Type 0 where
   pub script : Script
-  pub spelled : IfSome around.text (λ bytes. script_of bytes ≡ Ok script)
-  pub taken : IfSome around.text (λ bytes. around.left ≡ Some [])
+  pub read : IsScriptRead around.text around.left script
   pub lawful : IsLawfulScript script
   pub opened : BehindOpening verdict around.opened
   pub run : IsRun (setting_of script) around.before around.site_failed around.journal verdict
 
 -- why no script was read: by the source, or by its text, which was read to its end unless it was too long
 abbrev pub IsUnread : Option (List ℕ) → Option (List ℕ) → Type 0 → Verdict → Type 0
-IsUnread text left source_failed SourceFault = source_failed
-IsUnread text left source_failed (ScriptRefused refusal) = IfSome text (λ bytes. (script_of bytes ≡ Err refusal) × (refusal ≢ TooLong → left ≡ Some []))
-IsUnread text left source_failed NoMemory = Unit {0}
-IsUnread text left source_failed other = ⊥
+IsUnread told left source_failed SourceFault = source_failed
+IsUnread told left source_failed (ScriptRefused refusal) =
+    ((refusal ≡ TooLong) × IfSome told (λ bytes. script_of bytes ≡ Err TooLong))
+    ⊎ ((text : List ℕ) × IsReadWhole told left text × (script_of text ≡ Err refusal))
+IsUnread told left source_failed NoMemory = Unit {0}
+IsUnread told left source_failed other = ⊥
 
 -- Why a call whose words are a form of one comes to a verdict. Where no script was read, the site was asked for nothing.
 abbrev pub IsWorked : Around → Verdict → Type 0
@@ -253,12 +263,12 @@ abbrev pub IsAdded : List ℕ → Saying → Type 0
 IsAdded text saying = saying.written_after ≡ option_map (λ bytes. bytes ++ text) saying.written_before
 
 -- The verdict's text was written and its status is the call's; or the sink failed as it was written; or there was no memory for
--- it, and nothing was written.
+-- it, and the sink was asked for nothing: it has not failed, and nothing was written.
 abbrev pub IsSaid : Verdict → Saying → Status → Type 0
 IsSaid verdict saying result =
     ((result ≡ status_of verdict) × IsAdded (text_of verdict) saying)
     ⊎ ((result ≡ status.SinkFault) × (verdict ≢ NoMemory) × Rose saying.faults_before saying.faults_after × IsWrittenInPart (text_of verdict) saying.written_before saying.written_after)
-    ⊎ ((result ≡ status.NoMemory) × (saying.written_after ≡ saying.written_before))
+    ⊎ ((result ≡ status.NoMemory) × (saying.faults_after ≡ saying.faults_before) × (saying.written_after ≡ saying.written_before))
 
 -- With the status of a check, the line of the block's check was written, and it tells how the check ended.
 abbrev pub IsCheckSaid : Option Contents → ℕ → Saying → ℕ → Type 0
@@ -266,16 +276,29 @@ IsCheckSaid files ulid saying number =
     (number ≡ 0) ⊎ (number ≡ 5)
     → (outcome : CheckOutcome) × IsCheckOf files ulid outcome × (number ≡ number_of (check_status outcome)) × IsAdded (check_line ulid outcome) saying
 
--- A call is calm: its words ask for a run, the source tells a text that spells a script, the bucket held nothing, nothing failed,
--- and the journal is honest and not full.
-pub record IsCalm (around : Around) (saying : Saying) : Type 0 where
-  pub accepts : around.run
+-- Nothing stands in the way of a run: the source tells a text that spells a script, and the bucket held nothing.
+pub record IsReady (around : Around) : Type 0 where
   pub text : List ℕ
   pub told : around.text ≡ Some text
   pub script : Script
   pub spelled : script_of text ≡ Ok script
   pub empty : around.before ≡ Some nothing
+
+-- a run begins, or the journal shows that it began
+abbrev pub IsBegun : Around → Type 0
+IsBegun around = IsReady around ⊎ IsSomeAnd around.journal (λ entries. entries ≢ [])
+
+-- The journal is honest, as each one over a bucket is that tells what it holds; or no rule refuses an entry of it, which the
+-- journal shows by itself.
+abbrev pub IsTrusted : Setting → List Entry → Type 0
+IsTrusted setting entries = IsHonest entries ⊎ IsUnbroken setting entries
+
+-- A call is calm: its words ask for a run, the run begins, nothing failed, and the journal is not full, and honest or unbroken.
+pub record IsCalm (around : Around) (saying : Saying) : Type 0 where
+  pub accepts : around.run
+  pub begins : IsBegun around
   pub source : ¬ around.source_failed
   pub site : ¬ around.site_failed
   pub sink : ¬ Rose saying.faults_before saying.faults_after
-  pub journal : IfSome around.journal (λ entries. (¬ IsFull entries) × IsHonest entries × (failed_count entries ≡ 0))
+  pub setting : Setting
+  pub journal : IfSome around.journal (λ entries. (¬ IsFull entries) × IsTrusted setting entries × (failed_count entries ≡ 0))

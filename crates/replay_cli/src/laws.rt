@@ -28,6 +28,14 @@ pub fn told_answers_are_sound()
         → IsWorth setting journal run.ends answer }
 {}
 
+/// A law: a journal tells the report. Two whole runs of one script that leave one journal print the same, and end as asked or not.
+pub fn journals_tell_the_report()
+    ensures { (setting : Setting) (journal : List Entry) (as_asked also : Bool)
+        (text other : List ℕ)
+        → IsWholeRun setting as_asked text journal → IsWholeRun setting also other journal
+        → (as_asked ≡ also) × (text ≡ other) }
+{}
+
 /// A law: where a query's line tells of a missing object, the journal shows why.
 pub fn told_misses_are_explained()
     ensures whole { (setting : Setting) (as_asked : Bool) (text : List ℕ) (journal : List Entry)

@@ -154,6 +154,7 @@ fn begin_phase<B: Bucket>(phase: &Phase, world: World<B>) -> (Result<(), Broken>
         × (result.1.journal ≡ world.journal ++ clock ∷ [])) }
     ensures unbegun { OnErr result.0 (result.1.journal ≡ world.journal) }
     ensures full { result.0 ≡ Err Broken.Full → IsFull result.1.journal }
+    ensures memory { result.0 ≡ Err Broken.NoMemory → ¬ IsFull result.1.journal }
     ensures tick { result.1.tick ≡ world.tick }
 {
     let mut world = world;

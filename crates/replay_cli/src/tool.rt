@@ -1,12 +1,11 @@
 ghost use Rattle.std.specs.Prelude.{◌≡◌, ◌⊎◌, ◌<◌, ◌≤◌, ℕ, List, [], Ok, Err, Some, None, IfOk, IfErr, IfSome, IsSome, IsSomeAnd, is_some};
 ghost use Rattle.bucket_core.specs.Causes.{Rose};
 ghost use Rattle.bucket_core.specs.Contents.{nothing};
-ghost use Rattle.script_core.specs.Reading.{script_of};
 ghost use Rattle.script_core.specs.Lawful.{IsLawfulScript};
 ghost use Rattle.replay_cli.specs.Checks.{files_of};
 ghost use Rattle.replay_cli.specs.Kept.{IsHandedBack, IsHandedOut, IsNotAsked, IsOpened, IsShelfOf, IsUntouched, told_of};
 ghost use Rattle.replay_cli.specs.Statuses.{number_of};
-ghost use Rattle.replay_cli.specs.Verdicts.{BehindOpening, IsCalm, IsCaused, IsCheckSaid, IsWorked, IsUnread, IsRun, IsSaid, SiteFailed, around_call, saying_to};
+ghost use Rattle.replay_cli.specs.Verdicts.{BehindOpening, IsCalm, IsCaused, IsCheckSaid, IsWorked, IsUnread, IsRun, IsSaid, IsScriptRead, SiteFailed, around_call, saying_to};
 ghost use Rattle.replay_cli.specs.Words.{block_word, bucket_word, named_by, shelf_word};
 ghost use Rattle.lifecycle_core.specs.Setting.{setting_of};
 
@@ -159,12 +158,9 @@ fn read_and_run<S: Site, R: Source>(
 }
 
 /// Reads the source to its end, and the script that its bytes spell.
-#[tactic(auto, using(crate::proofs::Verdicts::told_too_long))]
+#[tactic(auto, using(crate::proofs::Verdicts::refused_too_long, crate::proofs::Verdicts::refused_whole, crate::proofs::Verdicts::read_whole))]
 fn read_script<R: Source>(alloc: Global, source: &mut R) -> Result<Script, Verdict>
-    ensures read { IfOk result
-        (λ script. IfSome (R.left source.old) (λ text. script_of text ≡ Ok script)) }
-    ensures taken { IfOk result
-        (λ _. IfSome (R.left source.old) (λ text. R.left source.new ≡ Some [])) }
+    ensures read { IfOk result (IsScriptRead (R.left source.old) (R.left source.new)) }
     ensures lawful { IfOk result IsLawfulScript }
     ensures refused { IfErr result
         (IsUnread (R.left source.old) (R.left source.new)

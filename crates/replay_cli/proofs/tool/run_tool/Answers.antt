@@ -2,14 +2,16 @@ use Rattle.std.proofs.Common.{◌≡◌, ◌⊎◌, ℕ, sym, subst}
 use Rattle.replay_cli.specs.Checks.{files_of}
 use Rattle.replay_cli.specs.Verdicts.{Around, IsCheckSaid, Saying, around_call, saying_to}
 use Rattle.replay_cli.specs.Words.{block_word, bucket_word, shelf_word}
-use Rattle.replay_cli.proofs.Calm.{calm_end}
+use Rattle.replay_cli.proofs.Calm.{at_rest, calm_end}
 use Rattle.replay_cli.proofs.Checks.{check_said}
 use Rattle.replay_cli.proofs.tool.run_tool.Goals as goal
 
 pub returns-clause-calm : goal.returns-clause-calm
 returns-clause-calm g c = λ calm.
     subst (λ (n : ℕ). (n ≡ 0) ⊎ (n ≡ 6)) (sym c.number.ensures)
-    (calm_end _ _ c.come_to-conclusion.result.conclusion.verdict c.say-status.result calm c.come_to-conclusion.ensures.cause c.say-status.ensures)
+    (calm_end _ _ c.come_to-conclusion.result.conclusion.verdict c.say-status.result calm
+    (at_rest g.S.Store.Bucket.contents g.S.Store.Bucket.faults calm.setting c.come_to-conclusion.result.conclusion.journal c.come_to-conclusion.result.conclusion.store c.come_to-conclusion.ensures.back calm.journal)
+    c.come_to-conclusion.ensures.cause c.say-status.ensures)
 
 pub returns-clause-checked : goal.returns-clause-checked
 returns-clause-checked g c = λ block named.
