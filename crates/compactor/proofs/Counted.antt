@@ -35,7 +35,7 @@ use Rattle.compactor.specs.OneView.{one_sync_end}
 use Rattle.compactor.specs.Counts.{HavePlans, IsCounted}
 use Rattle.compactor.specs.Compactions.{marking, reads, reads_segments, after_index, reads_block, reads_blocks, last_number, after_upload, after_merge, merging, compacting, compacting_groups, metas_of, names_of, expired_at, rounds, sync_rules, after_sync, CompactRun}
 use Rattle.compactor.specs.declared.compact_end.CompactEnd.{CompactEnd}
-use Rattle.compactor.specs.declared.compact_end.CompactEnd.TheVariants.{Done, Fault, Missing, Damaged, TooMany}
+use Rattle.compactor.specs.declared.compact_end.CompactEnd.TheVariants.{Done, Fault, Missing, Damaged}
 
 -- ---- plans of plans
 
