@@ -1,0 +1,3 @@
+mod LastNamed
+mod SyncParts
+mod Counted

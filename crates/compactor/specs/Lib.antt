@@ -1,0 +1,16 @@
+pub mod NewBlocks
+pub mod Inputs
+pub mod Merges
+pub mod OneView
+pub mod OnePlan
+pub mod OneRefusal
+pub mod OneMerge
+pub mod Compactions
+pub mod SyncFirst
+pub mod Counts
+pub use Rattle.block_meta.specs.MetaFields
+pub use Rattle.block_meta.specs.MetaValue
+pub use Rattle.world_core.specs.Plans
+pub use Rattle.world_core.specs.Walks
+pub use Rattle.meta_fetcher.specs.Syncs
+pub use Rattle.shipper.specs.Uploads

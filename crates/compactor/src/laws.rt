@@ -1,0 +1,29 @@
+//! Laws of compactions.
+ghost use Rattle.std.specs.Prelude.{ℕ, List, Option, Some};
+ghost use Rattle.moment_core.specs.declared.rules.Rules.{Rules};
+ghost use Rattle.moment_core.specs.declared.span.Span.{Span};
+ghost use Rattle.world_core.specs.declared.entry.Entry.{Entry};
+ghost use Rattle.compactor.specs.Compactions.{CompactRun};
+ghost use Rattle.compactor.specs.SyncFirst.{BeginsWithSync};
+ghost use Rattle.compactor.specs.Counts.{IsCounted};
+ghost use Rattle.compactor.specs.declared.compact_end.CompactEnd.{CompactEnd};
+ghost use Rattle.compactor.specs.declared.compact_end.CompactEnd.TheVariants.{Done};
+
+/// A law: a compaction is a sync, and a run of what follows the sync's end.
+pub fn compactions_begin_with_a_sync()
+    ensures falls { (rules : Rules) (retention : Option Span) (entries : List Entry)
+        (end : Option CompactEnd) → CompactRun rules retention entries end
+        → BeginsWithSync rules retention entries end }
+    ensures joins { (rules : Rules) (retention : Option Span) (entries : List Entry)
+        (end : Option CompactEnd) → BeginsWithSync rules retention entries end
+        → CompactRun rules retention entries end }
+{}
+
+/// A law: a compaction that is done has compacted each group of its own sync that has a plan, and counts these groups. So it has
+/// compacted none exactly where none has a plan.
+pub fn groups_are_counted()
+    ensures { (rules : Rules) (retention : Option Span) (entries : List Entry)
+        (collected compacted expired : ℕ)
+        → CompactRun rules retention entries (Some (Done collected compacted expired))
+        → IsCounted rules entries compacted }
+{}

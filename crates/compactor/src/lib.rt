@@ -1,0 +1,11 @@
+//! Compaction: the blocks of a bucket that belong together become one, and blocks that are no longer needed are marked.
+#![tactic(auto)]
+
+mod compact_end;
+mod inputs;
+mod laws;
+mod new_block;
+mod new_mark;
+
+pub use compact_end::CompactEnd;
+pub use laws::{compactions_begin_with_a_sync, groups_are_counted};
