@@ -102,6 +102,6 @@ calm_worked around saying (Checked block outcome) status calm rests (inr run) sa
 calm_worked around saying NoMemory status calm rests worked said = said_well NoMemory saying status calm.sink (inr refl) said
 
 pub calm_end : (around : Around) (saying : Saying) (verdict : Verdict) (status : Status) → IsCalm around saying → IfSome around.journal Rests → IsCaused around verdict → IsSaid verdict saying status → IsGood status
-calm_end around saying verdict status calm rests (inl (run, none, worked)) said = calm_worked around saying verdict status calm rests worked said
-calm_end around saying verdict status calm rests (inr (inl (no_run, checked, opened))) said = absurd (no_run.none calm.accepts)
-calm_end around saying verdict status calm rests (inr (inr (no_run, block, refused, unasked))) said = absurd (no_run.none calm.accepts)
+calm_end around saying verdict status calm rests (inl (run, none, worked), short) said = calm_worked around saying verdict status calm rests worked said
+calm_end around saying verdict status calm rests (inr (inl (no_run, checked, opened)), short) said = absurd (no_run.none calm.accepts)
+calm_end around saying verdict status calm rests (inr (inr (no_run, block, refused, unasked)), short) said = absurd (no_run.none calm.accepts)

@@ -22,7 +22,7 @@ use Rattle.replay_cli.specs.Statuses.{number_of}
 use Rattle.replay_cli.specs.declared.check_outcome.CheckOutcome.{CheckOutcome}
 use Rattle.replay_cli.specs.declared.check_outcome.CheckOutcome.TheVariants.{Passed, Refused}
 use Rattle.replay_cli.proofs.Verdicts.{if_told as if_told_before}
-use Rattle.replay_cli.specs.Verdicts.{Around, BehindOpening, IsCaused, IsChecked, IsCheckDone, IsCheckSaid, IsSaid, IsWorked, Saying, status_of}
+use Rattle.replay_cli.specs.Verdicts.{Around, BehindOpening, IsCalled, IsCaused, IsChecked, IsCheckDone, IsCheckSaid, IsSaid, IsWorked, Saying, status_of}
 use Rattle.replay_cli.specs.declared.status.Status.{Status}
 use Rattle.replay_cli.specs.declared.status.Status.TheVariants as status
 use Rattle.replay_cli.specs.declared.verdict.Verdict.{Verdict}
@@ -36,7 +36,7 @@ not_named (Some name) none some = absurd (cc (none))
 -- a run, where the bucket, the shelf and the block are named by words
 pub caused_run : (around : Option (List ℕ) → Option (List ℕ) → Option ℕ → Around) (bucket other_bucket shelf other_shelf : Option (List ℕ)) (block other_block : Option ℕ) (v : Verdict)
     → bucket ≡ other_bucket → shelf ≡ other_shelf → block ≡ other_block → (around other_bucket other_shelf other_block).run → (around other_bucket other_shelf other_block).block ≡ None → IsWorked (around bucket shelf block) v
-    → IsCaused (around other_bucket other_shelf other_block) v
+    → IsCalled (around other_bucket other_shelf other_block) v
 caused_run around bucket other_bucket shelf other_shelf block other_block v one two three run none w =
     inl (
       run,
@@ -48,14 +48,14 @@ caused_run around bucket other_bucket shelf other_shelf block other_block v one 
 
 -- the check of a block, in the same way
 pub caused_check : (around : Option (List ℕ) → Option (List ℕ) → Option ℕ → Around) (bucket other_bucket shelf other_shelf : Option (List ℕ)) (block other_block : Option ℕ) (v : Verdict)
-    → bucket ≡ other_bucket → shelf ≡ other_shelf → block ≡ other_block → IsCheckDone (around bucket shelf block) v → IsCaused (around other_bucket other_shelf other_block) v
+    → bucket ≡ other_bucket → shelf ≡ other_shelf → block ≡ other_block → IsCheckDone (around bucket shelf block) v → IsCalled (around other_bucket other_shelf other_block) v
 caused_check around bucket other_bucket shelf other_shelf block other_block v one two three done =
     inr (inl (subst (λ (b : Option (List ℕ)). IsCheckDone (around b other_shelf other_block) v) one
     (subst (λ (s : Option (List ℕ)). IsCheckDone (around bucket s other_block) v) two
     (subst (λ (k : Option ℕ). IsCheckDone (around bucket shelf k) v) three done))))
 
 -- words that are no form of a call
-pub caused_words : (around : Around) (v : Verdict) → ¬ around.run → around.journal ≡ None → around.left ≡ around.text → around.block ≡ None → v ≡ WordsRefused → around.unasked → IsCaused around v
+pub caused_words : (around : Around) (v : Verdict) → ¬ around.run → around.journal ≡ None → around.left ≡ around.text → around.block ≡ None → v ≡ WordsRefused → around.unasked → IsCalled around v
 caused_words around v none journal unread block is unasked = inr (inr (record { none = none; journal = journal; unread = unread }, block, is, unasked))
 
 -- what holds behind an opening, with a weaker fact
@@ -168,10 +168,10 @@ said_check files failed saying NoMemory result block is said = other_said files 
 
 pub check_said : (around : Around) (saying : Saying) (verdict : Verdict) (result : Status) (block : ℕ) → around.block ≡ Some block → IsCaused around verdict → IsSaid verdict saying result
     → IsCheckSaid around.files block saying (number_of result)
-check_said around saying verdict result block named (inl (run, none, worked)) said = absurd (cc (none, named))
-check_said around saying verdict result block named (inr (inl (no_run, checked, opened))) said =
+check_said around saying verdict result block named (inl (run, none, worked), short) said = absurd (cc (none, named))
+check_said around saying verdict result block named (inr (inl (no_run, checked, opened)), short) said =
     said_check around.files around.shelf_failed saying verdict result block (subst (λ (o : Option ℕ). IsSomeAnd o (λ ulid. IsChecked around.files ulid around.shelf_failed verdict)) named checked) said
-check_said around saying verdict result block named (inr (inr (no_run, none, refused, unasked))) said = absurd (cc (none, named))
+check_said around saying verdict result block named (inr (inr (no_run, none, refused, unasked)), short) said = absurd (cc (none, named))
 
 -- the files of a shelf that a word names are those that the site tells under the word
 pub files_named : (told : List ℕ → Option Contents) (word : Option (List ℕ)) (P : Contents → Type 0) → true ≡ is_some word → IfSome (told_of told word) P → IfSome (files_of told word) P

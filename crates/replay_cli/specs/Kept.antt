@@ -26,6 +26,11 @@ abbrev pub IsUntouched : {B : Type 0} → (B → Option Contents) → Contents �
 IsUntouched contents before (Some journal) (Some store) = journal ≡ [] → IfSome (contents store) (λ c. c ≡ before)
 IsUntouched contents before journal store = Unit {0}
 
+-- the bucket has failed no more often than before, unless the journal shows that it did
+abbrev pub IsUnfailed : {B : Type 0} → (B → ℕ) → ℕ → Option (List Entry) → Option B → Type 0
+IsUnfailed faults before (Some journal) (Some store) = failed_count journal ≡ 0 → faults store ≡ before
+IsUnfailed faults before journal store = Unit {0}
+
 -- a site counts a bucket, or a shelf, that it handed out
 abbrev pub IsHandedOut : {S B : Type 0} → (S → ℕ) → S → S → Option B → Type 0
 IsHandedOut opened old new store = opened new ≡ (if is_some store then opened old + 1 else opened old)

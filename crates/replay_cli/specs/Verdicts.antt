@@ -24,7 +24,7 @@ use Rattle.lifecycle_core.specs.Setting.{Setting, setting_of}
 use Rattle.lifecycle_core.specs.Tasks.{End}
 use Rattle.lifecycle_core.specs.Ways.{AreFinished, AreUnfinished, IsOperationDue}
 use Rattle.replay_cli.specs.Checks.{check_line, check_status, files_of, IsCheckOf}
-use Rattle.replay_cli.specs.Kept.{HoldsNothing, IsNotAsked, IsOpened, told_of}
+use Rattle.replay_cli.specs.Kept.{HoldsNothing, IsNotAsked, IsOpened, IsUnfailed, told_of}
 use Rattle.script_running.specs.Outcomes.{PhasesCame}
 use Rattle.replay_cli.specs.Output.{IsWrittenInPart}
 use Rattle.replay_cli.specs.Reports.{activity_text, newline}
@@ -142,6 +142,8 @@ pub record Around : Type 1 where
   pub shelf_failed : Type 0
   -- the journal that is handed back
   pub journal : Option (List Entry)
+  -- nothing failed, but what the journal shows: no count of failures of the source, the site, the bucket or the shelf has risen
+  pub unfailed : Type 0
 
 -- an opening failed, or a bucket that was handed out has failed
 abbrev pub SiteFailed : {S B : Type 0} → (S → ℕ) → S → S → (B → ℕ) → Option B → Type 0
@@ -165,6 +167,9 @@ around_call left source_faults script read buckets next_bucket shelves next_shel
   files = files_of (next_shelf site) shelf_word;
   shelf_failed = SiteFailed site_faults site asked shelf_faults shelf;
   journal = journal;
+  unfailed =
+      (source_faults read ≡ source_faults script) × (site_faults asked ≡ site_faults site)
+      × IsUnfailed store_faults 0 journal store × IfSome shelf (λ s. shelf_faults s ≡ 0);
 }
 
 -- Why a script's run comes to a verdict: by what the bucket held before, where that is told; by whether something could not
@@ -237,13 +242,22 @@ pub record IsNoRun (around : Around) : Type 0 where
 abbrev pub IsCheckDone : Around → Verdict → Type 0
 IsCheckDone around verdict = IsNoRun around × IsSomeAnd around.block (λ ulid. IsChecked around.files ulid around.shelf_failed verdict) × BehindOpening verdict around.opened
 
--- Why a call comes to a verdict, by what its words ask for: the run of a script; or the check of a block; or they are no form of a
--- call, and then the site is asked for nothing.
-abbrev pub IsCaused : Around → Verdict → Type 0
-IsCaused around verdict =
+-- what holds where memory was wanted
+abbrev pub IfShort : Verdict → Type 0 → Type 0
+IfShort NoMemory P = P
+IfShort other P = Unit {0}
+
+-- By what the words of a call ask for: the run of a script; or the check of a block; or they are no form of a call, and then the
+-- site is asked for nothing.
+abbrev pub IsCalled : Around → Verdict → Type 0
+IsCalled around verdict =
     (around.run × (around.block ≡ None) × IsWorked around verdict)
     ⊎ IsCheckDone around verdict
     ⊎ (IsNoRun around × (around.block ≡ None) × (verdict ≡ WordsRefused) × around.unasked)
+
+-- Why a call comes to a verdict. Want of memory is told only where nothing failed but what the journal shows.
+abbrev pub IsCaused : Around → Verdict → Type 0
+IsCaused around verdict = IsCalled around verdict × IfShort verdict around.unfailed
 
 -- ---- what is said
 

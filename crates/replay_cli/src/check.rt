@@ -1,10 +1,10 @@
 //! The check of one block of a shelf.
-ghost use Rattle.std.specs.Prelude.{◌≡◌, None, is_some, option_map};
+ghost use Rattle.std.specs.Prelude.{◌≡◌, None, IfSome, is_some, option_map};
 ghost use Rattle.bucket_core.specs.Causes.{Rose};
 ghost use Rattle.replay_cli.specs.CheckVerdicts.{refused_for, verdict_on};
 ghost use Rattle.replay_cli.specs.Checks.{cause_number, files_in, files_of, HasFailed};
 ghost use Rattle.replay_cli.specs.Kept.{IsNotAsked, IsShelfOf};
-ghost use Rattle.replay_cli.specs.Verdicts.{BehindOpening, IsChecked, SiteFailed};
+ghost use Rattle.replay_cli.specs.Verdicts.{BehindOpening, IfShort, IsChecked, SiteFailed};
 ghost use Rattle.replay_cli.specs.Words.{named_by};
 
 use crate::Verdict;
@@ -33,6 +33,9 @@ pub(crate) fn check_block<S: Site>(
     ensures bucket { IsNotAsked S.buckets S.next_bucket site.old site.new }
     ensures shelf { IsShelfOf S.shelves S.next_shelf S.Files.files (named_by shelf.now)
         site.old site.new result.shelf }
+    ensures short { IfShort result.conclusion.verdict
+        ((S.faults site.new ≡ S.faults site.old)
+        × IfSome result.shelf (λ files. S.Files.faults files ≡ 0)) }
     ensures store { result.conclusion.store ≡ None }
     ensures journal { result.conclusion.journal ≡ None }
 {
@@ -55,6 +58,8 @@ pub(crate) fn check_block<S: Site>(
 fn check_opened<F: Shelf>(alloc: Global, block: Ulid, shelf: Option<F>) -> (Verdict, Option<F>)
     ensures cause { IsChecked (files_in F.files shelf) block
         (HasFailed F.faults shelf result.1) result.0 }
+    ensures short { IfSome shelf (λ files. F.faults files ≡ 0)
+        → IfShort result.0 (IfSome result.1 (λ files. F.faults files ≡ 0)) }
     ensures same { option_map F.files result.1 ≡ option_map F.files shelf }
 {
     match shelf {
@@ -77,6 +82,7 @@ fn absent(block: Ulid) -> Verdict
 fn check_files<F: Shelf>(alloc: Global, block: Ulid, shelf: F) -> (Verdict, F)
     ensures cause { IsChecked (F.files shelf) block (Rose (F.faults shelf) (F.faults result.1))
         result.0 }
+    ensures short { IfShort result.0 (F.faults result.1 ≡ F.faults shelf) }
     ensures same { F.files result.1 ≡ F.files shelf }
 {
     let mut shelf = shelf;

@@ -1,4 +1,4 @@
-ghost use Rattle.std.specs.Prelude.{◌≡◌, ◌≤◌, ◌<◌, ◌++◌, [], List, ℕ, Option, Some, Err, IfOk, IfSome, length, option_map};
+ghost use Rattle.std.specs.Prelude.{◌≡◌, ◌≢◌, ◌≤◌, ◌<◌, ◌++◌, [], List, ℕ, Option, Some, Err, IfOk, IfSome, length, option_map};
 ghost use Rattle.bucket_core.specs.Causes.{Rose};
 ghost use Rattle.script_core.specs.Limits.{longest_text};
 
@@ -20,6 +20,8 @@ pub fn read_all<R: Source>(alloc: Global, source: &mut R) -> Result<Vec<u8>, Inp
     ensures later { R.faults source.old ≤ R.faults source.new }
     ensures cause { result ≡ Err InputRefusal.Fault
         → Rose (R.faults source.old) (R.faults source.new) }
+    ensures only { result ≢ Err InputRefusal.Fault
+        → R.faults source.new ≡ R.faults source.old }
 {
     let mut bytes = Vec::new(alloc);
     let mut piece = zeros(alloc, PIECE)?;

@@ -1,7 +1,7 @@
-ghost use Rattle.std.specs.Prelude.{◌≡◌, ◌≤◌, [], Some, IfOk, IfErr, IfSome, IsSome, is_some};
+ghost use Rattle.std.specs.Prelude.{◌≡◌, ◌≢◌, ◌≤◌, [], Some, IfOk, IfErr, IfSome, IsSome, MatchResult, is_some};
 ghost use Rattle.bucket_core.specs.Causes.{Rose};
 ghost use Rattle.lifecycle_core.specs.Setting.{Setting};
-ghost use Rattle.replay_cli.specs.Kept.{IsHandedBack, IsNotAsked, IsShelfOf};
+ghost use Rattle.replay_cli.specs.Kept.{IsHandedBack, IsNotAsked, IsShelfOf, IsUnfailed};
 ghost use Rattle.replay_cli.specs.Verdicts.{IsRun};
 ghost use Rattle.replay_cli.specs.Words.{named_by};
 
@@ -23,6 +23,8 @@ pub(crate) fn open_shelf<S: Site>(site: &mut S, word: &str) -> Result<Option<S::
     ensures later { S.faults site.old ≤ S.faults site.new }
     ensures cause { IfErr result (λ refusal. refusal ≡ SiteRefusal.Failed
         → Rose (S.faults site.old) (S.faults site.new)) }
+    ensures only { MatchResult result (λ _. S.faults site.new ≡ S.faults site.old)
+        (λ refusal. refusal ≢ SiteRefusal.Failed → S.faults site.new ≡ S.faults site.old) }
 {
     if word == "none" {
         return Ok(None);
@@ -45,6 +47,7 @@ pub(crate) fn refused(refusal: SiteRefusal) -> Verdict
 }
 
 /// What a call comes to whose shelf is not opened. Nothing is done to the bucket.
+#[tactic(auto, using(crate::proofs::Unfailed::unfailed_same))]
 pub(crate) fn without_shelf<B: Bucket>(
     alloc: Global,
     refusal: SiteRefusal,
@@ -57,6 +60,7 @@ pub(crate) fn without_shelf<B: Bucket>(
     ensures store { result.store ≡ Some bucket }
     ensures journal { result.journal ≡ Some [] }
     ensures back { IsHandedBack B.contents B.faults result.journal result.store }
+    ensures unfailed { IsUnfailed B.faults (B.faults bucket) result.journal result.store }
 {
     Conclusion::with_bucket(refused(refusal), Journal::empty(alloc), bucket)
 }

@@ -1,6 +1,7 @@
 ghost use Rattle.std.specs.Prelude.{◌≡◌, ◌≢◌, ◌++◌, ◌+◌, ◌<◌, ◌^◌, ◌&&◌, [], ◌∷◌, true, length, take, List, Ok, Err, Some, None, IfOk, OnErr, OnOk, MatchResult, slice_get};
 ghost use Rattle.std.specs.List.{All};
 ghost use Rattle.world_core.specs.Keeping.{IsFull};
+ghost use Rattle.world_core.specs.Worlds.{WorldGoesOn};
 ghost use Rattle.world_core.specs.declared.entry.Entry.{Entry};
 ghost use Rattle.store_gateway.specs.declared.gateway.Gateway.{Gateway};
 ghost use Rattle.script_core.specs.Workers.{seats_before};
@@ -78,6 +79,7 @@ impl Progress {
 }
 
 /// Runs the phases in order. What broke the run off, if anything did, comes with the world.
+#[tactic(auto, using(crate::proofs::Unfailed::still, crate::proofs::Unfailed::gone_on))]
 pub(crate) fn run_phases<B: Bucket>(
     alloc: Global,
     script: &Script,
@@ -90,7 +92,7 @@ pub(crate) fn run_phases<B: Bucket>(
     requires reached { Reached (setting_of script.now) 0 progress.old.gateways.items world.journal
         progress.old.report.as_asked progress.old.report.text.items }
     ensures full { result.0 ≡ Err Broken.Full → IsFull result.1.journal }
-    ensures tick { result.1.tick ≡ world.tick }
+    ensures goes_on { WorldGoesOn B.faults B.quiet world result.1 }
     ensures came { RunCame (setting_of script.now) progress.new.gateways.items result.1.journal
         progress.new.report.as_asked progress.new.report.text.items result.0 }
 {
@@ -106,6 +108,7 @@ pub(crate) fn run_phases<B: Bucket>(
 }
 
 /// Sets the clock, and then runs the tasks in the order of their lines.
+#[tactic(auto, using(crate::proofs::Unfailed::still, crate::proofs::Unfailed::gone_on))]
 fn run_phase<B: Bucket>(
     alloc: Global,
     script: &Script,
@@ -121,7 +124,7 @@ fn run_phase<B: Bucket>(
     requires reached { Reached (setting_of script.now) place progress.old.gateways.items
         world.journal progress.old.report.as_asked progress.old.report.text.items }
     ensures full { result.0 ≡ Err Broken.Full → IsFull result.1.journal }
-    ensures tick { result.1.tick ≡ world.tick }
+    ensures goes_on { WorldGoesOn B.faults B.quiet world result.1 }
     ensures ready { length progress.new.gateways.items ≡ length script.now.gateways }
     ensures workers { result.0 ≡ Ok tt
         → progress.new.workers ≡ seats_before script.now (place + 1) }
@@ -147,6 +150,7 @@ fn run_phase<B: Bucket>(
 }
 
 /// Sets the clock to the moment of the phase.
+#[tactic(auto, using(crate::proofs::Unfailed::acted))]
 fn begin_phase<B: Bucket>(phase: &Phase, world: World<B>) -> (Result<(), Broken>, World<B>)
     requires { phase.now.moment.ms < 2 ^ 47 }
     ensures begun { OnOk result.0
@@ -155,7 +159,7 @@ fn begin_phase<B: Bucket>(phase: &Phase, world: World<B>) -> (Result<(), Broken>
     ensures unbegun { OnErr result.0 (result.1.journal ≡ world.journal) }
     ensures full { result.0 ≡ Err Broken.Full → IsFull result.1.journal }
     ensures memory { result.0 ≡ Err Broken.NoMemory → ¬ IsFull result.1.journal }
-    ensures tick { result.1.tick ≡ world.tick }
+    ensures goes_on { WorldGoesOn B.faults B.quiet world result.1 }
 {
     let mut world = world;
     let begun = match world.act(0, Op::Clock(phase.moment)) {
@@ -209,7 +213,7 @@ fn run_tasks<B: Bucket>(
     requires tasks { All (λ task. Allows script.now task.work) tasks.now }
     requires ready { length progress.old.gateways.items ≡ length script.now.gateways }
     ensures full { result.0 ≡ Err Broken.Full → IsFull result.1.journal }
-    ensures tick { result.1.tick ≡ world.tick }
+    ensures goes_on { WorldGoesOn B.faults B.quiet world result.1 }
     ensures came { (views : Holdings) → Shows views progress.old.gateways.items
         → MatchResult result.0
         (λ lines. TasksDone (setting_of script.now)
@@ -254,7 +258,7 @@ fn next_task<B: Bucket>(
     requires within { place < length tasks.now }
     requires ready { length progress.old.gateways.items ≡ length script.now.gateways }
     ensures full { result.0 ≡ Err Broken.Full → IsFull result.1.journal }
-    ensures tick { result.1.tick ≡ world.tick }
+    ensures goes_on { WorldGoesOn B.faults B.quiet world result.1 }
     ensures came { (views : Holdings) (start : List Entry)
         → TasksDone (setting_of script.now) (seat_of seats.now.workers)
         (take place tasks.now) views progress.old.gateways.items start world.journal

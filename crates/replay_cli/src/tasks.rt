@@ -2,6 +2,7 @@
 
 ghost use Rattle.std.specs.Prelude.{◌≡◌, ◌<◌, [], ℕ, Err, length};
 ghost use Rattle.world_core.specs.Keeping.{IsFull};
+ghost use Rattle.world_core.specs.Worlds.{WorldGoesOn};
 ghost use Rattle.script_core.specs.Lawful.{IsLawfulScript};
 ghost use Rattle.script_workers.specs.declared.hand.Hand.TheVariants as hands;
 ghost use Rattle.lifecycle_core.specs.Conducts.{Who};
@@ -23,6 +24,7 @@ use ulid_core::UlidList;
 use world_core::{World, WorldHand};
 
 /// Does one task, before the next one begins. A query is asked of the one gateway, where there is one.
+#[tactic(auto, using(crate::proofs::Unfailed::still, crate::proofs::Unfailed::gone_on))]
 pub(crate) fn do_task<B: Bucket>(
     alloc: Global,
     script: &Script,
@@ -36,7 +38,7 @@ pub(crate) fn do_task<B: Bucket>(
     requires work { Allows script.now task.now.work }
     requires ready { length progress.old.gateways.items ≡ length script.now.gateways }
     ensures full { result.0 ≡ Err Broken.Full → IsFull result.1.journal }
-    ensures tick { result.1.tick ≡ world.tick }
+    ensures goes_on { WorldGoesOn B.faults B.quiet world result.1 }
     ensures step { (views : Holdings) → Shows views progress.old.gateways.items
         → TaskStep (setting_of script.now)
         (seat_of seats.now.workers) place task.now views progress.new.gateways.items world.journal
@@ -80,7 +82,7 @@ fn at_gateway<B: Bucket>(
     requires within { number < length progress.old.gateways.items }
     requires alone { IsOnlyHand (setting_of script.now) place task.now (hands.Gateway number) }
     ensures full { result.0 ≡ Err Broken.Full → IsFull result.1.journal }
-    ensures tick { result.1.tick ≡ world.tick }
+    ensures goes_on { WorldGoesOn B.faults B.quiet world result.1 }
     ensures step { (views : Holdings) → Shows views progress.old.gateways.items
         → TaskStep (setting_of script.now)
         (seat_of seats.now.workers) place task.now views progress.new.gateways.items world.journal
@@ -113,7 +115,7 @@ fn do_over<B: Bucket>(
     requires lawful { IsLawfulScript script.now }
     requires work { Allows script.now work.now }
     ensures full { result.0 ≡ Err Broken.Full → IsFull result.1.journal }
-    ensures tick { result.1.tick ≡ world.tick }
+    ensures goes_on { WorldGoesOn B.faults B.quiet world result.1 }
     ensures done { (who : Who) (place : ℕ) (held : Holding) → Sees held view.old
         → HasDone (setting_of script.now) who place work.now held seat world.journal
         result.1.journal view.new result.0 }

@@ -1,11 +1,11 @@
-ghost use Rattle.std.specs.Prelude.{◌≡◌, ◌⊎◌, ◌<◌, ◌≤◌, ℕ, List, [], Ok, Err, Some, None, IfOk, IfErr, IfSome, IsSome, IsSomeAnd, is_some};
+ghost use Rattle.std.specs.Prelude.{◌≡◌, ◌⊎◌, ◌<◌, ◌≤◌, ℕ, List, [], Ok, Err, Some, None, IfOk, IfErr, IfSome, IsSome, IsSomeAnd, MatchResult, is_some};
 ghost use Rattle.bucket_core.specs.Causes.{Rose};
 ghost use Rattle.bucket_core.specs.Contents.{nothing};
 ghost use Rattle.script_core.specs.Lawful.{IsLawfulScript};
 ghost use Rattle.replay_cli.specs.Checks.{files_of};
-ghost use Rattle.replay_cli.specs.Kept.{IsHandedBack, IsHandedOut, IsNotAsked, IsOpened, IsShelfOf, IsUntouched, told_of};
+ghost use Rattle.replay_cli.specs.Kept.{IsHandedBack, IsHandedOut, IsNotAsked, IsOpened, IsShelfOf, IsUnfailed, IsUntouched, told_of};
 ghost use Rattle.replay_cli.specs.Statuses.{number_of};
-ghost use Rattle.replay_cli.specs.Verdicts.{BehindOpening, IsCalm, IsCaused, IsCheckSaid, IsWorked, IsUnread, IsRun, IsSaid, IsScriptRead, SiteFailed, around_call, saying_to};
+ghost use Rattle.replay_cli.specs.Verdicts.{BehindOpening, IfShort, IsCalm, IsCaused, IsCheckSaid, IsWorked, IsUnread, IsRun, IsSaid, IsScriptRead, SiteFailed, around_call, saying_to};
 ghost use Rattle.replay_cli.specs.Words.{block_word, bucket_word, named_by, shelf_word};
 ghost use Rattle.lifecycle_core.specs.Setting.{setting_of};
 
@@ -139,6 +139,10 @@ fn read_and_run<S: Site, R: Source>(
         None site.old site.new S.Store.faults S.Files.faults
         result.conclusion.store result.shelf result.conclusion.journal)
         result.conclusion.verdict }
+    ensures short { IfShort result.conclusion.verdict
+        ((R.faults script.new ≡ R.faults script.old) × (S.faults site.new ≡ S.faults site.old)
+        × IsUnfailed S.Store.faults 0 result.conclusion.journal result.conclusion.store
+        × IfSome result.shelf (λ files. S.Files.faults files ≡ 0)) }
     ensures handed { IsHandedOut S.buckets site.old site.new result.conclusion.store }
     ensures kept { is_some result.conclusion.journal ≡ is_some result.conclusion.store }
     ensures back { IsHandedBack S.Store.contents S.Store.faults result.conclusion.journal
@@ -165,6 +169,8 @@ fn read_script<R: Source>(alloc: Global, source: &mut R) -> Result<Script, Verdi
     ensures refused { IfErr result
         (IsUnread (R.left source.old) (R.left source.new)
         (Rose (R.faults source.old) (R.faults source.new))) }
+    ensures only { MatchResult result (λ _. R.faults source.new ≡ R.faults source.old)
+        (λ verdict. IfShort verdict (R.faults source.new ≡ R.faults source.old)) }
 {
     let text = match read_all(alloc, source) {
         Ok(text) => text,
@@ -192,6 +198,10 @@ fn over_site<S: Site>(
     ensures cause { IsRun (setting_of script.now) (S.next_bucket site.old bucket.now)
         (SiteFailed S.faults site.old site.new S.Store.faults result.conclusion.store)
         result.conclusion.journal result.conclusion.verdict }
+    ensures short { IfShort result.conclusion.verdict
+        ((S.faults site.new ≡ S.faults site.old)
+        × IsUnfailed S.Store.faults 0 result.conclusion.journal result.conclusion.store) }
+    ensures fresh { IfSome result.shelf (λ files. S.Files.faults files ≡ 0) }
     ensures opened { BehindOpening result.conclusion.verdict
         (IsOpened (Some bucket.now) (named_by shelf.now) result.conclusion.store result.shelf) }
     ensures handed { IsHandedOut S.buckets site.old site.new result.conclusion.store }
@@ -226,6 +236,11 @@ fn over_shelf<S: Site>(
         ⊎ IsSomeAnd result.conclusion.store
         (λ store. Rose (S.Store.faults bucket) (S.Store.faults store)))
         result.conclusion.journal result.conclusion.verdict }
+    ensures short { IfShort result.conclusion.verdict
+        ((S.faults site.new ≡ S.faults site.old)
+        × IsUnfailed S.Store.faults (S.Store.faults bucket) result.conclusion.journal
+        result.conclusion.store) }
+    ensures fresh { IfSome result.shelf (λ files. S.Files.faults files ≡ 0) }
     ensures opened { BehindOpening result.conclusion.verdict
         (is_some result.shelf ≡ is_some (named_by shelf.now)) }
     ensures buckets { S.buckets site.new ≡ S.buckets site.old }
@@ -257,6 +272,8 @@ fn over_bucket<B: Bucket>(alloc: Global, script: &Script, bucket: B) -> Conclusi
     ensures cause { IsRun (setting_of script.now) (B.contents bucket)
         (IsSomeAnd result.store (λ store. Rose (B.faults bucket) (B.faults store))) result.journal
         result.verdict }
+    ensures short { IfShort result.verdict
+        (IsUnfailed B.faults (B.faults bucket) result.journal result.store) }
     ensures store { IsSome result.store }
     ensures journal { IsSome result.journal }
     ensures back { IsHandedBack B.contents B.faults result.journal result.store }
@@ -290,6 +307,7 @@ fn over_world<B: Bucket>(alloc: Global, script: &Script, world: World<B>) -> Con
     requires fresh { world.journal ≡ [] }
     requires tick { world.tick ≡ script.now.rules.tick.ms }
     ensures cause { IsRun (setting_of script.now) (Some nothing) ⊥ result.journal result.verdict }
+    ensures unfailed { IsUnfailed B.faults (B.faults world.bucket) result.journal result.store }
     ensures store { IsSome result.store }
     ensures journal { IsSome result.journal }
     ensures back { IsHandedBack B.contents B.faults result.journal result.store }

@@ -8,6 +8,7 @@ use Rattle.replay_cli.specs.declared.verdict.Verdict.{Verdict}
 use Rattle.replay_cli.proofs.Checks.{unopened_caused}
 use Rattle.replay_cli.proofs.CheckedShelf.{checked_opened, named_kept, shelf_kept}
 use Rattle.replay_cli.proofs.Verdicts.{before_opening, behind_opening}
+use Rattle.replay_cli.proofs.Unfailed.{not_short, short_map, short_refused}
 use Rattle.replay_cli.proofs.check.check_block.Goals as goal
 
 pub returns-in-Ok-clause-cause : goal.returns-in-Ok-clause-cause
@@ -35,3 +36,12 @@ returns-in-Err-clause-cause g c =
 pub returns-in-Err-clause-opened : goal.returns-in-Err-clause-opened
 returns-in-Err-clause-opened g c = before_opening c.in-Err.refusal c.without_bucket-in-Err.result.verdict (is_some {T = g.row.S-Files.Denot} None ≡ is_some (named_by c.args.shelf.now))
     (λ is. c.without_bucket-in-Err.ensures.verdict ∙ c.refused.ensures.failed is) (λ is. c.without_bucket-in-Err.ensures.verdict ∙ c.refused.ensures.none is)
+
+pub returns-in-Ok-clause-short : goal.returns-in-Ok-clause-short
+returns-in-Ok-clause-short g c =
+    not_short c.without_bucket.result.verdict c.check_opened-verdict.result.0 _ c.without_bucket.ensures.verdict
+    (short_map c.check_opened-verdict.result.0 _ _ (λ fresh. (c.in-Ok.ensures.only, fresh)) (c.check_opened-verdict.ensures.short c.in-Ok.ensures.fresh))
+
+pub returns-in-Err-clause-short : goal.returns-in-Err-clause-short
+returns-in-Err-clause-short g c =
+    short_refused c.in-Err.refusal c.without_bucket-in-Err.result.verdict _ (λ is. c.without_bucket-in-Err.ensures.verdict ∙ c.refused.ensures.failed is) (λ other. (c.in-Err.ensures.only other, tt))

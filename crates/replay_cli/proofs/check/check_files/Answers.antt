@@ -3,6 +3,7 @@ use Rattle.bucket_core.specs.Causes.{Rose}
 use Rattle.replay_cli.specs.Verdicts.{IsChecked}
 use Rattle.replay_cli.specs.declared.verdict.Verdict.{Verdict}
 use Rattle.replay_cli.proofs.Checks.{check_caused}
+use Rattle.replay_cli.proofs.Unfailed.{not_short, short_checked}
 use Rattle.replay_cli.proofs.check.check_files.Goals as goal
 
 pub returns-clause-cause : goal.returns-clause-cause
@@ -10,3 +11,6 @@ returns-clause-cause g c =
     subst (λ (v : Verdict). IsChecked (g.F.Shelf.files c.args.shelf) c.args.block (Rose (g.F.Shelf.faults c.args.shelf) (g.F.Shelf.faults c.check_on_shelf-checked.new.shelf)) v) (sym c.verdict_on.ensures)
     (check_caused (g.F.Shelf.files c.args.shelf) c.args.block (Rose (g.F.Shelf.faults c.args.shelf) (g.F.Shelf.faults c.check_on_shelf-checked.new.shelf)) c.check_on_shelf-checked.result
     c.check_on_shelf-checked.ensures.passed c.check_on_shelf-checked.ensures.found c.check_on_shelf-checked.ensures.refused c.check_on_shelf-checked.ensures.kept.cause)
+
+pub returns-clause-short : goal.returns-clause-short
+returns-clause-short g c = not_short c.verdict_on.result _ _ c.verdict_on.ensures (short_checked c.args.block c.check_on_shelf-checked.result _ c.check_on_shelf-checked.ensures.kept.calm)

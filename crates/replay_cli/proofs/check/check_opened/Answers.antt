@@ -1,5 +1,13 @@
 use Rattle.replay_cli.proofs.CheckedShelf.{none_opened}
+use Rattle.std.proofs.Common.{◌≡◌, ◌∙◌}
+use Rattle.replay_cli.proofs.Unfailed.{if_some, short_map, short_of}
 use Rattle.replay_cli.proofs.check.check_opened.Goals as goal
 
 pub returns-in-None-clause-cause : goal.returns-in-None-clause-cause
 returns-in-None-clause-cause g c = none_opened g.F.Shelf.files g.F.Shelf.faults c.args.shelf c.args.block c.absent.result c.in-None.is c.absent.ensures
+
+pub returns-in-Some-clause-short : goal.returns-in-Some-clause-short
+returns-in-Some-clause-short g c = λ fresh. short_map c.check_files-verdict.result.0 _ _ (λ same. same ∙ if_some c.args.shelf c.in-Some.shelf (λ files. g.F.Shelf.faults files ≡ 0) c.in-Some.is fresh) c.check_files-verdict.ensures.short
+
+pub returns-in-None-clause-short : goal.returns-in-None-clause-short
+returns-in-None-clause-short g c = λ fresh. short_of c.absent.result _ tt

@@ -1,4 +1,4 @@
-use Rattle.std.proofs.Common.{◌≡◌, ◌-◌, ◌<◌, ◌≤◌, ◌++◌, List, ℕ, length, vec_len}
+use Rattle.std.proofs.Common.{◌≡◌, ◌-◌, ◌<◌, ◌++◌, List, ℕ, length, vec_len}
 use Rattle.std.specs.Prelude.{option_map}
 use Rattle.replay_cli.proofs.input.read_all.Given as goal
 
@@ -7,7 +7,7 @@ abbrev pub invariant-loop-source : goal.invariant-loop-source
 invariant-loop-source g l = record {
   room : 0 < length l.piece.items;
   whole : g.R.Source.left l.fn.source ≡ option_map (λ (rest : List ℕ). l.bytes.items ++ rest) (g.R.Source.left l.source);
-  later : g.R.Source.faults l.fn.source ≤ g.R.Source.faults l.source;
+  same : g.R.Source.faults l.source ≡ g.R.Source.faults l.fn.source;
 }
 
 abbrev pub decreases-loop-source : goal.decreases-loop-source

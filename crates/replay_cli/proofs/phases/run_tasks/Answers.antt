@@ -3,6 +3,7 @@ use Rattle.std.proofs.lemmas.Result.{MatchResult-at_err, MatchResult-at_ok}
 use Rattle.lifecycle_core.specs.InLine.{seat_of}
 use Rattle.lifecycle_core.specs.Setting.{setting_of}
 use Rattle.script_workers.specs.declared.task.Task.{Task}
+use Rattle.world_core.specs.Worlds.{goes_on-none, goes_on-more}
 use Rattle.replay_cli.specs.Progress.{TasksBroken, TasksDone}
 use Rattle.replay_cli.proofs.Told.{done_none, take_whole}
 use Rattle.replay_cli.proofs.phases.run_tasks.Goals as goal
@@ -10,7 +11,7 @@ use Rattle.replay_cli.proofs.phases.run_tasks.Goals as goal
 pub loop-place-init : goal.loop-place-init
 loop-place-init g c = record {
   done = λ views shows. done_none (setting_of c.args.script.now) (seat_of c.args.seats.now.workers) c.args.tasks.now views c.args.progress.now.gateways.items c.args.world.journal _ c.new.result.items shows refl c.new.ensures.items;
-  tick = refl;
+  goes_on = goes_on-none g.B.Bucket.faults g.B.Bucket.quiet c.args.world;
   report = refl;
   workers = refl;
   ready = c.requires.ready;
@@ -25,7 +26,7 @@ pub loop-place-preserved : goal.loop-place-preserved
 loop-place-preserved g c = record {
   done = λ views shows. MatchResult-at_ok (λ done. TasksDone (setting_of c.args.script.now) (seat_of c.args.seats.now.workers) (take (c.loop-place.place + 1) c.args.tasks.now) views c.next_task-came.new.progress.gateways.items c.args.world.journal c.next_task-came.result.1.journal c.next_task-came.new.lines.as_asked c.next_task-came.new.lines.text.items)
       _ c.in_default.field-0 c.in_default.is (c.next_task-came.ensures.came views c.args.world.journal (c.loop-place.invariant.done views shows));
-  tick = c.next_task-came.ensures.tick ∙ c.loop-place.invariant.tick;
+  goes_on = goes_on-more g.B.Bucket.faults g.B.Bucket.quiet c.args.world c.loop-place.world c.next_task-came.result.1 c.loop-place.invariant.goes_on c.next_task-came.ensures.goes_on;
   report = c.next_task-came.ensures.report ∙ c.loop-place.invariant.report;
   workers = c.next_task-came.ensures.workers ∙ c.loop-place.invariant.workers;
   ready = c.next_task-came.ensures.ready;

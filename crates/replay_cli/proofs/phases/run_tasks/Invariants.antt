@@ -2,6 +2,7 @@ use Rattle.std.proofs.Common.{◌≡◌, take, length}
 use Rattle.lifecycle_core.specs.Holdings.{Holdings}
 use Rattle.lifecycle_core.specs.InLine.{seat_of}
 use Rattle.lifecycle_core.specs.Setting.{setting_of}
+use Rattle.world_core.specs.Worlds.{WorldGoesOn}
 use Rattle.replay_cli.specs.Progress.{Shows, TasksDone}
 use Rattle.replay_cli.proofs.phases.run_tasks.Given as goal
 
@@ -10,7 +11,7 @@ abbrev pub invariant-loop-place : goal.invariant-loop-place
 invariant-loop-place g l = record {
   done : (views : Holdings) → Shows views l.initial.progress.gateways.items
       → TasksDone (setting_of l.script) (seat_of l.seats.workers) (take l.place l.tasks) views l.progress.gateways.items l.initial.world.journal l.world.journal l.lines.as_asked l.lines.text.items;
-  tick : l.world.tick ≡ l.initial.world.tick;
+  goes_on : WorldGoesOn g.B.Bucket.faults g.B.Bucket.quiet l.initial.world l.world;
   report : l.progress.report ≡ l.initial.progress.report;
   workers : l.progress.workers ≡ l.initial.progress.workers;
   ready : length l.progress.gateways.items ≡ length l.script.gateways;

@@ -6,18 +6,22 @@ use Rattle.replay_cli.specs.declared.words.Named.{Named}
 use Rattle.replay_cli.proofs.Checks.{back_none, behind_map, caused_check, caused_run, caused_words, handed_none, not_named, untouched_none}
 use Rattle.replay_cli.proofs.Openings.{shelf_named, untouched_named}
 use Rattle.replay_cli.proofs.Verdicts.{is_named}
+use Rattle.replay_cli.specs.declared.verdict.Verdict.TheVariants.{WordsRefused}
+use Rattle.replay_cli.proofs.Unfailed.{not_short, short_map, unfailed_none}
 use Rattle.replay_cli.proofs.tool.come_to.Goals as goal
 
 -- ---- a run
 
 pub returns-in-Some-clause-cause : goal.returns-in-Some-clause-cause
-returns-in-Some-clause-cause g c =
-    caused_run
-    (λ bucket shelf block. around_call g.R.Source.left g.R.Source.faults c.args.script.now c.read_and_run.new.script g.S.Site.buckets g.S.Site.next_bucket g.S.Site.shelves g.S.Site.next_shelf g.S.Site.faults bucket shelf block
-    c.args.site.now c.read_and_run.new.site g.S.Store.Bucket.faults g.S.Files.Shelf.faults c.read_and_run.result.conclusion.store c.read_and_run.result.shelf c.read_and_run.result.conclusion.journal)
-    (Some c.in-Some.named.bucket.now) (bucket_word c.args.words.now) (named_by c.in-Some.named.shelf.now) (shelf_word c.args.words.now) None (block_word c.args.words.now) c.read_and_run.result.conclusion.verdict
-    c.in-Some.ensures.bucket c.in-Some.ensures.shelf c.in-Some.ensures.block
-    (is_named c.in-Some.named.bucket.now (bucket_word c.args.words.now) c.in-Some.ensures.bucket) (sym c.in-Some.ensures.block) c.read_and_run.ensures.cause
+returns-in-Some-clause-cause g c = (
+  caused_run
+      (λ bucket shelf block. around_call g.R.Source.left g.R.Source.faults c.args.script.now c.read_and_run.new.script g.S.Site.buckets g.S.Site.next_bucket g.S.Site.shelves g.S.Site.next_shelf g.S.Site.faults bucket shelf block
+      c.args.site.now c.read_and_run.new.site g.S.Store.Bucket.faults g.S.Files.Shelf.faults c.read_and_run.result.conclusion.store c.read_and_run.result.shelf c.read_and_run.result.conclusion.journal)
+      (Some c.in-Some.named.bucket.now) (bucket_word c.args.words.now) (named_by c.in-Some.named.shelf.now) (shelf_word c.args.words.now) None (block_word c.args.words.now) c.read_and_run.result.conclusion.verdict
+      c.in-Some.ensures.bucket c.in-Some.ensures.shelf c.in-Some.ensures.block
+      (is_named c.in-Some.named.bucket.now (bucket_word c.args.words.now) c.in-Some.ensures.bucket) (sym c.in-Some.ensures.block) c.read_and_run.ensures.cause,
+  c.read_and_run.ensures.short,
+)
 
 pub returns-in-Some-clause-untouched : goal.returns-in-Some-clause-untouched
 returns-in-Some-clause-untouched g c =
@@ -32,16 +36,18 @@ returns-in-Some-clause-shelf g c =
 -- ---- the check of a block
 
 pub returns-in-Some-read_check-clause-cause : goal.returns-in-Some-read_check-clause-cause
-returns-in-Some-read_check-clause-cause g c =
-    caused_check
-    (λ bucket shelf block. around_call g.R.Source.left g.R.Source.faults c.args.script.now c.args.script.now g.S.Site.buckets g.S.Site.next_bucket g.S.Site.shelves g.S.Site.next_shelf g.S.Site.faults bucket shelf block
-    c.args.site.now c.check_block.new.site g.S.Store.Bucket.faults g.S.Files.Shelf.faults c.check_block.result.conclusion.store c.check_block.result.shelf c.check_block.result.conclusion.journal)
-    None (bucket_word c.args.words.now) (named_by c.in-Some-read_check.asked.shelf.now) (shelf_word c.args.words.now) (Some c.in-Some-read_check.asked.block) (block_word c.args.words.now) c.check_block.result.conclusion.verdict
-    (sym c.in-Some-read_check.ensures.run) c.in-Some-read_check.ensures.shelf c.in-Some-read_check.ensures.block (
-      record { none = not_named None refl; journal = c.check_block.ensures.journal; unread = refl },
-      c.check_block.ensures.cause,
-      behind_map c.check_block.result.conclusion.verdict _ _ (λ named. (ap is_some c.check_block.ensures.store, named)) c.check_block.ensures.opened,
-    )
+returns-in-Some-read_check-clause-cause g c = (
+  caused_check
+      (λ bucket shelf block. around_call g.R.Source.left g.R.Source.faults c.args.script.now c.args.script.now g.S.Site.buckets g.S.Site.next_bucket g.S.Site.shelves g.S.Site.next_shelf g.S.Site.faults bucket shelf block
+      c.args.site.now c.check_block.new.site g.S.Store.Bucket.faults g.S.Files.Shelf.faults c.check_block.result.conclusion.store c.check_block.result.shelf c.check_block.result.conclusion.journal)
+      None (bucket_word c.args.words.now) (named_by c.in-Some-read_check.asked.shelf.now) (shelf_word c.args.words.now) (Some c.in-Some-read_check.asked.block) (block_word c.args.words.now) c.check_block.result.conclusion.verdict
+      (sym c.in-Some-read_check.ensures.run) c.in-Some-read_check.ensures.shelf c.in-Some-read_check.ensures.block (
+        record { none = not_named None refl; journal = c.check_block.ensures.journal; unread = refl },
+        c.check_block.ensures.cause,
+        behind_map c.check_block.result.conclusion.verdict _ _ (λ named. (ap is_some c.check_block.ensures.store, named)) c.check_block.ensures.opened,
+      ),
+  short_map c.check_block.result.conclusion.verdict _ _ (λ short. (refl, short.0, unfailed_none g.S.Store.Bucket.faults 0 _ _ c.check_block.ensures.journal, short.1)) c.check_block.ensures.short,
+)
 
 pub returns-in-Some-read_check-clause-handed : goal.returns-in-Some-read_check-clause-handed
 returns-in-Some-read_check-clause-handed g c =
@@ -70,9 +76,11 @@ returns-in-Some-read_check-clause-shelf g c =
 
 pub returns-in-None-clause-cause : goal.returns-in-None-clause-cause
 returns-in-None-clause-cause g c =
-    let none : bucket_word c.args.words.now ≡ None = sym c.read_serial.ensures.bucket ∙ ap (option_map (λ (named : Named). named.bucket.now)) c.in_default.is in
-    caused_words
-    (around_call g.R.Source.left g.R.Source.faults c.args.script.now c.args.script.now g.S.Site.buckets g.S.Site.next_bucket g.S.Site.shelves g.S.Site.next_shelf g.S.Site.faults (bucket_word c.args.words.now) (shelf_word c.args.words.now) (block_word c.args.words.now)
-    c.args.site.now c.args.site.now g.S.Store.Bucket.faults g.S.Files.Shelf.faults c.without_bucket.result.store None c.without_bucket.result.journal)
-    c.without_bucket.result.verdict (not_named (bucket_word c.args.words.now) none) c.without_bucket.ensures.journal refl (sym c.in-None.ensures.block) c.without_bucket.ensures.verdict
-    (record { handed = refl; next = refl }, record { handed = refl; next = refl })
+    let none : bucket_word c.args.words.now ≡ None = sym c.read_serial.ensures.bucket ∙ ap (option_map (λ (named : Named). named.bucket.now)) c.in_default.is in (
+      caused_words
+          (around_call g.R.Source.left g.R.Source.faults c.args.script.now c.args.script.now g.S.Site.buckets g.S.Site.next_bucket g.S.Site.shelves g.S.Site.next_shelf g.S.Site.faults (bucket_word c.args.words.now) (shelf_word c.args.words.now) (block_word c.args.words.now)
+          c.args.site.now c.args.site.now g.S.Store.Bucket.faults g.S.Files.Shelf.faults c.without_bucket.result.store None c.without_bucket.result.journal)
+          c.without_bucket.result.verdict (not_named (bucket_word c.args.words.now) none) c.without_bucket.ensures.journal refl (sym c.in-None.ensures.block) c.without_bucket.ensures.verdict
+          (record { handed = refl; next = refl }, record { handed = refl; next = refl }),
+      not_short c.without_bucket.result.verdict WordsRefused _ c.without_bucket.ensures.verdict tt,
+    )

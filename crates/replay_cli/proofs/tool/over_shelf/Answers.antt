@@ -5,6 +5,7 @@ use Rattle.bucket_core.specs.declared.site_refusal.SiteRefusal.TheVariants as si
 use Rattle.lifecycle_core.specs.Setting.{setting_of}
 use Rattle.replay_cli.specs.Words.{named_by}
 use Rattle.replay_cli.proofs.Verdicts.{before_opening, behind_opening, run_weaker}
+use Rattle.replay_cli.proofs.Unfailed.{short_map, short_refused}
 use Rattle.replay_cli.proofs.tool.over_shelf.Goals as goal
 
 pub returns-in-Ok-clause-opened : goal.returns-in-Ok-clause-opened
@@ -18,3 +19,10 @@ returns-in-Err-clause-cause g c =
 
 pub returns-in-Err-clause-opened : goal.returns-in-Err-clause-opened
 returns-in-Err-clause-opened g c = before_opening c.in-Err.refusal c.without_shelf.result.verdict (is_some {T = g.row.S-Files.Denot} None ≡ is_some (named_by c.args.shelf.now)) c.without_shelf.ensures.failed c.without_shelf.ensures.none
+
+pub returns-in-Ok-clause-short : goal.returns-in-Ok-clause-short
+returns-in-Ok-clause-short g c = short_map c.over_bucket.result.verdict _ _ (λ unfailed. (c.in-Ok.ensures.only, unfailed)) c.over_bucket.ensures.short
+
+pub returns-in-Err-clause-short : goal.returns-in-Err-clause-short
+returns-in-Err-clause-short g c =
+    short_refused c.in-Err.refusal c.without_shelf.result.verdict _ c.without_shelf.ensures.failed (λ other. (c.in-Err.ensures.only other, c.without_shelf.ensures.unfailed))
