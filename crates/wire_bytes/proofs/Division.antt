@@ -1,7 +1,7 @@
 -- Multiplying by x is linear, so that many coefficients are taken at once.
 use Rattle.std.proofs.Common.{◌≡◌, ℕ, zero, suc, ◌+◌, ◌*◌, ◌/◌, ◌%◌, ◌^◌, ◌<◌, ◌≤◌, cond, eqb, List, [], ◌∷◌, ◌++◌, length, fold, refl, sym, ap, ◌∙◌, arith, ◌⊎◌, inl, inr, take, drop, get_or, add-one, drop-cons, length-drop}
 use Rattle.std.specs.Int.Bits.{bit_xor, xor_assoc, xor_self, xor_zero_r}
-use Rattle.std.specs.Int.{w32, w64, from_le_bytes}
+use Rattle.std.specs.Int.{w32, from_le_bytes}
 use Rattle.std.specs.List.{flat_map, AllByRecursion}
 use Rattle.std.specs.Int.Bits.{xor_shifted}
 use Rattle.std.proofs.Math.Nat.{pow-suc, mod-lt}
@@ -148,7 +148,7 @@ with_bytes r (byte ∷ bytes) are =
     parts ∙ with_bytes (fold with_bit r (coefficients byte)) bytes are.1 ∙ ap (λ k. times_x_to n (bit_xor k high)) first
     ∙ ap (times_x_to n) (sym at_once) ∙ sym (ap (λ k. times_x_to k (bit_xor r (byte + 256 * high))) count ∙ times_x_to-add 8 n (bit_xor r (byte + 256 * high)))
 
--- ---- four, eight and sixteen bytes of the code, and one
+-- ---- four and sixteen bytes of the code, and one
 
 next_entry : (n k w : ℕ) → times_x_to (8 + n) (w / 2 ^ k) ≡ bit_xor (times_x_to n (w / 2 ^ (k + 8))) (times_x_to (8 + n) (w / 2 ^ k % 256))
 next_entry n k w = times_x_to-part 8 n (w / 2 ^ k) ∙ ap (λ v. bit_xor (times_x_to n v) (times_x_to (8 + n) (w / 2 ^ k % 256))) (shr-shr w k 8)
@@ -177,17 +177,23 @@ four_entries behind half small =
     let four : 8 * (behind + 4) ≡ 8 + (8 + (8 + (8 + n))) = omega arith in
     rw (one, two, three, last, four) (sym (four_parts n half small))
 
--- the halves of a word add up to its eight bytes
-pub two_halves : (behind word : ℕ) → bit_xor (times_x_to (8 * (behind + 4)) (word / 2 ^ 32)) (times_x_to (8 * (behind + 4 + 4)) (word % 2 ^ 32)) ≡ times_x_to (8 * (behind + 8)) word
-two_halves behind word =
-    let n = 8 * (behind + 4) in
-    let low : 8 * (behind + 4 + 4) ≡ 32 + n = omega arith in
-    let all : 8 * (behind + 8) ≡ 32 + n = omega arith in
-    rw (low, all) (sym (times_x_to-part 32 n word))
+-- what was read moves on by the four bytes behind it
+moved : (n r half : ℕ) → times_x_to n (bit_xor (times_x_to 32 r) half) ≡ bit_xor (times_x_to (32 + n) r) (times_x_to n half)
+moved n r half = times_x_to-xor n (times_x_to 32 r) half ∙ ap (λ m. bit_xor m (times_x_to n half)) (sym (times_x_to-add 32 n r))
 
--- a word moves on by the eight bytes behind it
-pub two_words : (first second : ℕ) → bit_xor (times_x_to 128 first) (times_x_to 64 second) ≡ times_x_to 64 (bit_xor (times_x_to 64 first) second)
-two_words first second = sym (times_x_to-xor 64 (times_x_to 64 first) second ∙ ap (λ m. bit_xor m (times_x_to 64 second)) (sym (times_x_to-add 64 64 first)))
+-- of sixteen bytes only the first four meet what was read before them
+four_halves : (r b c d : ℕ) → bit_xor (bit_xor (bit_xor (times_x_to 96 b) (times_x_to 64 c)) (times_x_to 32 d)) (times_x_to 128 r) ≡ times_x_to 32 (bit_xor (times_x_to 32 (bit_xor (times_x_to 32 (bit_xor (times_x_to 32 r) b)) c)) d)
+four_halves r b c d =
+    let first = times_x_to 128 r in
+    let second = times_x_to 96 b in
+    let third = times_x_to 64 c in
+    let last = times_x_to 32 d in
+    let two = bit_xor (times_x_to 32 r) b in
+    let three = bit_xor (times_x_to 32 two) c in
+    let apart : times_x_to 32 (bit_xor (times_x_to 32 three) d) ≡ bit_xor (bit_xor (bit_xor first second) third) last =
+    moved 32 three d ∙ ap (λ m. bit_xor m last) (moved 64 two c ∙ ap (λ m. bit_xor m third) (moved 96 r b)) in
+    xor_comm (bit_xor (bit_xor second third) last) first
+    ∙ sym (apart ∙ ap (λ m. bit_xor m last) (xor_assoc first second third) ∙ xor_assoc first (bit_xor second third) last)
 
 pub one_entry : (w : ℕ) → bit_xor (w / 256) (times_x_to 8 (w % 256)) ≡ times_x_to 8 w
 unfolding times_x_to
@@ -199,19 +205,9 @@ pub bytes_small : (bytes : List ℕ) → IsBytes bytes → AllByRecursion (λ by
 bytes_small [] are = tt
 bytes_small (byte ∷ bytes) are = (are 0, bytes_small bytes (λ i. are (suc i)))
 
-low_first-word : (bytes : List ℕ) → length bytes ≡ 8 → low_first bytes ≡ from_le_bytes w64 bytes
-low_first-word (a ∷ b ∷ c ∷ d ∷ e ∷ f ∷ g ∷ h ∷ []) eight = omega arith
-low_first-word other eight = absurd (omega arith)
-
 low_first-half : (bytes : List ℕ) → length bytes ≡ 4 → low_first bytes ≡ from_le_bytes w32 bytes
 low_first-half (a ∷ b ∷ c ∷ d ∷ []) four = omega arith
 low_first-half other four = absurd (omega arith)
-
--- a word, and half of one
-of_word : (r : ℕ) (bytes : List ℕ) → length bytes ≡ 8 → IsBytes bytes → times_x_to 64 (bit_xor r (from_le_bytes w64 bytes)) ≡ remainder r bytes
-unfolding remainder
-of_word r bytes eight are =
-    sym (with_bytes r bytes (bytes_small bytes are) ∙ ap (λ n. times_x_to (8 * n) (bit_xor r (low_first bytes))) eight ∙ ap (λ n. times_x_to 64 (bit_xor r n)) (low_first-word bytes eight))
 
 of_half : (r : ℕ) (bytes : List ℕ) → length bytes ≡ 4 → IsBytes bytes → times_x_to 32 (bit_xor r (from_le_bytes w32 bytes)) ≡ remainder r bytes
 unfolding remainder
@@ -228,23 +224,38 @@ unfolding remainder
 remainder-append r front after =
     sym (ap (fold with_bit r) (flat_map-append coefficients front after) ∙ fold-append with_bit r (flat_map coefficients front) (flat_map coefficients after))
 
-remainder-split : (n r : ℕ) (rest : List ℕ) → remainder (remainder r (take n rest)) (drop n rest) ≡ remainder r rest
+pub remainder-split : (n r : ℕ) (rest : List ℕ) → remainder (remainder r (take n rest)) (drop n rest) ≡ remainder r rest
 remainder-split n r rest = remainder-append r (take n rest) (drop n rest) ∙ ap (remainder r) (take-append-drop n rest)
 
--- eight bytes more, sixteen, four, and one
-word_more : (r total : ℕ) (rest : List ℕ) → 8 ≤ length rest → IsBytes rest → remainder r rest ≡ total → remainder (times_x_to 64 (bit_xor r (from_le_bytes w64 (take 8 rest)))) (drop 8 rest) ≡ total
-word_more r total rest long are so_far =
-    let front = take 8 rest in
-    ap (λ m. remainder m (drop 8 rest)) (of_word r front (omega (arith, length-take 8 rest)) (IsBytes-take 8 rest are)) ∙ remainder-split 8 r rest ∙ so_far
-
-pub words_more : (r total : ℕ) (rest : List ℕ) → 16 ≤ length rest → IsBytes rest → remainder r rest ≡ total → remainder (times_x_to 64 (bit_xor (times_x_to 64 (bit_xor r (from_le_bytes w64 (take 8 rest)))) (from_le_bytes w64 (take 8 (drop 8 rest))))) (drop 8 (drop 8 rest)) ≡ total
-words_more r total rest long are so_far =
-    word_more (times_x_to 64 (bit_xor r (from_le_bytes w64 (take 8 rest)))) total (drop 8 rest) (omega (arith, length-drop 8 rest)) (IsBytes-drop 8 rest are) (word_more r total rest (omega arith) are so_far)
-
+-- four bytes more, sixteen, and one
 pub half_more : (r total : ℕ) (rest : List ℕ) → 4 ≤ length rest → IsBytes rest → remainder r rest ≡ total → remainder (times_x_to 32 (bit_xor r (from_le_bytes w32 (take 4 rest)))) (drop 4 rest) ≡ total
 half_more r total rest long are so_far =
     let front = take 4 rest in
     ap (λ m. remainder m (drop 4 rest)) (of_half r front (omega (arith, length-take 4 rest)) (IsBytes-take 4 rest are)) ∙ remainder-split 4 r rest ∙ so_far
+
+pub sixteen_are : (r : ℕ) (bytes : List ℕ) → length bytes ≡ 16 → IsBytes bytes → bit_xor (bit_xor (bit_xor (times_x_to 96 (from_le_bytes w32 (take 4 (drop 4 bytes)))) (times_x_to 64 (from_le_bytes w32 (take 4 (drop 4 (drop 4 bytes)))))) (times_x_to 32 (from_le_bytes w32 (drop 4 (drop 4 (drop 4 bytes)))))) (times_x_to 128 (bit_xor r (from_le_bytes w32 (take 4 bytes)))) ≡ remainder r bytes
+sixteen_are r bytes sixteen are =
+    let total = remainder r bytes in
+    let rest1 = drop 4 bytes in
+    let rest2 = drop 4 rest1 in
+    let rest3 = drop 4 rest2 in
+    let a = from_le_bytes w32 (take 4 bytes) in
+    let b = from_le_bytes w32 (take 4 rest1) in
+    let c = from_le_bytes w32 (take 4 rest2) in
+    let d = from_le_bytes w32 rest3 in
+    let twelve : length rest1 ≡ 12 = omega (arith, length-drop 4 bytes) in
+    let eight : length rest2 ≡ 8 = omega (arith, length-drop 4 rest1) in
+    let four : length rest3 ≡ 4 = omega (arith, length-drop 4 rest2) in
+    let are1 = IsBytes-drop 4 bytes are in
+    let are2 = IsBytes-drop 4 rest1 are1 in
+    let are3 = IsBytes-drop 4 rest2 are2 in
+    let r1 = times_x_to 32 (bit_xor r a) in
+    let r2 = times_x_to 32 (bit_xor r1 b) in
+    let r3 = times_x_to 32 (bit_xor r2 c) in
+    let one = half_more r total bytes (omega arith) are refl in
+    let two = half_more r1 total rest1 (omega arith) are1 one in
+    let three = half_more r2 total rest2 (omega arith) are2 two in
+    four_halves (bit_xor r a) b c d ∙ of_half r3 rest3 four are3 ∙ three
 
 pub byte_more : (r total i : ℕ) (rest : List ℕ) → i < length rest → IsBytes rest → remainder r (drop i rest) ≡ total → remainder (times_x_to 8 (bit_xor r (get_or rest i 0))) (drop (i + 1) rest) ≡ total
 byte_more r total i rest lt are so_far =

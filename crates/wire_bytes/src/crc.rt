@@ -1,5 +1,5 @@
 ghost use Rattle.std.specs.Prelude.{◌≡◌, ◌+◌, ◌*◌, ◌/◌, ◌%◌, ◌^◌, ◌<◌, ◌≤◌, length, bit_xor};
-ghost use Rattle.std.specs.Int.{w32, w64, from_le_bytes};
+ghost use Rattle.std.specs.Int.{w32, from_le_bytes};
 ghost use Rattle.wire_bytes.specs.Crc.{times_x_to, remainder, crc};
 
 use crate::crc_tables::TABLES;
@@ -11,9 +11,8 @@ pub fn crc_of(bytes: &[u8]) -> u32
     let mut sum = u32::MAX;
     let mut rest = bytes;
     while rest.len() >= 16 {
-        let (first, others) = rest.split_at(8);
-        let (second, after) = others.split_at(8);
-        sum = with_words(sum, word_of(first), word_of(second));
+        let (front, after) = rest.split_at(16);
+        sum = with_sixteen(sum, front);
         rest = after;
     }
     with_few(sum, rest) ^ u32::MAX
@@ -37,12 +36,18 @@ fn with_few(before: u32, bytes: &[u8]) -> u32
     sum
 }
 
-/// Sixteen bytes more, the first of each eight the lowest of their word.
+/// Sixteen bytes more. Only the last step waits for the sum of those before.
 #[inline(always)]
-fn with_words(sum: u32, first: u64, second: u64) -> u32
-    ensures { result ≡ times_x_to 64 (bit_xor (times_x_to 64 (bit_xor sum first)) second) }
+fn with_sixteen(sum: u32, bytes: &[u8]) -> u32
+    requires { length bytes.now ≡ 16 }
+    ensures { result ≡ remainder sum bytes.now }
 {
-    times_word(u64::from(sum) ^ first, 8) ^ times_word(second, 0)
+    let (first, others) = bytes.split_at(4);
+    let (second, after) = others.split_at(4);
+    let (third, last) = after.split_at(4);
+    let middle = times_half(half_of(second), 8) ^ times_half(half_of(third), 4);
+    let behind = middle ^ times_half(half_of(last), 0);
+    behind ^ times_half(sum ^ half_of(first), 12)
 }
 
 /// Four bytes more, the first of them the lowest.
@@ -62,33 +67,13 @@ fn with_byte(sum: u32, byte: u8) -> u32
     (mixed / 256) ^ entry(0, (mixed % 256) as usize)
 }
 
-#[inline(always)]
-fn word_of(front: &[u8]) -> u64
-    requires { length front.now ≡ 8 }
-    ensures { result ≡ from_le_bytes w64 front.now }
-{
-    u64::from_le_bytes([
-        front[0], front[1], front[2], front[3], front[4], front[5], front[6], front[7],
-    ])
-}
-
+/// Four bytes, the first the lowest. They are read at once, since they are one array before their number is taken.
 #[inline(always)]
 fn half_of(front: &[u8]) -> u32
     requires { length front.now ≡ 4 }
     ensures { result ≡ from_le_bytes w32 front.now }
 {
-    u32::from_le_bytes([front[0], front[1], front[2], front[3]])
-}
-
-/// Eight bytes with so many behind them.
-#[inline(always)]
-fn times_word(word: u64, behind: usize) -> u32
-    requires { behind ≤ 8 }
-    ensures { result ≡ times_x_to (8 * (behind + 8)) word }
-{
-    let low = (word % 0x1_0000_0000) as u32;
-    let high = (word / 0x1_0000_0000) as u32;
-    times_half(high, behind) ^ times_half(low, behind + 4)
+    u32::from_le_bytes(*front.as_array::<4>().unwrap())
 }
 
 /// Four bytes with so many behind them.
