@@ -1,6 +1,6 @@
 -- What testing a block's files comes to.
 use Rattle.std.proofs.Common.{◌≡◌, ℕ, List, Option, Some, None, Result, Ok, Err, ℤ, sym, ap, subst, ◌∙◌, ◌⊎◌, inl, inr}
-use Rattle.std.specs.Prelude.{MatchOption, IfOk, IfErr, IsErrAnd}
+use Rattle.std.specs.Prelude.{MatchOption, IfOk, IfErr, IsErrAnd, ◌*◌, ◌≤◌, length, sum_by}
 use Rattle.std.specs.List.{AllByRecursion}
 use Rattle.std.specs.Result.{IsOkAnd}
 use Rattle.reading_core.specs.Grammar.{IsBytes}
@@ -16,7 +16,7 @@ use Rattle.block_files.specs.declared.block_files.BlockFiles.{BlockFiles}
 use Rattle.block_content.specs.Content.{IsContent}
 use Rattle.block_content.specs.ContentRefusals.{RefusesContent}
 use Rattle.block_content.specs.Firsts.{each_at, first_at}
-use Rattle.block_content.specs.ContentReading.{chunks_at, list_of, first_outside, repeated_in, fitted, refused_index, index_at, contents_at}
+use Rattle.block_content.specs.ContentReading.{ListsFew, series_bytes, chunks_at, list_of, first_outside, repeated_in, fitted, refused_index, index_at, contents_at}
 use Rattle.block_content.specs.CheckReading.{found_at, IsFirstFound, IsTested}
 use Rattle.block_content.specs.declared.check_refusal.CheckRefusal.{CheckRefusal}
 use Rattle.block_content.specs.declared.check_refusal.CheckRefusal.TheVariants.{NoMemory}
@@ -73,6 +73,11 @@ ok_not_err x e h = cc
 module _ (files : BlockFiles) (index : List ℕ) (segments : List (List ℕ)) (index_is : index ≡ files.index) (segments_are : segments ≡ files.segments) (bytes : IsBytes index × AllByRecursion IsBytes segments) where
   pub index_bytes : IsBytes files.index
   index_bytes = subst IsBytes index_is bytes.0
+
+  pub test_few : (r : Result (List IndexSeries) CheckRefusal) → IfOk r (λ indexed. ListsFew index indexed × (sum_by (series_bytes segments) indexed ≤ 8 * sum_by length segments)) → IfOk r (λ indexed. ListsFew files.index indexed × (sum_by (series_bytes files.segments) indexed ≤ 8 * sum_by length files.segments))
+  test_few r given =
+      subst (λ (s : List (List ℕ)). IfOk r (λ indexed. ListsFew files.index indexed × (sum_by (series_bytes s) indexed ≤ 8 * sum_by length s))) segments_are
+      (subst (λ (b : List ℕ). IfOk r (λ indexed. ListsFew b indexed × (sum_by (series_bytes segments) indexed ≤ 8 * sum_by length segments))) index_is given)
 
   all_bytes : AllByRecursion IsBytes files.segments
   all_bytes = subst (AllByRecursion IsBytes) segments_are bytes.1

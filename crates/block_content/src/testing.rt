@@ -1,5 +1,5 @@
 //! Testing what a block's files hold, without keeping it.
-ghost use Rattle.std.specs.Prelude.{◌≡◌, ◌⊎◌, List, Err, IfOk, IfErr};
+ghost use Rattle.std.specs.Prelude.{◌≡◌, ◌⊎◌, ◌*◌, ◌≤◌, List, length, sum_by, Err, IfOk, IfErr};
 ghost use Rattle.std.specs.List.{AllByRecursion};
 ghost use Rattle.std.specs.Result.{IsOkAnd};
 ghost use Rattle.reading_core.specs.Grammar.{IsBytes};
@@ -8,6 +8,7 @@ ghost use Rattle.index_file.specs.IndexFile.{IsIndex};
 ghost use Rattle.block_content.specs.Content.{IsContent};
 ghost use Rattle.block_content.specs.ContentRefusals.{RefusesContent};
 ghost use Rattle.block_content.specs.CheckReading.{IsTested};
+ghost use Rattle.block_content.specs.ContentReading.{ListsFew, series_bytes};
 
 use crate::CheckRefusal;
 use crate::checking::{count_all, test_found};
@@ -25,6 +26,8 @@ fn test_files(
     segments: &[Blob],
 ) -> Result<IndexSeriesList, CheckRefusal>
     ensures exact { IsTested meta.now index.now segments.now result }
+    ensures few { IfOk result (λ indexed. ListsFew index.now indexed
+        × (sum_by (series_bytes segments.now) indexed ≤ 8 * sum_by length segments.now)) }
     ensures bytes { IsBytes index.now × AllByRecursion IsBytes segments.now }
 {
     let budget = budget_of(segments);
@@ -45,6 +48,9 @@ pub fn test_content(alloc: Global, files: &BlockFiles) -> Result<IndexSeriesList
         (λ refusal. (refusal ≡ CheckRefusal.NoMemory) ⊎ RefusesContent files.now refusal) }
     ensures refuses { (refusal : CheckRefusal) → RefusesContent files.now refusal
         → (result ≡ Err refusal) ⊎ (result ≡ Err CheckRefusal.NoMemory) }
+    ensures few { IfOk result (λ indexed. ListsFew files.now.index indexed
+        × (sum_by (series_bytes files.now.segments) indexed
+        ≤ 8 * sum_by length files.now.segments)) }
     ensures bytes { IsBytes files.now.index }
 {
     test_files(
