@@ -1,6 +1,7 @@
 pub mod Sightings
 pub mod Syncs
 pub mod SyncStates
+pub mod OneView
 pub use Rattle.block_meta.specs.MetaFields
 pub use Rattle.block_meta.specs.MetaReading
 pub use Rattle.sync_filters.specs.Filters

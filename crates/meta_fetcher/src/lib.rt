@@ -2,6 +2,7 @@
 #![tactic(auto)]
 
 mod filters;
+mod laws;
 mod names;
 mod reading;
 mod rules;
@@ -10,6 +11,7 @@ mod sync;
 mod sync_end;
 mod view;
 
+pub use laws::syncs_are_plans;
 pub use rules::SyncRules;
 pub use sync::Sync;
 pub use sync_end::SyncEnd;
