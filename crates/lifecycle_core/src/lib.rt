@@ -5,7 +5,7 @@
 mod laws;
 
 pub use laws::{
-    calls_are_worth_it, ends_are_calls, entries_tell_the_end, fronts_are_lawful,
+    calls_are_worth_it, ends_are_calls, ends_are_one, entries_tell_the_end, fronts_are_lawful,
     honest_buckets_miss_nothing, honest_journals_tell_no_lie, journals_begin_with_the_first_phase,
     lawful_journals_are_acting, misses_are_explained, no_entry_is_lawful, runs_are_guaranteed,
     runs_in_line_are_lawful, settled_uploads_are_named, unbroken_journals_are_honest,
