@@ -1,5 +1,8 @@
 -- The laws of merges of blocks.
-use Rattle.std.proofs.Common.{◌≡◌, ℕ, List, refl, sym, ap, subst, ◌∙◌}
+use Rattle.std.proofs.Common.{◌≡◌, ℕ, ◌<◌, ◌≤◌, List, length, refl, sym, ap, subst, ◌∙◌, arith}
+use Rattle.block_writing.specs.Files.{AreFilesOf}
+use Rattle.block_writing.proofs.OneText.{one_index}
+use Rattle.index_writing.specs.WriteSteps.{greatest}
 use Rattle.std.specs.List.{AllByRecursion, AllZip}
 use Rattle.list_core.proofs.Lists.{AllByRecursion-weaker}
 use Rattle.reading_core.specs.Grammar.{IsBytes}
@@ -17,7 +20,7 @@ use Rattle.block_laws.specs.PutContent.{AreSeriesOf, AreBytes}
 use Rattle.block_laws.proofs.Content.{put_stands, written_holds, written_only}
 use Rattle.block_laws.proofs.OneBlock.{written_once}
 use Rattle.block_merging.specs.Inputs.{LiesWithin}
-use Rattle.block_merging.specs.MergedBlock.{IsMergeOf}
+use Rattle.block_merging.specs.MergedBlock.{IsMergeOf, HaveNoMerge}
 use Rattle.block_merging.specs.MergedContent.{all_triples}
 use Rattle.block_merging.proofs.StoredInputs.{taken_stored}
 use Rattle.block_merging.proofs.OneMerged.{all_series_once, puts_once}
@@ -48,3 +51,12 @@ merge_once plan replicas blocks block other bytes lie is too =
     let series : is.put.series ≡ too.put.series = puts_once plan replicas blocks lie (indexes_bytes blocks bytes) is.put too.put is.put_is too.put_is in
     let lists : is.put_is.list ≡ too.put_is.list = all_series_once too.put.series is.put_is.list too.put_is.list (subst (λ (l : List PutSeries). AreSeriesOf l is.put_is.list) series is.put_is.list_is) too.put_is.list_is in
     written_once is.put too.put block other (is.put_is.plan_is ∙ sym too.put_is.plan_is) series (is.put_is.samples_are ∙ ap sample_count lists ∙ sym too.put_is.samples_are) is.block_is too.block_is
+
+pub merge_or_none : (plan : BlockPlan) (replicas : List (List ℕ)) (blocks : List BlockFiles) (block : BlockFiles) → AllByRecursion AreBytes blocks → AllByRecursion (LiesWithin plan) blocks → IsMergeOf plan replicas blocks block → HaveNoMerge plan replicas blocks → ⊥
+merge_or_none plan replicas blocks block bytes lie is none =
+    let series : is.put.series ≡ none.put.series = puts_once plan replicas blocks lie (indexes_bytes blocks bytes) is.put none.put is.put_is none.put_is in
+    let their : AreFilesOf is.put.series none.large.index none.large.segments = subst (λ (l : List PutSeries). AreFilesOf l none.large.index none.large.segments) (sym series) none.large.files in
+    let index : block.index ≡ none.large.index = one_index is.put.series block.index none.large.index block.segments none.large.segments is.block_is.files their in
+    let above : greatest < length block.index = subst (λ (i : List ℕ). greatest < length i) (sym index) none.large.large in
+    let small : length block.index ≤ greatest = is.block_is.small in
+    omega (arith, above, small)

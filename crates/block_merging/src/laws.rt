@@ -11,7 +11,7 @@ ghost use Rattle.block_laws.specs.PutContent.{AreBytes};
 ghost use Rattle.vertical_merge.specs.Merged.{IsMerge, IsDeduplication};
 ghost use Rattle.vertical_merge.specs.Compacted.{IsCompactedPlan};
 ghost use Rattle.block_merging.specs.Inputs.{LiesWithin};
-ghost use Rattle.block_merging.specs.MergedBlock.{IsMergeOf};
+ghost use Rattle.block_merging.specs.MergedBlock.{IsMergeOf, HaveNoMerge};
 ghost use Rattle.block_merging.specs.MergedContent.{all_triples};
 
 /// A law: blocks may be merged into the one of which their compaction's plan speaks.
@@ -45,10 +45,14 @@ pub fn merge_has_content()
         → (list : List Series) × IsContent block list }
 {}
 
-/// A law: blocks have one merge.
+/// A law: blocks have one merge, and where they have one its index is not too large.
 pub fn merge_is_one()
-    ensures { (plan : BlockPlan) (replicas : List (List ℕ)) (blocks : List BlockFiles)
+    ensures once { (plan : BlockPlan) (replicas : List (List ℕ)) (blocks : List BlockFiles)
         (block other : BlockFiles) → AllByRecursion AreBytes blocks
         → AllByRecursion (LiesWithin plan) blocks → IsMergeOf plan replicas blocks block
         → IsMergeOf plan replicas blocks other → block ≡ other }
+    ensures or_none { (plan : BlockPlan) (replicas : List (List ℕ)) (blocks : List BlockFiles)
+        (block : BlockFiles) → AllByRecursion AreBytes blocks
+        → AllByRecursion (LiesWithin plan) blocks → IsMergeOf plan replicas blocks block
+        → ¬ HaveNoMerge plan replicas blocks }
 {}
