@@ -4,3 +4,4 @@ pub mod Joining
 pub mod Merging
 pub mod Laws
 pub mod Extremes
+pub mod OnePlan

@@ -4,6 +4,8 @@
 
 mod compacted;
 mod merger;
+mod plan_laws;
 
 pub use compacted::compacted_plan;
 pub use merger::Merger;
+pub use plan_laws::compacted_plans_are_one;
