@@ -34,7 +34,7 @@ use wire_bytes::NumberList;
 /// Read are the list of the first row and those of the rows that decide what a matcher takes, and no series. The row that
 /// decides for `=` or `!=` with a text is found by halving. So is the first row of another matcher's name, and it is asked once
 /// for each row of the name. It takes time in proportion to these rows and to the bytes of the lists, and where a matcher reads
-/// several lists, to their numbers times the logarithm of how many lists there are.
+/// several lists, to their numbers times the logarithm of how many lists there are. The time is reckoned and not proved.
 ///
 /// Where the lists of one matcher come to more than eight bytes and numbers for each byte of the part in which lists are read,
 /// it answers `NoMemory`. In an index whose lists lie apart they come to less than two, since the lists of one name share no
