@@ -6,3 +6,4 @@ pub mod MetaReading
 pub mod MetaValue
 pub mod MetaText
 pub mod Bounds
+pub mod OfBlocks

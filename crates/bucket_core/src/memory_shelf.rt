@@ -96,12 +96,14 @@ fn answer_of(alloc: Global, file: Option<&[u8]>) -> ShelfAnswer
 }
 
 impl Shelf for MemoryShelf {
-    ghost use Rattle.std.specs.Prelude.{◌≡◌, ◌≤◌, Some, IsTrue, false};
+    ghost use Rattle.std.specs.Prelude.{◌≡◌, ◌≤◌, None, Some, IsTrue, false};
     ghost use Rattle.bucket_core.specs.Causes.{Rose, file_failed};
     ghost use Rattle.bucket_core.specs.Files.{IsWithinLimit, ShowsFile};
     ghost use Rattle.bucket_core.specs.MemoryShelf.{file_in, files_held, faults_counted, next_failure, ReadsBy, ReadCounted};
 
     ghost files = { λ shelf. Some (file_in (files_held shelf)) };
+
+    ghost asked = { λ shelf. None };
 
     ghost faults = { faults_counted };
 

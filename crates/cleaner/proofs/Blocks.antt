@@ -14,7 +14,8 @@ use Rattle.world_core.specs.declared.reply.Reply.TheVariants as reply
 use Rattle.world_core.specs.declared.seen.Seen.{Seen}
 use Rattle.world_core.specs.declared.entry.Entry.{Entry}
 use Rattle.world_core.specs.declared.act.Act.{Act}
-use Rattle.cleaner.specs.Marks.{block_mark, is_old_mark, is_old_block}
+use Rattle.cleaner.specs.Marks.{is_old_mark, is_old_block}
+use Rattle.block_meta.specs.OfBlocks.{block_mark}
 use Rattle.cleaner.specs.Pages.{page_of}
 use Rattle.cleaner.specs.Cleanings.{Counts, if_mark, reads_meta, deletion, looking, none_deleted, one_block_more, ulids_in, listing}
 use Rattle.cleaner.specs.CleanStates.{AreBlocks, Onward, Leads, counts_of, blocks_left, blocks_after_partial, may_at, goes_after, goes_by_blocks, goes_to_blocks}

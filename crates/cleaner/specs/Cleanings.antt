@@ -14,7 +14,8 @@ use Rattle.world_core.specs.Plans.{Plan, Runs, ends, choose, gets, deletes}
 use Rattle.world_core.specs.Walks.{WalkEnds, pages}
 use Rattle.world_core.specs.declared.op.Op.TheVariants as op
 use Rattle.world_core.specs.declared.entry.Entry.{Entry}
-use Rattle.cleaner.specs.Marks.{block_mark, is_old_mark, is_old_block}
+use Rattle.cleaner.specs.Marks.{is_old_mark, is_old_block}
+use Rattle.block_meta.specs.OfBlocks.{block_mark}
 use Rattle.cleaner.specs.Objects.{objects_of}
 use Rattle.cleaner.specs.declared.clean_rules.CleanRules.{CleanRules}
 use Rattle.cleaner.specs.declared.clean_end.CleanEnd.{CleanEnd}

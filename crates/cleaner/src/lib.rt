@@ -5,7 +5,6 @@ mod ages;
 mod clean;
 mod clean_end;
 mod clean_rules;
-mod marks;
 mod objects;
 mod page;
 mod stage;

@@ -75,6 +75,8 @@ impl<R: Files + AllocGlobal + Clone + Drop> Shelf for DirShelf<R> {
 
     ghost files = { λ shelf. None };
 
+    ghost asked = { λ shelf. None };
+
     ghost faults = { shelf_faults };
 
     fn read(&mut self, name: &str) -> ShelfAnswer

@@ -14,7 +14,8 @@ use Rattle.world_core.specs.declared.entry.Entry.{Entry}
 use Rattle.world_core.specs.declared.act.Act.{Act}
 use Rattle.list_core.specs.declared.memory.NoMemory.{NoMemory}
 use Rattle.sync_filters.specs.declared.found.Found.{Found}
-use Rattle.meta_fetcher.specs.Sightings.{Sighting, sighting_of, block_meta, block_mark}
+use Rattle.meta_fetcher.specs.Sightings.{Sighting, sighting_of}
+use Rattle.block_meta.specs.OfBlocks.{block_meta, block_mark}
 use Rattle.meta_fetcher.specs.Syncs.{Synced, Course, fault, damaged, if_mark, if_meta, reads_meta, reading}
 use Rattle.meta_fetcher.specs.SyncStates.{Onward, Goes, Leads, sightings_of, blocks_left, goes_after}
 use Rattle.meta_fetcher.specs.declared.rules.SyncRules.{SyncRules}

@@ -16,7 +16,8 @@ use Rattle.world_core.specs.declared.reply.Reply.TheVariants as reply
 use Rattle.world_core.proofs.PlanLaws.{EndsAre, end_is, AsksFor, asked_are, each_op}
 use Rattle.world_core.proofs.PlanParts.{noted_end, noted_run}
 use Rattle.world_core.proofs.PlanWords.{chosen, gets_ask, pages_ask}
-use Rattle.meta_fetcher.specs.Sightings.{Sighting, block_meta, block_mark}
+use Rattle.meta_fetcher.specs.Sightings.{Sighting}
+use Rattle.block_meta.specs.OfBlocks.{block_meta, block_mark}
 use Rattle.meta_fetcher.specs.Syncs.{Synced, sighted, fault, damaged, too_many, Course, with_entry, if_mark, if_meta, reads_meta, reading, ulids_in, walk_ends, listing, sync, IsEnd, SyncRun}
 use Rattle.meta_fetcher.specs.declared.rules.SyncRules.{SyncRules}
 use Rattle.meta_fetcher.specs.declared.sync_end.SyncEnd.{SyncEnd}

@@ -1,11 +1,9 @@
 -- What a sync reads of a block, and the view that it comes to.
-use Rattle.std.specs.Prelude.{◌≡◌, ℕ, ◌==◌, if◌then◌else◌, List, map, Option, Some, None, option_map, not, Result, Ok, Err}
+use Rattle.std.specs.Prelude.{◌≡◌, ℕ, List, map, Option, Some, None, option_map, not}
 use Rattle.std.specs.List.{filter}
 use Rattle.std.specs.List.Sorted.{IsStrictlyIncreasing}
 use Rattle.moment_core.specs.declared.moment.Moment.{Moment}
 use Rattle.block_meta.specs.MetaFields.{MetaFields, MarkFields, fields_of, mark_fields_of}
-use Rattle.block_meta.specs.declared.refusal.MetaRefusal.{MetaRefusal}
-use Rattle.block_meta.specs.MetaReading.{meta_of_text, mark_of_text}
 use Rattle.sync_filters.specs.Filters.{is_consistent, is_covered, is_in_partition, is_unmarked}
 use Rattle.sync_filters.specs.declared.found.Found.{Found}
 use Rattle.meta_fetcher.specs.declared.rules.SyncRules.{SyncRules}
@@ -21,22 +19,6 @@ pub record Sighting : Type 0 where
 
 abbrev pub sighting_of : Found → Sighting
 sighting_of block = record { ulid = block.ulid; mark = option_map mark_fields_of block.mark; mark_read = block.mark_read; meta = fields_of block.meta; meta_read = block.meta_read }
-
--- the meta that bytes are read as, where it is this block's
-abbrev pub named_meta : ℕ → Result MetaFields MetaRefusal → Option MetaFields
-named_meta ulid (Ok meta) = if meta.ulid == ulid then Some meta else None
-named_meta ulid (Err refusal) = None
-
-abbrev pub block_meta : ℕ → List ℕ → Option MetaFields
-block_meta ulid bytes = named_meta ulid (meta_of_text bytes)
-
--- the mark that bytes are read as, where it is this block's
-abbrev pub named_mark : ℕ → Result MarkFields MetaRefusal → Option MarkFields
-named_mark ulid (Ok mark) = if mark.id == ulid then Some mark else None
-named_mark ulid (Err refusal) = None
-
-abbrev pub block_mark : ℕ → List ℕ → Option MarkFields
-block_mark ulid bytes = named_mark ulid (mark_of_text bytes)
 
 -- the blocks that pass the filters by times and by marks, one filter after another
 abbrev pub passed_by : SyncRules → List Found → List Found

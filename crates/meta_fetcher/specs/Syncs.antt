@@ -12,7 +12,8 @@ use Rattle.world_core.specs.Plans.{Plan, ends, gets, noting, ComesTo}
 use Rattle.world_core.specs.Walks.{WalkEnds, pages}
 use Rattle.world_core.specs.declared.op.Op.TheVariants as op
 use Rattle.world_core.specs.declared.entry.Entry.{Entry}
-use Rattle.meta_fetcher.specs.Sightings.{Sighting, block_meta, block_mark, IsView}
+use Rattle.meta_fetcher.specs.Sightings.{Sighting, IsView}
+use Rattle.block_meta.specs.OfBlocks.{block_meta, block_mark}
 use Rattle.meta_fetcher.specs.declared.rules.SyncRules.{SyncRules}
 use Rattle.meta_fetcher.specs.declared.view.View.{View}
 use Rattle.meta_fetcher.specs.declared.sync_end.SyncEnd.{SyncEnd}

@@ -4,7 +4,6 @@
 mod filters;
 mod laws;
 mod names;
-mod reading;
 mod rules;
 mod stage;
 mod sync;

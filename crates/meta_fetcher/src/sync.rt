@@ -9,11 +9,10 @@ ghost use Rattle.meta_fetcher.specs.Syncs.{SyncRun};
 
 use crate::filters::passed_blocks;
 use crate::names::{add_ulids, ascends, is_short, last_name};
-use crate::reading::{mark_of, meta_of};
 use crate::stage::Stage;
 use crate::{SyncEnd, SyncRules, View};
 use block_keys::Key;
-use block_meta::DeletionMark;
+use block_meta::{DeletionMark, mark_of, meta_of};
 use label_sets::{Text, TextList};
 use list_core::{NoMemory, TryCopy};
 use moment_core::Moment;

@@ -24,7 +24,8 @@ use Rattle.shipper.specs.Uploads.{upload}
 use Rattle.shipper.specs.declared.upload_end.UploadEnd.TheVariants as shipped
 use Rattle.sync_filters.specs.Filters.{is_consistent, is_covered, is_unmarked}
 use Rattle.sync_filters.specs.declared.found.Found.{Found}
-use Rattle.meta_fetcher.specs.Sightings.{block_meta, covered_by, kept_by, sighting_of}
+use Rattle.meta_fetcher.specs.Sightings.{covered_by, kept_by, sighting_of}
+use Rattle.block_meta.specs.OfBlocks.{block_meta}
 use Rattle.meta_fetcher.specs.Syncs.{SyncRun, listing, sighted, with_entry}
 use Rattle.meta_fetcher.proofs.Ascending.{kept_ascend}
 use Rattle.meta_fetcher.specs.declared.rules.SyncRules.{SyncRules}

@@ -15,7 +15,8 @@ use Rattle.world_core.specs.declared.entry.Entry.{Entry}
 use Rattle.world_core.specs.declared.op.Op.TheVariants as op
 use Rattle.world_core.specs.declared.reply.Reply.TheVariants as reply
 use Rattle.sync_filters.specs.declared.found.Found.{Found}
-use Rattle.meta_fetcher.specs.Sightings.{IsView, Sighting, block_meta, kept_by, sighting_of}
+use Rattle.meta_fetcher.specs.Sightings.{IsView, Sighting, kept_by, sighting_of}
+use Rattle.block_meta.specs.OfBlocks.{block_meta}
 use Rattle.meta_fetcher.specs.Syncs.{IsEnd, Synced, SyncRun}
 use Rattle.meta_fetcher.specs.Syncs as sync_told
 use Rattle.meta_fetcher.proofs.SyncLaws.{Comes, IsMarkRead, KeptByPages, KeptByReads, course_of_all, page_after, sighting_at, synced}

@@ -13,7 +13,7 @@ use Rattle.block_meta.specs.MetaFields.{MetaFields}
 use Rattle.block_meta.specs.MetaReading.{meta_of_text}
 use Rattle.block_meta.specs.MetaValue.{meta_text}
 use Rattle.block_files.specs.Built.{built_meta}
-use Rattle.meta_fetcher.specs.Sightings.{block_meta, named_meta}
+use Rattle.block_meta.specs.OfBlocks.{block_meta, named_meta}
 use Rattle.script_core.specs.declared.block.Block.{Block}
 use Rattle.script_core.specs.declared.body.Body.{Body}
 use Rattle.script_core.specs.declared.body.Body.TheVariants.{Inline}

@@ -1,6 +1,6 @@
 use Rattle.std.proofs.Common.{◌∙◌, sym, ap, option_map}
 use Rattle.block_meta.specs.MetaFields.{mark_fields_of}
-use Rattle.cleaner.specs.Marks.{block_mark}
+use Rattle.block_meta.specs.OfBlocks.{block_mark}
 use Rattle.cleaner.proofs.Blocks.{mark_absent, mark_old}
 use Rattle.cleaner.proofs.clean.Clean.after_mark.Goals as goal
 

@@ -1,6 +1,6 @@
 use Rattle.std.proofs.Common.{◌∙◌, sym, ap, option_map}
 use Rattle.block_meta.specs.MetaFields.{mark_fields_of}
-use Rattle.meta_fetcher.specs.Sightings.{block_mark}
+use Rattle.block_meta.specs.OfBlocks.{block_mark}
 use Rattle.meta_fetcher.proofs.Metas.{mark_absent, mark_failed, mark_refused, mark_seen}
 use Rattle.meta_fetcher.proofs.sync.Sync.after_mark.Goals as goal
 

@@ -1,7 +1,7 @@
 use Rattle.std.proofs.Common.{◌∙◌, sym, ap, option_map}
 use Rattle.block_meta.specs.MetaFields.{fields_of}
 use Rattle.sync_filters.specs.declared.found.Found.{Found}
-use Rattle.meta_fetcher.specs.Sightings.{block_meta}
+use Rattle.block_meta.specs.OfBlocks.{block_meta}
 use Rattle.meta_fetcher.proofs.Metas.{meta_failed, meta_refused, meta_seen, marked_sighting}
 use Rattle.meta_fetcher.proofs.sync.Sync.after_meta.Goals as goal
 

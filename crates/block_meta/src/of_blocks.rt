@@ -1,15 +1,15 @@
 ghost use Rattle.std.specs.Prelude.{◌≡◌, option_map, IfOk};
 ghost use Rattle.block_meta.specs.MetaFields.{fields_of, mark_fields_of};
-ghost use Rattle.meta_fetcher.specs.Sightings.{block_meta as meta_named, block_mark as mark_named};
+ghost use Rattle.block_meta.specs.OfBlocks.{block_meta, block_mark};
 
-use block_meta::{DeletionMark, Meta, MetaRefusal};
+use crate::{DeletionMark, Meta, MetaRefusal};
 use list_core::NoMemory;
 use std::alloc::Global;
 use ulid_core::Ulid;
 
 /// The meta of a block, and none where the bytes are no meta or another block's.
-pub(crate) fn meta_of(alloc: Global, ulid: Ulid, bytes: &[u8]) -> Result<Option<Meta>, NoMemory>
-    ensures { IfOk result (λ meta. option_map fields_of meta ≡ meta_named ulid bytes.now) }
+pub fn meta_of(alloc: Global, ulid: Ulid, bytes: &[u8]) -> Result<Option<Meta>, NoMemory>
+    ensures { IfOk result (λ meta. option_map fields_of meta ≡ block_meta ulid bytes.now) }
 {
     let meta = match Meta::read(alloc, bytes) {
         Ok(meta) => meta,
@@ -23,13 +23,13 @@ pub(crate) fn meta_of(alloc: Global, ulid: Ulid, bytes: &[u8]) -> Result<Option<
     }
 }
 
-/// The mark of a block, and none where the bytes are no mark or another block's.
-pub(crate) fn mark_of(
+/// The deletion mark of a block, and none where the bytes are no mark or another block's.
+pub fn mark_of(
     alloc: Global,
     ulid: Ulid,
     bytes: &[u8],
 ) -> Result<Option<DeletionMark>, NoMemory>
-    ensures { IfOk result (λ mark. option_map mark_fields_of mark ≡ mark_named ulid bytes.now) }
+    ensures { IfOk result (λ mark. option_map mark_fields_of mark ≡ block_mark ulid bytes.now) }
 {
     let mark = match DeletionMark::read(alloc, bytes) {
         Ok(mark) => mark,
