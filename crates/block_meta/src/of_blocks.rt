@@ -24,11 +24,7 @@ pub fn meta_of(alloc: Global, ulid: Ulid, bytes: &[u8]) -> Result<Option<Meta>, 
 }
 
 /// The deletion mark of a block, and none where the bytes are no mark or another block's.
-pub fn mark_of(
-    alloc: Global,
-    ulid: Ulid,
-    bytes: &[u8],
-) -> Result<Option<DeletionMark>, NoMemory>
+pub fn mark_of(alloc: Global, ulid: Ulid, bytes: &[u8]) -> Result<Option<DeletionMark>, NoMemory>
     ensures { IfOk result (λ mark. option_map mark_fields_of mark ≡ block_mark ulid bytes.now) }
 {
     let mark = match DeletionMark::read(alloc, bytes) {
