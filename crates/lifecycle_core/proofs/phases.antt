@@ -17,3 +17,4 @@ pub mod ActingRuns
 pub mod PhaseViews
 pub mod TasksMade
 pub mod OneEnding
+pub mod OneCut

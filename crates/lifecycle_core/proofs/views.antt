@@ -5,6 +5,6 @@ pub mod Puts
 pub mod Finds
 pub mod Soles
 pub mod TrueViews
-pub mod OneView
+pub mod SyncEnds
 pub mod FewNames
 pub mod ViewsThere

@@ -13,14 +13,14 @@ use Rattle.lifecycle_core.specs.Tasks.{End, TaskRun}
 use Rattle.lifecycle_core.specs.Ways.{PhasesRun}
 
 -- a get, a range or a page
-abbrev pub IsRead : Op → Type 0
-IsRead (Clock moment) = ⊥
-IsRead (Put key bytes) = ⊥
-IsRead (Get key) = Unit {0}
-IsRead (GetRange key from len) = Unit {0}
-IsRead (Delete key) = ⊥
-IsRead (RootPage after limit) = Unit {0}
-IsRead (BlockPage ulid after limit) = Unit {0}
+abbrev pub IsReading : Op → Type 0
+IsReading (Clock moment) = ⊥
+IsReading (Put key bytes) = ⊥
+IsReading (Get key) = Unit {0}
+IsReading (GetRange key from len) = Unit {0}
+IsReading (Delete key) = ⊥
+IsReading (RootPage after limit) = Unit {0}
+IsReading (BlockPage ulid after limit) = Unit {0}
 
 -- the workers of a phase's uploads, each at the seat to which the numbering takes its own
 abbrev pub uploaders : Setting → (ℕ → ℕ) → ℕ → List Worker
@@ -35,7 +35,7 @@ acting setting seats = record {
   does = λ who place work all. TaskRun setting who place work;
   opens = λ before worker. nothing_held;
   leaves = λ worker last after. Unit {0};
-  bystands = λ e. (e.seat ≢ 0) × IsRead e.op
+  bystands = λ e. (e.seat ≢ 0) × IsReading e.op
       × ((number : ℕ) → ¬ Contains (map (λ (worker : Worker). worker.seat) (uploaders setting seats number)) e.seat);
 }
 

@@ -8,9 +8,9 @@ use Rattle.world_core.specs.Operations.{IsReplyTo}
 use Rattle.world_core.specs.Standing.{stands, Tells}
 use Rattle.world_core.specs.declared.entry.Entry.{Entry}
 use Rattle.world_core.specs.declared.op.Op.{Op}
-use Rattle.world_core.specs.declared.op.Op.TheVariants.{Get, GetRange}
+use Rattle.world_core.specs.declared.op.Op.TheVariants.{Clock, Put, Get, GetRange, Delete, RootPage, BlockPage}
 use Rattle.world_core.specs.declared.reply.Reply.{Reply}
-use Rattle.world_core.specs.declared.reply.Reply.TheVariants.{Found, Absent, Names}
+use Rattle.world_core.specs.declared.reply.Reply.TheVariants.{Clocked, Stored, Found, Absent, Deleted, Names, Failed}
 use Rattle.sync_filters.specs.Filters.{time_of}
 use Rattle.meta_fetcher.specs.declared.sync_end.SyncEnd.{SyncEnd}
 use Rattle.meta_fetcher.specs.declared.sync_end.SyncEnd.TheVariants as fetched
@@ -50,7 +50,10 @@ abbrev pub shown_by : Reply → Option (List ℕ)
 shown_by (Found bytes) = Some (codes "F" ++ bytes)
 shown_by Absent = Some (codes "A")
 shown_by (Names names) = Some (codes "N" ++ flat_map (λ name. name ++ 255 ∷ []) names)
-shown_by other = None
+shown_by Clocked = None
+shown_by Stored = None
+shown_by Deleted = None
+shown_by (Failed landed) = None
 
 -- the byte with which a text goes on, and 256 at its end
 abbrev pub next_byte : List ℕ → ℕ
@@ -106,7 +109,11 @@ pub record IsViewAt (setting : Setting) (journal : List Entry) (gateway number :
 abbrev pub read_key : Op → Option Key
 read_key (Get key) = Some key
 read_key (GetRange key from len) = Some key
-read_key other = None
+read_key (Clock moment) = None
+read_key (Put key bytes) = None
+read_key (Delete key) = None
+read_key (RootPage after limit) = None
+read_key (BlockPage ulid after limit) = None
 
 -- a key that gateways read for queries, and for nothing else
 abbrev pub HoldsSamples : Key → Type 0

@@ -20,6 +20,7 @@ ghost use Rattle.script_workers.specs.declared.phase.Phase.{Phase};
 ghost use Rattle.lifecycle_core.specs.Setting.{Setting};
 ghost use Rattle.script_core.specs.Lawful.{IsLawfulScript};
 ghost use Rattle.lifecycle_core.specs.Acting.{IsActing};
+ghost use Rattle.lifecycle_core.specs.Cuts.{IsCutBehind};
 ghost use Rattle.lifecycle_core.specs.Breaches.{IsBreach, IsCallRead, IsLie, IsSyncIn, IsUnbroken, IsViewAt, Rule};
 ghost use Rattle.lifecycle_core.specs.Causes.{AreFound, AreMissesExplained, AreWell, IsExplained, SomeCame};
 ghost use Rattle.lifecycle_core.specs.Guarantees.{Answered, IsGiven, IsGuaranteed, IsWorth, LeavesNoneOut};
@@ -103,7 +104,9 @@ pub fn entries_tell_the_end()
 {}
 
 /// A law: a journal tells the ends of what was done. Two finished runs of one script that leave one journal came to the same ends;
-/// and so did two runs of which the same first phases were done.
+/// and so did two runs of which the same first phases were done. Two runs that were broken off while an operation was due have
+/// finished the same phases, with the same ends; and a journal that was left by such a run is not that of a finished one. What the
+/// tasks of an unfinished phase came to is not told by the journal where a task makes no entry.
 pub fn ends_are_one()
     ensures finished { (setting : Setting) (journal : List Entry)
         (one other : List (List (List End)))
@@ -115,6 +118,14 @@ pub fn ends_are_one()
         → IsRunOf setting journal (one ++ more) → IsRunOf setting journal (other ++ others)
         → AreFinished (by_workers setting) 0 done one
         → AreFinished (by_workers setting) 0 done other → one ≡ other }
+    ensures cut { (setting : Setting) (journal : List Entry) (done also : List Phase)
+        (one other : List (List (List End)))
+        → IsCutBehind setting journal done one → IsCutBehind setting journal also other
+        → (done ≡ also) × (one ≡ other) }
+    ensures unfinished { (setting : Setting) (journal : List Entry) (done : List Phase)
+        (told ends : List (List (List End)))
+        → IsCutBehind setting journal done told → IsRunOf setting journal ends
+        → ¬ IsFinished setting ends }
 {}
 
 /// A law: a front of a lawful journal is one.

@@ -16,7 +16,7 @@ use Rattle.world_core.proofs.PlanWords.{gets_ask, puts_ask}
 use Rattle.shipper.specs.Uploads.{putting, upload}
 use Rattle.shipper.specs.declared.upload_end.UploadEnd.{UploadEnd}
 use Rattle.shipper.specs.declared.upload_end.UploadEnd.TheVariants.{Already, Fault}
-use Rattle.lifecycle_core.specs.Acting.{IsRead}
+use Rattle.lifecycle_core.specs.Acting.{IsReading}
 use Rattle.lifecycle_core.proofs.journals.Positions.{stands_in}
 
 -- ---- entries
@@ -45,15 +45,15 @@ pub more_before : (one other : List Entry) (e : Entry) → ((x : Entry) → Cont
 more_before one other e more is = record { keeps = is.keeps; ships = λ ulid bytes put k own. let p = is.ships ulid bytes put k own in (p.0, more p.0 p.1, p.2) }
 
 -- a read does neither
-pub reads_in_order : (before : List Entry) (e : Entry) → IsRead e.op → IsInOrder before e
-reads_in_order before e reads = record { keeps = λ k is. subst IsRead is reads; ships = λ ulid bytes is k own. absurd (subst IsRead is reads) }
+pub reads_in_order : (before : List Entry) (e : Entry) → IsReading e.op → IsInOrder before e
+reads_in_order before e reads = record { keeps = λ k is. subst IsReading is reads; ships = λ ulid bytes is k own. absurd (subst IsReading is reads) }
 
 -- it holds of each of the entries, after those before it
 abbrev pub AreInOrder : List Entry → List Entry → Type 0
 AreInOrder before [] = Unit {0}
 AreInOrder before (e ∷ entries) = IsInOrder before e × AreInOrder (before ++ e ∷ []) entries
 
-pub all_read : (before entries : List Entry) → AllByRecursion (λ e. IsRead e.op) entries → AreInOrder before entries
+pub all_read : (before entries : List Entry) → AllByRecursion (λ e. IsReading e.op) entries → AreInOrder before entries
 all_read before [] all = tt
 all_read before (e ∷ entries) all = (reads_in_order before e all.0, all_read (before ++ e ∷ []) entries all.1)
 

@@ -32,7 +32,7 @@ use Rattle.lifecycle_core.specs.Shipped.{IsShipped}
 use Rattle.lifecycle_core.specs.Tasks.{End, QueryTask, TaskRun, asked_by, sync_rules}
 use Rattle.lifecycle_core.proofs.phases.EachEntry.{phase_each, phases_each}
 use Rattle.lifecycle_core.proofs.misses.GatewayEntries.{calls, syncs}
-use Rattle.lifecycle_core.specs.Acting.{IsRead}
+use Rattle.lifecycle_core.specs.Acting.{IsReading}
 use Rattle.lifecycle_core.proofs.journals.Told.{IsShippedObject}
 
 -- ---- an upload
@@ -79,11 +79,11 @@ abbrev pub PutsShipped : Setting → Entry → Type 0
 PutsShipped setting e = (k : Key) (bytes : List ℕ) → e.op ≡ op.Put k bytes → IsShippedObject setting k bytes
 
 -- a read puts nothing
-pub reads_put : (setting : Setting) (e : Entry) → IsRead e.op → PutsShipped setting e
-reads_put setting e read k bytes is = absurd (subst IsRead is read)
+pub reads_put : (setting : Setting) (e : Entry) → IsReading e.op → PutsShipped setting e
+reads_put setting e read k bytes is = absurd (subst IsReading is read)
 
-reads_put_none : (setting : Setting) (entries : List Entry) → AllByRecursion (λ (e : Entry). IsRead e.op) entries → All (PutsShipped setting) entries
-reads_put_none setting entries reads = All-weaker (λ (e : Entry). IsRead e.op) (PutsShipped setting) (λ e read k bytes is. absurd (subst IsRead is read)) entries (All-from_recursion (λ (e : Entry). IsRead e.op) entries reads)
+reads_put_none : (setting : Setting) (entries : List Entry) → AllByRecursion (λ (e : Entry). IsReading e.op) entries → All (PutsShipped setting) entries
+reads_put_none setting entries reads = All-weaker (λ (e : Entry). IsReading e.op) (PutsShipped setting) (λ e read k bytes is. absurd (subst IsReading is read)) entries (All-from_recursion (λ (e : Entry). IsReading e.op) entries reads)
 
 query_puts : (setting : Setting) (used : Option Use) (asked : Option Question) (entries : List Entry) (end : Option End) → QueryTask used asked entries end → All (PutsShipped setting) entries
 query_puts setting None asked entries end (nil, how) = subst (All (PutsShipped setting)) (sym nil) (All-nil (PutsShipped setting))

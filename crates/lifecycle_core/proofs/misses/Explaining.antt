@@ -40,7 +40,7 @@ use Rattle.lifecycle_core.specs.Ways.{PhasesRun, Way}
 use Rattle.lifecycle_core.proofs.misses.Misses.{Leaves, MissesAt, ViewSeen, misses_within, seen_among, task_in_order, tasks_in_order, tasks_leave, view_among}
 use Rattle.lifecycle_core.proofs.phases.PhaseViews.{views_left}
 use Rattle.lifecycle_core.proofs.journals.Positions.{filtered, split, stands_in, unfilter, zip_left, zip_right}
-use Rattle.lifecycle_core.specs.Acting.{IsRead}
+use Rattle.lifecycle_core.specs.Acting.{IsReading}
 use Rattle.lifecycle_core.proofs.journals.RunEntries.{AreInOrder, HasPut, PrecedesMeta, IsInOrder, in_order_at, more_before, reads_in_order}
 
 -- ---- a phase
@@ -53,7 +53,7 @@ more_left before one other more x among = elim (Contains-append_cases before one
 
 module _ {State E : Type 0} (conduct : Conduct State E)
     (each : (who : Who) (place : ℕ) (w : Work) (all : List Entry) (before : State) (made : List Entry) (end : Option E) (after : State) → conduct.does who place w all before made end after → AreInOrder [] made)
-    (others_read : (e : Entry) → conduct.bystands e → IsRead e.op)
+    (others_read : (e : Entry) → conduct.bystands e → IsReading e.op)
     (tasks : List Task) (workers : List Worker) (before : ℕ → State) (made : List Entry) (ends : List (List E)) (after : ℕ → State) (run : PhaseRun conduct tasks workers before made ends after) where
   pub phase_in_order : (front back : List Entry) (e : Entry) → made ≡ front ++ e ∷ back → IsInOrder front e
   phase_in_order front back e parts =

@@ -26,7 +26,7 @@ use Rattle.world_core.proofs.PlanLaws.{EndsAre, asked_are, each_op, end_is, noth
 use Rattle.store_gateway.specs.declared.series_end.SeriesEnd.{SeriesEnd}
 use Rattle.store_gateway.specs.declared.series_end.SeriesEnd.TheVariants as called
 use Rattle.lifecycle_core.proofs.journals.Positions.{stands_in}
-use Rattle.lifecycle_core.specs.Acting.{IsRead}
+use Rattle.lifecycle_core.specs.Acting.{IsReading}
 use Rattle.lifecycle_core.proofs.journals.RunEntries.{PrecedesMeta}
 
 -- ---- what was seen
@@ -116,13 +116,13 @@ sync_sees rules before entries (Some fetched.TooMany) run view is = absurd (cc (
 
 -- Entries of a sync, after others: they read, and a view that it gives keeps blocks that were seen.
 pub record Syncs (before entries : List Entry) (end : Option SyncEnd) : Type 0 where
-  pub reads : AllByRecursion (λ (e : Entry). IsRead e.op) entries
+  pub reads : AllByRecursion (λ (e : Entry). IsReading e.op) entries
   pub sees : (view : View) → end ≡ Some (fetched.View view) → All (λ (block : Found). IsSeen (before ++ entries) block.ulid) view.kept
 
 -- a sync
 pub syncs : (rules : SyncRules) (before entries : List Entry) (end : Option SyncEnd) → SyncRun rules entries end → Syncs before entries end
 syncs rules before entries end run = record {
-  reads = only_asks IsRead rules (λ cursor. tt) (λ ulid. tt) (λ ulid. tt) entries end run;
+  reads = only_asks IsReading rules (λ cursor. tt) (λ ulid. tt) (λ ulid. tt) entries end run;
   sees = sync_sees rules before entries end run;
 }
 
@@ -143,7 +143,7 @@ pub record Misses (Q : ℕ → Type 0) (entries : List Entry) (number : ℕ) : T
 
 -- entries of a call over blocks of which something holds
 pub record Calls (Q : ℕ → Type 0) (entries : List Entry) (end : Option SeriesEnd) : Type 0 where
-  pub reads : AllByRecursion (λ (e : Entry). IsRead e.op) entries
+  pub reads : AllByRecursion (λ (e : Entry). IsReading e.op) entries
   pub misses : (number : ℕ) → end ≡ Some (called.Missing number) → Misses Q entries number
 
 module _ (Q : ℕ → Type 0) where
@@ -172,9 +172,9 @@ module _ (Q : ℕ → Type 0) where
   to_blocks query [] all = tt
   to_blocks query (b ∷ kept) all = (all.0, to_blocks query kept all.1)
 
-  call_reads : (query : Question) (blocks : List ToRead) (entries : List Entry) (end : Option Called) → Runs (reading query [] blocks) entries end → AllByRecursion (λ (e : Entry). IsRead e.op) entries
+  call_reads : (query : Question) (blocks : List ToRead) (entries : List Entry) (end : Option Called) → Runs (reading query [] blocks) entries end → AllByRecursion (λ (e : Entry). IsReading e.op) entries
   call_reads query blocks entries end run =
-      each_op IsRead [] entries (asked_are (λ before. IsRead) (reading query [] blocks) [] entries end (reading_asks IsRead (λ k. tt) query [] [] blocks) run)
+      each_op IsReading [] entries (asked_are (λ before. IsReading) (reading query [] blocks) [] entries end (reading_asks IsReading (λ k. tt) query [] [] blocks) run)
 
   -- a call over a view
   pub calls : (view : View) (query : Question) (entries : List Entry) (end : Option SeriesEnd) → All (λ (b : Found). Q b.ulid) view.kept → SeriesRun view query entries end → Calls Q entries end

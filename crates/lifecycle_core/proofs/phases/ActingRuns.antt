@@ -23,7 +23,7 @@ use Rattle.script_workers.specs.declared.task.Task.{Task}
 use Rattle.script_workers.specs.declared.work.Work.{Work}
 use Rattle.script_workers.specs.declared.work.Work.TheVariants.{Upload, Sync, Query}
 use Rattle.script_workers.specs.declared.worker.Worker.{Worker}
-use Rattle.lifecycle_core.specs.Acting.{IsActing, IsRead, acting, uploaders}
+use Rattle.lifecycle_core.specs.Acting.{IsActing, IsReading, acting, uploaders}
 use Rattle.lifecycle_core.specs.Conducts.{Assigned, Conduct, PhaseRun, TasksAt, TasksRun, Who, WorkerRun, of_seat, who_of, working}
 use Rattle.lifecycle_core.specs.Holdings.{Holding, Holdings, Use, holding_of, none_held, nothing_held}
 use Rattle.lifecycle_core.specs.Phases.{IsRunOf, by_script, by_workers}
@@ -123,21 +123,21 @@ for_gateway gateways gateway place w (syncs own is who) = subst IsOther (sym is)
 for_gateway gateways gateway place w (asks low high selector own is who below) = subst IsOther (sym is) tt
 
 abbrev AllRead : List Entry → Type 0
-AllRead entries = All (λ (e : Entry). IsRead e.op) entries
+AllRead entries = All (λ (e : Entry). IsReading e.op) entries
 
 none_read : (entries : List Entry) → entries ≡ [] → AllRead entries
-none_read entries nil = subst AllRead (sym nil) (All-nil (λ (e : Entry). IsRead e.op))
+none_read entries nil = subst AllRead (sym nil) (All-nil (λ (e : Entry). IsReading e.op))
 
 query_reads : (used : Option Use) (asked : Option Question) (entries : List Entry) (end : Option End) → QueryTask used asked entries end → AllRead entries
 query_reads None asked entries end (nil, how) = none_read entries nil
 query_reads (Some used) None entries end run = absurd run
 query_reads (Some used) (Some q) entries end (own, run, is) =
-    All-from_recursion (λ (e : Entry). IsRead e.op) entries (calls (λ u. Unit {0}) used.view q entries own (λ k d below. tt) run).reads
+    All-from_recursion (λ (e : Entry). IsReading e.op) entries (calls (λ u. Unit {0}) used.view q entries own (λ k d below. tt) run).reads
 
 task_reads : (setting : Setting) (who : Who) (place : ℕ) (w : Work) (held after : Holding) (entries : List Entry) (end : Option End) → IsOther w → TaskRun setting who place w held entries end after → AllRead entries
 task_reads setting who place (Upload ulid stop) held after entries end other run = absurd other
 task_reads setting who place (Sync gateway) held after entries end other (own, run, is, left) =
-    All-from_recursion (λ (e : Entry). IsRead e.op) entries (sync_entries (sync_rules setting gateway) [] entries own run).reads
+    All-from_recursion (λ (e : Entry). IsReading e.op) entries (sync_entries (sync_rules setting gateway) [] entries own run).reads
 task_reads setting who place (Query low high selector) held after entries end other (run, left) = query_reads held.used (asked_by setting who.gateway selector low high) entries end run
 
 abbrev NoUploads : List Assigned → Type 0
@@ -146,7 +146,7 @@ NoUploads own = AllByRecursion (λ (a : Assigned). IsOther a.task.work) own
 tasks_read : (setting : Setting) (who : Who) (all : List Entry) (held last : Holding) (tasks : List Assigned) (entries : List Entry) (ends : List End) → NoUploads tasks → TasksRun (by_script setting) who all held tasks entries ends last → AllRead entries
 tasks_read setting who all held last [] entries ends none run = none_read entries run.0
 tasks_read setting who all held last (own ∷ tasks) entries ends none (inl (made, others, end, later, next, parts, run, is, rest)) =
-    subst AllRead (sym parts) (All-append (λ (e : Entry). IsRead e.op) made others (task_reads setting who own.place own.task.work held next made (Some end) none.0 run)
+    subst AllRead (sym parts) (All-append (λ (e : Entry). IsReading e.op) made others (task_reads setting who own.place own.task.work held next made (Some end) none.0 run)
     (tasks_read setting who all next last tasks others later none.1 rest))
 tasks_read setting who all held last (own ∷ tasks) entries ends none (inr (run, is)) = task_reads setting who own.place own.task.work held last entries None none.0 run
 
@@ -256,7 +256,7 @@ module _ (setting : Setting) (lawful : IsLawfulScript setting.script) (number : 
       let test : (e.seat == worker.seat) ≡ true = grind (arith, nat_tests, seat) in
       inr (
         (λ zero_seat. absurd (omega (arith, s.seat, seat, zero_seat))),
-        All-contains (λ (x : Entry). IsRead x.op) (of_seat worker.seat made) e (gateway_reads worker g.0 own among g.1 w) (into_filter (λ (x : Entry). x.seat == worker.seat) made e inside test),
+        All-contains (λ (x : Entry). IsReading x.op) (of_seat worker.seat made) e (gateway_reads worker g.0 own among g.1 w) (into_filter (λ (x : Entry). x.seat == worker.seat) made e inside test),
         (λ other sits. apart_from_uploads worker g.0 among g.1 other (subst (Contains (map (λ (x : Worker). x.seat) (uploaders setting same_seat other))) (sym seat) sits)),
       )
 

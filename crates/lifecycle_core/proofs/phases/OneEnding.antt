@@ -41,17 +41,17 @@ use Rattle.lifecycle_core.specs.Tasks.{End, IsBefore, IsStop, QueryTask, TaskRun
 use Rattle.lifecycle_core.specs.Ways.{AreFinished, PhasesRun}
 use Rattle.lifecycle_core.proofs.answers.OneMerge.{call_tells}
 use Rattle.lifecycle_core.proofs.phases.RunFronts.{not_nil}
-use Rattle.lifecycle_core.proofs.views.OneView.{sync_tells}
+use Rattle.lifecycle_core.proofs.views.SyncEnds.{sync_tells}
 
 -- ---- lists and options
 
 -- how two ways to part a list go together
-data Parted {X : Type 0} (xs ys made others : List X) : Type 0 where
+pub data Parted {X : Type 0} (xs ys made others : List X) : Type 0 where
   alike : xs ≡ made → ys ≡ others → Parted xs ys made others
   first_longer : (y : X) (zs : List X) → xs ≡ made ++ y ∷ zs → others ≡ y ∷ zs ++ ys → Parted xs ys made others
   second_longer : (y : X) (zs : List X) → made ≡ xs ++ y ∷ zs → ys ≡ y ∷ zs ++ others → Parted xs ys made others
 
-parted : {X : Type 0} (xs ys made others : List X) → xs ++ ys ≡ made ++ others → Parted xs ys made others
+pub parted : {X : Type 0} (xs ys made others : List X) → xs ++ ys ≡ made ++ others → Parted xs ys made others
 parted [] ys [] others is = alike refl is
 parted [] ys (m ∷ made) others is = second_longer m made refl is
 parted (x ∷ xs) ys [] others is = first_longer x xs refl (sym is)
@@ -71,7 +71,7 @@ some_of : {A B : Type 0} (f : A → B) (o : Option A) (b : B) → Some b ≡ opt
 some_of f None b is = absurd (cc (is))
 some_of f (Some a) b is = (a, refl, cc (is))
 
-within : (P : Entry → Type 0) (xs : List Entry) (y : Entry) (zs : List Entry) → All P (xs ++ y ∷ zs) → P y
+pub within : (P : Entry → Type 0) (xs : List Entry) (y : Entry) (zs : List Entry) → All P (xs ++ y ∷ zs) → P y
 within P xs y zs all = All-contains P (xs ++ y ∷ zs) y all (Contains-append_right xs (y ∷ zs) y (contains_first y zs))
 
 -- ---- tasks
@@ -148,7 +148,7 @@ query_tells (Some used) (Some asked) xs one other (own, run, is) (also, more, so
 
 module _ (setting : Setting) where
   -- a task that has come to its end makes no entry more
-  task_once : (who : Who) (place : ℕ) (w : Work) (held after later : Holding) (xs : List Entry) (y : Entry) (rest : List Entry) (last : End) (end : Option End)
+  pub task_once : (who : Who) (place : ℕ) (w : Work) (held after later : Holding) (xs : List Entry) (y : Entry) (rest : List Entry) (last : End) (end : Option End)
       → TaskRun setting who place w held xs (Some last) after → TaskRun setting who place w held (xs ++ y ∷ rest) end later → ⊥
   task_once who place (Upload ulid stop) held after later xs y rest last end ((block, is, (objects, own, ships, run, how)), kept) ((other, so, (others, also, also_ships, more, on)), keeps) =
       let same : block ≡ other = cc (is, so) in
@@ -161,7 +161,7 @@ module _ (setting : Setting) where
       query_once held.used (asked_by setting who.gateway selector low high) xs y rest last end run more
 
   -- the entries of a task tell its end, and what its worker then holds
-  task_tells : (who : Who) (place : ℕ) (w : Work) (held after later : Holding) (xs : List Entry) (one other : End)
+  pub task_tells : (who : Who) (place : ℕ) (w : Work) (held after later : Holding) (xs : List Entry) (one other : End)
       → TaskRun setting who place w held xs (Some one) after → TaskRun setting who place w held xs (Some other) later → (one ≡ other) × (after ≡ later)
   task_tells who place (Upload ulid stop) held after later xs one other ((block, is, (objects, own, ships, run, how)), kept) ((block', so, (others, also, also_ships, more, on)), keeps) =
       let same : block ≡ block' = cc (is, so) in
@@ -178,7 +178,7 @@ module _ (setting : Setting) where
 
   -- ---- workers
 
-  abbrev Did : Who → List Entry → Holding → List Assigned → List Entry → List End → Holding → Type 0
+  abbrev pub Did : Who → List Entry → Holding → List Assigned → List Entry → List End → Holding → Type 0
   Did = TasksRun (by_script setting)
 
   tasks_tell : (who : Who) (all : List Entry) (held : Holding) (tasks : List Assigned) (entries : List Entry) (one other : List End) (last also : Holding)
@@ -201,7 +201,7 @@ module _ (setting : Setting) where
             absurd (task_once who own.place own.task.work held next next' made y zs end (Some end') run (subst (λ (es : List Entry). TaskRun setting who own.place own.task.work held es (Some end') next') first run'))
       ]
 
-  at_tells : (tasks : List Task) (places : List ℕ) (one other : List Assigned) → TasksAt tasks places one → TasksAt tasks places other → one ≡ other
+  pub at_tells : (tasks : List Task) (places : List ℕ) (one other : List Assigned) → TasksAt tasks places one → TasksAt tasks places other → one ≡ other
   at_tells tasks [] one other is so = is ∙ sym so
   at_tells tasks (place ∷ places) [] other is so = absurd is
   at_tells tasks (place ∷ places) (x ∷ one) [] is so = absurd so
@@ -212,7 +212,7 @@ module _ (setting : Setting) where
       let first : x ≡ z = λ i. record { place = spots i; task = works i } in
       λ i. first i ∷ rest i
 
-  at_length : (tasks : List Task) (places : List ℕ) (own : List Assigned) → TasksAt tasks places own → length own ≡ length places
+  pub at_length : (tasks : List Task) (places : List ℕ) (own : List Assigned) → TasksAt tasks places own → length own ≡ length places
   at_length tasks [] own is = ap (λ (l : List Assigned). length l) is
   at_length tasks (place ∷ places) [] is = absurd is
   at_length tasks (place ∷ places) (x ∷ own) is = ap suc (at_length tasks places own is.1)
@@ -260,10 +260,10 @@ module _ (setting : Setting) where
 
   -- ---- phases
 
-  abbrev Works : ℕ → Phase → Holdings → List Entry → List (List End) → Holdings → Type 0
+  abbrev pub Works : ℕ → Phase → Holdings → List Entry → List (List End) → Holdings → Type 0
   Works number phase = PhaseRun (by_script setting) phase.tasks (workers_of setting.script number)
 
-  phase_tells : (number : ℕ) (phase : Phase) (before : Holdings) (entries : List Entry) (one other : List (List End)) (after later : Holdings) → Works number phase before entries one after → Works number phase before entries other later
+  pub phase_tells : (number : ℕ) (phase : Phase) (before : Holdings) (entries : List Entry) (one other : List (List End)) (after later : Holdings) → Works number phase before entries one after → Works number phase before entries other later
       → AreDone (workers_of setting.script number) one → AreDone (workers_of setting.script number) other → (one ≡ other) × (after ≡ later)
   phase_tells number phase before entries one other after later run more full whole = (
     workers_tell phase.tasks before entries after later (workers_of setting.script number) one other run.runs more.runs full whole,
@@ -281,7 +281,7 @@ module _ (setting : Setting) where
   above_after before (Some phase) = seats_above (gateway_count setting.script.gateways) before phase.tasks (hands_of (gateway_count setting.script.gateways) phase.tasks)
 
   -- the clock's seat makes none of a phase's own entries
-  made_above : (number : ℕ) (phase : Phase) (before after : Holdings) (entries : List Entry) (ends : List (List End)) → Works number phase before entries ends after → All (λ (e : Entry). e.seat ≢ 0) entries
+  pub made_above : (number : ℕ) (phase : Phase) (before after : Holdings) (entries : List Entry) (ends : List (List End)) → Works number phase before entries ends after → All (λ (e : Entry). e.seat ≢ 0) entries
   made_above number phase before after entries ends run =
       All-weaker (λ (e : Entry). Contains (map (λ (w : Worker). w.seat) (workers_of setting.script number)) e.seat ⊎ ⊥) (λ (e : Entry). e.seat ≢ 0) (λ e how.
       elim how [
@@ -289,17 +289,17 @@ module _ (setting : Setting) where
         | inr none ↦ absurd none
       ]) entries run.seats
 
-  abbrev Ran : ℕ → Holdings → List Phase → List Entry → List (List (List End)) → Type 0
+  abbrev pub Ran : ℕ → Holdings → List Phase → List Entry → List (List (List End)) → Type 0
   Ran = PhasesRun (by_workers setting)
 
-  starts : (number : ℕ) (before : Holdings) (phases : List Phase) (y : Entry) (zs : List Entry) (ends : List (List (List End))) → Ran number before phases (y ∷ zs) ends → y.seat ≡ 0
+  pub starts : (number : ℕ) (before : Holdings) (phases : List Phase) (y : Entry) (zs : List Entry) (ends : List (List (List End))) → Ran number before phases (y ∷ zs) ends → y.seat ≡ 0
   starts number before [] y zs ends run = absurd (cc (run.0))
   starts number before (phase ∷ phases) y zs ends (inl none) = absurd (cc (none.0))
   starts number before (phase ∷ phases) y zs ends (inr (clock, made, others, first, later, after, parts, begins, run, are, go)) =
       let same : y ≡ clock = cc (parts) in ap (λ (e : Entry). e.seat) same ∙ begins.seat
 
   -- a phase's entries end where the next phase begins
-  no_further : (number : ℕ) (phase : Phase) (before after later : Holdings) (phases : List Phase) (xs : List Entry) (y : Entry) (zs ys made others : List Entry) (ends : List (List End)) (more : List (List (List End)))
+  pub no_further : (number : ℕ) (phase : Phase) (before after later : Holdings) (phases : List Phase) (xs : List Entry) (y : Entry) (zs ys made others : List Entry) (ends : List (List End)) (more : List (List (List End)))
       → made ≡ xs ++ y ∷ zs → ys ≡ y ∷ zs ++ others → Works number phase before made ends after → Ran (number + 1) later phases ys more → ⊥
   no_further number phase before after later phases xs y zs ys made others ends more is so run go =
       within (λ (e : Entry). e.seat ≢ 0) xs y zs (subst (All (λ (e : Entry). e.seat ≢ 0)) is (made_above number phase before after made ends run))
