@@ -1,7 +1,6 @@
 -- A run beside whose world came out again is a run of the script.
-use Rattle.std.proofs.Common.{◌≡◌, ◌≢◌, inl, inr, ℕ, suc, ◌+◌, ◌<◌, ◌≤◌, List, [], ◌∷◌, ◌++◌, length, map, Contains, Option, Some, refl, sym, ◌∙◌, ap, subst, append_assoc, append-nil, arith}
-use Rattle.std.specs.Prelude.{Ok, Err, Result, slice_get}
-use Rattle.std.proofs.lemmas.List.{length-append}
+use Rattle.std.proofs.Common.{◌≡◌, inl, inr, ℕ, ◌+◌, ◌<◌, List, [], ◌∷◌, ◌++◌, length, map, Contains, Option, Some, refl, sym, ◌∙◌, ap, subst, append_assoc, append-nil, arith}
+use Rattle.std.specs.Prelude.{Ok, Err, slice_get}
 use Rattle.std.proofs.lemmas.List.Sums.{sum_by-append}
 use mathlib.Core.List.{IsPrefix}
 use Rattle.list_core.proofs.Lists.{cons_parts}
@@ -25,8 +24,8 @@ use Rattle.lifecycle_core.specs.Setting.{Setting}
 use Rattle.lifecycle_core.specs.Tasks.{End}
 use Rattle.lifecycle_core.specs.Ways.{AreFinished, AreInTurn, IsOperationDue, PhasesRun, Way}
 use Rattle.lifecycle_core.proofs.phases.Fronts.{IsCutWell}
-use Rattle.script_running.specs.Begun.{WasBegun, WereBegun}
-use Rattle.script_running.specs.Beside.{CameSoFar, HasRunBeside, IsCutShort}
+use Rattle.script_running.specs.Begun.{WasBegun}
+use Rattle.script_running.specs.Beside.{CameSoFar, HasRunBeside}
 use Rattle.script_running.specs.Cutting.{AreParts, KnowsPhases, Passed}
 use Rattle.script_running.specs.Ended.{HasEnded, HaveEnded}
 use Rattle.script_running.specs.Going.{HasBrokenOff, HasFinished, HasGone, HasIdled, HasSeenFull, HasStopped, IfFull}

@@ -1,10 +1,10 @@
 -- A journal that came out of a shared world is the phases that its root knows, one after another.
-use Rattle.std.proofs.Common.{◌≡◌, ◌⊎◌, inl, inr, ℕ, zero, suc, ◌+◌, ◌<◌, ◌≤◌, ◌==◌, Bool, true, false, List, [], ◌∷◌, ◌++◌, length, map, Contains, refl, sym, ◌∙◌, ap, subst, append_assoc, append-nil, arith}
-use Rattle.std.specs.List.{All, AllByRecursion, filter, flat_map}
+use Rattle.std.proofs.Common.{◌≡◌, inl, inr, ℕ, ◌+◌, ◌<◌, ◌≤◌, ◌==◌, true, false, List, [], ◌∷◌, ◌++◌, length, map, Contains, refl, sym, ◌∙◌, ap, subst, append_assoc, append-nil, arith}
+use Rattle.std.specs.List.{All, AllByRecursion}
 use Rattle.std.proofs.lemmas.Bool.{cases_Bool}
 use Rattle.std.proofs.lemmas.Bool.Decides.{nat_tests}
 use Rattle.std.proofs.lemmas.List.{length-append}
-use Rattle.std.proofs.lemmas.List.Elements.{All-contains, Contains-append_cases, Contains-append_left, Contains-append_right, filter-append, recursion_from_All, All-from_recursion}
+use Rattle.std.proofs.lemmas.List.Elements.{All-contains, Contains-append_left, Contains-append_right, filter-append, All-from_recursion}
 use Rattle.list_core.proofs.Lists.{cons_parts, filter_hit, filter_miss, nil_not_cons}
 use Rattle.list_core.proofs.Membership.{all_members, contains_first, contains_later, each_member, into_filter, into_flat_map, into_map, member_cases, member_passes, no_member, of_filter, of_flat_map, of_map}
 use Rattle.std.specs.Prelude.{nat_lt, Some}

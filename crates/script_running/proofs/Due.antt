@@ -1,6 +1,6 @@
 -- Where the full journal broke a worker off, its operation is due, whatever the other workers of the phase came to.
-use Rattle.std.proofs.Common.{◌≡◌, ◌≢◌, inl, inr, ℕ, suc, ◌+◌, ◌<◌, ◌≤◌, List, [], ◌∷◌, ◌++◌, length, map, Contains, Some, refl, sym, ◌∙◌, ap, subst, append_assoc, append-nil, arith}
-use Rattle.std.specs.Prelude.{Err, Result}
+use Rattle.std.proofs.Common.{◌≡◌, ◌≢◌, inl, inr, ℕ, suc, ◌+◌, ◌<◌, ◌≤◌, List, [], ◌∷◌, ◌++◌, length, map, Contains, refl, sym, ◌∙◌, ap, subst, append_assoc, append-nil, arith}
+use Rattle.std.specs.Prelude.{Err}
 use Rattle.std.specs.List.{All, AllByRecursion}
 use Rattle.std.proofs.lemmas.List.Elements.{All-push}
 use Rattle.list_core.proofs.Membership.{contains_first, contains_later, member_cases, no_member}
@@ -25,7 +25,6 @@ use Rattle.script_running.specs.Begun.{WasBegun, WereBegun, WereKept}
 use Rattle.script_running.specs.Cutting.{AreParts, Passed}
 use Rattle.script_running.specs.Ended.{AreInRow, HasEnded, HaveEnded}
 use Rattle.script_running.specs.Workers.{IsBrokenOff}
-use Rattle.script_running.specs.declared.came.Broken.{Broken}
 use Rattle.script_running.specs.declared.came.Broken.TheVariants as broken
 use Rattle.script_running.specs.declared.worker.WorkerEnd.{WorkerEnd}
 use Rattle.script_running.proofs.Begun.{begun_more, phases_run, same_seats}

@@ -1,5 +1,5 @@
 -- A run beside before its first phase, and after one more.
-use Rattle.std.proofs.Common.{◌≡◌, ℕ, suc, ◌+◌, ◌<◌, List, [], ◌∷◌, ◌++◌, length, Option, Some, None, refl, sym, ◌∙◌, ap, subst, append_assoc, append-nil, arith}
+use Rattle.std.proofs.Common.{◌≡◌, ℕ, ◌+◌, ◌<◌, List, [], ◌∷◌, ◌++◌, length, Option, Some, None, refl, sym, ◌∙◌, ap, subst, append_assoc, append-nil, arith}
 use Rattle.std.specs.Prelude.{slice_get}
 use Rattle.std.specs.List.{All}
 use Rattle.std.proofs.lemmas.List.Elements.{All-nil}
@@ -19,7 +19,7 @@ use Rattle.lifecycle_core.specs.Ways.{AreFinished, Way}
 use Rattle.script_running.specs.Begun.{WasBegun}
 use Rattle.script_running.specs.Beside.{AreSeen}
 use Rattle.script_running.specs.Cutting.{KnowsPhases, Passed}
-use Rattle.script_running.specs.Going.{HasFinished, HasGone}
+use Rattle.script_running.specs.Going.{HasGone}
 use Rattle.script_running.specs.Outcomes.{PhasesCame, TasksCame}
 use Rattle.script_running.specs.declared.outcome.Outcome.{Outcome}
 use Rattle.script_running.proofs.Begun.{begun_more}

@@ -1,15 +1,12 @@
 -- What a root knows of one phase more: it set the clock, and took in its workers.
-use Rattle.std.proofs.Common.{◌≡◌, ℕ, zero, suc, ◌+◌, ◌-◌, ◌<◌, ◌≤◌, ◌==◌, Bool, if◌then◌else◌, ne_eqb, List, [], ◌∷◌, ◌++◌, length, map, Contains, None, Some, refl, sym, ◌∙◌, ap, subst, append_assoc, append-nil, arith, le_refl}
+use Rattle.std.proofs.Common.{◌≡◌, ℕ, ◌+◌, ◌-◌, ◌<◌, ◌≤◌, Bool, if◌then◌else◌, ne_eqb, List, [], ◌∷◌, ◌++◌, length, map, None, Some, refl, sym, ◌∙◌, ap, subst, append_assoc, append-nil, arith, le_refl}
 use Rattle.std.specs.Prelude.{slice_get}
 use Rattle.std.specs.List.{All, AllByRecursion, flat_map}
-use Rattle.std.proofs.lemmas.List.Concat.{flat_map-append}
-use Rattle.std.proofs.lemmas.List.Elements.{All-contains_itself, All-from_recursion, All-nil, All-push, All-weaker}
+use Rattle.std.proofs.lemmas.List.Elements.{All-from_recursion, All-nil, All-push}
 use Rattle.std.proofs.lemmas.Option.{slice_get_within}
 use mathlib.Core.List.{IsPrefix}
 use Rattle.list_core.proofs.Lists.{AllByRecursion-weaker}
-use Rattle.list_core.proofs.Membership.{all_members, each_member}
 use Rattle.world_core.specs.Journals.{entry_at}
-use Rattle.world_core.specs.Machines.{gained}
 use Rattle.world_core.specs.Operations.{entry_of}
 use Rattle.world_core.specs.declared.acted.Acted.TheVariants.{Done}
 use Rattle.world_core.specs.declared.entry.Entry.{Entry}

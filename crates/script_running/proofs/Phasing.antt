@@ -1,20 +1,18 @@
 -- One phase more of a run beside: where it broke off, and how it goes on.
-use Rattle.std.proofs.Common.{◌≡◌, ◌≢◌, inl, inr, ℕ, suc, ◌+◌, ◌<◌, ◌≤◌, List, [], ◌∷◌, ◌++◌, ◌^◌, length, map, take, drop, Contains, Option, None, Some, refl, sym, ◌∙◌, ap, subst, append-nil, arith, le_refl}
+use Rattle.std.proofs.Common.{◌≡◌, ◌≢◌, inl, inr, ℕ, suc, ◌+◌, ◌<◌, List, [], ◌∷◌, ◌++◌, ◌^◌, length, map, take, drop, Contains, Option, None, Some, refl, sym, ◌∙◌, ap, subst, append-nil, arith, le_refl}
 use Rattle.std.specs.Prelude.{Bool, true, false, MatchBool, Ok, Err, IfSome, OnOk, Result, slice_get}
 use Rattle.std.specs.List.{All, AllZip}
 use Rattle.std.proofs.lemmas.List.{length-append, length-take-le, take-append-drop}
 use Rattle.std.proofs.lemmas.List.Elements.{All-contains, All-from_recursion, All-head, All-weaker}
 use Rattle.std.proofs.lemmas.Option.{slice_get_within}
-use mathlib.Core.List.{IsPrefix}
 use Rattle.list_core.proofs.Lists.{drop_place, take_place}
 use Rattle.list_core.proofs.Membership.{all_members, contains_place, place_of_member}
-use Rattle.world_core.specs.Keeping.{IsFull}
 use Rattle.world_core.specs.Operations.{entry_of}
 use Rattle.world_core.specs.declared.acted.Acted.TheVariants.{Done, Full, NoMemory}
 use Rattle.world_core.specs.declared.entry.Entry.{Entry}
 use Rattle.world_core.specs.declared.op.Op.TheVariants.{Clock}
 use Rattle.world_core.specs.declared.seen.Seen.{Seen}
-use Rattle.world_turn.specs.Passes.{table_of, view_of}
+use Rattle.world_turn.specs.Passes.{view_of}
 use Rattle.world_turn.specs.Closing.{AllJoined}
 use Rattle.world_turn.specs.Turns.{Acts, IsLater, IsSame}
 use Rattle.world_turn.specs.declared.pass.Pass.{Pass}
@@ -29,27 +27,24 @@ use Rattle.script_workers.specs.declared.hand.Hand.TheVariants as hands
 use Rattle.script_workers.specs.declared.phase.Phase.{Phase}
 use Rattle.script_workers.specs.declared.task.Task.{Task}
 use Rattle.script_workers.specs.declared.work.Work.{Work}
-use Rattle.script_workers.specs.declared.work.Work.TheVariants as works
 use Rattle.script_workers.specs.declared.worker.Worker.{Worker}
 use Rattle.script_workers.proofs.StaffLaws.{is_staff}
-use Rattle.script_core.proofs.SeatLaws.{are_seated, few_gateways, room, seats_taken}
+use Rattle.script_core.proofs.SeatLaws.{are_seated, room, seats_taken}
 use Rattle.script_core.specs.Lawful.{IsLawfulPhase, IsLawfulScript, IsLawfulWork}
 use Rattle.script_core.specs.Reading.{script_of}
 use Rattle.script_core.specs.Workers.{seats_before, workers_after, workers_before, workers_of}
 use Rattle.script_core.specs.declared.script.Script.{Script}
 use Rattle.lifecycle_core.specs.Conducts.{AreDone}
 use Rattle.lifecycle_core.specs.Holdings.{Holding, Holdings}
-use Rattle.lifecycle_core.specs.Phases.{by_script}
 use Rattle.lifecycle_core.specs.Setting.{Setting, setting_of}
 use Rattle.lifecycle_core.specs.Tasks.{End}
 use Rattle.lifecycle_core.specs.Ways.{BeginsPhase}
 use Rattle.lifecycle_core.proofs.phases.Fronts.{AreApart as Apart, apart_of, script_is_cut_well}
 use Rattle.script_running.specs.Begun.{AreLeft, WasBegun, WereKept}
-use Rattle.script_running.specs.Beside.{AreSeen}
 use Rattle.script_running.specs.Cutting.{KnowsPhases, Passed}
 use Rattle.script_running.specs.Ended.{AreInRow, HaveEnded, IsPostOf}
-use Rattle.script_running.specs.Gathering.{AreApart, AreSeenBeside, Gathers}
-use Rattle.script_running.specs.Going.{HasBrokenOff, HasCome, HasFinished, HasGone, HasIdled, HasSeenFull, HasStopped, IfFull, IsClockSet}
+use Rattle.script_running.specs.Gathering.{HaveOwnGateways, Gathers}
+use Rattle.script_running.specs.Going.{HasCome, HasGone, HasSeenFull, HasStopped, IfFull, IsClockSet, Met}
 use Rattle.script_running.specs.Outcomes.{PhasesCame, TasksCame}
 use Rattle.script_running.specs.Workers.{IsAtWork, MayWork, Post}
 use Rattle.script_running.specs.declared.came.Broken.{Broken}
@@ -90,11 +85,11 @@ as_many R (x ∷ xs) [] all = absurd all
 as_many R (x ∷ xs) (y ∷ ys) all = ap suc (as_many R xs ys all.1)
 
 -- no two workers of a phase are of one gateway
-are_apart : (workers : List Worker) → Apart workers → AreApart workers
+are_apart : (workers : List Worker) → Apart workers → HaveOwnGateways workers
 are_apart [] apart = tt
 are_apart (w ∷ workers) apart = (apart.0, are_apart workers apart.1)
 
-pub phase_apart : (setting : Setting) (number : ℕ) → AreApart (workers_of setting.script number)
+pub phase_apart : (setting : Setting) (number : ℕ) → HaveOwnGateways (workers_of setting.script number)
 phase_apart setting number = are_apart (workers_of setting.script number) (apart_of setting number)
 
 within_some : (o : Option ℕ) (count : ℕ) → ((gateway : ℕ) → o ≡ Some gateway → gateway < count) → IfSome o (λ gateway. gateway < count)
@@ -263,7 +258,7 @@ module _ (script : Script) (place : ℕ) (phase : Phase) (at : slice_get script.
       in_row : AreInRow (splits + 1) (workers_of script (length front_phases))
       in_row = subst (λ (n : ℕ). AreInRow (splits + 1) (workers_of script n)) (sym long) (row script lawful place phase at splits splits_are)
 
-      broke : (why : Broken) (later : List Outcome) → IfFull why ((later ≡ outcomes) × ((end : WorkerEnd) × Contains others end × (end.came ≡ Err broken.Full))) → HasStopped own (view_of after) later why
+      broke : (why : Broken) (later : List Outcome) → IfFull why (later ≡ outcomes) × Met why others → HasStopped own (view_of after) later why
       broke broken.NoMemory later met = record {
         done = front_phases;
         phase = phase;
@@ -273,7 +268,7 @@ module _ (script : Script) (place : ℕ) (phase : Phase) (at : slice_get script.
         held = g.held;
         so_far = g.so_far;
         came = tt;
-        stands = inr (inl (record { one = one; begins = begins; others = others; ends = ended.0; lasts = ended.1; have = have; seat = splits + 1; row = in_row; knows = knows; met = tt }));
+        stands = inr (inl (record { one = one; begins = begins; others = others; ends = ended.0; lasts = ended.1; have = have; seat = splits + 1; row = in_row; knows = knows; met = met.1 }));
       }
       broke broken.Full later met = record {
         done = front_phases;

@@ -1,6 +1,6 @@
 -- A run beside, from an empty journal to the world that comes out again.
-use Rattle.std.proofs.Common.{◌≡◌, ℕ, ◌<◌, List, [], length, take, Contains, Option, None, Some, refl, sym, ◌∙◌, ap, subst, arith}
-use Rattle.std.specs.Prelude.{Ok, Err, Result, slice_get}
+use Rattle.std.proofs.Common.{◌≡◌, ℕ, List, [], length, Option, None, sym, ap, subst, arith}
+use Rattle.std.specs.Prelude.{Ok, Err, Result}
 use Rattle.std.specs.List.{All}
 use Rattle.list_core.proofs.Lists.{take_none}
 use Rattle.world_core.specs.Worlds.{IsJournal}
@@ -10,13 +10,12 @@ use Rattle.world_turn.specs.Rule.{root}
 use Rattle.world_turn.specs.declared.view.View.{View as Known}
 use Rattle.meta_fetcher.specs.declared.view.View.{View}
 use Rattle.script_workers.specs.Hands.{gateway_count, seats_from}
-use Rattle.script_workers.specs.declared.phase.Phase.{Phase}
 use Rattle.script_core.specs.Lawful.{IsLawfulScript}
 use Rattle.script_core.specs.Workers.{seats_before}
 use Rattle.script_core.specs.declared.script.Script.{Script}
 use Rattle.lifecycle_core.specs.Holdings.{none_held}
-use Rattle.lifecycle_core.specs.Phases.{by_script, by_workers}
-use Rattle.lifecycle_core.specs.Setting.{Setting, setting_of}
+use Rattle.lifecycle_core.specs.Phases.{by_workers}
+use Rattle.lifecycle_core.specs.Setting.{Setting}
 use Rattle.lifecycle_core.specs.Ways.{PhasesRun}
 use Rattle.lifecycle_core.proofs.phases.FirstPhases.{no_phase}
 use Rattle.lifecycle_core.proofs.phases.Fronts.{script_is_cut_well}

@@ -1,17 +1,16 @@
 -- The workers of a phase, sent with what their gateways see, one after another.
-use Rattle.std.proofs.Common.{◌≡◌, ◌≢◌, ℕ, zero, suc, ◌+◌, List, [], ◌∷◌, ◌++◌, take, Contains, Option, None, Some, refl, sym, ◌∙◌, ap, subst}
-use Rattle.std.specs.Prelude.{option_map, slice_get}
+use Rattle.std.proofs.Common.{◌≡◌, ◌≢◌, ℕ, zero, suc, ◌+◌, List, [], ◌∷◌, ◌++◌, take, Option, None, Some, refl, sym, subst}
+use Rattle.std.specs.Prelude.{slice_get}
 use Rattle.std.specs.List.{All, AllZip}
 use Rattle.std.proofs.lemmas.List.Elements.{All-cons, All-contains, All-head, All-nil}
-use Rattle.std.proofs.lemmas.Option.{slice_get_within}
 use Rattle.list_core.proofs.Lists.{All-append_left, All-append_right, take_none, take_place}
 use Rattle.list_core.proofs.Membership.{contains_place}
 use Rattle.meta_fetcher.specs.declared.view.View.{View}
 use Rattle.script_workers.specs.declared.worker.Worker.{Worker}
-use Rattle.lifecycle_core.specs.Holdings.{Holding, Holdings, holding_of}
+use Rattle.lifecycle_core.specs.Holdings.{Holdings, holding_of}
 use Rattle.script_running.specs.Beside.{AreSeen}
 use Rattle.script_running.specs.Ended.{IsPostOf}
-use Rattle.script_running.specs.Gathering.{AreApart, AreSeenBeside, IsTaken}
+use Rattle.script_running.specs.Gathering.{HaveOwnGateways, AreSeenBeside, IsTaken}
 use Rattle.script_running.specs.Tasks.{Sees}
 use Rattle.script_running.specs.Workers.{Post}
 
@@ -19,7 +18,7 @@ abbrev NotOf : ℕ → Worker → Type 0
 NotOf place w = w.gateway ≢ Some place
 
 -- the workers before one are of other gateways
-apart_before : (workers : List Worker) (k : ℕ) (w : Worker) (gateway : ℕ) → AreApart workers → slice_get workers k ≡ Some w → w.gateway ≡ Some gateway → All (NotOf gateway) (take k workers)
+apart_before : (workers : List Worker) (k : ℕ) (w : Worker) (gateway : ℕ) → HaveOwnGateways workers → slice_get workers k ≡ Some w → w.gateway ≡ Some gateway → All (NotOf gateway) (take k workers)
 apart_before [] k w gateway apart at is = absurd (cc (at))
 apart_before (x ∷ workers) zero w gateway apart at is = subst (All (NotOf gateway)) (sym (take_none (x ∷ workers))) (All-nil (NotOf gateway))
 apart_before (x ∷ workers) (suc k) w gateway apart at is =
@@ -44,7 +43,7 @@ sees_own : (held : Holdings) (before : List (Option View)) (gateway : Option ℕ
 sees_own held before None own seen none named = sym (none refl)
 sees_own held before (Some place) own seen none named = seen place own (named place refl)
 
-pub one_sent : (bytes : List ℕ) (number k : ℕ) (workers : List Worker) (w : Worker) (before views next : List (Option View)) (posts more : List Post) (post : Post) → AreApart workers → slice_get workers k ≡ Some w → AreSent bytes number (take k workers) before views posts
+pub one_sent : (bytes : List ℕ) (number k : ℕ) (workers : List Worker) (w : Worker) (before views next : List (Option View)) (posts more : List Post) (post : Post) → HaveOwnGateways workers → slice_get workers k ≡ Some w → AreSent bytes number (take k workers) before views posts
     → post.text ≡ bytes → post.phase ≡ number → post.worker ≡ w → IsTaken w.gateway post.view views next → more ≡ posts ++ post ∷ [] → AreSent bytes number (take (k + 1) workers) before next more
 one_sent bytes number k workers w before views next posts more post apart at s text phase worker taken is =
     subst (λ (ws : List Worker). AreSent bytes number ws before next more) (sym (take_place workers k w at))

@@ -1,9 +1,9 @@
 -- Workers that are taken in one after another.
-use Rattle.std.proofs.Common.{◌≡◌, ◌≢◌, ◌⊎◌, inl, inr, ℕ, zero, suc, ◌+◌, ◌<◌, ◌≤◌, List, [], ◌∷◌, ◌++◌, length, drop, get_or, Contains, Option, Some, None, refl, sym, ◌∙◌, ap, subst, arith}
+use Rattle.std.proofs.Common.{◌≡◌, ◌≢◌, ◌⊎◌, inl, inr, ℕ, zero, suc, ◌+◌, ◌<◌, ◌≤◌, List, [], ◌∷◌, ◌++◌, length, drop, get_or, Contains, Option, Some, refl, sym, ◌∙◌, ap, subst, arith}
 use Rattle.std.specs.Prelude.{Ok, Err, Result, slice_get}
 use Rattle.std.specs.List.{All, zip}
 use Rattle.std.proofs.Math.ListN.{set, length-set}
-use Rattle.std.proofs.lemmas.List.Elements.{All-cons, All-contains, All-nil, All-push, Contains-append_left, Contains-append_right}
+use Rattle.std.proofs.lemmas.List.Elements.{All-cons, All-contains, All-nil, All-push, All-weaker, Contains-append_left, Contains-append_right}
 use Rattle.std.proofs.lemmas.List.{drop_all}
 use Rattle.std.proofs.lemmas.Option.{slice_get-get_or}
 use Rattle.list_core.proofs.Lists.{drop_none, drop_place}
@@ -105,11 +105,18 @@ takes_none views slots = record {
   laid = λ w e place o among. absurd (no_member (w, e) among);
 }
 
+-- none of them met the full journal, where something else is told of them
+not_yet : (ends : List WorkerEnd) (one : Result (Unit {0}) Broken) → one ≢ Err broken.Full → HaveCome ends one → All (λ (x : WorkerEnd). x.came ≢ Err broken.Full) ends
+not_yet ends (Ok tt) other have = All-weaker (λ (x : WorkerEnd). x.came ≡ Ok tt) (λ (x : WorkerEnd). x.came ≢ Err broken.Full) (λ x is so. cc (is, so)) ends have
+not_yet ends (Err broken.NoMemory) other have = have
+not_yet ends (Err broken.Full) other have = absurd (other refl)
+
 -- one worker more came back
 pub come_more : (ends : List WorkerEnd) (e : WorkerEnd) (one both : Result (Unit {0}) Broken) → IsWorse one e.came both → HaveCome ends one → HaveCome (ends ++ e ∷ []) both
 come_more ends e one (Ok tt) worse have =
     let w = worse.none refl in All-push (λ (x : WorkerEnd). x.came ≡ Ok tt) ends e (subst (HaveCome ends) w.0 have) w.1
-come_more ends e one (Err broken.NoMemory) worse have = tt
+come_more ends e one (Err broken.NoMemory) worse have =
+    All-push (λ (x : WorkerEnd). x.came ≢ Err broken.Full) ends e (not_yet ends one (λ is. let so = worse.first is in cc (so)) have) (λ is. let so = worse.second is in cc (so))
 come_more ends e one (Err broken.Full) worse have = elim (worse.full refl) [
   | inl before ↦ let h = subst (HaveCome ends) before have in (h.0, Contains-append_left ends (e ∷ []) h.0 h.1, h.2)
   | inr here ↦ (e, Contains-append_right ends (e ∷ []) e (contains_first e []), here)

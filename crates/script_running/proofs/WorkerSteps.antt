@@ -1,6 +1,6 @@
 -- A worker's tasks, one after another.
-use Rattle.std.proofs.Common.{◌≡◌, ℕ, zero, suc, ◌+◌, ◌<◌, List, [], ◌∷◌, ◌++◌, length, take, drop, get_or, refl, sym, ◌∙◌, ap, subst, inl, inr, append_assoc, arith}
-use Rattle.std.specs.Prelude.{Option, Some, None, Ok, Err, slice_get}
+use Rattle.std.proofs.Common.{◌≡◌, ◌||◌, Bool, true, false, ℕ, zero, suc, ◌+◌, ◌<◌, List, [], ◌∷◌, ◌++◌, length, take, drop, get_or, refl, sym, ◌∙◌, ap, subst, inl, inr, append_assoc, arith}
+use Rattle.std.specs.Prelude.{Option, Some, None, Ok, Err, Result, slice_get}
 use Rattle.std.specs.List.{All}
 use Rattle.std.proofs.lemmas.List.{append-nil, length-append, take_more}
 use Rattle.std.proofs.lemmas.Option.{slice_get-get_or}
@@ -19,8 +19,8 @@ use Rattle.lifecycle_core.proofs.phases.RunsInLine.{may_begin}
 use Rattle.lifecycle_core.proofs.phases.TaskRuns.{MayBegin}
 use Rattle.script_running.specs.Drives.{Came}
 use Rattle.script_running.specs.Outcomes.{IsOutcome}
-use Rattle.script_running.specs.Tasks.{CameBy, HasDone, Sees}
-use Rattle.script_running.specs.Workers.{AreOutcomes, HasWorked, IsBrokenOff, OwnRun}
+use Rattle.script_running.specs.Tasks.{CameBy, HasDone, Sees, is_full_came}
+use Rattle.script_running.specs.Workers.{AreOutcomes, HasWorked, IsBrokenOff, OwnRun, is_full_end}
 use Rattle.script_running.specs.declared.came.Broken.{Broken}
 use Rattle.script_running.specs.declared.came.Broken.TheVariants as broken
 use Rattle.script_running.specs.declared.outcome.Outcome.{Outcome}
@@ -70,6 +70,30 @@ outcomes_on own more [] outcomes are = are
 outcomes_on [] more (e ∷ ends) outcomes are = absurd are
 outcomes_on (a ∷ own) more (e ∷ ends) [] are = absurd are
 outcomes_on (a ∷ own) more (e ∷ ends) (o ∷ outcomes) are = (are.0, outcomes_on own more ends outcomes are.1)
+
+-- ---- what was refused
+
+or_false : (b : Bool) → (b || false) ≡ b
+or_false true = refl
+or_false false = refl
+
+-- a task that came to its end was refused nothing
+pub refused_none : (first mid new : Bool) (came : Came) (o : Outcome) → new ≡ (mid || is_full_came came) → came ≡ Ok o → mid ≡ first → new ≡ first
+refused_none first mid new came o is so same = is ∙ ap (λ (r : Came). mid || is_full_came r) so ∙ or_false mid ∙ same
+
+-- the task that broke off tells of the worker
+pub refused_broken : (first mid new : Bool) (came : Came) (why : Broken) → new ≡ (mid || is_full_came came) → came ≡ Err why → mid ≡ first → new ≡ (first || is_full_end (Err why))
+refused_broken first mid new came broken.Full is so same = is ∙ ap (λ (r : Came). mid || is_full_came r) so ∙ ap (λ (b : Bool). b || true) same
+refused_broken first mid new came broken.NoMemory is so same = is ∙ ap (λ (r : Came). mid || is_full_came r) so ∙ ap (λ (b : Bool). b || false) same
+
+-- a worker that was not refused
+pub unrefused : (first new : Bool) (came : Result (Unit {0}) Broken) → is_full_end came ≡ false → new ≡ first → new ≡ (first || is_full_end came)
+unrefused first new came none same = same ∙ sym (or_false first) ∙ ap (λ (b : Bool). first || b) (sym none)
+
+pub full_end : (came : Result (Unit {0}) Broken) → is_full_end came ≡ true → came ≡ Err broken.Full
+full_end (Ok tt) is = absurd (cc (is))
+full_end (Err broken.Full) is = refl
+full_end (Err broken.NoMemory) is = absurd (cc (is))
 
 -- ---- from one task to the next
 

@@ -1,10 +1,9 @@
 -- What a run leaves whose phases' workers are beside each other.
-use Rattle.std.specs.Prelude.{◌≡◌, ◌≢◌, ◌+◌, ℕ, List, [], ◌∷◌, ◌++◌, length, Option, Some, Result, Ok, Err, slice_get}
+use Rattle.std.specs.Prelude.{◌≡◌, ◌≢◌, ℕ, List, [], ◌∷◌, ◌++◌, length, Option, Some, Result, Ok, Err, slice_get}
 use Rattle.world_core.specs.Keeping.{IsFull}
 use Rattle.world_core.specs.declared.entry.Entry.{Entry}
 use Rattle.meta_fetcher.specs.declared.view.View.{View}
 use Rattle.script_workers.specs.declared.phase.Phase.{Phase}
-use Rattle.script_workers.specs.declared.worker.Worker.{Worker}
 use Rattle.lifecycle_core.specs.Holdings.{Holdings, none_held}
 use Rattle.lifecycle_core.specs.Phases.{IsFinished, IsInTurn, IsRunOf, by_workers}
 use Rattle.lifecycle_core.specs.Setting.{Setting}

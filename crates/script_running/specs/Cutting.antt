@@ -1,5 +1,5 @@
 -- How the journal of a run beside falls into its phases, by what the root's pass knows of them.
-use Rattle.std.specs.Prelude.{◌≡◌, ℕ, ◌<◌, List, [], ◌∷◌, ◌++◌, length, map, All, Contains}
+use Rattle.std.specs.Prelude.{◌≡◌, ℕ, ◌<◌, List, [], ◌∷◌, ◌++◌, map, All, Contains}
 use Rattle.std.specs.List.{AllByRecursion, flat_map}
 use Rattle.world_core.specs.declared.entry.Entry.{Entry}
 use Rattle.world_turn.specs.Seats.{Stand, of_seat}

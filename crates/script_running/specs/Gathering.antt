@@ -9,7 +9,7 @@ use Rattle.lifecycle_core.specs.Holdings.{Holdings}
 use Rattle.lifecycle_core.specs.Setting.{Setting}
 use Rattle.lifecycle_core.specs.Tasks.{End}
 use Rattle.script_running.specs.Beside.{AreSeen}
-use Rattle.script_running.specs.Going.{IfFull}
+use Rattle.script_running.specs.Going.{IfFull, Met}
 use Rattle.script_running.specs.Outcomes.{TasksCame}
 use Rattle.script_running.specs.Tasks.{Sees}
 use Rattle.script_running.specs.declared.came.Broken.{Broken}
@@ -24,19 +24,19 @@ abbrev pub AreSeenBeside : Holdings → List Worker → List (Option View) → T
 AreSeenBeside held workers views = (place : ℕ) (view : Option View) → slice_get views place ≡ Some view → All (λ (w : Worker). w.gateway ≢ Some place) workers → Sees (held place) view
 
 -- All workers came to all their ends: gateways see what they hold after the phase, and the outcomes of its tasks were added in the order
--- of the lines. Or a worker was broken off, and nothing was added, if the full journal did it.
+-- of the lines. Or a worker met the full journal, and nothing was added; or memory was wanting, and none of them met it.
 abbrev pub Gathers : Setting → Phase → List Worker → List (List End) → List WorkerEnd → Holdings → List (Option View) → List Outcome → List Outcome → Result (Unit {0}) Broken → Type 0
 Gathers setting phase workers ends others after views old new (Ok done) =
     AreDone workers ends × AreSeen after views × ((own : List Outcome) × (new ≡ old ++ own) × TasksCame setting.script workers ends 0 phase.tasks own)
 Gathers setting phase workers ends others after views old new (Err why) =
-    IfFull why ((new ≡ old) × ((end : WorkerEnd) × Contains others end × (end.came ≡ Err broken.Full)))
+    IfFull why (new ≡ old) × Met why others
 
 -- ---- before the phase
 
 -- no two workers are of one gateway
-abbrev pub AreApart : List Worker → Type 0
-AreApart [] = Unit {0}
-AreApart (w ∷ workers) = ((gateway : ℕ) → w.gateway ≡ Some gateway → All (λ (x : Worker). x.gateway ≢ Some gateway) workers) × AreApart workers
+abbrev pub HaveOwnGateways : List Worker → Type 0
+HaveOwnGateways [] = Unit {0}
+HaveOwnGateways (w ∷ workers) = ((gateway : ℕ) → w.gateway ≡ Some gateway → All (λ (x : Worker). x.gateway ≢ Some gateway) workers) × HaveOwnGateways workers
 
 -- the worker's gateway is one of so many
 abbrev pub HasPlace : ℕ → Worker → Type 0
@@ -62,16 +62,17 @@ pub record AreLaid (places : List ℕ) (outcomes : List Outcome) (old new : List
   pub kept : (place : ℕ) → IsFilled old place → IsFilled new place
   pub laid : (place : ℕ) (o : Outcome) → Contains (zip places outcomes) (place, o) → IsFilled new place
 
--- what broke workers off, one of whom met the full journal, if that is said
+-- what broke workers off, one of whom met the full journal just where that is said
 abbrev pub HaveCome : List WorkerEnd → Result (Unit {0}) Broken → Type 0
 HaveCome ends (Ok done) = All (λ (end : WorkerEnd). end.came ≡ Ok tt) ends
-HaveCome ends (Err broken.Full) = (end : WorkerEnd) × Contains ends end × (end.came ≡ Err broken.Full)
-HaveCome ends (Err broken.NoMemory) = Unit {0}
+HaveCome ends (Err why) = Met why ends
 
 -- which of two reasons is told
 pub record IsWorse (one other both : Result (Unit {0}) Broken) : Type 0 where
   pub none : both ≡ Ok tt → (one ≡ Ok tt) × (other ≡ Ok tt)
   pub full : both ≡ Err broken.Full → (one ≡ Err broken.Full) ⊎ (other ≡ Err broken.Full)
+  pub first : one ≡ Err broken.Full → both ≡ Err broken.Full
+  pub second : other ≡ Err broken.Full → both ≡ Err broken.Full
 
 -- how the task of a slot came out; a query that no gateway was asked answers nothing
 abbrev pub told : Option Outcome → Outcome

@@ -1,5 +1,5 @@
 -- How far a run beside has come, by what its root knows: between two phases, and where it broke off.
-use Rattle.std.specs.Prelude.{◌≡◌, ◌≢◌, ◌⊎◌, ◌+◌, ℕ, List, [], ◌∷◌, ◌++◌, length, Contains, Option, Result, Ok, Err}
+use Rattle.std.specs.Prelude.{◌≡◌, ◌≢◌, ◌⊎◌, ℕ, List, [], ◌∷◌, ◌++◌, length, All, Contains, Option, Result, Ok, Err}
 use mathlib.Core.List.{IsPrefix}
 use Rattle.world_core.specs.Keeping.{IsFull}
 use Rattle.world_core.specs.declared.entry.Entry.{Entry}
@@ -58,7 +58,12 @@ abbrev pub IfFull : Broken → Type 0 → Type 0
 IfFull broken.Full P = P
 IfFull broken.NoMemory P = Unit {0}
 
--- The phase behind the finished ones was begun. If the full journal broke it off, a worker met it.
+-- Workers of a phase that was broken off came back so: one of them met the full journal, or, where memory was wanting, none of them did.
+abbrev pub Met : Broken → List WorkerEnd → Type 0
+Met broken.Full ends = (end : WorkerEnd) × Contains ends end × (end.came ≡ Err broken.Full)
+Met broken.NoMemory ends = All (λ (end : WorkerEnd). end.came ≢ Err broken.Full) ends
+
+-- The phase behind the finished ones was begun. A worker met the full journal just where that broke the phase off.
 pub record HasBrokenOff (setting : Setting) (root : Known) (done : List Phase) (passed : List Passed) (held : Holdings) (phase : Phase) (why : Broken) : Type 0 where
   pub one : Passed
   pub begins : BeginsPhase phase one.clock
@@ -69,7 +74,7 @@ pub record HasBrokenOff (setting : Setting) (root : Known) (done : List Phase) (
   pub seat : ℕ
   pub row : AreInRow seat (workers_of setting.script (length done))
   pub knows : KnowsPhases root (passed ++ one ∷ [])
-  pub met : IfFull why ((end : WorkerEnd) × Contains others end × (end.came ≡ Err broken.Full))
+  pub met : Met why others
 
 -- The phase behind the finished ones was begun, and none of its workers.
 pub record HasIdled (setting : Setting) (root : Known) (passed : List Passed) (phase : Phase) : Type 0 where

@@ -1,5 +1,5 @@
 -- A worker of a phase: its post, and what it leaves.
-use Rattle.std.specs.Prelude.{◌≡◌, ℕ, ◌<◌, List, [], ◌∷◌, ◌++◌, length, All, Option, Some, Result, Ok, Err, IfSome, slice_get}
+use Rattle.std.specs.Prelude.{◌≡◌, ℕ, ◌<◌, Bool, true, false, List, [], ◌∷◌, ◌++◌, length, All, Option, Some, Result, Ok, Err, IfSome, slice_get}
 use Rattle.world_core.specs.Keeping.{IsFull}
 use Rattle.world_core.specs.declared.entry.Entry.{Entry}
 use Rattle.meta_fetcher.specs.declared.view.View.{View}
@@ -56,6 +56,12 @@ IsBrokenOff setting who seat before own made ends (Err broken.Full) =
     (length ends < length own)
     × IsDueAfter (λ entries (run : List End × Holding). OwnRun setting who before own entries run.0 run.1) seat made
 IsBrokenOff setting who seat before own made ends (Err broken.NoMemory) = Unit {0}
+
+-- whether the full journal broke a worker off
+abbrev pub is_full_end : Result (Unit {0}) Broken → Bool
+is_full_end (Ok done) = false
+is_full_end (Err broken.Full) = true
+is_full_end (Err broken.NoMemory) = false
 
 -- A worker that held this did its tasks, those at these places of the phase, one after another, with these entries of its seat.
 -- Its outcomes are those of the tasks that came to their ends.

@@ -1,6 +1,6 @@
 //! The workers of a phase, sent with what their gateways see, and their ends, laid together in the order of the lines.
 
-ghost use Rattle.std.specs.Prelude.{◌≡◌, ◌≢◌, ◌<◌, ◌++◌, ℕ, List, Err, None, Some, IfOk, IfSome, OnOk, length, map, slice_get};
+ghost use Rattle.std.specs.Prelude.{◌≡◌, ◌≢◌, ◌<◌, ◌++◌, ℕ, List, Err, None, Some, IfOk, IfSome, MatchBool, OnOk, length, map, slice_get};
 ghost use Rattle.std.specs.List.{All, AllZip};
 ghost use Rattle.world_core.specs.declared.entry.Entry.{Entry};
 ghost use Rattle.script_core.specs.Lawful.{IsLawfulScript};
@@ -12,8 +12,9 @@ ghost use Rattle.lifecycle_core.specs.Tasks.{End};
 ghost use Rattle.script_running.specs.Begun.{AreLeft};
 ghost use Rattle.script_running.specs.Beside.{AreSeen};
 ghost use Rattle.script_running.specs.Ended.{HaveEnded, IsPostOf};
-ghost use Rattle.script_running.specs.Gathering.{AreApart, AreLaid, AreSeenBeside, AreTakenIn, Gathers, HaveCome, IsSeen, IsTaken, IsWorse, told};
-ghost use Rattle.script_running.specs.Workers.{IsAtWork};
+ghost use Rattle.script_running.specs.Gathering.{HaveOwnGateways, AreLaid, AreSeenBeside, AreTakenIn, Gathers, HaveCome, IsSeen, IsTaken, IsWorse, told};
+ghost use Rattle.script_running.specs.Going.{Met};
+ghost use Rattle.script_running.specs.Workers.{IsAtWork, is_full_end};
 
 use crate::{Broken, Outcome, OutcomeList, QueryOutcome, WorkerEnd, WorkerJob};
 use label_sets::SeriesList;
@@ -35,7 +36,7 @@ pub(crate) fn jobs_of<'a>(
     requires gateways { All
         (λ worker. IfSome worker.gateway (λ gateway. gateway < length views.old.items))
         workers.now }
-    requires apart { AreApart workers.now }
+    requires apart { HaveOwnGateways workers.now }
     ensures each { length views.new.items ≡ length views.old.items }
     ensures sent { (held : Holdings) → AreSeen held views.old.items
         → IfOk result (λ jobs. AllZip (IsPostOf text.now phase held) workers.now jobs.items) }
@@ -63,6 +64,8 @@ fn take_view(gateway: Option<u32>, views: &mut Vec<Option<View>>) -> Option<View
 }
 
 /// Takes what each worker's gateway sees from now on, and where none was broken off, adds the outcomes of the phase's tasks.
+///
+/// It takes memory only where no worker met the full journal, so that this is what is told of such a phase.
 pub(crate) fn gather(
     alloc: Global,
     tasks: &[Task],
@@ -88,12 +91,36 @@ pub(crate) fn gather(
         → Gathers setting phase workers.now own ends.items after views.new.items outcomes.old
         outcomes.new result }
 {
+    if any_full(&ends) {
+        return Err(Broken::Full);
+    }
     let Ok(mut slots) = slots_for(alloc, tasks.len()) else {
         return Err(Broken::NoMemory);
     };
     match take_in(workers, ends, views, &mut slots) {
         Ok(()) => tell(alloc, slots, outcomes),
         Err(broken) => Err(broken),
+    }
+}
+
+/// Whether a worker met the full journal.
+fn any_full(ends: &[WorkerEnd]) -> bool
+    ensures { MatchBool result (Met Broken.Full ends.now) (Met Broken.NoMemory ends.now) }
+{
+    for end in ends {
+        if met_full(end) {
+            return true;
+        }
+    }
+    false
+}
+
+fn met_full(end: &WorkerEnd) -> bool
+    ensures { result ≡ is_full_end end.now.came }
+{
+    match end.came {
+        Err(Broken::Full) => true,
+        Ok(()) | Err(Broken::NoMemory) => false,
     }
 }
 

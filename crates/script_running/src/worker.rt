@@ -1,6 +1,6 @@
 //! A worker of a phase: it does its tasks one after another.
 
-ghost use Rattle.std.specs.Prelude.{◌≡◌, ◌<◌, [], Ok, Err, IfSome, length};
+ghost use Rattle.std.specs.Prelude.{◌≡◌, ◌<◌, ◌||◌, [], Ok, Err, IfSome, length};
 ghost use Rattle.std.specs.List.{All};
 ghost use Rattle.world_core.specs.Keeping.{IsFull};
 ghost use Rattle.script_core.specs.Lawful.{IsLawfulScript};
@@ -8,7 +8,7 @@ ghost use Rattle.lifecycle_core.specs.Conducts.{Who};
 ghost use Rattle.lifecycle_core.specs.Holdings.{Holding};
 ghost use Rattle.lifecycle_core.specs.Setting.{setting_of};
 ghost use Rattle.script_running.specs.Tasks.{Allows, Sees};
-ghost use Rattle.script_running.specs.Workers.{IsAtWork, HasWorked};
+ghost use Rattle.script_running.specs.Workers.{IsAtWork, HasWorked, is_full_end};
 
 use crate::{Broken, Outcome, run_task};
 use meta_fetcher::View;
@@ -133,6 +133,9 @@ fn do_tasks<H: Hand>(
         (H.entries hand.old) (H.entries hand.new) result }
     ensures seat { H.seat hand.new ≡ H.seat hand.old }
     ensures keeps { H.keeps hand.old hand.new }
+
+    // The worker is broken off as full exactly where an operation was answered so, and then the journal is full.
+    ensures refused { H.refused hand.new ≡ (H.refused hand.old || is_full_end result.came) }
     ensures full { result.came ≡ Err Broken.Full → IfSome (H.front hand.new) IsFull }
 {
     let mut view = view;

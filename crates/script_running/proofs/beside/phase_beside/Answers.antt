@@ -5,7 +5,7 @@ use Rattle.world_turn.specs.declared.pass.Pass.{Pass}
 use Rattle.phase_runner.specs.Phases.{HasRun, Runs}
 use Rattle.lifecycle_core.specs.Setting.{setting_of}
 use Rattle.script_running.specs.Ended.{IsPostOf}
-use Rattle.script_running.specs.Gathering.{AreApart}
+use Rattle.script_running.specs.Gathering.{HaveOwnGateways}
 use Rattle.script_running.specs.Going.{HasStopped, IsClockSet}
 use Rattle.script_running.specs.Workers.{MayWork, Post}
 use Rattle.script_running.specs.declared.came.Broken.TheVariants as broken
@@ -29,7 +29,7 @@ jobs_of-requires-clause-gateways g c =
 pub jobs_of-requires-clause-apart : goal.jobs_of-requires-clause-apart
 jobs_of-requires-clause-apart g c =
     let are = workers_here c.args.script.now c.args.place c.splits.result c.in-Ok.staff c.members-workers.result.now c.members-workers.ensures c.in-Ok.ensures (c.splits.ensures ∙ c.requires.seats) in
-    subst AreApart (sym are) (phase_apart (setting_of c.args.script.now) c.args.place)
+    subst HaveOwnGateways (sym are) (phase_apart (setting_of c.args.script.now) c.args.place)
 
 pub returns-in_default-jobs_of-clause-came : goal.returns-in_default-jobs_of-clause-came
 returns-in_default-jobs_of-clause-came g c = no_room c.args.script.now c.args.place c.args.phase.now c.requires.at (view_of c.args.root) c.args.standing.now.views.items c.args.standing.now.outcomes c.requires.gone

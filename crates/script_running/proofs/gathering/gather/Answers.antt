@@ -1,9 +1,13 @@
-use Rattle.std.proofs.Common.{length, ap, ◌∙◌, subst}
+use Rattle.std.proofs.Common.{length, ap, ◌∙◌, refl, subst}
 use Rattle.script_running.specs.Gathering.{HaveCome}
-use Rattle.script_running.proofs.Gathers.{came_whole}
+use Rattle.script_running.proofs.Gathers.{came_whole, met_so}
 use Rattle.script_running.proofs.gathering.gather.Goals as goal
 
 pub returns-in-Ok-take_in-clause-gathers : goal.returns-in-Ok-take_in-clause-gathers
 returns-in-Ok-take_in-clause-gathers c = λ setting number phase before after front kept own lasts lawful at tasks workers have left beside.
     came_whole setting number phase before after front c.args.workers.now kept own lasts c.args.ends.items c.args.views.now.items lawful at workers have left c.take_in.new.views.items beside c.in-Ok.slots.items c.take_in.new.slots.items
     (subst (HaveCome c.args.ends.items) c.in-Ok-take_in.is c.take_in.ensures.came) c.take_in.ensures.taken (c.in-Ok.ensures.wide ∙ ap length tasks) c.in-Ok.ensures.empty c.args.outcomes.now c.tell.new.outcomes c.tell.result c.tell.ensures.why c.tell.ensures.told
+
+pub returns-then-any_full-clause-gathers : goal.returns-then-any_full-clause-gathers
+returns-then-any_full-clause-gathers c = λ setting number phase before after front kept own lasts lawful at tasks workers have left beside.
+    (refl, met_so c.any_full.result c.deref.result.now c.args.ends.items c.any_full.ensures c.if-any_full.true c.deref.ensures.value)

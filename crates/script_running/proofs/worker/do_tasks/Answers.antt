@@ -1,7 +1,9 @@
 use Rattle.std.proofs.Common.{◌+◌, ◌<◌, ◌∷◌, [], length, length-append, refl, ap, ◌∙◌, arith}
 use Rattle.std.proofs.lemmas.List.{take_all}
+use Rattle.std.specs.Prelude.{Ok}
 use Rattle.lifecycle_core.specs.Setting.{setting_of}
-use Rattle.script_running.proofs.WorkerSteps.{all_worked, default_any, none_done, none_worked, step_broken, step_worked}
+use Rattle.script_running.specs.Workers.{is_full_end}
+use Rattle.script_running.proofs.WorkerSteps.{all_worked, default_any, none_done, none_worked, refused_broken, refused_none, step_broken, step_worked, unrefused}
 use Rattle.script_running.proofs.worker.do_tasks.Goals as goal
 
 pub returns-in_default-clause-worked : goal.returns-in_default-clause-worked
@@ -13,6 +15,7 @@ pub loop-number-init : goal.loop-number-init
 loop-number-init g c = record {
   worked = λ who held sees. none_worked (setting_of c.args.script.now) c.args.tasks.now who held (g.H.Hand.seat c.args.hand.now) (g.H.Hand.entries c.args.hand.now) c.args.view [] c.in-Ok.outcomes.items refl c.in-Ok.ensures.items sees;
   seat = refl;
+  refused = refl;
   keeps = g.met.H.Hand.keeps_none _;
   count = ap length c.in-Ok.ensures.items;
   room = omega (arith, c.in-Ok.ensures.capacity);
@@ -34,6 +37,7 @@ loop-number-preserved g c =
           c.loop-number.view c.run_task.new.view c.loop-number.outcomes.items c.loop-number.number _ c.index-tasks-places.result below (default_any c.args.places.now c.loop-number.number 0 _ below) c.requires.places c.index-tasks-places.is c.loop-number.invariant.seat
           (c.loop-number.invariant.worked who held sees) c.push_reserved.new.self.items c.in-Ok-run_task.outcome c.run_task.result c.in-Ok-run_task.is c.push_reserved.ensures.items (λ h s. c.run_task.ensures.done who _ h s);
       seat = c.run_task.ensures.seat ∙ c.loop-number.invariant.seat;
+      refused = refused_none (g.H.Hand.refused c.args.hand.now) (g.H.Hand.refused c.loop-number.hand) (g.H.Hand.refused c.run_task.new.hand) c.run_task.result c.in-Ok-run_task.outcome c.run_task.ensures.refused c.in-Ok-run_task.is c.loop-number.invariant.refused;
       keeps = g.met.H.Hand.keeps_more _ _ _ c.loop-number.invariant.keeps c.run_task.ensures.keeps;
       count = ap length c.push_reserved.ensures.items ∙ length-append c.loop-number.outcomes.items (c.in-Ok-run_task.outcome ∷ []) ∙ ap (λ n. n + 1) c.loop-number.invariant.count;
       room = (let a = c.loop-number.invariant.room in let b = c.push_reserved.ensures.capacity in omega arith);
@@ -43,3 +47,13 @@ pub returns-clause-worked : goal.returns-clause-worked
 returns-clause-worked g c = λ who held sees.
     all_worked (setting_of c.args.script.now) c.args.tasks.now who _ c.args.places.now held (g.H.Hand.seat c.args.hand.now) (g.H.Hand.entries c.args.hand.now) (g.H.Hand.entries c.loop-number.hand) c.loop-number.view c.loop-number.outcomes.items _
     (take_all c.loop-number.number c.args.places.now (omega (arith, c.loop-number-test.false))) refl refl refl (c.loop-number.invariant.worked who held sees)
+
+pub returns-in_default-clause-refused : goal.returns-in_default-clause-refused
+returns-in_default-clause-refused g c = unrefused (g.H.Hand.refused c.args.hand.now) (g.H.Hand.refused c.args.hand.now) c.wanting.result.came (ap is_full_end c.wanting.ensures.1) refl
+
+pub returns-in-Err-clause-refused : goal.returns-in-Err-clause-refused
+returns-in-Err-clause-refused g c =
+    refused_broken (g.H.Hand.refused c.args.hand.now) (g.H.Hand.refused c.loop-number.hand) (g.H.Hand.refused c.run_task.new.hand) c.run_task.result c.in-Err.broken c.run_task.ensures.refused c.in-Err.is c.loop-number.invariant.refused
+
+pub returns-clause-refused : goal.returns-clause-refused
+returns-clause-refused g c = unrefused (g.H.Hand.refused c.args.hand.now) (g.H.Hand.refused c.loop-number.hand) (Ok tt) refl c.loop-number.invariant.refused
