@@ -1,11 +1,9 @@
 -- A journal tells which phases were done: so two runs over one journal that were broken off while an operation was due, and such a run is no finished one.
 use Rattle.list_core.proofs.Membership.{member_cases, no_member}
-use Rattle.std.proofs.Common.{◌≡◌, ◌≢◌, ◌⊎◌, inl, inr, ℕ, suc, ◌+◌, ◌==◌, Bool, true, false, List, [], ◌∷◌, ◌++◌, length, map, All, Contains, Option, Some, None, refl, sym, ◌∙◌, ap, subst, arith, append_assoc, append-nil}
-use Rattle.std.specs.Prelude.{slice_get}
+use Rattle.std.proofs.Common.{◌≡◌, ◌≢◌, ◌⊎◌, inl, inr, ℕ, ◌+◌, ◌==◌, Bool, true, false, List, [], ◌∷◌, ◌++◌, length, map, All, Contains, Option, Some, None, refl, sym, ◌∙◌, ap, subst, arith, append_assoc, append-nil}
 use Rattle.std.specs.List.{AllZip}
 use Rattle.std.proofs.lemmas.Bool.Decides.{nat_tests}
-use Rattle.std.proofs.lemmas.List.Elements.{All-contains, Contains-append_right, filter-append}
-use Rattle.moment_core.specs.declared.moment.Moment.{Moment}
+use Rattle.std.proofs.lemmas.List.Elements.{filter-append}
 use Rattle.world_core.specs.Operations.{IsAnswer, entry_of}
 use Rattle.world_core.specs.declared.op.Op.{Op}
 use Rattle.world_core.specs.declared.op.Op.TheVariants.{Clock, Put, Get, GetRange, Delete, RootPage, BlockPage}
@@ -24,7 +22,7 @@ use Rattle.lifecycle_core.specs.Phases.{IsFinished, IsRunOf, by_script, by_worke
 use Rattle.lifecycle_core.specs.Setting.{Setting}
 use Rattle.lifecycle_core.specs.Tasks.{End, TaskRun}
 use Rattle.lifecycle_core.specs.Ways.{AreFinished, IsOperationDue, PhasesRun}
-use Rattle.lifecycle_core.proofs.phases.OneEnding.{Parted, alike, first_longer, second_longer, at_length, at_tells, begun_tell, made_above, no_further, parted, phase_tells, starts, task_once, task_tells, within}
+use Rattle.lifecycle_core.proofs.phases.OneEnding.{alike, first_longer, second_longer, at_length, at_tells, begun_tell, made_above, no_further, parted, phase_tells, starts, task_once, task_tells, within}
 use Rattle.lifecycle_core.proofs.phases.RunFronts.{not_nil}
 
 -- ---- an answer to an operation
