@@ -2,6 +2,7 @@ use crate::made_sections::print_made;
 use crate::parts_calls::{print_in, print_over};
 use crate::pieces::put_pieces;
 use crate::reader_calls::print_read;
+use crate::says::{say, show};
 use crate::section_calls::print_section;
 use index_parts::read_toc;
 use label_sets::LabelSet;
@@ -18,7 +19,7 @@ pub(crate) fn print_call(rt: &HostRuntime, index: &[u8], row: &str) -> io::Resul
     let (call, pieces) = row.split_once(" with ").unwrap_or((row, ""));
     match with_pieces(rt.alloc(), index, pieces) {
         Ok(bytes) => print_answer(rt, bytes.as_slice(), call),
-        Err(_) => println!(rt; "no bytes"),
+        Err(_) => say(rt, "no bytes"),
     }
 }
 
@@ -34,7 +35,7 @@ fn print_answer(rt: &HostRuntime, index: &[u8], call: &str) -> io::Result<()> {
     match word {
         "made" => print_made(rt, argument),
         "bytes" => print_bytes(rt, index, argument),
-        "toc" => println!(rt; "{:?}", read_toc(index)),
+        "toc" => show(rt, &read_toc(index)),
         "labels" => print_labels(rt, argument),
         "symbols" | "table" | "list" | "raw" | "place" => print_section(rt, index, word, argument),
         "over" => print_over(rt, index, argument),
@@ -48,14 +49,14 @@ fn print_bytes(rt: &HostRuntime, index: &[u8], range: &str) -> io::Result<()> {
     let end = end.parse().unwrap_or(index.len());
     match index.get(from.parse().unwrap_or(0)..end) {
         Some(bytes) => print_hex(rt, bytes),
-        None => println!(rt; "no bytes"),
+        None => say(rt, "no bytes"),
     }
 }
 
 fn print_labels(rt: &HostRuntime, text: &str) -> io::Result<()> {
     match LabelSet::read(rt.alloc(), text) {
-        Ok(_) => println!(rt; "a label set"),
-        Err(refusal) => println!(rt; "{refusal:?}"),
+        Ok(_) => say(rt, "a label set"),
+        Err(refusal) => show(rt, &refusal),
     }
 }
 

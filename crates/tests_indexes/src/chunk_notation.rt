@@ -1,5 +1,6 @@
 //! The notation of a chunk: `FROM..TO@SEGMENT:OFFSET`, the times of its first and of its last sample, and where it stands.
 
+use crate::says::say;
 use index_parts::{ChunkList, ChunkPlace};
 use list_core::NoMemory;
 use std::alloc::Global;
@@ -36,5 +37,5 @@ pub(crate) fn print_chunks(rt: &HostRuntime, chunks: &[ChunkPlace]) -> io::Resul
             chunk.min, chunk.max, chunk.segment, chunk.offset
         )?;
     }
-    println!(rt; "")
+    say(rt, "")
 }

@@ -5,6 +5,7 @@
 
 use crate::calls::print_hex;
 use crate::chunk_notation::chunks_of;
+use crate::says::say;
 use crate::texts::{numbers_of, rows_of, texts_of};
 use index_parts::{
     RawSeries, Toc, write_label_index, write_label_offsets, write_postings, write_postings_table,
@@ -20,7 +21,7 @@ pub(crate) fn print_made(rt: &HostRuntime, section: &str) -> io::Result<()> {
     let mut out = Vec::new(rt.alloc());
     match put_section(&mut out, kind, text) {
         Ok(()) => print_hex(rt, out.as_slice()),
-        Err(_) => println!(rt; "no memory"),
+        Err(_) => say(rt, "no memory"),
     }
 }
 

@@ -1,23 +1,30 @@
 //! Reads indexes and their sections, writes them, and prints what comes of it. A line of standard input is a row, and the
 //! rows speak of the index at hand: `new` begins one without bytes, `put` puts bytes to it, in the notation of `pieces`, and
 //! `write` makes it the one that is written of series, in the notation of `series_rows`. Any other row is a call, which is
-//! asked of a copy to which the pieces behind ` with ` were put first; `calls` has the words. A row that begins with `= ` is a
+//! asked of a copy to which the pieces behind ` with ` were put first; `calls` has the words. `block FOLDER` prints a block of
+//! the folder `data`, and what stands behind `selection` is a question of `selectors`. A row that begins with `= ` is a
 //! heading. What is to be printed comes from a Prometheus server (2.42), and else was worked out by hand from the description
 //! of the format.
 #![tactic(auto)]
 
+mod blocks;
 mod calls;
 mod chunk_notation;
 mod made_sections;
 mod parts_calls;
 mod pieces;
 mod reader_calls;
+mod says;
 mod section_calls;
+mod selectors;
 mod series_rows;
 mod texts;
 
+use crate::blocks::print_block;
 use crate::calls::print_call;
 use crate::pieces::put_pieces;
+use crate::says::{say, show};
+use crate::selectors::print_asked;
 use crate::series_rows::written;
 use std::io;
 
@@ -33,13 +40,21 @@ fn main(rt: HostRuntime) -> io::Result<()> {
 fn do_row(rt: &HostRuntime, index: &mut Vec<u8>, row: &str) -> io::Result<()> {
     let (word, text) = row.split_once(' ').unwrap_or((row, ""));
     match word {
-        "=" => println!(rt; "{row}"),
+        "=" => say(rt, row),
         "new" => {
             index.clear();
             Ok(())
         }
         "put" => put(rt, index, text),
         "write" => write(rt, index, text),
+        "selection" => {
+            print!(rt; "{row} -> ")?;
+            print_asked(rt, text)
+        }
+        "block" => {
+            say(rt, row)?;
+            print_block(rt, text)
+        }
         _ => print_call(rt, index.as_slice(), row),
     }
 }
@@ -47,7 +62,7 @@ fn do_row(rt: &HostRuntime, index: &mut Vec<u8>, row: &str) -> io::Result<()> {
 fn put(rt: &HostRuntime, index: &mut Vec<u8>, pieces: &str) -> io::Result<()> {
     match put_pieces(index, pieces) {
         Ok(()) => Ok(()),
-        Err(_) => println!(rt; "no bytes"),
+        Err(_) => say(rt, "no bytes"),
     }
 }
 
@@ -57,6 +72,6 @@ fn write(rt: &HostRuntime, index: &mut Vec<u8>, series: &str) -> io::Result<()> 
             *index = text.into_vec();
             Ok(())
         }
-        Err(refusal) => println!(rt; "{refusal:?}"),
+        Err(refusal) => show(rt, &refusal),
     }
 }

@@ -1,6 +1,7 @@
 ghost use Rattle.std.specs.Prelude.{◌+◌, ◌^◌, ◌<◌, length, IfSome};
 
 use crate::reader_calls::{print_opened, print_series};
+use crate::says::{say, show};
 use index_parts::{Toc, read_toc};
 use index_v2::{IndexParts, IndexReader, IndexRefusal, IndexSeries};
 use std::alloc::Global;
@@ -12,8 +13,8 @@ pub(crate) fn print_over(rt: &HostRuntime, index: &[u8], call: &str) -> io::Resu
     let (word, argument) = call.split_once(' ').unwrap_or((call, ""));
     match over(rt.alloc(), index) {
         Some(Ok(reader)) => print_opened(rt, &reader, word, argument),
-        Some(Err(refusal)) => println!(rt; "{refusal:?}"),
-        None => println!(rt; "no parts"),
+        Some(Err(refusal)) => show(rt, &refusal),
+        None => say(rt, "no parts"),
     }
 }
 
@@ -22,7 +23,7 @@ pub(crate) fn print_in(rt: &HostRuntime, index: &[u8], call: &str) -> io::Result
     let (range, number) = call.split_once(' ').unwrap_or((call, ""));
     match series_in(rt.alloc(), index, range, number.parse().unwrap_or(0)) {
         Some(read) => print_series(rt, read),
-        None => println!(rt; "no bytes"),
+        None => say(rt, "no bytes"),
     }
 }
 

@@ -1,4 +1,5 @@
 use crate::chunk_notation::print_chunks;
+use crate::says::{say, show};
 use index_v2::{IndexReader, IndexRefusal, IndexSeries, IndexSeriesList, LentSeries};
 use label_sets::TextList;
 use std::{fmt, io, str};
@@ -16,7 +17,7 @@ pub(crate) fn print_read(
 ) -> io::Result<()> {
     match IndexReader::open(rt.alloc(), index) {
         Ok(reader) => print_opened(rt, &reader, word, argument),
-        Err(refusal) => println!(rt; "{refusal:?}"),
+        Err(refusal) => show(rt, &refusal),
     }
 }
 
@@ -31,21 +32,21 @@ pub(crate) fn print_opened(
     match word {
         "whole" => print_whole(rt, reader.whole(rt.alloc())),
         "count" => print_count(rt, reader.whole(rt.alloc())),
-        "symbol" => println!(rt; "{:?}", reader.symbol(number)),
+        "symbol" => show(rt, &reader.symbol(number)),
         "postings" => print_numbers(rt, reader.postings(rt.alloc(), name, value)),
         "values" => print_values(rt, reader.label_values(rt.alloc(), name)),
         "first" => println!(rt; "{} of {}", reader.first_row(name), reader.row_count()),
         "row" => print_row(rt, reader, number as usize),
         "series" => print_series(rt, reader.series(rt.alloc(), number)),
         "lent" => print_lent(rt, reader.lent_series(number, LentSeries::new(rt.alloc()))),
-        _ => println!(rt; "opened"),
+        _ => say(rt, "opened"),
     }
 }
 
 fn print_whole(rt: &HostRuntime, read: Result<IndexSeriesList, IndexRefusal>) -> io::Result<()> {
     match read {
         Ok(list) => print_all(rt, list.members()),
-        Err(refusal) => println!(rt; "{refusal:?}"),
+        Err(refusal) => show(rt, &refusal),
     }
 }
 
@@ -70,7 +71,7 @@ fn print_one(rt: &HostRuntime, series: &IndexSeries) -> io::Result<()> {
 fn print_count(rt: &HostRuntime, read: Result<IndexSeriesList, IndexRefusal>) -> io::Result<()> {
     match read {
         Ok(list) => println!(rt; "{} series", list.len()),
-        Err(refusal) => println!(rt; "{refusal:?}"),
+        Err(refusal) => show(rt, &refusal),
     }
 }
 
@@ -80,21 +81,21 @@ pub(crate) fn print_numbers<E: fmt::Debug + Drop>(
     read: Result<NumberList, E>,
 ) -> io::Result<()> {
     match read {
-        Ok(numbers) => println!(rt; "{:?}", numbers.members()),
-        Err(refusal) => println!(rt; "{refusal:?}"),
+        Ok(numbers) => show(rt, &numbers.members()),
+        Err(refusal) => show(rt, &refusal),
     }
 }
 
 fn print_values(rt: &HostRuntime, read: Result<TextList, IndexRefusal>) -> io::Result<()> {
     match read {
-        Ok(values) => println!(rt; "{:?}", values.members()),
-        Err(refusal) => println!(rt; "{refusal:?}"),
+        Ok(values) => show(rt, &values.members()),
+        Err(refusal) => show(rt, &refusal),
     }
 }
 
 fn print_row(rt: &HostRuntime, reader: &IndexReader<'_>, place: usize) -> io::Result<()> {
     let Some((name, value, offset)) = reader.row(place) else {
-        return println!(rt; "no row");
+        return say(rt, "no row");
     };
     print!(rt; "{name:?} {value:?} {offset} ")?;
     print_numbers(rt, reader.row_numbers(rt.alloc(), place))
@@ -106,7 +107,7 @@ pub(crate) fn print_series(
 ) -> io::Result<()> {
     match read {
         Ok(series) => print_one(rt, &series),
-        Err(refusal) => println!(rt; "{refusal:?}"),
+        Err(refusal) => show(rt, &refusal),
     }
 }
 
@@ -114,8 +115,8 @@ fn print_lent(rt: &HostRuntime, read: Result<LentSeries<'_>, IndexRefusal>) -> i
     match read {
         Ok(series) => match series.to_series(rt.alloc()) {
             Ok(copy) => print_one(rt, &copy),
-            Err(_) => println!(rt; "no memory"),
+            Err(_) => say(rt, "no memory"),
         },
-        Err(refusal) => println!(rt; "{refusal:?}"),
+        Err(refusal) => show(rt, &refusal),
     }
 }

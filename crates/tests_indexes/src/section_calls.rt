@@ -1,5 +1,6 @@
 use crate::chunk_notation::print_chunks;
 use crate::reader_calls::print_numbers;
+use crate::says::show;
 use index_parts::{
     PartRefusal, PostingsTable, RawSeries, SymbolTable, label_place, read_postings,
     read_postings_table, read_series, read_symbols,
@@ -23,7 +24,7 @@ pub(crate) fn print_section(
         "table" => print_row(rt, read_postings_table(rt.alloc(), index, place), number),
         "list" => print_numbers(rt, read_postings(rt.alloc(), index, place)),
         "raw" => print_raw(rt, read_series(rt.alloc(), index, place)),
-        _ => println!(rt; "{:?}", label_place(index, place, number)),
+        _ => show(rt, &label_place(index, place, number)),
     }
 }
 
@@ -34,7 +35,7 @@ fn print_symbol(
 ) -> io::Result<()> {
     match read {
         Ok(table) => println!(rt; "{:?} of {}", table.get(number), table.len()),
-        Err(refusal) => println!(rt; "{refusal:?}"),
+        Err(refusal) => show(rt, &refusal),
     }
 }
 
@@ -45,14 +46,14 @@ fn print_row(
 ) -> io::Result<()> {
     match read {
         Ok(table) => println!(rt; "{:?} of {}", table.get(number), table.len()),
-        Err(refusal) => println!(rt; "{refusal:?}"),
+        Err(refusal) => show(rt, &refusal),
     }
 }
 
 fn print_raw(rt: &HostRuntime, read: Result<RawSeries, PartRefusal>) -> io::Result<()> {
     match read {
         Ok(series) => print_raw_series(rt, &series),
-        Err(refusal) => println!(rt; "{refusal:?}"),
+        Err(refusal) => show(rt, &refusal),
     }
 }
 

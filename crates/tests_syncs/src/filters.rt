@@ -1,8 +1,10 @@
+use crate::cleanings::{print_cleanings, print_play};
 use crate::marks::print_marked;
 use crate::metas::read_meta;
+use crate::says::say;
 use crate::uploads::print_uploads;
-use block_meta::{DeletionMark, MetaRefusal};
-use list_core::TryCopy;
+use block_meta::DeletionMark;
+use list_core::{NoMemory, TryCopy};
 use moment_core::{Moment, Span};
 use std::alloc::Global;
 use std::io;
@@ -20,27 +22,36 @@ const MARK: &str = r#"{"id":"00000000000000000000000001","version":1,"deletion_t
 /// Prints a row, and what is answered. The head of standard input says what the rows mean.
 pub(crate) fn print_row(rt: &HostRuntime, row: &str) -> io::Result<()> {
     if row.starts_with("= ") {
-        return println!(rt; "{row}");
+        return say(rt, row);
     }
-    print!(rt; "{row} -> ")?;
     let (kind, text) = row.split_once(' ').unwrap_or((row, ""));
+    print!(rt; "{row} ->")?;
+    match kind {
+        "clean" => print_cleanings(rt, text),
+        "play" => print_play(rt, text),
+        _ => print_answer(rt, kind, text),
+    }
+}
+
+fn print_answer(rt: &HostRuntime, kind: &str, text: &str) -> io::Result<()> {
+    print!(rt; " ")?;
     match kind {
         "young" => print_kept(rt, is_old(rt.alloc(), text)),
         "marked" => print_kept(rt, is_kept(rt.alloc(), Some(MARK), text)),
         "unmarked" => print_kept(rt, is_kept(rt.alloc(), None, text)),
         "expiring" => print_kept(rt, is_retained(rt.alloc(), text)),
-        "split" => print_split(rt, split_of(rt.alloc(), text)),
+        "split" => print_split(rt, text),
         "upload" => print_uploads(rt, text),
         "sync" => print_marked(rt, text),
-        _ => println!(rt; "no row"),
+        _ => say(rt, "no row"),
     }
 }
 
-fn print_kept(rt: &HostRuntime, kept: Result<bool, MetaRefusal>) -> io::Result<()> {
+fn print_kept(rt: &HostRuntime, kept: Result<bool, NoMemory>) -> io::Result<()> {
     match kept {
-        Ok(true) => println!(rt; "kept"),
-        Ok(false) => println!(rt; "dropped"),
-        Err(refusal) => println!(rt; "{refusal:?}"),
+        Ok(true) => say(rt, "kept"),
+        Ok(false) => say(rt, "dropped"),
+        Err(_) => say(rt, "no memory"),
     }
 }
 
@@ -50,7 +61,7 @@ pub(crate) fn moment_of(text: &str) -> Moment {
     }
 }
 
-fn is_old(alloc: Global, text: &str) -> Result<bool, MetaRefusal> {
+fn is_old(alloc: Global, text: &str) -> Result<bool, NoMemory> {
     let (program, read) = text.split_once(' ').unwrap_or((text, ""));
     let program = if program == "." { "" } else { program };
     let mut found = found_of(alloc, "1", "1", "0", program)?;
@@ -58,17 +69,28 @@ fn is_old(alloc: Global, text: &str) -> Result<bool, MetaRefusal> {
     Ok(consistent(&found, DELAY))
 }
 
-fn is_kept(alloc: Global, mark: Option<&str>, text: &str) -> Result<bool, MetaRefusal> {
+fn is_kept(alloc: Global, mark: Option<&str>, text: &str) -> Result<bool, NoMemory> {
     let mut found = found_of(alloc, "1", "1", "0", "")?;
     if let Some(mark) = mark {
-        found.mark = Some(DeletionMark::read(alloc, mark.as_bytes())?);
+        found.mark = Some(mark_of(alloc, mark)?);
     }
     found.mark_read = moment_of(text);
+    is_copy_kept(&found)
+}
+
+fn mark_of(alloc: Global, text: &str) -> Result<DeletionMark, NoMemory> {
+    match DeletionMark::read(alloc, text.as_bytes()) {
+        Ok(mark) => Ok(mark),
+        Err(_) => Err(NoMemory),
+    }
+}
+
+fn is_copy_kept(found: &Found) -> Result<bool, NoMemory> {
     Ok(unmarked(&found.copy()?, MARK_DELAY))
 }
 
 /// The row is a retention in milliseconds (`.` for none), the block's resolution, and a moment.
-fn is_retained(alloc: Global, text: &str) -> Result<bool, MetaRefusal> {
+fn is_retained(alloc: Global, text: &str) -> Result<bool, NoMemory> {
     let (retention, rest) = text.split_once(' ').unwrap_or((text, ""));
     let (resolution, moment) = rest.split_once(' ').unwrap_or((rest, ""));
     let retention = match retention.parse() {
@@ -85,7 +107,7 @@ fn found_of(
     sources: &str,
     resolution: &str,
     program: &str,
-) -> Result<Found, MetaRefusal> {
+) -> Result<Found, NoMemory> {
     let meta = read_meta(alloc, block, sources, resolution, program)?;
     Ok(Found {
         ulid: meta.ulid,
@@ -96,32 +118,39 @@ fn found_of(
     })
 }
 
-fn split_of(alloc: Global, text: &str) -> Result<(FoundList, FoundList), MetaRefusal> {
-    let mut found = FoundList::new(alloc);
-    for word in text.split(' ') {
-        found.push(named_block(alloc, word)?)?;
+fn print_split(rt: &HostRuntime, text: &str) -> io::Result<()> {
+    match blocks_of(rt.alloc(), text) {
+        Ok(found) => print_parts(rt, uncovered(rt.alloc(), found)),
+        Err(_) => say(rt, "no memory"),
     }
-    Ok(uncovered(alloc, found)?)
 }
 
-fn named_block(alloc: Global, word: &str) -> Result<Found, MetaRefusal> {
-    let (block, rest) = word.split_once(':').unwrap_or((word, ""));
-    let (sources, resolution) = rest.split_once(':').unwrap_or((rest, ""));
-    found_of(alloc, block, sources, resolution, "")
-}
-
-fn print_split(
+fn print_parts(
     rt: &HostRuntime,
-    split: Result<(FoundList, FoundList), MetaRefusal>,
+    split: Result<(FoundList, FoundList), NoMemory>,
 ) -> io::Result<()> {
     match split {
         Ok((kept, covered)) => {
             print_blocks(rt, "kept", &kept)?;
             print_blocks(rt, ", covered", &covered)?;
-            println!(rt; "")
+            say(rt, "")
         }
-        Err(refusal) => println!(rt; "{refusal:?}"),
+        Err(_) => say(rt, "no memory"),
     }
+}
+
+fn blocks_of(alloc: Global, text: &str) -> Result<FoundList, NoMemory> {
+    let mut found = FoundList::new(alloc);
+    for word in text.split(' ') {
+        found.push(named_block(alloc, word)?)?;
+    }
+    Ok(found)
+}
+
+fn named_block(alloc: Global, word: &str) -> Result<Found, NoMemory> {
+    let (block, rest) = word.split_once(':').unwrap_or((word, ""));
+    let (sources, resolution) = rest.split_once(':').unwrap_or((rest, ""));
+    found_of(alloc, block, sources, resolution, "")
 }
 
 /// Prints a word, and of each block the last character of its ULID.

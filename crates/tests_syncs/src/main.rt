@@ -1,15 +1,19 @@
-//! Asks the filters of a view about blocks, runs uploads and syncs over a world, and prints what comes of it. A line of
-//! standard input is one question, in the notation that its head explains; one that begins with `= ` is a heading. What is to
-//! be printed was worked out by hand.
+//! Makes calls on buckets and operations on worlds, asks the filters of a view about blocks, runs uploads, syncs and cleanings
+//! over a world, and prints what comes of it. A line of standard input is one question, in the notation that its head explains;
+//! one that begins with `= ` is a heading. What is to be printed was worked out by hand.
 #![tactic(auto)]
 
+mod buckets;
+mod cleanings;
 mod filters;
 mod marks;
 mod metas;
+mod says;
 mod syncs;
 mod turns;
 mod uploads;
 
+use crate::buckets::print_buckets;
 use crate::filters::print_row;
 use crate::syncs::{print_fault, print_two_syncs};
 use std::io;
@@ -19,5 +23,6 @@ fn main(rt: HostRuntime) -> io::Result<()> {
         print_row(&rt, row?.as_str())?;
     }
     print_two_syncs(&rt)?;
-    print_fault(&rt)
+    print_fault(&rt)?;
+    print_buckets(&rt)
 }

@@ -1,6 +1,7 @@
 ghost use Rattle.world_core.specs.Operations.{IsLawful};
 
 use crate::metas::meta_text;
+use crate::says::say;
 use crate::syncs::{SYNC_SEAT, driven, print_driven, world};
 use crate::uploads::letter_of;
 use block_keys::Key;
@@ -16,28 +17,46 @@ use world_core::{Acted, Driven, Entry, Op, World};
 
 /// Prints for what a sync over some objects asks, and to what it comes. The head of standard input says what the row means.
 pub(crate) fn print_marked(rt: &HostRuntime, text: &str) -> io::Result<()> {
+    match world(rt.alloc(), 0) {
+        Ok(world) => print_filled(rt, world, text),
+        Err(_) => say(rt, "not opened"),
+    }
+}
+
+fn print_filled(rt: &HostRuntime, mut world: World<MemoryBucket>, text: &str) -> io::Result<()> {
     let (clock, words) = text.split_once(' ').unwrap_or((text, ""));
-    match synced(rt.alloc(), clock.parse().unwrap_or(0), words) {
+    match put_words(rt.alloc(), &mut world, clock.parse().unwrap_or(0), words) {
+        Ok(()) => print_synced(rt, driven(rt.alloc(), world)),
+        Err(_) => say(rt, "no end"),
+    }
+}
+
+fn print_synced(
+    rt: &HostRuntime,
+    synced: Result<(Driven<SyncEnd>, World<MemoryBucket>), NoMemory>,
+) -> io::Result<()> {
+    match synced {
         Ok((ended, world)) => {
             print_reads(rt, world.journal().entries())?;
             print_driven(rt, &ended)
         }
-        Err(_) => println!(rt; "no end"),
+        Err(_) => say(rt, "no end"),
     }
 }
 
-fn synced(
+/// Puts the objects of some words, and sets the clock.
+fn put_words(
     alloc: Global,
+    world: &mut World<MemoryBucket>,
     clock: u32,
     words: &str,
-) -> Result<(Driven<SyncEnd>, World<MemoryBucket>), NoMemory> {
-    let mut world = world(alloc, 0)?;
+) -> Result<(), NoMemory> {
     for word in words.split(' ') {
-        put_word(alloc, &mut world, word)?;
+        put_word(alloc, world, word)?;
     }
     let ms = u64::from(clock);
     let _clock = world.act(0, Op::Clock(Moment { ms }));
-    driven(alloc, world)
+    Ok(())
 }
 
 fn put_word(alloc: Global, world: &mut World<MemoryBucket>, word: &str) -> Result<(), NoMemory> {
@@ -54,20 +73,22 @@ pub(crate) fn put_meta(
     block: &str,
     sources: &str,
 ) -> Result<(), NoMemory> {
+    let ulid = named(alloc, block)?;
     let text = meta_text(alloc, block, sources, "0", "")?;
     let bytes = Blob::from_bytes(alloc, text.as_bytes())?;
-    put(world, Op::Put(Key::Meta(named(alloc, block)?), bytes))
+    put(world, Op::Put(Key::Meta(ulid), bytes))
 }
 
 /// Puts a mark of the block BLOCK that names the block ID, by a word BLOCK@ID@SECOND.
 fn put_mark(alloc: Global, world: &mut World<MemoryBucket>, word: &str) -> Result<(), NoMemory> {
     let (block, rest) = word.split_once('@').unwrap_or((word, ""));
     let (id, second) = rest.split_once('@').unwrap_or((rest, ""));
+    let ulid = named(alloc, block)?;
     let text = format!(in alloc;
         "{{\"id\":\"0000000000000000000000000{id}\",\"version\":1,\"deletion_time\":{second}}}"
     )?;
     let bytes = Blob::from_bytes(alloc, text.as_bytes())?;
-    put(world, Op::Put(Key::Mark(named(alloc, block)?), bytes))
+    put(world, Op::Put(Key::Mark(ulid), bytes))
 }
 
 fn put(world: &mut World<MemoryBucket>, op: Op) -> Result<(), NoMemory>

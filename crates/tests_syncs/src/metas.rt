@@ -1,4 +1,5 @@
-use block_meta::{Meta, MetaRefusal};
+use block_meta::Meta;
+use list_core::NoMemory;
 use std::alloc::{AllocError, Global};
 
 /// The text of a meta. The block and its sources, between which `+` stands, are named by the last characters of their ULIDs.
@@ -19,12 +20,16 @@ pub(crate) fn meta_text(
 fn source_texts(alloc: Global, sources: &str) -> Result<String, AllocError> {
     let mut listed = String::new(alloc);
     for source in sources.split('+') {
-        listed.push_str(if listed.is_empty() { "\"" } else { ",\"" })?;
-        listed.push_str("0000000000000000000000000")?;
-        listed.push_str(source)?;
-        listed.push('"')?;
+        add_source(&mut listed, source)?;
     }
     Ok(listed)
+}
+
+fn add_source(listed: &mut String, source: &str) -> Result<(), AllocError> {
+    listed.push_str(if listed.is_empty() { "\"" } else { ",\"" })?;
+    listed.push_str("0000000000000000000000000")?;
+    listed.push_str(source)?;
+    listed.push('"')
 }
 
 pub(crate) fn read_meta(
@@ -33,9 +38,10 @@ pub(crate) fn read_meta(
     sources: &str,
     resolution: &str,
     program: &str,
-) -> Result<Meta, MetaRefusal> {
-    match meta_text(alloc, block, sources, resolution, program) {
-        Ok(text) => Meta::read(alloc, text.as_bytes()),
-        Err(AllocError) => Err(MetaRefusal::NoMemory),
+) -> Result<Meta, NoMemory> {
+    let text = meta_text(alloc, block, sources, resolution, program)?;
+    match Meta::read(alloc, text.as_bytes()) {
+        Ok(meta) => Ok(meta),
+        Err(_) => Err(NoMemory),
     }
 }

@@ -2,6 +2,7 @@ ghost use Rattle.std.specs.Prelude.{◌≡◌};
 
 use crate::filters::{MARK_DELAY, print_blocks};
 use crate::marks::put_meta;
+use crate::says::say;
 use crate::turns::{finish, turn};
 use bucket_core::{Fail, FailList, MemoryBucket};
 use list_core::NoMemory;
@@ -42,38 +43,41 @@ fn rules() -> SyncRules
     }
 }
 
-/// Syncs while a block comes behind the cursor, and gives the world and how the sync ended.
-fn overtaken(alloc: Global) -> Result<(World<MemoryBucket>, SyncEnd), NoMemory> {
-    let mut world = world(alloc, 0)?;
-    put_meta(alloc, &mut world, "B", "B")?;
-    put_meta(alloc, &mut world, "C", "C")?;
+/// Syncs while a block comes behind the cursor, and gives how the sync ended.
+fn overtaken(alloc: Global, world: &mut World<MemoryBucket>) -> Result<SyncEnd, NoMemory> {
+    put_meta(alloc, world, "B", "B")?;
+    put_meta(alloc, world, "C", "C")?;
     let mut sync = Sync::start(alloc, rules())?;
     let act = match sync.first()? {
-        Act::Do(op) => turn(&mut sync, &mut world, op)?,
+        Act::Do(op) => turn(&mut sync, world, op)?,
         Act::Done(_) => return Err(NoMemory),
     };
-    put_meta(alloc, &mut world, "A", "A")?;
-    let end = finish(&mut sync, &mut world, act)?;
-    Ok((world, end))
+    put_meta(alloc, world, "A", "A")?;
+    finish(&mut sync, world, act)
 }
 
 /// Prints the view of a sync that a block came behind, and that of the next one.
 pub(crate) fn print_two_syncs(rt: &HostRuntime) -> io::Result<()> {
-    println!(rt; "= a block behind the cursor is found by the next sync")?;
-    match overtaken(rt.alloc()) {
-        Ok((world, end)) => {
-            print_end(rt, &end)?;
-            print_sync(rt, world)
-        }
-        Err(_) => println!(rt; "no end"),
+    say(rt, "= a block behind the cursor is found by the next sync")?;
+    match world(rt.alloc(), 0) {
+        Ok(world) => print_overtaken(rt, world),
+        Err(_) => say(rt, "not opened"),
     }
+}
+
+fn print_overtaken(rt: &HostRuntime, mut world: World<MemoryBucket>) -> io::Result<()> {
+    match overtaken(rt.alloc(), &mut world) {
+        Ok(end) => print_end(rt, &end)?,
+        Err(_) => say(rt, "no end")?,
+    }
+    print_sync(rt, world)
 }
 
 /// Prints how a sync ends.
 fn print_sync(rt: &HostRuntime, world: World<MemoryBucket>) -> io::Result<()> {
     match driven(rt.alloc(), world) {
         Ok((ended, _world)) => print_driven(rt, &ended),
-        Err(_) => println!(rt; "no end"),
+        Err(_) => say(rt, "no end"),
     }
 }
 
@@ -88,7 +92,7 @@ pub(crate) fn driven(
 pub(crate) fn print_driven(rt: &HostRuntime, driven: &Driven<SyncEnd>) -> io::Result<()> {
     match driven {
         Driven::Ended(end) => print_end(rt, end),
-        _ => println!(rt; "no end"),
+        _ => say(rt, "no end"),
     }
 }
 
@@ -102,17 +106,17 @@ fn print_end(rt: &HostRuntime, end: &SyncEnd) -> io::Result<()> {
         SyncEnd::Damaged(entry) => print!(rt; "damage at entry {entry}")?,
         SyncEnd::TooMany => print!(rt; "too many")?,
     }
-    println!(rt; "")
+    say(rt, "")
 }
 
 /// Prints the end of a sync whose page fails.
 pub(crate) fn print_fault(rt: &HostRuntime) -> io::Result<()> {
-    println!(rt; "= a page that fails at the second entry")?;
+    say(rt, "= a page that fails at the second entry")?;
     match world(rt.alloc(), 2) {
         Ok(mut world) => {
             let _clock = world.act(0, Op::Clock(Moment { ms: 5 }));
             print_sync(rt, world)
         }
-        Err(_) => println!(rt; "not opened"),
+        Err(_) => say(rt, "not opened"),
     }
 }

@@ -1,6 +1,7 @@
 ghost use Rattle.std.specs.Prelude.{IfOk};
 ghost use Rattle.block_keys.specs.Blocks.{IsBlock};
 
+use crate::says::say;
 use block_keys::{Key, Object, ObjectList};
 use bucket_core::{Fail, FailList, MemoryBucket};
 use list_core::NoMemory;
@@ -19,7 +20,7 @@ pub(crate) fn print_uploads(rt: &HostRuntime, text: &str) -> io::Result<()> {
     let (fail, stops) = text.split_once(' ').unwrap_or((text, ""));
     match hand_of(rt.alloc(), fail) {
         Ok(hand) => print_stops(rt, hand, stops),
-        Err(_) => println!(rt; "not opened"),
+        Err(_) => say(rt, "not opened"),
     }
 }
 
@@ -94,7 +95,7 @@ fn print_letters(rt: &HostRuntime, entries: &[Entry]) -> io::Result<()> {
     for entry in entries {
         print!(rt; "{}", letter_of(&entry.op))?;
     }
-    println!(rt; "")
+    say(rt, "")
 }
 
 pub(crate) fn letter_of(op: &Op) -> char {

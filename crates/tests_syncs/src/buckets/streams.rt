@@ -1,0 +1,131 @@
+ghost use Rattle.std.specs.Prelude.{◌≡◌};
+ghost use Rattle.bucket_core.specs.MemoryBucket.{faults_counted};
+ghost use Rattle.bucket_core.specs.MemoryShelf.{faults_counted as shelf_faults};
+
+use crate::buckets::bucket_calls::print_found;
+use crate::says::{say, show};
+use bucket_core::{
+    Bucket, Fail, FailList, File, FileList, MemoryBucket, MemoryShelf, MemorySink, MemorySite,
+    MemorySource, PutAnswer, Shelf, ShelfAnswer, Sink, Site, Source,
+};
+use label_sets::Text;
+use list_core::NoMemory;
+use std::alloc::Global;
+use std::io;
+use wire_bytes::Blob;
+
+/// Prints what a site, a shelf, a source and a sink do.
+pub(crate) fn print_streams(rt: &HostRuntime) -> io::Result<()> {
+    println!(rt;
+        "= a site hands its bucket and its shelf out once: {}",
+        opens_once(rt.alloc())
+    )?;
+    print_failing_shelf(rt)?;
+    print_failing_source(rt)?;
+    say(rt, "= a sink that fails at its second call")?;
+    print_sink(rt, MemorySink::new(rt.alloc(), Some(2)))
+}
+
+fn print_failing_shelf(rt: &HostRuntime) -> io::Result<()> {
+    say(rt, "= a shelf that fails at its fourth call")?;
+    match shelf_of(rt.alloc()) {
+        Ok(shelf) => print_shelf(rt, shelf),
+        Err(NoMemory) => say(rt, "no memory"),
+    }
+}
+
+fn print_failing_source(rt: &HostRuntime) -> io::Result<()> {
+    say(rt, "= a source that fails at its second call")?;
+    match Blob::from_bytes(rt.alloc(), b"abcde") {
+        Ok(bytes) => print_source(rt, MemorySource::new(bytes, Some(2))),
+        Err(_) => say(rt, "no memory"),
+    }
+}
+
+fn opens_once(alloc: Global) -> bool {
+    let bucket = MemoryBucket::new(alloc, FailList::new(alloc));
+    let mut site = MemorySite::new(bucket, empty_shelf(alloc), false);
+    if site.open_shelf("one").is_err() || site.open_shelf("two").is_ok() {
+        return false;
+    }
+    match site.open_bucket("one") {
+        Ok(bucket) => site.open_bucket("two").is_err() && is_closed(alloc, bucket),
+        Err(_) => false,
+    }
+}
+
+fn empty_shelf(alloc: Global) -> MemoryShelf
+    ensures { shelf_faults result ≡ 0 }
+{
+    MemoryShelf::new(alloc, FileList::new(alloc))
+}
+
+/// Whether a bucket stores an object, and a site that fails opens nothing.
+fn is_closed(alloc: Global, mut bucket: MemoryBucket) -> bool
+    requires { faults_counted bucket ≡ 0 }
+{
+    if bucket.put("k", b"1") != PutAnswer::Stored {
+        return false;
+    }
+    let mut other = MemorySite::new(bucket, empty_shelf(alloc), true);
+    other.open_bucket("one").is_err() && other.open_shelf("one").is_err()
+}
+
+/// A shelf with two files of one name and one of another.
+fn shelf_of(alloc: Global) -> Result<MemoryShelf, NoMemory> {
+    let failing = fourth_call(alloc)?;
+    let mut files = FileList::new(alloc);
+    add_file(alloc, &mut files, "A/index", b"first")?;
+    add_file(alloc, &mut files, "A/index", b"second")?;
+    add_file(alloc, &mut files, "B/index", b"")?;
+    Ok(MemoryShelf::with_failing(alloc, files, failing))
+}
+
+fn add_file(alloc: Global, files: &mut FileList, name: &str, bytes: &[u8]) -> Result<(), NoMemory> {
+    let name = Text::from_str(alloc, name)?;
+    let bytes = Blob::from_bytes(alloc, bytes)?;
+    files.push(File { name, bytes })
+}
+
+fn fourth_call(alloc: Global) -> Result<FailList, NoMemory> {
+    let mut failing = FailList::new(alloc);
+    failing.push(Fail {
+        call: 4,
+        landed: false,
+    })?;
+    Ok(failing)
+}
+
+fn print_shelf(rt: &HostRuntime, mut shelf: MemoryShelf) -> io::Result<()> {
+    for name in ["A/index", "B/index", "C/index", "A/index", "A/index"] {
+        print!(rt; "{name} -> ")?;
+        print_file(rt, shelf.read(name))?;
+    }
+    Ok(())
+}
+
+fn print_file(rt: &HostRuntime, answer: ShelfAnswer) -> io::Result<()> {
+    match answer {
+        ShelfAnswer::Found(bytes) => print_found(rt, bytes.bytes()),
+        ShelfAnswer::Absent => say(rt, "absent"),
+        ShelfAnswer::TooLarge => say(rt, "too large"),
+        ShelfAnswer::Failed => say(rt, "failed"),
+        ShelfAnswer::NoMemory => say(rt, "no memory"),
+    }
+}
+
+fn print_source(rt: &HostRuntime, mut source: MemorySource) -> io::Result<()> {
+    let mut buffer = [0u8; 3];
+    for _ in 0..4u32 {
+        let answer = source.read(&mut buffer);
+        println!(rt; "{answer:?} {buffer:?}")?;
+    }
+    Ok(())
+}
+
+fn print_sink(rt: &HostRuntime, mut sink: MemorySink) -> io::Result<()> {
+    for piece in ["ab", "cd", "ef"] {
+        println!(rt; "{piece} -> {:?}", sink.write(piece.as_bytes()))?;
+    }
+    show(rt, &sink.bytes())
+}

@@ -1,0 +1,76 @@
+use crate::buckets::fails::bucket_of;
+use crate::buckets::world_calls::print_act;
+use crate::says::{say, show};
+use bucket_core::{Bucket, FailList, MemoryBucket};
+use list_core::{List, NoMemory, TryCopy};
+use moment_core::Span;
+use std::alloc::Global;
+use std::io;
+use world_core::{Entry, EntryList, Journal, OpenRefusal, World};
+
+/// How long an operation takes.
+pub(crate) const TICK: Span = Span { ms: 5 };
+
+/// Prints the operations of a text, what each is told, and what the journal has then.
+pub(crate) fn print_world(rt: &HostRuntime, text: &str) -> io::Result<()> {
+    let (first, rows) = text.split_once('\n').unwrap_or((text, ""));
+    match bucket_of(rt.alloc(), first) {
+        Ok(bucket) => print_opened(rt, bucket, rows),
+        Err(_) => say(rt, "no memory"),
+    }
+}
+
+fn print_opened(rt: &HostRuntime, bucket: MemoryBucket, rows: &str) -> io::Result<()> {
+    match World::open(rt.alloc(), bucket, TICK) {
+        Ok(world) => print_acts(rt, world, rows),
+        Err((refusal, _bucket)) => print_refusal(rt, refusal),
+    }
+}
+
+fn print_acts(rt: &HostRuntime, mut world: World<MemoryBucket>, rows: &str) -> io::Result<()> {
+    for row in rows.lines() {
+        print_act(rt, &mut world, row)?;
+    }
+    let (journal, _bucket) = world.into_parts();
+    print_journal(rt, &journal)
+}
+
+fn print_journal(rt: &HostRuntime, journal: &Journal) -> io::Result<()> {
+    println!(rt; "entries: {}, empty: {}", journal.len(), journal.is_empty())?;
+    for number in [0u64, 7, 8] {
+        println!(rt;
+            "entry {number}: {:?}",
+            journal.get(number).map(|entry| entry.seq)
+        )?;
+    }
+    match copied(rt.alloc(), journal.entries()) {
+        Ok(copies) => println!(rt; "copies: {}", copies.len()),
+        Err(_) => say(rt, "no memory"),
+    }
+}
+
+fn copied(alloc: Global, entries: &[Entry]) -> Result<EntryList, NoMemory> {
+    let mut copies: EntryList = List::new(alloc);
+    for entry in entries {
+        copies.push(entry.copy()?)?;
+    }
+    copies.copy()
+}
+
+fn print_refusal(rt: &HostRuntime, refusal: OpenRefusal) -> io::Result<()> {
+    match refusal {
+        OpenRefusal::NotEmpty(name) => println!(rt; "not empty: {}", name.as_str()),
+        OpenRefusal::Failed => say(rt, "failed"),
+        OpenRefusal::NoMemory => say(rt, "no memory"),
+    }
+}
+
+/// Prints why no world is opened over a bucket that holds something.
+pub(crate) fn print_refused(rt: &HostRuntime) -> io::Result<()> {
+    say(rt, "= a bucket that holds something")?;
+    let mut bucket = MemoryBucket::new(rt.alloc(), FailList::new(rt.alloc()));
+    for key in ["x/y", "w"] {
+        show(rt, &bucket.put(key, b"1"))?;
+    }
+    print_opened(rt, bucket, "")
+}
