@@ -1,5 +1,5 @@
 -- A call comes to one end, and leaves one cache.
-use Rattle.std.proofs.Common.{◌≡◌, ℕ, List, Some, sym, ap, ap₂, subst, ◌∙◌}
+use Rattle.std.proofs.Common.{◌≡◌, ℕ, List, Some, sym, ap₂, subst, ◌∙◌}
 use Rattle.label_sets.specs.declared.series.Series.{Series}
 use Rattle.world_core.specs.declared.entry.Entry.{Entry}
 use Rattle.world_core.proofs.PlanLaws.{one_end}

@@ -1,5 +1,5 @@
 -- A call that took samples is a run of each block's reads, one after another.
-use Rattle.std.proofs.Common.{◌≡◌, ℕ, List, [], ◌∷◌, ◌++◌, Option, Some, refl, sym, ap, subst, inl, inr, ◌∙◌, append_assoc, append-nil}
+use Rattle.std.proofs.Common.{◌≡◌, ℕ, List, [], ◌∷◌, ◌++◌, Some, refl, sym, subst, inl, inr, ◌∙◌, append_assoc, append-nil}
 use Rattle.std.specs.List.Sorted.{IsStrictlyIncreasing}
 use Rattle.label_sets.specs.Triples.{Triple}
 use Rattle.label_sets.specs.declared.series.Series.{Series}

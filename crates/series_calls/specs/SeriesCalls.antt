@@ -1,7 +1,7 @@
 -- A series call by ranges: of each kept block that meets the range of times, one after another, the reads of its ranges. What a gateway
 -- has in its cache stands for a read, and each block's reads hand the cache on to those of the next. The call comes to the samples
 -- that the blocks gave, whose merge is the answer.
-use Rattle.std.specs.Prelude.{◌≡◌, ◌↔◌, ℕ, ℤ, int_le, int_lt, Bool, ◌&&◌, List, [], ◌∷◌, ◌++◌, map, Option}
+use Rattle.std.specs.Prelude.{◌≡◌, ℕ, ℤ, int_le, int_lt, Bool, ◌&&◌, List, [], ◌∷◌, ◌++◌, map, Option}
 use Rattle.std.specs.List.{filter, flat_map}
 use Rattle.label_sets.specs.declared.series.Series.{Series}
 use Rattle.label_sets.specs.Triples.{Triple}
