@@ -1,0 +1,2 @@
+pub mod AskLists
+pub mod Gatherings

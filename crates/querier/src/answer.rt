@@ -1,0 +1,13 @@
+use label_sets::SeriesList;
+use list_core::List;
+use ulid_core::UlidList;
+
+/// Samples that answer a query, or a gateway's part of it, and the uploads that they are of.
+#[derive(Drop)]
+pub struct Answer {
+    pub series: SeriesList,
+    pub sources: UlidList,
+}
+
+/// A list of answers.
+pub type AnswerList = List<Answer>;

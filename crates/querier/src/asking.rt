@@ -1,0 +1,66 @@
+ghost use Rattle.std.specs.Prelude.{◌≡◌, ◌<◌, ◌≤◌, ◌^◌, [], ◌∷◌, ◌++◌, length, IfOk, OnOk};
+ghost use Rattle.querier.specs.Asks.{asks_from, asks_of, common};
+
+use crate::{Ask, AskList};
+use list_core::{List, NoMemory};
+use moment_core::Partition;
+use std::alloc::Global;
+
+/// The partitions of all gateways, in the gateways' order.
+pub type PartitionList = List<Partition>;
+
+/// What each gateway is asked in a query for the times from `low` to `high`, both included: those that lie in its partition.
+/// A gateway whose partition has none of them is not asked.
+pub fn fan_out(
+    alloc: Global,
+    partitions: &PartitionList,
+    low: i64,
+    high: i64,
+) -> Result<AskList, NoMemory>
+    requires few { length partitions.now ≤ 2 ^ 32 }
+    ensures asks { IfOk result (λ asks. asks ≡ asks_of low high partitions.now) }
+{
+    asks_in(alloc, partitions.members(), &Partition { low, high })
+}
+
+fn asks_in(alloc: Global, partitions: &[Partition], times: &Partition) -> Result<AskList, NoMemory>
+    requires few { length partitions.now ≤ 2 ^ 32 }
+    ensures { IfOk result (λ asks. asks ≡ asks_of times.now.low times.now.high partitions.now) }
+{
+    let mut asks = AskList::new(alloc);
+    for (place, partition) in partitions.iter().enumerate() {
+        add_ask(&mut asks, place, partition, times)?;
+    }
+    Ok(asks)
+}
+
+/// Adds what the gateway at a place is asked, if it is.
+fn add_ask(
+    asks: &mut AskList,
+    place: usize,
+    partition: &Partition,
+    times: &Partition,
+) -> Result<(), NoMemory>
+    requires { place < 2 ^ 32 }
+    ensures { OnOk result (asks.new ≡ asks.old ++ asks_from times.now place (partition.now ∷ [])) }
+{
+    let shared = common(times, partition);
+    if shared.low <= shared.high {
+        asks.push(Ask {
+            gateway: place as u32,
+            low: shared.low,
+            high: shared.high,
+        })?;
+    }
+    Ok(())
+}
+
+/// The times that two ranges have in common.
+fn common(one: &Partition, other: &Partition) -> Partition
+    ensures { result ≡ common one.now other.now }
+{
+    Partition {
+        low: one.low.max(other.low),
+        high: one.high.min(other.high),
+    }
+}

@@ -1,0 +1,125 @@
+ghost use Rattle.std.specs.Prelude.{◌≡◌, [], ◌∷◌, ◌++◌, fold, IfOk, OnOk, OnErr};
+ghost use Rattle.std.specs.BTreeSet.{insert_key};
+ghost use Rattle.std.specs.Ordering.{nat_cmp};
+ghost use Rattle.block_meta.specs.Lawful.{ascending};
+ghost use Rattle.label_sets.specs.Triples.{triples_of};
+ghost use Rattle.vertical_merge.specs.Merged.{IsMerge, IsDeduplication};
+ghost use Rattle.querier.specs.Gathered.{answer, gathered_samples, gathered_sources, IsGathered};
+
+use crate::{Answer, AnswerList};
+use label_sets::SeriesList;
+use list_core::{NoMemory, TryCopy};
+use std::alloc::Global;
+use std::collections::BTreeSet;
+use std::marker::Model;
+use ulid_core::{Ulid, UlidList};
+use vertical_merge::Merger;
+
+/// The answers of gateways to one query, which make one answer. It is seen as the answers that were added, in that order.
+#[derive(Drop)]
+pub struct Gather {
+    alloc: Global,
+    added: AnswerList,
+}
+
+impl Model for Gather {
+    ghost use Rattle.std.specs.Prelude.{List};
+    ghost use Rattle.querier.specs.declared.answer.Answer.{Answer};
+
+    ghost Value = { List Answer };
+
+    ghost view = { λ g. g.added };
+}
+
+impl Gather {
+    /// No gateway has answered yet. It takes no memory.
+    pub fn new(alloc: Global) -> Self
+        ensures { result ≡ [] }
+    {
+        Gather {
+            alloc,
+            added: AnswerList::new(alloc),
+        }
+    }
+
+    /// Adds a copy of a gateway's answer. The gateways come in their order.
+    pub fn add(&mut self, series: &SeriesList, sources: &UlidList) -> Result<(), NoMemory>
+        ensures ok { OnOk result (self.new ≡ self.old ++ answer series.now sources.now ∷ []) }
+        ensures err { OnErr result (self.new ≡ self.old) }
+    {
+        let series = series.copy()?;
+        let sources = sources.copy()?;
+        self.take(Answer { series, sources })
+    }
+
+    /// Adds a gateway's answer.
+    pub fn take(&mut self, answer: Answer) -> Result<(), NoMemory>
+        ensures ok { OnOk result (self.new ≡ self.old ++ answer ∷ []) }
+        ensures err { OnErr result (self.new ≡ self.old) }
+    {
+        self.added.push(answer)
+    }
+
+    /// The answer of all together: at each label set and time the pattern of the first gateway that has one, and the sources of
+    /// them all.
+    pub fn finish(self) -> Result<Answer, NoMemory>
+        ensures merged { IfOk result (IsGathered self) }
+        ensures deduplicated { IfOk result
+            (λ made. IsDeduplication (triples_of made.series) (gathered_samples self)) }
+    {
+        let Gather { alloc, added } = self;
+        let sources = union_of_sources(alloc, added.members())?;
+        let series = merged(alloc, added)?;
+        Ok(Answer { series, sources })
+    }
+}
+
+/// The sources of all answers, ascending, each once.
+fn union_of_sources(alloc: Global, answers: &[Answer]) -> Result<UlidList, NoMemory>
+    ensures { IfOk result (λ made. made ≡ ascending (gathered_sources answers.now)) }
+{
+    let set = set_of_sources(alloc, answers)?;
+    let members: Vec<Ulid> = set.iter().copied().collect(alloc)?;
+    Ok(UlidList::from_vec(members))
+}
+
+fn set_of_sources(alloc: Global, answers: &[Answer]) -> Result<BTreeSet<Ulid>, NoMemory>
+    ensures { IfOk result (λ set. set.keys ≡ ascending (gathered_sources answers.now)) }
+{
+    let mut set = BTreeSet::new(alloc);
+    for answer in answers {
+        add_all(&mut set, answer.sources.members())?;
+    }
+    Ok(set)
+}
+
+fn add_all(set: &mut BTreeSet<Ulid>, ulids: &[Ulid]) -> Result<(), NoMemory>
+    ensures { OnOk result (set.new.keys ≡ fold (insert_key nat_cmp) set.old.keys ulids.now) }
+{
+    for ulid in ulids {
+        set.insert(*ulid)?;
+    }
+    Ok(())
+}
+
+/// The series of all answers, merged.
+fn merged(alloc: Global, answers: AnswerList) -> Result<SeriesList, NoMemory>
+    ensures merged { IfOk result (IsMerge (gathered_samples answers)) }
+    ensures deduplicated { IfOk result
+        (λ made. IsDeduplication (triples_of made) (gathered_samples answers)) }
+{
+    let mut merger = Merger::new(alloc);
+    for answer in answers.into_vec() {
+        take_all(&mut merger, answer.series)?;
+    }
+    merger.finish()
+}
+
+fn take_all(merger: &mut Merger, series: SeriesList) -> Result<(), NoMemory>
+    ensures { OnOk result (merger.new ≡ merger.old ++ triples_of series) }
+{
+    for one in series.into_vec() {
+        merger.take(one)?;
+    }
+    Ok(())
+}

@@ -1,0 +1,12 @@
+//! A query over several gateways: which of them are asked for which times, and the one answer that theirs make.
+#![tactic(auto)]
+
+mod answer;
+mod ask;
+mod asking;
+mod gather;
+
+pub use answer::{Answer, AnswerList};
+pub use ask::{Ask, AskList};
+pub use asking::{PartitionList, fan_out};
+pub use gather::Gather;

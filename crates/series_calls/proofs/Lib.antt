@@ -1,0 +1,3 @@
+pub mod OneMerge
+pub mod SharesOf
+pub mod OneCall
