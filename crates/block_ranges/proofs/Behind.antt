@@ -1,6 +1,7 @@
 -- The number behind another stands where those that are not above it end.
-use Rattle.std.proofs.Common.{◌≡◌, ℕ, zero, suc, ◌+◌, ◌<◌, ◌≤◌, true, false, List, [], ◌∷◌, length, get_or, refl, subst, arith}
-use Rattle.std.specs.Prelude.{slice_get, find, nat_lt, nat_le}
+use Rattle.std.proofs.Common.{◌≡◌, ℕ, zero, suc, ◌+◌, ◌^◌, ◌<◌, ◌≤◌, true, false, List, [], ◌∷◌, length, get_or, Some, refl, sym, subst, ◌∙◌, arith}
+use Rattle.std.specs.Prelude.{slice_get, find, nat_lt, nat_le, All}
+use Rattle.label_sets.proofs.LabelValues.{by_bool}
 use Rattle.std.specs.List.Sorted.{IsStrictlyIncreasing, IsPartitionPoint}
 use Rattle.std.proofs.lemmas.Bool.Decides.{nat_tests}
 use Rattle.std.proofs.lemmas.Map.Keys.{sorted_from_strictly_increasing, non_decreasing_from_sorted}
@@ -29,3 +30,20 @@ pub behind_point : (number : ℕ) (all : List ℕ) (point : ℕ) → IsPartition
 behind_point number all point is = found_at number all point
     (λ k a b. let t : nat_le (get_or all k 0) number ≡ true = is.0 k 0 (omega arith) a in grind (arith, nat_tests))
     (λ a. let f : nat_le (get_or all point 0) number ≡ false = is.1 point 0 (omega arith) a in grind (arith, nat_tests))
+
+-- ---- numbers of 32 bits
+
+stops : (number x : ℕ) (xs : List ℕ) → nat_lt number x ≡ true → find (nat_lt number) (x ∷ xs) ≡ Some x
+stops number x xs t = rw t refl
+
+passes : (number x : ℕ) (xs : List ℕ) → nat_lt number x ≡ false → find (nat_lt number) (x ∷ xs) ≡ find (nat_lt number) xs
+passes number x xs f = rw f refl
+
+same_number : (x y : ℕ) → Some x ≡ Some y → x ≡ y
+same_number x y e = cc
+
+pub behind_small : (number next : ℕ) (all : List ℕ) → All (λ n. n < 2 ^ 32) all → find (nat_lt number) all ≡ Some next → next < 2 ^ 32
+behind_small number next [] small is = absurd (cc (is))
+behind_small number next (x ∷ xs) small is = by_bool (nat_lt number x)
+    (λ t. subst (λ n. n < 2 ^ 32) (same_number x next (sym (stops number x xs t) ∙ is)) (small 0 x (omega arith)))
+    (λ f. behind_small number next xs (λ k d h. small (suc k) d (omega arith)) (sym (passes number x xs f) ∙ is))

@@ -1,8 +1,9 @@
 -- Cutting a list into its longest stretches from its front on.
-use Rattle.std.proofs.Common.{◌≡◌, ℕ, zero, suc, ◌+◌, ◌-◌, ◌<◌, ◌≤◌, List, [], ◌∷◌, ◌++◌, map, take, drop, length, get_or, refl, sym, ap, subst, ◌∙◌, append_assoc, ◌⊎◌, inl, inr, arith}
-use Rattle.std.specs.Prelude.{flat_map}
+use Rattle.std.proofs.Common.{◌≡◌, ℕ, zero, suc, ◌+◌, ◌-◌, ◌<◌, ◌≤◌, List, [], ◌∷◌, ◌++◌, map, take, drop, length, get_or, sym, ap, subst, ◌∙◌, append_assoc, ◌⊎◌, inl, inr, arith}
+use Rattle.std.specs.Prelude.{flat_map, All}
 use Rattle.std.proofs.lemmas.List.{append-nil, drop_more, drop_all, drop-drop, take-append-drop, map_push}
-use Rattle.block_ranges.specs.Stretches.{Stretch, members, last_behind, AreJoined, BeginAnew, AreStretches, stretch_at}
+use Rattle.std.proofs.lemmas.List.Elements.{All-nil, All-push}
+use Rattle.block_ranges.specs.Stretches.{Stretch, members, last_behind, AreJoined, BeginAnew, AreStretches, stretch_at, IsSpanOf}
 use Rattle.block_ranges.specs.declared.span.Span.{Span}
 
 abbrev pub span : ℕ → ℕ → Span
@@ -59,6 +60,7 @@ module _ (Joins : ℕ → ℕ → Type 0) (list : List ℕ) where
     pub low : start ≤ place
     pub joins : (k : ℕ) → start ≤ k → k < place → JoinsNext k
     pub ended : length list ≤ place → place ≤ start
+    pub within : All (IsSpanOf list) spans
     pub completes : (rest : List (Stretch ℕ)) → AreStretches Joins (drop start list) rest → AreStretches Joins list (map (stretch_at list) spans ++ rest)
 
   pub cut_none : IsCutUpto [] 0 0
@@ -66,6 +68,7 @@ module _ (Joins : ℕ → ℕ → Type 0) (list : List ℕ) where
     low = omega arith;
     joins = λ k a b. absurd (omega arith);
     ended = λ a. omega arith;
+    within = All-nil (IsSpanOf list);
     completes = λ rest is. is;
   }
 
@@ -78,6 +81,7 @@ module _ (Joins : ℕ → ℕ → Type 0) (list : List ℕ) where
     low = omega (arith, upto.low);
     joins = λ k a b. more start place k upto.joins on.1 a (last_or_below k place b);
     ended = λ a. absurd (omega (arith, on.0));
+    within = upto.within;
     completes = upto.completes;
   }
 
@@ -95,6 +99,7 @@ module _ (Joins : ℕ → ℕ → Type 0) (list : List ℕ) where
     low = omega arith;
     joins = λ k a b. absurd (omega arith);
     ended = λ a. omega arith;
+    within = All-push (IsSpanOf list) spans (span start (place + 1)) upto.within (omega (arith, upto.low), omega (arith, within));
     completes = λ rest is.
         let e : map (stretch_at list) (spans ++ span start (place + 1) ∷ []) ++ rest ≡ map (stretch_at list) spans ++ (stretch_at list (span start (place + 1)) ∷ rest) = ap (λ (ss : List (Stretch ℕ)). ss ++ rest) (map_push (stretch_at list) spans (span start (place + 1))) ∙ append_assoc (map (stretch_at list) spans) (stretch_at list (span start (place + 1)) ∷ []) rest in
         subst (AreStretches Joins list) (sym e) (upto.completes (stretch_at list (span start (place + 1)) ∷ rest) (stretch_here start place rest upto.low within upto.joins stops is));

@@ -1,5 +1,14 @@
 pub mod Behind
+pub mod OneChunk
+pub mod Spans
+pub mod Between
+pub mod Readings
+pub mod SameTests
+pub mod FoundChunks
+pub mod NotKept
+pub mod ShownSamples
 pub mod Cutting
 pub mod Least
 pub mod Sorting
 pub mod SmallReads
+pub mod SmallQueries

@@ -1,39 +1,10 @@
 -- The reads of a small block: an index of 205 bytes with one series, and one chunk. What the bytes are read as is given; which
 -- ranges are read follows.
-use Rattle.std.proofs.Common.{◌≡◌, ℕ, ◌+◌, ◌==◌, ℤ, pos, true, List, [], ◌∷◌, ◌++◌, length, filter, flat_map, Some, None, Option, Ok, Result, refl, inl, inr, arith}
-use Rattle.std.specs.Prelude.{slice_get}
-use Rattle.lru.specs.LruCache.{lru_cache}
-use Rattle.label_sets.specs.declared.label.Label.{Label}
-use Rattle.label_sets.specs.declared.sample.Sample.{Sample}
-use Rattle.label_sets.specs.Triples.{Triple}
-use Rattle.block_keys.specs.declared.key.Key.{Key}
-use Rattle.block_keys.specs.declared.key.Key.TheVariants.{Index, Segment}
-use Rattle.world_core.specs.Plans.{Runs}
-use Rattle.world_core.specs.declared.op.Op.{Op}
-use Rattle.world_core.specs.declared.op.Op.TheVariants.{GetRange}
-use Rattle.world_core.specs.declared.reply.Reply.TheVariants.{Found}
-use Rattle.world_core.specs.declared.entry.Entry.{Entry}
-use Rattle.matchers.specs.declared.matcher.Matcher.{Matcher}
+use Rattle.std.proofs.Common.{◌≡◌, ℕ, [], ◌∷◌, refl, arith}
 use Rattle.index_parts.specs.declared.toc.Toc.{Toc}
-use Rattle.index_parts.specs.declared.chunk_place.ChunkPlace.{ChunkPlace}
-use Rattle.index_parts.specs.declared.postings_row.PostingsRow.{PostingsRow}
-use Rattle.index_parts.specs.ContentsReading.{toc_at}
-use Rattle.index_parts.specs.SymbolsReading.{symbols_at}
-use Rattle.index_parts.specs.RowsReading.{postings_table_at}
-use Rattle.index_slices.specs.Parts.{Part, known}
-use Rattle.index_file.specs.declared.index_series.IndexSeries.{IndexSeries}
-use Rattle.index_v2.specs.PostingsLists.{list_of}
-use Rattle.index_v2.specs.WholeReading.{lists_at}
-use Rattle.index_v2.specs.SeriesLabels.{numbered_at}
-use Rattle.series_selection.specs.Selections.{rows_read}
-use Rattle.block_content.specs.Firsts.{each_at}
-use Rattle.block_ranges.specs.Stretches.{Stretch, AreStretches, AreJoined}
-use Rattle.block_ranges.specs.IndexRanges.{Piece, section_piece, end_of, run_piece, AreRuns}
-use Rattle.block_ranges.specs.ChunkRanges.{IsSetOf, AreGroups, group_piece, IsNear}
-use Rattle.block_ranges.specs.Reads.{Query, Block, Cache, Reached, kept, used, range_of}
-use Rattle.block_ranges.specs.IndexReads.{Tables, IsTakenBy, part_at}
-use Rattle.block_ranges.specs.ChunkReads.{Glimpse, shows, glimpse_at, read}
-use Rattle.block_ranges.specs.BlockReads.{BlockEnd, gives, block_call, shown}
+use Rattle.block_ranges.specs.Stretches.{Stretch, AreStretches}
+use Rattle.block_ranges.specs.IndexRanges.{Piece, section_piece, end_of, run_piece}
+use Rattle.block_ranges.specs.ChunkRanges.{IsSetOf, group_piece}
 
 abbrev pub piece : ℕ → ℕ → Piece
 piece from len = record { from = from; len = len }

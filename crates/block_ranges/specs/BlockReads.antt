@@ -1,5 +1,5 @@
 -- A call's reads of one block: of its index, and then of the chunks of matching series that meet the range.
-use Rattle.std.specs.Prelude.{ℕ, ◌==◌, List, [], map, find, option_map, unwrap_or}
+use Rattle.std.specs.Prelude.{◌==◌, List, [], find, option_map, unwrap_or}
 use Rattle.std.specs.List.{filter, flat_map}
 use Rattle.label_sets.specs.declared.sample.Sample.{Sample}
 use Rattle.label_sets.specs.Finals.{final_of}

@@ -1,9 +1,8 @@
 -- Which ranges of segments are read: groups of chunks that stand near one another, and then the chunks that stick out.
-use Rattle.std.specs.Prelude.{◌≡◌, ◌↔◌, ℕ, ◌+◌, ◌-◌, ◌/◌, ◌%◌, ◌^◌, ◌≤◌, ℤ, int_le, List, Contains, Bool, ◌&&◌, if◌then◌else◌, Result, Ok}
+use Rattle.std.specs.Prelude.{◌≡◌, ◌↔◌, ℕ, ◌+◌, ◌-◌, ◌/◌, ◌%◌, ◌^◌, ◌≤◌, ℤ, int_le, List, Contains, Bool, ◌&&◌}
 use Rattle.std.specs.List.Sorted.{IsStrictlyIncreasing}
-use Rattle.reading_core.specs.Reading.{◌>>=◌, ◌>>◌, unless}
 use Rattle.index_parts.specs.declared.chunk_place.ChunkPlace.{ChunkPlace}
-use Rattle.block_ranges.specs.Stretches.{Stretch, last_of, AreStretches}
+use Rattle.block_ranges.specs.Stretches.{Stretch, members, last_of, AreStretches}
 use Rattle.block_ranges.specs.IndexRanges.{Piece}
 
 -- the place tells a time from low to high, both included, or times on both sides
@@ -36,3 +35,13 @@ AreGroups references groups = AreStretches IsNear references groups
 -- what is read of a group at first: as much behind its last chunk's begin as most chunks take
 abbrev pub group_piece : Stretch ℕ → Piece
 group_piece group = record { from = offset_of group.first; len = last_of group - group.first + 4096 }
+
+-- a group: its segment, the first of its references and all of them, and what is read of it at first
+pub record Group : Type 0 where
+  pub segment : ℕ
+  pub first : ℕ
+  pub piece : Piece
+  pub references : List ℕ
+
+abbrev pub group_of : Stretch ℕ → Group
+group_of group = record { segment = segment_of group.first; first = group.first; piece = group_piece group; references = members group }

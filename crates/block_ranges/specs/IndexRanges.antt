@@ -1,10 +1,10 @@
 -- Which ranges of an index are read: its table of contents, three sections, and runs of series.
-use Rattle.std.specs.Prelude.{◌≡◌, ℕ, ◌+◌, ◌-◌, ◌*◌, min, List, [], ◌∷◌, fold, find, unwrap_or, Option, Some, None, Bool, ◌&&◌, nat_lt}
+use Rattle.std.specs.Prelude.{◌≡◌, ℕ, ◌-◌, ◌*◌, min, List, [], ◌∷◌, fold, find, unwrap_or, Option, Some, None, Bool, ◌&&◌, nat_lt}
 use Rattle.std.specs.List.{filter}
 use Rattle.std.specs.Option.{option_map_or}
 use Rattle.index_parts.specs.declared.toc.Toc.{Toc}
 use Rattle.index_parts.specs.Contents.{references_of}
-use Rattle.block_ranges.specs.Stretches.{Stretch, last_of, AreStretches}
+use Rattle.block_ranges.specs.Stretches.{Stretch, members, last_of, AreStretches}
 
 -- bytes of an object that stand one behind another
 pub record Piece : Type 0 where
@@ -75,3 +75,11 @@ run_end toc size all last = option_map_or (λ next. 16 * next) (behind all last)
 
 abbrev pub run_piece : Toc → ℕ → List ℕ → Stretch ℕ → Piece
 run_piece toc size all run = between (16 * run.first) (run_end toc size all (last_of run))
+
+-- the range of a run, and the numbers of the series in it
+pub record Run : Type 0 where
+  pub piece : Piece
+  pub numbers : List ℕ
+
+abbrev pub run_of : Toc → ℕ → List ℕ → Stretch ℕ → Run
+run_of toc size all run = record { piece = run_piece toc size all run; numbers = members run }

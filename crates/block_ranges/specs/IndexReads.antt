@@ -1,5 +1,5 @@
 -- The reads of a block's index: a few ranges of it, or the whole where these do not do.
-use Rattle.std.specs.Prelude.{◌≡◌, ℕ, ◌-◌, ◌==◌, nat_le, List, [], ◌∷◌, ◌++◌, length, slice_get, Option, Some, None, Ok}
+use Rattle.std.specs.Prelude.{◌≡◌, ℕ, ◌==◌, nat_le, Bool, List, [], ◌∷◌, ◌++◌, length, map, slice_get, Option, Some, None, Ok}
 use Rattle.std.specs.List.{list_all}
 use Rattle.block_keys.specs.declared.key.Key.TheVariants.{Index}
 use Rattle.world_core.specs.Plans.{Plan, ends, finds, choose}
@@ -20,8 +20,7 @@ use Rattle.series_selection.specs.Selections.{IsSelection, rows_read}
 use Rattle.block_content.specs.Firsts.{each_at}
 use Rattle.block_ranges.specs.OneCut.{one_cut}
 use Rattle.block_ranges.specs.OneSet.{one_selection}
-use Rattle.block_ranges.specs.Stretches.{Stretch, members}
-use Rattle.block_ranges.specs.IndexRanges.{Piece, has_bytes, least_size, contents_piece, section_piece, has_sections, Follows, AreRuns, run_piece}
+use Rattle.block_ranges.specs.IndexRanges.{Piece, has_bytes, least_size, contents_piece, section_piece, has_sections, Follows, AreRuns, Run, run_of}
 use Rattle.block_ranges.specs.Reads.{Query, Block, Cache, Break, damaged, Reached, reads, takes, if_read}
 
 -- what is known of an index before its series are read: its symbols, the rows of its postings table, and where its lists are
@@ -54,8 +53,8 @@ module _ {E : Type 0} (breaks : Break → Cache → E) (query : Query) (block : 
   -- is what decides.
   abbrev pub selects : Tables → Plan E → (List ℕ → List ℕ → Plan E) → Plan E
   selects tables refused next =
-      if_read breaks (list_of tables.lists (slice_get tables.rows 0))
-      (λ all. if_read breaks (lists_at tables.lists (rows_read block.external tables.rows query.selector))
+      if_read (list_of tables.lists (slice_get tables.rows 0))
+      (λ all. if_read (lists_at tables.lists (rows_read block.external tables.rows query.selector))
       (λ lists. finds (IsTakenBy query block tables) (one_selection _ tables.rows block.external query.selector) (next all)) refused) refused
 
   -- ---- the whole index
@@ -63,9 +62,9 @@ module _ {E : Type 0} (breaks : Break → Cache → E) (query : Query) (block : 
   -- what follows its bytes: what it refuses is damaged
   abbrev pub after_whole : Cache → Goes → ℕ → List ℕ → Plan E
   after_whole cache next seq bytes =
-      if_read breaks (opened_at bytes)
+      if_read (opened_at bytes)
       (λ opened. selects (tables_of opened) (ends (breaks (damaged seq) cache))
-      (λ all numbers. if_read breaks (each_at (numbered_at bytes opened.symbols) numbers) (next (reached seq cache)) (ends (breaks (damaged seq) cache))))
+      (λ all numbers. if_read (each_at (numbered_at bytes opened.symbols) numbers) (next (reached seq cache)) (ends (breaks (damaged seq) cache))))
       (ends (breaks (damaged seq) cache))
 
   abbrev pub reads_whole : Goes → Cache → Plan E
@@ -76,41 +75,59 @@ module _ {E : Type 0} (breaks : Break → Cache → E) (query : Query) (block : 
   abbrev pub falls_back : Goes → Reached → Plan E
   falls_back next at = reads_whole next at.cache
 
-  -- the series of these runs, run by run, behind those that were taken before
-  abbrev pub reads_runs : (Stretch ℕ → Piece) → List (List ℕ) → Goes → List (Stretch ℕ) → Reached → List IndexSeries → Plan E
-  reads_runs piece_of symbols next [] at series = next at series
-  reads_runs piece_of symbols next (run ∷ runs) at series =
-      takes breaks (Index block.ulid) (piece_of run) at (falls_back next)
-      (λ so bytes. if_read breaks (each_at (numbered_at (known (part_at (piece_of run) bytes)) symbols) (members run))
-      (λ more. reads_runs piece_of symbols next runs so (series ++ more)) (falls_back next so))
+  -- what follows the bytes of a run: its series stand behind those that were taken before
+  abbrev pub after_run : List (List ℕ) → Goes → Run → Goes → List IndexSeries → Reached → List ℕ → Plan E
+  after_run symbols next run rest series so bytes =
+      if_read (each_at (numbered_at (known (part_at run.piece bytes)) symbols) run.numbers)
+      (λ more. rest so (series ++ more)) (falls_back next so)
+
+  -- the series of these runs, run by run
+  abbrev pub reads_runs : List (List ℕ) → Goes → List Run → Reached → List IndexSeries → Plan E
+  reads_runs symbols next [] at series = next at series
+  reads_runs symbols next (run ∷ runs) at series =
+      takes breaks (Index block.ulid) run.piece at (falls_back next) (after_run symbols next run (reads_runs symbols next runs) series)
 
   -- each run begins before its end
-  abbrev pub runs_have_bytes : (Stretch ℕ → Piece) → List (Stretch ℕ) → Plan E → Plan E → Plan E
-  runs_have_bytes piece_of runs = choose (list_all (λ run. has_bytes (piece_of run)) runs)
+  abbrev pub have_bytes : List Run → Bool
+  have_bytes runs = list_all (λ run. has_bytes run.piece) runs
+
+  -- what follows the runs
+  abbrev pub after_runs : Goes → Reached → List (List ℕ) → List Run → Plan E
+  after_runs next at symbols runs = choose (have_bytes runs) (reads_runs symbols next runs at []) (falls_back next at)
 
   -- what follows the three sections
   abbrev pub after_sections : ℕ → Toc → Goes → Reached → Tables → Plan E
   after_sections size toc next at tables =
       selects tables (falls_back next at)
       (λ all numbers. finds (AreRuns all numbers) (one_cut (Follows all) numbers)
-      (λ runs. runs_have_bytes (run_piece toc size all) runs (reads_runs (run_piece toc size all) tables.symbols next runs at []) (falls_back next at)))
+      (λ runs. after_runs next at tables.symbols (map (run_of toc size all) runs)))
 
   -- the symbols, the postings table and the postings lists, in this order
+  abbrev pub after_lists : ℕ → Toc → Goes → List (List ℕ) → List PostingsRow → Reached → List ℕ → Plan E
+  after_lists size toc next symbols rows at bytes =
+      after_sections size toc next at (record { symbols = symbols; rows = rows; lists = part_at (section_piece toc size toc.postings) bytes })
+
+  abbrev pub after_table : ℕ → Toc → Goes → List (List ℕ) → Reached → List ℕ → Plan E
+  after_table size toc next symbols at bytes =
+      if_read (postings_table_at (known (part_at (section_piece toc size toc.postings_table) bytes)) toc.postings_table)
+      (λ rows. takes breaks (Index block.ulid) (section_piece toc size toc.postings) at (falls_back next) (after_lists size toc next symbols rows))
+      (falls_back next at)
+
+  abbrev pub after_symbols : ℕ → Toc → Goes → Reached → List ℕ → Plan E
+  after_symbols size toc next at bytes =
+      if_read (symbols_at (known (part_at (section_piece toc size toc.symbols) bytes)) toc.symbols)
+      (λ symbols. takes breaks (Index block.ulid) (section_piece toc size toc.postings_table) at (falls_back next) (after_table size toc next symbols))
+      (falls_back next at)
+
   abbrev pub reads_sections : ℕ → Toc → Goes → Reached → Plan E
-  reads_sections size toc next start =
-      takes breaks (Index block.ulid) (section_piece toc size toc.symbols) start (falls_back next)
-      (λ first bytes. if_read breaks (symbols_at (known (part_at (section_piece toc size toc.symbols) bytes)) toc.symbols)
-      (λ symbols. takes breaks (Index block.ulid) (section_piece toc size toc.postings_table) first (falls_back next)
-      (λ second bytes. if_read breaks (postings_table_at (known (part_at (section_piece toc size toc.postings_table) bytes)) toc.postings_table)
-      (λ rows. takes breaks (Index block.ulid) (section_piece toc size toc.postings) second (falls_back next)
-      (λ third bytes. after_sections size toc next third (record { symbols = symbols; rows = rows; lists = part_at (section_piece toc size toc.postings) bytes })))
-      (falls_back next second))) (falls_back next first))
+  reads_sections size toc next at =
+      takes breaks (Index block.ulid) (section_piece toc size toc.symbols) at (falls_back next) (after_symbols size toc next)
 
   -- what follows the table of contents
   abbrev pub after_contents : ℕ → Goes → Cache → ℕ → List ℕ → Plan E
   after_contents size next cache seq bytes =
       choose (length bytes == 52)
-      (if_read breaks (toc_at bytes)
+      (if_read (toc_at bytes)
       (λ toc. choose (has_sections toc size) (reads_sections size toc next (reached seq cache)) (reads_whole next cache))
       (reads_whole next cache))
       (reads_whole next cache)

@@ -5,6 +5,13 @@ pub mod IndexRanges
 pub mod ChunkRanges
 pub mod OneSet
 pub mod Reads
+pub mod Asking
+pub mod Findings
 pub mod IndexReads
 pub mod ChunkReads
 pub mod BlockReads
+pub mod ToRead
+pub mod Glimpsed
+pub mod Selecting
+pub mod Caching
+pub mod ChunksRead

@@ -1,8 +1,8 @@
 -- There is one way to cut a list into its longest stretches.
-use Rattle.std.proofs.Common.{◌≡◌, ℕ, List, [], ◌∷◌, ◌++◌, refl, sym, ap, ap₂, subst, ◌∙◌}
+use Rattle.std.proofs.Common.{◌≡◌, List, [], ◌∷◌, ◌++◌, refl, sym, ap₂, subst, ◌∙◌}
 use Rattle.std.specs.Prelude.{flat_map}
 use Rattle.std.specs.List.{AllByRecursion}
-use Rattle.block_ranges.specs.Stretches.{Stretch, members, last_behind, last_of, AreJoined, IsJoined, BeginAnew, AreLongest, AreStretches}
+use Rattle.block_ranges.specs.Stretches.{Stretch, members, last_behind, AreJoined, IsJoined, BeginAnew, AreLongest, AreStretches}
 
 module _ {A : Type 0} (Joins : A → A → Type 0) where
   -- what is known of the stretches that make up a list

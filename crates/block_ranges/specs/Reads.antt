@@ -1,5 +1,5 @@
 -- What a call reads of a block with, by its cache or by an operation, and how it breaks off.
-use Rattle.std.specs.Prelude.{ℕ, ℤ, List, Option, Some, None, Result, Ok, Err, Bool, ◌==◌, option_map, find, length, codes}
+use Rattle.std.specs.Prelude.{ℕ, ℤ, List, Option, Some, None, Result, Ok, Err, ◌==◌, option_map, find, length, codes}
 use Rattle.std.specs.Map.{lookup}
 use Rattle.std.specs.Str.{bytes_eq}
 use Rattle.lru.specs.LruCache.{LruCache, lru_cache, promoted, put_entries}
@@ -75,6 +75,15 @@ pub record Reached : Type 0 where
   pub last : ℕ
   pub cache : Cache
 
+-- what follows a value that was read, or its refusal
+abbrev pub if_read : {A R E : Type 0} → Result A R → (A → Plan E) → Plan E → Plan E
+if_read (Ok value) next refused = next value
+if_read (Err refusal) next refused = refused
+
+-- what follows the bytes of a range, or what follows where they are not as many as were asked for
+abbrev pub sized : {E : Type 0} → Piece → (Reached → Plan E) → (Reached → List ℕ → Plan E) → Reached → List ℕ → Plan E
+sized piece otherwise next so bytes = choose (length bytes == piece.len) (next so bytes) (otherwise so)
+
 -- Below, breaks says the end of a call that breaks off, with the cache as it is then.
 module _ {E : Type 0} (breaks : Break → Cache → E) where
   -- a read of an object that has to be there
@@ -92,10 +101,4 @@ module _ {E : Type 0} (breaks : Break → Cache → E) where
   -- the same, and what follows where it has another number of bytes than it should
   abbrev pub takes : Key → Piece → Reached → (Reached → Plan E) → (Reached → List ℕ → Plan E) → Plan E
   takes key piece at otherwise next =
-      by_cache (lookup (same_range (range_of key piece)) at.cache.entries) key piece at
-      (λ so bytes. choose (length bytes == piece.len) (next so bytes) (otherwise so))
-
-  -- what follows a value that was read, or its refusal
-  abbrev pub if_read : {A R : Type 0} → Result A R → (A → Plan E) → Plan E → Plan E
-  if_read (Ok value) next refused = next value
-  if_read (Err refusal) next refused = refused
+      by_cache (lookup (same_range (range_of key piece)) at.cache.entries) key piece at (sized piece otherwise next)

@@ -1,5 +1,5 @@
 -- A list cut into its longest stretches in which each member joins the one before it.
-use Rattle.std.specs.Prelude.{◌≡◌, ℕ, ◌+◌, ◌-◌, List, [], ◌∷◌, take, drop, flat_map, slice_index}
+use Rattle.std.specs.Prelude.{◌≡◌, ℕ, ◌+◌, ◌-◌, ◌<◌, ◌≤◌, List, [], ◌∷◌, length, take, drop, flat_map, slice_index}
 use Rattle.std.specs.List.{AllByRecursion}
 use Rattle.block_ranges.specs.declared.span.Span.{Span}
 
@@ -48,3 +48,7 @@ pub record AreStretches {A : Type 0} (Joins : A → A → Type 0) (list : List A
 -- the members of a list from one place up to another
 abbrev pub stretch_at : List ℕ → Span → Stretch ℕ
 stretch_at list span = record { first = slice_index list span.start; others = take (span.end - (span.start + 1)) (drop (span.start + 1) list) }
+
+-- it has a member, and all of them are members of the list
+abbrev pub IsSpanOf : List ℕ → Span → Type 0
+IsSpanOf list span = (span.start < span.end) × (span.end ≤ length list)

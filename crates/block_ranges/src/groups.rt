@@ -1,7 +1,7 @@
 //! Chunks that stand near one another in a segment.
-ghost use Rattle.std.specs.Prelude.{◌≡◌, ◌+◌, ◌<◌, ◌/◌, ◌^◌, ◌↔◌, length, map, slice_index, IfOk, IsTrue};
+ghost use Rattle.std.specs.Prelude.{◌≡◌, ◌+◌, ◌<◌, ◌/◌, ◌^◌, ◌↔◌, length, map, All, slice_index, IfOk, IsTrue};
 ghost use Rattle.std.specs.List.Sorted.{IsStrictlyIncreasing};
-ghost use Rattle.block_ranges.specs.Stretches.{stretch_at};
+ghost use Rattle.block_ranges.specs.Stretches.{stretch_at, IsSpanOf};
 ghost use Rattle.block_ranges.specs.ChunkRanges.{AreGroups, IsNear, segment_of};
 
 use crate::Span;
@@ -14,7 +14,8 @@ const REACH: u64 = 65_536;
 /// Cuts references to chunks, which ascend, into the longest groups of which each stands near the one before it.
 pub fn groups_of_references(alloc: Global, references: &[u64]) -> Result<Vec<Span>, NoMemory>
     requires { IsStrictlyIncreasing references.now }
-    ensures { IfOk result (λ groups. AreGroups references.now (map (stretch_at references.now) groups.items)) }
+    ensures cut { IfOk result (λ groups. AreGroups references.now (map (stretch_at references.now) groups.items)) }
+    ensures within { IfOk result (λ groups. All (IsSpanOf references.now) groups.items) }
 {
     let mut groups = Vec::new(alloc);
     let mut start = 0;

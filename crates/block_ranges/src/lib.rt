@@ -1,14 +1,32 @@
 //! Which ranges of a block's objects a gateway reads, and what it makes of them.
 #![tactic(auto)]
 
+mod asked;
+mod byte_range;
+mod cache_reads;
+mod chunks;
 mod ends;
+mod glimpses;
+mod group_read;
+mod group_reads;
 mod groups;
+mod places;
 mod references;
+mod run_read;
+mod run_reads;
 mod runs;
+mod section_tests;
+mod sections;
+mod selecting;
+mod selection;
+mod series_reads;
+mod shown;
 mod span;
 
-pub use ends::end_of_place;
+pub use byte_range::ByteRange;
+pub use chunks::chunk_len;
+pub use ends::{end_of_place, has_sections, section_range};
 pub use groups::groups_of_references;
 pub use references::references_of;
-pub use runs::number_behind;
+pub use runs::{number_behind, runs_of_series};
 pub use span::Span;

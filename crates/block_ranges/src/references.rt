@@ -22,7 +22,7 @@ pub fn references_of(alloc: Global, places: &[ChunkPlace]) -> Result<NumberList,
 }
 
 /// A chunk's reference: the number of its segment file, and below it its offset there.
-fn reference_of(place: &ChunkPlace) -> u64
+pub(crate) fn reference_of(place: &ChunkPlace) -> u64
     ensures { result ≡ reference_of place.now }
 {
     u64::from(place.segment) * 0x1_0000_0000 + u64::from(place.offset)

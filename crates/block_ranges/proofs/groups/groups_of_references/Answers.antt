@@ -1,7 +1,7 @@
-use Rattle.std.proofs.Common.{◌≡◌, ◌+◌, List, ◌∷◌, [], ◌++◌, ap, sym, subst, rules, ◌∙◌}
+use Rattle.std.proofs.Common.{List, sym, subst, rules}
 use Rattle.block_ranges.specs.ChunkRanges.{IsNear}
 use Rattle.block_ranges.specs.declared.span.Span.{Span}
-use Rattle.block_ranges.proofs.Cutting.{IsCutUpto, GoesOn, span, cut_none, turn_here, turn_on, cut_all}
+use Rattle.block_ranges.proofs.Cutting.{IsCutUpto, cut_none, turn_here, turn_on, cut_all}
 use Rattle.block_ranges.proofs.groups.groups_of_references.Goals as goal
 use Rattle.block_ranges.proofs.groups.groups_of_references.Goals.{then-not-goes_on+in_ok-push, else-not-goes_on}
 
@@ -25,5 +25,8 @@ loop-place-preserved c =
           (first_of (cc, search rules)) w.start-is
     ]
 
-pub returns : goal.returns
-returns c = cut_all IsNear c.args.references.now c.loop-place.groups.items c.loop-place.start c.loop-place.place c.loop-place-test.false c.loop-place.invariant
+pub returns-clause-cut : goal.returns-clause-cut
+returns-clause-cut c = cut_all IsNear c.args.references.now c.loop-place.groups.items c.loop-place.start c.loop-place.place c.loop-place-test.false c.loop-place.invariant
+
+pub returns-clause-within : goal.returns-clause-within
+returns-clause-within c = c.loop-place.invariant.within
