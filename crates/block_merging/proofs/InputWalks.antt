@@ -1,6 +1,6 @@
 -- Blocks that are tested and taken one after another.
 use Rattle.std.proofs.Common.{◌≡◌, ℕ, zero, suc, ◌+◌, ◌-◌, ◌^◌, ◌<◌, ◌≤◌, Bool, true, false, List, [], ◌∷◌, ◌++◌, length, map, take, get_or, Some, Result, Ok, Err, refl, sym, ap, subst, ◌∙◌, append-nil, append_assoc, inl, inr, ◌⊎◌, arith}
-use Rattle.std.specs.Prelude.{slice_get, unwrap_or, min, IfErr, IsTrue, ◌↔◌}
+use Rattle.std.specs.Prelude.{slice_get, min, IfErr, IsTrue, ◌↔◌}
 use Rattle.std.specs.Result.{IsErrAnd}
 use Rattle.std.specs.List.{AllByRecursion}
 use Rattle.std.proofs.lemmas.List.{map-append, take_more, take_all}

@@ -1,5 +1,5 @@
 -- The data that is lent of a chunk that stands at a place is the chunk's.
-use Rattle.std.proofs.Common.{◌≡◌, ℕ, ◌+◌, ◌-◌, ◌<◌, List, [], ◌∷◌, ◌++◌, length, take, drop, Ok, Err, Result, refl, sym, ap, subst, ◌∙◌, append_assoc, arith}
+use Rattle.std.proofs.Common.{◌≡◌, ℕ, ◌<◌, List, ◌∷◌, ◌++◌, length, take, drop, Ok, Err, sym, ap, subst, ◌∙◌, append_assoc, arith}
 use Rattle.std.specs.List.{AllByRecursion}
 use Rattle.std.proofs.Math.Seq.{take-append_seam}
 use Rattle.std.proofs.lemmas.List.{length-append}
@@ -10,7 +10,6 @@ use Rattle.wire_bytes.specs.Position.{Position, left, further}
 use Rattle.wire_bytes.specs.Fields.{uvarint_at}
 use Rattle.wire_bytes.specs.declared.refusal.WireRefusal.{WireRefusal}
 use Rattle.wire_bytes.proofs.FieldLaws.{uvarint_again, left_after}
-use Rattle.label_sets.specs.declared.sample.Sample.{Sample}
 use Rattle.chunk_files.specs.Chunk.{IsFront, IsPlace}
 use Rattle.chunk_files.specs.ChunkReading.{start}
 use Rattle.chunk_files.specs.Layout.{xor}
