@@ -1,6 +1,6 @@
 -- Blocks that are tested and taken one after another.
 use Rattle.std.proofs.Common.{◌≡◌, ℕ, zero, suc, ◌+◌, ◌-◌, ◌^◌, ◌<◌, ◌≤◌, Bool, true, false, List, [], ◌∷◌, ◌++◌, length, map, take, get_or, Some, Result, Ok, Err, refl, sym, ap, subst, ◌∙◌, append-nil, append_assoc, inl, inr, ◌⊎◌, arith}
-use Rattle.std.specs.Prelude.{slice_get, unwrap_or, min, IfErr, IsTrue, ◌↔◌}
+use Rattle.std.specs.Prelude.{slice_get, min, IfErr, IsTrue, ◌↔◌}
 use Rattle.std.specs.Result.{IsErrAnd}
 use Rattle.std.specs.List.{AllByRecursion}
 use Rattle.std.proofs.lemmas.List.{map-append, take_more, take_all}
@@ -21,11 +21,7 @@ use Rattle.block_content.specs.ContentReading.{fitted}
 use Rattle.block_content.specs.ContentRefusals.{RefusesContent}
 use Rattle.block_content.specs.declared.check_refusal.CheckRefusal.{CheckRefusal}
 use Rattle.block_content.specs.declared.check_refusal.CheckRefusal.TheVariants as check
-use Rattle.chunk_files.specs.ChunkReading.{segment_at}
-use Rattle.index_parts.specs.declared.chunk_place.ChunkPlace.{ChunkPlace}
 use Rattle.block_writing.specs.Put.{PutSeries}
-use Rattle.block_writing.specs.Standing.{read_or_nothing, content_at}
-use Rattle.block_writing.specs.Writing.{part_of}
 use Rattle.block_writing.proofs.Tested.{tested_all, refused_at}
 use Rattle.block_merging.specs.declared.input_series.InputSeries.{InputSeries}
 use Rattle.block_merging.specs.declared.merge_refusal.MergeRefusal.{MergeRefusal}
@@ -252,9 +248,3 @@ test_passed {X} block indexed x held refuses = record {
   only = λ has. tt;
   refuses = λ cause refused. elim (refuses cause refused) [ inl told ↦ absurd cc | inr none ↦ absurd cc ];
 }
-
--- ---- the data of a chunk
-
-pub content_is : (segments : List (List ℕ)) (place : ChunkPlace) (segment lent : List ℕ) → segment ≡ unwrap_or (slice_get segments place.segment) [] → lent ≡ read_or_nothing (segment_at segment place.offset) → lent ≡ content_at segments (part_of place)
-unfolding content_at
-content_is segments place segment lent is read = read ∙ ap (λ (s : List ℕ). read_or_nothing (segment_at s place.offset)) is

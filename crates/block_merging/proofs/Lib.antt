@@ -14,6 +14,7 @@ pub mod InputWalks
 pub mod SameLists
 pub mod OneCut
 pub mod StoredInputs
+pub mod StandingData
 pub mod OneMerged
 pub mod MergeAnswers
 pub mod PlansFit

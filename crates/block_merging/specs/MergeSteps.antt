@@ -7,9 +7,11 @@ use Rattle.label_sets.specs.Labels.{compare_sets}
 use Rattle.label_sets.specs.declared.label.Label.{Label}
 use Rattle.label_sets.specs.declared.series.Series.{Series}
 use Rattle.reading_core.specs.Grammar.{IsBytes}
+use Rattle.index_parts.specs.declared.chunk_place.ChunkPlace.{ChunkPlace}
 use Rattle.index_file.specs.declared.index_series.IndexSeries.{IndexSeries}
 use Rattle.index_file.specs.IndexFile.{IsIndex}
 use Rattle.block_files.specs.declared.block_files.BlockFiles.{BlockFiles}
+use Rattle.block_content.specs.Content.{StandsAt}
 use Rattle.block_content.specs.ContentReading.{fitted}
 use Rattle.block_content.specs.ContentRefusals.{RefusesContent}
 use Rattle.block_content.specs.declared.check_refusal.CheckRefusal.{CheckRefusal}
@@ -23,6 +25,13 @@ use Rattle.block_merging.specs.Inputs.{HasContent, IsFirstRefused, AreTaken, tak
 use Rattle.block_merging.specs.MergedBlock.{AreMerges}
 use Rattle.block_merging.specs.MergedSeries.{HasMerged}
 use Rattle.block_merging.specs.Placed.{chunk_of}
+
+-- the chunk that a place names is there
+abbrev pub IsStanding : List (List ℕ) → ChunkPlace → Type 0
+IsStanding segments place = (content : List ℕ) × StandsAt segments place content
+
+abbrev pub HasStanding : List (List ℕ) → IndexSeries → Type 0
+HasStanding segments series = AllByRecursion (IsStanding segments) series.chunks
 
 -- a series whose chunks are lent, as one that is put
 abbrev pub series_of : InputSeries → PutSeries

@@ -27,8 +27,9 @@ use list_core::{NoMemory, TryCopy};
 use std::alloc::Global;
 
 /// Merges blocks into the one of a plan. Of two blocks that have a sample under the same labels at one time the earlier one's
-/// pattern stays. Each chunk of each block is tested before any is merged. Beside the blocks and the merge it holds the labels and
-/// the places of chunks of all series, and the samples of one run of chunks at a time.
+/// pattern stays. Each chunk of each block is tested before any is merged. Beside the blocks and the merge it takes memory in
+/// proportion to the blocks' indexes, for the labels of all series and the places of their chunks, and for the samples of one run
+/// of chunks at a time.
 pub fn merge_blocks(
     alloc: Global,
     plan: &BlockPlan,

@@ -1,17 +1,16 @@
 //! The series of the blocks that are merged.
-ghost use Rattle.std.specs.Prelude.{◌≡◌, [], ◌++◌, map, slice_get, unwrap_or, IfOk, OnOk};
+ghost use Rattle.std.specs.Prelude.{◌≡◌, ◌++◌, map, IfOk, OnOk};
+ghost use Rattle.std.specs.List.{AllByRecursion};
 ghost use Rattle.list_core.specs.Ordered.{in_order};
-ghost use Rattle.chunk_files.specs.ChunkReading.{segment_at};
-ghost use Rattle.block_writing.specs.Standing.{read_or_nothing, content_at};
-ghost use Rattle.block_writing.specs.Writing.{part_of, chunk_in};
+ghost use Rattle.block_writing.specs.Writing.{chunk_in};
 ghost use Rattle.block_merging.specs.Placed.{chunk_of};
 ghost use Rattle.block_merging.specs.Inputs.{taken};
-ghost use Rattle.block_merging.specs.MergeSteps.{HasTaken, HasInputs, IsTest, AreTests, refused_input, series_of, have_lesser_labels};
+ghost use Rattle.block_merging.specs.MergeSteps.{IsStanding, HasStanding, HasTaken, HasInputs, IsTest, AreTests, refused_input, series_of, have_lesser_labels};
 
+use crate::standing_data::chunk_data;
 use crate::{InputChunk, MergeRefusal};
 use block_content::{CheckRefusal, test_content};
 use block_files::BlockFiles;
-use chunk_files::read_chunk;
 use index_file::IndexSeries;
 use index_parts::ChunkPlace;
 use label_sets::{LabelSet, TextList, reduced};
@@ -26,34 +25,8 @@ pub(crate) struct InputSeries<'a> {
     pub(crate) chunks: Vec<InputChunk<'a>>,
 }
 
-/// The bytes of a segment, and none where the block does not have it.
-fn segment_of(segments: &[Blob], number: u32) -> &[u8]
-    ensures { result.now ≡ unwrap_or (slice_get segments.now number) [] }
-{
-    match segments.get(number as usize) {
-        Some(segment) => segment.bytes(),
-        None => &[],
-    }
-}
-
-/// The data at a place of a segment, and none where none can be read.
-fn data_at(segment: &[u8], offset: u32) -> &[u8]
-    ensures { result.now ≡ read_or_nothing (segment_at segment.now offset) }
-{
-    match read_chunk(segment, u64::from(offset)) {
-        Ok(content) => content,
-        Err(_) => &[],
-    }
-}
-
-#[tactic(auto, using(crate::proofs::InputWalks::content_is))]
-fn chunk_data<'a>(segments: &'a [Blob], place: &ChunkPlace) -> &'a [u8]
-    ensures { result.now ≡ content_at segments.now (part_of place.now) }
-{
-    data_at(segment_of(segments, place.segment), place.offset)
-}
-
 fn input_chunk<'a>(segments: &'a [Blob], place: &ChunkPlace) -> InputChunk<'a>
+    requires { IsStanding segments.now place.now }
     ensures { chunk_of result ≡ chunk_in segments.now place.now }
 {
     InputChunk {
@@ -68,6 +41,7 @@ fn input_chunks<'a>(
     segments: &'a [Blob],
     places: &[ChunkPlace],
 ) -> Result<Vec<InputChunk<'a>>, NoMemory>
+    requires { AllByRecursion (IsStanding segments.now) places.now }
     ensures { IfOk result (λ made. map chunk_of made.items
         ≡ map (chunk_in segments.now) places.now) }
 {
@@ -86,6 +60,7 @@ fn input_one<'a>(
     segments: &'a [Blob],
     series: &IndexSeries,
 ) -> Result<InputSeries<'a>, NoMemory>
+    requires { HasStanding segments.now series.now }
     ensures { IfOk result (λ made. series_of made
         ≡ taken external.now replicas.now segments.now series.now) }
 {
@@ -104,6 +79,7 @@ fn add_series<'a>(
     segments: &'a [Blob],
     indexed: &[IndexSeries],
 ) -> Result<Vec<InputSeries<'a>>, NoMemory>
+    requires { AllByRecursion (HasStanding segments.now) indexed.now }
     ensures { IfOk result (λ all. map series_of all.items ≡ map series_of made.entry.items
         ++ map (taken external.now replicas.now segments.now) indexed.now) }
 {

@@ -11,6 +11,7 @@ mod mergeable;
 mod placed_chunk;
 mod runs;
 mod series_merge;
+mod standing_data;
 
 pub use block_merge::merge_blocks;
 pub use input_chunk::InputChunk;

@@ -1,4 +1,5 @@
 use Rattle.block_merging.proofs.InputWalks.{test_stopped, test_short, test_passed, has_taken}
+use Rattle.block_merging.proofs.StandingData.{all_stand}
 use Rattle.block_merging.proofs.input_series.add_block.Goals as goal
 
 pub returns-in_err-indexed-clause-tested : goal.returns-in_err-indexed-clause-tested
@@ -6,6 +7,9 @@ returns-in_err-indexed-clause-tested c = test_stopped c.args.block.now c.from_re
 
 pub returns-in_err-add_series-clause-tested : goal.returns-in_err-add_series-clause-tested
 returns-in_err-add_series-clause-tested c = test_short c.args.block.now c.from_residual-in_err-add_series.result c.from_residual-in_err-add_series.ensures.1
+
+pub add_series-requires : goal.add_series-requires
+add_series-requires c = all_stand c.args.block.now c.in_ok-indexed.indexed c.members.result.now c.members-segments.result.now c.members-segments.ensures c.members.ensures c.in_ok-indexed.ensures.found.0 c.in_ok-indexed.ensures.bytes c.in_ok-indexed.ensures.found.1
 
 pub returns : goal.returns
 returns c = record {

@@ -1,8 +1,13 @@
 use Rattle.std.proofs.Common.{[], refl}
 use Rattle.block_writing.specs.Writing.{chunk_in}
+use Rattle.block_writing.proofs.Tested.{refused_at}
 use Rattle.block_merging.specs.Placed.{chunk_of}
+use Rattle.block_merging.specs.MergeSteps.{IsStanding}
 use Rattle.block_merging.proofs.InputWalks.{mapped_more, mapped_all}
 use Rattle.block_merging.proofs.input_series.input_chunks.Goals as goal
+
+pub input_chunk-requires : goal.input_chunk-requires
+input_chunk-requires c = refused_at (IsStanding c.args.segments.now) c.args.places.now c.loop-place.place-index _ _ c.loop-place-test.true refl c.requires
 
 pub loop-place-preserved : goal.loop-place-preserved
 loop-place-preserved c =
