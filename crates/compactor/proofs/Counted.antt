@@ -1,17 +1,13 @@
 -- A compaction counts the groups that have a plan.
-use Rattle.std.proofs.Common.{◌≡◌, ℕ, zero, suc, ◌+◌, Bool, true, false, List, [], ◌∷◌, ◌++◌, length, Option, Some, None, Result, Ok, Err, refl, sym, subst, arith, inl, inr, zero-add}
-use Rattle.std.specs.Prelude.{codes, nat_le}
+use Rattle.std.proofs.Common.{◌≡◌, ℕ, zero, suc, ◌+◌, List, [], ◌∷◌, ◌++◌, length, Option, Some, None, refl, sym, subst, arith, inl, inr, zero-add}
 use Rattle.std.specs.List.{AllByRecursion}
 use Rattle.label_sets.specs.declared.label.Label.{Label}
 use Rattle.block_keys.specs.declared.key.Key.{Key}
 use Rattle.block_keys.specs.declared.key.Key.TheVariants as key
 use Rattle.block_meta.specs.declared.meta.Meta.{Meta}
-use Rattle.index_file.specs.declared.index_series.IndexSeries.{IndexSeries}
-use Rattle.index_v2.specs.declared.refusal.IndexRefusal.{IndexRefusal}
-use Rattle.block_content.specs.ContentReading.{index_at}
 use Rattle.moment_core.specs.declared.rules.Rules.{Rules}
 use Rattle.moment_core.specs.declared.span.Span.{Span}
-use Rattle.world_core.specs.Plans.{Plan, Runs, ends, never, asks, finds, choose, puts, and_then, noting}
+use Rattle.world_core.specs.Plans.{Plan, Runs, ends, never, asks, finds, puts, and_then, noting}
 use Rattle.world_core.specs.declared.entry.Entry.{Entry}
 use Rattle.world_core.proofs.PlanLaws.{EndsAre, end_is}
 use Rattle.world_core.proofs.PlanParts.{Parts, broken, both, parts}
@@ -28,14 +24,21 @@ use Rattle.group_planner.specs.Members.{ulids_of}
 use Rattle.group_planner.specs.Plans.{IsPlan}
 use Rattle.group_planner.specs.declared.group.Group.{Group}
 use Rattle.group_planner.proofs.GroupLaws.{one_answer}
-use Rattle.compactor.specs.NewBlocks.{new_mark_text, new_ulid, block_objects}
-use Rattle.compactor.specs.Inputs.{Read, read_at, Input, last_named}
+use Rattle.compactor.specs.NewMarks.{new_mark_text}
+use Rattle.compactor.specs.NewBlocks.{new_ulid, block_objects}
+use Rattle.compactor.specs.Marking.{details_of, marking}
+use Rattle.compactor.specs.Named.{named_segments}
+use Rattle.compactor.specs.Reading.{read_at, reads, reads_segments, after_index, reads_block, reads_blocks}
+use Rattle.compactor.specs.declared.input.Input.{Input}
+use Rattle.compactor.specs.declared.input.Read.{Read}
+use Rattle.compactor.specs.declared.reason.Reason.{Reason}
+use Rattle.compactor.specs.declared.reason.Reason.TheVariants.{Covered, Compacted, Expired}
 use Rattle.compactor.specs.Merges.{Merging, merged, refused, too_large}
-use Rattle.compactor.specs.OneView.{one_sync_end}
+use Rattle.meta_fetcher.specs.OneView.{one_end_of}
 use Rattle.compactor.specs.Counts.{HavePlans, IsCounted}
-use Rattle.compactor.specs.Compactions.{marking, reads, reads_segments, after_index, reads_block, reads_blocks, last_number, after_upload, after_merge, merging, compacting, compacting_groups, metas_of, names_of, expired_at, rounds, sync_rules, after_sync, CompactRun}
+use Rattle.compactor.specs.Compactions.{read_ends, last_number, after_upload, after_merge, merging, compacting, compacting_groups, metas_of, names_of, expired_at, rounds, sync_rules, after_sync, CompactRun}
 use Rattle.compactor.specs.declared.compact_end.CompactEnd.{CompactEnd}
-use Rattle.compactor.specs.declared.compact_end.CompactEnd.TheVariants.{Done, Fault, Missing, Damaged}
+use Rattle.compactor.specs.declared.compact_end.CompactEnd.TheVariants.{Done, Fault, Missing}
 
 -- ---- plans of plans
 
@@ -68,51 +71,43 @@ module _ (all : List Group) where
   abbrev Ends : List Entry → Plan CompactEnd → Type 0
   Ends made plan = EndsAre Any Is made plan
 
-  reads_end : (key : Key) (next : Entry → List ℕ → Plan CompactEnd) (made : List Entry) → ((e : Entry) (bytes : List ℕ) (made : List Entry) → Ends made (next e bytes)) → Ends made (reads key next)
+  reads_end : (key : Key) (next : Entry → List ℕ → Plan CompactEnd) (made : List Entry) → ((e : Entry) (bytes : List ℕ) (made : List Entry) → Ends made (next e bytes)) → Ends made (reads read_ends key next)
   reads_end key next made on =
       gets_are Any Is made Fault key next (λ e. ends (Missing e.seq)) (λ e bytes is given reply. on e bytes (made ++ e ∷ [])) (λ e is given reply. tt) (λ e is given reply. tt)
 
-  marks_end : (details : List ℕ) (put : ℕ) (ulids : List ℕ) (next : ℕ → Plan CompactEnd) (made : List Entry) → ((more : ℕ) (made : List Entry) → Ends made (next more)) → Ends made (marking details put ulids next)
-  marks_end details put [] next made on = on put made
-  marks_end details put (ulid ∷ ulids) next made on =
+  marks_end : (reason : Reason) (put : ℕ) (ulids : List ℕ) (next : ℕ → Plan CompactEnd) (made : List Entry) → ((more : ℕ) (made : List Entry) → Ends made (next more)) → Ends made (marking Fault reason put ulids next)
+  marks_end reason put [] next made on = on put made
+  marks_end reason put (ulid ∷ ulids) next made on =
       gets_are Any Is made Fault (key.Mark ulid)
-      (λ e bytes. marking details put ulids next)
-      (λ e. puts Fault (key.Mark ulid) (new_mark_text ulid e.moment details) (λ stored. marking details (put + 1) ulids next))
-      (λ e bytes is given reply. marks_end details put ulids next (made ++ e ∷ []) on)
-      (λ e is given reply. puts_are Any Is (made ++ e ∷ []) Fault (key.Mark ulid) (new_mark_text ulid e.moment details) (λ stored. marking details (put + 1) ulids next)
-      (λ stored is given reply. marks_end details (put + 1) ulids next ((made ++ e ∷ []) ++ stored ∷ []) on)
+      (λ e bytes. marking Fault reason put ulids next)
+      (λ e. puts Fault (key.Mark ulid) (new_mark_text ulid e.moment (details_of reason)) (λ stored. marking Fault reason (put + 1) ulids next))
+      (λ e bytes is given reply. marks_end reason put ulids next (made ++ e ∷ []) on)
+      (λ e is given reply. puts_are Any Is (made ++ e ∷ []) Fault (key.Mark ulid) (new_mark_text ulid e.moment (details_of reason)) (λ stored. marking Fault reason (put + 1) ulids next)
+      (λ stored is given reply. marks_end reason (put + 1) ulids next ((made ++ e ∷ []) ++ stored ∷ []) on)
       (λ stored is given reply. tt))
       (λ e is given reply. tt)
 
-  segments_end : (ulid more : ℕ) (segments : List Read) (last : Entry) (next : List Read → Entry → Plan CompactEnd) (made : List Entry) → ((segments : List Read) (last : Entry) (made : List Entry) → Ends made (next segments last)) → Ends made (reads_segments ulid more segments last next)
+  segments_end : (ulid more : ℕ) (segments : List Read) (last : Entry) (next : List Read → Entry → Plan CompactEnd) (made : List Entry) → ((segments : List Read) (last : Entry) (made : List Entry) → Ends made (next segments last)) → Ends made (reads_segments read_ends ulid more segments last next)
   segments_end ulid zero segments last next made on = on segments last made
   segments_end ulid (suc more) segments last next made on =
-      reads_end (key.Segment ulid (length segments + 1)) (λ e bytes. reads_segments ulid more (segments ++ read_at e bytes ∷ []) e next) made
+      reads_end (key.Segment ulid (length segments + 1)) (λ e bytes. reads_segments read_ends ulid more (segments ++ read_at e bytes ∷ []) e next) made
       (λ e bytes made. segments_end ulid more (segments ++ read_at e bytes ∷ []) e next made on)
 
-  choice_end : (b : Bool) (one other : Plan CompactEnd) (made : List Entry) → Ends made one → Ends made other → Ends made (choose b one other)
-  choice_end true one other made is so = is
-  choice_end false one other made is so = so
+  index_end : (meta : Meta) (e : Entry) (bytes : List ℕ) (count : Option ℕ) (next : Input → Entry → Plan CompactEnd) (made : List Entry) → ((input : Input) (last : Entry) (made : List Entry) → Ends made (next input last)) → Ends made (after_index read_ends meta e bytes count next)
+  index_end meta e bytes None next made on = tt
+  index_end meta e bytes (Some count) next made on =
+      segments_end meta.ulid count [] e (λ segments last. next (record { meta = meta; index = read_at e bytes; segments = segments }) last) made
+      (λ segments last made. on (record { meta = meta; index = read_at e bytes; segments = segments }) last made)
 
-  index_end : (meta : Meta) (e : Entry) (bytes : List ℕ) (read : Result (List IndexSeries) IndexRefusal) (next : Input → Entry → Plan CompactEnd) (made : List Entry) → ((input : Input) (last : Entry) (made : List Entry) → Ends made (next input last)) → Ends made (after_index meta e bytes read next)
-  index_end meta e bytes (Err refusal) next made on = tt
-  index_end meta e bytes (Ok indexed) next made on =
-      choice_end (nat_le (last_named indexed) 999_999)
-      (reads_segments meta.ulid (last_named indexed) [] e (λ segments last. next (record { meta = meta; index = read_at e bytes; segments = segments }) last))
-      (ends (Damaged e.seq)) made
-      (segments_end meta.ulid (last_named indexed) [] e (λ segments last. next (record { meta = meta; index = read_at e bytes; segments = segments }) last) made
-      (λ segments last made. on (record { meta = meta; index = read_at e bytes; segments = segments }) last made))
-      tt
-
-  block_end : (meta : Meta) (next : Input → Entry → Plan CompactEnd) (made : List Entry) → ((input : Input) (last : Entry) (made : List Entry) → Ends made (next input last)) → Ends made (reads_block meta next)
+  block_end : (meta : Meta) (next : Input → Entry → Plan CompactEnd) (made : List Entry) → ((input : Input) (last : Entry) (made : List Entry) → Ends made (next input last)) → Ends made (reads_block read_ends meta next)
   block_end meta next made on =
-      reads_end (key.Index meta.ulid) (λ e bytes. after_index meta e bytes (index_at bytes) next) made
-      (λ e bytes made. index_end meta e bytes (index_at bytes) next made on)
+      reads_end (key.Index meta.ulid) (λ e bytes. after_index read_ends meta e bytes (named_segments bytes) next) made
+      (λ e bytes made. index_end meta e bytes (named_segments bytes) next made on)
 
-  blocks_end : (inputs : List Input) (last : Entry) (metas : List Meta) (next : List Input → Entry → Plan CompactEnd) (made : List Entry) → ((inputs : List Input) (last : Entry) (made : List Entry) → Ends made (next inputs last)) → Ends made (reads_blocks inputs last metas next)
+  blocks_end : (inputs : List Input) (last : Entry) (metas : List Meta) (next : List Input → Entry → Plan CompactEnd) (made : List Entry) → ((inputs : List Input) (last : Entry) (made : List Entry) → Ends made (next inputs last)) → Ends made (reads_blocks read_ends inputs last metas next)
   blocks_end inputs last [] next made on = on inputs last made
   blocks_end inputs last (meta ∷ metas) next made on =
-      block_end meta (λ input e. reads_blocks (inputs ++ input ∷ []) e metas next) made
+      block_end meta (λ input e. reads_blocks read_ends (inputs ++ input ∷ []) e metas next) made
       (λ input e made. blocks_end (inputs ++ input ∷ []) e metas next made on)
 
   uploaded_end : (next : Plan CompactEnd) (last : UploadEnd × Option ℕ) (made : List Entry) → Ends made next → Ends made (after_upload next last)
@@ -123,16 +118,16 @@ module _ (all : List Group) where
 
   merge_end : (ulid : ℕ) (parents : List ℕ) (next : Plan CompactEnd) (becomes : Merging) (made : List Entry) → ((made : List Entry) → Ends made next) → Ends made (after_merge ulid parents next becomes)
   merge_end ulid parents next (merged block) made on =
-      ends_of_both Any Is (noting last_number None (upload ulid (block_objects ulid block))) (after_upload (marking (codes "compacted") 0 parents (λ put. next))) made
-      (any_ends Any (λ all last. Ends all (after_upload (marking (codes "compacted") 0 parents (λ put. next)) last)) (noting last_number None (upload ulid (block_objects ulid block))) made
-      (λ made last. uploaded_end (marking (codes "compacted") 0 parents (λ put. next)) last made (marks_end (codes "compacted") 0 parents (λ put. next) made (λ more made. on made))))
+      ends_of_both Any Is (noting last_number None (upload ulid (block_objects ulid block))) (after_upload (marking Fault Compacted 0 parents (λ put. next))) made
+      (any_ends Any (λ all last. Ends all (after_upload (marking Fault Compacted 0 parents (λ put. next)) last)) (noting last_number None (upload ulid (block_objects ulid block))) made
+      (λ made last. uploaded_end (marking Fault Compacted 0 parents (λ put. next)) last made (marks_end Compacted 0 parents (λ put. next) made (λ more made. on made))))
   merge_end ulid parents next (refused number) made on = tt
   merge_end ulid parents next too_large made on = tt
 
   group_end : (replicas : List (List ℕ)) (labels : List Label) (unplanned next : Plan CompactEnd) (first : Meta) (metas : List Meta) (made : List Entry) → ((made : List Entry) → Ends made next) → Ends made (compacting replicas labels unplanned next (first ∷ metas))
   group_end replicas labels unplanned next first metas made on =
-      block_end first (λ input e. reads_blocks (input ∷ []) e metas (merging replicas labels (ulids_of (first ∷ metas)) next)) made
-      (λ input e made. blocks_end (input ∷ []) e metas (merging replicas labels (ulids_of (first ∷ metas)) next) made
+      block_end first (λ input e. reads_blocks read_ends (input ∷ []) e metas (λ inputs last. merging replicas labels (ulids_of (first ∷ metas)) next inputs last.seq last.moment)) made
+      (λ input e made. blocks_end (input ∷ []) e metas (λ inputs last. merging replicas labels (ulids_of (first ∷ metas)) next inputs last.seq last.moment) made
       (λ inputs last made becomes is. merge_end (new_ulid last.seq last.moment) (ulids_of (first ∷ metas)) next becomes made on))
 
 -- ---- all groups
@@ -163,19 +158,19 @@ module _ (all : List Group) where
 
   module _ (replicas : List (List ℕ)) (retention : Option Span) (view : View) where
     abbrev finish : ℕ → ℕ → Plan CompactEnd
-    finish collected compacted = marking (codes "expired") 0 (names_of (expired_at retention view.begin view.kept)) (λ expired. ends (Done collected compacted expired))
+    finish collected compacted = marking Fault Expired 0 (names_of (expired_at retention view.begin view.kept)) (λ expired. ends (Done collected compacted expired))
 
     abbrev compact : ℕ → List Group → Plan CompactEnd
     compact collected groups = compacting_groups replicas 0 groups (λ compacted. finish collected compacted)
 
     finish_end : (collected n : ℕ) (made : List Entry) → HavePlans all n → Ends all made (finish collected (0 + n))
     finish_end collected n made have =
-        marks_end all (codes "expired") 0 (names_of (expired_at retention view.begin view.kept)) (λ expired. ends (Done collected (0 + n) expired)) made
+        marks_end all Expired 0 (names_of (expired_at retention view.begin view.kept)) (λ expired. ends (Done collected (0 + n) expired)) made
         (λ expired made. subst (HavePlans all) (sym (zero-add n)) have)
 
     rounds_end : (made : List Entry) → AreGroups replicas (metas_of view.kept) all → Ends all made (rounds replicas retention view)
     rounds_end made are =
-        marks_end all (codes "covered") 0 (names_of view.covered) (λ collected. finds (AreGroups replicas (metas_of view.kept)) (one_answer replicas (metas_of view.kept)) (λ groups. compact collected groups)) made
+        marks_end all Covered 0 (names_of view.covered) (λ collected. finds (AreGroups replicas (metas_of view.kept)) (one_answer replicas (metas_of view.kept)) (λ groups. compact collected groups)) made
         (λ collected made found is. subst (λ groups. Ends all made (compact collected groups)) (one_answer replicas (metas_of view.kept) all found are is)
         (groups_end replicas 0 all (λ compacted. finish collected compacted) made (λ n made have. finish_end collected n made have)))
 
@@ -200,7 +195,7 @@ module _ (rules : Rules) (retention : Option Span) (entries : List Entry) (colle
   after own others told ended.TooMany same first is (nil, inr end) = absurd (cc (end))
 
   abbrev next : Synced × Option Course → Plan CompactEnd
-  next told = finds (IsEnd (sync_rules rules) told) (one_sync_end (sync_rules rules) told) (after_sync rules.replicas retention)
+  next told = finds (IsEnd (sync_rules rules) told) (one_end_of (sync_rules rules) told) (after_sync rules.replicas retention)
 
   counted_parts : Parts (sync (sync_rules rules)) next entries (Some done) → IsCounted rules entries compacted
   counted_parts (broken one none) = absurd (cc (none))

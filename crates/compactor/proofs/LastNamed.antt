@@ -6,7 +6,7 @@ use Rattle.std.proofs.lemmas.List.Concat.{flat_map-append}
 use Rattle.std.proofs.lemmas.List.Sums.{fold-append}
 use Rattle.index_parts.specs.declared.chunk_place.ChunkPlace.{ChunkPlace}
 use Rattle.index_file.specs.declared.index_series.IndexSeries.{IndexSeries}
-use Rattle.compactor.specs.Inputs.{segment_number, last_named}
+use Rattle.compactor.specs.Named.{segment_number, last_named}
 
 pub chunks_start : (before : ℕ) (chunks : List ChunkPlace) → before ≡ fold max before (map segment_number (take 0 chunks))
 chunks_start before chunks = refl

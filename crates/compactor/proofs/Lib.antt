@@ -1,3 +1,10 @@
 mod LastNamed
+mod Steps
+mod HandingOn
+mod Words
+mod MarkSteps
+mod ReadSteps
+mod JobRuns
+mod Expired
 mod SyncParts
 mod Counted

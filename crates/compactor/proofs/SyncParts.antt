@@ -1,29 +1,21 @@
 -- Runs of a compaction are runs of a sync and of what follows its end.
-use Rattle.std.proofs.Common.{List, [], ◌∷◌, ◌++◌, Option, Some, None, refl, sym, subst, ◌∙◌, ap, inl, inr, append-nil}
+use Rattle.std.proofs.Common.{List, ◌++◌, Option, Some, None, sym, subst, ◌∙◌, ap, inl, inr, append-nil}
 use Rattle.moment_core.specs.declared.rules.Rules.{Rules}
 use Rattle.moment_core.specs.declared.span.Span.{Span}
-use Rattle.world_core.specs.Plans.{Plan, Runs, ends, never, asks, finds, and_then}
+use Rattle.world_core.specs.Plans.{Plan, Runs, finds}
 use Rattle.world_core.specs.declared.entry.Entry.{Entry}
-use Rattle.world_core.proofs.PlanLaws.{breaks_off, untold}
+use Rattle.world_core.proofs.PlanLaws.{untold}
 use Rattle.world_core.proofs.PlanParts.{Parts, broken, both, parts, joined}
 use Rattle.meta_fetcher.specs.Syncs.{Synced, Course, IsEnd, sync}
-use Rattle.compactor.specs.OneView.{one_sync_end}
+use Rattle.meta_fetcher.specs.OneView.{one_end_of}
+use Rattle.compactor.proofs.HandingOn.{begun}
 use Rattle.compactor.specs.Compactions.{sync_rules, after_sync, CompactRun}
 use Rattle.compactor.specs.SyncFirst.{BeginsWithSync}
 use Rattle.compactor.specs.declared.compact_end.CompactEnd.{CompactEnd}
 
--- a part that was broken off is a run of both that was
-begun : {A E : Type 0} (first : Plan A) (next : A → Plan E) (entries : List Entry) → Runs first entries None → Runs (and_then first next) entries None
-begun (ends last) next entries run = subst (λ es. Runs (next last) es None) (sym run.0) (breaks_off (next last))
-begun never next entries run = (run.0, refl)
-begun (asks op on) next [] run = refl
-begun (asks op on) next (e ∷ entries) run = (run.0, begun (on e) next entries run.1)
-begun (finds Is one on) next entries (inl none) = inl (none.0, refl)
-begun (finds Is one on) next entries (inr (found, is, run)) = inr (found, is, begun (on found) next entries run)
-
 module _ (rules : Rules) (retention : Option Span) where
   abbrev next : Synced × Option Course → Plan CompactEnd
-  next told = finds (IsEnd (sync_rules rules) told) (one_sync_end (sync_rules rules) told) (after_sync rules.replicas retention)
+  next told = finds (IsEnd (sync_rules rules) told) (one_end_of (sync_rules rules) told) (after_sync rules.replicas retention)
 
   fallen : (entries : List Entry) (end : Option CompactEnd) → Parts (sync (sync_rules rules)) next entries end → BeginsWithSync rules retention entries end
   fallen entries end (broken one none) = inl (one, none)

@@ -11,7 +11,8 @@ use Rattle.block_content.specs.declared.check_refusal.CheckRefusal.TheVariants.{
 use Rattle.vertical_merge.specs.Compacted.{IsCompactedPlan}
 use Rattle.block_merging.specs.Inputs.{IsFirstRefused}
 use Rattle.block_merging.specs.MergedBlock.{IsMergeOf, HaveNoMerge}
-use Rattle.compactor.specs.Inputs.{Input, IsInput}
+use Rattle.compactor.specs.Inputs.{IsInput}
+use Rattle.compactor.specs.declared.input.Input.{Input}
 
 pub data Merging : Type 0 where
   -- they become this block

@@ -1,18 +1,11 @@
--- What a compaction puts: deletion marks, and blocks under new ULIDs.
-use Rattle.std.specs.Prelude.{ℕ, ◌+◌, ◌-◌, ◌*◌, ◌/◌, ◌%◌, ◌^◌, List}
+-- The blocks that a compaction uploads, under new ULIDs.
+use Rattle.std.specs.Prelude.{ℕ, ◌+◌, ◌-◌, ◌*◌, ◌%◌, ◌^◌, List}
 use Rattle.block_keys.specs.declared.object.Object.{Object}
 use Rattle.block_files.specs.Built.{objects_of}
 use Rattle.block_files.specs.declared.block_files.BlockFiles.{BlockFiles}
-use Rattle.block_meta.specs.MetaFields.{MarkFields, fields_of}
-use Rattle.block_meta.specs.MetaValue.{mark_text, meta_text}
+use Rattle.block_meta.specs.MetaFields.{fields_of}
+use Rattle.block_meta.specs.MetaValue.{meta_text}
 use Rattle.moment_core.specs.declared.moment.Moment.{Moment}
-
--- The mark of a block that was found without one at a moment. It counts from the second of that moment.
-abbrev pub new_mark : ℕ → Moment → List ℕ → MarkFields
-new_mark ulid looked details = record { id = ulid; deletion_time = looked.ms / 1000; details = details }
-
-abbrev pub new_mark_text : ℕ → Moment → List ℕ → List ℕ
-new_mark_text ulid looked details = mark_text (new_mark ulid looked details)
 
 -- The ULID of a block whose upload follows the entry of this number and moment. It has the moment's time, and the number in the last
 -- 20 of the bits behind the time, all others of which are set.

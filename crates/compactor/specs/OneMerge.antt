@@ -19,7 +19,8 @@ use Rattle.block_merging.specs.MergedBlock.{IsMergeOf, HaveNoMerge}
 use Rattle.block_merging.proofs.OneMerged.{puts_once}
 use Rattle.block_merging.proofs.PlansFit.{compacted_lie}
 use Rattle.block_merging.proofs.MergeLaws.{merge_once}
-use Rattle.compactor.specs.Inputs.{Input, IsInput}
+use Rattle.compactor.specs.Inputs.{IsInput}
+use Rattle.compactor.specs.declared.input.Input.{Input}
 use Rattle.compactor.specs.Merges.{Merging, merged, refused, too_large, Given, IsRefused, IsMerging}
 use Rattle.compactor.specs.OnePlan.{compacted_once}
 use Rattle.compactor.specs.OneRefusal.{none_refused, refused_once}

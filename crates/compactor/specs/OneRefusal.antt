@@ -19,7 +19,7 @@ use Rattle.block_content.proofs.ContentLaws.{block_tells, content_again, content
 use Rattle.block_laws.specs.PutContent.{AreBytes}
 use Rattle.block_merging.specs.Inputs.{HasContent, IsFirstRefused}
 use Rattle.block_merging.proofs.StoredInputs.{index_once}
-use Rattle.compactor.specs.Inputs.{Input}
+use Rattle.compactor.specs.declared.input.Input.{Input}
 use Rattle.compactor.specs.Merges.{WasReadAt, IsRefused}
 
 -- ---- the first block

@@ -2,10 +2,21 @@
 #![tactic(auto)]
 
 mod compact_end;
-mod inputs;
+mod found;
+mod input;
+mod job;
 mod laws;
+mod mark_stage;
+mod marks;
+mod marks_end;
+mod named;
 mod new_block;
 mod new_mark;
+mod read_stage;
+mod reads;
+mod reads_end;
+mod reason;
+mod sync_rules;
 
 pub use compact_end::CompactEnd;
 pub use laws::{compactions_begin_with_a_sync, groups_are_counted};

@@ -1,6 +1,6 @@
 //! The texts of new deletion marks.
 ghost use Rattle.std.specs.Prelude.{◌≡◌, ◌<◌, ◌^◌, IfOk};
-ghost use Rattle.compactor.specs.NewBlocks.{new_mark_text};
+ghost use Rattle.compactor.specs.NewMarks.{new_mark_text};
 
 use block_meta::DeletionMark;
 use label_sets::Text;

@@ -25,7 +25,8 @@ pub fn plan(alloc: Global, group: &Group) -> Result<UlidList, NoMemory>
     ulids_of(alloc, planned(group.members.members()))
 }
 
-fn planned(metas: &[Meta]) -> &[Meta]
+/// The same plan as the metas of its blocks, which stand next to each other among the members.
+pub fn planned(metas: &[Meta]) -> &[Meta]
     ensures { IsPlan metas.now result.now }
 {
     let overlaps = overlap_of(metas);

@@ -1,6 +1,6 @@
 use Rattle.std.proofs.Common.{arith}
 use Rattle.compactor.proofs.LastNamed.{named_start, named_more, named_end}
-use Rattle.compactor.proofs.inputs.last_named.Goals as goal
+use Rattle.compactor.proofs.named.last_named.Goals as goal
 
 pub loop-one-init : goal.loop-one-init
 loop-one-init c = named_start c.args.indexed.now

@@ -1,6 +1,6 @@
 use Rattle.std.proofs.Common.{◌∙◌, ap, max, refl, arith}
 use Rattle.compactor.proofs.LastNamed.{chunks_start, chunks_more, chunks_end}
-use Rattle.compactor.proofs.inputs.last_of_chunks.Goals as goal
+use Rattle.compactor.proofs.named.last_of_chunks.Goals as goal
 
 pub loop-place-init : goal.loop-place-init
 loop-place-init c = chunks_start c.args.before c.args.chunks.now
