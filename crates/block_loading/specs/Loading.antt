@@ -1,6 +1,6 @@
 -- Which block a shelf has under a ULID, and why it has none that is shipped. The files of a block are its meta, its index, and
 -- the segments from the first to the greatest that the index names. They are looked at in this order.
-use Rattle.std.specs.Prelude.{◌≡◌, ◌≢◌, ◌⊎◌, ℕ, ◌+◌, ◌<◌, ◌≤◌, min, max, List, [], ◌∷◌, length, map, slice_get, None, Some, IsSomeAnd, Ok, Err}
+use Rattle.std.specs.Prelude.{◌≡◌, ◌≢◌, ◌⊎◌, ℕ, zero, suc, ◌+◌, ◌<◌, ◌≤◌, min, max, List, [], ◌∷◌, length, map, slice_get, None, Some, IsSomeAnd, Ok, Err}
 use Rattle.std.specs.List.{flat_map}
 use Rattle.label_sets.specs.declared.series.Series.{Series}
 use Rattle.block_keys.specs.declared.key.Key.{Key}
@@ -87,6 +87,23 @@ Reaches told ulid (Meta owner) = owner ≡ ulid
 Reaches told ulid (Index owner) = (owner ≡ ulid) × ((meta : MetaFields) × HasMeta told ulid meta)
 Reaches told ulid (Segment owner number) = (owner ≡ ulid) × ReachesSegment told ulid number
 Reaches told ulid (Mark owner) = ⊥
+
+-- ---- the order of reading
+
+-- the file of a block that comes after so many others
+abbrev pub key_after : ℕ → ℕ → Key
+key_after ulid zero = Meta ulid
+key_after ulid (suc zero) = Index ulid
+key_after ulid (suc (suc number)) = Segment ulid (number + 1)
+
+-- the names of so many files of a block that come after so many others
+unfoldable pub names_after : ℕ → ℕ → ℕ → List (List ℕ)
+names_after ulid before zero = []
+names_after ulid before (suc count) = key_text (key_after ulid before) ∷ names_after ulid (suc before) count
+
+-- the names of so many files of a block, from its meta on
+abbrev pub names_read : ℕ → ℕ → List (List ℕ)
+names_read ulid count = names_after ulid 0 count
 
 -- The block cannot be loaded, and this is why.
 abbrev pub RefusesLoad : Contents → ℕ → CheckRefusal → Type 0
