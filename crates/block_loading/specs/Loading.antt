@@ -88,23 +88,6 @@ Reaches told ulid (Index owner) = (owner ≡ ulid) × ((meta : MetaFields) × Ha
 Reaches told ulid (Segment owner number) = (owner ≡ ulid) × ReachesSegment told ulid number
 Reaches told ulid (Mark owner) = ⊥
 
--- ---- the order of reading
-
--- the file of a block that comes after so many others
-abbrev pub key_after : ℕ → ℕ → Key
-key_after ulid zero = Meta ulid
-key_after ulid (suc zero) = Index ulid
-key_after ulid (suc (suc number)) = Segment ulid (number + 1)
-
--- the names of so many files of a block that come after so many others
-unfoldable pub names_after : ℕ → ℕ → ℕ → List (List ℕ)
-names_after ulid before zero = []
-names_after ulid before (suc count) = key_text (key_after ulid before) ∷ names_after ulid (suc before) count
-
--- the names of so many files of a block, from its meta on
-abbrev pub names_read : ℕ → ℕ → List (List ℕ)
-names_read ulid count = names_after ulid 0 count
-
 -- The block cannot be loaded, and this is why.
 abbrev pub RefusesLoad : Contents → ℕ → CheckRefusal → Type 0
 RefusesLoad told ulid (NoFile key) = Reaches told ulid key × (told (key_text key) ≡ None)
@@ -120,6 +103,23 @@ RefusesLoad told ulid (BadChunk series chunk cause) = ⊥
 RefusesLoad told ulid (OutsideRange series time) = ⊥
 RefusesLoad told ulid (Repeated series) = ⊥
 RefusesLoad told ulid NoMemory = ⊥
+
+-- ---- the order of reading
+
+-- the file of a block that comes after so many others: its meta, its index, and then its segments from the first on
+abbrev pub key_after : ℕ → ℕ → Key
+key_after ulid zero = Meta ulid
+key_after ulid (suc zero) = Index ulid
+key_after ulid (suc (suc number)) = Segment ulid (number + 1)
+
+-- the names of so many files of a block that come after so many others
+unfoldable pub names_after : ℕ → ℕ → ℕ → List (List ℕ)
+names_after ulid before zero = []
+names_after ulid before (suc count) = key_text (key_after ulid before) ∷ names_after ulid (suc before) count
+
+-- the names of so many files of a block, from its meta on
+abbrev pub names_read : ℕ → ℕ → List (List ℕ)
+names_read ulid count = names_after ulid 0 count
 
 -- ---- loaded and checked
 
