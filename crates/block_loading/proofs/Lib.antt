@@ -5,3 +5,6 @@ pub mod SegmentLaws
 pub mod LoadLaws
 pub mod Calls
 pub mod LoadSteps
+pub mod Asked
+pub mod AskedBlock
+pub mod AskedSegments

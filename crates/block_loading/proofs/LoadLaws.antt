@@ -74,17 +74,17 @@ refused_is d e h = cc
 module _ (told : Contents) (ulid : ℕ) where
   -- ---- the meta
 
-  meta_found : (meta : MetaFields) → meta_at told ulid ≡ Ok meta → HasMeta told ulid meta
+  pub meta_found : (meta : MetaFields) → meta_at told ulid ≡ Ok meta → HasMeta told ulid meta
   unfolding meta_at
   meta_found meta e = let text = bind_ok _ _ _ e in record { text = text.0; file = file_found told (Meta ulid) text.0 text.1; reads = refused_as_ok _ _ _ text.2 }
 
-  meta_again : (meta : MetaFields) → HasMeta told ulid meta → meta_at told ulid ≡ Ok meta
+  pub meta_again : (meta : MetaFields) → HasMeta told ulid meta → meta_at told ulid ≡ Ok meta
   unfolding meta_at
   meta_again meta is = rw (file_again told (Meta ulid) is.text is.file, is.reads) refl
 
   -- ---- the index
 
-  index_found : (index : List ℕ) (indexed : List IndexSeries) → index_in told ulid ≡ Ok (index, indexed) → HasIndex told ulid index indexed
+  pub index_found : (index : List ℕ) (indexed : List IndexSeries) → index_in told ulid ≡ Ok (index, indexed) → HasIndex told ulid index indexed
   unfolding index_in
   index_found index indexed e =
       let text = bind_ok _ _ _ e in
@@ -94,7 +94,7 @@ module _ (told : Contents) (ulid : ℕ) where
       let here : HasIndex told ulid text.0 list.0 = record { file = file_found told (Index ulid) text.0 text.1; reads = refused_as_ok _ _ _ list.1 } in
       subst Has same here
 
-  index_again : (index : List ℕ) (indexed : List IndexSeries) → HasIndex told ulid index indexed → index_in told ulid ≡ Ok (index, indexed)
+  pub index_again : (index : List ℕ) (indexed : List IndexSeries) → HasIndex told ulid index indexed → index_in told ulid ≡ Ok (index, indexed)
   unfolding index_in
   index_again index indexed is = rw (file_again told (Index ulid) index is.file, is.reads) refl
 

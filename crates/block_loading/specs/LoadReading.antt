@@ -1,5 +1,5 @@
 -- What loading a block from told files gives, or the first refusal.
-use Rattle.std.specs.Prelude.{◌≡◌, ◌⊎◌, ℕ, zero, suc, ◌≤◌, List, [], ◌∷◌, length, Option, None, Some, Bool, true, false, IsTrue, Result, Ok, Err, MatchResult, nat_lt, if◌then◌else◌}
+use Rattle.std.specs.Prelude.{◌≡◌, ◌⊎◌, ℕ, zero, suc, ◌+◌, ◌<◌, ◌≤◌, List, [], ◌∷◌, length, Option, None, Some, Bool, true, false, IsTrue, Result, Ok, Err, IfOk, MatchResult, nat_lt, if◌then◌else◌}
 use Rattle.reading_core.specs.Reading.{◌>>=◌, refused_as}
 use Rattle.block_keys.specs.declared.key.Key.{Key}
 use Rattle.block_keys.specs.declared.key.Key.TheVariants.{Meta, Index, Segment}
@@ -15,8 +15,8 @@ use Rattle.block_content.specs.declared.check_refusal.CheckRefusal.{CheckRefusal
 use Rattle.block_content.specs.declared.check_refusal.CheckRefusal.TheVariants as check
 use Rattle.bucket_core.specs.Causes.{Rose}
 use Rattle.bucket_core.specs.Contents.{Contents}
-use Rattle.bucket_core.specs.Files.{file_limit}
-use Rattle.block_loading.specs.Loading.{last_segment}
+use Rattle.bucket_core.specs.Files.{file_limit, Asks}
+use Rattle.block_loading.specs.Loading.{last_segment, HasSegments, Reaches, key_after, names_after, names_read}
 use Rattle.block_loading.specs.declared.load_refusal.LoadRefusal.{LoadRefusal}
 use Rattle.block_loading.specs.declared.load_refusal.LoadRefusal.TheVariants.{Refused, ShelfFault, NoMemory}
 
@@ -50,6 +50,29 @@ pub record KeepsShelf {S : Type 0} (files : S → Option Contents) (faults : S �
   pub later : faults old ≤ faults new
   pub cause : IsTrue fault → Rose (faults old) (faults new)
   pub calm : fault ≡ false → faults new ≡ faults old
+
+-- A call asked for the file under a key, if there was memory for its name.
+abbrev pub AsksFile : {S X : Type 0} → (S → Option (List (List ℕ))) → S → S → Key → Result X LoadRefusal → Type 0
+AsksFile {S} {X} asked old new key result = Asks asked old new (key_text key ∷ []) ⊎ (Asks asked old new [] × (result ≡ Err NoMemory))
+
+-- A call asked for so many files of a block, each once, in the order of reading. Where the files are told, each of these is
+-- reached. If one more is reached, then the call was broken off.
+pub record AsksInOrder {S X : Type 0} (files : S → Option Contents) (asked : S → Option (List (List ℕ))) (old new : S) (ulid : ℕ) (segments : X → List (List ℕ)) (result : Result X LoadRefusal) : Type 0 where
+  pub count : ℕ
+  pub names : Asks asked old new (names_read ulid count)
+  pub reached : (told : Contents) → files old ≡ Some told → (place : ℕ) → place < count → Reaches told ulid (key_after ulid place)
+  pub all : (told : Contents) → files old ≡ Some told → Reaches told ulid (key_after ulid count) → WasBrokenOff result
+  pub whole : IfOk result (λ x. count ≡ 2 + length (segments x))
+
+-- A call asked for segments of a block, of which there are so many, each once and from the first on. Where the files are told,
+-- all before one that it asked for stand. If all that it asked for stand, then these are all, or the call was broken off.
+pub record AsksSegments {S X : Type 0} (files : S → Option Contents) (asked : S → Option (List (List ℕ))) (old new : S) (ulid many : ℕ) (result : Result X LoadRefusal) : Type 0 where
+  pub count : ℕ
+  pub names : Asks asked old new (names_after ulid 2 count)
+  pub within : count ≤ many
+  pub reached : (told : Contents) → files old ≡ Some told → (place : ℕ) → place < count → (before : List (List ℕ)) × HasSegments told ulid before × (length before ≡ place)
+  pub all : (told : Contents) → files old ≡ Some told → (before : List (List ℕ)) → HasSegments told ulid before → length before ≡ count → (count ≡ many) ⊎ WasBrokenOff result
+  pub whole : IfOk result (λ x. count ≡ many)
 
 -- ---- reading
 

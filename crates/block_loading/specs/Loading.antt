@@ -1,6 +1,6 @@
 -- Which block a shelf has under a ULID, and why it has none that is shipped. The files of a block are its meta, its index, and
 -- the segments from the first to the greatest that the index names. They are looked at in this order.
-use Rattle.std.specs.Prelude.{◌≡◌, ◌≢◌, ◌⊎◌, ℕ, ◌+◌, ◌<◌, ◌≤◌, min, max, List, [], ◌∷◌, length, map, slice_get, None, Some, IsSomeAnd, Ok, Err}
+use Rattle.std.specs.Prelude.{◌≡◌, ◌≢◌, ◌⊎◌, ℕ, zero, suc, ◌+◌, ◌<◌, ◌≤◌, min, max, List, [], ◌∷◌, length, map, slice_get, None, Some, IsSomeAnd, Ok, Err}
 use Rattle.std.specs.List.{flat_map}
 use Rattle.label_sets.specs.declared.series.Series.{Series}
 use Rattle.block_keys.specs.declared.key.Key.{Key}
@@ -103,6 +103,23 @@ RefusesLoad told ulid (BadChunk series chunk cause) = ⊥
 RefusesLoad told ulid (OutsideRange series time) = ⊥
 RefusesLoad told ulid (Repeated series) = ⊥
 RefusesLoad told ulid NoMemory = ⊥
+
+-- ---- the order of reading
+
+-- the file of a block that comes after so many others: its meta, its index, and then its segments from the first on
+abbrev pub key_after : ℕ → ℕ → Key
+key_after ulid zero = Meta ulid
+key_after ulid (suc zero) = Index ulid
+key_after ulid (suc (suc number)) = Segment ulid (number + 1)
+
+-- the names of so many files of a block that come after so many others
+unfoldable pub names_after : ℕ → ℕ → ℕ → List (List ℕ)
+names_after ulid before zero = []
+names_after ulid before (suc count) = key_text (key_after ulid before) ∷ names_after ulid (suc before) count
+
+-- the names of so many files of a block, from its meta on
+abbrev pub names_read : ℕ → ℕ → List (List ℕ)
+names_read ulid count = names_after ulid 0 count
 
 -- ---- loaded and checked
 

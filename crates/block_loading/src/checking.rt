@@ -10,7 +10,7 @@ ghost use Rattle.block_content.specs.Checked.{checked_files, checked_series, che
 ghost use Rattle.block_content.specs.declared.check_refusal.CheckRefusal.{CheckRefusal};
 ghost use Rattle.bucket_core.specs.Contents.{Contents};
 ghost use Rattle.block_loading.specs.Loading.{IsLoaded, PassesOnShelf, RefusesOnShelf};
-ghost use Rattle.block_loading.specs.LoadReading.{KeepsShelf, WasBrokenOff, was_fault};
+ghost use Rattle.block_loading.specs.LoadReading.{KeepsShelf, AsksInOrder, WasBrokenOff, was_fault};
 
 use crate::LoadRefusal;
 use crate::loading::load_indexed;
@@ -47,6 +47,9 @@ pub fn check_on_shelf<F: Shelf>(
     ensures refuses { (told : Contents) → F.files shelf.old ≡ Some told
         → (refusal : CheckRefusal) → RefusesOnShelf told ulid refusal
         → (result ≡ Err (LoadRefusal.Refused refusal)) ⊎ WasBrokenOff result }
+
+    // Files of the block are asked for, and no others, each once and in the order of reading.
+    ensures asks { AsksInOrder F.files F.asked shelf.old shelf.new ulid (λ checked. (checked_files checked).segments) result }
 
     // The files stay as they are, and the shelf's count rises just where a fault is answered.
     ensures kept { KeepsShelf F.files F.faults shelf.old shelf.new (was_fault result) }

@@ -8,7 +8,7 @@ ghost use Rattle.block_content.specs.ContentReading.{index_at, ListsFew};
 ghost use Rattle.block_content.specs.declared.check_refusal.CheckRefusal.{CheckRefusal};
 ghost use Rattle.bucket_core.specs.Contents.{Contents};
 ghost use Rattle.block_loading.specs.Loading.{last_segment, IsLoaded, RefusesLoad};
-ghost use Rattle.block_loading.specs.LoadReading.{Loads, KeepsShelf, WasBrokenOff, was_fault, parts_of, load_at};
+ghost use Rattle.block_loading.specs.LoadReading.{Loads, KeepsShelf, AsksInOrder, WasBrokenOff, was_fault, parts_of, load_at};
 
 use crate::LoadRefusal;
 use crate::reading::{last_segment, read_meta, read_segments, read_series};
@@ -29,6 +29,7 @@ fn read_block<F: Shelf>(
     ensures read { IfOk result (λ x. IsBytes x.0.index × (index_at x.0.index ≡ Ok x.1)) }
     ensures few { IfOk result (λ x. ListsFew x.0.index x.1) }
     ensures named { IfOk result (λ x. length x.0.segments ≡ last_segment x.1) }
+    ensures asks { AsksInOrder F.files F.asked shelf.old shelf.new ulid (λ x. x.0.segments) result }
     ensures kept { KeepsShelf F.files F.faults shelf.old shelf.new (was_fault result) }
 {
     let meta = read_meta(alloc, shelf, ulid)?;
@@ -69,6 +70,9 @@ pub fn load_indexed<F: Shelf>(
     ensures few { IfOk result (λ x. ListsFew x.0.index x.1) }
     ensures named { IfOk result (λ x. length x.0.segments ≡ last_segment x.1) }
 
+    // Files of the block are asked for, and no others, each once and in the order of reading.
+    ensures asks { AsksInOrder F.files F.asked shelf.old shelf.new ulid (λ x. x.0.segments) result }
+
     // The files stay as they are, and the shelf's count rises just where a fault is answered.
     ensures kept { KeepsShelf F.files F.faults shelf.old shelf.new (was_fault result) }
 {
@@ -99,6 +103,9 @@ pub fn load<F: Shelf>(alloc: Global, shelf: &mut F, ulid: Ulid) -> Result<BlockF
     ensures named { IfOk result (λ files. (indexed : List IndexSeries)
         × (index_at files.index ≡ Ok indexed)
         × (length files.segments ≡ last_segment indexed)) }
+
+    // Files of the block are asked for, and no others, each once and in the order of reading.
+    ensures asks { AsksInOrder F.files F.asked shelf.old shelf.new ulid (λ files. files.segments) result }
 
     // The files stay as they are, and the shelf's count rises just where a fault is answered.
     ensures kept { KeepsShelf F.files F.faults shelf.old shelf.new (was_fault result) }

@@ -3,13 +3,14 @@ ghost use Rattle.std.specs.Prelude.{◌≡◌, ◌+◌, ◌≤◌, ℕ, Option, 
 ghost use Rattle.std.specs.List.{flat_map};
 ghost use Rattle.reading_core.specs.Grammar.{IsBytes};
 ghost use Rattle.block_keys.specs.Keys.{IsLawfulKey};
+ghost use Rattle.block_keys.specs.declared.key.Key.{Key};
 ghost use Rattle.block_meta.specs.MetaFields.{fields_of};
 ghost use Rattle.block_content.specs.ContentReading.{index_at, ListsFew};
 ghost use Rattle.bucket_core.specs.Causes.{file_failed};
 ghost use Rattle.bucket_core.specs.Contents.{Contents};
 ghost use Rattle.bucket_core.specs.Files.{IsWithinLimit, ShowsFile};
 ghost use Rattle.block_loading.specs.Loading.{file_number, greatest, last_segment};
-ghost use Rattle.block_loading.specs.LoadReading.{Loads, KeepsShelf, was_fault, refused_block, refused_meta, file_in, file_at, meta_at, index_in, segments_at};
+ghost use Rattle.block_loading.specs.LoadReading.{Loads, KeepsShelf, AsksFile, AsksSegments, was_fault, refused_block, refused_meta, file_in, file_at, meta_at, index_in, segments_at};
 
 use crate::LoadRefusal;
 use block_content::{CheckRefusal, read_index};
@@ -47,6 +48,7 @@ fn read_file<F: Shelf>(alloc: Global, shelf: &mut F, key: &Key) -> Result<Blob, 
     requires { IsLawfulKey key.now }
     ensures read { (told : Contents) → F.files shelf.old ≡ Some told
         → Loads (λ bytes. bytes) result (file_at told key.now) }
+    ensures asks { AsksFile F.asked shelf.old shelf.new key.now result }
     ensures kept { KeepsShelf F.files F.faults shelf.old shelf.new (was_fault result) }
 {
     let name = key.text(alloc)?;
@@ -82,6 +84,7 @@ pub(crate) fn read_meta<F: Shelf>(
 ) -> Result<Meta, LoadRefusal>
     ensures read { (told : Contents) → F.files shelf.old ≡ Some told
         → Loads fields_of result (meta_at told ulid) }
+    ensures asks { AsksFile F.asked shelf.old shelf.new (Key.Meta ulid) result }
     ensures kept { KeepsShelf F.files F.faults shelf.old shelf.new (was_fault result) }
 {
     let text = read_file(alloc, shelf, &Key::Meta(ulid))?;
@@ -102,6 +105,7 @@ pub(crate) fn read_series<F: Shelf>(
     ensures bytes { IfOk result (λ x. IsBytes x.0) }
     ensures indexed { IfOk result (λ x. index_at x.0 ≡ Ok x.1) }
     ensures few { IfOk result (λ x. ListsFew x.0 x.1) }
+    ensures asks { AsksFile F.asked shelf.old shelf.new (Key.Index ulid) result }
     ensures kept { KeepsShelf F.files F.faults shelf.old shelf.new (was_fault result) }
 {
     let index = read_file(alloc, shelf, &Key::Index(ulid))?;
@@ -152,6 +156,7 @@ pub(crate) fn read_segments<F: Shelf>(
     ensures read { (told : Contents) → F.files shelf.old ≡ Some told
         → Loads (λ segments. segments) result (segments_at told ulid 1 last) }
     ensures many { IfOk result (λ segments. length segments ≡ last) }
+    ensures asks { AsksSegments F.files F.asked shelf.old shelf.new ulid last result }
     ensures kept { KeepsShelf F.files F.faults shelf.old shelf.new (was_fault result) }
 {
     let mut segments = BlobList::new(alloc);

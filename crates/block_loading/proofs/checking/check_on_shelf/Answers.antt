@@ -1,10 +1,11 @@
-use Rattle.std.proofs.Common.{inl, inr, subst, sym, ◌∙◌}
+use Rattle.std.proofs.Common.{inl, inr, subst, sym, ap, ◌∙◌}
 use Rattle.reading_core.proofs.Binds.{err_is}
 use Rattle.block_files.specs.declared.block_files.BlockFiles.{BlockFiles}
 use Rattle.block_content.specs.Checking.{Passes, RefusesBlock}
 use Rattle.block_content.specs.declared.checked.Checked.{Checked}
 use Rattle.block_loading.specs.declared.load_refusal.LoadRefusal.TheVariants.{Refused}
 use Rattle.block_loading.proofs.Calls.{answered, had_memory, passed_on, error_on, not_stopped, not_refused, check_refused, check_refuses, check_passes}
+use Rattle.block_loading.proofs.AskedBlock.{asked_on, asked_whole}
 use Rattle.block_loading.proofs.checking.check_on_shelf.Goals as goal
 
 pub returns-in_err-files-clause-passes : goal.returns-in_err-files-clause-passes
@@ -50,3 +51,12 @@ returns-clause-refuses g c = λ told h refusal is.
           let here = subst (λ (f : BlockFiles). RefusesBlock c.args.ulid f refusal) (sym same) refuses in
           check_refuses c.args.ulid c.in_ok-files.files c.in-Err.refusal refusal c.refused_block.result here (c.in-Err.ensures.refuses refusal here) c.refused_block.ensures
     ]
+
+pub returns-in_err-files-clause-asks : goal.returns-in_err-files-clause-asks
+returns-in_err-files-clause-asks g c = asked_on g.F.Shelf.files g.F.Shelf.asked _ _ _ _ c.args.ulid c.from_residual.result c.in_err-files.field-0.0 c.from_residual.ensures.1 c.in_err-files.ensures.asks
+
+pub returns-in-Ok-clause-asks : goal.returns-in-Ok-clause-asks
+returns-in-Ok-clause-asks g c = asked_whole g.F.Shelf.files g.F.Shelf.asked _ _ _ _ c.args.ulid _ _ (ap (λ (f : BlockFiles). f.segments) c.in-Ok.ensures.found.0) c.in_ok-files.ensures.asks
+
+pub returns-clause-asks : goal.returns-clause-asks
+returns-clause-asks g c = asked_whole g.F.Shelf.files g.F.Shelf.asked _ _ _ _ c.args.ulid _ _ tt c.in_ok-files.ensures.asks

@@ -1,7 +1,9 @@
+use Rattle.std.proofs.Common.{inl}
 use Rattle.block_keys.specs.declared.key.Key.TheVariants.{Meta}
 use Rattle.block_meta.specs.MetaFields.{fields_of}
 use Rattle.block_loading.specs.LoadReading.{file_at, meta_at}
 use Rattle.block_loading.proofs.LoadSteps.{stops, stops_first, no_meta, meta_read, meta_stopped}
+use Rattle.block_loading.proofs.Asked.{file_asked, file_stopped}
 use Rattle.block_loading.proofs.reading.read_meta.Goals as goal
 
 pub returns-in_err-text-clause-read : goal.returns-in_err-text-clause-read
@@ -13,3 +15,12 @@ returns-in-Ok-clause-read g c = λ told h. meta_read told c.args.ulid c.in_ok-te
 
 pub returns-clause-read : goal.returns-clause-read
 returns-clause-read g c = λ told h. meta_stopped told c.args.ulid c.in_ok-text.text c.bytes.result.now (c.in_ok-text.ensures.read told h) c.bytes.ensures c.in-Err.refusal c.refused_meta.result c.in-Err.ensures.gives c.refused_meta.ensures
+
+pub returns-in_err-text-clause-asks : goal.returns-in_err-text-clause-asks
+returns-in_err-text-clause-asks g c = file_stopped g.F.Shelf.asked _ _ _ c.in_err-text.field-0.0 c.from_residual.result c.from_residual.ensures.1 c.in_err-text.ensures.asks
+
+pub returns-in-Ok-clause-asks : goal.returns-in-Ok-clause-asks
+returns-in-Ok-clause-asks g c = inl (file_asked g.F.Shelf.asked _ _ _ c.in_ok-text.text c.in_ok-text.ensures.asks)
+
+pub returns-clause-asks : goal.returns-clause-asks
+returns-clause-asks g c = inl (file_asked g.F.Shelf.asked _ _ _ c.in_ok-text.text c.in_ok-text.ensures.asks)

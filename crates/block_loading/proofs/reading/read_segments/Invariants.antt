@@ -1,5 +1,7 @@
 use Rattle.std.proofs.Common.{◌≡◌, ◌+◌, ◌-◌, Some, false, length}
 use Rattle.bucket_core.specs.Contents.{Contents}
+use Rattle.bucket_core.specs.Files.{Asks}
+use Rattle.block_loading.specs.Loading.{HasSegments, names_after}
 use Rattle.block_loading.specs.LoadReading.{KeepsShelf, segments_at}
 use Rattle.block_loading.proofs.SegmentLaws.{with_front}
 use Rattle.block_loading.proofs.reading.read_segments.Given as goal
@@ -9,5 +11,7 @@ abbrev pub invariant-loop-number : goal.invariant-loop-number
 invariant-loop-number g l = record {
   many : length l.segments ≡ l.number;
   read : (told : Contents) → g.F.Shelf.files l.fn.shelf ≡ Some told → segments_at told l.ulid 1 l.last ≡ with_front l.segments (segments_at told l.ulid (l.number + 1) (l.last - l.number));
+  asked : Asks g.F.Shelf.asked l.fn.shelf l.shelf (names_after l.ulid 2 l.number);
+  stood : (told : Contents) → g.F.Shelf.files l.fn.shelf ≡ Some told → HasSegments told l.ulid l.segments;
   kept : KeepsShelf g.F.Shelf.files g.F.Shelf.faults l.fn.shelf l.shelf false;
 }
