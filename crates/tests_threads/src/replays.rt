@@ -151,8 +151,9 @@ pub fn the_source_fails<R: Threads + Wait + Sync>(rt: &R, alloc: Global) -> bool
             ..NOTHING
         };
         match replayed(rt, alloc, &Open, ONE_BLOCK, failing) {
-            Some(ended) if ended.status == 3 && ended.text.as_slice() == b"script read fault\n" =>
-                {}
+            Some(ended)
+                if ended.status == 3
+                    && ended.text.as_slice() == b"script read fault\n".as_slice() => {}
             Some(ended) => return call > 1 && has_told(&ended, ONE_BLOCK_REPORT),
             None => return false,
         }
