@@ -3,3 +3,11 @@ pub trait Gate {
     /// The seat has done so many operations, and is about to ask for the next.
     fn before(&self, seat: u32, number: u64);
 }
+
+/// Holds nobody up.
+#[derive(Clone, Copy)]
+pub struct Open;
+
+impl Gate for Open {
+    fn before(&self, _seat: u32, _number: u64) {}
+}

@@ -7,7 +7,7 @@ mod job;
 mod phase;
 mod work;
 
-pub use gate::Gate;
+pub use gate::{Gate, Open};
 pub use hand::TurnHand;
 pub use job::Job;
 pub use phase::{PhaseEnd, run_phase};

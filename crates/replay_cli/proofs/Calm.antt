@@ -12,7 +12,6 @@ use Rattle.world_core.specs.declared.entry.Entry.{Entry}
 use Rattle.script_core.specs.Reading.{script_of}
 use Rattle.script_core.specs.declared.script_refusal.ScriptRefusal.{ScriptRefusal}
 use Rattle.script_core.specs.declared.script_refusal.ScriptRefusal.TheVariants.{TooLong}
-use Rattle.lifecycle_core.specs.InLine.{IsInLine}
 use Rattle.lifecycle_core.specs.Setting.{Setting, setting_of}
 use Rattle.lifecycle_core.proofs.journals.UnbrokenHonest.{unbroken_is_honest}
 use Rattle.replay_cli.specs.Statuses.{number_of}
@@ -88,11 +87,11 @@ calm_worked around saying (NotEmpty name) status calm rests (inl (unread, none, 
 calm_worked around saying (NotEmpty name) status calm rests (inr run) said = absurd (no_name_first around name calm.begins run.run.0 run.run.1)
 calm_worked around saying (Full lines) status calm rests (inl (unread, none, unasked)) said = absurd unread
 calm_worked around saying (Full lines) status calm rests (inr run) said =
-    let both = joined around.journal Rests (λ entries. IsInLine (setting_of run.script) entries × IsFullRun (setting_of run.script) lines.items entries) rests run.run.1 in
+    let both = joined around.journal Rests (λ entries. around.is_done (setting_of run.script) entries × IsFullRun (setting_of run.script) lines.items entries) rests run.run.1 in
     absurd ((both.1).0 (both.2).1.full)
 calm_worked around saying (Report lines as_asked) status calm rests (inl (unread, none, unasked)) said = absurd unread
 calm_worked around saying (Report lines as_asked) status calm rests (inr run) said =
-    let both = joined around.journal Rests (λ entries. IsInLine (setting_of run.script) entries × IsWholeRun (setting_of run.script) as_asked lines.items entries) rests run.run.1 in
+    let both = joined around.journal Rests (λ entries. around.is_done (setting_of run.script) entries × IsWholeRun (setting_of run.script) as_asked lines.items entries) rests run.run.1 in
     let at = both.1 in
     let well : as_asked ≡ true = calm_run (setting_of run.script) as_asked lines.items both.0 (both.2).1 at.1 at.2 in
     let good : IsGood (status_of (Report lines as_asked)) = subst (λ (b : Bool). IsGood (status_of (Report lines b))) (sym well) (inl refl) in

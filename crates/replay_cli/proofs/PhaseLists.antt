@@ -25,7 +25,8 @@ use Rattle.lifecycle_core.proofs.phases.RunsInLine.{AreWhole, by_none, by_parts,
 use Rattle.script_running.specs.Outcomes.{PhasesCame}
 use Rattle.replay_cli.specs.Progress.{HasRun, IsBrokenAt, IsDueAt, IsDueInLine, IsUnfinished, PhaseStep, PhasesTold, Reached, Shows, RunCame, TasksBroken, TasksDone, TasksTold, duties_at}
 use Rattle.script_running.specs.Outcomes.{is_as_asked}
-use Rattle.replay_cli.specs.Verdicts.{IsFullRun, IsWholeRun, WhereBegun, report_of, tasks_of}
+use Rattle.script_running.specs.Beside.{WhereBegun}
+use Rattle.replay_cli.specs.Verdicts.{IsFullRun, IsWholeRun, report_of, tasks_of}
 use Rattle.script_running.specs.declared.came.Broken.{Broken}
 use Rattle.script_running.specs.declared.came.Broken.TheVariants as broken
 use Rattle.script_running.specs.declared.outcome.Outcome.{Outcome}

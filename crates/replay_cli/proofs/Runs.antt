@@ -45,53 +45,53 @@ kept_by tick other journal same kept = subst (λ (t : ℕ). IsJournal t journal)
 run_by : (setting : Setting) (gateways : List Gateway) (journal : List Entry) (report : Lines) (r : Result (Unit {0}) Broken) (v : Verdict) → IsLawfulScript setting.script → IsJournal setting.script.rules.tick.ms journal
     → (r ≡ Err broken.Full → IsFull journal) → RunCame setting gateways journal report.as_asked report.text.items r
     → (r ≡ Ok tt → v ≡ verdict.Report report.text report.as_asked) → (r ≡ Err broken.Full → v ≡ verdict.Full report.text) → (r ≡ Err broken.NoMemory → v ≡ verdict.NoMemory)
-    → IsRun setting (Some nothing) ⊥ (Some journal) v
+    → IsRun IsInLine setting (Some nothing) ⊥ (Some journal) v
 run_by setting gateways journal report (Ok done) v lawful kept full came whole filled short =
-    subst (IsRun setting (Some nothing) ⊥ (Some journal)) (sym (whole refl)) (refl, (run_in_line setting gateways journal report.as_asked report.text.items (Ok done) kept came, whole_run setting gateways journal report.as_asked report.text.items lawful kept came))
+    subst (IsRun IsInLine setting (Some nothing) ⊥ (Some journal)) (sym (whole refl)) (refl, (run_in_line setting gateways journal report.as_asked report.text.items (Ok done) kept came, whole_run setting gateways journal report.as_asked report.text.items lawful kept came))
 run_by setting gateways journal report (Err broken.Full) v lawful kept full came whole filled short =
-    subst (IsRun setting (Some nothing) ⊥ (Some journal)) (sym (filled refl)) (refl, (run_in_line setting gateways journal report.as_asked report.text.items (Err broken.Full) kept came, full_run setting came.0 journal report.as_asked report.text.items lawful kept (full refl) came.1 came.2))
+    subst (IsRun IsInLine setting (Some nothing) ⊥ (Some journal)) (sym (filled refl)) (refl, (run_in_line setting gateways journal report.as_asked report.text.items (Err broken.Full) kept came, full_run setting came.0 journal report.as_asked report.text.items lawful kept (full refl) came.1 came.2))
 run_by setting gateways journal report (Err broken.NoMemory) v lawful kept full came whole filled short =
-    subst (IsRun setting (Some nothing) ⊥ (Some journal)) (sym (short refl)) (run_in_line setting gateways journal report.as_asked report.text.items (Err broken.NoMemory) kept came, guaranteed_run setting journal lawful kept came)
+    subst (IsRun IsInLine setting (Some nothing) ⊥ (Some journal)) (sym (short refl)) (run_in_line setting gateways journal report.as_asked report.text.items (Err broken.NoMemory) kept came, guaranteed_run setting journal lawful kept came)
 
 pub run_told : (setting : Setting) (gateways : List Gateway) (journal : List Entry) (report : Lines) (r : Result (Unit {0}) Broken) (v : Verdict) (handed : Option (List Entry)) → handed ≡ Some journal → IsLawfulScript setting.script → IsJournal setting.script.rules.tick.ms journal
     → (r ≡ Err broken.Full → IsFull journal) → RunCame setting gateways journal report.as_asked report.text.items r
     → (r ≡ Ok tt → v ≡ verdict.Report report.text report.as_asked) → (r ≡ Err broken.Full → v ≡ verdict.Full report.text) → (r ≡ Err broken.NoMemory → v ≡ verdict.NoMemory)
-    → IsRun setting (Some nothing) ⊥ handed v
+    → IsRun IsInLine setting (Some nothing) ⊥ handed v
 run_told setting gateways journal report r v handed is lawful kept full came whole filled short =
-    subst (λ (h : Option (List Entry)). IsRun setting (Some nothing) ⊥ h v) (sym is) (run_by setting gateways journal report r v lawful kept full came whole filled short)
+    subst (λ (h : Option (List Entry)). IsRun IsInLine setting (Some nothing) ⊥ h v) (sym is) (run_by setting gateways journal report r v lawful kept full came whole filled short)
 
 -- nothing was done, for want of memory
-pub none_told : (setting : Setting) (journal : List Entry) (v : Verdict) (handed : Option (List Entry)) → handed ≡ Some journal → journal ≡ [] → v ≡ verdict.NoMemory → IsRun setting (Some nothing) ⊥ handed v
+pub none_told : (setting : Setting) (journal : List Entry) (v : Verdict) (handed : Option (List Entry)) → handed ≡ Some journal → journal ≡ [] → v ≡ verdict.NoMemory → IsRun IsInLine setting (Some nothing) ⊥ handed v
 none_told setting journal v handed is none short =
     let Holds : List Entry → Type 0 = λ entries. IsInLine setting entries × IsGuaranteedJournal setting entries in
-    subst (IsRun setting (Some nothing) ⊥ handed) (sym short) (subst (λ (h : Option (List Entry)). IfSome h Holds) (sym is) (subst Holds (sym none) (none_in_line setting, none_guaranteed setting)))
+    subst (IsRun IsInLine setting (Some nothing) ⊥ handed) (sym short) (subst (λ (h : Option (List Entry)). IfSome h Holds) (sym is) (subst Holds (sym none) (none_in_line setting, none_guaranteed setting)))
 
 -- a bucket that was not opened
-opened_by : (setting : Setting) (told : Option Contents) (failed : Type 0) (refusal : OpenRefusal) (v : Verdict) → (refusal ≡ unopened.Failed → failed)
+opened_by : (is_done : Setting → List Entry → Type 0) (setting : Setting) → is_done setting [] → (told : Option Contents) (failed : Type 0) (refusal : OpenRefusal) (v : Verdict) → (refusal ≡ unopened.Failed → failed)
     → ((name : List ℕ) → refusal ≡ unopened.NotEmpty name → IfSome told (λ c. IsPage c [] [] 1 (name ∷ [])))
     → (refusal ≡ unopened.Failed → v ≡ verdict.SiteFault) → ((name : List ℕ) → refusal ≡ unopened.NotEmpty name → v ≡ verdict.NotEmpty name) → (refusal ≡ unopened.NoMemory → v ≡ verdict.NoMemory)
-    → IsRun setting told failed (Some []) v
-opened_by setting told failed unopened.Failed v fails stands one two three = subst (IsRun setting told failed (Some [])) (sym (one refl)) (fails refl, refl)
-opened_by setting told failed (unopened.NotEmpty name) v fails stands one two three = subst (IsRun setting told failed (Some [])) (sym (two name refl)) (stands name refl, refl)
-opened_by setting told failed unopened.NoMemory v fails stands one two three = subst (IsRun setting told failed (Some [])) (sym (three refl)) (none_in_line setting, none_guaranteed setting)
+    → IsRun is_done setting told failed (Some []) v
+opened_by is_done setting none_done told failed unopened.Failed v fails stands one two three = subst (IsRun is_done setting told failed (Some [])) (sym (one refl)) (fails refl, refl)
+opened_by is_done setting none_done told failed (unopened.NotEmpty name) v fails stands one two three = subst (IsRun is_done setting told failed (Some [])) (sym (two name refl)) (stands name refl, refl)
+opened_by is_done setting none_done told failed unopened.NoMemory v fails stands one two three = subst (IsRun is_done setting told failed (Some [])) (sym (three refl)) (none_done, none_guaranteed setting)
 
-pub opened_told : {B : Type 0} (setting : Setting) (told : Option Contents) (faults : B → ℕ) (bucket store : B) (refusal : OpenRefusal) (v : Verdict) (empty : List Entry) (handed : Option (List Entry)) (back : Option B)
+pub opened_told : {B : Type 0} (is_done : Setting → List Entry → Type 0) (setting : Setting) → is_done setting [] → (told : Option Contents) (faults : B → ℕ) (bucket store : B) (refusal : OpenRefusal) (v : Verdict) (empty : List Entry) (handed : Option (List Entry)) (back : Option B)
     → handed ≡ Some empty → empty ≡ [] → back ≡ Some store → (refusal ≡ unopened.Failed → Rose (faults bucket) (faults store))
     → ((name : List ℕ) → refusal ≡ unopened.NotEmpty name → IfSome told (λ c. IsPage c [] [] 1 (name ∷ [])))
     → (refusal ≡ unopened.Failed → v ≡ verdict.SiteFault) → ((name : List ℕ) → refusal ≡ unopened.NotEmpty name → v ≡ verdict.NotEmpty name) → (refusal ≡ unopened.NoMemory → v ≡ verdict.NoMemory)
-    → IsRun setting told (IsSomeAnd back (λ b. Rose (faults bucket) (faults b))) handed v
-opened_told {B} setting told faults bucket store refusal v empty handed back is none same fails stands one two three =
-    subst (λ (x : Option B). IsRun setting told (IsSomeAnd x (λ b. Rose (faults bucket) (faults b))) handed v) (sym same)
-    (subst (λ (h : Option (List Entry)). IsRun setting told (Rose (faults bucket) (faults store)) h v) (sym (is ∙ ap (λ (l : List Entry). Some l) none))
-    (opened_by setting told (Rose (faults bucket) (faults store)) refusal v fails stands one two three))
+    → IsRun is_done setting told (IsSomeAnd back (λ b. Rose (faults bucket) (faults b))) handed v
+opened_told {B} is_done setting none_done told faults bucket store refusal v empty handed back is none same fails stands one two three =
+    subst (λ (x : Option B). IsRun is_done setting told (IsSomeAnd x (λ b. Rose (faults bucket) (faults b))) handed v) (sym same)
+    (subst (λ (h : Option (List Entry)). IsRun is_done setting told (Rose (faults bucket) (faults store)) h v) (sym (is ∙ ap (λ (l : List Entry). Some l) none))
+    (opened_by is_done setting none_done told (Rose (faults bucket) (faults store)) refusal v fails stands one two three))
 
 -- a call whose shelf was not opened
-unshelved_by : (setting : Setting) (told : Option Contents) (refusal : SiteRefusal) (v : Verdict) → (refusal ≡ site.Failed → v ≡ verdict.SiteFault) → (refusal ≡ site.NoMemory → v ≡ verdict.NoMemory)
-    → IsRun setting told (refusal ≡ site.Failed) (Some []) v
-unshelved_by setting told site.Failed v failed short = subst (IsRun setting told (site.Failed ≡ site.Failed) (Some [])) (sym (failed refl)) (refl, refl)
-unshelved_by setting told site.NoMemory v failed short = subst (IsRun setting told (site.NoMemory ≡ site.Failed) (Some [])) (sym (short refl)) (none_in_line setting, none_guaranteed setting)
+unshelved_by : (is_done : Setting → List Entry → Type 0) (setting : Setting) → is_done setting [] → (told : Option Contents) (refusal : SiteRefusal) (v : Verdict) → (refusal ≡ site.Failed → v ≡ verdict.SiteFault) → (refusal ≡ site.NoMemory → v ≡ verdict.NoMemory)
+    → IsRun is_done setting told (refusal ≡ site.Failed) (Some []) v
+unshelved_by is_done setting none_done told site.Failed v failed short = subst (IsRun is_done setting told (site.Failed ≡ site.Failed) (Some [])) (sym (failed refl)) (refl, refl)
+unshelved_by is_done setting none_done told site.NoMemory v failed short = subst (IsRun is_done setting told (site.NoMemory ≡ site.Failed) (Some [])) (sym (short refl)) (none_done, none_guaranteed setting)
 
-pub unshelved_told : (setting : Setting) (told : Option Contents) (refusal : SiteRefusal) (v : Verdict) (empty : List Entry) (handed : Option (List Entry)) → handed ≡ Some empty → empty ≡ []
-    → (refusal ≡ site.Failed → v ≡ verdict.SiteFault) → (refusal ≡ site.NoMemory → v ≡ verdict.NoMemory) → IsRun setting told (refusal ≡ site.Failed) handed v
-unshelved_told setting told refusal v empty handed is none failed short =
-    subst (λ (h : Option (List Entry)). IsRun setting told (refusal ≡ site.Failed) h v) (sym (is ∙ ap (λ (l : List Entry). Some l) none)) (unshelved_by setting told refusal v failed short)
+pub unshelved_told : (is_done : Setting → List Entry → Type 0) (setting : Setting) → is_done setting [] → (told : Option Contents) (refusal : SiteRefusal) (v : Verdict) (empty : List Entry) (handed : Option (List Entry)) → handed ≡ Some empty → empty ≡ []
+    → (refusal ≡ site.Failed → v ≡ verdict.SiteFault) → (refusal ≡ site.NoMemory → v ≡ verdict.NoMemory) → IsRun is_done setting told (refusal ≡ site.Failed) handed v
+unshelved_told is_done setting none_done told refusal v empty handed is none failed short =
+    subst (λ (h : Option (List Entry)). IsRun is_done setting told (refusal ≡ site.Failed) h v) (sym (is ∙ ap (λ (l : List Entry). Some l) none)) (unshelved_by is_done setting none_done told refusal v failed short)

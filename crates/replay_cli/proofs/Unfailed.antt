@@ -79,12 +79,16 @@ pub unfailed_none : {B : Type 0} (faults : B → ℕ) (before : ℕ) (journal : 
 unfailed_none faults before journal back none = subst (λ (j : Option (List Entry)). IsUnfailed faults before j back) (sym none) tt
 
 -- a world that was worked on from its opening on
-pub unfailed_world : {B : Type 0} (faults : B → ℕ) (quiet : B → Type 0) (old new : WorldView B) (journal : Option (List Entry)) (back : Option B) (entries : List Entry) (store : B)
-    → old.journal ≡ [] → WorldGoesOn faults quiet old new → entries ≡ new.journal → store ≡ new.bucket → journal ≡ Some entries → back ≡ Some store → IsUnfailed faults (faults old.bucket) journal back
-unfailed_world {B} faults quiet old new journal back entries store fresh on all its kept handed =
+pub unfailed_run : {B : Type 0} (faults : B → ℕ) (quiet : B → Type 0) (old new : WorldView B) → old.journal ≡ [] → WorldGoesOn faults quiet old new → failed_count new.journal ≡ 0 → faults new.bucket ≡ faults old.bucket
+unfailed_run faults quiet old new fresh on none = on.only (none ∙ sym (ap failed_count fresh))
+
+-- the parts of a world that was worked on
+pub unfailed_world : {B : Type 0} (faults : B → ℕ) (old new : WorldView B) (journal : Option (List Entry)) (back : Option B) (entries : List Entry) (store : B)
+    → (failed_count new.journal ≡ 0 → faults new.bucket ≡ faults old.bucket) → entries ≡ new.journal → store ≡ new.bucket → journal ≡ Some entries → back ≡ Some store → IsUnfailed faults (faults old.bucket) journal back
+unfailed_world {B} faults old new journal back entries store unfailed all its kept handed =
     subst (λ (j : Option (List Entry)). IsUnfailed faults (faults old.bucket) j back) (sym (kept ∙ ap (λ (l : List Entry). Some l) all))
     (subst (λ (b : Option B). IsUnfailed faults (faults old.bucket) (Some new.journal) b) (sym (handed ∙ ap (λ (b : B). Some b) its))
-    (λ none. on.only (none ∙ sym (ap failed_count fresh))))
+    unfailed)
 
 -- ---- worlds that go on
 

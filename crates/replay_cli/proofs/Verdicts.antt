@@ -1,5 +1,5 @@
 -- Verdicts and their causes, from a run outwards to the whole call.
-use Rattle.std.proofs.Common.{◌≡◌, ◌⊎◌, inl, inr, ℕ, ◌<◌, ◌≤◌, List, [], ◌∷◌, length, refl, sym, subst, arith}
+use Rattle.std.proofs.Common.{◌≡◌, ◌⊎◌, inl, inr, ℕ, ◌<◌, ◌≤◌, List, [], ◌∷◌, length, refl, sym, ◌∙◌, subst, arith}
 use Rattle.std.specs.Prelude.{Option, Some, None, IfSome, IsSome, IsSomeAnd, Ok, Err}
 use Rattle.std.proofs.lemmas.Bool.{lt-ltb}
 use Rattle.bucket_core.specs.Causes.{Rose}
@@ -41,7 +41,7 @@ before_opening site.Failed v P failed short = subst (λ (w : Verdict). BehindOpe
 before_opening site.NoMemory v P failed short = subst (λ (w : Verdict). BehindOpening w P) (sym (short refl)) tt
 
 pub worked : (around : Around) (script : Script) (v : Verdict) → IsScriptRead around.text around.left script → IsLawfulScript script
-    → BehindOpening v around.opened → IsRun (setting_of script) around.before around.site_failed around.journal v → IsWorked around v
+    → BehindOpening v around.opened → IsRun around.is_done (setting_of script) around.before around.site_failed around.journal v → IsWorked around v
 worked around script v read lawful opened run = inr (record { script = script; read = read; lawful = lawful; opened = opened; run = run })
 
 pub unread : (around : Around) (v : Verdict) → IsUnread around.text around.left around.source_failed v → around.journal ≡ None → around.unasked → IsWorked around v
@@ -52,43 +52,49 @@ pub if_told : (P : Contents → Type 0) (before told : Option Contents) → IfSo
 if_told P None told same holds = tt
 if_told P (Some c) told same holds = subst (λ o. IfSome o P) same holds
 
-pub run_told : (setting : Setting) (before told : Option Contents) (failed other : Type 0) (journal : Option (List Entry)) (v : Verdict)
-    → IfSome before (λ c. told ≡ Some c) → (failed → other) → IsRun setting told failed journal v → IsRun setting before other journal v
-run_told setting before told failed other journal WordsRefused same weaker run = absurd run
-run_told setting before told failed other journal SourceFault same weaker run = absurd run
-run_told setting before told failed other journal (ScriptRefused refusal) same weaker run = absurd run
-run_told setting before told failed other journal SiteFault same weaker run = (weaker run.0, run.1)
-run_told setting before told failed other journal (NotEmpty name) same weaker run = (if_told (λ c. IsPage c [] [] 1 (name ∷ [])) before told same run.0, run.1)
-run_told setting before told failed other journal (Full lines) same weaker run = (if_told HoldsNothing before told same run.0, run.1)
-run_told setting before told failed other journal (Report lines as_asked) same weaker run = (if_told HoldsNothing before told same run.0, run.1)
-run_told setting before told failed other journal (Checked block outcome) same weaker run = absurd run
-run_told setting before told failed other journal NoMemory same weaker run = run
+pub run_told : (is_done : Setting → List Entry → Type 0) (setting : Setting) (before told : Option Contents) (failed other : Type 0) (journal : Option (List Entry)) (v : Verdict)
+    → IfSome before (λ c. told ≡ Some c) → (failed → other) → IsRun is_done setting told failed journal v → IsRun is_done setting before other journal v
+run_told is_done setting before told failed other journal WordsRefused same weaker run = absurd run
+run_told is_done setting before told failed other journal SourceFault same weaker run = absurd run
+run_told is_done setting before told failed other journal (ScriptRefused refusal) same weaker run = absurd run
+run_told is_done setting before told failed other journal SiteFault same weaker run = (weaker run.0, run.1)
+run_told is_done setting before told failed other journal (NotEmpty name) same weaker run = (if_told (λ c. IsPage c [] [] 1 (name ∷ [])) before told same run.0, run.1)
+run_told is_done setting before told failed other journal (Full lines) same weaker run = (if_told HoldsNothing before told same run.0, run.1)
+run_told is_done setting before told failed other journal (Report lines as_asked) same weaker run = (if_told HoldsNothing before told same run.0, run.1)
+run_told is_done setting before told failed other journal (Checked block outcome) same weaker run = absurd run
+run_told is_done setting before told failed other journal NoMemory same weaker run = run
 
 as_told : (told : Option Contents) → IfSome told (λ c. told ≡ Some c)
 as_told None = tt
 as_told (Some c) = refl
 
 -- a run's cause with a weaker one for a failure of the site
-pub run_weaker : (setting : Setting) (told : Option Contents) (failed other : Type 0) (journal : Option (List Entry)) (v : Verdict)
-    → (failed → other) → IsRun setting told failed journal v → IsRun setting told other journal v
-run_weaker setting told failed other journal v weaker run = run_told setting told told failed other journal v (as_told told) weaker run
+pub run_weaker : (is_done : Setting → List Entry → Type 0) (setting : Setting) (told : Option Contents) (failed other : Type 0) (journal : Option (List Entry)) (v : Verdict)
+    → (failed → other) → IsRun is_done setting told failed journal v → IsRun is_done setting told other journal v
+run_weaker is_done setting told failed other journal v weaker run = run_told is_done setting told told failed other journal v (as_told told) weaker run
 
 if_nothing : (P : Contents → Type 0) (told : Option Contents) → IfSome told (λ c. c ≡ nothing) → P nothing → IfSome told P
 if_nothing P None is holds = tt
 if_nothing P (Some c) is holds = subst P (sym is) holds
 
 -- a run over a bucket that holds nothing
-pub run_empty : (setting : Setting) (told : Option Contents) (failed : Type 0) (journal : Option (List Entry)) (v : Verdict)
-    → IfSome told (λ c. c ≡ nothing) → IsRun setting (Some nothing) ⊥ journal v → IsRun setting told failed journal v
-run_empty setting told failed journal WordsRefused is run = absurd run
-run_empty setting told failed journal SourceFault is run = absurd run
-run_empty setting told failed journal (ScriptRefused refusal) is run = absurd run
-run_empty setting told failed journal SiteFault is run = absurd run.0
-run_empty setting told failed journal (NotEmpty name) is run = (if_nothing (λ c. IsPage c [] [] 1 (name ∷ [])) told is run.0, run.1)
-run_empty setting told failed journal (Full lines) is run = (is, run.1)
-run_empty setting told failed journal (Report lines as_asked) is run = (is, run.1)
-run_empty setting told failed journal (Checked block outcome) is run = absurd run
-run_empty setting told failed journal NoMemory is run = run
+pub run_empty : (is_done : Setting → List Entry → Type 0) (setting : Setting) (told : Option Contents) (failed : Type 0) (journal : Option (List Entry)) (v : Verdict)
+    → IfSome told (λ c. c ≡ nothing) → IsRun is_done setting (Some nothing) ⊥ journal v → IsRun is_done setting told failed journal v
+run_empty is_done setting told failed journal WordsRefused is run = absurd run
+run_empty is_done setting told failed journal SourceFault is run = absurd run
+run_empty is_done setting told failed journal (ScriptRefused refusal) is run = absurd run
+run_empty is_done setting told failed journal SiteFault is run = absurd run.0
+run_empty is_done setting told failed journal (NotEmpty name) is run = (if_nothing (λ c. IsPage c [] [] 1 (name ∷ [])) told is run.0, run.1)
+run_empty is_done setting told failed journal (Full lines) is run = (is, run.1)
+run_empty is_done setting told failed journal (Report lines as_asked) is run = (is, run.1)
+run_empty is_done setting told failed journal (Checked block outcome) is run = absurd run
+run_empty is_done setting told failed journal NoMemory is run = run
+
+-- a run that is handed on
+pub run_handed : (is_done : Setting → List Entry → Type 0) (setting : Setting) (entries : List Entry) (journal handed : Option (List Entry)) (v verdict : Verdict)
+    → journal ≡ Some entries → handed ≡ journal → verdict ≡ v → IsRun is_done setting (Some nothing) ⊥ (Some entries) v → IsRun is_done setting (Some nothing) ⊥ handed verdict
+run_handed is_done setting entries journal handed v verdict is same told run =
+    subst (λ (j : Option (List Entry)). IsRun is_done setting (Some nothing) ⊥ j verdict) (sym (same ∙ is)) (subst (IsRun is_done setting (Some nothing) ⊥ (Some entries)) (sym told) run)
 
 -- a count that was 0 and rose is above 0
 pub above_none : {B : Type 0} (faults : B → ℕ) (before : ℕ) (store : Option B) → before ≡ 0 → IsSomeAnd store (λ b. Rose before (faults b)) → IsSomeAnd store (λ b. 0 < faults b)

@@ -1,5 +1,6 @@
 pub mod Checks
 pub mod CheckVerdicts
+pub mod InPhases
 pub mod Kept
 pub mod Output
 pub mod Progress

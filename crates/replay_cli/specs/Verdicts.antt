@@ -18,13 +18,13 @@ use Rattle.script_workers.specs.declared.task.Task.{Task}
 use Rattle.lifecycle_core.specs.Breaches.{IsUnbroken}
 use Rattle.lifecycle_core.specs.Guarantees.{IsGuaranteed, IsGuaranteedJournal}
 use Rattle.lifecycle_core.specs.Holdings.{none_held}
-use Rattle.lifecycle_core.specs.InLine.{IsInLine}
-use Rattle.lifecycle_core.specs.Phases.{IsFinished, IsRunOf, by_workers}
+use Rattle.lifecycle_core.specs.Phases.{IsFinished, IsInTurn, IsRunOf, by_workers}
 use Rattle.lifecycle_core.specs.Setting.{Setting, setting_of}
 use Rattle.lifecycle_core.specs.Tasks.{End}
 use Rattle.lifecycle_core.specs.Ways.{AreFinished, AreUnfinished, IsOperationDue}
 use Rattle.replay_cli.specs.Checks.{check_line, check_status, files_of, IsCheckOf}
 use Rattle.replay_cli.specs.Kept.{HoldsNothing, IsNotAsked, IsOpened, IsUnfailed, told_of}
+use Rattle.script_running.specs.Beside.{WhereBegun}
 use Rattle.script_running.specs.Outcomes.{PhasesCame}
 use Rattle.replay_cli.specs.Output.{IsWrittenInPart}
 use Rattle.replay_cli.specs.Reports.{activity_text, newline}
@@ -89,11 +89,6 @@ pub record IsWholeRun (setting : Setting) (as_asked : Bool) (text : List ℕ) (j
   pub report : IsReport setting.script setting.script.phases ends as_asked text
   pub guaranteed : IsGuaranteed setting journal ends
 
--- what holds where a phase was begun after those that are told
-abbrev pub WhereBegun : List (List (List End)) → Type 0 → Type 0
-WhereBegun [] P = Unit {0}
-WhereBegun (own ∷ ends) P = P
-
 -- The journal is that of a run which the full journal broke off: some first phases are finished, and the text is their
 -- report; of the phases left, none was begun, or the first one alone, and an operation of it is due.
 pub record IsFullRun (setting : Setting) (text : List ℕ) (journal : List Entry) : Type 0 where
@@ -144,6 +139,8 @@ pub record Around : Type 1 where
   pub journal : Option (List Entry)
   -- nothing failed, but what the journal shows: no count of failures of the source, the site, the bucket or the shelf has risen
   pub unfailed : Type 0
+  -- what holds of the journal of a run, by the way in which the call does phases
+  pub is_done : Setting → List Entry → Type 0
 
 -- an opening failed, or a bucket that was handed out has failed
 abbrev pub SiteFailed : {S B : Type 0} → (S → ℕ) → S → S → (B → ℕ) → Option B → Type 0
@@ -151,10 +148,10 @@ SiteFailed site_faults old new faults store = Rose (site_faults old) (site_fault
 
 -- The world around a call that took a source from `script` to `read` and a site from `site` to `asked`, and handed back a bucket
 -- and a journal, or neither, and a shelf or none. The words name the bucket, the shelf and the block, each where it is asked for.
-abbrev pub around_call : {R S B F : Type 0} → (R → Option (List ℕ)) → (R → ℕ) → R → R
+abbrev pub around_call : {R S B F : Type 0} → (Setting → List Entry → Type 0) → (R → Option (List ℕ)) → (R → ℕ) → R → R
     → (S → ℕ) → (S → List ℕ → Option Contents) → (S → ℕ) → (S → List ℕ → Option Contents) → (S → ℕ) → Option (List ℕ) → Option (List ℕ) → Option ℕ → S → S
     → (B → ℕ) → (F → ℕ) → Option B → Option F → Option (List Entry) → Around
-around_call left source_faults script read buckets next_bucket shelves next_shelf site_faults bucket_word shelf_word block_word site asked store_faults shelf_faults store shelf journal = record {
+around_call is_done left source_faults script read buckets next_bucket shelves next_shelf site_faults bucket_word shelf_word block_word site asked store_faults shelf_faults store shelf journal = record {
   run = IsSome bucket_word;
   block = block_word;
   text = left script;
@@ -170,18 +167,19 @@ around_call left source_faults script read buckets next_bucket shelves next_shel
   unfailed =
       (source_faults read ≡ source_faults script) × (site_faults asked ≡ site_faults site)
       × IsUnfailed store_faults 0 journal store × IfSome shelf (λ s. shelf_faults s ≡ 0);
+  is_done = is_done;
 }
 
 -- Why a script's run comes to a verdict: by what the bucket held before, where that is told; by whether something could not
 -- be opened, or the bucket not listed; and by the journal that is handed back. Whatever it comes to, the journal is lawful
--- for the script, and its tasks were done in the order of their lines.
-abbrev pub IsRun : Setting → Option Contents → Type 0 → Option (List Entry) → Verdict → Type 0
-IsRun setting before site_failed journal SiteFault = site_failed × IfSome journal (λ entries. entries ≡ [])
-IsRun setting before site_failed journal (NotEmpty name) = IfSome before (λ contents. IsPage contents [] [] 1 (name ∷ [])) × IsSomeAnd journal (λ entries. entries ≡ [])
-IsRun setting before site_failed journal (Full lines) = IfSome before HoldsNothing × IsSomeAnd journal (λ entries. IsInLine setting entries × IsFullRun setting lines.items entries)
-IsRun setting before site_failed journal (Report lines as_asked) = IfSome before HoldsNothing × IsSomeAnd journal (λ entries. IsInLine setting entries × IsWholeRun setting as_asked lines.items entries)
-IsRun setting before site_failed journal NoMemory = IfSome journal (λ entries. IsInLine setting entries × IsGuaranteedJournal setting entries)
-IsRun setting before site_failed journal other = ⊥
+-- for the script, and it was done in the way that the call promises.
+abbrev pub IsRun : (Setting → List Entry → Type 0) → Setting → Option Contents → Type 0 → Option (List Entry) → Verdict → Type 0
+IsRun is_done setting before site_failed journal SiteFault = site_failed × IfSome journal (λ entries. entries ≡ [])
+IsRun is_done setting before site_failed journal (NotEmpty name) = IfSome before (λ contents. IsPage contents [] [] 1 (name ∷ [])) × IsSomeAnd journal (λ entries. entries ≡ [])
+IsRun is_done setting before site_failed journal (Full lines) = IfSome before HoldsNothing × IsSomeAnd journal (λ entries. is_done setting entries × IsFullRun setting lines.items entries)
+IsRun is_done setting before site_failed journal (Report lines as_asked) = IfSome before HoldsNothing × IsSomeAnd journal (λ entries. is_done setting entries × IsWholeRun setting as_asked lines.items entries)
+IsRun is_done setting before site_failed journal NoMemory = IfSome journal (λ entries. is_done setting entries × IsGuaranteedJournal setting entries)
+IsRun is_done setting before site_failed journal other = ⊥
 
 -- what holds where a verdict comes behind all openings
 abbrev pub BehindOpening : Verdict → Type 0 → Type 0
@@ -209,7 +207,7 @@ pub record IsRunOfText (around : Around) (verdict : Verdict) : Type 0 where
   pub read : IsScriptRead around.text around.left script
   pub lawful : IsLawfulScript script
   pub opened : BehindOpening verdict around.opened
-  pub run : IsRun (setting_of script) around.before around.site_failed around.journal verdict
+  pub run : IsRun around.is_done (setting_of script) around.before around.site_failed around.journal verdict
 
 -- why no script was read: by the source, or by its text, which was read to its end unless it was too long
 abbrev pub IsUnread : Option (List ℕ) → Option (List ℕ) → Type 0 → Verdict → Type 0

@@ -6,10 +6,18 @@ use Rattle.std.specs.String.{string_bytes}
 use Rattle.std.specs.declared.alloc.Global.{Global}
 use Rattle.ulid_core.specs.UlidText.{ulid_of}
 
--- the bucket of a run, which the words `serial BUCKET SHELF` name
+-- the bucket of a run, which words of this name name: `NAME BUCKET SHELF`
+abbrev pub bucket_in : List ℕ → List (String Global) → Option (List ℕ)
+bucket_in name (call ∷ bucket ∷ shelf ∷ []) = if bytes_eq (string_bytes call) name then Some (string_bytes bucket) else None
+bucket_in name other = None
+
+-- the bucket of the words `serial BUCKET SHELF`
 abbrev pub bucket_word : List (String Global) → Option (List ℕ)
-bucket_word (call ∷ bucket ∷ shelf ∷ []) = if bytes_eq (string_bytes call) (codes "serial") then Some (string_bytes bucket) else None
-bucket_word other = None
+bucket_word words = bucket_in (codes "serial") words
+
+-- the bucket of the words `replay BUCKET SHELF`
+abbrev pub replay_word : List (String Global) → Option (List ℕ)
+replay_word words = bucket_in (codes "replay") words
 
 -- the block to be checked, which the words `check SHELF ULID` name
 abbrev pub block_word : List (String Global) → Option ℕ
@@ -33,3 +41,7 @@ block_shelf other = None
 -- the shelf of a run, or of a block that is to be checked, where the words name one
 abbrev pub shelf_word : List (String Global) → Option (List ℕ)
 shelf_word words = if is_some (bucket_word words) then run_shelf words else (if is_some (block_word words) then block_shelf words else None)
+
+-- the shelf of the words `replay BUCKET SHELF`
+abbrev pub replay_shelf : List (String Global) → Option (List ℕ)
+replay_shelf words = if is_some (replay_word words) then run_shelf words else None

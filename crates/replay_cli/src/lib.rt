@@ -10,13 +10,16 @@ mod laws;
 mod opening;
 mod output;
 mod phases;
+mod replay;
 mod report;
 mod run;
+mod runner;
 mod seats;
 mod standard;
 mod status;
 mod status_number;
 mod tasks;
+mod telling;
 mod tool;
 mod verdict;
 mod words;
@@ -26,6 +29,7 @@ pub use input::read_all;
 pub use input_refusal::InputRefusal;
 pub use laws::{calm_runs_end_as_asked, told_answers_are_sound, told_misses_are_explained};
 pub use output::{SinkFault, write_all};
+pub use replay::run_replay;
 pub use run::Run;
 pub use script_running::{
     NoAnswer, Outcome, OutcomeList, QueryOutcome, SyncOutcome, UploadOutcome,

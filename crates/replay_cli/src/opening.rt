@@ -1,8 +1,6 @@
 ghost use Rattle.std.specs.Prelude.{◌≡◌, ◌≢◌, ◌≤◌, [], Some, IfOk, IfErr, IfSome, IsSome, MatchResult, is_some};
 ghost use Rattle.bucket_core.specs.Causes.{Rose};
-ghost use Rattle.lifecycle_core.specs.Setting.{Setting};
 ghost use Rattle.replay_cli.specs.Kept.{IsHandedBack, IsNotAsked, IsShelfOf, IsUnfailed};
-ghost use Rattle.replay_cli.specs.Verdicts.{IsRun};
 ghost use Rattle.replay_cli.specs.Words.{named_by};
 
 use crate::Verdict;
@@ -53,8 +51,6 @@ pub(crate) fn without_shelf<B: Bucket>(
     refusal: SiteRefusal,
     bucket: B,
 ) -> Conclusion<B>
-    ensures cause { (setting : Setting) → IsRun setting (B.contents bucket)
-        (refusal ≡ SiteRefusal.Failed) result.journal result.verdict }
     ensures failed { refusal ≡ SiteRefusal.Failed → result.verdict ≡ Verdict.SiteFault }
     ensures none { refusal ≡ SiteRefusal.NoMemory → result.verdict ≡ Verdict.NoMemory }
     ensures store { result.store ≡ Some bucket }

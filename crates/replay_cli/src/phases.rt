@@ -64,10 +64,7 @@ impl Progress {
         Ok(Progress {
             gateways,
             workers: 0,
-            report: Lines {
-                text: Vec::new(alloc),
-                as_asked: true,
-            },
+            report: Lines::new(alloc),
         })
     }
 
@@ -171,6 +168,16 @@ fn begin_phase<B: Bucket>(phase: &Phase, world: World<B>) -> (Result<(), Broken>
 }
 
 impl Lines {
+    /// Nothing was told yet.
+    pub(crate) fn new(alloc: Global) -> Lines
+        ensures { (result.text.items ≡ []) × (result.as_asked ≡ true) }
+    {
+        Lines {
+            text: Vec::new(alloc),
+            as_asked: true,
+        }
+    }
+
     /// Adds the lines of a phase that is finished.
     fn take(&mut self, more: Lines) -> Result<(), Broken>
         ensures text { OnOk result (self.new.text.items ≡ self.old.text.items ++ more.text.items) }
@@ -187,7 +194,12 @@ impl Lines {
     }
 
     /// Adds the lines of one activity.
-    fn tell(&mut self, script: &Script, task: &Task, outcome: &Outcome) -> Result<(), NoMemory>
+    pub(crate) fn tell(
+        &mut self,
+        script: &Script,
+        task: &Task,
+        outcome: &Outcome,
+    ) -> Result<(), NoMemory>
         ensures text { OnOk result
             (self.new.text.items
             ≡ self.old.text.items ++ activity_text script.now task.now.work outcome.now) }
@@ -226,10 +238,7 @@ fn run_tasks<B: Bucket>(
     ensures ready { length progress.new.gateways.items ≡ length script.now.gateways }
 {
     let mut world = world;
-    let mut lines = Lines {
-        text: Vec::new(alloc),
-        as_asked: true,
-    };
+    let mut lines = Lines::new(alloc);
     for place in 0..tasks.len() {
         let (came, next) = next_task(
             alloc, script, tasks, place, seats, progress, &mut lines, world,

@@ -2,11 +2,13 @@ ghost use Rattle.std.specs.Prelude.{◌≡◌, ◌⊎◌, ◌<◌, ◌≤◌, �
 ghost use Rattle.bucket_core.specs.Causes.{Rose};
 ghost use Rattle.bucket_core.specs.Contents.{nothing};
 ghost use Rattle.script_core.specs.Lawful.{IsLawfulScript};
+ghost use Rattle.script_core.specs.Reading.{script_of};
 ghost use Rattle.replay_cli.specs.Checks.{files_of};
 ghost use Rattle.replay_cli.specs.Kept.{IsHandedBack, IsHandedOut, IsNotAsked, IsOpened, IsShelfOf, IsUnfailed, IsUntouched, told_of};
 ghost use Rattle.replay_cli.specs.Statuses.{number_of};
 ghost use Rattle.replay_cli.specs.Verdicts.{BehindOpening, IfShort, IsCalm, IsCaused, IsCheckSaid, IsWorked, IsUnread, IsRun, IsSaid, IsScriptRead, SiteFailed, around_call, saying_to};
 ghost use Rattle.replay_cli.specs.Words.{block_word, bucket_word, named_by, shelf_word};
+ghost use Rattle.lifecycle_core.specs.InLine.{IsInLine};
 ghost use Rattle.lifecycle_core.specs.Setting.{setting_of};
 
 use crate::check::check_block;
@@ -14,12 +16,11 @@ use crate::conclusion::{Conclusion, Ended};
 use crate::input::read_all;
 use crate::opening::{open_shelf, refused, without_shelf};
 use crate::output::write_all;
-use crate::phases::{Lines, Progress, run_phases};
+use crate::runner::run_in_line;
 use crate::words::{read_check, read_serial};
 use crate::{InputRefusal, Run, Status, Verdict};
 use bucket_core::{Bucket, Sink, Site, Source};
 use script_core::{Script, ScriptRefusal};
-use script_running::Broken;
 use std::alloc::Global;
 use world_core::{Journal, OpenRefusal, World};
 
@@ -36,7 +37,7 @@ pub fn run_tool<S: Site, R: Source, K: Sink>(
     // memory ran out as it was said.
     ensures verdict { (verdict : Verdict) × (status : Status)
         × IsCaused
-        (around_call R.left R.faults script.old script.new
+        (around_call IsInLine R.left R.faults script.old script.new
         S.buckets S.next_bucket S.shelves S.next_shelf S.faults
         (bucket_word words.now) (shelf_word words.now)
         (block_word words.now) site.old site.new S.Store.faults S.Files.faults
@@ -46,7 +47,7 @@ pub fn run_tool<S: Site, R: Source, K: Sink>(
 
     // A calm call ends as asked, unless there is no memory.
     ensures calm { IsCalm
-        (around_call R.left R.faults script.old script.new
+        (around_call IsInLine R.left R.faults script.old script.new
         S.buckets S.next_bucket S.shelves S.next_shelf S.faults
         (bucket_word words.now) (shelf_word words.now)
         (block_word words.now) site.old site.new S.Store.faults S.Files.faults
@@ -94,7 +95,7 @@ fn come_to<S: Site, R: Source>(
     script: &mut R,
 ) -> Ended<S::Store, S::Files>
     ensures cause { IsCaused
-        (around_call R.left R.faults script.old script.new
+        (around_call IsInLine R.left R.faults script.old script.new
         S.buckets S.next_bucket S.shelves S.next_shelf S.faults
         (bucket_word words.now) (shelf_word words.now)
         (block_word words.now) site.old site.new S.Store.faults S.Files.faults
@@ -133,7 +134,7 @@ fn read_and_run<S: Site, R: Source>(
     script: &mut R,
 ) -> Ended<S::Store, S::Files>
     ensures cause { IsWorked
-        (around_call R.left R.faults script.old script.new
+        (around_call IsInLine R.left R.faults script.old script.new
         S.buckets S.next_bucket S.shelves S.next_shelf S.faults
         (Some bucket.now) (named_by shelf.now)
         None site.old site.new S.Store.faults S.Files.faults
@@ -153,7 +154,7 @@ fn read_and_run<S: Site, R: Source>(
         site.old site.new result.shelf }
 {
     match read_script(alloc, script) {
-        Ok(script) => over_site(alloc, &script, bucket, shelf, site),
+        Ok((script, _text)) => over_site(alloc, &script, bucket, shelf, site),
         Err(verdict) => Ended {
             conclusion: Conclusion::without_bucket(verdict),
             shelf: None,
@@ -161,11 +162,16 @@ fn read_and_run<S: Site, R: Source>(
     }
 }
 
-/// Reads the source to its end, and the script that its bytes spell.
+/// Reads the source to its end, and the script that its bytes spell. The bytes come with it.
 #[tactic(auto, using(crate::proofs::Verdicts::refused_too_long, crate::proofs::Verdicts::refused_whole, crate::proofs::Verdicts::read_whole))]
-fn read_script<R: Source>(alloc: Global, source: &mut R) -> Result<Script, Verdict>
-    ensures read { IfOk result (IsScriptRead (R.left source.old) (R.left source.new)) }
-    ensures lawful { IfOk result IsLawfulScript }
+pub(crate) fn read_script<R: Source>(
+    alloc: Global,
+    source: &mut R,
+) -> Result<(Script, Vec<u8>), Verdict>
+    ensures read { IfOk result
+        (λ read. IsScriptRead (R.left source.old) (R.left source.new) read.0) }
+    ensures spelled { IfOk result (λ read. script_of read.1.items ≡ Ok read.0) }
+    ensures lawful { IfOk result (λ read. IsLawfulScript read.0) }
     ensures refused { IfErr result
         (IsUnread (R.left source.old) (R.left source.new)
         (Rose (R.faults source.old) (R.faults source.new))) }
@@ -179,7 +185,7 @@ fn read_script<R: Source>(alloc: Global, source: &mut R) -> Result<Script, Verdi
         Err(InputRefusal::NoMemory) => return Err(Verdict::NoMemory),
     };
     match Script::read(alloc, &text) {
-        Ok(script) => Ok(script),
+        Ok(script) => Ok((script, text)),
         Err(ScriptRefusal::NoMemory) => Err(Verdict::NoMemory),
         Err(refusal) => Err(Verdict::ScriptRefused(refusal)),
     }
@@ -194,8 +200,8 @@ fn over_site<S: Site>(
     shelf: &str,
     site: &mut S,
 ) -> Ended<S::Store, S::Files>
-    requires { IsLawfulScript script.now }
-    ensures cause { IsRun (setting_of script.now) (S.next_bucket site.old bucket.now)
+    requires lawful { IsLawfulScript script.now }
+    ensures cause { IsRun IsInLine (setting_of script.now) (S.next_bucket site.old bucket.now)
         (SiteFailed S.faults site.old site.new S.Store.faults result.conclusion.store)
         result.conclusion.journal result.conclusion.verdict }
     ensures short { IfShort result.conclusion.verdict
@@ -230,8 +236,8 @@ fn over_shelf<S: Site>(
     shelf: &str,
     site: &mut S,
 ) -> Ended<S::Store, S::Files>
-    requires { IsLawfulScript script.now }
-    ensures cause { IsRun (setting_of script.now) (S.Store.contents bucket)
+    requires lawful { IsLawfulScript script.now }
+    ensures cause { IsRun IsInLine (setting_of script.now) (S.Store.contents bucket)
         (Rose (S.faults site.old) (S.faults site.new)
         ⊎ IsSomeAnd result.conclusion.store
         (λ store. Rose (S.Store.faults bucket) (S.Store.faults store)))
@@ -266,10 +272,11 @@ fn over_shelf<S: Site>(
     }
 }
 
+/// Opens a world over the bucket, and runs the script over it.
 #[tactic(auto, using(crate::proofs::Verdicts::run_empty))]
 fn over_bucket<B: Bucket>(alloc: Global, script: &Script, bucket: B) -> Conclusion<B>
-    requires { IsLawfulScript script.now }
-    ensures cause { IsRun (setting_of script.now) (B.contents bucket)
+    requires lawful { IsLawfulScript script.now }
+    ensures cause { IsRun IsInLine (setting_of script.now) (B.contents bucket)
         (IsSomeAnd result.store (λ store. Rose (B.faults bucket) (B.faults store))) result.journal
         result.verdict }
     ensures short { IfShort result.verdict
@@ -289,7 +296,7 @@ fn over_bucket<B: Bucket>(alloc: Global, script: &Script, bucket: B) -> Conclusi
 }
 
 /// What a call comes to whose bucket is not opened.
-fn unopened(refusal: OpenRefusal) -> Verdict
+pub(crate) fn unopened(refusal: OpenRefusal) -> Verdict
     ensures failed { refusal ≡ OpenRefusal.Failed → result ≡ Verdict.SiteFault }
     ensures not_empty { (name : List ℕ) → refusal ≡ OpenRefusal.NotEmpty name
         → result ≡ Verdict.NotEmpty name }
@@ -306,42 +313,21 @@ fn over_world<B: Bucket>(alloc: Global, script: &Script, world: World<B>) -> Con
     requires lawful { IsLawfulScript script.now }
     requires fresh { world.journal ≡ [] }
     requires tick { world.tick ≡ script.now.rules.tick.ms }
-    ensures cause { IsRun (setting_of script.now) (Some nothing) ⊥ result.journal result.verdict }
+    ensures cause { IsRun IsInLine (setting_of script.now) (Some nothing) ⊥ result.journal
+        result.verdict }
     ensures unfailed { IsUnfailed B.faults (B.faults world.bucket) result.journal result.store }
     ensures store { IsSome result.store }
     ensures journal { IsSome result.journal }
     ensures back { IsHandedBack B.contents B.faults result.journal result.store }
     ensures untouched { IsUntouched B.contents nothing result.journal result.store }
 {
-    let mut progress = match Progress::new(alloc, script) {
-        Ok(progress) => progress,
-        Err(_) => {
-            let (journal, store) = world.into_parts();
-            return Conclusion::with_bucket(Verdict::NoMemory, journal, store);
-        }
-    };
-    let (came, world) = run_phases(alloc, script, &mut progress, world);
-    let verdict = verdict_of(came, progress.into_report());
+    let (verdict, world) = run_in_line(alloc, script, world);
     let (journal, store) = world.into_parts();
     Conclusion::with_bucket(verdict, journal, store)
 }
 
-/// What a run comes to, by what broke it off.
-fn verdict_of(came: Result<(), Broken>, report: Lines) -> Verdict
-    ensures whole { came ≡ Ok tt → result ≡ Verdict.Report report.text report.as_asked }
-    ensures full { came ≡ Err Broken.Full → result ≡ Verdict.Full report.text }
-    ensures none { came ≡ Err Broken.NoMemory → result ≡ Verdict.NoMemory }
-{
-    let Lines { text, as_asked } = report;
-    match came {
-        Ok(()) => Verdict::Report(text, as_asked),
-        Err(Broken::Full) => Verdict::Full(text),
-        Err(Broken::NoMemory) => Verdict::NoMemory,
-    }
-}
-
 /// Writes a verdict's text. Its status is that of the call, unless the sink failed or there was no memory for the text.
-fn say<K: Sink>(alloc: Global, verdict: Verdict, out: &mut K) -> Status
+pub(crate) fn say<K: Sink>(alloc: Global, verdict: Verdict, out: &mut K) -> Status
     ensures { IsSaid verdict (saying_to K.faults K.written out.old out.new) result }
 {
     let status = verdict.status();

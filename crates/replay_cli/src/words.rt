@@ -1,5 +1,5 @@
 ghost use Rattle.std.specs.Prelude.{◌≡◌, Some, None, IfSome, option_map};
-ghost use Rattle.replay_cli.specs.Words.{block_word, bucket_word, named_by, shelf_word};
+ghost use Rattle.replay_cli.specs.Words.{block_word, bucket_word, named_by, replay_shelf, replay_word, shelf_word};
 
 use ulid_core::Ulid;
 
@@ -20,6 +20,24 @@ pub(crate) fn read_serial(words: &[String]) -> Option<Named<'_>>
         return None;
     };
     if call.as_str() != "serial" {
+        return None;
+    }
+    Some(Named {
+        bucket: bucket.as_str(),
+        shelf: shelf.as_str(),
+    })
+}
+
+/// Reads the words `replay BUCKET SHELF`.
+pub(crate) fn read_replay(words: &[String]) -> Option<Named<'_>>
+    ensures bucket { option_map (λ named. named.bucket.now) result ≡ replay_word words.now }
+    ensures shelf { IfSome result (λ named. named_by named.shelf.now ≡ replay_shelf words.now) }
+    ensures none { result ≡ None → replay_shelf words.now ≡ None }
+{
+    let [call, bucket, shelf] = words else {
+        return None;
+    };
+    if call.as_str() != "replay" {
         return None;
     }
     Some(Named {

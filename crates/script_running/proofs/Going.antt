@@ -4,7 +4,7 @@ use Rattle.std.specs.Prelude.{slice_get}
 use Rattle.std.specs.List.{All}
 use Rattle.std.proofs.lemmas.List.Elements.{All-nil}
 use Rattle.world_core.specs.declared.entry.Entry.{Entry}
-use Rattle.world_turn.specs.Rule.{root}
+use Rattle.world_turn.specs.Rule.{Opened, root}
 use Rattle.world_turn.specs.declared.view.View.{View as Known}
 use Rattle.meta_fetcher.specs.declared.view.View.{View}
 use Rattle.script_core.specs.Workers.{workers_of}
@@ -70,8 +70,8 @@ gone_more setting before after done views seen outcomes own phase one ends next 
     }
 
 -- before the first phase no gateway has a view
-pub gone_none : (setting : Setting) (tick : ℕ) (known : Known) (views : List (Option View)) → known ≡ root tick → length views ≡ length setting.script.gateways → ((place : ℕ) (view : Option View) → slice_get views place ≡ Some view → view ≡ None) → HasGone setting known [] views []
-gone_none setting tick known views is each none = record {
+pub gone_none : (setting : Setting) (opened : Opened) (known : Known) (views : List (Option View)) → known ≡ root opened → length views ≡ length setting.script.gateways → ((place : ℕ) (view : Option View) → slice_get views place ≡ Some view → view ≡ None) → HasGone setting known [] views []
+gone_none setting opened known views is each none = record {
   passed = [];
   held = none_held;
   so_far = record { told = []; begun = refl; finished = refl };

@@ -6,7 +6,7 @@ use Rattle.list_core.proofs.Lists.{take_none}
 use Rattle.world_core.specs.Worlds.{IsJournal}
 use Rattle.world_core.specs.declared.entry.Entry.{Entry}
 use Rattle.world_turn.specs.Closing.{AllJoined, Closes}
-use Rattle.world_turn.specs.Rule.{root}
+use Rattle.world_turn.specs.Rule.{Opened, root}
 use Rattle.world_turn.specs.declared.view.View.{View as Known}
 use Rattle.meta_fetcher.specs.declared.view.View.{View}
 use Rattle.script_workers.specs.Hands.{gateway_count, seats_from}
@@ -33,12 +33,12 @@ pub none_before : (script : Script) → seats_before script 0 ≡ 0
 unfolding seats_from
 none_before script = ap (seats_from (gateway_count script.gateways) 0) (take_none script.phases)
 
-pub fresh_joined : (tick : ℕ) (known : Known) → known ≡ root tick → AllJoined known
-fresh_joined tick known is = subst AllJoined (sym is) (λ seat some less. absurd (omega (arith, some, less)))
+pub fresh_joined : (opened : Opened) (known : Known) → known ≡ root opened → AllJoined known
+fresh_joined opened known is = subst AllJoined (sym is) (λ seat some less. absurd (omega (arith, some, less)))
 
-pub first_gone : (setting : Setting) (tick : ℕ) (known : Known) (views : List (Option View)) (outcomes : List Outcome) → known ≡ root tick → length views ≡ length setting.script.gateways → All (λ (view : Option View). view ≡ None) views → outcomes ≡ [] → HasGone setting known [] views outcomes
-first_gone setting tick known views outcomes is each none empty =
-    subst (HasGone setting known [] views) (sym empty) (gone_none setting tick known views is each (λ place view at. at_place (λ (view : Option View). view ≡ None) views place view none at))
+pub first_gone : (setting : Setting) (opened : Opened) (known : Known) (views : List (Option View)) (outcomes : List Outcome) → known ≡ root opened → length views ≡ length setting.script.gateways → All (λ (view : Option View). view ≡ None) views → outcomes ≡ [] → HasGone setting known [] views outcomes
+first_gone setting opened known views outcomes is each none empty =
+    subst (HasGone setting known [] views) (sym empty) (gone_none setting opened known views is each (λ place view at. at_place (λ (view : Option View). view ≡ None) views place view none at))
 
 pub no_run : (setting : Setting) (tick : ℕ) (journal : List Entry) (outcomes : List Outcome) (came : Result (Unit {0}) Broken) → IsJournal tick journal → tick ≡ setting.script.rules.tick.ms → journal ≡ [] → outcomes ≡ [] → came ≡ Err broken.NoMemory → HasRunBeside setting journal outcomes came
 no_run setting tick journal outcomes came kept same none empty wanting =

@@ -2,6 +2,7 @@
 
 ghost use Rattle.std.specs.Prelude.{◌≡◌, ◌+◌, ◌<◌, ◌^◌, [], None, Ok, Err, Some, IfOk, OnOk, length, slice_get, take};
 ghost use Rattle.std.specs.List.{All};
+ghost use Rattle.world_core.specs.Worlds.{failed_count};
 ghost use Rattle.script_core.specs.Lawful.{IsLawfulScript};
 ghost use Rattle.script_core.specs.Reading.{script_of};
 ghost use Rattle.script_core.specs.Workers.{seats_before};
@@ -59,6 +60,10 @@ pub fn run_beside<B: Bucket + Send, G: Gate + Sync, R: Threads + Wait + Sync>(
     ensures ran { HasRunBeside (setting_of script.now) result.1.journal result.0.outcomes
         result.0.came }
     ensures tick { result.1.tick ≡ world.tick }
+
+    // The bucket has failed no more often than before, unless the journal shows it.
+    ensures unfailed { failed_count result.1.journal ≡ 0
+        → B.faults result.1.bucket ≡ B.faults world.bucket }
 {
     // what every world keeps, as this one does
     let _before = world.journal();

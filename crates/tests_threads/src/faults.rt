@@ -1,9 +1,8 @@
 ghost use Rattle.std.specs.Prelude.{◌≡◌, IfSome, vec_len};
 
-use crate::gates::Open;
 use crate::puts::Puts;
 use crate::worlds::shared_world;
-use phase_runner::run_phase;
+use phase_runner::{Open, run_phase};
 use std::alloc::Global;
 use std::sync::Wait;
 use std::thread::Threads;

@@ -5,13 +5,6 @@ use std::sync::atomic::{AtomicBool, Ordering};
 /// How many rounds a worker waits for the other.
 const ROUNDS: u64 = 100_000_000;
 
-/// Holds nobody up.
-pub struct Open;
-
-impl Gate for Open {
-    fn before(&self, _seat: u32, _number: u64) {}
-}
-
 /// Holds each of the seats 1 and 2 up before its operation number 2 until the other has come to its own.
 #[derive(Drop)]
 pub struct Meeting {

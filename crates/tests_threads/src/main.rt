@@ -1,4 +1,4 @@
-//! Lets passes and workers act on one world from threads of their own. Each line of standard input names a case and how many
+//! Lets passes and workers act on one world from threads of their own, and runs scripts whose workers do so. Each line of standard input names a case and how many
 //! times it is tried; what is printed is how many times it came out as it has to.
 #![tactic(auto)]
 
@@ -8,11 +8,16 @@ mod passes;
 mod phases;
 mod puts;
 mod ranges;
+mod replays;
 mod worlds;
 
 use crate::faults::a_fault_stops_no_other;
 use crate::passes::passes_share_a_journal;
 use crate::phases::{workers_meet, workers_share_a_journal};
+use crate::replays::{
+    a_fault_stops_one_upload, a_young_block_is_told, one_block_is_told, the_sink_fails,
+    the_source_fails, two_replicas_are_told, uploads_meet,
+};
 use std::alloc::Global;
 use std::io;
 use std::sync::Wait;
@@ -47,6 +52,13 @@ fn is_good<R: Threads + Wait + Sync>(rt: &R, alloc: Global, name: &str) -> bool 
         "workers" => workers_share_a_journal(rt, alloc),
         "meeting" => workers_meet(rt, alloc),
         "fault" => a_fault_stops_no_other(rt, alloc),
+        "one_block" => one_block_is_told(rt, alloc),
+        "young_block" => a_young_block_is_told(rt, alloc),
+        "two_replicas" => two_replicas_are_told(rt, alloc),
+        "uploads" => uploads_meet(rt, alloc),
+        "failing_call" => a_fault_stops_one_upload(rt, alloc),
+        "source" => the_source_fails(rt, alloc),
+        "sink" => the_sink_fails(rt, alloc),
         _ => false,
     }
 }

@@ -1,7 +1,6 @@
 ghost use Rattle.std.specs.Prelude.{◌≡◌, []};
 ghost use Rattle.world_turn.specs.Closing.{AllJoined};
 ghost use Rattle.world_turn.specs.Passes.{table_of, view_of};
-ghost use Rattle.world_turn.specs.Rule.{root as fresh_root};
 
 use crate::ranges::read_at;
 use crate::worlds::{are_in_order, shared_world};
@@ -38,7 +37,8 @@ pub fn passes_share_a_journal<R: Threads + Wait + Sync>(rt: &R, alloc: Global) -
 /// The root, and the passes of the seats 1 and 2.
 fn split_twice(shared: &Shared<MemoryBucket>, root: Pass) -> (Pass, Pass, Pass)
     requires own { (table_of root ≡ shared.now.table.shared.table_id) × (root.seat ≡ 0) }
-    requires fresh { (root.splits ≡ 0) × (view_of root ≡ fresh_root 1) }
+    requires fresh { (root.splits ≡ 0) × ((view_of root).seats ≡ 1)
+        × ((view_of root).joined ≡ []) }
     ensures root { (table_of result.0 ≡ table_of root) × (result.0.seat ≡ 0)
         × ((view_of result.0).seats ≡ 3) × ((view_of result.0).joined ≡ []) }
     ensures one { (table_of result.1 ≡ table_of root) × (result.1.seat ≡ 1) }

@@ -1,9 +1,9 @@
 ghost use Rattle.std.specs.Prelude.{◌≡◌, IfSome, vec_len};
 
-use crate::gates::{Meeting, Open};
+use crate::gates::Meeting;
 use crate::ranges::Ranges;
 use crate::worlds::{are_in_order, shared_world};
-use phase_runner::{Gate, run_phase};
+use phase_runner::{Gate, Open, run_phase};
 use std::alloc::Global;
 use std::sync::Wait;
 use std::thread::Threads;

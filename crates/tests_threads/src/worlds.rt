@@ -1,7 +1,6 @@
 ghost use Rattle.std.specs.Prelude.{◌≡◌, [], IfSome};
 ghost use Rattle.world_turn.specs.Closing.{AllJoined};
 ghost use Rattle.world_turn.specs.Passes.{table_of, view_of};
-ghost use Rattle.world_turn.specs.Rule.{root};
 
 use bucket_core::{Fail, FailList, MemoryBucket};
 use moment_core::Span;
@@ -13,7 +12,8 @@ use world_turn::{Pass, Shared};
 #[tactic(auto, using(crate::proofs::Joined::none_split))]
 pub fn shared_world(alloc: Global, failing: Option<u64>) -> Option<(Shared<MemoryBucket>, Pass)>
     ensures { IfSome result (λ r. (table_of r.1 ≡ r.0.table.shared.table_id) × (r.1.seat ≡ 0)
-        × (r.1.splits ≡ 0) × (view_of r.1 ≡ root 1) × AllJoined (view_of r.1)) }
+        × (r.1.splits ≡ 0) × ((view_of r.1).seats ≡ 1) × ((view_of r.1).joined ≡ [])
+        × AllJoined (view_of r.1)) }
 {
     let mut fails = FailList::new(alloc);
     if let Some(call) = failing {

@@ -3,6 +3,7 @@ use replay_cli::Status;
 
 /// How the program is called, a line a form.
 const USAGE: &str = "usage: tosraem serial BUCKET SHELF < SCRIPT
+       tosraem replay BUCKET SHELF < SCRIPT
        tosraem check SHELF ULID
 ";
 

@@ -5,13 +5,16 @@ mod advice;
 
 use crate::advice::advice;
 use dir_bucket::HostSite;
-use replay_cli::{ReaderSource, Status, WriterSink, run_tool};
+use phase_runner::Open;
+use replay_cli::{ReaderSource, Status, WriterSink, run_replay, run_tool};
 use std::alloc::Global;
 use std::process::ExitCode;
+use std::sync::Wait;
+use std::thread::Threads;
 use std::{env, io};
 
 fn main(rt: HostRuntime) -> ExitCode {
-    let number = run(&rt);
+    let number = run(&rt, &rt);
     if let Some(status) = Status::from_number(number) {
         // A failure to say it changes nothing.
         let _ = eprint!(rt; "{}", advice(status));
@@ -19,8 +22,8 @@ fn main(rt: HostRuntime) -> ExitCode {
     ExitCode::from(number)
 }
 
-/// Runs the tool over the real things, and gives the number of its status.
-fn run(rt: &HostRuntime) -> u8 {
+/// Runs the tool over the real things, and gives the number of its status. Threads are started by the second handle.
+fn run<T: Threads + Wait + Sync>(rt: &HostRuntime, threads: &T) -> u8 {
     let alloc = rt.alloc();
     let words = match words_of(alloc, rt) {
         Ok(words) => words,
@@ -36,7 +39,27 @@ fn run(rt: &HostRuntime) -> u8 {
     let mut site = HostSite::new(host);
     let mut script = ReaderSource::new(rt.reader());
     let mut out = WriterSink::new(io::writer(rt));
+    if asks_for_threads(&words) {
+        return run_replay(
+            threads,
+            alloc,
+            &words,
+            &mut site,
+            &mut script,
+            &mut out,
+            &Open,
+        )
+        .status;
+    }
     run_tool(alloc, &words, &mut site, &mut script, &mut out).status
+}
+
+/// Whether the words ask for a thread for each worker of a phase.
+fn asks_for_threads(words: &[String]) -> bool {
+    match words.first() {
+        Some(word) => word.as_str() == "replay",
+        None => false,
+    }
 }
 
 /// The words after the program's name.

@@ -14,7 +14,7 @@ use Rattle.atomic_table.proofs.Lists.{at_set, set_again, set_here, set_else, at_
 use Rattle.world_core.specs.declared.entry.Entry.{Entry}
 use Rattle.world_turn.specs.declared.view.View.{View}
 use Rattle.world_turn.specs.Seats.{of_seat}
-use Rattle.world_turn.specs.Rule.{Fits, IsKept, Rule, root, spent}
+use Rattle.world_turn.specs.Rule.{Fits, IsFrom, IsKept, Opened, Rule, opened_of, root, spent}
 use Rattle.world_turn.specs.Closing.{AllJoined, Closes}
 use Rattle.world_turn.specs.Steps.{holding, adding, leaving, leaving_full, looking, one_more, next_seat, joining, comparing, Lies, Takes, Appends, Gives, GivesFull, Counts, Compares}
 use Rattle.world_turn.proofs.Fronts.{of_seat-own, of_seat-other, front_whole, front_none, front_more, front_length, one_last, longer_front, longer_first, longer_second}
@@ -42,7 +42,7 @@ pub each_snoc : {A : Type 0} (P : A → Type 0) (xs : List A) (y : A) → AllByR
 each_snoc P [] y e p = (p, tt)
 each_snoc P (x ∷ xs) y e p = (e.0, each_snoc P xs y e.1 p)
 
-module _ {W : Type 0} (journal : W → List Entry) (ticks : W → ℕ) where
+module _ {W : Type 0} (journal : W → List Entry) (ticks faults : W → ℕ) (opened : Opened) where
   abbrev St : Type 0
   St = State (Option W) View
 
@@ -50,26 +50,29 @@ module _ {W : Type 0} (journal : W → List Entry) (ticks : W → ℕ) where
   M = Me (Option W) View
 
   abbrev R : St → Type 0
-  R = Rule journal ticks
+  R = Rule journal ticks faults opened
+
+  abbrev From : Opened → W → Type 0
+  From = IsFrom journal ticks faults
 
   -- what a step may change of the rule's own data
-  abbrev Free : List (mathlib.Core.Option.Option (Option W)) → ℕ → List Entry → ℕ → Type 0
-  Free homes turn log tick = turn ≡ 0 → (w : W) × (homes ≡ some (Some w) ∷ []) × (journal w ≡ log) × (ticks w ≡ tick)
+  abbrev Free : List (mathlib.Core.Option.Option (Option W)) → ℕ → List Entry → Type 0
+  Free homes turn log = turn ≡ 0 → (w : W) × (homes ≡ some (Some w) ∷ []) × (journal w ≡ log) × From opened w
 
   abbrev Taken : List (mathlib.Core.Option.Option (Option W)) → ℕ → ℕ → List View → Type 0
   Taken homes turn holder views = turn ≢ 0 → (turn ≡ 1) × (homes ≡ none ∷ []) × ((v : View) × (get_elem? views holder ≡ some v) × (v.holds ≡ true))
 
   -- the view of another seat, after the journal has grown
-  others_fit : (turn holder turn' holder' tick : ℕ) (log log' : List Entry) (seats : ℕ) (joined : List (ℕ × List Entry)) (place : ℕ → ℕ) (j : ℕ) (u : View) → IsPrefix log log'
+  others_fit : (turn holder turn' holder' : ℕ) (log log' : List Entry) (seats : ℕ) (joined : List (ℕ × List Entry)) (place : ℕ → ℕ) (j : ℕ) (u : View) → IsPrefix log log'
       → (u.live ≡ true → of_seat u.seat log ≡ of_seat u.seat log') → (u.holds ≡ true → (turn' ≡ 1) × (j ≡ holder') × (u.held ≡ log'))
-      → Fits turn holder tick log seats joined place j u → Fits turn' holder' tick log' seats joined place j u
-  others_fit turn holder turn' holder' tick log log' seats joined place j u grown same held f =
+      → Fits turn holder opened log seats joined place j u → Fits turn' holder' opened log' seats joined place j u
+  others_fit turn holder turn' holder' log log' seats joined place j u grown same held f =
       let l = front_length log log' grown in
       let k = f.known in
       record {
         front = front_more u.front log log' f.front grown;
         known = omega arith;
-        tick = f.tick;
+        comes = f.comes;
         own = λ live. f.own live ∙ same live;
         seated = f.seated;
         beside = front_more u.beside log log' f.beside grown;
@@ -83,8 +86,8 @@ module _ {W : Type 0} (journal : W → List Entry) (ticks : W → ℕ) where
       → ((seat : ℕ) → seat ≢ v.seat → of_seat seat r.log ≡ of_seat seat log)
       → ((j : ℕ) (u : View) → j ≢ id → get_elem? s.views j ≡ some u → u.holds ≡ true → (turn ≡ 1) × (j ≡ holder) × (u.held ≡ log))
       → words ≡ length log ∷ turn ∷ []
-      → Fits turn holder r.tick log r.seats r.joined r.place id w
-      → Free homes turn log r.tick
+      → Fits turn holder opened log r.seats r.joined r.place id w
+      → Free homes turn log
       → Taken homes turn holder (set s.views id w)
       → R record { words = words; homes = homes; views = set s.views id w }
   moved s r words homes id v w turn holder log at live live' seat grown same held words_are mine free taken =
@@ -93,17 +96,16 @@ module _ {W : Type 0} (journal : W → List Entry) (ticks : W → ℕ) where
       record {
         turn = turn;
         holder = holder;
-        tick = r.tick;
         log = log;
         seats = r.seats;
         joined = r.joined;
         place = r.place;
         words = words_are;
         each = λ j u e. ⊎_elim
-            (λ (t : (j ≡ id) × (w ≡ u)). subst (λ (x : ℕ × View). Fits turn holder r.tick log r.seats r.joined r.place x.0 x.1) (λ i. (sym t.0 i, t.1 i)) mine)
+            (λ (t : (j ≡ id) × (w ≡ u)). subst (λ (x : ℕ × View). Fits turn holder opened log r.seats r.joined r.place x.0 x.1) (λ i. (sym t.0 i, t.1 i)) mine)
             (λ (t : (j ≢ id) × (get_elem? s.views j ≡ some u)).
             let f = r.each j u t.1 in
-            others_fit r.turn r.holder turn holder r.tick r.log log r.seats r.joined r.place j u grown
+            others_fit r.turn r.holder turn holder r.log log r.seats r.joined r.place j u grown
             (λ l. same u.seat (λ e'. t.0 (sym ((f.seated l).1) ∙ (ap r.place e' ∙ own_seat.1)))) (λ h. held j u t.0 t.1 h) f)
             (at_set s.views id j w u e);
         kept = each_of (IsKept r.log s.views r.seats) (IsKept log (set s.views id w) r.seats) (λ k i. record {
@@ -131,7 +133,7 @@ module _ {W : Type 0} (journal : W → List Entry) (ticks : W → ℕ) where
 
   take_at : (s : St) (r : R s) (slots id : ℕ) (v : View) (c : List (ℕ × Option W)) (n : ℕ) → n ≡ r.turn → get_elem? s.views id ≡ some v → v.live ≡ true → Dec (n ≡ 0) → n ≡ slice_index s.words 1
       → (w : View) × (a : Act (Option W)) × Rattle.atomic_table.specs.Table.Valid s.homes c a × R (stepped s 1 (either (eqb n 0) 1 n) id c w a)
-      × Takes journal ticks (step slots 1 0 1 none) (v, c) n (w, Rattle.atomic_table.specs.Table.carried_after c a)
+      × Takes journal ticks faults (step slots 1 0 1 none) (v, c) n (w, Rattle.atomic_table.specs.Table.carried_after c a)
   take_at s r slots id v c n is at live (yes z) here =
       let f = r.each id v at in
       let h = r.free (sym is ∙ z) in
@@ -144,16 +146,16 @@ module _ {W : Type 0} (journal : W → List Entry) (ticks : W → ℕ) where
             (moved s r (set s.words 1 1) (set s.homes 0 none) id v w 1 id r.log at live live refl (front_whole r.log) (λ _ _. refl)
             (λ j u apart at' h'. let t = (f' j u at').holds h' in absurd (turned t.0 (sym is ∙ z)))
             (ap (λ ws. set ws 1 1) r.words)
-            record { front = f.front; known = f.known; tick = f.tick; own = f.own; seated = f.seated; beside = f.beside; rooted = f.rooted; holds = λ _. (refl, refl, live, h.2) }
+            record { front = f.front; known = f.known; comes = f.comes; own = f.own; seated = f.seated; beside = f.beside; rooted = f.rooted; holds = λ _. (refl, refl, live, h.2) }
             (λ e. absurd (omega arith))
             (λ _. (refl, homes, (w, set_here s.views id w (at_lt s.views id v at), refl)))),
         (
-          (λ _. (h.0, refl, h.3 ∙ sym (f.tick live), subst (IsPrefix v.front) (sym h.2) f.front, subst (λ l. v.known ≤ length l) (sym h.2) f.known, subst (λ l. v.own ≡ of_seat v.seat l) (sym h.2) (f.own live))),
+          (λ _. (h.0, refl, subst (λ (o : Opened). From o h.0) (sym (f.comes live)) h.3, subst (IsPrefix v.front) (sym h.2) f.front, subst (λ l. v.known ≤ length l) (sym h.2) f.known, subst (λ l. v.own ≡ of_seat v.seat l) (sym h.2) (f.own live))),
           (λ not. absurd (not z)),
         ),
       )
     where
-      f' : (j : ℕ) (u : View) → get_elem? s.views j ≡ some u → Fits r.turn r.holder r.tick r.log r.seats r.joined r.place j u
+      f' : (j : ℕ) (u : View) → get_elem? s.views j ≡ some u → Fits r.turn r.holder opened r.log r.seats r.joined r.place j u
       f' j u e = r.each j u e
 
       turned : r.turn ≡ 1 → r.turn ≡ 0 → ⊥
@@ -166,7 +168,7 @@ module _ {W : Type 0} (journal : W → List Entry) (ticks : W → ℕ) where
     ((λ z. absurd (nz z)), (λ _. refl)),
   )
 
-  pub takes_turn : (slots id : ℕ) (v : View) (c : List (ℕ × Option W)) → v.live ≡ true → Allows R slots id (v, c) 1 (λ n. either (eqb n 0) 1 n) (Takes journal ticks (step slots 1 0 1 none) (v, c))
+  pub takes_turn : (slots id : ℕ) (v : View) (c : List (ℕ × Option W)) → v.live ≡ true → Allows R slots id (v, c) 1 (λ n. either (eqb n 0) 1 n) (Takes journal ticks faults (step slots 1 0 1 none) (v, c))
   takes_turn slots id v c live s r len at small =
       take_at s r slots id v c (slice_index s.words 1) (ap (λ ws. slice_index ws 1) r.words) at live (ℕ_discrete (slice_index s.words 1) 0) refl
 
@@ -175,11 +177,11 @@ module _ {W : Type 0} (journal : W → List Entry) (ticks : W → ℕ) where
   lying ((k, None) ∷ xs) = []
   lying ((k, Some w) ∷ xs) = journal w
 
-  lies_so : (c : List (ℕ × Option W)) (l : List Entry) → Lies journal ticks c l → lying c ≡ l
+  lies_so : (c : List (ℕ × Option W)) (l : List Entry) → Lies journal ticks faults c l → lying c ≡ l
   lies_so c l x = ap lying x.1 ∙ x.2
 
-  pub appends : (slots id : ℕ) (v : View) (c : List (ℕ × Option W)) (e : Entry) → v.live ≡ true → v.holds ≡ true → e.seat ≡ v.seat → length v.held + 1 < 2 ^ 64 → Lies journal ticks c (v.held ++ e ∷ [])
-      → Allows R slots id (v, c) 0 (λ n. (n + 1) % 2 ^ 64) (Appends journal ticks (step slots 0 1 0 none) (v, c))
+  pub appends : (slots id : ℕ) (v : View) (c : List (ℕ × Option W)) (e : Entry) → v.live ≡ true → v.holds ≡ true → e.seat ≡ v.seat → length v.held + 1 < 2 ^ 64 → Lies journal ticks faults c (v.held ++ e ∷ [])
+      → Allows R slots id (v, c) 0 (λ n. (n + 1) % 2 ^ 64) (Appends journal ticks faults (step slots 0 1 0 none) (v, c))
   appends slots id v c e live h is room lies s r len at small =
       let f = r.each id v at in
       let x = f.holds h in
@@ -200,7 +202,7 @@ module _ {W : Type 0} (journal : W → List Entry) (ticks : W → ℕ) where
             record {
               front = subst (λ l. IsPrefix (l ++ e ∷ []) log) (sym x.3) (front_whole log);
               known = omega arith;
-              tick = f.tick;
+              comes = f.comes;
               own = λ l. ap (λ o. o ++ e ∷ []) (f.own l) ∙ sym (of_seat-own v.seat r.log e is);
               seated = f.seated;
               beside = front_more v.beside r.log log f.beside (e ∷ [], refl);
@@ -223,13 +225,13 @@ module _ {W : Type 0} (journal : W → List Entry) (ticks : W → ℕ) where
 
   -- a resting seat has another view
   rests_on : (s : St) (r : R s) (i id : ℕ) (v w : View) → get_elem? s.views id ≡ some v → v.live ≡ true → v.holds ≡ false → w.live ≡ true → w.seat ≡ v.seat
-      → Fits r.turn r.holder r.tick r.log r.seats r.joined r.place id w → R record { words = set s.words i (slice_index s.words i); homes = s.homes; views = set s.views id w }
+      → Fits r.turn r.holder opened r.log r.seats r.joined r.place id w → R record { words = set s.words i (slice_index s.words i); homes = s.homes; views = set s.views id w }
   rests_on s r i id v w at live rests live' seat mine =
       moved s r (set s.words i (slice_index s.words i)) s.homes id v w r.turn r.holder r.log at live live' seat (front_whole r.log) (λ _ _. refl)
       (λ j u apart at' h'. let t = (r.each j u at').holds h' in (t.0, t.1, t.3))
       (set-get_or s.words i 0 ∙ r.words) mine r.free (taken_still s r id v w at rests)
 
-  pub looks : (slots id : ℕ) (v : View) (c : List (ℕ × Option W)) → v.live ≡ true → v.holds ≡ false → Allows R slots id (v, c) 0 (λ n. n) (Counts journal ticks (step slots 0 0 0 none) (v, c))
+  pub looks : (slots id : ℕ) (v : View) (c : List (ℕ × Option W)) → v.live ≡ true → v.holds ≡ false → Allows R slots id (v, c) 0 (λ n. n) (Counts journal ticks faults (step slots 0 0 0 none) (v, c))
   looks slots id v c live rests s r len at small =
       let f = r.each id v at in
       let found : slice_index s.words 0 ≡ length r.log = ap (λ ws. slice_index ws 0) r.words in
@@ -239,11 +241,11 @@ module _ {W : Type 0} (journal : W → List Entry) (ticks : W → ℕ) where
         keeps,
         tt,
         rests_on s r 0 id v w at live rests live refl
-            record { front = f.front; known = omega arith; tick = f.tick; own = f.own; seated = f.seated; beside = f.beside; rooted = f.rooted; holds = λ h. absurd (true≢false (sym h ∙ rests)) },
+            record { front = f.front; known = omega arith; comes = f.comes; own = f.own; seated = f.seated; beside = f.beside; rooted = f.rooted; holds = λ h. absurd (true≢false (sym h ∙ rests)) },
         (omega arith, refl),
       )
 
-  pub compares : (slots id : ℕ) (v : View) (c : List (ℕ × Option W)) → v.live ≡ true → v.holds ≡ false → Allows R slots id (v, c) 0 (λ n. n) (Compares journal ticks (step slots 0 0 0 none) (v, c))
+  pub compares : (slots id : ℕ) (v : View) (c : List (ℕ × Option W)) → v.live ≡ true → v.holds ≡ false → Allows R slots id (v, c) 0 (λ n. n) (Compares journal ticks faults (step slots 0 0 0 none) (v, c))
   compares slots id v c live rests s r len at small =
       let f = r.each id v at in
       let w = comparing v in (
@@ -251,13 +253,13 @@ module _ {W : Type 0} (journal : W → List Entry) (ticks : W → ℕ) where
         keeps,
         tt,
         rests_on s r 0 id v w at live rests live refl
-            record { front = longer_front v.front v.beside r.log f.front f.beside; known = f.known; tick = f.tick; own = f.own; seated = f.seated; beside = front_none r.log; rooted = f.rooted; holds = λ h. absurd (true≢false (sym h ∙ rests)) },
+            record { front = longer_front v.front v.beside r.log f.front f.beside; known = f.known; comes = f.comes; own = f.own; seated = f.seated; beside = front_none r.log; rooted = f.rooted; holds = λ h. absurd (true≢false (sym h ∙ rests)) },
         (refl, longer_first v.front v.beside r.log f.front f.beside, longer_second v.front v.beside r.log f.front f.beside),
       )
 
   -- what lies in the slot comes home
   gives_back : (s : St) (r : R s) (id : ℕ) (v w : View) (c : List (ℕ × Option W)) (world : W) → get_elem? s.views id ≡ some v → v.live ≡ true → v.holds ≡ true
-      → c ≡ (0, Some world) ∷ [] → journal world ≡ v.held → ticks world ≡ v.tick → w.live ≡ true → w.holds ≡ false → w.seat ≡ v.seat → (v.held ≡ r.log → Fits 0 r.holder r.tick r.log r.seats r.joined r.place id w)
+      → c ≡ (0, Some world) ∷ [] → journal world ≡ v.held → From (opened_of v) world → w.live ≡ true → w.holds ≡ false → w.seat ≡ v.seat → (v.held ≡ r.log → Fits 0 r.holder opened r.log r.seats r.joined r.place id w)
       → R record { words = set s.words 1 0; homes = put_back s.homes c; views = set s.views id w }
   gives_back s r id v w c world at live h is j t live' rests seat mine =
       let f = r.each id v at in
@@ -266,11 +268,11 @@ module _ {W : Type 0} (journal : W → List Entry) (ticks : W → ℕ) where
       moved s r (set s.words 1 0) (put_back s.homes c) id v w 0 r.holder r.log at live live' seat (front_whole r.log) (λ _ _. refl)
       (λ j u apart at' h'. absurd (alone s r id v at h j u apart at' h'))
       (ap (λ ws. set ws 1 0) r.words) (mine x.3)
-      (λ _. (world, homes, j ∙ x.3, t ∙ f.tick live))
+      (λ _. (world, homes, j ∙ x.3, subst (λ (o : Opened). From o world) (f.comes live) t))
       (λ nz. absurd (nz refl))
 
-  pub gives_turn : (slots id : ℕ) (v : View) (c : List (ℕ × Option W)) (world : W) → v.live ≡ true → v.holds ≡ true → c ≡ (0, Some world) ∷ [] → journal world ≡ v.held → ticks world ≡ v.tick
-      → Allows R slots id (v, c) 1 (λ _. 0) (λ _. Gives journal ticks (step slots 1 0 0 none) (v, c) 0)
+  pub gives_turn : (slots id : ℕ) (v : View) (c : List (ℕ × Option W)) (world : W) → v.live ≡ true → v.holds ≡ true → c ≡ (0, Some world) ∷ [] → journal world ≡ v.held → From (opened_of v) world
+      → Allows R slots id (v, c) 1 (λ _. 0) (λ _. Gives journal ticks faults (step slots 1 0 0 none) (v, c) 0)
   gives_turn slots id v c world live h is j t s r len at small =
       let f = r.each id v at in
       let w = leaving v in (
@@ -278,12 +280,12 @@ module _ {W : Type 0} (journal : W → List Entry) (ticks : W → ℕ) where
         gives,
         tt,
         gives_back s r id v w c world at live h is j t live refl refl
-            (λ same. record { front = f.front; known = f.known; tick = f.tick; own = f.own; seated = f.seated; beside = f.beside; rooted = f.rooted; holds = λ b. absurd (true≢false (sym b)) }),
+            (λ same. record { front = f.front; known = f.known; comes = f.comes; own = f.own; seated = f.seated; beside = f.beside; rooted = f.rooted; holds = λ b. absurd (true≢false (sym b)) }),
         refl,
       )
 
-  pub gives_turn_full : (slots id : ℕ) (v : View) (c : List (ℕ × Option W)) (world : W) → v.live ≡ true → v.holds ≡ true → c ≡ (0, Some world) ∷ [] → journal world ≡ v.held → ticks world ≡ v.tick
-      → Allows R slots id (v, c) 1 (λ _. 0) (λ _. GivesFull journal ticks (step slots 1 0 0 none) (v, c) 0)
+  pub gives_turn_full : (slots id : ℕ) (v : View) (c : List (ℕ × Option W)) (world : W) → v.live ≡ true → v.holds ≡ true → c ≡ (0, Some world) ∷ [] → journal world ≡ v.held → From (opened_of v) world
+      → Allows R slots id (v, c) 1 (λ _. 0) (λ _. GivesFull journal ticks faults (step slots 1 0 0 none) (v, c) 0)
   gives_turn_full slots id v c world live h is j t s r len at small =
       let f = r.each id v at in
       let w = leaving_full v in (
@@ -291,7 +293,7 @@ module _ {W : Type 0} (journal : W → List Entry) (ticks : W → ℕ) where
         gives,
         tt,
         gives_back s r id v w c world at live h is j t live refl refl
-            (λ same. record { front = subst (λ l. IsPrefix l r.log) (sym same) (front_whole r.log); known = subst (λ l. length l ≤ length r.log) (sym same) (omega arith); tick = f.tick; own = f.own; seated = f.seated; beside = f.beside; rooted = f.rooted; holds = λ b. absurd (true≢false (sym b)) }),
+            (λ same. record { front = subst (λ l. IsPrefix l r.log) (sym same) (front_whole r.log); known = subst (λ l. length l ≤ length r.log) (sym same) (omega arith); comes = f.comes; own = f.own; seated = f.seated; beside = f.beside; rooted = f.rooted; holds = λ b. absurd (true≢false (sym b)) }),
         refl,
       )
 
@@ -309,7 +311,6 @@ module _ {W : Type 0} (journal : W → List Entry) (ticks : W → ℕ) where
       record {
         turn = r.turn;
         holder = r.holder;
-        tick = r.tick;
         log = r.log;
         seats = r.seats + 1;
         joined = r.joined;
@@ -317,10 +318,10 @@ module _ {W : Type 0} (journal : W → List Entry) (ticks : W → ℕ) where
         words = r.words;
         each = λ j u e. ⊎_elim
             (λ old. ⊎_elim
-            (λ (t : (j ≡ id) × (left ≡ u)). subst (λ (y : ℕ × View). Fits r.turn r.holder r.tick r.log (r.seats + 1) r.joined place y.0 y.1) (λ i. (sym t.0 i, t.1 i)) record {
+            (λ (t : (j ≡ id) × (left ≡ u)). subst (λ (y : ℕ × View). Fits r.turn r.holder opened r.log (r.seats + 1) r.joined place y.0 y.1) (λ i. (sym t.0 i, t.1 i)) record {
               front = f.front;
               known = f.known;
-              tick = f.tick;
+              comes = f.comes;
               own = f.own;
               seated = λ l. let y = f.seated l in let m = y.0 in (omega arith, same v m ∙ y.1);
               beside = f.beside;
@@ -330,7 +331,7 @@ module _ {W : Type 0} (journal : W → List Entry) (ticks : W → ℕ) where
             (λ (t : (j ≢ id) × (get_elem? s.views j ≡ some u)). let g = r.each j u t.1 in record {
               front = g.front;
               known = g.known;
-              tick = g.tick;
+              comes = g.comes;
               own = g.own;
               seated = λ l. let y = g.seated l in let m = y.0 in (omega arith, same u m ∙ y.1);
               beside = g.beside;
@@ -338,10 +339,10 @@ module _ {W : Type 0} (journal : W → List Entry) (ticks : W → ℕ) where
               holds = g.holds;
             })
             (at_set s.views id j left u old))
-            (λ (t : (right ≡ u) × (j ≡ length views)). subst (λ (y : ℕ × View). Fits r.turn r.holder r.tick r.log (r.seats + 1) r.joined place y.0 y.1) (λ i. (sym t.1 i, t.0 i)) record {
+            (λ (t : (right ≡ u) × (j ≡ length views)). subst (λ (y : ℕ × View). Fits r.turn r.holder opened r.log (r.seats + 1) r.joined place y.0 y.1) (λ i. (sym t.1 i, t.0 i)) record {
               front = f.front;
               known = f.known;
-              tick = λ _. f.tick live;
+              comes = λ _. f.comes live;
               own = λ l. let n = x.0 in sym (r.nobody v.seats (omega arith));
               seated = λ l. let n = x.0 in (omega arith, new_place ∙ sym wide);
               beside = front_none r.log;
@@ -393,25 +394,24 @@ module _ {W : Type 0} (journal : W → List Entry) (ticks : W → ℕ) where
       record {
         turn = r.turn;
         holder = r.holder;
-        tick = r.tick;
         log = r.log;
         seats = r.seats;
         joined = joined;
         place = r.place;
         words = r.words;
-        each = who (Fits r.turn r.holder r.tick r.log r.seats joined r.place)
+        each = who (Fits r.turn r.holder opened r.log r.seats joined r.place)
             record {
               front = f.front;
               known = max_le v.known w.known (length r.log) f.known g.known;
-              tick = f.tick;
+              comes = f.comes;
               own = f.own;
               seated = f.seated;
               beside = g.front;
               rooted = λ z. (x.0, ap (λ l. l ++ (w.seat, w.own) ∷ []) x.1);
               holds = λ h. absurd (true≢false (sym h ∙ rests));
             }
-            (λ j u a b e. let h = r.each j u e in record { front = h.front; known = h.known; tick = h.tick; own = h.own; seated = h.seated; beside = h.beside; rooted = λ z. absurd (a (z ∙ sym root)); holds = h.holds })
-            record { front = front_none r.log; known = omega arith; tick = λ l. absurd (true≢false (sym l)); own = λ l. absurd (true≢false (sym l)); seated = λ l. absurd (true≢false (sym l)); beside = front_none r.log; rooted = λ z. absurd (apart (z ∙ sym root)); holds = λ h. absurd (true≢false (sym h)) };
+            (λ j u a b e. let h = r.each j u e in record { front = h.front; known = h.known; comes = h.comes; own = h.own; seated = h.seated; beside = h.beside; rooted = λ z. absurd (a (z ∙ sym root)); holds = h.holds })
+            record { front = front_none r.log; known = omega arith; comes = λ l. absurd (true≢false (sym l)); own = λ l. absurd (true≢false (sym l)); seated = λ l. absurd (true≢false (sym l)); beside = front_none r.log; rooted = λ z. absurd (apart (z ∙ sym root)); holds = λ h. absurd (true≢false (sym h)) };
         kept = each_snoc (IsKept r.log last r.seats) r.joined (w.seat, w.own)
             (each_of (IsKept r.log s.views r.seats) (IsKept r.log last r.seats) (λ k i. record {
               own = i.own;
@@ -431,11 +431,10 @@ module _ {W : Type 0} (journal : W → List Entry) (ticks : W → ℕ) where
         taken = λ nz. let t = taken_still s r id v both at rests nz in (t.0, t.1, (t.2.0, set_else views other r.holder spent (λ (e : r.holder ≡ other). off_too w t.2.0 (some-injective _ _ (sym there ∙ (ap (get_elem? views) (sym e) ∙ t.2.1))) rests' t.2.2) ∙ t.2.1, t.2.2));
       }
 
-  pub opens : (tick : ℕ) (w : W) → journal w ≡ [] → ticks w ≡ tick → R (opening (0 ∷ 0 ∷ []) (Some w ∷ []) (root tick))
-  opens tick w empty same = record {
+  pub opens : (w : W) → journal w ≡ [] → From opened w → R (opening (0 ∷ 0 ∷ []) (Some w ∷ []) (root opened))
+  opens w empty same = record {
     turn = 0;
     holder = 0;
-    tick = tick;
     log = [];
     seats = 1;
     joined = [];
@@ -448,11 +447,11 @@ module _ {W : Type 0} (journal : W → List Entry) (ticks : W → ℕ) where
     taken = λ nz. absurd (nz refl);
   }
     where
-      at_first : Fits 0 0 tick [] 1 [] (λ _. 0) 0 (root tick)
-      at_first = record { front = front_none []; known = omega arith; tick = λ _. refl; own = λ _. refl; seated = λ _. (omega arith, refl); beside = front_none []; rooted = λ _. (refl, refl); holds = λ h. absurd (true≢false (sym h)) }
+      at_first : Fits 0 0 opened [] 1 [] (λ _. 0) 0 (root opened)
+      at_first = record { front = front_none []; known = omega arith; comes = λ _. refl; own = λ _. refl; seated = λ _. (omega arith, refl); beside = front_none []; rooted = λ _. (refl, refl); holds = λ h. absurd (true≢false (sym h)) }
 
-      one : (port : ℕ) (v : View) → get_elem? (root tick ∷ []) port ≡ some v → Fits 0 0 tick [] 1 [] (λ _. 0) port v
-      one zero v e = subst (Fits 0 0 tick [] 1 [] (λ _. 0) 0) (some-injective _ _ e) at_first
+      one : (port : ℕ) (v : View) → get_elem? (root opened ∷ []) port ≡ some v → Fits 0 0 opened [] 1 [] (λ _. 0) port v
+      one zero v e = subst (Fits 0 0 opened [] 1 [] (λ _. 0) 0) (some-injective _ _ e) at_first
       one (suc port) v e = absurd (some-ne-none v (sym e))
 
   not_gone : (s : St) (r : R s) (port : ℕ) (u : View) → get_elem? s.views port ≡ some u → u.live ≡ true → (joined : List (ℕ × List Entry)) → AllByRecursion (IsKept r.log s.views r.seats) joined
@@ -463,7 +462,7 @@ module _ {W : Type 0} (journal : W → List Entry) (ticks : W → ℕ) where
 
   -- what the root knows once every other seat was joined
   pub closes : (id : ℕ) (v : View) (words : List ℕ) (slots : List (Option W)) → id ≡ 0 → v.live ≡ true → v.holds ≡ false → v.seat ≡ 0 → AllJoined v
-      → Final (Seen R id v) words slots → (w : W) × (get_elem? slots 0 ≡ some (Some w)) × Closes v (ticks w) (journal w)
+      → Final (Seen R id v) words slots → (w : W) × (get_elem? slots 0 ≡ some (Some w)) × Closes v (ticks w) (journal w) × From opened w
   closes id v words slots root live rests seat all end =
       let s = end.0 in
       let r = end.1.0 in
@@ -475,12 +474,13 @@ module _ {W : Type 0} (journal : W → List Entry) (ticks : W → ℕ) where
         h.0,
         end.4 0 (Some h.0) (ap (λ hs. get_elem? hs 0) h.1),
         record {
-          ticks = h.3 ∙ sym (f.tick live);
+          ticks = h.3.tick ∙ sym (ap (λ (o : Opened). o.tick) (f.comes live));
           front = subst (IsPrefix v.front) (sym h.2) f.front;
           own = f.own live ∙ ap₂ of_seat seat (sym h.2);
           joined = subst (λ (j : List (ℕ × List Entry)). AllByRecursion (λ k. k.1 ≡ of_seat k.0 (journal h.0)) j) (sym x.1) (each_of (IsKept r.log s.views r.seats) (λ k. k.1 ≡ of_seat k.0 (journal h.0)) (λ k i. i.own ∙ ap (of_seat k.0) (sym h.2)) r.joined r.kept);
           nobody = λ n le. ap (of_seat n) h.2 ∙ (let m = x.0 in r.nobody n (omega arith));
         },
+        h.3,
       ))
       (λ nz. let t = r.taken nz in let u = t.2.0 in let g = r.each r.holder u t.2.1 in let l = (g.holds t.2.2).2 in let y = g.seated l in
       dite (ℕ_discrete u.seat 0)

@@ -1,5 +1,6 @@
 pub mod Seats
 pub mod Rule
+pub mod Opening
 pub mod Steps
 pub mod Turns
 pub mod Resting

@@ -3,7 +3,7 @@
 --
 --   1. The first word counts its entries, and the second is 1 while the turn is held and 0 while it is free.
 --   2. Each front that a pass has seen begins it, and no known length passes its length.
---   3. While the turn is free the world is at home and has this journal.
+--   3. While the turn is free the world is at home, has this journal, and comes from the one that was opened.
 --   4. While the turn is held the world is out, and one view holds the turn: no other does, and it holds the whole journal.
 --   5. Its entries of the seat of a live view are that view's own entries, and no two live views have the same seat.
 --   6. Its entries of a seat that was joined are those that the root kept then, and no live view has that seat.
@@ -14,27 +14,37 @@ use mathlib.Core.List.{IsPrefix}
 use mathlib.Core.Option.{none, some}
 use lib.ListN.{get_elem?}
 use Rattle.atomic_table.specs.Table.{State}
+use Rattle.world_core.specs.Worlds.{failed_count}
 use Rattle.world_core.specs.declared.entry.Entry.{Entry}
 use Rattle.world_turn.specs.Seats.{of_seat}
 use Rattle.world_turn.specs.declared.view.View.{View}
 
+-- what every pass knows of a world as it was opened: how many milliseconds an operation takes, and how often the bucket had
+-- failed
+pub record Opened : Type 0 where
+  pub tick : ℕ
+  pub faults : ℕ
+
+abbrev pub opened_of : View → Opened
+opened_of v = record { tick = v.tick; faults = v.faults }
+
 -- what the root knows at the start
-abbrev pub root : ℕ → View
-root tick = record { live = true; seat = 0; own = []; front = []; known = 0; holds = false; held = []; tick = tick; seats = 1; joined = []; beside = [] }
+abbrev pub root : Opened → View
+root opened = record { live = true; seat = 0; own = []; front = []; known = 0; holds = false; held = []; tick = opened.tick; faults = opened.faults; seats = 1; joined = []; beside = [] }
 
 -- what is left of a view that was joined
 abbrev pub spent : View
-spent = record { live = false; seat = 0; own = []; front = []; known = 0; holds = false; held = []; tick = 0; seats = 0; joined = []; beside = [] }
+spent = record { live = false; seat = 0; own = []; front = []; known = 0; holds = false; held = []; tick = 0; faults = 0; seats = 0; joined = []; beside = [] }
 
 -- what the rule says of the view at a port; `place` gives each seat its port
-pub record Fits (turn holder ticks : ℕ) (journal : List Entry) (seats : ℕ) (joined : List (ℕ × List Entry)) (place : ℕ → ℕ) (port : ℕ) (v : View) : Type 0 where
+pub record Fits (turn holder : ℕ) (opened : Opened) (journal : List Entry) (seats : ℕ) (joined : List (ℕ × List Entry)) (place : ℕ → ℕ) (port : ℕ) (v : View) : Type 0 where
   pub front : IsPrefix v.front journal
   pub beside : IsPrefix v.beside journal
   pub known : v.known ≤ length journal
   pub holds : v.holds ≡ true → (turn ≡ 1) × (port ≡ holder) × (v.live ≡ true) × (v.held ≡ journal)
   pub own : v.live ≡ true → v.own ≡ of_seat v.seat journal
   pub seated : v.live ≡ true → (v.seat < seats) × (place v.seat ≡ port)
-  pub tick : v.live ≡ true → v.tick ≡ ticks
+  pub comes : v.live ≡ true → opened_of v ≡ opened
   -- the root has the first port
   pub rooted : port ≡ 0 → (v.seats ≡ seats) × (v.joined ≡ joined)
 
@@ -44,19 +54,23 @@ pub record IsKept (journal : List Entry) (views : List View) (seats : ℕ) (kept
   pub seated : kept.0 < seats
   pub gone : (port : ℕ) (v : View) → get_elem? views port ≡ some v → v.live ≡ true → v.seat ≢ kept.0
 
--- a world is seen by its journal and its tick
-module _ {W : Type 0} (journal : W → List Entry) (ticks : W → ℕ) where
-  pub record Rule (s : State (Option W) View) : Type 0 where
+-- a world is seen by its journal, its tick, and how often its bucket has failed
+module _ {W : Type 0} (journal : W → List Entry) (ticks faults : W → ℕ) where
+  -- The world comes from one that was opened so: its bucket has failed no more often since, unless its journal shows it.
+  pub record IsFrom (opened : Opened) (w : W) : Type 0 where
+    pub tick : ticks w ≡ opened.tick
+    pub unfailed : failed_count (journal w) ≡ 0 → faults w ≡ opened.faults
+
+  pub record Rule (opened : Opened) (s : State (Option W) View) : Type 0 where
     pub turn : ℕ
     pub holder : ℕ
-    pub tick : ℕ
     pub log : List Entry
     pub seats : ℕ
     pub joined : List (ℕ × List Entry)
     pub place : ℕ → ℕ
     pub words : s.words ≡ length log ∷ turn ∷ []
-    pub free : turn ≡ 0 → (w : W) × (s.homes ≡ some (Some w) ∷ []) × (journal w ≡ log) × (ticks w ≡ tick)
+    pub free : turn ≡ 0 → (w : W) × (s.homes ≡ some (Some w) ∷ []) × (journal w ≡ log) × IsFrom opened w
     pub taken : turn ≢ 0 → (turn ≡ 1) × (s.homes ≡ none ∷ []) × ((v : View) × (get_elem? s.views holder ≡ some v) × (v.holds ≡ true))
-    pub each : (port : ℕ) (v : View) → get_elem? s.views port ≡ some v → Fits turn holder tick log seats joined place port v
+    pub each : (port : ℕ) (v : View) → get_elem? s.views port ≡ some v → Fits turn holder opened log seats joined place port v
     pub kept : AllByRecursion (IsKept log s.views seats) joined
     pub nobody : (seat : ℕ) → seats ≤ seat → of_seat seat log ≡ []

@@ -13,10 +13,12 @@ pub struct Turns<B> {
 
 impl<B: Bucket> TableRule<Option<World<B>>, View, Snapshot<World<B>>> for Turns<B> {
     ghost use Rattle.world_turn.specs.Rule.{Rule, root};
+    ghost use Rattle.world_turn.specs.Opening.{opening_of};
 
-    ghost holds = { λ opened. Rule (λ w. w.journal) (λ w. w.tick) };
+    ghost holds = { λ opened. Rule (λ w. w.journal) (λ w. w.tick) (λ w. B.faults w.bucket)
+        (opening_of B.faults opened.value) };
 
-    ghost first = { λ opened. root opened.value.tick };
+    ghost first = { λ opened. root (opening_of B.faults opened.value) };
 }
 
 /// The turn is taken where it was free.
@@ -25,7 +27,7 @@ pub(crate) struct Take;
 impl<B: Bucket> Play<Option<World<B>>, View> for Take {
     ghost use Rattle.world_turn.specs.Steps.{Takes};
 
-    ghost then = { Takes (λ w. w.journal) (λ w. w.tick) };
+    ghost then = { Takes (λ w. w.journal) (λ w. w.tick) (λ w. B.faults w.bucket) };
 }
 
 /// An entry is counted.
@@ -34,7 +36,7 @@ pub(crate) struct Append;
 impl<B: Bucket> Play<Option<World<B>>, View> for Append {
     ghost use Rattle.world_turn.specs.Steps.{Appends};
 
-    ghost then = { Appends (λ w. w.journal) (λ w. w.tick) };
+    ghost then = { Appends (λ w. w.journal) (λ w. w.tick) (λ w. B.faults w.bucket) };
 }
 
 /// The turn is given back.
@@ -43,7 +45,7 @@ pub(crate) struct Give;
 impl<B: Bucket> Play<Option<World<B>>, View> for Give {
     ghost use Rattle.world_turn.specs.Steps.{Gives};
 
-    ghost then = { Gives (λ w. w.journal) (λ w. w.tick) };
+    ghost then = { Gives (λ w. w.journal) (λ w. w.tick) (λ w. B.faults w.bucket) };
 }
 
 /// The turn is given back by a pass that has seen the whole journal.
@@ -52,7 +54,7 @@ pub(crate) struct GiveFull;
 impl<B: Bucket> Play<Option<World<B>>, View> for GiveFull {
     ghost use Rattle.world_turn.specs.Steps.{GivesFull};
 
-    ghost then = { GivesFull (λ w. w.journal) (λ w. w.tick) };
+    ghost then = { GivesFull (λ w. w.journal) (λ w. w.tick) (λ w. B.faults w.bucket) };
 }
 
 /// The entries are counted.
@@ -61,7 +63,7 @@ pub(crate) struct Look;
 impl<B: Bucket> Play<Option<World<B>>, View> for Look {
     ghost use Rattle.world_turn.specs.Steps.{Counts};
 
-    ghost then = { Counts (λ w. w.journal) (λ w. w.tick) };
+    ghost then = { Counts (λ w. w.journal) (λ w. w.tick) (λ w. B.faults w.bucket) };
 }
 
 /// The root compares a front that it took in with its own.
@@ -70,7 +72,7 @@ pub(crate) struct Compare;
 impl<B: Bucket> Play<Option<World<B>>, View> for Compare {
     ghost use Rattle.world_turn.specs.Steps.{Compares};
 
-    ghost then = { Compares (λ w. w.journal) (λ w. w.tick) };
+    ghost then = { Compares (λ w. w.journal) (λ w. w.tick) (λ w. B.faults w.bucket) };
 }
 
 /// The root makes a seat, or takes one in.

@@ -1,6 +1,7 @@
 ghost use Rattle.std.specs.Prelude.{◌≡◌, ℕ, ◌+◌, ◌<◌, ◌^◌, ◌-◌, [], ◌∷◌, Some, None, IfOk, IfErr, MatchResult};
 ghost use Rattle.world_core.specs.Operations.{IsLawful};
 ghost use Rattle.world_turn.specs.Closing.{AllJoined, Closes};
+ghost use Rattle.world_turn.specs.Opening.{ComesFrom, opening_of};
 ghost use Rattle.world_turn.specs.Passes.{table_of, view_of};
 ghost use Rattle.world_turn.specs.Rule.{root};
 ghost use Rattle.world_turn.specs.Turns.{Acts, IsLater, IsNew, IsSplit, IsJoined, Looks};
@@ -39,7 +40,8 @@ impl<B: Bucket> Shared<B> {
     pub fn open(alloc: Global, world: World<B>) -> Result<(Shared<B>, Pass), (NoMemory, World<B>)>
         requires { world.journal ≡ [] }
         ensures pass { IfOk result (λ r. (table_of r.1 ≡ r.0.table.shared.table_id)
-            × (r.1.seat ≡ 0) × (r.1.splits ≡ 0) × (view_of r.1 ≡ root world.tick)) }
+            × (r.1.seat ≡ 0) × (r.1.splits ≡ 0) × (view_of r.1 ≡ root (opening_of B.faults world))) }
+        ensures opened { IfOk result (λ r. r.0.table.shared.key.value ≡ world) }
         ensures err { IfErr result (λ e. e.1 ≡ world) }
     {
         let opened = Snapshot::of(&world);
@@ -172,7 +174,9 @@ impl<B: Bucket> Shared<B> {
     pub fn close(self, root: Pass) -> World<B>
         requires own { (table_of root ≡ self.table.shared.table_id) × (root.seat ≡ 0) }
         requires all { AllJoined (view_of root) }
-        ensures { Closes (view_of root) result.tick result.journal }
+        ensures closes { Closes (view_of root) result.tick result.journal }
+        ensures comes { ComesFrom B.faults (opening_of B.faults self.table.shared.key.value)
+            result }
     {
         let Shared { table } = self;
         let Pass {

@@ -3,6 +3,8 @@ ghost use Rattle.std.specs.Prelude.{◌≡◌, ℕ, ◌≤◌, [], ◌∷◌, �
 ghost use Rattle.world_core.specs.Limits.{most_entries};
 ghost use Rattle.world_core.specs.Machines.{gained};
 ghost use Rattle.world_core.specs.declared.entry.Entry.{Entry};
+ghost use Rattle.world_turn.specs.Opening.{ComesFrom};
+ghost use Rattle.world_turn.specs.Rule.{opened_of};
 ghost use Rattle.world_turn.specs.Steps.{holding, adding, leaving, leaving_full};
 ghost use Rattle.world_turn.specs.Turns.{Finds, settled};
 
@@ -33,7 +35,7 @@ impl<B: Bucket> Shared<B> {
         requires rests { (place.old.me.1 ≡ []) × (place.old.me.0.live ≡ true) }
         ensures same { (place.new.table_id ≡ place.old.table_id) × (place.new.id ≡ place.old.id) }
         ensures finds { Finds place.old.me.0 result.journal }
-        ensures tick { result.tick ≡ place.old.me.0.tick }
+        ensures comes { ComesFrom B.faults (opened_of place.old.me.0) result }
         ensures holds { place.new.me ≡ (holding place.old.me.0 result.journal, (0, None) ∷ []) }
     {
         let mut spins = 0u32;
@@ -85,7 +87,7 @@ impl<B: Bucket> Shared<B> {
         requires worked { (w : World B) × (place.old.me.1 ≡ (0, Some w) ∷ [])
             × (w.journal
             ≡ place.old.me.0.held ++ gained place.old.me.0.seat asked.now.value acted.now)
-            × (w.tick ≡ place.old.me.0.tick) × (length w.journal ≤ most_entries) }
+            × ComesFrom B.faults (opened_of place.old.me.0) w × (length w.journal ≤ most_entries) }
         ensures same { (place.new.table_id ≡ place.old.table_id) × (place.new.id ≡ place.old.id) }
         ensures settled { place.new.me ≡ (settled place.old.me.0 asked.now.value acted.now, []) }
     {
@@ -119,7 +121,7 @@ impl<B: Bucket> Shared<B> {
         requires own { place.old.table_id ≡ self.now.table.shared.table_id }
         requires holds { (place.old.me.0.live ≡ true) × (place.old.me.0.holds ≡ true) }
         requires lies { (w : World B) × (place.old.me.1 ≡ (0, Some w) ∷ [])
-            × (w.journal ≡ place.old.me.0.held) × (w.tick ≡ place.old.me.0.tick) }
+            × (w.journal ≡ place.old.me.0.held) × ComesFrom B.faults (opened_of place.old.me.0) w }
         ensures same { (place.new.table_id ≡ place.old.table_id) × (place.new.id ≡ place.old.id) }
         ensures gives { place.new.me ≡ (leaving place.old.me.0, []) }
     {
@@ -131,7 +133,7 @@ impl<B: Bucket> Shared<B> {
         requires own { place.old.table_id ≡ self.now.table.shared.table_id }
         requires holds { (place.old.me.0.live ≡ true) × (place.old.me.0.holds ≡ true) }
         requires lies { (w : World B) × (place.old.me.1 ≡ (0, Some w) ∷ [])
-            × (w.journal ≡ place.old.me.0.held) × (w.tick ≡ place.old.me.0.tick) }
+            × (w.journal ≡ place.old.me.0.held) × ComesFrom B.faults (opened_of place.old.me.0) w }
         ensures same { (place.new.table_id ≡ place.old.table_id) × (place.new.id ≡ place.old.id) }
         ensures gives { place.new.me ≡ (leaving_full place.old.me.0, []) }
     {

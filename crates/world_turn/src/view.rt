@@ -17,6 +17,8 @@ pub struct View {
     pub held: LinkedList<Entry>,
     /// How many milliseconds an operation takes.
     pub tick: u64,
+    /// How often the bucket had failed when the world was opened.
+    pub faults: u64,
     /// Of the root: how many seats there are, and what each joined pass had made.
     pub seats: u64,
     pub joined: LinkedList<(u32, LinkedList<Entry>)>,

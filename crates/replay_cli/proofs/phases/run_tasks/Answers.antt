@@ -10,7 +10,7 @@ use Rattle.replay_cli.proofs.phases.run_tasks.Goals as goal
 
 pub loop-place-init : goal.loop-place-init
 loop-place-init g c = record {
-  done = λ views shows. done_none (setting_of c.args.script.now) (seat_of c.args.seats.now.workers) c.args.tasks.now views c.args.progress.now.gateways.items c.args.world.journal _ c.new.result.items shows refl c.new.ensures.items;
+  done = λ views shows. done_none (setting_of c.args.script.now) (seat_of c.args.seats.now.workers) c.args.tasks.now views c.args.progress.now.gateways.items c.args.world.journal c.new-lines.result.as_asked c.new-lines.result.text.items shows c.new-lines.ensures.1 c.new-lines.ensures.0;
   goes_on = goes_on-none g.B.Bucket.faults g.B.Bucket.quiet c.args.world;
   report = refl;
   workers = refl;

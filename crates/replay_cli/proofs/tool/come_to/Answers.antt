@@ -1,5 +1,6 @@
 use Rattle.std.proofs.Common.{◌≡◌, sym, ◌∙◌, ap, refl}
 use Rattle.std.specs.Prelude.{Some, None, is_some, option_map}
+use Rattle.lifecycle_core.specs.InLine.{IsInLine}
 use Rattle.replay_cli.specs.Verdicts.{around_call}
 use Rattle.replay_cli.specs.Words.{block_word, bucket_word, named_by, shelf_word}
 use Rattle.replay_cli.specs.declared.words.Named.{Named}
@@ -15,7 +16,7 @@ use Rattle.replay_cli.proofs.tool.come_to.Goals as goal
 pub returns-in-Some-clause-cause : goal.returns-in-Some-clause-cause
 returns-in-Some-clause-cause g c = (
   caused_run
-      (λ bucket shelf block. around_call g.R.Source.left g.R.Source.faults c.args.script.now c.read_and_run.new.script g.S.Site.buckets g.S.Site.next_bucket g.S.Site.shelves g.S.Site.next_shelf g.S.Site.faults bucket shelf block
+      (λ bucket shelf block. around_call IsInLine g.R.Source.left g.R.Source.faults c.args.script.now c.read_and_run.new.script g.S.Site.buckets g.S.Site.next_bucket g.S.Site.shelves g.S.Site.next_shelf g.S.Site.faults bucket shelf block
       c.args.site.now c.read_and_run.new.site g.S.Store.Bucket.faults g.S.Files.Shelf.faults c.read_and_run.result.conclusion.store c.read_and_run.result.shelf c.read_and_run.result.conclusion.journal)
       (Some c.in-Some.named.bucket.now) (bucket_word c.args.words.now) (named_by c.in-Some.named.shelf.now) (shelf_word c.args.words.now) None (block_word c.args.words.now) c.read_and_run.result.conclusion.verdict
       c.in-Some.ensures.bucket c.in-Some.ensures.shelf c.in-Some.ensures.block
@@ -38,7 +39,7 @@ returns-in-Some-clause-shelf g c =
 pub returns-in-Some-read_check-clause-cause : goal.returns-in-Some-read_check-clause-cause
 returns-in-Some-read_check-clause-cause g c = (
   caused_check
-      (λ bucket shelf block. around_call g.R.Source.left g.R.Source.faults c.args.script.now c.args.script.now g.S.Site.buckets g.S.Site.next_bucket g.S.Site.shelves g.S.Site.next_shelf g.S.Site.faults bucket shelf block
+      (λ bucket shelf block. around_call IsInLine g.R.Source.left g.R.Source.faults c.args.script.now c.args.script.now g.S.Site.buckets g.S.Site.next_bucket g.S.Site.shelves g.S.Site.next_shelf g.S.Site.faults bucket shelf block
       c.args.site.now c.check_block.new.site g.S.Store.Bucket.faults g.S.Files.Shelf.faults c.check_block.result.conclusion.store c.check_block.result.shelf c.check_block.result.conclusion.journal)
       None (bucket_word c.args.words.now) (named_by c.in-Some-read_check.asked.shelf.now) (shelf_word c.args.words.now) (Some c.in-Some-read_check.asked.block) (block_word c.args.words.now) c.check_block.result.conclusion.verdict
       (sym c.in-Some-read_check.ensures.run) c.in-Some-read_check.ensures.shelf c.in-Some-read_check.ensures.block (
@@ -78,7 +79,7 @@ pub returns-in-None-clause-cause : goal.returns-in-None-clause-cause
 returns-in-None-clause-cause g c =
     let none : bucket_word c.args.words.now ≡ None = sym c.read_serial.ensures.bucket ∙ ap (option_map (λ (named : Named). named.bucket.now)) c.in_default.is in (
       caused_words
-          (around_call g.R.Source.left g.R.Source.faults c.args.script.now c.args.script.now g.S.Site.buckets g.S.Site.next_bucket g.S.Site.shelves g.S.Site.next_shelf g.S.Site.faults (bucket_word c.args.words.now) (shelf_word c.args.words.now) (block_word c.args.words.now)
+          (around_call IsInLine g.R.Source.left g.R.Source.faults c.args.script.now c.args.script.now g.S.Site.buckets g.S.Site.next_bucket g.S.Site.shelves g.S.Site.next_shelf g.S.Site.faults (bucket_word c.args.words.now) (shelf_word c.args.words.now) (block_word c.args.words.now)
           c.args.site.now c.args.site.now g.S.Store.Bucket.faults g.S.Files.Shelf.faults c.without_bucket.result.store None c.without_bucket.result.journal)
           c.without_bucket.result.verdict (not_named (bucket_word c.args.words.now) none) c.without_bucket.ensures.journal refl (sym c.in-None.ensures.block) c.without_bucket.ensures.verdict
           (record { handed = refl; next = refl }, record { handed = refl; next = refl }),

@@ -1,6 +1,9 @@
-use Rattle.std.proofs.Common.{◌++◌, append-nil, refl, sym, ap, ◌∙◌}
+use Rattle.std.proofs.Common.{◌++◌, append-nil, refl, sym, ap, ◌∙◌, subst}
 use Rattle.world_core.specs.Machines.{gained}
 use Rattle.world_core.specs.Operations.{entry_of}
+use Rattle.world_turn.specs.Opening.{ComesFrom}
+use Rattle.world_turn.specs.Rule.{opened_of}
+use Rattle.world_turn.specs.declared.view.View.{View}
 use Rattle.world_turn.proofs.shared.Shared.settle.Goals as goal
 
 pub append-requires-clause-lies : goal.append-requires-clause-lies
@@ -22,7 +25,7 @@ give-requires-clause-lies g c =
     let v = c.args.place.now.me.0 in
     let j = h.2 ∙ ap (λ a. v.held ++ gained v.seat c.args.asked.now.value a) c.in-Done.is in
     let m = c.append.ensures.added h.0 (entry_of v.seat c.args.asked.now.value c.in-Done.field-0) h.1 j in
-    (h.0, ap (λ x. x.1) m ∙ h.1, j ∙ sym (ap (λ x. x.0.held) m), h.3 ∙ sym (ap (λ x. x.0.tick) m))
+    (h.0, ap (λ x. x.1) m ∙ h.1, j ∙ sym (ap (λ x. x.0.held) m), subst (λ (v : View). ComesFrom g.B.Bucket.faults (opened_of v) h.0) (sym (ap (λ x. x.0) m)) h.3)
 
 pub give_full-requires-clause-lies : goal.give_full-requires-clause-lies
 give_full-requires-clause-lies g c =

@@ -1,0 +1,37 @@
+#!/usr/bin/env bash
+# Times two scripts by one thread and with a thread for each worker, prints a table, and says whether the bars are met: eight
+# gateways that are asked one query over 24 blocks take at most one 2.2th of the time on four processors (one 1.5th on two), and
+# 64 uploads of small blocks take no longer.
+# CPU names the processor that the code is built for.
+set -euo pipefail
+top=$(cd "$(dirname "$0")/.." && pwd)
+cpu=${CPU:-x86-64-v3}
+made=$(mktemp -d)
+trap 'rm -rf "$made"' EXIT
+
+# A repository of its own for the program, over this one's crates and what their checks kept.
+own=$made/crates/replay_speed
+mkdir -p "$own/src" "$own/proofs"
+cp "$top/bench/replay_speed/main.rt.txt" "$own/src/main.rt"
+touch "$own/proofs/Lib.antt"
+cp "$top/HANDLES" "$made/HANDLES"
+grep -v "^tests_\|^tosraem" "$top/crates.txt" >"$made/crates.txt"
+for name in $(sed -n 's/^\([a-z0-9_]*\):.*/\1/p' "$made/crates.txt"); do cp -al "$top/crates/$name" "$made/crates/$name"; done
+echo "replay_speed: bucket_core phase_runner replay_cli wire_bytes" >>"$made/crates.txt"
+(cd "$own" && rt run --cpu "$cpu" >"$made/lines" 2>"$made/run.log") || { tail -20 "$made/run.log"; exit 1; }
+
+awk -v processors="$(nproc)" 'NF == 4 {
+    if ($4 == 0) wrong = 1
+    key = $1 " " $2
+    if (!(key in time) || $3 < time[key]) time[key] = $3
+}
+END {
+    print "| script | serial, ms | replay, ms | ratio |\n|---|---|---|---|"
+    bar["gateways"] = processors >= 4 ? 2.2 : 1.5; bar["uploads"] = 1
+    for (name in bar) {
+        ratio = time[name " serial"] / time[name " replay"]
+        printf "| %s | %.1f | %.1f | %.2f (bar %.1f) |\n", name, time[name " serial"] / 1e6, time[name " replay"] / 1e6, ratio, bar[name]
+        if (ratio < bar[name]) missed = 1
+    }
+    print wrong ? "A run did not end as asked." : (missed ? "Missed." : "The bars are met.")
+}' "$made/lines"

@@ -1,0 +1,115 @@
+-- What a run comes to whose phases' workers were beside each other.
+use Rattle.std.proofs.Common.{◌≡◌, ℕ, ◌+◌, List, [], ◌∷◌, ◌++◌, length, refl, sym, ◌∙◌, ap, subst, arith}
+use Rattle.std.specs.Prelude.{Option, Some, Result, Ok, Err}
+use Rattle.std.specs.List.{list_all}
+use Rattle.std.proofs.lemmas.List.{length-append}
+use Rattle.std.proofs.lemmas.List.Concat.{flat_map-append}
+use Rattle.bucket_core.specs.Contents.{nothing}
+use Rattle.world_core.specs.declared.entry.Entry.{Entry}
+use Rattle.script_core.specs.Lawful.{IsLawfulScript}
+use Rattle.script_core.specs.Workers.{workers_of}
+use Rattle.script_core.specs.declared.script.Script.{Script}
+use Rattle.script_workers.specs.declared.phase.Phase.{Phase}
+use Rattle.script_workers.specs.declared.task.Task.{Task}
+use Rattle.script_workers.specs.declared.worker.Worker.{Worker}
+use Rattle.lifecycle_core.specs.Setting.{Setting}
+use Rattle.lifecycle_core.specs.Tasks.{End}
+use Rattle.lifecycle_core.proofs.Assembling.{all_guaranteed}
+use Rattle.script_running.specs.Beside.{HasRunBeside}
+use Rattle.script_running.specs.Outcomes.{PhasesCame, TasksCame, is_as_asked}
+use Rattle.script_running.specs.declared.came.Broken.{Broken}
+use Rattle.script_running.specs.declared.came.Broken.TheVariants as broken
+use Rattle.script_running.specs.declared.outcome.Outcome.{Outcome}
+use Rattle.replay_cli.specs.Reports.{activity_text}
+use Rattle.replay_cli.specs.InPhases.{IsInPhases}
+use Rattle.replay_cli.specs.Verdicts.{IsRun, report_of, tasks_of}
+use Rattle.replay_cli.specs.declared.phases.Lines.{Lines}
+use Rattle.replay_cli.proofs.ToldLines.{told_none}
+use Rattle.replay_cli.specs.declared.verdict.Verdict.{Verdict}
+use Rattle.replay_cli.specs.declared.verdict.Verdict.TheVariants as verdict
+
+-- ---- the report of the finished phases
+
+count_tasks : (script : Script) (workers : List Worker) (ends : List (List End)) (place : ℕ) (tasks : List Task) (outcomes : List Outcome) → TasksCame script workers ends place tasks outcomes → length outcomes ≡ length tasks
+count_tasks script workers ends place [] outcomes came = ap length came
+count_tasks script workers ends place (task ∷ tasks) [] came = absurd came
+count_tasks script workers ends place (task ∷ tasks) (o ∷ outcomes) came = let rest = count_tasks script workers ends (place + 1) tasks outcomes came.1 in omega (arith, rest)
+
+-- where there are as many outcomes as tasks, the tasks behind them are not told
+told_front : (script : Script) (tasks more : List Task) (outcomes : List Outcome) → length outcomes ≡ length tasks → report_of script (tasks ++ more) outcomes ≡ report_of script tasks outcomes
+unfolding report_of
+told_front script [] more [] same = told_none script more
+told_front script [] more (o ∷ outcomes) same = absurd (omega (arith, same))
+told_front script (task ∷ tasks) more [] same = refl
+told_front script (task ∷ tasks) more (o ∷ outcomes) same = ap (λ l. activity_text script task.work o ++ l) (told_front script tasks more outcomes (omega (arith, same)))
+
+count_phases : (script : Script) (number : ℕ) (phases : List Phase) (ends : List (List (List End))) (outcomes : List Outcome) → PhasesCame script number phases ends outcomes → length outcomes ≡ length (tasks_of phases)
+count_phases script number [] ends outcomes came = ap length came.1
+count_phases script number (phase ∷ phases) [] outcomes came = absurd came
+count_phases script number (phase ∷ phases) (first ∷ later) outcomes (own, others, is, here, rest) =
+    let one = count_tasks script (workers_of script number) first 0 phase.tasks own here in
+    let more = count_phases script (number + 1) phases later others rest in
+    let both : length outcomes ≡ length own + length others = ap length is ∙ length-append own others in
+    let parts = length-append phase.tasks (tasks_of phases) in
+    omega (arith, one, more, both, parts)
+
+-- the lines of all phases are those of the finished ones, if no other has an outcome
+lines_of_done : (script : Script) (done left : List Phase) (told : List (List (List End))) (outcomes : List Outcome) → script.phases ≡ done ++ left → PhasesCame script 0 done told outcomes → report_of script (tasks_of script.phases) outcomes ≡ report_of script (tasks_of done) outcomes
+lines_of_done script done left told outcomes is came =
+    ap (λ (ts : List Task). report_of script ts outcomes) (ap tasks_of is ∙ flat_map-append (λ (phase : Phase). phase.tasks) done left) ∙ told_front script (tasks_of done) (tasks_of left) outcomes (count_phases script 0 done told outcomes came)
+
+module _ (setting : Setting) (lawful : IsLawfulScript setting.script) (journal : List Entry) (outcomes : List Outcome) (report : Lines) (lines : report.text.items ≡ report_of setting.script (tasks_of setting.script.phases) outcomes) (flag : report.as_asked ≡ list_all is_as_asked outcomes) where
+  -- the script was done to its end
+  pub whole_beside : HasRunBeside setting journal outcomes (Ok tt) → IsRun IsInPhases setting (Some nothing) ⊥ (Some journal) (verdict.Report report.text report.as_asked)
+  whole_beside r = (
+    refl,
+    (
+      (r.ends, r.run, r.turns),
+      record {
+        ends = r.ends;
+        run = r.run;
+        finished = r.far.0;
+        report = record { outcomes = outcomes; came = r.far.1; lines = lines; flag = flag };
+        guaranteed = all_guaranteed setting journal r.ends lawful r.run;
+      },
+    ),
+  )
+
+  -- the journal became full
+  pub full_beside : HasRunBeside setting journal outcomes (Err broken.Full) → IsRun IsInPhases setting (Some nothing) ⊥ (Some journal) (verdict.Full report.text)
+  full_beside r = let f = r.far in (
+    refl,
+    (
+      (r.ends, r.run, r.turns),
+      record {
+        ends = r.ends;
+        run = r.run;
+        full = f.full;
+        done = f.done;
+        left = f.left;
+        phases = f.phases;
+        more = f.more;
+        told = f.told;
+        untold = f.untold;
+        parts = f.parts;
+        unfinished = f.unfinished;
+        due = f.due;
+        finished = f.finished;
+        as_asked = report.as_asked;
+        report = record { outcomes = outcomes; came = f.came; lines = lines ∙ lines_of_done setting.script f.done f.left f.told outcomes f.phases f.came; flag = flag };
+        guaranteed = all_guaranteed setting journal r.ends lawful r.run;
+      },
+    ),
+  )
+
+-- memory ran out
+pub short_beside : (setting : Setting) → IsLawfulScript setting.script → (journal : List Entry) (outcomes : List Outcome) (came : Result (Unit {0}) Broken) → HasRunBeside setting journal outcomes came → IsRun IsInPhases setting (Some nothing) ⊥ (Some journal) verdict.NoMemory
+short_beside setting lawful journal outcomes came r = ((r.ends, r.run, r.turns), (r.ends, r.run, r.turns, all_guaranteed setting journal r.ends lawful r.run))
+
+-- what a run beside comes to has its cause
+pub beside_told : (setting : Setting) → IsLawfulScript setting.script → (journal : List Entry) (outcomes : List Outcome) (report : Lines) → report.text.items ≡ report_of setting.script (tasks_of setting.script.phases) outcomes → report.as_asked ≡ list_all is_as_asked outcomes
+    → (came : Result (Unit {0}) Broken) (v : Verdict) → HasRunBeside setting journal outcomes came → (came ≡ Ok tt → v ≡ verdict.Report report.text report.as_asked) → (came ≡ Err broken.Full → v ≡ verdict.Full report.text) → (came ≡ Err broken.NoMemory → v ≡ verdict.NoMemory)
+    → IsRun IsInPhases setting (Some nothing) ⊥ (Some journal) v
+beside_told setting lawful journal outcomes report lines flag (Ok done) v ran whole full none = subst (IsRun IsInPhases setting (Some nothing) ⊥ (Some journal)) (sym (whole refl)) (whole_beside setting lawful journal outcomes report lines flag ran)
+beside_told setting lawful journal outcomes report lines flag (Err broken.Full) v ran whole full none = subst (IsRun IsInPhases setting (Some nothing) ⊥ (Some journal)) (sym (full refl)) (full_beside setting lawful journal outcomes report lines flag ran)
+beside_told setting lawful journal outcomes report lines flag (Err broken.NoMemory) v ran whole full none = subst (IsRun IsInPhases setting (Some nothing) ⊥ (Some journal)) (sym (none refl)) (short_beside setting lawful journal outcomes (Err broken.NoMemory) ran)

@@ -1,0 +1,48 @@
+use Rattle.std.proofs.Common.{◌≡◌, sym, ◌∙◌, ap, refl}
+use Rattle.std.specs.Prelude.{Some, None, option_map}
+use Rattle.replay_cli.specs.InPhases.{IsInPhases}
+use Rattle.replay_cli.specs.Verdicts.{around_call}
+use Rattle.replay_cli.specs.Words.{named_by, replay_shelf, replay_word}
+use Rattle.replay_cli.specs.declared.words.Named.{Named}
+use Rattle.replay_cli.proofs.Checks.{caused_run, caused_words, not_named}
+use Rattle.replay_cli.proofs.Openings.{shelf_named, untouched_named}
+use Rattle.replay_cli.proofs.Verdicts.{is_named}
+use Rattle.replay_cli.specs.declared.verdict.Verdict.TheVariants.{WordsRefused}
+use Rattle.replay_cli.proofs.Unfailed.{not_short}
+use Rattle.replay_cli.proofs.replay.come_to.Goals as goal
+
+-- ---- a run
+
+pub returns-in-Some-clause-cause : goal.returns-in-Some-clause-cause
+returns-in-Some-clause-cause g c = (
+  caused_run
+      (λ bucket shelf block. around_call IsInPhases g.R.Source.left g.R.Source.faults c.args.script.now c.read_and_run.new.script g.S.Site.buckets g.S.Site.next_bucket g.S.Site.shelves g.S.Site.next_shelf g.S.Site.faults bucket shelf block
+      c.args.site.now c.read_and_run.new.site g.S.Store.Bucket.faults g.S.Files.Shelf.faults c.read_and_run.result.conclusion.store c.read_and_run.result.shelf c.read_and_run.result.conclusion.journal)
+      (Some c.in-Some.named.bucket.now) (replay_word c.args.words.now) (named_by c.in-Some.named.shelf.now) (replay_shelf c.args.words.now) None None c.read_and_run.result.conclusion.verdict
+      c.in-Some.ensures.bucket c.in-Some.ensures.shelf refl
+      (is_named c.in-Some.named.bucket.now (replay_word c.args.words.now) c.in-Some.ensures.bucket) refl c.read_and_run.ensures.cause,
+  c.read_and_run.ensures.short,
+)
+
+pub returns-in-Some-clause-untouched : goal.returns-in-Some-clause-untouched
+returns-in-Some-clause-untouched g c =
+    untouched_named g.S.Store.Bucket.contents (g.S.Site.next_bucket c.args.site.now) (Some c.in-Some.named.bucket.now) (replay_word c.args.words.now) c.read_and_run.result.conclusion.journal c.read_and_run.result.conclusion.store
+    c.in-Some.ensures.bucket c.read_and_run.ensures.untouched
+
+pub returns-in-Some-clause-shelf : goal.returns-in-Some-clause-shelf
+returns-in-Some-clause-shelf g c =
+    shelf_named g.S.Site.shelves g.S.Site.next_shelf g.S.Files.Shelf.files (named_by c.in-Some.named.shelf.now) (replay_shelf c.args.words.now) c.args.site.now c.read_and_run.new.site c.read_and_run.result.shelf
+    c.in-Some.ensures.shelf c.read_and_run.ensures.shelf
+
+-- ---- words that are no form of a call
+
+pub returns-in-None-clause-cause : goal.returns-in-None-clause-cause
+returns-in-None-clause-cause g c =
+    let none : replay_word c.args.words.now ≡ None = sym c.read_replay.ensures.bucket ∙ ap (option_map (λ (named : Named). named.bucket.now)) c.in-None.is in (
+      caused_words
+          (around_call IsInPhases g.R.Source.left g.R.Source.faults c.args.script.now c.args.script.now g.S.Site.buckets g.S.Site.next_bucket g.S.Site.shelves g.S.Site.next_shelf g.S.Site.faults (replay_word c.args.words.now) (replay_shelf c.args.words.now) None
+          c.args.site.now c.args.site.now g.S.Store.Bucket.faults g.S.Files.Shelf.faults c.without_bucket.result.store None c.without_bucket.result.journal)
+          c.without_bucket.result.verdict (not_named (replay_word c.args.words.now) none) c.without_bucket.ensures.journal refl refl c.without_bucket.ensures.verdict
+          (record { handed = refl; next = refl }, record { handed = refl; next = refl }),
+      not_short c.without_bucket.result.verdict WordsRefused _ c.without_bucket.ensures.verdict tt,
+    )

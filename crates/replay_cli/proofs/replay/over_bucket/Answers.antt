@@ -1,0 +1,28 @@
+use Rattle.std.proofs.Common.{◌∙◌, ℕ, subst}
+use Rattle.replay_cli.specs.Kept.{IsUnfailed}
+use Rattle.replay_cli.specs.InPhases.{IsInPhases, none_in_phases}
+use Rattle.replay_cli.proofs.HandedBack.{back_of_none}
+use Rattle.replay_cli.proofs.Runs.{opened_told}
+use Rattle.replay_cli.proofs.Unfailed.{short_of, short_unopened, unfailed_at}
+use Rattle.replay_cli.proofs.replay.over_bucket.Goals as goal
+use Rattle.lifecycle_core.specs.Setting.{setting_of}
+
+pub returns-in-Err-clause-back : goal.returns-in-Err-clause-back
+returns-in-Err-clause-back g c =
+    back_of_none g.B.Bucket.contents g.B.Bucket.faults c.in-Err.store _ _ _ c.empty.ensures c.with_bucket.ensures.journal c.with_bucket.ensures.store
+
+pub returns-in-Err-clause-cause : goal.returns-in-Err-clause-cause
+returns-in-Err-clause-cause g c =
+    opened_told IsInPhases (setting_of c.args.script.now) (none_in_phases (setting_of c.args.script.now)) (g.B.Bucket.contents c.args.bucket) g.B.Bucket.faults c.args.bucket c.in-Err.store c.in-Err.refusal c.with_bucket.result.verdict c.empty.result c.with_bucket.result.journal c.with_bucket.result.store
+    c.with_bucket.ensures.journal c.empty.ensures c.with_bucket.ensures.store c.in-Err.ensures.failed c.in-Err.ensures.not_empty
+    (λ is. c.with_bucket.ensures.verdict ∙ c.unopened.ensures.failed is) (λ name is. c.with_bucket.ensures.verdict ∙ c.unopened.ensures.not_empty name is) (λ is. c.with_bucket.ensures.verdict ∙ c.unopened.ensures.none is)
+
+pub returns-in-Ok-clause-short : goal.returns-in-Ok-clause-short
+returns-in-Ok-clause-short g c =
+    short_of c.over_world.result.verdict _
+    (subst (λ (n : ℕ). IsUnfailed g.B.Bucket.faults n c.over_world.result.journal c.over_world.result.store) c.in-Ok.ensures.only c.over_world.ensures.unfailed)
+
+pub returns-in-Err-clause-short : goal.returns-in-Err-clause-short
+returns-in-Err-clause-short g c =
+    short_unopened c.in-Err.refusal c.with_bucket.result.verdict _ (λ is. c.with_bucket.ensures.verdict ∙ c.unopened.ensures.failed is)
+    (λ other. unfailed_at g.B.Bucket.faults (g.B.Bucket.faults c.args.bucket) _ _ c.in-Err.store c.with_bucket.ensures.store (c.in-Err.ensures.only other))

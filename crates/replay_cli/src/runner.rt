@@ -1,0 +1,84 @@
+//! A script is run over a world: by the caller itself, in the order of the lines, or with a thread for each worker of a phase.
+
+ghost use Rattle.std.specs.Prelude.{◌≡◌, [], Ok, Err, Some};
+ghost use Rattle.bucket_core.specs.Contents.{nothing};
+ghost use Rattle.world_core.specs.Worlds.{failed_count};
+ghost use Rattle.script_core.specs.Lawful.{IsLawfulScript};
+ghost use Rattle.script_core.specs.Reading.{script_of};
+ghost use Rattle.lifecycle_core.specs.InLine.{IsInLine};
+ghost use Rattle.lifecycle_core.specs.Setting.{setting_of};
+ghost use Rattle.replay_cli.specs.InPhases.{IsInPhases};
+ghost use Rattle.replay_cli.specs.Verdicts.{IsRun};
+
+use crate::Verdict;
+use crate::phases::{Lines, Progress, run_phases};
+use crate::telling::told_lines;
+use bucket_core::Bucket;
+use phase_runner::Gate;
+use script_core::Script;
+use script_running::{Broken, run_beside};
+use std::alloc::Global;
+use std::sync::Wait;
+use std::thread::Threads;
+use world_core::World;
+
+/// Does the tasks one after another, in the order of their lines.
+pub(crate) fn run_in_line<B: Bucket>(
+    alloc: Global,
+    script: &Script,
+    world: World<B>,
+) -> (Verdict, World<B>)
+    requires lawful { IsLawfulScript script.now }
+    requires fresh { world.journal ≡ [] }
+    requires tick { world.tick ≡ script.now.rules.tick.ms }
+    ensures cause { IsRun IsInLine (setting_of script.now) (Some nothing) ⊥
+        (Some result.1.journal) result.0 }
+    ensures unfailed { failed_count result.1.journal ≡ 0
+        → B.faults result.1.bucket ≡ B.faults world.bucket }
+{
+    let Ok(mut progress) = Progress::new(alloc, script) else {
+        return (Verdict::NoMemory, world);
+    };
+    let (came, world) = run_phases(alloc, script, &mut progress, world);
+    let _after = world.journal();
+    (verdict_of(came, progress.into_report()), world)
+}
+
+/// Does the phases one after another, each with a thread for each of its workers. The text spells the script.
+pub(crate) fn run_with_threads<B: Bucket + Send, G: Gate + Sync, T: Threads + Wait + Sync>(
+    rt: &T,
+    alloc: Global,
+    gate: &G,
+    script: &Script,
+    text: &[u8],
+    world: World<B>,
+) -> (Verdict, World<B>)
+    requires lawful { IsLawfulScript script.now }
+    requires spelled { script_of text.now ≡ Ok script.now }
+    requires fresh { world.journal ≡ [] }
+    requires tick { world.tick ≡ script.now.rules.tick.ms }
+    ensures cause { IsRun IsInPhases (setting_of script.now) (Some nothing) ⊥
+        (Some result.1.journal) result.0 }
+    ensures unfailed { failed_count result.1.journal ≡ 0
+        → B.faults result.1.bucket ≡ B.faults world.bucket }
+{
+    let (end, world) = run_beside(rt, alloc, script, text, world, gate);
+    match told_lines(alloc, script, end.outcomes.members()) {
+        Ok(report) => (verdict_of(end.came, report), world),
+        Err(_) => (Verdict::NoMemory, world),
+    }
+}
+
+/// What a run comes to, by what broke it off.
+fn verdict_of(came: Result<(), Broken>, report: Lines) -> Verdict
+    ensures whole { came ≡ Ok tt → result ≡ Verdict.Report report.text report.as_asked }
+    ensures full { came ≡ Err Broken.Full → result ≡ Verdict.Full report.text }
+    ensures none { came ≡ Err Broken.NoMemory → result ≡ Verdict.NoMemory }
+{
+    let Lines { text, as_asked } = report;
+    match came {
+        Ok(()) => Verdict::Report(text, as_asked),
+        Err(Broken::Full) => Verdict::Full(text),
+        Err(Broken::NoMemory) => Verdict::NoMemory,
+    }
+}

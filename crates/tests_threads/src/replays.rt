@@ -1,0 +1,241 @@
+//! Whole scripts, each phase of which has a thread for each of its workers.
+
+use crate::gates::Meeting;
+use bucket_core::{
+    Fail, FailList, FileList, MemoryBucket, MemoryShelf, MemorySink, MemorySite, MemorySource,
+};
+use phase_runner::{Gate, Open};
+use replay_cli::run_replay;
+use std::alloc::Global;
+use std::sync::Wait;
+use std::thread::Threads;
+use wire_bytes::Blob;
+
+const ONE_BLOCK: &str = "gateway g
+block 0000000000000000000000000A 1000 2000 {}
+series {__name__=\"up\"} 1000:3ff0000000000000
+at 0
+upload 0000000000000000000000000A
+at 1800000
+sync g
+query 0 5000 up
+";
+
+const ONE_BLOCK_REPORT: &str = "upload 0000000000000000000000000A: ok 3 objects
+sync g: 1 blocks
+query 0 5000: 1 series 1 samples 1 sources
+source 0000000000000000000000000A
+series {__name__=\"up\"} 1000:3ff0000000000000
+";
+
+/// The upload and the gateway run beside each other. The block is too young to be seen in its own phase.
+const YOUNG_BLOCK: &str = "gateway g
+block 0000000000000000000000000A 1000 2000 {}
+series {__name__=\"up\"} 1000:3ff0000000000000
+at 0
+sync g
+upload 0000000000000000000000000A
+query 0 5000 {}
+at 1800000
+sync g
+query 0 5000 {}
+";
+
+const YOUNG_BLOCK_REPORT: &str = "sync g: 0 blocks
+upload 0000000000000000000000000A: ok 3 objects
+query 0 5000: 0 series 0 samples 0 sources
+sync g: 1 blocks
+query 0 5000: 1 series 1 samples 1 sources
+source 0000000000000000000000000A
+series {__name__=\"up\"} 1000:3ff0000000000000
+";
+
+/// Two uploads beside each other, of blocks that differ in their replica alone.
+const TWO_REPLICAS: &str = "rule replica-label replica
+gateway g
+block 0000000000000000000000000A 1000 4000 {replica=\"0\"}
+series {a=\"x\"} 1000:0000000000000001 3000:0000000000000003
+block 0000000000000000000000000B 1000 4000 {replica=\"1\"}
+series {a=\"x\"} 1000:0000000000000001 2000:0000000000000002
+at 0
+upload 0000000000000000000000000A
+upload 0000000000000000000000000B
+at 1800000
+sync g
+query 0 5000 {}
+";
+
+const TWO_REPLICAS_REPORT: &str = "upload 0000000000000000000000000A: ok 3 objects
+upload 0000000000000000000000000B: ok 3 objects
+sync g: 2 blocks
+query 0 5000: 1 series 3 samples 2 sources
+source 0000000000000000000000000A
+source 0000000000000000000000000B
+series {a=\"x\"} 1000:0000000000000001 2000:0000000000000002 3000:0000000000000003
+";
+
+/// The call of the bucket that fails in the end: the first one opens it.
+const FAILING: u64 = 3;
+
+/// More calls than a run makes of its source or of its sink.
+const MANY_CALLS: u64 = 16;
+
+/// Which call of the bucket, of the source and of the sink fails.
+#[derive(Clone, Copy)]
+struct Failing {
+    bucket: Option<u64>,
+    source: Option<u64>,
+    sink: Option<u64>,
+}
+
+const NOTHING: Failing = Failing {
+    bucket: None,
+    source: None,
+    sink: None,
+};
+
+/// How a run ended, and what it wrote.
+#[derive(Drop)]
+struct Ended {
+    status: u8,
+    text: Vec<u8>,
+}
+
+pub fn one_block_is_told<R: Threads + Wait + Sync>(rt: &R, alloc: Global) -> bool {
+    is_told(rt, alloc, &Open, ONE_BLOCK, ONE_BLOCK_REPORT)
+}
+
+pub fn a_young_block_is_told<R: Threads + Wait + Sync>(rt: &R, alloc: Global) -> bool {
+    is_told(rt, alloc, &Open, YOUNG_BLOCK, YOUNG_BLOCK_REPORT)
+}
+
+pub fn two_replicas_are_told<R: Threads + Wait + Sync>(rt: &R, alloc: Global) -> bool {
+    is_told(rt, alloc, &Open, TWO_REPLICAS, TWO_REPLICAS_REPORT)
+}
+
+/// Two uploads wait for each other before their operation number 2, so neither comes past it unless both run.
+pub fn uploads_meet<R: Threads + Wait + Sync>(rt: &R, alloc: Global) -> bool {
+    let gate = Meeting::new();
+    is_told(rt, alloc, &gate, TWO_REPLICAS, TWO_REPLICAS_REPORT) && gate.took_place()
+}
+
+/// Of two uploads one meets the call that fails, and the other is done.
+pub fn a_fault_stops_one_upload<R: Threads + Wait + Sync>(rt: &R, alloc: Global) -> bool {
+    let failing = Failing {
+        bucket: Some(FAILING),
+        ..NOTHING
+    };
+    let Some(ended) = replayed(rt, alloc, &Open, TWO_REPLICAS, failing) else {
+        return false;
+    };
+    let Ok(text) = std::str::from_utf8(&ended.text) else {
+        return false;
+    };
+    ended.status == 5
+        && lines_with(text, "upload", ": fault ") == 1
+        && lines_with(text, "upload", ": ok 3 objects") == 1
+}
+
+/// How many lines begin with the one and hold the other.
+fn lines_with(text: &str, first: &str, held: &str) -> usize {
+    text.lines()
+        .filter(|line| line.starts_with(first) && line.contains(held))
+        .count()
+}
+
+/// The source fails at each of its calls in turn: the script is not run.
+pub fn the_source_fails<R: Threads + Wait + Sync>(rt: &R, alloc: Global) -> bool {
+    for call in 1..MANY_CALLS {
+        let failing = Failing {
+            source: Some(call),
+            ..NOTHING
+        };
+        match replayed(rt, alloc, &Open, ONE_BLOCK, failing) {
+            Some(ended)
+                if ended.status == 3
+                    && ended.text.as_slice() == b"script read fault\n".as_slice() => {}
+            Some(ended) => return call > 1 && has_told(&ended, ONE_BLOCK_REPORT),
+            None => return false,
+        }
+    }
+    false
+}
+
+/// The sink fails at each of its calls in turn.
+pub fn the_sink_fails<R: Threads + Wait + Sync>(rt: &R, alloc: Global) -> bool {
+    for call in 1..MANY_CALLS {
+        let failing = Failing {
+            sink: Some(call),
+            ..NOTHING
+        };
+        match replayed(rt, alloc, &Open, ONE_BLOCK, failing) {
+            Some(ended) if ended.status == 4 => {}
+            Some(ended) => return call > 1 && has_told(&ended, ONE_BLOCK_REPORT),
+            None => return false,
+        }
+    }
+    false
+}
+
+/// Whether a run in which nothing fails prints this report.
+fn is_told<R: Threads + Wait + Sync, G: Gate + Sync>(
+    rt: &R,
+    alloc: Global,
+    gate: &G,
+    script: &str,
+    report: &str,
+) -> bool {
+    match replayed(rt, alloc, gate, script, NOTHING) {
+        Some(ended) => has_told(&ended, report),
+        None => false,
+    }
+}
+
+/// Whether a run ended as asked, with this report.
+fn has_told(ended: &Ended, report: &str) -> bool {
+    ended.status == 0 && ended.text.as_slice() == report.as_bytes()
+}
+
+/// A run over memory.
+fn replayed<R: Threads + Wait + Sync, G: Gate + Sync>(
+    rt: &R,
+    alloc: Global,
+    gate: &G,
+    script: &str,
+    failing: Failing,
+) -> Option<Ended> {
+    let words = replay_words(alloc)?;
+    let fails = failing_call(alloc, failing.bucket)?;
+    let script = Blob::from_bytes(alloc, script.as_bytes()).ok()?;
+    let bucket = MemoryBucket::new(alloc, fails);
+    let shelf = MemoryShelf::new(alloc, FileList::new(alloc));
+    let mut site = MemorySite::new(bucket, shelf, false);
+    let mut source = MemorySource::new(script, failing.source);
+    let mut sink = MemorySink::new(alloc, failing.sink);
+    let run = run_replay(rt, alloc, &words, &mut site, &mut source, &mut sink, gate);
+    let text = Vec::from_slice(alloc, sink.bytes()).ok()?;
+    Some(Ended {
+        status: run.status,
+        text,
+    })
+}
+
+fn replay_words(alloc: Global) -> Option<Vec<String>> {
+    let mut words = Vec::new(alloc);
+    for word in ["replay", "memory", "none"] {
+        words.push(String::from_str(alloc, word).ok()?).ok()?;
+    }
+    Some(words)
+}
+
+fn failing_call(alloc: Global, failing: Option<u64>) -> Option<FailList> {
+    let mut fails = FailList::new(alloc);
+    if let Some(call) = failing {
+        let fail = Fail {
+            call,
+            landed: false,
+        };
+        fails.push(fail).ok()?;
+    }
+    Some(fails)
+}
