@@ -28,12 +28,18 @@ pub fn told_answers_are_sound()
         → IsWorth setting journal run.ends answer }
 {}
 
-/// A law: a journal tells the report. Two whole runs of one script that leave one journal print the same, and end as asked or not.
+/// A law: a journal tells the report. Two whole runs of one script that leave one journal print the same, and end as asked or not;
+/// two runs that the full journal broke off print the same; and no journal is that of a whole run and of one that was broken off.
 pub fn journals_tell_the_report()
-    ensures { (setting : Setting) (journal : List Entry) (as_asked also : Bool)
+    ensures whole { (setting : Setting) (journal : List Entry) (as_asked also : Bool)
         (text other : List ℕ)
         → IsWholeRun setting as_asked text journal → IsWholeRun setting also other journal
         → (as_asked ≡ also) × (text ≡ other) }
+    ensures full { (setting : Setting) (journal : List Entry) (text other : List ℕ)
+        → IsFullRun setting text journal → IsFullRun setting other journal → text ≡ other }
+    ensures apart { (setting : Setting) (journal : List Entry) (as_asked : Bool)
+        (text other : List ℕ)
+        → IsWholeRun setting as_asked text journal → ¬ IsFullRun setting other journal }
 {}
 
 /// A law: where a query's line tells of a missing object, the journal shows why.

@@ -1,5 +1,9 @@
-use Rattle.replay_cli.proofs.OneReport.{journal_tells}
+use Rattle.replay_cli.proofs.OneReport.{full_is_not_whole, full_journal_tells, journal_tells}
 use Rattle.replay_cli.proofs.laws.journals_tell_the_report.Goals as goal
 
 pub returns : goal.returns
-returns c = λ setting journal one other text also. journal_tells setting journal one other text also
+returns c = record {
+  whole = λ setting journal one other text also. journal_tells setting journal one other text also;
+  full = full_journal_tells;
+  apart = full_is_not_whole;
+}
