@@ -30,9 +30,10 @@ use Rattle.lifecycle_core.proofs.phases.Duties.{same_self}
 use Rattle.lifecycle_core.proofs.phases.HandLists.{Apart, joins_from}
 use Rattle.lifecycle_core.proofs.phases.OneCut.{cut_is_unfinished, cuts_tell}
 use Rattle.lifecycle_core.proofs.phases.OneEnding.{ends_tell}
+use Rattle.script_running.specs.Beside.{WhereBegun}
 use Rattle.script_running.specs.Outcomes.{IsOutcome, PhasesCame, TaskCame, TasksCame, is_as_asked}
 use Rattle.script_running.specs.declared.outcome.Outcome.{Outcome}
-use Rattle.replay_cli.specs.Verdicts.{IsFullRun, IsReport, IsWholeRun, WhereBegun, report_of, tasks_of}
+use Rattle.replay_cli.specs.Verdicts.{IsFullRun, IsReport, IsWholeRun, report_of, tasks_of}
 
 -- ---- one worker does a task
 
