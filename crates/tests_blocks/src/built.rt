@@ -1,9 +1,10 @@
 //! Blocks that are built of samples.
+ghost use Rattle.std.specs.Prelude.{◌<◌, ◌≤◌};
 ghost use Rattle.block_meta.specs.Lawful.{AreLawfulTimes};
 
 use crate::objects::print_objects;
 use block_content::{check, read_index};
-use block_files::{BlockFiles, files_objects};
+use block_files::{BlockFiles, BuildRefusal, files_objects};
 use block_keys::ObjectList;
 use block_meta::{BlockPlan, ParentList, own_sources};
 use block_writing::{build, may_build};
@@ -12,18 +13,18 @@ use index_parts::ChunkPlace;
 use label_sets::{LabelSet, Sample, SampleList, Series, SeriesList, Text};
 use list_core::NoMemory;
 use std::alloc::Global;
-use std::io;
+use std::{io, str};
 use ulid_core::Ulid;
 use wire_bytes::Blob;
 use xor_chunks::decode_stored;
 
 /// The block of the worked rows.
-fn block() -> Ulid {
+pub(crate) fn block() -> Ulid {
     Ulid::from_parts(0, 10)
 }
 
 /// The plan of a block of its own.
-fn plan_of(alloc: Global, min_time: i64, max_time: i64) -> Result<BlockPlan, NoMemory>
+pub(crate) fn plan_of(alloc: Global, min_time: i64, max_time: i64) -> Result<BlockPlan, NoMemory>
     requires { AreLawfulTimes min_time max_time }
 {
     let ulid = block();
@@ -40,7 +41,7 @@ fn plan_of(alloc: Global, min_time: i64, max_time: i64) -> Result<BlockPlan, NoM
 }
 
 /// The plan of a block that may have all samples of these rows.
-fn wide_plan(alloc: Global) -> Result<BlockPlan, NoMemory> {
+pub(crate) fn wide_plan(alloc: Global) -> Result<BlockPlan, NoMemory> {
     plan_of(alloc, -1_000_000_000_000_000, 1_000_000_000_000_000)
 }
 
@@ -85,6 +86,35 @@ fn samples_of(alloc: Global, count: u16) -> Result<SampleList, NoMemory> {
     Ok(samples)
 }
 
+/// How many bytes the index of a block has whose one sample stands under a label with a value of so many bytes, or why there is
+/// no such block.
+fn large(alloc: Global, count: usize) -> Option<Result<usize, BuildRefusal>> {
+    let value = vec![in alloc; b'x'; count].ok()?;
+    let mut labels = LabelSet::empty(alloc);
+    labels
+        .add("a", str::from_utf8(value.as_slice()).ok()?)
+        .ok()?;
+    let samples = samples_of(alloc, 1).ok()?;
+    let mut series = SeriesList::new(alloc);
+    series.push(Series { labels, samples }).ok()?;
+    let plan = wide_plan(alloc).ok()?;
+    if !may_build(&plan, &series) {
+        return None;
+    }
+    match build(alloc, &plan, &series) {
+        Ok(files) => Some(Ok(files.index.bytes().len())),
+        Err(refusal) => Some(Err(refusal)),
+    }
+}
+
+pub(crate) fn print_large(rt: &HostRuntime, row: &str, text: &str) -> io::Result<()> {
+    match large(rt.alloc(), text.parse().unwrap_or(0)) {
+        Some(Ok(bytes)) => println!(rt; "{row}: an index of {bytes} bytes"),
+        Some(Err(refusal)) => println!(rt; "{row}: {refusal:?}"),
+        None => println!(rt; "{row}: not built"),
+    }
+}
+
 /// A block of two series with so many samples.
 fn block_of_two(alloc: Global, first: u16, second: u16) -> Option<BlockFiles> {
     let mut series = SeriesList::new(alloc);
@@ -119,7 +149,7 @@ fn counts_of(alloc: Global, files: &BlockFiles) -> Option<Vec<usize>> {
 }
 
 /// How many series and samples a block of these rows holds.
-fn totals_of(alloc: Global, files: BlockFiles) -> Option<(u64, u64)> {
+pub(crate) fn totals_of(alloc: Global, files: BlockFiles) -> Option<(u64, u64)> {
     let checked = check(alloc, block(), files).ok()?;
     Some((checked.series(), checked.samples()))
 }

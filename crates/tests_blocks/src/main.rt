@@ -4,11 +4,13 @@
 #![tactic(auto)]
 
 mod built;
+mod carried;
 mod checks;
 mod objects;
 mod words;
 
-use crate::built::{print_built, print_counted};
+use crate::built::{print_built, print_counted, print_large};
+use crate::carried::print_carried;
 use crate::checks::{print_content, print_verdict};
 use crate::objects::print_shipped;
 use crate::words::print_words;
@@ -27,8 +29,10 @@ fn print_row(rt: &HostRuntime, row: &str) -> io::Result<()> {
         "shelf" | "files" => print_verdict(rt, row, word == "files", rest),
         "content" => print_content(rt, rest),
         "shipped" => print_shipped(rt, rest),
+        "carried" => print_carried(rt, row, rest),
         "built" => print_built(rt, rest),
         "counted" => print_counted(rt, row, rest),
+        "large" => print_large(rt, row, rest),
         "words" => print_words(rt, row, rest),
         _ => println!(rt; "{row}"),
     }
