@@ -12,7 +12,9 @@ pub(crate) fn advice(status: Status) -> &'static str {
     match status {
         Status::Done | Status::ActivityFailed => "",
         Status::WordsRefused => USAGE,
-        Status::ScriptRefused => "Mend the script at the line that is named, and run again.\n",
+        Status::ScriptRefused => {
+            "Mend the script at the line that is named, or split one that is too long, and run again.\n"
+        }
         Status::SourceFault => {
             "The script comes from standard input: see that it can be read, and run again.\n"
         }
