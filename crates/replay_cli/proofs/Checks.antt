@@ -125,6 +125,9 @@ unopened_caused told block failed site.NoMemory v fails one two = subst (IsCheck
 pub handed_none : {S B : Type 0} (opened : S → ℕ) (old new : S) (store : Option B) → store ≡ None → opened new ≡ opened old → IsHandedOut opened old new store
 handed_none {S} {B} opened old new store none same = subst (λ (o : Option B). opened new ≡ (if is_some o then opened old + 1 else opened old)) (sym none) same
 
+pub handed_some : {S B : Type 0} (opened : S → ℕ) (old new : S) (store : Option B) (bucket : B) → store ≡ Some bucket → opened new ≡ opened old + 1 → IsHandedOut opened old new store
+handed_some {S} {B} opened old new store bucket some more = subst (λ (o : Option B). opened new ≡ (if is_some o then opened old + 1 else opened old)) (sym some) more
+
 pub back_none : {B : Type 0} (contents : B → Option Contents) (faults : B → ℕ) (journal : Option (List Entry)) (store : Option B) → journal ≡ None → store ≡ None → IsHandedBack contents faults journal store
 back_none {B} contents faults journal store one two =
     subst (λ (j : Option (List Entry)). IsHandedBack contents faults j store) (sym one) (subst (λ (s : Option B). IsHandedBack contents faults None s) (sym two) tt)

@@ -90,6 +90,12 @@ unfailed_world {B} faults old new journal back entries store unfailed all its ke
     (subst (λ (b : Option B). IsUnfailed faults (faults old.bucket) (Some new.journal) b) (sym (handed ∙ ap (λ (b : B). Some b) its))
     unfailed)
 
+-- a world over a bucket that had not failed
+pub unfailed_ended : {B : Type 0} (faults : B → ℕ) (old new : WorldView B) (journal : Option (List Entry)) (back : Option B)
+    → (failed_count new.journal ≡ 0 → faults new.bucket ≡ faults old.bucket) → faults old.bucket ≡ 0 → journal ≡ Some new.journal → back ≡ Some new.bucket → IsUnfailed faults 0 journal back
+unfailed_ended {B} faults old new journal back unfailed none kept handed =
+    subst (λ (n : ℕ). IsUnfailed faults n journal back) none (unfailed_world faults old new journal back new.journal new.bucket unfailed refl refl kept handed)
+
 -- ---- worlds that go on
 
 pub still : {B : Type 0} (faults : B → ℕ) (quiet : B → Type 0) (world : WorldView B) → WorldGoesOn faults quiet world world

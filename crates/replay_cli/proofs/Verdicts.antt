@@ -15,9 +15,11 @@ use Rattle.script_core.specs.declared.script_refusal.ScriptRefusal.{ScriptRefusa
 use Rattle.script_core.specs.declared.script_refusal.ScriptRefusal.TheVariants.{TooLong}
 use Rattle.script_core.specs.Limits.{longest_text}
 use Rattle.replay_cli.specs.Kept.{HoldsNothing}
-use Rattle.replay_cli.specs.Verdicts.{Around, BehindOpening, IsRun, IsScriptRead, IsUnread, IsWorked}
+use Rattle.replay_cli.specs.Undone.{IsUndone}
+use Rattle.replay_cli.specs.Verdicts.{Around, BehindOpening, IsFullRun, IsRun, IsScriptRead, IsUnread, IsWholeRun, IsWorked}
 use Rattle.replay_cli.specs.declared.verdict.Verdict.{Verdict}
 use Rattle.replay_cli.specs.declared.verdict.Verdict.TheVariants.{WordsRefused, SourceFault, ScriptRefused, SiteFault, NotEmpty, Full, Report, Checked, NoMemory}
+use Rattle.lifecycle_core.specs.Guarantees.{IsGuaranteedJournal}
 use Rattle.lifecycle_core.specs.Setting.{Setting, setting_of}
 
 -- a word that names something names it
@@ -73,7 +75,7 @@ pub run_weaker : (is_done : Setting → List Entry → Type 0) (setting : Settin
     → (failed → other) → IsRun is_done setting told failed journal v → IsRun is_done setting told other journal v
 run_weaker is_done setting told failed other journal v weaker run = run_told is_done setting told told failed other journal v (as_told told) weaker run
 
-if_nothing : (P : Contents → Type 0) (told : Option Contents) → IfSome told (λ c. c ≡ nothing) → P nothing → IfSome told P
+pub if_nothing : (P : Contents → Type 0) (told : Option Contents) → IfSome told (λ c. c ≡ nothing) → P nothing → IfSome told P
 if_nothing P None is holds = tt
 if_nothing P (Some c) is holds = subst P (sym is) holds
 
@@ -127,3 +129,38 @@ refused_whole told left failed text refusal read is = inr (text, read, is)
 
 pub read_whole : (told left : Option (List ℕ)) (text : List ℕ) (script : Script) → IfSome told (λ all. (text ≡ all) × (left ≡ Some [])) → script_of text ≡ Ok script → IsScriptRead told left script
 read_whole told left text script read is = (text, read, is)
+
+-- a run that began over a world and left these entries
+pub worked_run : (around : Around) (script : Script) (entries : List Entry) (v verdict : Verdict) → IsScriptRead around.text around.left script → IsLawfulScript script → around.opened → IfSome around.before HoldsNothing
+    → around.journal ≡ Some entries → verdict ≡ v → IsRun around.is_done (setting_of script) (Some nothing) ⊥ (Some entries) v → IsWorked around verdict
+worked_run around script entries v verdict read lawful opened empty kept is run =
+    worked around script verdict read lawful (behind_opening verdict around.opened opened)
+    (run_empty around.is_done (setting_of script) around.before around.site_failed around.journal verdict empty
+    (run_handed around.is_done (setting_of script) entries (Some entries) around.journal v verdict refl kept is run))
+
+some_undone : (is_done : List Entry → Type 0) (P : List Entry → Type 0) (journal : Option (List Entry)) → is_done [] → IfSome journal (λ entries. (entries ≡ []) × P entries) → IfSome journal (λ entries. is_done entries × P entries)
+some_undone is_done P None none run = tt
+some_undone is_done P (Some entries) none run = (subst is_done (sym run.0) none, run.1)
+
+and_undone : (is_done : List Entry → Type 0) (P : List Entry → Type 0) (journal : Option (List Entry)) → is_done [] → IsSomeAnd journal (λ entries. (entries ≡ []) × P entries) → IsSomeAnd journal (λ entries. is_done entries × P entries)
+and_undone is_done P None none run = run
+and_undone is_done P (Some entries) none run = (subst is_done (sym run.0) none, run.1)
+
+run_undone : (is_done : Setting → List Entry → Type 0) (setting : Setting) (before : Option Contents) (failed : Type 0) (journal : Option (List Entry)) (v : Verdict) → is_done setting []
+    → IsRun IsUndone setting before failed journal v → IsRun is_done setting before failed journal v
+run_undone is_done setting before failed journal WordsRefused none run = run
+run_undone is_done setting before failed journal SourceFault none run = run
+run_undone is_done setting before failed journal (ScriptRefused refusal) none run = run
+run_undone is_done setting before failed journal SiteFault none run = run
+run_undone is_done setting before failed journal (NotEmpty name) none run = run
+run_undone is_done setting before failed journal (Full lines) none run = (run.0, and_undone (is_done setting) (IsFullRun setting lines.items) journal none run.1)
+run_undone is_done setting before failed journal (Report lines as_asked) none run = (run.0, and_undone (is_done setting) (IsWholeRun setting as_asked lines.items) journal none run.1)
+run_undone is_done setting before failed journal (Checked block outcome) none run = run
+run_undone is_done setting before failed journal NoMemory none run = some_undone (is_done setting) (IsGuaranteedJournal setting) journal none run
+
+-- a call that ended before its run began
+pub worked_undone : (around : Around) (is_done : Setting → List Entry → Type 0) (v : Verdict) → ((setting : Setting) → is_done setting [])
+    → IsWorked (record around { is_done = IsUndone }) v → IsWorked (record around { is_done = is_done }) v
+worked_undone around is_done v none (inl unread) = inl unread
+worked_undone around is_done v none (inr work) =
+    inr (record { script = work.script; read = work.read; lawful = work.lawful; opened = work.opened; run = run_undone is_done (setting_of work.script) around.before around.site_failed around.journal v (none (setting_of work.script)) work.run })

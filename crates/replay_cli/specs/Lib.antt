@@ -7,6 +7,7 @@ pub mod Progress
 pub mod Reports
 pub mod Statuses
 pub mod ToldAnswers
+pub mod Undone
 pub mod Verdicts
 pub mod Words
 pub use Rattle.world_core.specs.Worlds

@@ -1,7 +1,10 @@
 ghost use Rattle.std.specs.Prelude.{◌≡◌, Some, None};
+ghost use Rattle.bucket_core.specs.Contents.{nothing};
+ghost use Rattle.replay_cli.specs.Kept.{IsHandedBack, IsUntouched};
 
 use crate::Verdict;
-use world_core::Journal;
+use bucket_core::Bucket;
+use world_core::{Journal, World};
 
 /// What a call comes to, with the shelf that the site handed out.
 #[derive(Drop)]
@@ -41,5 +44,19 @@ impl<B> Conclusion<B> {
             journal: Some(journal),
             store: Some(store),
         }
+    }
+}
+
+impl<B: Bucket> Conclusion<B> {
+    /// What a run comes to that was done over a world.
+    pub(crate) fn of_world(verdict: Verdict, world: World<B>) -> Conclusion<B>
+        ensures verdict { result.verdict ≡ verdict }
+        ensures journal { result.journal ≡ Some world.journal }
+        ensures store { result.store ≡ Some world.bucket }
+        ensures back { IsHandedBack B.contents B.faults result.journal result.store }
+        ensures untouched { IsUntouched B.contents nothing result.journal result.store }
+    {
+        let (journal, store) = world.into_parts();
+        Conclusion::with_bucket(verdict, journal, store)
     }
 }

@@ -1,28 +1,20 @@
-ghost use Rattle.std.specs.Prelude.{◌≡◌, ◌⊎◌, ◌<◌, ◌≤◌, ℕ, List, [], Ok, Err, Some, None, IfOk, IfErr, IfSome, IsSome, IsSomeAnd, MatchResult, is_some};
-ghost use Rattle.bucket_core.specs.Causes.{Rose};
-ghost use Rattle.bucket_core.specs.Contents.{nothing};
-ghost use Rattle.script_core.specs.Lawful.{IsLawfulScript};
-ghost use Rattle.script_core.specs.Reading.{script_of};
+ghost use Rattle.std.specs.Prelude.{◌≡◌, ◌⊎◌, ℕ, Some, None, IfSome, is_some};
 ghost use Rattle.replay_cli.specs.Checks.{files_of};
-ghost use Rattle.replay_cli.specs.Kept.{IsHandedBack, IsHandedOut, IsNotAsked, IsOpened, IsShelfOf, IsUnfailed, IsUntouched, told_of};
+ghost use Rattle.replay_cli.specs.Kept.{IsHandedBack, IsHandedOut, IsNotAsked, IsShelfOf, IsUnfailed, IsUntouched, told_of};
 ghost use Rattle.replay_cli.specs.Statuses.{number_of};
-ghost use Rattle.replay_cli.specs.Verdicts.{BehindOpening, IfShort, IsCalm, IsCaused, IsCheckSaid, IsWorked, IsUnread, IsRun, IsSaid, IsScriptRead, SiteFailed, around_call, saying_to};
+ghost use Rattle.replay_cli.specs.Verdicts.{IfShort, IsCalm, IsCaused, IsCheckSaid, IsWorked, IsSaid, around_call, saying_to};
 ghost use Rattle.replay_cli.specs.Words.{block_word, bucket_word, named_by, shelf_word};
 ghost use Rattle.lifecycle_core.specs.InLine.{IsInLine};
-ghost use Rattle.lifecycle_core.specs.Setting.{setting_of};
 
 use crate::check::check_block;
 use crate::conclusion::{Conclusion, Ended};
-use crate::input::read_all;
-use crate::opening::{open_shelf, refused, without_shelf};
+use crate::opening::{Ready, read_and_open};
 use crate::output::write_all;
 use crate::runner::run_in_line;
 use crate::words::{read_check, read_serial};
-use crate::{InputRefusal, Run, Status, Verdict};
-use bucket_core::{Bucket, Sink, Site, Source};
-use script_core::{Script, ScriptRefusal};
+use crate::{Run, Status, Verdict};
+use bucket_core::{Sink, Site, Source};
 use std::alloc::Global;
-use world_core::{Journal, OpenRefusal, World};
 
 /// Does all that the program does: it reads the script to its end, runs it over the bucket that the site hands out, and
 /// writes the report; or it checks a block of a shelf. The words are those of the command line after the program's name.
@@ -125,7 +117,6 @@ fn come_to<S: Site, R: Source>(
 }
 
 /// Reads the script and runs it.
-#[tactic(auto, using(crate::proofs::Verdicts::worked, crate::proofs::Verdicts::unread))]
 fn read_and_run<S: Site, R: Source>(
     alloc: Global,
     bucket: &str,
@@ -153,177 +144,23 @@ fn read_and_run<S: Site, R: Source>(
     ensures shelf { IsShelfOf S.shelves S.next_shelf S.Files.files (named_by shelf.now)
         site.old site.new result.shelf }
 {
-    match read_script(alloc, script) {
-        Ok((script, _text)) => over_site(alloc, &script, bucket, shelf, site),
-        Err(verdict) => Ended {
-            conclusion: Conclusion::without_bucket(verdict),
-            shelf: None,
-        },
-    }
-}
-
-/// Reads the source to its end, and the script that its bytes spell. The bytes come with it.
-#[tactic(auto, using(crate::proofs::Verdicts::refused_too_long, crate::proofs::Verdicts::refused_whole, crate::proofs::Verdicts::read_whole))]
-pub(crate) fn read_script<R: Source>(
-    alloc: Global,
-    source: &mut R,
-) -> Result<(Script, Vec<u8>), Verdict>
-    ensures read { IfOk result
-        (λ read. IsScriptRead (R.left source.old) (R.left source.new) read.0) }
-    ensures spelled { IfOk result (λ read. script_of read.1.items ≡ Ok read.0) }
-    ensures lawful { IfOk result (λ read. IsLawfulScript read.0) }
-    ensures refused { IfErr result
-        (IsUnread (R.left source.old) (R.left source.new)
-        (Rose (R.faults source.old) (R.faults source.new))) }
-    ensures only { MatchResult result (λ _. R.faults source.new ≡ R.faults source.old)
-        (λ verdict. IfShort verdict (R.faults source.new ≡ R.faults source.old)) }
-{
-    let text = match read_all(alloc, source) {
-        Ok(text) => text,
-        Err(InputRefusal::Fault) => return Err(Verdict::SourceFault),
-        Err(InputRefusal::TooLong) => return Err(Verdict::ScriptRefused(ScriptRefusal::TooLong)),
-        Err(InputRefusal::NoMemory) => return Err(Verdict::NoMemory),
-    };
-    match Script::read(alloc, &text) {
-        Ok(script) => Ok((script, text)),
-        Err(ScriptRefusal::NoMemory) => Err(Verdict::NoMemory),
-        Err(refusal) => Err(Verdict::ScriptRefused(refusal)),
-    }
-}
-
-/// Opens the bucket and the shelf, and runs the script over the bucket.
-#[tactic(auto, using(crate::proofs::Verdicts::run_told, crate::proofs::Verdicts::failed_later))]
-fn over_site<S: Site>(
-    alloc: Global,
-    script: &Script,
-    bucket: &str,
-    shelf: &str,
-    site: &mut S,
-) -> Ended<S::Store, S::Files>
-    requires lawful { IsLawfulScript script.now }
-    ensures cause { IsRun IsInLine (setting_of script.now) (S.next_bucket site.old bucket.now)
-        (SiteFailed S.faults site.old site.new S.Store.faults result.conclusion.store)
-        result.conclusion.journal result.conclusion.verdict }
-    ensures short { IfShort result.conclusion.verdict
-        ((S.faults site.new ≡ S.faults site.old)
-        × IsUnfailed S.Store.faults 0 result.conclusion.journal result.conclusion.store) }
-    ensures fresh { IfSome result.shelf (λ files. S.Files.faults files ≡ 0) }
-    ensures opened { BehindOpening result.conclusion.verdict
-        (IsOpened (Some bucket.now) (named_by shelf.now) result.conclusion.store result.shelf) }
-    ensures handed { IsHandedOut S.buckets site.old site.new result.conclusion.store }
-    ensures kept { is_some result.conclusion.journal ≡ is_some result.conclusion.store }
-    ensures back { IsHandedBack S.Store.contents S.Store.faults result.conclusion.journal
-        result.conclusion.store }
-    ensures untouched { IfSome (S.next_bucket site.old bucket.now)
-        (λ c. IsUntouched S.Store.contents c result.conclusion.journal result.conclusion.store) }
-    ensures shelf { IsShelfOf S.shelves S.next_shelf S.Files.files (named_by shelf.now)
-        site.old site.new result.shelf }
-{
-    match site.open_bucket(bucket) {
-        Ok(bucket) => over_shelf(alloc, script, bucket, shelf, site),
-        Err(refusal) => Ended {
-            conclusion: Conclusion::without_bucket(refused(refusal)),
-            shelf: None,
-        },
-    }
-}
-
-/// Opens the shelf, and runs the script over the bucket.
-fn over_shelf<S: Site>(
-    alloc: Global,
-    script: &Script,
-    bucket: S::Store,
-    shelf: &str,
-    site: &mut S,
-) -> Ended<S::Store, S::Files>
-    requires lawful { IsLawfulScript script.now }
-    ensures cause { IsRun IsInLine (setting_of script.now) (S.Store.contents bucket)
-        (Rose (S.faults site.old) (S.faults site.new)
-        ⊎ IsSomeAnd result.conclusion.store
-        (λ store. Rose (S.Store.faults bucket) (S.Store.faults store)))
-        result.conclusion.journal result.conclusion.verdict }
-    ensures short { IfShort result.conclusion.verdict
-        ((S.faults site.new ≡ S.faults site.old)
-        × IsUnfailed S.Store.faults (S.Store.faults bucket) result.conclusion.journal
-        result.conclusion.store) }
-    ensures fresh { IfSome result.shelf (λ files. S.Files.faults files ≡ 0) }
-    ensures opened { BehindOpening result.conclusion.verdict
-        (is_some result.shelf ≡ is_some (named_by shelf.now)) }
-    ensures buckets { S.buckets site.new ≡ S.buckets site.old }
-    ensures later { S.faults site.old ≤ S.faults site.new }
-    ensures store { IsSome result.conclusion.store }
-    ensures journal { IsSome result.conclusion.journal }
-    ensures back { IsHandedBack S.Store.contents S.Store.faults result.conclusion.journal
-        result.conclusion.store }
-    ensures untouched { IfSome (S.Store.contents bucket)
-        (λ c. IsUntouched S.Store.contents c result.conclusion.journal result.conclusion.store) }
-    ensures shelf { IsShelfOf S.shelves S.next_shelf S.Files.files (named_by shelf.now)
-        site.old site.new result.shelf }
-{
-    match open_shelf(site, shelf) {
-        Ok(shelf) => Ended {
-            conclusion: over_bucket(alloc, script, bucket),
-            shelf,
-        },
-        Err(refusal) => Ended {
-            conclusion: without_shelf(alloc, refusal, bucket),
-            shelf: None,
-        },
-    }
-}
-
-/// Opens a world over the bucket, and runs the script over it.
-#[tactic(auto, using(crate::proofs::Verdicts::run_empty))]
-fn over_bucket<B: Bucket>(alloc: Global, script: &Script, bucket: B) -> Conclusion<B>
-    requires lawful { IsLawfulScript script.now }
-    ensures cause { IsRun IsInLine (setting_of script.now) (B.contents bucket)
-        (IsSomeAnd result.store (λ store. Rose (B.faults bucket) (B.faults store))) result.journal
-        result.verdict }
-    ensures short { IfShort result.verdict
-        (IsUnfailed B.faults (B.faults bucket) result.journal result.store) }
-    ensures store { IsSome result.store }
-    ensures journal { IsSome result.journal }
-    ensures back { IsHandedBack B.contents B.faults result.journal result.store }
-    ensures untouched { IfSome (B.contents bucket)
-        (λ c. IsUntouched B.contents c result.journal result.store) }
-{
-    match World::open(alloc, bucket, script.rules.tick) {
-        Ok(world) => over_world(alloc, script, world),
-        Err((refusal, store)) => {
-            Conclusion::with_bucket(unopened(refusal), Journal::empty(alloc), store)
+    match read_and_open(alloc, bucket, shelf, site, script) {
+        Ok(
+            Ready {
+                script,
+                text: _text,
+                world,
+                shelf,
+            },
+        ) => {
+            let (verdict, world) = run_in_line(alloc, &script, world);
+            Ended {
+                conclusion: Conclusion::of_world(verdict, world),
+                shelf,
+            }
         }
+        Err(ended) => ended,
     }
-}
-
-/// What a call comes to whose bucket is not opened.
-pub(crate) fn unopened(refusal: OpenRefusal) -> Verdict
-    ensures failed { refusal ≡ OpenRefusal.Failed → result ≡ Verdict.SiteFault }
-    ensures not_empty { (name : List ℕ) → refusal ≡ OpenRefusal.NotEmpty name
-        → result ≡ Verdict.NotEmpty name }
-    ensures none { refusal ≡ OpenRefusal.NoMemory → result ≡ Verdict.NoMemory }
-{
-    match refusal {
-        OpenRefusal::Failed => Verdict::SiteFault,
-        OpenRefusal::NotEmpty(name) => Verdict::NotEmpty(name),
-        OpenRefusal::NoMemory => Verdict::NoMemory,
-    }
-}
-
-fn over_world<B: Bucket>(alloc: Global, script: &Script, world: World<B>) -> Conclusion<B>
-    requires lawful { IsLawfulScript script.now }
-    requires fresh { world.journal ≡ [] }
-    requires tick { world.tick ≡ script.now.rules.tick.ms }
-    ensures cause { IsRun IsInLine (setting_of script.now) (Some nothing) ⊥ result.journal
-        result.verdict }
-    ensures unfailed { IsUnfailed B.faults (B.faults world.bucket) result.journal result.store }
-    ensures store { IsSome result.store }
-    ensures journal { IsSome result.journal }
-    ensures back { IsHandedBack B.contents B.faults result.journal result.store }
-    ensures untouched { IsUntouched B.contents nothing result.journal result.store }
-{
-    let (verdict, world) = run_in_line(alloc, script, world);
-    let (journal, store) = world.into_parts();
-    Conclusion::with_bucket(verdict, journal, store)
 }
 
 /// Writes a verdict's text. Its status is that of the call, unless the sink failed or there was no memory for the text.

@@ -1,11 +1,51 @@
-use Rattle.std.proofs.Common.{refl}
-use Rattle.replay_cli.proofs.Unfailed.{not_short, short_map, unfailed_none}
+use Rattle.std.proofs.Common.{ap, sym, ◌∙◌}
+use Rattle.std.specs.Prelude.{Some, None, is_some}
+use Rattle.replay_cli.specs.InPhases.{IsInPhases, none_in_phases}
+use Rattle.replay_cli.specs.Kept.{IsUntouched}
+use Rattle.replay_cli.specs.Verdicts.{around_call}
+use Rattle.replay_cli.specs.Words.{named_by}
+use Rattle.replay_cli.proofs.Checks.{handed_some}
+use Rattle.replay_cli.proofs.Unfailed.{short_of, unfailed_ended}
+use Rattle.replay_cli.proofs.Verdicts.{if_nothing, worked_run, worked_undone}
 use Rattle.replay_cli.proofs.replay.read_and_run.Goals as goal
 
-pub returns-in-Ok-clause-short : goal.returns-in-Ok-clause-short
-returns-in-Ok-clause-short g c = short_map c.over_site.result.conclusion.verdict _ _ (λ short. (c.in-Ok.ensures.only, short.0, short.1, c.over_site.ensures.fresh)) c.over_site.ensures.short
+-- ---- a run
 
-pub returns-in-Err-clause-short : goal.returns-in-Err-clause-short
-returns-in-Err-clause-short g c =
-    not_short c.without_bucket.result.verdict c.in-Err.verdict _ c.without_bucket.ensures.verdict
-    (short_map c.in-Err.verdict _ _ (λ same. (same, refl, unfailed_none g.S.Store.Bucket.faults 0 _ _ c.without_bucket.ensures.journal, tt)) c.in-Err.ensures.only)
+pub returns-in-Ok-clause-cause : goal.returns-in-Ok-clause-cause
+returns-in-Ok-clause-cause g c =
+    worked_run
+    (around_call IsInPhases g.R.Source.left g.R.Source.faults c.args.script.now c.read_and_open.new.script g.S.Site.buckets g.S.Site.next_bucket g.S.Site.shelves g.S.Site.next_shelf g.S.Site.faults (Some c.args.bucket.now) (named_by c.args.shelf.now) None
+    c.args.site.now c.read_and_open.new.site g.S.Store.Bucket.faults g.S.Files.Shelf.faults
+    c.of_world.result.store c.in-Ok.field-0.shelf c.of_world.result.journal)
+    c.in-Ok.field-0.script c.run_with_threads-verdict.result.1.journal c.run_with_threads-verdict.result.0 c.of_world.result.verdict c.in-Ok.ensures.read c.in-Ok.ensures.lawful
+    (ap is_some c.of_world.ensures.store, c.in-Ok.ensures.opened) c.in-Ok.ensures.empty c.of_world.ensures.journal c.of_world.ensures.verdict c.run_with_threads-verdict.ensures.cause
+
+pub returns-in-Ok-clause-short : goal.returns-in-Ok-clause-short
+returns-in-Ok-clause-short g c =
+    short_of c.of_world.result.verdict _ (
+      c.in-Ok.ensures.source,
+      c.in-Ok.ensures.site,
+      unfailed_ended g.S.Store.Bucket.faults c.in-Ok.field-0.world c.run_with_threads-verdict.result.1 _ _ c.run_with_threads-verdict.ensures.unfailed c.in-Ok.ensures.unfailed c.of_world.ensures.journal c.of_world.ensures.store,
+      c.in-Ok.ensures.unread,
+    )
+
+pub returns-in-Ok-clause-handed : goal.returns-in-Ok-clause-handed
+returns-in-Ok-clause-handed g c =
+    handed_some g.S.Site.buckets c.args.site.now c.read_and_open.new.site c.of_world.result.store c.run_with_threads-verdict.result.1.bucket c.of_world.ensures.store c.in-Ok.ensures.buckets
+
+pub returns-in-Ok-clause-kept : goal.returns-in-Ok-clause-kept
+returns-in-Ok-clause-kept g c = ap is_some c.of_world.ensures.journal ∙ sym (ap is_some c.of_world.ensures.store)
+
+pub returns-in-Ok-clause-untouched : goal.returns-in-Ok-clause-untouched
+returns-in-Ok-clause-untouched g c =
+    if_nothing (λ k. IsUntouched g.S.Store.Bucket.contents k c.of_world.result.journal c.of_world.result.store) (g.S.Site.next_bucket c.args.site.now c.args.bucket.now) c.in-Ok.ensures.empty c.of_world.ensures.untouched
+
+-- ---- a call that ended before
+
+pub returns-in-Err-clause-cause : goal.returns-in-Err-clause-cause
+returns-in-Err-clause-cause g c =
+    worked_undone
+    (around_call IsInPhases g.R.Source.left g.R.Source.faults c.args.script.now c.read_and_open.new.script g.S.Site.buckets g.S.Site.next_bucket g.S.Site.shelves g.S.Site.next_shelf g.S.Site.faults (Some c.args.bucket.now) (named_by c.args.shelf.now) None
+    c.args.site.now c.read_and_open.new.site g.S.Store.Bucket.faults g.S.Files.Shelf.faults
+    c.in-Err.ended.conclusion.store c.in-Err.ended.shelf c.in-Err.ended.conclusion.journal)
+    IsInPhases c.in-Err.ended.conclusion.verdict (λ setting. none_in_phases setting) c.in-Err.ensures.cause

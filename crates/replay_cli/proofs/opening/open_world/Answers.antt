@@ -1,11 +1,9 @@
-use Rattle.std.proofs.Common.{◌∙◌, ℕ, subst}
-use Rattle.replay_cli.specs.Kept.{IsUnfailed}
-use Rattle.lifecycle_core.specs.InLine.{IsInLine}
-use Rattle.lifecycle_core.proofs.phases.FirstPhases.{none_in_line}
+use Rattle.std.proofs.Common.{◌∙◌, refl}
+use Rattle.replay_cli.specs.Undone.{IsUndone}
 use Rattle.replay_cli.proofs.HandedBack.{back_of_none}
 use Rattle.replay_cli.proofs.Runs.{opened_told}
-use Rattle.replay_cli.proofs.Unfailed.{short_of, short_unopened, unfailed_at}
-use Rattle.replay_cli.proofs.tool.over_bucket.Goals as goal
+use Rattle.replay_cli.proofs.Unfailed.{short_unopened, unfailed_at}
+use Rattle.replay_cli.proofs.opening.open_world.Goals as goal
 use Rattle.lifecycle_core.specs.Setting.{setting_of}
 
 pub returns-in-Err-clause-back : goal.returns-in-Err-clause-back
@@ -14,14 +12,9 @@ returns-in-Err-clause-back g c =
 
 pub returns-in-Err-clause-cause : goal.returns-in-Err-clause-cause
 returns-in-Err-clause-cause g c =
-    opened_told IsInLine (setting_of c.args.script.now) (none_in_line (setting_of c.args.script.now)) (g.B.Bucket.contents c.args.bucket) g.B.Bucket.faults c.args.bucket c.in-Err.store c.in-Err.refusal c.with_bucket.result.verdict c.empty.result c.with_bucket.result.journal c.with_bucket.result.store
+    opened_told IsUndone (setting_of c.args.script.now) refl (g.B.Bucket.contents c.args.bucket) g.B.Bucket.faults c.args.bucket c.in-Err.store c.in-Err.refusal c.with_bucket.result.verdict c.empty.result c.with_bucket.result.journal c.with_bucket.result.store
     c.with_bucket.ensures.journal c.empty.ensures c.with_bucket.ensures.store c.in-Err.ensures.failed c.in-Err.ensures.not_empty
     (λ is. c.with_bucket.ensures.verdict ∙ c.unopened.ensures.failed is) (λ name is. c.with_bucket.ensures.verdict ∙ c.unopened.ensures.not_empty name is) (λ is. c.with_bucket.ensures.verdict ∙ c.unopened.ensures.none is)
-
-pub returns-in-Ok-clause-short : goal.returns-in-Ok-clause-short
-returns-in-Ok-clause-short g c =
-    short_of c.over_world.result.verdict _
-    (subst (λ (n : ℕ). IsUnfailed g.B.Bucket.faults n c.over_world.result.journal c.over_world.result.store) c.in-Ok.ensures.only c.over_world.ensures.unfailed)
 
 pub returns-in-Err-clause-short : goal.returns-in-Err-clause-short
 returns-in-Err-clause-short g c =

@@ -2,7 +2,7 @@ use Rattle.std.proofs.Common.{◌∙◌, ap}
 use Rattle.std.specs.Prelude.{Err}
 use Rattle.bucket_core.specs.Causes.{Rose}
 use Rattle.replay_cli.proofs.Verdicts.{refused_too_long}
-use Rattle.replay_cli.proofs.tool.read_script.Goals as goal
+use Rattle.replay_cli.proofs.opening.read_script.Goals as goal
 
 pub returns-in-Err-TooLong-clause-refused : goal.returns-in-Err-TooLong-clause-refused
 returns-in-Err-TooLong-clause-refused g c =
