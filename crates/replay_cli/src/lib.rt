@@ -27,7 +27,10 @@ mod words;
 pub use check_outcome::CheckOutcome;
 pub use input::read_all;
 pub use input_refusal::InputRefusal;
-pub use laws::{calm_runs_end_as_asked, told_answers_are_sound, told_misses_are_explained};
+pub use laws::{
+    calm_runs_end_as_asked, journals_tell_the_report, told_answers_are_sound,
+    told_misses_are_explained,
+};
 pub use output::{SinkFault, write_all};
 pub use replay::run_replay;
 pub use run::Run;
