@@ -15,8 +15,8 @@ use crate::faults::a_fault_stops_no_other;
 use crate::passes::passes_share_a_journal;
 use crate::phases::{workers_meet, workers_share_a_journal};
 use crate::replays::{
-    a_fault_stops_one_upload, a_young_block_is_told, one_block_is_told, the_sink_fails,
-    the_source_fails, two_replicas_are_told, uploads_meet,
+    a_fault_stops_one_upload, a_young_block_is_told, one_block_is_told, serial_runs_are_told,
+    the_sink_fails, the_source_fails, two_blocks_are_told, uploads_meet,
 };
 use std::alloc::Global;
 use std::io;
@@ -52,9 +52,10 @@ fn is_good<R: Threads + Wait + Sync>(rt: &R, alloc: Global, name: &str) -> bool 
         "workers" => workers_share_a_journal(rt, alloc),
         "meeting" => workers_meet(rt, alloc),
         "fault" => a_fault_stops_no_other(rt, alloc),
+        "serial" => serial_runs_are_told(alloc),
         "one_block" => one_block_is_told(rt, alloc),
         "young_block" => a_young_block_is_told(rt, alloc),
-        "two_replicas" => two_replicas_are_told(rt, alloc),
+        "two_blocks" => two_blocks_are_told(rt, alloc),
         "uploads" => uploads_meet(rt, alloc),
         "failing_call" => a_fault_stops_one_upload(rt, alloc),
         "source" => the_source_fails(rt, alloc),

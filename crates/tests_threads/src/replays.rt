@@ -5,7 +5,7 @@ use bucket_core::{
     Fail, FailList, FileList, MemoryBucket, MemoryShelf, MemorySink, MemorySite, MemorySource,
 };
 use phase_runner::{Gate, Open};
-use replay_cli::run_replay;
+use replay_cli::{run_replay, run_tool};
 use std::alloc::Global;
 use std::sync::Wait;
 use std::thread::Threads;
@@ -50,12 +50,11 @@ source 0000000000000000000000000A
 series {__name__=\"up\"} 1000:3ff0000000000000
 ";
 
-/// Two uploads beside each other, of blocks that differ in their replica alone.
-const TWO_REPLICAS: &str = "rule replica-label replica
-gateway g
-block 0000000000000000000000000A 1000 4000 {replica=\"0\"}
+/// Two uploads beside each other, of blocks with one series, whose samples are joined.
+const TWO_BLOCKS: &str = "gateway g
+block 0000000000000000000000000A 1000 4000 {}
 series {a=\"x\"} 1000:0000000000000001 3000:0000000000000003
-block 0000000000000000000000000B 1000 4000 {replica=\"1\"}
+block 0000000000000000000000000B 1000 4000 {}
 series {a=\"x\"} 1000:0000000000000001 2000:0000000000000002
 at 0
 upload 0000000000000000000000000A
@@ -65,7 +64,7 @@ sync g
 query 0 5000 {}
 ";
 
-const TWO_REPLICAS_REPORT: &str = "upload 0000000000000000000000000A: ok 3 objects
+const TWO_BLOCKS_REPORT: &str = "upload 0000000000000000000000000A: ok 3 objects
 upload 0000000000000000000000000B: ok 3 objects
 sync g: 2 blocks
 query 0 5000: 1 series 3 samples 2 sources
@@ -101,6 +100,13 @@ struct Ended {
     text: Vec<u8>,
 }
 
+/// The three scripts that follow, by one thread.
+pub fn serial_runs_are_told(alloc: Global) -> bool {
+    is_told_by_one(alloc, ONE_BLOCK, ONE_BLOCK_REPORT)
+        && is_told_by_one(alloc, YOUNG_BLOCK, YOUNG_BLOCK_REPORT)
+        && is_told_by_one(alloc, TWO_BLOCKS, TWO_BLOCKS_REPORT)
+}
+
 pub fn one_block_is_told<R: Threads + Wait + Sync>(rt: &R, alloc: Global) -> bool {
     is_told(rt, alloc, &Open, ONE_BLOCK, ONE_BLOCK_REPORT)
 }
@@ -109,14 +115,14 @@ pub fn a_young_block_is_told<R: Threads + Wait + Sync>(rt: &R, alloc: Global) ->
     is_told(rt, alloc, &Open, YOUNG_BLOCK, YOUNG_BLOCK_REPORT)
 }
 
-pub fn two_replicas_are_told<R: Threads + Wait + Sync>(rt: &R, alloc: Global) -> bool {
-    is_told(rt, alloc, &Open, TWO_REPLICAS, TWO_REPLICAS_REPORT)
+pub fn two_blocks_are_told<R: Threads + Wait + Sync>(rt: &R, alloc: Global) -> bool {
+    is_told(rt, alloc, &Open, TWO_BLOCKS, TWO_BLOCKS_REPORT)
 }
 
 /// Two uploads wait for each other before their operation number 2, so neither comes past it unless both run.
 pub fn uploads_meet<R: Threads + Wait + Sync>(rt: &R, alloc: Global) -> bool {
     let gate = Meeting::new();
-    is_told(rt, alloc, &gate, TWO_REPLICAS, TWO_REPLICAS_REPORT) && gate.took_place()
+    is_told(rt, alloc, &gate, TWO_BLOCKS, TWO_BLOCKS_REPORT) && gate.took_place()
 }
 
 /// Of two uploads one meets the call that fails, and the other is done.
@@ -125,7 +131,7 @@ pub fn a_fault_stops_one_upload<R: Threads + Wait + Sync>(rt: &R, alloc: Global)
         bucket: Some(FAILING),
         ..NOTHING
     };
-    let Some(ended) = replayed(rt, alloc, &Open, TWO_REPLICAS, failing) else {
+    let Some(ended) = replayed(rt, alloc, &Open, TWO_BLOCKS, failing) else {
         return false;
     };
     let Ok(text) = std::str::from_utf8(&ended.text) else {
@@ -191,12 +197,19 @@ fn is_told<R: Threads + Wait + Sync, G: Gate + Sync>(
     }
 }
 
+fn is_told_by_one(alloc: Global, script: &str, report: &str) -> bool {
+    match by_one(alloc, script) {
+        Some(ended) => has_told(&ended, report),
+        None => false,
+    }
+}
+
 /// Whether a run ended as asked, with this report.
 fn has_told(ended: &Ended, report: &str) -> bool {
     ended.status == 0 && ended.text.as_slice() == report.as_bytes()
 }
 
-/// A run over memory.
+/// A run over memory, with a thread for each worker.
 fn replayed<R: Threads + Wait + Sync, G: Gate + Sync>(
     rt: &R,
     alloc: Global,
@@ -204,12 +217,9 @@ fn replayed<R: Threads + Wait + Sync, G: Gate + Sync>(
     script: &str,
     failing: Failing,
 ) -> Option<Ended> {
-    let words = replay_words(alloc)?;
-    let fails = failing_call(alloc, failing.bucket)?;
+    let words = words_of(alloc, "replay")?;
     let script = Blob::from_bytes(alloc, script.as_bytes()).ok()?;
-    let bucket = MemoryBucket::new(alloc, fails);
-    let shelf = MemoryShelf::new(alloc, FileList::new(alloc));
-    let mut site = MemorySite::new(bucket, shelf, false);
+    let mut site = memory_site(alloc, failing.bucket)?;
     let mut source = MemorySource::new(script, failing.source);
     let mut sink = MemorySink::new(alloc, failing.sink);
     let run = run_replay(rt, alloc, &words, &mut site, &mut source, &mut sink, gate);
@@ -220,12 +230,35 @@ fn replayed<R: Threads + Wait + Sync, G: Gate + Sync>(
     })
 }
 
-fn replay_words(alloc: Global) -> Option<Vec<String>> {
+/// A run over memory by one thread, in which nothing fails.
+fn by_one(alloc: Global, script: &str) -> Option<Ended> {
+    let words = words_of(alloc, "serial")?;
+    let script = Blob::from_bytes(alloc, script.as_bytes()).ok()?;
+    let mut site = memory_site(alloc, None)?;
+    let mut source = MemorySource::new(script, None);
+    let mut sink = MemorySink::new(alloc, None);
+    let run = run_tool(alloc, &words, &mut site, &mut source, &mut sink);
+    let text = Vec::from_slice(alloc, sink.bytes()).ok()?;
+    Some(Ended {
+        status: run.status,
+        text,
+    })
+}
+
+fn words_of(alloc: Global, call: &str) -> Option<Vec<String>> {
     let mut words = Vec::new(alloc);
-    for word in ["replay", "memory", "none"] {
+    for word in [call, "memory", "none"] {
         words.push(String::from_str(alloc, word).ok()?).ok()?;
     }
     Some(words)
+}
+
+/// An empty bucket of which one call fails, beside an empty shelf.
+fn memory_site(alloc: Global, failing: Option<u64>) -> Option<MemorySite> {
+    let fails = failing_call(alloc, failing)?;
+    let bucket = MemoryBucket::new(alloc, fails);
+    let shelf = MemoryShelf::new(alloc, FileList::new(alloc));
+    Some(MemorySite::new(bucket, shelf, false))
 }
 
 fn failing_call(alloc: Global, failing: Option<u64>) -> Option<FailList> {
