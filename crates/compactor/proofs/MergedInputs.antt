@@ -1,5 +1,5 @@
 -- What becomes of blocks that were read.
-use Rattle.std.proofs.Common.{◌≡◌, ◌≤◌, ℕ, suc, List, [], ◌∷◌, map, length, refl, sym, ap, subst, ◌∙◌, arith}
+use Rattle.std.proofs.Common.{◌≡◌, ◌≤◌, ℕ, suc, List, [], ◌∷◌, map, length, refl, ap, subst, ◌∙◌, arith}
 use Rattle.std.specs.List.{AllByRecursion, AllZip}
 use Rattle.label_sets.specs.declared.label.Label.{Label}
 use Rattle.block_meta.specs.declared.meta.Meta.{Meta}

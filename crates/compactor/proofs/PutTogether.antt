@@ -4,7 +4,6 @@ use Rattle.std.specs.List.{AllByRecursion, AllZip}
 use Rattle.list_core.proofs.Lists.{AllByRecursion-push}
 use Rattle.reading_core.specs.Grammar.{IsBytes}
 use Rattle.block_files.specs.declared.block_files.BlockFiles.{BlockFiles}
-use Rattle.block_laws.specs.PutContent.{AreBytes}
 use Rattle.compactor.specs.Inputs.{IsInput, HasFew}
 use Rattle.compactor.specs.InputFiles.{numbers_of, AreFiles, AreSegments}
 use Rattle.compactor.specs.declared.input.Input.{Input}

@@ -1,7 +1,7 @@
 -- The entry that shows why a block is refused.
-use Rattle.std.proofs.Common.{◌≡◌, ◌≢◌, ◌^◌, ◌-◌, ◌<◌, ℕ, zero, suc, List, [], ◌∷◌, map, length, min, Option, Some, None, Result, Ok, Err, IfOk, refl, sym, ap, subst, ◌∙◌, arith}
+use Rattle.std.proofs.Common.{◌≡◌, ◌<◌, ℕ, zero, suc, List, [], ◌∷◌, map, Some, Result, Ok, Err, IfOk, refl, sym, ap, subst, ◌∙◌, arith}
 use Rattle.std.specs.Prelude.{slice_get}
-use Rattle.std.specs.List.{AllByRecursion, AllZip}
+use Rattle.std.specs.List.{AllZip}
 use Rattle.list_core.specs.declared.memory.NoMemory.{NoMemory as OutOfMemory}
 use Rattle.reading_core.specs.Reading.{refused_as}
 use Rattle.reading_core.proofs.Binds.{ok_is}

@@ -1,9 +1,7 @@
-use Rattle.std.proofs.Common.{◌∙◌, subst, sym, arith}
-use Rattle.std.specs.List.{AllByRecursion}
+use Rattle.std.proofs.Common.{◌∙◌, arith}
 use Rattle.std.proofs.lemmas.Iterator.Adapters.{YieldsList-from_vec}
-use Rattle.std.proofs.lemmas.Iterator.Consumers.{YieldsList-end, YieldsList-turn}
-use Rattle.compactor.specs.Inputs.{HasFew}
-use Rattle.compactor.proofs.PutTogether.{no_files, files_all, few_there}
+use Rattle.std.proofs.lemmas.Iterator.Consumers.{YieldsList-end}
+use Rattle.compactor.proofs.PutTogether.{no_files, files_all}
 use Rattle.compactor.proofs.input_files.all_files.Goals as goal
 
 pub loop-input-init : goal.loop-input-init

@@ -1,6 +1,5 @@
 use Rattle.std.proofs.Common.{◌∙◌, sym, ap, subst, map, Err}
-use Rattle.std.specs.List.{AllByRecursion, AllZip}
-use Rattle.block_meta.specs.declared.meta.Meta.{Meta}
+use Rattle.std.specs.List.{AllByRecursion}
 use Rattle.block_files.specs.declared.block_files.BlockFiles.{BlockFiles}
 use Rattle.block_merging.specs.Inputs.{LiesWithin}
 use Rattle.block_merging.specs.MergedBlock.{IsMergeOf, HaveNoMerge}
