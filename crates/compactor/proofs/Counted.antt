@@ -33,7 +33,8 @@ use Rattle.compactor.specs.declared.input.Input.{Input}
 use Rattle.compactor.specs.declared.input.Read.{Read}
 use Rattle.compactor.specs.declared.reason.Reason.{Reason}
 use Rattle.compactor.specs.declared.reason.Reason.TheVariants.{Covered, Compacted, Expired}
-use Rattle.compactor.specs.Merges.{Merging, merged, refused, too_large}
+use Rattle.compactor.specs.declared.merging.Merging.{Merging}
+use Rattle.compactor.specs.declared.merging.Merging.TheVariants as merging_is
 use Rattle.meta_fetcher.specs.OneView.{one_end_of}
 use Rattle.compactor.specs.Counts.{HavePlans, IsCounted}
 use Rattle.compactor.specs.Compactions.{read_ends, last_number, after_upload, after_merge, merging, compacting, compacting_groups, metas_of, names_of, expired_at, rounds, sync_rules, after_sync, CompactRun}
@@ -117,12 +118,12 @@ module _ (all : List Group) where
   uploaded_end next (uploaded.Fault number, last) made is = tt
 
   merge_end : (ulid : ℕ) (parents : List ℕ) (next : Plan CompactEnd) (becomes : Merging) (made : List Entry) → ((made : List Entry) → Ends made next) → Ends made (after_merge ulid parents next becomes)
-  merge_end ulid parents next (merged block) made on =
+  merge_end ulid parents next (merging_is.Merged block) made on =
       ends_of_both Any Is (noting last_number None (upload ulid (block_objects ulid block))) (after_upload (marking Fault Compacted 0 parents (λ put. next))) made
       (any_ends Any (λ all last. Ends all (after_upload (marking Fault Compacted 0 parents (λ put. next)) last)) (noting last_number None (upload ulid (block_objects ulid block))) made
       (λ made last. uploaded_end (marking Fault Compacted 0 parents (λ put. next)) last made (marks_end Compacted 0 parents (λ put. next) made (λ more made. on made))))
-  merge_end ulid parents next (refused number) made on = tt
-  merge_end ulid parents next too_large made on = tt
+  merge_end ulid parents next (merging_is.Refused number) made on = tt
+  merge_end ulid parents next merging_is.TooLarge made on = tt
 
   group_end : (replicas : List (List ℕ)) (labels : List Label) (unplanned next : Plan CompactEnd) (first : Meta) (metas : List Meta) (made : List Entry) → ((made : List Entry) → Ends made next) → Ends made (compacting replicas labels unplanned next (first ∷ metas))
   group_end replicas labels unplanned next first metas made on =

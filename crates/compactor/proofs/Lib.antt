@@ -6,5 +6,8 @@ mod MarkSteps
 mod ReadSteps
 mod JobRuns
 mod Expired
+mod PutTogether
+mod Refusing
+mod MergedInputs
 mod SyncParts
 mod Counted

@@ -32,7 +32,9 @@ use Rattle.compactor.specs.Marking.{marking}
 use Rattle.compactor.specs.Reading.{ReadEnds, reads_block, reads_blocks}
 use Rattle.compactor.specs.declared.input.Input.{Input}
 use Rattle.compactor.specs.declared.reason.Reason.TheVariants.{Covered, Compacted, Expired}
-use Rattle.compactor.specs.Merges.{Merging, merged, refused, too_large, IsMerging}
+use Rattle.compactor.specs.Merges.{IsMerging}
+use Rattle.compactor.specs.declared.merging.Merging.{Merging}
+use Rattle.compactor.specs.declared.merging.Merging.TheVariants as merging_is
 use Rattle.meta_fetcher.specs.OneView.{one_end_of}
 use Rattle.compactor.specs.OneMerge.{one_merging}
 use Rattle.compactor.specs.declared.compact_end.CompactEnd.{CompactEnd}
@@ -57,11 +59,11 @@ after_upload next (uploaded.Fault number, last) = ends (Fault number)
 
 -- what follows the merge: the upload of the block under its ULID, and after it the marks of those that it was compacted from
 abbrev pub after_merge : ℕ → List ℕ → Plan CompactEnd → Merging → Plan CompactEnd
-after_merge ulid parents next (merged block) =
+after_merge ulid parents next (merging_is.Merged block) =
     and_then (noting last_number None (upload ulid (block_objects ulid block)))
     (after_upload (marking Fault Compacted 0 parents (λ put. next)))
-after_merge ulid parents next (refused number) = ends (Damaged number)
-after_merge ulid parents next too_large = ends TooLarge
+after_merge ulid parents next (merging_is.Refused number) = ends (Damaged number)
+after_merge ulid parents next merging_is.TooLarge = ends TooLarge
 
 -- The merge of the inputs, the last object of which was read at the entry of that number and moment. The new block has its ULID by it.
 abbrev pub merging : List (List ℕ) → List Label → List ℕ → Plan CompactEnd → List Input → ℕ → Moment → Plan CompactEnd

@@ -5,6 +5,7 @@ pub mod Named
 pub mod Reading
 pub mod Inputs
 pub mod Merges
+pub mod InputFiles
 pub mod OnePlan
 pub mod OneRefusal
 pub mod OneMerge

@@ -12,15 +12,9 @@ use Rattle.vertical_merge.specs.Compacted.{IsCompactedPlan}
 use Rattle.block_merging.specs.Inputs.{IsFirstRefused}
 use Rattle.block_merging.specs.MergedBlock.{IsMergeOf, HaveNoMerge}
 use Rattle.compactor.specs.Inputs.{IsInput}
+use Rattle.compactor.specs.declared.merging.Merging.{Merging}
+use Rattle.compactor.specs.declared.merging.Merging.TheVariants.{Merged, Refused, TooLarge}
 use Rattle.compactor.specs.declared.input.Input.{Input}
-
-pub data Merging : Type 0 where
-  -- they become this block
-  merged : BlockFiles → Merging
-  -- what was read at the entry of this number is not as it may be
-  refused : ℕ → Merging
-  -- the index of the merge would pass its greatest length
-  too_large : Merging
 
 -- the blocks' files, and what the merge will say of itself
 pub record Given (ulid : ℕ) (labels : List Label) (inputs : List Input) : Type 0 where
@@ -45,9 +39,9 @@ pub record IsRefused (inputs : List Input) (blocks : List BlockFiles) (number : 
   pub shown : WasReadAt input first.member cause number
 
 abbrev pub IsMerging : List (List ℕ) → ℕ → List Label → List Input → Merging → Type 0
-IsMerging replicas ulid labels inputs (merged block) =
+IsMerging replicas ulid labels inputs (Merged block) =
     (given : Given ulid labels inputs) × IsMergeOf given.plan replicas given.blocks block
-IsMerging replicas ulid labels inputs (refused number) =
+IsMerging replicas ulid labels inputs (Refused number) =
     (given : Given ulid labels inputs) × IsRefused inputs given.blocks number
-IsMerging replicas ulid labels inputs too_large =
+IsMerging replicas ulid labels inputs TooLarge =
     (given : Given ulid labels inputs) × HaveNoMerge given.plan replicas given.blocks

@@ -21,7 +21,9 @@ use Rattle.block_merging.proofs.PlansFit.{compacted_lie}
 use Rattle.block_merging.proofs.MergeLaws.{merge_once}
 use Rattle.compactor.specs.Inputs.{IsInput}
 use Rattle.compactor.specs.declared.input.Input.{Input}
-use Rattle.compactor.specs.Merges.{Merging, merged, refused, too_large, Given, IsRefused, IsMerging}
+use Rattle.compactor.specs.Merges.{Given, IsRefused, IsMerging}
+use Rattle.compactor.specs.declared.merging.Merging.{Merging}
+use Rattle.compactor.specs.declared.merging.Merging.TheVariants.{Merged, Refused, TooLarge}
 use Rattle.compactor.specs.OnePlan.{compacted_once}
 use Rattle.compactor.specs.OneRefusal.{none_refused, refused_once}
 
@@ -86,14 +88,14 @@ module _ (replicas : List (List ℕ)) (ulid : ℕ) (labels : List Label) (inputs
       none_refused g.blocks so'.place so'.cause (bytes g) is.put_is.held so'.first
 
   pub one_merging : (one other : Merging) → IsMerging replicas ulid labels inputs one → IsMerging replicas ulid labels inputs other → one ≡ other
-  one_merging (merged block) (merged other) (g, is) (h, so) =
-      ap (λ (b : BlockFiles). merged b) (merge_once g.plan replicas g.blocks block other (bytes g) (lie g) is (moved ulid labels inputs g h (λ p bs. IsMergeOf p replicas bs other) so))
-  one_merging (merged block) (refused number) (g, is) (h, so) = absurd (not_refused g h block number is so)
-  one_merging (merged block) too_large (g, is) (h, so) = absurd (not_large g h block is so)
-  one_merging (refused number) (merged block) (g, is) (h, so) = absurd (not_refused h g block number so is)
-  one_merging (refused number) (refused other) (g, is) (h, so) =
-      ap (λ (n : ℕ). refused n) (refused_once inputs g.blocks number other (bytes g) is (moved ulid labels inputs g h (λ p bs. IsRefused inputs bs other) so))
-  one_merging (refused number) too_large (g, is) (h, so) = absurd (large_not_refused h g number so is)
-  one_merging too_large (merged block) (g, is) (h, so) = absurd (not_large h g block so is)
-  one_merging too_large (refused number) (g, is) (h, so) = absurd (large_not_refused g h number is so)
-  one_merging too_large too_large is so = refl
+  one_merging (Merged block) (Merged other) (g, is) (h, so) =
+      ap (λ (b : BlockFiles). Merged b) (merge_once g.plan replicas g.blocks block other (bytes g) (lie g) is (moved ulid labels inputs g h (λ p bs. IsMergeOf p replicas bs other) so))
+  one_merging (Merged block) (Refused number) (g, is) (h, so) = absurd (not_refused g h block number is so)
+  one_merging (Merged block) TooLarge (g, is) (h, so) = absurd (not_large g h block is so)
+  one_merging (Refused number) (Merged block) (g, is) (h, so) = absurd (not_refused h g block number so is)
+  one_merging (Refused number) (Refused other) (g, is) (h, so) =
+      ap (λ (n : ℕ). Refused n) (refused_once inputs g.blocks number other (bytes g) is (moved ulid labels inputs g h (λ p bs. IsRefused inputs bs other) so))
+  one_merging (Refused number) TooLarge (g, is) (h, so) = absurd (large_not_refused h g number so is)
+  one_merging TooLarge (Merged block) (g, is) (h, so) = absurd (not_large h g block so is)
+  one_merging TooLarge (Refused number) (g, is) (h, so) = absurd (large_not_refused g h number is so)
+  one_merging TooLarge TooLarge is so = refl

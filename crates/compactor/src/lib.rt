@@ -4,11 +4,13 @@
 mod compact_end;
 mod found;
 mod input;
+mod input_files;
 mod job;
 mod laws;
 mod mark_stage;
 mod marks;
 mod marks_end;
+mod merging;
 mod named;
 mod new_block;
 mod new_mark;
