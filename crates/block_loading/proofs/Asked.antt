@@ -5,7 +5,7 @@ use Rattle.std.proofs.lemmas.List.{append-nil, append_assoc}
 use Rattle.block_keys.specs.declared.key.Key.{Key}
 use Rattle.block_keys.specs.declared.key.Key.TheVariants.{Segment}
 use Rattle.block_keys.specs.KeyText.{key_text}
-use Rattle.bucket_core.specs.Files.{Asks}
+use Rattle.bucket_core.specs.Asking.{Asks}
 use Rattle.block_loading.specs.Loading.{key_after, names_after}
 use Rattle.block_loading.specs.LoadReading.{AsksFile}
 use Rattle.block_loading.specs.declared.load_refusal.LoadRefusal.{LoadRefusal}
@@ -48,6 +48,10 @@ none_since : (told : Option (List (List ℕ))) → IfSome told (λ before. told 
 none_since None = tt
 none_since (Some before) = ap (λ (names : List (List ℕ)). Some names) (sym (append-nil before))
 
+same_since : (old new : Option (List (List ℕ))) → new ≡ old → IfSome old (λ before. new ≡ Some (before ++ []))
+same_since None new same = tt
+same_since (Some before) new same = same ∙ ap (λ (names : List (List ℕ)). Some names) (sym (append-nil before))
+
 then_since : (old mid new : Option (List (List ℕ))) (first second : List (List ℕ)) → IfSome old (λ before. mid ≡ Some (before ++ first)) → IfSome mid (λ before. new ≡ Some (before ++ second)) → IfSome old (λ before. new ≡ Some (before ++ (first ++ second)))
 then_since None mid new first second one other = tt
 then_since (Some before) mid new first second one other =
@@ -57,6 +61,10 @@ module _ {S : Type 0} (asked : S → Option (List (List ℕ))) where
   -- without a call none is asked
   pub asks_none : (s : S) → Asks asked s s []
   asks_none s = none_since (asked s)
+
+  -- nor by a call that was not noted
+  pub asks_same : (old new : S) → asked new ≡ asked old → Asks asked old new []
+  asks_same old new same = same_since (asked old) (asked new) same
 
   pub asks_first : (s : S) (ulid before : ℕ) → Asks asked s s (names_after ulid before 0)
   unfolding names_after

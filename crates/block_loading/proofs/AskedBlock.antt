@@ -7,7 +7,7 @@ use Rattle.block_keys.specs.KeyText.{key_text}
 use Rattle.block_meta.specs.MetaFields.{MetaFields}
 use Rattle.index_file.specs.declared.index_series.IndexSeries.{IndexSeries}
 use Rattle.bucket_core.specs.Contents.{Contents}
-use Rattle.bucket_core.specs.Files.{Asks}
+use Rattle.bucket_core.specs.Asking.{Asks}
 use Rattle.block_loading.specs.Loading.{HasSegments, last_segment, ReachesSegment, Reaches, key_after, names_after}
 use Rattle.block_loading.specs.LoadReading.{IsBrokenOff, WasBrokenOff, AsksFile, AsksInOrder, AsksSegments, meta_at, index_in}
 use Rattle.block_loading.specs.declared.load_refusal.LoadRefusal.{LoadRefusal}

@@ -7,7 +7,7 @@ use Rattle.list_core.proofs.Lists.{slice_get-take}
 use Rattle.block_keys.specs.declared.key.Key.TheVariants.{Segment}
 use Rattle.block_keys.specs.KeyText.{key_text}
 use Rattle.bucket_core.specs.Contents.{Contents}
-use Rattle.bucket_core.specs.Files.{Asks}
+use Rattle.bucket_core.specs.Asking.{Asks}
 use Rattle.block_loading.specs.Loading.{HasFile, HasSegments, names_after}
 use Rattle.block_loading.specs.LoadReading.{IsBrokenOff, AsksFile, AsksSegments, file_at}
 use Rattle.block_loading.specs.declared.load_refusal.LoadRefusal.{LoadRefusal}

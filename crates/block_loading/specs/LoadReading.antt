@@ -15,7 +15,8 @@ use Rattle.block_content.specs.declared.check_refusal.CheckRefusal.{CheckRefusal
 use Rattle.block_content.specs.declared.check_refusal.CheckRefusal.TheVariants as check
 use Rattle.bucket_core.specs.Causes.{Rose}
 use Rattle.bucket_core.specs.Contents.{Contents}
-use Rattle.bucket_core.specs.Files.{file_limit, Asks}
+use Rattle.bucket_core.specs.Asking.{Asks}
+use Rattle.bucket_core.specs.Files.{file_limit}
 use Rattle.block_loading.specs.Loading.{last_segment, HasSegments, Reaches, key_after, names_after, names_read}
 use Rattle.block_loading.specs.declared.load_refusal.LoadRefusal.{LoadRefusal}
 use Rattle.block_loading.specs.declared.load_refusal.LoadRefusal.TheVariants.{Refused, ShelfFault, NoMemory}

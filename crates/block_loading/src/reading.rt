@@ -1,5 +1,5 @@
 //! The files of a block, each as it is read from a shelf.
-ghost use Rattle.std.specs.Prelude.{◌≡◌, ◌+◌, ◌≤◌, ℕ, Option, Some, Ok, List, IfOk, length, map, max};
+ghost use Rattle.std.specs.Prelude.{◌≡◌, ◌+◌, ◌≤◌, ℕ, Option, Some, Ok, Err, List, IfOk, length, map, max};
 ghost use Rattle.std.specs.List.{flat_map};
 ghost use Rattle.reading_core.specs.Grammar.{IsBytes};
 ghost use Rattle.block_keys.specs.Keys.{IsLawfulKey};
@@ -33,6 +33,7 @@ fn file_of(key: &Key, answer: ShelfAnswer) -> Result<Blob, LoadRefusal>
     ensures read { (file : Option (List ℕ)) → ShowsFile file answer
         → Loads (λ bytes. bytes) result (file_in key.now file) }
     ensures failed { was_fault result ≡ file_failed answer }
+    ensures memory { answer ≡ ShelfAnswer.NoMemory → result ≡ Err LoadRefusal.NoMemory }
 {
     match answer {
         ShelfAnswer::Found(bytes) => Ok(bytes),

@@ -1,5 +1,5 @@
--- What the reading of a file may answer, and which names were asked.
-use Rattle.std.specs.Prelude.{◌≡◌, ℕ, ◌<◌, ◌≤◌, List, ◌++◌, length, Option, Some, None, IfSome, IsSomeAnd}
+-- What the reading of a file may answer.
+use Rattle.std.specs.Prelude.{◌≡◌, ℕ, ◌<◌, ◌≤◌, List, length, Option, Some, None, IsSomeAnd}
 use Rattle.bucket_core.specs.declared.answer.ShelfAnswer.{ShelfAnswer}
 use Rattle.bucket_core.specs.declared.answer.ShelfAnswer.TheVariants.{Found, Absent, TooLarge, Failed, NoMemory}
 
@@ -22,7 +22,3 @@ IsWithinLimit Absent = Unit {0}
 IsWithinLimit TooLarge = Unit {0}
 IsWithinLimit Failed = Unit {0}
 IsWithinLimit NoMemory = Unit {0}
-
--- where the names asked are told, these were asked since, in this order
-abbrev pub Asks : {S : Type 0} → (S → Option (List (List ℕ))) → S → S → List (List ℕ) → Type 0
-Asks {S} asked old new names = IfSome (asked old) (λ before. asked new ≡ Some (before ++ names))

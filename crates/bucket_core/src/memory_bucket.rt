@@ -113,7 +113,7 @@ fn answer_of(alloc: Global, bytes: Option<&[u8]>) -> GetAnswer
 }
 
 impl Bucket for MemoryBucket {
-    ghost use Rattle.std.specs.Prelude.{◌≡◌, ◌≤◌, Some, IsSome, option_map, IsTrue, false};
+    ghost use Rattle.std.specs.Prelude.{◌≡◌, ◌≤◌, None, Some, IsSome, option_map, IsTrue, false};
     ghost use Rattle.bucket_core.specs.Causes.{KeepsFaults, put_failed, get_failed, delete_failed, page_failed};
     ghost use Rattle.bucket_core.specs.Contents.{IsKey, after_put, after_delete, range_of, Shows};
     ghost use Rattle.bucket_core.specs.Pages.{ShowsPage};
@@ -121,6 +121,8 @@ impl Bucket for MemoryBucket {
     ghost use Rattle.bucket_core.specs.MemoryBucket.{objects_held, calls_made, calls_to_fail, faults_counted, next_failure, IsQuiet, CallCounted, PutsBy, GetsBy, DeletesBy, PagesBy};
 
     ghost contents = { λ bucket. Some (objects_held bucket) };
+
+    ghost asked = { λ bucket. None };
 
     ghost faults = { faults_counted };
 

@@ -1,7 +1,8 @@
-ghost use Rattle.std.specs.Prelude.{◌≡◌, ℕ, ◌≤◌, List, [], ◌∷◌, Option, IfSome, IsTrue, false};
+ghost use Rattle.std.specs.Prelude.{◌≡◌, ℕ, ◌≤◌, List, Option, IfSome, IsTrue, false};
+ghost use Rattle.bucket_core.specs.Asking.{AsksOnce};
 ghost use Rattle.bucket_core.specs.Causes.{Rose, file_failed};
 ghost use Rattle.bucket_core.specs.Contents.{Contents};
-ghost use Rattle.bucket_core.specs.Files.{Asks, IsWithinLimit, ShowsFile};
+ghost use Rattle.bucket_core.specs.Files.{IsWithinLimit, ShowsFile};
 
 use crate::ShelfAnswer;
 
@@ -13,7 +14,7 @@ pub trait Shelf {
     /// What the files hold, where the shelf tells it.
     ghost files: { Self → Option Contents };
 
-    /// The names that were asked, in order, where the shelf tells them.
+    /// The names that were asked, in order, where the shelf tells them. One for which memory was wanted may be left out.
     ghost asked: { Self → Option (List (List ℕ)) };
 
     /// How often a reading has failed.
@@ -26,7 +27,7 @@ pub trait Shelf {
         // What is found is within the limit, whether the files are told or not.
         ensures within { IsWithinLimit result }
         ensures same { files self.new ≡ files self.old }
-        ensures asks { Asks asked self.old self.new (name.now ∷ []) }
+        ensures asks { AsksOnce asked self.old self.new name.now result ShelfAnswer.NoMemory }
         ensures later { faults self.old ≤ faults self.new }
         ensures cause { IsTrue (file_failed result) → Rose (faults self.old) (faults self.new) }
         ensures calm { file_failed result ≡ false → faults self.new ≡ faults self.old };

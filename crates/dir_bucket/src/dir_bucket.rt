@@ -100,6 +100,8 @@ impl<R: Files + AllocGlobal + Clone + Drop> Bucket for DirBucket<R> {
 
     ghost contents = { λ bucket. None };
 
+    ghost asked = { λ bucket. None };
+
     ghost faults = { bucket_faults };
 
     ghost quiet = { λ bucket. ⊥ };

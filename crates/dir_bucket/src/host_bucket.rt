@@ -12,9 +12,12 @@ pub enum HostBucket<R: Files + AllocGlobal + Clone + Drop> {
 }
 
 impl<R: Files + AllocGlobal + Clone + Drop> Bucket for HostBucket<R> {
+    ghost use Rattle.std.specs.Prelude.{None};
     ghost use Rattle.dir_bucket.specs.HostBucket.{contents_told, faults_counted, IsQuiet, told_is_key};
 
     ghost contents = { contents_told };
+
+    ghost asked = { λ bucket. None };
 
     ghost faults = { faults_counted };
 

@@ -41,6 +41,8 @@ impl Bucket for StrangeBucket {
 
     ghost contents = { λ b. None };
 
+    ghost asked = { λ b. None };
+
     ghost faults = { λ b. faults_counted b.inner };
 
     ghost quiet = { λ b. ⊥ };

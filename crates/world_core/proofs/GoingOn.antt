@@ -1,5 +1,5 @@
 -- A world after one operation goes on as it did.
-use Rattle.std.proofs.Common.{◌≡◌, ℕ, ◌+◌, ◌≤◌, Bool, true, false, cond, List, [], ◌++◌, refl, sym, ◌∙◌, ap, arith, append-nil}
+use Rattle.std.proofs.Common.{◌≡◌, ℕ, ◌+◌, ◌≤◌, Bool, true, false, cond, List, ◌++◌, refl, ◌∙◌, ap, arith, append-nil}
 use Rattle.world_core.specs.Machines.{gained, is_failed, IfDone}
 use Rattle.world_core.specs.Operations.{entry_of, has_failed}
 use Rattle.world_core.specs.Worlds.{WorldGoesOn, WorldView, failed_count}

@@ -10,3 +10,4 @@ pub mod PlanLaws
 pub mod PlanMachines
 pub mod PlanWords
 pub mod PlanParts
+pub mod Asking

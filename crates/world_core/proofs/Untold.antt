@@ -1,12 +1,12 @@
 -- An operation was done, and no copy of its reply could be made: it has neither landed nor failed, so it is told as one for
 -- which memory was wanted.
 use Rattle.std.proofs.Common.{◌≡◌, ℕ, false, Option, Some, None, IfSome, option_map, refl, sym, ◌∙◌, ap, subst}
-use Rattle.std.specs.Prelude.{Result, Ok, Err, IfOk}
+use Rattle.std.specs.Prelude.{Result, Ok, Err}
 use Rattle.list_core.specs.declared.memory.NoMemory.{NoMemory}
 use Rattle.bucket_core.specs.Causes.{KeepsFaults}
 use Rattle.bucket_core.specs.Contents.{Contents}
 use Rattle.world_core.specs.Operations.{has_failed}
-use Rattle.world_core.specs.Performing.{IsPerformed, left_after, reply_seen}
+use Rattle.world_core.specs.Performing.{IsPerformed, reply_seen}
 use Rattle.world_core.specs.Standing.{has_landed, left_by}
 use Rattle.world_core.specs.declared.op.Op.{Op}
 use Rattle.world_core.specs.declared.op.Op.TheVariants.{Clock, Put, Get, GetRange, Delete, RootPage, BlockPage}

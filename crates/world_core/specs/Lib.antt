@@ -9,6 +9,7 @@ pub mod Plans
 pub mod Walks
 pub mod Performing
 pub mod Worlds
+pub mod Asking
 pub use Rattle.ulid_core.specs.UlidText
 pub use Rattle.block_keys.specs.Keys
 pub use Rattle.block_keys.specs.KeyText

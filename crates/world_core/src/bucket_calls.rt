@@ -1,6 +1,7 @@
 ghost use Rattle.std.specs.Prelude.{◌≡◌, ◌↔◌, ◌≤◌, IfOk, IsTrue};
 ghost use Rattle.block_keys.specs.Keys.{IsLawfulKey};
 ghost use Rattle.ulid_core.specs.UlidText.{text_of};
+ghost use Rattle.world_core.specs.Asking.{AsksIn};
 ghost use Rattle.world_core.specs.Operations.{IsLawful};
 ghost use Rattle.world_core.specs.Performing.{IsPerformed, put_reply, get_reply, delete_reply, page_reply};
 
@@ -16,7 +17,8 @@ use wire_bytes::Blob;
 /// Does an operation on a bucket. Setting the clock leaves the bucket alone.
 pub(crate) fn perform<B: Bucket>(alloc: Global, bucket: &mut B, op: &Op) -> Result<Reply, NoMemory>
     requires { IsLawful op.now }
-    ensures { IsPerformed B.contents B.faults B.quiet bucket.old op.now result bucket.new }
+    ensures performed { IsPerformed B.contents B.faults B.quiet bucket.old op.now result bucket.new }
+    ensures asks { AsksIn B.asked bucket.old bucket.new op.now result }
 {
     match op {
         Op::Clock(_) => Ok(Reply::Clocked),
@@ -31,8 +33,9 @@ pub(crate) fn perform<B: Bucket>(alloc: Global, bucket: &mut B, op: &Op) -> Resu
 
 fn put<B: Bucket>(alloc: Global, bucket: &mut B, key: Key, bytes: &Blob) -> Result<Reply, NoMemory>
     requires { IsLawfulKey key }
-    ensures { IsPerformed B.contents B.faults B.quiet bucket.old
+    ensures performed { IsPerformed B.contents B.faults B.quiet bucket.old
         (Op.Put key bytes.now) result bucket.new }
+    ensures asks { AsksIn B.asked bucket.old bucket.new (Op.Put key bytes.now) result }
 {
     let name = key.text(alloc)?;
     put_reply(bucket.put(name.as_str(), bytes.bytes()))
@@ -40,7 +43,8 @@ fn put<B: Bucket>(alloc: Global, bucket: &mut B, key: Key, bytes: &Blob) -> Resu
 
 fn get<B: Bucket>(alloc: Global, bucket: &mut B, key: Key) -> Result<Reply, NoMemory>
     requires { IsLawfulKey key }
-    ensures { IsPerformed B.contents B.faults B.quiet bucket.old (Op.Get key) result bucket.new }
+    ensures performed { IsPerformed B.contents B.faults B.quiet bucket.old (Op.Get key) result bucket.new }
+    ensures asks { AsksIn B.asked bucket.old bucket.new (Op.Get key) result }
 {
     let name = key.text(alloc)?;
     get_reply(bucket.get(name.as_str()))
@@ -54,8 +58,9 @@ fn get_range<B: Bucket>(
     len: u64,
 ) -> Result<Reply, NoMemory>
     requires { IsLawfulKey key }
-    ensures { IsPerformed B.contents B.faults B.quiet bucket.old
+    ensures performed { IsPerformed B.contents B.faults B.quiet bucket.old
         (Op.GetRange key from len) result bucket.new }
+    ensures asks { AsksIn B.asked bucket.old bucket.new (Op.GetRange key from len) result }
 {
     let name = key.text(alloc)?;
     get_reply(bucket.get_range(name.as_str(), from, len))
@@ -63,7 +68,8 @@ fn get_range<B: Bucket>(
 
 fn delete<B: Bucket>(alloc: Global, bucket: &mut B, key: Key) -> Result<Reply, NoMemory>
     requires { IsLawfulKey key }
-    ensures { IsPerformed B.contents B.faults B.quiet bucket.old (Op.Delete key) result bucket.new }
+    ensures performed { IsPerformed B.contents B.faults B.quiet bucket.old (Op.Delete key) result bucket.new }
+    ensures asks { AsksIn B.asked bucket.old bucket.new (Op.Delete key) result }
 {
     let name = key.text(alloc)?;
     delete_reply(bucket.delete(name.as_str()))
@@ -71,8 +77,9 @@ fn delete<B: Bucket>(alloc: Global, bucket: &mut B, key: Key) -> Result<Reply, N
 
 fn root_page<B: Bucket>(bucket: &mut B, after: &Text, limit: u32) -> Result<Reply, NoMemory>
     requires { 1 ≤ limit }
-    ensures { IsPerformed B.contents B.faults B.quiet bucket.old
+    ensures performed { IsPerformed B.contents B.faults B.quiet bucket.old
         (Op.RootPage after.now limit) result bucket.new }
+    ensures asks { AsksIn B.asked bucket.old bucket.new (Op.RootPage after.now limit) result }
 {
     page_reply(bucket.page("", after.as_str(), limit))
 }
@@ -85,8 +92,9 @@ fn block_page<B: Bucket>(
     limit: u32,
 ) -> Result<Reply, NoMemory>
     requires { 1 ≤ limit }
-    ensures { IsPerformed B.contents B.faults B.quiet bucket.old
+    ensures performed { IsPerformed B.contents B.faults B.quiet bucket.old
         (Op.BlockPage ulid after.now limit) result bucket.new }
+    ensures asks { AsksIn B.asked bucket.old bucket.new (Op.BlockPage ulid after.now limit) result }
 {
     let name = block_name(alloc, ulid)?;
     page_reply(bucket.page(name.as_str(), after.as_str(), limit))

@@ -1,5 +1,6 @@
 ghost use Rattle.std.specs.Prelude.{◌≡◌, ◌↔◌, ℕ, ◌+◌, ◌≤◌, ◌<◌, IsTrue, List, [], ◌∷◌, ◌++◌, length, IfOk, OnErr};
 ghost use Rattle.std.specs.Option.{option_copied};
+ghost use Rattle.world_core.specs.Asking.{AsksIn};
 ghost use Rattle.world_core.specs.Journals.{entry_at};
 ghost use Rattle.world_core.specs.Limits.{most_entries};
 ghost use Rattle.world_core.specs.Operations.{IsLawful, entry_of};
@@ -86,6 +87,7 @@ impl Journal {
         ensures err { OnErr result (self.new ≡ self.old) }
         ensures performed { IsPerformed B.contents B.faults B.quiet bucket.old op
             (reply_seen result) bucket.new }
+        ensures asks { AsksIn B.asked bucket.old bucket.new op (reply_seen result) }
     {
         self.entries.reserve(1)?;
         let seq = self.entries.len() as u64 + 1;

@@ -1,4 +1,5 @@
-ghost use Rattle.std.specs.Prelude.{◌≡◌, false, ◌↔◌, ℕ, ◌+◌, ◌^◌, ◌≤◌, ◌<◌, IsTrue, [], ◌∷◌, ◌++◌, length, ◌≢◌, List, slice_get, IfOk, IfErr, MatchResult, IfSome, option_map};
+ghost use Rattle.std.specs.Prelude.{◌≡◌, false, ◌↔◌, ℕ, ◌+◌, ◌^◌, ◌≤◌, ◌<◌, IsTrue, [], ◌∷◌, ◌++◌, length, ◌≢◌, List, Some, slice_get, IfOk, IfErr, MatchResult, IfSome, option_map};
+ghost use Rattle.bucket_core.specs.Asking.{Call, Asks, AsksOnce};
 ghost use Rattle.bucket_core.specs.Contents.{nothing};
 ghost use Rattle.bucket_core.specs.Pages.{IsPage};
 ghost use Rattle.world_core.specs.Standing.{Tells};
@@ -44,6 +45,7 @@ impl<B: Bucket> Model for World<B> {
 
 impl<B: Bucket> World<B> {
     ghost use Rattle.world_core.specs.Worlds.{IsWorld, left_by_act};
+    ghost use Rattle.world_core.specs.Asking.{opening, AsksBy, IsAllAsked};
 
     /// Opens an empty bucket. It asks for one page of names, which is no entry. Each operation takes a tick of time.
     pub fn open(alloc: Global, mut bucket: B, tick: Span) -> Result<World<B>, (OpenRefusal, B)>
@@ -69,6 +71,13 @@ impl<B: Bucket> World<B> {
             → MatchResult result (λ world. B.quiet world.bucket)
             (λ e. B.quiet e.1 × (e.0 ≢ OpenRefusal.Failed)) }
         ensures holds { IfOk result (λ world. IsWorld B.contents B.faults world) }
+
+        // The bucket is asked for the page alone, which it may leave out where it wanted memory.
+        ensures asks { MatchResult result
+            (λ world. Asks B.asked bucket world.bucket (opening ∷ []))
+            (λ e. AsksOnce B.asked bucket e.1 opening e.0 OpenRefusal.NoMemory) }
+        ensures all { IfOk result (λ world. (before : List Call) → B.asked bucket ≡ Some before
+            → IsAllAsked B.asked before world) }
     {
         let refusal = match bucket.page("", "", 1) {
             PageAnswer::Names(names) => match first_name(names) {
@@ -122,6 +131,11 @@ impl<B: Bucket> World<B> {
         ensures calm { B.quiet self.old.bucket → B.quiet self.new.bucket
             × IfDone result (λ seen. has_failed seen.reply ≡ false) }
         ensures holds { IsWorld B.contents B.faults self.new }
+
+        // The bucket is asked for the operation once, and for nothing where the journal is full.
+        ensures asks { AsksBy B.asked self.old.bucket self.new.bucket op result }
+        ensures all { result ≢ Acted.NoMemory → (before : List Call)
+            → IsAllAsked B.asked before self.old → IsAllAsked B.asked before self.new }
     {
         if self.is_full() {
             return Acted::Full;

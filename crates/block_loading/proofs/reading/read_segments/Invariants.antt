@@ -1,6 +1,6 @@
 use Rattle.std.proofs.Common.{◌≡◌, ◌+◌, ◌-◌, Some, false, length}
 use Rattle.bucket_core.specs.Contents.{Contents}
-use Rattle.bucket_core.specs.Files.{Asks}
+use Rattle.bucket_core.specs.Asking.{Asks}
 use Rattle.block_loading.specs.Loading.{HasSegments, names_after}
 use Rattle.block_loading.specs.LoadReading.{KeepsShelf, segments_at}
 use Rattle.block_loading.proofs.SegmentLaws.{with_front}

@@ -1,0 +1,48 @@
+-- What a world's bucket was asked, beside what the journal says.
+use Rattle.std.specs.Prelude.{◌≡◌, ◌⊎◌, List, [], ◌∷◌, ◌++◌, Option, Some, Result, Ok, Err}
+use Rattle.std.specs.List.{flat_map}
+use Rattle.list_core.specs.declared.memory.NoMemory.{NoMemory}
+use Rattle.ulid_core.specs.UlidText.{text_of}
+use Rattle.block_keys.specs.KeyText.{key_text}
+use Rattle.bucket_core.specs.Asking.{Call, puts, gets, gets_range, deletes, lists, Asks}
+use Rattle.world_core.specs.Worlds.{WorldView}
+use Rattle.world_core.specs.declared.op.Op.{Op}
+use Rattle.world_core.specs.declared.op.Op.TheVariants.{Clock, Put, Get, GetRange, Delete, RootPage, BlockPage}
+use Rattle.world_core.specs.declared.reply.Reply.{Reply}
+use Rattle.world_core.specs.declared.entry.Entry.{Entry}
+use Rattle.world_core.specs.declared.acted.Acted.{Acted}
+use Rattle.world_core.specs.declared.acted.Acted.TheVariants as answer
+
+-- the call that an operation is; setting the clock is none
+abbrev pub calls_for : Op → List Call
+calls_for (Clock moment) = []
+calls_for (Put key bytes) = puts (key_text key) bytes ∷ []
+calls_for (Get key) = gets (key_text key) ∷ []
+calls_for (GetRange key from len) = gets_range (key_text key) from len ∷ []
+calls_for (Delete key) = deletes (key_text key) ∷ []
+calls_for (RootPage after limit) = lists [] after limit ∷ []
+calls_for (BlockPage ulid after limit) = lists (text_of ulid) after limit ∷ []
+
+-- the calls of all entries, in their order
+abbrev pub calls_of : List Entry → List Call
+calls_of entries = flat_map (λ e. calls_for e.op) entries
+
+-- the call that opens a world
+abbrev pub opening : Call
+opening = lists [] [] 1
+
+-- Doing an operation asked for its call once, and for nothing else. Where memory was wanted it may have asked for nothing.
+abbrev pub AsksIn : {B : Type 0} → (B → Option (List Call)) → B → B → Op → Result Reply NoMemory → Type 0
+AsksIn {B} asked old new op (Ok reply) = Asks asked old new (calls_for op)
+AsksIn {B} asked old new op (Err none) = Asks asked old new (calls_for op) ⊎ (asked new ≡ asked old)
+
+-- What a world asked when an operation was asked for: its call once, and for nothing where it was refused.
+abbrev pub AsksBy : {B : Type 0} → (B → Option (List Call)) → B → B → Op → Acted → Type 0
+AsksBy {B} asked old new op (answer.Done seen) = Asks asked old new (calls_for op)
+AsksBy {B} asked old new op answer.Full = asked new ≡ asked old
+AsksBy {B} asked old new op answer.NoMemory = Asks asked old new (calls_for op) ⊎ (asked new ≡ asked old)
+
+-- After the calls that were asked before the world was opened, the bucket was asked for the opening page and then for the
+-- journal's operations but the clock's, each once and in their order, and for nothing else.
+abbrev pub IsAllAsked : {B : Type 0} → (B → Option (List Call)) → List Call → WorldView B → Type 0
+IsAllAsked {B} asked before world = asked world.bucket ≡ Some (before ++ opening ∷ calls_of world.journal)
