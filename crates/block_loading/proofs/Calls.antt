@@ -66,7 +66,7 @@ block_told (Repeated series) refusal h = (cc, λ n. absurd cc)
 block_told NoMemory refusal h = absurd cc
 
 -- a refusal of a block is said of it
-block_kept : (ulid : ℕ) (files : BlockFiles) (refusal : CheckRefusal) → RefusesBlock ulid files refusal → refused_block refusal ≡ Refused refusal
+pub block_kept : (ulid : ℕ) (files : BlockFiles) (refusal : CheckRefusal) → RefusesBlock ulid files refusal → refused_block refusal ≡ Refused refusal
 block_kept ulid files (NoFile key) is = refl
 block_kept ulid files (BadMeta cause) is = refl
 block_kept ulid files UlidDiffers is = refl

@@ -5,6 +5,7 @@ pub mod SegmentLaws
 pub mod LoadLaws
 pub mod Calls
 pub mod LoadSteps
+pub mod Stopped
 pub mod Asked
 pub mod AskedBlock
 pub mod AskedSegments

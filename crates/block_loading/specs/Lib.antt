@@ -1,4 +1,5 @@
 pub use Rattle.block_keys.specs.KeyText
+pub use Rattle.block_meta.specs.Bounds
 pub use Rattle.block_meta.specs.MetaFields
 pub use Rattle.block_meta.specs.MetaReading
 pub use Rattle.block_content.specs.ContentReading

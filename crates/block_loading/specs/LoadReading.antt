@@ -1,5 +1,5 @@
 -- What loading a block from told files gives, or the first refusal.
-use Rattle.std.specs.Prelude.{◌≡◌, ◌⊎◌, ℕ, zero, suc, ◌+◌, ◌<◌, ◌≤◌, List, [], ◌∷◌, length, Option, None, Some, Bool, true, false, IsTrue, Result, Ok, Err, IfOk, MatchResult, nat_lt, if◌then◌else◌}
+use Rattle.std.specs.Prelude.{◌≡◌, ◌⊎◌, ℕ, zero, suc, ◌+◌, ◌<◌, ◌≤◌, List, [], ◌∷◌, length, Option, None, Some, Bool, true, false, IsTrue, Result, Ok, Err, IfOk, IfErr, MatchResult, nat_lt, if◌then◌else◌}
 use Rattle.reading_core.specs.Reading.{◌>>=◌, refused_as}
 use Rattle.block_keys.specs.declared.key.Key.{Key}
 use Rattle.block_keys.specs.declared.key.Key.TheVariants.{Meta, Index, Segment}
@@ -17,7 +17,7 @@ use Rattle.bucket_core.specs.Causes.{Rose}
 use Rattle.bucket_core.specs.Contents.{Contents}
 use Rattle.bucket_core.specs.Asking.{Asks}
 use Rattle.bucket_core.specs.Files.{file_limit}
-use Rattle.block_loading.specs.Loading.{last_segment, HasSegments, Reaches, key_after, names_after, names_read}
+use Rattle.block_loading.specs.Loading.{last_segment, HasSegments, Reaches, StopsAt, key_after, names_after, names_read}
 use Rattle.block_loading.specs.declared.load_refusal.LoadRefusal.{LoadRefusal}
 use Rattle.block_loading.specs.declared.load_refusal.LoadRefusal.TheVariants.{Refused, ShelfFault, NoMemory}
 
@@ -33,6 +33,28 @@ WasBrokenOff {X} result = (result ≡ Err NoMemory) ⊎ (result ≡ Err ShelfFau
 -- What a call returned, seen by view, is what the reading function gives, unless it was broken off.
 abbrev pub Loads : {X Y : Type 0} → (X → Y) → Result X LoadRefusal → Result Y LoadRefusal → Type 0
 Loads {X} {Y} view result read = MatchResult result (λ x. read ≡ Ok (view x)) (λ e. IsBrokenOff e ⊎ (read ≡ Err e))
+
+-- what is said of the block, if it was refused and loading not broken off
+abbrev pub IfRefused : (CheckRefusal → Type 0) → LoadRefusal → Type 0
+IfRefused Says (Refused refusal) = Says refusal
+IfRefused Says ShelfFault = Unit {0}
+IfRefused Says NoMemory = Unit {0}
+
+-- the file under the key is not there, or is too large
+abbrev pub RefusesFile : Key → CheckRefusal → Type 0
+RefusesFile key (check.NoFile other) = other ≡ key
+RefusesFile key (check.TooLarge other) = other ≡ key
+RefusesFile key (check.BadMeta refusal) = ⊥
+RefusesFile key (check.BadIndex refusal) = ⊥
+RefusesFile key check.UlidDiffers = ⊥
+RefusesFile key check.NotLevelOne = ⊥
+RefusesFile key check.SourcesNotSelf = ⊥
+RefusesFile key check.Downsampled = ⊥
+RefusesFile key check.EmptyBlock = ⊥
+RefusesFile key (check.BadChunk series chunk cause) = ⊥
+RefusesFile key (check.OutsideRange series time) = ⊥
+RefusesFile key (check.Repeated series) = ⊥
+RefusesFile key check.NoMemory = ⊥
 
 abbrev pub is_fault : LoadRefusal → Bool
 is_fault (Refused refusal) = false
@@ -57,13 +79,14 @@ abbrev pub AsksFile : {S X : Type 0} → (S → Option (List (List ℕ))) → S 
 AsksFile {S} {X} asked old new key result = Asks asked old new (key_text key ∷ []) ⊎ (Asks asked old new [] × (result ≡ Err NoMemory))
 
 -- A call asked for so many files of a block, each once, in the order of reading. Where the files are told, each of these is
--- reached. If one more is reached, then the call was broken off.
-pub record AsksInOrder {S X : Type 0} (files : S → Option Contents) (asked : S → Option (List (List ℕ))) (old new : S) (ulid : ℕ) (segments : X → List (List ℕ)) (result : Result X LoadRefusal) : Type 0 where
+-- reached. If one more is reached, then the call was broken off. Where the block was refused, this is where that may be.
+pub record AsksInOrder {S X : Type 0} (files : S → Option Contents) (asked : S → Option (List (List ℕ))) (old new : S) (ulid : ℕ) (Stops : ℕ → CheckRefusal → Type 0) (segments : X → List (List ℕ)) (result : Result X LoadRefusal) : Type 0 where
   pub count : ℕ
   pub names : Asks asked old new (names_read ulid count)
   pub reached : (told : Contents) → files old ≡ Some told → (place : ℕ) → place < count → Reaches told ulid (key_after ulid place)
   pub all : (told : Contents) → files old ≡ Some told → Reaches told ulid (key_after ulid count) → WasBrokenOff result
   pub whole : IfOk result (λ x. count ≡ 2 + length (segments x))
+  pub stopped : IfErr result (IfRefused (Stops count))
 
 -- A call asked for segments of a block, of which there are so many, each once and from the first on. Where the files are told,
 -- all before one that it asked for stand. If all that it asked for stand, then these are all, or the call was broken off.
@@ -74,6 +97,7 @@ pub record AsksSegments {S X : Type 0} (files : S → Option Contents) (asked : 
   pub reached : (told : Contents) → files old ≡ Some told → (place : ℕ) → place < count → (before : List (List ℕ)) × HasSegments told ulid before × (length before ≡ place)
   pub all : (told : Contents) → files old ≡ Some told → (before : List (List ℕ)) → HasSegments told ulid before → length before ≡ count → (count ≡ many) ⊎ WasBrokenOff result
   pub whole : IfOk result (λ x. count ≡ many)
+  pub stopped : IfErr result (IfRefused (StopsAt ulid (2 + count)))
 
 -- ---- reading
 

@@ -1,11 +1,12 @@
 -- Which block a shelf has under a ULID, and why it has none that is shipped. The files of a block are its meta, its index, and
 -- the segments from the first to the greatest that the index names. They are looked at in this order.
-use Rattle.std.specs.Prelude.{◌≡◌, ◌≢◌, ◌⊎◌, ℕ, zero, suc, ◌+◌, ◌<◌, ◌≤◌, min, max, List, [], ◌∷◌, length, map, slice_get, None, Some, IsSomeAnd, Ok, Err}
+use Rattle.std.specs.Prelude.{◌≡◌, ◌≢◌, ◌⊎◌, ℕ, zero, suc, ◌+◌, ◌<◌, ◌≤◌, min, max, List, [], ◌∷◌, length, All, map, slice_get, None, Some, IsSomeAnd, Ok, Err}
 use Rattle.std.specs.List.{flat_map}
 use Rattle.label_sets.specs.declared.series.Series.{Series}
 use Rattle.block_keys.specs.declared.key.Key.{Key}
 use Rattle.block_keys.specs.declared.key.Key.TheVariants.{Meta, Index, Segment, Mark}
 use Rattle.block_keys.specs.KeyText.{key_text}
+use Rattle.block_meta.specs.Bounds.{HasFew}
 use Rattle.block_meta.specs.MetaFields.{MetaFields, fields_of}
 use Rattle.block_meta.specs.MetaReading.{meta_of_text}
 use Rattle.block_meta.specs.declared.refusal.MetaRefusal.TheVariants as meta
@@ -41,6 +42,21 @@ pub record HasIndex (told : Contents) (ulid : ℕ) (index : List ℕ) (indexed :
 -- the segments of the block, which are numbered from 1, begin with these
 abbrev pub HasSegments : Contents → ℕ → List (List ℕ) → Type 0
 HasSegments told ulid segments = (place : ℕ) (bytes : List ℕ) → slice_get segments place ≡ Some bytes → HasFile told (Segment ulid (place + 1)) bytes
+
+-- ---- how large a block is, whatever a shelf tells
+
+-- The meta was read of a text that does not pass the limit, and no list of it has more members than that text has bytes.
+pub record IsOfText (meta : MetaFields) : Type 0 where
+  pub text : List ℕ
+  pub within : length text ≤ file_limit
+  pub reads : meta_of_text text ≡ Ok meta
+  pub few : HasFew meta (length text)
+
+-- No file of the block passes the limit.
+pub record AreWithinLimit (files : BlockFiles) : Type 0 where
+  pub meta_is : IsOfText (fields_of files.meta)
+  pub index_is : length files.index ≤ file_limit
+  pub segments_are : All (λ (segment : List ℕ). length segment ≤ file_limit) files.segments
 
 -- ---- the segments that an index names
 
@@ -120,6 +136,42 @@ names_after ulid before (suc count) = key_text (key_after ulid before) ∷ names
 -- the names of so many files of a block, from its meta on
 abbrev pub names_read : ℕ → ℕ → List (List ℕ)
 names_read ulid count = names_after ulid 0 count
+
+-- ---- where a refused load stops, whatever a shelf tells
+
+-- the last one of so many files of a block
+abbrev pub IsLast : ℕ → ℕ → Key → Type 0
+IsLast ulid count key = (before : ℕ) × (count ≡ before + 1) × (key ≡ key_after ulid before)
+
+-- A load that asked for so many files may be refused for this: the last file that it asked for is not there, or is too large, or
+-- it is a meta or an index that is not read.
+abbrev pub StopsAt : ℕ → ℕ → CheckRefusal → Type 0
+StopsAt ulid count (NoFile key) = IsLast ulid count key
+StopsAt ulid count (TooLarge key) = IsLast ulid count key
+StopsAt ulid count (BadMeta refusal) = count ≡ 1
+StopsAt ulid count (BadIndex refusal) = count ≡ 2
+StopsAt ulid count UlidDiffers = ⊥
+StopsAt ulid count NotLevelOne = ⊥
+StopsAt ulid count SourcesNotSelf = ⊥
+StopsAt ulid count Downsampled = ⊥
+StopsAt ulid count EmptyBlock = ⊥
+StopsAt ulid count (BadChunk series chunk cause) = ⊥
+StopsAt ulid count (OutsideRange series time) = ⊥
+StopsAt ulid count (Repeated series) = ⊥
+StopsAt ulid count NoMemory = ⊥
+
+-- A check that asked for so many files may be refused for this: these are all files of a block, and it does not pass.
+pub record StopsAfter (ulid count : ℕ) (refusal : CheckRefusal) : Type 0 where
+  pub files : BlockFiles
+  pub indexed : List IndexSeries
+  pub index_is : index_at files.index ≡ Ok indexed
+  pub all : length files.segments ≡ last_segment indexed
+  pub count_is : count ≡ 2 + length files.segments
+  pub refused : RefusesBlock ulid files refusal
+
+-- for the first reason or for the second
+abbrev pub StopsOnShelf : ℕ → ℕ → CheckRefusal → Type 0
+StopsOnShelf ulid count refusal = StopsAt ulid count refusal ⊎ StopsAfter ulid count refusal
 
 -- ---- loaded and checked
 

@@ -1,5 +1,5 @@
 //! The files of a block, each as it is read from a shelf.
-ghost use Rattle.std.specs.Prelude.{◌≡◌, ◌+◌, ◌≤◌, ℕ, Option, Some, Ok, Err, List, IfOk, length, map, max};
+ghost use Rattle.std.specs.Prelude.{◌≡◌, ◌+◌, ◌≤◌, ℕ, Option, Some, Ok, Err, List, All, IfOk, IfErr, length, map, max};
 ghost use Rattle.std.specs.List.{flat_map};
 ghost use Rattle.reading_core.specs.Grammar.{IsBytes};
 ghost use Rattle.block_keys.specs.Keys.{IsLawfulKey};
@@ -8,9 +8,9 @@ ghost use Rattle.block_meta.specs.MetaFields.{fields_of};
 ghost use Rattle.block_content.specs.ContentReading.{index_at, ListsFew};
 ghost use Rattle.bucket_core.specs.Causes.{file_failed};
 ghost use Rattle.bucket_core.specs.Contents.{Contents};
-ghost use Rattle.bucket_core.specs.Files.{IsWithinLimit, ShowsFile};
-ghost use Rattle.block_loading.specs.Loading.{file_number, greatest, last_segment};
-ghost use Rattle.block_loading.specs.LoadReading.{Loads, KeepsShelf, AsksFile, AsksSegments, was_fault, refused_block, refused_meta, file_in, file_at, meta_at, index_in, segments_at};
+ghost use Rattle.bucket_core.specs.Files.{file_limit, IsWithinLimit, ShowsFile};
+ghost use Rattle.block_loading.specs.Loading.{file_number, greatest, last_segment, IsOfText, StopsAt};
+ghost use Rattle.block_loading.specs.LoadReading.{Loads, KeepsShelf, AsksFile, AsksSegments, IfRefused, RefusesFile, was_fault, refused_block, refused_meta, file_in, file_at, meta_at, index_in, segments_at};
 
 use crate::LoadRefusal;
 use block_content::{CheckRefusal, read_index};
@@ -32,6 +32,8 @@ fn file_of(key: &Key, answer: ShelfAnswer) -> Result<Blob, LoadRefusal>
     requires { IsWithinLimit answer }
     ensures read { (file : Option (List ℕ)) → ShowsFile file answer
         → Loads (λ bytes. bytes) result (file_in key.now file) }
+    ensures within { IfOk result (λ bytes. length bytes ≤ file_limit) }
+    ensures stopped { IfErr result (IfRefused (RefusesFile key.now)) }
     ensures failed { was_fault result ≡ file_failed answer }
     ensures memory { answer ≡ ShelfAnswer.NoMemory → result ≡ Err LoadRefusal.NoMemory }
 {
@@ -49,6 +51,8 @@ fn read_file<F: Shelf>(alloc: Global, shelf: &mut F, key: &Key) -> Result<Blob, 
     requires { IsLawfulKey key.now }
     ensures read { (told : Contents) → F.files shelf.old ≡ Some told
         → Loads (λ bytes. bytes) result (file_at told key.now) }
+    ensures within { IfOk result (λ bytes. length bytes ≤ file_limit) }
+    ensures stopped { IfErr result (IfRefused (RefusesFile key.now)) }
     ensures asks { AsksFile F.asked shelf.old shelf.new key.now result }
     ensures kept { KeepsShelf F.files F.faults shelf.old shelf.new (was_fault result) }
 {
@@ -85,6 +89,8 @@ pub(crate) fn read_meta<F: Shelf>(
 ) -> Result<Meta, LoadRefusal>
     ensures read { (told : Contents) → F.files shelf.old ≡ Some told
         → Loads fields_of result (meta_at told ulid) }
+    ensures within { IfOk result (λ meta. IsOfText (fields_of meta)) }
+    ensures stopped { IfErr result (IfRefused (StopsAt ulid 1)) }
     ensures asks { AsksFile F.asked shelf.old shelf.new (Key.Meta ulid) result }
     ensures kept { KeepsShelf F.files F.faults shelf.old shelf.new (was_fault result) }
 {
@@ -106,6 +112,8 @@ pub(crate) fn read_series<F: Shelf>(
     ensures bytes { IfOk result (λ x. IsBytes x.0) }
     ensures indexed { IfOk result (λ x. index_at x.0 ≡ Ok x.1) }
     ensures few { IfOk result (λ x. ListsFew x.0 x.1) }
+    ensures within { IfOk result (λ x. length x.0 ≤ file_limit) }
+    ensures stopped { IfErr result (IfRefused (StopsAt ulid 2)) }
     ensures asks { AsksFile F.asked shelf.old shelf.new (Key.Index ulid) result }
     ensures kept { KeepsShelf F.files F.faults shelf.old shelf.new (was_fault result) }
 {
@@ -157,6 +165,7 @@ pub(crate) fn read_segments<F: Shelf>(
     ensures read { (told : Contents) → F.files shelf.old ≡ Some told
         → Loads (λ segments. segments) result (segments_at told ulid 1 last) }
     ensures many { IfOk result (λ segments. length segments ≡ last) }
+    ensures within { IfOk result (All (λ (segment : List ℕ). length segment ≤ file_limit)) }
     ensures asks { AsksSegments F.files F.asked shelf.old shelf.new ulid last result }
     ensures kept { KeepsShelf F.files F.faults shelf.old shelf.new (was_fault result) }
 {

@@ -1,7 +1,9 @@
-use Rattle.std.proofs.Common.{inl}
+use Rattle.std.proofs.Common.{inl, refl}
 use Rattle.block_keys.specs.declared.key.Key.TheVariants.{Meta}
 use Rattle.block_meta.specs.MetaFields.{fields_of}
+use Rattle.block_loading.specs.Loading.{StopsAt}
 use Rattle.block_loading.specs.LoadReading.{file_at, meta_at}
+use Rattle.block_loading.proofs.Stopped.{said_on, file_last, meta_first, of_text}
 use Rattle.block_loading.proofs.LoadSteps.{stops, stops_first, no_meta, meta_read, meta_stopped}
 use Rattle.block_loading.proofs.Asked.{file_asked, file_stopped}
 use Rattle.block_loading.proofs.reading.read_meta.Goals as goal
@@ -24,3 +26,12 @@ returns-in-Ok-clause-asks g c = inl (file_asked g.F.Shelf.asked _ _ _ c.in_ok-te
 
 pub returns-clause-asks : goal.returns-clause-asks
 returns-clause-asks g c = inl (file_asked g.F.Shelf.asked _ _ _ c.in_ok-text.text c.in_ok-text.ensures.asks)
+
+pub returns-in-Ok-clause-within : goal.returns-in-Ok-clause-within
+returns-in-Ok-clause-within g c = of_text c.in_ok-text.text c.bytes.result.now (fields_of c.in-Ok.meta) c.bytes.ensures c.in_ok-text.ensures.within c.in-Ok.ensures.gives c.in-Ok.ensures.few
+
+pub returns-in_err-text-clause-stopped : goal.returns-in_err-text-clause-stopped
+returns-in_err-text-clause-stopped g c = said_on (StopsAt c.args.ulid 1) c.from_residual.result c.in_err-text.field-0.0 c.from_residual.ensures.1 (file_last c.args.ulid 0 1 (Meta c.args.ulid) refl refl c.in_err-text.field-0.0 c.in_err-text.ensures.stopped)
+
+pub returns-clause-stopped : goal.returns-clause-stopped
+returns-clause-stopped g c = meta_first c.args.ulid c.in-Err.refusal c.refused_meta.result c.refused_meta.ensures

@@ -1,6 +1,8 @@
-use Rattle.std.proofs.Common.{◌≡◌, ◌+◌, ◌-◌, Some, false, length}
+use Rattle.std.proofs.Common.{◌≡◌, ℕ, List, ◌+◌, ◌-◌, Some, false, length}
+use Rattle.std.specs.Prelude.{◌≤◌, All}
 use Rattle.bucket_core.specs.Contents.{Contents}
 use Rattle.bucket_core.specs.Asking.{Asks}
+use Rattle.bucket_core.specs.Files.{file_limit}
 use Rattle.block_loading.specs.Loading.{HasSegments, names_after}
 use Rattle.block_loading.specs.LoadReading.{KeepsShelf, segments_at}
 use Rattle.block_loading.proofs.SegmentLaws.{with_front}
@@ -13,5 +15,6 @@ invariant-loop-number g l = record {
   read : (told : Contents) → g.F.Shelf.files l.fn.shelf ≡ Some told → segments_at told l.ulid 1 l.last ≡ with_front l.segments (segments_at told l.ulid (l.number + 1) (l.last - l.number));
   asked : Asks g.F.Shelf.asked l.fn.shelf l.shelf (names_after l.ulid 2 l.number);
   stood : (told : Contents) → g.F.Shelf.files l.fn.shelf ≡ Some told → HasSegments told l.ulid l.segments;
+  sized : All (λ (segment : List ℕ). length segment ≤ file_limit) l.segments;
   kept : KeepsShelf g.F.Shelf.files g.F.Shelf.faults l.fn.shelf l.shelf false;
 }

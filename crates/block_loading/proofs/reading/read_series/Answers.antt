@@ -1,8 +1,10 @@
-use Rattle.std.proofs.Common.{inl}
+use Rattle.std.proofs.Common.{inl, refl}
 use Rattle.reading_core.proofs.Binds.{refused_as_ok}
 use Rattle.block_keys.specs.declared.key.Key.TheVariants.{Index}
 use Rattle.block_content.specs.ContentReading.{index_at, refused_index}
+use Rattle.block_loading.specs.Loading.{StopsAt}
 use Rattle.block_loading.specs.LoadReading.{file_at, index_in}
+use Rattle.block_loading.proofs.Stopped.{said_on, file_last, index_second}
 use Rattle.block_loading.proofs.LoadSteps.{stops, stops_first, no_index, index_read, index_stopped}
 use Rattle.block_loading.proofs.Asked.{file_asked, file_stopped}
 use Rattle.block_loading.proofs.reading.read_series.Goals as goal
@@ -25,3 +27,9 @@ returns-in-Ok-clause-asks g c = inl (file_asked g.F.Shelf.asked _ _ _ c.in_ok-in
 
 pub returns-in-Err-clause-asks : goal.returns-in-Err-clause-asks
 returns-in-Err-clause-asks g c = inl (file_asked g.F.Shelf.asked _ _ _ c.in_ok-index.index c.in_ok-index.ensures.asks)
+
+pub returns-in_err-index-clause-stopped : goal.returns-in_err-index-clause-stopped
+returns-in_err-index-clause-stopped g c = said_on (StopsAt c.args.ulid 2) c.from_residual.result c.in_err-index.field-0.0 c.from_residual.ensures.1 (file_last c.args.ulid 1 2 (Index c.args.ulid) refl refl c.in_err-index.field-0.0 c.in_err-index.ensures.stopped)
+
+pub returns-in-Err-clause-stopped : goal.returns-in-Err-clause-stopped
+returns-in-Err-clause-stopped g c = index_second c.args.ulid c.bytes.result.now c.in-Err.refusal c.refused_block.result c.in-Err.ensures.exact c.refused_block.ensures

@@ -1,0 +1,114 @@
+-- Where a refused load stopped, and how large what it read is.
+use Rattle.std.proofs.Common.{◌≡◌, ℕ, ◌+◌, List, [], ◌∷◌, ◌++◌, length, Result, Ok, Err, refl, sym, ap, subst, ◌∙◌, ◌⊎◌, inl, inr}
+use Rattle.std.specs.Prelude.{◌≤◌, All, IfErr, IsErrAnd}
+use Rattle.std.proofs.lemmas.List.Elements.{All-nil, All-push}
+use Rattle.reading_core.specs.Reading.{refused_as}
+use Rattle.reading_core.proofs.Binds.{refused_as_err}
+use Rattle.block_keys.specs.declared.key.Key.{Key}
+use Rattle.block_meta.specs.Bounds.{HasFew}
+use Rattle.block_meta.specs.MetaFields.{MetaFields}
+use Rattle.block_meta.specs.MetaReading.{meta_of_text}
+use Rattle.block_meta.specs.declared.refusal.MetaRefusal.{MetaRefusal}
+use Rattle.block_meta.specs.declared.refusal.MetaRefusal.TheVariants as meta
+use Rattle.block_files.specs.declared.block_files.BlockFiles.{BlockFiles}
+use Rattle.index_v2.specs.declared.refusal.IndexRefusal.{IndexRefusal}
+use Rattle.index_v2.specs.declared.refusal.IndexRefusal.TheVariants as index
+use Rattle.block_content.specs.ContentReading.{index_at, refused_index}
+use Rattle.block_content.specs.Checking.{RefusesBlock}
+use Rattle.block_content.specs.declared.check_refusal.CheckRefusal.{CheckRefusal}
+use Rattle.block_content.specs.declared.check_refusal.CheckRefusal.TheVariants as check
+use Rattle.bucket_core.specs.Files.{file_limit}
+use Rattle.block_loading.specs.Loading.{IsOfText, StopsAt, key_after}
+use Rattle.block_loading.specs.LoadReading.{IfRefused, RefusesFile, refused_block, refused_meta}
+use Rattle.block_loading.specs.declared.load_refusal.LoadRefusal.{LoadRefusal}
+use Rattle.block_loading.specs.declared.load_refusal.LoadRefusal.TheVariants.{Refused, ShelfFault, NoMemory}
+use Rattle.block_loading.proofs.Calls.{block_kept}
+
+-- ---- where a load stopped
+
+-- what is said of a refusal is said of one that is handed on
+pub said_on : {X : Type 0} (Says : CheckRefusal → Type 0) (r : Result X LoadRefusal) (e : LoadRefusal) → IsErrAnd r (λ d. d ≡ e) → IfRefused Says e → IfErr r (IfRefused Says)
+said_on Says (Ok x) e is said = absurd is
+said_on Says (Err d) e is said = subst (IfRefused Says) (sym is) said
+
+-- nothing is to be said where memory ran out
+pub unsaid : (Says : CheckRefusal → Type 0) (e : LoadRefusal) → e ≡ NoMemory → IfRefused Says e
+unsaid Says e none = subst (IfRefused Says) (sym none) tt
+
+pub said_as : (One Other : CheckRefusal → Type 0) (e : LoadRefusal) → ((refusal : CheckRefusal) → One refusal → Other refusal) → IfRefused One e → IfRefused Other e
+said_as One Other (Refused refusal) leads said = leads refusal said
+said_as One Other ShelfFault leads said = tt
+said_as One Other NoMemory leads said = tt
+
+-- the file that was asked for last is refused
+last_file : (ulid before count : ℕ) (key : Key) → count ≡ before + 1 → key ≡ key_after ulid before → (refusal : CheckRefusal) → RefusesFile key refusal → StopsAt ulid count refusal
+last_file ulid before count key counted is (check.NoFile other) said = (before, counted, said ∙ is)
+last_file ulid before count key counted is (check.TooLarge other) said = (before, counted, said ∙ is)
+last_file ulid before count key counted is (check.BadMeta cause) said = absurd said
+last_file ulid before count key counted is check.UlidDiffers said = absurd said
+last_file ulid before count key counted is check.NotLevelOne said = absurd said
+last_file ulid before count key counted is check.SourcesNotSelf said = absurd said
+last_file ulid before count key counted is check.Downsampled said = absurd said
+last_file ulid before count key counted is (check.BadIndex cause) said = absurd said
+last_file ulid before count key counted is check.EmptyBlock said = absurd said
+last_file ulid before count key counted is (check.BadChunk series chunk cause) said = absurd said
+last_file ulid before count key counted is (check.OutsideRange series time) said = absurd said
+last_file ulid before count key counted is (check.Repeated series) said = absurd said
+last_file ulid before count key counted is check.NoMemory said = absurd said
+
+pub file_last : (ulid before count : ℕ) (key : Key) → count ≡ before + 1 → key ≡ key_after ulid before → (e : LoadRefusal) → IfRefused (RefusesFile key) e → IfRefused (StopsAt ulid count) e
+file_last ulid before count key counted is e said = said_as (RefusesFile key) (StopsAt ulid count) e (last_file ulid before count key counted is) said
+
+-- a meta is the first file, and an index the second
+meta_refused : (ulid : ℕ) (e : MetaRefusal) → IfRefused (StopsAt ulid 1) (refused_meta e)
+meta_refused ulid meta.NotJson = refl
+meta_refused ulid (meta.MissingField name) = refl
+meta_refused ulid (meta.WrongKind name) = refl
+meta_refused ulid meta.BadVersion = refl
+meta_refused ulid meta.BadTimes = refl
+meta_refused ulid (meta.BadUlid name) = refl
+meta_refused ulid meta.BadLabels = refl
+meta_refused ulid meta.NoMemory = tt
+
+pub meta_first : (ulid : ℕ) (e : MetaRefusal) (said : LoadRefusal) → said ≡ refused_meta e → IfRefused (StopsAt ulid 1) said
+meta_first ulid e said is = subst (IfRefused (StopsAt ulid 1)) (sym is) (meta_refused ulid e)
+
+index_refused : (ulid : ℕ) (e : IndexRefusal) → IfRefused (StopsAt ulid 2) (refused_block (refused_index e))
+index_refused ulid index.BadMagic = refl
+index_refused ulid index.BadVersion = refl
+index_refused ulid (index.BadTocSum kept computed) = refl
+index_refused ulid (index.BadSection number cause) = refl
+index_refused ulid (index.BadSeries number cause) = refl
+index_refused ulid (index.PostingsDiffer place) = refl
+index_refused ulid index.NoMemory = tt
+
+pub index_second : (ulid : ℕ) (lent : List ℕ) (e : CheckRefusal) (said : LoadRefusal) → (e ≡ check.NoMemory) ⊎ (refused_as refused_index (index_at lent) ≡ Err e) → said ≡ refused_block e → IfRefused (StopsAt ulid 2) said
+index_second ulid lent e said (inl none) is = subst (IfRefused (StopsAt ulid 2)) (sym (is ∙ ap refused_block none)) tt
+index_second ulid lent e said (inr h) is =
+    let why = refused_as_err refused_index (index_at lent) e h in
+    subst (IfRefused (StopsAt ulid 2)) (sym (is ∙ ap refused_block (sym why.2))) (index_refused ulid why.0)
+
+-- ---- a check behind it
+
+pub check_said : (Says : CheckRefusal → Type 0) (ulid : ℕ) (files : BlockFiles) (e : CheckRefusal) (said : LoadRefusal) → (e ≡ check.NoMemory) ⊎ RefusesBlock ulid files e → said ≡ refused_block e → (RefusesBlock ulid files e → Says e) → IfRefused Says said
+check_said Says ulid files e said (inl none) is leads = subst (IfRefused Says) (sym (is ∙ ap refused_block none)) tt
+check_said Says ulid files e said (inr why) is leads = subst (IfRefused Says) (sym (is ∙ block_kept ulid files e why)) (leads why)
+
+-- ---- how large it is
+
+pub of_text : (text lent : List ℕ) (meta : MetaFields) → lent ≡ text → length text ≤ file_limit → meta_of_text lent ≡ Ok meta → HasFew meta (length lent) → IsOfText meta
+of_text text lent meta lends within reads few = record {
+  text = lent;
+  within = subst (λ (b : List ℕ). length b ≤ file_limit) (sym lends) within;
+  reads = reads;
+  few = few;
+}
+
+abbrev pub IsWithin : List ℕ → Type 0
+IsWithin bytes = length bytes ≤ file_limit
+
+pub none_large : (xs : List (List ℕ)) → xs ≡ [] → All IsWithin xs
+none_large xs none = subst (All IsWithin) (sym none) (All-nil IsWithin)
+
+pub one_more : (xs pushed : List (List ℕ)) (x : List ℕ) → pushed ≡ xs ++ x ∷ [] → All IsWithin xs → IsWithin x → All IsWithin pushed
+one_more xs pushed x is all within = subst (All IsWithin) (sym is) (All-push IsWithin xs x all within)
