@@ -75,7 +75,7 @@ impl<'a, B: Bucket, G: Gate, R: Wait> TurnHand<'a, B, G, R> {
 }
 
 impl<'a, B: Bucket, G: Gate, R: Wait> Hand for TurnHand<'a, B, G, R> {
-    ghost use Rattle.std.specs.Prelude.{Some};
+    ghost use Rattle.std.specs.Prelude.{Some, false};
     ghost use Rattle.phase_runner.specs.Hands.{GoesOn, goes_on-none, goes_on-more};
 
     ghost entries = { λ hand. hand.view.own };
@@ -85,6 +85,8 @@ impl<'a, B: Bucket, G: Gate, R: Wait> Hand for TurnHand<'a, B, G, R> {
     ghost front = { λ hand. Some hand.view.front };
 
     ghost refused = { λ hand. hand.refused };
+
+    ghost wanted = { λ hand. false };
 
     ghost keeps = { GoesOn };
 

@@ -1,5 +1,5 @@
 -- What a world's bucket was asked, beside what the journal says.
-use Rattle.std.specs.Prelude.{◌≡◌, ◌⊎◌, List, [], ◌∷◌, ◌++◌, Option, Some, Result, Ok, Err}
+use Rattle.std.specs.Prelude.{◌≡◌, ◌⊎◌, Bool, false, List, [], ◌∷◌, ◌++◌, Option, Some, Result, Ok, Err}
 use Rattle.std.specs.List.{flat_map}
 use Rattle.list_core.specs.declared.memory.NoMemory.{NoMemory}
 use Rattle.ulid_core.specs.UlidText.{text_of}
@@ -46,3 +46,18 @@ AsksBy {B} asked old new op answer.NoMemory = Asks asked old new (calls_for op) 
 -- journal's operations but the clock's, each once and in their order, and for nothing else.
 abbrev pub IsAllAsked : {B : Type 0} → (B → Option (List Call)) → List Call → WorldView B → Type 0
 IsAllAsked {B} asked before world = asked world.bucket ≡ Some (before ++ opening ∷ calls_of world.journal)
+
+-- Operations took a world from `old` to `new`, and memory was wanted before them or until their end. Unless it was, all that
+-- the bucket was asked is journaled if it was before.
+pub record KeepsAsked {B : Type 0} (asked : B → Option (List Call)) (wanted_before : Bool) (old : WorldView B) (wanted_now : Bool) (new : WorldView B) : Type 0 where
+  pub later : wanted_now ≡ false → wanted_before ≡ false
+  pub all : wanted_now ≡ false → (before : List Call) → IsAllAsked asked before old → IsAllAsked asked before new
+
+pub asked-none : {B : Type 0} (asked : B → Option (List Call)) (wanted : Bool) (world : WorldView B) → KeepsAsked asked wanted world wanted world
+asked-none asked wanted world = record { later = λ never. never; all = λ never before all. all }
+
+pub asked-more : {B : Type 0} (asked : B → Option (List Call)) (a b c : Bool) (first next last : WorldView B) → KeepsAsked asked a first b next → KeepsAsked asked b next c last → KeepsAsked asked a first c last
+asked-more asked a b c first next last one two = record {
+  later = λ never. one.later (two.later never);
+  all = λ never before all. two.all never before (one.all (two.later never) before all);
+}

@@ -1,4 +1,6 @@
-ghost use Rattle.std.specs.Prelude.{◌≡◌, ◌||◌, IfSome};
+ghost use Rattle.std.specs.Prelude.{◌≡◌, ◌≢◌, ◌⊎◌, ◌||◌, List, IfSome, IsTrue};
+ghost use Rattle.bucket_core.specs.Asking.{Call};
+ghost use Rattle.world_core.specs.Asking.{IsAllAsked};
 ghost use Rattle.world_core.specs.Keeping.{IsFull};
 ghost use Rattle.world_core.specs.Machines.{Drives, is_driven_full};
 ghost use Rattle.world_core.specs.Worlds.{WorldGoesOn};
@@ -20,6 +22,8 @@ pub fn drive<M: Machine, H: Hand>(
         (H.seat hand.old) stop result (H.entries hand.old) (H.entries hand.new) }
     ensures seat { H.seat hand.new ≡ H.seat hand.old }
     ensures keeps { H.keeps hand.old hand.new }
+    ensures wanted { IsTrue (H.wanted hand.new)
+        → IsTrue (H.wanted hand.old) ⊎ (result ≡ Driven.NoMemory) }
     ensures refused { H.refused hand.new ≡ (H.refused hand.old || is_driven_full result) }
     ensures full { result ≡ Driven.Full → IfSome (H.front hand.new) IsFull }
 {
@@ -49,6 +53,7 @@ pub fn drive<M: Machine, H: Hand>(
 }
 
 /// Drives a machine over a world from one seat, and hands the world back.
+#[tactic(auto, using(crate::proofs::Turns::not_wanted))]
 pub fn drive_over<M: Machine, B: Bucket>(
     machine: &mut M,
     world: World<B>,
@@ -60,6 +65,10 @@ pub fn drive_over<M: Machine, B: Bucket>(
         (λ made end. M.may machine.old made end machine.new) seat stop result.0 world.journal
         result.1.journal }
     ensures keeps { WorldGoesOn B.faults B.quiet world result.1 }
+
+    // If all that the bucket was asked was journaled, it still is, unless memory was wanted.
+    ensures all { result.0 ≢ Driven.NoMemory → (before : List Call)
+        → IsAllAsked B.asked before world → IsAllAsked B.asked before result.1 }
     ensures full { result.0 ≡ Driven.Full → IsFull result.1.journal }
 {
     let mut hand = WorldHand::new(world, seat);

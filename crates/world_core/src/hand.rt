@@ -1,4 +1,4 @@
-ghost use Rattle.std.specs.Prelude.{◌≡◌, ◌++◌, ◌||◌, IfSome};
+ghost use Rattle.std.specs.Prelude.{◌≡◌, ◌⊎◌, ◌++◌, ◌||◌, IfSome, IsTrue};
 ghost use Rattle.world_core.specs.Operations.{IsLawful, IsAnswer};
 ghost use Rattle.world_core.specs.Keeping.{IsFull};
 ghost use Rattle.world_core.specs.Machines.{gained, IfDone, is_full};
@@ -22,6 +22,9 @@ pub trait Hand {
     /// An operation was answered `Full`.
     ghost refused: { Self → Bool };
 
+    /// Memory was wanted in one of its operations. A hand that can't tell may say that it was not.
+    ghost wanted: { Self → Bool };
+
     /// What its operations keep, between the hand before them and the hand after them.
     ghost keeps: { Self → Self → Type 0 };
 
@@ -35,6 +38,8 @@ pub trait Hand {
         ensures full { result ≡ Acted.Full → IfSome (front self.new) IsFull }
         ensures memory { result ≡ Acted.NoMemory
             → IfSome (front self.new) (λ entries. ¬ IsFull entries) }
+        ensures wanted { IsTrue (wanted self.new)
+            → IsTrue (wanted self.old) ⊎ (result ≡ Acted.NoMemory) }
         ensures keeps { keeps self.old self.new };
 
     /// What is kept holds where nothing was done.

@@ -49,6 +49,8 @@ impl Hand for Replies {
 
     ghost refused = { λ hand. false };
 
+    ghost wanted = { λ hand. false };
+
     ghost keeps = { λ old new. Unit {0} };
 
     ghost keeps_none = { λ hand. tt };

@@ -1,6 +1,6 @@
 use Rattle.std.proofs.Common.{rules, refl, ◌∙◌, ap, [], ◌∷◌, ◌++◌, arith}
 use Rattle.world_core.specs.Operations.{entry_of}
-use Rattle.world_core.proofs.Turns.{ends, stops, goes_on}
+use Rattle.world_core.proofs.Turns.{ends, stops, goes_on, still_unwanted}
 use Rattle.world_core.proofs.driving.drive.Goals as goal
 
 pub returns-then-answered-last-clause-run : goal.returns-then-answered-last-clause-run
@@ -34,5 +34,6 @@ turns-preserved g c = record {
       (rw c.in-Ok-Do-step.field-0-is at (c.in-Ok-Do-step.ensures.goes_on (g.H.Hand.seat c.args.hand.now) c.turns.op c.turns.invariant.waiting.asks.waits));
   seat = c.in-Done.ensures.seat ∙ c.turns.invariant.seat;
   refused = search rules;
+  wanted = λ now. still_unwanted _ _ _ _ c.turns.invariant.wanted c.in-Done.ensures.wanted (λ e. cc) now;
   keeps = g.met.H.Hand.keeps_more _ _ _ c.turns.invariant.keeps c.in-Done.ensures.keeps;
 }

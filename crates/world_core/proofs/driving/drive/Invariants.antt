@@ -1,4 +1,4 @@
-use Rattle.std.proofs.Common.{◌≡◌}
+use Rattle.std.proofs.Common.{◌≡◌, IsTrue}
 use Rattle.world_core.proofs.Turns.{Waiting}
 use Rattle.world_core.proofs.driving.drive.Given as goal
 
@@ -10,6 +10,7 @@ invariant-turns g l =
       waiting : Waiting m.may m.asked (h.seat l.fn.hand) l.last l.fn.machine (h.entries l.fn.hand) l.op l.answered l.machine (h.entries l.hand);
       seat : h.seat l.hand ≡ h.seat l.fn.hand;
       refused : h.refused l.hand ≡ h.refused l.fn.hand;
+      wanted : IsTrue (h.wanted l.hand) → IsTrue (h.wanted l.fn.hand);
       keeps : h.keeps l.fn.hand l.hand;
     }
 
