@@ -1,4 +1,4 @@
-ghost use Rattle.std.specs.Prelude.{◌≡◌, ◌≢◌, ℕ, ◌+◌, ◌≤◌, List, Option, Some, IfSome, IfOk, is_ok, if◌then◌else◌};
+ghost use Rattle.std.specs.Prelude.{◌≡◌, ◌≢◌, ℕ, ◌+◌, ◌≤◌, List, [], Option, Some, IfSome, IfOk, is_ok, if◌then◌else◌};
 ghost use Rattle.bucket_core.specs.Causes.{Rose};
 ghost use Rattle.bucket_core.specs.Contents.{Contents};
 
@@ -25,9 +25,11 @@ pub trait Site {
     /// What the next shelf holds that is opened under a name, where the site tells it.
     ghost next_shelf: { Self → List ℕ → Option Contents };
 
-    /// Hands out a bucket that has not failed yet. What is told of shelves stays.
+    /// Hands out a bucket that has not failed yet and was asked for nothing. What is told of shelves stays.
     fn open_bucket(&mut self, name: &str) -> Result<Self::Store, SiteRefusal>
         ensures fresh { IfOk result (λ store. Self.Store.faults store ≡ 0) }
+        ensures unasked { IfOk result (λ store.
+            IfSome (Self.Store.asked store) (λ calls. calls ≡ [])) }
         ensures told { IfOk result (λ store.
             IfSome (next_bucket self.old name.now) (λ c. Self.Store.contents store ≡ Some c)) }
         ensures counted { buckets self.new
@@ -39,9 +41,11 @@ pub trait Site {
             → Rose (faults self.old) (faults self.new) }
         ensures calm { result ≢ Err SiteRefusal.Failed → faults self.new ≡ faults self.old };
 
-    /// Hands out a shelf that has not failed yet. What is told of buckets stays.
+    /// Hands out a shelf that has not failed yet and was asked for nothing. What is told of buckets stays.
     fn open_shelf(&mut self, name: &str) -> Result<Self::Files, SiteRefusal>
         ensures fresh { IfOk result (λ shelf. Self.Files.faults shelf ≡ 0) }
+        ensures unasked { IfOk result (λ shelf.
+            IfSome (Self.Files.asked shelf) (λ names. names ≡ [])) }
         ensures told { IfOk result (λ shelf.
             IfSome (next_shelf self.old name.now) (λ c. Self.Files.files shelf ≡ Some c)) }
         ensures counted { shelves self.new
