@@ -18,7 +18,7 @@ use Rattle.index_v2.specs.declared.refusal.IndexRefusal.{IndexRefusal}
 use Rattle.index_v2.specs.declared.refusal.IndexRefusal.TheVariants as index
 use Rattle.block_content.specs.Firsts.{IsFirstAt, each_at, first_at}
 use Rattle.block_content.specs.Content.{IsChunkOf, HoldsSeries, AreWithin, IsContent}
-use Rattle.block_content.specs.ContentReading.{chunk_at, chunks_at, joined, series_of, list_of, first_outside, repeated_in, fitted, refused_index, refused_cause, refused_chunk, refused_time, refused_order, unless_found, index_at, tested_at, chunked_at, contents_at, content_at, AreFew}
+use Rattle.block_content.specs.ContentReading.{chunk_at, chunks_at, joined, series_of, list_of, first_outside, repeated_in, fitted, refused_index, refused_cause, refused_chunk, refused_time, refused_order, unless_found, index_at, tested_at, chunked_at, contents_at, content_at, AreFew, ListsFew}
 use Rattle.block_content.specs.ContentRefusals.{RefusesChunk, IsChunk, IsFirstBadChunk, HasBadChunk, HasOutside, HasRepeated, RefusesContent}
 use Rattle.block_files.specs.declared.block_files.BlockFiles.{BlockFiles}
 use Rattle.block_content.specs.declared.chunk_cause.ChunkCause.{ChunkCause}
@@ -274,6 +274,6 @@ module _ (files : BlockFiles) (index : List ℕ) (segments : List (List ℕ)) (i
   pub call_refuses : (r : Result (List Series) CheckRefusal) → Gives NoMemory (λ (xs : List Series). xs) r (contents_at files.meta index segments) → (refusal : CheckRefusal) → RefusesContent files refusal → (r ≡ Err refusal) ⊎ (r ≡ Err NoMemory)
   call_refuses r given refusal is = refuses_from (λ (xs : List Series). xs) r (content_at files) refusal (content_refuses files index_bytes all_bytes refusal is) (call_exact r given)
 
-  pub call_few : (r : Result (List Series) CheckRefusal) → IfOk r (λ list. (indexed : List IndexSeries) × (index_at index ≡ Ok indexed) × AreFew segments indexed list) → IfOk r (λ list. (indexed : List IndexSeries) × IsIndex files.index indexed × AreFew files.segments indexed list)
-  call_few (Ok list) (indexed, read, few) = (indexed, subst (λ (b : List ℕ). IsIndex b indexed) index_is (index_found index indexed bytes.0 read), subst (λ (s : List (List ℕ)). AreFew s indexed list) segments_are few)
+  pub call_few : (r : Result (List Series) CheckRefusal) → IfOk r (λ list. (indexed : List IndexSeries) × (index_at index ≡ Ok indexed) × ListsFew index indexed × AreFew segments indexed list) → IfOk r (λ list. (indexed : List IndexSeries) × IsIndex files.index indexed × ListsFew files.index indexed × AreFew files.segments indexed list)
+  call_few (Ok list) (indexed, read, listed, few) = (indexed, subst (λ (b : List ℕ). IsIndex b indexed) index_is (index_found index indexed bytes.0 read), subst (λ (b : List ℕ). ListsFew b indexed) index_is listed, subst (λ (s : List (List ℕ)). AreFew s indexed list) segments_are few)
   call_few (Err e) h = tt

@@ -222,10 +222,11 @@ pub fn content(alloc: Global, files: &BlockFiles) -> Result<SeriesList, CheckRef
     ensures refuses { (refusal : CheckRefusal) → RefusesContent files.now refusal
         → (result ≡ Err refusal) ⊎ (result ≡ Err CheckRefusal.NoMemory) }
 
-    // No series has more than eight samples for each byte of its chunks, and these bytes together are no more than eight for
-    // each byte of the segments.
+    // The index lists few series, labels and chunks for its bytes. No series has more than eight samples for each byte of its
+    // chunks, and these bytes together are no more than eight for each byte of the segments.
     ensures few { IfOk result (λ list. (indexed : List IndexSeries)
-        × IsIndex files.now.index indexed × AreFew files.now.segments indexed list) }
+        × IsIndex files.now.index indexed
+        × ListsFew files.now.index indexed × AreFew files.now.segments indexed list) }
     ensures exact { Gives CheckRefusal.NoMemory (λ list. list) result (content_at files.now) }
 {
     read_content(
@@ -245,7 +246,8 @@ fn read_content(
     ensures exact { Gives CheckRefusal.NoMemory
         (λ list. list) result (contents_at meta.now index.now segments.now) }
     ensures few { IfOk result (λ list. (indexed : List IndexSeries)
-        × (index_at index.now ≡ Ok indexed) × AreFew segments.now indexed list) }
+        × (index_at index.now ≡ Ok indexed)
+        × ListsFew index.now indexed × AreFew segments.now indexed list) }
     ensures bytes { IsBytes index.now × AllByRecursion IsBytes segments.now }
 {
     let budget = budget_of(segments);
