@@ -1,5 +1,5 @@
 -- Which segments of a block were asked for, while they are read.
-use Rattle.std.proofs.Common.{◌≡◌, ℕ, zero, suc, ◌+◌, ◌<◌, List, [], ◌∷◌, ◌++◌, length, take, get_or, Option, Some, Result, Ok, Err, refl, sym, ap, subst, ◌∙◌, ◌⊎◌, inl, inr, arith}
+use Rattle.std.proofs.Common.{◌≡◌, ℕ, zero, suc, ◌+◌, ◌<◌, List, [], ◌∷◌, ◌++◌, length, take, get_or, Bool, true, false, Option, Some, Result, Ok, Err, refl, sym, ap, subst, ◌∙◌, ◌⊎◌, inl, inr, arith}
 use Rattle.std.specs.Prelude.{◌≤◌, slice_get, IfOk, IfErr, IsErrAnd}
 use Rattle.std.proofs.lemmas.List.{append-nil, length-take-le}
 use Rattle.std.proofs.lemmas.Option.{slice_get-get_or}
@@ -9,12 +9,12 @@ use Rattle.block_keys.specs.KeyText.{key_text}
 use Rattle.bucket_core.specs.Contents.{Contents}
 use Rattle.bucket_core.specs.Asking.{Asks}
 use Rattle.block_loading.specs.Loading.{HasFile, HasSegments, StopsAt, names_after}
-use Rattle.block_loading.specs.LoadReading.{IsBrokenOff, IfRefused, RefusesFile, AsksFile, AsksSegments, file_at}
+use Rattle.block_loading.specs.LoadReading.{IsBrokenOff, IfRefused, RefusesFile, AsksFile, AsksSegments, was_fault, file_at}
 use Rattle.block_loading.specs.declared.load_refusal.LoadRefusal.{LoadRefusal}
 use Rattle.block_loading.specs.declared.load_refusal.LoadRefusal.TheVariants.{NoMemory}
 use Rattle.block_loading.proofs.FileLaws.{file_found, file_again}
 use Rattle.block_loading.proofs.Asked.{asks_then, asks_as, segment_more, segment_key}
-use Rattle.block_loading.proofs.Stopped.{said_on, unsaid, file_last}
+use Rattle.block_loading.proofs.Stopped.{said_on, unsaid, fault_on, no_fault, file_last}
 use Rattle.reading_core.proofs.Binds.{err_is}
 use Rattle.block_loading.proofs.AskedBlock.{off_on, no_value, off_or}
 
@@ -67,11 +67,11 @@ all_whole : {X P : Type 0} (r : Result X LoadRefusal) → P → IfOk r (λ x. P)
 all_whole (Ok x) p = p
 all_whole (Err e) p = tt
 
-module _ {S X : Type 0} (files : S → Option Contents) (asked : S → Option (List (List ℕ))) (ulid many : ℕ) (r : Result X LoadRefusal) (old mid : S) (number : ℕ) (front : List (List ℕ)) (far : Asks asked old mid (names_after ulid 2 number)) (stood : (told : Contents) → files old ≡ Some told → HasSegments told ulid front) (so_many : length front ≡ number) where
+module _ {S X : Type 0} (files : S → Option Contents) (asked : S → Option (List (List ℕ))) (faults : S → ℕ) (ulid many : ℕ) (r : Result X LoadRefusal) (old mid : S) (number : ℕ) (front : List (List ℕ)) (far : Asks asked old mid (names_after ulid 2 number)) (stood : (told : Contents) → files old ≡ Some told → HasSegments told ulid front) (so_many : length front ≡ number) (calm : faults mid ≡ faults old) where
   module _ (lt : number < many) where
     -- the next one was not read
     pub segment_stopped : {Y : Type 0} (new : S) (e : LoadRefusal) → IsErrAnd r (λ d. d ≡ e) → AsksFile {X = Y} asked mid new (Segment ulid (number + 1)) (Err e) → ((told : Contents) → files old ≡ Some told → IsBrokenOff e ⊎ (file_at told (Segment ulid (number + 1)) ≡ Err e)) → IfRefused (RefusesFile (Segment ulid (number + 1))) e
-        → AsksSegments files asked old new ulid many r
+        → AsksSegments files asked faults old new ulid many r
     segment_stopped new e is (inl asks) read said = record {
       count = number + 1;
       names = asked_one asked ulid old mid new number far asks;
@@ -80,6 +80,7 @@ module _ {S X : Type 0} (files : S → Option Contents) (asked : S → Option (L
       all = λ told h before are full. inr (off_on r e is (stands told ulid before number e are full (read told h)));
       whole = no_value _ r e is;
       stopped = said_on (StopsAt ulid (2 + (number + 1))) r e is (file_last ulid (2 + number) (2 + (number + 1)) (Segment ulid (number + 1)) (omega arith) (sym (segment_key ulid number)) e said);
+      failed = λ fault. (number, refl, (mid, far, calm));
     }
     segment_stopped {Y} new e is (inr (asks, none)) read said = record {
       count = number;
@@ -89,10 +90,11 @@ module _ {S X : Type 0} (files : S → Option Contents) (asked : S → Option (L
       all = λ told h before are full. inr (off_on r e is (inl cc));
       whole = no_value _ r e is;
       stopped = said_on (StopsAt ulid (2 + number)) r e is (unsaid (StopsAt ulid (2 + number)) e (err_is {A = Y} e NoMemory none));
+      failed = λ fault. absurd (no_fault e (err_is {A = Y} e NoMemory none) (fault_on r e is fault));
     }
 
     -- the next one was read and not kept
-    pub segment_unkept : (new : S) → IsErrAnd r (λ d. d ≡ NoMemory) → Asks asked mid new (key_text (Segment ulid (number + 1)) ∷ []) → AsksSegments files asked old new ulid many r
+    pub segment_unkept : (new : S) → IsErrAnd r (λ d. d ≡ NoMemory) → Asks asked mid new (key_text (Segment ulid (number + 1)) ∷ []) → AsksSegments files asked faults old new ulid many r
     segment_unkept new is asks = record {
       count = number + 1;
       names = asked_one asked ulid old mid new number far asks;
@@ -101,11 +103,12 @@ module _ {S X : Type 0} (files : S → Option Contents) (asked : S → Option (L
       all = λ told h before are full. inr (off_on r NoMemory is (inl refl));
       whole = no_value _ r NoMemory is;
       stopped = said_on (StopsAt ulid (2 + (number + 1))) r NoMemory is tt;
+      failed = λ fault. absurd (no_fault NoMemory refl (fault_on r NoMemory is fault));
     }
 
   -- all were read
-  pub segments_ended : many ≡ number → IfErr r (IfRefused (StopsAt ulid (2 + number))) → AsksSegments files asked old mid ulid many r
-  segments_ended end said = record {
+  pub segments_ended : many ≡ number → IfErr r (IfRefused (StopsAt ulid (2 + number))) → was_fault r ≡ false → AsksSegments files asked faults old mid ulid many r
+  segments_ended end said none = record {
     count = number;
     names = far;
     within = omega (arith, end);
@@ -113,4 +116,5 @@ module _ {S X : Type 0} (files : S → Option Contents) (asked : S → Option (L
     all = λ told h before are full. inl (sym end);
     whole = all_whole r (sym end);
     stopped = said;
+    failed = λ fault. let never : false ≡ true = sym none ∙ fault in absurd cc;
   }

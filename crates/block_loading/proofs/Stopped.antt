@@ -1,6 +1,6 @@
 -- Where a refused load stopped, and how large what it read is.
-use Rattle.std.proofs.Common.{◌≡◌, ℕ, ◌+◌, List, [], ◌∷◌, ◌++◌, length, Result, Ok, Err, refl, sym, ap, subst, ◌∙◌, ◌⊎◌, inl, inr}
-use Rattle.std.specs.Prelude.{◌≤◌, All, IfErr, IsErrAnd}
+use Rattle.std.proofs.Common.{◌≡◌, ℕ, ◌+◌, Bool, true, false, List, [], ◌∷◌, ◌++◌, length, Result, Ok, Err, refl, sym, ap, subst, ◌∙◌, ◌⊎◌, inl, inr}
+use Rattle.std.specs.Prelude.{◌≢◌, ◌≤◌, All, IsTrue, IfErr, IsErrAnd}
 use Rattle.std.proofs.lemmas.List.Elements.{All-nil, All-push}
 use Rattle.reading_core.specs.Reading.{refused_as}
 use Rattle.reading_core.proofs.Binds.{refused_as_err}
@@ -18,8 +18,8 @@ use Rattle.block_content.specs.Checking.{RefusesBlock}
 use Rattle.block_content.specs.declared.check_refusal.CheckRefusal.{CheckRefusal}
 use Rattle.block_content.specs.declared.check_refusal.CheckRefusal.TheVariants as check
 use Rattle.bucket_core.specs.Files.{file_limit}
-use Rattle.block_loading.specs.Loading.{IsOfText, StopsAt, key_after}
-use Rattle.block_loading.specs.LoadReading.{IfRefused, RefusesFile, refused_block, refused_meta}
+use Rattle.block_loading.specs.Loading.{IsOfText, IsBadMeta, IsBadIndex, StopsAt, key_after}
+use Rattle.block_loading.specs.LoadReading.{IfRefused, RefusesFile, is_fault, was_fault, refused_block, refused_meta}
 use Rattle.block_loading.specs.declared.load_refusal.LoadRefusal.{LoadRefusal}
 use Rattle.block_loading.specs.declared.load_refusal.LoadRefusal.TheVariants.{Refused, ShelfFault, NoMemory}
 use Rattle.block_loading.proofs.Calls.{block_kept}
@@ -39,6 +39,30 @@ pub said_as : (One Other : CheckRefusal → Type 0) (e : LoadRefusal) → ((refu
 said_as One Other (Refused refusal) leads said = leads refusal said
 said_as One Other ShelfFault leads said = tt
 said_as One Other NoMemory leads said = tt
+
+-- a fault that is handed on was one
+pub fault_on : {X : Type 0} (r : Result X LoadRefusal) (e : LoadRefusal) → IsErrAnd r (λ d. d ≡ e) → IsTrue (was_fault r) → IsTrue (is_fault e)
+fault_on (Ok x) e is fault = absurd is
+fault_on (Err d) e is fault = subst (λ (c : LoadRefusal). IsTrue (is_fault c)) is fault
+
+-- want of memory is none, and nor is a refusal of the block
+pub no_fault : (e : LoadRefusal) → e ≡ NoMemory → IsTrue (is_fault e) → ⊥
+no_fault e none fault = let never : false ≡ true = subst (λ (c : LoadRefusal). IsTrue (is_fault c)) none fault in absurd cc
+
+pub block_calm : (e : CheckRefusal) → is_fault (refused_block e) ≡ false
+block_calm (check.NoFile key) = refl
+block_calm (check.BadMeta cause) = refl
+block_calm check.UlidDiffers = refl
+block_calm check.NotLevelOne = refl
+block_calm check.SourcesNotSelf = refl
+block_calm check.Downsampled = refl
+block_calm (check.TooLarge key) = refl
+block_calm (check.BadIndex cause) = refl
+block_calm check.EmptyBlock = refl
+block_calm (check.BadChunk series chunk cause) = refl
+block_calm (check.OutsideRange series time) = refl
+block_calm (check.Repeated series) = refl
+block_calm check.NoMemory = refl
 
 -- the file that was asked for last is refused
 last_file : (ulid before count : ℕ) (key : Key) → count ≡ before + 1 → key ≡ key_after ulid before → (refusal : CheckRefusal) → RefusesFile key refusal → StopsAt ulid count refusal
@@ -60,33 +84,43 @@ pub file_last : (ulid before count : ℕ) (key : Key) → count ≡ before + 1 �
 file_last ulid before count key counted is e said = said_as (RefusesFile key) (StopsAt ulid count) e (last_file ulid before count key counted is) said
 
 -- a meta is the first file, and an index the second
-meta_refused : (ulid : ℕ) (e : MetaRefusal) → IfRefused (StopsAt ulid 1) (refused_meta e)
-meta_refused ulid meta.NotJson = refl
-meta_refused ulid (meta.MissingField name) = refl
-meta_refused ulid (meta.WrongKind name) = refl
-meta_refused ulid meta.BadVersion = refl
-meta_refused ulid meta.BadTimes = refl
-meta_refused ulid (meta.BadUlid name) = refl
-meta_refused ulid meta.BadLabels = refl
-meta_refused ulid meta.NoMemory = tt
 
-pub meta_first : (ulid : ℕ) (e : MetaRefusal) (said : LoadRefusal) → said ≡ refused_meta e → IfRefused (StopsAt ulid 1) said
-meta_first ulid e said is = subst (IfRefused (StopsAt ulid 1)) (sym is) (meta_refused ulid e)
+module _ (ulid : ℕ) (text : List ℕ) (within : length text ≤ file_limit) where
+  bad_meta : (e : MetaRefusal) → meta_of_text text ≡ Err e → e ≢ meta.NoMemory → ◌≡◌ {A = ℕ} 1 1 × IsBadMeta e
+  bad_meta e reads told = (refl, record { text = text; within = within; reads = reads; told = told })
 
-index_refused : (ulid : ℕ) (e : IndexRefusal) → IfRefused (StopsAt ulid 2) (refused_block (refused_index e))
-index_refused ulid index.BadMagic = refl
-index_refused ulid index.BadVersion = refl
-index_refused ulid (index.BadTocSum kept computed) = refl
-index_refused ulid (index.BadSection number cause) = refl
-index_refused ulid (index.BadSeries number cause) = refl
-index_refused ulid (index.PostingsDiffer place) = refl
-index_refused ulid index.NoMemory = tt
+  meta_refused : (e : MetaRefusal) → meta_of_text text ≡ Err e → IfRefused (StopsAt ulid 1) (refused_meta e)
+  meta_refused meta.NotJson reads = bad_meta meta.NotJson reads (λ h. absurd cc)
+  meta_refused (meta.MissingField name) reads = bad_meta (meta.MissingField name) reads (λ h. absurd cc)
+  meta_refused (meta.WrongKind name) reads = bad_meta (meta.WrongKind name) reads (λ h. absurd cc)
+  meta_refused meta.BadVersion reads = bad_meta meta.BadVersion reads (λ h. absurd cc)
+  meta_refused meta.BadTimes reads = bad_meta meta.BadTimes reads (λ h. absurd cc)
+  meta_refused (meta.BadUlid name) reads = bad_meta (meta.BadUlid name) reads (λ h. absurd cc)
+  meta_refused meta.BadLabels reads = bad_meta meta.BadLabels reads (λ h. absurd cc)
+  meta_refused meta.NoMemory reads = tt
 
-pub index_second : (ulid : ℕ) (lent : List ℕ) (e : CheckRefusal) (said : LoadRefusal) → (e ≡ check.NoMemory) ⊎ (refused_as refused_index (index_at lent) ≡ Err e) → said ≡ refused_block e → IfRefused (StopsAt ulid 2) said
-index_second ulid lent e said (inl none) is = subst (IfRefused (StopsAt ulid 2)) (sym (is ∙ ap refused_block none)) tt
-index_second ulid lent e said (inr h) is =
-    let why = refused_as_err refused_index (index_at lent) e h in
-    subst (IfRefused (StopsAt ulid 2)) (sym (is ∙ ap refused_block (sym why.2))) (index_refused ulid why.0)
+  bad_index : (e : IndexRefusal) → index_at text ≡ Err e → e ≢ index.NoMemory → ◌≡◌ {A = ℕ} 2 2 × IsBadIndex e
+  bad_index e reads told = (refl, record { bytes = text; within = within; reads = reads; told = told })
+
+  index_refused : (e : IndexRefusal) → index_at text ≡ Err e → IfRefused (StopsAt ulid 2) (refused_block (refused_index e))
+  index_refused index.BadMagic reads = bad_index index.BadMagic reads (λ h. absurd cc)
+  index_refused index.BadVersion reads = bad_index index.BadVersion reads (λ h. absurd cc)
+  index_refused (index.BadTocSum kept computed) reads = bad_index (index.BadTocSum kept computed) reads (λ h. absurd cc)
+  index_refused (index.BadSection number cause) reads = bad_index (index.BadSection number cause) reads (λ h. absurd cc)
+  index_refused (index.BadSeries number cause) reads = bad_index (index.BadSeries number cause) reads (λ h. absurd cc)
+  index_refused (index.PostingsDiffer place) reads = bad_index (index.PostingsDiffer place) reads (λ h. absurd cc)
+  index_refused index.NoMemory reads = tt
+
+  module _ (lent : List ℕ) (lends : lent ≡ text) where
+    pub meta_first : (e : MetaRefusal) (said : LoadRefusal) → (e ≡ meta.NoMemory) ⊎ (meta_of_text lent ≡ Err e) → said ≡ refused_meta e → IfRefused (StopsAt ulid 1) said
+    meta_first e said (inl none) is = unsaid (StopsAt ulid 1) said (is ∙ ap refused_meta none)
+    meta_first e said (inr h) is = subst (IfRefused (StopsAt ulid 1)) (sym is) (meta_refused e (ap meta_of_text (sym lends) ∙ h))
+
+    pub index_second : (e : CheckRefusal) (said : LoadRefusal) → (e ≡ check.NoMemory) ⊎ (refused_as refused_index (index_at lent) ≡ Err e) → said ≡ refused_block e → IfRefused (StopsAt ulid 2) said
+    index_second e said (inl none) is = unsaid (StopsAt ulid 2) said (is ∙ ap refused_block none)
+    index_second e said (inr h) is =
+        let why = refused_as_err refused_index (index_at lent) e h in
+        subst (IfRefused (StopsAt ulid 2)) (sym (is ∙ ap refused_block (sym why.2))) (index_refused why.0 (ap index_at (sym lends) ∙ why.1))
 
 -- ---- a check behind it
 

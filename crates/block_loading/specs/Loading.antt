@@ -9,9 +9,11 @@ use Rattle.block_keys.specs.KeyText.{key_text}
 use Rattle.block_meta.specs.Bounds.{HasFew}
 use Rattle.block_meta.specs.MetaFields.{MetaFields, fields_of}
 use Rattle.block_meta.specs.MetaReading.{meta_of_text}
+use Rattle.block_meta.specs.declared.refusal.MetaRefusal.{MetaRefusal}
 use Rattle.block_meta.specs.declared.refusal.MetaRefusal.TheVariants as meta
 use Rattle.index_parts.specs.declared.chunk_place.ChunkPlace.{ChunkPlace}
 use Rattle.index_file.specs.declared.index_series.IndexSeries.{IndexSeries}
+use Rattle.index_v2.specs.declared.refusal.IndexRefusal.{IndexRefusal}
 use Rattle.index_v2.specs.declared.refusal.IndexRefusal.TheVariants as index
 use Rattle.block_files.specs.declared.block_files.BlockFiles.{BlockFiles}
 use Rattle.block_content.specs.ContentReading.{index_at}
@@ -71,6 +73,10 @@ greatest (number ∷ numbers) = max number (greatest numbers)
 -- the greatest number of a file that the series name, and 0 where they have no chunks
 unfoldable pub last_segment : List IndexSeries → ℕ
 last_segment indexed = greatest (map file_number (flat_map (λ one. one.chunks) indexed))
+
+-- The block has as many segments as its index names.
+abbrev pub AreNamed : BlockFiles → Type 0
+AreNamed files = (indexed : List IndexSeries) × (index_at files.index ≡ Ok indexed) × (length files.segments ≡ last_segment indexed)
 
 -- ---- the block
 
@@ -143,13 +149,27 @@ names_read ulid count = names_after ulid 0 count
 abbrev pub IsLast : ℕ → ℕ → Key → Type 0
 IsLast ulid count key = (before : ℕ) × (count ≡ before + 1) × (key ≡ key_after ulid before)
 
+-- A text that does not pass the limit is refused as a meta for this.
+pub record IsBadMeta (refusal : MetaRefusal) : Type 0 where
+  pub text : List ℕ
+  pub within : length text ≤ file_limit
+  pub reads : meta_of_text text ≡ Err refusal
+  pub told : refusal ≢ meta.NoMemory
+
+-- Bytes that do not pass the limit are refused as an index for this.
+pub record IsBadIndex (refusal : IndexRefusal) : Type 0 where
+  pub bytes : List ℕ
+  pub within : length bytes ≤ file_limit
+  pub reads : index_at bytes ≡ Err refusal
+  pub told : refusal ≢ index.NoMemory
+
 -- A load that asked for so many files may be refused for this: the last file that it asked for is not there, or is too large, or
 -- it is a meta or an index that is not read.
 abbrev pub StopsAt : ℕ → ℕ → CheckRefusal → Type 0
 StopsAt ulid count (NoFile key) = IsLast ulid count key
 StopsAt ulid count (TooLarge key) = IsLast ulid count key
-StopsAt ulid count (BadMeta refusal) = count ≡ 1
-StopsAt ulid count (BadIndex refusal) = count ≡ 2
+StopsAt ulid count (BadMeta refusal) = (count ≡ 1) × IsBadMeta refusal
+StopsAt ulid count (BadIndex refusal) = (count ≡ 2) × IsBadIndex refusal
 StopsAt ulid count UlidDiffers = ⊥
 StopsAt ulid count NotLevelOne = ⊥
 StopsAt ulid count SourcesNotSelf = ⊥
@@ -163,9 +183,8 @@ StopsAt ulid count NoMemory = ⊥
 -- A check that asked for so many files may be refused for this: these are all files of a block, and it does not pass.
 pub record StopsAfter (ulid count : ℕ) (refusal : CheckRefusal) : Type 0 where
   pub files : BlockFiles
-  pub indexed : List IndexSeries
-  pub index_is : index_at files.index ≡ Ok indexed
-  pub all : length files.segments ≡ last_segment indexed
+  pub within : AreWithinLimit files
+  pub named : AreNamed files
   pub count_is : count ≡ 2 + length files.segments
   pub refused : RefusesBlock ulid files refusal
 

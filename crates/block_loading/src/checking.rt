@@ -9,7 +9,7 @@ ghost use Rattle.block_content.specs.ContentReading.{NamesFew};
 ghost use Rattle.block_content.specs.Checked.{checked_files, checked_series, checked_samples};
 ghost use Rattle.block_content.specs.declared.check_refusal.CheckRefusal.{CheckRefusal};
 ghost use Rattle.bucket_core.specs.Contents.{Contents};
-ghost use Rattle.block_loading.specs.Loading.{IsLoaded, PassesOnShelf, RefusesOnShelf, AreWithinLimit, StopsOnShelf};
+ghost use Rattle.block_loading.specs.Loading.{IsLoaded, PassesOnShelf, RefusesOnShelf, AreWithinLimit, AreNamed, StopsOnShelf};
 ghost use Rattle.block_loading.specs.LoadReading.{KeepsShelf, AsksInOrder, WasBrokenOff, was_fault};
 
 use crate::LoadRefusal;
@@ -31,6 +31,7 @@ pub fn check_on_shelf<F: Shelf>(
         HasPassed ulid (checked_files checked) (checked_series checked) (checked_samples checked)) }
     ensures few { IfOk result (λ checked. NamesFew (checked_files checked)) }
     ensures within { IfOk result (λ checked. AreWithinLimit (checked_files checked)) }
+    ensures named { IfOk result (λ checked. AreNamed (checked_files checked)) }
     ensures found { (told : Contents) → F.files shelf.old ≡ Some told
         → IfOk result (λ checked. IsLoaded told ulid (checked_files checked)) }
 
@@ -50,8 +51,9 @@ pub fn check_on_shelf<F: Shelf>(
         → (result ≡ Err (LoadRefusal.Refused refusal)) ⊎ WasBrokenOff result }
 
     // Files of the block are asked for, and no others, each once and in the order of reading. A refusal is that of the last one, or
-    // of the whole block.
-    ensures asks { AsksInOrder F.files F.asked shelf.old shelf.new ulid (StopsOnShelf ulid) (λ checked. (checked_files checked).segments) result }
+    // of the whole block; a fault is that of the last one.
+    ensures asks { AsksInOrder F.files F.asked F.faults shelf.old shelf.new
+        ulid (StopsOnShelf ulid) (λ checked. (checked_files checked).segments) result }
 
     // The files stay as they are, and the shelf's count rises just where a fault is answered.
     ensures kept { KeepsShelf F.files F.faults shelf.old shelf.new (was_fault result) }

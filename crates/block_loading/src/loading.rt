@@ -2,12 +2,11 @@
 ghost use Rattle.std.specs.Prelude.{◌≡◌, ◌⊎◌, ◌≤◌, List, Some, Ok, Err, IfOk, IfSome, length, false};
 ghost use Rattle.std.specs.Result.{IsOkAnd};
 ghost use Rattle.reading_core.specs.Grammar.{IsBytes};
-ghost use Rattle.index_file.specs.declared.index_series.IndexSeries.{IndexSeries};
 ghost use Rattle.block_files.specs.declared.block_files.BlockFiles.{BlockFiles};
 ghost use Rattle.block_content.specs.ContentReading.{index_at, ListsFew};
 ghost use Rattle.block_content.specs.declared.check_refusal.CheckRefusal.{CheckRefusal};
 ghost use Rattle.bucket_core.specs.Contents.{Contents};
-ghost use Rattle.block_loading.specs.Loading.{last_segment, IsLoaded, RefusesLoad, AreWithinLimit, StopsAt};
+ghost use Rattle.block_loading.specs.Loading.{last_segment, IsLoaded, RefusesLoad, AreWithinLimit, AreNamed, StopsAt};
 ghost use Rattle.block_loading.specs.LoadReading.{Loads, KeepsShelf, AsksInOrder, WasBrokenOff, was_fault, parts_of, load_at};
 
 use crate::LoadRefusal;
@@ -30,7 +29,8 @@ fn read_block<F: Shelf>(
     ensures few { IfOk result (λ x. ListsFew x.0.index x.1) }
     ensures named { IfOk result (λ x. length x.0.segments ≡ last_segment x.1) }
     ensures within { IfOk result (λ x. AreWithinLimit x.0) }
-    ensures asks { AsksInOrder F.files F.asked shelf.old shelf.new ulid (StopsAt ulid) (λ x. x.0.segments) result }
+    ensures asks { AsksInOrder F.files F.asked F.faults shelf.old shelf.new
+        ulid (StopsAt ulid) (λ x. x.0.segments) result }
     ensures kept { KeepsShelf F.files F.faults shelf.old shelf.new (was_fault result) }
 {
     let meta = read_meta(alloc, shelf, ulid)?;
@@ -72,8 +72,10 @@ pub fn load_indexed<F: Shelf>(
     ensures named { IfOk result (λ x. length x.0.segments ≡ last_segment x.1) }
     ensures within { IfOk result (λ x. AreWithinLimit x.0) }
 
-    // Files of the block are asked for, and no others, each once and in the order of reading. A refusal is that of the last one.
-    ensures asks { AsksInOrder F.files F.asked shelf.old shelf.new ulid (StopsAt ulid) (λ x. x.0.segments) result }
+    // Files of the block are asked for, and no others, each once and in the order of reading. A refusal or a
+    // fault is that of the last one.
+    ensures asks { AsksInOrder F.files F.asked F.faults shelf.old shelf.new
+        ulid (StopsAt ulid) (λ x. x.0.segments) result }
 
     // The files stay as they are, and the shelf's count rises just where a fault is answered.
     ensures kept { KeepsShelf F.files F.faults shelf.old shelf.new (was_fault result) }
@@ -102,13 +104,13 @@ pub fn load<F: Shelf>(alloc: Global, shelf: &mut F, ulid: Ulid) -> Result<BlockF
         → (result ≡ Err (LoadRefusal.Refused refusal)) ⊎ WasBrokenOff result }
 
     // Whatever the shelf tells, exactly the segments up to the last that the index names are loaded.
-    ensures named { IfOk result (λ files. (indexed : List IndexSeries)
-        × (index_at files.index ≡ Ok indexed)
-        × (length files.segments ≡ last_segment indexed)) }
+    ensures named { IfOk result AreNamed }
     ensures within { IfOk result AreWithinLimit }
 
-    // Files of the block are asked for, and no others, each once and in the order of reading. A refusal is that of the last one.
-    ensures asks { AsksInOrder F.files F.asked shelf.old shelf.new ulid (StopsAt ulid) (λ files. files.segments) result }
+    // Files of the block are asked for, and no others, each once and in the order of reading. A refusal or a
+    // fault is that of the last one.
+    ensures asks { AsksInOrder F.files F.asked F.faults shelf.old shelf.new
+        ulid (StopsAt ulid) (λ files. files.segments) result }
 
     // The files stay as they are, and the shelf's count rises just where a fault is answered.
     ensures kept { KeepsShelf F.files F.faults shelf.old shelf.new (was_fault result) }

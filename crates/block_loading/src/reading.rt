@@ -166,7 +166,8 @@ pub(crate) fn read_segments<F: Shelf>(
         → Loads (λ segments. segments) result (segments_at told ulid 1 last) }
     ensures many { IfOk result (λ segments. length segments ≡ last) }
     ensures within { IfOk result (All (λ (segment : List ℕ). length segment ≤ file_limit)) }
-    ensures asks { AsksSegments F.files F.asked shelf.old shelf.new ulid last result }
+    ensures asks { AsksSegments F.files F.asked F.faults shelf.old shelf.new
+        ulid last result }
     ensures kept { KeepsShelf F.files F.faults shelf.old shelf.new (was_fault result) }
 {
     let mut segments = BlobList::new(alloc);

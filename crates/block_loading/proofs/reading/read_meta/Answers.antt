@@ -34,4 +34,4 @@ pub returns-in_err-text-clause-stopped : goal.returns-in_err-text-clause-stopped
 returns-in_err-text-clause-stopped g c = said_on (StopsAt c.args.ulid 1) c.from_residual.result c.in_err-text.field-0.0 c.from_residual.ensures.1 (file_last c.args.ulid 0 1 (Meta c.args.ulid) refl refl c.in_err-text.field-0.0 c.in_err-text.ensures.stopped)
 
 pub returns-clause-stopped : goal.returns-clause-stopped
-returns-clause-stopped g c = meta_first c.args.ulid c.in-Err.refusal c.refused_meta.result c.refused_meta.ensures
+returns-clause-stopped g c = meta_first c.args.ulid c.in_ok-text.text c.in_ok-text.ensures.within c.bytes.result.now c.bytes.ensures c.in-Err.refusal c.refused_meta.result c.in-Err.ensures.gives c.refused_meta.ensures

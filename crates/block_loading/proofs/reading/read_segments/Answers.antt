@@ -1,4 +1,4 @@
-use Rattle.std.proofs.Common.{[], ◌∷◌, length, ◌+◌, ◌-◌, ap, sym, subst, ◌∙◌, false, arith}
+use Rattle.std.proofs.Common.{[], ◌∷◌, length, ◌+◌, ◌-◌, ap, sym, subst, ◌∙◌, false, refl, arith}
 use Rattle.std.proofs.lemmas.List.{length-append}
 use Rattle.block_keys.specs.declared.key.Key.TheVariants.{Segment}
 use Rattle.block_loading.specs.Loading.{HasSegments}
@@ -42,11 +42,11 @@ loop-number-init g c = record {
 }
 
 pub returns-in_err-segment-clause-asks : goal.returns-in_err-segment-clause-asks
-returns-in_err-segment-clause-asks g c = segment_stopped g.F.Shelf.files g.F.Shelf.asked c.args.ulid c.args.last c.from_residual.result c.args.shelf.now c.loop-number.shelf c.loop-number.number c.loop-number.segments c.loop-number.invariant.asked c.loop-number.invariant.stood c.loop-number.invariant.many c.loop-number-test.true c.read_file.new.shelf c.in_err-segment.field-0.0 c.from_residual.ensures.1 c.in_err-segment.ensures.asks
+returns-in_err-segment-clause-asks g c = segment_stopped g.F.Shelf.files g.F.Shelf.asked g.F.Shelf.faults c.args.ulid c.args.last c.from_residual.result c.args.shelf.now c.loop-number.shelf c.loop-number.number c.loop-number.segments c.loop-number.invariant.asked c.loop-number.invariant.stood c.loop-number.invariant.many (c.loop-number.invariant.kept.calm refl) c.loop-number-test.true c.read_file.new.shelf c.in_err-segment.field-0.0 c.from_residual.ensures.1 c.in_err-segment.ensures.asks
     (λ told h. c.in_err-segment.ensures.read told (c.loop-number.invariant.kept.same ∙ h)) c.in_err-segment.ensures.stopped
 
 pub returns-in_err-push-clause-asks : goal.returns-in_err-push-clause-asks
-returns-in_err-push-clause-asks g c = segment_unkept g.F.Shelf.files g.F.Shelf.asked c.args.ulid c.args.last _ c.args.shelf.now c.loop-number.shelf c.loop-number.number c.loop-number.segments c.loop-number.invariant.asked c.loop-number.invariant.stood c.loop-number.invariant.many c.loop-number-test.true c.read_file.new.shelf c.from_residual-in_err-push.ensures.1 (file_asked g.F.Shelf.asked _ _ _ c.in_ok-segment.segment c.in_ok-segment.ensures.asks)
+returns-in_err-push-clause-asks g c = segment_unkept g.F.Shelf.files g.F.Shelf.asked g.F.Shelf.faults c.args.ulid c.args.last _ c.args.shelf.now c.loop-number.shelf c.loop-number.number c.loop-number.segments c.loop-number.invariant.asked c.loop-number.invariant.stood c.loop-number.invariant.many (c.loop-number.invariant.kept.calm refl) c.loop-number-test.true c.read_file.new.shelf c.from_residual-in_err-push.ensures.1 (file_asked g.F.Shelf.asked _ _ _ c.in_ok-segment.segment c.in_ok-segment.ensures.asks)
 
 pub returns-clause-asks : goal.returns-clause-asks
-returns-clause-asks g c = segments_ended g.F.Shelf.files g.F.Shelf.asked c.args.ulid c.args.last _ c.args.shelf.now c.loop-number.shelf c.loop-number.number c.loop-number.segments c.loop-number.invariant.asked c.loop-number.invariant.stood c.loop-number.invariant.many (let end = c.loop-number.auto.number-end in omega (arith, end)) tt
+returns-clause-asks g c = segments_ended g.F.Shelf.files g.F.Shelf.asked g.F.Shelf.faults c.args.ulid c.args.last _ c.args.shelf.now c.loop-number.shelf c.loop-number.number c.loop-number.segments c.loop-number.invariant.asked c.loop-number.invariant.stood c.loop-number.invariant.many (c.loop-number.invariant.kept.calm refl) (let end = c.loop-number.auto.number-end in omega (arith, end)) tt refl

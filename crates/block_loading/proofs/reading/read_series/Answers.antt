@@ -32,4 +32,4 @@ pub returns-in_err-index-clause-stopped : goal.returns-in_err-index-clause-stopp
 returns-in_err-index-clause-stopped g c = said_on (StopsAt c.args.ulid 2) c.from_residual.result c.in_err-index.field-0.0 c.from_residual.ensures.1 (file_last c.args.ulid 1 2 (Index c.args.ulid) refl refl c.in_err-index.field-0.0 c.in_err-index.ensures.stopped)
 
 pub returns-in-Err-clause-stopped : goal.returns-in-Err-clause-stopped
-returns-in-Err-clause-stopped g c = index_second c.args.ulid c.bytes.result.now c.in-Err.refusal c.refused_block.result c.in-Err.ensures.exact c.refused_block.ensures
+returns-in-Err-clause-stopped g c = index_second c.args.ulid c.in_ok-index.index c.in_ok-index.ensures.within c.bytes.result.now c.bytes.ensures c.in-Err.refusal c.refused_block.result c.in-Err.ensures.exact c.refused_block.ensures
