@@ -1,5 +1,5 @@
 -- Where a refused load stopped, and how large what it read is.
-use Rattle.std.proofs.Common.{◌≡◌, ℕ, ◌+◌, Bool, true, false, List, [], ◌∷◌, ◌++◌, length, Result, Ok, Err, refl, sym, ap, subst, ◌∙◌, ◌⊎◌, inl, inr}
+use Rattle.std.proofs.Common.{◌≡◌, ℕ, ◌+◌, true, false, List, [], ◌∷◌, ◌++◌, length, Result, Ok, Err, refl, sym, ap, subst, ◌∙◌, ◌⊎◌, inl, inr}
 use Rattle.std.specs.Prelude.{◌≢◌, ◌≤◌, All, IsTrue, IfErr, IsErrAnd}
 use Rattle.std.proofs.lemmas.List.Elements.{All-nil, All-push}
 use Rattle.reading_core.specs.Reading.{refused_as}
