@@ -1,5 +1,5 @@
 -- What is told of a bucket in memory or in a folder.
-use Rattle.std.specs.Prelude.{◌≡◌, ℕ, List, Option, Some, None, IsSome}
+use Rattle.std.specs.Prelude.{◌≡◌, ℕ, Bool, true, false, List, Option, Some, None, IsSome}
 use Rattle.bucket_core.specs.Contents.{Contents, IsKey}
 use Rattle.bucket_core.specs.KeyLaw.{told_is_key as objects_are_keys}
 use Rattle.bucket_core.specs.MemoryBucket.{objects_held, faults_counted as memory_faults, IsQuiet as IsQuietMemory}
@@ -15,6 +15,11 @@ contents_told (Folder bucket) = None
 abbrev pub faults_counted : {R F D : Type 0} → HostBucket R F D → ℕ
 faults_counted (Memory bucket) = memory_faults bucket
 faults_counted (Folder bucket) = bucket_faults bucket
+
+-- whether the bucket is in memory, and not in a folder
+abbrev pub is_in_memory : {R F D : Type 0} → HostBucket R F D → Bool
+is_in_memory (Memory bucket) = true
+is_in_memory (Folder bucket) = false
 
 -- a folder may fail at any call
 abbrev pub IsQuiet : {R F D : Type 0} → HostBucket R F D → Type 0

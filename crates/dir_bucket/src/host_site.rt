@@ -1,7 +1,7 @@
 ghost use Rattle.std.specs.Prelude.{◌≡◌, Some, IfOk, IfSome};
 ghost use Rattle.dir_bucket.specs.Folders.{shelf_faults};
-ghost use Rattle.dir_bucket.specs.HostBucket.{contents_told, faults_counted as bucket_faults};
-ghost use Rattle.dir_bucket.specs.Places.{contents_under};
+ghost use Rattle.dir_bucket.specs.HostBucket.{contents_told, faults_counted as bucket_faults, is_in_memory};
+ghost use Rattle.dir_bucket.specs.Places.{contents_under, names_memory};
 
 use crate::{DirBucket, DirShelf, HostBucket};
 use bucket_core::{FailList, MemoryBucket, Site, SiteRefusal};
@@ -45,6 +45,7 @@ fn open_bucket<R: Files + AllocGlobal + Clone + Drop>(
     ensures fresh { IfOk result (λ bucket. bucket_faults bucket ≡ 0) }
     ensures told { IfOk result (λ bucket.
         IfSome (contents_under name.now) (λ c. contents_told bucket ≡ Some c)) }
+    ensures placed { IfOk result (λ bucket. is_in_memory bucket ≡ names_memory name.now) }
 {
     if name == MEMORY {
         let failing = FailList::new(rt.alloc());
@@ -74,8 +75,10 @@ impl<R: Files + AllocGlobal + Clone + Drop> Site for HostSite<R> {
 
     type Files = DirShelf<R>;
 
-    ghost use Rattle.std.specs.Prelude.{None};
-    ghost use Rattle.dir_bucket.specs.Places.{contents_under};
+    ghost use Rattle.std.specs.Prelude.{◌≡◌, ◌≢◌, ◌≤◌, ◌+◌, None, Some, Err, IfOk, IfSome, is_ok, if◌then◌else◌};
+    ghost use Rattle.bucket_core.specs.Causes.{Rose};
+    ghost use Rattle.dir_bucket.specs.HostBucket.{contents_told, is_in_memory, faults_counted as bucket_faults};
+    ghost use Rattle.dir_bucket.specs.Places.{contents_under, names_memory};
     ghost use Rattle.dir_bucket.specs.HostSite.{buckets_handed_out, shelves_handed_out, faults_counted};
 
     ghost faults = { faults_counted };
@@ -88,7 +91,21 @@ impl<R: Files + AllocGlobal + Clone + Drop> Site for HostSite<R> {
 
     ghost next_shelf = { λ site name. None };
 
-    fn open_bucket(&mut self, name: &str) -> Result<HostBucket<R>, SiteRefusal> {
+    fn open_bucket(&mut self, name: &str) -> Result<HostBucket<R>, SiteRefusal>
+        ensures fresh { IfOk result (λ bucket. bucket_faults bucket ≡ 0) }
+        ensures told { IfOk result (λ bucket.
+            IfSome (contents_under name.now) (λ c. contents_told bucket ≡ Some c)) }
+        ensures placed { IfOk result (λ bucket. is_in_memory bucket ≡ names_memory name.now) }
+        ensures counted { buckets_handed_out self.new
+            ≡ (if is_ok result then buckets_handed_out self.old + 1
+            else buckets_handed_out self.old) }
+        ensures shelves { shelves_handed_out self.new ≡ shelves_handed_out self.old }
+        ensures later { faults_counted self.old ≤ faults_counted self.new }
+        ensures cause { result ≡ Err SiteRefusal.Failed
+            → Rose (faults_counted self.old) (faults_counted self.new) }
+        ensures calm { result ≢ Err SiteRefusal.Failed
+            → faults_counted self.new ≡ faults_counted self.old }
+    {
         if self.buckets == u64::MAX {
             self.faults = self.faults.saturating_add(1);
             return Err(SiteRefusal::Failed);
