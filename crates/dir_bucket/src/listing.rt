@@ -163,21 +163,20 @@ fn is_shown<R: Files + AllocGlobal + Clone + Drop>(
     Ok(kind.is_file())
 }
 
-/// Adds a name to a page, if it is plain.
-fn push_plain(page: &mut TextList, name: Text) -> io::Result<()>
+/// Adds a plain name to a page.
+fn push_name(page: &mut TextList, name: Text) -> io::Result<()>
+    requires { is_plain_name name ≡ true }
     ensures { All (λ name. is_plain_name name ≡ true) page.old
         → All (λ name. is_plain_name name ≡ true) page.new }
 {
-    if !is_plain(name.as_str()) {
-        return Ok(());
-    }
     match page.push(name) {
         Ok(()) => Ok(()),
         Err(_) => Err(io::Error::from(ErrorKind::OutOfMemory)),
     }
 }
 
-/// Adds those of the names in a folder that are shown.
+/// Adds those of the names in a folder that are shown. No name that is not plain is looked at, so that nothing below a folder
+/// whose name begins with a dot can fail a page.
 fn push_shown<R: Files + AllocGlobal + Clone + Drop>(
     rt: &R,
     folder: &str,
@@ -188,8 +187,8 @@ fn push_shown<R: Files + AllocGlobal + Clone + Drop>(
         → All (λ name. is_plain_name name ≡ true) page.new }
 {
     for name in names {
-        if is_shown(rt, folder, name.as_str())? {
-            push_plain(page, name)?;
+        if is_plain(name.as_str()) && is_shown(rt, folder, name.as_str())? {
+            push_name(page, name)?;
         }
     }
     Ok(())
@@ -249,7 +248,9 @@ pub(crate) fn page_of_files<R: Files + AllocGlobal + Clone + Drop>(
 {
     let mut page = List::new(rt.alloc());
     for name in least_files(rt, folder, after, limit as usize)? {
-        push_plain(&mut page, name)?;
+        if is_plain(name.as_str()) {
+            push_name(&mut page, name)?;
+        }
     }
     Ok(page)
 }
