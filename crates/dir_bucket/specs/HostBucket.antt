@@ -1,9 +1,9 @@
 -- What is told of a bucket in memory or in a folder.
-use Rattle.std.specs.Prelude.{◌≡◌, ℕ, Bool, true, false, List, Option, Some, None, IsSome}
+use Rattle.std.specs.Prelude.{◌≡◌, ℕ, List, Option, Some, None, IsSome}
 use Rattle.bucket_core.specs.Contents.{Contents, IsKey}
 use Rattle.bucket_core.specs.KeyLaw.{told_is_key as objects_are_keys}
 use Rattle.bucket_core.specs.MemoryBucket.{objects_held, faults_counted as memory_faults, IsQuiet as IsQuietMemory}
-use Rattle.dir_bucket.specs.Folders.{bucket_faults}
+use Rattle.dir_bucket.specs.Folders.{bucket_faults, bucket_folder}
 use Rattle.dir_bucket.specs.declared.host_bucket.HostBucket.{HostBucket}
 use Rattle.dir_bucket.specs.declared.host_bucket.HostBucket.TheVariants.{Memory, Folder}
 
@@ -16,10 +16,10 @@ abbrev pub faults_counted : {R F D : Type 0} → HostBucket R F D → ℕ
 faults_counted (Memory bucket) = memory_faults bucket
 faults_counted (Folder bucket) = bucket_faults bucket
 
--- whether the bucket is in memory, and not in a folder
-abbrev pub is_in_memory : {R F D : Type 0} → HostBucket R F D → Bool
-is_in_memory (Memory bucket) = true
-is_in_memory (Folder bucket) = false
+-- the folder that the bucket is in, where it is not in memory
+abbrev pub folder_of : {R F D : Type 0} → HostBucket R F D → Option (List ℕ)
+folder_of (Memory bucket) = None
+folder_of (Folder bucket) = Some (bucket_folder bucket)
 
 -- a folder may fail at any call
 abbrev pub IsQuiet : {R F D : Type 0} → HostBucket R F D → Type 0
