@@ -1,10 +1,19 @@
--- What is told of a bucket and of a shelf in a folder: how often they have failed.
-use Rattle.std.specs.Prelude.{ℕ}
+-- What is told of a bucket and of a shelf in a folder: which folder it is, and how often they have failed.
+use Rattle.std.specs.Prelude.{ℕ, List}
+use Rattle.std.specs.String.{string_bytes}
 use Rattle.dir_bucket.specs.declared.dir_bucket.DirBucket.{DirBucket}
 use Rattle.dir_bucket.specs.declared.dir_shelf.DirShelf.{DirShelf}
 
+-- the name of the folder that a bucket is in
+abbrev pub bucket_folder : {R F D : Type 0} → DirBucket R F D → List ℕ
+bucket_folder bucket = string_bytes bucket.folder
+
 abbrev pub bucket_faults : {R F D : Type 0} → DirBucket R F D → ℕ
 bucket_faults bucket = bucket.faults
+
+-- the name of the folder of a shelf
+abbrev pub shelf_folder : {R F D : Type 0} → DirShelf R F D → List ℕ
+shelf_folder shelf = string_bytes shelf.folder
 
 abbrev pub shelf_faults : {R F D : Type 0} → DirShelf R F D → ℕ
 shelf_faults shelf = shelf.faults

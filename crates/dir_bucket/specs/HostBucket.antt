@@ -3,7 +3,7 @@ use Rattle.std.specs.Prelude.{◌≡◌, ℕ, List, Option, Some, None, IsSome}
 use Rattle.bucket_core.specs.Contents.{Contents, IsKey}
 use Rattle.bucket_core.specs.KeyLaw.{told_is_key as objects_are_keys}
 use Rattle.bucket_core.specs.MemoryBucket.{objects_held, faults_counted as memory_faults, IsQuiet as IsQuietMemory}
-use Rattle.dir_bucket.specs.Folders.{bucket_faults}
+use Rattle.dir_bucket.specs.Folders.{bucket_faults, bucket_folder}
 use Rattle.dir_bucket.specs.declared.host_bucket.HostBucket.{HostBucket}
 use Rattle.dir_bucket.specs.declared.host_bucket.HostBucket.TheVariants.{Memory, Folder}
 
@@ -15,6 +15,11 @@ contents_told (Folder bucket) = None
 abbrev pub faults_counted : {R F D : Type 0} → HostBucket R F D → ℕ
 faults_counted (Memory bucket) = memory_faults bucket
 faults_counted (Folder bucket) = bucket_faults bucket
+
+-- the folder that the bucket is in, where it is not in memory
+abbrev pub folder_of : {R F D : Type 0} → HostBucket R F D → Option (List ℕ)
+folder_of (Memory bucket) = None
+folder_of (Folder bucket) = Some (bucket_folder bucket)
 
 -- a folder may fail at any call
 abbrev pub IsQuiet : {R F D : Type 0} → HostBucket R F D → Type 0

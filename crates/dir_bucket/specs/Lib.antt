@@ -1,5 +1,6 @@
 pub mod Folders
 pub mod HostBucket
 pub mod HostSite
+pub mod Listings
 pub mod Names
 pub mod Places

@@ -1,7 +1,8 @@
-ghost use Rattle.std.specs.Prelude.{◌≡◌, ℕ, ◌≤◌, All, Err, IfOk, IsTrue, None, false, true};
+ghost use Rattle.std.specs.Prelude.{◌≡◌, ℕ, ◌≤◌, ◌^◌, Err, IfOk, IsTrue, None, false, vec_len};
+ghost use Rattle.std.specs.String.{string_bytes};
 ghost use Rattle.bucket_core.specs.Causes.{Rose, get_failed};
-ghost use Rattle.dir_bucket.specs.Folders.{bucket_faults};
-ghost use Rattle.dir_bucket.specs.Names.{is_plain as is_plain_name};
+ghost use Rattle.dir_bucket.specs.Folders.{bucket_faults, bucket_folder};
+ghost use Rattle.dir_bucket.specs.Listings.{IsListing, ShowsAtMost};
 
 use crate::files::{is_absent, path_of, put_file, read_range, remove_file, sync_names};
 use crate::listing::{page_of_files, page_of_names};
@@ -19,7 +20,7 @@ use wire_bytes::Blob;
 /// A put writes a file of another name, `.put` in the folder, has it on the disk and then renames it, so that a process that
 /// is ended leaves the object whole or as it was; what was answered `Stored` stands after it. Keys with a part that is empty
 /// or begins with a dot have no file: a put of one fails, and no object is ever found under one. One process at a time may
-/// use a folder.
+/// use a folder. Reads follow links, and pages pass over them. A deletion for which memory is wanted has failed.
 #[derive(Drop)]
 pub struct DirBucket<R: Files + AllocGlobal + Clone + Drop> {
     rt: R,
@@ -30,7 +31,8 @@ pub struct DirBucket<R: Files + AllocGlobal + Clone + Drop> {
 impl<R: Files + AllocGlobal + Clone + Drop> DirBucket<R> {
     /// The bucket of a folder, which is made where it is absent. `Failed` is answered where it can't be made or listed.
     pub fn open(rt: R, folder: &str) -> Result<DirBucket<R>, SiteRefusal>
-        ensures { IfOk result (λ bucket. bucket_faults bucket ≡ 0) }
+        ensures fresh { IfOk result (λ bucket. bucket_faults bucket ≡ 0) }
+        ensures folder { IfOk result (λ bucket. bucket_folder bucket ≡ folder.now) }
     {
         match open_folder(&rt, folder) {
             Ok(folder) => Ok(DirBucket {
@@ -47,12 +49,16 @@ impl<R: Files + AllocGlobal + Clone + Drop> DirBucket<R> {
     fn fail(&mut self)
         ensures rose { Rose (bucket_faults self.old) (bucket_faults self.new) }
         ensures later { bucket_faults self.old ≤ bucket_faults self.new }
+        ensures folder { bucket_folder self.new ≡ bucket_folder self.old }
     {
         self.faults = self.faults.saturating_add(1);
     }
 
     /// What a read is answered, where a failure is counted.
     fn answer(&mut self, read: io::Result<Vec<u8>>) -> GetAnswer
+        ensures short { (most : ℕ) → IfOk read (λ bytes. vec_len bytes ≤ most)
+            → ShowsAtMost most result }
+        ensures folder { bucket_folder self.new ≡ bucket_folder self.old }
         ensures later { bucket_faults self.old ≤ bucket_faults self.new }
         ensures cause { IsTrue (get_failed result)
             → Rose (bucket_faults self.old) (bucket_faults self.new) }
@@ -71,7 +77,7 @@ impl<R: Files + AllocGlobal + Clone + Drop> DirBucket<R> {
     }
 
     fn try_page(&self, within: &str, after: &str, limit: u32) -> io::Result<TextList>
-        ensures { IfOk result (All (λ name. is_plain_name name ≡ true)) }
+        ensures { IfOk result (IsListing after.now limit) }
     {
         if within.is_empty() {
             return page_of_names(&self.rt, self.folder.as_str(), after, limit);
@@ -82,7 +88,9 @@ impl<R: Files + AllocGlobal + Clone + Drop> DirBucket<R> {
 }
 
 /// Makes the folder, and sees that its names can be listed.
-fn open_folder<R: Files + AllocGlobal + Clone + Drop>(rt: &R, folder: &str) -> io::Result<String> {
+fn open_folder<R: Files + AllocGlobal + Clone + Drop>(rt: &R, folder: &str) -> io::Result<String>
+    ensures { IfOk result (λ kept. string_bytes kept ≡ folder.now) }
+{
     if folder.is_empty() {
         return Err(io::Error::from(ErrorKind::InvalidFilename));
     }
@@ -95,8 +103,9 @@ impl<R: Files + AllocGlobal + Clone + Drop> Bucket for DirBucket<R> {
     ghost use Rattle.std.specs.Prelude.{◌≡◌, ◌≢◌, ◌≤◌, [], None, IfSome, option_map, false};
     ghost use Rattle.bucket_core.specs.Causes.{KeepsFaults, put_failed, get_failed, delete_failed, page_failed};
     ghost use Rattle.bucket_core.specs.Contents.{IsKey};
-    ghost use Rattle.dir_bucket.specs.Folders.{bucket_faults};
-    ghost use Rattle.dir_bucket.specs.Names.{is_plain as is_plain_name, ShowsPlain};
+    ghost use Rattle.dir_bucket.specs.Folders.{bucket_faults, bucket_folder};
+    ghost use Rattle.dir_bucket.specs.Listings.{ShowsAtMost, ShowsListing};
+    ghost use Rattle.dir_bucket.specs.Names.{is_plain as is_plain_name};
 
     ghost contents = { λ bucket. None };
 
@@ -112,6 +121,7 @@ impl<R: Files + AllocGlobal + Clone + Drop> Bucket for DirBucket<R> {
         requires { IsKey key.now }
         ensures kept { KeepsFaults bucket_faults (λ bucket. ⊥) self.old self.new
             (put_failed result) }
+        ensures folder { bucket_folder self.new ≡ bucket_folder self.old }
         ensures strange { is_plain_name key.now ≡ false → result ≡ PutAnswer.Failed false }
     {
         if !is_plain(key) {
@@ -137,6 +147,7 @@ impl<R: Files + AllocGlobal + Clone + Drop> Bucket for DirBucket<R> {
     fn get(&mut self, key: &str) -> GetAnswer
         ensures kept { KeepsFaults bucket_faults (λ bucket. ⊥) self.old self.new
             (get_failed result) }
+        ensures folder { bucket_folder self.new ≡ bucket_folder self.old }
         ensures strange { is_plain_name key.now ≡ false → result ≡ GetAnswer.Absent }
     {
         if !is_plain(key) {
@@ -149,6 +160,8 @@ impl<R: Files + AllocGlobal + Clone + Drop> Bucket for DirBucket<R> {
     fn get_range(&mut self, key: &str, from: u64, len: u64) -> GetAnswer
         ensures kept { KeepsFaults bucket_faults (λ bucket. ⊥) self.old self.new
             (get_failed result) }
+        ensures folder { bucket_folder self.new ≡ bucket_folder self.old }
+        ensures short { ShowsAtMost len result }
         ensures strange { is_plain_name key.now ≡ false → result ≡ GetAnswer.Absent }
     {
         if !is_plain(key) {
@@ -161,6 +174,7 @@ impl<R: Files + AllocGlobal + Clone + Drop> Bucket for DirBucket<R> {
     fn delete(&mut self, key: &str) -> DeleteAnswer
         ensures kept { KeepsFaults bucket_faults (λ bucket. ⊥) self.old self.new
             (delete_failed result) }
+        ensures folder { bucket_folder self.new ≡ bucket_folder self.old }
         ensures strange { is_plain_name key.now ≡ false → result ≡ DeleteAnswer.Deleted }
     {
         if !is_plain(key) {
@@ -185,7 +199,8 @@ impl<R: Files + AllocGlobal + Clone + Drop> Bucket for DirBucket<R> {
     fn page(&mut self, within: &str, after: &str, limit: u32) -> PageAnswer
         ensures kept { KeepsFaults bucket_faults (λ bucket. ⊥) self.old self.new
             (page_failed result) }
-        ensures plain { ShowsPlain result }
+        ensures folder { bucket_folder self.new ≡ bucket_folder self.old }
+        ensures listed { ShowsListing after.now limit result }
         ensures strange { within.now ≢ [] → is_plain_name within.now ≡ false
             → result ≡ PageAnswer.Names [] }
     {

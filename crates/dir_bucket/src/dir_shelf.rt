@@ -1,7 +1,8 @@
 ghost use Rattle.std.specs.Prelude.{◌≡◌, ℕ, ◌≤◌, IfOk, IsTrue, false};
+ghost use Rattle.std.specs.String.{string_bytes};
 ghost use Rattle.bucket_core.specs.Causes.{Rose, file_failed};
 ghost use Rattle.bucket_core.specs.Files.{IsWithinLimit};
-ghost use Rattle.dir_bucket.specs.Folders.{shelf_faults};
+ghost use Rattle.dir_bucket.specs.Folders.{shelf_faults, shelf_folder};
 
 use crate::files::{is_absent, read_range};
 use crate::names::is_plain;
@@ -25,7 +26,8 @@ pub struct DirShelf<R: Files + AllocGlobal + Clone + Drop> {
 impl<R: Files + AllocGlobal + Clone + Drop> DirShelf<R> {
     /// The shelf of a folder. `Failed` is answered where it can't be listed.
     pub fn open(rt: R, folder: &str) -> Result<DirShelf<R>, SiteRefusal>
-        ensures { IfOk result (λ shelf. shelf_faults shelf ≡ 0) }
+        ensures fresh { IfOk result (λ shelf. shelf_faults shelf ≡ 0) }
+        ensures folder { IfOk result (λ shelf. shelf_folder shelf ≡ folder.now) }
     {
         match open_folder(&rt, folder) {
             Ok(folder) => Ok(DirShelf {
@@ -41,6 +43,7 @@ impl<R: Files + AllocGlobal + Clone + Drop> DirShelf<R> {
     /// What a read is answered, where a failure is counted.
     fn answer(&mut self, read: io::Result<Vec<u8>>) -> ShelfAnswer
         ensures within { IsWithinLimit result }
+        ensures folder { shelf_folder self.new ≡ shelf_folder self.old }
         ensures later { shelf_faults self.old ≤ shelf_faults self.new }
         ensures cause { IsTrue (file_failed result)
             → Rose (shelf_faults self.old) (shelf_faults self.new) }
@@ -61,7 +64,9 @@ impl<R: Files + AllocGlobal + Clone + Drop> DirShelf<R> {
 }
 
 /// Sees that the folder is there.
-fn open_folder<R: Files + AllocGlobal + Clone + Drop>(rt: &R, folder: &str) -> io::Result<String> {
+fn open_folder<R: Files + AllocGlobal + Clone + Drop>(rt: &R, folder: &str) -> io::Result<String>
+    ensures { IfOk result (λ kept. string_bytes kept ≡ folder.now) }
+{
     fs::read_dir(rt, folder)?;
     Ok(String::from_str(rt.alloc(), folder)?)
 }
@@ -70,7 +75,7 @@ impl<R: Files + AllocGlobal + Clone + Drop> Shelf for DirShelf<R> {
     ghost use Rattle.std.specs.Prelude.{◌≡◌, ◌≤◌, None, IsTrue, false};
     ghost use Rattle.bucket_core.specs.Causes.{Rose, file_failed};
     ghost use Rattle.bucket_core.specs.Files.{IsWithinLimit};
-    ghost use Rattle.dir_bucket.specs.Folders.{shelf_faults};
+    ghost use Rattle.dir_bucket.specs.Folders.{shelf_faults, shelf_folder};
     ghost use Rattle.dir_bucket.specs.Names.{is_plain as is_plain_name};
 
     ghost files = { λ shelf. None };
@@ -81,6 +86,7 @@ impl<R: Files + AllocGlobal + Clone + Drop> Shelf for DirShelf<R> {
 
     fn read(&mut self, name: &str) -> ShelfAnswer
         ensures within { IsWithinLimit result }
+        ensures folder { shelf_folder self.new ≡ shelf_folder self.old }
         ensures later { shelf_faults self.old ≤ shelf_faults self.new }
         ensures cause { IsTrue (file_failed result)
             → Rose (shelf_faults self.old) (shelf_faults self.new) }

@@ -1,4 +1,7 @@
 //! What is done to files and folders. Nothing is known of what they hold.
+ghost use Rattle.std.specs.Prelude.{◌≡◌, ◌≤◌, ◌∷◌, ◌++◌, IfOk, vec_len};
+ghost use Rattle.std.specs.String.{string_bytes};
+
 use crate::names::parent;
 use std::fs::{File, OpenFile};
 use std::io::{ErrorKind, Read, Seek, SeekFrom, Write};
@@ -9,7 +12,9 @@ use std::{fs, io};
 const TEMPORARY: &str = ".put";
 
 /// The path of a name in a folder.
-pub(crate) fn path_of<R: AllocGlobal>(rt: &R, folder: &str, name: &str) -> io::Result<String> {
+pub(crate) fn path_of<R: AllocGlobal>(rt: &R, folder: &str, name: &str) -> io::Result<String>
+    ensures { IfOk result (λ path. string_bytes path ≡ folder.now ++ 47 ∷ name.now) }
+{
     Ok(format!(in rt.alloc(); "{folder}/{name}")?)
 }
 
@@ -76,7 +81,9 @@ pub(crate) fn read_range<R: Files + AllocGlobal>(
     name: &str,
     from: u64,
     most: u64,
-) -> io::Result<Vec<u8>> {
+) -> io::Result<Vec<u8>>
+    ensures { IfOk result (λ bytes. vec_len bytes ≤ most) }
+{
     let path = path_of(rt, folder, name)?;
     let metadata = fs::metadata(rt, path.as_str())?;
     if !metadata.is_file() {
@@ -90,5 +97,7 @@ pub(crate) fn read_range<R: Files + AllocGlobal>(
         file.seek(SeekFrom::Start(from))?;
         file.take(most).read_to_end(&mut bytes)?;
     }
+    // Whatever the system gave, no more is handed on than was asked for.
+    bytes.truncate(most as usize);
     Ok(bytes)
 }

@@ -1,7 +1,7 @@
-ghost use Rattle.std.specs.Prelude.{◌≡◌, Some, IfOk, IfSome};
-ghost use Rattle.dir_bucket.specs.Folders.{shelf_faults};
-ghost use Rattle.dir_bucket.specs.HostBucket.{contents_told, faults_counted as bucket_faults};
-ghost use Rattle.dir_bucket.specs.Places.{contents_under};
+ghost use Rattle.std.specs.Prelude.{◌≡◌, None, Some, IfOk, IfSome};
+ghost use Rattle.dir_bucket.specs.Folders.{shelf_faults, shelf_folder};
+ghost use Rattle.dir_bucket.specs.HostBucket.{contents_told, faults_counted as bucket_faults, folder_of, IsQuiet};
+ghost use Rattle.dir_bucket.specs.Places.{contents_under, folder_under};
 
 use crate::{DirBucket, DirShelf, HostBucket};
 use bucket_core::{FailList, MemoryBucket, Site, SiteRefusal};
@@ -45,6 +45,8 @@ fn open_bucket<R: Files + AllocGlobal + Clone + Drop>(
     ensures fresh { IfOk result (λ bucket. bucket_faults bucket ≡ 0) }
     ensures told { IfOk result (λ bucket.
         IfSome (contents_under name.now) (λ c. contents_told bucket ≡ Some c)) }
+    ensures placed { IfOk result (λ bucket. folder_of bucket ≡ folder_under name.now) }
+    ensures quiet { IfOk result (λ bucket. folder_of bucket ≡ None → IsQuiet bucket) }
 {
     if name == MEMORY {
         let failing = FailList::new(rt.alloc());
@@ -61,7 +63,8 @@ fn open_shelf<R: Files + AllocGlobal + Clone + Drop>(
     rt: &R,
     name: &str,
 ) -> Result<DirShelf<R>, SiteRefusal>
-    ensures { IfOk result (λ shelf. shelf_faults shelf ≡ 0) }
+    ensures fresh { IfOk result (λ shelf. shelf_faults shelf ≡ 0) }
+    ensures placed { IfOk result (λ shelf. shelf_folder shelf ≡ name.now) }
 {
     match rt.clone() {
         Ok(rt) => DirShelf::open(rt, name),
@@ -74,8 +77,11 @@ impl<R: Files + AllocGlobal + Clone + Drop> Site for HostSite<R> {
 
     type Files = DirShelf<R>;
 
-    ghost use Rattle.std.specs.Prelude.{None};
-    ghost use Rattle.dir_bucket.specs.Places.{contents_under};
+    ghost use Rattle.std.specs.Prelude.{◌≡◌, ◌≢◌, ◌≤◌, ◌+◌, None, Some, Err, IfOk, IfSome, is_ok, if◌then◌else◌};
+    ghost use Rattle.bucket_core.specs.Causes.{Rose};
+    ghost use Rattle.dir_bucket.specs.Folders.{shelf_faults, shelf_folder};
+    ghost use Rattle.dir_bucket.specs.HostBucket.{contents_told, folder_of, IsQuiet, faults_counted as bucket_faults};
+    ghost use Rattle.dir_bucket.specs.Places.{contents_under, folder_under};
     ghost use Rattle.dir_bucket.specs.HostSite.{buckets_handed_out, shelves_handed_out, faults_counted};
 
     ghost faults = { faults_counted };
@@ -88,7 +94,22 @@ impl<R: Files + AllocGlobal + Clone + Drop> Site for HostSite<R> {
 
     ghost next_shelf = { λ site name. None };
 
-    fn open_bucket(&mut self, name: &str) -> Result<HostBucket<R>, SiteRefusal> {
+    fn open_bucket(&mut self, name: &str) -> Result<HostBucket<R>, SiteRefusal>
+        ensures fresh { IfOk result (λ bucket. bucket_faults bucket ≡ 0) }
+        ensures told { IfOk result (λ bucket.
+            IfSome (contents_under name.now) (λ c. contents_told bucket ≡ Some c)) }
+        ensures placed { IfOk result (λ bucket. folder_of bucket ≡ folder_under name.now) }
+        ensures quiet { IfOk result (λ bucket. folder_of bucket ≡ None → IsQuiet bucket) }
+        ensures counted { buckets_handed_out self.new
+            ≡ (if is_ok result then buckets_handed_out self.old + 1
+            else buckets_handed_out self.old) }
+        ensures shelves { shelves_handed_out self.new ≡ shelves_handed_out self.old }
+        ensures later { faults_counted self.old ≤ faults_counted self.new }
+        ensures cause { result ≡ Err SiteRefusal.Failed
+            → Rose (faults_counted self.old) (faults_counted self.new) }
+        ensures calm { result ≢ Err SiteRefusal.Failed
+            → faults_counted self.new ≡ faults_counted self.old }
+    {
         if self.buckets == u64::MAX {
             self.faults = self.faults.saturating_add(1);
             return Err(SiteRefusal::Failed);
@@ -106,7 +127,19 @@ impl<R: Files + AllocGlobal + Clone + Drop> Site for HostSite<R> {
         }
     }
 
-    fn open_shelf(&mut self, name: &str) -> Result<DirShelf<R>, SiteRefusal> {
+    fn open_shelf(&mut self, name: &str) -> Result<DirShelf<R>, SiteRefusal>
+        ensures fresh { IfOk result (λ shelf. shelf_faults shelf ≡ 0) }
+        ensures placed { IfOk result (λ shelf. shelf_folder shelf ≡ name.now) }
+        ensures counted { shelves_handed_out self.new
+            ≡ (if is_ok result then shelves_handed_out self.old + 1
+            else shelves_handed_out self.old) }
+        ensures buckets { buckets_handed_out self.new ≡ buckets_handed_out self.old }
+        ensures later { faults_counted self.old ≤ faults_counted self.new }
+        ensures cause { result ≡ Err SiteRefusal.Failed
+            → Rose (faults_counted self.old) (faults_counted self.new) }
+        ensures calm { result ≢ Err SiteRefusal.Failed
+            → faults_counted self.new ≡ faults_counted self.old }
+    {
         if self.shelves == u64::MAX {
             self.faults = self.faults.saturating_add(1);
             return Err(SiteRefusal::Failed);

@@ -1,5 +1,8 @@
-//! The names of files below a folder. Names with a part that begins with a dot are passed over.
-ghost use Rattle.std.specs.Prelude.{◌≡◌, All, IfOk, true};
+//! The names of files below a folder. Names with a part that begins with a dot are passed over, and so are those that are no
+//! text.
+ghost use Rattle.std.specs.Prelude.{◌≡◌, [], ◌∷◌, ◌++◌, IfOk, IsTrue, true};
+ghost use Rattle.bucket_core.specs.Pages.{Ascends};
+ghost use Rattle.dir_bucket.specs.Listings.{IsListing};
 ghost use Rattle.dir_bucket.specs.Names.{is_plain as is_plain_name};
 
 use crate::files::{is_absent, path_of};
@@ -8,6 +11,7 @@ use label_sets::{Text, TextList};
 use list_core::List;
 use std::alloc::Global;
 use std::collections::BinaryHeap;
+use std::fs::DirEntry;
 use std::io::ErrorKind;
 use std::rt::Files;
 use std::{fs, io};
@@ -42,6 +46,15 @@ impl Least {
     }
 }
 
+/// The entry of a folder, unless its name is no text, which no name of an object is.
+fn unless_no_text<R: Files>(entry: io::Result<DirEntry<R>>) -> io::Result<Option<DirEntry<R>>> {
+    match entry {
+        Ok(entry) => Ok(Some(entry)),
+        Err(error) if error.kind() == ErrorKind::InvalidFilename => Ok(None),
+        Err(error) => Err(error),
+    }
+}
+
 /// The least names in a folder that are greater than `after`, at most so many, of files and of folders.
 fn least_names<R: Files + AllocGlobal + Clone + Drop>(
     rt: &R,
@@ -51,7 +64,9 @@ fn least_names<R: Files + AllocGlobal + Clone + Drop>(
 ) -> io::Result<Vec<Text>> {
     let mut least = Least::new(rt.alloc(), most);
     for entry in fs::read_dir(rt, folder)? {
-        let entry = entry?;
+        let Some(entry) = unless_no_text(entry)? else {
+            continue;
+        };
         let name = entry.file_name();
         if after < name {
             least.offer(String::from_str(rt.alloc(), name)?)?;
@@ -71,7 +86,9 @@ fn look_into<R: Files + AllocGlobal + Clone + Drop>(
     let looked_at = path_of(rt, folder, below)?;
     let mut files = Vec::new(rt.alloc());
     for entry in fs::read_dir(rt, looked_at.as_str())? {
-        let entry = entry?;
+        let Some(entry) = unless_no_text(entry)? else {
+            continue;
+        };
         let name = entry.file_name();
         if name.starts_with('.') {
             continue;
@@ -149,26 +166,38 @@ fn least_files<R: Files + AllocGlobal + Clone + Drop>(
     Ok(least.into_names())
 }
 
-/// Whether a name of a folder is that of a file, or of a folder with a file below it.
+/// Whether a name of a folder is that of a file, or of a folder with a file below it. One that is gone is neither.
 fn is_shown<R: Files + AllocGlobal + Clone + Drop>(
     rt: &R,
     folder: &str,
     name: &str,
 ) -> io::Result<bool> {
     let path = path_of(rt, folder, name)?;
-    let kind = fs::symlink_metadata(rt, path.as_str())?.file_type();
-    if kind.is_dir() {
-        return has_file(rt, path.as_str());
+    match fs::symlink_metadata(rt, path.as_str()) {
+        Ok(found) if found.is_dir() => has_file(rt, path.as_str()),
+        Ok(found) => Ok(found.is_file()),
+        Err(error) if is_absent(&error) => Ok(false),
+        Err(error) => Err(error),
     }
-    Ok(kind.is_file())
 }
 
-/// Adds a name to a page, if it is plain.
-fn push_plain(page: &mut TextList, name: Text) -> io::Result<()>
-    ensures { All (λ name. is_plain_name name ≡ true) page.old
-        → All (λ name. is_plain_name name ≡ true) page.new }
+/// Whether a name comes behind all that a page has, and behind `after`.
+fn is_behind(page: &TextList, after: &str, name: &str) -> bool
+    ensures { IsTrue result → Ascends after.now page.now
+        → Ascends after.now (page.now ++ name.now ∷ []) }
 {
-    if !is_plain(name.as_str()) {
+    match page.members().last() {
+        Some(last) => last.as_str() < name,
+        None => after < name,
+    }
+}
+
+/// Adds a plain name to a page that has room for it. One that was given twice is shown once.
+fn push_name(page: &mut TextList, after: &str, limit: usize, name: Text) -> io::Result<()>
+    requires { is_plain_name name ≡ true }
+    ensures { IsListing after.now limit page.old → IsListing after.now limit page.new }
+{
+    if page.len() >= limit || !is_behind(page, after, name.as_str()) {
         return Ok(());
     }
     match page.push(name) {
@@ -177,43 +206,45 @@ fn push_plain(page: &mut TextList, name: Text) -> io::Result<()>
     }
 }
 
-/// Adds those of the names in a folder that are shown.
+/// Adds those of the names in a folder that are shown. No name that is not plain is looked at, so that nothing below a folder
+/// whose name begins with a dot can fail a page.
 fn push_shown<R: Files + AllocGlobal + Clone + Drop>(
     rt: &R,
     folder: &str,
     names: Vec<Text>,
+    after: &str,
+    limit: usize,
     page: &mut TextList,
 ) -> io::Result<()>
-    ensures { All (λ name. is_plain_name name ≡ true) page.old
-        → All (λ name. is_plain_name name ≡ true) page.new }
+    ensures { IsListing after.now limit page.old → IsListing after.now limit page.new }
 {
     for name in names {
-        if is_shown(rt, folder, name.as_str())? {
-            push_plain(page, name)?;
+        if is_plain(name.as_str()) && is_shown(rt, folder, name.as_str())? {
+            push_name(page, after, limit, name)?;
         }
     }
     Ok(())
 }
 
-/// Adds the next names in a folder to a page, and tells whether more of them may have room there.
+/// Adds the next names in a folder to a page, those behind `last`, and tells whether more of them may have room there.
 fn add_names<R: Files + AllocGlobal + Clone + Drop>(
     rt: &R,
     folder: &str,
-    after: &mut String,
+    last: &mut String,
+    after: &str,
     limit: usize,
     page: &mut TextList,
 ) -> io::Result<bool>
-    ensures { All (λ name. is_plain_name name ≡ true) page.old
-        → All (λ name. is_plain_name name ≡ true) page.new }
+    ensures { IsListing after.now limit page.old → IsListing after.now limit page.new }
 {
     let wanted = limit.saturating_sub(page.len());
-    let names = least_names(rt, folder, after.as_str(), wanted)?;
+    let names = least_names(rt, folder, last.as_str(), wanted)?;
     let Some(greatest) = names.last() else {
         return Ok(false);
     };
-    *after = String::from_str(rt.alloc(), greatest.as_str())?;
+    *last = String::from_str(rt.alloc(), greatest.as_str())?;
     let were_all = names.len() < wanted;
-    push_shown(rt, folder, names, page)?;
+    push_shown(rt, folder, names, after, limit, page)?;
     Ok(!were_all && page.len() < limit)
 }
 
@@ -226,12 +257,13 @@ pub(crate) fn page_of_names<R: Files + AllocGlobal + Clone + Drop>(
     after: &str,
     limit: u32,
 ) -> io::Result<TextList>
-    ensures { IfOk result (All (λ name. is_plain_name name ≡ true)) }
+    ensures { IfOk result (IsListing after.now limit) }
 {
+    let most = limit as usize;
     let mut page = List::new(rt.alloc());
     let mut last = String::from_str(rt.alloc(), after)?;
     'pages: for _ in 0..u64::MAX {
-        if !add_names(rt, folder, &mut last, limit as usize, &mut page)? {
+        if !add_names(rt, folder, &mut last, after, most, &mut page)? {
             return Ok(page);
         }
     }
@@ -245,11 +277,14 @@ pub(crate) fn page_of_files<R: Files + AllocGlobal + Clone + Drop>(
     after: &str,
     limit: u32,
 ) -> io::Result<TextList>
-    ensures { IfOk result (All (λ name. is_plain_name name ≡ true)) }
+    ensures { IfOk result (IsListing after.now limit) }
 {
+    let most = limit as usize;
     let mut page = List::new(rt.alloc());
-    for name in least_files(rt, folder, after, limit as usize)? {
-        push_plain(&mut page, name)?;
+    for name in least_files(rt, folder, after, most)? {
+        if is_plain(name.as_str()) {
+            push_name(&mut page, after, most, name)?;
+        }
     }
     Ok(page)
 }

@@ -19,12 +19,13 @@ fn is_odd_start(bytes: &[u8]) -> bool
     }
 }
 
-/// Whether such a part begins behind a slash.
+/// Whether such a part begins behind a slash, or a byte is 0.
 fn has_odd_part(bytes: &[u8]) -> bool
     ensures { result ≡ has_odd_part_in bytes.now }
 {
     for place in 0..bytes.len() {
-        if bytes[place] == b'/' && is_odd_start(&bytes[place + 1..]) {
+        let byte = bytes[place];
+        if (byte == b'/' && is_odd_start(&bytes[place + 1..])) || byte == 0 {
             return true;
         }
     }
