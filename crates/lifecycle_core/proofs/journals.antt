@@ -5,6 +5,9 @@ pub mod Differing
 pub mod OwedPages
 pub mod UnbrokenHonest
 pub mod Unbroken
+pub mod OneSync
+pub mod OneViewAt
+pub mod OneBreach
 pub mod Told
 pub mod RunEntries
 pub mod TellingPuts

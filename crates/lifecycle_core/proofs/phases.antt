@@ -2,6 +2,7 @@
 pub mod FirstPhases
 pub mod EachEntry
 pub mod Seats
+pub mod OneSeat
 pub mod Duties
 pub mod TaskRuns
 pub mod HandLists

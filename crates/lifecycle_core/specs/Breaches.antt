@@ -17,6 +17,7 @@ use Rattle.meta_fetcher.specs.declared.sync_end.SyncEnd.TheVariants as fetched
 use Rattle.meta_fetcher.specs.declared.view.View.{View}
 use Rattle.script_core.specs.Workers.{workers_of}
 use Rattle.script_workers.specs.declared.worker.Worker.{Worker}
+use Rattle.lifecycle_core.specs.Holdings.{Use}
 use Rattle.lifecycle_core.specs.Setting.{Setting}
 use Rattle.lifecycle_core.specs.SyncsAndCalls.{IsSyncBy}
 use Rattle.lifecycle_core.specs.Tasks.{last_number, sync_rules}
@@ -122,10 +123,36 @@ HoldsSamples (Index ulid) = Unit {0}
 HoldsSamples (Segment ulid number) = Unit {0}
 HoldsSamples (Mark ulid) = ⊥
 
+-- the entry reads under such a key
+abbrev pub ReadsSamples : Entry → Type 0
+ReadsSamples e = (key : Key) × (read_key e.op ≡ Some key) × HoldsSamples key
+
 -- the entry is a read of a gateway's series call
 abbrev pub IsCallRead : Setting → ℕ → Entry → Type 0
-IsCallRead setting gateway e =
-    IsSeatOf setting gateway e.seat × ((key : Key) × (read_key e.op ≡ Some key) × HoldsSamples key)
+IsCallRead setting gateway e = IsSeatOf setting gateway e.seat × ReadsSamples e
+
+-- ---- whom the rules watch
+
+-- what of a journal the rules of time on syncs and calls are asked of
+pub record Watch : Type 1 where
+  -- the entries are one whole sync, which came to this end
+  pub syncs : List Entry → Option SyncEnd → Type 0
+  -- the entry is a read of a series call over this view
+  pub reads : Entry → View → Type 0
+
+-- the script's gateways, each at the seats of its workers, which read by the view of their last sync
+abbrev pub watched : Setting → List Entry → Watch
+watched setting journal = record {
+  syncs = λ entries end. (gateway : ℕ) × IsSyncIn setting journal gateway entries end;
+  reads = λ e view. (gateway : ℕ) × IsCallRead setting gateway e × IsViewAt setting journal gateway e.seq view;
+}
+
+-- one call over a view, and the sync that gave the view, at whatever seats they were made
+abbrev pub watched_call : Use → List Entry → List Entry → Watch
+watched_call used sync entries = record {
+  syncs = λ own end. (own ≡ sync) × (end ≡ Some (fetched.View used.view));
+  reads = λ e view. Contains entries e × ReadsSamples e × (view ≡ used.view);
+}
 
 -- ---- breaches
 
@@ -133,28 +160,31 @@ IsCallRead setting gateway e =
 abbrev pub IsOver : ℕ → ℕ → ℕ → ℕ → Type 0
 IsOver is most x y = (x ≡ is) × (y ≡ most) × (most < is)
 
--- The rule refuses the entry, which follows the entries before it in the journal. Of the two numbers the first one is what it
--- shows and the second one what it owes, or the first one is above the second one and may not be.
-abbrev pub Refuses : Setting → List Entry → Rule → List Entry → Entry → ℕ → ℕ → Type 0
-Refuses setting journal honesty before e x y = IsLie before e x y
-Refuses setting journal upload_time before e x y =
+-- The rule refuses the entry, which follows the entries before it in the journal, where these syncs and calls are watched. Of the
+-- two numbers the first one is what it shows and the second one what it owes, or the first one is above the second one and may not
+-- be.
+abbrev pub RefusesUnder : Setting → Watch → Rule → List Entry → Entry → ℕ → ℕ → Type 0
+RefusesUnder setting watch honesty before e x y = IsLie before e x y
+RefusesUnder setting watch upload_time before e x y =
     (ulid : ℕ) × PutsObject ulid e
     × (IsOver (time_of ulid) e.moment.ms x y
     ⊎ IsOver e.moment.ms (time_of ulid + setting.script.rules.upload.ms) x y)
-Refuses setting journal mark_time before e x y =
+RefusesUnder setting watch mark_time before e x y =
     (ulid : ℕ) × (second : ℕ) × PutsMark ulid second e
     × IsOver e.moment.ms (1000 * second + setting.script.rules.ignore.ms) x y
 -- the last read of a sync stands for it
-Refuses setting journal sync_time before e x y =
-    (gateway : ℕ) × (entries : List Entry) × (end : Option SyncEnd) × (first : Entry)
-    × (others : List Entry) × (front : List Entry)
-    × IsSyncIn setting journal gateway entries end × (entries ≡ first ∷ others)
+RefusesUnder setting watch sync_time before e x y =
+    (entries : List Entry) × (end : Option SyncEnd) × (first : Entry) × (others : List Entry)
+    × (front : List Entry) × watch.syncs entries end × (entries ≡ first ∷ others)
     × (entries ≡ front ++ e ∷ [])
     × IsOver (e.moment.ms + 1000) (first.moment.ms + setting.script.rules.ignore.ms) x y
-Refuses setting journal view_time before e x y =
-    (gateway : ℕ) × (view : View) × IsCallRead setting gateway e
-    × IsViewAt setting journal gateway e.seq view
+RefusesUnder setting watch view_time before e x y =
+    (view : View) × watch.reads e view
     × IsOver (e.moment.ms + setting.script.rules.ignore.ms) (view.begin.ms + setting.script.rules.delete.ms) x y
+
+-- where the script's gateways are watched
+abbrev pub Refuses : Setting → List Entry → Rule → List Entry → Entry → ℕ → ℕ → Type 0
+Refuses setting journal rule before e x y = RefusesUnder setting (watched setting journal) rule before e x y
 
 -- no rule refuses the entry
 abbrev pub IsKept : Setting → List Entry → List Entry → Entry → Type 0

@@ -10,7 +10,7 @@ use Rattle.shipper.specs.declared.upload_end.UploadEnd.TheVariants as shipped
 use Rattle.meta_fetcher.specs.declared.sync_end.SyncEnd.TheVariants as fetched
 use Rattle.store_gateway.specs.declared.series_end.SeriesEnd.TheVariants as called
 use Rattle.lifecycle_core.specs.Setting.{Setting}
-use Rattle.lifecycle_core.specs.Breaches.{Rule, honesty, upload_time, mark_time, sync_time, view_time, Refuses, read_key}
+use Rattle.lifecycle_core.specs.Breaches.{Rule, honesty, upload_time, mark_time, sync_time, view_time, RefusesUnder, Watch, read_key, watched}
 use Rattle.lifecycle_core.specs.Tasks.{End, uploaded, synced, answered, without_view, stopped}
 use Rattle.lifecycle_core.specs.TimeRules.{PutsMark, PutsObject}
 
@@ -29,8 +29,9 @@ IsBlamed ulid number mark_time e = (second : ℕ) × PutsMark ulid second e
 IsBlamed ulid number sync_time e = ⊥
 IsBlamed ulid number view_time e = e.seq ≡ number
 
--- The entry of this number found no object, and some entry that is not after it is to be blamed for that.
-pub record IsExplained (setting : Setting) (journal : List Entry) (number : ℕ) : Type 0 where
+-- The entry of this number found no object, and some entry that is not after it is to be blamed for that, where these syncs and calls
+-- are watched.
+pub record IsExplainedUnder (setting : Setting) (watch : Watch) (journal : List Entry) (number : ℕ) : Type 0 where
   pub missed : Entry
   pub key : Key
   pub at : entry_at journal number ≡ Some missed
@@ -44,8 +45,12 @@ pub record IsExplained (setting : Setting) (journal : List Entry) (number : ℕ)
   pub y : ℕ
   pub parts : journal ≡ before ++ entry ∷ after
   pub early : entry.seq ≤ number
-  pub refused : Refuses setting journal rule before entry x y
+  pub refused : RefusesUnder setting watch rule before entry x y
   pub blamed : IsBlamed (key_ulid key) number rule entry
+
+-- where the script's gateways are watched
+abbrev pub IsExplained : Setting → List Entry → ℕ → Type 0
+IsExplained setting journal number = IsExplainedUnder setting (watched setting journal) journal number
 
 -- a call found an object missing, at the entry of this number
 abbrev pub IsMissing : End → ℕ → Type 0

@@ -12,7 +12,8 @@ use Rattle.script_core.specs.Workers.{workers_of}
 use Rattle.script_workers.specs.declared.phase.Phase.{Phase}
 use Rattle.script_workers.specs.declared.task.Task.{Task}
 use Rattle.script_workers.specs.declared.work.Work.TheVariants as work
-use Rattle.lifecycle_core.specs.Causes.{AreFaultsShown, AreMissesExplained, AreUndamaged, AreWell}
+use Rattle.lifecycle_core.specs.Breaches.{Watch}
+use Rattle.lifecycle_core.specs.Causes.{AreFaultsShown, AreMissesExplained, AreUndamaged, AreWell, IsExplainedUnder}
 use Rattle.lifecycle_core.specs.Conducts.{CameTo}
 use Rattle.lifecycle_core.specs.Phases.{IsInTurn, IsRunOf}
 use Rattle.lifecycle_core.specs.Tasks.{End, answered, sync_rules}
@@ -110,18 +111,21 @@ pub record IsSound (setting : Setting) (journal : List Entry) (query : Answered)
       → All (λ named. ((entries : List Entry) → IsViewOf (sync_rules setting named.gateway) journal named.used entries
       → IsSyncedInTime setting.script.rules entries) → NamesAll setting journal named) query.named
 
--- What a call over a view is worth where the bucket is honest, by the question and the end to which it came: it misses nothing, and
--- finds nothing damaged; its answer is exact for the blocks that it names, each of which was complete before the sync of the view
--- had ended; and it names each block that this sync has to see.
-pub record IsWorth (setting : Setting) (journal : List Entry) (rules : SyncRules) (used : Use) (question : Question)
-    (end : Option SeriesEnd) : Type 0 where
-  pub found : (number : ℕ) → end ≢ Some (ended.Missing number)
+-- What a call over a view is worth where the bucket is honest, by the question and the end to which it came. If it misses an object,
+-- the journal shows why, where these syncs and calls are watched. It finds nothing damaged. Its answer is exact for the blocks that it
+-- names, each of which was complete before the sync of the view had ended. And where blocks were uploaded in time, and this sync did
+-- not last too long, it names each block that the sync has to see.
+pub record IsSoundCall (setting : Setting) (watch : Watch) (journal : List Entry) (rules : SyncRules) (used : Use)
+    (question : Question) (end : Option SeriesEnd) : Type 0 where
+  pub found : (number : ℕ) → end ≡ Some (ended.Missing number) → IsExplainedUnder setting watch journal number
   pub undamaged : (number : ℕ) → end ≢ Some (ended.Damaged number)
   pub exact : (series : List Series) (sources : List ℕ) → end ≡ Some (ended.Answer series sources)
       → IsAnswer question.selector question.low question.high (triples_of series) (held setting sources)
   pub named : (series : List Series) (sources : List ℕ) → end ≡ Some (ended.Answer series sources)
       → All (λ ulid. IsUploadedBefore setting journal ulid used.last) sources
-  pub covered : (series : List Series) (sources : List ℕ) → end ≡ Some (ended.Answer series sources)
+  pub covered : ((ulid : ℕ) → IsUploadedInTime setting.script.rules ulid journal)
+      → ((entries : List Entry) → IsViewOf rules journal used entries → IsSyncedInTime setting.script.rules entries)
+      → (series : List Series) (sources : List ℕ) → end ≡ Some (ended.Answer series sources)
       → (ulid : ℕ) → IsSettled setting journal rules used ulid → Contains sources ulid
 
 -- What is guaranteed of a run that came to these ends. A missing object is explained by the journal, and a failed call shown by it,

@@ -7,6 +7,7 @@ pub mod Ways
 pub mod Conducts
 pub mod Tasks
 pub mod Phases
+pub mod QueriesAsked
 pub mod Cuts
 pub mod InLine
 pub mod Acting

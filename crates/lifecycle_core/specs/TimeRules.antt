@@ -3,7 +3,7 @@
 use Rattle.std.specs.Prelude.{◌≡◌, ◌+◌, ◌*◌, ◌≤◌, ℕ, List, ◌∷◌, All, Contains, IsTrue}
 use Rattle.block_keys.specs.Keys.{key_ulid}
 use Rattle.block_keys.specs.declared.key.Key.{Key}
-use Rattle.block_keys.specs.declared.key.Key.TheVariants.{Mark}
+use Rattle.block_keys.specs.declared.key.Key.TheVariants.{Meta, Index, Segment, Mark}
 use Rattle.block_meta.specs.MetaFields.{MarkFields}
 use Rattle.block_meta.specs.MetaText.{IsMarkText}
 use Rattle.moment_core.specs.declared.rules.Rules.{Rules}
@@ -15,8 +15,10 @@ use Rattle.world_core.specs.declared.entry.Entry.{Entry}
 
 -- an object of a block, other than its mark
 abbrev pub IsBlockObject : Key → Type 0
+IsBlockObject (Meta ulid) = Unit {0}
+IsBlockObject (Index ulid) = Unit {0}
+IsBlockObject (Segment ulid number) = Unit {0}
 IsBlockObject (Mark ulid) = ⊥
-IsBlockObject key = Unit {0}
 
 -- the entry puts such an object of the block, landed or not
 abbrev pub PutsObject : ℕ → Entry → Type 0

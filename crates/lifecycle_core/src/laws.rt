@@ -1,8 +1,9 @@
-ghost use Rattle.std.specs.Prelude.{◌≡◌, ℕ, ℤ, List, [], ◌∷◌, ◌++◌, Option, Some};
+ghost use Rattle.std.specs.Prelude.{◌≡◌, ◌≢◌, ◌⊎◌, ◌↔◌, ◌<◌, ℕ, ℤ, List, [], ◌∷◌, ◌++◌, All, Contains, Option, Some, slice_get};
+ghost use Rattle.label_sets.specs.declared.series.Series.{Series};
 ghost use Rattle.matchers.specs.declared.matcher.Matcher.{Matcher};
 ghost use Rattle.world_core.specs.Journals.{Each};
 ghost use Rattle.world_core.specs.Moments.{HasMoments};
-ghost use Rattle.world_core.specs.Standing.{IsHonest};
+ghost use Rattle.world_core.specs.Standing.{IsHonest, Tells, stands};
 ghost use Rattle.world_core.specs.Worlds.{IsJournal, IsOfBytes, failed_count};
 ghost use Rattle.world_core.specs.declared.entry.Entry.{Entry};
 ghost use Rattle.meta_fetcher.specs.declared.sync_end.SyncEnd.{SyncEnd};
@@ -12,22 +13,31 @@ ghost use Rattle.meta_fetcher.specs.declared.view.View.{View};
 ghost use Rattle.shipper.specs.Uploads.{upload};
 ghost use Rattle.shipper.specs.declared.upload_end.UploadEnd.{UploadEnd};
 ghost use Rattle.world_core.specs.Plans.{Runs};
+ghost use Rattle.block_keys.specs.declared.key.Key.{Key};
+ghost use Rattle.block_keys.specs.declared.key.Key.TheVariants.{Index, Segment};
 ghost use Rattle.block_keys.specs.declared.object.Object.{Object};
+ghost use Rattle.sync_filters.specs.declared.found.Found.{Found};
+ghost use Rattle.world_core.specs.declared.op.Op.TheVariants.{Get};
+ghost use Rattle.world_core.specs.declared.reply.Reply.TheVariants.{Absent};
 ghost use Rattle.store_gateway.specs.SeriesRuns.{Query as Question, SeriesRun, asking};
 ghost use Rattle.store_gateway.specs.declared.series_end.SeriesEnd.{SeriesEnd};
 ghost use Rattle.store_gateway.specs.declared.series_end.SeriesEnd.TheVariants as ended;
 ghost use Rattle.script_workers.specs.declared.phase.Phase.{Phase};
 ghost use Rattle.lifecycle_core.specs.Setting.{Setting};
 ghost use Rattle.script_core.specs.Lawful.{IsLawfulScript};
+ghost use Rattle.script_core.specs.Workers.{workers_of};
 ghost use Rattle.lifecycle_core.specs.Acting.{IsActing};
 ghost use Rattle.lifecycle_core.specs.Cuts.{IsCutBehind};
-ghost use Rattle.lifecycle_core.specs.Breaches.{IsBreach, IsCallRead, IsLie, IsSyncIn, IsUnbroken, IsViewAt, Rule};
-ghost use Rattle.lifecycle_core.specs.Causes.{AreFound, AreMissesExplained, AreWell, IsExplained, SomeCame};
-ghost use Rattle.lifecycle_core.specs.Guarantees.{Answered, IsGiven, IsGuaranteed, IsWorth, LeavesNoneOut};
+ghost use Rattle.lifecycle_core.specs.Breaches.{IsBreach, IsCallRead, IsLie, IsSeatOf, IsSyncIn, IsUnbroken, IsViewAt, Rule, watched_call};
+ghost use Rattle.lifecycle_core.specs.Causes.{AreFound, AreMissesExplained, AreWell, IsExplained, IsExplainedUnder};
+ghost use Rattle.lifecycle_core.specs.Completed.{IsSettled};
+ghost use Rattle.lifecycle_core.specs.Conducts.{CameTo};
+ghost use Rattle.lifecycle_core.specs.Guarantees.{Answered, IsGiven, IsGuaranteed, IsSoundCall, LeavesNoneOut};
 ghost use Rattle.lifecycle_core.specs.Holdings.{Use};
 ghost use Rattle.lifecycle_core.specs.SyncsAndCalls.{IsCallIn, IsViewOf};
 ghost use Rattle.lifecycle_core.specs.InLine.{IsRunInLine};
 ghost use Rattle.lifecycle_core.specs.Phases.{IsFinished, IsInTurn, IsLawfulJournal, IsRunOf, by_workers};
+ghost use Rattle.lifecycle_core.specs.QueriesAsked.{IsQueryAt};
 ghost use Rattle.lifecycle_core.specs.Tasks.{End, answered, sync_rules};
 ghost use Rattle.lifecycle_core.specs.Ways.{AreFinished, BeginsPhase};
 ghost use Rattle.lifecycle_core.specs.TimeRules.{IsMarkedInTime, IsReadInTime, IsSyncedInTime, IsUploadedInTime};
@@ -67,28 +77,74 @@ pub fn calls_are_worth_it()
         → IsLawfulScript setting.script → IsActing setting journal
         → IsViewOf (sync_rules setting gateway) journal used sync
         → IsCallIn journal used question entries (Some (ended.Missing number))
-        → IsExplained setting journal number }
+        → IsExplainedUnder setting (watched_call used sync entries) journal number }
     ensures worth { (setting : Setting) (journal : List Entry) (gateway : ℕ) (used : Use)
         (sync entries : List Entry) (selector : List Matcher) (low high : ℤ)
         (end : Option SeriesEnd)
         → IsLawfulScript setting.script → IsActing setting journal
         → IsViewOf (sync_rules setting gateway) journal used sync → IsHonest journal
         → IsCallIn journal used (asking selector setting.script.rules.replicas low high) entries end
-        → IsWorth setting journal (sync_rules setting gateway) used
-        (asking selector setting.script.rules.replicas low high) end }
+        → IsSoundCall setting (watched_call used sync entries) journal (sync_rules setting gateway)
+        used (asking selector setting.script.rules.replicas low high) end }
 {}
 
-/// A law: each end of a gateway's call in a run is that of a call in the journal, over the view of a sync in it, for a selector
-/// and times that were asked for.
+/// A law: whoever reads the index or the segment of a block that a view keeps, after the sync that gave the view, and finds nothing,
+/// the journal shows why. It need not be a call's read.
+pub fn reads_of_kept_blocks_are_explained()
+    ensures { (setting : Setting) (journal : List Entry) (gateway : ℕ) (used : Use)
+        (sync : List Entry) (found : Found) (e : Entry) (key : Key)
+        → IsLawfulScript setting.script → IsActing setting journal
+        → IsViewOf (sync_rules setting gateway) journal used sync
+        → Contains used.view.kept found → Contains journal e → used.last < e.seq
+        → e.op ≡ Get key → (key ≡ Index found.ulid) ⊎ (key ≡ Segment found.ulid 1)
+        → e.reply ≡ Absent
+        → IsExplainedUnder setting (watched_call used sync (e ∷ [])) journal e.seq }
+{}
+
+/// A law: no script deletes an object yet. So where the bucket is honest, a call over the view of a sync that ended before it misses
+/// nothing, nor does any other read of a block that the view keeps; and the call names each block that this sync has to see,
+/// whatever the rules of time.
+pub fn calls_miss_nothing_while_nothing_deletes()
+    ensures found { (setting : Setting) (journal : List Entry) (gateway : ℕ) (used : Use)
+        (sync entries : List Entry) (question : Question) (number : ℕ)
+        → IsLawfulScript setting.script → IsActing setting journal
+        → IsViewOf (sync_rules setting gateway) journal used sync → IsHonest journal
+        → ¬ IsCallIn journal used question entries (Some (ended.Missing number)) }
+    ensures read { (setting : Setting) (journal : List Entry) (gateway : ℕ) (used : Use)
+        (sync : List Entry) (found : Found) (e : Entry) (key : Key)
+        → IsLawfulScript setting.script → IsActing setting journal
+        → IsViewOf (sync_rules setting gateway) journal used sync → IsHonest journal
+        → Contains used.view.kept found → Contains journal e → used.last < e.seq
+        → e.op ≡ Get key → (key ≡ Index found.ulid) ⊎ (key ≡ Segment found.ulid 1)
+        → e.reply ≢ Absent }
+    ensures covered { (setting : Setting) (journal : List Entry) (gateway : ℕ) (used : Use)
+        (sync entries : List Entry) (selector : List Matcher) (low high : ℤ)
+        (series : List Series) (sources : List ℕ)
+        → IsLawfulScript setting.script → IsActing setting journal
+        → IsViewOf (sync_rules setting gateway) journal used sync → IsHonest journal
+        → IsCallIn journal used (asking selector setting.script.rules.replicas low high) entries
+        (Some (ended.Answer series sources))
+        → (ulid : ℕ) → IsSettled setting journal (sync_rules setting gateway) used ulid
+        → Contains sources ulid }
+{}
+
+/// A law: each end to which a gateway's worker came in a query is that of a call in the journal, over the view of a sync in it by
+/// that gateway's rules, which a worker of this gateway made. The worker that came to the end made the call's entries, for the
+/// selector and the times that the query's line names.
 pub fn ends_are_calls()
     ensures { (setting : Setting) (journal : List Entry) (ends : List (List (List End)))
-        (used : Use) (end : SeriesEnd)
-        → IsRunOf setting journal ends → SomeCame ends (answered used end)
-        → (gateway : ℕ) × (sync : List Entry) × (entries : List Entry)
-        × (selector : List Matcher) × (low : ℤ) × (high : ℤ)
-        × IsViewOf (sync_rules setting gateway) journal used sync
+        (number place gateway : ℕ) (own : List (List End)) (used : Use) (end : SeriesEnd)
+        → IsRunOf setting journal ends → slice_get ends number ≡ Some own
+        → (came : CameTo (workers_of setting.script number) own (Some gateway) place
+        (answered used end))
+        → (selector : List Matcher) × (low : ℤ) × (high : ℤ)
+        × (sync : List Entry) × (entries : List Entry)
+        × IsQueryAt setting number place selector low high
+        × (view : IsViewOf (sync_rules setting gateway) journal used sync)
+        × IsSeatOf setting gateway view.seat
         × IsCallIn journal used (asking selector setting.script.rules.replicas low high) entries
-        (Some end) }
+        (Some end)
+        × All (λ e. e.seat ≡ came.worker.seat) entries }
 {}
 
 /// A law: the entries of an upload, of a sync or of a call tell its end, so that what is reported of it is told by the journal.
@@ -154,6 +210,14 @@ pub fn honest_journals_tell_no_lie()
         → Each (λ before e. (x y : ℕ) → ¬ IsLie before e x y) journal }
 {}
 
+/// A law: where what a journal puts and shows is bytes, as in every world's, a reply is no lie exactly where it shows what stands
+/// after the entries before it.
+pub fn replies_lie_where_they_do_not_tell()
+    ensures { (tick : ℕ) (journal : List Entry) → IsJournal tick journal → IsOfBytes journal
+        → Each (λ before e. ((x y : ℕ) → ¬ IsLie before e x y)
+        ↔ Tells (stands before) e.op e.reply) journal }
+{}
+
 /// A law: a journal in which no rule refuses an entry is honest, where what it puts and shows is bytes, as in every world's.
 pub fn unbroken_journals_are_honest()
     ensures { (setting : Setting) (tick : ℕ) (journal : List Entry) → IsJournal tick journal
@@ -181,6 +245,22 @@ pub fn unbroken_journals_have_no_breach()
         → IsUnbroken setting journal → ¬ IsBreach setting journal rule number x y }
     ensures unexplained { (setting : Setting) (journal : List Entry) (number : ℕ)
         → IsUnbroken setting journal → ¬ IsExplained setting journal number }
+{}
+
+/// A law: a journal without a breach is unbroken, and one with a breach has no other: its rule, its
+/// entry and its two numbers are told by the journal.
+pub fn journals_have_one_breach()
+    ensures unbroken { (setting : Setting) (journal : List Entry)
+        → ((rule : Rule) (number x y : ℕ) → ¬ IsBreach setting journal rule number x y)
+        → IsUnbroken setting journal }
+    ensures place { (setting : Setting) (journal : List Entry) (rule also : Rule)
+        (number seq x y one two : ℕ) → IsBreach setting journal rule number x y
+        → IsBreach setting journal also seq one two → (rule ≡ also) × (number ≡ seq) }
+    ensures numbers { (setting : Setting) (tick : ℕ) (journal : List Entry)
+        → IsLawfulScript setting.script → IsJournal tick journal
+        → (rule : Rule) (number x y one two : ℕ)
+        → IsBreach setting journal rule number x y → IsBreach setting journal rule number one two
+        → (x ≡ one) × (y ≡ two) }
 {}
 
 /// A law: an unbroken journal keeps each rule of time: on uploads, on marks, on syncs, and on the reads of a series call.

@@ -23,3 +23,10 @@ pub mod NoCause
 pub mod LateUpload
 pub mod OneStrict
 pub mod OneUnsound
+pub mod BesideAnUpload
+pub mod CutRun
+pub mod OtherSeat
+pub mod InLine
+pub mod LandedFault
+pub mod SpoiledMeta
+pub mod SecondPage

@@ -35,13 +35,13 @@ use Rattle.tests_worked.proofs.SmallTasks.{upload_task, sync_run, question, merg
 abbrev pub holding : Holding
 holding = record { used = Some one.used }
 
-upload_end : UploadTask one.setting small.a None one.upload (Some (uploaded (shipped.Done 3)))
+pub upload_end : UploadTask one.setting small.a None one.upload (Some (uploaded (shipped.Done 3)))
 upload_end = upload_task one.setting refl 2 1 1
 
-sync_end : SyncTask one.setting 0 nothing_held one.sync (Some (synced (fetched.View one.view))) holding
+pub sync_end : SyncTask one.setting 0 nothing_held one.sync (Some (synced (fetched.View one.view))) holding
 sync_end = (Some (fetched.View one.view), sync_run 7 2 1_800_001 (runs.seen 1_800_001 ∷ []) refl, refl, refl)
 
-query_end : QueryTask (Some one.used) (Some (question one.selector)) one.query (Some (answered one.used (called.Answer (small.up ∷ []) (small.a ∷ []))))
+pub query_end : QueryTask (Some one.used) (Some (question one.selector)) one.query (Some (answered one.used (called.Answer (small.up ∷ []) (small.a ∷ []))))
 query_end = (Some (called.Answer (small.up ∷ []) (small.a ∷ [])), query_run one.selector merge_up 7 1_800_001 1_800_003 1_800_002 1_800_003 10 2 1_800_004, refl)
 
 -- ---- the phases
@@ -91,7 +91,7 @@ kept_else : (other : ℕ) → Some 0 ≢ Some other → views other ≡ nothing_
 kept_else zero differ = absurd (differ refl)
 kept_else (suc other) differ = refl
 
-first_phase : PhaseRun (by_script one.setting) first_tasks (uploader ∷ []) none_held one.upload first_ends none_held
+pub first_phase : PhaseRun (by_script one.setting) first_tasks (uploader ∷ []) none_held one.upload first_ends none_held
 first_phase = record {
   seats = by_workers_alone (1 ∷ []) one.upload (All-from_recursion (λ (e : Entry). Contains (1 ∷ []) e.seat) one.upload ((0, lit< tt, refl), ((0, lit< tt, refl), ((0, lit< tt, refl), ((0, lit< tt, refl), tt)))));
   runs = (
@@ -107,7 +107,7 @@ first_phase = record {
   kept = λ gateway none. refl;
 }
 
-first_done : AreDone (workers_of one.script 0) first_ends
+pub first_done : AreDone (workers_of one.script 0) first_ends
 first_done = ap (map (λ (w : Worker). length w.tasks)) first_workers
 
 -- with these entries of the query, and this end of it
@@ -181,7 +181,7 @@ module _ (made : List Entry) (came : SeriesEnd) (seats : All (λ (e : Entry). Co
 
 -- ---- the journal
 
-kept : IsJournal 1 one.journal
+pub kept : IsJournal 1 one.journal
 kept = record {
   few = lit≤ tt;
   numbered = each_of (λ before e. e.seq ≡ length before + 1) one.journal (refl, (refl, (refl, (refl, (refl, (refl, (refl, (refl, (refl, (refl, (refl, tt)))))))))));

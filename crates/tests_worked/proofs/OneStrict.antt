@@ -44,20 +44,19 @@ view_seen ignore = record { entries = one.sync; gave = sync_seen ignore; before 
 
 pub slow_sync : (before : List Entry) → Refuses hasty one.journal sync_time before last_read 1_801_003 1_801_001
 slow_sync before = (
-  0,
   one.sync,
   Some (fetched.View one.view),
   listed 7 2 1_800_001 (small.a_text ∷ []),
   absent 8 2 1_800_002 (key.Mark small.a) ∷ last_read ∷ [],
   listed 7 2 1_800_001 (small.a_text ∷ []) ∷ absent 8 2 1_800_002 (key.Mark small.a) ∷ [],
-  sync_seen (record { ms = 1_000 }),
+  (0, sync_seen (record { ms = 1_000 })),
   refl,
   refl,
   (refl, refl, lit< tt),
 )
 
 pub old_view : (before : List Entry) → Refuses idle one.journal view_time before first_call 174_600_004 174_600_001
-old_view before = (0, one.view, (seat_is (hours 48), (key.Index small.a, refl, tt)), view_seen (hours 48), (refl, refl, lit< tt))
+old_view before = (one.view, (0, (seat_is (hours 48), (key.Index small.a, refl, tt)), view_seen (hours 48)), (refl, refl, lit< tt))
 
 pub late_mark : (entries before : List Entry) (bytes : List ℕ) (mark : MarkFields) → IsMarkText bytes mark → mark.deletion_time ≡ 0
     → Refuses one.setting entries mark_time before (stored 1 1 86_400_001 (key.Mark small.a) bytes) 86_400_001 86_400_000

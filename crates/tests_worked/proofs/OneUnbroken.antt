@@ -35,9 +35,9 @@ only_lies setting standard journal before e early timely unmarked upload_time x 
 only_lies setting standard journal before e early timely unmarked upload_time x y (ulid, puts, inr (is, most, over)) =
     let limits = timely ulid puts in absurd (omega (arith, limits.1, over, ap (λ (r : Rules). r.upload.ms) standard))
 only_lies setting standard journal before e early timely unmarked mark_time x y (ulid, second, puts, (is, most, over)) = absurd (unmarked ulid second puts)
-only_lies setting standard journal before e early timely unmarked sync_time x y (gateway, entries, end, first, others, front, sync, begins, ends, (is, most, over)) =
+only_lies setting standard journal before e early timely unmarked sync_time x y (entries, end, first, others, front, sync, begins, ends, (is, most, over)) =
     absurd (omega (arith, early, over, ap (λ (r : Rules). r.ignore.ms) standard))
-only_lies setting standard journal before e early timely unmarked view_time x y (gateway, view, reads, has, (is, most, over)) =
+only_lies setting standard journal before e early timely unmarked view_time x y (view, reads, (is, most, over)) =
     absurd (omega (arith, early, over, ap (λ (r : Rules). r.ignore.ms) standard, ap (λ (r : Rules). r.delete.ms) standard))
 
 -- so it breaks no rule where it is no lie

@@ -46,7 +46,7 @@ use Rattle.tests_worked.proofs.Bytes.{meta_is, plan_of, objects_are, meta_reads,
 
 -- ---- uploads
 
-shipped_objects : (setting : Setting) (ulid : ℕ) (text : List ℕ) → meta_text (fields_of (small.said_of ulid)) ≡ text → IsShipped setting (small.block_of ulid) (small.objects_with ulid text)
+pub shipped_objects : (setting : Setting) (ulid : ℕ) (text : List ℕ) → meta_text (fields_of (small.said_of ulid)) ≡ text → IsShipped setting (small.block_of ulid) (small.objects_with ulid text)
 unfolding plan_of
 shipped_objects setting ulid text is =
     (plan_of ulid, record { ulid = refl; early = refl; late = refl; level = refl; sources = refl; parents = refl; labels = refl; source = refl }, objects_are ulid text is)

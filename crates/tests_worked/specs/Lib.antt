@@ -9,3 +9,9 @@ pub mod LateUpload
 pub mod YoungBlock
 pub mod SideBySide
 pub mod OneStrict
+pub mod Strangers
+pub mod CutRun
+pub mod OtherSeat
+pub mod LandedFault
+pub mod SpoiledMeta
+pub mod SecondPage

@@ -2,15 +2,25 @@
 //! them what they should.
 #![tactic(auto)]
 
+mod cut_run;
+mod in_line;
+mod landed_fault;
 mod late_upload;
 mod lost_index;
 mod one_block;
 mod one_block_changed;
 mod one_strict;
 mod other_reads;
+mod other_seat;
+mod second_page;
 mod side_by_side;
+mod spoiled_meta;
+mod strangers;
 mod young_block;
 
+pub use cut_run::cut_run_has_one_cut;
+pub use in_line::{one_block_runs_in_line, side_by_side_is_not_in_line};
+pub use landed_fault::{landed_fault_completes, landed_fault_is_already_there};
 pub use late_upload::{late_upload_is_the_breach, late_upload_runs};
 pub use lost_index::{
     lost_index_has_no_other_cause, lost_index_is_explained, lost_index_is_the_breach,
@@ -29,10 +39,14 @@ pub use one_block_changed::{
 };
 pub use one_strict::{late_mark_is_refused, strict_rules_are_broken};
 pub use other_reads::{failed_read_ends_no_query, spoiled_index_is_damaged};
+pub use other_seat::{call_at_another_seat_acts, late_read_at_another_seat_is_refused};
+pub use second_page::second_page_begins_no_sync;
 pub use side_by_side::{
     block_completed_during_the_sync_is_left_out, named_block_was_completed_during_the_sync,
     side_by_side_runs,
 };
+pub use spoiled_meta::{spoiled_meta_gives_no_view, spoiled_meta_is_the_breach};
+pub use strangers::{stranger_that_lists_acts, stranger_that_puts_is_refused};
 pub use young_block::{
     young_block_is_answered_later, young_block_is_left_out, young_block_is_not_answered,
     young_block_is_not_kept, young_block_is_reported, young_block_is_spelled, young_block_runs,

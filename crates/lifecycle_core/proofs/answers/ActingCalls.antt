@@ -1,13 +1,16 @@
 -- What a call over a view is worth in an acting journal, whoever made it, and whoever's sync gave the view.
 use Rattle.list_core.proofs.Membership.{contains_later, member_cases}
-use Rattle.std.proofs.Common.{◌≡◌, ◌↔◌, inl, inr, ℕ, suc, ◌+◌, ◌<◌, ◌≤◌, ◌==◌, ℤ, List, [], ◌∷◌, ◌++◌, length, Contains, Option, Some, refl, sym, ◌∙◌, ap, subst, append_assoc, arith}
+use Rattle.std.proofs.Common.{◌≡◌, ◌≢◌, ◌↔◌, inl, inr, ℕ, suc, ◌+◌, ◌<◌, ◌≤◌, ◌==◌, ℤ, List, [], ◌∷◌, ◌++◌, length, Contains, Option, Some, refl, sym, ◌∙◌, ap, subst, append_assoc, arith}
 use Rattle.std.specs.Prelude.{get_or}
 use Rattle.std.specs.List.{All, AllPairs}
 use Rattle.std.proofs.lemmas.List.{length-append}
 use Rattle.std.proofs.lemmas.List.Elements.{All-contains, All-contains_itself}
 use Rattle.label_sets.specs.declared.series.Series.{Series}
 use Rattle.matchers.specs.declared.matcher.Matcher.{Matcher}
+use Rattle.block_keys.specs.declared.key.Key.{Key}
 use Rattle.world_core.specs.Standing.{IsHonest}
+use Rattle.world_core.specs.declared.op.Op.TheVariants as op
+use Rattle.world_core.specs.declared.reply.Reply.TheVariants as reply
 use Rattle.world_core.specs.declared.entry.Entry.{Entry}
 use Rattle.sync_filters.specs.declared.found.Found.{Found}
 use Rattle.meta_fetcher.specs.declared.sync_end.SyncEnd.TheVariants as fetched
@@ -16,10 +19,11 @@ use Rattle.store_gateway.specs.declared.series_end.SeriesEnd.{SeriesEnd}
 use Rattle.store_gateway.specs.declared.series_end.SeriesEnd.TheVariants as called
 use Rattle.script_core.specs.Lawful.{IsLawfulScript}
 use Rattle.lifecycle_core.specs.Acting.{IsActing, acting, uploaders}
-use Rattle.lifecycle_core.specs.Causes.{IsExplained}
-use Rattle.lifecycle_core.specs.Completed.{IsUploadedBefore}
+use Rattle.lifecycle_core.specs.Breaches.{watched_call}
+use Rattle.lifecycle_core.specs.Causes.{IsExplainedUnder}
+use Rattle.lifecycle_core.specs.Completed.{IsSettled, IsUploadedBefore}
 use Rattle.lifecycle_core.specs.Conducts.{of_seat, working}
-use Rattle.lifecycle_core.specs.Guarantees.{IsWorth}
+use Rattle.lifecycle_core.specs.Guarantees.{IsSoundCall}
 use Rattle.lifecycle_core.specs.Holdings.{Use, none_held}
 use Rattle.lifecycle_core.specs.Setting.{Setting}
 use Rattle.lifecycle_core.specs.SyncsAndCalls.{IsCallIn, IsViewOf}
@@ -27,6 +31,7 @@ use Rattle.lifecycle_core.specs.Tasks.{last_number, sync_rules}
 use Rattle.lifecycle_core.proofs.answers.ExactAnswers.{answer_is_exact, calls_undamaged, sources_are}
 use Rattle.lifecycle_core.proofs.blocks.Readable.{is_readable}
 use Rattle.lifecycle_core.proofs.journals.Positions.{split, stands_in}
+use Rattle.lifecycle_core.proofs.journals.RunEntries.{PrecedesMeta}
 use Rattle.lifecycle_core.proofs.journals.Telling.{all_told_by, journal_rises}
 use Rattle.lifecycle_core.proofs.journals.TellingPuts.{PutsShipped, reads_put, task_puts}
 use Rattle.lifecycle_core.proofs.journals.Told.{IsOrigin, IsPart, IsReadable, IsTold, IsTrueView, Rises}
@@ -142,10 +147,42 @@ module _ (setting : Setting) (journal : List Entry) (lawful : IsLawfulScript set
           seen = seen_in at.0 at.1 m.entry m.ulid at.2 (All-contains (λ (e : Entry). used.last < e.seq) entries m.entry call.later among) m.holds;
         }
 
+    -- so does any read of a kept block's index or segment that finds nothing
+    read_misses_at : (found : Found) (e : Entry) (k : Key) → Contains used.view.kept found → Contains journal e → used.last < e.seq → e.op ≡ op.Get k → PrecedesMeta found.ulid k → e.reply ≡ reply.Absent → MissesAt [] journal e.seq
+    read_misses_at found e k inside among later reads own absent =
+        let kept : All (λ (b : Found). IsSeen sync b.ulid) used.view.kept = (syncs (sync_rules setting gateway) [] sync (Some (fetched.View used.view)) gave.sync.run).sees used.view refl in
+        let at = parted journal e among in
+        record {
+          front = at.0;
+          back = at.1;
+          entry = e;
+          ulid = found.ulid;
+          key_is = k;
+          parts = at.2;
+          is = refl;
+          reads = reads;
+          absent = absent;
+          own = own;
+          seen = seen_in at.0 at.1 e found.ulid at.2 later (All-contains (λ (b : Found). IsSeen sync b.ulid) used.view.kept found kept inside);
+        }
+
+    pub read_is_explained : (found : Found) (e : Entry) (k : Key) → Contains used.view.kept found → Contains journal e → used.last < e.seq → e.op ≡ op.Get k → PrecedesMeta found.ulid k → e.reply ≡ reply.Absent → IsExplainedUnder setting (watched_call used sync (e ∷ [])) journal e.seq
+    read_is_explained found e k inside among later reads own absent =
+        explained setting journal acts.kept.numbered (acting_in_order setting journal lawful acts) e.seq (read_misses_at found e k inside among later reads own absent) (watched_call used sync (e ∷ []))
+
+    pub read_finds : IsHonest journal → (found : Found) (e : Entry) (k : Key) → Contains used.view.kept found → Contains journal e → used.last < e.seq → e.op ≡ op.Get k → PrecedesMeta found.ulid k → e.reply ≢ reply.Absent
+    read_finds honest found e k inside among later reads own absent =
+        honest_finds setting journal acts.kept.numbered (acting_in_order setting journal lawful acts) e.seq (read_misses_at found e k inside among later reads own absent) (watched_call used sync (e ∷ [])) honest
+
     -- a call's miss is explained
-    pub miss_is_explained : (question : Question) (entries : List Entry) (number : ℕ) → IsCallIn journal used question entries (Some (called.Missing number)) → IsExplained setting journal number
+    pub miss_is_explained : (question : Question) (entries : List Entry) (number : ℕ) → IsCallIn journal used question entries (Some (called.Missing number)) → IsExplainedUnder setting (watched_call used sync entries) journal number
     miss_is_explained question entries number call =
-        explained setting journal acts.kept.numbered (acting_in_order setting journal lawful acts) number (misses_at question entries number call)
+        explained setting journal acts.kept.numbered (acting_in_order setting journal lawful acts) number (misses_at question entries number call) (watched_call used sync entries)
+
+    -- and where the bucket is honest, there is none
+    pub nothing_missed : IsHonest journal → (question : Question) (entries : List Entry) (number : ℕ) → ¬ IsCallIn journal used question entries (Some (called.Missing number))
+    nothing_missed honest question entries number call =
+        honest_finds setting journal acts.kept.numbered (acting_in_order setting journal lawful acts) number (misses_at question entries number call) (watched_call used sync entries) honest
 
     -- ---- where the bucket is honest
 
@@ -175,9 +212,12 @@ module _ (setting : Setting) (journal : List Entry) (lawful : IsLawfulScript set
       same_end : (one other : Option SeriesEnd) → one ≡ other → IsCallIn journal used question entries one → IsCallIn journal used question entries other
       same_end one other is call = subst (IsCallIn journal used question entries) is call
 
-      pub call_is_worth : (end : Option SeriesEnd) → IsCallIn journal used question entries end → IsWorth setting journal (sync_rules setting gateway) used question end
+      pub names_all : (series : List Series) (sources : List ℕ) → IsCallIn journal used question entries (Some (called.Answer series sources)) → (ulid : ℕ) → IsSettled setting journal (sync_rules setting gateway) used ulid → Contains sources ulid
+      names_all series sources call ulid settled = (named_by series sources call ulid).1 (view.settled gateway ulid settled)
+
+      pub call_is_worth : (end : Option SeriesEnd) → IsCallIn journal used question entries end → IsSoundCall setting (watched_call used sync entries) journal (sync_rules setting gateway) used question end
       call_is_worth end call = record {
-        found = λ number is. honest_finds setting journal acts.kept.numbered (acting_in_order setting journal lawful acts) number (misses_at question entries number (same_end end (Some (called.Missing number)) is call)) honest;
+        found = λ number is. miss_is_explained question entries number (same_end end (Some (called.Missing number)) is call);
         undamaged = λ number is.
             let own = same_end end (Some (called.Damaged number)) is call in
             calls_undamaged setting journal entries used.view question number readable told (call_part used question entries (Some (called.Damaged number)) own) view.kept own.run;
@@ -185,5 +225,5 @@ module _ (setting : Setting) (journal : List Entry) (lawful : IsLawfulScript set
             let own = same_end end (Some (called.Answer series sources)) is call in
             answer_is_exact setting journal entries used.view selector low high series sources lawful readable told (call_part used question entries (Some (called.Answer series sources)) own) view.kept own.run;
         named = λ series sources is. names series sources (same_end end (Some (called.Answer series sources)) is call);
-        covered = λ series sources is ulid settled. (named_by series sources (same_end end (Some (called.Answer series sources)) is call) ulid).1 (view.settled gateway ulid settled);
+        covered = λ timely quick series sources is. names_all series sources (same_end end (Some (called.Answer series sources)) is call);
       }

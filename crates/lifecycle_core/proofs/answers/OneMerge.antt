@@ -25,7 +25,7 @@ use Rattle.store_gateway.specs.declared.series_end.SeriesEnd.TheVariants as call
 
 -- ---- sources
 
-one_set : (list set other : List ℕ) → IsSetOf list set → IsSetOf list other → set ≡ other
+pub one_set : (list set other : List ℕ) → IsSetOf list set → IsSetOf list other → set ≡ other
 one_set list set other is so =
     sym (ascending_only list set is.increasing (λ u. ((is.members u).1, (is.members u).0)))
     ∙ ascending_only list other so.increasing (λ u. ((so.members u).1, (so.members u).0))
@@ -140,7 +140,7 @@ one_series (x ∷ xs) (y ∷ ys) up rise some more is =
     let first : x ≡ y = λ i. record { labels = labels i; samples = both.0 i } in
     λ i. first i ∷ rest i
 
-one_merge : (taken : List Triple) (series other : List Series) → IsMerge taken series → IsMerge taken other → series ≡ other
+pub one_merge : (taken : List Triple) (series other : List Series) → IsMerge taken series → IsMerge taken other → series ≡ other
 one_merge taken series other is so =
     one_series series other is.ascending so.ascending is.inhabited so.inhabited (one_kept taken (triples_of series) (triples_of other) is.first so.first)
 

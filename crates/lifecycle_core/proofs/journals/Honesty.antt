@@ -152,7 +152,8 @@ module _ (c : Contents) (o : Op) (reply : Reply) (text : List ℕ) (kind : IsRep
     | inr (inr (names, same)) ↦ (names, subst (Tells c o) same tells, cc (is, ap shown_by same))
   ]
 
-one_reply : (c : Contents) (o : Op) (shown owed : Reply) (one other : List ℕ) → IsReplyTo o shown → Tells c o shown → IsReplyTo o owed → Tells c o owed → shown_by shown ≡ Some one → shown_by owed ≡ Some other → one ≡ other
+-- what an operation owes is one text
+pub one_reply : (c : Contents) (o : Op) (shown owed : Reply) (one other : List ℕ) → IsReplyTo o shown → Tells c o shown → IsReplyTo o owed → Tells c o owed → shown_by shown ≡ Some one → shown_by owed ≡ Some other → one ≡ other
 one_reply c (Clock moment) shown owed one other kind tells kind' tells' is is' = absurd (nothing_shown c (Clock moment) shown one kind tells is (λ bytes no. no) (λ no. no) (λ names no. no))
 one_reply c (Put k bytes) shown owed one other kind tells kind' tells' is is' = absurd (nothing_shown c (Put k bytes) shown one kind tells is (λ bytes no. no) (λ no. no) (λ names no. no))
 one_reply c (Delete k) shown owed one other kind tells kind' tells' is is' = absurd (nothing_shown c (Delete k) shown one kind tells is (λ bytes no. no) (λ no. no) (λ names no. no))

@@ -26,6 +26,7 @@ use Rattle.script_core.specs.declared.block.Block.{Block}
 use Rattle.script_core.specs.declared.body.Body.{Body}
 use Rattle.script_core.specs.declared.body.Body.TheVariants.{Inline}
 use Rattle.script_workers.specs.declared.task.Task.{Task}
+use Rattle.lifecycle_core.specs.Breaches.{IsSeatOf}
 use Rattle.lifecycle_core.specs.Completed.{IsSettled, IsUploadedBefore}
 use Rattle.lifecycle_core.specs.Conducts.{Who, of_seat}
 use Rattle.lifecycle_core.specs.Held.{declared, given}
@@ -109,7 +110,11 @@ pub record IsMade (setting : Setting) (journal : List Entry) (task : Task) (end 
   pub entries : List Entry
   pub run : TaskRun setting who place task.work held entries (Some end) after
   pub part : IsPart journal entries
+  -- its worker made it
+  pub own : All (λ e. e.seat ≡ who.seat) entries
   pub origin : (used : Use) → held.used ≡ Some used → IsOrigin setting journal used
+  -- a worker of the same gateway made the sync of the view
+  pub sits : (used : Use) (is : held.used ≡ Some used) (gateway : ℕ) → who.gateway ≡ Some gateway → IsSeatOf setting gateway (origin used is).seat
   -- it was made after the sync of the view that it used
   pub later : (used : Use) → held.used ≡ Some used → All (λ e. used.last < e.seq) entries
 

@@ -78,7 +78,7 @@ module _ (tick : ℕ) (journal : List Entry) (moments : HasMoments tick journal)
   earlier front back e is x among = rises [] journal refl (λ x none. absurd (omega (arith, none.1))) front back e is x among
 
 -- a list that has a first entry has a last one
-ends_with : (e : Entry) (entries : List Entry) → (front : List Entry) × (last : Entry) × (e ∷ entries ≡ front ++ last ∷ [])
+pub ends_with : (e : Entry) (entries : List Entry) → (front : List Entry) × (last : Entry) × (e ∷ entries ≡ front ++ last ∷ [])
 ends_with e [] = ([], e, refl)
 ends_with e (x ∷ entries) = let rest = ends_with x entries in (e ∷ rest.0, rest.1, ap (λ (es : List Entry). e ∷ es) rest.2)
 
@@ -105,7 +105,7 @@ module _ (setting : Setting) (journal : List Entry) (unbroken : IsUnbroken setti
       let parts : of_seat sync.seat journal ≡ (sync.sync.before ++ front) ++ last ∷ sync.sync.after = within ∙ moved ∙ append_assoc (sync.sync.before ++ front) (last ∷ []) sync.sync.after in
       let at = unfilter (λ (e : Entry). e.seat == sync.seat) journal (sync.sync.before ++ front) sync.sync.after last parts in (
         not_over (last.moment.ms + 1000) (first.moment.ms + setting.script.rules.ignore.ms)
-            (λ over. unbroken at.0 at.1 last at.2 sync_time (last.moment.ms + 1000) (first.moment.ms + setting.script.rules.ignore.ms) (gateway, entries, end, first, others, front, sync, begins, ends, (refl, refl, over))),
+            (λ over. unbroken at.0 at.1 last at.2 sync_time (last.moment.ms + 1000) (first.moment.ms + setting.script.rules.ignore.ms) (entries, end, first, others, front, (gateway, sync), begins, ends, (refl, refl, over))),
         (
           at.0,
           at.1,
@@ -128,4 +128,4 @@ module _ (setting : Setting) (journal : List Entry) (unbroken : IsUnbroken setti
   pub read : (gateway : ℕ) (view : View) → Each (λ before e. IsCallRead setting gateway e → IsViewAt setting journal gateway e.seq view → IsReadInTime setting.script.rules view e) journal
   read gateway view before after e parts reads has =
       not_over (e.moment.ms + setting.script.rules.ignore.ms) (view.begin.ms + setting.script.rules.delete.ms)
-      (λ over. unbroken before after e parts view_time (e.moment.ms + setting.script.rules.ignore.ms) (view.begin.ms + setting.script.rules.delete.ms) (gateway, view, reads, has, (refl, refl, over)))
+      (λ over. unbroken before after e parts view_time (e.moment.ms + setting.script.rules.ignore.ms) (view.begin.ms + setting.script.rules.delete.ms) (view, (gateway, reads, has), (refl, refl, over)))

@@ -1,6 +1,6 @@
 -- A journal without a lie is honest: there is a reply that shows what stands, and it differs from any other one in its text.
 use Rattle.list_core.proofs.Membership.{contains_first}
-use Rattle.std.proofs.Common.{◌≡◌, inl, inr, ℕ, zero, suc, true, List, [], ◌∷◌, ◌++◌, codes, take, drop, Contains, Option, Some, None, refl, sym, ◌∙◌, ap, subst, arith, append_assoc}
+use Rattle.std.proofs.Common.{◌≡◌, ◌↔◌, inl, inr, ℕ, zero, suc, true, List, [], ◌∷◌, ◌++◌, codes, take, drop, Contains, Option, Some, None, refl, sym, ◌∙◌, ap, subst, arith, append_assoc}
 use Rattle.std.specs.Prelude.{IsSome, is_some, option_map, ltb}
 use Rattle.std.specs.List.{list_all}
 use Rattle.std.specs.Str.{IsAscii}
@@ -17,6 +17,7 @@ use Rattle.block_keys.specs.declared.key.Key.TheVariants as key
 use Rattle.block_keys.proofs.KeyLaws.{IsName-name_of}
 use Rattle.bucket_core.specs.Contents.{Contents, nothing, range_of}
 use Rattle.bucket_core.specs.Pages.{IsName, IsPage, Lists}
+use Rattle.world_core.specs.Journals.{Each}
 use Rattle.world_core.specs.Operations.{IsLawful, IsReplyTo, PutsBytes, ShowsBytes}
 use Rattle.world_core.specs.Standing.{IsHonest, Tells, stands}
 use Rattle.world_core.specs.Worlds.{IsJournal, IsOfBytes}
@@ -25,9 +26,10 @@ use Rattle.world_core.specs.declared.op.Op.{Op}
 use Rattle.world_core.specs.declared.op.Op.TheVariants.{Clock, Put, Get, GetRange, Delete, RootPage, BlockPage}
 use Rattle.world_core.specs.declared.reply.Reply.{Reply}
 use Rattle.world_core.specs.declared.reply.Reply.TheVariants.{Clocked, Stored, Found, Absent, Deleted, Names, Failed}
-use Rattle.lifecycle_core.specs.Breaches.{FirstDiffer, IsUnbroken, honesty, shown_by}
+use Rattle.lifecycle_core.specs.Breaches.{FirstDiffer, IsLie, IsUnbroken, honesty, shown_by}
 use Rattle.lifecycle_core.specs.Setting.{Setting}
 use Rattle.lifecycle_core.proofs.journals.Differing.{AreBelow, AreNames, below_both, ended, ended_below, names_low, same_behind, same_names, same_or_differ}
+use Rattle.lifecycle_core.proofs.journals.Honesty.{no_lie}
 use Rattle.lifecycle_core.proofs.journals.OwedPages.{page_there}
 use Rattle.lifecycle_core.proofs.misses.Explaining.{WasPut, was_put}
 
@@ -243,9 +245,17 @@ module _ (c : Contents) (low : (text bytes : List ℕ) → c text ≡ Some bytes
 
 -- ---- the journal
 
+-- a reply tells exactly where it is no lie
+pub told_or_lies : (tick : ℕ) (journal : List Entry) → IsJournal tick journal → IsOfBytes journal → Each (λ before e. ((x y : ℕ) → ¬ IsLie before e x y) ↔ Tells (stands before) e.op e.reply) journal
+told_or_lies tick journal kept of_bytes before after e parts = (
+  λ none.
+      reply_told (stands before) (object_below tick journal kept of_bytes before after e parts) (stands_below tick journal kept of_bytes before after e parts)
+      (λ within cursor limit. page_there (stands before) within (texts_put before) (all_put before) cursor limit)
+      e.op e.reply (of_bytes before after e parts).1
+      (λ reply one other x y kind tells shown owed differ. none x y (reply, one, other, kind, tells, shown, owed, differ)),
+  λ tells x y. no_lie before e x y (kept.kinds before after e parts) tells,
+)
+
 pub unbroken_is_honest : (setting : Setting) (tick : ℕ) (journal : List Entry) → IsJournal tick journal → IsOfBytes journal → IsUnbroken setting journal → IsHonest journal
 unbroken_is_honest setting tick journal kept of_bytes unbroken before after e parts =
-    reply_told (stands before) (object_below tick journal kept of_bytes before after e parts) (stands_below tick journal kept of_bytes before after e parts)
-    (λ within cursor limit. page_there (stands before) within (texts_put before) (all_put before) cursor limit)
-    e.op e.reply (of_bytes before after e parts).1
-    (λ reply one other x y kind tells shown owed differ. unbroken before after e parts honesty x y (reply, one, other, kind, tells, shown, owed, differ))
+    (told_or_lies tick journal kept of_bytes before after e parts).0 (λ x y lie. unbroken before after e parts honesty x y lie)

@@ -29,8 +29,8 @@ use Rattle.script_workers.specs.declared.phase.Phase.{Phase}
 use Rattle.script_workers.specs.declared.task.Task.{Task}
 use Rattle.script_workers.specs.declared.work.Work.{Work}
 use Rattle.script_workers.specs.declared.worker.Worker.{Worker}
-use Rattle.lifecycle_core.specs.Breaches.{IsLie, honesty, read_key, shown_by}
-use Rattle.lifecycle_core.specs.Causes.{AreFound, AreMissesExplained, IsExplained, IsMissing, SomeCame}
+use Rattle.lifecycle_core.specs.Breaches.{IsLie, Watch, honesty, read_key, shown_by, watched}
+use Rattle.lifecycle_core.specs.Causes.{AreFound, AreMissesExplained, IsExplainedUnder, IsMissing, SomeCame}
 use Rattle.lifecycle_core.specs.Conducts.{Conduct, PhaseRun, Who, WorkerRun, of_seat, who_of}
 use Rattle.lifecycle_core.specs.Holdings.{Holdings, Use, holding_of, none_held}
 use Rattle.lifecycle_core.specs.Phases.{IsRunOf, by_script, by_workers}
@@ -99,8 +99,8 @@ module _ (setting : Setting) (tasks : List Task) (workers : List Worker) (views 
         }
 
     after_seen : (gateway : Option ℕ) → ViewSeen (before ++ made) (holding_of after gateway)
-    after_seen = views_left setting tasks workers views made ends after run (ViewSeen (before ++ made))
-        (λ worker own w. view_among (before ++ of_seat worker.seat made) (before ++ made) w.last (more_left before (of_seat worker.seat made) made (λ x among. of_filter (λ (y : Entry). y.seat == worker.seat) made x among)) (leaves worker own w).seen)
+    after_seen = views_left setting tasks workers views made ends after run (λ gateway. ViewSeen (before ++ made))
+        (λ worker own w among. view_among (before ++ of_seat worker.seat made) (before ++ made) w.last (more_left before (of_seat worker.seat made) made (λ x among. of_filter (λ (y : Entry). y.seat == worker.seat) made x among)) (leaves worker own w).seen)
         (λ used is. absurd (cc (is)))
         (λ gateway. view_among before (before ++ made) (views gateway) (λ x among. Contains-append_left before made x among) (seen (Some gateway)))
 
@@ -329,13 +329,13 @@ parted [] x (k, below, is) = absurd (omega (arith, below))
 parted (y ∷ xs) x (zero, below, is) = ([], xs, ap (λ z. z ∷ xs) is)
 parted (y ∷ xs) x (suc k, below, is) = let rest = parted xs x (k, omega (arith, below), is) in (y ∷ rest.0, rest.1, ap (λ es. y ∷ es) rest.2)
 
-module _ (setting : Setting) (journal : List Entry) (numbered : IsNumbered journal) (ordered : (front back : List Entry) (e : Entry) → journal ≡ front ++ e ∷ back → IsInOrder front e) (number : ℕ) (m : MissesAt [] journal number) where
+module _ (setting : Setting) (journal : List Entry) (numbered : IsNumbered journal) (ordered : (front back : List Entry) (e : Entry) → journal ≡ front ++ e ∷ back → IsInOrder front e) (number : ℕ) (m : MissesAt [] journal number) (watch : Watch) where
   nothing_deleted : (e : Entry) → Contains m.front e → (k : Key) → e.op ≢ op.Delete k
   nothing_deleted e among =
       let at = parted m.front e among in
       (ordered at.0 (at.1 ++ m.entry ∷ m.back) e (m.parts ∙ ap (λ es. es ++ m.entry ∷ m.back) at.2 ∙ append_assoc at.0 (e ∷ at.1) (m.entry ∷ m.back))).keeps
 
-  blame : (front back : List Entry) (e : Entry) (x y : ℕ) → journal ≡ front ++ e ∷ back → e.seq ≤ number → IsLie front e x y → IsExplained setting journal number
+  blame : (front back : List Entry) (e : Entry) (x y : ℕ) → journal ≡ front ++ e ∷ back → e.seq ≤ number → IsLie front e x y → IsExplainedUnder setting watch journal number
   blame front back e x y parts early lie = record {
     missed = m.entry;
     key = m.key_is;
@@ -371,12 +371,12 @@ module _ (setting : Setting) (journal : List Entry) (numbered : IsNumbered journ
     | inr none ↦ absurd (cc (none))
   ]
 
-  stood : (front back : List Entry) (e : Entry) (bytes : List ℕ) → m.front ≡ front ++ e ∷ back → stands front (key_text (key.Meta m.ulid)) ≡ Some bytes → IsExplained setting journal number
+  stood : (front back : List Entry) (e : Entry) (bytes : List ℕ) → m.front ≡ front ++ e ∷ back → stands front (key_text (key.Meta m.ulid)) ≡ Some bytes → IsExplainedUnder setting watch journal number
   stood front back e bytes parts is =
       let own = object_stands front back e bytes parts is in
       blame m.front m.back m.entry 65 70 m.parts (omega (arith, m.is)) (absent_is_lie m.front m.entry m.key_is own.0 m.reads m.absent own.1)
 
-  at_meta : (front back : List Entry) (e : Entry) (bytes : List ℕ) (o : Option (List ℕ)) → m.front ≡ front ++ e ∷ back → e.op ≡ op.Get (key.Meta m.ulid) → e.reply ≡ reply.Found bytes → stands front (key_text (key.Meta m.ulid)) ≡ o → IsExplained setting journal number
+  at_meta : (front back : List Entry) (e : Entry) (bytes : List ℕ) (o : Option (List ℕ)) → m.front ≡ front ++ e ∷ back → e.op ≡ op.Get (key.Meta m.ulid) → e.reply ≡ reply.Found bytes → stands front (key_text (key.Meta m.ulid)) ≡ o → IsExplainedUnder setting watch journal number
   at_meta front back e bytes (Some standing) parts reads found is = stood front back e standing parts is
   at_meta front back e bytes None parts reads found is =
       let here : journal ≡ front ++ e ∷ (back ++ m.entry ∷ m.back) = m.parts ∙ ap (λ es. es ++ m.entry ∷ m.back) parts ∙ append_assoc front (e ∷ back) (m.entry ∷ m.back) in
@@ -384,7 +384,7 @@ module _ (setting : Setting) (journal : List Entry) (numbered : IsNumbered journ
       let two = numbered m.front m.back m.entry m.parts in
       blame front (back ++ m.entry ∷ m.back) e 70 65 here (omega (arith, one, two, m.is, ap (length {A = Entry}) parts, length-append front (e ∷ back))) (found_is_lie front e (key.Meta m.ulid) bytes reads found is)
 
-  pub explained : IsExplained setting journal number
+  pub explained : IsExplainedUnder setting watch journal number
   explained =
       let s = m.seen in
       let at = parted m.front s.0 s.1 in
@@ -426,9 +426,9 @@ ends_miss setting journal ends run end number came missing =
 -- in every lawful journal of a script
 pub misses_explained : (setting : Setting) (journal : List Entry) (ends : List (List (List End))) → IsLawfulScript setting.script → IsRunOf setting journal ends → AreMissesExplained setting journal ends
 misses_explained setting journal ends lawful run = λ end number came missing.
-    explained setting journal run.kept.numbered (run_in_order setting journal ends lawful run) number (ends_miss setting journal ends run end number came missing)
+    explained setting journal run.kept.numbered (run_in_order setting journal ends lawful run) number (ends_miss setting journal ends run end number came missing) (watched setting journal)
 
 -- and in an honest one no call misses an object
 pub honest_misses_nothing : (setting : Setting) (journal : List Entry) (ends : List (List (List End))) → IsLawfulScript setting.script → IsRunOf setting journal ends → IsHonest journal → AreFound ends
 honest_misses_nothing setting journal ends lawful run honest = λ end number came missing.
-    honest_finds setting journal run.kept.numbered (run_in_order setting journal ends lawful run) number (ends_miss setting journal ends run end number came missing) honest
+    honest_finds setting journal run.kept.numbered (run_in_order setting journal ends lawful run) number (ends_miss setting journal ends run end number came missing) (watched setting journal) honest

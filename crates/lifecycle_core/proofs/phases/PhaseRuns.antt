@@ -33,7 +33,7 @@ zip_weaken R S f [] (y ∷ ys) all = absurd all
 zip_weaken R S f (x ∷ xs) [] all = absurd all
 zip_weaken R S f (x ∷ xs) (y ∷ ys) all = (f x y all.0, zip_weaken R S f xs ys all.1)
 
-all_zip : {A B : Type 0} (P : A → Type 0) (R S : A → B → Type 0) → ((a : A) (b : B) → P a → R a b → S a b) → (xs : List A) (ys : List B) → AllByRecursion P xs → AllZip R xs ys → AllZip S xs ys
+pub all_zip : {A B : Type 0} (P : A → Type 0) (R S : A → B → Type 0) → ((a : A) (b : B) → P a → R a b → S a b) → (xs : List A) (ys : List B) → AllByRecursion P xs → AllZip R xs ys → AllZip S xs ys
 all_zip P R S f [] [] each all = tt
 all_zip P R S f [] (y ∷ ys) each all = absurd all
 all_zip P R S f (x ∷ xs) [] each all = absurd all

@@ -1,5 +1,6 @@
 -- What a phase leaves of the views: each gateway's is its worker's last one, or that from before.
-use Rattle.std.proofs.Common.{◌≡◌, ◌≢◌, ◌⊎◌, inl, inr, ℕ, ◌==◌, Bool, true, false, List, [], ◌∷◌, Option, Some, None, refl, sym, ◌∙◌, ap, subst, arith}
+use Rattle.list_core.proofs.Membership.{contains_first, contains_later}
+use Rattle.std.proofs.Common.{◌≡◌, ◌≢◌, ◌⊎◌, inl, inr, ℕ, ◌==◌, Bool, true, false, List, [], ◌∷◌, Contains, Option, Some, None, refl, sym, ◌∙◌, ap, subst, arith}
 use Rattle.std.specs.List.{All, AllZip}
 use Rattle.std.proofs.lemmas.Bool.Decides.{nat_tests}
 use Rattle.std.proofs.lemmas.List.Elements.{All-cons, All-nil}
@@ -16,33 +17,35 @@ module _ (setting : Setting) (tasks : List Task) (workers : List Worker) (views 
   abbrev Own : Worker → List End → Type 0
   Own = WorkerRun (by_script setting) tasks views made after
 
-  module _ (Holds : Holding → Type 0) (leaves : (worker : Worker) (own : List End) (w : Own worker own) → Holds w.last) where
+  module _ (Holds : Option ℕ → Holding → Type 0) (leaves : (worker : Worker) (own : List End) (w : Own worker own) → Contains workers worker → Holds worker.gateway w.last) where
     abbrev same_gateway : ℕ → Option ℕ → Bool
     same_gateway gateway None = false
     same_gateway gateway (Some other) = other == gateway
 
     -- a worker of the gateway, or none
     abbrev Searched : ℕ → List Worker → Type 0
-    Searched gateway ws = Holds (after gateway) ⊎ All (λ (w : Worker). w.gateway ≢ Some gateway) ws
+    Searched gateway ws = Holds (Some gateway) (after gateway) ⊎ All (λ (w : Worker). w.gateway ≢ Some gateway) ws
 
-    search_first : (gateway : ℕ) (w : Worker) (ws : List Worker) (own : List End) (rest : Searched gateway ws) (o : Option ℕ) (b : Bool) → w.gateway ≡ o → same_gateway gateway o ≡ b → Own w own → Searched gateway (w ∷ ws)
-    search_first gateway w ws own (inl found) o b is test one = inl found
-    search_first gateway w ws own (inr none) None b is test one = inr (All-cons (λ (x : Worker). x.gateway ≢ Some gateway) w ws (λ same. cc (is, same)) none)
-    search_first gateway w ws own (inr none) (Some other) true is test one =
+    search_first : (gateway : ℕ) (w : Worker) (ws : List Worker) (own : List End) (rest : Searched gateway ws) (o : Option ℕ) (b : Bool) → w.gateway ≡ o → same_gateway gateway o ≡ b → Contains workers w → Own w own → Searched gateway (w ∷ ws)
+    search_first gateway w ws own (inl found) o b is test among one = inl found
+    search_first gateway w ws own (inr none) None b is test among one = inr (All-cons (λ (x : Worker). x.gateway ≢ Some gateway) w ws (λ same. cc (is, same)) none)
+    search_first gateway w ws own (inr none) (Some other) true is test among one =
         let same : other ≡ gateway = grind (arith, nat_tests, test) in
-        inl (subst Holds (sym (one.leaves gateway (is ∙ ap (λ n. Some n) same))) (leaves w own one))
-    search_first gateway w ws own (inr none) (Some other) false is test one =
+        let mine : w.gateway ≡ Some gateway = is ∙ ap (λ n. Some n) same in
+        inl (subst (Holds (Some gateway)) (sym (one.leaves gateway mine)) (subst (λ (o : Option ℕ). Holds o one.last) mine (leaves w own one among)))
+    search_first gateway w ws own (inr none) (Some other) false is test among one =
         inr (All-cons (λ (x : Worker). x.gateway ≢ Some gateway) w ws (λ same. let k : other ≡ gateway = cc (is, same) in absurd (grind (arith, nat_tests, test, k))) none)
 
-    search : (gateway : ℕ) (ws : List Worker) (es : List (List End)) → AllZip Own ws es → Searched gateway ws
-    search gateway [] es all = inr (All-nil (λ (w : Worker). w.gateway ≢ Some gateway))
-    search gateway (w ∷ ws) [] all = absurd all
-    search gateway (w ∷ ws) (own ∷ es) all = search_first gateway w ws own (search gateway ws es all.1) w.gateway (same_gateway gateway w.gateway) refl refl all.0
+    search : (gateway : ℕ) (ws : List Worker) (es : List (List End)) → ((w : Worker) → Contains ws w → Contains workers w) → AllZip Own ws es → Searched gateway ws
+    search gateway [] es within all = inr (All-nil (λ (w : Worker). w.gateway ≢ Some gateway))
+    search gateway (w ∷ ws) [] within all = absurd all
+    search gateway (w ∷ ws) (own ∷ es) within all =
+        search_first gateway w ws own (search gateway ws es (λ x among. within x (contains_later w x ws among)) all.1) w.gateway (same_gateway gateway w.gateway) refl refl (within w (contains_first w ws)) all.0
 
     -- what holds of the workers' last views and of those from before holds of all
-    pub views_left : Holds nothing_held → ((gateway : ℕ) → Holds (views gateway)) → (gateway : Option ℕ) → Holds (holding_of after gateway)
+    pub views_left : Holds None nothing_held → ((gateway : ℕ) → Holds (Some gateway) (views gateway)) → (gateway : Option ℕ) → Holds gateway (holding_of after gateway)
     views_left without before None = without
-    views_left without before (Some gateway) = elim (search gateway workers ends run.runs) [
+    views_left without before (Some gateway) = elim (search gateway workers ends (λ w among. among) run.runs) [
       | inl found ↦ found
-      | inr none ↦ subst Holds (sym (run.kept gateway none)) (before gateway)
+      | inr none ↦ subst (Holds (Some gateway)) (sym (run.kept gateway none)) (before gateway)
     ]

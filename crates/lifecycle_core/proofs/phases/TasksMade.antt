@@ -1,9 +1,10 @@
 -- Whence the ends of a run come: each from a task's run, whose entries are part of the journal, with a view that such a run gave.
-use Rattle.list_core.proofs.Membership.{of_filter}
+use Rattle.list_core.proofs.Membership.{all_members, of_filter}
 use Rattle.std.proofs.Common.{◌≡◌, inl, inr, ℕ, zero, suc, ◌+◌, ◌<◌, ◌≤◌, ◌==◌, Bool, true, false, List, [], ◌∷◌, ◌++◌, Contains, Option, Some, None, refl, sym, ◌∙◌, ap, subst, append_assoc, arith}
 use Rattle.std.specs.Prelude.{fold, slice_get}
 use Rattle.std.specs.List.{All, AllZip, filter, zip}
-use Rattle.std.proofs.lemmas.List.Elements.{All-append, All-contains, All-contains_itself, All-filter, All-weaker, Contains-append_left, Contains-append_right, filter-append}
+use Rattle.std.proofs.lemmas.Bool.Decides.{nat_tests}
+use Rattle.std.proofs.lemmas.List.Elements.{All-append, All-contains, All-contains_itself, All-filter, All-weaker, Contains-append_left, Contains-append_right, filter-append, filter_passes}
 use Rattle.world_core.specs.declared.entry.Entry.{Entry}
 use Rattle.world_core.specs.Plans.{Runs, noting}
 use Rattle.meta_fetcher.specs.Syncs.{Course, SyncRun, Synced, listing, with_entry}
@@ -16,6 +17,7 @@ use Rattle.script_workers.specs.declared.phase.Phase.{Phase}
 use Rattle.script_workers.specs.declared.task.Task.{Task}
 use Rattle.script_workers.specs.declared.work.Work.{Work}
 use Rattle.script_workers.specs.declared.worker.Worker.{Worker}
+use Rattle.lifecycle_core.specs.Breaches.{IsSeatOf}
 use Rattle.lifecycle_core.specs.Causes.{SomeCame}
 use Rattle.lifecycle_core.specs.Conducts.{Assigned, CameTo, PhaseRun, TasksAt, TasksRun, Who, WorkerRun, of_seat, who_of}
 use Rattle.lifecycle_core.specs.Holdings.{Holding, Holdings, Use, holding_of, none_held}
@@ -23,7 +25,7 @@ use Rattle.lifecycle_core.specs.Phases.{IsRunOf, by_script, by_workers}
 use Rattle.lifecycle_core.specs.Setting.{Setting}
 use Rattle.lifecycle_core.specs.Tasks.{End, TaskRun, last_number, sync_rules}
 use Rattle.lifecycle_core.specs.Ways.{PhasesRun}
-use Rattle.lifecycle_core.proofs.phases.PhaseRuns.{zip_weaken}
+use Rattle.lifecycle_core.proofs.phases.PhaseRuns.{all_zip}
 use Rattle.lifecycle_core.proofs.phases.PhaseViews.{views_left}
 use Rattle.lifecycle_core.proofs.journals.Positions.{zip_left, zipped}
 use Rattle.lifecycle_core.proofs.phases.TaskRuns.{task_leaves}
@@ -92,7 +94,7 @@ below n [] beyond all rises = all
 below n (e ∷ es) beyond all rises = below e.seq es beyond (All-weaker (Follows e) (λ (x : Entry). e.seq < x.seq) (λ x follows. follows.0) beyond (all_right (Follows e) es beyond rises.0)) rises.1
 
 -- a sync without an entry gave no view
-no_listing : (rules : SyncRules) (more : ℕ) (told : Synced × Option Course) → Runs (noting with_entry None (listing rules (suc more) [])) [] (Some told) → ⊥
+pub no_listing : (rules : SyncRules) (more : ℕ) (told : Synced × Option Course) → Runs (noting with_entry None (listing rules (suc more) [])) [] (Some told) → ⊥
 no_listing rules more told run = cc (run)
 
 after_last : (rules : SyncRules) (made beyond : List Entry) (view : View) → SyncRun rules made (Some (fetched.View view)) → Rises (made ++ beyond) → All (λ (x : Entry). last_number made < x.seq) beyond
@@ -118,54 +120,78 @@ stretch_within journal seat front made back is =
       parts = ap (of_seat seat) is ∙ filter-append p front (made ++ back) ∙ ap (λ (l : List Entry). of_seat seat front ++ l) (filter-append p made back) ∙ sym (append_assoc (of_seat seat front) (of_seat seat made) (of_seat seat back));
     }
 
+is_seat : (one other : ℕ) → (one == other) ≡ true → one ≡ other
+is_seat one other test = grind (arith, nat_tests, test)
+
+-- the entries of a seat are made there
+pub all_of_seat : (seat : ℕ) (es : List Entry) → All (λ (e : Entry). e.seat ≡ seat) (of_seat seat es)
+all_of_seat seat es = All-weaker (λ (e : Entry). (e.seat == seat) ≡ true) (λ (e : Entry). e.seat ≡ seat) (λ e test. is_seat e.seat seat test) (of_seat seat es) (filter_passes (λ (e : Entry). e.seat == seat) es)
+
 module _ (setting : Setting) (journal : List Entry) where
   -- ---- a worker's tasks
 
-  -- The view that is held is that of a sync of the journal, which ended before these entries.
-  abbrev IsKnown : List Entry → Holding → Type 0
-  IsKnown rest held = (used : Use) → held.used ≡ Some used → IsOrigin setting journal used × All (λ (e : Entry). used.last < e.seq) rest
+  -- a worker of the gateway has this seat
+  abbrev Sits : Option ℕ → ℕ → Type 0
+  Sits gateway seat = (own : ℕ) → gateway ≡ Some own → IsSeatOf setting own seat
 
-  same_held : (rest : List Entry) (one other : Holding) → one ≡ other → IsKnown rest other → IsKnown rest one
-  same_held rest one other is known = subst (IsKnown rest) (sym is) known
+  -- the view is that of a sync of the journal, which a worker of this gateway made
+  abbrev IsGivenBy : Option ℕ → Use → Type 0
+  IsGivenBy gateway used = (o : IsOrigin setting journal used) × Sits gateway o.seat
 
-  known_after : (xs ys : List Entry) (held : Holding) → IsKnown (xs ++ ys) held → IsKnown ys held
-  known_after xs ys held known = λ used is. ((known used is).0, all_right (λ (e : Entry). used.last < e.seq) xs ys (known used is).1)
+  -- The view that is held is that of such a sync, which ended before these entries.
+  abbrev IsKnown : List Entry → Option ℕ → Holding → Type 0
+  IsKnown rest gateway held = (used : Use) → held.used ≡ Some used → IsGivenBy gateway used × All (λ (e : Entry). used.last < e.seq) rest
 
-  view_given : (made rest : List Entry) (seat : ℕ) → IsPart journal made → IsStretch journal seat made → Rises (made ++ rest) → (gateway : ℕ) (own : Option SyncEnd) → SyncRun (sync_rules setting gateway) made own → (v : View) → own ≡ Some (fetched.View v)
-      → IsKnown rest (record { used = Some (record { view = v; last = last_number made }) })
-  view_given made rest seat part stretch rises gateway own run v is = λ used same.
+  same_held : (rest : List Entry) (gateway : Option ℕ) (one other : Holding) → one ≡ other → IsKnown rest gateway other → IsKnown rest gateway one
+  same_held rest gateway one other is known = subst (IsKnown rest gateway) (sym is) known
+
+  known_after : (xs ys : List Entry) (gateway : Option ℕ) (held : Holding) → IsKnown (xs ++ ys) gateway held → IsKnown ys gateway held
+  known_after xs ys gateway held known = λ used is. ((known used is).0, all_right (λ (e : Entry). used.last < e.seq) xs ys (known used is).1)
+
+  view_given : (made rest : List Entry) (by : Option ℕ) (seat : ℕ) → Sits by seat → IsPart journal made → IsStretch journal seat made → Rises (made ++ rest) → (gateway : ℕ) (own : Option SyncEnd) → SyncRun (sync_rules setting gateway) made own → (v : View) → own ≡ Some (fetched.View v)
+      → IsKnown rest by (record { used = Some (record { view = v; last = last_number made }) })
+  view_given made rest by seat sits part stretch rises gateway own run v is = λ used same.
       let one : record { view = v; last = last_number made } ≡ used = cc (same) in
       let mine : SyncRun (sync_rules setting gateway) made (Some (fetched.View v)) = subst (SyncRun (sync_rules setting gateway) made) is run in
-      subst (λ (u : Use). IsOrigin setting journal u × All (λ (e : Entry). u.last < e.seq) rest) one (
-        record { gateway = gateway; entries = made; run = mine; last = refl; part = part; seat = seat; stretch = stretch },
+      subst (λ (u : Use). IsGivenBy by u × All (λ (e : Entry). u.last < e.seq) rest) one (
+        (record { gateway = gateway; entries = made; run = mine; last = refl; part = part; seat = seat; stretch = stretch }, sits),
         after_last (sync_rules setting gateway) made rest v mine rises,
       )
 
-  after_task : (who : Who) (place : ℕ) (made rest : List Entry) (held after : Holding) (w : Work) (end : Option End) → IsKnown (made ++ rest) held → IsPart journal made → IsStretch journal who.seat made → Rises (made ++ rest)
-      → TaskRun setting who place w held made end after → IsKnown rest after
-  after_task who place made rest held after w end known part stretch rises run =
-      task_leaves (IsKnown rest) setting who place held (known_after made rest held known) made w end after (view_given made rest who.seat part stretch rises) run
+  after_task : (who : Who) (place : ℕ) (made rest : List Entry) (held after : Holding) (w : Work) (end : Option End) → Sits who.gateway who.seat → IsKnown (made ++ rest) who.gateway held → IsPart journal made → IsStretch journal who.seat made → Rises (made ++ rest)
+      → TaskRun setting who place w held made end after → IsKnown rest who.gateway after
+  after_task who place made rest held after w end sits known part stretch rises run =
+      task_leaves (IsKnown rest who.gateway) setting who place held (known_after made rest who.gateway held known) made w end after (view_given made rest who.gateway who.seat sits part stretch rises) run
 
-  -- the first tasks came to these ends, each in a run of its own
-  abbrev AreMade : List Assigned → List End → Type 0
-  AreMade tasks [] = Unit {0}
-  AreMade [] (end ∷ ends) = ⊥
-  AreMade (own ∷ tasks) (end ∷ ends) = IsMade setting journal own.task end × AreMade tasks ends
+  -- the task came to its end in a run that this worker made
+  abbrev pub IsMadeBy : Who → Task → End → Type 0
+  IsMadeBy who task end = (made : IsMade setting journal task end) × (made.who ≡ who)
+
+  -- the first tasks of a worker came to these ends, each in a run of its own
+  abbrev AreMade : Who → List Assigned → List End → Type 0
+  AreMade who tasks [] = Unit {0}
+  AreMade who [] (end ∷ ends) = ⊥
+  AreMade who (own ∷ tasks) (end ∷ ends) = IsMadeBy who own.task end × AreMade who tasks ends
+
+  -- the entries are those of a seat
+  abbrev AreOf : ℕ → List Entry → Type 0
+  AreOf seat entries = All (λ (e : Entry). e.seat ≡ seat) entries
 
   -- a worker's tasks are made, and the view that they leave is known
-  tasks_made : (who : Who) (all : List Entry) (held last : Holding) (tasks : List Assigned) (entries beyond : List Entry) (ends : List End) → IsKnown (entries ++ beyond) held → IsPart journal entries → IsStretch journal who.seat entries → Rises (entries ++ beyond)
-      → TasksRun (by_script setting) who all held tasks entries ends last → AreMade tasks ends × IsKnown beyond last
-  tasks_made who all held last [] entries beyond ends known part stretch rises (nil, none, same) = (subst (AreMade []) (sym none) tt, same_held beyond last held same (known_after entries beyond held known))
-  tasks_made who all held last (own ∷ tasks) entries beyond ends known part stretch rises (inl (made, others, end, later, next, parts, run, is, rest)) =
+  tasks_made : (who : Who) (all : List Entry) (held last : Holding) (tasks : List Assigned) (entries beyond : List Entry) (ends : List End) → Sits who.gateway who.seat → IsKnown (entries ++ beyond) who.gateway held → IsPart journal entries → IsStretch journal who.seat entries → AreOf who.seat entries → Rises (entries ++ beyond)
+      → TasksRun (by_script setting) who all held tasks entries ends last → AreMade who tasks ends × IsKnown beyond who.gateway last
+  tasks_made who all held last [] entries beyond ends sits known part stretch seat rises (nil, none, same) = (subst (AreMade who []) (sym none) tt, same_held beyond who.gateway last held same (known_after entries beyond who.gateway held known))
+  tasks_made who all held last (own ∷ tasks) entries beyond ends sits known part stretch seat rises (inl (made, others, end, later, next, parts, run, is, rest)) =
       let all_same : entries ++ beyond ≡ made ++ (others ++ beyond) = ap (λ (l : List Entry). l ++ beyond) parts ∙ append_assoc made others beyond in
       let both : IsPart journal (made ++ others) = subst (IsPart journal) parts part in
       let whole : IsStretch journal who.seat (made ++ others) = subst (IsStretch journal who.seat) parts stretch in
       let up : Rises (made ++ (others ++ beyond)) = subst Rises all_same rises in
-      let had : IsKnown (made ++ (others ++ beyond)) held = subst (λ (l : List Entry). IsKnown l held) all_same known in
+      let had : IsKnown (made ++ (others ++ beyond)) who.gateway held = subst (λ (l : List Entry). IsKnown l who.gateway held) all_same known in
       let mine = part_left journal made others both in
+      let seats : AreOf who.seat (made ++ others) = subst (AreOf who.seat) parts seat in
       let own_stretch = stretch_left journal who.seat made others whole in
-      let tail = tasks_made who all next last tasks others beyond later (after_task who own.place made (others ++ beyond) held next own.task.work (Some end) had mine own_stretch up run)
-      (part_right journal made others both) (stretch_right journal who.seat made others whole) (rises_right made (others ++ beyond) up) rest in
+      let tail = tasks_made who all next last tasks others beyond later sits (after_task who own.place made (others ++ beyond) held next own.task.work (Some end) sits had mine own_stretch up run)
+      (part_right journal made others both) (stretch_right journal who.seat made others whole) (all_right (λ (e : Entry). e.seat ≡ who.seat) made others seats) (rises_right made (others ++ beyond) up) rest in
       let one : IsMade setting journal own.task end = record {
         who = who;
         place = own.place;
@@ -174,58 +200,63 @@ module _ (setting : Setting) (journal : List Entry) where
         entries = made;
         run = run;
         part = mine;
-        origin = λ used same. (had used same).0;
+        own = all_left (λ (e : Entry). e.seat ≡ who.seat) made others seats;
+        origin = λ used same. ((had used same).0).0;
+        sits = λ used same gateway is. ((had used same).0).1 gateway is;
         later = λ used same. all_left (λ (e : Entry). used.last < e.seq) made (others ++ beyond) (had used same).1;
       } in
-      (subst (AreMade (own ∷ tasks)) (sym is) (one, tail.0), tail.1)
-  tasks_made who all held last (own ∷ tasks) entries beyond ends known part stretch rises (inr (run, none)) =
-      (subst (AreMade (own ∷ tasks)) (sym none) tt, after_task who own.place entries beyond held last own.task.work None known part stretch rises run)
+      (subst (AreMade who (own ∷ tasks)) (sym is) ((one, refl), tail.0), tail.1)
+  tasks_made who all held last (own ∷ tasks) entries beyond ends sits known part stretch seat rises (inr (run, none)) =
+      (subst (AreMade who (own ∷ tasks)) (sym none) tt, after_task who own.place entries beyond held last own.task.work None sits known part stretch rises run)
 
   -- some task came to an end
-  some_task : (tasks : List Assigned) (ends : List End) (end : End) → AreMade tasks ends → Contains ends end → (task : Task) × IsMade setting journal task end
-  some_task tasks [] end made (k, below, is) = absurd (omega (arith, below))
-  some_task [] (first ∷ ends) end made among = absurd made
-  some_task (own ∷ tasks) (first ∷ ends) end made (zero, below, is) = (own.task, subst (IsMade setting journal own.task) is made.0)
-  some_task (own ∷ tasks) (first ∷ ends) end made (suc k, below, is) = some_task tasks ends end made.1 (k, omega (arith, below), is)
+  some_task : (who : Who) (tasks : List Assigned) (ends : List End) (end : End) → AreMade who tasks ends → Contains ends end → (task : Task) × IsMade setting journal task end
+  some_task who tasks [] end made (k, below, is) = absurd (omega (arith, below))
+  some_task who [] (first ∷ ends) end made among = absurd made
+  some_task who (own ∷ tasks) (first ∷ ends) end made (zero, below, is) = (own.task, subst (IsMade setting journal own.task) is (made.0).0)
+  some_task who (own ∷ tasks) (first ∷ ends) end made (suc k, below, is) = some_task who tasks ends end made.1 (k, omega (arith, below), is)
 
   -- the task at a place came to the end beside that place
-  task_at : (tasks : List Task) (places : List ℕ) (found : List Assigned) (own : List End) (place : ℕ) (end : End) → TasksAt tasks places found → AreMade found own → Contains (zip places own) (place, end)
-      → (task : Task) × (slice_get tasks place ≡ Some task) × IsMade setting journal task end
-  task_at tasks [] found own place end at made (k, below, is) = absurd (omega (arith, below))
-  task_at tasks (p ∷ places) [] own place end at made among = absurd at
-  task_at tasks (p ∷ places) (task ∷ found) [] place end at made (k, below, is) = absurd (omega (arith, below))
-  task_at tasks (p ∷ places) (task ∷ found) (e ∷ own) place end at made (zero, below, is) = (
+  task_at : (who : Who) (tasks : List Task) (places : List ℕ) (found : List Assigned) (own : List End) (place : ℕ) (end : End) → TasksAt tasks places found → AreMade who found own → Contains (zip places own) (place, end)
+      → (task : Task) × (slice_get tasks place ≡ Some task) × IsMadeBy who task end
+  task_at who tasks [] found own place end at made (k, below, is) = absurd (omega (arith, below))
+  task_at who tasks (p ∷ places) [] own place end at made among = absurd at
+  task_at who tasks (p ∷ places) (task ∷ found) [] place end at made (k, below, is) = absurd (omega (arith, below))
+  task_at who tasks (p ∷ places) (task ∷ found) (e ∷ own) place end at made (zero, below, is) = (
     task.task,
     subst (λ n. slice_get tasks n ≡ Some task.task) (ap (λ (x : ℕ × End). x.0) is) (at.0).1,
-    subst (IsMade setting journal task.task) (ap (λ (x : ℕ × End). x.1) is) made.0,
+    subst (IsMadeBy who task.task) (ap (λ (x : ℕ × End). x.1) is) made.0,
   )
-  task_at tasks (p ∷ places) (task ∷ found) (e ∷ own) place end at made (suc k, below, is) = task_at tasks places found own place end at.1 made.1 (k, omega (arith, below), is)
+  task_at who tasks (p ∷ places) (task ∷ found) (e ∷ own) place end at made (suc k, below, is) = task_at who tasks places found own place end at.1 made.1 (k, omega (arith, below), is)
 
   -- ---- a phase
 
   -- the tasks at a worker's places are made
   abbrev WorkerMade : List Task → Worker → List End → Type 0
-  WorkerMade tasks worker own = (found : List Assigned) × TasksAt tasks worker.tasks found × AreMade found own
+  WorkerMade tasks worker own = (found : List Assigned) × TasksAt tasks worker.tasks found × AreMade (who_of worker) found own
 
   abbrev PhaseMade : List Task → List Worker → List (List End) → Type 0
   PhaseMade tasks workers ends = AllZip (WorkerMade tasks) workers ends
 
   module _ (tasks : List Task) (workers : List Worker) (views : Holdings) (made : List Entry) (ends : List (List End)) (after : Holdings) (run : PhaseRun (by_script setting) tasks workers views made ends after) (part : IsPart journal made)
-      (front beyond : List Entry) (is : journal ≡ front ++ (made ++ beyond)) (rises : Rises (made ++ beyond)) (known : (gateway : Option ℕ) → IsKnown (made ++ beyond) (holding_of views gateway)) where
-    worker_made : (worker : Worker) (own : List End) (w : WorkerRun (by_script setting) tasks views made after worker own) → AreMade w.own own × IsKnown beyond w.last
-    worker_made worker own w =
+      (front beyond : List Entry) (is : journal ≡ front ++ (made ++ beyond)) (rises : Rises (made ++ beyond)) (known : (gateway : Option ℕ) → IsKnown (made ++ beyond) gateway (holding_of views gateway))
+      (number : ℕ) (staff : (worker : Worker) → Contains workers worker → Contains (workers_of setting.script number) worker) where
+    worker_made : (worker : Worker) (own : List End) (w : WorkerRun (by_script setting) tasks views made after worker own) → Contains workers worker → AreMade (who_of worker) w.own own × IsKnown beyond worker.gateway w.last
+    worker_made worker own w among =
         let p : Entry → Bool = λ x. x.seat == worker.seat in
-        tasks_made (who_of worker) made (holding_of views worker.gateway) w.last w.own (of_seat worker.seat made) beyond own
+        tasks_made (who_of worker) made (holding_of views worker.gateway) w.last w.own (of_seat worker.seat made) beyond own (λ gateway same. (number, worker, staff worker among, same, refl))
         (λ used same. ((known worker.gateway used same).0, all_before p (λ (e : Entry). used.last < e.seq) made beyond (known worker.gateway used same).1))
-        (part_filter journal p made part) (stretch_within journal worker.seat front made beyond is) (rises_before p made beyond rises) w.runs
+        (part_filter journal p made part) (stretch_within journal worker.seat front made beyond is) (all_of_seat worker.seat made) (rises_before p made beyond rises) w.runs
 
     phase_made : PhaseMade tasks workers ends
-    phase_made = zip_weaken (WorkerRun (by_script setting) tasks views made after) (WorkerMade tasks) (λ worker own w. (w.own, w.are, (worker_made worker own w).0)) workers ends run.runs
+    phase_made =
+        all_zip (Contains workers) (WorkerRun (by_script setting) tasks views made after) (WorkerMade tasks) (λ worker own among w. (w.own, w.are, (worker_made worker own w among).0)) workers ends
+        (all_members (Contains workers) workers (λ worker among. among)) run.runs
 
-    after_phase : (gateway : Option ℕ) → IsKnown beyond (holding_of after gateway)
+    after_phase : (gateway : Option ℕ) → IsKnown beyond gateway (holding_of after gateway)
     after_phase =
-        views_left setting tasks workers views made ends after run (IsKnown beyond) (λ worker own w. (worker_made worker own w).1)
-        (known_after made beyond (holding_of views None) (known None)) (λ gateway. known_after made beyond (holding_of views (Some gateway)) (known (Some gateway)))
+        views_left setting tasks workers views made ends after run (IsKnown beyond) (λ worker own w among. (worker_made worker own w among).1)
+        (known_after made beyond None (holding_of views None) (known None)) (λ gateway. known_after made beyond (Some gateway) (holding_of views (Some gateway)) (known (Some gateway)))
 
   -- ---- all phases
 
@@ -238,46 +269,46 @@ module _ (setting : Setting) (journal : List Entry) where
   no_phases : (number : ℕ) (phases : List Phase) (ends : List (List (List End))) → ends ≡ [] → PhasesMade number phases ends
   no_phases number phases ends none = subst (PhasesMade number phases) (sym none) tt
 
-  phases_made : (number : ℕ) (views : Holdings) (phases : List Phase) (front entries : List Entry) (ends : List (List (List End))) → ((gateway : Option ℕ) → IsKnown entries (holding_of views gateway)) → IsPart journal entries → journal ≡ front ++ entries
+  phases_made : (number : ℕ) (views : Holdings) (phases : List Phase) (front entries : List Entry) (ends : List (List (List End))) → ((gateway : Option ℕ) → IsKnown entries gateway (holding_of views gateway)) → IsPart journal entries → journal ≡ front ++ entries
       → PhasesRun (by_workers setting) number views phases entries ends → PhasesMade number phases ends
   phases_made number views [] front entries ends known part is (nil, none) = no_phases number [] ends none
   phases_made number views (phase ∷ phases) front entries ends known part is (inl (nil, none)) = no_phases number (phase ∷ phases) ends none
   phases_made number views (phase ∷ phases) front entries ends known part is (inr (clock, made, others, first, later, after, parts, begins, run, are, go)) =
       let all : IsPart journal (clock ∷ made ++ others) = subst (IsPart journal) parts part in
-      let had : (gateway : Option ℕ) → IsKnown (clock ∷ made ++ others) (holding_of views gateway) = λ gateway. subst (λ (l : List Entry). IsKnown l (holding_of views gateway)) parts (known gateway) in
+      let had : (gateway : Option ℕ) → IsKnown (clock ∷ made ++ others) gateway (holding_of views gateway) = λ gateway. subst (λ (l : List Entry). IsKnown l gateway (holding_of views gateway)) parts (known gateway) in
       let start : journal ≡ front ++ (clock ∷ made ++ others) = is ∙ ap (λ (l : List Entry). front ++ l) parts in
       let begun : journal ≡ (front ++ clock ∷ []) ++ (made ++ others) = start ∙ sym (append_assoc front (clock ∷ []) (made ++ others)) in
       let own = part_middle journal (clock ∷ []) made others all in
       let rest = part_right journal (clock ∷ made) others all in
       let up = rises_right (clock ∷ []) (made ++ others) all.rises in
-      let mine : (gateway : Option ℕ) → IsKnown (made ++ others) (holding_of views gateway) = λ gateway. known_after (clock ∷ []) (made ++ others) (holding_of views gateway) (had gateway) in
-      let one = phase_made phase.tasks (workers_of setting.script number) views made first after run own (front ++ clock ∷ []) others begun up mine in
-      let next = after_phase phase.tasks (workers_of setting.script number) views made first after run own (front ++ clock ∷ []) others begun up mine in
+      let mine : (gateway : Option ℕ) → IsKnown (made ++ others) gateway (holding_of views gateway) = λ gateway. known_after (clock ∷ []) (made ++ others) gateway (holding_of views gateway) (had gateway) in
+      let one = phase_made phase.tasks (workers_of setting.script number) views made first after run own (front ++ clock ∷ []) others begun up mine number (λ worker among. among) in
+      let next = after_phase phase.tasks (workers_of setting.script number) views made first after run own (front ++ clock ∷ []) others begun up mine number (λ worker among. among) in
       let ended : journal ≡ (front ++ clock ∷ made) ++ others = start ∙ sym (append_assoc front (clock ∷ made) others) in
       subst (PhasesMade number (phase ∷ phases)) (sym are) (
         one,
         phases_made (number + 1) after phases (front ++ clock ∷ made) others later next rest ended go,
       )
 
-  no_view_yet : (gateway : Option ℕ) → IsKnown journal (holding_of none_held gateway)
+  no_view_yet : (gateway : Option ℕ) → IsKnown journal gateway (holding_of none_held gateway)
   no_view_yet None = λ used is. absurd (cc (is))
   no_view_yet (Some gateway) = λ used is. absurd (cc (is))
 
   run_made : (ends : List (List (List End))) → Rises journal → IsRunOf setting journal ends → PhasesMade 0 setting.script.phases ends
   run_made ends rises run = phases_made 0 none_held setting.script.phases [] journal ends no_view_yet (part_whole journal rises) refl run.phases
 
-  -- the phase at a place is made
-  phase_at : (number k : ℕ) (phases : List Phase) (ends : List (List (List End))) (phase : Phase) (own : List (List End)) → PhasesMade number phases ends → slice_get phases k ≡ Some phase → slice_get ends k ≡ Some own
-      → PhaseMade phase.tasks (workers_of setting.script (number + k)) own
-  phase_at number k phases [] phase own made at is = absurd (cc (is))
-  phase_at number k [] (first ∷ ends) phase own made at is = absurd made
-  phase_at number zero (p ∷ phases) (first ∷ ends) phase own made at is =
-      let one : p ≡ phase = cc (at) in
+  -- the phase at a place is one of the script's, and is made
+  phase_at : (number k : ℕ) (phases : List Phase) (ends : List (List (List End))) (own : List (List End)) → PhasesMade number phases ends → slice_get ends k ≡ Some own
+      → (phase : Phase) × (slice_get phases k ≡ Some phase) × PhaseMade phase.tasks (workers_of setting.script (number + k)) own
+  phase_at number k phases [] own made is = absurd (cc (is))
+  phase_at number k [] (first ∷ ends) own made is = absurd made
+  phase_at number zero (phase ∷ phases) (first ∷ ends) own made is =
       let other : first ≡ own = cc (is) in
-      let here : PhaseMade phase.tasks (workers_of setting.script number) own = subst (λ (x : Phase). PhaseMade x.tasks (workers_of setting.script number) own) one (subst (PhaseMade p.tasks (workers_of setting.script number)) other made.0) in
-      subst (λ n. PhaseMade phase.tasks (workers_of setting.script n) own) (omega arith) here
-  phase_at number (suc k) (p ∷ phases) (first ∷ ends) phase own made at is =
-      subst (λ n. PhaseMade phase.tasks (workers_of setting.script n) own) (omega arith) (phase_at (number + 1) k phases ends phase own made.1 at is)
+      let here : PhaseMade phase.tasks (workers_of setting.script number) own = subst (PhaseMade phase.tasks (workers_of setting.script number)) other made.0 in
+      (phase, refl, subst (λ n. PhaseMade phase.tasks (workers_of setting.script n) own) (omega arith) here)
+  phase_at number (suc k) (phase ∷ phases) (first ∷ ends) own made is =
+      let later = phase_at (number + 1) k phases ends own made.1 is in
+      (later.0, later.1, subst (λ n. PhaseMade (later.0).tasks (workers_of setting.script n) own) (omega arith) later.2)
 
   -- some phase came to these ends
   some_phase : (number : ℕ) (phases : List Phase) (ends : List (List (List End))) (told : List (List End)) → PhasesMade number phases ends → Contains ends told → (tasks : List Task) × (workers : List Worker) × PhaseMade tasks workers told
@@ -291,16 +322,26 @@ pub ends_are_made : (setting : Setting) (journal : List Entry) (ends : List (Lis
 ends_are_made setting journal ends rises run end (told, own, one, two, three) =
     let phase = some_phase setting journal 0 setting.script.phases ends told (run_made setting journal ends rises run) one in
     let worker = zip_left (WorkerMade setting journal phase.0) phase.1 told own phase.2 two in
-    some_task setting journal (worker.2).0 own end (worker.2).2 three
+    some_task setting journal (who_of worker.0) (worker.2).0 own end (worker.2).2 three
 
--- and the end at a place of a phase from the run of the task at that place
+-- and the end at a place of a phase from the run of the task at that place, by the worker who came to it
+pub answers_are_made_by : (setting : Setting) (journal : List Entry) (ends : List (List (List End))) → Rises journal → IsRunOf setting journal ends
+    → (number : ℕ) (own : List (List End)) (gateway : Option ℕ) (place : ℕ) (end : End) → slice_get ends number ≡ Some own → (came : CameTo (workers_of setting.script number) own gateway place end)
+    → (phase : Phase) × (task : Task) × (slice_get setting.script.phases number ≡ Some phase) × (slice_get phase.tasks place ≡ Some task) × IsMadeBy setting journal (who_of came.worker) task end
+answers_are_made_by setting journal ends rises run number own gateway place end own_is came =
+    let there = phase_at setting journal 0 number setting.script.phases ends own (run_made setting journal ends rises run) own_is in
+    let made : PhaseMade setting journal (there.0).tasks (workers_of setting.script number) own =
+    subst (λ n. PhaseMade setting journal (there.0).tasks (workers_of setting.script n) own) (omega arith) there.2 in
+    let worker = zipped (WorkerMade setting journal (there.0).tasks) (workers_of setting.script number) own came.worker came.own made came.among in
+    let found = task_at setting journal (who_of came.worker) (there.0).tasks came.worker.tasks worker.0 came.own place end worker.1 worker.2 came.came in
+    (there.0, found.0, there.1, found.1, found.2)
+
+-- where the phase and the task are known
 pub answers_are_made : (setting : Setting) (journal : List Entry) (ends : List (List (List End))) → Rises journal → IsRunOf setting journal ends
     → (number : ℕ) (phase : Phase) (own : List (List End)) (gateway : Option ℕ) (place : ℕ) (task : Task) (end : End) → slice_get setting.script.phases number ≡ Some phase → slice_get phase.tasks place ≡ Some task → slice_get ends number ≡ Some own
     → CameTo (workers_of setting.script number) own gateway place end → IsMade setting journal task end
 answers_are_made setting journal ends rises run number phase own gateway place task end phase_is task_is own_is came =
-    let made : PhaseMade setting journal phase.tasks (workers_of setting.script number) own =
-    subst (λ n. PhaseMade setting journal phase.tasks (workers_of setting.script n) own) (omega arith) (phase_at setting journal 0 number setting.script.phases ends phase own (run_made setting journal ends rises run) phase_is own_is) in
-    let worker = zipped (WorkerMade setting journal phase.tasks) (workers_of setting.script number) own came.worker came.own made came.among in
-    let found = task_at setting journal phase.tasks came.worker.tasks worker.0 came.own place end worker.1 worker.2 came.came in
-    let same : found.0 ≡ task = cc (found.1, task_is) in
-    subst (λ t. IsMade setting journal t end) same found.2
+    let there = answers_are_made_by setting journal ends rises run number own gateway place end own_is came in
+    let one : there.0 ≡ phase = cc (there.2, phase_is) in
+    let same : there.1 ≡ task = cc (subst (λ (p : Phase). slice_get p.tasks place ≡ Some there.1) one there.3, task_is) in
+    subst (λ (t : Task). IsMade setting journal t end) same (there.4).0

@@ -1,0 +1,5 @@
+use Rattle.tests_worked.proofs.BesideAnUpload.{putting_refused}
+use Rattle.tests_worked.proofs.strangers.stranger_that_puts_is_refused.Goals as goal
+
+pub returns : goal.returns
+returns c = putting_refused
