@@ -1,5 +1,5 @@
 -- Each step keeps the rule.
-use Rattle.std.proofs.Common.{◌≡◌, ◌≢◌, ◌⊎◌, ℕ, zero, suc, ◌+◌, ◌%◌, ◌^◌, ◌<◌, ◌≤◌, eqb, eq-eqb, ne_eqb, List, [], ◌∷◌, ◌++◌, length, set, max, Bool, true, false, true≢false, Option, Some, None, refl, sym, ap, ap₂, ◌∙◌, subst, inl, inr, length-set, ⊎_elim, arith, length-append, mod-eq_of_lt}
+use Rattle.std.proofs.Common.{◌≡◌, ◌≢◌, ◌⊎◌, ℕ, zero, suc, ◌+◌, ◌%◌, ◌^◌, ◌<◌, ◌≤◌, eqb, eq-eqb, ne_eqb, List, [], ◌∷◌, ◌++◌, length, set, max, Bool, true, false, true≢false, ◌||◌, Option, Some, None, refl, sym, ap, ap₂, ◌∙◌, subst, inl, inr, length-set, ⊎_elim, arith, length-append, mod-eq_of_lt}
 use mathlib.Core.Logic.{dite}
 use mathlib.Core.Option.{some, none, some-injective, some-ne-none}
 use native.Mathlib.Decide.{ℕ_discrete}
@@ -10,13 +10,14 @@ use Rattle.std.specs.Prelude.{slice_index, map, Contains}
 use Rattle.std.specs.List.{AllByRecursion}
 use mathlib.Core.List.{IsPrefix}
 use Rattle.atomic_table.specs.Table.{State, Me, Step, step, opening, Final, Seen, Act, keeps, takes, gives, stepped, rest, put_back, Allows, Splits, Joins}
+use Rattle.bucket_core.specs.Asking.{Call}
 use Rattle.atomic_table.proofs.Lists.{at_set, set_again, set_here, set_else, at_longer}
 use Rattle.world_core.specs.declared.entry.Entry.{Entry}
 use Rattle.world_turn.specs.declared.view.View.{View}
 use Rattle.world_turn.specs.Seats.{of_seat}
-use Rattle.world_turn.specs.Rule.{Fits, IsFrom, IsKept, Opened, Rule, opened_of, root, spent}
+use Rattle.world_turn.specs.Rule.{Fits, IsAsked, IsFrom, IsKept, IsToldWanted, Opened, Rule, opened_of, root, spent}
 use Rattle.world_turn.specs.Closing.{AllJoined, Closes}
-use Rattle.world_turn.specs.Steps.{holding, adding, leaving, leaving_full, looking, one_more, next_seat, joining, comparing, Lies, Takes, Appends, Gives, GivesFull, Counts, Compares}
+use Rattle.world_turn.specs.Steps.{holding, adding, leaving, leaving_full, leaving_short, looking, one_more, next_seat, joining, comparing, Lies, Takes, Appends, Gives, GivesFull, GivesShort, Counts, Compares}
 use Rattle.world_turn.proofs.Fronts.{of_seat-own, of_seat-other, front_whole, front_none, front_more, front_length, one_last, longer_front, longer_first, longer_second}
 
 pub each_of : {A : Type 0} (P Q : A → Type 0) → ((x : A) → P x → Q x) → (xs : List A) → AllByRecursion P xs → AllByRecursion Q xs
@@ -42,7 +43,18 @@ pub each_snoc : {A : Type 0} (P : A → Type 0) (xs : List A) (y : A) → AllByR
 each_snoc P [] y e p = (p, tt)
 each_snoc P (x ∷ xs) y e p = (e.0, each_snoc P xs y e.1 p)
 
-module _ {W : Type 0} (journal : W → List Entry) (ticks faults : W → ℕ) (opened : Opened) where
+or_left : (a b : Bool) → a ≡ true → (a || b) ≡ true
+or_left a b is = ap (λ (x : Bool). x || b) is
+
+or_right : (a b : Bool) → b ≡ true → (a || b) ≡ true
+or_right true b is = refl
+or_right false b is = is
+
+never_true : (b : Bool) → (b ≡ true → ⊥) → b ≡ false
+never_true true not = absurd (not refl)
+never_true false not = refl
+
+module _ {W : Type 0} (journal : W → List Entry) (ticks faults : W → ℕ) (asked : W → Option (List Call)) (opened : Opened) where
   abbrev St : Type 0
   St = State (Option W) View
 
@@ -50,23 +62,26 @@ module _ {W : Type 0} (journal : W → List Entry) (ticks faults : W → ℕ) (o
   M = Me (Option W) View
 
   abbrev R : St → Type 0
-  R = Rule journal ticks faults opened
+  R = Rule journal ticks faults asked opened
 
   abbrev From : Opened → W → Type 0
   From = IsFrom journal ticks faults
 
+  abbrev Asked : Opened → W → Type 0
+  Asked = IsAsked journal asked
+
   -- what a step may change of the rule's own data
-  abbrev Free : List (mathlib.Core.Option.Option (Option W)) → ℕ → List Entry → Type 0
-  Free homes turn log = turn ≡ 0 → (w : W) × (homes ≡ some (Some w) ∷ []) × (journal w ≡ log) × From opened w
+  abbrev Free : List (mathlib.Core.Option.Option (Option W)) → ℕ → Bool → List Entry → Type 0
+  Free homes turn wanted log = turn ≡ 0 → (w : W) × (homes ≡ some (Some w) ∷ []) × (journal w ≡ log) × From opened w × (wanted ≡ false → Asked opened w)
 
   abbrev Taken : List (mathlib.Core.Option.Option (Option W)) → ℕ → ℕ → List View → Type 0
   Taken homes turn holder views = turn ≢ 0 → (turn ≡ 1) × (homes ≡ none ∷ []) × ((v : View) × (get_elem? views holder ≡ some v) × (v.holds ≡ true))
 
   -- the view of another seat, after the journal has grown
-  others_fit : (turn holder turn' holder' : ℕ) (log log' : List Entry) (seats : ℕ) (joined : List (ℕ × List Entry)) (place : ℕ → ℕ) (j : ℕ) (u : View) → IsPrefix log log'
-      → (u.live ≡ true → of_seat u.seat log ≡ of_seat u.seat log') → (u.holds ≡ true → (turn' ≡ 1) × (j ≡ holder') × (u.held ≡ log'))
-      → Fits turn holder opened log seats joined place j u → Fits turn' holder' opened log' seats joined place j u
-  others_fit turn holder turn' holder' log log' seats joined place j u grown same held f =
+  others_fit : (turn holder turn' holder' : ℕ) (wanted wanted' : Bool) (log log' : List Entry) (seats : ℕ) (joined : List (ℕ × List Entry)) (place : ℕ → ℕ) (j : ℕ) (u : View) → IsPrefix log log'
+      → (u.live ≡ true → of_seat u.seat log ≡ of_seat u.seat log') → (u.holds ≡ true → (turn' ≡ 1) × (j ≡ holder') × (u.held ≡ log') × (u.held_wanted ≡ wanted'))
+      → Fits turn holder wanted opened log seats joined place j u → Fits turn' holder' wanted' opened log' seats joined place j u
+  others_fit turn holder turn' holder' wanted wanted' log log' seats joined place j u grown same held f =
       let l = front_length log log' grown in
       let k = f.known in
       record {
@@ -77,35 +92,37 @@ module _ {W : Type 0} (journal : W → List Entry) (ticks faults : W → ℕ) (o
         seated = f.seated;
         beside = front_more u.beside log log' f.beside grown;
         rooted = f.rooted;
-        holds = λ h. let x = held h in (x.0, x.1, (f.holds h).2, x.2);
+        holds = λ h. let x = held h in (x.0, x.1, (f.holds h).2, x.2, x.3);
       }
 
   -- A seat has a new view, and the journal may have grown by entries of that seat.
-  moved : (s : St) (r : R s) (words : List ℕ) (homes : List (mathlib.Core.Option.Option (Option W))) (id : ℕ) (v w : View) (turn holder : ℕ) (log : List Entry)
+  moved : (s : St) (r : R s) (words : List ℕ) (homes : List (mathlib.Core.Option.Option (Option W))) (id : ℕ) (v w : View) (turn holder : ℕ) (wanted : Bool) (log : List Entry)
       → get_elem? s.views id ≡ some v → v.live ≡ true → w.live ≡ true → w.seat ≡ v.seat → IsPrefix r.log log
       → ((seat : ℕ) → seat ≢ v.seat → of_seat seat r.log ≡ of_seat seat log)
-      → ((j : ℕ) (u : View) → j ≢ id → get_elem? s.views j ≡ some u → u.holds ≡ true → (turn ≡ 1) × (j ≡ holder) × (u.held ≡ log))
+      → ((j : ℕ) (u : View) → j ≢ id → get_elem? s.views j ≡ some u → u.holds ≡ true → (turn ≡ 1) × (j ≡ holder) × (u.held ≡ log) × (u.held_wanted ≡ wanted))
       → words ≡ length log ∷ turn ∷ []
-      → Fits turn holder opened log r.seats r.joined r.place id w
-      → Free homes turn log
+      → Fits turn holder wanted opened log r.seats r.joined r.place id w
+      → Free homes turn wanted log
       → Taken homes turn holder (set s.views id w)
+      → (wanted ≡ true → IsToldWanted (set s.views id w))
       → R record { words = words; homes = homes; views = set s.views id w }
-  moved s r words homes id v w turn holder log at live live' seat grown same held words_are mine free taken =
+  moved s r words homes id v w turn holder wanted log at live live' seat grown same held words_are mine free taken told =
       let mine_before = r.each id v at in
       let own_seat = mine_before.seated live in
       record {
         turn = turn;
         holder = holder;
+        wanted = wanted;
         log = log;
         seats = r.seats;
         joined = r.joined;
         place = r.place;
         words = words_are;
         each = λ j u e. ⊎_elim
-            (λ (t : (j ≡ id) × (w ≡ u)). subst (λ (x : ℕ × View). Fits turn holder opened log r.seats r.joined r.place x.0 x.1) (λ i. (sym t.0 i, t.1 i)) mine)
+            (λ (t : (j ≡ id) × (w ≡ u)). subst (λ (x : ℕ × View). Fits turn holder wanted opened log r.seats r.joined r.place x.0 x.1) (λ i. (sym t.0 i, t.1 i)) mine)
             (λ (t : (j ≢ id) × (get_elem? s.views j ≡ some u)).
             let f = r.each j u t.1 in
-            others_fit r.turn r.holder turn holder r.log log r.seats r.joined r.place j u grown
+            others_fit r.turn r.holder turn holder r.wanted wanted r.log log r.seats r.joined r.place j u grown
             (λ l. same u.seat (λ e'. t.0 (sym ((f.seated l).1) ∙ (ap r.place e' ∙ own_seat.1)))) (λ h. held j u t.0 t.1 h) f)
             (at_set s.views id j w u e);
         kept = each_of (IsKept r.log s.views r.seats) (IsKept log (set s.views id w) r.seats) (λ k i. record {
@@ -119,7 +136,16 @@ module _ {W : Type 0} (journal : W → List Entry) (ticks faults : W → ℕ) (o
         nobody = λ n le. sym (same n (λ e. let a = own_seat.0 in absurd (omega arith))) ∙ r.nobody n le;
         free = free;
         taken = taken;
+        told = told;
       }
+
+  -- a live view says that memory was wanted, if one did before
+  told_still : (s : St) (r : R s) (id : ℕ) (v w : View) → get_elem? s.views id ≡ some v → w.live ≡ true → (v.wanted ≡ true → w.wanted ≡ true) → r.wanted ≡ true → IsToldWanted (set s.views id w)
+  told_still s r id v w at live more so =
+      let t = r.told so in
+      dite (ℕ_discrete t.0 id)
+      (λ same. let is : t.1 ≡ v = some-injective _ _ (sym t.2 ∙ (ap (get_elem? s.views) same ∙ at)) in (id, w, set_here s.views id w (at_lt s.views id v at), live, more (sym (ap (λ (x : View). x.wanted) is) ∙ t.4)))
+      (λ apart. (t.0, t.1, set_else s.views id t.0 w apart ∙ t.2, t.3, t.4))
 
   -- no other seat holds the turn
   alone : (s : St) (r : R s) (id : ℕ) (v : View) → get_elem? s.views id ≡ some v → v.holds ≡ true → (j : ℕ) (u : View) → j ≢ id → get_elem? s.views j ≡ some u → u.holds ≡ true → ⊥
@@ -133,29 +159,30 @@ module _ {W : Type 0} (journal : W → List Entry) (ticks faults : W → ℕ) (o
 
   take_at : (s : St) (r : R s) (slots id : ℕ) (v : View) (c : List (ℕ × Option W)) (n : ℕ) → n ≡ r.turn → get_elem? s.views id ≡ some v → v.live ≡ true → Dec (n ≡ 0) → n ≡ slice_index s.words 1
       → (w : View) × (a : Act (Option W)) × Rattle.atomic_table.specs.Table.Valid s.homes c a × R (stepped s 1 (either (eqb n 0) 1 n) id c w a)
-      × Takes journal ticks faults (step slots 1 0 1 none) (v, c) n (w, Rattle.atomic_table.specs.Table.carried_after c a)
+      × Takes journal ticks faults asked (step slots 1 0 1 none) (v, c) n (w, Rattle.atomic_table.specs.Table.carried_after c a)
   take_at s r slots id v c n is at live (yes z) here =
       let f = r.each id v at in
       let h = r.free (sym is ∙ z) in
-      let w = holding v (journal h.0) in
+      let w = holding v (journal h.0) r.wanted in
       let homes : set s.homes 0 none ≡ none ∷ [] = ap (λ hs. set hs 0 none) h.1 in (
         w,
         takes 0 (Some h.0),
         ap (λ hs. get_elem? hs 0) h.1,
         subst (λ (b : Bool). R (stepped s 1 (either b 1 n) id c w (takes 0 (Some h.0)))) (sym (eq-eqb n 0 z))
-            (moved s r (set s.words 1 1) (set s.homes 0 none) id v w 1 id r.log at live live refl (front_whole r.log) (λ _ _. refl)
+            (moved s r (set s.words 1 1) (set s.homes 0 none) id v w 1 id r.wanted r.log at live live refl (front_whole r.log) (λ _ _. refl)
             (λ j u apart at' h'. let t = (f' j u at').holds h' in absurd (turned t.0 (sym is ∙ z)))
             (ap (λ ws. set ws 1 1) r.words)
-            record { front = f.front; known = f.known; comes = f.comes; own = f.own; seated = f.seated; beside = f.beside; rooted = f.rooted; holds = λ _. (refl, refl, live, h.2) }
+            record { front = f.front; known = f.known; comes = f.comes; own = f.own; seated = f.seated; beside = f.beside; rooted = f.rooted; holds = λ _. (refl, refl, live, h.2, refl) }
             (λ e. absurd (omega arith))
-            (λ _. (refl, homes, (w, set_here s.views id w (at_lt s.views id v at), refl)))),
+            (λ _. (refl, homes, (w, set_here s.views id w (at_lt s.views id v at), refl)))
+            (told_still s r id v w at live (λ so. so))),
         (
-          (λ _. (h.0, refl, subst (λ (o : Opened). From o h.0) (sym (f.comes live)) h.3, subst (IsPrefix v.front) (sym h.2) f.front, subst (λ l. v.known ≤ length l) (sym h.2) f.known, subst (λ l. v.own ≡ of_seat v.seat l) (sym h.2) (f.own live))),
+          (λ _. (h.0, refl, subst (λ (o : Opened). From o h.0) (sym (f.comes live)) h.3, (λ never. subst (λ (o : Opened). Asked o h.0) (sym (f.comes live)) (h.4 never)), subst (IsPrefix v.front) (sym h.2) f.front, subst (λ l. v.known ≤ length l) (sym h.2) f.known, subst (λ l. v.own ≡ of_seat v.seat l) (sym h.2) (f.own live))),
           (λ not. absurd (not z)),
         ),
       )
     where
-      f' : (j : ℕ) (u : View) → get_elem? s.views j ≡ some u → Fits r.turn r.holder opened r.log r.seats r.joined r.place j u
+      f' : (j : ℕ) (u : View) → get_elem? s.views j ≡ some u → Fits r.turn r.holder r.wanted opened r.log r.seats r.joined r.place j u
       f' j u e = r.each j u e
 
       turned : r.turn ≡ 1 → r.turn ≡ 0 → ⊥
@@ -168,7 +195,7 @@ module _ {W : Type 0} (journal : W → List Entry) (ticks faults : W → ℕ) (o
     ((λ z. absurd (nz z)), (λ _. refl)),
   )
 
-  pub takes_turn : (slots id : ℕ) (v : View) (c : List (ℕ × Option W)) → v.live ≡ true → Allows R slots id (v, c) 1 (λ n. either (eqb n 0) 1 n) (Takes journal ticks faults (step slots 1 0 1 none) (v, c))
+  pub takes_turn : (slots id : ℕ) (v : View) (c : List (ℕ × Option W)) → v.live ≡ true → Allows R slots id (v, c) 1 (λ n. either (eqb n 0) 1 n) (Takes journal ticks faults asked (step slots 1 0 1 none) (v, c))
   takes_turn slots id v c live s r len at small =
       take_at s r slots id v c (slice_index s.words 1) (ap (λ ws. slice_index ws 1) r.words) at live (ℕ_discrete (slice_index s.words 1) 0) refl
 
@@ -177,11 +204,11 @@ module _ {W : Type 0} (journal : W → List Entry) (ticks faults : W → ℕ) (o
   lying ((k, None) ∷ xs) = []
   lying ((k, Some w) ∷ xs) = journal w
 
-  lies_so : (c : List (ℕ × Option W)) (l : List Entry) → Lies journal ticks faults c l → lying c ≡ l
+  lies_so : (c : List (ℕ × Option W)) (l : List Entry) → Lies journal ticks faults asked c l → lying c ≡ l
   lies_so c l x = ap lying x.1 ∙ x.2
 
-  pub appends : (slots id : ℕ) (v : View) (c : List (ℕ × Option W)) (e : Entry) → v.live ≡ true → v.holds ≡ true → e.seat ≡ v.seat → length v.held + 1 < 2 ^ 64 → Lies journal ticks faults c (v.held ++ e ∷ [])
-      → Allows R slots id (v, c) 0 (λ n. (n + 1) % 2 ^ 64) (Appends journal ticks faults (step slots 0 1 0 none) (v, c))
+  pub appends : (slots id : ℕ) (v : View) (c : List (ℕ × Option W)) (e : Entry) → v.live ≡ true → v.holds ≡ true → e.seat ≡ v.seat → length v.held + 1 < 2 ^ 64 → Lies journal ticks faults asked c (v.held ++ e ∷ [])
+      → Allows R slots id (v, c) 0 (λ n. (n + 1) % 2 ^ 64) (Appends journal ticks faults asked (step slots 0 1 0 none) (v, c))
   appends slots id v c e live h is room lies s r len at small =
       let f = r.each id v at in
       let x = f.holds h in
@@ -195,7 +222,7 @@ module _ {W : Type 0} (journal : W → List Entry) (ticks faults : W → ℕ) (o
         w,
         keeps,
         tt,
-        moved s r (set s.words 0 ((slice_index s.words 0 + 1) % 2 ^ 64)) s.homes id v w r.turn r.holder log at live live refl (e ∷ [], refl)
+        moved s r (set s.words 0 ((slice_index s.words 0 + 1) % 2 ^ 64)) s.homes id v w r.turn r.holder r.wanted log at live live refl (e ∷ [], refl)
             (λ n apart. sym (of_seat-other n r.log e (λ t. apart (sym t ∙ is))))
             (λ j u apart at' h'. absurd (alone s r id v at h j u apart at' h'))
             (ap (λ ws. set ws 0 ((slice_index s.words 0 + 1) % 2 ^ 64)) r.words ∙ ap (λ (n : ℕ). n ∷ r.turn ∷ []) up)
@@ -207,10 +234,11 @@ module _ {W : Type 0} (journal : W → List Entry) (ticks faults : W → ℕ) (o
               seated = f.seated;
               beside = front_more v.beside r.log log f.beside (e ∷ [], refl);
               rooted = f.rooted;
-              holds = λ _. (x.0, x.1, live, ap (λ l. l ++ e ∷ []) x.3);
+              holds = λ _. (x.0, x.1, live, ap (λ l. l ++ e ∷ []) x.3, x.4);
             }
             (λ z. let a = x.0 in absurd (omega arith))
-            (λ nz. let t = r.taken nz in (t.0, t.1, (w, subst (λ (n : ℕ). get_elem? (set s.views id w) n ≡ some w) x.1 (set_here s.views id w (at_lt s.views id v at)), h))),
+            (λ nz. let t = r.taken nz in (t.0, t.1, (w, subst (λ (n : ℕ). get_elem? (set s.views id w) n ≡ some w) x.1 (set_here s.views id w (at_lt s.views id v at)), h)))
+            (told_still s r id v w at live (λ so. so)),
         λ e' lies'. ap (λ (y : Entry). (adding v y, c)) (one_last v.held e e' (sym (lies_so c _ lies) ∙ lies_so c _ lies')),
       )
 
@@ -224,14 +252,14 @@ module _ {W : Type 0} (journal : W → List Entry) (ticks faults : W → ℕ) (o
       off v u e a b = true≢false (sym b ∙ (ap (λ (x : View). x.holds) (sym e) ∙ a))
 
   -- a resting seat has another view
-  rests_on : (s : St) (r : R s) (i id : ℕ) (v w : View) → get_elem? s.views id ≡ some v → v.live ≡ true → v.holds ≡ false → w.live ≡ true → w.seat ≡ v.seat
-      → Fits r.turn r.holder opened r.log r.seats r.joined r.place id w → R record { words = set s.words i (slice_index s.words i); homes = s.homes; views = set s.views id w }
-  rests_on s r i id v w at live rests live' seat mine =
-      moved s r (set s.words i (slice_index s.words i)) s.homes id v w r.turn r.holder r.log at live live' seat (front_whole r.log) (λ _ _. refl)
-      (λ j u apart at' h'. let t = (r.each j u at').holds h' in (t.0, t.1, t.3))
-      (set-get_or s.words i 0 ∙ r.words) mine r.free (taken_still s r id v w at rests)
+  rests_on : (s : St) (r : R s) (i id : ℕ) (v w : View) → get_elem? s.views id ≡ some v → v.live ≡ true → v.holds ≡ false → w.live ≡ true → w.seat ≡ v.seat → (v.wanted ≡ true → w.wanted ≡ true)
+      → Fits r.turn r.holder r.wanted opened r.log r.seats r.joined r.place id w → R record { words = set s.words i (slice_index s.words i); homes = s.homes; views = set s.views id w }
+  rests_on s r i id v w at live rests live' seat more mine =
+      moved s r (set s.words i (slice_index s.words i)) s.homes id v w r.turn r.holder r.wanted r.log at live live' seat (front_whole r.log) (λ _ _. refl)
+      (λ j u apart at' h'. let t = (r.each j u at').holds h' in (t.0, t.1, t.3, t.4))
+      (set-get_or s.words i 0 ∙ r.words) mine r.free (taken_still s r id v w at rests) (told_still s r id v w at live' more)
 
-  pub looks : (slots id : ℕ) (v : View) (c : List (ℕ × Option W)) → v.live ≡ true → v.holds ≡ false → Allows R slots id (v, c) 0 (λ n. n) (Counts journal ticks faults (step slots 0 0 0 none) (v, c))
+  pub looks : (slots id : ℕ) (v : View) (c : List (ℕ × Option W)) → v.live ≡ true → v.holds ≡ false → Allows R slots id (v, c) 0 (λ n. n) (Counts journal ticks faults asked (step slots 0 0 0 none) (v, c))
   looks slots id v c live rests s r len at small =
       let f = r.each id v at in
       let found : slice_index s.words 0 ≡ length r.log = ap (λ ws. slice_index ws 0) r.words in
@@ -240,60 +268,77 @@ module _ {W : Type 0} (journal : W → List Entry) (ticks faults : W → ℕ) (o
         w,
         keeps,
         tt,
-        rests_on s r 0 id v w at live rests live refl
+        rests_on s r 0 id v w at live rests live refl (λ so. so)
             record { front = f.front; known = omega arith; comes = f.comes; own = f.own; seated = f.seated; beside = f.beside; rooted = f.rooted; holds = λ h. absurd (true≢false (sym h ∙ rests)) },
         (omega arith, refl),
       )
 
-  pub compares : (slots id : ℕ) (v : View) (c : List (ℕ × Option W)) → v.live ≡ true → v.holds ≡ false → Allows R slots id (v, c) 0 (λ n. n) (Compares journal ticks faults (step slots 0 0 0 none) (v, c))
+  pub compares : (slots id : ℕ) (v : View) (c : List (ℕ × Option W)) → v.live ≡ true → v.holds ≡ false → Allows R slots id (v, c) 0 (λ n. n) (Compares journal ticks faults asked (step slots 0 0 0 none) (v, c))
   compares slots id v c live rests s r len at small =
       let f = r.each id v at in
       let w = comparing v in (
         w,
         keeps,
         tt,
-        rests_on s r 0 id v w at live rests live refl
+        rests_on s r 0 id v w at live rests live refl (λ so. so)
             record { front = longer_front v.front v.beside r.log f.front f.beside; known = f.known; comes = f.comes; own = f.own; seated = f.seated; beside = front_none r.log; rooted = f.rooted; holds = λ h. absurd (true≢false (sym h ∙ rests)) },
         (refl, longer_first v.front v.beside r.log f.front f.beside, longer_second v.front v.beside r.log f.front f.beside),
       )
 
   -- what lies in the slot comes home
-  gives_back : (s : St) (r : R s) (id : ℕ) (v w : View) (c : List (ℕ × Option W)) (world : W) → get_elem? s.views id ≡ some v → v.live ≡ true → v.holds ≡ true
-      → c ≡ (0, Some world) ∷ [] → journal world ≡ v.held → From (opened_of v) world → w.live ≡ true → w.holds ≡ false → w.seat ≡ v.seat → (v.held ≡ r.log → Fits 0 r.holder opened r.log r.seats r.joined r.place id w)
-      → R record { words = set s.words 1 0; homes = put_back s.homes c; views = set s.views id w }
-  gives_back s r id v w c world at live h is j t live' rests seat mine =
+  gives_back : (s : St) (r : R s) (id : ℕ) (v w : View) (c : List (ℕ × Option W)) (world : W) (wanted : Bool) → get_elem? s.views id ≡ some v → v.live ≡ true → v.holds ≡ true
+      → c ≡ (0, Some world) ∷ [] → journal world ≡ v.held → From (opened_of v) world → (wanted ≡ false → Asked (opened_of v) world) → w.live ≡ true → w.holds ≡ false → w.seat ≡ v.seat → (v.held ≡ r.log → Fits 0 r.holder wanted opened r.log r.seats r.joined r.place id w)
+      → (wanted ≡ true → IsToldWanted (set s.views id w)) → R record { words = set s.words 1 0; homes = put_back s.homes c; views = set s.views id w }
+  gives_back s r id v w c world wanted at live h is j t all live' rests seat mine told =
       let f = r.each id v at in
       let x = f.holds h in
       let homes : put_back s.homes c ≡ some (Some world) ∷ [] = ap (put_back s.homes) is ∙ ap (λ hs. set hs 0 (some (Some world))) ((r.taken (λ z. let a = x.0 in absurd (omega arith))).1) in
-      moved s r (set s.words 1 0) (put_back s.homes c) id v w 0 r.holder r.log at live live' seat (front_whole r.log) (λ _ _. refl)
+      moved s r (set s.words 1 0) (put_back s.homes c) id v w 0 r.holder wanted r.log at live live' seat (front_whole r.log) (λ _ _. refl)
       (λ j u apart at' h'. absurd (alone s r id v at h j u apart at' h'))
       (ap (λ ws. set ws 1 0) r.words) (mine x.3)
-      (λ _. (world, homes, j ∙ x.3, subst (λ (o : Opened). From o world) (f.comes live) t))
+      (λ _. (world, homes, j ∙ x.3, subst (λ (o : Opened). From o world) (f.comes live) t, (λ never. subst (λ (o : Opened). Asked o world) (f.comes live) (all never))))
       (λ nz. absurd (nz refl))
+      told
 
-  pub gives_turn : (slots id : ℕ) (v : View) (c : List (ℕ × Option W)) (world : W) → v.live ≡ true → v.holds ≡ true → c ≡ (0, Some world) ∷ [] → journal world ≡ v.held → From (opened_of v) world
-      → Allows R slots id (v, c) 1 (λ _. 0) (λ _. Gives journal ticks faults (step slots 1 0 0 none) (v, c) 0)
-  gives_turn slots id v c world live h is j t s r len at small =
+  pub gives_turn : (slots id : ℕ) (v : View) (c : List (ℕ × Option W)) (world : W) → v.live ≡ true → v.holds ≡ true → c ≡ (0, Some world) ∷ [] → journal world ≡ v.held → From (opened_of v) world → (v.held_wanted ≡ false → Asked (opened_of v) world)
+      → Allows R slots id (v, c) 1 (λ _. 0) (λ _. Gives journal ticks faults asked (step slots 1 0 0 none) (v, c) 0)
+  gives_turn slots id v c world live h is j t all s r len at small =
       let f = r.each id v at in
       let w = leaving v in (
         w,
         gives,
         tt,
-        gives_back s r id v w c world at live h is j t live refl refl
-            (λ same. record { front = f.front; known = f.known; comes = f.comes; own = f.own; seated = f.seated; beside = f.beside; rooted = f.rooted; holds = λ b. absurd (true≢false (sym b)) }),
+        gives_back s r id v w c world r.wanted at live h is j t (λ never. all ((f.holds h).4 ∙ never)) live refl refl
+            (λ same. record { front = f.front; known = f.known; comes = f.comes; own = f.own; seated = f.seated; beside = f.beside; rooted = f.rooted; holds = λ b. absurd (true≢false (sym b)) })
+            (told_still s r id v w at live (λ so. so)),
         refl,
       )
 
-  pub gives_turn_full : (slots id : ℕ) (v : View) (c : List (ℕ × Option W)) (world : W) → v.live ≡ true → v.holds ≡ true → c ≡ (0, Some world) ∷ [] → journal world ≡ v.held → From (opened_of v) world
-      → Allows R slots id (v, c) 1 (λ _. 0) (λ _. GivesFull journal ticks faults (step slots 1 0 0 none) (v, c) 0)
-  gives_turn_full slots id v c world live h is j t s r len at small =
+  pub gives_turn_full : (slots id : ℕ) (v : View) (c : List (ℕ × Option W)) (world : W) → v.live ≡ true → v.holds ≡ true → c ≡ (0, Some world) ∷ [] → journal world ≡ v.held → From (opened_of v) world → (v.held_wanted ≡ false → Asked (opened_of v) world)
+      → Allows R slots id (v, c) 1 (λ _. 0) (λ _. GivesFull journal ticks faults asked (step slots 1 0 0 none) (v, c) 0)
+  gives_turn_full slots id v c world live h is j t all s r len at small =
       let f = r.each id v at in
       let w = leaving_full v in (
         w,
         gives,
         tt,
-        gives_back s r id v w c world at live h is j t live refl refl
-            (λ same. record { front = subst (λ l. IsPrefix l r.log) (sym same) (front_whole r.log); known = subst (λ l. length l ≤ length r.log) (sym same) (omega arith); comes = f.comes; own = f.own; seated = f.seated; beside = f.beside; rooted = f.rooted; holds = λ b. absurd (true≢false (sym b)) }),
+        gives_back s r id v w c world r.wanted at live h is j t (λ never. all ((f.holds h).4 ∙ never)) live refl refl
+            (λ same. record { front = subst (λ l. IsPrefix l r.log) (sym same) (front_whole r.log); known = subst (λ l. length l ≤ length r.log) (sym same) (omega arith); comes = f.comes; own = f.own; seated = f.seated; beside = f.beside; rooted = f.rooted; holds = λ b. absurd (true≢false (sym b)) })
+            (told_still s r id v w at live (λ so. so)),
+        refl,
+      )
+
+  pub gives_turn_short : (slots id : ℕ) (v : View) (c : List (ℕ × Option W)) (world : W) → v.live ≡ true → v.holds ≡ true → c ≡ (0, Some world) ∷ [] → journal world ≡ v.held → From (opened_of v) world
+      → Allows R slots id (v, c) 1 (λ _. 0) (λ _. GivesShort journal ticks faults asked (step slots 1 0 0 none) (v, c) 0)
+  gives_turn_short slots id v c world live h is j t s r len at small =
+      let f = r.each id v at in
+      let w = leaving_short v in (
+        w,
+        gives,
+        tt,
+        gives_back s r id v w c world true at live h is j t (λ never. absurd (true≢false never)) live refl refl
+            (λ same. record { front = f.front; known = f.known; comes = f.comes; own = f.own; seated = f.seated; beside = f.beside; rooted = f.rooted; holds = λ b. absurd (true≢false (sym b)) })
+            (λ _. (id, w, set_here s.views id w (at_lt s.views id v at), live, refl)),
         refl,
       )
 
@@ -311,6 +356,7 @@ module _ {W : Type 0} (journal : W → List Entry) (ticks faults : W → ℕ) (o
       record {
         turn = r.turn;
         holder = r.holder;
+        wanted = r.wanted;
         log = r.log;
         seats = r.seats + 1;
         joined = r.joined;
@@ -318,7 +364,7 @@ module _ {W : Type 0} (journal : W → List Entry) (ticks faults : W → ℕ) (o
         words = r.words;
         each = λ j u e. ⊎_elim
             (λ old. ⊎_elim
-            (λ (t : (j ≡ id) × (left ≡ u)). subst (λ (y : ℕ × View). Fits r.turn r.holder opened r.log (r.seats + 1) r.joined place y.0 y.1) (λ i. (sym t.0 i, t.1 i)) record {
+            (λ (t : (j ≡ id) × (left ≡ u)). subst (λ (y : ℕ × View). Fits r.turn r.holder r.wanted opened r.log (r.seats + 1) r.joined place y.0 y.1) (λ i. (sym t.0 i, t.1 i)) record {
               front = f.front;
               known = f.known;
               comes = f.comes;
@@ -339,7 +385,7 @@ module _ {W : Type 0} (journal : W → List Entry) (ticks faults : W → ℕ) (o
               holds = g.holds;
             })
             (at_set s.views id j left u old))
-            (λ (t : (right ≡ u) × (j ≡ length views)). subst (λ (y : ℕ × View). Fits r.turn r.holder opened r.log (r.seats + 1) r.joined place y.0 y.1) (λ i. (sym t.1 i, t.0 i)) record {
+            (λ (t : (right ≡ u) × (j ≡ length views)). subst (λ (y : ℕ × View). Fits r.turn r.holder r.wanted opened r.log (r.seats + 1) r.joined place y.0 y.1) (λ i. (sym t.1 i, t.0 i)) record {
               front = f.front;
               known = f.known;
               comes = λ _. f.comes live;
@@ -364,6 +410,7 @@ module _ {W : Type 0} (journal : W → List Entry) (ticks faults : W → ℕ) (o
         nobody = λ n le. r.nobody n (omega arith);
         free = r.free;
         taken = λ nz. let t = taken_still s r id v left at rests nz in (t.0, t.1, (t.2.0, at_longer views (right ∷ []) r.holder t.2.0 t.2.1, t.2.2));
+        told = λ so. let t = told_still s r id v left at live (λ y. y) so in (t.0, t.1, at_longer views (right ∷ []) t.0 t.1 t.2, t.3, t.4);
       }
 
   dead : (u : View) → spent ≡ u → u.live ≡ true → ⊥
@@ -394,12 +441,13 @@ module _ {W : Type 0} (journal : W → List Entry) (ticks faults : W → ℕ) (o
       record {
         turn = r.turn;
         holder = r.holder;
+        wanted = r.wanted;
         log = r.log;
         seats = r.seats;
         joined = joined;
         place = r.place;
         words = r.words;
-        each = who (Fits r.turn r.holder opened r.log r.seats joined r.place)
+        each = who (Fits r.turn r.holder r.wanted opened r.log r.seats joined r.place)
             record {
               front = f.front;
               known = max_le v.known w.known (length r.log) f.known g.known;
@@ -429,12 +477,21 @@ module _ {W : Type 0} (journal : W → List Entry) (ticks faults : W → ℕ) (o
         nobody = r.nobody;
         free = r.free;
         taken = λ nz. let t = taken_still s r id v both at rests nz in (t.0, t.1, (t.2.0, set_else views other r.holder spent (λ (e : r.holder ≡ other). off_too w t.2.0 (some-injective _ _ (sym there ∙ (ap (get_elem? views) (sym e) ∙ t.2.1))) rests' t.2.2) ∙ t.2.1, t.2.2));
+        told = λ so.
+            let t = r.told so in
+            let here : get_elem? last id ≡ some both = set_else views other id spent (λ (e : id ≡ other). apart (sym e)) ∙ set_here s.views id both (at_lt s.views id v at) in
+            dite (ℕ_discrete t.0 other)
+            (λ same. let is : t.1 ≡ w = some-injective _ _ (sym t.2 ∙ (ap (get_elem? s.views) same ∙ at')) in (id, both, here, live, or_right v.wanted w.wanted (sym (ap (λ (x : View). x.wanted) is) ∙ t.4)))
+            (λ off. dite (ℕ_discrete t.0 id)
+            (λ same. let is : t.1 ≡ v = some-injective _ _ (sym t.2 ∙ (ap (get_elem? s.views) same ∙ at)) in (id, both, here, live, or_left v.wanted w.wanted (sym (ap (λ (x : View). x.wanted) is) ∙ t.4)))
+            (λ apart'. (t.0, t.1, set_else views other t.0 spent off ∙ (set_else s.views id t.0 both apart' ∙ t.2), t.3, t.4)));
       }
 
-  pub opens : (w : W) → journal w ≡ [] → From opened w → R (opening (0 ∷ 0 ∷ []) (Some w ∷ []) (root opened))
-  opens w empty same = record {
+  pub opens : (w : W) → journal w ≡ [] → From opened w → Asked opened w → R (opening (0 ∷ 0 ∷ []) (Some w ∷ []) (root opened))
+  opens w empty same all = record {
     turn = 0;
     holder = 0;
+    wanted = false;
     log = [];
     seats = 1;
     joined = [];
@@ -443,15 +500,16 @@ module _ {W : Type 0} (journal : W → List Entry) (ticks faults : W → ℕ) (o
     each = one;
     kept = tt;
     nobody = λ _ _. refl;
-    free = λ _. (w, refl, empty, same);
+    free = λ _. (w, refl, empty, same, λ _. all);
     taken = λ nz. absurd (nz refl);
+    told = λ so. absurd (true≢false (sym so));
   }
     where
-      at_first : Fits 0 0 opened [] 1 [] (λ _. 0) 0 (root opened)
+      at_first : Fits 0 0 false opened [] 1 [] (λ _. 0) 0 (root opened)
       at_first = record { front = front_none []; known = omega arith; comes = λ _. refl; own = λ _. refl; seated = λ _. (omega arith, refl); beside = front_none []; rooted = λ _. (refl, refl); holds = λ h. absurd (true≢false (sym h)) }
 
-      one : (port : ℕ) (v : View) → get_elem? (root opened ∷ []) port ≡ some v → Fits 0 0 opened [] 1 [] (λ _. 0) port v
-      one zero v e = subst (Fits 0 0 opened [] 1 [] (λ _. 0) 0) (some-injective _ _ e) at_first
+      one : (port : ℕ) (v : View) → get_elem? (root opened ∷ []) port ≡ some v → Fits 0 0 false opened [] 1 [] (λ _. 0) port v
+      one zero v e = subst (Fits 0 0 false opened [] 1 [] (λ _. 0) 0) (some-injective _ _ e) at_first
       one (suc port) v e = absurd (some-ne-none v (sym e))
 
   not_gone : (s : St) (r : R s) (port : ℕ) (u : View) → get_elem? s.views port ≡ some u → u.live ≡ true → (joined : List (ℕ × List Entry)) → AllByRecursion (IsKept r.log s.views r.seats) joined
@@ -460,9 +518,24 @@ module _ {W : Type 0} (journal : W → List Entry) (ticks faults : W → ℕ) (o
   not_gone s r port u at live (k ∷ ks) e (zero, lt, is) = e.0.gone port u at live (sym is)
   not_gone s r port u at live (k ∷ ks) e (suc i, lt, is) = not_gone s r port u at live ks e.1 (i, omega arith, is)
 
+  off_wanted : (v u : View) → u ≡ v → v.wanted ≡ false → u.wanted ≡ true → ⊥
+  off_wanted v u e a b = true≢false (sym b ∙ (ap (λ (x : View). x.wanted) e ∙ a))
+
+  -- once every other seat was joined, the root says whether memory was wanted
+  unwanted : (s : St) (r : R s) (id : ℕ) (v : View) → get_elem? s.views id ≡ some v → id ≡ 0 → v.live ≡ true → v.seat ≡ 0 → AllJoined v → v.wanted ≡ false → r.wanted ≡ false
+  unwanted s r id v at first live seat all never =
+      let f = r.each id v at in
+      let x = f.rooted first in
+      never_true r.wanted (λ so.
+      let t = r.told so in
+      let y = (r.each t.0 t.1 t.2).seated t.3 in
+      dite (ℕ_discrete t.1.seat 0)
+      (λ z. let same : t.0 ≡ id = sym y.1 ∙ (ap r.place (z ∙ sym seat) ∙ (f.seated live).1) in off_wanted v t.1 (some-injective _ _ (sym t.2 ∙ (ap (get_elem? s.views) same ∙ at))) never t.4)
+      (λ some_seat. let m = y.0 in let n = x.0 in not_gone s r t.0 t.1 t.2 t.3 r.joined r.kept (subst (λ (j : List (ℕ × List Entry)). Contains (map (λ kept. kept.0) j) t.1.seat) x.1 (all t.1.seat (omega arith) (omega arith)))))
+
   -- what the root knows once every other seat was joined
   pub closes : (id : ℕ) (v : View) (words : List ℕ) (slots : List (Option W)) → id ≡ 0 → v.live ≡ true → v.holds ≡ false → v.seat ≡ 0 → AllJoined v
-      → Final (Seen R id v) words slots → (w : W) × (get_elem? slots 0 ≡ some (Some w)) × Closes v (ticks w) (journal w) × From opened w
+      → Final (Seen R id v) words slots → (w : W) × (get_elem? slots 0 ≡ some (Some w)) × Closes v (ticks w) (journal w) × From opened w × (v.wanted ≡ false → Asked opened w)
   closes id v words slots root live rests seat all end =
       let s = end.0 in
       let r = end.1.0 in
@@ -481,6 +554,7 @@ module _ {W : Type 0} (journal : W → List Entry) (ticks faults : W → ℕ) (o
           nobody = λ n le. ap (of_seat n) h.2 ∙ (let m = x.0 in r.nobody n (omega arith));
         },
         h.3,
+        λ never. h.4 (unwanted s r id v at root live seat all never),
       ))
       (λ nz. let t = r.taken nz in let u = t.2.0 in let g = r.each r.holder u t.2.1 in let l = (g.holds t.2.2).2 in let y = g.seated l in
       dite (ℕ_discrete u.seat 0)

@@ -1,9 +1,9 @@
 -- A call through the turn leaves its pass with no less than it knew.
-use Rattle.std.proofs.Common.{◌≡◌, ◌↔◌, ℕ, Bool, None, if◌then◌else◌, ne_eqb, ◌+◌, ◌-◌, ◌<◌, ◌≤◌, List, [], ◌∷◌, ◌++◌, length, slice_get, Some, refl, sym, ap, ◌∙◌, subst, arith, le_refl, append-nil, append_assoc}
+use Rattle.std.proofs.Common.{◌≡◌, ◌↔◌, ◌||◌, ℕ, Bool, true, false, None, if◌then◌else◌, ne_eqb, ◌+◌, ◌-◌, ◌<◌, ◌≤◌, List, [], ◌∷◌, ◌++◌, length, slice_get, Some, refl, sym, ap, ◌∙◌, subst, arith, le_refl, append-nil, append_assoc}
 use mathlib.Core.List.{IsPrefix}
 use Rattle.world_core.specs.Journals.{entry_at}
 use Rattle.world_core.specs.Keeping.{IsFull}
-use Rattle.world_core.specs.Machines.{IfDone, gained}
+use Rattle.world_core.specs.Machines.{IfDone, gained, is_full}
 use Rattle.world_core.specs.Moments.{moment_after, last_moment}
 use Rattle.world_core.specs.Operations.{IsAnswer, entry_of}
 use Rattle.world_core.specs.declared.op.Op.{Op}
@@ -12,7 +12,7 @@ use Rattle.world_core.specs.declared.acted.Acted.{Acted}
 use Rattle.world_core.specs.declared.acted.Acted.TheVariants.{Done, Full, NoMemory}
 use Rattle.world_turn.specs.Seats.{Stand}
 use Rattle.world_turn.specs.Steps.{holding}
-use Rattle.world_turn.specs.Turns.{Finds, Acts, settled, front_after, known_after, IsSame, IsLater}
+use Rattle.world_turn.specs.Turns.{Finds, Acts, is_wanting, settled, front_after, known_after, IsSame, IsLater}
 use Rattle.world_turn.specs.declared.view.View.{View}
 use Rattle.world_turn.proofs.Fronts.{front_whole, front_more, front_get}
 
@@ -41,29 +41,47 @@ pub stand_both : (above : ℕ) (es fs xs : List Entry) → Stand above es xs →
 stand_both above [] fs xs s t = t
 stand_both above (e ∷ es) fs xs s t = (s.0, stand_both above es fs xs s.1 t)
 
+or_false : (b : Bool) → b ≡ (b || false)
+or_false true = refl
+or_false false = refl
+
+or_true : (b : Bool) → true ≡ (b || true)
+or_true true = refl
+or_true false = refl
+
 -- what a pass knows that held the turn at a journal, and whose operation was answered so
-module _ (v : View) (journal : List Entry) (op : Op) where
-  own_then : (acted : Acted) → (settled (holding v journal) op acted).own ≡ v.own ++ gained v.seat op acted
+module _ (v : View) (journal : List Entry) (wanted : Bool) (op : Op) where
+  own_then : (acted : Acted) → (settled (holding v journal wanted) op acted).own ≡ v.own ++ gained v.seat op acted
   own_then (Done seen) = refl
   own_then Full = sym (append-nil v.own)
   own_then NoMemory = sym (append-nil v.own)
 
-  front_then : (acted : Acted) → (settled (holding v journal) op acted).front ≡ front_after v journal op acted
+  front_then : (acted : Acted) → (settled (holding v journal wanted) op acted).front ≡ front_after v journal op acted
   front_then (Done seen) = refl
   front_then Full = refl
   front_then NoMemory = refl
 
-  known_then : (acted : Acted) → (settled (holding v journal) op acted).known ≡ known_after v journal acted
+  known_then : (acted : Acted) → (settled (holding v journal wanted) op acted).known ≡ known_after v journal acted
   known_then (Done seen) = refl
   known_then Full = refl
   known_then NoMemory = refl
 
-  same_then : (acted : Acted) → IsSame v (settled (holding v journal) op acted)
+  refused_then : (acted : Acted) → (settled (holding v journal wanted) op acted).refused ≡ (v.refused || is_full acted)
+  refused_then (Done seen) = or_false v.refused
+  refused_then Full = or_true v.refused
+  refused_then NoMemory = or_false v.refused
+
+  wanted_then : (acted : Acted) → (settled (holding v journal wanted) op acted).wanted ≡ (v.wanted || is_wanting acted)
+  wanted_then (Done seen) = or_false v.wanted
+  wanted_then Full = or_false v.wanted
+  wanted_then NoMemory = or_true v.wanted
+
+  same_then : (acted : Acted) → IsSame v (settled (holding v journal wanted) op acted)
   same_then (Done seen) = record { seat = refl; tick = refl; seats = refl; joined = refl }
   same_then Full = record { seat = refl; tick = refl; seats = refl; joined = refl }
   same_then NoMemory = record { seat = refl; tick = refl; seats = refl; joined = refl }
 
-  later_then : (acted : Acted) → Finds v journal → IfDone acted (λ seen. seen.seq ≡ length journal + 1) → IsLater v (settled (holding v journal) op acted)
+  later_then : (acted : Acted) → Finds v journal → IfDone acted (λ seen. seen.seq ≡ length journal + 1) → IsLater v (settled (holding v journal wanted) op acted)
   later_then (Done seen) f is =
       let k = f.known in
       let e = entry_of v.seat op seen in
@@ -72,7 +90,7 @@ module _ (v : View) (journal : List Entry) (op : Op) where
   later_then NoMemory f is = record { known = le_refl v.known; front = front_whole v.front; made = ([], sym (append-nil v.own), tt) }
 
   pub acts_then : (acted : Acted) (w : View) → Finds v journal → (acted ≡ Full) ↔ IsFull journal → IfDone acted (IsAnswer op) → IfDone acted (λ seen. seen.seq ≡ length journal + 1)
-      → IfDone acted (λ seen. seen.moment.ms ≡ moment_after v.tick (last_moment journal) op) → w ≡ settled (holding v journal) op acted → Acts v op acted w
+      → IfDone acted (λ seen. seen.moment.ms ≡ moment_after v.tick (last_moment journal) op) → w ≡ settled (holding v journal wanted) op acted → Acts v op acted w
   acts_then acted w finds full answer number moment is = record {
     journal = journal;
     finds = finds;
@@ -83,10 +101,12 @@ module _ (v : View) (journal : List Entry) (op : Op) where
     own = ap (λ x. x.own) is ∙ own_then acted;
     front = ap (λ x. x.front) is ∙ front_then acted;
     known = ap (λ x. x.known) is ∙ known_then acted;
+    refused = ap (λ x. x.refused) is ∙ refused_then acted;
+    wanted = ap (λ x. x.wanted) is ∙ wanted_then acted;
     same = subst (IsSame v) (sym is) (same_then acted);
   }
 
-  pub later_settled : (acted : Acted) (w : View) → Finds v journal → IfDone acted (λ seen. seen.seq ≡ length journal + 1) → w ≡ settled (holding v journal) op acted → IsLater v w
+  pub later_settled : (acted : Acted) (w : View) → Finds v journal → IfDone acted (λ seen. seen.seq ≡ length journal + 1) → w ≡ settled (holding v journal wanted) op acted → IsLater v w
   later_settled acted w finds number is = subst (IsLater v) (sym is) (later_then acted finds number)
 
 pub later-none : (v : View) → IsLater v v

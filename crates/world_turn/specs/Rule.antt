@@ -8,40 +8,45 @@
 --   5. Its entries of the seat of a live view are that view's own entries, and no two live views have the same seat.
 --   6. Its entries of a seat that was joined are those that the root kept then, and no live view has that seat.
 --   7. It has no entries of any other seat.
-use Rattle.std.specs.Prelude.{◌≡◌, ◌≢◌, ℕ, ◌<◌, ◌≤◌, List, [], ◌∷◌, length, true, false, Option, Some}
+--   8. Unless a live view says that memory was wanted, all that the bucket of the world at home was asked is its calls, if
+--      that held as the world was opened.
+use Rattle.std.specs.Prelude.{◌≡◌, ◌≢◌, ℕ, ◌<◌, ◌≤◌, ◌++◌, Bool, List, [], ◌∷◌, length, true, false, Option, Some, None}
 use Rattle.std.specs.List.{AllByRecursion}
 use mathlib.Core.List.{IsPrefix}
 use mathlib.Core.Option.{none, some}
 use lib.ListN.{get_elem?}
 use Rattle.atomic_table.specs.Table.{State}
+use Rattle.bucket_core.specs.Asking.{Call}
+use Rattle.world_core.specs.Asking.{calls_of, opening}
 use Rattle.world_core.specs.Worlds.{failed_count}
 use Rattle.world_core.specs.declared.entry.Entry.{Entry}
 use Rattle.world_turn.specs.Seats.{of_seat}
 use Rattle.world_turn.specs.declared.view.View.{View}
 
--- what every pass knows of a world as it was opened: how many milliseconds an operation takes, and how often the bucket had
--- failed
+-- what every pass knows of a world as it was opened: how many milliseconds an operation takes, how often the bucket had
+-- failed, and what it had been asked, where it tells that
 pub record Opened : Type 0 where
   pub tick : ℕ
   pub faults : ℕ
+  pub asked : Option (List Call)
 
 abbrev pub opened_of : View → Opened
-opened_of v = record { tick = v.tick; faults = v.faults }
+opened_of v = record { tick = v.tick; faults = v.faults; asked = v.asked }
 
 -- what the root knows at the start
 abbrev pub root : Opened → View
-root opened = record { live = true; seat = 0; own = []; front = []; known = 0; holds = false; held = []; tick = opened.tick; faults = opened.faults; seats = 1; joined = []; beside = [] }
+root opened = record { live = true; seat = 0; own = []; front = []; known = 0; holds = false; held = []; refused = false; wanted = false; held_wanted = false; tick = opened.tick; faults = opened.faults; asked = opened.asked; seats = 1; joined = []; beside = [] }
 
 -- what is left of a view that was joined
 abbrev pub spent : View
-spent = record { live = false; seat = 0; own = []; front = []; known = 0; holds = false; held = []; tick = 0; faults = 0; seats = 0; joined = []; beside = [] }
+spent = record { live = false; seat = 0; own = []; front = []; known = 0; holds = false; held = []; refused = false; wanted = false; held_wanted = false; tick = 0; faults = 0; asked = None; seats = 0; joined = []; beside = [] }
 
 -- what the rule says of the view at a port; `place` gives each seat its port
-pub record Fits (turn holder : ℕ) (opened : Opened) (journal : List Entry) (seats : ℕ) (joined : List (ℕ × List Entry)) (place : ℕ → ℕ) (port : ℕ) (v : View) : Type 0 where
+pub record Fits (turn holder : ℕ) (wanted : Bool) (opened : Opened) (journal : List Entry) (seats : ℕ) (joined : List (ℕ × List Entry)) (place : ℕ → ℕ) (port : ℕ) (v : View) : Type 0 where
   pub front : IsPrefix v.front journal
   pub beside : IsPrefix v.beside journal
   pub known : v.known ≤ length journal
-  pub holds : v.holds ≡ true → (turn ≡ 1) × (port ≡ holder) × (v.live ≡ true) × (v.held ≡ journal)
+  pub holds : v.holds ≡ true → (turn ≡ 1) × (port ≡ holder) × (v.live ≡ true) × (v.held ≡ journal) × (v.held_wanted ≡ wanted)
   pub own : v.live ≡ true → v.own ≡ of_seat v.seat journal
   pub seated : v.live ≡ true → (v.seat < seats) × (place v.seat ≡ port)
   pub comes : v.live ≡ true → opened_of v ≡ opened
@@ -61,16 +66,28 @@ module _ {W : Type 0} (journal : W → List Entry) (ticks faults : W → ℕ) wh
     pub tick : ticks w ≡ opened.tick
     pub unfailed : failed_count (journal w) ≡ 0 → faults w ≡ opened.faults
 
+-- All that the bucket was asked is the calls of the journal, if that held of a world that was opened so.
+abbrev pub IsAsked : {W : Type 0} → (W → List Entry) → (W → Option (List Call)) → Opened → W → Type 0
+IsAsked journal asked opened w = (before : List Call) → opened.asked ≡ Some (before ++ opening ∷ []) → asked w ≡ Some (before ++ opening ∷ calls_of (journal w))
+
+-- a live view says that memory was wanted
+abbrev pub IsToldWanted : List View → Type 0
+IsToldWanted views = (port : ℕ) × (v : View) × (get_elem? views port ≡ some v) × (v.live ≡ true) × (v.wanted ≡ true)
+
+-- and by what its bucket was asked
+module _ {W : Type 0} (journal : W → List Entry) (ticks faults : W → ℕ) (asked : W → Option (List Call)) where
   pub record Rule (opened : Opened) (s : State (Option W) View) : Type 0 where
     pub turn : ℕ
     pub holder : ℕ
+    pub wanted : Bool
     pub log : List Entry
     pub seats : ℕ
     pub joined : List (ℕ × List Entry)
     pub place : ℕ → ℕ
     pub words : s.words ≡ length log ∷ turn ∷ []
-    pub free : turn ≡ 0 → (w : W) × (s.homes ≡ some (Some w) ∷ []) × (journal w ≡ log) × IsFrom opened w
+    pub free : turn ≡ 0 → (w : W) × (s.homes ≡ some (Some w) ∷ []) × (journal w ≡ log) × IsFrom journal ticks faults opened w × (wanted ≡ false → IsAsked journal asked opened w)
     pub taken : turn ≢ 0 → (turn ≡ 1) × (s.homes ≡ none ∷ []) × ((v : View) × (get_elem? s.views holder ≡ some v) × (v.holds ≡ true))
-    pub each : (port : ℕ) (v : View) → get_elem? s.views port ≡ some v → Fits turn holder opened log seats joined place port v
+    pub each : (port : ℕ) (v : View) → get_elem? s.views port ≡ some v → Fits turn holder wanted opened log seats joined place port v
+    pub told : wanted ≡ true → IsToldWanted s.views
     pub kept : AllByRecursion (IsKept log s.views seats) joined
     pub nobody : (seat : ℕ) → seats ≤ seat → of_seat seat log ≡ []

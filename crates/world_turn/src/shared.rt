@@ -1,4 +1,6 @@
-ghost use Rattle.std.specs.Prelude.{◌≡◌, ℕ, ◌+◌, ◌<◌, ◌^◌, ◌-◌, [], ◌∷◌, Some, None, IfOk, IfErr, MatchResult};
+ghost use Rattle.std.specs.Prelude.{◌≡◌, false, List, ℕ, ◌+◌, ◌<◌, ◌^◌, ◌-◌, [], ◌∷◌, Some, None, IfOk, IfErr, MatchResult};
+ghost use Rattle.bucket_core.specs.Asking.{Call};
+ghost use Rattle.world_core.specs.Asking.{IsAllAsked};
 ghost use Rattle.world_core.specs.Operations.{IsLawful};
 ghost use Rattle.world_turn.specs.Closing.{AllJoined, Closes};
 ghost use Rattle.world_turn.specs.Opening.{ComesFrom, opening_of};
@@ -6,9 +8,9 @@ ghost use Rattle.world_turn.specs.Passes.{table_of, view_of};
 ghost use Rattle.world_turn.specs.Rule.{root};
 ghost use Rattle.world_turn.specs.Turns.{Acts, IsLater, IsNew, IsSplit, IsJoined, Looks};
 
-use crate::Pass;
 use crate::plays::{Compare, Look, Seating, Turns};
 use crate::view::View;
+use crate::{Closed, Pass};
 use atomic_table::{Refused, Seat, Table};
 use bucket_core::Bucket;
 use list_core::NoMemory;
@@ -30,6 +32,7 @@ pub(crate) const TURN: usize = 1;
 pub struct Shared<B: Bucket> {
     pub(crate) table: Table<Option<World<B>>, View, Snapshot<World<B>>, Turns<B>, Global>,
     ghost sized: { (table.shared.table_id.words ≡ 2) × (table.shared.table_id.slots ≡ 1) },
+    ghost fresh: { table.shared.key.value.journal ≡ [] },
 }
 
 /// A pass while it is used.
@@ -40,7 +43,7 @@ impl<B: Bucket> Shared<B> {
     pub fn open(alloc: Global, world: World<B>) -> Result<(Shared<B>, Pass), (NoMemory, World<B>)>
         requires { world.journal ≡ [] }
         ensures pass { IfOk result (λ r. (table_of r.1 ≡ r.0.table.shared.table_id)
-            × (r.1.seat ≡ 0) × (r.1.splits ≡ 0) × (view_of r.1 ≡ root (opening_of B.faults world))) }
+            × (r.1.seat ≡ 0) × (r.1.splits ≡ 0) × (view_of r.1 ≡ root (opening_of B.faults B.asked world))) }
         ensures opened { IfOk result (λ r. r.0.table.shared.key.value ≡ world) }
         ensures err { IfErr result (λ e. e.1 ≡ world) }
     {
@@ -170,14 +173,21 @@ impl<B: Bucket> Shared<B> {
         }
     }
 
-    /// The world comes out again, once every pass that was split was joined. It takes no memory.
-    pub fn close(self, root: Pass) -> World<B>
+    /// The world comes out again, once every pass that was split was joined, with all that the root knew. It takes no memory.
+    pub fn close(self, root: Pass) -> Closed<B>
         requires own { (table_of root ≡ self.table.shared.table_id) × (root.seat ≡ 0) }
         requires all { AllJoined (view_of root) }
-        ensures closes { Closes (view_of root) result.tick result.journal }
-        ensures comes { ComesFrom B.faults (opening_of B.faults self.table.shared.key.value)
-            result }
+        ensures root { result.root.value ≡ root }
+        ensures closes { Closes (view_of root) result.world.tick result.world.journal }
+        ensures comes { ComesFrom B.faults (opening_of B.faults B.asked self.table.shared.key.value)
+            result.world }
+
+        // If all that the bucket was asked was journaled as the world was opened, it still is, unless memory was wanted.
+        ensures all { (view_of root).wanted ≡ false → (before : List Call)
+            → IsAllAsked B.asked before self.table.shared.key.value
+            → IsAllAsked B.asked before result.world }
     {
+        let known = Snapshot::of(&root);
         let Shared { table } = self;
         let Pass {
             badge,
@@ -187,7 +197,10 @@ impl<B: Bucket> Shared<B> {
         let mut closed = table.close_with(badge.into_seat());
         let slot = closed.take(0);
         closed.free();
-        unslotted(slot)
+        Closed {
+            world: unslotted(slot),
+            root: known,
+        }
     }
 }
 

@@ -1,15 +1,15 @@
 //! The steps of one turn: take it, lift the world out of the table, lay it back, append, give the turn back.
-ghost use Rattle.std.specs.Prelude.{◌≡◌, ℕ, ◌≤◌, [], ◌∷◌, ◌++◌, length, true, Some, None};
+ghost use Rattle.std.specs.Prelude.{◌≡◌, ◌≢◌, ℕ, ◌≤◌, [], ◌∷◌, ◌++◌, length, Bool, true, false, Some, None};
 ghost use Rattle.world_core.specs.Limits.{most_entries};
 ghost use Rattle.world_core.specs.Machines.{gained};
 ghost use Rattle.world_core.specs.declared.entry.Entry.{Entry};
-ghost use Rattle.world_turn.specs.Opening.{ComesFrom};
+ghost use Rattle.world_turn.specs.Opening.{AsksFrom, ComesFrom};
 ghost use Rattle.world_turn.specs.Rule.{opened_of};
-ghost use Rattle.world_turn.specs.Steps.{holding, adding, leaving, leaving_full};
+ghost use Rattle.world_turn.specs.Steps.{holding, adding, leaving, leaving_full, leaving_short};
 ghost use Rattle.world_turn.specs.Turns.{Finds, settled};
 
 use crate::Shared;
-use crate::plays::{Append, Give, GiveFull, Take};
+use crate::plays::{Append, Give, GiveFull, GiveShort, Take};
 use crate::shared::{COUNT, Place, TURN};
 use bucket_core::Bucket;
 use std::snapshot::Snapshot;
@@ -36,7 +36,9 @@ impl<B: Bucket> Shared<B> {
         ensures same { (place.new.table_id ≡ place.old.table_id) × (place.new.id ≡ place.old.id) }
         ensures finds { Finds place.old.me.0 result.journal }
         ensures comes { ComesFrom B.faults (opened_of place.old.me.0) result }
-        ensures holds { place.new.me ≡ (holding place.old.me.0 result.journal, (0, None) ∷ []) }
+        ensures holds { (wanted : Bool)
+            × (place.new.me ≡ (holding place.old.me.0 result.journal wanted, (0, None) ∷ []))
+            × (wanted ≡ false → AsksFrom B.asked (opened_of place.old.me.0) result) }
     {
         let mut spins = 0u32;
         for _ in rt.forever() {
@@ -87,7 +89,9 @@ impl<B: Bucket> Shared<B> {
         requires worked { (w : World B) × (place.old.me.1 ≡ (0, Some w) ∷ [])
             × (w.journal
             ≡ place.old.me.0.held ++ gained place.old.me.0.seat asked.now.value acted.now)
-            × ComesFrom B.faults (opened_of place.old.me.0) w × (length w.journal ≤ most_entries) }
+            × ComesFrom B.faults (opened_of place.old.me.0) w × (length w.journal ≤ most_entries)
+            × (acted.now ≢ Acted.NoMemory → place.old.me.0.held_wanted ≡ false
+            → AsksFrom B.asked (opened_of place.old.me.0) w) }
         ensures same { (place.new.table_id ≡ place.old.table_id) × (place.new.id ≡ place.old.id) }
         ensures settled { place.new.me ≡ (settled place.old.me.0 asked.now.value acted.now, []) }
     {
@@ -97,7 +101,7 @@ impl<B: Bucket> Shared<B> {
                 self.give(place);
             }
             Acted::Full => self.give_full(place),
-            Acted::NoMemory => self.give(place),
+            Acted::NoMemory => self.give_short(place),
         }
     }
 
@@ -121,7 +125,8 @@ impl<B: Bucket> Shared<B> {
         requires own { place.old.table_id ≡ self.now.table.shared.table_id }
         requires holds { (place.old.me.0.live ≡ true) × (place.old.me.0.holds ≡ true) }
         requires lies { (w : World B) × (place.old.me.1 ≡ (0, Some w) ∷ [])
-            × (w.journal ≡ place.old.me.0.held) × ComesFrom B.faults (opened_of place.old.me.0) w }
+            × (w.journal ≡ place.old.me.0.held) × ComesFrom B.faults (opened_of place.old.me.0) w
+            × (place.old.me.0.held_wanted ≡ false → AsksFrom B.asked (opened_of place.old.me.0) w) }
         ensures same { (place.new.table_id ≡ place.old.table_id) × (place.new.id ≡ place.old.id) }
         ensures gives { place.new.me ≡ (leaving place.old.me.0, []) }
     {
@@ -133,11 +138,24 @@ impl<B: Bucket> Shared<B> {
         requires own { place.old.table_id ≡ self.now.table.shared.table_id }
         requires holds { (place.old.me.0.live ≡ true) × (place.old.me.0.holds ≡ true) }
         requires lies { (w : World B) × (place.old.me.1 ≡ (0, Some w) ∷ [])
-            × (w.journal ≡ place.old.me.0.held) × ComesFrom B.faults (opened_of place.old.me.0) w }
+            × (w.journal ≡ place.old.me.0.held) × ComesFrom B.faults (opened_of place.old.me.0) w
+            × (place.old.me.0.held_wanted ≡ false → AsksFrom B.asked (opened_of place.old.me.0) w) }
         ensures same { (place.new.table_id ≡ place.old.table_id) × (place.new.id ≡ place.old.id) }
         ensures gives { place.new.me ≡ (leaving_full place.old.me.0, []) }
     {
         self.table.shared.store::<GiveFull>(place, TURN, FREE);
+    }
+
+    /// The same, and memory was wanted.
+    fn give_short(&self, place: &mut Place<B>)
+        requires own { place.old.table_id ≡ self.now.table.shared.table_id }
+        requires holds { (place.old.me.0.live ≡ true) × (place.old.me.0.holds ≡ true) }
+        requires lies { (w : World B) × (place.old.me.1 ≡ (0, Some w) ∷ [])
+            × (w.journal ≡ place.old.me.0.held) × ComesFrom B.faults (opened_of place.old.me.0) w }
+        ensures same { (place.new.table_id ≡ place.old.table_id) × (place.new.id ≡ place.old.id) }
+        ensures gives { place.new.me ≡ (leaving_short place.old.me.0, []) }
+    {
+        self.table.shared.store::<GiveShort>(place, TURN, FREE);
     }
 }
 
