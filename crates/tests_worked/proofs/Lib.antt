@@ -30,3 +30,4 @@ pub mod InLine
 pub mod LandedFault
 pub mod SpoiledMeta
 pub mod SecondPage
+pub mod TwoReplicas

@@ -15,3 +15,4 @@ pub mod OtherSeat
 pub mod LandedFault
 pub mod SpoiledMeta
 pub mod SecondPage
+pub mod TwoReplicas

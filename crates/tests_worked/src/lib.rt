@@ -16,6 +16,7 @@ mod second_page;
 mod side_by_side;
 mod spoiled_meta;
 mod strangers;
+mod two_replicas;
 mod young_block;
 
 pub use cut_run::cut_run_has_one_cut;
@@ -47,6 +48,7 @@ pub use side_by_side::{
 };
 pub use spoiled_meta::{spoiled_meta_gives_no_view, spoiled_meta_is_the_breach};
 pub use strangers::{stranger_that_lists_acts, stranger_that_puts_is_refused};
+pub use two_replicas::replicas_are_answered_once;
 pub use young_block::{
     young_block_is_answered_later, young_block_is_left_out, young_block_is_not_answered,
     young_block_is_not_kept, young_block_is_reported, young_block_is_spelled, young_block_runs,

@@ -1,8 +1,7 @@
 -- A journal without a breach is unbroken, and one that is not has one breach alone.
-use Rattle.std.proofs.Common.{◌≡◌, ◌≢◌, ◌⊎◌, inl, inr, ℕ, zero, suc, ◌+◌, ◌*◌, ◌<◌, List, [], ◌∷◌, ◌++◌, length, Some, refl, sym, ◌∙◌, ap, subst, append_assoc, append-nil, arith}
+use Rattle.std.proofs.Common.{◌≡◌, ◌≢◌, ◌⊎◌, inl, inr, ℕ, zero, suc, ◌+◌, ◌*◌, ◌<◌, List, [], ◌∷◌, ◌++◌, length, refl, sym, ◌∙◌, ap, subst, append_assoc, append-nil, arith}
 use Rattle.std.specs.Prelude.{Ok}
 use Rattle.std.proofs.lemmas.List.{length-append}
-use Rattle.block_keys.specs.declared.key.Key.{Key}
 use Rattle.block_keys.specs.Keys.{key_ulid}
 use Rattle.block_meta.specs.MetaFields.{MarkFields}
 use Rattle.block_meta.specs.MetaReading.{mark_of_text}
@@ -12,7 +11,6 @@ use Rattle.world_core.specs.Journals.{Each}
 use Rattle.world_core.specs.Standing.{stands}
 use Rattle.world_core.specs.Worlds.{IsJournal}
 use Rattle.world_core.specs.declared.entry.Entry.{Entry}
-use Rattle.world_core.specs.declared.op.Op.TheVariants.{Put}
 use Rattle.meta_fetcher.specs.declared.view.View.{View}
 use Rattle.script_core.specs.Lawful.{IsLawfulScript}
 use Rattle.lifecycle_core.specs.Breaches.{FirstDiffer, IsBreach, IsKept, IsLie, IsOver, IsUnbroken, IsViewAt, Refuses, Rule, honesty, mark_time, next_byte, rank, sync_time, upload_time, view_time}

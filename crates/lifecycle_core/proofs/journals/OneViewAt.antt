@@ -1,18 +1,15 @@
 -- At each entry of a journal a gateway has one view at most.
 use Rattle.list_core.proofs.Membership.{member_cases}
-use Rattle.std.proofs.Common.{◌≡◌, inl, inr, ℕ, zero, suc, ◌+◌, ◌<◌, ◌≤◌, ◌==◌, List, [], ◌∷◌, ◌++◌, length, Contains, Some, refl, sym, ◌∙◌, ap, subst, arith}
-use Rattle.std.specs.List.{All}
+use Rattle.std.proofs.Common.{◌≡◌, inl, inr, ℕ, ◌<◌, ◌≤◌, ◌==◌, List, [], ◌∷◌, ◌++◌, Contains, Some, sym, ◌∙◌, ap, subst, arith}
 use Rattle.std.proofs.lemmas.List.Elements.{All-contains, Contains-append_left, Contains-append_right}
 use Rattle.std.proofs.lemmas.List.Sums.{fold-append}
 use Rattle.list_core.proofs.Membership.{of_filter}
 use Rattle.world_core.specs.declared.entry.Entry.{Entry}
 use Rattle.meta_fetcher.specs.Syncs.{SyncRun}
 use Rattle.meta_fetcher.specs.declared.rules.SyncRules.{SyncRules}
-use Rattle.meta_fetcher.specs.declared.sync_end.SyncEnd.{SyncEnd}
 use Rattle.meta_fetcher.specs.declared.sync_end.SyncEnd.TheVariants as fetched
 use Rattle.meta_fetcher.specs.declared.view.View.{View}
 use Rattle.lifecycle_core.specs.Breaches.{IsSyncIn, IsViewAt}
-use Rattle.lifecycle_core.specs.Conducts.{of_seat}
 use Rattle.lifecycle_core.specs.Setting.{Setting}
 use Rattle.lifecycle_core.specs.Tasks.{last_number, sync_rules}
 use Rattle.lifecycle_core.proofs.journals.OneSync.{one_sync}
