@@ -5,7 +5,8 @@ use crate::runs::print_run;
 use bucket_core::{Bucket, GetAnswer, PageAnswer, Shelf, ShelfAnswer};
 use dir_bucket::{DirShelf, HostBucket};
 use label_sets::Text;
-use std::fs::File;
+use std::fs::{File, Permissions};
+use std::os::unix::fs::PermissionsExt;
 use std::{fs, io, str};
 
 /// A bucket and a shelf over one folder.
@@ -32,6 +33,7 @@ pub(crate) fn print_call(rt: &HostRuntime, folder: &mut Folder, row: &str) -> io
         "run" => print_run(rt, text),
         "folder" => print_done(rt, fs::create_dir_all(rt, text)),
         "file" => print_done(rt, write_zeros(rt, text)),
+        "mode" => print_done(rt, set_mode(rt, text)),
         _ => println!(rt; "no call"),
     }
 }
@@ -133,6 +135,13 @@ fn print_found(rt: &HostRuntime, bytes: &[u8]) -> io::Result<()> {
 fn write_zeros(rt: &HostRuntime, text: &str) -> io::Result<()> {
     let (path, size) = text.split_once(' ').unwrap_or((text, ""));
     File::create(rt, path)?.set_len(number_of(size))
+}
+
+/// Sets who may read a file or a folder, by an octal number.
+fn set_mode(rt: &HostRuntime, text: &str) -> io::Result<()> {
+    let (path, mode) = text.split_once(' ').unwrap_or((text, ""));
+    let mode = u32::from_str_radix(mode, 8).unwrap_or(0);
+    fs::set_permissions(rt, path, Permissions::from_mode(mode))
 }
 
 fn print_done(rt: &HostRuntime, done: io::Result<()>) -> io::Result<()> {

@@ -1,5 +1,12 @@
-//! What standard error is told of a call that wrote no report.
+//! What standard error is told of a call.
+ghost use Rattle.std.specs.Prelude.{◌≡◌, OnOk};
+ghost use Rattle.std.specs.Io.KnownBytes.{Appends};
+ghost use Rattle.replay_cli.specs.Statuses.{number_of};
+ghost use Rattle.tosraem.specs.Advice.{advice_of};
+
 use replay_cli::Status;
+use std::io;
+use std::io::Write;
 
 /// How the program is called, a line a form.
 const USAGE: &str = "usage: tosraem serial BUCKET SHELF < SCRIPT
@@ -7,8 +14,22 @@ const USAGE: &str = "usage: tosraem serial BUCKET SHELF < SCRIPT
        tosraem check SHELF ULID
 ";
 
+/// Says on standard error, or to another writer, what is to be said of a call that ended with this number.
+pub(crate) fn tell<W: Write>(number: u8, errors: &mut W) -> io::Result<()>
+    ensures { (status : Status) → number ≡ number_of status
+        → OnOk result
+        (Appends (W.contents errors.old) (W.contents errors.new) (advice_of status)) }
+{
+    match Status::from_number(number) {
+        Some(status) => errors.write_all(advice(status).as_bytes()),
+        None => Ok(()),
+    }
+}
+
 /// How the program is called; or what to do about a call that wrote no report. Nothing where it wrote one.
-pub(crate) fn advice(status: Status) -> &'static str {
+fn advice(status: Status) -> &'static str
+    ensures { result.now ≡ advice_of status }
+{
     match status {
         Status::Done | Status::ActivityFailed => "",
         Status::WordsRefused => USAGE,

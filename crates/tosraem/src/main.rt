@@ -1,9 +1,12 @@
 //! The program: it makes the real things, and the tool does the rest.
 #![tactic(auto)]
 
+ghost use Rattle.std.specs.Prelude.{◌≡◌};
+ghost use Rattle.replay_cli.specs.Statuses.{number_of};
+
 mod advice;
 
-use crate::advice::advice;
+use crate::advice::tell;
 use dir_bucket::HostSite;
 use phase_runner::Open;
 use replay_cli::{ReaderSource, Status, WriterSink, run_replay, run_tool};
@@ -15,15 +18,15 @@ use std::{env, io};
 
 fn main(rt: HostRuntime) -> ExitCode {
     let number = run(&rt, &rt);
-    if let Some(status) = Status::from_number(number) {
-        // A failure to say it changes nothing.
-        let _ = eprint!(rt; "{}", advice(status));
-    }
+    // A failure to say it changes nothing.
+    let _ = tell(number, &mut rt.stderr());
     ExitCode::from(number)
 }
 
 /// Runs the tool over the real things, and gives the number of its status. Threads are started by the second handle.
-fn run<T: Threads + Wait + Sync>(rt: &HostRuntime, threads: &T) -> u8 {
+fn run<T: Threads + Wait + Sync>(rt: &HostRuntime, threads: &T) -> u8
+    ensures { (status : Status) × (result ≡ number_of status) }
+{
     let alloc = rt.alloc();
     let words = match words_of(alloc, rt) {
         Ok(words) => words,
