@@ -1,5 +1,5 @@
 -- The run of the script of one block that was broken off in its second phase.
-use Rattle.std.proofs.Common.{◌≡◌, ◌≢◌, inl, inr, ℕ, suc, ◌+◌, ◌^◌, ◌<◌, Bool, List, [], ◌∷◌, ◌++◌, length, map, get_or, Contains, Some, None, refl, sym, ◌∙◌, ap, subst, append-nil, arith, lit<, lit≤}
+use Rattle.std.proofs.Common.{◌≡◌, inr, ℕ, suc, ◌+◌, ◌^◌, ◌<◌, List, [], ◌∷◌, ◌++◌, length, map, get_or, Contains, Some, None, refl, sym, ◌∙◌, ap, subst, append-nil, arith, lit<, lit≤}
 use Rattle.std.specs.List.{All}
 use Rattle.std.proofs.lemmas.List.Elements.{All-from_recursion}
 use Rattle.world_core.specs.Operations.{IsLawful, IsReplyTo, entry_of}
@@ -27,7 +27,7 @@ use Rattle.tests_worked.specs.OneBlock as one
 use Rattle.tests_worked.specs.CutRun as broken
 use Rattle.tests_worked.specs.Entries.{clock}
 use Rattle.tests_worked.proofs.Each.{by_workers_alone, each_of}
-use Rattle.tests_worked.proofs.OneBlock.{first_done, first_ends, first_phase, first_tasks, first_workers, gateway, second_own, second_tasks, second_workers, uploader}
+use Rattle.tests_worked.proofs.OneBlock.{first_done, first_ends, first_phase, first_tasks, first_workers, gateway, second_own, second_tasks, second_workers}
 
 -- ---- what is left of the second phase
 

@@ -1,5 +1,5 @@
 -- Which of the runs do their tasks in the order of their lines.
-use Rattle.std.proofs.Common.{◌≡◌, inl, inr, ◌+◌, ◌<◌, ℕ, zero, suc, List, [], ◌∷◌, ◌++◌, length, Contains, Option, Some, None, refl, sym, ◌∙◌, ap, subst, append-nil, arith, lit<}
+use Rattle.std.proofs.Common.{◌≡◌, inl, inr, ℕ, List, [], ◌∷◌, ◌++◌, length, Option, Some, None, refl, sym, ◌∙◌, ap, subst, append-nil, arith, lit<}
 use Rattle.std.specs.Prelude.{option_map, pos}
 use Rattle.std.specs.List.{All}
 use Rattle.std.proofs.lemmas.List.Elements.{All-from_recursion, All-head}
@@ -20,7 +20,7 @@ use Rattle.script_workers.specs.declared.work.Work.TheVariants as works
 use Rattle.script_core.specs.Workers.{workers_of}
 use Rattle.lifecycle_core.specs.Holdings.{Holdings, none_held, nothing_held, with_holding}
 use Rattle.lifecycle_core.specs.InLine.{Duty, InLine, IsInLine, duties_from, duties_of, in_line, seat_of}
-use Rattle.lifecycle_core.specs.Tasks.{End, SyncTask, answered, sync_rules, synced, uploaded}
+use Rattle.lifecycle_core.specs.Tasks.{End, answered, sync_rules, synced, uploaded}
 use Rattle.lifecycle_core.specs.Ways.{PhasesRun}
 use Rattle.tests_worked.specs.Entries.{absent, clock}
 use Rattle.tests_worked.specs.OneBlock as one

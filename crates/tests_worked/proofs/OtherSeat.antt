@@ -1,5 +1,5 @@
 -- The run of the script of one block, where somebody else asks the query.
-use Rattle.std.proofs.Common.{◌≡◌, ◌≢◌, ◌⊎◌, inl, inr, ℕ, zero, suc, ◌+◌, ◌^◌, ◌<◌, pos, List, [], ◌∷◌, ◌++◌, length, map, Contains, Some, None, refl, sym, ap, subst, append-nil, arith, lit<, lit≤}
+use Rattle.std.proofs.Common.{◌≡◌, ◌≢◌, ◌⊎◌, inl, inr, ℕ, zero, suc, ◌+◌, ◌^◌, ◌<◌, List, [], ◌∷◌, ◌++◌, length, map, Contains, Some, refl, sym, ap, subst, arith, lit<, lit≤}
 use Rattle.list_core.proofs.Membership.{no_member, only_member}
 use Rattle.std.specs.List.{All, AllPairs}
 use Rattle.std.proofs.lemmas.List.Elements.{All-contains, All-from_recursion, All-weaker, Contains-append_right}
@@ -8,7 +8,6 @@ use Rattle.world_core.specs.Operations.{IsLawful, IsReplyTo}
 use Rattle.world_core.specs.Moments.{moment_after, last_moment}
 use Rattle.world_core.specs.Worlds.{IsJournal}
 use Rattle.world_core.specs.declared.entry.Entry.{Entry}
-use Rattle.meta_fetcher.specs.declared.sync_end.SyncEnd.TheVariants as fetched
 use Rattle.shipper.specs.declared.upload_end.UploadEnd.TheVariants as shipped
 use Rattle.script_workers.specs.Hands.{hands_of_task, with_hands, hands_from, places_from, workers_from, seats_from}
 use Rattle.script_core.specs.Workers.{workers_of}

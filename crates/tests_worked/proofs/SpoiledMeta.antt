@@ -1,6 +1,5 @@
 -- The run of the script of one block whose sync is shown no meta.
 use Rattle.std.proofs.Common.{◌≡◌, inl, inr, ◌+◌, ◌^◌, ◌<◌, ℕ, suc, List, [], ◌∷◌, ◌++◌, length, map, codes, Contains, Some, None, refl, sym, ◌∙◌, ap, subst, append_assoc, arith, lit<, lit≤}
-use Rattle.std.specs.List.{All}
 use Rattle.std.specs.Str.{is_utf8, chars}
 use Rattle.std.proofs.lemmas.List.Elements.{All-from_recursion}
 use Rattle.block_keys.specs.declared.key.Key.TheVariants as key
@@ -8,7 +7,6 @@ use Rattle.block_meta.specs.Members.{json_of, object_of}
 use Rattle.block_meta.specs.MetaReading.{meta_of_text}
 use Rattle.block_meta.specs.OfBlocks.{block_meta}
 use Rattle.serde_json.proofs.OnLiterals.{serde_json_on_literals}
-use Rattle.moment_core.specs.StandardRules.{minutes, hours}
 use Rattle.world_core.specs.Journals.{Each}
 use Rattle.world_core.specs.Moments.{moment_after, last_moment}
 use Rattle.world_core.specs.Operations.{IsLawful, IsReplyTo}
@@ -16,7 +14,6 @@ use Rattle.world_core.specs.Plans.{Runs, noting}
 use Rattle.world_core.specs.Worlds.{IsJournal}
 use Rattle.world_core.specs.declared.entry.Entry.{Entry}
 use Rattle.world_core.specs.declared.reply.Reply.TheVariants.{Found}
-use Rattle.shipper.specs.declared.upload_end.UploadEnd.TheVariants as shipped
 use Rattle.meta_fetcher.specs.Syncs.{Course, SyncRun, damaged, listing, with_entry}
 use Rattle.meta_fetcher.specs.declared.sync_end.SyncEnd.TheVariants as fetched
 use Rattle.script_core.specs.Workers.{workers_of}

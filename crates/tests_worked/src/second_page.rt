@@ -10,6 +10,7 @@ ghost use Rattle.tests_worked.specs.SecondPage.{journal, second, setting, sync, 
 /// gateway's, as its sync that began before reaches into them.
 pub fn second_page_begins_no_sync()
     ensures whole { IsSyncIn setting journal 0 sync (Some (fetched.View (view 2 1))) }
-    ensures alike { IsSyncBy (sync_rules setting 0) journal 1 second (Some (fetched.View (view 3 2))) }
+    ensures alike { IsSyncBy (sync_rules setting 0) journal 1 second
+        (Some (fetched.View (view 3 2))) }
     ensures refused { (end : Option SyncEnd) → ¬ IsSyncIn setting journal 0 second end }
 {}
