@@ -11,7 +11,7 @@ use std::{io, str};
 use ulid_core::Ulid;
 
 /// A folder and the block that a row names in it.
-fn open(rt: &HostRuntime, text: &str) -> Option<(DirShelf<HostRuntime>, Ulid)> {
+pub(crate) fn open(rt: &HostRuntime, text: &str) -> Option<(DirShelf<HostRuntime>, Ulid)> {
     let (folder, text) = text.split_once(' ')?;
     let ulid = Ulid::read(text).ok()?;
     let shelf = DirShelf::open(rt.clone().ok()?, folder).ok()?;

@@ -3,12 +3,15 @@
 //! What is to be printed comes from Prometheus' own reader, or was worked out from the blocks' bytes by other means.
 #![tactic(auto)]
 
+mod asked;
 mod built;
 mod carried;
 mod checks;
+mod noting_shelf;
 mod objects;
 mod words;
 
+use crate::asked::print_asked;
 use crate::built::{print_built, print_counted, print_large};
 use crate::carried::print_carried;
 use crate::checks::{print_content, print_verdict};
@@ -27,6 +30,7 @@ fn print_row(rt: &HostRuntime, row: &str) -> io::Result<()> {
     let (word, rest) = row.split_once(' ').unwrap_or((row, ""));
     match word {
         "shelf" | "files" => print_verdict(rt, row, word == "files", rest),
+        "loads" | "checks" => print_asked(rt, row, word == "checks", rest),
         "content" => print_content(rt, rest),
         "shipped" => print_shipped(rt, rest),
         "carried" => print_carried(rt, row, rest),
