@@ -10,7 +10,7 @@ use Rattle.world_core.specs.Worlds.{WorldView, IsWorld, IsJournal, IsTrueOf}
 use Rattle.world_core.proofs.Growing.{Each-none}
 use Rattle.replay_cli.specs.Kept.{IsTrueOfStore, IsHandedBack, IsUntouched}
 
-if_map : {X : Type 0} (o : Option X) (P Q : X → Type 0) → ((x : X) → P x → Q x) → IfSome o P → IfSome o Q
+pub if_map : {X : Type 0} (o : Option X) (P Q : X → Type 0) → ((x : X) → P x → Q x) → IfSome o P → IfSome o Q
 if_map None P Q f holds = tt
 if_map (Some x) P Q f holds = f x holds
 

@@ -1,6 +1,6 @@
 -- A journal tells the report: two whole runs of one script that leave one journal print the same.
 use Rattle.list_core.proofs.Membership.{any_of_member, contains_first, contains_later, each_member, member_cases, no_member}
-use Rattle.std.proofs.Common.{◌≡◌, ◌≢◌, inl, inr, ℕ, ◌+◌, Bool, true, false, List, [], ◌∷◌, ◌++◌, Contains, Option, Some, None, refl, sym, ◌∙◌, ap, ap₂, subst, arith}
+use Rattle.std.proofs.Common.{◌≡◌, inl, inr, ℕ, ◌+◌, Bool, true, false, List, [], ◌∷◌, ◌++◌, Contains, Option, Some, None, refl, sym, ◌∙◌, ap, ap₂, subst, arith}
 use Rattle.std.specs.Prelude.{slice_get}
 use Rattle.std.specs.List.{AllZip, list_all, list_any, zip}
 use Rattle.std.specs.List.Sorted.{IsStrictlySortedBy}
@@ -22,15 +22,12 @@ use Rattle.script_workers.proofs.StaffLaws.{are_places}
 use Rattle.script_core.specs.Workers.{seats_before, workers_after, workers_of}
 use Rattle.script_core.specs.declared.script.Script.{Script}
 use Rattle.lifecycle_core.specs.Conducts.{CameTo}
-use Rattle.lifecycle_core.specs.Cuts.{IsCutBehind}
-use Rattle.lifecycle_core.specs.Phases.{IsRunOf}
 use Rattle.lifecycle_core.specs.Setting.{Setting}
 use Rattle.lifecycle_core.specs.Tasks.{End, answered, stopped, synced, uploaded, without_view}
 use Rattle.lifecycle_core.proofs.phases.Duties.{same_self}
 use Rattle.lifecycle_core.proofs.phases.HandLists.{Apart, joins_from}
 use Rattle.lifecycle_core.proofs.phases.OneCut.{cut_is_unfinished, cuts_tell}
 use Rattle.lifecycle_core.proofs.phases.OneEnding.{ends_tell}
-use Rattle.script_running.specs.Beside.{WhereBegun}
 use Rattle.script_running.specs.Outcomes.{IsOutcome, PhasesCame, TaskCame, TasksCame, is_as_asked}
 use Rattle.script_running.specs.declared.outcome.Outcome.{Outcome}
 use Rattle.replay_cli.specs.Verdicts.{IsFullRun, IsReport, IsWholeRun, report_of, tasks_of}
@@ -211,29 +208,13 @@ journal_tells setting journal one other text also a b =
 
 -- ---- runs that the full journal broke off
 
-where_begun : {P : Type 0} (ends : List (List (List End))) → WhereBegun ends P → ends ≢ [] → P
-where_begun [] begun some = absurd (some refl)
-where_begun (own ∷ ends) begun some = begun
-
-cut_of : (setting : Setting) (text : List ℕ) (journal : List Entry) (run : IsFullRun setting text journal) → IsCutBehind setting journal run.done run.told
-cut_of setting text journal run = record {
-  left = run.left;
-  phases = run.phases;
-  more = run.more;
-  untold = run.untold;
-  run = subst (IsRunOf setting journal) run.parts run.run;
-  finished = run.finished;
-  unfinished = run.unfinished;
-  due = where_begun run.untold run.due;
-}
-
 pub full_journal_tells : (setting : Setting) (journal : List Entry) (text other : List ℕ) → IsFullRun setting text journal → IsFullRun setting other journal → text ≡ other
 full_journal_tells setting journal text other a b =
-    let same = cuts_tell setting journal a.done b.done a.told b.told (cut_of setting text journal a) (cut_of setting other journal b) in
+    let same = cuts_tell setting journal a.done b.done a.told b.told a.cut b.cut in
     let report : IsReport setting.script a.done a.told b.as_asked other =
     subst (λ (phases : List Phase). IsReport setting.script phases a.told b.as_asked other) (sym same.0) (subst (λ (ends : List (List (List End))). IsReport setting.script b.done ends b.as_asked other) (sym same.1) b.report) in
     (report_once setting.script a.done a.told a.as_asked b.as_asked text other a.report report).1
 
 pub full_is_not_whole : (setting : Setting) (journal : List Entry) (as_asked : Bool) (text other : List ℕ) → IsWholeRun setting as_asked text journal → IsFullRun setting other journal → ⊥
 full_is_not_whole setting journal as_asked text other whole full =
-    cut_is_unfinished setting journal full.done full.told whole.ends (cut_of setting other journal full) whole.run whole.finished
+    cut_is_unfinished setting journal full.done full.told whole.ends full.cut whole.run whole.finished

@@ -25,7 +25,6 @@ use Rattle.lifecycle_core.proofs.phases.RunsInLine.{AreWhole, by_none, by_parts,
 use Rattle.script_running.specs.Outcomes.{PhasesCame}
 use Rattle.replay_cli.specs.Progress.{HasRun, IsBrokenAt, IsDueAt, IsDueInLine, IsUnfinished, PhaseStep, PhasesTold, Reached, Shows, RunCame, TasksBroken, TasksDone, TasksTold, duties_at}
 use Rattle.script_running.specs.Outcomes.{is_as_asked}
-use Rattle.script_running.specs.Beside.{WhereBegun}
 use Rattle.replay_cli.specs.Verdicts.{IsFullRun, IsWholeRun, report_of, tasks_of}
 use Rattle.script_running.specs.declared.came.Broken.{Broken}
 use Rattle.script_running.specs.declared.came.Broken.TheVariants as broken
@@ -35,7 +34,7 @@ use Rattle.replay_cli.proofs.Told.{tasks_came, told_length, told_outcomes}
 use Rattle.lifecycle_core.specs.Guarantees.{IsGuaranteedJournal}
 use Rattle.lifecycle_core.specs.Holdings.{Holdings, none_held}
 use Rattle.lifecycle_core.specs.InLine.{InLine, IsInLine, duties_from, in_line, seat_of}
-use Rattle.lifecycle_core.specs.Phases.{by_workers}
+use Rattle.lifecycle_core.specs.Phases.{IsRunOf, by_workers}
 use Rattle.lifecycle_core.specs.Setting.{Setting}
 use Rattle.lifecycle_core.specs.Tasks.{End}
 use Rattle.lifecycle_core.specs.Ways.{AreInTurn, AreUnfinished, BeginsPhase, IsOperationDue, PhasesRun}
@@ -329,12 +328,12 @@ due_run setting lawful place journal ends phase left are same due =
     )
 
 due_left : (setting : Setting) → IsLawfulScript setting.script → (place : ℕ) (journal : List Entry) (ends : List (List End)) (left : List Phase) (unfinished : List (List End)) → drop place setting.script.phases ≡ left → length ends ≡ length (take place setting.script.phases)
-    → IsUnfinished setting left unfinished (IsDueAt setting journal ends) → WhereBegun (ends_by_workers (gateway_count setting.script.gateways) left unfinished) (IsOperationDue (by_workers setting) none_held setting.script.phases journal (ends_by_workers (gateway_count setting.script.gateways) (take place setting.script.phases) ends))
+    → IsUnfinished setting left unfinished (IsDueAt setting journal ends) → ends_by_workers (gateway_count setting.script.gateways) left unfinished ≢ [] → IsOperationDue (by_workers setting) none_held setting.script.phases journal (ends_by_workers (gateway_count setting.script.gateways) (take place setting.script.phases) ends)
 unfolding ends_by_workers
-due_left setting lawful place journal ends [] [] are same short = tt
-due_left setting lawful place journal ends [] (own ∷ more) are same short = absurd short
-due_left setting lawful place journal ends (phase ∷ left) [] are same short = tt
-due_left setting lawful place journal ends (phase ∷ left) (own ∷ more) are same short = due_run setting lawful place journal ends phase left are same short.2
+due_left setting lawful place journal ends [] [] are same short begun = absurd (begun refl)
+due_left setting lawful place journal ends [] (own ∷ more) are same short begun = absurd short
+due_left setting lawful place journal ends (phase ∷ left) [] are same short begun = absurd (begun (by_none (gateway_count setting.script.gateways) (phase ∷ left)))
+due_left setting lawful place journal ends (phase ∷ left) (own ∷ more) are same short begun = due_run setting lawful place journal ends phase left are same short.2
 
 pub full_run : (setting : Setting) (place : ℕ) (journal : List Entry) (as_asked : Bool) (text : List ℕ) → IsLawfulScript setting.script → IsJournal setting.script.rules.tick.ms journal → IsFull journal → place < length setting.script.phases
     → IsBrokenAt setting place journal as_asked text → IsFullRun setting text journal
@@ -343,23 +342,29 @@ full_run setting place journal as_asked text lawful kept full below b =
     let done = take place setting.script.phases in
     let left = drop place setting.script.phases in
     let same : (k : ℕ) (p : Phase) → slice_get done k ≡ Some p → slice_get setting.script.phases (0 + k) ≡ Some p = λ k p own. ap (slice_get setting.script.phases) (omega arith) ∙ front_at setting.script.phases place k p own in
+    let told = ends_by_workers gateways done b.ends in
+    let untold = ends_by_workers gateways left b.unfinished in
+    let many = told_ends setting done b.ends b.outcomes b.told in
+    let parts : ends_by_workers gateways setting.script.phases (b.ends ++ b.unfinished) ≡ told ++ untold =
+    ap (λ (ps : List Phase). ends_by_workers gateways ps (b.ends ++ b.unfinished)) (sym (take-append-drop place setting.script.phases)) ∙ by_parts gateways done left b.ends b.unfinished many in
+    let run = subst (IsRunOf setting journal) parts (run_by setting journal (b.ends ++ b.unfinished) lawful kept b.run) in
     record {
-      ends = ends_by_workers gateways setting.script.phases (b.ends ++ b.unfinished);
-      run = run_by setting journal (b.ends ++ b.unfinished) lawful kept b.run;
-      guaranteed = all_guaranteed setting journal (ends_by_workers gateways setting.script.phases (b.ends ++ b.unfinished)) lawful (run_by setting journal (b.ends ++ b.unfinished) lawful kept b.run);
-      full = full;
       done = done;
-      left = left;
-      phases = sym (take-append-drop place setting.script.phases);
-      more = λ none. left_some setting.script.phases place below none;
-      told = ends_by_workers gateways done b.ends;
-      untold = ends_by_workers gateways left b.unfinished;
-      parts = ap (λ (ps : List Phase). ends_by_workers gateways ps (b.ends ++ b.unfinished)) (sym (take-append-drop place setting.script.phases)) ∙ by_parts gateways done left b.ends b.unfinished (told_ends setting done b.ends b.outcomes b.told);
-      unfinished = unfinished_left setting lawful place left b.unfinished (IsDueAt setting journal b.ends) (drop_front setting.script.phases place) below b.short;
-      due = due_left setting lawful place journal b.ends left b.unfinished refl (told_ends setting done b.ends b.outcomes b.told) b.short;
-      finished = finished setting lawful 0 done b.ends same (told_whole setting done b.ends b.outcomes b.told);
+      told = told;
+      cut = record {
+        left = left;
+        phases = sym (take-append-drop place setting.script.phases);
+        more = λ none. left_some setting.script.phases place below none;
+        untold = untold;
+        run = run;
+        finished = finished setting lawful 0 done b.ends same (told_whole setting done b.ends b.outcomes b.told);
+        unfinished = unfinished_left setting lawful place left b.unfinished (IsDueAt setting journal b.ends) (drop_front setting.script.phases place) below b.short;
+        due = due_left setting lawful place journal b.ends left b.unfinished refl many b.short;
+      };
+      full = full;
       as_asked = as_asked;
       report = record { outcomes = b.outcomes; came = phases_came setting lawful 0 done b.ends b.outcomes same b.told; lines = b.lines; flag = b.flag };
+      guaranteed = all_guaranteed setting journal (told ++ untold) lawful run;
     }
 
 -- what a run came to is a run in line

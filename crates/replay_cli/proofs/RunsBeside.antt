@@ -82,22 +82,13 @@ module _ (setting : Setting) (lawful : IsLawfulScript setting.script) (journal :
     (
       (r.ends, r.run, r.turns),
       record {
-        ends = r.ends;
-        run = r.run;
-        full = f.full;
         done = f.done;
-        left = f.left;
-        phases = f.phases;
-        more = f.more;
         told = f.told;
-        untold = f.untold;
-        parts = f.parts;
-        unfinished = f.unfinished;
-        due = f.due;
-        finished = f.finished;
+        cut = f.cut;
+        full = f.full;
         as_asked = report.as_asked;
-        report = record { outcomes = outcomes; came = f.came; lines = lines ∙ lines_of_done setting.script f.done f.left f.told outcomes f.phases f.came; flag = flag };
-        guaranteed = all_guaranteed setting journal r.ends lawful r.run;
+        report = record { outcomes = outcomes; came = f.came; lines = lines ∙ lines_of_done setting.script f.done (f.cut).left f.told outcomes (f.cut).phases f.came; flag = flag };
+        guaranteed = all_guaranteed setting journal (f.told ++ (f.cut).untold) lawful (f.cut).run;
       },
     ),
   )

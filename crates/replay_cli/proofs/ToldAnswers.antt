@@ -249,9 +249,8 @@ whole_answers setting as_asked text journal run lawful honest place answer told 
     (λ q given. run.guaranteed.sound honest q (subst (λ es. IsGiven setting es q) same given)) place answer told)
 
 pub full_answers : (setting : Setting) (text : List ℕ) (journal : List Entry) (run : IsFullRun setting text journal) → IsLawfulScript setting.script → IsHonest journal
-    → (place : ℕ) (answer : ToldAnswer) → IsTold setting.script run.done run.report.outcomes place answer → IsWorth setting journal run.ends answer
+    → (place : ℕ) (answer : ToldAnswer) → IsTold setting.script run.done run.report.outcomes place answer → IsWorth setting journal (run.told ++ (run.cut).untold) answer
 full_answers setting text journal run lawful honest place answer told =
-    subst (λ es. IsWorth setting journal es answer) (sym run.parts)
-    (by_gateways setting journal run.done run.left run.told run.untold run.report.outcomes setting.script.gateways refl lawful.few_gateways run.phases run.report.came
-    (λ a used given one. given_by_one setting journal (run.told ++ run.untold) lawful (subst (IsRunOf setting journal) run.parts run.run) honest a.low a.high a.selector used a.series a.sources given one)
-    (λ q given. run.guaranteed.sound honest q (subst (λ es. IsGiven setting es q) (sym run.parts) given)) place answer told)
+    let cut = run.cut in
+    by_gateways setting journal run.done cut.left run.told cut.untold run.report.outcomes setting.script.gateways refl lawful.few_gateways cut.phases run.report.came
+    (λ a used given one. given_by_one setting journal (run.told ++ cut.untold) lawful cut.run honest a.low a.high a.selector used a.series a.sources given one) (λ q given. run.guaranteed.sound honest q given) place answer told

@@ -1,6 +1,6 @@
 -- A missing object that a report tells of is one that a call found missing.
 use Rattle.list_core.proofs.Membership.{contains_later}
-use Rattle.std.proofs.Common.{◌≡◌, inl, inr, ℕ, zero, suc, ◌+◌, ℤ, Bool, List, [], ◌∷◌, Contains, refl, sym, ap, subst, arith}
+use Rattle.std.proofs.Common.{◌≡◌, inl, inr, ℕ, zero, suc, ◌+◌, ℤ, Bool, List, [], ◌∷◌, ◌++◌, Contains, refl, sym, ap, subst, arith}
 use Rattle.std.specs.List.{AllZip}
 use Rattle.std.proofs.lemmas.List.Elements.{Contains-append_cases, Contains-append_left}
 use Rattle.world_core.specs.declared.entry.Entry.{Entry}
@@ -119,5 +119,5 @@ pub full_misses : (setting : Setting) (text : List ℕ) (journal : List Entry) (
 full_misses setting text journal run gateway number among =
     let m = phases_missed setting.script 0 run.done run.told run.report.outcomes gateway number run.report.came among in
     let s = m.1 in
-    let all : Contains run.ends s.0 = subst (λ (es : List (List (List End))). Contains es s.0) (sym run.parts) (Contains-append_left run.told run.untold s.0 s.2) in
+    let all : Contains (run.told ++ (run.cut).untold) s.0 = Contains-append_left run.told (run.cut).untold s.0 s.2 in
     run.guaranteed.explained (answered m.0 (called.Missing number)) number (s.0, s.1, all, s.3, s.4) refl

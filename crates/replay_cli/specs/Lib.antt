@@ -5,6 +5,7 @@ pub mod Kept
 pub mod Output
 pub mod Progress
 pub mod Reports
+pub mod ShelfAsked
 pub mod Statuses
 pub mod ToldAnswers
 pub mod Undone

@@ -1,5 +1,5 @@
 -- What a call of the program comes to, why, and what it then writes.
-use Rattle.std.specs.Prelude.{◌≡◌, ◌≢◌, ◌⊎◌, ◌<◌, ℕ, List, [], ◌∷◌, ◌++◌, length, Bool, true, false, Option, Some, None, option_map, IfSome, IsSome, IsSomeAnd, Ok, Err, codes}
+use Rattle.std.specs.Prelude.{◌≡◌, ◌≢◌, ◌⊎◌, ◌<◌, ℕ, List, [], ◌∷◌, ◌++◌, Bool, true, false, Option, Some, None, option_map, IfSome, IsSome, IsSomeAnd, Ok, Err, codes}
 use Rattle.std.specs.List.{flat_map, list_all}
 use Rattle.bucket_core.specs.Causes.{Rose}
 use Rattle.bucket_core.specs.Contents.{Contents, nothing}
@@ -16,15 +16,13 @@ use Rattle.script_core.specs.declared.script.Script.{Script}
 use Rattle.script_core.specs.declared.script_refusal.ScriptRefusal.TheVariants.{TooLong}
 use Rattle.script_workers.specs.declared.task.Task.{Task}
 use Rattle.lifecycle_core.specs.Breaches.{IsUnbroken}
+use Rattle.lifecycle_core.specs.Cuts.{IsCutBehind}
 use Rattle.lifecycle_core.specs.Guarantees.{IsGuaranteed, IsGuaranteedJournal}
-use Rattle.lifecycle_core.specs.Holdings.{none_held}
-use Rattle.lifecycle_core.specs.Phases.{IsFinished, IsInTurn, IsRunOf, by_workers}
+use Rattle.lifecycle_core.specs.Phases.{IsFinished, IsRunOf}
 use Rattle.lifecycle_core.specs.Setting.{Setting, setting_of}
 use Rattle.lifecycle_core.specs.Tasks.{End}
-use Rattle.lifecycle_core.specs.Ways.{AreFinished, AreUnfinished, IsOperationDue}
 use Rattle.replay_cli.specs.Checks.{check_line, check_status, files_of, IsCheckOf}
 use Rattle.replay_cli.specs.Kept.{HoldsNothing, IsNotAsked, IsOpened, IsUnfailed, told_of}
-use Rattle.script_running.specs.Beside.{WhereBegun}
 use Rattle.script_running.specs.Outcomes.{PhasesCame}
 use Rattle.replay_cli.specs.Output.{IsWrittenInPart}
 use Rattle.replay_cli.specs.Reports.{activity_text, newline}
@@ -89,25 +87,16 @@ pub record IsWholeRun (setting : Setting) (as_asked : Bool) (text : List ℕ) (j
   pub report : IsReport setting.script setting.script.phases ends as_asked text
   pub guaranteed : IsGuaranteed setting journal ends
 
--- The journal is that of a run which the full journal broke off: some first phases are finished, and the text is their
--- report; of the phases left, none was begun, or the first one alone, and an operation of it is due.
+-- The full journal broke the run off behind some first phases, and the text is their report. All that is guaranteed of the ends to
+-- which its workers came holds.
 pub record IsFullRun (setting : Setting) (text : List ℕ) (journal : List Entry) : Type 0 where
-  pub ends : List (List (List End))
-  pub run : IsRunOf setting journal ends
-  pub full : IsFull journal
   pub done : List Phase
-  pub left : List Phase
-  pub phases : setting.script.phases ≡ done ++ left
-  pub more : left ≢ []
   pub told : List (List (List End))
-  pub untold : List (List (List End))
-  pub parts : ends ≡ told ++ untold
-  pub unfinished : AreUnfinished (by_workers setting) (length done) left untold
-  pub due : WhereBegun untold (IsOperationDue (by_workers setting) none_held setting.script.phases journal told)
-  pub finished : AreFinished (by_workers setting) 0 done told
+  pub cut : IsCutBehind setting journal done told
+  pub full : IsFull journal
   pub as_asked : Bool
   pub report : IsReport setting.script done told as_asked text
-  pub guaranteed : IsGuaranteed setting journal ends
+  pub guaranteed : IsGuaranteed setting journal (told ++ cut.untold)
 
 -- ---- causes
 

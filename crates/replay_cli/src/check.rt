@@ -1,9 +1,10 @@
 //! The check of one block of a shelf.
-ghost use Rattle.std.specs.Prelude.{◌≡◌, None, IfSome, is_some, option_map};
+ghost use Rattle.std.specs.Prelude.{◌≡◌, [], None, IfSome, is_some, option_map};
 ghost use Rattle.bucket_core.specs.Causes.{Rose};
 ghost use Rattle.replay_cli.specs.CheckVerdicts.{refused_for, verdict_on};
 ghost use Rattle.replay_cli.specs.Checks.{cause_number, files_in, files_of, HasFailed};
 ghost use Rattle.replay_cli.specs.Kept.{IsNotAsked, IsShelfOf};
+ghost use Rattle.replay_cli.specs.ShelfAsked.{IsBroken, WasAsked, WasChecked};
 ghost use Rattle.replay_cli.specs.Verdicts.{BehindOpening, IfShort, IsChecked, SiteFailed};
 ghost use Rattle.replay_cli.specs.Words.{named_by};
 
@@ -36,6 +37,9 @@ pub(crate) fn check_block<S: Site>(
     ensures short { IfShort result.conclusion.verdict
         ((S.faults site.new ≡ S.faults site.old)
         × IfSome result.shelf (λ files. S.Files.faults files ≡ 0)) }
+    ensures asked { IfSome result.shelf (WasChecked S.Files.asked
+        (files_of (S.next_shelf site.old) (named_by shelf.now)) block
+        (IsBroken result.conclusion.verdict)) }
     ensures store { result.conclusion.store ≡ None }
     ensures journal { result.conclusion.journal ≡ None }
 {
@@ -60,6 +64,9 @@ fn check_opened<F: Shelf>(alloc: Global, block: Ulid, shelf: Option<F>) -> (Verd
         (HasFailed F.faults shelf result.1) result.0 }
     ensures short { IfSome shelf (λ files. F.faults files ≡ 0)
         → IfShort result.0 (IfSome result.1 (λ files. F.faults files ≡ 0)) }
+    ensures asked { IfSome shelf (WasAsked F.asked [])
+        → IfSome result.1
+        (WasChecked F.asked (files_in F.files shelf) block (IsBroken result.0)) }
     ensures same { option_map F.files result.1 ≡ option_map F.files shelf }
 {
     match shelf {
@@ -83,6 +90,8 @@ fn check_files<F: Shelf>(alloc: Global, block: Ulid, shelf: F) -> (Verdict, F)
     ensures cause { IsChecked (F.files shelf) block (Rose (F.faults shelf) (F.faults result.1))
         result.0 }
     ensures short { IfShort result.0 (F.faults result.1 ≡ F.faults shelf) }
+    ensures asked { WasAsked F.asked [] shelf
+        → WasChecked F.asked (F.files shelf) block (IsBroken result.0) result.1 }
     ensures same { F.files result.1 ≡ F.files shelf }
 {
     let mut shelf = shelf;

@@ -1,9 +1,13 @@
 ghost use Rattle.std.specs.Prelude.{◌≡◌, Some, None};
 ghost use Rattle.bucket_core.specs.Contents.{nothing};
 ghost use Rattle.replay_cli.specs.Kept.{IsHandedBack, IsUntouched};
+ghost use Rattle.replay_cli.specs.Statuses.{number_of};
+ghost use Rattle.replay_cli.specs.Verdicts.{IsSaid, saying_to};
 
-use crate::Verdict;
-use bucket_core::Bucket;
+use crate::output::write_all;
+use crate::{Run, Status, Verdict};
+use bucket_core::{Bucket, Sink};
+use std::alloc::Global;
 use world_core::{Journal, World};
 
 /// What a call comes to, with the shelf that the site handed out.
@@ -19,6 +23,43 @@ pub(crate) struct Conclusion<B> {
     pub verdict: Verdict,
     pub journal: Option<Journal>,
     pub store: Option<B>,
+}
+
+impl<B, F> Ended<B, F> {
+    /// Says what the call comes to, and hands over what it leaves.
+    pub(crate) fn into_run<K: Sink>(self, alloc: Global, out: &mut K) -> Run<B, F>
+        ensures { (status : Status)
+            × IsSaid self.conclusion.verdict (saying_to K.faults K.written out.old out.new) status
+            × (result ≡ record {
+              status = number_of status;
+              journal = self.conclusion.journal;
+              store = self.conclusion.store;
+              shelf = self.shelf;
+            }) }
+    {
+        let Ended { conclusion, shelf } = self;
+        let status = say(alloc, conclusion.verdict, out);
+        Run {
+            status: status.number(),
+            journal: conclusion.journal,
+            store: conclusion.store,
+            shelf,
+        }
+    }
+}
+
+/// Writes a verdict's text. Its status is that of the call, unless the sink failed or there was no memory for the text.
+fn say<K: Sink>(alloc: Global, verdict: Verdict, out: &mut K) -> Status
+    ensures { IsSaid verdict (saying_to K.faults K.written out.old out.new) result }
+{
+    let status = verdict.status();
+    let Ok(text) = verdict.into_text(alloc) else {
+        return Status::NoMemory;
+    };
+    match write_all(out, &text) {
+        Ok(()) => status,
+        Err(_) => Status::SinkFault,
+    }
 }
 
 impl<B> Conclusion<B> {

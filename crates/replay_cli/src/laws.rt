@@ -1,4 +1,4 @@
-ghost use Rattle.std.specs.Prelude.{◌≡◌, ℕ, Bool, true, List, Contains};
+ghost use Rattle.std.specs.Prelude.{◌≡◌, ◌++◌, ℕ, Bool, true, List, Contains};
 ghost use Rattle.world_core.specs.Standing.{IsHonest};
 ghost use Rattle.world_core.specs.Worlds.{failed_count};
 ghost use Rattle.world_core.specs.declared.entry.Entry.{Entry};
@@ -25,7 +25,7 @@ pub fn told_answers_are_sound()
         → IsLawfulScript setting.script → IsHonest journal
         → (place : ℕ) (answer : ToldAnswer)
         → IsTold setting.script run.done run.report.outcomes place answer
-        → IsWorth setting journal run.ends answer }
+        → IsWorth setting journal (run.told ++ run.cut.untold) answer }
 {}
 
 /// A law: a journal tells the report. Two whole runs of one script that leave one journal print the same, and end as asked or not;

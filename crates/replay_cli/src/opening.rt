@@ -6,6 +6,7 @@ ghost use Rattle.script_core.specs.Lawful.{IsLawfulScript};
 ghost use Rattle.script_core.specs.Reading.{script_of};
 ghost use Rattle.lifecycle_core.specs.Setting.{setting_of};
 ghost use Rattle.replay_cli.specs.Kept.{HoldsNothing, IsHandedBack, IsHandedOut, IsNotAsked, IsOpened, IsShelfOf, IsUnfailed, IsUntouched};
+ghost use Rattle.replay_cli.specs.ShelfAsked.{WasAsked};
 ghost use Rattle.replay_cli.specs.Undone.{IsUndone};
 ghost use Rattle.replay_cli.specs.Verdicts.{BehindOpening, IfShort, IsRun, IsScriptRead, IsUnread, IsWorked, SiteFailed, around_call};
 ghost use Rattle.replay_cli.specs.Words.{named_by};
@@ -51,6 +52,7 @@ pub(crate) fn read_and_open<S: Site, R: Source>(
     ensures unfailed { IfOk result (λ ready. S.Store.faults ready.world.bucket ≡ 0) }
     ensures unread { IfOk result
         (λ ready. IfSome ready.shelf (λ files. S.Files.faults files ≡ 0)) }
+    ensures unasked { IfOk result (λ ready. IfSome ready.shelf (WasAsked S.Files.asked [])) }
     ensures opened { IfOk result (λ ready. is_some ready.shelf ≡ is_some (named_by shelf.now)) }
     ensures shelf { IfOk result
         (λ ready. IsShelfOf S.shelves S.next_shelf S.Files.files (named_by shelf.now)
@@ -68,6 +70,8 @@ pub(crate) fn read_and_open<S: Site, R: Source>(
         ((R.faults script.new ≡ R.faults script.old) × (S.faults site.new ≡ S.faults site.old)
         × IsUnfailed S.Store.faults 0 ended.conclusion.journal ended.conclusion.store
         × IfSome ended.shelf (λ files. S.Files.faults files ≡ 0))) }
+    ensures back_unasked { IfErr result
+        (λ ended. IfSome ended.shelf (WasAsked S.Files.asked [])) }
     ensures handed { IfErr result
         (λ ended. IsHandedOut S.buckets site.old site.new ended.conclusion.store) }
     ensures kept { IfErr result
@@ -146,6 +150,7 @@ fn open_site<S: Site>(
         (λ ready. IfSome (S.next_bucket site.old bucket.now) HoldsNothing) }
     ensures unfailed { IfOk result (λ ready. S.Store.faults ready.0.bucket ≡ 0) }
     ensures unread { IfOk result (λ ready. IfSome ready.1 (λ files. S.Files.faults files ≡ 0)) }
+    ensures unasked { IfOk result (λ ready. IfSome ready.1 (WasAsked S.Files.asked [])) }
     ensures opened { IfOk result (λ ready. is_some ready.1 ≡ is_some (named_by shelf.now)) }
     ensures shelf { IfOk result
         (λ ready. IsShelfOf S.shelves S.next_shelf S.Files.files (named_by shelf.now)
@@ -159,6 +164,8 @@ fn open_site<S: Site>(
         × IsUnfailed S.Store.faults 0 ended.conclusion.journal ended.conclusion.store)) }
     ensures back_unread { IfErr result
         (λ ended. IfSome ended.shelf (λ files. S.Files.faults files ≡ 0)) }
+    ensures back_unasked { IfErr result
+        (λ ended. IfSome ended.shelf (WasAsked S.Files.asked [])) }
     ensures back_opened { IfErr result (λ ended. BehindOpening ended.conclusion.verdict
         (IsOpened (Some bucket.now) (named_by shelf.now) ended.conclusion.store ended.shelf)) }
     ensures handed { IfErr result
@@ -202,6 +209,7 @@ fn open_behind<S: Site>(
     ensures unfailed { IfOk result
         (λ ready. S.Store.faults ready.0.bucket ≡ S.Store.faults bucket) }
     ensures unread { IfOk result (λ ready. IfSome ready.1 (λ files. S.Files.faults files ≡ 0)) }
+    ensures unasked { IfOk result (λ ready. IfSome ready.1 (WasAsked S.Files.asked [])) }
     ensures opened { IfOk result (λ ready. is_some ready.1 ≡ is_some (named_by shelf.now)) }
     ensures shelf { IfOk result
         (λ ready. IsShelfOf S.shelves S.next_shelf S.Files.files (named_by shelf.now)
@@ -219,6 +227,8 @@ fn open_behind<S: Site>(
         ended.conclusion.store)) }
     ensures back_unread { IfErr result
         (λ ended. IfSome ended.shelf (λ files. S.Files.faults files ≡ 0)) }
+    ensures back_unasked { IfErr result
+        (λ ended. IfSome ended.shelf (WasAsked S.Files.asked [])) }
     ensures back_opened { IfErr result (λ ended. BehindOpening ended.conclusion.verdict
         (is_some ended.shelf ≡ is_some (named_by shelf.now))) }
     ensures store { IfErr result (λ ended. IsSome ended.conclusion.store) }
@@ -293,10 +303,12 @@ fn unopened(refusal: OpenRefusal) -> Verdict
 }
 
 /// The shelf of a word, which names none where it is `none`.
+#[tactic(auto, using(crate::proofs::ShelfAsked::just_opened))]
 pub(crate) fn open_shelf<S: Site>(site: &mut S, word: &str) -> Result<Option<S::Files>, SiteRefusal>
     ensures shelf { IfOk result (IsShelfOf S.shelves S.next_shelf S.Files.files
         (named_by word.now) site.old site.new) }
     ensures fresh { IfOk result (λ shelf. IfSome shelf (λ s. S.Files.faults s ≡ 0)) }
+    ensures unasked { IfOk result (λ shelf. IfSome shelf (WasAsked S.Files.asked [])) }
     ensures named { IfOk result (λ shelf. is_some shelf ≡ is_some (named_by word.now)) }
     ensures refused { IfErr result (λ _. S.shelves site.new ≡ S.shelves site.old) }
     ensures asked { IfErr result (λ _. IsSome (named_by word.now)) }

@@ -1,6 +1,7 @@
-ghost use Rattle.std.specs.Prelude.{◌≡◌, ◌⊎◌, Some, None, IfSome, is_some};
+ghost use Rattle.std.specs.Prelude.{◌≡◌, ◌⊎◌, [], Some, None, IfSome, is_some};
 ghost use Rattle.replay_cli.specs.InPhases.{IsInPhases};
 ghost use Rattle.replay_cli.specs.Kept.{IsHandedBack, IsHandedOut, IsNotAsked, IsShelfOf, IsUnfailed, IsUntouched, told_of};
+ghost use Rattle.replay_cli.specs.ShelfAsked.{WasAsked};
 ghost use Rattle.replay_cli.specs.Statuses.{number_of};
 ghost use Rattle.replay_cli.specs.Verdicts.{IfShort, IsCalm, IsCaused, IsSaid, IsWorked, around_call, saying_to};
 ghost use Rattle.replay_cli.specs.Words.{named_by, replay_shelf, replay_word};
@@ -8,7 +9,6 @@ ghost use Rattle.replay_cli.specs.Words.{named_by, replay_shelf, replay_word};
 use crate::conclusion::{Conclusion, Ended};
 use crate::opening::{Ready, read_and_open};
 use crate::runner::run_with_threads;
-use crate::tool::say;
 use crate::words::read_replay;
 use crate::{Run, Status, Verdict};
 use bucket_core::{Sink, Site, Source};
@@ -62,15 +62,9 @@ where
         → IsNotAsked S.buckets S.next_bucket site.old site.new }
     ensures shelf { IsShelfOf S.shelves S.next_shelf S.Files.files (replay_shelf words.now)
         site.old site.new result.shelf }
+    ensures asked { IfSome result.shelf (WasAsked S.Files.asked []) }
 {
-    let Ended { conclusion, shelf } = come_to(rt, alloc, gate, words, site, script);
-    let status = say(alloc, conclusion.verdict, out);
-    Run {
-        status: status.number(),
-        journal: conclusion.journal,
-        store: conclusion.store,
-        shelf,
-    }
+    come_to(rt, alloc, gate, words, site, script).into_run(alloc, out)
 }
 
 /// Does all but the writing.
@@ -101,6 +95,7 @@ where
         → IsNotAsked S.buckets S.next_bucket site.old site.new }
     ensures shelf { IsShelfOf S.shelves S.next_shelf S.Files.files (replay_shelf words.now)
         site.old site.new result.shelf }
+    ensures asked { IfSome result.shelf (WasAsked S.Files.asked []) }
 {
     match read_replay(words) {
         Some(named) => read_and_run(rt, alloc, gate, named.bucket, named.shelf, site, script),
@@ -134,6 +129,7 @@ where
         ((R.faults script.new ≡ R.faults script.old) × (S.faults site.new ≡ S.faults site.old)
         × IsUnfailed S.Store.faults 0 result.conclusion.journal result.conclusion.store
         × IfSome result.shelf (λ files. S.Files.faults files ≡ 0)) }
+    ensures unasked { IfSome result.shelf (WasAsked S.Files.asked []) }
     ensures handed { IsHandedOut S.buckets site.old site.new result.conclusion.store }
     ensures kept { is_some result.conclusion.journal ≡ is_some result.conclusion.store }
     ensures back { IsHandedBack S.Store.contents S.Store.faults result.conclusion.journal

@@ -19,6 +19,6 @@ pub enum Status {
     BucketNotEmpty,
     /// The journal has no room for another entry.
     JournalFull,
-    /// The bucket or the shelf could not be opened, or the bucket not listed.
+    /// The bucket or the shelf could not be opened, the bucket not listed, or a file of the shelf not read.
     SiteFault,
 }

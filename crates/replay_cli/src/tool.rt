@@ -1,23 +1,24 @@
-ghost use Rattle.std.specs.Prelude.{◌≡◌, ◌⊎◌, ℕ, Some, None, IfSome, is_some};
+ghost use Rattle.std.specs.Prelude.{◌≡◌, ◌⊎◌, ℕ, [], Some, None, IfSome, is_some};
 ghost use Rattle.replay_cli.specs.Checks.{files_of};
 ghost use Rattle.replay_cli.specs.Kept.{IsHandedBack, IsHandedOut, IsNotAsked, IsShelfOf, IsUnfailed, IsUntouched, told_of};
+ghost use Rattle.replay_cli.specs.ShelfAsked.{IsBroken, IsUndecided, WasAsked, WasAskedFor};
 ghost use Rattle.replay_cli.specs.Statuses.{number_of};
-ghost use Rattle.replay_cli.specs.Verdicts.{IfShort, IsCalm, IsCaused, IsCheckSaid, IsWorked, IsSaid, around_call, saying_to};
+ghost use Rattle.replay_cli.specs.Verdicts.{IfShort, IsCalm, IsCaused, IsCheckSaid, IsSaid, IsWorked, around_call, saying_to};
 ghost use Rattle.replay_cli.specs.Words.{block_word, bucket_word, named_by, shelf_word};
 ghost use Rattle.lifecycle_core.specs.InLine.{IsInLine};
 
 use crate::check::check_block;
 use crate::conclusion::{Conclusion, Ended};
 use crate::opening::{Ready, read_and_open};
-use crate::output::write_all;
 use crate::runner::run_in_line;
 use crate::words::{read_check, read_serial};
 use crate::{Run, Status, Verdict};
 use bucket_core::{Sink, Site, Source};
 use std::alloc::Global;
 
-/// Does all that the program does: it reads the script to its end, runs it over the bucket that the site hands out, and
-/// writes the report; or it checks a block of a shelf. The words are those of the command line after the program's name.
+/// Does what the words `serial BUCKET SHELF` and `check SHELF ULID` ask for: it reads the script to its end, runs it over the bucket
+/// that the site hands out, one task after another, and writes the report; or it checks a block of a shelf. The words are those
+/// of the command line after the program's name, and no others have a meaning here. It waits for nobody.
 pub fn run_tool<S: Site, R: Source, K: Sink>(
     alloc: Global,
     words: &[String],
@@ -68,15 +69,14 @@ pub fn run_tool<S: Site, R: Source, K: Sink>(
     // So is the shelf, and no shelf is asked for where no word names one.
     ensures shelf { IsShelfOf S.shelves S.next_shelf S.Files.files (shelf_word words.now)
         site.old site.new result.shelf }
+
+    // A check asks its shelf for files of the block, each once; for all that are reached, where it says how it ended. A run
+    // asks for none.
+    ensures asked { IfSome result.shelf (WasAskedFor S.Files.asked
+        (files_of (S.next_shelf site.old) (shelf_word words.now)) (block_word words.now)
+        (IsUndecided result.status)) }
 {
-    let Ended { conclusion, shelf } = come_to(alloc, words, site, script);
-    let status = say(alloc, conclusion.verdict, out);
-    Run {
-        status: status.number(),
-        journal: conclusion.journal,
-        store: conclusion.store,
-        shelf,
-    }
+    come_to(alloc, words, site, script).into_run(alloc, out)
 }
 
 /// Does all but the writing.
@@ -103,6 +103,9 @@ fn come_to<S: Site, R: Source>(
         → IsNotAsked S.buckets S.next_bucket site.old site.new }
     ensures shelf { IsShelfOf S.shelves S.next_shelf S.Files.files (shelf_word words.now)
         site.old site.new result.shelf }
+    ensures asked { IfSome result.shelf (WasAskedFor S.Files.asked
+        (files_of (S.next_shelf site.old) (shelf_word words.now)) (block_word words.now)
+        (IsBroken result.conclusion.verdict)) }
 {
     if let Some(named) = read_serial(words) {
         return read_and_run(alloc, named.bucket, named.shelf, site, script);
@@ -135,6 +138,7 @@ fn read_and_run<S: Site, R: Source>(
         ((R.faults script.new ≡ R.faults script.old) × (S.faults site.new ≡ S.faults site.old)
         × IsUnfailed S.Store.faults 0 result.conclusion.journal result.conclusion.store
         × IfSome result.shelf (λ files. S.Files.faults files ≡ 0)) }
+    ensures unasked { IfSome result.shelf (WasAsked S.Files.asked []) }
     ensures handed { IsHandedOut S.buckets site.old site.new result.conclusion.store }
     ensures kept { is_some result.conclusion.journal ≡ is_some result.conclusion.store }
     ensures back { IsHandedBack S.Store.contents S.Store.faults result.conclusion.journal
@@ -160,19 +164,5 @@ fn read_and_run<S: Site, R: Source>(
             }
         }
         Err(ended) => ended,
-    }
-}
-
-/// Writes a verdict's text. Its status is that of the call, unless the sink failed or there was no memory for the text.
-pub(crate) fn say<K: Sink>(alloc: Global, verdict: Verdict, out: &mut K) -> Status
-    ensures { IsSaid verdict (saying_to K.faults K.written out.old out.new) result }
-{
-    let status = verdict.status();
-    let Ok(text) = verdict.into_text(alloc) else {
-        return Status::NoMemory;
-    };
-    match write_all(out, &text) {
-        Ok(()) => status,
-        Err(_) => Status::SinkFault,
     }
 }

@@ -21,7 +21,7 @@ pub enum Verdict {
     SourceFault,
     /// The text is no script, or too long.
     ScriptRefused(ScriptRefusal),
-    /// The bucket or the shelf could not be opened, or the bucket not listed.
+    /// The bucket or the shelf could not be opened, the bucket not listed, or a file of the shelf not read.
     SiteFault,
     /// An object stood in the bucket before; this is the bucket's least name.
     NotEmpty(Text),

@@ -157,24 +157,28 @@ module _ (setting : Setting) (well : IsCutWell (by_script setting)) (root : Know
   turns_on done phase left told ends is finished = subst (λ (ps : List Phase). AreInTurn (by_workers setting) 0 ps (told ++ ends ∷ [])) (sym is) (turns_one (by_workers setting) 0 done phase left told ends finished)
 
   module _ (done : List Phase) (phase : Phase) (left : List Phase) (is : setting.script.phases ≡ done ++ phase ∷ left) (passed : List Passed) (held : Holdings) (outcomes : List Outcome) (f : HasFinished setting done passed held) where
-    far_on : (why : Broken) → IfFull why (PhasesCame setting.script 0 done f.told outcomes) → (b : HasBrokenOff setting root done passed held phase why) → CameSoFar setting journal (f.told ++ b.ends ∷ []) outcomes (Err why)
-    far_on broken.NoMemory came b = tt
-    far_on broken.Full came b =
+    far_on : (why : Broken) → IfFull why (PhasesCame setting.script 0 done f.told outcomes) → (b : HasBrokenOff setting root done passed held phase why) → IsRunOf setting journal (f.told ++ b.ends ∷ []) → CameSoFar setting journal (f.told ++ b.ends ∷ []) outcomes (Err why)
+    far_on broken.NoMemory came b run = tt
+    far_on broken.Full came b run =
         let ws = workers_of setting.script (length done) in
         let seen = met_full setting phase.tasks held root.front ws b.one.kept b.others b.ends b.lasts b.met.0 b.have b.met.1 b.met.2 in
+        let due = subst (λ (ps : List Phase). IsOperationDue (by_workers setting) none_held ps journal f.told) (sym is)
+        (is_due setting well held done left phase passed b.one f.told root.front b.seat b.others b.ends b.lasts b.met.0 journal f.begun b.begins b.have b.row b.met.1 b.met.2 (cut (passed ++ b.one ∷ []) b.knows)) in
         record {
           full = full_more seen.0 journal (front_more seen.0 root.front journal seen.1 closes.front) seen.2;
           done = done;
-          left = phase ∷ left;
-          phases = is;
-          more = λ none. absurd (cc (none));
           told = f.told;
-          untold = b.ends ∷ [];
+          cut = record {
+            left = phase ∷ left;
+            phases = is;
+            more = λ none. absurd (cc (none));
+            untold = b.ends ∷ [];
+            run = run;
+            finished = f.finished;
+            unfinished = (not_done setting phase.tasks held root.front ws b.one.kept b.others b.ends b.lasts b.met.0 b.have b.met.1 b.met.2, refl);
+            due = λ begun. due;
+          };
           parts = refl;
-          unfinished = (not_done setting phase.tasks held root.front ws b.one.kept b.others b.ends b.lasts b.met.0 b.have b.met.1 b.met.2, refl);
-          due = subst (λ (ps : List Phase). IsOperationDue (by_workers setting) none_held ps journal f.told) (sym is)
-              (is_due setting well held done left phase passed b.one f.told root.front b.seat b.others b.ends b.lasts b.met.0 journal f.begun b.begins b.have b.row b.met.1 b.met.2 (cut (passed ++ b.one ∷ []) b.knows));
-          finished = f.finished;
           came = came;
         }
 
@@ -183,11 +187,12 @@ module _ (setting : Setting) (well : IsCutWell (by_script setting)) (root : Know
         let ws = workers_of setting.script (length done) in
         let were = were_kept setting phase.tasks held root.front ws b.one.kept b.others b.ends b.lasts b.have in
         let next = was_begun setting well (length done) phase held b.one b.ends b.lasts b.begins were.0 were.1 in
+        let run = run_on done phase left passed held next.0 b.one b.ends is f next.2 b.knows in
         record {
           ends = f.told ++ b.ends ∷ [];
-          run = run_on done phase left passed held next.0 b.one b.ends is f next.2 b.knows;
+          run = run;
           turns = turns_on done phase left f.told b.ends is f.finished;
-          far = far_on why came b;
+          far = far_on why came b run;
         }
 
     idled : IsLawfulScript setting.script → (why : Broken) → why ≡ broken.NoMemory → HasIdled setting root passed phase → HasRunBeside setting journal outcomes (Err why)
@@ -202,31 +207,39 @@ module _ (setting : Setting) (well : IsCutWell (by_script setting)) (root : Know
         })
 
   -- no phase was begun behind the finished ones
-  before_it : (outcomes : List Outcome) (why : Broken) (s : HasStopped setting root outcomes why) (w : Broken) → IfFull w (PhasesCame setting.script 0 s.done (s.so_far).told outcomes) → IfFull w (HasSeenFull root) → CameSoFar setting journal (s.so_far).told outcomes (Err w)
-  before_it outcomes why s broken.NoMemory came seen = tt
-  before_it outcomes why s broken.Full came seen = record {
-    full = full_more seen.0 journal (front_more seen.0 root.front journal seen.1 closes.front) seen.2;
-    done = s.done;
-    left = s.phase ∷ s.left;
-    phases = s.phases;
-    more = λ none. absurd (cc (none));
-    told = (s.so_far).told;
-    untold = [];
-    parts = sym (append-nil (s.so_far).told);
-    unfinished = tt;
-    due = tt;
-    finished = (s.so_far).finished;
-    came = came;
-  }
+  before_it : (outcomes : List Outcome) (why : Broken) (s : HasStopped setting root outcomes why) (w : Broken) → IfFull w (PhasesCame setting.script 0 s.done (s.so_far).told outcomes) → IfFull w (HasSeenFull root) → IsRunOf setting journal (s.so_far).told
+      → CameSoFar setting journal (s.so_far).told outcomes (Err w)
+  before_it outcomes why s broken.NoMemory came seen run = tt
+  before_it outcomes why s broken.Full came seen run =
+      let nil : (s.so_far).told ≡ (s.so_far).told ++ [] = sym (append-nil (s.so_far).told) in
+      record {
+        full = full_more seen.0 journal (front_more seen.0 root.front journal seen.1 closes.front) seen.2;
+        done = s.done;
+        told = (s.so_far).told;
+        cut = record {
+          left = s.phase ∷ s.left;
+          phases = s.phases;
+          more = λ none. absurd (cc (none));
+          untold = [];
+          run = subst (IsRunOf setting journal) nil run;
+          finished = (s.so_far).finished;
+          unfinished = tt;
+          due = λ begun. absurd (begun refl);
+        };
+        parts = nil;
+        came = came;
+      }
 
   pub all_stopped : IsLawfulScript setting.script → (outcomes : List Outcome) (why : Broken) → HasStopped setting root outcomes why → HasRunBeside setting journal outcomes (Err why)
   all_stopped lawful outcomes why s = elim s.stands [
-    | inl (knows, seen) ↦ record {
-      ends = (s.so_far).told;
-      run = run_of s.done (s.phase ∷ s.left) s.passed s.held s.phases s.so_far knows;
-      turns = turns_of s.done (s.phase ∷ s.left) (s.so_far).told s.phases (s.so_far).finished;
-      far = before_it outcomes why s why s.came seen;
-    }
+    | inl (knows, seen) ↦
+        let run = run_of s.done (s.phase ∷ s.left) s.passed s.held s.phases s.so_far knows in
+        record {
+          ends = (s.so_far).told;
+          run = run;
+          turns = turns_of s.done (s.phase ∷ s.left) (s.so_far).told s.phases (s.so_far).finished;
+          far = before_it outcomes why s why s.came seen run;
+        }
     | inr begun ↦ elim begun [
       | inl b ↦ ran_on s.done s.phase s.left s.phases s.passed s.held outcomes s.so_far why s.came b
       | inr (wanting, b) ↦ idled s.done s.phase s.left s.phases s.passed s.held outcomes s.so_far lawful why wanting b

@@ -1,14 +1,14 @@
 -- What a run leaves whose phases' workers are beside each other.
-use Rattle.std.specs.Prelude.{◌≡◌, ◌≢◌, ℕ, List, [], ◌∷◌, ◌++◌, length, Option, Some, Result, Ok, Err, slice_get}
+use Rattle.std.specs.Prelude.{◌≡◌, ℕ, List, [], ◌∷◌, ◌++◌, Option, Some, Result, Ok, Err, slice_get}
 use Rattle.world_core.specs.Keeping.{IsFull}
 use Rattle.world_core.specs.declared.entry.Entry.{Entry}
 use Rattle.meta_fetcher.specs.declared.view.View.{View}
 use Rattle.script_workers.specs.declared.phase.Phase.{Phase}
-use Rattle.lifecycle_core.specs.Holdings.{Holdings, none_held}
-use Rattle.lifecycle_core.specs.Phases.{IsFinished, IsInTurn, IsRunOf, by_workers}
+use Rattle.lifecycle_core.specs.Cuts.{IsCutBehind}
+use Rattle.lifecycle_core.specs.Holdings.{Holdings}
+use Rattle.lifecycle_core.specs.Phases.{IsFinished, IsInTurn, IsRunOf}
 use Rattle.lifecycle_core.specs.Setting.{Setting}
 use Rattle.lifecycle_core.specs.Tasks.{End}
-use Rattle.lifecycle_core.specs.Ways.{AreFinished, AreUnfinished, IsOperationDue}
 use Rattle.script_running.specs.Outcomes.{PhasesCame}
 use Rattle.script_running.specs.Tasks.{Sees}
 use Rattle.script_running.specs.declared.came.Broken.{Broken}
@@ -19,25 +19,13 @@ use Rattle.script_running.specs.declared.outcome.Outcome.{Outcome}
 abbrev pub AreSeen : Holdings → List (Option View) → Type 0
 AreSeen held views = (place : ℕ) (view : Option View) → slice_get views place ≡ Some view → Sees (held place) view
 
--- what holds where a phase was begun after those that are told
-abbrev pub WhereBegun : List (List (List End)) → Type 0 → Type 0
-WhereBegun [] P = Unit {0}
-WhereBegun (own ∷ ends) P = P
-
--- Some first phases are finished, and these are their outcomes; of the phases left, none was begun, or the first one alone, and an
--- operation of it is due.
+-- The full journal broke the run off behind some first phases, and these are their outcomes.
 pub record IsCutShort (setting : Setting) (journal : List Entry) (ends : List (List (List End))) (outcomes : List Outcome) : Type 0 where
   pub full : IsFull journal
   pub done : List Phase
-  pub left : List Phase
-  pub phases : setting.script.phases ≡ done ++ left
-  pub more : left ≢ []
   pub told : List (List (List End))
-  pub untold : List (List (List End))
-  pub parts : ends ≡ told ++ untold
-  pub unfinished : AreUnfinished (by_workers setting) (length done) left untold
-  pub due : WhereBegun untold (IsOperationDue (by_workers setting) none_held setting.script.phases journal told)
-  pub finished : AreFinished (by_workers setting) 0 done told
+  pub cut : IsCutBehind setting journal done told
+  pub parts : ends ≡ told ++ cut.untold
   pub came : PhasesCame setting.script 0 done told outcomes
 
 -- how far a run came, by what broke it off

@@ -9,6 +9,7 @@ use Rattle.replay_cli.proofs.Checks.{unopened_caused}
 use Rattle.replay_cli.proofs.CheckedShelf.{checked_opened, named_kept, shelf_kept}
 use Rattle.replay_cli.proofs.Verdicts.{before_opening, behind_opening}
 use Rattle.replay_cli.proofs.Unfailed.{not_short, short_map, short_refused}
+use Rattle.replay_cli.proofs.ShelfAsked.{all_opened}
 use Rattle.replay_cli.proofs.check.check_block.Goals as goal
 
 pub returns-in-Ok-clause-cause : goal.returns-in-Ok-clause-cause
@@ -45,3 +46,8 @@ returns-in-Ok-clause-short g c =
 pub returns-in-Err-clause-short : goal.returns-in-Err-clause-short
 returns-in-Err-clause-short g c =
     short_refused c.in-Err.refusal c.without_bucket-in-Err.result.verdict _ (λ is. c.without_bucket-in-Err.ensures.verdict ∙ c.refused.ensures.failed is) (λ other. (c.in-Err.ensures.only other, tt))
+
+pub returns-in-Ok-clause-asked : goal.returns-in-Ok-clause-asked
+returns-in-Ok-clause-asked g c =
+    all_opened g.S.Files.Shelf.asked g.S.Files.Shelf.files (g.S.Site.next_shelf c.args.site.now) (named_by c.args.shelf.now) c.in-Ok.files c.check_opened-verdict.result.1 c.args.block c.check_opened-verdict.result.0 c.without_bucket.result.verdict
+    c.in-Ok.ensures.named c.in-Ok.ensures.shelf.back c.without_bucket.ensures.verdict (c.check_opened-verdict.ensures.asked c.in-Ok.ensures.unasked)

@@ -4,6 +4,8 @@ use Rattle.replay_cli.specs.Verdicts.{IsChecked}
 use Rattle.replay_cli.specs.declared.verdict.Verdict.{Verdict}
 use Rattle.replay_cli.proofs.Checks.{check_caused}
 use Rattle.replay_cli.proofs.Unfailed.{not_short, short_checked}
+use Rattle.replay_cli.specs.ShelfAsked.{IsBroken}
+use Rattle.replay_cli.proofs.ShelfAsked.{broken_on, checked_since}
 use Rattle.replay_cli.proofs.check.check_files.Goals as goal
 
 pub returns-clause-cause : goal.returns-clause-cause
@@ -14,3 +16,8 @@ returns-clause-cause g c =
 
 pub returns-clause-short : goal.returns-clause-short
 returns-clause-short g c = not_short c.verdict_on.result _ _ c.verdict_on.ensures (short_checked c.args.block c.check_on_shelf-checked.result _ c.check_on_shelf-checked.ensures.kept.calm)
+
+pub returns-clause-asked : goal.returns-clause-asked
+returns-clause-asked g c = λ was.
+    checked_since g.F.Shelf.asked g.F.Shelf.files c.args.shelf c.check_on_shelf-checked.new.shelf c.args.block _ _ c.check_on_shelf-checked.result (IsBroken c.verdict_on.result) c.check_on_shelf-checked.ensures.asks
+    (broken_on c.args.block c.check_on_shelf-checked.result c.verdict_on.result c.verdict_on.ensures) was

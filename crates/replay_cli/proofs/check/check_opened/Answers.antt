@@ -1,6 +1,8 @@
 use Rattle.replay_cli.proofs.CheckedShelf.{none_opened}
 use Rattle.std.proofs.Common.{◌≡◌, ◌∙◌}
 use Rattle.replay_cli.proofs.Unfailed.{if_some, short_map, short_of}
+use Rattle.replay_cli.specs.ShelfAsked.{IsBroken}
+use Rattle.replay_cli.proofs.ShelfAsked.{some_checked}
 use Rattle.replay_cli.proofs.check.check_opened.Goals as goal
 
 pub returns-in-None-clause-cause : goal.returns-in-None-clause-cause
@@ -11,3 +13,7 @@ returns-in-Some-clause-short g c = λ fresh. short_map c.check_files-verdict.res
 
 pub returns-in-None-clause-short : goal.returns-in-None-clause-short
 returns-in-None-clause-short g c = λ fresh. short_of c.absent.result _ tt
+
+pub returns-in-Some-clause-asked : goal.returns-in-Some-clause-asked
+returns-in-Some-clause-asked g c =
+    some_checked g.F.Shelf.asked g.F.Shelf.files c.args.shelf c.in-Some.shelf c.check_files-verdict.result.1 c.args.block (IsBroken c.check_files-verdict.result.0) c.in-Some.is c.check_files-verdict.ensures.asked

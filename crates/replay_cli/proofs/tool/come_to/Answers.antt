@@ -9,6 +9,9 @@ use Rattle.replay_cli.proofs.Openings.{shelf_named, untouched_named}
 use Rattle.replay_cli.proofs.Verdicts.{is_named}
 use Rattle.replay_cli.specs.declared.verdict.Verdict.TheVariants.{WordsRefused}
 use Rattle.replay_cli.proofs.Unfailed.{not_short, short_map, unfailed_none}
+use Rattle.replay_cli.specs.Checks.{files_of}
+use Rattle.replay_cli.specs.ShelfAsked.{IsBroken}
+use Rattle.replay_cli.proofs.ShelfAsked.{check_asked, run_asked}
 use Rattle.replay_cli.proofs.tool.come_to.Goals as goal
 
 -- ---- a run
@@ -33,6 +36,11 @@ pub returns-in-Some-clause-shelf : goal.returns-in-Some-clause-shelf
 returns-in-Some-clause-shelf g c =
     shelf_named g.S.Site.shelves g.S.Site.next_shelf g.S.Files.Shelf.files (named_by c.in-Some.named.shelf.now) (shelf_word c.args.words.now) c.args.site.now c.read_and_run.new.site c.read_and_run.result.shelf
     c.in-Some.ensures.shelf c.read_and_run.ensures.shelf
+
+pub returns-in-Some-clause-asked : goal.returns-in-Some-clause-asked
+returns-in-Some-clause-asked g c =
+    run_asked g.S.Files.Shelf.asked (files_of (g.S.Site.next_shelf c.args.site.now) (shelf_word c.args.words.now)) (block_word c.args.words.now) (IsBroken c.read_and_run.result.conclusion.verdict) c.read_and_run.result.shelf
+    c.in-Some.ensures.block c.read_and_run.ensures.unasked
 
 -- ---- the check of a block
 
@@ -72,6 +80,11 @@ pub returns-in-Some-read_check-clause-shelf : goal.returns-in-Some-read_check-cl
 returns-in-Some-read_check-clause-shelf g c =
     shelf_named g.S.Site.shelves g.S.Site.next_shelf g.S.Files.Shelf.files (named_by c.in-Some-read_check.asked.shelf.now) (shelf_word c.args.words.now) c.args.site.now c.check_block.new.site c.check_block.result.shelf
     c.in-Some-read_check.ensures.shelf c.check_block.ensures.shelf
+
+pub returns-in-Some-read_check-clause-asked : goal.returns-in-Some-read_check-clause-asked
+returns-in-Some-read_check-clause-asked g c =
+    check_asked g.S.Files.Shelf.asked (g.S.Site.next_shelf c.args.site.now) (named_by c.in-Some-read_check.asked.shelf.now) (shelf_word c.args.words.now) c.in-Some-read_check.asked.block (block_word c.args.words.now)
+    (IsBroken c.check_block.result.conclusion.verdict) c.check_block.result.shelf c.in-Some-read_check.ensures.shelf c.in-Some-read_check.ensures.block c.check_block.ensures.asked
 
 -- ---- words that are no form of a call
 
