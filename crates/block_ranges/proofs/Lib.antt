@@ -12,3 +12,16 @@ pub mod Least
 pub mod Sorting
 pub mod SmallReads
 pub mod SmallQueries
+pub mod Leading
+pub mod CallSteps
+pub mod IndexPlans
+pub mod ChunkPlans
+pub mod RunLoop
+pub mod Waiting
+pub mod PartReaders
+pub mod Taking
+pub mod RunsOn
+pub mod KeyedReferences
+pub mod FoundSeries
+pub mod ChunksOn
+pub mod ShownLoop

@@ -15,3 +15,7 @@ pub mod Glimpsed
 pub mod Selecting
 pub mod Caching
 pub mod ChunksRead
+pub mod BlockWork
+pub mod RunFindings
+pub mod ChunkFindings
+pub mod CallStates

@@ -17,7 +17,9 @@ pub(crate) fn from_cache(
     key: Key,
     range: ByteRange,
 ) -> Result<Option<Blob>, NoMemory>
-    ensures { IfOk result (λ found. IsFromCache (range_of key (piece_of range)) (held cache.old) found (held cache.new)) }
+    ensures { IfOk result
+        (λ found. IsFromCache (range_of key (piece_of range)) (held cache.old) found
+        (held cache.new)) }
 {
     match cache.get(key, range.from, range.len) {
         Some(bytes) => Ok(Some(bytes.copy()?)),
@@ -32,7 +34,8 @@ pub(crate) fn keep(
     range: ByteRange,
     bytes: &Blob,
 ) -> Result<(), NoMemory>
-    ensures { OnOk result (held cache.new ≡ kept (range_of key (piece_of range)) bytes.now (held cache.old)) }
+    ensures { OnOk result
+        (held cache.new ≡ kept (range_of key (piece_of range)) bytes.now (held cache.old)) }
 {
     let copied = bytes.copy()?;
     cache.keep(key, range.from, range.len, copied)

@@ -21,12 +21,13 @@ const MOST: u64 = 67_108_864;
 /// How many bytes the header of a segment takes.
 const HEADER: u32 = 8;
 
-/// How many bytes the chunk at a place takes: its length, its encoding, its data and their sum. None where its length cannot be
-/// read, or is more than a segment can have.
+/// How many bytes the chunk at a place takes: its length, its encoding, its data and their sum.
+/// None where its length cannot be read, or is more than a segment can have.
 #[tactic(auto, unfolding(crate::specs::ChunkReads::chunk_len_at))]
 pub fn chunk_len(bytes: &[u8], at: u64) -> Option<u64>
     ensures value { result ≡ result_ok (chunk_len_at bytes.now at) }
-    ensures within { IfSome result (λ len. (at ≤ length bytes.now) × (at + len ≤ length bytes.now + 67_108_869)) }
+    ensures within { IfSome result
+        (λ len. (at ≤ length bytes.now) × (at + len ≤ length bytes.now + 67_108_869)) }
 {
     if at > bytes.len() as u64 {
         return None;
@@ -98,14 +99,17 @@ fn stored_samples(asked: &Asked<'_>, bytes: &[u8]) -> Result<Option<SampleList>,
     }
 }
 
-/// The samples of the chunk at the front of these bytes. None where it is not a chunk of each of these places.
+/// The samples of the chunk at the front of these bytes. None where it is not a chunk of each of
+/// these places.
 #[tactic(auto, unfolding(crate::specs::ChunkReads::chunk_samples_at))]
 pub(crate) fn chunk_samples(
     asked: &Asked<'_>,
     places: &[ChunkPlace],
     bytes: &[u8],
 ) -> Result<Option<SampleList>, NoMemory>
-    ensures { IfOk result (ReadsAs (λ samples. samples) (chunk_samples_at (block_asked asked.now) places.now bytes.now)) }
+    ensures { IfOk result
+        (ReadsAs (λ samples. samples)
+        (chunk_samples_at (block_asked asked.now) places.now bytes.now)) }
 {
     let samples = match stored_samples(asked, bytes)? {
         Some(samples) => samples,

@@ -7,7 +7,8 @@ ghost use Rattle.block_ranges.specs.Asking.{piece_of};
 use crate::ByteRange;
 use index_parts::Toc;
 
-/// Whether symbols, series, postings lists and postings table are there, and each of those that are read has bytes.
+/// Whether symbols, series, postings lists and postings table are there, and each of those that are
+/// read has bytes.
 pub fn has_sections(toc: &Toc, size: u64) -> bool
     requires { 52 ≤ size }
     ensures { result ≡ has_sections toc.now size }
@@ -33,7 +34,8 @@ pub fn section_range(toc: &Toc, size: u64, place: u64) -> ByteRange
     }
 }
 
-/// The end of what stands at a place of an index of so many bytes: the least reference above it, or the table of contents.
+/// The end of what stands at a place of an index of so many bytes: the least reference above it, or
+/// the table of contents.
 #[tactic(auto, unfolding(crate::specs::IndexRanges::end_of))]
 pub fn end_of_place(toc: &Toc, size: u64, place: u64) -> u64
     requires { 52 ≤ size }

@@ -36,7 +36,8 @@ pub(crate) struct Pending {
 
 /// The places of a reference, among places that ascend by their references.
 pub(crate) fn places_of(places: &[ChunkPlace], reference: u64) -> &[ChunkPlace]
-    ensures { IsNonDecreasingBy reference_of places.now → result.now ≡ places_at places.now reference }
+    ensures { IsNonDecreasingBy reference_of places.now
+        → result.now ≡ places_at places.now reference }
 {
     let start = places.partition_point(|place| reference_of(place) < reference);
     let rest = &places[start..];
@@ -53,7 +54,10 @@ fn glimpse_of_chunk(
     bytes: &[u8],
     reference: u64,
 ) -> Result<Option<Glimpse>, NoMemory>
-    ensures { IsNonDecreasingBy reference_of places.now → IfOk result (ReadsAs glimpse_seen (glimpse_at (tests_at (block_asked asked.now) places.now) (group_read group.now) bytes.now reference)) }
+    ensures { IsNonDecreasingBy reference_of places.now
+        → IfOk result (ReadsAs glimpse_seen
+        (glimpse_at (tests_at (block_asked asked.now) places.now)
+        (group_read group.now) bytes.now reference)) }
 {
     let whole = bytes.len();
     prove!(whole <= 0x7fff_ffff_ffff_ffff);
@@ -71,14 +75,18 @@ fn glimpse_of_chunk(
     }
 }
 
-/// The chunks of a group in their order, as its read shows them. None where it does not show a chunk at each reference.
+/// The chunks of a group in their order, as its read shows them. None where it does not show a
+/// chunk at each reference.
 pub(crate) fn glimpses(
     asked: &Asked<'_>,
     places: &[ChunkPlace],
     group: &GroupRead,
     bytes: &[u8],
 ) -> Result<Option<VecDeque<Pending>>, NoMemory>
-    ensures { IsNonDecreasingBy reference_of places.now → IfOk result (λ found. Pends (λ pending. pending.items) group.now.references (each_at (glimpse_at (tests_at (block_asked asked.now) places.now) (group_read group.now) bytes.now) group.now.references) found) }
+    ensures { IsNonDecreasingBy reference_of places.now
+        → IfOk result (λ found. Pends (λ pending. pending.items) group.now.references
+        (each_at (glimpse_at (tests_at (block_asked asked.now) places.now)
+        (group_read group.now) bytes.now) group.now.references) found) }
 {
     glimpses_at(asked, places, group, group.references.members(), bytes)
 }
@@ -91,7 +99,10 @@ fn glimpses_at(
     references: &[u64],
     bytes: &[u8],
 ) -> Result<Option<VecDeque<Pending>>, NoMemory>
-    ensures { IsNonDecreasingBy reference_of places.now → IfOk result (λ found. Pends (λ pending. pending.items) references.now (each_at (glimpse_at (tests_at (block_asked asked.now) places.now) (group_read group.now) bytes.now) references.now) found) }
+    ensures { IsNonDecreasingBy reference_of places.now
+        → IfOk result (λ found. Pends (λ pending. pending.items) references.now
+        (each_at (glimpse_at (tests_at (block_asked asked.now) places.now)
+        (group_read group.now) bytes.now) references.now) found) }
 {
     let mut pending = VecDeque::new(asked.alloc);
     for reference in references {

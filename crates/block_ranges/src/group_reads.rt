@@ -27,7 +27,9 @@ pub(crate) fn groups_to_read(alloc: Global, references: &[u64]) -> Result<Vec<Gr
 fn all_groups(alloc: Global, references: &[u64], spans: &[Span]) -> Result<Vec<GroupRead>, NoMemory>
     requires keys { All (λ r. r < 999_999 * 2 ^ 32) references.now }
     requires within { All (IsSpanOf references.now) spans.now }
-    ensures { IfOk result (λ groups. map group_read groups.items ≡ map group_of (map (stretch_at references.now) spans.now)) }
+    ensures { IfOk result
+        (λ groups. map group_read groups.items
+        ≡ map group_of (map (stretch_at references.now) spans.now)) }
 {
     let mut groups = Vec::new(alloc);
     for span in spans {

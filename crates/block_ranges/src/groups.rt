@@ -11,10 +11,12 @@ use std::alloc::Global;
 /// How far a chunk of a group begins behind the one before it at most.
 const REACH: u64 = 65_536;
 
-/// Cuts references to chunks, which ascend, into the longest groups of which each stands near the one before it.
+/// Cuts references to chunks, which ascend, into the longest groups of which each stands near the
+/// one before it.
 pub fn groups_of_references(alloc: Global, references: &[u64]) -> Result<Vec<Span>, NoMemory>
     requires { IsStrictlyIncreasing references.now }
-    ensures cut { IfOk result (λ groups. AreGroups references.now (map (stretch_at references.now) groups.items)) }
+    ensures cut { IfOk result
+        (λ groups. AreGroups references.now (map (stretch_at references.now) groups.items)) }
     ensures within { IfOk result (λ groups. All (IsSpanOf references.now) groups.items) }
 {
     let mut groups = Vec::new(alloc);
@@ -35,7 +37,9 @@ pub fn groups_of_references(alloc: Global, references: &[u64]) -> Result<Vec<Spa
 fn goes_on(references: &[u64], place: usize) -> bool
     requires within { place < length references.now }
     requires rise { IsStrictlyIncreasing references.now }
-    ensures { IsTrue result ↔ ((place + 1 < length references.now) × IsNear (slice_index references.now place) (slice_index references.now (place + 1))) }
+    ensures { IsTrue result
+        ↔ ((place + 1 < length references.now)
+        × IsNear (slice_index references.now place) (slice_index references.now (place + 1))) }
 {
     place + 1 < references.len() && is_near(references[place], references[place + 1])
 }

@@ -2,18 +2,23 @@
 #![tactic(auto)]
 
 mod asked;
+mod block_call;
+mod block_outcome;
 mod byte_range;
 mod cache_reads;
+mod chunk_steps;
 mod chunks;
 mod ends;
 mod glimpses;
 mod group_read;
 mod group_reads;
 mod groups;
+mod index_steps;
 mod places;
 mod references;
 mod run_read;
 mod run_reads;
+mod run_steps;
 mod runs;
 mod section_tests;
 mod sections;
@@ -22,7 +27,10 @@ mod selection;
 mod series_reads;
 mod shown;
 mod span;
+mod work;
 
+pub use block_call::BlockCall;
+pub use block_outcome::BlockOutcome;
 pub use byte_range::ByteRange;
 pub use chunks::chunk_len;
 pub use ends::{end_of_place, has_sections, section_range};

@@ -1,5 +1,5 @@
 //! The chunk places that a call takes.
-ghost use Rattle.std.specs.Prelude.{◌≡◌, ◌++◌, OnOk, IfOk};
+ghost use Rattle.std.specs.Prelude.{◌≡◌, ◌++◌, ◌*◌, ◌^◌, ◌<◌, nat_lt, All, IsTrue, OnOk, IfOk};
 ghost use Rattle.std.specs.List.{filter, flat_map};
 ghost use Rattle.std.specs.List.Sorted.{IsPermutation, IsNonDecreasingBy};
 ghost use Rattle.index_parts.specs.SeriesEntry.{reference_of};
@@ -29,7 +29,8 @@ pub(crate) fn taken_places(
     asked: &Asked<'_>,
     series: &[IndexSeries],
 ) -> Result<Vec<ChunkPlace>, NoMemory>
-    ensures { IfOk result (λ places. places.items ≡ flat_map (taken (query_asked asked.now)) series.now) }
+    ensures { IfOk result
+        (λ places. places.items ≡ flat_map (taken (query_asked asked.now)) series.now) }
 {
     let mut places = Vec::new(asked.alloc);
     for one in series {
@@ -43,7 +44,9 @@ fn add_taken(
     chunks: &[ChunkPlace],
     places: &mut Vec<ChunkPlace>,
 ) -> Result<(), NoMemory>
-    ensures { OnOk result (places.new.items ≡ places.old.items ++ filter (meets asked.now.low asked.now.high) chunks.now) }
+    ensures { OnOk result
+        (places.new.items ≡ places.old.items
+        ++ filter (meets asked.now.low asked.now.high) chunks.now) }
 {
     for place in chunks {
         if meets(asked, place) {
@@ -55,9 +58,25 @@ fn add_taken(
 
 /// Whether the segments of places have numbers that a key can have.
 pub(crate) fn have_keys(places: &[ChunkPlace]) -> bool
-    ensures { result ≡ have_keys places.now }
+    ensures value { result ≡ have_keys places.now }
+    ensures small { IsTrue result
+        → All (λ place. reference_of place < 999_999 * 2 ^ 32) places.now }
 {
-    places.iter().all(|place| place.segment < MOST_SEGMENTS)
+    for place in places {
+        if !has_key(place) {
+            return false;
+        }
+    }
+    true
+}
+
+/// Whether the segment of a place has such a number.
+fn has_key(place: &ChunkPlace) -> bool
+    ensures value { result ≡ nat_lt place.now.segment 999_999 }
+    ensures small { IsTrue result → reference_of place.now < 999_999 * 2 ^ 32 }
+{
+    let _offset = place.offset;
+    place.segment < MOST_SEGMENTS
 }
 
 /// The places ascending by their references.

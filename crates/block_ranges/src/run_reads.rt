@@ -24,7 +24,8 @@ pub(crate) fn runs_to_read(
     requires all_small { All (λ n. n < 2 ^ 32) all.now }
     requires rise { IsStrictlyIncreasing numbers.now }
     requires small { All (λ n. n < 2 ^ 32) numbers.now }
-    ensures { IfOk result (λ runs. AreRunsToRead sections.toc sections.size all.now numbers.now runs.items) }
+    ensures { IfOk result
+        (λ runs. AreRunsToRead sections.toc sections.size all.now numbers.now runs.items) }
 {
     let spans = runs_of_series(alloc, all, numbers)?;
     all_runs(alloc, sections, all, numbers, &spans)
@@ -42,7 +43,10 @@ fn all_runs(
     requires rise { IsStrictlyIncreasing numbers.now }
     requires small { All (λ n. n < 2 ^ 32) numbers.now }
     requires within { All (IsSpanOf numbers.now) spans.now }
-    ensures { IfOk result (λ runs. map run_read runs.items ≡ map (run_of sections.toc sections.size all.now) (map (stretch_at numbers.now) spans.now)) }
+    ensures { IfOk result
+        (λ runs. map run_read runs.items
+        ≡ map (run_of sections.toc sections.size all.now)
+        (map (stretch_at numbers.now) spans.now)) }
 {
     let mut runs = Vec::new(alloc);
     for span in spans {
@@ -63,7 +67,9 @@ fn run_to_read(
     requires rise { IsStrictlyIncreasing numbers.now }
     requires small { All (λ n. n < 2 ^ 32) numbers.now }
     requires within { IsSpanOf numbers.now span }
-    ensures { IfOk result (λ run. run_read run ≡ run_of sections.toc sections.size all.now (stretch_at numbers.now span)) }
+    ensures { IfOk result
+        (λ run. run_read run ≡ run_of sections.toc sections.size all.now
+        (stretch_at numbers.now span)) }
 {
     let from = 16 * numbers[span.start];
     let end = end_of_run(sections, all, numbers[span.end - 1]);

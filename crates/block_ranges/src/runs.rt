@@ -8,12 +8,14 @@ use crate::Span;
 use list_core::NoMemory;
 use std::alloc::Global;
 
-/// Cuts the numbers of series into the longest runs that follow one another in the list of all series.
+/// Cuts the numbers of series into the longest runs that follow one another in the list of all
+/// series.
 ///
 /// A run is walked along the list; only from run to run a number is sought by halving.
 pub fn runs_of_series(alloc: Global, all: &[u64], numbers: &[u64]) -> Result<Vec<Span>, NoMemory>
     requires { IsStrictlyIncreasing all.now }
-    ensures cut { IfOk result (λ runs. AreRuns all.now numbers.now (map (stretch_at numbers.now) runs.items)) }
+    ensures cut { IfOk result
+        (λ runs. AreRuns all.now numbers.now (map (stretch_at numbers.now) runs.items)) }
     ensures within { IfOk result (λ runs. All (IsSpanOf numbers.now) runs.items) }
 {
     let mut runs = Vec::new(alloc);
@@ -52,11 +54,14 @@ fn place_behind(all: &[u64], likely: usize, number: u64) -> usize
     all.partition_point(|one| *one <= number)
 }
 
-/// Whether the next of the numbers is the one at a place of the list, which is that behind the number at hand.
+/// Whether the next of the numbers is the one at a place of the list, which is that behind the
+/// number at hand.
 fn goes_on(all: &[u64], there: usize, numbers: &[u64], place: usize) -> bool
     requires within { place < length numbers.now }
     requires behind { slice_get all.now there ≡ behind all.now (slice_index numbers.now place) }
-    ensures { IsTrue result ↔ ((place + 1 < length numbers.now) × Follows all.now (slice_index numbers.now place) (slice_index numbers.now (place + 1))) }
+    ensures { IsTrue result
+        ↔ ((place + 1 < length numbers.now)
+        × Follows all.now (slice_index numbers.now place) (slice_index numbers.now (place + 1))) }
 {
     place + 1 < numbers.len() && there < all.len() && all[there] == numbers[place + 1]
 }

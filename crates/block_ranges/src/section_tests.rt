@@ -16,7 +16,8 @@ use std::alloc::Global;
 /// Whether the bytes of a range begin with symbols.
 pub(crate) fn are_symbols(alloc: Global, range: ByteRange, bytes: &[u8]) -> Result<bool, NoMemory>
     requires { range.from + length bytes.now < 2 ^ 64 }
-    ensures { IfOk result (Tells (symbols_at (known (part_at (piece_of range) bytes.now)) range.from)) }
+    ensures { IfOk result
+        (Tells (symbols_at (known (part_at (piece_of range) bytes.now)) range.from)) }
 {
     let part = IndexPart {
         begin: range.from,
@@ -32,7 +33,8 @@ pub(crate) fn are_symbols(alloc: Global, range: ByteRange, bytes: &[u8]) -> Resu
 /// Whether the bytes of a range begin with a postings table.
 pub(crate) fn is_table(alloc: Global, range: ByteRange, bytes: &[u8]) -> Result<bool, NoMemory>
     requires { range.from + length bytes.now < 2 ^ 64 }
-    ensures { IfOk result (Tells (postings_table_at (known (part_at (piece_of range) bytes.now)) range.from)) }
+    ensures { IfOk result
+        (Tells (postings_table_at (known (part_at (piece_of range) bytes.now)) range.from)) }
 {
     let part = IndexPart {
         begin: range.from,

@@ -1,4 +1,4 @@
-ghost use Rattle.std.specs.Prelude.{◌≤◌};
+ghost use Rattle.std.specs.Prelude.{◌<◌, ◌≤◌};
 
 use index_parts::Toc;
 
@@ -8,4 +8,6 @@ pub(crate) struct Sections {
     pub(crate) toc: Toc,
     pub(crate) size: u64,
     ghost long: { 52 ≤ size },
+    ghost symbols: { 0 < toc.symbols },
+    ghost table: { 0 < toc.postings_table },
 }

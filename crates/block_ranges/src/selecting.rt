@@ -16,7 +16,8 @@ use wire_bytes::NumberList;
 
 /// The numbers of all series. None where their list is refused.
 fn all_series(alloc: Global, index: &IndexReader<'_>) -> Result<Option<NumberList>, NoMemory>
-    ensures reads { IfOk result (ReadsAs (λ all. all) (list_of index.now.lists (slice_get index.now.rows 0))) }
+    ensures reads { IfOk result
+        (ReadsAs (λ all. all) (list_of index.now.lists (slice_get index.now.rows 0))) }
     ensures rise { IfOk result (λ found. IfSome found IsStrictlyIncreasing) }
     ensures small { IfOk result (λ found. IfSome found (All (λ n. n < 2 ^ 32))) }
 {
@@ -30,12 +31,14 @@ fn all_series(alloc: Global, index: &IndexReader<'_>) -> Result<Option<NumberLis
     }
 }
 
-/// The series that the selector takes, by the lists of an index. None where one of the lists that it needs is refused.
+/// The series that the selector takes, by the lists of an index. None where one of the lists that
+/// it needs is refused.
 pub(crate) fn select(
     asked: &Asked<'_>,
     index: &IndexReader<'_>,
 ) -> Result<Option<Selection>, NoMemory>
-    ensures { IfOk result (Selects (query_asked asked.now) (block_asked asked.now) (tables_held index.now)) }
+    ensures { IfOk result
+        (Selects (query_asked asked.now) (block_asked asked.now) (tables_held index.now)) }
 {
     let all = match all_series(asked.alloc, index)? {
         Some(all) => all,

@@ -23,7 +23,8 @@ fn series_in(
     requires begins { run.now.range.from ≤ 16 * number }
     requires small { number < 2 ^ 32 }
     ensures { IfOk result (ReadsAs (λ one. one)
-        (numbered_at (known (part_at (piece_of run.now.range) bytes.now)) index.now.symbols number)) }
+        (numbered_at (known (part_at
+        (piece_of run.now.range) bytes.now)) index.now.symbols number)) }
 {
     match index.series_in(alloc, bytes, run.range.from, number as u32) {
         Ok(one) => Ok(Some(one)),
@@ -41,7 +42,8 @@ pub(crate) fn series_of_run(
     series: Vec<IndexSeries>,
 ) -> Result<Option<Vec<IndexSeries>>, NoMemory>
     ensures { IfOk result (ReadsBehind (λ all. all.items) series.items
-        (each_at (numbered_at (known (part_at (piece_of run.now.range) bytes.now)) index.now.symbols) run.now.numbers)) }
+        (each_at (numbered_at
+        (known (part_at (piece_of run.now.range) bytes.now)) index.now.symbols) run.now.numbers)) }
 {
     series_of_numbers(alloc, index, run, run.numbers.members(), bytes, series)
 }
@@ -58,7 +60,8 @@ fn series_of_numbers(
     requires begins { All (λ n. run.now.range.from ≤ 16 * n) numbers.now }
     requires small { All (λ n. n < 2 ^ 32) numbers.now }
     ensures { IfOk result (ReadsBehind (λ all. all.items) series.items
-        (each_at (numbered_at (known (part_at (piece_of run.now.range) bytes.now)) index.now.symbols) numbers.now)) }
+        (each_at (numbered_at
+        (known (part_at (piece_of run.now.range) bytes.now)) index.now.symbols) numbers.now)) }
 {
     let mut all = series;
     for number in numbers {
@@ -77,7 +80,8 @@ fn series_at(
     number: u64,
 ) -> Result<Option<IndexSeries>, NoMemory>
     requires { number < 2 ^ 32 }
-    ensures { IfOk result (ReadsAs (λ one. one) (numbered_at index.now.bytes index.now.symbols number)) }
+    ensures { IfOk result
+        (ReadsAs (λ one. one) (numbered_at index.now.bytes index.now.symbols number)) }
 {
     match index.series(alloc, number as u32) {
         Ok(one) => Ok(Some(one)),
@@ -93,7 +97,9 @@ pub(crate) fn series_of_whole(
     numbers: &[u64],
 ) -> Result<Option<Vec<IndexSeries>>, NoMemory>
     requires { All (λ n. n < 2 ^ 32) numbers.now }
-    ensures { IfOk result (ReadsAs (λ all. all.items) (each_at (numbered_at index.now.bytes index.now.symbols) numbers.now)) }
+    ensures { IfOk result
+        (ReadsAs (λ all. all.items)
+        (each_at (numbered_at index.now.bytes index.now.symbols) numbers.now)) }
 {
     let mut all = Vec::new(alloc);
     for number in numbers {

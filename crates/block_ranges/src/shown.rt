@@ -34,7 +34,8 @@ fn chunk_at(found: &[ChunkRead], there: usize) -> Option<&ChunkRead>
 
 /// The samples that were read at a place, among chunks that ascend by their references.
 fn samples_of<'a>(found: &'a [ChunkRead], place: &ChunkPlace) -> &'a [Sample]
-    ensures { IsStrictlyIncreasing (references_in found.now) → result.now ≡ samples_of (reads_of found.now) place.now }
+    ensures { IsStrictlyIncreasing (references_in found.now)
+        → result.now ≡ samples_of (reads_of found.now) place.now }
 {
     let reference = reference_of(place);
     let there = found.partition_point(|one| one.reference < reference);
@@ -50,7 +51,9 @@ fn samples_of<'a>(found: &'a [ChunkRead], place: &ChunkPlace) -> &'a [Sample]
 
 /// The samples of a series in the range, under its final labels.
 fn shown(asked: &Asked<'_>, series: &IndexSeries, found: &[ChunkRead]) -> Result<Series, NoMemory>
-    ensures { IsStrictlyIncreasing (references_in found.now) → IfOk result (λ made. triples_under made.labels made.samples ≡ shown (query_asked asked.now) (block_asked asked.now) (reads_of found.now) series.now) }
+    ensures { IsStrictlyIncreasing (references_in found.now)
+        → IfOk result (λ made. triples_under made.labels made.samples
+        ≡ shown (query_asked asked.now) (block_asked asked.now) (reads_of found.now) series.now) }
 {
     let labels = final_labels(
         asked.alloc,
@@ -68,7 +71,11 @@ fn samples_within(
     chunks: &[ChunkPlace],
     found: &[ChunkRead],
 ) -> Result<SampleList, NoMemory>
-    ensures { IsStrictlyIncreasing (references_in found.now) → IfOk result (λ samples. samples ≡ filter (λ s. is_within asked.now.low asked.now.high s.time) (flat_map (samples_of (reads_of found.now)) (filter (meets asked.now.low asked.now.high) chunks.now))) }
+    ensures { IsStrictlyIncreasing (references_in found.now)
+        → IfOk result (λ samples. samples
+        ≡ filter (λ s. is_within asked.now.low asked.now.high s.time)
+        (flat_map (samples_of (reads_of found.now))
+        (filter (meets asked.now.low asked.now.high) chunks.now))) }
 {
     let mut samples: Vec<Sample> = Vec::new(asked.alloc);
     for place in chunks {
@@ -85,7 +92,10 @@ fn add_samples(
     found: &[ChunkRead],
     samples: &mut Vec<Sample>,
 ) -> Result<(), NoMemory>
-    ensures { IsStrictlyIncreasing (references_in found.now) → OnOk result (samples.new.items ≡ samples.old.items ++ flat_map (samples_of (reads_of found.now)) (filter (meets asked.now.low asked.now.high) (place.now ∷ []))) }
+    ensures { IsStrictlyIncreasing (references_in found.now)
+        → OnOk result (samples.new.items ≡ samples.old.items
+        ++ flat_map (samples_of (reads_of found.now))
+        (filter (meets asked.now.low asked.now.high) (place.now ∷ []))) }
 {
     if meets(asked, place) {
         samples.extend_from_slice(samples_of(found, place))?;
@@ -99,7 +109,10 @@ pub(crate) fn all_shown(
     series: &[IndexSeries],
     found: &[ChunkRead],
 ) -> Result<SeriesList, NoMemory>
-    ensures { IsStrictlyIncreasing (references_in found.now) → IfOk result (λ made. triples_of made ≡ flat_map (shown (query_asked asked.now) (block_asked asked.now) (reads_of found.now)) series.now) }
+    ensures { IsStrictlyIncreasing (references_in found.now)
+        → IfOk result (λ made. triples_of made
+        ≡ flat_map (shown (query_asked asked.now) (block_asked asked.now)
+        (reads_of found.now)) series.now) }
 {
     let mut made = Vec::new(asked.alloc);
     for one in series {

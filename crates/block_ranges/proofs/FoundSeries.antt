@@ -1,0 +1,92 @@
+-- The series that a selector takes, by a reader of the whole index or of parts of it.
+use Rattle.std.proofs.Common.{◌≡◌, Vec, Global, ℕ, List, refl, sym, ap, subst, ◌∙◌, inl, inr, Option, Some, None, Result, Ok, Err}
+use Rattle.std.specs.Prelude.{IsErr, IsOk, IfOk, option_map, slice_get}
+use Rattle.list_core.specs.declared.memory.NoMemory.{NoMemory}
+use Rattle.index_parts.specs.declared.toc.Toc.{Toc}
+use Rattle.index_parts.specs.SymbolsReading.{symbols_at}
+use Rattle.index_parts.specs.RowsReading.{postings_table_at}
+use Rattle.index_slices.specs.Parts.{file, known}
+use Rattle.index_file.specs.declared.index_series.IndexSeries.{IndexSeries}
+use Rattle.index_v2.specs.Held.{Held, opened_of}
+use Rattle.index_v2.specs.Opening.{opened_at}
+use Rattle.index_v2.specs.SeriesLabels.{numbered_at}
+use Rattle.block_content.specs.Firsts.{each_at}
+use Rattle.block_ranges.specs.Reads.{Query, Block}
+use Rattle.block_ranges.specs.IndexReads.{Tables, tables_of, part_at}
+use Rattle.block_ranges.specs.Findings.{ReadsAs}
+use Rattle.block_ranges.specs.Selecting.{tables_held, Selects}
+use Rattle.block_ranges.specs.ToRead.{AreRunsToRead}
+use Rattle.block_ranges.specs.BlockWork.{SelectsRuns, tables_in, texts_of, rows_in, read_or_none, symbols_piece, table_piece, lists_piece}
+use Rattle.block_ranges.specs.RunFindings.{FindsSeries}
+use Rattle.block_ranges.specs.declared.selection.Selection.{Selection}
+use Rattle.block_ranges.specs.declared.run_read.RunRead.{RunRead}
+use Rattle.block_ranges.specs.declared.work.SymbolsRead.{SymbolsRead}
+use Rattle.block_ranges.specs.declared.work.TablesRead.{TablesRead}
+
+-- ---- the whole index
+
+module _ (query : Query) (block : Block) (bytes : List ℕ) (reader : Held) (is : opened_at bytes ≡ Ok (opened_of reader)) (held : reader.bytes ≡ bytes) (lists : reader.lists ≡ file reader.bytes) where
+  same_whole : tables_held reader ≡ tables_of (opened_of reader)
+  same_whole = λ i. record { symbols = reader.symbols; rows = reader.rows; lists = lists i }
+
+  pub whole_found : (selection : Selection) (found : Option (Vec IndexSeries Global)) → Selects query block (tables_held reader) (Some selection)
+      → ReadsAs (λ (all : Vec IndexSeries Global). all.items) (each_at (numbered_at reader.bytes reader.symbols) selection.numbers) found
+      → FindsSeries query block bytes (option_map (λ (all : Vec IndexSeries Global). all.items) found)
+  whole_found selection (Some all) selects read =
+      let here = subst (λ (t : Tables). Selects query block t (Some selection)) same_whole selects in (
+        opened_of reader,
+        is,
+        selection.all,
+        here.0,
+        here.1,
+        selection.numbers,
+        here.2,
+        subst (λ (b : List ℕ). each_at (numbered_at b reader.symbols) selection.numbers ≡ Ok all.items) held read,
+      )
+  whole_found selection None selects read =
+      let here = subst (λ (t : Tables). Selects query block t (Some selection)) same_whole selects in
+      inr (inr (
+        opened_of reader,
+        is,
+        selection.all,
+        here.0,
+        here.1,
+        selection.numbers,
+        here.2,
+        subst (λ (b : List ℕ). IsErr (each_at (numbered_at b reader.symbols) selection.numbers)) held read,
+      ))
+
+  -- the same of a call that may have wanted memory
+  pub whole_found_in : (selection : Selection) (numbers : List ℕ) (r : Result (Option (Vec IndexSeries Global)) NoMemory) → Selects query block (tables_held reader) (Some selection) → numbers ≡ selection.numbers
+      → IfOk r (ReadsAs (λ (all : Vec IndexSeries Global). all.items) (each_at (numbered_at reader.bytes reader.symbols) numbers))
+      → IfOk r (λ found. FindsSeries query block bytes (option_map (λ (all : Vec IndexSeries Global). all.items) found))
+  whole_found_in selection numbers (Ok found) selects same read =
+      whole_found selection found selects (subst (λ (l : List ℕ). ReadsAs (λ (all : Vec IndexSeries Global). all.items) (each_at (numbered_at reader.bytes reader.symbols) l) found) same read)
+  whole_found_in selection numbers (Err none) selects same read = tt
+
+  pub whole_none : Selects query block (tables_held reader) None → FindsSeries query block bytes None
+  whole_none selects = inr (inl (opened_of reader, is, subst (λ (t : Tables). Selects query block t None) same_whole selects))
+
+-- ---- parts of it
+
+symbols_same : (read : SymbolsRead) (symbols : List (List ℕ)) → symbols_at (known (part_at (symbols_piece read.places) read.symbols)) read.places.toc.symbols ≡ Ok symbols → symbols ≡ texts_of read
+symbols_same read symbols is = sym (ap read_or_none is)
+
+pub texts_are : (read : SymbolsRead) (symbols : List (List ℕ)) → symbols_at (known (record { begin = read.places.toc.symbols; bytes = read.symbols })) read.places.toc.symbols ≡ Ok symbols → symbols ≡ texts_of read
+texts_are read symbols is = symbols_same read symbols is
+
+module _ (read : TablesRead) (lists : List ℕ) (reader : Held)
+    (symbols : symbols_at (known (part_at (symbols_piece read.first.places) read.first.symbols)) read.first.places.toc.symbols ≡ Ok reader.symbols)
+    (rows : postings_table_at (known (part_at (table_piece read.first.places) read.table)) read.first.places.toc.postings_table ≡ Ok reader.rows)
+    (there : reader.lists ≡ part_at (lists_piece read.first.places) lists) where
+  same_parts : tables_held reader ≡ tables_in read lists
+  same_parts = λ i. record { symbols = sym (ap read_or_none symbols) i; rows = sym (ap read_or_none rows) i; lists = there i }
+
+  pub parts_found : (query : Query) (block : Block) (toc : Toc) (size : ℕ) (selection : Selection) (runs : List RunRead) → Selects query block (tables_held reader) (Some selection)
+      → AreRunsToRead toc size selection.all selection.numbers runs → SelectsRuns query block toc size (tables_in read lists) (Some runs)
+  parts_found query block toc size selection runs selects are =
+      let here = subst (λ (t : Tables). Selects query block t (Some selection)) same_parts selects in
+      record { all = selection.all; all_are = here.0; lists = here.1; numbers = selection.numbers; taken = here.2; runs_are = are }
+
+  pub parts_none : (query : Query) (block : Block) (toc : Toc) (size : ℕ) → Selects query block (tables_held reader) None → SelectsRuns query block toc size (tables_in read lists) None
+  parts_none query block toc size selects = subst (λ (t : Tables). Selects query block t None) same_parts selects

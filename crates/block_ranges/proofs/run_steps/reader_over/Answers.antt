@@ -1,0 +1,11 @@
+use Rattle.block_ranges.proofs.PartReaders.{over_holds}
+use Rattle.block_ranges.proofs.run_steps.reader_over.Goals as goal
+
+pub returns-in-Ok-clause-symbols : goal.returns-in-Ok-clause-symbols
+returns-in-Ok-clause-symbols c = (over_holds _ c.in-Ok.reader c.in-Ok.ensures.exact).symbols
+
+pub returns-in-Ok-clause-rows : goal.returns-in-Ok-clause-rows
+returns-in-Ok-clause-rows c = (over_holds _ c.in-Ok.reader c.in-Ok.ensures.exact).rows
+
+pub returns-in-Ok-clause-lists : goal.returns-in-Ok-clause-lists
+returns-in-Ok-clause-lists c = (over_holds _ c.in-Ok.reader c.in-Ok.ensures.exact).lists

@@ -1,0 +1,16 @@
+-- What the steps of a call find of chunks, as the code has it.
+use Rattle.std.specs.Prelude.{◌≡◌, List, [], ◌∷◌, map}
+use Rattle.block_ranges.specs.ChunkReads.{sticks_out}
+use Rattle.block_ranges.specs.ChunksRead.{reads_of}
+use Rattle.block_ranges.specs.Glimpsed.{pending_chunk}
+use Rattle.block_ranges.specs.BlockWork.{shown_first}
+use Rattle.block_ranges.specs.declared.chunk_steps.Shown.{Shown}
+use Rattle.block_ranges.specs.declared.chunk_steps.Shown.TheVariants.{SticksOut, All}
+use Rattle.block_ranges.specs.declared.glimpses.Pending.{Pending}
+use Rattle.block_ranges.specs.declared.shown.ChunkRead.{ChunkRead}
+
+-- the chunks that are shown up to the first that sticks out, behind others
+abbrev pub ShowsFirst : List ChunkRead → List Pending → Shown → Type 0
+ShowsFirst found chunks (SticksOut all reference len pending) =
+    shown_first (map pending_chunk chunks) (reads_of found) ≡ (reads_of all.items, (reference, sticks_out len) ∷ map pending_chunk pending.items)
+ShowsFirst found chunks (All all) = shown_first (map pending_chunk chunks) (reads_of found) ≡ (reads_of all.items, [])

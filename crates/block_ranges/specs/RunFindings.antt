@@ -1,0 +1,97 @@
+-- What the steps of a call find of an index, as the code has it.
+use Rattle.std.specs.Prelude.{◌≡◌, ◌⊎◌, ℕ, ◌<◌, ◌==◌, Bool, true, false, List, [], ◌∷◌, length, map, slice_get, Option, Some, None, Result, Ok, Err, IsOk, IsErr}
+use Rattle.std.specs.List.{list_all}
+use Rattle.std.specs.Map.{lookup}
+use Rattle.world_core.specs.Plans.{Keeps}
+use Rattle.block_keys.specs.declared.key.Key.TheVariants.{Index}
+use Rattle.index_parts.specs.declared.toc.Toc.{Toc}
+use Rattle.index_parts.specs.ContentsReading.{toc_at}
+use Rattle.index_parts.specs.SymbolsReading.{symbols_at}
+use Rattle.index_parts.specs.RowsReading.{postings_table_at}
+use Rattle.index_slices.specs.Parts.{known}
+use Rattle.index_cache.specs.Caches.{same_range}
+use Rattle.index_file.specs.declared.index_series.IndexSeries.{IndexSeries}
+use Rattle.index_file.specs.Opened.{Opened}
+use Rattle.index_v2.specs.Opening.{opened_at}
+use Rattle.index_v2.specs.PostingsLists.{list_of}
+use Rattle.index_v2.specs.WholeReading.{lists_at}
+use Rattle.index_v2.specs.SeriesLabels.{numbered_at}
+use Rattle.series_selection.specs.Selections.{rows_read}
+use Rattle.block_content.specs.Firsts.{each_at}
+use Rattle.block_ranges.specs.IndexRanges.{has_bytes, has_sections}
+use Rattle.block_ranges.specs.Reads.{Query, Block, Cache, range_of}
+use Rattle.block_ranges.specs.IndexReads.{reached, part_at, tables_of, IsTakenBy}
+use Rattle.block_ranges.specs.Asking.{query_asked, block_asked, piece_of}
+use Rattle.block_ranges.specs.ToRead.{run_read}
+use Rattle.block_ranges.specs.BlockWork.{AreSelectedRuns, SelectsRuns, whole_left, runs_left, chunks_left, tables_in, texts_of, symbols_piece, table_piece, lists_piece}
+use Rattle.block_ranges.specs.declared.asked.Asked.{Asked}
+use Rattle.block_ranges.specs.declared.sections.Sections.{Sections}
+use Rattle.block_ranges.specs.declared.run_read.RunRead.{RunRead}
+use Rattle.block_ranges.specs.declared.run_steps.Taken.{Taken}
+use Rattle.block_ranges.specs.declared.run_steps.Taken.TheVariants.{Waits, All, Refused}
+use Rattle.block_ranges.specs.declared.work.SymbolsRead.{SymbolsRead}
+use Rattle.block_ranges.specs.declared.work.TablesRead.{TablesRead}
+
+-- a table of contents with the sections that are read, in an index of so many bytes
+abbrev pub HasSections : Toc → ℕ → Option Sections → Type 0
+HasSections toc size (Some places) = (places.toc ≡ toc) × (places.size ≡ size) × (has_sections toc size ≡ true)
+HasSections toc size None = has_sections toc size ≡ false
+
+-- the same of the bytes that are read for it
+abbrev pub FindsSections : ℕ → List ℕ → Option Sections → Type 0
+FindsSections size bytes (Some places) =
+    (length bytes ≡ 52) × (toc_at bytes ≡ Ok places.toc) × (places.size ≡ size) × (has_sections places.toc size ≡ true)
+FindsSections size bytes None =
+    ((length bytes == 52) ≡ false) ⊎ IsErr (toc_at bytes) ⊎ ((toc : Toc) × (toc_at bytes ≡ Ok toc) × (has_sections toc size ≡ false))
+
+-- the bytes of the symbols are as many as were asked for, and symbols
+abbrev pub TestsSymbols : Sections → List ℕ → Option SymbolsRead → Type 0
+TestsSymbols places bytes (Some read) =
+    (read.places ≡ places) × (read.symbols ≡ bytes) × (length bytes ≡ (symbols_piece places).len)
+    × IsOk (symbols_at (known (part_at (symbols_piece places) bytes)) places.toc.symbols)
+TestsSymbols places bytes None =
+    ((length bytes == (symbols_piece places).len) ≡ false) ⊎ IsErr (symbols_at (known (part_at (symbols_piece places) bytes)) places.toc.symbols)
+
+-- and those of the postings table
+abbrev pub TestsTable : SymbolsRead → List ℕ → Option TablesRead → Type 0
+TestsTable first bytes (Some read) =
+    (read.first ≡ first) × (read.table ≡ bytes) × (length bytes ≡ (table_piece first.places).len)
+    × IsOk (postings_table_at (known (part_at (table_piece first.places) bytes)) first.places.toc.postings_table)
+TestsTable first bytes None =
+    ((length bytes == (table_piece first.places).len) ≡ false) ⊎ IsErr (postings_table_at (known (part_at (table_piece first.places) bytes)) first.places.toc.postings_table)
+
+-- the runs that are to be read by the bytes of the postings lists
+abbrev pub FindsRuns : Asked → TablesRead → List ℕ → Option (List RunRead) → Type 0
+FindsRuns asked read lists (Some runs) =
+    (length lists ≡ (lists_piece read.first.places).len)
+    × AreSelectedRuns (query_asked asked) (block_asked asked) read.first.places.toc read.first.places.size (tables_in read lists) runs
+    × (list_all (λ run. has_bytes run.piece) (map run_read runs) ≡ true)
+FindsRuns asked read lists None =
+    ((length lists == (lists_piece read.first.places).len) ≡ false)
+    ⊎ SelectsRuns (query_asked asked) (block_asked asked) read.first.places.toc read.first.places.size (tables_in read lists) None
+    ⊎ ((runs : List RunRead) × AreSelectedRuns (query_asked asked) (block_asked asked) read.first.places.toc read.first.places.size (tables_in read lists) runs
+    × (list_all (λ run. has_bytes run.piece) (map run_read runs) ≡ false))
+
+-- The cache was asked for runs, up to one that it has not got.
+abbrev pub GoesOnRuns : Asked → List (List ℕ) → ℕ → Cache → Cache → List RunRead → List IndexSeries → Taken → Type 0
+GoesOnRuns asked symbols last old new runs series (Waits run later taken) =
+    (lookup (same_range (range_of (Index asked.ulid) (piece_of run.range))) new.entries ≡ None) × (length later.items < length runs)
+    × Keeps (runs_left asked symbols (run_read run ∷ map run_read later.items) (reached last new) taken.items) (runs_left asked symbols (map run_read runs) (reached last old) series)
+GoesOnRuns asked symbols last old new runs series (All taken) =
+    Keeps (chunks_left asked (reached last new) taken.items) (runs_left asked symbols (map run_read runs) (reached last old) series)
+GoesOnRuns asked symbols last old new runs series Refused =
+    Keeps (whole_left asked new) (runs_left asked symbols (map run_read runs) (reached last old) series)
+
+-- The bytes are an index, and these are the series that the selector takes from it.
+abbrev pub FindsSeries : Query → Block → List ℕ → Option (List IndexSeries) → Type 0
+FindsSeries query block bytes (Some series) =
+    (opened : Opened) × (opened_at bytes ≡ Ok opened) × (all : List ℕ) × (list_of (tables_of opened).lists (slice_get opened.rows 0) ≡ Ok all)
+    × IsOk (lists_at (tables_of opened).lists (rows_read block.external opened.rows query.selector))
+    × (numbers : List ℕ) × IsTakenBy query block (tables_of opened) numbers × (each_at (numbered_at bytes opened.symbols) numbers ≡ Ok series)
+FindsSeries query block bytes None =
+    IsErr (opened_at bytes)
+    ⊎ ((opened : Opened) × (opened_at bytes ≡ Ok opened)
+    × (IsErr (list_of (tables_of opened).lists (slice_get opened.rows 0)) ⊎ IsErr (lists_at (tables_of opened).lists (rows_read block.external opened.rows query.selector))))
+    ⊎ ((opened : Opened) × (opened_at bytes ≡ Ok opened) × (all : List ℕ) × (list_of (tables_of opened).lists (slice_get opened.rows 0) ≡ Ok all)
+    × IsOk (lists_at (tables_of opened).lists (rows_read block.external opened.rows query.selector))
+    × (numbers : List ℕ) × IsTakenBy query block (tables_of opened) numbers × IsErr (each_at (numbered_at bytes opened.symbols) numbers))
