@@ -1,6 +1,6 @@
 -- What a call asked of its shelf, from the readings of a check outwards to the whole call.
-use Rattle.std.proofs.Common.{◌≡◌, ◌⊎◌, inl, inr, ℕ, ◌<◌, List, [], refl, sym, ◌∙◌, ap, subst, arith}
-use Rattle.std.specs.Prelude.{Option, Some, None, IfSome, is_some, Result, Ok, Err}
+use Rattle.std.proofs.Common.{◌≡◌, inl, inr, ℕ, ◌<◌, List, [], refl, sym, ◌∙◌, ap, subst, arith}
+use Rattle.std.specs.Prelude.{Option, Some, None, IfSome, is_some, Result}
 use Rattle.bucket_core.specs.Asking.{Asks}
 use Rattle.bucket_core.specs.Contents.{Contents}
 use Rattle.block_content.specs.declared.check_refusal.CheckRefusal.{CheckRefusal}
