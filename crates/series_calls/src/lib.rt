@@ -4,5 +4,8 @@
 mod laws;
 mod series_end;
 
-pub use laws::{answers_are_of_shares, calls_have_one_end};
+pub use laws::{
+    answers_are_of_shares, answers_lie_in_the_range, caches_are_of_reads, calls_have_one_end,
+    calls_read_their_blocks,
+};
 pub use series_end::SeriesEnd;
