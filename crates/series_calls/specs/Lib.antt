@@ -5,3 +5,5 @@ pub mod SeriesCalls
 pub mod Shares
 pub mod Asking
 pub mod KeptRanges
+pub mod BlockRuns
+pub mod Calls
