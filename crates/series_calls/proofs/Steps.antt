@@ -21,9 +21,9 @@ use Rattle.block_ranges.specs.BlockReads.{BlockEnd, gives, breaks_off as broken,
 use Rattle.series_calls.specs.SeriesCalls.{CallEnd, Gives, took, broke, after_block, asking, reading, sources_of, to_read}
 use Rattle.series_calls.specs.BlockRuns.{BlockRun, IsEnd, asked_block, cache_of, may_block}
 use Rattle.series_calls.specs.Calls.{Leads, Onward, StartsMeeting, Waits, after_reads, asked_at, asked_call, beyond, ended_with, left_at, left_of, may_call, query_of, reads_of, told_by, with_cache}
-use Rattle.series_calls.specs.declared.block_call.BlockCall.{BlockCall}
-use Rattle.series_calls.specs.declared.block_call.BlockOutcome.{BlockOutcome}
-use Rattle.series_calls.specs.declared.block_call.BlockOutcome.TheVariants as outcome
+use Rattle.block_ranges.specs.declared.block_call.BlockCall.{BlockCall}
+use Rattle.block_ranges.specs.declared.block_outcome.BlockOutcome.{BlockOutcome}
+use Rattle.block_ranges.specs.declared.block_outcome.BlockOutcome.TheVariants as outcome
 use Rattle.series_calls.specs.declared.series_call.SeriesCall.{SeriesCall}
 use Rattle.series_calls.specs.declared.series_end.SeriesEnd.{SeriesEnd}
 use Rattle.series_calls.specs.declared.series_end.SeriesEnd.TheVariants as ended

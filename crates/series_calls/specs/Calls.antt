@@ -16,9 +16,9 @@ use Rattle.block_ranges.specs.Reads.{Query, Block, Cache, missing, damaged, faul
 use Rattle.block_ranges.specs.BlockReads.{BlockEnd, gives, breaks_off}
 use Rattle.series_calls.specs.SeriesCalls.{CallEnd, Gives, after_block, asking, meets, reading, sources_of, to_read}
 use Rattle.series_calls.specs.BlockRuns.{asked_block, cache_of, count_block, may_block, most_reads}
-use Rattle.series_calls.specs.declared.block_call.BlockCall.{BlockCall}
-use Rattle.series_calls.specs.declared.block_call.BlockOutcome.{BlockOutcome}
-use Rattle.series_calls.specs.declared.block_call.BlockOutcome.TheVariants as outcome
+use Rattle.block_ranges.specs.declared.block_call.BlockCall.{BlockCall}
+use Rattle.block_ranges.specs.declared.block_outcome.BlockOutcome.{BlockOutcome}
+use Rattle.block_ranges.specs.declared.block_outcome.BlockOutcome.TheVariants as outcome
 use Rattle.series_calls.specs.declared.select.Wanted.{Wanted}
 use Rattle.series_calls.specs.declared.series_call.SeriesCall.{SeriesCall}
 use Rattle.series_calls.specs.declared.series_end.SeriesEnd.{SeriesEnd}

@@ -1,7 +1,6 @@
 //! A gateway's call over the blocks of its view, which reads ranges of their objects.
 #![tactic(auto)]
 
-mod block_call;
 mod laws;
 mod select;
 mod series_call;

@@ -13,9 +13,9 @@ ghost use Rattle.series_calls.specs.declared.stage.Stage.TheVariants as stage;
 ghost use Rattle.series_calls.specs.declared.series_end.SeriesEnd.{SeriesEnd};
 
 use crate::SeriesEnd;
-use crate::block_call::{BlockCall, BlockOutcome};
 use crate::select::{Wanted, all_sources, from_first_meeting, high_of, low_of};
 use crate::stage::Stage;
+use block_ranges::{BlockCall, BlockOutcome};
 use index_cache::IndexCache;
 use label_sets::{SeriesList, TextList};
 use list_core::NoMemory;

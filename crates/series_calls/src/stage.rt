@@ -1,4 +1,4 @@
-use crate::block_call::BlockCall;
+use block_ranges::BlockCall;
 use index_cache::IndexCache;
 
 /// Where a series call stands.
