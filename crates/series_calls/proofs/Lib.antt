@@ -1,3 +1,13 @@
 pub mod OneMerge
 pub mod SharesOf
 pub mod OneCall
+pub mod Gatherings
+pub mod PartsBegun
+pub mod FirstReads
+pub mod Meeting
+pub mod Steps
+pub mod CacheChanges
+pub mod BlockWalk
+pub mod BlockLaws
+pub mod CallLaws
+pub mod RangeLaws

@@ -22,7 +22,7 @@ found_by : (b : Bool) (p : Triple → Bool) (x : Triple) (xs : List Triple) (t :
 found_by true p x xs t is later found = let same : x ≡ t = cc (rw is at found) in subst (Contains (x ∷ xs)) same (contains_first x xs)
 found_by false p x xs t is later found = contains_later x t xs (later (rw is at found))
 
-found_contains : (p : Triple → Bool) (xs : List Triple) (t : Triple) → find p xs ≡ Some t → Contains xs t
+pub found_contains : (p : Triple → Bool) (xs : List Triple) (t : Triple) → find p xs ≡ Some t → Contains xs t
 found_contains p [] t found = absurd (cc (found))
 found_contains p (x ∷ xs) t found = found_by (p x) p x xs t refl (found_contains p xs t) found
 

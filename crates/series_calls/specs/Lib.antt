@@ -3,3 +3,7 @@ pub use Rattle.block_ranges.specs.Reads
 pub use Rattle.block_ranges.specs.BlockReads
 pub mod SeriesCalls
 pub mod Shares
+pub mod Asking
+pub mod KeptRanges
+pub mod BlockRuns
+pub mod Calls

@@ -1,13 +1,16 @@
-ghost use Rattle.std.specs.Prelude.{◌≡◌, ℕ, List, Option, Some};
+ghost use Rattle.std.specs.Prelude.{◌≡◌, ℕ, List, true, All, Contains, Option, Some};
 ghost use Rattle.label_sets.specs.Triples.{Triple, triples_of};
 ghost use Rattle.label_sets.specs.declared.series.Series.{Series};
 ghost use Rattle.std.specs.List.Sorted.{IsStrictlyIncreasing};
 ghost use Rattle.world_core.specs.declared.entry.Entry.{Entry};
 ghost use Rattle.meta_fetcher.specs.declared.view.View.{View};
+ghost use Rattle.matchers.specs.Selected.{is_within};
 ghost use Rattle.vertical_merge.specs.Merged.{IsMerge};
 ghost use Rattle.block_ranges.specs.Reads.{Query, Cache};
 ghost use Rattle.series_calls.specs.SeriesCalls.{CallEnd, SeriesRun, to_read};
 ghost use Rattle.series_calls.specs.Shares.{AreShares, all_shares};
+ghost use Rattle.series_calls.specs.Asking.{IsReadOfOne};
+ghost use Rattle.series_calls.specs.KeptRanges.{IsOfReads};
 ghost use Rattle.series_calls.specs.declared.series_end.SeriesEnd.TheVariants as ended;
 
 /// A law: an answer has each sample that some block of the view gave once, and no other, where the pattern of the first block
@@ -31,4 +34,28 @@ pub fn calls_have_one_end()
     ensures { (view : View) (query : Query) (cache : Cache) (entries : List Entry) (one other : CallEnd)
         → SeriesRun view query cache entries (Some one) → SeriesRun view query cache entries (Some other)
         → one ≡ other }
+{}
+
+/// A law: a call asks for nothing but the index of blocks that meet its range of times, ranges of it, and ranges of their segments.
+pub fn calls_read_their_blocks()
+    ensures { (view : View) (query : Query) (cache : Cache) (entries : List Entry) (end : Option CallEnd)
+        → SeriesRun view query cache entries end
+        → All (λ e. IsReadOfOne (to_read query view.kept) e.op) entries }
+{}
+
+/// A law: each range that a call leaves in its cache was read, with these bytes, where those were that it had before and where the
+/// call's own entries stand.
+pub fn caches_are_of_reads()
+    ensures { (view : View) (query : Query) (before : Cache) (entries journal : List Entry) (call : CallEnd)
+        → SeriesRun view query before entries (Some call) → All (Contains journal) entries
+        → IsOfReads journal before → IsOfReads journal call.cache }
+{}
+
+/// A law: the samples of an answer lie in the range that was asked for.
+pub fn answers_lie_in_the_range()
+    ensures { (view : View) (query : Query) (before after : Cache) (entries : List Entry)
+        (series : List Series) (sources : List ℕ)
+        → SeriesRun view query before entries
+        (Some (record { end = ended.Answer series sources; cache = after }))
+        → All (λ t. is_within query.low query.high t.time ≡ true) (triples_of series) }
 {}

@@ -1,0 +1,237 @@
+ghost use Rattle.std.specs.Prelude.{◌≡◌, ◌+◌, ◌<◌, ℕ, List, [], ◌∷◌, ◌++◌, Option, Some, Ok, IfOk, OnOk, IsSomeAnd};
+ghost use Rattle.world_core.specs.Operations.{IsAnswer, entry_of};
+ghost use Rattle.world_core.specs.Machines.{GoesOn, Falls};
+ghost use Rattle.world_core.specs.declared.op.Op.{Op};
+ghost use Rattle.world_core.specs.declared.entry.Entry.{Entry};
+ghost use Rattle.world_core.specs.declared.act.Act.TheVariants as act;
+ghost use Rattle.label_sets.specs.Triples.{triples_of};
+ghost use Rattle.index_cache.specs.Caches.{held};
+ghost use Rattle.block_ranges.specs.Reads.{block_of};
+ghost use Rattle.series_calls.specs.SeriesCalls.{SeriesRun, asking};
+ghost use Rattle.series_calls.specs.BlockRuns.{asked_block, count_block, most_reads};
+ghost use Rattle.series_calls.specs.declared.stage.Stage.TheVariants as stage;
+ghost use Rattle.series_calls.specs.declared.series_end.SeriesEnd.{SeriesEnd};
+
+use crate::SeriesEnd;
+use crate::select::{Wanted, all_sources, from_first_meeting, high_of, low_of};
+use crate::stage::Stage;
+use block_ranges::{BlockCall, BlockOutcome};
+use index_cache::IndexCache;
+use label_sets::{SeriesList, TextList};
+use list_core::NoMemory;
+use matchers::Selector;
+use meta_fetcher::View;
+use std::alloc::Global;
+use std::mem;
+use sync_filters::Found;
+use vertical_merge::Merger;
+use world_core::{Act, Machine, Seen};
+
+/// The call of one gateway for a query: it reads ranges of each kept block that meets the range of times, and answers the merged
+/// samples.
+#[derive(Drop)]
+pub struct SeriesCall<'a> {
+    alloc: Global,
+    /// The blocks of the view.
+    kept: &'a [Found],
+    wanted: Wanted<'a>,
+    stage: Stage<'a>,
+    /// The blocks behind the one that is read.
+    left: &'a [Found],
+    merger: Merger,
+}
+
+impl<'a> SeriesCall<'a> {
+    ghost use Rattle.series_calls.specs.Calls.{IsFresh, IsOver, Leads, after_reads, asked_call, count_call, count_left, ended_with, left_of, may_call, reads_of};
+    ghost use Rattle.series_calls.specs.declared.series_call.SeriesCall.{SeriesCall};
+
+    /// Begins a call over a view for the series that the selector matches, with their samples from `low` to `high`, both
+    /// included. The cache is the gateway's. Beginning takes no memory.
+    pub fn start(
+        alloc: Global,
+        view: &'a View,
+        selector: &'a Selector,
+        replicas: &'a TextList,
+        low: i64,
+        high: i64,
+        cache: IndexCache,
+    ) -> Result<SeriesCall<'a>, NoMemory>
+        ensures begun { IfOk result IsFresh }
+        ensures run { IfOk result
+            (λ call. (entries : List Entry) (end : Option SeriesEnd) (last : SeriesCall)
+            → may_call call entries end last
+            → SeriesRun view.now (asking selector.now replicas.now low high) (held cache) entries
+            (ended_with end last)) }
+        ensures over { IfOk result
+            (λ call. (entries : List Entry) (end : SeriesEnd) (last : SeriesCall)
+            → may_call call entries (Some end) last → IsOver last) }
+    {
+        let kept = view.kept.members();
+        Ok(SeriesCall {
+            alloc,
+            kept,
+            wanted: Wanted {
+                selector,
+                replicas,
+                low,
+                high,
+            },
+            stage: Stage::Fresh(cache),
+            left: kept,
+            merger: Merger::new(alloc),
+        })
+    }
+
+    /// The gateway's cache as the call left it, once that has come to its end.
+    pub fn into_cache(self) -> IndexCache
+        requires { IsOver self }
+        ensures { self.entry.stage ≡ stage.Over result }
+    {
+        let SeriesCall { stage, .. } = self;
+        match stage {
+            Stage::Over(cache) => cache,
+            _ => unreachable!(),
+        }
+    }
+
+    /// Begins the reads of the first block that is left and meets the range, or answers where there is none.
+    fn read_next(&mut self, cache: IndexCache) -> Result<Act<SeriesEnd>, NoMemory>
+        ensures leads { Leads (reads_of self.old (left_of self.old) (held cache)) result self.new }
+        ensures falls { Falls (count_left (left_of self.old)) result (count_call self.new) }
+    {
+        match from_first_meeting(self.left, self.wanted) {
+            [block, rest @ ..] => {
+                self.left = rest;
+                self.begin(block, cache)
+            }
+            [] => self.answer(cache),
+        }
+    }
+
+    /// Begins the reads of a block, which stands before those that are left.
+    fn begin(&mut self, block: &'a Found, cache: IndexCache) -> Result<Act<SeriesEnd>, NoMemory>
+        ensures leads { Leads
+            (reads_of self.old (block_of block.now.ulid block.now.meta ∷ left_of self.old)
+            (held cache)) result self.new }
+        ensures falls { Falls (count_left (left_of self.old) + (most_reads + 1)) result
+            (count_call self.new) }
+    {
+        let wanted = &self.wanted;
+        let mut part = BlockCall::start(
+            self.alloc,
+            block.ulid,
+            &block.meta,
+            wanted.selector,
+            wanted.replicas,
+            low_of(wanted),
+            high_of(wanted),
+            cache,
+        );
+        match part.first()? {
+            Act::Do(op) => {
+                self.stage = Stage::Reading(part);
+                Ok(Act::Do(op))
+            }
+            // the reads of a block begin with an operation
+            Act::Done(_) => unreachable!(),
+        }
+    }
+
+    /// Merges what the blocks gave.
+    fn answer(&mut self, cache: IndexCache) -> Result<Act<SeriesEnd>, NoMemory>
+        ensures leads { Leads (reads_of self.old [] (held cache)) result self.new }
+        ensures falls { Falls 0 result (count_call self.new) }
+    {
+        let sources = all_sources(self.alloc, self.kept)?;
+        let merger = mem::replace(&mut self.merger, Merger::new(self.alloc));
+        let series = merger.finish()?;
+        Ok(self.end(cache, SeriesEnd::Answer { series, sources }))
+    }
+
+    /// Comes to its end.
+    fn end(&mut self, cache: IndexCache, end: SeriesEnd) -> Act<SeriesEnd>
+        ensures done { result ≡ act.Done end }
+        ensures over { self.new ≡ record self.old { stage = stage.Over cache } }
+    {
+        self.stage = Stage::Over(cache);
+        Act::Done(end)
+    }
+
+    /// Goes on with the reads of a block.
+    fn go_on(&mut self, mut part: BlockCall<'a>, seen: Seen) -> Result<Act<SeriesEnd>, NoMemory>
+        requires answer { IsSomeAnd (asked_block part) (λ op. IsAnswer op seen) }
+        ensures goes_on { (seat : ℕ) (op : Op) → asked_block part.entry ≡ Some op
+            → GoesOn may_call asked_call (record self.old { stage = stage.Reading part.entry })
+            (entry_of seat op seen ∷ []) result self.new }
+        ensures falls { Falls (count_left (left_of self.old) + count_block part.entry) result
+            (count_call self.new) }
+    {
+        match part.step(seen)? {
+            Act::Do(op) => {
+                self.stage = Stage::Reading(part);
+                Ok(Act::Do(op))
+            }
+            Act::Done(came) => self.after_block(came, part.into_cache()),
+        }
+    }
+
+    /// Takes what the reads of a block came to, and goes on with the next block, or comes to its end.
+    fn after_block(
+        &mut self,
+        came: BlockOutcome,
+        cache: IndexCache,
+    ) -> Result<Act<SeriesEnd>, NoMemory>
+        ensures leads { Leads (after_reads self.old came (held cache)) result self.new }
+        ensures falls { Falls (count_left (left_of self.old)) result (count_call self.new) }
+    {
+        match came {
+            BlockOutcome::Taken(series) => {
+                take_all(&mut self.merger, series)?;
+                self.read_next(cache)
+            }
+            BlockOutcome::Missing(entry) => Ok(self.end(cache, SeriesEnd::Missing(entry))),
+            BlockOutcome::Damaged(entry) => Ok(self.end(cache, SeriesEnd::Damaged(entry))),
+            BlockOutcome::Fault(entry) => Ok(self.end(cache, SeriesEnd::Fault(entry))),
+        }
+    }
+}
+
+/// Adds series to a merger.
+fn take_all(merger: &mut Merger, series: SeriesList) -> Result<(), NoMemory>
+    ensures { OnOk result (merger.new ≡ merger.old ++ triples_of series) }
+{
+    for one in series.into_vec() {
+        merger.take(one)?;
+    }
+    Ok(())
+}
+
+impl<'a> Machine for SeriesCall<'a> {
+    type End = SeriesEnd;
+
+    ghost use Rattle.series_calls.specs.Calls.{IsFresh, asked_call, count_call, may_call};
+
+    ghost may = { may_call };
+
+    ghost asked = { asked_call };
+
+    ghost measure = { count_call };
+
+    ghost fresh = { IsFresh };
+
+    fn first(&mut self) -> Result<Act<SeriesEnd>, NoMemory> {
+        let stage = mem::replace(&mut self.stage, Stage::Lost);
+        match stage {
+            Stage::Fresh(cache) => self.read_next(cache),
+            _ => unreachable!(),
+        }
+    }
+
+    fn step(&mut self, seen: Seen) -> Result<Act<SeriesEnd>, NoMemory> {
+        let stage = mem::replace(&mut self.stage, Stage::Lost);
+        match stage {
+            Stage::Reading(part) => self.go_on(part, seen),
+            _ => unreachable!(),
+        }
+    }
+}
