@@ -1,14 +1,14 @@
 -- A pass whose operation was answered that the journal is full has seen a full journal, and one for whose operation memory was
 -- wanted has not.
-use Rattle.std.proofs.Common.{◌≡◌, ◌+◌, ◌≤◌, List, ◌++◌, length, sym, ap, ◌∙◌, subst, inl, inr, arith, length-append}
+use Rattle.std.proofs.Common.{◌≡◌, ◌⊎◌, ◌||◌, Bool, true, false, IsTrue, refl, ◌+◌, ◌≤◌, List, ◌++◌, length, sym, ap, ◌∙◌, subst, inl, inr, arith, length-append}
 use Rattle.std.proofs.lemmas.List.Sums.{sum_by-append}
 use mathlib.Core.List.{IsPrefix}
 use Rattle.world_core.specs.Keeping.{IsFull, bytes_put, bytes_told, kept_bytes}
 use Rattle.world_core.specs.declared.entry.Entry.{Entry}
 use Rattle.world_core.specs.declared.op.Op.{Op}
 use Rattle.world_core.specs.declared.acted.Acted.{Acted}
-use Rattle.world_core.specs.declared.acted.Acted.TheVariants.{Full, NoMemory}
-use Rattle.world_turn.specs.Turns.{Acts, front_after}
+use Rattle.world_core.specs.declared.acted.Acted.TheVariants.{Done, Full, NoMemory}
+use Rattle.world_turn.specs.Turns.{Acts, front_after, is_wanting}
 use Rattle.world_turn.specs.declared.view.View.{View}
 
 pub front_full : (v : View) (op : Op) (acted : Acted) (w : View) → Acts v op acted w → acted ≡ Full → IsFull w.front
@@ -24,3 +24,12 @@ front_short v op acted w a none full =
     let front : IsFull v.front = subst IsFull (a.front ∙ ap (front_after v a.journal op) none) full in
     let was : acted ≡ Full = a.full.1 (full_more v.front a.journal a.finds.front front) in
     cc
+
+wanted_by : (b : Bool) (acted : Acted) → IsTrue (b || is_wanting acted) → IsTrue b ⊎ (acted ≡ NoMemory)
+wanted_by true acted is = inl refl
+wanted_by false NoMemory is = inr refl
+wanted_by false (Done seen) is = absurd cc
+wanted_by false Full is = absurd cc
+
+pub wanted_so : (v : View) (op : Op) (acted : Acted) (w : View) → Acts v op acted w → IsTrue w.wanted → IsTrue v.wanted ⊎ (acted ≡ NoMemory)
+wanted_so v op acted w a so = wanted_by v.wanted acted (subst IsTrue a.wanted so)

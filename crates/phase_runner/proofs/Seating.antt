@@ -35,7 +35,7 @@ pub none_seated : {J : Type 0} (table : TableId) (root : Pass) (all : List J) �
 none_seated table root all seat = record {
   done = [];
   parts = refl;
-  split = record { table = refl; root = seat; splits = omega arith; own = refl; front = refl; known = refl; joined = refl; tick = refl };
+  split = record { table = refl; root = seat; splits = omega arith; own = refl; front = refl; known = refl; joined = refl; refused = refl; wanted = refl; tick = refl };
   seated = tt;
 }
 
@@ -58,6 +58,8 @@ one_seated table first root next pass all jobs rest job works h is of next_of ne
         front = next_view.front ∙ s.front;
         known = next_view.known ∙ s.known;
         joined = next_view.joined ∙ s.joined;
+        refused = next_view.refused ∙ s.refused;
+        wanted = next_view.wanted ∙ s.wanted;
         tick = next_view.tick ∙ s.tick;
       };
       seated = seated_snoc table (view_of first) (first.splits + 1) h.done works job pass h.seated record {
@@ -66,6 +68,8 @@ one_seated table first root next pass all jobs rest job works h is of next_of ne
         own = pass_view.own;
         front = pass_view.front ∙ s.front;
         known = pass_view.known ∙ s.known;
+        refused = pass_view.refused;
+        wanted = pass_view.wanted;
       };
     }
 

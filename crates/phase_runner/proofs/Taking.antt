@@ -1,5 +1,6 @@
 -- Taking in one ended worker more.
-use Rattle.std.proofs.Common.{◌≡◌, ℕ, ◌+◌, ◌≤◌, ◌++◌, List, [], ◌∷◌, length, length-append, max, Option, Some, None, refl, sym, ap, ◌∙◌, subst, arith, append_assoc, append-nil, le_refl}
+use Rattle.std.proofs.Common.{◌≡◌, ◌⊎◌, inl, inr, ◌||◌, Bool, IsTrue, true, false, ℕ, ◌+◌, ◌≤◌, ◌++◌, List, [], ◌∷◌, length, length-append, max, Option, Some, None, refl, sym, ap, ap₂, ◌∙◌, subst, arith, append_assoc, append-nil, le_refl}
+use Rattle.std.specs.List.{list_any}
 use Rattle.atomic_table.specs.Seated.{TableId}
 use Rattle.world_core.specs.declared.entry.Entry.{Entry}
 use mathlib.Core.List.{IsPrefix}
@@ -10,12 +11,45 @@ use Rattle.world_turn.specs.declared.view.View.{View}
 use Rattle.world_turn.proofs.Fronts.{front_whole, front_more}
 use Rattle.world_turn.proofs.Later.{stand_more}
 use Rattle.phase_runner.specs.Phases.{IsEnded, AreEnded, RanTo, Runs, HasJoined}
-use Rattle.phase_runner.specs.Works.{Meaning}
+use Rattle.phase_runner.specs.Works.{Meaning, Telling}
 
 max_more : (a b c : ℕ) → a ≤ b → a ≤ max b c
 max_more a b c h = omega arith
 
-module _ {J E : Type 0} (may : Meaning J E) where
+or_false : (b : Bool) → b ≡ (b || false)
+or_false true = refl
+or_false false = refl
+
+or_more : (a b c : Bool) → ((a || b) || c) ≡ (a || (b || c))
+or_more true b c = refl
+or_more false b c = refl
+
+any_more : {E : Type 0} (met : E → Bool) (ends : List E) (end : E) → list_any met (ends ++ end ∷ []) ≡ (list_any met ends || met end)
+any_more met [] end = sym (or_false (met end))
+any_more met (e ∷ ends) end = ap (λ (b : Bool). met e || b) (any_more met ends end) ∙ sym (or_more (met e) (list_any met ends) (met end))
+
+-- one more end, whose pass the root took in
+any_joined : {E : Type 0} (met : E → Bool) (ends : List E) (end : E) (first root pass next : Bool) → next ≡ (root || pass) → pass ≡ met end → root ≡ (first || list_any met ends) → next ≡ (first || list_any met (ends ++ end ∷ []))
+any_joined met ends end first root pass next both one before =
+    both ∙ (ap₂ (λ (a b : Bool). a || b) before one ∙ (or_more first (list_any met ends) (met end) ∙ ap (λ (b : Bool). first || b) (sym (any_more met ends end))))
+
+or_either : (a b : Bool) → IsTrue (a || b) → IsTrue a ⊎ IsTrue b
+or_either true b is = inl refl
+or_either false b is = inr is
+
+or_left : (a b : Bool) → IsTrue a → IsTrue (a || b)
+or_left a b is = ap (λ (x : Bool). x || b) is
+
+or_right : (a b : Bool) → IsTrue b → IsTrue (a || b)
+or_right true b is = refl
+or_right false b is = is
+
+any_wanted : {E : Type 0} (told : E → Bool) (ends : List E) (end : E) (root pass next : Bool) (P : Type 0) → next ≡ (root || pass) → (IsTrue pass → IsTrue (told end)) → (IsTrue root → P ⊎ IsTrue (list_any told ends)) → IsTrue next → P ⊎ IsTrue (list_any told (ends ++ end ∷ []))
+any_wanted told ends end root pass next P both one before so =
+    let more = any_more told ends end in
+    elim (or_either root pass (subst IsTrue both so)) [ inl was ↦ elim (before was) [ inl first ↦ inl first | inr any ↦ inr (subst IsTrue (sym more) (or_left (list_any told ends) (told end) any)) ] | inr now ↦ inr (subst IsTrue (sym more) (or_right (list_any told ends) (told end) (one now))) ]
+
+module _ {J E : Type 0} (may : Meaning J E) (tells : Telling E) where
   -- the first of the works is ended, and belongs to the first job
   pub record Opens (table : TableId) (v : View) (seat : ℕ) (rest : List J) (pass : Option Pass) (end : Option E) (works : List (Option Pass × Option E)) : Type 0 where
     pub job : J
@@ -25,11 +59,11 @@ module _ {J E : Type 0} (may : Meaning J E) where
     pub e : E
     pub pass_is : pass ≡ Some p
     pub end_is : end ≡ Some e
-    pub ended : IsEnded may table v seat job p e
-    pub later : AreEnded may table v (seat + 1) others works
+    pub ended : IsEnded may tells table v seat job p e
+    pub later : AreEnded may tells table v (seat + 1) others works
 
   pub opened : (table : TableId) (v : View) (seat : ℕ) (rest : List J) (pass : Option Pass) (end : Option E) (works : List (Option Pass × Option E))
-      → AreEnded may table v seat rest ((pass, end) ∷ works) → Opens table v seat rest pass end works
+      → AreEnded may tells table v seat rest ((pass, end) ∷ works) → Opens table v seat rest pass end works
   opened table v seat [] pass end works a = absurd a
   opened table v seat (j ∷ js) None end works a = absurd a
   opened table v seat (j ∷ js) (Some p) None works a = absurd a
@@ -69,20 +103,24 @@ module _ {J E : Type 0} (may : Meaning J E) where
     pub done : List J
     pub rest : List J
     pub parts : all ≡ done ++ rest
-    pub left : AreEnded may table v (seat + length done) rest works
+    pub left : AreEnded may tells table v (seat + length done) rest works
     pub kept : List (ℕ × List Entry)
     pub joined : HasJoined first root kept
     pub runs : Runs may v.known (view_of root).front seat done ends kept
+    pub refused : (view_of root).refused ≡ ((view_of first).refused || list_any tells.full ends)
+    pub wanted : IsTrue (view_of root).wanted → IsTrue (view_of first).wanted ⊎ IsTrue (list_any tells.wanted ends)
 
-  pub none_taken : (table : TableId) (v : View) (seat : ℕ) (all : List J) (root : Pass) (works : List (Option Pass × Option E)) → root.seat ≡ 0 → AreEnded may table v seat all works → HasTaken table v seat all root root works []
+  pub none_taken : (table : TableId) (v : View) (seat : ℕ) (all : List J) (root : Pass) (works : List (Option Pass × Option E)) → root.seat ≡ 0 → AreEnded may tells table v seat all works → HasTaken table v seat all root root works []
   none_taken table v seat all root works z a = record {
     done = [];
     rest = all;
     parts = refl;
-    left = subst (λ (n : ℕ). AreEnded may table v n all works) (omega arith) a;
+    left = subst (λ (n : ℕ). AreEnded may tells table v n all works) (omega arith) a;
     kept = [];
     joined = record { table = refl; root = z; splits = refl; own = refl; front = front_whole (view_of root).front; known = omega arith; joined = sym (append-nil (view_of root).joined); tick = refl };
     runs = tt;
+    refused = or_false (view_of root).refused;
+    wanted = λ was. inl was;
   }
 
   pub one_taken : (table : TableId) (v : View) (seat : ℕ) (all : List J) (first root next pass : Pass) (end : E) (works : List (Option Pass × Option E)) (ends : List E)
@@ -91,7 +129,7 @@ module _ {J E : Type 0} (may : Meaning J E) where
       → HasTaken table v seat all first next works (ends ++ end ∷ [])
   one_taken table v seat all first root next pass end works ends h of z n is = go h.rest h.parts h.left
     where
-      go : (rest : List J) → all ≡ h.done ++ rest → AreEnded may table v (seat + length h.done) rest ((Some pass, Some end) ∷ works) → HasTaken table v seat all first next works (ends ++ end ∷ [])
+      go : (rest : List J) → all ≡ h.done ++ rest → AreEnded may tells table v (seat + length h.done) rest ((Some pass, Some end) ∷ works) → HasTaken table v seat all first next works (ends ++ end ∷ [])
       go [] parts a = absurd a
       go (job ∷ jobs) parts a =
           let j = h.joined in
@@ -104,7 +142,7 @@ module _ {J E : Type 0} (may : Meaning J E) where
             done = h.done ++ job ∷ [];
             rest = jobs;
             parts = parts ∙ sym (append_assoc h.done (job ∷ []) jobs);
-            left = subst (λ (m : ℕ). AreEnded may table v m jobs works) (omega arith) a.1;
+            left = subst (λ (m : ℕ). AreEnded may tells table v m jobs works) (omega arith) a.1;
             kept = h.kept ++ k ∷ [];
             joined = record {
               table = of ∙ j.table;
@@ -124,12 +162,14 @@ module _ {J E : Type 0} (may : Meaning J E) where
                   run = a.0.run;
                   stand = stand_more v.known v.known k.1 (view_of pass).front (view_of next).front (le_refl v.known) a.0.stand is.second;
                 };
+            refused = any_joined tells.full ends end (view_of first).refused (view_of root).refused (view_of pass).refused (view_of next).refused is.refused a.0.refused h.refused;
+            wanted = any_wanted tells.wanted ends end (view_of root).wanted (view_of pass).wanted (view_of next).wanted (IsTrue (view_of first).wanted) is.wanted a.0.wanted h.wanted;
           }
 
   pub all_taken : (table : TableId) (v : View) (seat : ℕ) (all : List J) (first root : Pass) (works : List (Option Pass × Option E)) (ends : List E) → HasTaken table v seat all first root works ends → works ≡ []
       → (kept : List (ℕ × List Entry)) × HasJoined first root kept × Runs may v.known (view_of root).front seat all ends kept
-  all_taken table v seat all first root works ends h none = go h.rest h.parts (subst (AreEnded may table v (seat + length h.done) h.rest) none h.left)
+  all_taken table v seat all first root works ends h none = go h.rest h.parts (subst (AreEnded may tells table v (seat + length h.done) h.rest) none h.left)
     where
-      go : (rest : List J) → all ≡ h.done ++ rest → AreEnded may table v (seat + length h.done) rest [] → (kept : List (ℕ × List Entry)) × HasJoined first root kept × Runs may v.known (view_of root).front seat all ends kept
+      go : (rest : List J) → all ≡ h.done ++ rest → AreEnded may tells table v (seat + length h.done) rest [] → (kept : List (ℕ × List Entry)) × HasJoined first root kept × Runs may v.known (view_of root).front seat all ends kept
       go [] parts a = (h.kept, h.joined, subst (λ (l : List J). Runs may v.known (view_of root).front seat l ends h.kept) (sym (parts ∙ append-nil h.done)) h.runs)
       go (job ∷ jobs) parts a = absurd a

@@ -1,5 +1,5 @@
 -- What is seen of a hand over a shared world.
-use Rattle.std.specs.Prelude.{◌≡◌, ℕ, Bool, Option, Some, None, refl}
+use Rattle.std.specs.Prelude.{◌≡◌, ℕ, Option, Some, None, refl}
 use Rattle.std.proofs.Common.{◌∙◌}
 use Rattle.atomic_table.specs.Seated.{TableId}
 use Rattle.world_turn.specs.Rule.{spent}
@@ -9,13 +9,11 @@ use Rattle.world_turn.specs.declared.pass.Pass.{Pass}
 use Rattle.world_turn.specs.declared.view.View.{View}
 use Rattle.world_turn.proofs.Later.{later-none, later-more}
 
--- a hand: the table of its world, its seat, what its pass knows, and whether an operation was answered that the journal is
--- full
+-- a hand: the table of its world, its seat, and what its pass knows
 pub record HandView : Type 0 where
   pub table : TableId
   pub seat : ℕ
   pub view : View
-  pub refused : Bool
 
 abbrev pub view_in : Option Pass → View
 view_in None = spent

@@ -1,5 +1,5 @@
 -- The workers of a phase: their places before it, and what it leaves.
-use Rattle.std.specs.Prelude.{◌≡◌, ℕ, ◌+◌, ◌≤◌, ◌++◌, List, [], ◌∷◌, Option, Some}
+use Rattle.std.specs.Prelude.{◌≡◌, ℕ, ◌+◌, ◌≤◌, ◌++◌, false, IsTrue, List, [], ◌∷◌, Option, Some}
 use mathlib.Core.List.{IsPrefix}
 use Rattle.atomic_table.specs.Seated.{TableId}
 use Rattle.world_core.specs.declared.entry.Entry.{Entry}
@@ -7,7 +7,7 @@ use Rattle.world_turn.specs.Passes.{table_of, view_of}
 use Rattle.world_turn.specs.Seats.{Stand}
 use Rattle.world_turn.specs.declared.pass.Pass.{Pass}
 use Rattle.world_turn.specs.declared.view.View.{View}
-use Rattle.phase_runner.specs.Works.{Meaning}
+use Rattle.phase_runner.specs.Works.{Meaning, Telling}
 
 -- ---- what a phase leaves
 
@@ -47,6 +47,8 @@ pub record IsSeated (table : TableId) (v : View) (seat : ℕ) (pass : Pass) : Ty
   pub own : (view_of pass).own ≡ []
   pub front : (view_of pass).front ≡ v.front
   pub known : (view_of pass).known ≡ v.known
+  pub refused : (view_of pass).refused ≡ false
+  pub wanted : (view_of pass).wanted ≡ false
 
 -- the jobs wait in order, with new passes of the next seats
 abbrev pub AreSeated : {J : Type 0} → TableId → View → ℕ → List J → List (Option J × Option Pass) → Type 0
@@ -64,21 +66,25 @@ pub record HasSplit (old new : Pass) (count : ℕ) : Type 0 where
   pub front : (view_of new).front ≡ (view_of old).front
   pub known : (view_of new).known ≡ (view_of old).known
   pub joined : (view_of new).joined ≡ (view_of old).joined
+  pub refused : (view_of new).refused ≡ (view_of old).refused
+  pub wanted : (view_of new).wanted ≡ (view_of old).wanted
   pub tick : (view_of new).tick ≡ (view_of old).tick
 
 -- the job of a seat came to its end, with the pass that it was given
-pub record IsEnded {J E : Type 0} (may : Meaning J E) (table : TableId) (v : View) (seat : ℕ) (job : J) (pass : Pass) (end : E) : Type 0 where
+pub record IsEnded {J E : Type 0} (may : Meaning J E) (tells : Telling E) (table : TableId) (v : View) (seat : ℕ) (job : J) (pass : Pass) (end : E) : Type 0 where
   pub table_is : table_of pass ≡ table
   pub sits : pass.seat ≡ seat
   pub run : may job seat (view_of pass).own (Some (view_of pass).front) end
   pub stand : Stand v.known (view_of pass).own (view_of pass).front
+  pub refused : (view_of pass).refused ≡ tells.full end
+  pub wanted : IsTrue (view_of pass).wanted → IsTrue (tells.wanted end)
 
 -- all jobs came to their ends
-abbrev pub AreEnded : {J E : Type 0} → Meaning J E → TableId → View → ℕ → List J → List (Option Pass × Option E) → Type 0
-AreEnded may table v seat [] [] = Unit {0}
-AreEnded may table v seat (job ∷ jobs) ((Some pass, Some end) ∷ works) =
-    IsEnded may table v seat job pass end × AreEnded may table v (seat + 1) jobs works
-AreEnded may table v seat jobs works = ⊥
+abbrev pub AreEnded : {J E : Type 0} → Meaning J E → Telling E → TableId → View → ℕ → List J → List (Option Pass × Option E) → Type 0
+AreEnded may tells table v seat [] [] = Unit {0}
+AreEnded may tells table v seat (job ∷ jobs) ((Some pass, Some end) ∷ works) =
+    IsEnded may tells table v seat job pass end × AreEnded may tells table v (seat + 1) jobs works
+AreEnded may tells table v seat jobs works = ⊥
 
 -- the root, after it took in passes
 pub record HasJoined (old new : Pass) (kept : List (ℕ × List Entry)) : Type 0 where

@@ -1,5 +1,4 @@
-ghost use Rattle.std.specs.Prelude.{◌≡◌, ◌||◌, false};
-ghost use Rattle.world_core.specs.Machines.{is_full};
+ghost use Rattle.std.specs.Prelude.{◌≡◌};
 ghost use Rattle.world_turn.specs.Passes.{table_of, view_of};
 
 use crate::Gate;
@@ -18,7 +17,6 @@ pub struct TurnHand<'a, B: Bucket, G: Gate, R: Wait> {
     pass: Option<Pass>,
     /// How many operations were done.
     number: u64,
-    refused: bool,
 }
 
 impl<'a, B: Bucket, G: Gate, R: Wait> Model for TurnHand<'a, B, G, R> {
@@ -30,19 +28,17 @@ impl<'a, B: Bucket, G: Gate, R: Wait> Model for TurnHand<'a, B, G, R> {
       table = h.shared.now.table.shared.table_id;
       seat = seat_in h.pass;
       view = view_in h.pass;
-      refused = h.refused;
     } };
 
     ghost invariant = { λ h. IsThere h.shared.now.table.shared.table_id h.pass };
 }
 
 impl<'a, B: Bucket, G: Gate, R: Wait> TurnHand<'a, B, G, R> {
-    /// A hand of this pass, which has been refused nothing yet.
+    /// A hand of this pass.
     pub fn new(shared: &'a Shared<B>, gate: &'a G, rt: &'a R, pass: Pass) -> Self
         requires { table_of pass ≡ shared.now.table.shared.table_id }
         ensures pass { (result.table ≡ table_of pass) × (result.seat ≡ pass.seat)
             × (result.view ≡ view_of pass) }
-        ensures refused { result.refused ≡ false }
     {
         TurnHand {
             shared,
@@ -50,7 +46,6 @@ impl<'a, B: Bucket, G: Gate, R: Wait> TurnHand<'a, B, G, R> {
             rt,
             pass: Some(pass),
             number: 0,
-            refused: false,
         }
     }
 
@@ -65,7 +60,6 @@ impl<'a, B: Bucket, G: Gate, R: Wait> TurnHand<'a, B, G, R> {
             rt: _,
             pass,
             number: _,
-            refused: _,
         } = self;
         match pass {
             Some(pass) => pass,
@@ -75,7 +69,7 @@ impl<'a, B: Bucket, G: Gate, R: Wait> TurnHand<'a, B, G, R> {
 }
 
 impl<'a, B: Bucket, G: Gate, R: Wait> Hand for TurnHand<'a, B, G, R> {
-    ghost use Rattle.std.specs.Prelude.{Some, false};
+    ghost use Rattle.std.specs.Prelude.{Some};
     ghost use Rattle.phase_runner.specs.Hands.{GoesOn, goes_on-none, goes_on-more};
 
     ghost entries = { λ hand. hand.view.own };
@@ -84,9 +78,9 @@ impl<'a, B: Bucket, G: Gate, R: Wait> Hand for TurnHand<'a, B, G, R> {
 
     ghost front = { λ hand. Some hand.view.front };
 
-    ghost refused = { λ hand. hand.refused };
+    ghost refused = { λ hand. hand.view.refused };
 
-    ghost wanted = { λ hand. false };
+    ghost wanted = { λ hand. hand.view.wanted };
 
     ghost keeps = { GoesOn };
 
@@ -101,7 +95,6 @@ impl<'a, B: Bucket, G: Gate, R: Wait> Hand for TurnHand<'a, B, G, R> {
         self.gate.before(pass.seat(), self.number);
         let (acted, pass) = self.shared.act(self.rt, pass, op);
         self.number = number_after(self.number, &acted);
-        self.refused = refused_after(self.refused, &acted);
         self.pass = Some(pass);
         acted
     }
@@ -112,14 +105,5 @@ fn number_after(number: u64, acted: &Acted) -> u64 {
     match acted {
         Acted::Done(_) => number.saturating_add(1),
         Acted::Full | Acted::NoMemory => number,
-    }
-}
-
-fn refused_after(refused: bool, acted: &Acted) -> bool
-    ensures { result ≡ (refused || is_full acted.now) }
-{
-    match acted {
-        Acted::Full => true,
-        Acted::Done(_) | Acted::NoMemory => refused,
     }
 }

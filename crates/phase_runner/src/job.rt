@@ -1,11 +1,11 @@
-ghost use Rattle.std.specs.Prelude.{◌≡◌, ◌++◌, List};
+ghost use Rattle.std.specs.Prelude.{◌≡◌, ◌⊎◌, ◌++◌, ◌||◌, IsTrue, List};
 ghost use Rattle.world_core.specs.declared.entry.Entry.{Entry};
 
 use world_core::Hand;
 
 /// What one worker of a phase does.
 pub trait Job {
-    ghost use Rattle.std.specs.Prelude.{ℕ, List, Option};
+    ghost use Rattle.std.specs.Prelude.{ℕ, Bool, List, Option};
     ghost use Rattle.world_core.specs.declared.entry.Entry.{Entry};
 
     type End: Drop;
@@ -14,10 +14,19 @@ pub trait Job {
     /// come to this end.
     ghost may: { Self → ℕ → List Entry → Option (List Entry) → Self.End → Type 0 };
 
+    /// Whether a job that came to this end met the full journal.
+    ghost met_full: { Self.End → Bool };
+
+    /// Whether a job that came to this end says that it wanted memory.
+    ghost wanted: { Self.End → Bool };
+
     /// Does the job through a hand.
     fn run<H: Hand>(self, hand: &mut H) -> Self::End
         ensures run { (made : List Entry) × (H.entries hand.new ≡ H.entries hand.old ++ made)
             × may self (H.seat hand.old) made (H.front hand.new) result }
         ensures seat { H.seat hand.new ≡ H.seat hand.old }
+        ensures refused { H.refused hand.new ≡ (H.refused hand.old || met_full result) }
+        ensures wanted { IsTrue (H.wanted hand.new)
+            → IsTrue (H.wanted hand.old) ⊎ IsTrue (wanted result) }
         ensures keeps { H.keeps hand.old hand.new };
 }

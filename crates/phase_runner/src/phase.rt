@@ -1,4 +1,5 @@
-ghost use Rattle.std.specs.Prelude.{◌≡◌, ℕ, ◌+◌, ◌^◌, ◌<◌, ◌≤◌, [], true, Some, map, vec_len, List, MatchBool};
+ghost use Rattle.std.specs.Prelude.{◌≡◌, ◌⊎◌, ◌||◌, IsTrue, ℕ, ◌+◌, ◌^◌, ◌<◌, ◌≤◌, [], true, Some, map, vec_len, List, MatchBool};
+ghost use Rattle.std.specs.List.{list_any};
 ghost use Rattle.phase_runner.specs.Phases.{AreSeated, AreEnded, HasSplit, HasJoined, HasRun, Runs};
 ghost use Rattle.world_core.specs.declared.entry.Entry.{Entry};
 ghost use Rattle.world_turn.specs.Closing.{AllJoined};
@@ -44,6 +45,14 @@ where
         × Runs J.may (view_of root).known (view_of result.root).front (root.splits + 1) jobs.items
         result.ends.items kept) }
     ensures all { AllJoined (view_of root) → AllJoined (view_of result.root) }
+
+    // The root says that the full journal was met just where it said so before, or where a job's end does.
+    ensures refused { (view_of result.root).refused
+        ≡ ((view_of root).refused || list_any J.met_full result.ends.items) }
+
+    // It says that memory was wanted only where it said so before, or where a job's end does.
+    ensures wanted { IsTrue (view_of result.root).wanted
+        → IsTrue (view_of root).wanted ⊎ IsTrue (list_any J.wanted result.ends.items) }
 {
     let count = jobs.len();
     let Ok(mut works) = Vec::with_capacity(alloc, count) else {
@@ -114,13 +123,17 @@ fn join_all<B: Bucket, J: Job + Drop>(
     ends: &mut Vec<J::End>,
 ) -> Pass
     requires own { (table_of root ≡ shared.now.table.shared.table_id) × (root.seat ≡ 0) }
-    requires ended { AreEnded J.may shared.now.table.shared.table_id (view_of first.now.value)
+    requires ended { AreEnded J.may (record { full = J.met_full; wanted = J.wanted }) shared.now.table.shared.table_id (view_of first.now.value)
         (first.now.value.splits + 1) jobs.now.value.items
         (map (λ w. (w.pass, w.end)) works.items) }
     requires room { (ends.old.items ≡ []) × (vec_len works ≤ ends.old.cap) }
-    ensures { (kept : List (ℕ × List Entry)) × HasJoined root result kept
+    ensures joined { (kept : List (ℕ × List Entry)) × HasJoined root result kept
         × Runs J.may (view_of first.now.value).known (view_of result).front
         (first.now.value.splits + 1) jobs.now.value.items ends.new.items kept }
+    ensures refused { (view_of result).refused
+        ≡ ((view_of root).refused || list_any J.met_full ends.new.items) }
+    ensures wanted { IsTrue (view_of result).wanted
+        → IsTrue (view_of root).wanted ⊎ IsTrue (list_any J.wanted ends.new.items) }
 {
     let mut root = root;
     while !works.is_empty() {

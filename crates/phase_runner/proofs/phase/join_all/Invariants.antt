@@ -5,7 +5,7 @@ use Rattle.phase_runner.proofs.phase.join_all.Given as goal
 
 abbrev pub invariant-loop-works : goal.invariant-loop-works
 invariant-loop-works g l =
-    HasTaken g.J.Job.may l.fn.shared.table.shared.table_id (view_of l.fn.first.value) (l.fn.first.value.splits + 1) l.fn.jobs.value.items l.fn.root l.root (map (λ w. (w.pass, w.end)) l.works.items) l.ends.items
+    HasTaken g.J.Job.may (record { full = g.J.Job.met_full; wanted = g.J.Job.wanted }) l.fn.shared.table.shared.table_id (view_of l.fn.first.value) (l.fn.first.value.splits + 1) l.fn.jobs.value.items l.fn.root l.root (map (λ w. (w.pass, w.end)) l.works.items) l.ends.items
     × (vec_len l.ends + vec_len l.works ≤ l.ends.cap)
 
 abbrev pub decreases-loop-works : goal.decreases-loop-works

@@ -27,11 +27,11 @@ join_all-root-requires-clause-ended g c =
     let same : length items ≡ length after = ap length (sym v) ∙ sym len in
     let long : length after ≡ c.split_all-root.new.works.len = (let b = c.split_all-root.new.works.ok in omega (arith, same)) in
     let seated = subst (λ ws. AreSeated table (view_of c.args.root) (c.args.root.splits + 1) c.args.jobs.items (map (λ w. (w.job, w.pass)) ws)) (sym v) s.works in
-    let ended = all_ended g.J.Job.may table (view_of c.args.root) (c.args.root.splits + 1) c.args.jobs.items before after (sym len) seated c.run_all.ensures in
+    let ended = all_ended g.J.Job.may (record { full = g.J.Job.met_full; wanted = g.J.Job.wanted }) table (view_of c.args.root) (c.args.root.splits + 1) c.args.jobs.items before after (sym len) seated c.run_all.ensures in
     let whole = subst (λ (n : ℕ). take n (after ++ drop (length after) items) ≡ after) long (taken_whole after items same) in
-    subst (λ l. AreEnded g.J.Job.may table (view_of c.of-first.result.value) (c.of-first.result.value.splits + 1) c.of-all.result.value.items (map (λ w. (w.pass, w.end)) l)) (sym whole)
-    (subst (λ (p : Pass). AreEnded g.J.Job.may table (view_of p) (p.splits + 1) c.of-all.result.value.items (map (λ w. (w.pass, w.end)) after)) (sym c.of-first.ensures)
-    (subst (λ js. AreEnded g.J.Job.may table (view_of c.args.root) (c.args.root.splits + 1) js (map (λ w. (w.pass, w.end)) after)) (ap (λ j. j.items) (sym c.of-all.ensures)) ended))
+    subst (λ l. AreEnded g.J.Job.may (record { full = g.J.Job.met_full; wanted = g.J.Job.wanted }) table (view_of c.of-first.result.value) (c.of-first.result.value.splits + 1) c.of-all.result.value.items (map (λ w. (w.pass, w.end)) l)) (sym whole)
+    (subst (λ (p : Pass). AreEnded g.J.Job.may (record { full = g.J.Job.met_full; wanted = g.J.Job.wanted }) table (view_of p) (p.splits + 1) c.of-all.result.value.items (map (λ w. (w.pass, w.end)) after)) (sym c.of-first.ensures)
+    (subst (λ js. AreEnded g.J.Job.may (record { full = g.J.Job.met_full; wanted = g.J.Job.wanted }) table (view_of c.args.root) (c.args.root.splits + 1) js (map (λ w. (w.pass, w.end)) after)) (ap (λ j. j.items) (sym c.of-all.ensures)) ended))
 
 pub join_all-root-requires-clause-room : goal.join_all-root-requires-clause-room
 join_all-root-requires-clause-room g c =
@@ -40,7 +40,7 @@ join_all-root-requires-clause-room g c =
 
 pub returns-clause-all : goal.returns-clause-all
 returns-clause-all g c =
-    let j = c.join_all-root.ensures in
+    let j = c.join_all-root.ensures.joined in
     let kept = j.0 in
     let runs = subst (λ (p : Pass). Runs g.J.Job.may (view_of p).known (view_of c.join_all-root.result).front (p.splits + 1) c.of-all.result.value.items c.join_all-root.new.ends.items kept) c.of-first.ensures j.2 in
     let runs' = subst (λ js. Runs g.J.Job.may (view_of c.args.root).known (view_of c.join_all-root.result).front (c.args.root.splits + 1) js c.join_all-root.new.ends.items kept) (ap (λ v. v.items) c.of-all.ensures) runs in

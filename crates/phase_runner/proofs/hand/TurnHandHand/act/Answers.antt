@@ -10,9 +10,9 @@ returns-clause-keeps g c =
     let is : Some c.in-Some.pass ≡ c.self.inside.pass = sym c.in-Some.is ∙ c.take.ensures.value in
     let pass = c.act-acted.result.1 in
     let table = c.self.inside.shared.now.table.shared.table_id in
-    let after : HandView = record { table = table; seat = pass.seat; view = view_of pass; refused = c.refused_after-self-inside.result } in
+    let after : HandView = record { table = table; seat = pass.seat; view = view_of pass } in
     subst (λ (h : HandView). GoesOn h after) c.self.view_is
-    (subst (λ (o : Option Pass). GoesOn (record { table = table; seat = seat_in o; view = view_in o; refused = c.self.inside.refused }) after) is
+    (subst (λ (o : Option Pass). GoesOn (record { table = table; seat = seat_in o; view = view_in o }) after) is
     record { table = refl; seat = c.act-acted.ensures.pass.1; later = c.act-acted.ensures.later })
 
 pub returns-clause-full : goal.returns-clause-full
