@@ -25,7 +25,7 @@ pub fn a_fault_stops_no_other<R: Threads + Wait + Sync>(rt: &R, alloc: Global) -
         [one, two] if two.stored == 3 && one.stored < 3 => one.stored,
         _ => return false,
     };
-    let world = shared.close(end.root);
+    let world = shared.close(end.root).into_world();
     world.journal().len() == u64::from(stored).saturating_add(4)
 }
 

@@ -4,6 +4,7 @@
 
 mod faults;
 mod gates;
+mod met;
 mod passes;
 mod phases;
 mod puts;

@@ -30,7 +30,7 @@ pub fn passes_share_a_journal<R: Threads + Wait + Sync>(rt: &R, alloc: Global) -
     );
     let (count, looked) = shared.look(split);
     let joined = joined_both(&shared, looked, first, second);
-    let world = shared.close(joined);
+    let world = shared.close(joined).into_world();
     count == 200 && are_in_order(world.journal().entries(), 100)
 }
 

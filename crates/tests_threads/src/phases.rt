@@ -33,7 +33,7 @@ fn works_twice<R: Threads + Wait + Sync, G: Gate + Sync>(
         return false;
     };
     let end = run_phase(rt, alloc, &shared, root, jobs, gate);
-    let world = shared.close(end.root);
+    let world = shared.close(end.root).into_world();
     !end.memory && are_in_order(world.journal().entries(), count)
 }
 

@@ -1,6 +1,7 @@
 ghost use Rattle.std.specs.Prelude.{◌≡◌};
 ghost use Rattle.world_core.specs.Operations.{IsLawful};
 
+use crate::met::Met;
 use block_keys::Key;
 use phase_runner::Job;
 use std::alloc::Global;
@@ -23,10 +24,11 @@ pub struct Puts {
     pub alloc: Global,
 }
 
-/// How many puts of a job did not fail.
+/// How many puts of a job did not fail, and what it met.
 #[derive(Drop)]
 pub struct PutsEnd {
     pub stored: u32,
+    pub met: Met,
 }
 
 impl Job for Puts {
@@ -37,16 +39,26 @@ impl Job for Puts {
 
     ghost may = { λ job seat made front end. Unit {0} };
 
+    ghost met_full = { λ end. end.met.full };
+
+    ghost wanted = { λ end. end.met.wanted };
+
     fn run<H: Hand>(self, hand: &mut H) -> PutsEnd {
         let mut stored = 0u32;
+        let mut met = Met {
+            full: false,
+            wanted: false,
+        };
         for _ in 0..3 {
             let op = put_index(self.alloc);
-            if !is_stored(hand.act(op)) {
+            let acted = hand.act(op);
+            met.note(&acted);
+            if !is_stored(acted) {
                 break;
             }
             stored = stored.saturating_add(1);
         }
-        PutsEnd { stored }
+        PutsEnd { stored, met }
     }
 }
 

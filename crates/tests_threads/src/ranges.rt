@@ -1,6 +1,7 @@
 ghost use Rattle.std.specs.Prelude.{◌≡◌};
 ghost use Rattle.world_core.specs.Operations.{IsLawful};
 
+use crate::met::Met;
 use block_keys::Key;
 use phase_runner::Job;
 use ulid_core::Ulid;
@@ -23,15 +24,24 @@ impl Job for Ranges {
     ghost use Rattle.std.specs.Prelude.{ℕ, List, Option};
     ghost use Rattle.world_core.specs.declared.entry.Entry.{Entry};
 
-    type End = ();
+    type End = Met;
 
     ghost may = { λ job seat made front end. Unit {0} };
 
-    fn run<H: Hand>(self, hand: &mut H) {
+    ghost met_full = { λ end. end.full };
+
+    ghost wanted = { λ end. end.wanted };
+
+    fn run<H: Hand>(self, hand: &mut H) -> Met {
         let count = self.count;
+        let mut met = Met {
+            full: false,
+            wanted: false,
+        };
         for place in 0..count {
             let op = read_at(place);
-            hand.act(op);
+            met.note(&hand.act(op));
         }
+        met
     }
 }
