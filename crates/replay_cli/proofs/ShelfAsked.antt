@@ -34,9 +34,9 @@ module _ {F : Type 0} (asked : F → Option (List (List ℕ))) where
   asked_since : (old new : F) (names : List (List ℕ)) → WasAsked asked [] old → Asks asked old new names → WasAsked asked names new
   asked_since old new names (opened, fresh, first) since = (opened, fresh, asks_then asked opened old new [] names first since)
 
-  pub checked_since : {X : Type 0} (files : F → Option Contents) (old new : F) (ulid : ℕ) (Stops : ℕ → CheckRefusal → Type 0) (segments : X → List (List ℕ)) (result : Result X LoadRefusal) (broken : Type 0)
-      → AsksInOrder files asked old new ulid Stops segments result → (WasBrokenOff result → broken) → WasAsked asked [] old → WasChecked asked (files old) ulid broken new
-  checked_since files old new ulid Stops segments result broken a off was = record {
+  pub checked_since : {X : Type 0} (files : F → Option Contents) (faults : F → ℕ) (old new : F) (ulid : ℕ) (Stops : ℕ → CheckRefusal → Type 0) (segments : X → List (List ℕ)) (result : Result X LoadRefusal) (broken : Type 0)
+      → AsksInOrder files asked faults old new ulid Stops segments result → (WasBrokenOff result → broken) → WasAsked asked [] old → WasChecked asked (files old) ulid broken new
+  checked_since files faults old new ulid Stops segments result broken a off was = record {
     count = a.count;
     names = asked_since old new (names_read ulid a.count) was a.names;
     reached = if_any (files old) (λ c. (place : ℕ) → place < a.count → Reaches c ulid (key_after ulid place)) a.reached;

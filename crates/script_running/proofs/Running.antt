@@ -58,3 +58,7 @@ run_came setting root tick journal views outcomes (Ok done) lawful closes joined
     all_ran setting (script_is_cut_well setting) root tick journal closes joined (subst (λ (t : ℕ). IsJournal t journal) same kept) views outcomes come
 run_came setting root tick journal views outcomes (Err why) lawful closes joined kept same come =
     all_stopped setting (script_is_cut_well setting) root tick journal closes joined (subst (λ (t : ℕ). IsJournal t journal) same kept) lawful outcomes why come
+
+-- what is known of a shared world that was closed is known of the world
+pub closes_as : (v : Known) (tick other : ℕ) (journal also : List Entry) → tick ≡ other → journal ≡ also → Closes v other also → Closes v tick journal
+closes_as v tick other journal also t j closes = subst (λ (n : ℕ). Closes v n journal) (sym t) (subst (λ (es : List Entry). Closes v other es) (sym j) closes)

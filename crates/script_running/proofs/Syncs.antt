@@ -1,5 +1,5 @@
 -- What drives of a sync and of a gateway's call leave.
-use Rattle.std.proofs.Common.{◌≡◌, ℕ, ℤ, List, [], ◌∷◌, ◌++◌, refl, sym, subst}
+use Rattle.std.proofs.Common.{◌≡◌, ◌⊎◌, inl, inr, ℕ, ℤ, List, [], ◌∷◌, ◌++◌, refl, sym, ◌∙◌, ap, subst}
 use Rattle.std.specs.Prelude.{Option, None, option_map, Err}
 use Rattle.std.proofs.lemmas.List.{append-nil}
 use Rattle.std.proofs.lemmas.List.Elements.{All-nil}
@@ -76,3 +76,7 @@ pub asked_same : (view : View) (matchers : List Matcher) (replicas : List (List 
     → SeriesRun view (asking matchers replicas low high) made end → SeriesRun view (asking matchers replicas low' high') made end
 asked_same view matchers replicas low low' high high' made end l h run =
     subst (λ (x : ℤ). SeriesRun view (asking matchers replicas x high') made end) l (subst (λ (y : ℤ). SeriesRun view (asking matchers replicas low y) made end) h run)
+
+-- memory that a drive wanted is told
+pub wanted_by : {E P Q : Type 0} (comes : Driven E → Came) (driven : Driven E) (came : Came) → comes NoMemory ≡ Err broken.NoMemory → came ≡ comes driven → (P → Q ⊎ (driven ≡ NoMemory)) → P → Q ⊎ (came ≡ Err broken.NoMemory)
+wanted_by comes driven came short is wanted p = elim (wanted p) [ inl q ↦ inl q | inr none ↦ inr (is ∙ ap comes none ∙ short) ]

@@ -90,6 +90,10 @@ refused_broken first mid new came broken.NoMemory is so same = is ∙ ap (λ (r 
 pub unrefused : (first new : Bool) (came : Result (Unit {0}) Broken) → is_full_end came ≡ false → new ≡ first → new ≡ (first || is_full_end came)
 unrefused first new came none same = same ∙ sym (or_false first) ∙ ap (λ (b : Bool). first || b) (sym none)
 
+-- a task that was broken off for want of memory breaks its worker off for that
+pub short_by : (came : Came) (why : Broken) → came ≡ Err why → came ≡ Err broken.NoMemory → ◌≡◌ {A = Result (Unit {0}) Broken} (Err why) (Err broken.NoMemory)
+short_by came why is none = let same : why ≡ broken.NoMemory = cc (is, none) in ap (λ (b : Broken). Err b) same
+
 pub full_end : (came : Result (Unit {0}) Broken) → is_full_end came ≡ true → came ≡ Err broken.Full
 full_end (Ok tt) is = absurd (cc (is))
 full_end (Err broken.Full) is = refl

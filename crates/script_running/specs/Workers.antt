@@ -63,6 +63,12 @@ is_full_end (Ok done) = false
 is_full_end (Err broken.Full) = true
 is_full_end (Err broken.NoMemory) = false
 
+-- whether want of memory broke a worker off
+abbrev pub is_short_end : Result (Unit {0}) Broken → Bool
+is_short_end (Ok done) = false
+is_short_end (Err broken.Full) = false
+is_short_end (Err broken.NoMemory) = true
+
 -- A worker that held this did its tasks, those at these places of the phase, one after another, with these entries of its seat.
 -- Its outcomes are those of the tasks that came to their ends.
 pub record HasWorked (setting : Setting) (tasks : List Task) (who : Who) (places : List ℕ) (before : Holding) (seat : ℕ)

@@ -1,4 +1,4 @@
-ghost use Rattle.std.specs.Prelude.{◌≡◌, ◌≤◌, ◌||◌, ℕ, ℤ, Option, Some, Err, option_map, IfSome};
+ghost use Rattle.std.specs.Prelude.{◌≡◌, ◌≤◌, ◌||◌, ◌⊎◌, ℕ, ℤ, Option, Some, Err, option_map, IfSome, IsTrue};
 ghost use Rattle.world_core.specs.Machines.{end_of};
 ghost use Rattle.world_core.specs.Keeping.{IsFull};
 ghost use Rattle.meta_fetcher.specs.declared.sync_end.SyncEnd.{SyncEnd};
@@ -37,6 +37,8 @@ pub(crate) fn upload<H: Hand>(alloc: Global, block: &Block, stop: Option<u32>, h
     ensures keeps { H.keeps hand.old hand.new }
     ensures refused { H.refused hand.new ≡ (H.refused hand.old || is_full_came result) }
     ensures full { result ≡ Err Broken.Full → IfSome (H.front hand.new) IsFull }
+    ensures wanted { IsTrue (H.wanted hand.new)
+        → IsTrue (H.wanted hand.old) ⊎ (result ≡ Err Broken.NoMemory) }
 {
     let Ok(objects) = objects_of(alloc, block) else {
         return Err(Broken::NoMemory);
@@ -87,6 +89,8 @@ pub(crate) fn sync<H: Hand>(
     ensures keeps { H.keeps hand.old hand.new }
     ensures refused { H.refused hand.new ≡ (H.refused hand.old || is_full_came result) }
     ensures full { result ≡ Err Broken.Full → IfSome (H.front hand.new) IsFull }
+    ensures wanted { IsTrue (H.wanted hand.new)
+        → IsTrue (H.wanted hand.old) ⊎ (result ≡ Err Broken.NoMemory) }
 {
     let rules = &script.rules;
     let asked = SyncRules {
@@ -146,6 +150,8 @@ pub(crate) fn call<H: Hand>(
     ensures keeps { H.keeps hand.old hand.new }
     ensures refused { H.refused hand.new ≡ (H.refused hand.old || is_full_came result) }
     ensures full { result ≡ Err Broken.Full → IfSome (H.front hand.new) IsFull }
+    ensures wanted { IsTrue (H.wanted hand.new)
+        → IsTrue (H.wanted hand.old) ⊎ (result ≡ Err Broken.NoMemory) }
 {
     let Ok(mut machine) = SeriesCall::start(alloc, view, selector, &rules.replicas, low, high)
     else {

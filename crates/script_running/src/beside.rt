@@ -82,7 +82,8 @@ pub fn run_beside<B: Bucket + Send, G: Gate + Sync, R: Threads + Wait + Sync>(
                 gate,
                 &mut standing,
             );
-            let world = shared.close(root);
+            let closed = shared.close(root);
+            let world = closed.into_world();
             let _after = world.journal();
             let outcomes = standing.outcomes;
             (RunEnd { outcomes, came }, world)

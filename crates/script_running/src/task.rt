@@ -1,6 +1,6 @@
 //! One task of a script, done by its worker.
 
-ghost use Rattle.std.specs.Prelude.{◌≡◌, ◌||◌, ℕ, Err, Some, IfSome, slice_get};
+ghost use Rattle.std.specs.Prelude.{◌≡◌, ◌||◌, ◌⊎◌, ℕ, Err, Some, IfSome, IsTrue, slice_get};
 ghost use Rattle.world_core.specs.Keeping.{IsFull};
 ghost use Rattle.script_core.specs.Lawful.{IsLawfulScript};
 ghost use Rattle.script_workers.specs.declared.work.Work.TheVariants as works;
@@ -42,6 +42,10 @@ pub fn run_task<H: Hand>(
     // The task is broken off as full exactly where an operation was answered so, and then the journal is full.
     ensures refused { H.refused hand.new ≡ (H.refused hand.old || is_full_came result) }
     ensures full { result ≡ Err Broken.Full → IfSome (H.front hand.new) IsFull }
+
+    // Memory was wanted in an operation only where the task is broken off for that.
+    ensures wanted { IsTrue (H.wanted hand.new)
+        → IsTrue (H.wanted hand.old) ⊎ (result ≡ Err Broken.NoMemory) }
 {
     match work {
         Work::Upload(ulid, stop) => upload(alloc, declared_block(script, *ulid), *stop, hand),
@@ -75,6 +79,8 @@ fn ask<H: Hand>(
     ensures keeps { H.keeps hand.old hand.new }
     ensures refused { H.refused hand.new ≡ (H.refused hand.old || is_full_came result) }
     ensures full { result ≡ Err Broken.Full → IfSome (H.front hand.new) IsFull }
+    ensures wanted { IsTrue (H.wanted hand.new)
+        → IsTrue (H.wanted hand.old) ⊎ (result ≡ Err Broken.NoMemory) }
 {
     match view {
         Some(view) => call(alloc, &script.rules, view, selector, low, high, hand),

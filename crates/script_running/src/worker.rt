@@ -1,6 +1,6 @@
 //! A worker of a phase: it does its tasks one after another.
 
-ghost use Rattle.std.specs.Prelude.{◌≡◌, ◌<◌, ◌||◌, [], Ok, Err, IfSome, length};
+ghost use Rattle.std.specs.Prelude.{◌≡◌, ◌<◌, ◌||◌, ◌⊎◌, [], Ok, Err, IfSome, IsTrue, length};
 ghost use Rattle.std.specs.List.{All};
 ghost use Rattle.world_core.specs.Keeping.{IsFull};
 ghost use Rattle.script_core.specs.Lawful.{IsLawfulScript};
@@ -79,11 +79,15 @@ impl<'a> WorkerJob<'a> {
 }
 
 impl<'a> Job for WorkerJob<'a> {
-    ghost use Rattle.script_running.specs.Workers.{MayWork};
+    ghost use Rattle.script_running.specs.Workers.{MayWork, is_full_end, is_short_end};
 
     type End = WorkerEnd;
 
     ghost may = { MayWork };
+
+    ghost met_full = { λ end. is_full_end end.came };
+
+    ghost wanted = { λ end. is_short_end end.came };
 
     fn run<H: Hand>(self, hand: &mut H) -> WorkerEnd {
         let WorkerJob {
@@ -137,6 +141,8 @@ fn do_tasks<H: Hand>(
     // The worker is broken off as full exactly where an operation was answered so, and then the journal is full.
     ensures refused { H.refused hand.new ≡ (H.refused hand.old || is_full_end result.came) }
     ensures full { result.came ≡ Err Broken.Full → IfSome (H.front hand.new) IsFull }
+    ensures wanted { IsTrue (H.wanted hand.new)
+        → IsTrue (H.wanted hand.old) ⊎ (result.came ≡ Err Broken.NoMemory) }
 {
     let mut view = view;
     let Ok(mut outcomes) = Vec::with_capacity(alloc, places.len()) else {

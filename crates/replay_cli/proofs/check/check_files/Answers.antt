@@ -19,5 +19,5 @@ returns-clause-short g c = not_short c.verdict_on.result _ _ c.verdict_on.ensure
 
 pub returns-clause-asked : goal.returns-clause-asked
 returns-clause-asked g c = λ was.
-    checked_since g.F.Shelf.asked g.F.Shelf.files c.args.shelf c.check_on_shelf-checked.new.shelf c.args.block _ _ c.check_on_shelf-checked.result (IsBroken c.verdict_on.result) c.check_on_shelf-checked.ensures.asks
+    checked_since g.F.Shelf.asked g.F.Shelf.files g.F.Shelf.faults c.args.shelf c.check_on_shelf-checked.new.shelf c.args.block _ _ c.check_on_shelf-checked.result (IsBroken c.verdict_on.result) c.check_on_shelf-checked.ensures.asks
     (broken_on c.args.block c.check_on_shelf-checked.result c.verdict_on.result c.verdict_on.ensures) was

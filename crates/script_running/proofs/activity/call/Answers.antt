@@ -6,7 +6,8 @@ use Rattle.script_workers.specs.declared.work.Work.TheVariants as works
 use Rattle.lifecycle_core.specs.Tasks.{answered}
 use Rattle.script_running.specs.Outcomes.{call_outcome}
 use Rattle.script_running.specs.declared.outcome.Outcome.TheVariants as outcome
-use Rattle.script_running.proofs.Syncs.{asked_same, driven_told, nothing_asked}
+use Rattle.script_running.specs.Drives.{call_came}
+use Rattle.script_running.proofs.Syncs.{asked_same, driven_told, nothing_asked, wanted_by}
 use Rattle.script_running.proofs.activity.call.Goals as goal
 
 pub returns-in_default-clause-ran : goal.returns-in_default-clause-ran
@@ -22,3 +23,6 @@ returns-clause-ran g c = λ used low high number.
     (g.H.Hand.entries c.args.hand.now) (g.H.Hand.entries c.drive.new.hand) (works.Query low high number) (answered used) (λ end. outcome.Query (call_outcome 0 end)) c.call_came.result c.call_came.ensures (λ end. refl)
     (λ made end run. asked_same c.args.view.now c.args.selector.now c.args.rules.now.replicas _ c.args.low _ c.args.high made end from upto (c.in-Ok.ensures.run made end c.drive.new.machine run)) c.drive.ensures.run in
     (_, told.0, told.1)
+
+pub returns-clause-wanted : goal.returns-clause-wanted
+returns-clause-wanted g c = wanted_by call_came c.drive.result c.call_came.result refl c.call_came.ensures c.drive.ensures.wanted

@@ -5,7 +5,8 @@ use Rattle.lifecycle_core.specs.Setting.{setting_of}
 use Rattle.lifecycle_core.specs.Tasks.{sync_rules, synced}
 use Rattle.script_running.specs.Outcomes.{sync_outcome}
 use Rattle.script_running.specs.declared.outcome.Outcome.TheVariants as outcome
-use Rattle.script_running.proofs.Syncs.{driven_told}
+use Rattle.script_running.specs.Drives.{sync_came}
+use Rattle.script_running.proofs.Syncs.{driven_told, wanted_by}
 use Rattle.script_running.proofs.activity.sync.Goals as goal
 
 pub returns-clause-ran : goal.returns-clause-ran
@@ -15,3 +16,6 @@ returns-clause-ran g c = λ place.
     (works.Sync place) synced (λ end. outcome.Sync (sync_outcome end)) c.take_view.result c.take_view.ensures.came (λ end. refl)
     (λ made end run. c.in-Ok.ensures.run made end c.drive.new.machine run) c.drive.ensures.run in
     (_, told.0, told.1, c.take_view.ensures.view)
+
+pub returns-clause-wanted : goal.returns-clause-wanted
+returns-clause-wanted g c = wanted_by sync_came c.drive.result c.take_view.result refl c.take_view.ensures.came c.drive.ensures.wanted

@@ -1,9 +1,9 @@
-use Rattle.std.proofs.Common.{◌+◌, ◌<◌, ◌∷◌, [], length, length-append, refl, ap, ◌∙◌, arith}
+use Rattle.std.proofs.Common.{inl, inr, ◌+◌, ◌<◌, ◌∷◌, [], length, length-append, refl, ap, ◌∙◌, arith}
 use Rattle.std.proofs.lemmas.List.{take_all}
 use Rattle.std.specs.Prelude.{Ok}
 use Rattle.lifecycle_core.specs.Setting.{setting_of}
 use Rattle.script_running.specs.Workers.{is_full_end}
-use Rattle.script_running.proofs.WorkerSteps.{all_worked, default_any, none_done, none_worked, refused_broken, refused_none, step_broken, step_worked, unrefused}
+use Rattle.script_running.proofs.WorkerSteps.{all_worked, default_any, none_done, none_worked, refused_broken, refused_none, short_by, step_broken, step_worked, unrefused}
 use Rattle.script_running.proofs.worker.do_tasks.Goals as goal
 
 pub returns-in_default-clause-worked : goal.returns-in_default-clause-worked
@@ -17,6 +17,7 @@ loop-number-init g c = record {
   seat = refl;
   refused = refl;
   keeps = g.met.H.Hand.keeps_none _;
+  wanted = λ so. so;
   count = ap length c.in-Ok.ensures.items;
   room = omega (arith, c.in-Ok.ensures.capacity);
 }
@@ -39,6 +40,7 @@ loop-number-preserved g c =
       seat = c.run_task.ensures.seat ∙ c.loop-number.invariant.seat;
       refused = refused_none (g.H.Hand.refused c.args.hand.now) (g.H.Hand.refused c.loop-number.hand) (g.H.Hand.refused c.run_task.new.hand) c.run_task.result c.in-Ok-run_task.outcome c.run_task.ensures.refused c.in-Ok-run_task.is c.loop-number.invariant.refused;
       keeps = g.met.H.Hand.keeps_more _ _ _ c.loop-number.invariant.keeps c.run_task.ensures.keeps;
+      wanted = λ so. elim (c.run_task.ensures.wanted so) [ inl before ↦ c.loop-number.invariant.wanted before | inr none ↦ absurd (cc (none, c.in-Ok-run_task.is)) ];
       count = ap length c.push_reserved.ensures.items ∙ length-append c.loop-number.outcomes.items (c.in-Ok-run_task.outcome ∷ []) ∙ ap (λ n. n + 1) c.loop-number.invariant.count;
       room = (let a = c.loop-number.invariant.room in let b = c.push_reserved.ensures.capacity in omega arith);
     }
@@ -57,3 +59,12 @@ returns-in-Err-clause-refused g c =
 
 pub returns-clause-refused : goal.returns-clause-refused
 returns-clause-refused g c = unrefused (g.H.Hand.refused c.args.hand.now) (g.H.Hand.refused c.loop-number.hand) (Ok tt) refl c.loop-number.invariant.refused
+
+pub returns-in-Err-clause-wanted : goal.returns-in-Err-clause-wanted
+returns-in-Err-clause-wanted g c = λ so. elim (c.run_task.ensures.wanted so) [ inl before ↦ inl (c.loop-number.invariant.wanted before) | inr none ↦ inr (short_by c.run_task.result c.in-Err.broken c.in-Err.is none) ]
+
+pub returns-clause-wanted : goal.returns-clause-wanted
+returns-clause-wanted g c = λ so. inl (c.loop-number.invariant.wanted so)
+
+pub returns-in_default-clause-wanted : goal.returns-in_default-clause-wanted
+returns-in_default-clause-wanted g c = λ so. inl so

@@ -1,4 +1,5 @@
 use Rattle.std.proofs.Common.{◌≡◌, ◌≤◌, length, take}
+use Rattle.std.specs.Prelude.{IsTrue}
 use Rattle.lifecycle_core.specs.Conducts.{Who}
 use Rattle.lifecycle_core.specs.Holdings.{Holding}
 use Rattle.lifecycle_core.specs.Setting.{setting_of}
@@ -16,6 +17,7 @@ invariant-loop-number g l =
       seat : h.seat l.hand ≡ h.seat l.initial.hand;
       refused : h.refused l.hand ≡ h.refused l.initial.hand;
       keeps : h.keeps l.initial.hand l.hand;
+      wanted : IsTrue (h.wanted l.hand) → IsTrue (h.wanted l.initial.hand);
       count : length l.outcomes.items ≡ l.number;
       room : length l.places ≤ l.outcomes.cap;
     }

@@ -1,12 +1,12 @@
-use Rattle.std.proofs.Common.{◌≡◌, ◌++◌, ◌<◌, ℕ, List, length, sym, subst}
+use Rattle.std.proofs.Common.{◌≡◌, ◌++◌, ◌<◌, inl, inr, ℕ, List, length, refl, sym, ap, subst}
 use Rattle.std.specs.List.{All}
 use Rattle.world_core.specs.declared.entry.Entry.{Entry}
 use Rattle.script_core.specs.Lawful.{IsLawfulWork}
 use Rattle.script_workers.specs.declared.task.Task.{Task}
 use Rattle.lifecycle_core.specs.Setting.{setting_of}
-use Rattle.script_running.specs.Workers.{HasWorked, MayWork, Post}
+use Rattle.script_running.specs.Workers.{HasWorked, MayWork, Post, is_full_end, is_short_end}
 use Rattle.script_running.proofs.JobSteps.{allowed, knows, may_work, tasks_are}
-use Rattle.script_running.proofs.WorkerSteps.{none_done}
+use Rattle.script_running.proofs.WorkerSteps.{none_done, unrefused}
 use Rattle.script_running.proofs.worker.WorkerJobJob.run.Goals as goal
 
 pub do_tasks-requires-clause-tasks : goal.do_tasks-requires-clause-tasks
@@ -52,3 +52,12 @@ returns-clause-run g c =
     none_done (setting_of a.script) a.phase.tasks who i.worker.tasks held (g.H.Hand.seat c.args.hand.now) (g.H.Hand.entries c.args.hand.now) i.view c.wanting.result
     a.lawful (allowed a.script i.phase a.phase a.lawful a.at) a.within sees c.wanting.ensures.0 c.wanting.ensures.1 c.wanting.ensures.2)
     (λ full. absurd (cc (full, c.wanting.ensures.1))))
+
+pub returns-in-Ok-clause-wanted : goal.returns-in-Ok-clause-wanted
+returns-in-Ok-clause-wanted g c = λ so. elim (c.do_tasks.ensures.wanted so) [ inl before ↦ inl before | inr none ↦ inr (ap is_short_end none) ]
+
+pub returns-clause-wanted : goal.returns-clause-wanted
+returns-clause-wanted g c = λ so. inl so
+
+pub returns-clause-refused : goal.returns-clause-refused
+returns-clause-refused g c = unrefused (g.H.Hand.refused c.args.hand.now) (g.H.Hand.refused c.args.hand.now) c.wanting.result.came (ap is_full_end c.wanting.ensures.1) refl
