@@ -3,6 +3,7 @@
 
 ghost use Rattle.std.specs.Prelude.{◌≡◌};
 ghost use Rattle.replay_cli.specs.Statuses.{number_of};
+ghost use Rattle.tosraem.specs.Calls.{names_replay};
 
 mod advice;
 
@@ -58,10 +59,12 @@ fn run<T: Threads + Wait + Sync>(rt: &HostRuntime, threads: &T) -> u8
 }
 
 /// Whether the words ask for a thread for each worker of a phase.
-fn asks_for_threads(words: &[String]) -> bool {
-    match words.first() {
-        Some(word) => word.as_str() == "replay",
-        None => false,
+fn asks_for_threads(words: &[String]) -> bool
+    ensures { result ≡ names_replay words.now }
+{
+    match words {
+        [word, ..] => word.as_str() == "replay",
+        [] => false,
     }
 }
 
