@@ -9,5 +9,14 @@ mod Expired
 mod PutTogether
 mod Refusing
 mod MergedInputs
+mod TwoPlanned
+mod ReadRooms
+mod CompactCounts
+mod CompactSteps
+mod Beginnings
+mod Uploading
+mod Rounds
+mod AfterMerge
 mod SyncParts
+mod CompactBegins
 mod Counted

@@ -19,6 +19,7 @@ pub mod MarkCounts
 pub mod MarkStates
 pub mod ReadRoom
 pub mod ReadStates
+pub mod CompactStates
 pub use Rattle.block_meta.specs.MetaFields
 pub use Rattle.block_meta.specs.MetaValue
 pub use Rattle.world_core.specs.Plans

@@ -1,5 +1,6 @@
 -- What is left of the reads of blocks in each of their states.
-use Rattle.std.specs.Prelude.{◌≡◌, ℕ, ◌+◌, ◌*◌, ◌<◌, ◌^◌, List, [], ◌∷◌, ◌++◌, length, Option, Some, None, Result, Ok, Err}
+use Rattle.std.specs.Prelude.{◌≡◌, ℕ, ◌+◌, ◌*◌, ◌<◌, ◌≤◌, ◌^◌, List, [], ◌∷◌, ◌++◌, length, Option, Some, None, Result, Ok, Err}
+use Rattle.std.specs.List.{AllByRecursion}
 use Rattle.list_core.specs.declared.memory.NoMemory.{NoMemory}
 use Rattle.block_keys.specs.declared.key.Key.TheVariants as key
 use Rattle.block_meta.specs.declared.meta.Meta.{Meta}
@@ -10,11 +11,13 @@ use Rattle.world_core.specs.declared.entry.Entry.{Entry}
 use Rattle.world_core.specs.declared.act.Act.{Act}
 use Rattle.world_core.specs.declared.act.Act.TheVariants as act
 use Rattle.compactor.specs.Reading.{ReadEnds, read_at, reads, reads_segments, reads_block, reads_blocks}
+use Rattle.compactor.specs.Inputs.{HasFew}
 use Rattle.compactor.specs.declared.input.Input.{Input}
 use Rattle.compactor.specs.declared.input.Read.{Read}
 use Rattle.compactor.specs.declared.read_stage.ReadStage.{ReadStage}
 use Rattle.compactor.specs.declared.read_stage.ReadStage.TheVariants.{Fresh, Indexing, Segmenting, Over}
 use Rattle.compactor.specs.declared.reads.Reads.{Reads}
+use Rattle.compactor.specs.declared.reads_end.Gathered.{Gathered}
 use Rattle.compactor.specs.declared.reads_end.ReadsEnd.{ReadsEnd}
 use Rattle.compactor.specs.declared.reads_end.ReadsEnd.TheVariants as read
 
@@ -64,9 +67,14 @@ left_of reads = left_at reads.stage reads.inputs reads.waiting.items
 abbrev pub IsFresh : Reads → Type 0
 IsFresh reads = (meta : Meta) × (reads.stage ≡ Fresh meta)
 
--- an upload may follow the last entry: its moment fits a ULID
+-- the blocks that were read may be merged into one, and its upload may follow the last entry, whose moment fits a ULID
+pub record MayMerge (all : Gathered) : Type 0 where
+  pub moment : all.moment.ms < 2 ^ 48
+  pub many : 2 ≤ length all.inputs
+  pub few : AllByRecursion HasFew all.inputs
+
 abbrev pub FitsEnd : ReadsEnd → Type 0
-FitsEnd (read.Done all) = all.moment.ms < 2 ^ 48
+FitsEnd (read.Done all) = MayMerge all
 FitsEnd (read.Fault number) = Unit {0}
 FitsEnd (read.Missing number) = Unit {0}
 FitsEnd (read.Damaged number) = Unit {0}

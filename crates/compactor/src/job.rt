@@ -1,4 +1,4 @@
-ghost use Rattle.std.specs.Prelude.{◌≡◌, ◌++◌, map, IfOk};
+ghost use Rattle.std.specs.Prelude.{◌≡◌, ◌≤◌, ◌++◌, length, map, IfOk};
 ghost use Rattle.group_planner.specs.Members.{ulids_of as ulids_of_all};
 ghost use Rattle.compactor.specs.Jobs.{IsFor, Takes};
 
@@ -23,7 +23,8 @@ pub(crate) struct Job {
 
 /// Takes groups from the front, until there is one of which something is to be compacted.
 pub(crate) fn next_job(alloc: Global, groups: &mut VecDeque<Group>) -> Result<Option<Job>, NoMemory>
-    ensures { IfOk result (Takes groups.old.items groups.new.items) }
+    ensures takes { IfOk result (Takes groups.old.items groups.new.items) }
+    ensures fewer { length groups.new.items ≤ length groups.old.items }
 {
     while let Some(group) = groups.pop_front() {
         if let Some(job) = job_of(alloc, group)? {

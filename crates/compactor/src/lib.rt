@@ -1,6 +1,7 @@
 //! Compaction: the blocks of a bucket that belong together become one, and blocks that are no longer needed are marked.
 #![tactic(auto)]
 
+mod compact;
 mod compact_end;
 mod found;
 mod input;
@@ -18,7 +19,9 @@ mod read_stage;
 mod reads;
 mod reads_end;
 mod reason;
+mod stage;
 mod sync_rules;
 
+pub use compact::Compact;
 pub use compact_end::CompactEnd;
 pub use laws::{compactions_begin_with_a_sync, groups_are_counted};

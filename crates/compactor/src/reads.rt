@@ -6,7 +6,7 @@ ghost use Rattle.world_core.specs.declared.op.Op.{Op};
 ghost use Rattle.world_core.specs.declared.entry.Entry.{Entry};
 ghost use Rattle.block_keys.specs.declared.key.Key.TheVariants as key;
 ghost use Rattle.compactor.specs.Leading.{after_entry, Leads};
-ghost use Rattle.compactor.specs.ReadRoom.{last_segment};
+ghost use Rattle.compactor.specs.ReadRoom.{last_segment, most_segments, others_of};
 
 use crate::input::{Input, InputList, Read, ReadList};
 use crate::named::named_segments;
@@ -31,13 +31,16 @@ pub(crate) struct Reads {
     /// Those that were read.
     inputs: InputList,
     ghost room: { last_segment stage ≤ 999_999 },
+    ghost few: { most_segments inputs ≤ 999_999 },
+    ghost many: { others_of stage ≤ length inputs + length waiting.items },
 }
 
 impl Reads {
     ghost use Rattle.compactor.specs.ReadStates.{IsFresh, block_of, blocks_of, segments_of, left_at, left_of, asked_read, count_of, Fits};
 
-    /// Begins the reads of a block and of those behind it.
+    /// Begins the reads of a block and of those behind it, of which there is one at least.
     pub(crate) fn start(alloc: Global, first: Meta, others: VecDeque<Meta>) -> Reads
+        requires many { 1 ≤ length others.items }
         ensures begun { IsFresh result }
         ensures plan { Keeps (left_of result) (block_of [] others.items first) }
         ensures count { count_of result ≡ 1_000_000 * length others.items + 1_000_001 }
@@ -52,6 +55,7 @@ impl Reads {
 
     /// Asks for the index of a block.
     fn ask_index(&mut self, meta: Meta) -> Result<Act<ReadsEnd>, NoMemory>
+        requires many { 1 ≤ length self.old.inputs + length self.old.waiting.items }
         ensures leads { Leads left_of asked_read
             (block_of self.old.inputs self.old.waiting.items meta) result self.new }
         ensures fits { Fits result }
@@ -65,6 +69,7 @@ impl Reads {
 
     /// Goes on after the read of the index of a block.
     fn after_index(&mut self, meta: Meta, seen: Seen) -> Result<Act<ReadsEnd>, NoMemory>
+        requires many { 1 ≤ length self.old.inputs + length self.old.waiting.items }
         requires answer { IsAnswer (Op.Get (key.Index meta.ulid)) seen }
         ensures leads { (seat : ℕ) (op : Op) → Leads left_of asked_read
             (after_entry (block_of self.old.inputs self.old.waiting.items meta)
@@ -99,6 +104,7 @@ impl Reads {
         more: u32,
         seen: Seen,
     ) -> Result<Act<ReadsEnd>, NoMemory>
+        requires many { 1 ≤ length self.old.inputs + length self.old.waiting.items }
         requires answer { IsAnswer (Op.Get
             (key.Segment input.meta.ulid (length input.segments + 1))) seen }
         requires room { length input.segments + 1 + more ≤ 999_999 }
@@ -130,6 +136,7 @@ impl Reads {
         number: u64,
         moment: Moment,
     ) -> Result<Act<ReadsEnd>, NoMemory>
+        requires many { 1 ≤ length self.old.inputs + length self.old.waiting.items }
         requires room { length input.segments + more ≤ 999_999 }
         requires moment { moment.ms < 2 ^ 48 }
         ensures leads { (last : Entry) → last.seq ≡ number → last.moment ≡ moment
@@ -151,6 +158,7 @@ impl Reads {
 
     /// Goes on to the next block, or ends where there is none.
     fn next_block(&mut self, number: u64, moment: Moment) -> Result<Act<ReadsEnd>, NoMemory>
+        requires many { 2 ≤ length self.old.inputs + length self.old.waiting.items }
         requires moment { moment.ms < 2 ^ 48 }
         ensures leads { (last : Entry) → last.seq ≡ number → last.moment ≡ moment
             → Leads left_of asked_read
@@ -162,6 +170,7 @@ impl Reads {
         match self.waiting.pop_front() {
             Some(meta) => self.ask_index(meta),
             None => {
+                self.stage = ReadStage::Over;
                 let inputs = mem::replace(&mut self.inputs, InputList::new(self.alloc));
                 Ok(Act::Done(ReadsEnd::Done(Gathered {
                     inputs,

@@ -4,6 +4,8 @@ use Rattle.world_core.specs.Plans.{Runs}
 use Rattle.world_core.specs.declared.op.Op.TheVariants as op
 use Rattle.compactor.specs.Leading.{Leads}
 use Rattle.compactor.specs.ReadStates.{blocks_of, segments_of, left_of, asked_read}
+use Rattle.compactor.specs.ReadRoom.{others_of}
+use Rattle.compactor.proofs.ReadRooms.{pushed_few, pushed_many}
 use Rattle.compactor.proofs.Steps.{falls_more}
 use Rattle.compactor.proofs.reads.Reads.next_segment.Goals as goal
 
@@ -26,3 +28,10 @@ returns-in_ok-push-clause-leads c = λ last number moment.
 
 pub returns-in_ok-push-clause-falls : goal.returns-in_ok-push-clause-falls
 returns-in_ok-push-clause-falls c = falls_more _ _ c.next_block.result _ (omega arith) c.next_block.ensures.falls
+
+pub invariant_of-self-else-more-gt0 : goal.invariant_of-self-else-more-gt0
+invariant_of-self-else-more-gt0 c = record {
+  room = c.args.self.now.room;
+  few = pushed_few c.push.result c.args.self.now.inputs c.push.new.self c.args.input 999_999 c.push.ensures.ok c.push.ensures.err c.args.self.now.few (omega (arith, c.requires.room));
+  many = pushed_many c.push.result c.args.self.now.inputs c.push.new.self c.args.input (others_of c.args.self.now.stage) (length c.args.self.now.waiting.items) c.push.ensures.ok c.push.ensures.err c.args.self.now.many;
+}

@@ -1,0 +1,81 @@
+-- How many operations a compaction still asks for.
+use Rattle.std.proofs.Common.{◌≡◌, ◌+◌, ◌*◌, ◌^◌, ◌<◌, ◌≤◌, ℕ, List, ◌∷◌, ◌++◌, length, length-append, Result, Ok, Err, sym, ap, subst, ◌∙◌, arith}
+use Rattle.list_core.specs.declared.memory.NoMemory.{NoMemory}
+use Rattle.block_keys.specs.declared.object.Object.{Object}
+use Rattle.world_core.specs.Machines.{Falls}
+use Rattle.world_core.specs.declared.op.Op.{Op}
+use Rattle.world_core.specs.declared.act.Act.{Act}
+use Rattle.world_core.specs.declared.act.Act.TheVariants as act
+use Rattle.shipper.specs.Limits.{most_objects}
+use Rattle.shipper.specs.UploadStates as shipped
+use Rattle.shipper.specs.declared.stage.Stage as uploading
+use Rattle.shipper.specs.declared.stage.Stage.TheVariants as upload_is
+use Rattle.shipper.specs.declared.upload.Upload.{Upload}
+use Rattle.group_planner.specs.declared.group.Group.{Group}
+use Rattle.compactor.specs.CompactStates.{most_asked, count_at, count_of}
+use Rattle.compactor.specs.Jobs.{Skips, TakesJob}
+use Rattle.compactor.specs.MarkCounts.{held}
+use Rattle.compactor.specs.MarkStates as marks
+use Rattle.compactor.specs.ReadRoom.{last_segment}
+use Rattle.compactor.specs.ReadStates as reads
+use Rattle.compactor.specs.declared.compact.Compact.{Compact}
+use Rattle.compactor.specs.declared.job.Job.{Job}
+use Rattle.compactor.specs.declared.mark_stage.MarkStage.{MarkStage}
+use Rattle.compactor.specs.declared.mark_stage.MarkStage.TheVariants.{Fresh, Looking, Putting}
+use Rattle.compactor.specs.declared.marks.Marks.{Marks}
+use Rattle.compactor.specs.declared.read_stage.ReadStage.{ReadStage}
+use Rattle.compactor.specs.declared.read_stage.ReadStage.TheVariants as read_at
+use Rattle.compactor.specs.declared.reads.Reads.{Reads}
+use Rattle.compactor.specs.declared.stage.Stage.{Stage}
+
+-- ---- each part asks for fewer than the most
+
+marks_at : (stage : MarkStage) (put waiting : ℕ) → put + held stage + waiting < 2 ^ 64 → marks.count_at stage waiting < most_asked
+marks_at Fresh put waiting few = omega (arith, few)
+marks_at (Looking ulid) put waiting few = omega (arith, few)
+marks_at (Putting ulid looked) put waiting few = omega (arith, few)
+
+pub marks_few : (m : Marks) → marks.count_of m < most_asked
+marks_few m = marks_at m.stage m.put (length m.waiting.items) m.counted
+
+reads_at : (stage : ReadStage) (waiting : ℕ) → last_segment stage ≤ 999_999 → waiting < 2 ^ 64 → reads.count_at stage waiting < most_asked
+reads_at (read_at.Fresh meta) waiting room few = omega (arith, few)
+reads_at (read_at.Indexing meta) waiting room few = omega (arith, few)
+reads_at (read_at.Segmenting input more) waiting room few = omega (arith, room, few)
+reads_at read_at.Over waiting room few = omega (arith, few)
+
+pub reads_few : (r : Reads) → reads.count_of r < most_asked
+reads_few r = reads_at r.stage (length r.waiting.items) r.room (omega (arith, r.waiting.ok.0, r.waiting.small.0, r.waiting.small.1))
+
+uploads_at : (stage : uploading.Stage) (objects : List Object) (place : ℕ) → length objects ≤ most_objects → shipped.count_at stage objects place < most_asked
+uploads_at upload_is.Looking objects place few = omega (arith, few)
+uploads_at upload_is.Putting objects place few = omega (arith, few)
+
+pub upload_few : (u : Upload) → shipped.count_of u < most_asked
+upload_few u = uploads_at u.stage u.objects.items u.place u.few
+
+-- ---- the measure falls
+
+-- a part on a lower level than that
+pub part_under : (level above count : ℕ) → level < above → count < most_asked → most_asked * level + count < most_asked * above
+part_under level above count lower few = omega (arith, lower, few)
+
+-- a part that asks falls
+pub asks_falls : {A : Type 0} (old new : ℕ) (a : Act A) (op : Op) → a ≡ act.Do op → Falls old (Ok a) new → new < old
+asks_falls {A} old new a op is falls = subst (λ (b : Act A). Falls old (Ok b) new) is falls
+
+pub level_falls : {E : Type 0} (level above more : ℕ) (r : Result (Act E) NoMemory) (new : ℕ) → level ≤ above → Falls (most_asked * level) r new → Falls (most_asked * above + more) r new
+level_falls level above more (Ok (act.Do op)) new le falls = omega (arith, le, falls)
+level_falls level above more (Ok (act.Done end)) new le falls = tt
+level_falls level above more (Err none) new le falls = tt
+
+-- the measure of the state, by its stage
+pub stage_falls : {E : Type 0} (stage : Stage) (old : Compact) (r : Result (Act E) NoMemory) (new : ℕ) → old.stage ≡ stage → Falls (count_at stage (length old.groups.items)) r new → Falls (count_of old) r new
+stage_falls stage old r new is falls = subst (λ (s : Stage). Falls (count_at s (length old.groups.items)) r new) (sym is) falls
+
+-- ---- how many groups are left
+
+pub left_fewer : (all left : List Group) (job : Job) → TakesJob all left job → length left + 1 ≤ length all
+left_fewer all left job takes =
+    let many : length all ≡ length takes.skipped.front + length (takes.group ∷ left) = ap length takes.skipped.are ∙ length-append takes.skipped.front (takes.group ∷ left) in
+    omega (arith, many)

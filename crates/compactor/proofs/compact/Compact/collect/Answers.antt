@@ -1,0 +1,24 @@
+use Rattle.std.proofs.Common.{refl, ◌+◌, ◌*◌, ◌^◌, length, arith}
+use Rattle.compactor.specs.CompactStates.{after_covered}
+use Rattle.compactor.specs.MarkStates.{count_of}
+use Rattle.compactor.specs.declared.reason.Reason.TheVariants.{Covered}
+use Rattle.compactor.proofs.Beginnings.{marks_ask, marks_end}
+use Rattle.compactor.proofs.CompactCounts.{marks_few, part_under}
+use Rattle.compactor.proofs.Steps.{falls_more}
+use Rattle.compactor.proofs.compact.Compact.collect.Goals as goal
+
+pub returns-in-Do-clause-leads : goal.returns-in-Do-clause-leads
+returns-in-Do-clause-leads c =
+    marks_ask c.start-marks.result c.first.new.self Covered c.args.covered.items (after_covered c.args.self.now) (λ n. refl) c.start-marks.ensures.plan
+    _ c.in-Do.op _ c.in-Do.is refl (λ entries end run. run) (λ entries end run. run) c.in_ok-act.ensures
+
+pub returns-in-Do-clause-falls : goal.returns-in-Do-clause-falls
+returns-in-Do-clause-falls c = part_under (3 * length c.args.self.now.groups.items + 2) (2 ^ 70) (count_of c.first.new.self) (omega (arith, c.args.self.now.counted)) (marks_few c.first.new.self)
+
+pub returns-in-Done-clause-leads : goal.returns-in-Done-clause-leads
+returns-in-Done-clause-leads c =
+    marks_end c.start-marks.result c.first.new.self Covered c.args.covered.items (after_covered c.args.self.now) (λ n. refl) c.start-marks.ensures.plan
+    _ c.in-Done.end c.after_collect.result c.after_collect.new.self c.in-Done.is c.in_ok-act.ensures c.after_collect.ensures.leads
+
+pub returns-in-Done-clause-falls : goal.returns-in-Done-clause-falls
+returns-in-Done-clause-falls c = falls_more _ _ c.after_collect.result _ (omega (arith, c.args.self.now.counted)) c.after_collect.ensures.falls

@@ -1,0 +1,26 @@
+use Rattle.std.proofs.Common.{refl, [], ◌+◌, ◌*◌, length, arith}
+use Rattle.compactor.specs.ReadStates.{count_of}
+use Rattle.compactor.proofs.Beginnings.{reads_ask, reads_end}
+use Rattle.compactor.proofs.CompactBegins.{fits_first}
+use Rattle.compactor.proofs.CompactCounts.{reads_few, part_under}
+use Rattle.compactor.proofs.Steps.{falls_more}
+use Rattle.compactor.proofs.compact.Compact.read_group.Goals as goal
+
+pub after_reads-requires : goal.after_reads-requires
+after_reads-requires c = record { fits = fits_first c.start-reads.result c.first.new.self [] _ c.in-Done.end c.in-Done.is c.in_ok-act.ensures }
+
+pub returns-in-Do-clause-leads : goal.returns-in-Do-clause-leads
+returns-in-Do-clause-leads c =
+    reads_ask c.args.self.now c.start-reads.result c.first.new.self c.args.job.labels c.args.job.parents.items c.args.job.first c.args.job.others.items c.requires.parents c.start-reads.ensures.plan
+    _ c.in-Do.op _ c.in-Do.is refl (λ entries end run. run) (λ entries end run. run) c.in_ok-act.ensures
+
+pub returns-in-Do-clause-falls : goal.returns-in-Do-clause-falls
+returns-in-Do-clause-falls c = part_under (3 * length c.args.self.now.groups.items + 4) (3 * length c.args.self.now.groups.items + 5) (count_of c.first.new.self) (omega arith) (reads_few c.first.new.self)
+
+pub returns-in-Done-clause-leads : goal.returns-in-Done-clause-leads
+returns-in-Done-clause-leads c =
+    reads_end c.args.self.now c.start-reads.result c.first.new.self c.args.job.labels c.args.job.parents.items c.args.job.first c.args.job.others.items c.requires.parents c.start-reads.ensures.plan
+    _ c.in-Done.end c.after_reads.result c.after_reads.new.self c.in-Done.is c.in_ok-act.ensures c.after_reads.ensures.leads
+
+pub returns-in-Done-clause-falls : goal.returns-in-Done-clause-falls
+returns-in-Done-clause-falls c = falls_more _ _ c.after_reads.result _ (omega arith) c.after_reads.ensures.falls

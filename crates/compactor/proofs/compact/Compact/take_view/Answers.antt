@@ -1,0 +1,16 @@
+use Rattle.std.proofs.Common.{sym, ap, subst, arith, ◌∙◌}
+use Rattle.group_planner.specs.Groups.{AreGroups}
+use Rattle.compactor.specs.Compactions.{metas_of, names_of, expired_at}
+use Rattle.compactor.proofs.Rounds.{view_begins}
+use Rattle.compactor.proofs.compact.Compact.take_view.Goals as goal
+
+pub invariant_of-self : goal.invariant_of-self
+invariant_of-self c = omega (arith, c.from_vec.result.ok.0, c.from_vec.result.small.0, c.from_vec.result.small.1)
+
+pub returns-clause-leads : goal.returns-clause-leads
+returns-clause-leads c =
+    view_begins c.args.self.now.replicas c.args.self.now.retention c.args.view c.in_ok-covered.covered.items c.in_ok-expired.expired.items c.from_vec.result.items c.collect.result c.collect.new.self
+    (c.in_ok-covered.ensures ∙ ap names_of c.members-2.ensures)
+    (c.in_ok-expired.ensures ∙ ap (λ l. names_of (expired_at c.args.self.now.retention c.args.view.begin l)) c.members.ensures)
+    (subst (AreGroups c.args.self.now.replicas (metas_of c.args.view.kept)) (sym (c.from_vec.ensures.items ∙ c.into_vec.ensures)) c.in_ok-found.ensures.found)
+    c.collect.ensures.leads
