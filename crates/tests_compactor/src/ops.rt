@@ -18,13 +18,13 @@ fn print_op(rt: &HostRuntime, op: &Op) -> io::Result<()> {
     match op {
         Op::Clock(moment) => print!(rt; " @{}", moment.ms),
         Op::RootPage(_, _) => print!(rt; " P"),
-        Op::Get(key) => print_key(rt, "", *key),
-        Op::Put(key, _) => print_key(rt, "+", *key),
+        Op::Get(key) => print_key(rt, "", key),
+        Op::Put(key, _) => print_key(rt, "+", key),
         _ => print!(rt; " other"),
     }
 }
 
-fn print_key(rt: &HostRuntime, sign: &str, key: Key) -> io::Result<()> {
+fn print_key(rt: &HostRuntime, sign: &str, key: &Key) -> io::Result<()> {
     let name = letter(key.ulid());
     match key {
         Key::Mark(_) => print!(rt; " {sign}d{name}"),
