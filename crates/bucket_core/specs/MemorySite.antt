@@ -1,5 +1,5 @@
--- What a site in memory shows: the bucket and the shelf that it has yet to hand out.
-use Rattle.std.specs.Prelude.{ℕ, Bool, List, Option, if◌then◌else◌, is_some, option_map}
+-- What a site in memory shows: its bucket and its shelf, and whether it has yet to hand them out.
+use Rattle.std.specs.Prelude.{ℕ, Bool, List, Option, Some, if◌then◌else◌, is_some}
 use Rattle.bucket_core.specs.Contents.{Contents}
 use Rattle.bucket_core.specs.MemoryBucket.{objects_held}
 use Rattle.bucket_core.specs.MemoryShelf.{file_in, files_held}
@@ -13,13 +13,21 @@ bucket_left site = site.bucket
 abbrev pub shelf_left : MemorySite → Option MemoryShelf
 shelf_left site = site.shelf
 
--- what the bucket holds, whatever the name under which it is opened
-abbrev pub contents_left : MemorySite → List ℕ → Option Contents
-contents_left site name = option_map objects_held (bucket_left site)
+-- the one bucket that the site hands out, also where it is out
+abbrev pub bucket_told : MemorySite → MemoryBucket
+bucket_told site = site.only_bucket.value
 
--- what the shelf holds, whatever the name under which it is opened
-abbrev pub files_left : MemorySite → List ℕ → Option Contents
-files_left site name = option_map (λ shelf. file_in (files_held shelf)) (shelf_left site)
+-- and the one shelf
+abbrev pub shelf_told : MemorySite → MemoryShelf
+shelf_told site = site.only_shelf.value
+
+-- what the bucket holds as it is handed out, whatever the name under which it is opened
+abbrev pub contents_told : MemorySite → List ℕ → Option Contents
+contents_told site name = Some (objects_held (bucket_told site))
+
+-- what the shelf holds as it is handed out, whatever the name under which it is opened
+abbrev pub files_told : MemorySite → List ℕ → Option Contents
+files_told site name = Some (file_in (files_held (shelf_told site)))
 
 abbrev pub is_failing : MemorySite → Bool
 is_failing site = site.failing

@@ -4,21 +4,27 @@ ghost use Rattle.bucket_core.specs.MemoryBucket.{faults_counted as bucket_faults
 ghost use Rattle.bucket_core.specs.MemoryShelf.{faults_counted as shelf_faults};
 
 use crate::{MemoryBucket, MemoryShelf, Site, SiteRefusal};
+use std::snapshot::Snapshot;
 
 /// A site that hands out one bucket and one shelf, each under whatever name it is asked for first. Each opening after that
-/// fails, and where the site is failing each opening does.
+/// fails, and where the site is failing each opening does. Of every name it tells the same, also after all is handed out:
+/// what its bucket and its shelf hold as they are handed out.
 #[derive(Drop)]
 pub struct MemorySite {
     bucket: Option<MemoryBucket>,
     shelf: Option<MemoryShelf>,
+    only_bucket: Snapshot<MemoryBucket>,
+    only_shelf: Snapshot<MemoryShelf>,
     failing: bool,
     faults: u64,
     ghost fresh_bucket: { ForSome bucket (λ b. bucket_faults b ≡ 0) },
     ghost fresh_shelf: { ForSome shelf (λ s. shelf_faults s ≡ 0) },
+    ghost own_bucket: { ForSome bucket (λ b. b ≡ only_bucket.value) },
+    ghost own_shelf: { ForSome shelf (λ s. s ≡ only_shelf.value) },
 }
 
 impl MemorySite {
-    ghost use Rattle.bucket_core.specs.MemorySite.{bucket_left, shelf_left, is_failing, buckets_handed_out, shelves_handed_out, faults_counted};
+    ghost use Rattle.bucket_core.specs.MemorySite.{bucket_left, shelf_left, bucket_told, shelf_told, is_failing, buckets_handed_out, shelves_handed_out, faults_counted};
 
     /// A site with this bucket and this shelf, which have not failed yet.
     pub fn new(bucket: MemoryBucket, shelf: MemoryShelf, failing: bool) -> Self
@@ -26,14 +32,20 @@ impl MemorySite {
         requires shelf { shelf_faults shelf ≡ 0 }
         ensures bucket { bucket_left result ≡ Some bucket }
         ensures shelf { shelf_left result ≡ Some shelf }
+        ensures told { bucket_told result ≡ bucket }
+        ensures told_shelf { shelf_told result ≡ shelf }
         ensures failing { is_failing result ≡ failing }
         ensures buckets { buckets_handed_out result ≡ 0 }
         ensures shelves { shelves_handed_out result ≡ 0 }
         ensures faults { faults_counted result ≡ 0 }
     {
+        let only_bucket = Snapshot::of(&bucket);
+        let only_shelf = Snapshot::of(&shelf);
         MemorySite {
             bucket: Some(bucket),
             shelf: Some(shelf),
+            only_bucket,
+            only_shelf,
             failing,
             faults: 0,
         }
@@ -49,7 +61,7 @@ impl Site for MemorySite {
     ghost use Rattle.bucket_core.specs.Causes.{Rose};
     ghost use Rattle.bucket_core.specs.MemoryBucket.{faults_counted as bucket_faults, objects_held};
     ghost use Rattle.bucket_core.specs.MemoryShelf.{faults_counted as shelf_faults, file_in, files_held};
-    ghost use Rattle.bucket_core.specs.MemorySite.{bucket_left, shelf_left, contents_left, files_left, is_failing, buckets_handed_out, shelves_handed_out, faults_counted};
+    ghost use Rattle.bucket_core.specs.MemorySite.{bucket_left, shelf_left, bucket_told, shelf_told, contents_told, files_told, is_failing, buckets_handed_out, shelves_handed_out, faults_counted};
 
     ghost faults = { faults_counted };
 
@@ -57,13 +69,16 @@ impl Site for MemorySite {
 
     ghost shelves = { shelves_handed_out };
 
-    ghost next_bucket = { contents_left };
+    ghost next_bucket = { contents_told };
 
-    ghost next_shelf = { files_left };
+    ghost next_shelf = { files_told };
 
     fn open_bucket(&mut self, _name: &str) -> Result<MemoryBucket, SiteRefusal>
         ensures fresh { IfOk result (λ store. bucket_faults store ≡ 0) }
         ensures told { IfOk result (λ store. bucket_left self.old ≡ Some store) }
+        ensures only { IfOk result (λ store. store ≡ bucket_told self.old) }
+        ensures stays { bucket_told self.new ≡ bucket_told self.old }
+        ensures stays_shelf { shelf_told self.new ≡ shelf_told self.old }
         ensures counted { buckets_handed_out self.new ≡ (if is_ok result
             then buckets_handed_out self.old + 1 else buckets_handed_out self.old) }
         ensures shelves { shelf_left self.new ≡ shelf_left self.old }
@@ -74,7 +89,7 @@ impl Site for MemorySite {
             → faults_counted self.new ≡ faults_counted self.old }
         ensures fails { result ≡ Err SiteRefusal.Failed
             ↔ (IsTrue (is_failing self.old) ⊎ (bucket_left self.old ≡ None)) }
-        ensures only { result ≡ Err SiteRefusal.NoMemory → ⊥ }
+        ensures no_memory { result ≡ Err SiteRefusal.NoMemory → ⊥ }
         ensures same { is_failing self.new ≡ is_failing self.old }
     {
         if self.failing {
@@ -93,6 +108,9 @@ impl Site for MemorySite {
     fn open_shelf(&mut self, _name: &str) -> Result<MemoryShelf, SiteRefusal>
         ensures fresh { IfOk result (λ shelf. shelf_faults shelf ≡ 0) }
         ensures told { IfOk result (λ shelf. shelf_left self.old ≡ Some shelf) }
+        ensures only { IfOk result (λ shelf. shelf ≡ shelf_told self.old) }
+        ensures stays { shelf_told self.new ≡ shelf_told self.old }
+        ensures stays_bucket { bucket_told self.new ≡ bucket_told self.old }
         ensures counted { shelves_handed_out self.new ≡ (if is_ok result
             then shelves_handed_out self.old + 1 else shelves_handed_out self.old) }
         ensures buckets { bucket_left self.new ≡ bucket_left self.old }
@@ -103,7 +121,7 @@ impl Site for MemorySite {
             → faults_counted self.new ≡ faults_counted self.old }
         ensures fails { result ≡ Err SiteRefusal.Failed
             ↔ (IsTrue (is_failing self.old) ⊎ (shelf_left self.old ≡ None)) }
-        ensures only { result ≡ Err SiteRefusal.NoMemory → ⊥ }
+        ensures no_memory { result ≡ Err SiteRefusal.NoMemory → ⊥ }
         ensures same { is_failing self.new ≡ is_failing self.old }
     {
         if self.failing {

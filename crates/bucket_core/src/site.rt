@@ -25,7 +25,8 @@ pub trait Site {
     /// What the next shelf holds that is opened under a name, where the site tells it.
     ghost next_shelf: { Self → List ℕ → Option Contents };
 
-    /// Hands out a bucket that has not failed yet and was asked for nothing. What is told of shelves stays.
+    /// Hands out a bucket that has not failed yet and was asked for nothing. What is told of shelves stays, and what is
+    /// told of buckets under other names.
     fn open_bucket(&mut self, name: &str) -> Result<Self::Store, SiteRefusal>
         ensures fresh { IfOk result (λ store. Self.Store.faults store ≡ 0) }
         ensures unasked { IfOk result (λ store.
@@ -34,6 +35,8 @@ pub trait Site {
             IfSome (next_bucket self.old name.now) (λ c. Self.Store.contents store ≡ Some c)) }
         ensures counted { buckets self.new
             ≡ (if is_ok result then buckets self.old + 1 else buckets self.old) }
+        ensures others { (other : List ℕ) → other ≢ name.now
+            → next_bucket self.new other ≡ next_bucket self.old other }
         ensures shelves { shelves self.new ≡ shelves self.old }
         ensures files { next_shelf self.new ≡ next_shelf self.old }
         ensures later { faults self.old ≤ faults self.new }
@@ -41,7 +44,8 @@ pub trait Site {
             → Rose (faults self.old) (faults self.new) }
         ensures calm { result ≢ Err SiteRefusal.Failed → faults self.new ≡ faults self.old };
 
-    /// Hands out a shelf that has not failed yet and was asked for nothing. What is told of buckets stays.
+    /// Hands out a shelf that has not failed yet and was asked for nothing. What is told of buckets stays, and what is
+    /// told of shelves under other names.
     fn open_shelf(&mut self, name: &str) -> Result<Self::Files, SiteRefusal>
         ensures fresh { IfOk result (λ shelf. Self.Files.faults shelf ≡ 0) }
         ensures unasked { IfOk result (λ shelf.
@@ -50,6 +54,8 @@ pub trait Site {
             IfSome (next_shelf self.old name.now) (λ c. Self.Files.files shelf ≡ Some c)) }
         ensures counted { shelves self.new
             ≡ (if is_ok result then shelves self.old + 1 else shelves self.old) }
+        ensures others { (other : List ℕ) → other ≢ name.now
+            → next_shelf self.new other ≡ next_shelf self.old other }
         ensures buckets { buckets self.new ≡ buckets self.old }
         ensures contents { next_bucket self.new ≡ next_bucket self.old }
         ensures later { faults self.old ≤ faults self.new }
