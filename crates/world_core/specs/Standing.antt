@@ -7,9 +7,9 @@ use Rattle.bucket_core.specs.Contents.{Contents, nothing, with_object, without_o
 use Rattle.bucket_core.specs.Pages.{IsPage}
 use Rattle.world_core.specs.Journals.{Each}
 use Rattle.world_core.specs.declared.op.Op.{Op}
-use Rattle.world_core.specs.declared.op.Op.TheVariants.{Put, Get, GetRange, Delete, RootPage, BlockPage}
+use Rattle.world_core.specs.declared.op.Op.TheVariants.{Clock, Put, Get, GetRange, Delete, RootPage, BlockPage}
 use Rattle.world_core.specs.declared.reply.Reply.{Reply}
-use Rattle.world_core.specs.declared.reply.Reply.TheVariants.{Stored, Found, Absent, Deleted, Names, Failed}
+use Rattle.world_core.specs.declared.reply.Reply.TheVariants.{Clocked, Stored, Found, Absent, Deleted, Names, Failed}
 use Rattle.world_core.specs.declared.entry.Entry.{Entry}
 
 -- whether a put or a delete took effect: it did what it was asked for, or failed and took effect all the same
@@ -29,15 +29,36 @@ left_by op reply contents = contents
 abbrev pub stands : List Entry → Contents
 stands entries = fold (λ contents e. left_by e.op e.reply contents) nothing entries
 
--- the reply shows what stands; one that failed may always come
+-- The reply of a read shows this much of the object. One that failed may always come, and replies of no read show nothing.
+abbrev pub TellsOf : (object part : Option (List ℕ)) → Reply → Type 0
+TellsOf object part (Found bytes) = part ≡ Some bytes
+TellsOf object part Absent = object ≡ None
+TellsOf object part (Failed landed) = Unit {0}
+TellsOf object part Clocked = Unit {0}
+TellsOf object part Stored = Unit {0}
+TellsOf object part Deleted = Unit {0}
+TellsOf object part (Names names) = Unit {0}
+
+-- The names of a page are such. One that failed may always come, and replies of no page show no names.
+abbrev pub TellsNames : (List (List ℕ) → Type 0) → Reply → Type 0
+TellsNames Are (Names names) = Are names
+TellsNames Are (Failed landed) = Unit {0}
+TellsNames Are Clocked = Unit {0}
+TellsNames Are Stored = Unit {0}
+TellsNames Are (Found bytes) = Unit {0}
+TellsNames Are Absent = Unit {0}
+TellsNames Are Deleted = Unit {0}
+
+-- the reply shows what stands; a clock, a put and a delete show nothing of it
 abbrev pub Tells : Contents → Op → Reply → Type 0
-Tells contents (Get key) (Found bytes) = contents (key_text key) ≡ Some bytes
-Tells contents (Get key) Absent = contents (key_text key) ≡ None
-Tells contents (GetRange key from len) (Found bytes) = option_map (range_of from len) (contents (key_text key)) ≡ Some bytes
-Tells contents (GetRange key from len) Absent = contents (key_text key) ≡ None
-Tells contents (RootPage after limit) (Names names) = IsPage contents [] after limit names
-Tells contents (BlockPage ulid after limit) (Names names) = IsPage contents (text_of ulid) after limit names
-Tells contents op reply = Unit {0}
+Tells contents (Clock moment) reply = Unit {0}
+Tells contents (Put key bytes) reply = Unit {0}
+Tells contents (Delete key) reply = Unit {0}
+Tells contents (Get key) reply = TellsOf (contents (key_text key)) (contents (key_text key)) reply
+Tells contents (GetRange key from len) reply =
+    TellsOf (contents (key_text key)) (option_map (range_of from len) (contents (key_text key))) reply
+Tells contents (RootPage after limit) reply = TellsNames (IsPage contents [] after limit) reply
+Tells contents (BlockPage ulid after limit) reply = TellsNames (IsPage contents (text_of ulid) after limit) reply
 
 -- each get, range and page that did not fail shows what stands after the entries before it
 abbrev pub IsHonest : List Entry → Type 0
