@@ -11,7 +11,7 @@ use Rattle.world_core.specs.declared.act.Act.{Act}
 use Rattle.world_core.specs.declared.act.Act.TheVariants as act
 use Rattle.group_planner.specs.Members.{ulids_of}
 use Rattle.compactor.specs.Compactions.{read_ends, merging, compacting}
-use Rattle.compactor.specs.Handing.{PartThen, HandsOn}
+use Rattle.world_core.specs.Parts.{PartThen, HandsOn}
 use Rattle.compactor.specs.Marking.{marking}
 use Rattle.compactor.specs.Reading.{reads_block, reads_blocks}
 use Rattle.compactor.specs.MarkStates as marks

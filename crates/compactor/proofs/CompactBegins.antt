@@ -16,7 +16,7 @@ use Rattle.meta_fetcher.specs.declared.rules.SyncRules.{SyncRules}
 use Rattle.meta_fetcher.specs.declared.sync.Sync.{Sync}
 use Rattle.meta_fetcher.specs.declared.sync_end.SyncEnd.{SyncEnd}
 use Rattle.compactor.specs.Compactions.{sync_rules, after_sync, CompactRun}
-use Rattle.compactor.specs.Handing.{PartThen, HandsOn}
+use Rattle.world_core.specs.Parts.{PartThen, HandsOn}
 use Rattle.compactor.specs.ReadStates.{may_read, asked_read, FitsEnd}
 use Rattle.compactor.specs.declared.compact_end.CompactEnd.{CompactEnd}
 use Rattle.compactor.specs.declared.reads.Reads.{Reads}

@@ -10,12 +10,12 @@ use Rattle.world_core.specs.declared.entry.Entry.{Entry}
 use Rattle.world_core.specs.declared.act.Act.{Act}
 use Rattle.world_core.specs.declared.act.Act.TheVariants as act
 use Rattle.world_core.proofs.PlanLaws.{breaks_off}
-use Rattle.compactor.specs.Handing.{HandsOn, PartThen, after_entries}
+use Rattle.world_core.specs.Parts.{HandsOn, PartThen, after_entries}
 use Rattle.compactor.specs.CompactStates.{Onward, may_at, may_compact, asked_at, asked_compact, WaitsFor, Begins, Goes}
 use Rattle.compactor.specs.declared.stage.Stage.{Stage}
 use Rattle.compactor.specs.declared.compact.Compact.{Compact}
 use Rattle.compactor.specs.declared.compact_end.CompactEnd.{CompactEnd}
-use Rattle.compactor.proofs.HandingOn.{goes_on, hands_on, breaks, part_runs}
+use Rattle.world_core.proofs.PlanParts.{goes_on, hands_on, breaks, part_runs}
 
 -- ---- a part that goes on
 

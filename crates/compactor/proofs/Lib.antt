@@ -1,7 +1,4 @@
 mod LastNamed
-mod Steps
-mod HandingOn
-mod Words
 mod MarkSteps
 mod ReadSteps
 mod JobRuns

@@ -8,7 +8,7 @@ use Rattle.world_core.specs.Operations.{entry_of}
 use Rattle.world_core.specs.declared.op.Op.{Op}
 use Rattle.world_core.specs.declared.seen.Seen.{Seen}
 use Rattle.world_core.specs.declared.act.Act.{Act}
-use Rattle.compactor.specs.Leading.{after_entry, Leads}
+use Rattle.world_core.specs.Leads.{after_entry, LeadsBy}
 use Rattle.compactor.specs.NewMarks.{new_mark_text}
 use Rattle.compactor.specs.Marking.{details_of, marking}
 use Rattle.compactor.specs.MarkStates.{marks_of, left_at, left_of, may_mark, asked_at, asked_mark}
@@ -18,8 +18,8 @@ use Rattle.compactor.specs.declared.mark_stage.MarkStage.TheVariants.{Fresh, Loo
 use Rattle.compactor.specs.declared.marks.Marks.{Marks}
 use Rattle.compactor.specs.declared.marks_end.MarksEnd.{MarksEnd}
 use Rattle.compactor.specs.declared.marks_end.MarksEnd.TheVariants as marked
-use Rattle.compactor.proofs.Steps.{opens, steps}
-use Rattle.compactor.proofs.Words.{gets_then, puts_then, gets_keeps, puts_keeps}
+use Rattle.world_core.proofs.LeadSteps.{opens_by, steps_by}
+use Rattle.world_core.proofs.PlanWords.{gets_then, puts_then, gets_keeps, puts_keeps}
 
 -- what is left begins with the operation that is waited for
 asked_as : (stage : MarkStage) (reason : Reason) (put : ℕ) (waiting : List ℕ) (o : Op) → asked_at stage reason ≡ Some o → asked (left_at stage reason put waiting) ≡ Some o
@@ -32,16 +32,16 @@ asked_left marks o is = asked_as marks.stage marks.reason marks.put marks.waitin
 
 module _ (old new : Marks) (r : Result (Act MarksEnd) NoMemory) (stage : MarkStage) (is : old.stage ≡ stage) where
   -- a first call goes on
-  pub mark_opens : Leads left_of asked_mark (left_at stage old.reason old.put old.waiting.items) r new → GoesOn may_mark asked_mark old [] r new
-  mark_opens leads = opens left_of asked_mark asked_left old new r (subst (λ s. Leads left_of asked_mark (left_at s old.reason old.put old.waiting.items) r new) (sym is) leads)
+  pub mark_opens : LeadsBy left_of asked_mark (left_at stage old.reason old.put old.waiting.items) r new → GoesOn may_mark asked_mark old [] r new
+  mark_opens leads = opens_by left_of asked_mark asked_left old new r (subst (λ s. LeadsBy left_of asked_mark (left_at s old.reason old.put old.waiting.items) r new) (sym is) leads)
 
   -- a step goes on
   pub mark_steps : (seat : ℕ) (o : Op) (seen : Seen) → asked_mark old ≡ Some o
-      → Leads left_of asked_mark (after_entry (left_at stage old.reason old.put old.waiting.items) (entry_of seat o seen)) r new
+      → LeadsBy left_of asked_mark (after_entry (left_at stage old.reason old.put old.waiting.items) (entry_of seat o seen)) r new
       → GoesOn may_mark asked_mark old (entry_of seat o seen ∷ []) r new
   mark_steps seat o seen waits leads =
-      steps left_of asked_mark asked_left old new seat o seen r waits
-      (subst (λ s. Leads left_of asked_mark (after_entry (left_at s old.reason old.put old.waiting.items) (entry_of seat o seen)) r new) (sym is) leads)
+      steps_by left_of asked_mark asked_left old new seat o seen r waits
+      (subst (λ s. LeadsBy left_of asked_mark (after_entry (left_at s old.reason old.put old.waiting.items) (entry_of seat o seen)) r new) (sym is) leads)
 
 -- the marking and then what follows its end is the marking with what follows it
 pub marks_then : {E : Type 0} (fault : ℕ → E) (next : MarksEnd → Plan E) (reason : Reason) (put : ℕ) (ulids : List ℕ) → ((n : ℕ) → next (marked.Fault n) ≡ ends (fault n))

@@ -13,7 +13,7 @@ use Rattle.world_core.specs.declared.reply.Reply.TheVariants.{Found}
 use Rattle.world_core.specs.declared.entry.Entry.{Entry}
 use Rattle.world_core.specs.declared.act.Act.{Act}
 use Rattle.world_core.specs.declared.act.Act.TheVariants as act
-use Rattle.compactor.specs.Leading.{after_entry, Leads}
+use Rattle.world_core.specs.Leads.{after_entry, LeadsBy}
 use Rattle.compactor.specs.Named.{named_segments}
 use Rattle.compactor.specs.Reading.{ReadEnds, read_at, reads, reads_segments, after_index, reads_block, reads_blocks}
 use Rattle.compactor.specs.ReadStates.{read_ends, all_read, blocks_after, block_of, input_of, segments_of, segment_of, left_at, left_of, may_read, asked_at, asked_read, Fits}
@@ -24,8 +24,8 @@ use Rattle.compactor.specs.declared.read_stage.ReadStage.TheVariants.{Fresh, Ind
 use Rattle.compactor.specs.declared.reads.Reads.{Reads}
 use Rattle.compactor.specs.declared.reads_end.ReadsEnd.{ReadsEnd}
 use Rattle.compactor.specs.declared.reads_end.ReadsEnd.TheVariants as read
-use Rattle.compactor.proofs.Steps.{opens, steps}
-use Rattle.compactor.proofs.Words.{gets_then}
+use Rattle.world_core.proofs.LeadSteps.{opens_by, steps_by}
+use Rattle.world_core.proofs.PlanWords.{gets_then}
 
 -- what is left begins with the operation that is waited for
 asked_as : (stage : ReadStage) (inputs : List Input) (waiting : List Meta) (o : Op) → asked_at stage ≡ Some o → asked (left_at stage inputs waiting) ≡ Some o
@@ -55,37 +55,37 @@ module _ (old new : Reads) where
 
   module _ (r : Result (Act ReadsEnd) NoMemory) (fits : Fits r) (stage : ReadStage) (is : old.stage ≡ stage) where
     -- a first call goes on
-    pub read_opens : Leads left_of asked_read (left_at stage old.inputs old.waiting.items) r new → GoesOn may_read asked_read old [] r new
-    read_opens leads = fitted [] r (opens left_of asked_read asked_left old new r (subst (λ s. Leads left_of asked_read (left_at s old.inputs old.waiting.items) r new) (sym is) leads)) fits
+    pub read_opens : LeadsBy left_of asked_read (left_at stage old.inputs old.waiting.items) r new → GoesOn may_read asked_read old [] r new
+    read_opens leads = fitted [] r (opens_by left_of asked_read asked_left old new r (subst (λ s. LeadsBy left_of asked_read (left_at s old.inputs old.waiting.items) r new) (sym is) leads)) fits
 
     -- a step goes on
     pub read_steps : (seat : ℕ) (o : Op) (seen : Seen) → asked_read old ≡ Some o
-        → Leads left_of asked_read (after_entry (left_at stage old.inputs old.waiting.items) (entry_of seat o seen)) r new
+        → LeadsBy left_of asked_read (after_entry (left_at stage old.inputs old.waiting.items) (entry_of seat o seen)) r new
         → GoesOn may_read asked_read old (entry_of seat o seen ∷ []) r new
     read_steps seat o seen waits leads =
         fitted (entry_of seat o seen ∷ []) r
-        (steps left_of asked_read asked_left old new seat o seen r waits
-        (subst (λ s. Leads left_of asked_read (after_entry (left_at s old.inputs old.waiting.items) (entry_of seat o seen)) r new) (sym is) leads)) fits
+        (steps_by left_of asked_read asked_left old new seat o seen r waits
+        (subst (λ s. LeadsBy left_of asked_read (after_entry (left_at s old.inputs old.waiting.items) (entry_of seat o seen)) r new) (sym is) leads)) fits
 
 -- ---- replies
 
 module _ (new : Reads) (r : Result (Act ReadsEnd) NoMemory) (inputs : List Input) (waiting : List Meta) (e : Entry) (bytes : List ℕ) (found : e.reply ≡ Found bytes) where
   -- an index came
   pub index_came : (meta : Meta) (count : ℕ) (segments : List Read) → named_segments bytes ≡ Some count → segments ≡ []
-      → Leads left_of asked_read (segments_of inputs waiting (record { meta = meta; index = read_at e bytes; segments = segments }) count e) r new
-      → Leads left_of asked_read (after_entry (block_of inputs waiting meta) e) r new
+      → LeadsBy left_of asked_read (segments_of inputs waiting (record { meta = meta; index = read_at e bytes; segments = segments }) count e) r new
+      → LeadsBy left_of asked_read (after_entry (block_of inputs waiting meta) e) r new
   index_came meta count segments named none leads =
-      subst (λ p. Leads left_of asked_read (after_get p (λ b. after_index read_ends meta e b (named_segments b) (blocks_after inputs waiting)) (ends (read.Missing e.seq)) (ends (read.Fault e.seq))) r new) (sym found)
-      (subst (λ n. Leads left_of asked_read (after_index read_ends meta e bytes n (blocks_after inputs waiting)) r new) (sym named)
-      (subst (λ (l : List Read). Leads left_of asked_read (segments_of inputs waiting (record { meta = meta; index = read_at e bytes; segments = l }) count e) r new) none leads))
+      subst (λ p. LeadsBy left_of asked_read (after_get p (λ b. after_index read_ends meta e b (named_segments b) (blocks_after inputs waiting)) (ends (read.Missing e.seq)) (ends (read.Fault e.seq))) r new) (sym found)
+      (subst (λ n. LeadsBy left_of asked_read (after_index read_ends meta e bytes n (blocks_after inputs waiting)) r new) (sym named)
+      (subst (λ (l : List Read). LeadsBy left_of asked_read (segments_of inputs waiting (record { meta = meta; index = read_at e bytes; segments = l }) count e) r new) none leads))
 
   -- a segment came
   pub segment_came : (input : Input) (more : ℕ) (segments : List Read) → segments ≡ input.segments ++ read_at e bytes ∷ []
-      → Leads left_of asked_read (segments_of inputs waiting (record { meta = input.meta; index = input.index; segments = segments }) more e) r new
-      → Leads left_of asked_read (after_entry (segment_of inputs waiting input more) e) r new
+      → LeadsBy left_of asked_read (segments_of inputs waiting (record { meta = input.meta; index = input.index; segments = segments }) more e) r new
+      → LeadsBy left_of asked_read (after_entry (segment_of inputs waiting input more) e) r new
   segment_came input more segments added leads =
-      subst (λ p. Leads left_of asked_read (after_get p (λ b. reads_segments read_ends input.meta.ulid more (input.segments ++ read_at e b ∷ []) e (input_of inputs waiting input)) (ends (read.Missing e.seq)) (ends (read.Fault e.seq))) r new) (sym found)
-      (subst (λ (l : List Read). Leads left_of asked_read (segments_of inputs waiting (record { meta = input.meta; index = input.index; segments = l }) more e) r new) added leads)
+      subst (λ p. LeadsBy left_of asked_read (after_get p (λ b. reads_segments read_ends input.meta.ulid more (input.segments ++ read_at e b ∷ []) e (input_of inputs waiting input)) (ends (read.Missing e.seq)) (ends (read.Fault e.seq))) r new) (sym found)
+      (subst (λ (l : List Read). LeadsBy left_of asked_read (segments_of inputs waiting (record { meta = input.meta; index = input.index; segments = l }) more e) r new) added leads)
 
 -- ---- what follows
 

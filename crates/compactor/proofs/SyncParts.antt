@@ -8,7 +8,7 @@ use Rattle.world_core.proofs.PlanLaws.{untold}
 use Rattle.world_core.proofs.PlanParts.{Parts, broken, both, parts, joined}
 use Rattle.meta_fetcher.specs.Syncs.{Synced, Course, IsEnd, sync}
 use Rattle.meta_fetcher.specs.OneView.{one_end_of}
-use Rattle.compactor.proofs.HandingOn.{begun}
+use Rattle.world_core.proofs.PlanParts.{begun}
 use Rattle.compactor.specs.Compactions.{sync_rules, after_sync, CompactRun}
 use Rattle.compactor.specs.SyncFirst.{BeginsWithSync}
 use Rattle.compactor.specs.declared.compact_end.CompactEnd.{CompactEnd}

@@ -20,11 +20,11 @@ use Rattle.shipper.specs.declared.upload.Upload.{Upload}
 use Rattle.shipper.specs.declared.upload_end.UploadEnd.{UploadEnd}
 use Rattle.compactor.specs.Compactions.{last_number, after_upload}
 use Rattle.compactor.specs.NewBlocks.{block_objects}
-use Rattle.compactor.specs.Handing.{PartThen, HandsOn}
+use Rattle.world_core.specs.Parts.{PartThen, HandsOn}
 use Rattle.compactor.specs.CompactStates.{Onward, may_compact, asked_compact, WaitsFor, Begins, Goes, parents_left, after_put}
 use Rattle.compactor.specs.declared.compact.Compact.{Compact}
 use Rattle.compactor.specs.declared.compact_end.CompactEnd.{CompactEnd}
-use Rattle.compactor.proofs.HandingOn.{begun, breaks, goes_on}
+use Rattle.world_core.proofs.PlanParts.{begun, breaks, goes_on}
 use Rattle.compactor.proofs.CompactSteps.{goes_by}
 
 -- a run that came to an end may take notes

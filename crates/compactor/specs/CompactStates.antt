@@ -16,7 +16,7 @@ use Rattle.meta_fetcher.specs.SyncStates as synced
 use Rattle.meta_fetcher.specs.declared.sync_end.SyncEnd.{SyncEnd}
 use Rattle.group_planner.specs.declared.group.Group.{Group}
 use Rattle.compactor.specs.Compactions.{last_number, after_upload, merging, compacting_groups, after_sync}
-use Rattle.compactor.specs.Handing.{PartThen}
+use Rattle.world_core.specs.Parts.{PartThen}
 use Rattle.compactor.specs.Marking.{marking}
 use Rattle.compactor.specs.MarkStates as marks
 use Rattle.compactor.specs.ReadStates as reads

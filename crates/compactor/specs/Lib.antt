@@ -13,8 +13,6 @@ pub mod Compactions
 pub mod SyncFirst
 pub mod Counts
 pub mod Jobs
-pub mod Leading
-pub mod Handing
 pub mod MarkCounts
 pub mod MarkStates
 pub mod ReadRoom

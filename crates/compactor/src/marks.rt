@@ -3,7 +3,7 @@ ghost use Rattle.world_core.specs.Machines.{Falls};
 ghost use Rattle.world_core.specs.Operations.{IsAnswer, entry_of};
 ghost use Rattle.world_core.specs.Plans.{Keeps};
 ghost use Rattle.world_core.specs.declared.op.Op.{Op};
-ghost use Rattle.compactor.specs.Leading.{after_entry, Leads};
+ghost use Rattle.world_core.specs.Leads.{after_entry, LeadsBy};
 ghost use Rattle.compactor.specs.MarkCounts.{held};
 
 use crate::mark_stage::MarkStage;
@@ -51,7 +51,7 @@ impl Marks {
 
     /// Asks for the mark of the next block, or ends where there is none.
     fn look_next(&mut self) -> Result<Act<MarksEnd>, NoMemory>
-        ensures leads { Leads left_of asked_mark
+        ensures leads { LeadsBy left_of asked_mark
             (marks_of self.old.reason self.old.put self.old.waiting.items) result self.new }
         ensures falls { Falls (2 * length self.old.waiting.items + 1) result (count_of self.new) }
     {
@@ -68,7 +68,7 @@ impl Marks {
     fn after_look(&mut self, ulid: Ulid, seen: Seen) -> Result<Act<MarksEnd>, NoMemory>
         requires stage { self.old.stage ≡ MarkStage.Looking ulid }
         requires answer { IsSomeAnd (asked_mark self.old) (λ op. IsAnswer op seen) }
-        ensures leads { (seat : ℕ) (op : Op) → Leads left_of asked_mark
+        ensures leads { (seat : ℕ) (op : Op) → LeadsBy left_of asked_mark
             (after_entry (left_at (MarkStage.Looking ulid) self.old.reason self.old.put
             self.old.waiting.items) (entry_of seat op seen)) result self.new }
         ensures falls { Falls (2 * length self.old.waiting.items + 2) result (count_of self.new) }
@@ -86,7 +86,7 @@ impl Marks {
     fn put_mark(&mut self, ulid: Ulid, looked: Moment) -> Result<Act<MarksEnd>, NoMemory>
         requires stage { self.old.stage ≡ MarkStage.Looking ulid }
         requires moment { looked.ms < 2 ^ 48 }
-        ensures leads { Leads left_of asked_mark (left_at (MarkStage.Putting ulid looked)
+        ensures leads { LeadsBy left_of asked_mark (left_at (MarkStage.Putting ulid looked)
             self.old.reason self.old.put self.old.waiting.items) result self.new }
         ensures falls { Falls (2 * length self.old.waiting.items + 2) result (count_of self.new) }
     {
@@ -104,7 +104,7 @@ impl Marks {
     ) -> Result<Act<MarksEnd>, NoMemory>
         requires stage { self.old.stage ≡ MarkStage.Putting ulid looked }
         requires answer { IsSomeAnd (asked_mark self.old) (λ op. IsAnswer op seen) }
-        ensures leads { (seat : ℕ) (op : Op) → Leads left_of asked_mark
+        ensures leads { (seat : ℕ) (op : Op) → LeadsBy left_of asked_mark
             (after_entry (left_at (MarkStage.Putting ulid looked) self.old.reason self.old.put
             self.old.waiting.items) (entry_of seat op seen)) result self.new }
         ensures falls { Falls (2 * length self.old.waiting.items + 1) result (count_of self.new) }

@@ -5,7 +5,7 @@ ghost use Rattle.world_core.specs.Plans.{Keeps};
 ghost use Rattle.world_core.specs.declared.op.Op.{Op};
 ghost use Rattle.world_core.specs.declared.entry.Entry.{Entry};
 ghost use Rattle.block_keys.specs.declared.key.Key.TheVariants as key;
-ghost use Rattle.compactor.specs.Leading.{after_entry, Leads};
+ghost use Rattle.world_core.specs.Leads.{after_entry, LeadsBy};
 ghost use Rattle.compactor.specs.ReadRoom.{last_segment, most_segments, others_of};
 
 use crate::input::{Input, InputList, Read, ReadList};
@@ -56,7 +56,7 @@ impl Reads {
     /// Asks for the index of a block.
     fn ask_index(&mut self, meta: Meta) -> Result<Act<ReadsEnd>, NoMemory>
         requires many { 1 ≤ length self.old.inputs + length self.old.waiting.items }
-        ensures leads { Leads left_of asked_read
+        ensures leads { LeadsBy left_of asked_read
             (block_of self.old.inputs self.old.waiting.items meta) result self.new }
         ensures fits { Fits result }
         ensures falls { Falls (1_000_000 * length self.old.waiting.items + 1_000_001) result
@@ -71,7 +71,7 @@ impl Reads {
     fn after_index(&mut self, meta: Meta, seen: Seen) -> Result<Act<ReadsEnd>, NoMemory>
         requires many { 1 ≤ length self.old.inputs + length self.old.waiting.items }
         requires answer { IsAnswer (Op.Get (key.Index meta.ulid)) seen }
-        ensures leads { (seat : ℕ) (op : Op) → Leads left_of asked_read
+        ensures leads { (seat : ℕ) (op : Op) → LeadsBy left_of asked_read
             (after_entry (block_of self.old.inputs self.old.waiting.items meta)
             (entry_of seat op seen)) result self.new }
         ensures fits { Fits result }
@@ -108,7 +108,7 @@ impl Reads {
         requires answer { IsAnswer (Op.Get
             (key.Segment input.meta.ulid (length input.segments + 1))) seen }
         requires room { length input.segments + 1 + more ≤ 999_999 }
-        ensures leads { (seat : ℕ) (op : Op) → Leads left_of asked_read
+        ensures leads { (seat : ℕ) (op : Op) → LeadsBy left_of asked_read
             (after_entry (left_at (ReadStage.Segmenting input more) self.old.inputs
             self.old.waiting.items) (entry_of seat op seen)) result self.new }
         ensures fits { Fits result }
@@ -140,7 +140,7 @@ impl Reads {
         requires room { length input.segments + more ≤ 999_999 }
         requires moment { moment.ms < 2 ^ 48 }
         ensures leads { (last : Entry) → last.seq ≡ number → last.moment ≡ moment
-            → Leads left_of asked_read
+            → LeadsBy left_of asked_read
             (segments_of self.old.inputs self.old.waiting.items input more last) result self.new }
         ensures fits { Fits result }
         ensures falls { Falls (1_000_000 * length self.old.waiting.items + more + 1) result
@@ -161,7 +161,7 @@ impl Reads {
         requires many { 2 ≤ length self.old.inputs + length self.old.waiting.items }
         requires moment { moment.ms < 2 ^ 48 }
         ensures leads { (last : Entry) → last.seq ≡ number → last.moment ≡ moment
-            → Leads left_of asked_read
+            → LeadsBy left_of asked_read
             (blocks_of self.old.inputs self.old.waiting.items last) result self.new }
         ensures fits { Fits result }
         ensures falls { Falls (1_000_000 * length self.old.waiting.items + 1) result

@@ -10,4 +10,5 @@ pub mod PlanLaws
 pub mod PlanMachines
 pub mod PlanWords
 pub mod PlanParts
+pub mod LeadSteps
 pub mod Asking

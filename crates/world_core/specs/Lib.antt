@@ -6,6 +6,8 @@ pub mod Keeping
 pub mod Standing
 pub mod Machines
 pub mod Plans
+pub mod Leads
+pub mod Parts
 pub mod Walks
 pub mod Performing
 pub mod Worlds

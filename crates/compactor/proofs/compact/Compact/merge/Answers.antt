@@ -4,7 +4,7 @@ use Rattle.compactor.specs.Merges.{IsMerging}
 use Rattle.compactor.specs.declared.compact_end.CompactEnd.TheVariants as compact
 use Rattle.compactor.proofs.AfterMerge.{merges}
 use Rattle.compactor.proofs.MergedInputs.{merged_ulid}
-use Rattle.compactor.proofs.Steps.{ended}
+use Rattle.world_core.proofs.LeadSteps.{ended}
 use Rattle.compactor.proofs.compact.Compact.merge.Goals as goal
 
 pub upload-requires : goal.upload-requires

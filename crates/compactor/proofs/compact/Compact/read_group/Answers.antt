@@ -3,7 +3,7 @@ use Rattle.compactor.specs.ReadStates.{count_of}
 use Rattle.compactor.proofs.Beginnings.{reads_ask, reads_end}
 use Rattle.compactor.proofs.CompactBegins.{fits_first}
 use Rattle.compactor.proofs.CompactCounts.{reads_few, part_under}
-use Rattle.compactor.proofs.Steps.{falls_more}
+use Rattle.world_core.proofs.LeadSteps.{falls_more}
 use Rattle.compactor.proofs.compact.Compact.read_group.Goals as goal
 
 pub after_reads-requires : goal.after_reads-requires

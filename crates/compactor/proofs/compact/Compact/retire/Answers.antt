@@ -4,7 +4,7 @@ use Rattle.compactor.specs.MarkStates.{count_of}
 use Rattle.compactor.specs.declared.reason.Reason.TheVariants.{Compacted}
 use Rattle.compactor.proofs.Beginnings.{marks_ask, marks_end}
 use Rattle.compactor.proofs.CompactCounts.{marks_few, part_under}
-use Rattle.compactor.proofs.Steps.{falls_more}
+use Rattle.world_core.proofs.LeadSteps.{falls_more}
 use Rattle.compactor.proofs.compact.Compact.retire.Goals as goal
 
 pub returns-in-Do-clause-leads : goal.returns-in-Do-clause-leads

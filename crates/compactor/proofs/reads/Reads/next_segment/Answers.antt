@@ -2,11 +2,11 @@ use Rattle.std.proofs.Common.{◌≡◌, ◌≤◌, ◌+◌, ◌-◌, ℕ, suc, 
 use Rattle.block_keys.specs.Keys.{IsLawfulKey}
 use Rattle.world_core.specs.Plans.{Runs}
 use Rattle.world_core.specs.declared.op.Op.TheVariants as op
-use Rattle.compactor.specs.Leading.{Leads}
+use Rattle.world_core.specs.Leads.{LeadsBy}
 use Rattle.compactor.specs.ReadStates.{blocks_of, segments_of, left_of, asked_read}
 use Rattle.compactor.specs.ReadRoom.{others_of}
 use Rattle.compactor.proofs.ReadRooms.{pushed_few, pushed_many}
-use Rattle.compactor.proofs.Steps.{falls_more}
+use Rattle.world_core.proofs.LeadSteps.{falls_more}
 use Rattle.compactor.proofs.reads.Reads.next_segment.Goals as goal
 
 pub returns-then-more-gt0-clause-leads : goal.returns-then-more-gt0-clause-leads
@@ -22,8 +22,8 @@ returns-then-more-gt0-clause-leads c = λ last number moment.
 pub returns-in_ok-push-clause-leads : goal.returns-in_ok-push-clause-leads
 returns-in_ok-push-clause-leads c = λ last number moment.
     let none : 0 ≡ c.args.more = omega (arith, c.if-more-gt0.false) in
-    subst (λ (n : ℕ). Leads left_of asked_read (segments_of c.args.self.now.inputs c.args.self.now.waiting.items c.args.input n last) c.next_block.result c.next_block.new.self) none
-    (subst (λ l. Leads left_of asked_read (blocks_of l c.args.self.now.waiting.items last) c.next_block.result c.next_block.new.self) c.in_ok-push.ensures.ok
+    subst (λ (n : ℕ). LeadsBy left_of asked_read (segments_of c.args.self.now.inputs c.args.self.now.waiting.items c.args.input n last) c.next_block.result c.next_block.new.self) none
+    (subst (λ l. LeadsBy left_of asked_read (blocks_of l c.args.self.now.waiting.items last) c.next_block.result c.next_block.new.self) c.in_ok-push.ensures.ok
     (c.next_block.ensures.leads last number moment))
 
 pub returns-in_ok-push-clause-falls : goal.returns-in_ok-push-clause-falls
