@@ -1,5 +1,5 @@
 -- An upload's steps are those of its plan.
-use Rattle.std.proofs.Common.{◌≡◌, ℕ, ◌<◌, ◌+◌, ◌-◌, zero, suc, Bool, true, List, [], ◌∷◌, ◌++◌, length, drop, refl, sym, ◌∙◌, ap, subst, inr, arith, append-nil, Option, Some, None, Result, Ok, Err}
+use Rattle.std.proofs.Common.{◌≡◌, ℕ, ◌<◌, ◌+◌, ◌-◌, zero, suc, Bool, true, List, [], ◌∷◌, ◌++◌, length, drop, refl, sym, ◌∙◌, ap, subst, inr, arith, Option, Some, None, Result, Ok, Err}
 use Rattle.std.specs.Prelude.{IsSomeAnd, IfOk, OnOk, nat_le}
 use Rattle.std.proofs.lemmas.Bool.{and_parts, leb-true}
 use Rattle.shipper.specs.Limits.{is_lawful_key, have_lawful_keys}
@@ -9,9 +9,9 @@ use Rattle.block_keys.specs.Keys.{IsLawfulKey}
 use Rattle.block_keys.specs.declared.key.Key.{Key}
 use Rattle.block_keys.specs.declared.key.Key.TheVariants as key
 use Rattle.block_keys.specs.declared.object.Object.{Object}
-use Rattle.world_core.proofs.PlanLaws.{breaks_off}
-use Rattle.world_core.proofs.PlanMachines.{asks_next}
+use Rattle.world_core.proofs.LeadSteps.{on_entry, opens_by, steps_by}
 use Rattle.world_core.proofs.Replies.{answer_of}
+use Rattle.world_core.specs.Leads.{LeadsBy, after_entry}
 use Rattle.world_core.specs.Machines.{GoesOn, Falls}
 use Rattle.world_core.specs.Operations.{IsAnswer, IsReplyTo, IsLawful, entry_of}
 use Rattle.world_core.specs.Plans.{Runs, ends, after_get, after_put, asked}
@@ -20,7 +20,6 @@ use Rattle.world_core.specs.declared.op.Op.TheVariants as op
 use Rattle.world_core.specs.declared.reply.Reply.{Reply}
 use Rattle.world_core.specs.declared.reply.Reply.TheVariants as reply
 use Rattle.world_core.specs.declared.seen.Seen.{Seen}
-use Rattle.world_core.specs.declared.entry.Entry.{Entry}
 use Rattle.world_core.specs.declared.act.Act.{Act}
 use Rattle.world_core.specs.declared.act.Act.TheVariants.{Do, Done as Over}
 use Rattle.shipper.specs.UploadStates.{PutsNext, asked_upload, count_at, left_at, left_of, may_upload}
@@ -55,22 +54,15 @@ object_at (o ∷ os) (suc place) lt =
       lawful = λ keys. at.lawful (and_parts (is_lawful_key o.key) (have_lawful_keys os) keys).1;
     }
 
--- the plan of the puts from a place on goes on by the entry of the first
-put_run : (total : ℕ) (objects : List Object) (place : ℕ) (e : Entry) (entries : List Entry) (end : Option UploadEnd)
-    → place < length objects → asked (putting total (drop place objects)) ≡ Some e.op
-    → Runs (after_put e.reply (putting total (drop (place + 1) objects)) (ends (Fault e.seq))) entries end
-    → Runs (putting total (drop place objects)) (e ∷ entries) end
-put_run total objects place e entries end lt asks run =
-    let at : ObjectAt objects place = object_at objects place lt in
-    let is : Some (op.Put at.object.key at.object.bytes) ≡ Some e.op = ap (λ l. asked (putting total l)) (sym at.split) ∙ asks in
-    subst (λ l. Runs (putting total l) (e ∷ entries) end) (sym at.split) (cc (is), run)
+-- what is left begins with the operation that is waited for
+asks_own : (u : Upload) (o : Op) → asked_upload u ≡ Some o → asked (left_of u) ≡ Some o
+asks_own u o is = is
 
 -- a call that asks for the put at the place, or finds no memory
-goes_put : (old new : Upload) (objects : List Object) (place : ℕ) (made : List Entry) (r : Result (Act UploadEnd) NoMemory)
+leads_put : (new : Upload) (objects : List Object) (place : ℕ) (r : Result (Act UploadEnd) NoMemory)
     → IfOk r (PutsNext objects place) → OnOk r (new.stage ≡ Putting) → new.objects.items ≡ objects → new.place ≡ place
-    → ((entries : List Entry) (end : Option UploadEnd) → Runs (putting (length objects) (drop place objects)) entries end → Runs (left_of old) (made ++ entries) end)
-    → GoesOn may_upload asked_upload old made r new
-goes_put old new objects place made (Ok (Do o)) puts waits same_objects same_place onward =
+    → LeadsBy left_of asked_upload (putting (length objects) (drop place objects)) r new
+leads_put new objects place (Ok (Do o)) puts waits same_objects same_place =
     let kept : place < length objects = subst (λ n. n < length objects) same_place (subst (λ (l : List Object). new.place < length l) same_objects new.within) in
     let at : ObjectAt objects place = object_at objects place kept in
     let keys : IsLawfulKey at.object.key = at.lawful (ap have_lawful_keys (sym same_objects) ∙ new.keys) in
@@ -79,11 +71,13 @@ goes_put old new objects place made (Ok (Do o)) puts waits same_objects same_pla
     let left : left_of new ≡ putting (length objects) (drop place objects) =
     ap (λ s. left_at s new.ulid new.objects.items new.place) waits
     ∙ ap (λ (l : List Object). putting (length l) (drop new.place l)) same_objects ∙ ap (λ n. putting (length objects) (drop n objects)) same_place in
-    let asks : asked_upload new ≡ Some o = ap asked left ∙ puts in
-    asks_next left_of asked_upload old made o new (subst IsLawful put keys) asks asks (λ entries end run. onward entries end (subst (λ p. Runs p entries end) left run))
-goes_put old new objects place made (Ok (Over end)) puts waits same_objects same_place onward = absurd puts
-goes_put old new objects place made (Err e) puts waits same_objects same_place onward =
-    subst (λ es. Runs (left_of old) es None) (append-nil made) (onward [] None (breaks_off (putting (length objects) (drop place objects))))
+    record {
+      lawful = subst IsLawful put keys;
+      asks = ap asked left ∙ puts;
+      onward = λ entries end run. subst (λ p. Runs p entries end) left run;
+    }
+leads_put new objects place (Ok (Over end)) puts waits same_objects same_place = absurd puts
+leads_put new objects place (Err e) puts waits same_objects same_place = tt
 
 -- and its count falls
 pub falls_put : (count : ℕ) (new : Upload) (objects : List Object) (place : ℕ) (r : Result (Act UploadEnd) NoMemory)
@@ -109,17 +103,11 @@ absent_reply k (reply.Names ns) kind found failed = absurd kind
 
 -- the look is asked for
 pub asks_look : (u : Upload) → u.stage ≡ Looking → GoesOn may_upload asked_upload u [] (Ok (Do (op.Get (key.Meta u.ulid)))) u
-asks_look u looking =
-    let asks : asked_upload u ≡ Some (op.Get (key.Meta u.ulid)) = ap (λ s. asked (left_at s u.ulid u.objects.items u.place)) looking in
-    asks_next left_of asked_upload u [] (op.Get (key.Meta u.ulid)) u tt asks asks (λ entries end run. run)
-
--- what follows the look, by its reply
-pub look_run : (u : Upload) (seat : ℕ) (o : Op) (seen : Seen) (entries : List Entry) (end : Option UploadEnd) → u.stage ≡ Looking → asked_upload u ≡ Some o
-    → Runs (after_get seen.reply (λ bytes. ends Already) (putting (length u.objects.items) u.objects.items) (ends (Fault seen.seq))) entries end
-    → may_upload u (entry_of seat o seen ∷ entries) end u
-look_run u seat o seen entries end looking asks run =
-    let is : Some (op.Get (key.Meta u.ulid)) ≡ Some o = ap (λ s. asked (left_at s u.ulid u.objects.items u.place)) (sym looking) ∙ asks in
-    subst (λ s. Runs (left_at s u.ulid u.objects.items u.place) (entry_of seat o seen ∷ entries) end) (sym looking) (cc (is), run)
+asks_look u looking = opens_by left_of asked_upload asks_own u u (Ok (Do (op.Get (key.Meta u.ulid)))) (record {
+  lawful = tt;
+  asks = ap (λ s. asked (left_at s u.ulid u.objects.items u.place)) looking;
+  onward = λ entries end run. run;
+})
 
 -- after a look that found nothing, the first put
 pub look_goes : (u new : Upload) (seat : ℕ) (o : Op) (seen : Seen) (r : Result (Act UploadEnd) NoMemory) → u.stage ≡ Looking
@@ -131,9 +119,11 @@ look_goes u new seat o seen r looking answer found failed puts waits same_object
     let get : o ≡ op.Get (key.Meta u.ulid) = cc (is) in
     let kind : IsReplyTo (op.Get (key.Meta u.ulid)) seen.reply = subst (λ p. IsReplyTo p seen.reply) get (answer_of seen (asked_upload u) o answer asks).kind in
     let absent : seen.reply ≡ reply.Absent = absent_reply (key.Meta u.ulid) seen.reply kind found failed in
-    goes_put u new u.objects.items 0 (entry_of seat o seen ∷ []) r puts waits same_objects same_place
-    (λ entries end run. look_run u seat o seen entries end looking asks
-    (subst (λ p. Runs (after_get p (λ bytes. ends Already) (putting (length u.objects.items) u.objects.items) (ends (Fault seen.seq))) entries end) (sym absent) run))
+    let left : after_entry (left_of u) (entry_of seat o seen) ≡ putting (length u.objects.items) u.objects.items =
+    ap (λ s. after_entry (left_at s u.ulid u.objects.items u.place) (entry_of seat o seen)) looking
+    ∙ ap (λ q. after_get q (λ bytes. ends Already) (putting (length u.objects.items) u.objects.items) (ends (Fault seen.seq))) absent in
+    steps_by left_of asked_upload asks_own u new seat o seen r asks
+    (subst (λ p. LeadsBy left_of asked_upload p r new) (sym left) (leads_put new u.objects.items 0 r puts waits same_objects same_place))
 
 -- ---- the puts
 
@@ -150,20 +140,26 @@ stored_reply o k bytes r is kind failed = stored r (subst (λ p. IsReplyTo p r) 
     stored (reply.Names ns) kind failed = absurd kind
 
 -- what follows a put, by its reply
-pub puts_run : (u : Upload) (seat : ℕ) (o : Op) (seen : Seen) (entries : List Entry) (end : Option UploadEnd) → u.stage ≡ Putting → asked_upload u ≡ Some o
-    → Runs (after_put seen.reply (putting (length u.objects.items) (drop (u.place + 1) u.objects.items)) (ends (Fault seen.seq))) entries end
-    → may_upload u (entry_of seat o seen ∷ entries) end u
-puts_run u seat o seen entries end putting' asks run =
-    let is : asked (left_at Putting u.ulid u.objects.items u.place) ≡ Some o = ap (λ s. asked (left_at s u.ulid u.objects.items u.place)) (sym putting') ∙ asks in
-    subst (λ s. Runs (left_at s u.ulid u.objects.items u.place) (entry_of seat o seen ∷ entries) end) (sym putting')
-    (put_run (length u.objects.items) u.objects.items u.place (entry_of seat o seen) entries end u.within is run)
+after_this : (u : Upload) (seat : ℕ) (o : Op) (seen : Seen) → u.stage ≡ Putting
+    → after_entry (left_of u) (entry_of seat o seen) ≡ after_put seen.reply (putting (length u.objects.items) (drop (u.place + 1) u.objects.items)) (ends (Fault seen.seq))
+after_this u seat o seen putting' =
+    let at : ObjectAt u.objects.items u.place = object_at u.objects.items u.place u.within in
+    ap (λ s. after_entry (left_at s u.ulid u.objects.items u.place) (entry_of seat o seen)) putting'
+    ∙ ap (λ l. after_entry (putting (length u.objects.items) l) (entry_of seat o seen)) at.split
+
+-- an end to which this reply leads
+comes_to : (u : Upload) (seat : ℕ) (o : Op) (seen : Seen) (r : Reply) (end : UploadEnd) → u.stage ≡ Putting → asked_upload u ≡ Some o → seen.reply ≡ r
+    → Runs (after_put r (putting (length u.objects.items) (drop (u.place + 1) u.objects.items)) (ends (Fault seen.seq))) [] (Some end)
+    → may_upload u (entry_of seat o seen ∷ []) (Some end) u
+comes_to u seat o seen r end putting' asks is run =
+    let left : after_entry (left_of u) (entry_of seat o seen) ≡ after_put r (putting (length u.objects.items) (drop (u.place + 1) u.objects.items)) (ends (Fault seen.seq)) =
+    after_this u seat o seen putting' ∙ ap (λ q. after_put q (putting (length u.objects.items) (drop (u.place + 1) u.objects.items)) (ends (Fault seen.seq))) is in
+    on_entry (left_of u) (entry_of seat o seen) [] (Some end) asks (subst (λ p. Runs p [] (Some end)) (sym left) run)
 
 -- a put that failed
 pub put_fails : (u : Upload) (seat : ℕ) (o : Op) (seen : Seen) (landed : Bool) → u.stage ≡ Putting → asked_upload u ≡ Some o → seen.reply ≡ reply.Failed landed
     → may_upload u (entry_of seat o seen ∷ []) (Some (Fault seen.seq)) u
-put_fails u seat o seen landed putting' asks failed =
-    puts_run u seat o seen [] (Some (Fault seen.seq)) putting' asks
-    (subst (λ p. Runs (after_put p (putting (length u.objects.items) (drop (u.place + 1) u.objects.items)) (ends (Fault seen.seq))) [] (Some (Fault seen.seq))) (sym failed) (refl, inr refl))
+put_fails u seat o seen landed putting' asks failed = comes_to u seat o seen (reply.Failed landed) (Fault seen.seq) putting' asks failed (refl, inr refl)
 
 module _ (u : Upload) (seat : ℕ) (o : Op) (seen : Seen) (putting' : u.stage ≡ Putting) (answer : IsSomeAnd (asked_upload u) (λ p. IsAnswer p seen)) (failed : (l : Bool) → seen.reply ≡ reply.Failed l → ⊥) (asks : asked_upload u ≡ Some o) where
   was_stored : seen.reply ≡ reply.Stored
@@ -173,16 +169,10 @@ module _ (u : Upload) (seat : ℕ) (o : Op) (seen : Seen) (putting' : u.stage �
       sym asks ∙ ap (λ s. asked (left_at s u.ulid u.objects.items u.place)) putting' ∙ ap (λ l. asked (putting (length u.objects.items) l)) at.split in
       stored_reply o at.object.key at.object.bytes seen.reply (cc (is)) (answer_of seen (asked_upload u) o answer asks).kind failed
 
-  goes_stored : (entries : List Entry) (end : Option UploadEnd) → Runs (putting (length u.objects.items) (drop (u.place + 1) u.objects.items)) entries end
-      → may_upload u (entry_of seat o seen ∷ entries) end u
-  goes_stored entries end run =
-      puts_run u seat o seen entries end putting' asks
-      (subst (λ p. Runs (after_put p (putting (length u.objects.items) (drop (u.place + 1) u.objects.items)) (ends (Fault seen.seq))) entries end) (sym was_stored) run)
-
   -- the last put was stored
   pub put_last : u.place + 1 ≡ length u.objects.items → may_upload u (entry_of seat o seen ∷ []) (Some (Done (u.place + 1))) u
   put_last last =
-      goes_stored [] (Some (Done (u.place + 1)))
+      comes_to u seat o seen reply.Stored (Done (u.place + 1)) putting' asks was_stored
       (subst (λ (l : List Object). Runs (putting (length u.objects.items) l) [] (Some (Done (u.place + 1)))) (sym (drop_all (u.place + 1) u.objects.items (omega arith)))
       (refl, inr (ap (λ n. Some (Done n)) last)))
 
@@ -190,4 +180,7 @@ module _ (u : Upload) (seat : ℕ) (o : Op) (seen : Seen) (putting' : u.stage �
   pub put_goes : (new : Upload) (r : Result (Act UploadEnd) NoMemory) → IfOk r (PutsNext u.objects.items (u.place + 1)) → OnOk r (new.stage ≡ Putting)
       → new.objects.items ≡ u.objects.items → new.place ≡ u.place + 1 → GoesOn may_upload asked_upload u (entry_of seat o seen ∷ []) r new
   put_goes new r puts waits same_objects same_place =
-      goes_put u new u.objects.items (u.place + 1) (entry_of seat o seen ∷ []) r puts waits same_objects same_place goes_stored
+      let left : after_entry (left_of u) (entry_of seat o seen) ≡ putting (length u.objects.items) (drop (u.place + 1) u.objects.items) =
+      after_this u seat o seen putting' ∙ ap (λ q. after_put q (putting (length u.objects.items) (drop (u.place + 1) u.objects.items)) (ends (Fault seen.seq))) was_stored in
+      steps_by left_of asked_upload asks_own u new seat o seen r asks
+      (subst (λ p. LeadsBy left_of asked_upload p r new) (sym left) (leads_put new u.objects.items (u.place + 1) r puts waits same_objects same_place))
