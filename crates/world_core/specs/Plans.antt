@@ -1,5 +1,5 @@
 -- What an activity may do, as a plan: which operation it asks for, and how it goes on by the entry of that.
-use Rattle.std.specs.Prelude.{◌≡◌, ◌⊎◌, ℕ, zero, suc, Bool, true, false, List, [], ◌∷◌, Option, Some, None}
+use Rattle.std.specs.Prelude.{◌≡◌, ◌⊎◌, ℕ, Bool, true, false, List, [], ◌∷◌, Option, Some, None}
 use Rattle.block_keys.specs.declared.key.Key.{Key}
 use Rattle.world_core.specs.declared.op.Op.{Op}
 use Rattle.world_core.specs.declared.op.Op.TheVariants.{Put, Get, Delete}
@@ -98,22 +98,3 @@ noting note noted (ends last) = ends (last, noted)
 noting note noted never = never
 noting note noted (asks op on) = asks op (λ e. noting note (note noted e) (on e))
 noting note noted (finds Is one on) = finds Is one (λ found. noting note noted (on found))
-
--- how a plan came out that may be stopped
-pub data Outcome (E : Type 0) : Type 0 where
-  ended : E → Outcome E
-  stopped : ℕ → Outcome E
-
--- it is stopped as soon as so many operations more are answered
-abbrev pub stop_after : {E : Type 0} → ℕ → ℕ → Plan E → Plan (Outcome E)
-stop_after number zero plan = ends (stopped number)
-stop_after number (suc more) (ends last) = ends (ended last)
-stop_after number (suc more) never = never
-stop_after number (suc more) (asks op on) = asks op (λ e. stop_after number more (on e))
-stop_after number (suc more) (finds Is one on) = finds Is one (λ found. stop_after number (suc more) (on found))
-
--- A stop after so many operations wins over the end that the last of them leads to. A stop at 0 stops nothing.
-abbrev pub stopping : {E : Type 0} → Option ℕ → Plan E → Plan (Outcome E)
-stopping None plan = and_then plan (λ last. ends (ended last))
-stopping (Some zero) plan = and_then plan (λ last. ends (ended last))
-stopping (Some (suc more)) plan = stop_after (suc more) (suc more) plan
