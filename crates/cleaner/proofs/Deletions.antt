@@ -16,7 +16,8 @@ use Rattle.world_core.specs.declared.act.Act.{Act}
 use Rattle.cleaner.specs.Objects.{data_named, data_keys, objects_of}
 use Rattle.cleaner.specs.Pages.{page_of}
 use Rattle.cleaner.specs.Cleanings.{deleting, walking}
-use Rattle.cleaner.specs.CleanStates.{AreObjects, CanCount, Onward, Leads, blocks_left, goes_after, goes_by_objects, goes_to_blocks, goes_to_delete, goes_to_objects, goes_to_deletes, first_delete, after_entry, asked_at, asked_clean}
+use Rattle.world_core.specs.Leads.{after_entry}
+use Rattle.cleaner.specs.CleanStates.{AreObjects, CanCount, Onward, Leads, blocks_left, goes_after, goes_by_objects, goes_to_blocks, goes_to_delete, goes_to_objects, goes_to_deletes, first_delete, asked_at, asked_clean}
 use Rattle.cleaner.specs.declared.page.Page.{Page}
 use Rattle.cleaner.specs.declared.page.Page.TheVariants as page_is
 use Rattle.cleaner.specs.declared.stage.Stage.TheVariants.{Walking, Deleting}
@@ -25,7 +26,8 @@ use Rattle.cleaner.specs.declared.clean.Clean.{Clean}
 use Rattle.cleaner.specs.declared.clean_end.CleanEnd.{CleanEnd}
 use Rattle.cleaner.specs.declared.clean_end.CleanEnd.TheVariants.{Fault, Damaged, TooMany}
 use Rattle.cleaner.proofs.Names.{length-found}
-use Rattle.cleaner.proofs.Steps.{ended, leads_as}
+use Rattle.world_core.proofs.LeadSteps.{ended}
+use Rattle.cleaner.proofs.Steps.{leads_as}
 use Rattle.cleaner.proofs.Walked.{followed, page_follows, page_came, page_failed, WalksOn, walks_on}
 
 -- ---- the walk over a block's names

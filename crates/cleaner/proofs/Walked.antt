@@ -16,7 +16,7 @@ use Rattle.cleaner.specs.declared.walk.Walk.{Walk}
 use Rattle.cleaner.specs.declared.clean_end.CleanEnd.{CleanEnd}
 use Rattle.cleaner.specs.declared.clean_end.CleanEnd.TheVariants.{Damaged, Fault, TooMany}
 use Rattle.cleaner.proofs.Names.{last_listed-append}
-use Rattle.cleaner.proofs.Steps.{ended}
+use Rattle.world_core.proofs.LeadSteps.{ended}
 
 -- what follows a page that is such
 abbrev pub followed : Page → ℕ → Plan CleanEnd → Plan CleanEnd → Plan CleanEnd

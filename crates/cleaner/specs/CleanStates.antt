@@ -1,18 +1,18 @@
 -- What is left of a cleaning in each of its states.
-use Rattle.std.specs.Prelude.{◌≡◌, ℕ, suc, ◌+◌, ◌-◌, ◌*◌, ◌^◌, ◌≤◌, ◌<◌, List, [], ◌∷◌, ◌++◌, length, Option, Some, None, unwrap_or, Result, Ok, Err}
+use Rattle.std.specs.Prelude.{◌≡◌, ℕ, suc, ◌+◌, ◌-◌, ◌*◌, ◌^◌, ◌≤◌, ◌<◌, List, [], ◌∷◌, ◌++◌, length, Option, Some, None, unwrap_or, Result}
 use Rattle.list_core.specs.declared.memory.NoMemory.{NoMemory}
 use Rattle.block_keys.specs.declared.key.Key.{Key}
 use Rattle.block_keys.specs.declared.key.Key.TheVariants as key
+use Rattle.world_core.specs.Leads as lead
+use Rattle.world_core.specs.Leads.{after_entry}
 use Rattle.world_core.specs.Limits.{most_listed}
-use Rattle.world_core.specs.Operations.{IsLawful}
-use Rattle.world_core.specs.Plans.{Plan, Runs, asks, never}
+use Rattle.world_core.specs.Plans.{Plan, Runs}
 use Rattle.world_core.specs.Walks.{after_page, last_listed}
 use Rattle.world_core.specs.declared.op.Op.{Op}
 use Rattle.world_core.specs.declared.op.Op.TheVariants as op
 use Rattle.world_core.specs.declared.reply.Reply.TheVariants as reply
 use Rattle.world_core.specs.declared.entry.Entry.{Entry}
 use Rattle.world_core.specs.declared.act.Act.{Act}
-use Rattle.world_core.specs.declared.act.Act.TheVariants.{Do, Done}
 use Rattle.cleaner.specs.Objects.{data_keys, objects_of}
 use Rattle.cleaner.specs.Cleanings.{Counts, one_partial_more, walk_ends, deleting, walking, deletion, reads_meta, looking, none_deleted, ulids_in, listing}
 use Rattle.cleaner.specs.declared.clean_end.CleanEnd.{CleanEnd}
@@ -115,11 +115,6 @@ may_clean clean entries end last = may_at clean.stage clean entries end
 
 -- ---- calls
 
--- where a plan stands after an entry
-abbrev pub after_entry : Plan CleanEnd → Entry → Plan CleanEnd
-after_entry (asks op next) e = next e
-after_entry other e = never
-
 -- a run of what is left after the entry that was waited for
 abbrev pub goes_after : Stage → Clean → Entry → Onward
 goes_after stage clean e entries end =
@@ -154,17 +149,9 @@ goes_to_objects ulid clean entries end =
 abbrev pub goes_to_deletes : Clean → Onward
 goes_to_deletes clean entries end = CanCount clean 0 → Runs (deleting clean.doomed.items (blocks_left clean)) entries end
 
--- A call asks for an operation and waits in the state `new`. What it may do from there is what may follow.
-pub record Waits (follows : Onward) (op : Op) (new : Clean) : Type 0 where
-  pub lawful : IsLawful op
-  pub asks : asked_clean new ≡ Some op
-  pub onward : (entries : List Entry) (end : Option CleanEnd) → may_clean new entries end new → follows entries end
-
 -- a call goes on as may follow
 abbrev pub Leads : Onward → Result (Act CleanEnd) NoMemory → Clean → Type 0
-Leads follows (Ok (Do op)) new = Waits follows op new
-Leads follows (Ok (Done end)) new = follows [] (Some end)
-Leads follows (Err none) new = Unit {0}
+Leads follows result new = lead.Leads may_clean asked_clean follows result new
 
 -- ---- the measure
 

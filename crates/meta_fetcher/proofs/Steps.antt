@@ -1,7 +1,8 @@
 -- A sync's steps are those of its plan.
-use Rattle.std.proofs.Common.{◌≡◌, ◌≤◌, arith, ℕ, List, [], ◌∷◌, ◌++◌, refl, sym, ◌∙◌, ap, subst, inr, Option, Some, None, unwrap_or, Result, Ok, Err}
+use Rattle.std.proofs.Common.{◌≡◌, ℕ, List, [], ◌∷◌, refl, sym, ◌∙◌, ap, subst, inr, Option, Some, None, unwrap_or, Result, Ok}
 use Rattle.list_core.specs.declared.memory.NoMemory.{NoMemory}
-use Rattle.world_core.specs.Machines.{Asks, GoesOn, Falls}
+use Rattle.world_core.specs.Leads.{after_entry}
+use Rattle.world_core.specs.Machines.{Asks, GoesOn}
 use Rattle.world_core.specs.Operations.{IsLawful, entry_of}
 use Rattle.world_core.specs.Plans.{Plan, ends, never, asks, finds, noting, asked}
 use Rattle.world_core.specs.declared.op.Op.{Op}
@@ -9,11 +10,12 @@ use Rattle.world_core.specs.declared.op.Op.TheVariants as op
 use Rattle.world_core.specs.declared.seen.Seen.{Seen}
 use Rattle.world_core.specs.declared.entry.Entry.{Entry}
 use Rattle.world_core.specs.declared.act.Act.{Act}
-use Rattle.world_core.specs.declared.act.Act.TheVariants.{Do, Done}
+use Rattle.world_core.specs.declared.act.Act.TheVariants.{Do}
+use Rattle.world_core.proofs.LeadSteps.{leads_kept, opens as begins, steps}
 use Rattle.world_core.proofs.PlanLaws.{breaks_off}
 use Rattle.meta_fetcher.specs.Sightings.{Sighting, IsView}
 use Rattle.meta_fetcher.specs.Syncs.{Synced, sighted, Course, with_entry, reading, IsEnd}
-use Rattle.meta_fetcher.specs.SyncStates.{asked_at, asked_sync, course_at, left_at, HasListed, Onward, Ascend, Goes, may_sync, after_entry, goes_after, Leads}
+use Rattle.meta_fetcher.specs.SyncStates.{asked_at, asked_sync, course_at, left_at, HasListed, Onward, Ascend, Goes, may_sync, goes_after, Leads}
 use Rattle.meta_fetcher.specs.declared.rules.SyncRules.{SyncRules}
 use Rattle.meta_fetcher.specs.declared.stage.Stage.{Stage}
 use Rattle.meta_fetcher.specs.declared.stage.Stage.TheVariants.{Fresh, Opening, Listing, Marking, Reading}
@@ -56,51 +58,43 @@ entry_at : (s : Sync) (seat : ℕ) (o : Op) (seen : Seen) (entries : List Entry)
 entry_at s seat o seen entries end waits after = λ names more listed.
     on_entry s.rules (course_at s.stage s) (left_at s.stage s names more) (entry_of seat o seen) entries end (asked_left s.stage s names more o listed waits) (after names more listed)
 
-asks_as : (s new : Sync) (made : List Entry) (o : Op) → IsLawful o → asked_sync new ≡ Some o
-    → ((entries : List Entry) (end : Option SyncEnd) → may_sync new entries end new → may_sync s (made ++ entries) end s)
-    → Asks may_sync asked_sync s made o new
-asks_as s new made o lawful waits onward = record {
-  lawful = lawful;
-  waits = waits;
-  onward = λ entries end last run. onward entries end run;
-  stopped = λ names more listed. stops new.rules (course_at new.stage new) (left_at new.stage new names more);
-  answered = λ seat seen answer. entry_at new seat o seen [] None waits
-      (λ names more listed. stops new.rules (with_entry (course_at new.stage new) (entry_of seat o seen)) (after_entry (left_at new.stage new names more) (entry_of seat o seen)));
-}
-
-goes_on : (s new : Sync) (seat : ℕ) (o : Op) (seen : Seen) (r : Result (Act SyncEnd) NoMemory) → asked_sync s ≡ Some o
-    → Leads (goes_after s.stage s (entry_of seat o seen)) r new → GoesOn may_sync asked_sync s (entry_of seat o seen ∷ []) r new
-goes_on s new seat o seen (Ok (Do p)) waits leads =
-    asks_as s new (entry_of seat o seen ∷ []) p leads.lawful leads.asks (λ entries end run. entry_at s seat o seen entries end waits (leads.onward entries end run))
-goes_on s new seat o seen (Ok (Done end)) waits leads = entry_at s seat o seen [] (Some end) waits leads
-goes_on s new seat o seen (Err e) waits leads = entry_at s seat o seen [] None waits
-    (λ names more listed. stops s.rules (with_entry (course_at s.stage s) (entry_of seat o seen)) (after_entry (left_at s.stage s names more) (entry_of seat o seen)))
-
--- a step of a sync in a stage goes on
-pub steps_on : (stage : Stage) (s new : Sync) (seat : ℕ) (o : Op) (seen : Seen) (r : Result (Act SyncEnd) NoMemory) → s.stage ≡ stage → asked_sync s ≡ Some o
-    → Leads (goes_after stage s (entry_of seat o seen)) r new → GoesOn may_sync asked_sync s (entry_of seat o seen ∷ []) r new
-steps_on stage s new seat o seen r is waits leads = goes_on s new seat o seen r waits (subst (λ at. Leads (goes_after at s (entry_of seat o seen)) r new) (sym is) leads)
-
 abbrev MayAt : Stage → Sync → Onward
 MayAt stage s entries end = (names : List (List ℕ)) (more : ℕ) → HasListed stage s names more → Goes s.rules (course_at stage s) (left_at stage s names more) entries end
 
--- the first page is asked for
-pub opens : (s new : Sync) (o : Op) → s.stage ≡ Fresh → IsLawful o → asked_sync new ≡ Some o
-    → ((entries : List Entry) (end : Option SyncEnd) → may_sync new entries end new → MayAt Fresh s entries end) → Asks may_sync asked_sync s [] o new
-opens s new o fresh lawful waits onward =
-    asks_as s new [] o lawful waits (λ entries end run. subst (λ stage. MayAt stage s entries end) (sym fresh) (onward entries end run))
+-- what may come from a state
+abbrev now : Sync → Onward
+now s = MayAt s.stage s
+
+rests : (s : Sync) → now s [] None
+rests s = λ names more listed. stops s.rules (course_at s.stage s) (left_at s.stage s names more)
+
+answers : (s : Sync) (seat : ℕ) (o : Op) (seen : Seen) → asked_sync s ≡ Some o → now s (entry_of seat o seen ∷ []) None
+answers s seat o seen waits =
+    entry_at s seat o seen [] None waits
+    (λ names more listed. stops s.rules (with_entry (course_at s.stage s) (entry_of seat o seen)) (after_entry (left_at s.stage s names more) (entry_of seat o seen)))
 
 -- a call that goes on as may follow goes on as may follow where that is less
 pub leads_as : (from to : Onward) (r : Result (Act SyncEnd) NoMemory) (new : Sync) → ((entries : List Entry) (end : Option SyncEnd) → from entries end → to entries end)
     → Leads from r new → Leads to r new
-leads_as from to (Ok (Do p)) new onward leads = record { lawful = leads.lawful; asks = leads.asks; onward = λ entries end run. onward entries end (leads.onward entries end run) }
-leads_as from to (Ok (Done end)) new onward leads = onward [] (Some end) leads
-leads_as from to (Err e) new onward leads = tt
+leads_as from to r new onward leads = leads_kept may_sync asked_sync from to r new onward leads
 
-pub falls_more : (less more : ℕ) (r : Result (Act SyncEnd) NoMemory) (new : ℕ) → less ≤ more → Falls less r new → Falls more r new
-falls_more less more (Ok (Do o)) new le falls = omega arith
-falls_more less more (Ok (Done end)) new le falls = tt
-falls_more less more (Err e) new le falls = tt
+-- a step of a sync in a stage goes on
+pub steps_on : (stage : Stage) (s new : Sync) (seat : ℕ) (o : Op) (seen : Seen) (r : Result (Act SyncEnd) NoMemory) → s.stage ≡ stage → asked_sync s ≡ Some o
+    → Leads (goes_after stage s (entry_of seat o seen)) r new → GoesOn may_sync asked_sync s (entry_of seat o seen ∷ []) r new
+steps_on stage s new seat o seen r is waits leads =
+    steps now asked_sync rests answers s new seat o seen r waits
+    (leads_as (goes_after s.stage s (entry_of seat o seen)) (λ entries end. now s (entry_of seat o seen ∷ entries) end) r new
+    (λ entries end after. entry_at s seat o seen entries end waits after)
+    (subst (λ at. Leads (goes_after at s (entry_of seat o seen)) r new) (sym is) leads))
+
+-- the first page is asked for
+pub opens : (s new : Sync) (o : Op) → s.stage ≡ Fresh → IsLawful o → asked_sync new ≡ Some o
+    → ((entries : List Entry) (end : Option SyncEnd) → may_sync new entries end new → MayAt Fresh s entries end) → Asks may_sync asked_sync s [] o new
+opens s new o fresh lawful waits onward = begins now asked_sync rests answers s new (Ok (Do o)) (record {
+  lawful = lawful;
+  asks = waits;
+  onward = λ entries end run. subst (λ stage. MayAt stage s entries end) (sym fresh) (onward entries end run);
+})
 
 -- no block waits, and the view is that of the sightings
 pub over : (rules : SyncRules) (course : Course) (sightings : List Sighting) (ulids : List ℕ) (view : View) → ulids ≡ []

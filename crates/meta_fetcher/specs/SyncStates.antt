@@ -1,19 +1,19 @@
 -- What is left of a sync in each of its states.
-use Rattle.std.specs.Prelude.{◌≡◌, ℕ, suc, ◌+◌, ◌-◌, ◌*◌, ◌^◌, ◌≤◌, true, List, [], ◌∷◌, ◌++◌, length, map, Option, Some, None, option_map, Result, Ok, Err}
+use Rattle.std.specs.Prelude.{◌≡◌, ℕ, suc, ◌+◌, ◌-◌, ◌*◌, ◌^◌, ◌≤◌, true, List, [], ◌∷◌, ◌++◌, length, map, Option, Some, None, option_map, Result}
 use Rattle.std.specs.List.Sorted.{IsStrictlyIncreasing}
 use Rattle.block_keys.specs.declared.key.Key.TheVariants as key
 use Rattle.block_meta.specs.MetaFields.{mark_fields_of}
 use Rattle.list_core.specs.declared.memory.NoMemory.{NoMemory}
+use Rattle.world_core.specs.Leads as lead
+use Rattle.world_core.specs.Leads.{after_entry}
 use Rattle.world_core.specs.Limits.{most_listed}
-use Rattle.world_core.specs.Operations.{IsLawful}
-use Rattle.world_core.specs.Plans.{Plan, asks, never, noting, ComesTo}
+use Rattle.world_core.specs.Plans.{Plan, noting, ComesTo}
 use Rattle.world_core.specs.Walks.{ascends, after_page, last_listed}
 use Rattle.world_core.specs.declared.op.Op.{Op}
 use Rattle.world_core.specs.declared.op.Op.TheVariants as op
 use Rattle.world_core.specs.declared.reply.Reply.TheVariants as reply
 use Rattle.world_core.specs.declared.entry.Entry.{Entry}
 use Rattle.world_core.specs.declared.act.Act.{Act}
-use Rattle.world_core.specs.declared.act.Act.TheVariants.{Do, Done}
 use Rattle.sync_filters.specs.declared.found.Found.{Found}
 use Rattle.meta_fetcher.specs.Sightings.{Sighting, sighting_of}
 use Rattle.meta_fetcher.specs.Syncs.{Synced, sighted, fault, damaged, too_many, Course, with_entry, reads_meta, reading, ulids_in, walk_ends, listing, IsEnd}
@@ -120,11 +120,6 @@ may_sync sync entries end last =
 
 -- ---- calls
 
--- where a plan stands after an entry
-abbrev pub after_entry : Plan Synced → Entry → Plan Synced
-after_entry (asks op next) e = next e
-after_entry other e = never
-
 -- a run of what is left after the entry that was waited for
 abbrev pub goes_after : Stage → Sync → Entry → Onward
 goes_after stage sync e entries end =
@@ -138,17 +133,9 @@ goes_by_names sync page entries end =
     → Goes sync.rules (Some (course_of sync))
     (after_page walk_ends sync.rules.page_limit names seq (reply.Names page) (λ all. reading [] (ulids_in all)) (listing sync.rules more)) entries end
 
--- A call asks for an operation and waits in the state `new`. What it may do from there is what may follow.
-pub record Waits (follows : Onward) (op : Op) (new : Sync) : Type 0 where
-  pub lawful : IsLawful op
-  pub asks : asked_sync new ≡ Some op
-  pub onward : (entries : List Entry) (end : Option SyncEnd) → may_sync new entries end new → follows entries end
-
 -- a call goes on as may follow
 abbrev pub Leads : Onward → Result (Act SyncEnd) NoMemory → Sync → Type 0
-Leads follows (Ok (Do op)) new = Waits follows op new
-Leads follows (Ok (Done end)) new = follows [] (Some end)
-Leads follows (Err none) new = Unit {0}
+Leads follows result new = lead.Leads may_sync asked_sync follows result new
 
 -- ---- the measure
 

@@ -2,7 +2,6 @@ pub mod OneMerge
 pub mod SharesOf
 pub mod OneCall
 pub mod Gatherings
-pub mod PartsBegun
 pub mod FirstReads
 pub mod Meeting
 pub mod Steps

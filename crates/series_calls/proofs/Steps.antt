@@ -29,7 +29,7 @@ use Rattle.series_calls.specs.declared.series_end.SeriesEnd.{SeriesEnd}
 use Rattle.series_calls.specs.declared.series_end.SeriesEnd.TheVariants as ended
 use Rattle.series_calls.specs.declared.stage.Stage.{Stage}
 use Rattle.series_calls.specs.declared.stage.Stage.TheVariants.{Fresh, Reading, Over}
-use Rattle.series_calls.proofs.PartsBegun.{begun, followed}
+use Rattle.world_core.proofs.PlanParts.{begun, followed}
 use Rattle.series_calls.proofs.FirstReads.{reads_first}
 use Rattle.series_calls.proofs.Meeting.{read_of, split_at_first}
 

@@ -1,6 +1,5 @@
 -- A series call's steps are those of its plan.
-use Rattle.std.proofs.Common.{◌≡◌, ℕ, Bool, true, false, List, [], ◌∷◌, ◌++◌, refl, sym, subst, inr, Option, Some, None, Result, Ok, Err}
-use Rattle.std.specs.Prelude.{IsSomeAnd}
+use Rattle.std.proofs.Common.{◌≡◌, ℕ, Bool, true, false, List, [], ◌∷◌, refl, sym, subst, inr, Option, Some, None, Result}
 use Rattle.std.specs.Str.{bytes_eq}
 use Rattle.block_files.specs.PlainForm.{plain_index}
 use Rattle.label_sets.specs.Triples.{Triple}
@@ -9,9 +8,9 @@ use Rattle.list_core.specs.declared.memory.NoMemory.{NoMemory}
 use Rattle.label_sets.specs.declared.series.Series.{Series}
 use Rattle.block_keys.specs.declared.key.Key.TheVariants as key
 use Rattle.world_core.proofs.PlanLaws.{breaks_off, comes_kept}
-use Rattle.world_core.proofs.PlanMachines.{asks_told}
-use Rattle.world_core.specs.Machines.{Asks, GoesOn}
-use Rattle.world_core.specs.Operations.{IsAnswer, IsLawful, entry_of}
+use Rattle.world_core.proofs.LeadSteps.{leads_kept as leads_more, opens, steps}
+use Rattle.world_core.specs.Machines.{GoesOn}
+use Rattle.world_core.specs.Operations.{entry_of}
 use Rattle.world_core.specs.Plans.{Plan, Keeps, asked, choose, ends}
 use Rattle.world_core.specs.declared.op.Op.{Op}
 use Rattle.world_core.specs.declared.op.Op.TheVariants as op
@@ -20,9 +19,8 @@ use Rattle.world_core.specs.declared.reply.Reply.TheVariants as reply
 use Rattle.world_core.specs.declared.seen.Seen.{Seen}
 use Rattle.world_core.specs.declared.entry.Entry.{Entry}
 use Rattle.world_core.specs.declared.act.Act.{Act}
-use Rattle.world_core.specs.declared.act.Act.TheVariants.{Do, Done}
 use Rattle.store_gateway.specs.SeriesRuns.{ToRead, Called, missing, damaged, fault, IsEnd, IsRead, IsSetOf, after_index, reading, took}
-use Rattle.store_gateway.specs.Calls.{Calling, Goes, Leads, after_at, after_bytes, after_read, after_series, asked_at, asked_call, left_at, may_call}
+use Rattle.store_gateway.specs.Calls.{Calling, Goes, Leads, Onward, after_at, after_bytes, after_read, after_series, asked_at, asked_call, left_at, may_call}
 use Rattle.store_gateway.specs.declared.stage.Stage.{Stage}
 use Rattle.store_gateway.specs.declared.stage.Stage.TheVariants.{Fresh, Indexing, Reading, Over}
 use Rattle.store_gateway.specs.declared.series_end.SeriesEnd.{SeriesEnd}
@@ -52,21 +50,23 @@ entry_at Over left call seat o seen entries end asks run = absurd (cc (asks))
 entry_at Indexing [] call seat o seen entries end asks run = absurd (cc (asks))
 entry_at Reading [] call seat o seen entries end asks run = absurd (cc (asks))
 
-asks_as : (call new : Calling) (made : List Entry) (o : Op) → IsLawful o → asked_call new ≡ Some o
-    → ((entries : List Entry) (end : Option SeriesEnd) → may_call new entries end new → may_call call (made ++ entries) end call)
-    → Asks may_call asked_call call made o new
-asks_as call new made o lawful asks onward =
-    asks_told left_of (λ c. IsEnd c.sources) asked_call call made o new lawful asks (plan_asks new.stage new.left new o asks) onward
+-- what may come from a state
+abbrev now : Calling → Onward
+now call = Goes call.sources (left_of call)
+
+stops : (call : Calling) → now call [] None
+stops call = breaks_off (left_of call)
+
+answers : (call : Calling) (seat : ℕ) (o : Op) (seen : Seen) → asked_call call ≡ Some o → now call (entry_of seat o seen ∷ []) None
+answers call seat o seen asks = entry_at call.stage call.left call seat o seen [] None asks (breaks_off (after_at call.stage call.left call seen.seq seen.reply))
 
 -- a call that goes on as may follow the answer goes on as the machine may
 goes_on : (call new : Calling) (seat : ℕ) (o : Op) (seen : Seen) (r : Result (Act SeriesEnd) NoMemory) → asked_call call ≡ Some o
     → Leads (Goes call.sources (after_at call.stage call.left call seen.seq seen.reply)) r new → GoesOn may_call asked_call call (entry_of seat o seen ∷ []) r new
-goes_on call new seat o seen (Ok (Do p)) asks leads =
-    asks_as call new (entry_of seat o seen ∷ []) p leads.lawful leads.asks
-    (λ entries end run. entry_at call.stage call.left call seat o seen entries end asks (leads.onward entries end run))
-goes_on call new seat o seen (Ok (Done end)) asks leads = entry_at call.stage call.left call seat o seen [] (Some end) asks leads
-goes_on call new seat o seen (Err e) asks leads =
-    entry_at call.stage call.left call seat o seen [] None asks (breaks_off (after_at call.stage call.left call seen.seq seen.reply))
+goes_on call new seat o seen r asks leads =
+    steps now asked_call stops answers call new seat o seen r asks
+    (leads_more may_call asked_call (Goes call.sources (after_at call.stage call.left call seen.seq seen.reply)) (λ entries end. now call (entry_of seat o seen ∷ entries) end) r new
+    (λ entries end run. entry_at call.stage call.left call seat o seen entries end asks run) leads)
 
 pub steps_on : (stage : Stage) (call new : Calling) (seat : ℕ) (o : Op) (seen : Seen) (r : Result (Act SeriesEnd) NoMemory) → call.stage ≡ stage
     → asked_call call ≡ Some o → Leads (Goes call.sources (after_at stage call.left call seen.seq seen.reply)) r new
@@ -76,9 +76,7 @@ steps_on stage call new seat o seen r is asks leads =
 
 -- a call is begun
 begins : (call new : Calling) (r : Result (Act SeriesEnd) NoMemory) → Leads (Goes call.sources (left_of call)) r new → GoesOn may_call asked_call call [] r new
-begins call new (Ok (Do o)) leads = asks_as call new [] o leads.lawful leads.asks leads.onward
-begins call new (Ok (Done end)) leads = leads
-begins call new (Err e) leads = breaks_off (left_of call)
+begins call new r leads = opens now asked_call stops answers call new r leads
 
 pub begins_fresh : (call new : Calling) (r : Result (Act SeriesEnd) NoMemory) → call.stage ≡ Fresh → Leads (Goes call.sources (reading call.query call.taken call.left)) r new
     → GoesOn may_call asked_call call [] r new
@@ -90,10 +88,8 @@ begins_fresh call new r fresh leads =
 -- what the one plan leads to, the other does that keeps all its runs
 pub leads_kept : (sources : List ℕ) (one other : Plan Called) (r : Result (Act SeriesEnd) NoMemory) (new : Calling) → Keeps one other
     → Leads (Goes sources one) r new → Leads (Goes sources other) r new
-leads_kept sources one other (Ok (Do o)) new keeps leads =
-    record { lawful = leads.lawful; asks = leads.asks; onward = λ entries end run. comes_kept one other (IsEnd sources) keeps entries end (leads.onward entries end run) }
-leads_kept sources one other (Ok (Done end)) new keeps leads = comes_kept one other (IsEnd sources) keeps [] (Some end) leads
-leads_kept sources one other (Err e) new keeps leads = tt
+leads_kept sources one other r new keeps leads =
+    leads_more may_call asked_call (Goes sources one) (Goes sources other) r new (λ entries end run. comes_kept one other (IsEnd sources) keeps entries end run) leads
 
 -- the object was read
 pub read_leads : (sources : List ℕ) (next : ℕ → List ℕ → Plan Called) (seq : ℕ) (q : Reply) (bytes : List ℕ) (r : Result (Act SeriesEnd) NoMemory) (new : Calling) → q ≡ reply.Found bytes

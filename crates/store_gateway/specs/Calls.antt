@@ -1,12 +1,11 @@
 -- A series call as a machine: what it waits for, and what it may still do.
-use Rattle.std.specs.Prelude.{◌≡◌, true, ℕ, ◌+◌, ◌-◌, ◌*◌, List, [], ◌∷◌, ◌++◌, length, Option, Some, None, Result, Ok, Err}
+use Rattle.std.specs.Prelude.{◌≡◌, true, ℕ, ◌+◌, ◌-◌, ◌*◌, List, [], ◌∷◌, ◌++◌, length, Option, Some, None, Result}
 use Rattle.list_core.specs.declared.memory.NoMemory.{NoMemory}
 use Rattle.label_sets.specs.declared.series.Series.{Series}
 use Rattle.label_sets.specs.Triples.{Triple}
 use Rattle.block_keys.specs.declared.key.Key.TheVariants as key
-use Rattle.world_core.specs.Operations.{IsLawful}
+use Rattle.world_core.specs.Leads as lead
 use Rattle.world_core.specs.declared.act.Act.{Act}
-use Rattle.world_core.specs.declared.act.Act.TheVariants.{Do, Done}
 use Rattle.world_core.specs.declared.op.Op.{Op}
 use Rattle.world_core.specs.declared.op.Op.TheVariants as op
 use Rattle.world_core.specs.declared.reply.Reply.{Reply}
@@ -110,13 +109,9 @@ abbrev pub count_call : Calling → ℕ
 count_call call = count_at call.stage call.left
 
 -- A call has asked for an operation, and waits in the state `new`, from which what may come is what may follow.
-pub record Waits (follows : Onward) (op : Op) (new : Calling) : Type 0 where
-  pub lawful : IsLawful op
-  pub asks : asked_call new ≡ Some op
-  pub onward : (entries : List Entry) (end : Option SeriesEnd) → may_call new entries end new → follows entries end
+abbrev pub Waits : Onward → Op → Calling → Type 0
+Waits follows op new = lead.Waits may_call asked_call follows op new
 
 -- a call goes on as may follow
 abbrev pub Leads : Onward → Result (Act SeriesEnd) NoMemory → Calling → Type 0
-Leads follows (Ok (Do op)) new = Waits follows op new
-Leads follows (Ok (Done end)) new = follows [] (Some end)
-Leads follows (Err none) new = Unit {0}
+Leads follows result new = lead.Leads may_call asked_call follows result new

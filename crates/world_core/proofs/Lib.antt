@@ -7,7 +7,6 @@ pub mod Replies
 pub mod Untold
 pub mod GoingOn
 pub mod PlanLaws
-pub mod PlanMachines
 pub mod PlanWords
 pub mod PlanParts
 pub mod LeadSteps

@@ -2,7 +2,7 @@
 use Rattle.std.proofs.Common.{◌≡◌, inl, inr, List, [], ◌∷◌, ◌++◌, Option, Some, None, refl, sym, ap, subst, ◌∙◌, append_assoc}
 use Rattle.std.specs.Prelude.{fold, option_map}
 use Rattle.world_core.specs.Parts.{PartThen, after_entries}
-use Rattle.world_core.specs.Plans.{Plan, ends, never, asks, finds, Runs, and_then, noting}
+use Rattle.world_core.specs.Plans.{Plan, ends, never, asks, finds, Runs, ComesTo, and_then, noting}
 use Rattle.world_core.proofs.PlanLaws.{breaks_off}
 use Rattle.world_core.specs.declared.entry.Entry.{Entry}
 
@@ -118,6 +118,12 @@ begun (asks op on) next [] run = refl
 begun (asks op on) next (e ∷ entries) run = (run.0, begun (on e) next entries run.1)
 begun (finds Is one on) next entries (inl none) = inl (none.0, refl)
 begun (finds Is one on) next entries (inr (found, is, run)) = inr (found, is, begun (on found) next entries run)
+
+-- what the whole comes to, where a part came to its end and what follows comes to that
+pub followed : {A T E : Type 0} (first : Plan A) (next : A → Plan T) (Gives : T → E → Type 0) (own others : List Entry) (last : A) (end : Option E)
+    → Runs first own (Some last) → ComesTo (next last) Gives others end → ComesTo (and_then first next) Gives (own ++ others) end
+followed first next Gives own others last None one run = joined first next own others last None one run
+followed first next Gives own others last (Some end) one (told, run, is) = (told, joined first next own others last (Some told) one run, is)
 
 -- a part that does what is left of a plan, and what follows its end, are a run of both
 pub part_runs : {M A E : Type 0} (left : M → Plan A) (part : M) (next : A → Plan E) (entries : List Entry) (end : Option E)

@@ -1,5 +1,5 @@
 use Rattle.cleaner.proofs.Deletions.{deleted, delete_failed, delete_falls, waits_for}
-use Rattle.cleaner.proofs.Steps.{falls_more}
+use Rattle.world_core.proofs.LeadSteps.{falls_more}
 use Rattle.cleaner.proofs.clean.Clean.after_delete.Goals as goal
 
 pub returns-in-Deleted-clause-leads : goal.returns-in-Deleted-clause-leads

@@ -1,7 +1,8 @@
 use Rattle.std.proofs.Common.{◌∙◌, sym, ap, Ok}
 use Rattle.cleaner.specs.CleanStates.{goes_by_blocks}
 use Rattle.cleaner.proofs.Blocks.{blocks_unordered, blocks_too_many, blocks_last, blocks_full, blocks_last_falls, blocks_full_falls}
-use Rattle.cleaner.proofs.Steps.{falls_more, leads_as}
+use Rattle.world_core.proofs.LeadSteps.{falls_more}
+use Rattle.cleaner.proofs.Steps.{leads_as}
 use Rattle.cleaner.proofs.clean.Clean.take_blocks.Goals as goal
 
 pub returns-in-Unordered-clause-leads : goal.returns-in-Unordered-clause-leads

@@ -1,7 +1,8 @@
 use Rattle.std.proofs.Common.{◌∙◌, sym, ap, Ok}
 use Rattle.cleaner.specs.CleanStates.{goes_by_objects}
 use Rattle.cleaner.proofs.Deletions.{objects_unordered, objects_too_many, objects_last, objects_full, objects_last_falls, objects_full_falls}
-use Rattle.cleaner.proofs.Steps.{falls_more, leads_as}
+use Rattle.world_core.proofs.LeadSteps.{falls_more}
+use Rattle.cleaner.proofs.Steps.{leads_as}
 use Rattle.cleaner.proofs.clean.Clean.take_objects.Goals as goal
 
 pub returns-in-Unordered-clause-leads : goal.returns-in-Unordered-clause-leads

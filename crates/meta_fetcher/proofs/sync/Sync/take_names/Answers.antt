@@ -6,7 +6,8 @@ use Rattle.world_core.specs.declared.op.Op.TheVariants as op
 use Rattle.meta_fetcher.specs.Syncs.{ulids_in}
 use Rattle.meta_fetcher.specs.SyncStates.{goes_by_names}
 use Rattle.meta_fetcher.proofs.Pages.{last_page, full_page, last_page_falls, full_page_falls, too_many_names}
-use Rattle.meta_fetcher.proofs.Steps.{falls_more, leads_as}
+use Rattle.world_core.proofs.LeadSteps.{falls_more}
+use Rattle.meta_fetcher.proofs.Steps.{leads_as}
 use Rattle.meta_fetcher.proofs.sync.Sync.take_names.Goals as goal
 
 pub returns-then-is_short-clause-leads : goal.returns-then-is_short-clause-leads
