@@ -91,7 +91,7 @@ task_shows setting who place (Upload ulid stop) held after entries end number ((
 task_shows setting who place (Upload ulid stop) held after entries end number ((block, declared_is, (objects, Some own, ships, run, inl (same, early))), left) is =
     let e : end ≡ uploaded own = cc (same) in
     upload_shows _ objects entries (Some own) run number (ap (λ x. Some x) (upload_fault own number (subst (λ (x : End). IsFault x number) e is)))
-task_shows setting who place (Upload ulid stop) held after entries end number ((block, declared_is, (objects, own, ships, run, inr (n, stops, above, count, same))), left) is =
+task_shows setting who place (Upload ulid stop) held after entries end number ((block, declared_is, (objects, own, ships, run, inr (n, reached, same))), left) is =
     let e : end ≡ stopped n = cc (same) in absurd (subst (λ (x : End). IsFault x number) e is)
 task_shows setting who place (Sync gateway) held after entries end number (None, run, same, left) is = absurd (cc (same))
 task_shows setting who place (Sync gateway) held after entries end number (Some own, run, same, left) is =
@@ -147,7 +147,7 @@ task_undamaged : (setting : Setting) (who : Who) (place : ℕ) (w : Work) (held 
     → TaskRun setting who place w held entries (Some end) after → ¬ IsDamaged end
 task_undamaged setting who place (Upload ulid stop) held after entries end syncs calls ((block, declared_is, (objects, None, ships, run, inl (same, early))), left) is = cc (same)
 task_undamaged setting who place (Upload ulid stop) held after entries end syncs calls ((block, declared_is, (objects, Some own, ships, run, inl (same, early))), left) is = let e : end ≡ uploaded own = cc (same) in subst IsDamaged e is
-task_undamaged setting who place (Upload ulid stop) held after entries end syncs calls ((block, declared_is, (objects, own, ships, run, inr (n, stops, above, count, same))), left) is = let e : end ≡ stopped n = cc (same) in subst IsDamaged e is
+task_undamaged setting who place (Upload ulid stop) held after entries end syncs calls ((block, declared_is, (objects, own, ships, run, inr (n, reached, same))), left) is = let e : end ≡ stopped n = cc (same) in subst IsDamaged e is
 task_undamaged setting who place (Sync gateway) held after entries end syncs calls (None, run, same, left) is = cc (same)
 task_undamaged setting who place (Sync gateway) held after entries end syncs calls (Some (fetched.View v), run, same, left) is = let e : end ≡ synced (fetched.View v) = cc (same) in subst IsDamaged e is
 task_undamaged setting who place (Sync gateway) held after entries end syncs calls (Some (fetched.Fault n), run, same, left) is = let e : end ≡ synced (fetched.Fault n) = cc (same) in subst IsDamaged e is

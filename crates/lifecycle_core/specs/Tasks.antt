@@ -1,7 +1,8 @@
 -- The runs of a script's tasks: which entries a worker makes for a task, and how the task ends.
-use Rattle.std.specs.Prelude.{◌≡◌, ◌⊎◌, ◌<◌, ◌-◌, ◌^◌, ℕ, ℤ, pos, negsuc, List, [], length, fold, Option, Some, None, option_map, slice_get}
+use Rattle.std.specs.Prelude.{◌≡◌, ◌⊎◌, ◌-◌, ◌^◌, ℕ, ℤ, pos, negsuc, List, [], fold, Option, Some, None, option_map, slice_get}
 use Rattle.moment_core.specs.declared.partition.Partition.{Partition}
 use Rattle.world_core.specs.Plans.{Runs}
+use Rattle.world_core.specs.Stops.{IsBefore, IsStopped}
 use Rattle.world_core.specs.declared.entry.Entry.{Entry}
 use Rattle.shipper.specs.declared.upload_end.UploadEnd.{UploadEnd}
 use Rattle.shipper.specs.Uploads.{upload}
@@ -55,14 +56,9 @@ asked_by setting gateway selector low high =
 abbrev pub last_number : List Entry → ℕ
 last_number entries = fold (λ last e. e.seq) 0 entries
 
--- a run that the script stops: it made as many entries as the stop says; a stop at 0 stops nothing
+-- a run that the script stops
 abbrev pub IsStop : Option ℕ → List Entry → Option End → Type 0
-IsStop stop entries end =
-    (n : ℕ) × (stop ≡ Some n) × (0 < n) × (length entries ≡ n) × (end ≡ Some (stopped n))
-
--- a run that made fewer entries than its stop says, if there is one
-abbrev pub IsBefore : Option ℕ → List Entry → Type 0
-IsBefore stop entries = (n : ℕ) → stop ≡ Some n → 0 < n → length entries < n
+IsStop stop entries end = (n : ℕ) × IsStopped stop entries n × (end ≡ Some (stopped n))
 
 -- An upload ships the objects of a block, unless it is stopped.
 abbrev pub BlockUpload : Setting → Block → Option ℕ → List Entry → Option End → Type 0

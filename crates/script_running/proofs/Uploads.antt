@@ -11,6 +11,7 @@ use Rattle.world_core.specs.declared.driven.Driven.TheVariants.{Ended, Stopped, 
 use Rattle.world_core.specs.declared.entry.Entry.{Entry}
 use Rattle.block_keys.specs.declared.object.Object.{Object}
 use Rattle.shipper.specs.declared.upload_end.UploadEnd.{UploadEnd}
+use Rattle.world_core.specs.Stops.{IsBefore, IsStopped}
 use Rattle.world_core.specs.Plans.{Runs}
 use Rattle.shipper.specs.Uploads.{upload}
 use Rattle.script_core.specs.Lawful.{IsLawfulBlock}
@@ -18,7 +19,7 @@ use Rattle.script_core.specs.declared.block.Block.{Block}
 use Rattle.script_workers.specs.declared.work.Work.TheVariants as works
 use Rattle.lifecycle_core.specs.Setting.{Setting}
 use Rattle.lifecycle_core.specs.Shipped.{IsShipped}
-use Rattle.lifecycle_core.specs.Tasks.{BlockUpload, End, IsBefore, IsStop, stopped, uploaded}
+use Rattle.lifecycle_core.specs.Tasks.{BlockUpload, End, IsStop, stopped, uploaded}
 use Rattle.lifecycle_core.proofs.phases.TaskRuns.{built_by}
 use Rattle.script_running.specs.Drives.{Came, upload_came}
 use Rattle.script_running.specs.Tasks.{Adds, CameBy, IsDueAfter, WhenFull}
@@ -31,17 +32,17 @@ upload_end Full = None
 upload_end NoMemory = None
 
 before_stop : (stop : Option ℕ) (driven : Driven UploadEnd) (made : List Entry) → ((n : ℕ) → driven ≢ Stopped n)
-    → ((n : ℕ) → (driven ≡ Stopped n) ↔ ((stop ≡ Some n) × (0 < n) × (length made ≡ n))) → ((n : ℕ) → stop ≡ Some n → 0 < n → length made ≤ n) → IsBefore stop made
+    → ((n : ℕ) → (driven ≡ Stopped n) ↔ IsStopped stop made n) → ((n : ℕ) → stop ≡ Some n → 0 < n → length made ≤ n) → IsBefore stop made
 before_stop stop driven made never stops within = λ n s above.
     let differ : length made ≢ n = λ e. never n ((stops n).1 (s, above, e)) in
     let most : length made ≤ n = within n s above in
     omega (arith, most, differ)
 
 stops_at : (stop : Option ℕ) (driven : Driven UploadEnd) (made : List Entry)
-    → ((n : ℕ) → (driven ≡ Stopped n) ↔ ((stop ≡ Some n) × (0 < n) × (length made ≡ n))) → ((n : ℕ) → stop ≡ Some n → 0 < n → length made ≤ n)
+    → ((n : ℕ) → (driven ≡ Stopped n) ↔ IsStopped stop made n) → ((n : ℕ) → stop ≡ Some n → 0 < n → length made ≤ n)
     → ((upload_end driven ≡ option_map uploaded (end_of driven)) × IsBefore stop made) ⊎ IsStop stop made (upload_end driven)
 stops_at stop (Ended end) made stops within = inl (refl, before_stop stop (Ended end) made (λ n e. absurd (cc (e))) stops within)
-stops_at stop (Stopped n) made stops within = let s = (stops n).0 refl in inr (n, s.0, s.1, s.2, refl)
+stops_at stop (Stopped n) made stops within = inr (n, (stops n).0 refl, refl)
 stops_at stop Full made stops within = inl (refl, before_stop stop Full made (λ n e. absurd (cc (e))) stops within)
 stops_at stop NoMemory made stops within = inl (refl, before_stop stop NoMemory made (λ n e. absurd (cc (e))) stops within)
 
@@ -61,7 +62,7 @@ goes_to : (n : ℕ) (made : List Entry) (e : Entry) (b : Bool) → (length made 
 goes_to n made e true is below =
     let m = length-append made (e ∷ []) in
     let same : length made + 1 ≡ n = grind (arith, nat_tests) in
-    (Some (stopped n), inr (n, refl, omega (arith, same), omega (arith, m, same), refl))
+    (Some (stopped n), inr (n, (refl, omega (arith, same), omega (arith, m, same)), refl))
 goes_to n made e false is below =
     let m = length-append made (e ∷ []) in
     let differ : length made + 1 ≢ n = λ q. absurd (grind (arith, nat_tests, q, is)) in
@@ -86,7 +87,7 @@ upload_due setting is_run block objects stop seat Full made shipped runs due bef
 upload_due setting is_run block objects stop seat NoMemory made shipped runs due before = tt
 
 full_before : (stop : Option ℕ) (driven : Driven UploadEnd) (made : List Entry)
-    → ((n : ℕ) → (driven ≡ Stopped n) ↔ ((stop ≡ Some n) × (0 < n) × (length made ≡ n))) → ((n : ℕ) → stop ≡ Some n → 0 < n → length made ≤ n) → driven ≡ Full → IsBefore stop made
+    → ((n : ℕ) → (driven ≡ Stopped n) ↔ IsStopped stop made n) → ((n : ℕ) → stop ≡ Some n → 0 < n → length made ≤ n) → driven ≡ Full → IsBefore stop made
 full_before stop driven made stops within full = before_stop stop driven made (λ n e. absurd (cc (e, full))) stops within
 
 -- An upload of a block's objects that was driven is a run of the block's upload.

@@ -4,6 +4,7 @@ pub mod Journals
 pub mod Moments
 pub mod Keeping
 pub mod Standing
+pub mod Stops
 pub mod Machines
 pub mod Plans
 pub mod Leads

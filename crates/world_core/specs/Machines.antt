@@ -2,6 +2,7 @@
 use Rattle.std.specs.Prelude.{◌≡◌, ◌↔◌, ℕ, ◌<◌, ◌≤◌, Bool, true, false, List, [], ◌∷◌, ◌++◌, length, All, Option, Some, None, Result, Ok, Err}
 use Rattle.list_core.specs.declared.memory.NoMemory.{NoMemory}
 use Rattle.world_core.specs.Operations.{IsLawful, IsAnswer, entry_of, has_failed}
+use Rattle.world_core.specs.Stops.{IsStopped}
 use Rattle.world_core.specs.declared.op.Op.{Op}
 use Rattle.world_core.specs.declared.seen.Seen.{Seen}
 use Rattle.world_core.specs.declared.entry.Entry.{Entry}
@@ -82,7 +83,7 @@ pub record Drives {E : Type 0} (is_run : List Entry → Option E → Type 0) (se
   pub run : is_run made (end_of driven)
   pub seats : All (λ e. e.seat ≡ seat) made
   -- it stops as soon as the operation of that number is answered, and never else
-  pub stopped : (n : ℕ) → (driven ≡ outcome.Stopped n) ↔ ((stop ≡ Some n) × (0 < n) × (length made ≡ n))
+  pub stopped : (n : ℕ) → (driven ≡ outcome.Stopped n) ↔ IsStopped stop made n
   pub within : (n : ℕ) → stop ≡ Some n → 0 < n → length made ≤ n
   -- where the journal took no more entries, the run had not come to its end
   pub waits : driven ≡ outcome.Full → Awaits is_run seat made

@@ -65,7 +65,7 @@ no_sync_answers used end (Some one) is = cc (is)
 
 task_asked : (setting : Setting) (who : Who) (place : ℕ) (w : Work) (held after : Holding) (entries : List Entry) (used : Use) (end : SeriesEnd) → TaskRun setting who place w held entries (Some (answered used end)) after → IsAsked setting w held.used entries used end
 task_asked setting who place (Upload ulid stop) held after entries used end ((block, is, (objects, own, shipped, run, inl (same, early))), left) = absurd (no_upload_answers used end own same)
-task_asked setting who place (Upload ulid stop) held after entries used end ((block, is, (objects, own, shipped, run, inr (n, stops, above, count, same))), left) = absurd (cc (same))
+task_asked setting who place (Upload ulid stop) held after entries used end ((block, is, (objects, own, shipped, run, inr (n, reached, same))), left) = absurd (cc (same))
 task_asked setting who place (Sync gateway) held after entries used end (own, run, is, left) = absurd (no_sync_answers used end own is)
 task_asked setting who place (Query low high selector) held after entries used end (run, left) = query_asked setting held.used selector (slice_get setting.script.selectors selector) low high entries used end refl run
 

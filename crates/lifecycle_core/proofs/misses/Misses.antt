@@ -155,7 +155,7 @@ no_sync_misses used number (Some end) is = cc (is)
 
 task_misses : (setting : Setting) (who : Who) (place : ℕ) (before made : List Entry) (held after : Holding) (w : Work) (used : Use) (number : ℕ) → ViewSeen before held → TaskRun setting who place w held made (Some (answered used (called.Missing number))) after → MissesAt before made number
 task_misses setting who place before made held after (Upload ulid stop) used number seen ((block, is, (objects, own, shipped, run, inl (same, early))), left) = absurd (no_upload_misses used number own same)
-task_misses setting who place before made held after (Upload ulid stop) used number seen ((block, is, (objects, own, shipped, run, inr (n, stops, above, length_is, same))), left) = absurd (cc (same))
+task_misses setting who place before made held after (Upload ulid stop) used number seen ((block, is, (objects, own, shipped, run, inr (n, reached, same))), left) = absurd (cc (same))
 task_misses setting who place before made held after (Sync gateway) used number seen (own, run, is, left) = absurd (no_sync_misses used number own is)
 task_misses setting who place before made held after (Query low high selector) used number seen (run, left) = query_misses before made held.used (asked_by setting who.gateway selector low high) used number seen run
 

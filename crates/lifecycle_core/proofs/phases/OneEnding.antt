@@ -14,6 +14,7 @@ use Rattle.block_files.specs.Built.{built_meta, objects_of, segments_of}
 use Rattle.block_files.specs.PlainForm.{plain_index}
 use Rattle.label_sets.specs.declared.series.Series.{Series}
 use Rattle.world_core.specs.Plans.{ComesTo, Plan, Runs}
+use Rattle.world_core.specs.Stops.{IsBefore}
 use Rattle.world_core.specs.declared.entry.Entry.{Entry}
 use Rattle.world_core.proofs.PlanLaws.{once, one_end}
 use Rattle.shipper.specs.Uploads.{upload}
@@ -37,7 +38,7 @@ use Rattle.lifecycle_core.specs.Holdings.{Holding, Holdings, Use, holding_of, no
 use Rattle.lifecycle_core.specs.Phases.{IsFinished, IsRunOf, by_script, by_workers}
 use Rattle.lifecycle_core.specs.Setting.{Setting}
 use Rattle.lifecycle_core.specs.Shipped.{AreBuilt, IsPlanOf, IsShipped}
-use Rattle.lifecycle_core.specs.Tasks.{End, IsBefore, IsStop, QueryTask, TaskRun, answered, asked_by, sync_rules, synced, synced_with, uploaded}
+use Rattle.lifecycle_core.specs.Tasks.{End, IsStop, QueryTask, TaskRun, answered, asked_by, sync_rules, synced, synced_with, uploaded}
 use Rattle.lifecycle_core.specs.Ways.{AreFinished, PhasesRun}
 use Rattle.lifecycle_core.proofs.answers.OneMerge.{call_tells}
 use Rattle.lifecycle_core.proofs.phases.RunFronts.{not_nil}
@@ -112,9 +113,9 @@ upload_once : (plan : Plan UploadEnd) (stop : Option ℕ) (xs : List Entry) (y :
     → Runs plan (xs ++ y ∷ rest) more → Stops stop (xs ++ y ∷ rest) end more → ⊥
 upload_once plan stop xs y rest last end own more run (inl (is, early)) on how =
     let made = some_of uploaded own last is in once plan xs made.0 y rest more (subst (λ (o : Option UploadEnd). Runs plan xs o) made.1 run) on
-upload_once plan stop xs y rest last end own more run (inr (n, stops, above, count, is)) on (inl (so, early)) =
+upload_once plan stop xs y rest last end own more run (inr (n, (stops, above, count), is)) on (inl (so, early)) =
     let below = early n stops above in omega (arith, below, count, longer xs y rest)
-upload_once plan stop xs y rest last end own more run (inr (n, stops, above, count, is)) on (inr (m, also, over, many, so)) =
+upload_once plan stop xs y rest last end own more run (inr (n, (stops, above, count), is)) on (inr (m, (also, over, many), so)) =
     let same : n ≡ m = cc (stops, also) in omega (arith, same, count, many, longer xs y rest)
 
 upload_tells : (plan : Plan UploadEnd) (stop : Option ℕ) (xs : List Entry) (one other : End) (own more : Option UploadEnd) → Runs plan xs own → Stops stop xs (Some one) own → Runs plan xs more → Stops stop xs (Some other) more → one ≡ other
@@ -123,9 +124,9 @@ upload_tells plan stop xs one other own more run (inl (is, early)) on (inl (so, 
     let second = some_of uploaded more other so in
     let same = one_end plan xs first.0 second.0 (subst (λ (o : Option UploadEnd). Runs plan xs o) first.1 run) (subst (λ (o : Option UploadEnd). Runs plan xs o) second.1 on) in
     first.2 ∙ ap uploaded same ∙ sym second.2
-upload_tells plan stop xs one other own more run (inl (is, early)) on (inr (n, stops, above, count, so)) = absurd (let below = early n stops above in omega (arith, below, count))
-upload_tells plan stop xs one other own more run (inr (n, stops, above, count, is)) on (inl (so, early)) = absurd (let below = early n stops above in omega (arith, below, count))
-upload_tells plan stop xs one other own more run (inr (n, stops, above, count, is)) on (inr (m, also, over, many, so)) =
+upload_tells plan stop xs one other own more run (inl (is, early)) on (inr (n, (stops, above, count), so)) = absurd (let below = early n stops above in omega (arith, below, count))
+upload_tells plan stop xs one other own more run (inr (n, (stops, above, count), is)) on (inl (so, early)) = absurd (let below = early n stops above in omega (arith, below, count))
+upload_tells plan stop xs one other own more run (inr (n, (stops, above, count), is)) on (inr (m, (also, over, many), so)) =
     let same : n ≡ m = cc (stops, also) in cc (is, so, same)
 
 query_once : (used : Option Use) (asked : Option Question) (xs : List Entry) (y : Entry) (rest : List Entry) (last : End) (end : Option End) → QueryTask used asked xs (Some last) → QueryTask used asked (xs ++ y ∷ rest) end → ⊥

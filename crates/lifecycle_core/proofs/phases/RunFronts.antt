@@ -1,6 +1,7 @@
 -- Fronts of runs: what was cut off before its last entry is a run without an end.
 use Rattle.std.proofs.Common.{◌≡◌, ◌⊎◌, inl, inr, ℕ, List, [], ◌∷◌, ◌++◌, Option, Some, None, refl, arith}
 use Rattle.std.proofs.lemmas.List.{length-append}
+use Rattle.world_core.specs.Stops.{IsBefore}
 use Rattle.world_core.specs.declared.entry.Entry.{Entry}
 use Rattle.world_core.proofs.PlanLaws.{comes_front, front}
 use Rattle.shipper.specs.Uploads.{upload}
@@ -13,7 +14,7 @@ use Rattle.script_workers.specs.declared.work.Work.TheVariants.{Upload, Sync, Qu
 use Rattle.lifecycle_core.specs.Conducts.{Who}
 use Rattle.lifecycle_core.specs.Holdings.{Holding, Use}
 use Rattle.lifecycle_core.specs.Setting.{Setting}
-use Rattle.lifecycle_core.specs.Tasks.{End, IsBefore, IsStop, QueryTask, TaskRun, asked_by, sync_rules}
+use Rattle.lifecycle_core.specs.Tasks.{End, IsStop, QueryTask, TaskRun, asked_by, sync_rules}
 
 pub not_nil : {X : Type 0} (xs : List X) (y : X) (rest : List X) → xs ++ y ∷ rest ≡ [] → ⊥
 not_nil [] y rest is = cc (is)
@@ -29,7 +30,7 @@ sync_cut rules xs y rest end run = comes_front (sync rules) (IsEnd rules) xs y r
 before_stop : (stop : Option ℕ) (xs : List Entry) (y : Entry) (rest : List Entry) (own : Option End) (end : Option End)
     → ((end ≡ own) × IsBefore stop (xs ++ y ∷ rest)) ⊎ IsStop stop (xs ++ y ∷ rest) end → IsBefore stop xs
 before_stop stop xs y rest own end (inl (is, early)) = λ n same above. let below = early n same above in omega (arith, below, length-append xs (y ∷ rest))
-before_stop stop xs y rest own end (inr (n, is, above, count, same)) = λ m other above'.
+before_stop stop xs y rest own end (inr (n, (is, above, count), same)) = λ m other above'.
     let equal : n ≡ m = cc (is, other) in omega (arith, equal, count, length-append xs (y ∷ rest))
 
 query_cut : (used : Option Use) (asked : Option Question) (xs : List Entry) (y : Entry) (rest : List Entry) (end : Option End) → QueryTask used asked (xs ++ y ∷ rest) end → QueryTask used asked xs None

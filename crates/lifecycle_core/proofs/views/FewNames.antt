@@ -167,7 +167,7 @@ task_finds_few : (setting : Setting) (who : Who) (place : ℕ) (w : Work) (held 
     → ¬ TaskRun setting who place w held entries (Some (synced fetched.TooMany)) after
 task_finds_few setting who place (Upload ulid stop) held after entries few ((block, is, (objects, None, shipped, run, inl (same, early))), left) = cc (same)
 task_finds_few setting who place (Upload ulid stop) held after entries few ((block, is, (objects, Some own, shipped, run, inl (same, early))), left) = cc (same)
-task_finds_few setting who place (Upload ulid stop) held after entries few ((block, is, (objects, own, shipped, run, inr (n, stops, above, count, same))), left) = cc (same)
+task_finds_few setting who place (Upload ulid stop) held after entries few ((block, is, (objects, own, shipped, run, inr (n, reached, same))), left) = cc (same)
 task_finds_few setting who place (Sync gateway) held after entries few (None, run, same, left) = cc (same)
 task_finds_few setting who place (Sync gateway) held after entries few (Some own, run, same, left) =
     let one : own ≡ fetched.TooMany = cc (same) in

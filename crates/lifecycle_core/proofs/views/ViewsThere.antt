@@ -115,7 +115,7 @@ query_end (Some used) (Some q) made end has (Some own, run, is) = λ no. absurd 
 -- with a view where one is needed, no task ends for want of one
 ends_well : (setting : Setting) (who : Who) (place : ℕ) (w : Work) (held after : Holding) (made : List Entry) (end : End) → GivesView end → (IsQuery w → HasView held) → TaskRun setting who place w held made (Some end) after → end ≢ without_view
 ends_well setting who place (Upload ulid stop) held after made end good known ((block, is, (objects, own, shipped, run, how)), left) =
-    elim how [ inl went ↦ uploaded_end end own went.0 | inr went ↦ λ no. let same : end ≡ stopped went.0 = cc (went.4) in absurd (cc (same, no)) ]
+    elim how [ inl went ↦ uploaded_end end own went.0 | inr went ↦ λ no. let same : end ≡ stopped went.0 = cc (went.2) in absurd (cc (same, no)) ]
 ends_well setting who place (Sync gateway) held after made end good known (own, run, is, left) = (sync_end held after made end own good is left).1
 ends_well setting who place (Query low high selector) held after made end good known (run, left) = query_end held.used (asked_by setting who.gateway selector low high) made end (known tt) run
 
