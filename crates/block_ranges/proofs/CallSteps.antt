@@ -3,6 +3,7 @@ use Rattle.std.proofs.Common.{◌≡◌, ℕ, ◌*◌, Bool, true, false, List, 
 use Rattle.std.specs.Prelude.{IsSomeAnd}
 use Rattle.list_core.specs.declared.memory.NoMemory.{NoMemory}
 use Rattle.world_core.proofs.PlanLaws.{breaks_off, answered, comes_kept}
+use Rattle.world_core.specs.Leads.{after_entry}
 use Rattle.world_core.specs.Machines.{Asks, GoesOn, Falls}
 use Rattle.world_core.specs.Operations.{IsLawful, IsAnswer, entry_of}
 use Rattle.world_core.specs.Plans.{Plan, ends, never, asks, finds, Keeps, after_get}
@@ -18,7 +19,7 @@ use Rattle.index_cache.specs.Caches.{held}
 use Rattle.block_ranges.specs.Reads.{Cache, missing, fault}
 use Rattle.block_ranges.specs.BlockReads.{BlockEnd, breaks_off as ends_off}
 use Rattle.block_ranges.specs.Asking.{query_asked, block_asked}
-use Rattle.block_ranges.specs.BlockWork.{Onward, Leading, Where, IsEnd, Holds, Leads, most, may_at, asked_at, count_at, left_at, after_entry, goes_after, with_bytes}
+use Rattle.block_ranges.specs.BlockWork.{Onward, Leading, Where, IsEnd, Holds, Leads, most, may_at, asked_at, count_at, left_at, goes_after, with_bytes}
 use Rattle.block_ranges.specs.CallStates.{ActsAs, may_call, asked_call, count_call, cache_of}
 use Rattle.block_ranges.specs.declared.asked.Asked.{Asked}
 use Rattle.block_ranges.specs.declared.block_call.BlockCall.{BlockCall}

@@ -6,8 +6,9 @@ use Rattle.list_core.specs.declared.memory.NoMemory.{NoMemory}
 use Rattle.label_sets.specs.declared.series.Series.{Series}
 use Rattle.label_sets.specs.Triples.{triples_of}
 use Rattle.block_keys.specs.declared.key.Key.TheVariants.{Index, Segment}
+use Rattle.world_core.specs.Leads.{after_entry}
 use Rattle.world_core.specs.Operations.{IsLawful}
-use Rattle.world_core.specs.Plans.{Plan, ends, asks, never, ComesTo, Keeps}
+use Rattle.world_core.specs.Plans.{Plan, ends, never, ComesTo, Keeps}
 use Rattle.world_core.specs.declared.op.Op.{Op}
 use Rattle.world_core.specs.declared.op.Op.TheVariants.{Get, GetRange}
 use Rattle.world_core.specs.declared.entry.Entry.{Entry}
@@ -244,11 +245,6 @@ abbrev pub Leads : Asked → Cache → ℕ → Onward → Result Step NoMemory �
 Leads asked cache limit follows (Ok (Wait op work)) = Waits asked cache limit follows op work
 Leads asked cache limit follows (Ok (Done end)) = follows [] (Some end) cache
 Leads asked cache limit follows (Err none) = Unit {0}
-
--- where a plan stands after an entry
-abbrev pub after_entry : Plan BlockEnd → Entry → Plan BlockEnd
-after_entry (asks op next) e = next e
-after_entry other e = never
 
 -- a run of what is left after the entry that was waited for
 abbrev pub goes_after : Asked → Work → Cache → Entry → Onward
