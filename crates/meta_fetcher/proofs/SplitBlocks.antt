@@ -4,6 +4,7 @@ use Rattle.std.specs.Prelude.{Contains}
 use Rattle.std.specs.List.{filter}
 use Rattle.std.specs.List.Sorted.{IsStrictlyIncreasing, IsStrictlySortedBy, IsNonDecreasingBy, IsPermutation}
 use Rattle.std.proofs.lemmas.Map.Keys.{sorted_from_strictly_increasing, sorted_head, sorted_tail}
+use Rattle.std.proofs.lemmas.List.Kept.{IsNonDecreasingBy-filter}
 use Rattle.std.proofs.lemmas.List.Sorted.{Contains-permutation, length_permutation}
 use Rattle.list_core.proofs.Bools.{lt-from_Less}
 use Rattle.list_core.proofs.Lists.{cons_same}
@@ -53,6 +54,15 @@ same_blocks (block ∷ blocks) (f ∷ fs) up rise same among =
       | inl heads ↦ cons_same block f blocks fs heads tails
       | inr later ↦ absurd (let more : f.ulid < f.ulid = above f fs f rise (subst (λ (l : List Found). Contains l f) tails later) in omega (arith, more))
     ]
+
+-- what is kept, and what is covered, ascends as the listed blocks do, whatever the found ones were
+pub stay_rises : (found stay leave : List Found) → Splits found stay leave → Rises stay
+stay_rises found stay leave split =
+    subst Rises (sym split.kept) (IsNonDecreasingBy-filter (λ (b : Found). b.ulid) (λ block. not (is_covered split.listed block)) split.listed split.ascend)
+
+pub leave_rises : (found stay leave : List Found) → Splits found stay leave → Rises leave
+leave_rises found stay leave split =
+    subst Rises (sym split.covered) (IsNonDecreasingBy-filter (λ (b : Found). b.ulid) (is_covered split.listed) split.listed split.ascend)
 
 module _ (found kept covered : List Found) (split : Splits found kept covered) (rise : IsStrictlyIncreasing (blocks_of found)) where
   listed_same : split.listed ≡ found

@@ -1,7 +1,7 @@
 -- A sync comes to one view: what was seen of a block tells the block.
 use Rattle.std.proofs.Common.{◌≡◌, ℕ, ℤ, ◌<◌, ◌^◌, List, [], ◌∷◌, ◌++◌, map, Option, Some, None, refl, sym, ap, subst, ◌∙◌, inl, inr, append-nil}
 use Rattle.std.specs.Prelude.{option_map}
-use Rattle.std.specs.List.Sorted.{IsStrictlyIncreasing}
+use Rattle.std.specs.List.Sorted.{IsNonDecreasingBy, IsStrictlyIncreasing}
 use Rattle.std.proofs.Props.{props}
 use Rattle.block_meta.specs.Lawful.{AreLawfulTimes}
 use Rattle.block_meta.specs.MetaFields.{MarkFields, MetaFields, fields_of, mark_fields_of}
@@ -94,15 +94,34 @@ same_founds (x ∷ xs) (y ∷ ys) same =
     let first : x ≡ y = same_found x y (cc (same)) in
     let rest : xs ≡ ys = same_founds xs ys (cc (same)) in λ i. first i ∷ rest i
 
+abbrev Rises : List Found → Type 0
+Rises blocks = IsNonDecreasingBy (λ block. block.ulid) blocks
+
+rises_prop : (blocks : List Found) → IsProp (Rises blocks)
+rises_prop blocks = hlevel props
+
+abbrev view_made : ℕ → Moment → Moment → (kept covered : List Found) → Rises kept → Rises covered → View
+view_made first begin end kept covered kept_rise covered_rise =
+    record { first = first; begin = begin; end = end; kept = kept; covered = covered; kept_rise = kept_rise; covered_rise = covered_rise }
+
+same_lists : (first : ℕ) (begin end : Moment) (kept kept' covered covered' : List Found) → kept ≡ kept' → covered ≡ covered' → (k : Rises kept) (c : Rises covered) (k' : Rises kept') (c' : Rises covered')
+    → view_made first begin end kept covered k c ≡ view_made first begin end kept' covered' k' c'
+same_lists first begin end kept kept' covered covered' same also k c =
+    subst (λ (ks : List Found). (k' : Rises ks) (c' : Rises covered') → view_made first begin end kept covered k c ≡ view_made first begin end ks covered' k' c') same
+    (subst (λ (cs : List Found). (k' : Rises kept) (c' : Rises cs) → view_made first begin end kept covered k c ≡ view_made first begin end kept cs k' c') also
+    (λ k' c'. ap (λ (x : Rises kept). view_made first begin end kept covered x c) (rises_prop kept k k') ∙ ap (λ (x : Rises covered). view_made first begin end kept covered k' x) (rises_prop covered c c')))
+
+same_view : (first first' : ℕ) (begin begin' end end' : Moment) (kept covered : List Found) (k : Rises kept) (c : Rises covered) → first ≡ first' → begin ≡ begin' → end ≡ end'
+    → view_made first begin end kept covered k c ≡ view_made first' begin' end' kept covered k c
+same_view first first' begin begin' end end' kept covered k c firsts begins ends = λ i. view_made (firsts i) (begins i) (ends i) kept covered k c
+
 one_view : (rules : SyncRules) (number : ℕ) (begun ended : Moment) (sightings : List Sighting) (v w : View) → IsView rules number begun ended sightings v → IsView rules number begun ended sightings w → v ≡ w
 one_view rules number begun ended sightings v w a b =
-    let firsts : v.first ≡ w.first = a.first ∙ sym b.first in
-    let begins : v.begin ≡ w.begin = a.begin ∙ sym b.begin in
-    let ends : v.end ≡ w.end = a.end ∙ sym b.end in
     let found : a.found ≡ b.found = same_founds a.found b.found (a.sighted ∙ sym b.sighted) in
     let kept : v.kept ≡ w.kept = a.kept ∙ ap (kept_by rules) found ∙ sym b.kept in
     let covered : v.covered ≡ w.covered = a.covered ∙ ap (covered_by rules) found ∙ sym b.covered in
-    λ i. record { first = firsts i; begin = begins i; end = ends i; kept = kept i; covered = covered i }
+    same_view v.first w.first v.begin w.begin v.end w.end v.kept v.covered v.kept_rise v.covered_rise (a.first ∙ sym b.first) (a.begin ∙ sym b.begin) (a.end ∙ sym b.end)
+    ∙ same_lists w.first w.begin w.end v.kept w.kept v.covered w.covered kept covered v.kept_rise v.covered_rise w.kept_rise w.covered_rise
 
 one_sync_end : (rules : SyncRules) (told : Synced) (course : Option Course) (one other : SyncEnd) → IsEnd rules (told, course) one → IsEnd rules (told, course) other → one ≡ other
 one_sync_end rules (sighted sightings) (Some course) one other (v, is, view) (w, so, also) =

@@ -1,3 +1,5 @@
+ghost use Rattle.std.specs.List.Sorted.{IsNonDecreasingBy};
+
 use moment_core::Moment;
 use sync_filters::FoundList;
 
@@ -12,6 +14,8 @@ pub struct View {
     pub end: Moment,
     /// The blocks that are looked at, ascending by ULID.
     pub kept: FoundList,
-    /// The blocks that others hold whole.
+    /// The blocks that others hold whole, ascending by ULID.
     pub covered: FoundList,
+    pub ghost kept_rise: { IsNonDecreasingBy (λ block. block.ulid) kept },
+    pub ghost covered_rise: { IsNonDecreasingBy (λ block. block.ulid) covered },
 }

@@ -56,7 +56,8 @@ reading query (block ∷ blocks) taken cache =
 
 -- ---- the call
 
--- A call over a view, for the samples that the selector accepts, from low to high.
+-- A call over a view, for the samples that the selector accepts, from low to high. It reads the view's blocks in their order, which
+-- is that of their ULIDs.
 abbrev pub series_call : View → Query → Cache → Plan Called
 series_call view query cache = reading query (to_read query view.kept) [] cache
 

@@ -121,7 +121,8 @@ reading query taken (block ∷ blocks) =
 
 -- ---- the call
 
--- A call over a view, for the samples that the selector accepts, from low to high.
+-- A call over a view, for the samples that the selector accepts, from low to high. It reads the view's blocks in their order, which
+-- is that of their ULIDs.
 abbrev pub series_call : View → Query → Plan Called
 series_call view query = reading query [] (to_read query view.kept)
 

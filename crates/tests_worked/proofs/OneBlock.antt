@@ -39,7 +39,7 @@ pub upload_end : UploadTask one.setting small.a None one.upload (Some (uploaded 
 upload_end = upload_task one.setting refl 2 1 1
 
 pub sync_end : SyncTask one.setting 0 nothing_held one.sync (Some (synced (fetched.View one.view))) holding
-sync_end = (Some (fetched.View one.view), sync_run 7 2 1_800_001 (runs.seen 1_800_001 ∷ []) refl, refl, refl)
+sync_end = (Some (fetched.View one.view), sync_run 7 2 1_800_001 (Some (runs.seen 1_800_001)) refl, refl, refl)
 
 pub query_end : QueryTask (Some one.used) (Some (question one.selector)) one.query (Some (answered one.used (called.Answer (small.up ∷ []) (small.a ∷ []))))
 query_end = (Some (called.Answer (small.up ∷ []) (small.a ∷ [])), query_run one.selector merge_up 7 1_800_001 1_800_003 1_800_002 1_800_003 10 2 1_800_004, refl)

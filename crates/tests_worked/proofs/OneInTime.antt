@@ -7,6 +7,7 @@ use Rattle.world_core.specs.declared.entry.Entry.{Entry}
 use Rattle.lifecycle_core.specs.Guarantees.{LeavesNoneOut, NamesAll}
 use Rattle.lifecycle_core.specs.SyncsAndCalls.{IsViewOf}
 use Rattle.lifecycle_core.specs.Tasks.{sync_rules}
+use Rattle.tests_worked.specs.SmallRuns as runs
 use Rattle.tests_worked.proofs.SmallTasks.{sync_run}
 use Rattle.tests_worked.proofs.OneAnswer.{one_named}
 use Rattle.lifecycle_core.specs.TimeRules.{IsMarkedInTime, IsReadInTime, IsSyncedInTime, IsUploadedInTime, PutsMark, PutsObject}
@@ -48,7 +49,7 @@ uploaded_in_time ulid = All-from_recursion (InTime ulid) one.journal (
 pub sync_is : IsViewOf (sync_rules one.setting 0) one.journal one.used one.sync
 sync_is = record {
   seat = 2;
-  sync = record { before = []; after = one.query; parts = refl; run = sync_run 7 2 1_800_001 one.view.kept refl; whole = λ none. absurd (cc (none)) };
+  sync = record { before = []; after = one.query; parts = refl; run = sync_run 7 2 1_800_001 (Some (runs.seen 1_800_001)) refl; whole = λ none. absurd (cc (none)) };
   last = refl;
 }
 

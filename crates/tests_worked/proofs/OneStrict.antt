@@ -14,6 +14,7 @@ use Rattle.meta_fetcher.specs.declared.sync_end.SyncEnd.TheVariants as fetched
 use Rattle.lifecycle_core.specs.Breaches.{IsSeatOf, IsSyncIn, IsViewAt, Refuses, mark_time, sync_time, view_time}
 use Rattle.lifecycle_core.specs.Setting.{setting_of}
 use Rattle.lifecycle_core.specs.Tasks.{sync_rules}
+use Rattle.tests_worked.specs.SmallRuns as runs
 use Rattle.tests_worked.specs.SmallBlock as small
 use Rattle.tests_worked.specs.Entries.{absent, listed, stored}
 use Rattle.tests_worked.specs.OneBlock as one
@@ -22,7 +23,7 @@ use Rattle.tests_worked.proofs.SmallTasks.{sync_run_by}
 use Rattle.tests_worked.proofs.OneBlock.{gateway}
 
 sync_run : (ignore : Span) → SyncRun (sync_rules (setting_of (script_with ignore)) 0) one.sync (Some (fetched.View one.view))
-sync_run ignore = sync_run_by (minutes 30) ignore 2 7 1_800_001 8 1_800_002 9 1_800_003 one.view.kept refl
+sync_run ignore = sync_run_by (minutes 30) ignore 2 7 1_800_001 8 1_800_002 9 1_800_003 (Some (runs.seen 1_800_001)) refl
 
 workers : (ignore : Span) → workers_of (script_with ignore) 1 ≡ gateway ∷ []
 unfolding hands_of_task with_hands hands_from places_from workers_from seats_from

@@ -21,6 +21,7 @@ use Rattle.lifecycle_core.specs.SyncsAndCalls.{IsCallIn, IsViewOf}
 use Rattle.lifecycle_core.specs.Tasks.{End, sync_rules, uploaded}
 use Rattle.lifecycle_core.specs.Ways.{PhasesRun}
 use Rattle.lifecycle_core.proofs.phases.EachEntry.{phases_each}
+use Rattle.tests_worked.specs.SmallRuns as runs
 use Rattle.tests_worked.specs.Entries.{absent, clock, found, listed}
 use Rattle.tests_worked.specs.OneBlock as one
 use Rattle.tests_worked.specs.OneStrict.{idle}
@@ -169,7 +170,7 @@ not_lawful lawful = All-contains (λ (e : Entry). e.seat ≢ 9) other.journal ot
 pub view_is : IsViewOf (sync_rules one.setting 0) other.journal one.used one.sync
 view_is = record {
   seat = 2;
-  sync = record { before = []; after = []; parts = refl; run = sync_run 7 2 1_800_001 one.view.kept refl; whole = λ none. absurd (cc (none)) };
+  sync = record { before = []; after = []; parts = refl; run = sync_run 7 2 1_800_001 (Some (runs.seen 1_800_001)) refl; whole = λ none. absurd (cc (none)) };
   last = refl;
 }
 

@@ -105,7 +105,7 @@ gateway_run = record {
     answer ∷ [],
     holding side.used,
     refl,
-    (Some (fetched.View side.view), sync_run_by (minutes 0) (hours 24) 1 4 3 11 10 12 11 (small.found 10 11 ∷ []) refl, refl, refl),
+    (Some (fetched.View side.view), sync_run_by (minutes 0) (hours 24) 1 4 3 11 10 12 11 (Some (small.found 10 11)) refl, refl, refl),
     refl,
     inl (side.query, [], answer, [], holding side.used, refl, ((Some (called.Answer (small.up ∷ []) (small.a ∷ [])), query_run [] merge_all 4 3 11 10 11 13 1 12, refl), refl), refl, (refl, refl, refl)),
   );

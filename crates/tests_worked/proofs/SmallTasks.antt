@@ -1,7 +1,7 @@
 -- The tasks over the small block are done as the definitions say.
-use Rattle.std.proofs.Common.{◌≡◌, ◌≢◌, ◌+◌, inl, inr, ℕ, suc, pos, Bool, true, false, cond, ◌||◌, List, [], ◌∷◌, Some, None, map, refl, sym, ap, subst, arith}
+use Rattle.std.proofs.Common.{◌≡◌, ◌≢◌, ◌+◌, inl, inr, ℕ, suc, pos, Bool, true, false, cond, ◌||◌, List, [], ◌∷◌, Some, None, map, refl, sym, ap, subst, arith, Option}
 use Rattle.std.proofs.lemmas.List.Elements.{All-nil, All-cons}
-use Rattle.std.specs.List.{filter, find, list_any}
+use Rattle.std.specs.List.{cons_option, filter, find, list_any}
 use Rattle.std.specs.List.Sorted.{IsStrictlyIncreasing, IsStrictlySortedBy}
 use Rattle.label_sets.specs.declared.series.Series.{Series}
 use Rattle.label_sets.specs.Finals.{is_among, without, final_of}
@@ -96,7 +96,7 @@ small_sync : (more : ℕ) (consistency delay : Span) (seat first begin mark mark
 small_sync more consistency delay seat first begin mark mark_read meta meta_read = (refl, rw a_reads (refl, (refl, rw block_meta_reads (refl, inr refl))))
 
 -- the sync of the small block, by the numbers and moments of its entries
-pub sync_run_by : (consistency delay : Span) (seat first begin mark mark_read meta meta_read : ℕ) (kept : List Found) → kept ≡ kept_by (rules_by consistency delay) (small.found mark_read meta_read ∷ [])
+pub sync_run_by : (consistency delay : Span) (seat first begin mark mark_read meta meta_read : ℕ) (kept : Option Found) → cons_option kept [] ≡ kept_by (rules_by consistency delay) (small.found mark_read meta_read ∷ [])
     → SyncRun (rules_by consistency delay) (listed first seat begin (small.a_text ∷ []) ∷ absent mark seat mark_read (key.Mark small.a) ∷ found meta seat meta_read (key.Meta small.a) small.meta ∷ [])
     (Some (fetched.View (runs.view_of first begin meta_read kept)))
 sync_run_by consistency delay seat first begin mark mark_read meta meta_read kept is = (
@@ -113,18 +113,18 @@ sync_run_by consistency delay seat first begin mark mark_read meta meta_read kep
       sighted = refl;
       kept = is;
       covered = none_covered consistency delay mark_read meta_read;
-      kept_ascend = one_ascends (rules_by consistency delay) (small.found mark_read meta_read) kept is;
+      kept_ascend = one_ascends (rules_by consistency delay) (small.found mark_read meta_read) (cons_option kept []) is;
       covered_ascend = λ k more. omega (arith, more);
     },
   ),
 )
 
-pub sync_run : (seq seat moment : ℕ) (kept : List Found) → kept ≡ kept_by rules (runs.seen moment ∷ [])
+pub sync_run : (seq seat moment : ℕ) (kept : Option Found) → cons_option kept [] ≡ kept_by rules (runs.seen moment ∷ [])
     → SyncRun rules (runs.sync seq seat moment) (Some (fetched.View (runs.view seq moment kept)))
 sync_run seq seat moment kept is = sync_run_by (minutes 30) (hours 24) seat seq moment (seq + 1) (moment + 1) (seq + 2) (moment + 2) kept is
 
 pub empty_sync_run : (seq seat moment : ℕ)
-    → SyncRun rules (listed seq seat moment [] ∷ []) (Some (fetched.View (record { first = seq; begin = record { ms = moment }; end = record { ms = moment }; kept = []; covered = [] })))
+    → SyncRun rules (listed seq seat moment [] ∷ []) (Some (fetched.View (runs.view_of seq moment moment None)))
 empty_sync_run seq seat moment = (
   (sighted [], Some (record { first = seq; begin = record { ms = moment }; end = record { ms = moment } })),
   (refl, (refl, inr refl)),
@@ -162,7 +162,7 @@ one_source : IsSetOf (small.a ∷ []) (small.a ∷ [])
 one_source = record { increasing = λ k more. omega (arith, more); members = λ x. (λ h. h, λ h. h) }
 
 pub query_run : (selector : List Matcher) → IsMerge (wanted (question selector) [] (small.up ∷ [])) (small.up ∷ []) → (first begin end mark_read meta_read seq seat moment : ℕ)
-    → SeriesRun (runs.view_of first begin end (small.found mark_read meta_read ∷ [])) (question selector) (runs.query seq seat moment) (Some (called.Answer (small.up ∷ []) (small.a ∷ [])))
+    → SeriesRun (runs.view_of first begin end (Some (small.found mark_read meta_read))) (question selector) (runs.query seq seat moment) (Some (called.Answer (small.up ∷ []) (small.a ∷ [])))
 unfolding small.index
 query_run selector merge first begin end mark_read meta_read seq seat moment =
     (took _, (refl, (refl, inr (Some (small.up ∷ []), (segment_reads, λ other is. segment_once _ other (small.up ∷ []) is segment_reads), (refl, inr refl)))), (small.up ∷ [], small.a ∷ [], refl, merge, one_source))

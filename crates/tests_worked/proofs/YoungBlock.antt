@@ -194,7 +194,7 @@ second_lines = second_phase young.second_journal young.early young.late
       young.block_answer young.late ∷ [],
       holding young.late,
       refl,
-      (Some (fetched.View young.late.view), sync_run 8 3 1_800_001 (runs.seen 1_800_001 ∷ []) refl, refl, refl),
+      (Some (fetched.View young.late.view), sync_run 8 3 1_800_001 (Some (runs.seen 1_800_001)) refl, refl, refl),
       refl,
       inl (runs.query 11 3 1_800_004, [], young.block_answer young.late, [], holding young.late, refl, ((Some (called.Answer (small.up ∷ []) (small.a ∷ [])), query_run [] merge_all 8 1_800_001 1_800_003 1_800_002 1_800_003 11 3 1_800_004, refl), refl), refl, (refl, refl, refl)),
     ))
@@ -227,7 +227,7 @@ first_turned = first_phase young.first_journal_turned (runs.upload 2 2 1) young.
       young.no_answer young.early_turned ∷ [],
       holding young.early_turned,
       refl,
-      (Some (fetched.View young.early_turned.view), sync_run 6 1 5 [] refl, refl, refl),
+      (Some (fetched.View young.early_turned.view), sync_run 6 1 5 None refl, refl, refl),
       refl,
       inl ([], [], young.no_answer young.early_turned, [], holding young.early_turned, refl, ((Some (called.Answer [] []), empty_query_run young.early_turned.view refl (question []), refl), refl), refl, (refl, refl, refl)),
     ))
@@ -244,7 +244,7 @@ second_turned = second_phase young.second_journal_turned young.early_turned youn
       young.block_answer young.late_turned ∷ [],
       holding young.late_turned,
       refl,
-      (Some (fetched.View young.late_turned.view), sync_run 10 3 1_800_001 (runs.seen 1_800_001 ∷ []) refl, refl, refl),
+      (Some (fetched.View young.late_turned.view), sync_run 10 3 1_800_001 (Some (runs.seen 1_800_001)) refl, refl, refl),
       refl,
       inl (runs.query 13 3 1_800_004, [], young.block_answer young.late_turned, [], holding young.late_turned, refl, ((Some (called.Answer (small.up ∷ []) (small.a ∷ [])), query_run [] merge_all 10 1_800_001 1_800_003 1_800_002 1_800_003 13 3 1_800_004, refl), refl), refl, (refl, refl, refl)),
     ))

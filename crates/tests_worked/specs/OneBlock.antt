@@ -1,5 +1,5 @@
 -- One block, one gateway: the block is uploaded, half an hour passes, the gateway syncs and answers.
-use Rattle.std.specs.Prelude.{ℕ, pos, List, [], ◌∷◌, ◌++◌, codes, None}
+use Rattle.std.specs.Prelude.{ℕ, pos, List, [], ◌∷◌, ◌++◌, codes, None, Some}
 use Rattle.std.specs.List.{join_with_byte}
 use Rattle.moment_core.specs.StandardRules.{standard_rules}
 use Rattle.world_core.specs.declared.entry.Entry.{Entry}
@@ -82,7 +82,7 @@ abbrev pub journal : List Entry
 journal = clock 1 0 ∷ upload ++ clock 6 1_800_000 ∷ sync ++ query
 
 abbrev pub view : View
-view = runs.view 7 1_800_001 (runs.seen 1_800_001 ∷ [])
+view = runs.view 7 1_800_001 (Some (runs.seen 1_800_001))
 
 abbrev pub used : Use
 used = record { view = view; last = 9 }

@@ -5,7 +5,7 @@
 --     gateway g
 --     at 0
 --     sync g
-use Rattle.std.specs.Prelude.{ℕ, List, [], ◌∷◌, codes}
+use Rattle.std.specs.Prelude.{ℕ, List, [], ◌∷◌, codes, None}
 use Rattle.moment_core.specs.StandardRules.{minutes, hours}
 use Rattle.world_core.specs.declared.entry.Entry.{Entry}
 use Rattle.world_core.specs.declared.op.Op.TheVariants as op
@@ -54,4 +54,4 @@ journal = clock 1 0 ∷ sync
 
 -- the view of entries from one with this number and moment on
 abbrev pub view : ℕ → ℕ → View
-view first begin = runs.view_of first begin 2 []
+view first begin = runs.view_of first begin 2 None

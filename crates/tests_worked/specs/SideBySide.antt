@@ -13,7 +13,7 @@
 --     query 0 5000 {}
 --     upload 0000000000000000000000000A
 --     upload 0000000000000000000000000B
-use Rattle.std.specs.Prelude.{◌≤◌, ◌+◌, ℕ, pos, List, [], ◌∷◌, ◌++◌, All, Contains, codes, None}
+use Rattle.std.specs.Prelude.{◌≤◌, ◌+◌, ℕ, pos, List, [], ◌∷◌, ◌++◌, All, Contains, codes, None, Some}
 use Rattle.block_keys.specs.declared.key.Key.TheVariants as key
 use Rattle.block_meta.specs.MetaFields.{fields_of}
 use Rattle.block_meta.specs.MetaValue.{meta_text}
@@ -102,7 +102,7 @@ abbrev pub journal : List Entry
 journal = clock 1 0 ∷ made
 
 abbrev pub view : View
-view = runs.view_of 4 3 11 (small.found 10 11 ∷ [])
+view = runs.view_of 4 3 11 (Some (small.found 10 11))
 
 abbrev pub used : Use
 used = record { view = view; last = 12 }

@@ -1,5 +1,9 @@
 -- The entries of runs over the small block, from a number and a moment on, where each operation takes a millisecond.
-use Rattle.std.specs.Prelude.{ℕ, ◌+◌, List, [], ◌∷◌}
+use Rattle.std.proofs.Common.{arith}
+use Rattle.std.specs.Prelude.{ℕ, ◌+◌, List, [], ◌∷◌, Option, Some, None}
+use Rattle.std.specs.List.{cons_option}
+use Rattle.std.specs.List.Sorted.{IsNonDecreasingBy}
+use Rattle.std.proofs.lemmas.List.Sorted.{IsNonDecreasingBy-short}
 use Rattle.block_keys.specs.declared.key.Key.TheVariants as key
 use Rattle.world_core.specs.declared.entry.Entry.{Entry}
 use Rattle.meta_fetcher.specs.declared.view.View.{View}
@@ -31,18 +35,25 @@ sync seq seat moment =
 abbrev pub seen : ℕ → Found
 seen moment = small.found (moment + 1) (moment + 2)
 
--- the view of a sync, by the number of its first entry, by its first and last moment, and by what it keeps
-abbrev pub view_of : ℕ → ℕ → ℕ → List Found → View
+-- one block, or none, is in order
+at_most_one : (kept : Option Found) → IsNonDecreasingBy (λ (b : Found). b.ulid) (cons_option kept [])
+at_most_one None = IsNonDecreasingBy-short (λ (b : Found). b.ulid) [] (omega arith)
+at_most_one (Some block) = IsNonDecreasingBy-short (λ (b : Found). b.ulid) (block ∷ []) (omega arith)
+
+-- the view of a sync, by the number of its first entry, by its first and last moment, and by the block that it keeps, if any
+abbrev pub view_of : ℕ → ℕ → ℕ → Option Found → View
 view_of seq begin end kept = record {
   first = seq;
   begin = record { ms = begin };
   end = record { ms = end };
-  kept = kept;
+  kept = cons_option kept [];
   covered = [];
+  kept_rise = at_most_one kept;
+  covered_rise = at_most_one None;
 }
 
 -- the view of the sync above
-abbrev pub view : ℕ → ℕ → List Found → View
+abbrev pub view : ℕ → ℕ → Option Found → View
 view seq moment kept = view_of seq moment (moment + 2) kept
 
 -- a query over a view that keeps it

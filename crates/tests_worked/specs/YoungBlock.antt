@@ -1,6 +1,6 @@
 -- A block is not shown before it has been in the bucket for the consistency delay, which is half an hour. In the first phase a
 -- sync, an upload and a query stand, in the second one a sync and a query.
-use Rattle.std.specs.Prelude.{◌≤◌, ℕ, pos, All, Contains, List, [], ◌∷◌, ◌++◌, codes, None}
+use Rattle.std.specs.Prelude.{◌≤◌, ℕ, pos, All, Contains, List, [], ◌∷◌, ◌++◌, codes, None, Some}
 use Rattle.std.specs.List.{join_with_byte}
 use Rattle.moment_core.specs.StandardRules.{standard_rules}
 use Rattle.world_core.specs.declared.entry.Entry.{Entry}
@@ -93,10 +93,10 @@ abbrev pub journal : List Entry
 journal = clock 1 0 ∷ first_journal ++ clock 7 1_800_000 ∷ second_journal
 
 abbrev pub early : Use
-early = record { view = runs.view_of 2 1 1 []; last = 2 }
+early = record { view = runs.view_of 2 1 1 None; last = 2 }
 
 abbrev pub late : Use
-late = record { view = runs.view 8 1_800_001 (runs.seen 1_800_001 ∷ []); last = 10 }
+late = record { view = runs.view 8 1_800_001 (Some (runs.seen 1_800_001)); last = 10 }
 
 abbrev pub ends : List (List (List End))
 ends = ends_by early late
@@ -113,10 +113,10 @@ abbrev pub journal_turned : List Entry
 journal_turned = clock 1 0 ∷ first_journal_turned ++ clock 9 1_800_000 ∷ second_journal_turned
 
 abbrev pub early_turned : Use
-early_turned = record { view = runs.view 6 5 []; last = 8 }
+early_turned = record { view = runs.view 6 5 None; last = 8 }
 
 abbrev pub late_turned : Use
-late_turned = record { view = runs.view 10 1_800_001 (runs.seen 1_800_001 ∷ []); last = 12 }
+late_turned = record { view = runs.view 10 1_800_001 (Some (runs.seen 1_800_001)); last = 12 }
 
 abbrev pub ends_turned : List (List (List End))
 ends_turned = ends_by early_turned late_turned

@@ -5,7 +5,7 @@ use Rattle.sync_filters.specs.Filters.{Splits}
 use Rattle.sync_filters.specs.declared.found.Found.{Found}
 use Rattle.meta_fetcher.specs.Sightings.{passed_by, kept_by, covered_by}
 use Rattle.meta_fetcher.proofs.Ascending.{passed_ascend, kept_ascend, covered_ascend}
-use Rattle.meta_fetcher.proofs.SplitBlocks.{split_kept, split_covered}
+use Rattle.meta_fetcher.proofs.SplitBlocks.{leave_rises, split_kept, split_covered, stay_rises}
 use Rattle.meta_fetcher.proofs.sync.Sync.take_view.Goals as goal
 
 pub returns : goal.returns
@@ -30,3 +30,9 @@ returns c = λ up.
       kept_ascend = subst (λ (l : List Found). IsStrictlyIncreasing (map (λ block. block.ulid) l)) (sym kept) (kept_ascend c.args.self.now.rules c.args.self.now.found.items up);
       covered_ascend = subst (λ (l : List Found). IsStrictlyIncreasing (map (λ block. block.ulid) l)) (sym covered) (covered_ascend c.args.self.now.rules c.args.self.now.found.items up);
     }
+
+pub invariant_of-result : goal.invariant_of-result
+invariant_of-result c = record {
+  kept_rise = stay_rises c.passed_blocks.result c.in_ok-kept.kept c.in_ok-kept.covered c.in_ok-kept.ensures;
+  covered_rise = leave_rises c.passed_blocks.result c.in_ok-kept.kept c.in_ok-kept.covered c.in_ok-kept.ensures;
+}
