@@ -91,7 +91,8 @@ pub record IsSyncIn (setting : Setting) (journal : List Entry) (gateway : ℕ) (
   pub seat : ℕ
   pub sits : IsSeatOf setting gateway seat
   pub sync : IsSyncBy (sync_rules setting gateway) journal seat entries end
-  -- no sync that began earlier reaches into it
+  -- No sync that began earlier reaches into it. A bucket that lists an empty name can so hide a sync: the page after that name asks
+  -- what a first page asks, and may read as the beginning of the sync that follows. But that bucket lied, at an earlier entry.
   pub alone : (others : List Entry) (own : Option SyncEnd)
       → (other : IsSyncBy (sync_rules setting gateway) journal seat others own)
       → length other.before < length sync.before → length other.before + length others ≤ length sync.before

@@ -37,7 +37,7 @@ serves (hands.Upload place) (Some gateway) tasks = false
 serves (hands.Gateway place) None tasks = false
 serves (hands.Gateway place) (Some gateway) tasks = gateway == place
 
--- the seat of the worker who does it
+-- the seat of the worker who does it; where none does, 0, which is nobody's, and each duty of a phase has its worker
 unfoldable pub seat_of : List Worker → Hand → ℕ
 seat_of [] hand = 0
 seat_of (worker ∷ workers) hand =

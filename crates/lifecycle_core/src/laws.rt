@@ -17,7 +17,6 @@ ghost use Rattle.block_keys.specs.declared.key.Key.{Key};
 ghost use Rattle.block_keys.specs.declared.key.Key.TheVariants.{Index, Segment};
 ghost use Rattle.block_keys.specs.declared.object.Object.{Object};
 ghost use Rattle.sync_filters.specs.declared.found.Found.{Found};
-ghost use Rattle.world_core.specs.declared.op.Op.TheVariants.{Get};
 ghost use Rattle.world_core.specs.declared.reply.Reply.TheVariants.{Absent};
 ghost use Rattle.store_gateway.specs.SeriesRuns.{Query as Question, SeriesRun, asking};
 ghost use Rattle.store_gateway.specs.declared.series_end.SeriesEnd.{SeriesEnd};
@@ -28,7 +27,7 @@ ghost use Rattle.script_core.specs.Lawful.{IsLawfulScript};
 ghost use Rattle.script_core.specs.Workers.{workers_of};
 ghost use Rattle.lifecycle_core.specs.Acting.{IsActing};
 ghost use Rattle.lifecycle_core.specs.Cuts.{IsCutBehind};
-ghost use Rattle.lifecycle_core.specs.Breaches.{IsBreach, IsCallRead, IsLie, IsSeatOf, IsSyncIn, IsUnbroken, IsViewAt, Rule, watched_call};
+ghost use Rattle.lifecycle_core.specs.Breaches.{IsBreach, IsCallRead, IsLie, IsSeatOf, IsSyncIn, IsUnbroken, IsViewAt, Rule, read_key, watched_call};
 ghost use Rattle.lifecycle_core.specs.Causes.{AreFound, AreMissesExplained, AreWell, IsExplained, IsExplainedUnder};
 ghost use Rattle.lifecycle_core.specs.Completed.{IsSettled};
 ghost use Rattle.lifecycle_core.specs.Conducts.{CameTo};
@@ -88,15 +87,15 @@ pub fn calls_are_worth_it()
         used (asking selector setting.script.rules.replicas low high) end }
 {}
 
-/// A law: whoever reads the index or the segment of a block that a view keeps, after the sync that gave the view, and finds nothing,
-/// the journal shows why. It need not be a call's read.
+/// A law: whoever reads the index or the first segment of a block that a view keeps, or a range of one, after the sync that gave the
+/// view, and finds nothing, the journal shows why. It need not be a call's read.
 pub fn reads_of_kept_blocks_are_explained()
     ensures { (setting : Setting) (journal : List Entry) (gateway : ℕ) (used : Use)
         (sync : List Entry) (found : Found) (e : Entry) (key : Key)
         → IsLawfulScript setting.script → IsActing setting journal
         → IsViewOf (sync_rules setting gateway) journal used sync
         → Contains used.view.kept found → Contains journal e → used.last < e.seq
-        → e.op ≡ Get key → (key ≡ Index found.ulid) ⊎ (key ≡ Segment found.ulid 1)
+        → read_key e.op ≡ Some key → (key ≡ Index found.ulid) ⊎ (key ≡ Segment found.ulid 1)
         → e.reply ≡ Absent
         → IsExplainedUnder setting (watched_call used sync (e ∷ [])) journal e.seq }
 {}
@@ -115,7 +114,7 @@ pub fn calls_miss_nothing_while_nothing_deletes()
         → IsLawfulScript setting.script → IsActing setting journal
         → IsViewOf (sync_rules setting gateway) journal used sync → IsHonest journal
         → Contains used.view.kept found → Contains journal e → used.last < e.seq
-        → e.op ≡ Get key → (key ≡ Index found.ulid) ⊎ (key ≡ Segment found.ulid 1)
+        → read_key e.op ≡ Some key → (key ≡ Index found.ulid) ⊎ (key ≡ Segment found.ulid 1)
         → e.reply ≢ Absent }
     ensures covered { (setting : Setting) (journal : List Entry) (gateway : ℕ) (used : Use)
         (sync entries : List Entry) (selector : List Matcher) (low high : ℤ)

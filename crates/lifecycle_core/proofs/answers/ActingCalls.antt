@@ -9,7 +9,6 @@ use Rattle.label_sets.specs.declared.series.Series.{Series}
 use Rattle.matchers.specs.declared.matcher.Matcher.{Matcher}
 use Rattle.block_keys.specs.declared.key.Key.{Key}
 use Rattle.world_core.specs.Standing.{IsHonest}
-use Rattle.world_core.specs.declared.op.Op.TheVariants as op
 use Rattle.world_core.specs.declared.reply.Reply.TheVariants as reply
 use Rattle.world_core.specs.declared.entry.Entry.{Entry}
 use Rattle.sync_filters.specs.declared.found.Found.{Found}
@@ -19,7 +18,7 @@ use Rattle.store_gateway.specs.declared.series_end.SeriesEnd.{SeriesEnd}
 use Rattle.store_gateway.specs.declared.series_end.SeriesEnd.TheVariants as called
 use Rattle.script_core.specs.Lawful.{IsLawfulScript}
 use Rattle.lifecycle_core.specs.Acting.{IsActing, acting, uploaders}
-use Rattle.lifecycle_core.specs.Breaches.{watched_call}
+use Rattle.lifecycle_core.specs.Breaches.{read_key, watched_call}
 use Rattle.lifecycle_core.specs.Causes.{IsExplainedUnder}
 use Rattle.lifecycle_core.specs.Completed.{IsSettled, IsUploadedBefore}
 use Rattle.lifecycle_core.specs.Conducts.{of_seat, working}
@@ -141,14 +140,14 @@ module _ (setting : Setting) (journal : List Entry) (lawful : IsLawfulScript set
           key_is = m.key_is;
           parts = at.2;
           is = m.is;
-          reads = m.reads;
+          reads = ap read_key m.reads;
           absent = m.absent;
           own = m.own;
           seen = seen_in at.0 at.1 m.entry m.ulid at.2 (All-contains (λ (e : Entry). used.last < e.seq) entries m.entry call.later among) m.holds;
         }
 
     -- so does any read of a kept block's index or segment that finds nothing
-    read_misses_at : (found : Found) (e : Entry) (k : Key) → Contains used.view.kept found → Contains journal e → used.last < e.seq → e.op ≡ op.Get k → PrecedesMeta found.ulid k → e.reply ≡ reply.Absent → MissesAt [] journal e.seq
+    read_misses_at : (found : Found) (e : Entry) (k : Key) → Contains used.view.kept found → Contains journal e → used.last < e.seq → read_key e.op ≡ Some k → PrecedesMeta found.ulid k → e.reply ≡ reply.Absent → MissesAt [] journal e.seq
     read_misses_at found e k inside among later reads own absent =
         let kept : All (λ (b : Found). IsSeen sync b.ulid) used.view.kept = (syncs (sync_rules setting gateway) [] sync (Some (fetched.View used.view)) gave.sync.run).sees used.view refl in
         let at = parted journal e among in
@@ -166,11 +165,11 @@ module _ (setting : Setting) (journal : List Entry) (lawful : IsLawfulScript set
           seen = seen_in at.0 at.1 e found.ulid at.2 later (All-contains (λ (b : Found). IsSeen sync b.ulid) used.view.kept found kept inside);
         }
 
-    pub read_is_explained : (found : Found) (e : Entry) (k : Key) → Contains used.view.kept found → Contains journal e → used.last < e.seq → e.op ≡ op.Get k → PrecedesMeta found.ulid k → e.reply ≡ reply.Absent → IsExplainedUnder setting (watched_call used sync (e ∷ [])) journal e.seq
+    pub read_is_explained : (found : Found) (e : Entry) (k : Key) → Contains used.view.kept found → Contains journal e → used.last < e.seq → read_key e.op ≡ Some k → PrecedesMeta found.ulid k → e.reply ≡ reply.Absent → IsExplainedUnder setting (watched_call used sync (e ∷ [])) journal e.seq
     read_is_explained found e k inside among later reads own absent =
         explained setting journal acts.kept.numbered (acting_in_order setting journal lawful acts) e.seq (read_misses_at found e k inside among later reads own absent) (watched_call used sync (e ∷ []))
 
-    pub read_finds : IsHonest journal → (found : Found) (e : Entry) (k : Key) → Contains used.view.kept found → Contains journal e → used.last < e.seq → e.op ≡ op.Get k → PrecedesMeta found.ulid k → e.reply ≢ reply.Absent
+    pub read_finds : IsHonest journal → (found : Found) (e : Entry) (k : Key) → Contains used.view.kept found → Contains journal e → used.last < e.seq → read_key e.op ≡ Some k → PrecedesMeta found.ulid k → e.reply ≢ reply.Absent
     read_finds honest found e k inside among later reads own absent =
         honest_finds setting journal acts.kept.numbered (acting_in_order setting journal lawful acts) e.seq (read_misses_at found e k inside among later reads own absent) (watched_call used sync (e ∷ [])) honest
 

@@ -2,7 +2,7 @@
 use Rattle.list_core.proofs.Membership.{contains_first, of_filter, of_map}
 use Rattle.ulid_core.proofs.UlidLaws.{length-text_of}
 use Rattle.std.proofs.Common.{◌≡◌, ◌≢◌, ◌⊎◌, inl, inr, ℕ, zero, suc, ◌+◌, ◌-◌, ◌≤◌, ◌==◌, Bool, true, false, cond, IsTrue, List, [], ◌∷◌, ◌++◌, map, length, get_or, codes, Contains, Option, Some, None, refl, sym, ◌∙◌, ap, subst, append_assoc, append-nil, arith}
-use Rattle.std.specs.Prelude.{slice_get}
+use Rattle.std.specs.Prelude.{option_map, slice_get}
 use Rattle.std.specs.List.{fold}
 use Rattle.std.specs.Str.{bytes_eq}
 use Rattle.std.proofs.lemmas.Bool.Decides.{nat_tests}
@@ -13,7 +13,7 @@ use Rattle.ulid_core.specs.UlidText.{text_of}
 use Rattle.block_keys.specs.KeyText.{key_text, name_of}
 use Rattle.block_keys.specs.declared.key.Key.{Key}
 use Rattle.block_keys.specs.declared.key.Key.TheVariants as key
-use Rattle.bucket_core.specs.Contents.{Contents, nothing, with_object, without_object}
+use Rattle.bucket_core.specs.Contents.{Contents, nothing, range_of, with_object, without_object}
 use Rattle.world_core.specs.Journals.{IsNumbered, entry_at}
 use Rattle.world_core.specs.Operations.{IsReplyTo}
 use Rattle.world_core.specs.Standing.{IsHonest, Tells, has_landed, left_by, stands}
@@ -300,17 +300,44 @@ entry_next entries n =
 pub the_entry : (journal front back : List Entry) (e : Entry) (number : ℕ) → journal ≡ front ++ e ∷ back → number ≡ length front + 1 → entry_at journal number ≡ Some e
 the_entry journal front back e number parts is = ap (entry_at journal) is ∙ entry_next journal (length front) ∙ ap (λ (es : List Entry). slice_get es (length front)) parts ∙ at_number front back e
 
-absent_is_lie : (front : List Entry) (e : Entry) (k : Key) (bytes : List ℕ) → e.op ≡ op.Get k → e.reply ≡ reply.Absent → stands front (key_text k) ≡ Some bytes → IsLie front e 65 70
-absent_is_lie front e k bytes reads absent stood = (
-  reply.Found bytes,
-  codes "A",
-  codes "F" ++ bytes,
-  subst (λ o. IsReplyTo o (reply.Found bytes)) (sym reads) tt,
-  subst (λ o. Tells (stands front) o (reply.Found bytes)) (sym reads) stood,
-  ap shown_by absent,
-  refl,
-  ([], codes "A", codes "F" ++ bytes, refl, refl, refl, refl, λ same. omega (arith, same)),
-)
+-- what a read shows of an object that stands, where it shows what stands
+abbrev OwesFound : Contents → Op → Type 0
+OwesFound contents o = (own : List ℕ) × IsReplyTo o (reply.Found own) × Tells contents o (reply.Found own)
+
+read_owes : (contents : Contents) (o : Op) (k : Key) (bytes : List ℕ) → read_key o ≡ Some k → contents (key_text k) ≡ Some bytes → OwesFound contents o
+read_owes contents (op.Get other) k bytes reads stood =
+    let same : other ≡ k = cc (reads) in (bytes, tt, ap (λ (x : Key). contents (key_text x)) same ∙ stood)
+read_owes contents (op.GetRange other from len) k bytes reads stood =
+    let same : other ≡ k = cc (reads) in
+    (range_of from len bytes, tt, ap (λ (x : Key). option_map (range_of from len) (contents (key_text x))) same ∙ ap (option_map (range_of from len)) stood)
+read_owes contents (op.Clock moment) k bytes reads stood = absurd (cc (reads))
+read_owes contents (op.Put other new) k bytes reads stood = absurd (cc (reads))
+read_owes contents (op.Delete other) k bytes reads stood = absurd (cc (reads))
+read_owes contents (op.RootPage after limit) k bytes reads stood = absurd (cc (reads))
+read_owes contents (op.BlockPage ulid after limit) k bytes reads stood = absurd (cc (reads))
+
+-- where a read that tells finds nothing, nothing stands
+read_tells : (contents : Contents) (o : Op) (k : Key) → read_key o ≡ Some k → Tells contents o reply.Absent → contents (key_text k) ≡ None
+read_tells contents (op.Get other) k reads none = let same : other ≡ k = cc (reads) in ap (λ (x : Key). contents (key_text x)) (sym same) ∙ none
+read_tells contents (op.GetRange other from len) k reads none = let same : other ≡ k = cc (reads) in ap (λ (x : Key). contents (key_text x)) (sym same) ∙ none
+read_tells contents (op.Clock moment) k reads none = absurd (cc (reads))
+read_tells contents (op.Put other new) k reads none = absurd (cc (reads))
+read_tells contents (op.Delete other) k reads none = absurd (cc (reads))
+read_tells contents (op.RootPage after limit) k reads none = absurd (cc (reads))
+read_tells contents (op.BlockPage ulid after limit) k reads none = absurd (cc (reads))
+
+absent_is_lie : (front : List Entry) (e : Entry) (k : Key) (bytes : List ℕ) → read_key e.op ≡ Some k → e.reply ≡ reply.Absent → stands front (key_text k) ≡ Some bytes → IsLie front e 65 70
+absent_is_lie front e k bytes reads absent stood =
+    let owed = read_owes (stands front) e.op k bytes reads stood in (
+      reply.Found owed.0,
+      codes "A",
+      codes "F" ++ owed.0,
+      owed.1,
+      owed.2,
+      ap shown_by absent,
+      refl,
+      ([], codes "A", codes "F" ++ owed.0, refl, refl, refl, refl, λ same. omega (arith, same)),
+    )
 
 found_is_lie : (front : List Entry) (e : Entry) (k : Key) (bytes : List ℕ) → e.op ≡ op.Get k → e.reply ≡ reply.Found bytes → stands front (key_text k) ≡ None → IsLie front e 70 65
 found_is_lie front e k bytes reads found stood = (
@@ -340,7 +367,7 @@ module _ (setting : Setting) (journal : List Entry) (numbered : IsNumbered journ
     missed = m.entry;
     key = m.key_is;
     at = the_entry journal m.front m.back m.entry number m.parts (sym m.is ∙ numbered m.front m.back m.entry m.parts);
-    reads = ap read_key m.reads;
+    reads = m.reads;
     absent = m.absent;
     rule = honesty;
     before = front;
@@ -399,8 +426,8 @@ module _ (setting : Setting) (journal : List Entry) (numbered : IsNumbered journ
       let found : Tells (stands at.0) (op.Get (key.Meta m.ulid)) (reply.Found (s.2).0) =
       subst (λ o. Tells (stands at.0) o (reply.Found (s.2).0)) (s.2).1 (subst (λ r. Tells (stands at.0) (s.0).op r) (s.2).2 (honest at.0 (at.1 ++ m.entry ∷ m.back) s.0 here)) in
       let own = object_stands at.0 at.1 s.0 (s.2).0 at.2 found in
-      let lost : Tells (stands m.front) (op.Get m.key_is) reply.Absent =
-      subst (λ o. Tells (stands m.front) o reply.Absent) m.reads (subst (λ r. Tells (stands m.front) (m.entry).op r) m.absent (honest m.front m.back m.entry m.parts)) in
+      let lost : stands m.front (key_text m.key_is) ≡ None =
+      read_tells (stands m.front) (m.entry).op m.key_is m.reads (subst (λ r. Tells (stands m.front) (m.entry).op r) m.absent (honest m.front m.back m.entry m.parts)) in
       cc (lost, own.1)
 
 no_view_yet : (gateway : Option ℕ) → ViewSeen [] (holding_of none_held gateway)

@@ -11,7 +11,6 @@ use Rattle.block_meta.specs.MetaValue.{meta_text}
 use Rattle.block_files.specs.Built.{built_meta, objects_of, segment_objects, segment_text, segments_of}
 use Rattle.block_files.specs.PlainForm.{plain_index}
 use Rattle.world_core.specs.declared.entry.Entry.{Entry}
-use Rattle.world_core.specs.declared.op.Op.TheVariants as op
 use Rattle.world_core.specs.declared.reply.Reply.TheVariants as reply
 use Rattle.world_core.specs.Plans.{Runs}
 use Rattle.shipper.specs.Uploads.{upload}
@@ -30,6 +29,7 @@ use Rattle.script_core.specs.declared.body.Body.TheVariants.{Inline}
 use Rattle.script_workers.specs.declared.work.Work.{Work}
 use Rattle.script_workers.specs.declared.work.Work.TheVariants.{Upload, Sync, Query}
 use Rattle.lifecycle_core.specs.Conducts.{Assigned, Conduct, TasksRun, Who}
+use Rattle.lifecycle_core.specs.Breaches.{read_key}
 use Rattle.lifecycle_core.specs.Holdings.{Holding, Use}
 use Rattle.lifecycle_core.specs.Phases.{by_script}
 use Rattle.lifecycle_core.specs.Setting.{Setting}
@@ -114,7 +114,7 @@ pub record MissesAt (before entries : List Entry) (number : ℕ) : Type 0 where
   pub key_is : Key
   pub parts : entries ≡ front ++ entry ∷ back
   pub is : entry.seq ≡ number
-  pub reads : entry.op ≡ op.Get key_is
+  pub reads : read_key entry.op ≡ Some key_is
   pub absent : entry.reply ≡ reply.Absent
   pub own : PrecedesMeta ulid key_is
   pub seen : IsSeen (before ++ front) ulid
@@ -143,7 +143,7 @@ query_misses before made (Some own) (Some q) used number seen (None, run, is) = 
 query_misses before made (Some own) (Some q) used number seen (Some ended, run, is) =
     let e : called.Missing number ≡ ended = cc (is) in
     let m = (calls (IsSeen before) own.view q made (Some ended) (seen own refl) run).misses number (ap (λ x. Some x) (sym e)) in
-    record { front = m.front; back = []; entry = m.entry; ulid = m.ulid; key_is = m.key_is; parts = m.last; is = m.is; reads = m.reads; absent = m.absent; own = m.own; seen = seen_left before m.front m.ulid m.holds }
+    record { front = m.front; back = []; entry = m.entry; ulid = m.ulid; key_is = m.key_is; parts = m.last; is = m.is; reads = ap read_key m.reads; absent = m.absent; own = m.own; seen = seen_left before m.front m.ulid m.holds }
 
 no_upload_misses : (used : Use) (number : ℕ) (own : Option UploadEnd) → Some (answered used (called.Missing number)) ≡ option_map uploaded own → ⊥
 no_upload_misses used number None is = cc (is)
