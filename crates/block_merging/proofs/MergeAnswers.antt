@@ -87,7 +87,7 @@ put_of plan replicas inputs given sorted writer held h is has = record {
 
 -- ---- answers
 
-pub record IsAnswer (plan : BlockPlan) (replicas : List (List ℕ)) (inputs : List BlockFiles) (r : Result BlockFiles MergeRefusal) : Type 0 where
+pub record IsMergeAnswer (plan : BlockPlan) (replicas : List (List ℕ)) (inputs : List BlockFiles) (r : Result BlockFiles MergeRefusal) : Type 0 where
   pub merged : IfOk r (IsMergeOf plan replicas inputs)
   pub refused : (number : ℕ) (cause : CheckRefusal) → r ≡ Err (Input number cause) → (place : ℕ) × IsFirstRefused inputs place cause × (number ≡ fitted place)
   pub refuses : (place : ℕ) (cause : CheckRefusal) → IsFirstRefused inputs place cause → (r ≡ Err (Input (fitted place) cause)) ⊎ (r ≡ Err NoMemory)
@@ -105,7 +105,7 @@ module _ (plan : BlockPlan) (replicas : List (List ℕ)) (inputs : List BlockFil
   err_of {X} e f h = cc
 
   -- a block was refused
-  pub test_stopped : {X : Type 0} (r : Result BlockFiles MergeRefusal) (e : MergeRefusal) → IsErrAnd r (λ x. x ≡ e) → FirstTold inputs e → (AllByRecursion HasContent inputs → e ≡ NoMemory) → FirstDecides {X = X} inputs (Err e) → IsAnswer plan replicas inputs r
+  pub test_stopped : {X : Type 0} (r : Result BlockFiles MergeRefusal) (e : MergeRefusal) → IsErrAnd r (λ x. x ≡ e) → FirstTold inputs e → (AllByRecursion HasContent inputs → e ≡ NoMemory) → FirstDecides {X = X} inputs (Err e) → IsMergeAnswer plan replicas inputs r
   test_stopped {X} (Ok b) e is told only decides = absurd is
   test_stopped {X} (Err f) e is told only decides = record {
     merged = tt;
@@ -125,7 +125,7 @@ module _ (plan : BlockPlan) (replicas : List (List ℕ)) (inputs : List BlockFil
   }
 
   -- memory ran out
-  pub memory_stopped : (r : Result BlockFiles MergeRefusal) → IsErrAnd r (λ x. x ≡ NoMemory) → IsAnswer plan replicas inputs r
+  pub memory_stopped : (r : Result BlockFiles MergeRefusal) → IsErrAnd r (λ x. x ≡ NoMemory) → IsMergeAnswer plan replicas inputs r
   memory_stopped (Ok b) is = absurd is
   memory_stopped (Err f) is = record {
     merged = tt;
@@ -140,7 +140,7 @@ module _ (plan : BlockPlan) (replicas : List (List ℕ)) (inputs : List BlockFil
 
   pub merge_ended : {X : Type 0} (r : Result BlockFiles MergeRefusal) (x : X) (given sorted : List InputSeries) (writer : Put) → AllByRecursion (LiesWithin plan) inputs → FirstDecides inputs (Ok x) → AllByRecursion HasContent inputs → HasInputs plan.labels replicas inputs given
       → sorted ≡ in_order have_lesser_labels given → HasAll (plan_fields plan) (map series_of sorted) writer → IfOk r (IsWritten writer) → IfErr r (λ refusal. (refusal ≡ NoMemory) ⊎ ((refusal ≡ TooLarge) × HaveNoIndex writer.series))
-      → (HaveNoIndex writer.series → (r ≡ Err TooLarge) ⊎ (r ≡ Err NoMemory)) → IsAnswer plan replicas inputs r
+      → (HaveNoIndex writer.series → (r ≡ Err TooLarge) ⊎ (r ≡ Err NoMemory)) → IsMergeAnswer plan replicas inputs r
   merge_ended {X} (Ok block) x given sorted writer lie decides held h is has written refused large = record {
     merged = record { put = writer; put_is = put_of plan replicas inputs given sorted writer held h is has; block_is = written };
     refused = λ number cause told. absurd cc;

@@ -11,7 +11,7 @@ use Rattle.label_sets.specs.declared.series.Series.{Series}
 use Rattle.label_sets.specs.Finals.{final_of}
 use Rattle.label_sets.specs.Triples.{Triple, triples_under, triples_of}
 use Rattle.label_sets.proofs.LabelValues.{by_bool}
-use Rattle.matchers.specs.Selected.{is_within}
+use Rattle.matchers.specs.Selected.{is_between}
 use Rattle.index_parts.specs.declared.chunk_place.ChunkPlace.{ChunkPlace}
 use Rattle.index_file.specs.declared.index_series.IndexSeries.{IndexSeries}
 use Rattle.block_ranges.specs.Reads.{Query, Block}
@@ -40,19 +40,19 @@ met_more f p xs i d before after within was is =
 abbrev triple_of : List Label → Sample → Triple
 triple_of labels s = record { labels = labels; time = s.time; pattern = s.pattern }
 
-under : (low high : ℤ) (labels : List Label) (samples : List Sample) → triples_under labels (filter (λ s. is_within low high s.time) samples) ≡ filter (λ t. is_within low high t.time) (triples_under labels samples)
+under : (low high : ℤ) (labels : List Label) (samples : List Sample) → triples_under labels (filter (λ s. is_between low high s.time) samples) ≡ filter (λ t. is_between low high t.time) (triples_under labels samples)
 unfolding triples_under
 under low high labels [] = refl
-under low high labels (s ∷ ss) = by_bool (is_within low high s.time)
-    (λ t. ap (triples_under labels) (filter_hit (λ (x : Sample). is_within low high x.time) s ss t)
+under low high labels (s ∷ ss) = by_bool (is_between low high s.time)
+    (λ t. ap (triples_under labels) (filter_hit (λ (x : Sample). is_between low high x.time) s ss t)
     ∙ ap (λ (ts : List Triple). triple_of labels s ∷ ts) (under low high labels ss)
-    ∙ sym (filter_hit (λ (x : Triple). is_within low high x.time) (triple_of labels s) (triples_under labels ss) t))
-    (λ f. ap (triples_under labels) (filter_miss (λ (x : Sample). is_within low high x.time) s ss f)
+    ∙ sym (filter_hit (λ (x : Triple). is_between low high x.time) (triple_of labels s) (triples_under labels ss) t))
+    (λ f. ap (triples_under labels) (filter_miss (λ (x : Sample). is_between low high x.time) s ss f)
     ∙ under low high labels ss
-    ∙ sym (filter_miss (λ (x : Triple). is_within low high x.time) (triple_of labels s) (triples_under labels ss) f))
+    ∙ sym (filter_miss (λ (x : Triple). is_between low high x.time) (triple_of labels s) (triples_under labels ss) f))
 
 pub shown_is : (query : Query) (block : Block) (found : List Read) (series : IndexSeries) (labels : List Label) (samples : List Sample) → labels ≡ final_of series.labels block.external query.replicas
-    → samples ≡ filter (λ s. is_within query.low query.high s.time) (flat_map (samples_of found) (taken query series)) → triples_under labels samples ≡ shown query block found series
+    → samples ≡ filter (λ s. is_between query.low query.high s.time) (flat_map (samples_of found) (taken query series)) → triples_under labels samples ≡ shown query block found series
 unfolding shown
 shown_is query block found series labels samples is are =
     ap₂ triples_under is are ∙ under query.low query.high (final_of series.labels block.external query.replicas) (flat_map (samples_of found) (taken query series))

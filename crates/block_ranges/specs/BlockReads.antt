@@ -4,7 +4,7 @@ use Rattle.std.specs.List.{filter, flat_map}
 use Rattle.label_sets.specs.declared.sample.Sample.{Sample}
 use Rattle.label_sets.specs.Finals.{final_of}
 use Rattle.label_sets.specs.Triples.{Triple, triples_under}
-use Rattle.matchers.specs.Selected.{is_within}
+use Rattle.matchers.specs.Selected.{is_between}
 use Rattle.world_core.specs.Plans.{Plan, ends}
 use Rattle.index_parts.specs.declared.chunk_place.ChunkPlace.{ChunkPlace}
 use Rattle.index_parts.specs.SeriesEntry.{reference_of}
@@ -27,7 +27,7 @@ samples_of found place = unwrap_or (option_map (λ one. one.samples) (find (λ o
 -- the samples of a series in the range, under its final labels
 unfoldable pub shown : Query → Block → List Read → IndexSeries → List Triple
 shown query block found series =
-    filter (λ t. is_within query.low query.high t.time)
+    filter (λ t. is_between query.low query.high t.time)
     (triples_under (final_of series.labels block.external query.replicas) (flat_map (samples_of found) (taken query series)))
 
 -- ---- the reads

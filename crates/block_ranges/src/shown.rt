@@ -4,7 +4,7 @@ ghost use Rattle.std.specs.Option.{option_copied};
 ghost use Rattle.std.specs.List.{filter, flat_map};
 ghost use Rattle.std.specs.List.Sorted.{IsStrictlyIncreasing};
 ghost use Rattle.label_sets.specs.Triples.{triples_under, triples_of};
-ghost use Rattle.matchers.specs.Selected.{is_within};
+ghost use Rattle.matchers.specs.Selected.{is_between};
 ghost use Rattle.block_ranges.specs.ChunkRanges.{meets};
 ghost use Rattle.block_ranges.specs.BlockReads.{samples_of, shown, taken};
 ghost use Rattle.block_ranges.specs.Asking.{query_asked, block_asked};
@@ -73,7 +73,7 @@ fn samples_within(
 ) -> Result<SampleList, NoMemory>
     ensures { IsStrictlyIncreasing (references_in found.now)
         → IfOk result (λ samples. samples
-        ≡ filter (λ s. is_within asked.now.low asked.now.high s.time)
+        ≡ filter (λ s. is_between asked.now.low asked.now.high s.time)
         (flat_map (samples_of (reads_of found.now))
         (filter (meets asked.now.low asked.now.high) chunks.now))) }
 {

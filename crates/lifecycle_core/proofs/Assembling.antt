@@ -7,7 +7,7 @@ use Rattle.std.proofs.lemmas.List.Elements.{All-contains, All-contains_itself, A
 use Rattle.std.proofs.lemmas.List.Sums.{length-filter}
 use Rattle.label_sets.specs.Triples.{Triple}
 use Rattle.label_sets.specs.declared.series.Series.{Series}
-use Rattle.matchers.specs.Selected.{IsAnswer}
+use Rattle.matchers.specs.Selected.{IsQueryAnswer}
 use Rattle.matchers.specs.declared.matcher.Matcher.{Matcher}
 use Rattle.world_core.specs.Journals.{IsNumbered, entry_at}
 use Rattle.world_core.specs.Operations.{has_failed}
@@ -246,8 +246,8 @@ module _ (setting : Setting) (journal : List Entry) (ends : List (List (List End
 
       part_exact : IsDeduplication (triples_of series) (asked_of setting query.selector named)
       part_exact =
-          subst (λ (z : ℤ). IsAnswer query.selector z named.high (triples_of series) (held setting named.sources)) (sym part.from)
-          (subst (λ (z : ℤ). IsAnswer query.selector given.low z (triples_of series) (held setting named.sources)) (sym part.upto)
+          subst (λ (z : ℤ). IsQueryAnswer query.selector z named.high (triples_of series) (held setting named.sources)) (sym part.from)
+          (subst (λ (z : ℤ). IsQueryAnswer query.selector given.low z (triples_of series) (held setting named.sources)) (sym part.upto)
           (answer_is_exact setting journal made.entries named.used.view query.selector given.low given.high series named.sources lawful readable told made.part view.kept the_call.run))
 
       named_by : (ulid : ℕ) → Contains named.sources ulid ↔ ((found : Found) × Contains named.used.view.kept found × (found.ulid ≡ ulid))

@@ -19,7 +19,7 @@ use Rattle.lifecycle_core.specs.Phases.{IsInTurn, IsRunOf}
 use Rattle.lifecycle_core.specs.Tasks.{End, answered, sync_rules}
 use Rattle.lifecycle_core.specs.TimeRules.{IsUploadedInTime, IsSyncedInTime}
 use Rattle.label_sets.specs.Triples.{Triple}
-use Rattle.matchers.specs.Selected.{IsAnswer, selected}
+use Rattle.matchers.specs.Selected.{IsQueryAnswer, selected}
 use Rattle.meta_fetcher.specs.declared.rules.SyncRules.{SyncRules}
 use Rattle.vertical_merge.specs.Merged.{IsDeduplication, IsMerge}
 use Rattle.script_workers.specs.Hands.{gateway_count}
@@ -120,7 +120,7 @@ pub record IsSoundCall (setting : Setting) (watch : Watch) (journal : List Entry
   pub found : (number : ℕ) → end ≡ Some (ended.Missing number) → IsExplainedUnder setting watch journal number
   pub undamaged : (number : ℕ) → end ≢ Some (ended.Damaged number)
   pub exact : (series : List Series) (sources : List ℕ) → end ≡ Some (ended.Answer series sources)
-      → IsAnswer question.selector question.low question.high (triples_of series) (held setting sources)
+      → IsQueryAnswer question.selector question.low question.high (triples_of series) (held setting sources)
   pub named : (series : List Series) (sources : List ℕ) → end ≡ Some (ended.Answer series sources)
       → All (λ ulid. IsUploadedBefore setting journal ulid used.last) sources
   pub covered : ((ulid : ℕ) → IsUploadedInTime setting.script.rules ulid journal)

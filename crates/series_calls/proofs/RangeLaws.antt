@@ -6,7 +6,7 @@ use Rattle.std.proofs.lemmas.List.Elements.{All-append, All-contains, All-nil, A
 use Rattle.label_sets.specs.declared.series.Series.{Series}
 use Rattle.label_sets.specs.Finals.{final_of}
 use Rattle.label_sets.specs.Triples.{Triple, has_same_key, triples_of, triples_under}
-use Rattle.matchers.specs.Selected.{is_within}
+use Rattle.matchers.specs.Selected.{is_between}
 use Rattle.vertical_merge.specs.Merged.{IsMerge}
 use Rattle.world_core.specs.Plans.{Runs, ends}
 use Rattle.world_core.specs.declared.entry.Entry.{Entry}
@@ -23,7 +23,7 @@ use Rattle.series_calls.proofs.BlockWalk.{block_holds}
 use Rattle.series_calls.proofs.OneMerge.{found_contains}
 
 abbrev IsIn : Query → Triple → Type 0
-IsIn query t = is_within query.low query.high t.time ≡ true
+IsIn query t = is_between query.low query.high t.time ≡ true
 
 abbrev AreIn : Query → List Triple → Type 0
 AreIn query triples = All (IsIn query) triples
@@ -33,7 +33,7 @@ AreIn query triples = All (IsIn query) triples
 shown_in : (query : Query) (block : Block) (found : List Read) (series : IndexSeries) → AreIn query (shown query block found series)
 unfolding shown
 shown_in query block found series =
-    filter_passes (λ t. is_within query.low query.high t.time)
+    filter_passes (λ t. is_between query.low query.high t.time)
     (triples_under (final_of series.labels block.external query.replicas) (flat_map (samples_of found) (taken query series)))
 
 all_in : (query : Query) (block : Block) (found : List Read) (series : List IndexSeries) → AreIn query (flat_map (shown query block found) series)

@@ -4,7 +4,7 @@ ghost use Rattle.label_sets.specs.declared.series.Series.{Series};
 ghost use Rattle.std.specs.List.Sorted.{IsStrictlyIncreasing};
 ghost use Rattle.world_core.specs.declared.entry.Entry.{Entry};
 ghost use Rattle.meta_fetcher.specs.declared.view.View.{View};
-ghost use Rattle.matchers.specs.Selected.{is_within};
+ghost use Rattle.matchers.specs.Selected.{is_between};
 ghost use Rattle.vertical_merge.specs.Merged.{IsMerge};
 ghost use Rattle.block_ranges.specs.Reads.{Query, Cache};
 ghost use Rattle.series_calls.specs.SeriesCalls.{CallEnd, SeriesRun, to_read};
@@ -57,5 +57,5 @@ pub fn answers_lie_in_the_range()
         (series : List Series) (sources : List ℕ)
         → SeriesRun view query before entries
         (Some (record { end = ended.Answer series sources; cache = after }))
-        → All (λ t. is_within query.low query.high t.time ≡ true) (triples_of series) }
+        → All (λ t. is_between query.low query.high t.time ≡ true) (triples_of series) }
 {}

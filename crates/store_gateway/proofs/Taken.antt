@@ -13,7 +13,7 @@ use Rattle.label_sets.proofs.LabelValues.{by_bool}
 use Rattle.label_sets.proofs.StableSorts.{filter_hit, filter_miss}
 use Rattle.matchers.specs.declared.matcher.Matcher.{Matcher}
 use Rattle.matchers.specs.Selectors.{is_match}
-use Rattle.matchers.specs.Selected.{is_within, is_selected, selected}
+use Rattle.matchers.specs.Selected.{is_between, is_selected, selected}
 use Rattle.store_gateway.specs.SeriesRuns.{Query, seen_under, wanted}
 
 wanted-append : (query : Query) (external : List Label) (xs ys : List Series) → wanted query external (xs ++ ys) ≡ wanted query external xs ++ wanted query external ys
@@ -47,18 +47,18 @@ and_false true b e = absurd cc
 
 -- under labels that the selector accepts, the samples of the range
 kept_under : (query : Query) (labels : List Label) (samples : List Sample) → is_match query.selector labels ≡ true
-    → filter (is_selected query.selector query.low query.high) (triples_under labels samples) ≡ triples_under labels (filter (λ s. is_within query.low query.high s.time) samples)
+    → filter (is_selected query.selector query.low query.high) (triples_under labels samples) ≡ triples_under labels (filter (λ s. is_between query.low query.high s.time) samples)
 unfolding triples_under is_selected
 kept_under query labels [] accepted = refl
-kept_under query labels (s ∷ ss) accepted = by_bool (is_within query.low query.high s.time)
+kept_under query labels (s ∷ ss) accepted = by_bool (is_between query.low query.high s.time)
     (λ t. filter_hit (is_selected query.selector query.low query.high) (triple_of labels s) (triples_under labels ss)
-    (and_true (is_match query.selector labels) (is_within query.low query.high s.time) accepted ∙ t)
+    (and_true (is_match query.selector labels) (is_between query.low query.high s.time) accepted ∙ t)
     ∙ ap (λ ts. triple_of labels s ∷ ts) (kept_under query labels ss accepted)
-    ∙ sym (ap (triples_under labels) (filter_hit (λ (x : Sample). is_within query.low query.high x.time) s ss t)))
+    ∙ sym (ap (triples_under labels) (filter_hit (λ (x : Sample). is_between query.low query.high x.time) s ss t)))
     (λ f. filter_miss (is_selected query.selector query.low query.high) (triple_of labels s) (triples_under labels ss)
-    (and_true (is_match query.selector labels) (is_within query.low query.high s.time) accepted ∙ f)
+    (and_true (is_match query.selector labels) (is_between query.low query.high s.time) accepted ∙ f)
     ∙ kept_under query labels ss accepted
-    ∙ sym (ap (triples_under labels) (filter_miss (λ (x : Sample). is_within query.low query.high x.time) s ss f)))
+    ∙ sym (ap (triples_under labels) (filter_miss (λ (x : Sample). is_between query.low query.high x.time) s ss f)))
 
 -- and under others none
 none_under : (query : Query) (labels : List Label) (samples : List Sample) → is_match query.selector labels ≡ false
@@ -67,11 +67,11 @@ unfolding triples_under is_selected
 none_under query labels [] refused = refl
 none_under query labels (s ∷ ss) refused =
     filter_miss (is_selected query.selector query.low query.high) (triple_of labels s) (triples_under labels ss)
-    (and_false (is_match query.selector labels) (is_within query.low query.high s.time) refused)
+    (and_false (is_match query.selector labels) (is_between query.low query.high s.time) refused)
     ∙ none_under query labels ss refused
 
 pub wanted_one : (query : Query) (external labels : List Label) (s : Series) (samples : List Sample) (before after : List Triple) → labels ≡ final_of s.labels external query.replicas
-    → is_match query.selector labels ≡ true → samples ≡ filter (λ x. is_within query.low query.high x.time) s.samples
+    → is_match query.selector labels ≡ true → samples ≡ filter (λ x. is_between query.low query.high x.time) s.samples
     → after ≡ before ++ triples_under labels samples → after ≡ before ++ wanted query external (s ∷ [])
 unfolding wanted seen_under selected
 wanted_one query external labels s samples before after final accepted within is =

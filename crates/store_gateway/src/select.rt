@@ -1,6 +1,6 @@
 ghost use Rattle.std.specs.Prelude.{◌≡◌, [], ◌∷◌, ◌++◌, IfOk, OnOk};
 ghost use Rattle.std.specs.List.{filter};
-ghost use Rattle.matchers.specs.Selected.{is_within};
+ghost use Rattle.matchers.specs.Selected.{is_between};
 ghost use Rattle.store_gateway.specs.SeriesRuns.{wanted, IsSetOf, sources_of, meets};
 ghost use Rattle.store_gateway.specs.Queries.{query_of};
 
@@ -59,7 +59,7 @@ fn add_series(
 
 /// The samples in the range.
 fn samples_between(samples: SampleList, asked: Wanted<'_>) -> SampleList
-    ensures { result ≡ filter (λ s. is_within asked.entry.low asked.entry.high s.time) samples }
+    ensures { result ≡ filter (λ s. is_between asked.entry.low asked.entry.high s.time) samples }
 {
     let mut samples = samples.into_vec();
     samples.retain(|sample| asked.low <= sample.time && sample.time <= asked.high);

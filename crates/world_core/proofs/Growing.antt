@@ -9,7 +9,7 @@ use Rattle.world_core.specs.Journals.{Each}
 use Rattle.world_core.specs.Moments.{moment_after, last_moment}
 use Rattle.world_core.specs.Keeping.{bytes_put, bytes_told, kept_bytes, IsFull}
 use Rattle.world_core.specs.Standing.{left_by, stands, Tells}
-use Rattle.world_core.specs.Worlds.{IsTrueOf, IsSound}
+use Rattle.world_core.specs.Worlds.{IsTrueOf, IsCountedWorld}
 use Rattle.world_core.specs.declared.op.Op.{Op}
 use Rattle.world_core.specs.declared.op.Op.TheVariants.{Clock, Put, Get, GetRange, Delete, RootPage, BlockPage}
 use Rattle.world_core.specs.declared.seen.Seen.{Seen}
@@ -80,13 +80,13 @@ still_true (Some c) new entries is_true left = rw left is_true
 
 module _ {B : Type 0} (contents : B → Option Contents) (faults : B → ℕ) (old_bucket new_bucket : B) (old new : List Entry) (tick last kept moment size : ℕ) (seat : ℕ) (op : Op) (seen : Seen) where
   -- a world after one more entry
-  pub sound_more : IsSound contents faults old_bucket old tick last kept → length old < 1048576 → IsLawful op → IsReplyTo op seen.reply → PutsBytes op → ShowsBytes seen.reply → seen.seq ≡ length old + 1 → seen.moment.ms ≡ moment → moment ≡ moment_after tick (last_moment old) op → moment < 2 ^ 48 → size ≡ min (min (kept + bytes_put op) 18446744073709551615 + min (bytes_told seen.reply) 18446744073709551615) 18446744073709551615 → faults old_bucket ≤ faults new_bucket → (IsTrue (has_failed seen.reply) → Rose (faults old_bucket) (faults new_bucket)) → IfSome (contents old_bucket) (λ c. Tells c op seen.reply) → contents new_bucket ≡ option_map (left_by op seen.reply) (contents old_bucket) → new ≡ old ++ entry_of seat op seen ∷ [] → IsSound contents faults new_bucket new tick moment size
+  pub sound_more : IsCountedWorld contents faults old_bucket old tick last kept → length old < 1048576 → IsLawful op → IsReplyTo op seen.reply → PutsBytes op → ShowsBytes seen.reply → seen.seq ≡ length old + 1 → seen.moment.ms ≡ moment → moment ≡ moment_after tick (last_moment old) op → moment < 2 ^ 48 → size ≡ min (min (kept + bytes_put op) 18446744073709551615 + min (bytes_told seen.reply) 18446744073709551615) 18446744073709551615 → faults old_bucket ≤ faults new_bucket → (IsTrue (has_failed seen.reply) → Rose (faults old_bucket) (faults new_bucket)) → IfSome (contents old_bucket) (λ c. Tells c op seen.reply) → contents new_bucket ≡ option_map (left_by op seen.reply) (contents old_bucket) → new ≡ old ++ entry_of seat op seen ∷ [] → IsCountedWorld contents faults new_bucket new tick moment size
   sound_more sound few lawful kind puts shows seq is_moment follows small is_size later cause told left added =
       let e = entry_of seat op seen in
       let longer = length-append old (e ∷ []) in
       let counted = sound.counted in
       let journal = sound.world.journal in
-      subst (λ entries. IsSound contents faults new_bucket entries tick moment size) (sym added)
+      subst (λ entries. IsCountedWorld contents faults new_bucket entries tick moment size) (sym added)
       (record {
         counted = record {
           short = counted.short;
@@ -110,9 +110,9 @@ module _ {B : Type 0} (contents : B → Option Contents) (faults : B → ℕ) (o
       })
 
 -- a world whose bucket alone went on
-pub sound_later : {B : Type 0} (contents : B → Option Contents) (faults : B → ℕ) (old_bucket new_bucket : B) (old new : List Entry) (tick last kept : ℕ) → IsSound contents faults old_bucket old tick last kept → faults old_bucket ≤ faults new_bucket → contents new_bucket ≡ option_map (λ c. c) (contents old_bucket) → new ≡ old → IsSound contents faults new_bucket new tick last kept
+pub sound_later : {B : Type 0} (contents : B → Option Contents) (faults : B → ℕ) (old_bucket new_bucket : B) (old new : List Entry) (tick last kept : ℕ) → IsCountedWorld contents faults old_bucket old tick last kept → faults old_bucket ≤ faults new_bucket → contents new_bucket ≡ option_map (λ c. c) (contents old_bucket) → new ≡ old → IsCountedWorld contents faults new_bucket new tick last kept
 sound_later contents faults old_bucket new_bucket old new tick last kept sound later left same =
-    subst (λ entries. IsSound contents faults new_bucket entries tick last kept) (sym same)
+    subst (λ entries. IsCountedWorld contents faults new_bucket entries tick last kept) (sym same)
     (record {
       counted = sound.counted;
       world = record {

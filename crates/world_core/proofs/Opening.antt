@@ -4,7 +4,7 @@ use Rattle.std.proofs.Math.Numerals.{one-add}
 use Rattle.std.specs.List.{before_first, slice_get}
 use Rattle.bucket_core.specs.Contents.{Contents, IsKey, nothing}
 use Rattle.bucket_core.specs.Pages.{Before, IsPage}
-use Rattle.world_core.specs.Worlds.{IsTrueOf, IsSound}
+use Rattle.world_core.specs.Worlds.{IsTrueOf, IsCountedWorld}
 use Rattle.world_core.specs.Standing.{stands, Tells}
 use Rattle.world_core.specs.Operations.{IsLawful, IsReplyTo, PutsBytes, ShowsBytes}
 use Rattle.world_core.specs.Moments.{moment_after, last_moment}
@@ -47,7 +47,7 @@ opened_true : (old new : Option Contents) → new ≡ old → IfSome old (λ c. 
 opened_true None new same empty = rw same tt
 opened_true (Some c) new same empty = rw same (record { honest = Each-none (λ before x. Tells (stands before) x.op x.reply); held = empty })
 
-pub opened_sound : {B : Type 0} (contents : B → Option Contents) (faults : B → ℕ) (old new : B) (journal : List Entry) (tick : ℕ) → journal ≡ [] → tick ≤ longest_tick → contents new ≡ contents old → IfSome (contents old) (λ c. c ≡ nothing) → IsSound contents faults new journal tick 0 0
+pub opened_sound : {B : Type 0} (contents : B → Option Contents) (faults : B → ℕ) (old new : B) (journal : List Entry) (tick : ℕ) → journal ≡ [] → tick ≤ longest_tick → contents new ≡ contents old → IfSome (contents old) (λ c. c ≡ nothing) → IsCountedWorld contents faults new journal tick 0 0
 opened_sound contents faults old new journal tick none short same empty =
     rw none (record {
       counted = record { short = short; latest = refl; bound = omega arith; size = omega arith };

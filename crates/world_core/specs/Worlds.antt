@@ -58,7 +58,7 @@ pub record IsCounted (tick : ℕ) (journal : List Entry) (last kept : ℕ) : Typ
   pub bound : last ≤ 2 ^ 47 + longest_tick * length journal
   pub size : kept ≡ min (kept_bytes journal) (2 ^ 64 - 1)
 
-pub record IsSound {B : Type 0} (contents : B → Option Contents) (faults : B → ℕ) (bucket : B) (journal : List Entry) (tick last kept : ℕ) : Type 0 where
+pub record IsCountedWorld {B : Type 0} (contents : B → Option Contents) (faults : B → ℕ) (bucket : B) (journal : List Entry) (tick last kept : ℕ) : Type 0 where
   pub counted : IsCounted tick journal last kept
   pub world : IsWorld contents faults (record { bucket = bucket; journal = journal; tick = tick })
 

@@ -33,13 +33,13 @@ pub struct World<B: Bucket> {
 }
 
 impl<B: Bucket> Model for World<B> {
-    ghost use Rattle.world_core.specs.Worlds.{WorldView, IsSound};
+    ghost use Rattle.world_core.specs.Worlds.{WorldView, IsCountedWorld};
 
     ghost Value = { WorldView B };
 
     ghost view = { λ w. record { bucket = w.bucket; journal = w.journal; tick = w.tick.ms } };
 
-    ghost invariant = { λ w. IsSound B.contents B.faults w.bucket w.journal w.tick.ms w.last.ms
+    ghost invariant = { λ w. IsCountedWorld B.contents B.faults w.bucket w.journal w.tick.ms w.last.ms
         w.kept };
 }
 

@@ -12,7 +12,7 @@ use Rattle.label_sets.specs.declared.sample.Sample.{Sample}
 use Rattle.label_sets.specs.declared.series.Series.{Series}
 use Rattle.label_sets.specs.Finals.{final_of}
 use Rattle.label_sets.specs.Triples.{Triple, triples_of, triples_under, IsOneToOne, has_same_key}
-use Rattle.matchers.specs.Selected.{IsAnswer, is_selected, is_within, selected}
+use Rattle.matchers.specs.Selected.{IsQueryAnswer, is_selected, is_between, selected}
 use Rattle.matchers.specs.Selectors.{is_match}
 use Rattle.matchers.specs.declared.matcher.Matcher.{Matcher}
 use Rattle.vertical_merge.specs.Merged.{IsDeduplication}
@@ -71,12 +71,12 @@ right_holds : (a b : Bool) → (a && b) ≡ true → b ≡ true
 right_holds true b both = both
 right_holds false b both = absurd (cc (both))
 
-range_holds : (matchers : List Matcher) (low high : ℤ) (t : Triple) → is_selected matchers low high t ≡ true → is_within low high t.time ≡ true
+range_holds : (matchers : List Matcher) (low high : ℤ) (t : Triple) → is_selected matchers low high t ≡ true → is_between low high t.time ≡ true
 unfolding is_selected
-range_holds matchers low high t passes = right_holds (is_match matchers t.labels) (is_within low high t.time) passes
+range_holds matchers low high t passes = right_holds (is_match matchers t.labels) (is_between low high t.time) passes
 
 -- a block meets the range where a sample of it is within both
-meets_range : (low high first last time : ℤ) → is_within low high time ≡ true → first ≤ℤ time → time <ℤ last → (is_le (int_cmp first high) && is_lt (int_cmp low last)) ≡ true
+meets_range : (low high first last time : ℤ) → is_between low high time ≡ true → first ≤ℤ time → time <ℤ last → (is_le (int_cmp first high) && is_lt (int_cmp low last)) ≡ true
 meets_range low high first last time within from below = grind (arith, ints)
 
 -- ---- members
@@ -203,7 +203,7 @@ module _ (setting : Setting) (lawful : IsLawfulScript setting.script) (matchers 
 pub answer_is_exact : (setting : Setting) (journal entries : List Entry) (view : View) (matchers : List Matcher) (low high : ℤ) (series : List Series) (sources : List ℕ)
     → IsLawfulScript setting.script → IsReadable setting → All (IsTold setting journal) journal → IsPart journal entries → All (IsTrueFound setting) view.kept
     → SeriesRun view (record { selector = matchers; replicas = setting.script.rules.replicas; low = low; high = high }) entries (Some (called.Answer series sources))
-    → IsAnswer matchers low high (triples_of series) (held setting sources)
+    → IsQueryAnswer matchers low high (triples_of series) (held setting sources)
 answer_is_exact setting journal entries view matchers low high series sources lawful readable told part kept run =
     let query : Question = record { selector = matchers; replicas = setting.script.rules.replicas; low = low; high = high } in
     let end = end_of_call setting journal entries view query (Some (called.Answer series sources)) readable told part kept run in

@@ -4,7 +4,7 @@ use Rattle.std.proofs.lemmas.Fn.{filter_same}
 use Rattle.std.proofs.lemmas.List.{take_all}
 use Rattle.label_sets.specs.declared.sample.Sample.{Sample}
 use Rattle.index_parts.specs.declared.chunk_place.ChunkPlace.{ChunkPlace}
-use Rattle.matchers.specs.Selected.{is_within}
+use Rattle.matchers.specs.Selected.{is_between}
 use Rattle.block_ranges.specs.ChunkRanges.{meets}
 use Rattle.block_ranges.specs.BlockReads.{samples_of}
 use Rattle.block_ranges.specs.ChunksRead.{reads_of}
@@ -17,6 +17,6 @@ loop-place-preserved c = λ up. met_more (samples_of (reads_of c.args.found.now)
 
 pub returns : goal.returns
 returns c = λ up. c.from_vec.ensures
-    ∙ filter_same _ (λ (s : Sample). is_within c.args.asked.now.low c.args.asked.now.high s.time) _ (λ x b f' k. search rules) _ _ c.retain.ensures.filtered
-    ∙ ap (filter (λ (s : Sample). is_within c.args.asked.now.low c.args.asked.now.high s.time))
+    ∙ filter_same _ (λ (s : Sample). is_between c.args.asked.now.low c.args.asked.now.high s.time) _ (λ x b f' k. search rules) _ _ c.retain.ensures.filtered
+    ∙ ap (filter (λ (s : Sample). is_between c.args.asked.now.low c.args.asked.now.high s.time))
     (c.loop-place.invariant up ∙ ap (λ (l : List ChunkPlace). flat_map (samples_of (reads_of c.args.found.now)) (filter (meets c.args.asked.now.low c.args.asked.now.high) l)) (take_all c.loop-place.place-index c.args.chunks.now c.loop-place-test.false))
