@@ -2,7 +2,7 @@
 pub mod Calls
 pub mod ExactAnswers
 pub mod Joining
-pub mod OneMerge
+pub mod OneCall
 pub mod ActingCalls
 pub mod OneGateway
 pub mod EndsAreCalls

@@ -1,2 +1,1 @@
 pub mod AskLists
-pub mod Gatherings

@@ -110,16 +110,7 @@ fn merged(alloc: Global, answers: AnswerList) -> Result<SeriesList, NoMemory>
 {
     let mut merger = Merger::new(alloc);
     for answer in answers.into_vec() {
-        take_all(&mut merger, answer.series)?;
+        merger.take_all(answer.series)?;
     }
     merger.finish()
-}
-
-fn take_all(merger: &mut Merger, series: SeriesList) -> Result<(), NoMemory>
-    ensures { OnOk result (merger.new ≡ merger.old ++ triples_of series) }
-{
-    for one in series.into_vec() {
-        merger.take(one)?;
-    }
-    Ok(())
 }

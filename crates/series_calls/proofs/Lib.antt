@@ -1,7 +1,5 @@
-pub mod OneMerge
 pub mod SharesOf
 pub mod OneCall
-pub mod Gatherings
 pub mod FirstReads
 pub mod Meeting
 pub mod Steps

@@ -9,7 +9,7 @@ use Rattle.block_ranges.specs.Reads.{Query, Cache}
 use Rattle.series_calls.specs.SeriesCalls.{Called, took, broke, CallEnd, Gives, SeriesRun, series_call, sources_of}
 use Rattle.series_calls.specs.declared.series_end.SeriesEnd.{SeriesEnd}
 use Rattle.series_calls.specs.declared.series_end.SeriesEnd.TheVariants as ended
-use Rattle.series_calls.proofs.OneMerge.{one_merge}
+use Rattle.vertical_merge.proofs.OneMerge.{one_merge}
 
 abbrev call_end : SeriesEnd → Cache → CallEnd
 call_end end cache = record { end = end; cache = cache }

@@ -20,7 +20,7 @@ use Rattle.block_ranges.specs.BlockReads.{BlockEnd, gives, breaks_off, block_cal
 use Rattle.series_calls.specs.SeriesCalls.{Called, took, broke, CallEnd, Gives, SeriesRun, after_block, reading, sources_of, to_read}
 use Rattle.series_calls.specs.declared.series_end.SeriesEnd.TheVariants as ended
 use Rattle.series_calls.proofs.BlockWalk.{block_holds}
-use Rattle.series_calls.proofs.OneMerge.{found_contains}
+use Rattle.vertical_merge.proofs.OneMerge.{found_contains}
 
 abbrev IsIn : Query → Triple → Type 0
 IsIn query t = is_between query.low query.high t.time ≡ true

@@ -17,7 +17,7 @@ use crate::select::{Wanted, all_sources, from_first_meeting, high_of, low_of};
 use crate::stage::Stage;
 use block_ranges::{BlockCall, BlockOutcome};
 use index_cache::IndexCache;
-use label_sets::{SeriesList, TextList};
+use label_sets::TextList;
 use list_core::NoMemory;
 use matchers::Selector;
 use meta_fetcher::View;
@@ -186,7 +186,7 @@ impl<'a> SeriesCall<'a> {
     {
         match came {
             BlockOutcome::Taken(series) => {
-                take_all(&mut self.merger, series)?;
+                self.merger.take_all(series)?;
                 self.read_next(cache)
             }
             BlockOutcome::Missing(entry) => Ok(self.end(cache, SeriesEnd::Missing(entry))),
@@ -194,16 +194,6 @@ impl<'a> SeriesCall<'a> {
             BlockOutcome::Fault(entry) => Ok(self.end(cache, SeriesEnd::Fault(entry))),
         }
     }
-}
-
-/// Adds series to a merger.
-fn take_all(merger: &mut Merger, series: SeriesList) -> Result<(), NoMemory>
-    ensures { OnOk result (merger.new ≡ merger.old ++ triples_of series) }
-{
-    for one in series.into_vec() {
-        merger.take(one)?;
-    }
-    Ok(())
 }
 
 impl<'a> Machine for SeriesCall<'a> {

@@ -4,4 +4,6 @@ pub mod Joining
 pub mod Merging
 pub mod Laws
 pub mod Extremes
+pub mod OneMerge
+pub mod TakenSeries
 pub mod OnePlan

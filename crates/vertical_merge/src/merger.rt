@@ -61,6 +61,13 @@ impl Merger {
         Ok(())
     }
 
+    /// Adds series, one after another. Where memory runs out, the first of them may have been added.
+    pub fn take_all(&mut self, series: SeriesList) -> Result<(), NoMemory>
+        ensures { OnOk result (self.new ≡ self.old ++ triples_of series) }
+    {
+        take_each(self, series)
+    }
+
     /// The merged series.
     pub fn finish(self) -> Result<SeriesList, NoMemory>
         ensures merged { IfOk result (IsMerge self) }
@@ -71,6 +78,15 @@ impl Merger {
     {
         merge(self.added)
     }
+}
+
+fn take_each(merger: &mut Merger, series: SeriesList) -> Result<(), NoMemory>
+    ensures { OnOk result (merger.new ≡ merger.old ++ triples_of series) }
+{
+    for one in series.into_vec() {
+        merger.take(one)?;
+    }
+    Ok(())
 }
 
 fn merge(added: Vec<Series>) -> Result<SeriesList, NoMemory>

@@ -40,7 +40,7 @@ use Rattle.lifecycle_core.specs.Setting.{Setting}
 use Rattle.lifecycle_core.specs.Shipped.{AreBuilt, IsPlanOf, IsShipped}
 use Rattle.lifecycle_core.specs.Tasks.{End, IsStop, QueryTask, TaskRun, answered, asked_by, sync_rules, synced, synced_with, uploaded}
 use Rattle.lifecycle_core.specs.Ways.{AreFinished, PhasesRun}
-use Rattle.lifecycle_core.proofs.answers.OneMerge.{call_tells}
+use Rattle.lifecycle_core.proofs.answers.OneCall.{call_tells}
 use Rattle.lifecycle_core.proofs.phases.RunFronts.{not_nil}
 use Rattle.lifecycle_core.proofs.views.SyncEnds.{sync_tells}
 

@@ -1,4 +1,4 @@
--- Samples of series, series by series, and answer by answer.
+-- Samples of series, series by series.
 use Rattle.std.proofs.Common.{◌≡◌, List, [], ◌∷◌, ◌++◌, sym, ap, ◌∙◌, append_assoc, append-nil}
 use Rattle.std.proofs.lemmas.List.Concat.{flat_map-append}
 use Rattle.label_sets.specs.declared.series.Series.{Series}

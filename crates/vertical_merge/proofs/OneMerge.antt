@@ -1,4 +1,4 @@
--- There is one merge of the samples that were taken.
+-- There is one merge of a list of samples.
 use Rattle.list_core.proofs.Membership.{contains_first, contains_later, member_of_any}
 use Rattle.std.proofs.Common.{◌≡◌, ◌≢◌, ℤ, Bool, true, false, List, [], ◌∷◌, ◌++◌, map, Contains, Some, refl, sym, ap, ap₂, subst, ◌∙◌}
 use Rattle.std.specs.Prelude.{All}

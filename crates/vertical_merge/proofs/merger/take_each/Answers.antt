@@ -1,5 +1,5 @@
-use Rattle.series_calls.proofs.Gatherings.{none_taken, one_taken}
-use Rattle.series_calls.proofs.series_call.take_all.Goals as goal
+use Rattle.vertical_merge.proofs.TakenSeries.{none_taken, one_taken}
+use Rattle.vertical_merge.proofs.merger.take_each.Goals as goal
 
 pub loop-one-init : goal.loop-one-init
 loop-one-init c = none_taken c.args.merger.now
