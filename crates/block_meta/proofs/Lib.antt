@@ -12,3 +12,4 @@ pub mod FoundTexts
 pub mod AscendingOnce
 pub mod Sizes
 pub mod FewMembers
+pub mod SameMetas

@@ -1,12 +1,11 @@
 -- A sync comes to one view: what was seen of a block tells the block.
-use Rattle.std.proofs.Common.{◌≡◌, ℕ, ℤ, ◌<◌, ◌^◌, List, [], ◌∷◌, ◌++◌, map, Option, Some, None, refl, sym, ap, subst, ◌∙◌, inl, inr, append-nil}
+use Rattle.std.proofs.Common.{◌≡◌, ℕ, ◌<◌, ◌^◌, List, [], ◌∷◌, ◌++◌, map, Option, Some, None, refl, sym, ap, subst, ◌∙◌, inl, inr, append-nil}
 use Rattle.std.specs.Prelude.{option_map}
-use Rattle.std.specs.List.Sorted.{IsNonDecreasingBy, IsStrictlyIncreasing}
+use Rattle.std.specs.List.Sorted.{IsNonDecreasingBy}
 use Rattle.std.proofs.Props.{props}
-use Rattle.block_meta.specs.Lawful.{AreLawfulTimes}
-use Rattle.block_meta.specs.MetaFields.{MarkFields, MetaFields, fields_of, mark_fields_of}
+use Rattle.block_meta.proofs.SameMetas.{same_meta}
+use Rattle.block_meta.specs.MetaFields.{MarkFields, mark_fields_of}
 use Rattle.block_meta.specs.declared.deletion_mark.DeletionMark.{DeletionMark}
-use Rattle.block_meta.specs.declared.meta.Meta.{Meta}
 use Rattle.moment_core.specs.declared.moment.Moment.{Moment}
 use Rattle.world_core.specs.declared.entry.Entry.{Entry}
 use Rattle.world_core.specs.Plans.{Plan, Runs, IsAtMostOne, and_then, finds, ends}
@@ -19,7 +18,7 @@ use Rattle.meta_fetcher.specs.declared.sync_end.SyncEnd.{SyncEnd}
 use Rattle.meta_fetcher.specs.declared.sync_end.SyncEnd.TheVariants as fetched
 use Rattle.meta_fetcher.specs.declared.view.View.{View}
 
--- ---- marks and metas
+-- ---- marks
 
 early_prop : (second : ℕ) → IsProp (second < 2 ^ 46)
 early_prop second = hlevel props
@@ -40,40 +39,6 @@ same_marks None None same = refl
 same_marks None (Some n) same = absurd (cc (same))
 same_marks (Some m) None same = absurd (cc (same))
 same_marks (Some m) (Some n) same = ap (λ (x : DeletionMark). Some x) (same_mark m n (cc (same)))
-
-times_prop : (min max : ℤ) → IsProp (AreLawfulTimes min max)
-times_prop min max = hlevel props
-
-distinct_prop : (sources : List ℕ) → IsProp (IsStrictlyIncreasing sources)
-distinct_prop sources = hlevel props
-
-abbrev meta_made : (f : MetaFields) → AreLawfulTimes f.min_time f.max_time → IsStrictlyIncreasing f.sources → Meta
-meta_made f times distinct = record {
-  ulid = f.ulid;
-  min_time = f.min_time;
-  max_time = f.max_time;
-  series = f.series;
-  samples = f.samples;
-  chunks = f.chunks;
-  level = f.level;
-  sources = f.sources;
-  parents = f.parents;
-  labels = f.labels;
-  resolution = f.resolution;
-  source = f.source;
-  files = f.files;
-  segment_files = f.segment_files;
-  times = times;
-  distinct = distinct;
-}
-
-same_made : (f g : MetaFields) → f ≡ g → (t : AreLawfulTimes f.min_time f.max_time) (d : IsStrictlyIncreasing f.sources) (t' : AreLawfulTimes g.min_time g.max_time) (d' : IsStrictlyIncreasing g.sources) → meta_made f t d ≡ meta_made g t' d'
-same_made f g e t d =
-    subst (λ (h : MetaFields). (t' : AreLawfulTimes h.min_time h.max_time) (d' : IsStrictlyIncreasing h.sources) → meta_made f t d ≡ meta_made h t' d') e
-    (λ t' d'. ap (λ (x : AreLawfulTimes f.min_time f.max_time). meta_made f x d) (times_prop f.min_time f.max_time t t') ∙ ap (λ (x : IsStrictlyIncreasing f.sources). meta_made f t' x) (distinct_prop f.sources d d'))
-
-same_meta : (m n : Meta) → fields_of m ≡ fields_of n → m ≡ n
-same_meta m n e = same_made (fields_of m) (fields_of n) e m.times m.distinct n.times n.distinct
 
 -- ---- views
 
