@@ -1,8 +1,8 @@
 -- Chunks: what is read is a chunk of the grammar, what is a chunk is read, and a refusal is its cause.
-use Rattle.std.proofs.Common.{◌≡◌, ℕ, zero, suc, ◌-◌, List, [], ◌∷◌, ◌++◌, length, drop, Bool, true, false, ◌&&◌, Option, None, Some, Ok, Err, ℤ, refl, sym, ap, subst, ◌∙◌, append_assoc, ◌⊎◌, inl, inr}
+use Rattle.std.proofs.Common.{◌≡◌, ℕ, zero, suc, ◌-◌, List, [], ◌∷◌, ◌++◌, length, drop, Bool, true, false, Option, None, Some, Ok, Err, ℤ, refl, sym, ap, subst, ◌∙◌, append_assoc, ◌⊎◌, inl, inr}
 use Rattle.std.specs.Prelude.{slice_get, ◌≢◌, option_map}
 use Rattle.std.specs.List.{AllByRecursion}
-use Rattle.std.proofs.lemmas.Bool.{and_parts, true≢false}
+use Rattle.std.proofs.lemmas.Bool.{and_parts, true≢false, and_from}
 use Rattle.std.proofs.lemmas.Bool.Decides.{Decides-int_eq}
 use Rattle.std.proofs.lemmas.Option.{slice_get-map}
 use Rattle.std.proofs.Math.Seq.{take-append_seam}
@@ -90,11 +90,8 @@ times_found place samples e =
       ends = slice_get-map _ samples (length samples - 1) ∙ time_found (slice_get samples (length samples - 1)) place.max parts.1;
     }
 
-both_true : (a b : Bool) → a ≡ true → b ≡ true → (a && b) ≡ true
-both_true a b p q = rw (p, q) refl
-
 times_again : (place : ChunkPlace) (samples : List Sample) → HaveTimesOf place samples → have_times_of place samples ≡ true
-times_again place samples is = both_true _ _
+times_again place samples is = and_from _ _
     (time_again (slice_get samples 0) place.min (sym (slice_get-map _ samples 0) ∙ is.begins))
     (time_again (slice_get samples (length samples - 1)) place.max (sym (slice_get-map _ samples (length samples - 1)) ∙ is.ends))
 

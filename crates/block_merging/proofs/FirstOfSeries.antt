@@ -7,7 +7,7 @@ use Rattle.std.specs.declared.cmp.Ordering.{Ordering}
 use Rattle.std.specs.Ordering.{int_cmp, ordering_then, is_eq}
 use Rattle.std.specs.Cmp.{IsEquivalence}
 use Rattle.std.proofs.lemmas.Int.{ints}
-use Rattle.std.proofs.lemmas.Bool.{true≢false}
+use Rattle.std.proofs.lemmas.Bool.{true≢false, and_from}
 use Rattle.std.proofs.lemmas.List.{map-append}
 use Rattle.std.proofs.lemmas.List.Elements.{All-from_recursion, All-contains, filter-append}
 use Rattle.std.proofs.lemmas.Grind.{flat_map-append}
@@ -45,10 +45,6 @@ to_le a b h = grind (arith, ints)
 not_le : (a b : ℤ) → b <ℤ a → int_le a b ≡ false
 not_le a b h = grind (arith, ints)
 
-both_true : (a b : Bool) → a ≡ true → b ≡ true → (a && b) ≡ true
-both_true true b e f = f
-both_true false b e f = absurd (true≢false (sym e))
-
 first_false : (a b : Bool) → a ≡ false → (a && b) ≡ false
 first_false true b e = absurd (true≢false e)
 first_false false b e = refl
@@ -69,7 +65,7 @@ lt_last a b c d h k l = omega (arith, ints)
 sample_in : (span : Span) (c : PutChunk) (labels : List Label) (s : Sample) → lies_in span c ≡ true → IsInside c s → in_span span (triple_of labels s) ≡ true
 sample_in span c labels s here inside =
     let l = lies span c here in
-    both_true (int_le span.begin s.time) (int_le s.time span.end) (to_le span.begin s.time (le_le span.begin c.min s.time l.0 inside.0)) (to_le s.time span.end (le_le s.time c.max span.end inside.1 l.1))
+    and_from (int_le span.begin s.time) (int_le s.time span.end) (to_le span.begin s.time (le_le span.begin c.min s.time l.0 inside.0)) (to_le s.time span.end (le_le s.time c.max span.end inside.1 l.1))
 
 -- a sample of a chunk in another span
 sample_before : (span other : Span) (c : PutChunk) (labels : List Label) (s : Sample) → other.end <ℤ span.begin → lies_in other c ≡ true → IsInside c s → in_span span (triple_of labels s) ≡ false

@@ -9,10 +9,11 @@ use Rattle.std.proofs.lemmas.Bool.{and_parts, and_from, false_from_ne_true, case
 use Rattle.std.proofs.lemmas.Cmp.{tied_itself}
 use Rattle.std.proofs.lemmas.List.Folds.{list_all-append}
 use Rattle.std.proofs.lemmas.Slice.Eq.{bytes_eq-Decides}
+use Rattle.list_core.proofs.Bools.{Less-from_is_lt}
 use Rattle.bucket_core.specs.Contents.{is_key}
 use Rattle.bucket_core.specs.declared.stored.Stored.{Stored}
 use Rattle.bucket_core.specs.Stored.{key_cmp, is_before, in_order, have_keys, object_in, updated, IsUpdated}
-use Rattle.bucket_core.proofs.Places.{key_total, keys_equal, lt_less}
+use Rattle.bucket_core.proofs.Places.{key_total, keys_equal}
 
 pub same_text : (a b : List ℕ) → bytes_eq a b ≡ true → a ≡ b
 same_text a b e = (bytes_eq-Decides a b).0 e
@@ -90,7 +91,7 @@ pub after_all : (key : List ℕ) (o : Stored) (os : List Stored) → in_order (o
     → list_all (λ l. is_lt (key_cmp key l.key)) os ≡ true
 after_all key o os ordered lt =
     all_since (λ l. is_before l.key o) (λ l. is_lt (key_cmp key l.key)) os
-    (λ l before. ap is_lt (key_total.trans key o.key l.key (lt_less _ lt) (lt_less _ before)))
+    (λ l before. ap is_lt (key_total.trans key o.key l.key (Less-from_is_lt _ lt) (Less-from_is_lt _ before)))
     (and_parts (list_all (λ later. is_before later.key o) os) (in_order os) ordered).0
 
 -- behind the object under a key nothing else is under it

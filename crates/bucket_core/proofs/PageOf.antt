@@ -10,6 +10,7 @@ use Rattle.std.specs.Str.{bytes_eq}
 use Rattle.std.specs.declared.cmp.Ordering.TheVariants.{Less}
 use Rattle.std.proofs.lemmas.Bool.{cases_Bool, and_parts, eqb-true}
 use Rattle.std.proofs.lemmas.List.{take-append-drop}
+use Rattle.list_core.proofs.Bools.{Less-from_is_lt}
 use Rattle.bucket_core.specs.Contents.{Contents}
 use Rattle.bucket_core.specs.Pages.{Before, Lists, IsName, IsPage}
 use Rattle.bucket_core.specs.declared.stored.Stored.{Stored}
@@ -17,7 +18,6 @@ use Rattle.bucket_core.specs.Stored.{first_part, key_cmp, is_before, in_order, o
 use Rattle.bucket_core.proofs.Edits.{same_text, eq_refl, in_order-drop}
 use Rattle.bucket_core.proofs.Order.{root_skipped, folder_cmp, folder_key, folder_name, names_rise, key_between, not_below}
 use Rattle.bucket_core.proofs.Picks.{Among, contains_among, at_among, Rises, picked_ascends, picked_few, picked_within, picked_whole}
-use Rattle.bucket_core.proofs.Places.{lt_less}
 
 -- what stands, stands for a member
 pub stands_for : (os : List Stored) (key : List ℕ) → IsSome (object_in os key) → (p : Stored) × Among p os × (p.key ≡ key)
@@ -85,7 +85,7 @@ later_names within o n [] named all = tt
 later_names within o n (l ∷ os) named all =
     let parts : _ = and_parts (is_before l.key o) (list_all (λ l'. is_before l'.key o) os) all in
     by_names (AllByRecursion (λ m. is_below m n ≡ false)) within l os (λ none. tt)
-    (λ m some. (names_rise within o.key l.key n m (lt_less _ parts.0) named some, later_names within o n os named parts.1))
+    (λ m some. (names_rise within o.key l.key n m (Less-from_is_lt _ parts.0) named some, later_names within o n os named parts.1))
 
 -- the names of objects in order do not fall
 pub names_in_order : (within : List ℕ) (os : List Stored) → in_order os ≡ true → Rises (names_of within os)
@@ -134,7 +134,7 @@ pub root_page : (objects : List Stored) (after : List ℕ) (limit place : ℕ) �
 root_page objects after limit place ordered at =
     page_is objects [] after limit place ordered
     (λ p name among named. (let e : first_part p.key ≡ name = cc in
-    ap (is_below after) (sym e) ∙ root_skipped p.key after (lt_less _ (at_among (λ o. is_before after o ≡ true) p (take place objects) at.front among))))
+    ap (is_below after) (sym e) ∙ root_skipped p.key after (Less-from_is_lt _ (at_among (λ o. is_before after o ≡ true) p (take place objects) at.front among))))
     (λ p name among named. root_names p name (drop place objects) among named)
 
 each_of : {X : Type 0} (q : X → Bool) (xs : List X) → list_all q xs ≡ true → AllByRecursion (λ x. q x ≡ true) xs
@@ -153,7 +153,7 @@ folder_names b w after p name (o ∷ os) ordered all (inl same) named =
     let s : n ≡ name = cc in inl s))
 folder_names b w after p name (o ∷ os) ordered all (inr among) named =
     let parts : _ = and_parts (list_all (λ later. is_before later.key o) os) (in_order os) ordered in
-    let ahead : key_cmp o.key p.key ≡ Less = lt_less _ (at_among (λ l. is_before l.key o ≡ true) p os (each_of (λ l. is_before l.key o) os parts.0) among) in
+    let ahead : key_cmp o.key p.key ≡ Less = Less-from_is_lt _ (at_among (λ l. is_before l.key o ≡ true) p os (each_of (λ l. is_before l.key o) os parts.0) among) in
     let between : (n : List ℕ) × (text_after ((b ∷ w) ++ 47 ∷ []) o.key ≡ Some n) =
     key_between (b ∷ w) after o.key name all.0 (ap (key_cmp o.key) (sym (folder_key (b ∷ w) p.key name named)) ∙ ahead) in
     by_names (Among name) (b ∷ w) o os
@@ -166,7 +166,7 @@ pub folder_page : (objects : List Stored) (within after : List ℕ) (limit place
 folder_page objects [] after limit place given ordered at = absurd (given refl)
 folder_page objects (b ∷ w) after limit place given ordered at =
     page_is objects (b ∷ w) after limit place ordered
-    (λ p name among named. (let before = lt_less _ (at_among (λ o. is_before ((b ∷ w) ++ 47 ∷ after) o ≡ true) p (take place objects) at.front among) in
+    (λ p name among named. (let before = Less-from_is_lt _ (at_among (λ o. is_before ((b ∷ w) ++ 47 ∷ after) o ≡ true) p (take place objects) at.front among) in
     let e : slice_cmp nat_cmp name after ≡ Less =
     sym (folder_cmp (b ∷ w) name after) ∙ ap (λ k. key_cmp k ((b ∷ w) ++ 47 ∷ after)) (sym (folder_key (b ∷ w) p.key name named)) ∙ before in
     not_below name after (inr e)))

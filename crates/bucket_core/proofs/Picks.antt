@@ -8,9 +8,10 @@ use Rattle.std.specs.declared.cmp.Ordering.{Ordering}
 use Rattle.std.specs.declared.cmp.Ordering.TheVariants.{Less, Equal, Greater}
 use Rattle.std.proofs.lemmas.Bool.{cases_Bool, ne_eqb}
 use Rattle.std.proofs.lemmas.Cmp.{nat_list_cmp_total}
+use Rattle.list_core.proofs.Bools.{Less-from_is_lt}
 use Rattle.bucket_core.specs.Pages.{Before, Ascends}
 use Rattle.bucket_core.specs.Stored.{is_below, picked}
-use Rattle.bucket_core.proofs.Places.{lt_less, texts_equal}
+use Rattle.bucket_core.proofs.Places.{texts_equal}
 
 -- x is in the list
 abbrev pub Among : {X : Type 0} → X → List X → Type 0
@@ -66,7 +67,7 @@ pub picked_ascends : (last : List ℕ) (limit : ℕ) (ns : List (List ℕ)) → 
 picked_ascends last limit [] = tt
 picked_ascends last limit (n ∷ ns) =
     by_picked (Ascends last) last limit n ns (λ pass. picked_ascends last limit ns) (λ below e. tt)
-    (λ k below e. (lt_less _ below, picked_ascends n k ns))
+    (λ k below e. (Less-from_is_lt _ below, picked_ascends n k ns))
 
 pub picked_few : (last : List ℕ) (limit : ℕ) (ns : List (List ℕ)) → length (picked last limit ns) ≤ limit
 picked_few last limit [] = omega arith

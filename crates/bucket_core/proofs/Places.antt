@@ -1,5 +1,5 @@
 -- Where a key stands in a list of objects in order.
-use Rattle.std.proofs.Common.{◌≡◌, ℕ, ◌≤◌, ◌<◌, zero, suc, Bool, true, false, List, [], ◌∷◌, length, take, drop, get_or, refl, sym, ◌∙◌, ap, arith}
+use Rattle.std.proofs.Common.{◌≡◌, ℕ, ◌≤◌, ◌<◌, zero, suc, Bool, true, false, List, [], ◌∷◌, length, take, drop, get_or, sym, ◌∙◌, ap, arith}
 use Rattle.std.specs.List.{list_all, AllByRecursion, AllWithin}
 use Rattle.std.specs.List.Sorted.{IsPartitionedBy, IsPartitionPoint}
 use Rattle.std.specs.Ordering.{nat_cmp, is_lt, is_eq, ordering_then}
@@ -11,6 +11,7 @@ use Rattle.std.proofs.lemmas.Bool.{and_parts}
 use Rattle.std.proofs.lemmas.Cmp.{nat_list_cmp_total, then_total, on_total}
 use Rattle.std.proofs.lemmas.Map.Text.{is_eq-slice_cmp}
 use Rattle.std.proofs.lemmas.Slice.Eq.{bytes_eq-Decides}
+use Rattle.list_core.proofs.Bools.{Less-from_is_lt}
 use Rattle.bucket_core.specs.declared.stored.Stored.{Stored}
 use Rattle.bucket_core.specs.Stored.{first_part, key_cmp, is_before, in_order, IsPlace}
 
@@ -30,14 +31,9 @@ second_equal Greater p e = cc
 pub keys_equal : (a b : List ℕ) → key_cmp a b ≡ Equal → a ≡ b
 keys_equal a b e = texts_equal a b (second_equal _ _ e)
 
-pub lt_less : (o : Ordering) → is_lt o ≡ true → o ≡ Less
-lt_less Less e = refl
-lt_less Equal e = cc
-lt_less Greater e = cc
-
 -- what is before an object is before what that object is before
 pub before_trans : (a : Stored) (b c : List ℕ) → is_before b a ≡ true → is_lt (key_cmp b c) ≡ true → is_before c a ≡ true
-before_trans a b c ab bc = ap is_lt (key_total.trans a.key b c (lt_less _ ab) (lt_less _ bc))
+before_trans a b c ab bc = ap is_lt (key_total.trans a.key b c (Less-from_is_lt _ ab) (Less-from_is_lt _ bc))
 
 -- an element of a list all of whose elements pass
 at_place : {X : Type 0} (p : X → Bool) (xs : List X) (i : ℕ) (d : X) → list_all p xs ≡ true → i < length xs → p (get_or xs i d) ≡ true

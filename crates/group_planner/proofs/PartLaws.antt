@@ -1,8 +1,8 @@
 -- A range has one list of parts, and how a loop finds it.
-use Rattle.std.proofs.Common.{◌≡◌, ◌≢◌, ℕ, zero, suc, ◌+◌, ◌<◌, ◌≤◌, Bool, true, false, not, ◌&&◌, List, [], ◌∷◌, ◌++◌, length, get_or, take, drop, append_assoc, append-nil, length-append, map, refl, sym, ap, ◌∙◌, subst, arith, inl, inr}
+use Rattle.std.proofs.Common.{◌≡◌, ◌≢◌, ℕ, zero, suc, ◌+◌, ◌<◌, ◌≤◌, Bool, true, false, not, List, [], ◌∷◌, ◌++◌, length, get_or, take, drop, append_assoc, append-nil, length-append, map, refl, sym, ap, ◌∙◌, subst, arith, inl, inr}
 use Rattle.std.specs.Prelude.{◌⊎◌, ℤ}
 use Rattle.std.specs.Ordering.{int_eq}
-use Rattle.std.proofs.lemmas.Bool.{true≢false}
+use Rattle.std.proofs.lemmas.Bool.{true≢false, and_from, and_parts}
 use Rattle.std.proofs.lemmas.Int.{ints}
 use Rattle.std.proofs.lemmas.List.{take-append-drop, drop_more, map-append}
 use Rattle.block_meta.specs.declared.meta.Meta.{Meta}
@@ -13,10 +13,6 @@ use Rattle.group_planner.specs.Parts.{start_of, fits, fits_at, NoneFits, IsNextP
 use Rattle.group_planner.proofs.LongestRuns.{Cut, cut_of, one_run, all_or_cut, stops_first, each_more, stops_at}
 
 -- ---- tests
-
-both : (a b : Bool) → (a && b) ≡ true → (a ≡ true) × (b ≡ true)
-both true b e = (refl, e)
-both false b e = absurd (true≢false (sym e))
 
 same_int : (a b : ℤ) → int_eq a b ≡ true → a ≡ b
 same_int a b e = grind (arith, ints)
@@ -31,17 +27,13 @@ abbrev fits_there : ℤ → ℤ → List Meta → Meta → Bool
 fits_there range start before meta = fits_at range start meta
 
 has_fit : (range start : ℤ) (meta : Meta) → fits_at range start meta ≡ true → not (fits range meta) ≡ false
-has_fit range start meta e = ap not (both (int_eq (start_of range meta.min_time) start) (fits range meta) e).1
+has_fit range start meta e = ap not (and_parts (int_eq (start_of range meta.min_time) start) (fits range meta) e).1
 
 is_start : (range start : ℤ) (meta : Meta) → fits_at range start meta ≡ true → start_of range meta.min_time ≡ start
-is_start range start meta e = same_int (start_of range meta.min_time) start (both (int_eq (start_of range meta.min_time) start) (fits range meta) e).0
-
-both_true : (a b : Bool) → a ≡ true → b ≡ true → (a && b) ≡ true
-both_true true b e f = f
-both_true false b e f = absurd (true≢false (sym e))
+is_start range start meta e = same_int (start_of range meta.min_time) start (and_parts (int_eq (start_of range meta.min_time) start) (fits range meta) e).0
 
 pub fits_own : (range : ℤ) (meta : Meta) → fits range meta ≡ true → fits_at range (start_of range meta.min_time) meta ≡ true
-fits_own range meta e = both_true (int_eq (start_of range meta.min_time) (start_of range meta.min_time)) (fits range meta) (int_itself (start_of range meta.min_time)) e
+fits_own range meta e = and_from (int_eq (start_of range meta.min_time) (start_of range meta.min_time)) (fits range meta) (int_itself (start_of range meta.min_time)) e
 
 -- ---- the next part
 

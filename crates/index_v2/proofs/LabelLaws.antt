@@ -2,6 +2,7 @@
 use Rattle.std.proofs.Common.{◌≡◌, ◌≢◌, ℕ, ◌+◌, ◌*◌, ◌<◌, List, [], ◌∷◌, length, map, Some, Ok, refl, subst, arith}
 use Rattle.std.specs.Prelude.{slice_get}
 use Rattle.std.proofs.lemmas.Bool.{lt-ltb}
+use Rattle.list_core.proofs.Bools.{is_lt-from_Less}
 use Rattle.reading_core.specs.Reading.{◌>>=◌}
 use Rattle.reading_core.specs.Grammar.{IsBytes}
 use Rattle.reading_core.proofs.Binds.{bind_ok, refused_as_ok, ok_is}
@@ -18,7 +19,7 @@ use Rattle.index_v2.specs.Opening.{refused_of}
 use Rattle.index_v2.specs.SeriesLabels.{label_of, labels_of, texts_at, fault_at, labelled_at, numbered_at}
 use Rattle.index_file.specs.IndexFile.{StandFor, IsSeriesOf}
 use Rattle.wire_bytes.specs.Position.{Position}
-use Rattle.index_v2.proofs.LabelReading.{label_parts, lt_from_less}
+use Rattle.index_v2.proofs.LabelReading.{label_parts}
 use Rattle.index_v2.proofs.LabelTexts.{texts_read}
 use Rattle.index_v2.proofs.LabelPlaces.{with_labels}
 
@@ -95,7 +96,7 @@ labels_lawful symbols names values labels many e = (set_from_chain [] labels (la
 
 one_label : (symbols : List (List ℕ)) (before : List ℕ) (place name value : ℕ) (label : Label) → slice_get symbols name ≡ Some label.name → slice_get symbols value ≡ Some label.value → ComesBefore before label.name → 0 < length label.value → label_of symbols before place name value ≡ Ok label
 unfolding label_of
-one_label symbols before place name value label n v ascends some = rw (n, lt_from_less (compare_texts before label.name) ascends, v, lt-ltb 0 (length label.value) some) refl
+one_label symbols before place name value label n v ascends some = rw (n, is_lt-from_Less (compare_texts before label.name) ascends, v, lt-ltb 0 (length label.value) some) refl
 
 pub labels_lawful_read : (symbols : List (List ℕ)) (count : ℕ) (p : Position) (labels : List Label) (q : Position) → texts_at symbols [] 0 count p ≡ Ok (Ok labels, q) → IsLabelSet labels
 labels_lawful_read symbols count p labels q e =

@@ -1,12 +1,11 @@
 -- A series' labels, read one after another.
-use Rattle.std.proofs.Common.{◌≡◌, ℕ, ◌+◌, ◌<◌, true, List, [], ◌∷◌, ◌++◌, length, Option, Some, None, Result, Ok, Err, refl, sym, ap, ◌∙◌, append_assoc, ◌⊎◌, inl, inr}
+use Rattle.std.proofs.Common.{◌≡◌, ℕ, ◌+◌, ◌<◌, List, [], ◌∷◌, ◌++◌, length, Option, Some, None, Result, Ok, Err, refl, sym, ap, ◌∙◌, append_assoc, ◌⊎◌, inl, inr}
 use Rattle.std.specs.Prelude.{slice_get, nat_lt}
 use Rattle.std.specs.Option.{ok_or}
-use Rattle.std.specs.declared.cmp.Ordering.{Ordering}
-use Rattle.std.specs.declared.cmp.Ordering.TheVariants.{Less, Equal, Greater}
 use Rattle.std.specs.Ordering.{is_lt}
 use Rattle.std.proofs.lemmas.Bool.{ltb-true}
 use Rattle.std.specs.Prelude.{IsErrAnd}
+use Rattle.list_core.proofs.Bools.{Less-from_is_lt}
 use Rattle.reading_core.specs.Reading.{◌>>=◌, ◌>>◌, unless, Answers, Gives}
 use Rattle.reading_core.proofs.Binds.{bind_ok, unless_ok, ok_is}
 use Rattle.label_sets.specs.declared.label.Label.{Label}
@@ -14,16 +13,6 @@ use Rattle.label_sets.specs.Labels.{compare_texts, ComesBefore}
 use Rattle.index_v2.specs.declared.label_fault.LabelFault.{LabelFault}
 use Rattle.index_v2.specs.declared.label_fault.LabelFault.TheVariants.{Name, Value}
 use Rattle.index_v2.specs.SeriesLabels.{label_of, labels_of}
-
-pub lt_from_less : (o : Ordering) → o ≡ Less → is_lt o ≡ true
-lt_from_less Less e = refl
-lt_from_less Equal e = absurd cc
-lt_from_less Greater e = absurd cc
-
-pub less_from_lt : (o : Ordering) → is_lt o ≡ true → o ≡ Less
-less_from_lt Less e = refl
-less_from_lt Equal e = absurd cc
-less_from_lt Greater e = absurd cc
 
 -- what a label that is read is
 pub record IsLabelOf (symbols : List (List ℕ)) (before : List ℕ) (name value : ℕ) (label : Label) : Type 0 where
@@ -47,7 +36,7 @@ label_parts symbols before place name value label e =
     record {
       name_is = ok_or_ok (slice_get symbols name) (Name place) n.0 n.1 ∙ ap (λ (l : Label). Some l.name) same;
       value_is = ok_or_ok (slice_get symbols value) (Value place) v.0 v.1 ∙ ap (λ (l : Label). Some l.value) same;
-      ascends = ap (λ (l : Label). compare_texts before l.name) (sym same) ∙ less_from_lt (compare_texts before n.0) ordered.0;
+      ascends = ap (λ (l : Label). compare_texts before l.name) (sym same) ∙ Less-from_is_lt (compare_texts before n.0) ordered.0;
       some = rw (← same) (ltb-true 0 (length v.0) long.0);
     }
 

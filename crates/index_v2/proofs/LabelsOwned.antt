@@ -3,6 +3,7 @@ use Rattle.std.proofs.Common.{◌≡◌, ◌≢◌, ℕ, suc, ◌+◌, ◌<◌, 
 use Rattle.std.specs.Prelude.{◌==◌, is_err}
 use Rattle.std.proofs.lemmas.Bool.{ne_eqb}
 use Rattle.std.proofs.lemmas.List.{map_more, map-append, take_all, take-append-drop}
+use Rattle.list_core.proofs.Bools.{is_lt-from_Less}
 use Rattle.reading_core.specs.Reading.{Gives}
 use Rattle.reading_core.proofs.Binds.{ok_is}
 use Rattle.label_sets.specs.declared.label.Label.{Label}
@@ -13,7 +14,6 @@ use Rattle.label_sets.specs.Labels.{compare_texts, ComesBefore, StandsBefore, Is
 use Rattle.label_sets.proofs.LabelValues.{before_differs, value_miss, value_nil}
 use Rattle.index_v2.specs.declared.lent_label.LentLabel.{LentLabel}
 use Rattle.index_v2.specs.LentLabels.{as_label}
-use Rattle.index_v2.proofs.LabelReading.{lt_from_less}
 
 -- each of the labels has a name before this one
 abbrev pub AllBefore : List ℕ → List Label → Type 0
@@ -27,7 +27,7 @@ no_value (l ∷ ls) name all = value_miss l ls name (before_differs l.name name 
 placed_last : (ls : List Label) (l : Label) → AllBefore l.name ls → placed has_lesser_name l ls ≡ ls ++ l ∷ []
 unfolding placed
 placed_last [] l all = refl
-placed_last (m ∷ ls) l all = rw (lt_from_less (compare_texts m.name l.name) all.0, placed_last ls l all.1) refl
+placed_last (m ∷ ls) l all = rw (is_lt-from_Less (compare_texts m.name l.name) all.0, placed_last ls l all.1) refl
 
 pub some_bytes : (text : List ℕ) → text ≢ [] → (length text == 0) ≡ false
 some_bytes [] h = absurd (h refl)

@@ -8,6 +8,7 @@ use Rattle.std.specs.declared.cmp.Ordering.TheVariants.{Less, Equal, Greater}
 use Rattle.std.proofs.lemmas.Option.{same_Some}
 use Rattle.list_core.proofs.Lists.{AllByRecursion-weaker}
 use Rattle.list_core.proofs.Membership.{contains_first, contains_later, place_of_member}
+use Rattle.list_core.proofs.Bools.{Less-from_is_lt, is_lt-from_Less}
 use Rattle.reading_core.specs.Reading.{◌>>=◌, ◌>>◌, unless, refused_as}
 use Rattle.reading_core.proofs.Binds.{bind_ok, unless_ok, refused_as_ok, ok_is}
 use Rattle.label_sets.specs.declared.label.Label.{Label}
@@ -24,7 +25,6 @@ use Rattle.index_v2.specs.Opening.{refused_in}
 use Rattle.index_v2.specs.SeriesLabels.{numbered_at}
 use Rattle.index_v2.specs.RowOrder.{compare_row}
 use Rattle.index_v2.specs.WholeReading.{may_stand_behind, behind_at, all_at, lists_at, gap_from, gap_of, gap_among, earlier, by_order}
-use Rattle.index_v2.proofs.LabelReading.{lt_from_less, less_from_lt}
 
 -- ---- the series in order
 
@@ -39,11 +39,11 @@ none_behind (Some b) = tt
 
 stands_found : (before : Option IndexSeries) (one : IndexSeries) (list : List IndexSeries) → may_stand_behind before one ≡ true → AreBehind (Some one) list → AreBehind before (one ∷ list)
 stands_found None one list e others = tt
-stands_found (Some b) one list e others = let less = less_from_lt (compare_series b one) e in (less, AllByRecursion-weaker (λ x. compare_series one x ≡ Less) (λ x. compare_series b x ≡ Less) (λ x behind. series_total.trans b one x less behind) list others)
+stands_found (Some b) one list e others = let less = Less-from_is_lt (compare_series b one) e in (less, AllByRecursion-weaker (λ x. compare_series one x ≡ Less) (λ x. compare_series b x ≡ Less) (λ x behind. series_total.trans b one x less behind) list others)
 
 stands_again : (before : Option IndexSeries) (one : IndexSeries) (list : List IndexSeries) → AreBehind before (one ∷ list) → may_stand_behind before one ≡ true
 stands_again None one list h = refl
-stands_again (Some b) one list h = lt_from_less (compare_series b one) h.0
+stands_again (Some b) one list h = is_lt-from_Less (compare_series b one) h.0
 
 in_order : (one : IndexSeries) (list : List IndexSeries) → AreBehind (Some one) list → IsStrictlySortedBy compare_series list → IsStrictlySortedBy compare_series (one ∷ list)
 unfolding IsStrictlySortedBy

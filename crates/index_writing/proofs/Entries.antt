@@ -1,5 +1,5 @@
 -- The labels of series as entries, and their order.
-use Rattle.std.proofs.Common.{◌≡◌, ℕ, ◌<◌, length, get_or, subst, List, [], ◌∷◌, ◌++◌, map, zip, Bool, true, false, ◌&&◌, refl, sym, ap, ◌∙◌, append_assoc, arith}
+use Rattle.std.proofs.Common.{◌≡◌, ℕ, ◌<◌, length, get_or, subst, List, [], ◌∷◌, ◌++◌, map, zip, true, ◌&&◌, refl, sym, ap, ◌∙◌, append_assoc, arith}
 use Rattle.std.proofs.lemmas.Bool.Decides.{nat_tests}
 use Rattle.std.specs.Prelude.{◌==◌}
 use Rattle.std.specs.Cmp.{IsTotalOrder, IsStrictWeakOrder}
@@ -14,6 +14,7 @@ use Rattle.index_writing.specs.declared.label_groups.LabelRow.{LabelRow}
 use Rattle.index_writing.specs.declared.label_groups.NameValues.{NameValues}
 use Rattle.index_writing.specs.LabelGroups.{entries_of, all_entries, compare_entries, is_lesser_entry, have_same_label, join_series, have_same_name, join_values}
 use Rattle.std.specs.List.{AllByRecursion}
+use Rattle.std.proofs.lemmas.Bool.{and_parts}
 use Rattle.index_writing.specs.WriteSteps.{IsStorable}
 use Rattle.index_writing.proofs.SortedTexts.{all_at}
 use Rattle.index_writing.proofs.Groups.{AreKinds}
@@ -62,13 +63,9 @@ entries_sorted xs ys sorted stable = in_order-from_sort is_lesser_entry entries_
 
 -- ---- their kinds
 
-and_true : (a b : Bool) → a && b ≡ true → (a ≡ true) × (b ≡ true)
-and_true true b e = (refl, e)
-and_true false b e = absurd cc
-
 same_label : (a b c : LabelRow) → have_same_label a b ≡ true → have_same_label b c ≡ have_same_label a c
 same_label a b c e =
-    let parts = and_true (a.name == b.name) (a.value == b.value) e in
+    let parts = and_parts (a.name == b.name) (a.value == b.value) e in
     let name : a.name ≡ b.name = grind (arith, nat_tests) in
     let value : a.value ≡ b.value = grind (arith, nat_tests) in
     ap (λ n. (n == c.name) && (b.value == c.value)) (sym name) ∙ ap (λ n. (a.name == c.name) && (n == c.value)) (sym value)

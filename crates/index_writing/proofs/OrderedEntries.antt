@@ -9,6 +9,7 @@ use Rattle.std.specs.Ordering.{is_lt, ordering_reverse}
 use Rattle.std.specs.Cmp.{IsTotalOrder}
 use Rattle.label_sets.specs.Ordered.{placed, in_order}
 use Rattle.list_core.proofs.Membership.{contains_first, contains_later, each_member, all_members, of_placed, of_in_order}
+use Rattle.list_core.proofs.Bools.{Less-from_is_lt}
 
 -- ---- pairs of members, the first of which stands before the second
 
@@ -36,10 +37,6 @@ pub record IsStrict {A : Type 0} (less : A → A → Bool) (R : A → A → Type
   pub other : (x y : A) → less y x ≡ false → (x ≡ y → ⊥) → R x y
 
 -- the strict part of a total order
-strict_less : (o : Ordering) → is_lt o ≡ true → o ≡ Less
-strict_less Less e = refl
-strict_less Equal e = absurd cc
-strict_less Greater e = absurd cc
 
 module _ {A : Type 0} (c : A → A → Ordering) (total : IsTotalOrder c) (ties : (x y : A) → c x y ≡ Equal → x ≡ y) where
   other_way : (x y : A) (o : Ordering) → o ≡ c x y → is_lt (c y x) ≡ false → (x ≡ y → ⊥) → c x y ≡ Less
@@ -49,7 +46,7 @@ module _ {A : Type 0} (c : A → A → Ordering) (total : IsTotalOrder c) (ties 
 
   pub strict_order : IsStrict (λ x y. is_lt (c x y)) (λ x y. c x y ≡ Less)
   strict_order = record {
-    yes = λ x y e. strict_less (c x y) e;
+    yes = λ x y e. Less-from_is_lt (c x y) e;
     trans = total.trans;
     other = λ x y e apart. other_way x y (c x y) refl e apart;
   }

@@ -1,14 +1,13 @@
 -- What sorting texts and dropping repeats leave, and the number of a text among them.
-use Rattle.std.proofs.Common.{◌≡◌, ℕ, zero, suc, ◌+◌, ◌<◌, ◌≤◌, Bool, true, false, cond, List, [], ◌∷◌, length, get_or, refl, sym, ap, subst, arith}
-use Rattle.std.specs.declared.cmp.Ordering.{Ordering}
-use Rattle.std.specs.declared.cmp.Ordering.TheVariants.{Less, Equal, Greater}
+use Rattle.std.proofs.Common.{◌≡◌, ℕ, zero, suc, ◌+◌, ◌<◌, ◌≤◌, Bool, true, false, cond, List, [], ◌∷◌, length, get_or, sym, ap, subst, arith}
+use Rattle.std.specs.declared.cmp.Ordering.TheVariants.{Less}
 use Rattle.std.specs.List.{prefix_len, AllByRecursion}
 use Rattle.std.specs.List.Sorted.{IsSortedBy, IsSorted, IsStable, IsStrictlySortedBy, IsPartitionedBy, IsPartitionPoint}
-use Rattle.std.specs.Ordering.{is_lt}
 use Rattle.std.specs.Cmp.{IsStrictWeakOrder}
 use Rattle.std.specs.Cmp.Lexicographic.{nat_list_cmp_total, texts_ties}
 use Rattle.std.proofs.lemmas.List.Sorted.{ranks_by}
 use Rattle.std.proofs.lemmas.List.Kept.{IsStrictlySortedBy-dedup}
+use Rattle.list_core.proofs.Bools.{Less-from_is_lt, is_lt-from_Less}
 use Rattle.label_sets.specs.Labels.{compare_texts}
 use Rattle.label_sets.specs.Ordered.{in_order}
 use Rattle.label_sets.proofs.StableSorts.{NoneLess, Rises, in_order-from_sort, Rises-in_order}
@@ -43,14 +42,6 @@ symbols_strict list =
 
 -- ---- the number of a text
 
-pub lt_less : (o : Ordering) → is_lt o ≡ true → o ≡ Less
-lt_less Less e = refl
-lt_less Equal e = absurd cc
-lt_less Greater e = absurd cc
-
-pub less_lt : (o : Ordering) → o ≡ Less → is_lt o ≡ true
-less_lt o e = ap is_lt e
-
 pub all_at : {A : Type 0} (P : A → Type 0) (xs : List A) (k : ℕ) (d : A) → AllByRecursion P xs → k < length xs → P (get_or xs k d)
 all_at P [] k d all lt = absurd (omega arith)
 all_at P (x ∷ xs) zero d all lt = all.0
@@ -61,7 +52,7 @@ unfolding IsStrictlySortedBy
 partitioned [] text strict i j d le lt less = absurd (omega arith)
 partitioned (x ∷ xs) text strict zero zero d le lt less = less
 partitioned (x ∷ xs) text strict zero (suc j) d le lt less =
-    less_lt (compare_texts x text) (nat_list_cmp_total.trans x (get_or xs j d) text (all_at (λ y. compare_texts x y ≡ Less) xs j d strict.0 (omega arith)) (lt_less (compare_texts (get_or xs j d) text) less))
+    is_lt-from_Less (compare_texts x text) (nat_list_cmp_total.trans x (get_or xs j d) text (all_at (λ y. compare_texts x y ≡ Less) xs j d strict.0 (omega arith)) (Less-from_is_lt (compare_texts (get_or xs j d) text) less))
 partitioned (x ∷ xs) text strict (suc i) zero d le lt less = absurd (omega arith)
 partitioned (x ∷ xs) text strict (suc i) (suc j) d le lt less = partitioned xs text strict.1 i j d (omega arith) (omega arith) less
 

@@ -1,16 +1,17 @@
 -- A view's blocks ascend: the names of a walk do, and ULIDs are in the order of their texts.
 use Rattle.std.proofs.Common.{◌≡◌, ◌<◌, ◌^◌, ℕ, Bool, true, false, not, List, [], ◌∷◌, ◌++◌, refl, sym, ◌∙◌, ap, subst, Option, Some, None, Result, Ok, Err, cond, append_assoc, append-nil}
-use Rattle.std.specs.Prelude.{◌&&◌, map}
+use Rattle.std.specs.Prelude.{map}
 use Rattle.std.specs.List.{AllByRecursion, filter, cons_option, last_or}
 use Rattle.std.specs.List.Sorted.{IsStrictlyIncreasing, IsStrictlySortedBy}
 use Rattle.std.specs.Result.{result_ok}
-use Rattle.std.proofs.Common.{Ordering, Less, Equal, Greater}
+use Rattle.std.proofs.Common.{Less}
 use Rattle.std.specs.Ordering.{is_lt, nat_cmp}
 use Rattle.std.specs.Cmp.Lexicographic.{slice_cmp}
-use Rattle.std.proofs.lemmas.Bool.{and_from}
+use Rattle.std.proofs.lemmas.Bool.{and_from, and_parts}
 use Rattle.std.proofs.lemmas.Cmp.{nat_list_cmp_total}
 use Rattle.std.proofs.lemmas.List.{map-append}
 use Rattle.std.proofs.lemmas.Map.Keys.{IsStrictlyIncreasing-from_sorted, sorted_from_strictly_increasing}
+use Rattle.list_core.proofs.Bools.{Less-from_is_lt}
 use Rattle.ulid_core.specs.UlidText.{IsUlidText, ulid_of, text_of}
 use Rattle.ulid_core.specs.declared.refusal.UlidRefusal.{UlidRefusal}
 use Rattle.ulid_core.proofs.UlidLaws.{IsUlidText-unique, slice_cmp-text_of, ulid_of-found}
@@ -36,16 +37,11 @@ abbrev AreAfter : Option (List ℕ) → List ℕ → Type 0
 AreAfter bound [] = Unit {0}
 AreAfter bound (ulid ∷ ulids) = (is_after bound (text_of ulid) ≡ true) × (ulid < 2 ^ 128) × AreAfter (Some (text_of ulid)) ulids
 
-is_less : (o : Ordering) → is_lt o ≡ true → o ≡ Less
-is_less Less is = refl
-is_less Equal is = absurd (cc (is))
-is_less Greater is = absurd (cc (is))
-
 after_less : (bound : Option (List ℕ)) (name : List ℕ) (ulids : List ℕ) → is_after bound name ≡ true → AreAfter (Some name) ulids → AreAfter bound ulids
 after_less bound name [] before all = tt
 after_less None name (ulid ∷ ulids) before all = (refl, all.1, all.2)
 after_less (Some x) name (ulid ∷ ulids) before all =
-    (ap is_lt (nat_list_cmp_total.trans x name (text_of ulid) (is_less (slice_cmp nat_cmp x name) before) (is_less (slice_cmp nat_cmp name (text_of ulid)) all.0)), all.1, all.2)
+    (ap is_lt (nat_list_cmp_total.trans x name (text_of ulid) (Less-from_is_lt (slice_cmp nat_cmp x name) before) (Less-from_is_lt (slice_cmp nat_cmp name (text_of ulid)) all.0)), all.1, all.2)
 
 one_after : (bound : Option (List ℕ)) (name : List ℕ) (ulids : List ℕ) (r : Result ℕ UlidRefusal) → ((ulid : ℕ) → r ≡ Ok ulid → IsUlidText name ulid) → is_after bound name ≡ true
     → AreAfter (Some name) ulids → AreAfter bound (cons_option (result_ok r) ulids)
@@ -54,20 +50,16 @@ one_after bound name ulids (Ok ulid) found before all =
     (subst (λ text. is_after bound text ≡ true) is before, (found ulid refl).fits, subst (λ text. AreAfter (Some text) ulids) is all)
 one_after bound name ulids (Err e) found before all = after_less bound name ulids before all
 
-both_true : (a b : Bool) → (a && b) ≡ true → (a ≡ true) × (b ≡ true)
-both_true true b is = (refl, is)
-both_true false b is = absurd (cc (is))
-
 ulids_after : (bound : Option (List ℕ)) (names : List (List ℕ)) → ascends bound names ≡ true → AreAfter bound (ulids_in names)
 ulids_after bound [] up = tt
 ulids_after bound (name ∷ names) up =
-    let each = both_true (is_after bound name) (ascends (Some name) names) up in
+    let each = and_parts (is_after bound name) (ascends (Some name) names) up in
     one_after bound name (ulids_in names) (ulid_of name) (ulid_of-found name) each.0 (ulids_after (Some name) names each.1)
 
 all_above : (ulid : ℕ) (ulids : List ℕ) → ulid < 2 ^ 128 → AreAfter (Some (text_of ulid)) ulids → AllByRecursion (λ other. nat_cmp ulid other ≡ Less) ulids
 all_above ulid [] small all = tt
 all_above ulid (other ∷ ulids) small all = (
-  sym (slice_cmp-text_of ulid other small all.1) ∙ is_less (slice_cmp nat_cmp (text_of ulid) (text_of other)) all.0,
+  sym (slice_cmp-text_of ulid other small all.1) ∙ Less-from_is_lt (slice_cmp nat_cmp (text_of ulid) (text_of other)) all.0,
   all_above ulid ulids small (after_less (Some (text_of ulid)) (text_of other) ulids all.0 all.2),
 )
 
@@ -81,7 +73,7 @@ after_ascending bound (ulid ∷ ulids) all = (all_above ulid ulids all.1 all.2, 
 ascends_on : (before : Option (List ℕ)) (listed names : List (List ℕ)) → ascends before listed ≡ true → ascends (last_or before listed) names ≡ true → ascends before (listed ++ names) ≡ true
 ascends_on before [] names up more = more
 ascends_on before (name ∷ listed) names up more =
-    let each = both_true (is_after before name) (ascends (Some name) listed) up in
+    let each = and_parts (is_after before name) (ascends (Some name) listed) up in
     and_from (is_after before name) (ascends (Some name) (listed ++ names)) each.0 (ascends_on (Some name) listed names each.1 more)
 
 -- ---- sightings

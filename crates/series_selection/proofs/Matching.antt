@@ -1,12 +1,12 @@
 -- In an index of a list of series a selector takes exactly the series whose final labels match.
-use Rattle.std.proofs.Common.{◌≡◌, ℕ, suc, ◌+◌, ◌<◌, Bool, true, false, cond, ◌&&◌, List, [], ◌∷◌, map, get_or, Option, Some, None, Result, Ok, refl, sym, ap, subst, ◌∙◌, inl, inr, arith}
+use Rattle.std.proofs.Common.{◌≡◌, ℕ, suc, ◌+◌, ◌<◌, Bool, true, false, cond, List, [], ◌∷◌, map, get_or, Option, Some, None, Result, Ok, refl, sym, ap, subst, ◌∙◌, inl, inr, arith}
 use Rattle.std.specs.Prelude.{IsTrue, IsFalse, ◌↔◌, unwrap_or}
 use Rattle.std.specs.List.{All, Contains, list_all}
 use Rattle.std.specs.List.Sorted.{IsStrictlyIncreasing}
 use Rattle.std.specs.Option.{option_or}
 use Rattle.std.specs.Str.{bytes_eq}
 use Rattle.std.specs.Cmp.Lexicographic.{bytes_decides}
-use Rattle.std.proofs.lemmas.Bool.{and_parts}
+use Rattle.std.proofs.lemmas.Bool.{and_parts, and_from}
 use Rattle.std.proofs.lemmas.Option.{same_Some}
 use Rattle.std.proofs.lemmas.List.Elements.{All-nil, All-cons, All-head, All-tail}
 use Rattle.list_core.proofs.Membership.{no_member, of_map, into_map, contains_first, contains_later, member_cases}
@@ -127,9 +127,6 @@ module _ (index : List ℕ) (numbers : List ℕ) (number : ℕ) where
 
 -- ---- tests
 
-both_true : (a b : Bool) → a ≡ true → b ≡ true → (a && b) ≡ true
-both_true a b p q = rw (p, q) refl
-
 nothing_named : (b : Bool) (name : List ℕ) (names : List (List ℕ)) → cond b (name ∷ names) names ≡ [] → (b ≡ false) × (names ≡ [])
 nothing_named true name names e = absurd cc
 nothing_named false name names e = (refl, e)
@@ -220,7 +217,7 @@ module _ (bytes : List ℕ) (list : List IndexSeries) (is : IsIndex bytes list) 
         let parts = not_named replicas m selector none in
         let one = matcher_agrees number series has m external replicas parts.0 in
         let others = selector_agrees selector parts.1 in (
-          λ all. both_true (accepts m (final_of series.labels external replicas)) (list_all (λ matcher. accepts matcher (final_of series.labels external replicas)) selector) (one.0 (All-head P m selector all)) (others.0 (All-tail P m selector all)),
+          λ all. and_from (accepts m (final_of series.labels external replicas)) (list_all (λ matcher. accepts matcher (final_of series.labels external replicas)) selector) (one.0 (All-head P m selector all)) (others.0 (All-tail P m selector all)),
           λ e. let b = and_parts (accepts m (final_of series.labels external replicas)) (list_all (λ matcher. accepts matcher (final_of series.labels external replicas)) selector) e in All-cons P m selector (one.1 b.0) (others.1 b.1),
         )
 

@@ -14,7 +14,7 @@ use Rattle.label_sets.specs.declared.sample.Sample.{Sample}
 use Rattle.label_sets.specs.declared.series.Series.{Series}
 use Rattle.label_sets.specs.Labels.{compare_sets}
 use Rattle.label_sets.specs.Triples.{Triple, triples_of, triples_under}
-use Rattle.list_core.proofs.Bools.{by_bool}
+use Rattle.list_core.proofs.Bools.{by_bool, Less-from_is_lt}
 use Rattle.list_core.proofs.StableSorts.{NoneLess, Rises}
 use Rattle.vertical_merge.specs.Joined.{has_lesser_labels, has_same_labels, joined, joined_to}
 use Rattle.vertical_merge.proofs.Concats.{IsBelow}
@@ -74,15 +74,10 @@ all-joined_to P (one ∷ []) next all p = elim (has_same_labels one next)
     ]
 all-joined_to P (one ∷ other ∷ series) next all p = (all.0, all-joined_to P (other ∷ series) next all.1 p)
 
-less_from : (o : Ordering) → is_lt o ≡ true → o ≡ Less
-less_from Less e = refl
-less_from Equal e = absurd (true≢false (sym e))
-less_from Greater e = absurd (true≢false (sym e))
-
 -- labels that are before others are before those that these are not after
 before_next : (one other next : Series) → compare_sets one.labels other.labels ≡ Less → has_lesser_labels next other ≡ false → compare_sets one.labels next.labels ≡ Less
 before_next one other next before not_after = by_bool (has_lesser_labels one next)
-    (λ t. less_from (compare_sets one.labels next.labels) t)
+    (λ t. Less-from_is_lt (compare_sets one.labels next.labels) t)
     (λ f. absurd (true≢false (sym (ap is_lt before) ∙ labels_ranked.chain one next other f not_after)))
 
 last_case : (o p : Ordering) → p ≡ ordering_reverse o → is_lt p ≡ false → is_eq o ≡ false → o ≡ Less
