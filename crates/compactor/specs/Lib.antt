@@ -6,7 +6,6 @@ pub mod Reading
 pub mod Inputs
 pub mod Merges
 pub mod InputFiles
-pub mod OnePlan
 pub mod OneRefusal
 pub mod OneMerge
 pub mod Compactions

@@ -24,7 +24,7 @@ use Rattle.compactor.specs.declared.input.Input.{Input}
 use Rattle.compactor.specs.Merges.{Given, IsRefused, IsMerging}
 use Rattle.compactor.specs.declared.merging.Merging.{Merging}
 use Rattle.compactor.specs.declared.merging.Merging.TheVariants.{Merged, Refused, TooLarge}
-use Rattle.compactor.specs.OnePlan.{compacted_once}
+use Rattle.vertical_merge.proofs.OnePlan.{one_compacted}
 use Rattle.compactor.specs.OneRefusal.{none_refused, refused_once}
 
 -- ---- what is given
@@ -53,7 +53,7 @@ module _ (ulid : ℕ) (labels : List Label) (inputs : List Input) (g h : Given u
   same_blocks = blocks_once inputs g.blocks h.blocks g.read h.read
 
   same_plan : g.plan ≡ h.plan
-  same_plan = compacted_once (map (λ (b : BlockFiles). b.meta) g.blocks) ulid labels g.plan h.plan g.planned
+  same_plan = one_compacted (map (λ (b : BlockFiles). b.meta) g.blocks) ulid labels g.plan h.plan g.planned
       (subst (λ (bs : List BlockFiles). IsCompactedPlan (map (λ (b : BlockFiles). b.meta) bs) ulid labels h.plan) (sym same_blocks) h.planned)
 
   -- what is known of the one is known of the other
