@@ -1,8 +1,8 @@
 -- The index, the times of samples, and the order of chunks: what the functions give is what the relations say.
-use Rattle.std.proofs.Common.{◌≡◌, ℕ, List, [], ◌∷◌, Bool, true, false, ◌&&◌, Option, None, Some, Ok, ℤ, refl, sym, ap, subst, ◌∙◌}
+use Rattle.std.proofs.Common.{◌≡◌, ℕ, List, [], ◌∷◌, Bool, true, false, Option, None, Some, Ok, ℤ, refl, sym, ap, subst, ◌∙◌}
 use Rattle.std.specs.Prelude.{option_map, if◌then◌else◌}
 use Rattle.std.proofs.Math.Dec.{T}
-use Rattle.std.proofs.lemmas.Bool.{and_parts, true≢false}
+use Rattle.std.proofs.lemmas.Bool.{and_parts, true≢false, and_from}
 use Rattle.reading_core.specs.Grammar.{IsBytes}
 use Rattle.reading_core.proofs.Binds.{bind_ok}
 use Rattle.label_sets.specs.declared.sample.Sample.{Sample}
@@ -50,11 +50,8 @@ passes false t = absurd t
 within_found : (meta : Meta) (sample : Sample) → is_within meta sample ≡ true → IsWithin meta sample
 within_found meta sample e = let p = and_parts _ _ e in (record { le = truly _ p.0 }, record { lt = truly _ p.1 })
 
-both : (a b : Bool) → a ≡ true → b ≡ true → (a && b) ≡ true
-both a b p q = rw (p, q) refl
-
 within_again : (meta : Meta) (sample : Sample) → IsWithin meta sample → is_within meta sample ≡ true
-within_again meta sample is = both _ _ (passes _ is.0.le) (passes _ is.1.lt)
+within_again meta sample is = and_from _ _ (passes _ is.0.le) (passes _ is.1.lt)
 
 -- a test that finds something where it does not hold
 chosen_none : {X : Type 0} (b : Bool) (x : X) → (if b then None else Some x) ≡ None → b ≡ true
@@ -107,7 +104,7 @@ follow_found before (chunk ∷ chunks) e = let p = and_parts _ _ e in (begins_fo
 pub follow_again : (before : Option ChunkPlace) (chunks : List ChunkPlace) → InOrderAfter BeginsAfter before chunks → follow before chunks ≡ true
 unfolding follow
 follow_again before [] up = refl
-follow_again before (chunk ∷ chunks) up = both _ _ (begins_again before chunk up.0) (follow_again (Some chunk) chunks up.1)
+follow_again before (chunk ∷ chunks) up = and_from _ _ (begins_again before chunk up.0) (follow_again (Some chunk) chunks up.1)
 
 pub order_finds : Finds repeated_in IsApart (λ one (u : Unit {0}). IsApart one → ⊥)
 order_finds = record {

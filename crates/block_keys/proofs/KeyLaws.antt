@@ -98,7 +98,7 @@ key_of-found text key is =
     absurd (none-some key (sym (key_named-nil parts.0) ∙ ap (key_named parts.0) (sym (after_first-none text none)) ∙ parts.2)) in
     ⊎_elim empty found (slash_cases text)
 
-before_slash : (digits name : List ℕ) → AllBelowBase 32 digits → position_or_len is_slash (map character digits ++ (47 ∷ name)) ≡ length digits
+pub before_slash : (digits name : List ℕ) → AllBelowBase 32 digits → position_or_len is_slash (map character digits ++ (47 ∷ name)) ≡ length digits
 before_slash [] name all = refl
 before_slash (d ∷ digits) name all =
     let range = character-range d all.0 in

@@ -27,7 +27,7 @@ use Rattle.block_laws.proofs.Standing.{IsAt, IsPlaced, all_placed, are_apart}
 
 -- ---- a chunk
 
-text_once : (bytes : List ℕ) (samples others : List Sample) → IsText 8 bytes samples → IsText 8 bytes others → samples ≡ others
+pub text_once : (bytes : List ℕ) (samples others : List Sample) → IsText 8 bytes samples → IsText 8 bytes others → samples ≡ others
 text_once bytes samples others is too = ok_is {E = XorRefusal} samples others (sym (data_again 8 bytes samples is) ∙ data_again 8 bytes others too)
 
 chunk_times : (plan : PlanFields) (segments : List (List ℕ)) (chunk : PutChunk) (place : ChunkPlace) (stored : IsStored plan chunk) → IsAt segments chunk place → HaveTimesOf place stored.samples

@@ -22,6 +22,7 @@ use Rattle.label_sets.specs.Triples.{Triple, triples_of, triples_under, compare_
 use Rattle.vertical_merge.specs.Merged.{AreFirst, IsMerge}
 use Rattle.vertical_merge.proofs.Orders.{same_key}
 use Rattle.vertical_merge.proofs.Merging.{triple_of}
+use Rattle.vertical_merge.proofs.Joining.{triples_under-append}
 use Rattle.index_parts.specs.declared.chunk_place.ChunkPlace.{ChunkPlace}
 use Rattle.index_file.specs.declared.index_series.IndexSeries.{IndexSeries}
 use Rattle.xor_chunks.specs.Grammar.{IsText}
@@ -43,7 +44,7 @@ use Rattle.block_merging.proofs.OneMerge.{under, into_under, of_under}
 use Rattle.block_merging.proofs.Firsts.{find_filter}
 use Rattle.block_merging.proofs.StoredInputs.{index_once, data_there}
 use Rattle.block_merging.proofs.SameLists.{zip_back, zip_member}
-use Rattle.block_merging.proofs.FirstOfSeries.{under-append, series_first}
+use Rattle.block_merging.proofs.FirstOfSeries.{series_first}
 
 -- ---- what is given under labels
 
@@ -75,7 +76,7 @@ under_more labels s all g given is h =
           (each_append StandsFor s.chunks (chunks_under labels all) is.parts h.parts is.chunks_are h.read);
       are = cut ∙ ap (λ (l : List Triple). l ++ filter (is_under labels) (triples_of given))
           (ap (λ (n : List Label). filter (is_under labels) (triples_under n g.samples)) named ∙ filter_all (is_under labels) (triples_under labels g.samples) (under_itself labels g.samples))
-          ∙ ap (λ (l : List Triple). triples_under labels g.samples ++ l) h.are ∙ sym (under-append labels g.samples (joined h.parts))
+          ∙ ap (λ (l : List Triple). triples_under labels g.samples ++ l) h.are ∙ sym (triples_under-append labels g.samples (joined h.parts))
           ∙ ap (triples_under labels) (ap (λ (l : List Sample). l ++ joined h.parts) is.samples_are ∙ sym (flat_map-append (λ (p : List Sample). p) is.parts h.parts));
     })
     (λ f. record {

@@ -8,7 +8,6 @@ use Rattle.std.specs.Ordering.{int_cmp, ordering_then, is_eq}
 use Rattle.std.specs.Cmp.{IsEquivalence}
 use Rattle.std.proofs.lemmas.Int.{ints}
 use Rattle.std.proofs.lemmas.Bool.{true≢false, and_from}
-use Rattle.std.proofs.lemmas.List.{map-append}
 use Rattle.std.proofs.lemmas.List.Elements.{All-from_recursion, All-contains, filter-append}
 use Rattle.std.proofs.lemmas.Grind.{flat_map-append}
 use Rattle.std.proofs.lemmas.Map.Keys.{sorted_head, sorted_tail}
@@ -23,19 +22,22 @@ use Rattle.label_sets.specs.Triples.{Triple, triples_under, compare_keys, has_sa
 use Rattle.vertical_merge.specs.Merged.{AreFirst}
 use Rattle.vertical_merge.proofs.Orders.{keys_total, set_itself}
 use Rattle.vertical_merge.proofs.Merging.{triple_of}
+use Rattle.vertical_merge.proofs.Laws.{find_here, find_skip}
+use Rattle.vertical_merge.proofs.Joining.{triples_under-append}
 use Rattle.std.proofs.lemmas.Cmp.{eq_by_cmp_equiv}
 use Rattle.block_writing.specs.Put.{PlanFields, PutChunk, PutSeries, IsStored}
 use Rattle.block_laws.specs.PutContent.{IsSeriesOf}
+use Rattle.block_laws.proofs.Content.{text_once}
 use Rattle.block_merging.specs.Runs.{AreConnected, Span, lies_in}
 use Rattle.block_merging.specs.MergedSeries.{Becomes, IsMergedSeries}
 use Rattle.block_merging.specs.Steps.{StandsFor, joined}
 use Rattle.block_merging.proofs.Chains.{any_of, member_of}
-use Rattle.block_merging.proofs.Merged.{text_once, part_inside, texts_of, IsInside, samples_inside}
+use Rattle.block_merging.proofs.Merged.{part_inside, texts_of, IsInside, samples_inside}
 use Rattle.block_merging.proofs.OneMerge.{first_labels, one_triples, of_under, under}
 use Rattle.block_merging.proofs.OneCut.{lies, AreApart, of_two}
 use Rattle.block_merging.proofs.SameLists.{each_once, split_zip}
 use Rattle.block_merging.proofs.Rising.{text_ascends}
-use Rattle.block_merging.proofs.Firsts.{find_hit, find_miss, in_span, AreFirstOfEach, joined as joined_triples, first_joined}
+use Rattle.block_merging.proofs.Firsts.{in_span, AreFirstOfEach, joined as joined_triples, first_joined}
 
 -- ---- a chunk in a span, and one outside it
 
@@ -81,10 +83,6 @@ unfolding triples_under
 in_triples P labels part each = All-from_recursion P (triples_under labels part) (all_members P (map (triple_of labels) part) (λ t among.
     let w = of_map (triple_of labels) part t among in subst P w.2 (each w.0 w.1)))
 
-pub under-append : (labels : List Label) (xs ys : List Sample) → triples_under labels (xs ++ ys) ≡ triples_under labels xs ++ triples_under labels ys
-unfolding triples_under
-under-append labels xs ys = map-append (triple_of labels) xs ys
-
 module _ (plan : PlanFields) (labels : List Label) (spans : List Span) (apart : AreApart spans) where
   -- whether the samples of a chunk lie in a span tells the chunk itself
   kept_of_chunk : (span : Span) (c : PutChunk) (part : List Sample) → Contains spans span → IsStored plan c → StandsFor c part → Any (λ s. lies_in s c ≡ true) spans
@@ -115,12 +113,12 @@ module _ (plan : PlanFields) (labels : List Label) (spans : List Span) (apart : 
   run_parts span (c ∷ chunks) (p ∷ parts) among stored covered each =
       let w = run_parts span chunks parts among stored.1 (λ d within. covered d (contains_later c d chunks within)) each.1 in
       let cut : filter (in_span span) (triples_under labels (p ++ joined parts)) ≡ filter (in_span span) (triples_under labels p) ++ filter (in_span span) (triples_under labels (joined parts)) =
-      ap (filter (in_span span)) (under-append labels p (joined parts)) ∙ filter-append (in_span span) (triples_under labels p) (triples_under labels (joined parts)) in
+      ap (filter (in_span span)) (triples_under-append labels p (joined parts)) ∙ filter-append (in_span span) (triples_under labels p) (triples_under labels (joined parts)) in
       elim (kept_of_chunk span c p among stored.0 each.0 (covered c (contains_first c chunks))) [
         | inl (here, all) ↦ (
           p ∷ w.0,
           subst (λ (l : List PutChunk). AllZip StandsFor l (p ∷ w.0)) (sym (filter_hit (lies_in span) c chunks here)) (each.0, w.1),
-          cut ∙ ap (λ (l : List Triple). l ++ filter (in_span span) (triples_under labels (joined parts))) all ∙ ap (λ (l : List Triple). triples_under labels p ++ l) w.2 ∙ sym (under-append labels p (joined w.0)),
+          cut ∙ ap (λ (l : List Triple). l ++ filter (in_span span) (triples_under labels (joined parts))) all ∙ ap (λ (l : List Triple). triples_under labels p ++ l) w.2 ∙ sym (triples_under-append labels p (joined w.0)),
         )
         | inr (f, none) ↦ (
           w.0,
@@ -137,9 +135,9 @@ keys_alike = eq_by_cmp_equiv keys_total
 found_itself : (list : List Triple) (t : Triple) → IsStrictlySortedBy compare_keys list → Contains list t → find (has_same_key t) list ≡ Some t
 found_itself [] t up among = absurd (no_member t among)
 found_itself (x ∷ xs) t up among = elim (member_cases x t xs among) [
-  | inl is ↦ find_hit (has_same_key t) x xs (ap (has_same_key t) is ∙ keys_alike.refl t) ∙ ap (λ (u : Triple). Some u) is
+  | inl is ↦ find_here (has_same_key t) x xs (ap (has_same_key t) is ∙ keys_alike.refl t) ∙ ap (λ (u : Triple). Some u) is
   | inr later ↦
-      find_miss (has_same_key t) x xs (keys_alike.symm t x ∙ ap is_eq (each_member (λ u. compare_keys x u ≡ Less) xs t (sorted_head compare_keys x xs up) later))
+      find_skip (has_same_key t) x xs (keys_alike.symm t x ∙ ap is_eq (each_member (λ u. compare_keys x u ≡ Less) xs t (sorted_head compare_keys x xs up) later))
       ∙ found_itself xs t (sorted_tail compare_keys x xs up) later
 ]
 
@@ -205,7 +203,7 @@ module _ (plan : PlanFields) (labels : List Label) (spans : List Span) (apart : 
       let first = run_first plan labels (filter (lies_in s) chunks) m w.0 cut.0 connected.0.some (run_stored s) w.1 becomes.0 cut.2 in (
         triples_under labels (joined cut.0) ∷ others.0,
         (subst (λ (l : List Triple). AreFirst l (triples_under labels (joined cut.0))) (sym w.2) first, others.1),
-        ap (λ (l : List Triple). triples_under labels (joined cut.0) ++ l) others.2 ∙ sym (under-append labels (joined cut.0) (joined cut.1))
+        ap (λ (l : List Triple). triples_under labels (joined cut.0) ++ l) others.2 ∙ sym (triples_under-append labels (joined cut.0) (joined cut.1))
             ∙ ap (triples_under labels) (sym (flat_map-append (λ (p : List Sample). p) cut.0 cut.1) ∙ ap joined (sym cut.4)),
       )
 

@@ -1,5 +1,5 @@
 -- The first patterns of spans of time, one span after another, are the first patterns of all.
-use Rattle.std.proofs.Common.{◌≡◌, Bool, true, false, cond, ◌&&◌, ◌||◌, List, [], ◌∷◌, ◌++◌, refl, sym, ap, ◌∙◌, arith, inl, inr, ℤ, Less}
+use Rattle.std.proofs.Common.{◌≡◌, Bool, true, false, ◌&&◌, ◌||◌, List, [], ◌∷◌, ◌++◌, refl, sym, ap, ◌∙◌, arith, inl, inr, ℤ, Less}
 use Rattle.std.specs.Prelude.{Any, All, Contains, Some, int_le, ◌≤ℤ◌, ◌<ℤ◌}
 use Rattle.std.specs.List.{AllByRecursion, AllPairs, filter, flat_map, find, list_any}
 use Rattle.std.specs.List.Sorted.{IsStrictlySortedBy}
@@ -16,6 +16,7 @@ use Rattle.label_sets.specs.Labels.{compare_sets}
 use Rattle.label_sets.specs.Triples.{Triple, compare_keys, has_same_key}
 use Rattle.vertical_merge.specs.Merged.{AreFirst}
 use Rattle.vertical_merge.proofs.Orders.{same_key, set_itself}
+use Rattle.vertical_merge.proofs.Laws.{find_here, find_skip}
 use Rattle.block_merging.specs.Runs.{Span}
 use Rattle.block_merging.proofs.Chains.{any_of, member_of}
 use Rattle.block_merging.proofs.OneCut.{le_from, first_apart, others_apart}
@@ -24,20 +25,14 @@ use Rattle.block_merging.proofs.OneCut.{le_from, first_apart, others_apart}
 abbrev pub in_span : Span → Triple → Bool
 in_span span t = int_le span.begin t.time && int_le t.time span.end
 
-pub find_hit : (q : Triple → Bool) (x : Triple) (xs : List Triple) → q x ≡ true → find q (x ∷ xs) ≡ Some x
-find_hit q x xs h = ap (λ b. cond b (Some x) (find q xs)) h
-
-pub find_miss : (q : Triple → Bool) (x : Triple) (xs : List Triple) → q x ≡ false → find q (x ∷ xs) ≡ find q xs
-find_miss q x xs h = ap (λ b. cond b (Some x) (find q xs)) h
-
 -- what passes one test passes the other, so it is found among those that pass the other
 pub find_filter : (q p : Triple → Bool) → ((x : Triple) → q x ≡ true → p x ≡ true) → (xs : List Triple) → find q (filter p xs) ≡ find q xs
 find_filter q p only [] = refl
 find_filter q p only (x ∷ xs) = by_bool (q x)
-    (λ t. ap (find q) (filter_hit p x xs (only x t)) ∙ find_hit q x (filter p xs) t ∙ sym (find_hit q x xs t))
+    (λ t. ap (find q) (filter_hit p x xs (only x t)) ∙ find_here q x (filter p xs) t ∙ sym (find_here q x xs t))
     (λ f. by_bool (p x)
-    (λ u. ap (find q) (filter_hit p x xs u) ∙ find_miss q x (filter p xs) f ∙ find_filter q p only xs ∙ sym (find_miss q x xs f))
-    (λ u. ap (find q) (filter_miss p x xs u) ∙ find_filter q p only xs ∙ sym (find_miss q x xs f)))
+    (λ u. ap (find q) (filter_hit p x xs u) ∙ find_skip q x (filter p xs) f ∙ find_filter q p only xs ∙ sym (find_skip q x xs f))
+    (λ u. ap (find q) (filter_miss p x xs u) ∙ find_filter q p only xs ∙ sym (find_skip q x xs f)))
 
 same_in : (span : Span) (t x : Triple) → in_span span t ≡ true → has_same_key t x ≡ true → in_span span x ≡ true
 same_in span t x h same = ap (λ time. int_le span.begin time && int_le time span.end) (sym (same_key t x same).1) ∙ h

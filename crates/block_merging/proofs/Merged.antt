@@ -1,21 +1,18 @@
 -- The merge of a run's chunks lies where they lie.
-use Rattle.std.proofs.Common.{◌≡◌, ◌≢◌, ℕ, suc, ◌-◌, ◌<◌, List, [], ◌∷◌, length, map, get_or, Option, Some, None, Result, Ok, Err, refl, sym, ap, subst, ◌∙◌, arith, inl, inr, ℤ, true, false, cond}
+use Rattle.std.proofs.Common.{◌≡◌, ◌≢◌, suc, ◌-◌, ◌<◌, List, [], ◌∷◌, length, map, get_or, Option, Some, None, Result, Ok, Err, refl, sym, ap, subst, ◌∙◌, arith, inl, inr, ℤ, true, false, cond}
 use Rattle.std.specs.Prelude.{Contains, slice_get, OnOk, ◌≤ℤ◌, ◌<ℤ◌}
 use Rattle.std.specs.List.{AllByRecursion, AllZip}
 use Rattle.std.proofs.lemmas.Int.{ints}
 use Rattle.std.proofs.lemmas.List.Elements.{Contains-append_left, Contains-append_cases}
 use Rattle.std.proofs.lemmas.List.{length-map}
+use Rattle.block_laws.proofs.Content.{text_once}
 use Rattle.list_core.specs.Ordered.{in_order, placed}
 use Rattle.list_core.proofs.Membership.{no_member, contains_first, contains_later, each_member, all_members, of_in_order, into_in_order, of_map, into_map, contains_place}
-use Rattle.reading_core.proofs.Binds.{ok_is}
 use Rattle.label_sets.specs.declared.label.Label.{Label}
 use Rattle.label_sets.specs.declared.sample.Sample.{Sample}
 use Rattle.label_sets.specs.declared.series.Series.{Series}
 use Rattle.label_sets.specs.Triples.{triples_under}
 use Rattle.vertical_merge.specs.Merged.{IsMerge}
-use Rattle.xor_chunks.specs.Grammar.{IsText}
-use Rattle.xor_chunks.specs.declared.refusal.XorRefusal.{XorRefusal}
-use Rattle.xor_chunks.proofs.TextsRead.{data_again}
 use Rattle.index_parts.specs.declared.chunk_place.ChunkPlace.{ChunkPlace}
 use Rattle.block_content.specs.Content.{HaveTimesOf}
 use Rattle.block_content.proofs.Appending.{text_between}
@@ -36,9 +33,6 @@ lt_le a b c h k = omega (arith, ints)
 
 le_lt : (a b c : ℤ) → a ≤ℤ b → b <ℤ c → a <ℤ c
 le_lt a b c h k = omega (arith, ints)
-
-pub text_once : (bytes : List ℕ) (samples others : List Sample) → IsText 8 bytes samples → IsText 8 bytes others → samples ≡ others
-text_once bytes samples others is too = ok_is {E = XorRefusal} samples others (sym (data_again 8 bytes samples is) ∙ data_again 8 bytes others too)
 
 -- a place with the chunk's times
 abbrev place_of : PutChunk → ChunkPlace

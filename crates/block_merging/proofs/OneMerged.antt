@@ -1,22 +1,20 @@
 -- Blocks are merged in one way.
-use Rattle.std.proofs.Common.{◌≡◌, ◌≢◌, ℕ, Bool, true, List, [], ◌∷◌, ◌++◌, map, Option, Some, refl, sym, ap, subst, ◌∙◌, ℤ, Less, Equal}
+use Rattle.std.proofs.Common.{◌≡◌, ◌≢◌, ℕ, List, [], ◌∷◌, ◌++◌, map, refl, sym, ap, subst, ◌∙◌, Less, Equal}
 use Rattle.std.specs.Prelude.{Contains}
-use Rattle.std.specs.List.{AllByRecursion, AllZip, find, list_any, filter, flat_map}
+use Rattle.std.specs.List.{AllByRecursion, AllZip, filter, flat_map}
 use Rattle.std.specs.declared.cmp.Ordering.{Ordering}
-use Rattle.std.specs.Ordering.{int_cmp, ordering_then, is_eq}
-use Rattle.std.proofs.lemmas.Cmp.{tied_itself}
-use Rattle.std.proofs.lemmas.List.Elements.{All-contains}
 use Rattle.list_core.proofs.Lists.{cons_parts}
 use Rattle.list_core.proofs.Order.{sorted_unmap}
-use Rattle.list_core.proofs.Membership.{no_member, contains_first, each_member, of_map, of_filter, member_passes, of_flat_map, member_of_any}
+use Rattle.list_core.proofs.Membership.{no_member, contains_first, each_member, of_map, of_filter, member_passes, of_flat_map}
 use Rattle.reading_core.specs.Grammar.{IsBytes}
 use Rattle.label_sets.specs.declared.label.Label.{Label}
 use Rattle.label_sets.specs.declared.sample.Sample.{Sample}
 use Rattle.label_sets.specs.declared.series.Series.{Series}
 use Rattle.label_sets.specs.Labels.{compare_sets}
-use Rattle.label_sets.specs.Triples.{Triple, triples_of, triples_under, compare_keys, has_same_key}
-use Rattle.vertical_merge.specs.Merged.{AreFirst, IsMerge}
-use Rattle.vertical_merge.proofs.Orders.{keys_total, sets_total, same_key, set_itself}
+use Rattle.label_sets.specs.Triples.{Triple, triples_of, triples_under}
+use Rattle.vertical_merge.specs.Merged.{IsMerge}
+use Rattle.vertical_merge.proofs.Orders.{sets_total, set_itself}
+use Rattle.vertical_merge.proofs.OneMerge.{one_kept}
 use Rattle.index_file.specs.declared.index_series.IndexSeries.{IndexSeries}
 use Rattle.block_meta.specs.declared.block_plan.BlockPlan.{BlockPlan}
 use Rattle.block_files.specs.declared.block_files.BlockFiles.{BlockFiles}
@@ -26,12 +24,13 @@ use Rattle.block_writing.specs.Writing.{plan_fields}
 use Rattle.block_writing.specs.Built.{IsPutAs}
 use Rattle.block_writing.proofs.OnePut.{put_once}
 use Rattle.block_laws.specs.PutContent.{IsSeriesOf, AreSeriesOf}
+use Rattle.block_laws.proofs.Content.{text_once}
 use Rattle.block_merging.specs.Inputs.{LiesWithin, HasContent, AreTaken, taken}
 use Rattle.block_merging.specs.MergedSeries.{AreMerged, Becomes, IsMergedSeries}
 use Rattle.block_merging.specs.MergedBlock.{has_labels, chunks_under, AreMerges, IsMergedPut}
 use Rattle.block_merging.proofs.Grouping.{same_labels}
-use Rattle.block_merging.proofs.OneMerge.{taken as first_taken, first_labels, one_triples}
-use Rattle.block_merging.proofs.Merged.{text_once, is_timed}
+use Rattle.block_merging.proofs.OneMerge.{first_labels, one_triples}
+use Rattle.block_merging.proofs.Merged.{is_timed}
 use Rattle.block_merging.proofs.OneCut.{IsTimed, runs_once}
 use Rattle.block_merging.proofs.SameLists.{same_lists, each_once}
 use Rattle.block_merging.proofs.StoredInputs.{index_once, taken_stored}
@@ -47,34 +46,6 @@ series_once put one other is too =
 pub all_series_once : (puts : List PutSeries) (one other : List Series) → AreSeriesOf puts one → AreSeriesOf puts other → one ≡ other
 all_series_once puts one other are too = each_once IsSeriesOf series_once puts one other are too
 
--- ---- first patterns
-
-abbrev at_key : List Label → ℤ → Triple → Bool
-at_key labels time t = is_eq (ordering_then (compare_sets labels t.labels) (int_cmp time t.time))
-
--- triples with one key find the same
-find_alike : (list : List Triple) (t u : Triple) → has_same_key t u ≡ true → find (has_same_key t) list ≡ find (has_same_key u) list
-find_alike list t u same =
-    let parts = same_key t u same in
-    ap (λ (l : List Label). find (at_key l t.time) list) parts.0 ∙ ap (λ (z : ℤ). find (at_key u.labels z) list) parts.1
-
-no_key_turns : (t u : Triple) → compare_keys t u ≡ Less → compare_keys u t ≡ Less → ⊥
-no_key_turns t u less more = let e : Less ≡ Equal = sym (keys_total.trans t u t less more) ∙ tied_itself keys_total t in absurd cc
-
-found_same : (o : Option Triple) (t u : Triple) → o ≡ Some t → o ≡ Some u → t ≡ u
-found_same o t u e f = let g : Some t ≡ Some u = sym e ∙ f in cc
-
-first_in : (list kept others : List Triple) → AreFirst list kept → AreFirst list others → (t : Triple) → Contains kept t → Contains others t
-first_in list kept others is too t among =
-    let u = member_of_any (has_same_key t) others (All-contains (λ x. list_any (has_same_key x) others ≡ true) list t too.complete (first_taken list kept t is among)) in
-    let first : find (has_same_key t) list ≡ Some t = All-contains (λ x. find (has_same_key x) list ≡ Some x) kept t is.first among in
-    let second : find (has_same_key u.0) list ≡ Some u.0 = All-contains (λ x. find (has_same_key x) list ≡ Some x) others u.0 too.first u.1 in
-    let same : find (has_same_key t) list ≡ find (has_same_key u.0) list = find_alike list t u.0 u.2 in
-    subst (Contains others) (sym (found_same (find (has_same_key t) list) t u.0 first (same ∙ second))) u.1
-
-pub first_once : (list kept others : List Triple) → AreFirst list kept → AreFirst list others → kept ≡ others
-first_once list kept others is too = same_lists compare_keys no_key_turns kept others is.ascending too.ascending (first_in list kept others is too) (first_in list others kept too is)
-
 -- ---- a run
 
 abbrev sample_of : Triple → Sample
@@ -88,7 +59,7 @@ samples_back labels (s ∷ ss) = ap (λ (l : List Sample). s ∷ l) (samples_bac
 kept_once : (labels : List Label) (samples : List Sample) (k l : Series) → IsMerge (triples_under labels samples) (k ∷ []) → IsMerge (triples_under labels samples) (l ∷ []) → k ≡ l
 kept_once labels samples k l is too =
     let named : k.labels ≡ l.labels = first_labels labels samples k [] is ∙ sym (first_labels labels samples l [] too) in
-    let triples : triples_under k.labels k.samples ≡ triples_under l.labels l.samples = sym (one_triples k) ∙ first_once (triples_under labels samples) (triples_of (k ∷ [])) (triples_of (l ∷ [])) is.first too.first ∙ one_triples l in
+    let triples : triples_under k.labels k.samples ≡ triples_under l.labels l.samples = sym (one_triples k) ∙ one_kept (triples_under labels samples) (triples_of (k ∷ [])) (triples_of (l ∷ [])) is.first too.first ∙ one_triples l in
     let samples_are : k.samples ≡ l.samples = sym (samples_back k.labels k.samples) ∙ ap (map sample_of) triples ∙ samples_back l.labels l.samples in
     ap (λ (n : List Label). record { labels = n; samples = k.samples }) named ∙ ap (λ (n : List Sample). record { labels = l.labels; samples = n }) samples_are
 

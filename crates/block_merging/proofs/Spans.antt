@@ -7,6 +7,7 @@ use Rattle.std.proofs.lemmas.Int.{ints, by_lt_z}
 use Rattle.std.proofs.lemmas.List.{append-nil, map-append}
 use Rattle.std.proofs.lemmas.List.Elements.{All-from_recursion, filter-append, Contains-append_left, Contains-append_right, Contains-append_cases}
 use Rattle.std.proofs.lemmas.List.Kept.{AllPairs-cons}
+use Rattle.std.proofs.lemmas.Bool.{and_from}
 use Rattle.list_core.specs.Ordered.{in_order}
 use Rattle.list_core.proofs.Lists.{AllByRecursion-append, AllByRecursion-weaker}
 use Rattle.list_core.proofs.Membership.{no_member, contains_first, contains_later, each_member, all_members, of_in_order, into_in_order, of_map, into_map}
@@ -102,9 +103,6 @@ le_true a b h = grind (arith, ints)
 le_false : (a b : ℤ) → b <ℤ a → int_le a b ≡ false
 le_false a b h = grind (arith, ints)
 
-and_both : (a b : Bool) → a ≡ true → b ≡ true → (a && b) ≡ true
-and_both a b e f = cc (ap (λ x. x && b) e)
-
 and_first : (a b : Bool) → a ≡ false → (a && b) ≡ false
 and_first a b e = ap (λ x. x && b) e
 
@@ -114,7 +112,7 @@ and_second false b e = refl
 
 lies : (chunks : List PutChunk) (span : Span) (x : PutChunk) → IsSpanOf chunks span → Contains chunks x → lies_in span x ≡ true
 lies chunks span x is among =
-    and_both (int_le span.begin x.min) (int_le x.max span.end) (le_true span.begin x.min (each_member (λ (y : PutChunk). span.begin ≤ℤ y.min) chunks x is.low among))
+    and_from (int_le span.begin x.min) (int_le x.max span.end) (le_true span.begin x.min (each_member (λ (y : PutChunk). span.begin ≤ℤ y.min) chunks x is.low among))
     (le_true x.max span.end (each_member (λ (y : PutChunk). y.max ≤ℤ span.end) chunks x is.high among))
 
 below_begin : (a b c d : ℤ) → a ≤ℤ b → b <ℤ c → c ≡ d → a <ℤ d

@@ -6,10 +6,11 @@ use Rattle.std.specs.Str.{bytes_eq}
 use Rattle.std.proofs.lemmas.Bool.{and_from, cases_lt, cases_Bool, false_from_ne_true}
 use Rattle.std.proofs.lemmas.List.{take-append-drop, get_or_default}
 use Rattle.std.proofs.Math.Seq.{drop-cons}
+use Rattle.list_core.proofs.Bools.{bytes_eq-itself, bytes_eq-same}
 use Rattle.bucket_core.specs.Contents.{is_key}
 use Rattle.bucket_core.specs.declared.stored.Stored.{Stored}
 use Rattle.bucket_core.specs.Stored.{is_before, in_order, have_keys, object_in, updated, IsPlace, IsUpdated, StandsAt}
-use Rattle.bucket_core.proofs.Edits.{replaced_behind, inserted_behind, removed_behind, in_order-drop, found_behind, nothing_here, same_text, eq_refl, after_all, comes_after}
+use Rattle.bucket_core.proofs.Edits.{replaced_behind, inserted_behind, removed_behind, in_order-drop, found_behind, nothing_here, after_all, comes_after}
 
 -- a list around the element at a place
 around : {X : Type 0} (xs : List X) (i : ℕ) (d : X) → i < length xs → take i xs ++ get_or xs i d ∷ drop (suc i) xs ≡ xs
@@ -45,7 +46,7 @@ removed_at key objects place d ordered keys at stands =
 first_differs : (key : List ℕ) (objects : List Stored) (place : ℕ) (d : Stored) → place < length objects → (StandsAt key objects place → ⊥)
     → bytes_eq (get_or objects place d).key key ≡ false
 first_differs key objects place d lt free =
-    false_from_ne_true _ (λ same. free (lt, λ e. ap (λ o. o.key) (get_or_default objects place e d lt) ∙ same_text (get_or objects place d).key key same))
+    false_from_ne_true _ (λ same. free (lt, λ e. ap (λ o. o.key) (get_or_default objects place e d lt) ∙ bytes_eq-same (get_or objects place d).key key same))
 
 head_fails : {X : Type 0} (p : X → Bool) (xs : List X) (n : ℕ) (d : X) → n < length xs → AllByRecursion (λ x. p x ≡ false) (drop n xs) → p (get_or xs n d) ≡ false
 head_fails p [] n d lt all = absurd (omega arith)
@@ -93,7 +94,7 @@ unmoved : (key : List ℕ) (objects : List Stored) → object_in objects key ≡
     → object_in objects q ≡ updated key None (object_in objects) q
 unmoved key objects none q =
     elim (cases_Bool (bytes_eq key q)) [
-      | inl same ↦ ap (object_in objects) (sym (same_text key q same)) ∙ none ∙ ap (λ b. cond b None (object_in objects q)) (sym same)
+      | inl same ↦ ap (object_in objects) (sym (bytes_eq-same key q same)) ∙ none ∙ ap (λ b. cond b None (object_in objects q)) (sym same)
       | inr differs ↦ ap (λ b. cond b None (object_in objects q)) (sym differs)
     ]
 
@@ -103,7 +104,7 @@ found_at key objects place d at stands =
     let o : Stored = get_or objects place d in
     ap (λ l. object_in l key) (sym (around objects place d stands.0))
     ∙ found_behind key (take place objects) (o ∷ drop (suc place) objects) at.front
-    ∙ ap (λ b. cond b (Some o.bytes) (object_in (drop (suc place) objects) key)) (ap (λ k. bytes_eq k key) (stands.1 d) ∙ eq_refl key)
+    ∙ ap (λ b. cond b (Some o.bytes) (object_in (drop (suc place) objects) key)) (ap (λ k. bytes_eq k key) (stands.1 d) ∙ bytes_eq-itself key)
 
 pub absent_at : (key : List ℕ) (objects : List Stored) (place : ℕ) → in_order objects ≡ true → IsPlace key objects place
     → (StandsAt key objects place → ⊥) → object_in objects key ≡ None

@@ -9,17 +9,11 @@ use Rattle.std.proofs.lemmas.Bool.{and_parts, and_from, false_from_ne_true, case
 use Rattle.std.proofs.lemmas.Cmp.{tied_itself}
 use Rattle.std.proofs.lemmas.List.Folds.{list_all-append}
 use Rattle.std.proofs.lemmas.Slice.Eq.{bytes_eq-Decides}
-use Rattle.list_core.proofs.Bools.{Less-from_is_lt}
+use Rattle.list_core.proofs.Bools.{Less-from_is_lt, bytes_eq-same}
 use Rattle.bucket_core.specs.Contents.{is_key}
 use Rattle.bucket_core.specs.declared.stored.Stored.{Stored}
 use Rattle.bucket_core.specs.Stored.{key_cmp, is_before, in_order, have_keys, object_in, updated, IsUpdated}
 use Rattle.bucket_core.proofs.Places.{key_total, keys_equal}
-
-pub same_text : (a b : List ℕ) → bytes_eq a b ≡ true → a ≡ b
-same_text a b e = (bytes_eq-Decides a b).0 e
-
-pub eq_refl : (a : List ℕ) → bytes_eq a a ≡ true
-eq_refl a = (bytes_eq-Decides a a).1 refl
 
 not_before_itself : (key : List ℕ) → is_lt (key_cmp key key) ≡ false
 not_before_itself key = ap is_lt (tied_itself key_total key)
@@ -28,7 +22,7 @@ not_before_itself key = ap is_lt (tied_itself key_total key)
 pub before_differs : (o : Stored) (key : List ℕ) → is_before key o ≡ true → bytes_eq o.key key ≡ false
 before_differs o key before =
     false_from_ne_true (bytes_eq o.key key) (λ same.
-    let e : is_lt (key_cmp o.key key) ≡ false = ap (λ k. is_lt (key_cmp o.key k)) (sym (same_text o.key key same)) ∙ not_before_itself o.key in
+    let e : is_lt (key_cmp o.key key) ≡ false = ap (λ k. is_lt (key_cmp o.key k)) (sym (bytes_eq-same o.key key same)) ∙ not_before_itself o.key in
     cc)
 
 greater_from : (o : Ordering) → is_lt o ≡ false → (o ≡ Equal → ⊥) → is_lt (ordering_reverse o) ≡ true
@@ -57,7 +51,7 @@ updated_behind key w (o ∷ front) back back' q all same =
     ap (λ r. cond (bytes_eq o.key q) (Some o.bytes) r) (updated_behind key w front back back' q all.1 same)
     ∙ swap_tests (bytes_eq o.key q) (bytes_eq key q) (Some o.bytes) w (object_in (front ++ back) q)
     (λ oq kq.
-    let e : bytes_eq o.key key ≡ true = (bytes_eq-Decides o.key key).1 (same_text o.key q oq ∙ sym (same_text key q kq)) in
+    let e : bytes_eq o.key key ≡ true = (bytes_eq-Decides o.key key).1 (bytes_eq-same o.key q oq ∙ sym (bytes_eq-same key q kq)) in
     let d : bytes_eq o.key key ≡ false = before_differs o key all.0 in
     cc)
 
@@ -81,7 +75,7 @@ none_before key [] all = refl
 none_before key (o ∷ os) all =
     let parts : _ = and_parts (is_lt (key_cmp key o.key)) (list_all (λ o'. is_lt (key_cmp key o'.key)) os) all in
     let differs : bytes_eq o.key key ≡ false = false_from_ne_true (bytes_eq o.key key) (λ same.
-    let e : is_lt (key_cmp key o.key) ≡ false = ap (λ k. is_lt (key_cmp key k)) (same_text o.key key same) ∙ not_before_itself key in
+    let e : is_lt (key_cmp key o.key) ≡ false = ap (λ k. is_lt (key_cmp key k)) (bytes_eq-same o.key key same) ∙ not_before_itself key in
     let t : is_lt (key_cmp key o.key) ≡ true = parts.0 in
     cc) in
     ap (λ b. cond b (Some o.bytes) (object_in os key)) differs ∙ none_before key os parts.1
@@ -176,7 +170,7 @@ removed_head : (key : List ℕ) (o : Stored) (os : List Stored) (q : List ℕ) �
     → object_in os q ≡ updated key None (object_in (o ∷ os)) q
 removed_head key o os q there ok =
     elim (cases_Bool (bytes_eq key q)) [
-      | inl same ↦ (let none : object_in os q ≡ None = alone q o os there (ok ∙ same_text key q same) in
+      | inl same ↦ (let none : object_in os q ≡ None = alone q o os there (ok ∙ bytes_eq-same key q same) in
           none ∙ ap (λ b. cond b None (object_in (o ∷ os) q)) (sym same))
       | inr differs ↦ (let d : bytes_eq o.key q ≡ false = ap (λ k. bytes_eq k q) ok ∙ differs in
           ap (λ b. cond b (Some o.bytes) (object_in os q)) (sym d) ∙ ap (λ b. cond b None (object_in (o ∷ os) q)) (sym differs))

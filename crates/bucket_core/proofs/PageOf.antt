@@ -10,12 +10,12 @@ use Rattle.std.specs.Str.{bytes_eq}
 use Rattle.std.specs.declared.cmp.Ordering.TheVariants.{Less}
 use Rattle.std.proofs.lemmas.Bool.{cases_Bool, and_parts, eqb-true}
 use Rattle.std.proofs.lemmas.List.{take-append-drop}
-use Rattle.list_core.proofs.Bools.{Less-from_is_lt}
+use Rattle.list_core.proofs.Bools.{Less-from_is_lt, bytes_eq-itself, bytes_eq-same}
 use Rattle.bucket_core.specs.Contents.{Contents}
 use Rattle.bucket_core.specs.Pages.{Before, Lists, IsName, IsPage}
 use Rattle.bucket_core.specs.declared.stored.Stored.{Stored}
 use Rattle.bucket_core.specs.Stored.{first_part, key_cmp, is_before, in_order, object_in, is_below, name_of, names_of, text_after, picked, IsPlace, IsStart}
-use Rattle.bucket_core.proofs.Edits.{same_text, eq_refl, in_order-drop}
+use Rattle.bucket_core.proofs.Edits.{in_order-drop}
 use Rattle.bucket_core.proofs.Order.{root_skipped, folder_cmp, folder_key, folder_name, names_rise, key_between, not_below}
 use Rattle.bucket_core.proofs.Picks.{Among, contains_among, at_among, Rises, picked_ascends, picked_few, picked_within, picked_whole}
 
@@ -24,7 +24,7 @@ pub stands_for : (os : List Stored) (key : List ℕ) → IsSome (object_in os ke
 stands_for [] key some = cc
 stands_for (o ∷ os) key some =
     elim (cases_Bool (bytes_eq o.key key)) [
-      | inl same ↦ (o, inl refl, same_text o.key key same)
+      | inl same ↦ (o, inl refl, bytes_eq-same o.key key same)
       | inr differs ↦ (let below : _ = stands_for os key (sym (ap (λ b. is_some (cond b (Some o.bytes) (object_in os key))) differs) ∙ some) in
           (below.0, inr below.1, below.2))
     ]
@@ -33,7 +33,7 @@ stands_for (o ∷ os) key some =
 pub member_stands : (os : List Stored) (p : Stored) → Among p os → IsSome (object_in os p.key)
 member_stands [] p among = absurd among
 member_stands (o ∷ os) p (inl same) =
-    ap (λ b. is_some (cond b (Some o.bytes) (object_in os p.key))) (ap (λ k. bytes_eq o.key k.key) (sym same) ∙ eq_refl o.key)
+    ap (λ b. is_some (cond b (Some o.bytes) (object_in os p.key))) (ap (λ k. bytes_eq o.key k.key) (sym same) ∙ bytes_eq-itself o.key)
 member_stands (o ∷ os) p (inr among) =
     elim (cases_Bool (bytes_eq o.key p.key)) [
       | inl same ↦ ap (λ b. is_some (cond b (Some o.bytes) (object_in os p.key))) same

@@ -1,34 +1,24 @@
 -- Keys by the names of their objects, and lawful keys.
-use Rattle.std.proofs.Common.{Bor, ◌≡◌, ℕ, ◌+◌, true, false, not, Option, None, Some, Ok, Err, Result, cond, eqb, List, [], ◌∷◌, ◌++◌, map, length, take, drop, refl, sym, ap, subst, ◌∙◌, codes, append_assoc, length-append, arith}
+use Rattle.std.proofs.Common.{Bor, ◌≡◌, ℕ, ◌+◌, true, Option, None, Some, Ok, Err, Result, List, [], ◌∷◌, ◌++◌, map, length, take, drop, refl, sym, ap, subst, ◌∙◌, codes, append_assoc, length-append, arith}
 use Rattle.std.specs.Prelude.{nat_le, IfSome, IfOk, MatchOption}
 use Rattle.std.specs.Option.{option_copied}
 use Rattle.std.specs.Slice.{IsItemAt}
 use Rattle.std.specs.List.{before_first, after_first, position_or_len}
 use Rattle.std.specs.Result.{result_ok}
 use Rattle.std.specs.Int.Digits.{AllBelowBase}
-use Rattle.std.proofs.Math.Numerals.{one-add}
 use Rattle.std.proofs.Math.Seq.{take-append_seam, drop-append_seam}
 use Rattle.std.proofs.lemmas.Bool.{and_from, and_parts, le-leb, leb-true}
-use Rattle.std.proofs.lemmas.Bool.Decides.{nat_tests}
 use Rattle.std.proofs.lemmas.List.{length-map}
 use Rattle.ulid_core.specs.UlidText.{IsUlidText, text_of, ulid_of, character}
-use Rattle.ulid_core.proofs.Tables.{character-range}
 use Rattle.ulid_core.proofs.UlidLaws.{ulid_of-only}
 use Rattle.block_keys.specs.Keys.{IsLawfulKey}
 use Rattle.block_keys.specs.KeyText.{key_named, key_within, key_of, is_slash}
 use Rattle.block_keys.specs.declared.key.Key.{Key}
 use Rattle.block_keys.specs.declared.key.Key.TheVariants.{Meta, Index, Segment, Mark}
+use Rattle.block_keys.proofs.KeyLaws.{before_slash}
 use Rattle.cleaner.specs.Objects.{only_data, is_lawful_key, have_lawful_keys}
 
 -- ---- names
-
-before_slash : (digits name : List ℕ) → AllBelowBase 32 digits → position_or_len is_slash (map character digits ++ (47 ∷ name)) ≡ length digits
-before_slash [] name all = refl
-before_slash (d ∷ digits) name all =
-    let range = character-range d all.0 in
-    let other : eqb (character d) 47 ≡ false = grind (arith, nat_tests) in
-    ap (λ b. cond (not b) (1 + position_or_len is_slash (map character digits ++ (47 ∷ name))) 0) other
-    ∙ ap (λ n. 1 + n) (before_slash digits name all.1) ∙ one-add (length digits)
 
 cut : (digits name : List ℕ) → AllBelowBase 32 digits
     → (before_first is_slash ((map character digits ++ codes "/") ++ name) ≡ map character digits) × (after_first is_slash ((map character digits ++ codes "/") ++ name) ≡ name)

@@ -1,10 +1,11 @@
 -- What a reader holds: of a whole file, and of parts.
-use Rattle.std.proofs.Common.{◌≡◌, ℕ, ◌*◌, Bool, true, false, List, [], ◌∷◌, length, replicate, Option, Some, None, Result, Ok, Err, refl, sym, ap, subst, ◌∙◌, arith, ◌⊎◌, inl, inr}
+use Rattle.std.proofs.Common.{◌≡◌, ℕ, ◌*◌, List, [], ◌∷◌, length, replicate, Option, Some, None, Result, Ok, Err, refl, sym, ap, subst, ◌∙◌, arith, ◌⊎◌, inl, inr}
 use Rattle.std.proofs.lemmas.List.{append-nil, length-replicate}
 use Rattle.std.specs.Prelude.{IfOk, ◌==◌}
 use Rattle.std.specs.Result.{IsOkAnd}
 use Rattle.std.specs.List.{Contains}
 use Rattle.list_core.proofs.Membership.{contains_first, contains_later}
+use Rattle.list_core.proofs.Bools.{by_bool}
 use Rattle.reading_core.specs.Reading.{◌>>=◌, ◌>>◌, refused_as}
 use Rattle.reading_core.specs.Grammar.{IsBytes}
 use Rattle.reading_core.proofs.Binds.{ok_is, err_is}
@@ -88,13 +89,9 @@ whole_only (Err d) opened is (inr e) = inr e
 
 -- ---- of parts
 
-by_test : {P : Type 0} (b : Bool) → (b ≡ true → P) → (b ≡ false → P) → P
-by_test true f g = f refl
-by_test false f g = g refl
-
 -- at a reference there is one list
 one_list : {A : Type 0} (IsNext : Option A → List ℕ → A → Type 0) (read : Option A × Position → Result (A × (Option A × Position)) PartRefusal) → IsTurnOf IsNext read → (index : List ℕ) (reference : ℕ) (xs ys : List A) → Holds (IsList IsNext) index reference xs → Holds (IsList IsNext) index reference ys → xs ≡ ys
-one_list {A} IsNext read turn index reference xs ys is other = by_test {P = xs ≡ ys} (reference == 0)
+one_list {A} IsNext read turn index reference xs ys is other = by_bool {P = xs ≡ ys} (reference == 0)
     (λ zero_is. let x : xs ≡ [] = rw zero_is at is in let y : ys ≡ [] = rw zero_is at other in x ∙ sym y)
     (λ some. let x : IsList IsNext index reference xs = rw some at is in let y : IsList IsNext index reference ys = rw some at other in
     ok_is {E = PartRefusal} xs ys (sym (list_again IsNext read turn index reference xs x) ∙ list_again IsNext read turn index reference ys y))

@@ -1,9 +1,10 @@
 -- What is opened is in the grammar, and what is in the grammar is opened.
-use Rattle.std.proofs.Common.{◌≡◌, ℕ, ◌≤◌, Bool, true, false, List, [], ◌∷◌, length, take, Result, Ok, refl, sym, ap, subst, ◌∙◌, arith}
+use Rattle.std.proofs.Common.{◌≡◌, ℕ, ◌≤◌, true, List, [], ◌∷◌, length, take, Result, Ok, refl, sym, ap, subst, ◌∙◌, arith}
 use Rattle.std.specs.Prelude.{◌==◌, nat_le, nat_eq, slice_index}
 use Rattle.std.specs.List.{starts_with}
 use Rattle.std.proofs.lemmas.Bool.{eqb-true, eq-eqb, leb-true, le-leb}
 use Rattle.std.specs.Cmp.Lexicographic.{bytes_decides}
+use Rattle.list_core.proofs.Bools.{by_bool}
 use Rattle.reading_core.specs.Reading.{◌>>=◌, ◌>>◌, unless, refused_as}
 use Rattle.reading_core.specs.Grammar.{IsBytes}
 use Rattle.reading_core.proofs.Binds.{bind_ok, unless_ok, refused_as_ok, ok_is}
@@ -89,17 +90,13 @@ contents_again index toc long h is =
 
 -- ---- sections that may be absent
 
-by_zero : {P : Type 0} (b : Bool) → (b ≡ true → P) → (b ≡ false → P) → P
-by_zero true f g = f refl
-by_zero false f g = g refl
-
 held_found : {A : Type 0} (section : ℕ) (read : List ℕ → ℕ → Result (List A) PartRefusal) (Is : List ℕ → ℕ → List A → Type 0) (index : List ℕ) (reference : ℕ) (members : List A) → ((xs : List A) → read index reference ≡ Ok xs → Is index reference xs) → held_at section read index reference ≡ Ok members → Holds Is index reference members
-held_found {A} section read Is index reference members one e = by_zero {P = Holds Is index reference members} (reference == 0)
+held_found {A} section read Is index reference members one e = by_bool {P = Holds Is index reference members} (reference == 0)
     (λ zero_is. let e' : ◌≡◌ {A = Result (List A) IndexRefusal} (Ok []) (Ok members) = rw zero_is at e in rw zero_is (sym (ok_is {E = IndexRefusal} [] members e')))
     (λ some. let e' : refused_as (refused_in section) (read index reference) ≡ Ok members = rw some at e in rw some (one members (refused_as_ok (refused_in section) (read index reference) members e')))
 
 held_again : {A : Type 0} (section : ℕ) (read : List ℕ → ℕ → Result (List A) PartRefusal) (Is : List ℕ → ℕ → List A → Type 0) (index : List ℕ) (reference : ℕ) (members : List A) → (Is index reference members → read index reference ≡ Ok members) → Holds Is index reference members → held_at section read index reference ≡ Ok members
-held_again {A} section read Is index reference members one holds = by_zero {P = held_at section read index reference ≡ Ok members} (reference == 0)
+held_again {A} section read Is index reference members one holds = by_bool {P = held_at section read index reference ≡ Ok members} (reference == 0)
     (λ zero_is. let h : members ≡ [] = rw zero_is at holds in rw (zero_is, h) refl)
     (λ some. let h : Is index reference members = rw some at holds in rw (some, one h) refl)
 

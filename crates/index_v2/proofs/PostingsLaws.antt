@@ -7,10 +7,11 @@ use Rattle.std.specs.Cmp.Lexicographic.{bytes_decides}
 use Rattle.std.proofs.lemmas.Bool.{and_parts}
 use Rattle.std.proofs.lemmas.Option.{same_Some}
 use Rattle.list_core.proofs.Membership.{contains_first, contains_later, contains_place, place_of_member}
+use Rattle.list_core.proofs.Bools.{bytes_eq-itself}
 use Rattle.reading_core.specs.Reading.{refused_as, Gives}
 use Rattle.reading_core.proofs.Binds.{ok_is}
 use Rattle.label_sets.specs.declared.label.Label.{Label}
-use Rattle.label_sets.proofs.LabelValues.{by_bool, bytes_eq_self}
+use Rattle.label_sets.proofs.LabelValues.{by_bool}
 use Rattle.index_parts.specs.declared.postings_row.PostingsRow.{PostingsRow}
 use Rattle.index_parts.specs.Rows.{IsPostingsTable}
 use Rattle.index_parts.specs.Postings.{IsNextPosting}
@@ -60,7 +61,7 @@ unfolding row_of
 no_row rows label e has =
     let at = place_of_member rows has.0 has.1 in
     let other = find_none (is_row_of label.name label.value) rows at.0 has.0 e at.1 in
-    let here : is_row_of label.name label.value has.0 ≡ true = rw (has.2, has.3, bytes_eq_self label.name, bytes_eq_self label.value) refl in
+    let here : is_row_of label.name label.value has.0 ≡ true = rw (has.2, has.3, bytes_eq-itself label.name, bytes_eq-itself label.value) refl in
     cc
 
 no_pairs : {A B : Type 0} (ps : List (A × B)) (p : A × B) → map (λ (q : A × B). q.0) ps ≡ [] → Contains ps p → ⊥

@@ -1,9 +1,8 @@
 -- The search for a row in a postings table whose rows ascend.
-use Rattle.std.proofs.Common.{◌≡◌, ℕ, suc, ◌+◌, ◌^◌, ◌<◌, ◌≤◌, Bool, true, false, List, [], ◌∷◌, length, Some, None, refl, sym, ap, ◌∙◌, arith, inl, inr}
+use Rattle.std.proofs.Common.{◌≡◌, ℕ, suc, ◌+◌, ◌^◌, ◌<◌, ◌≤◌, Bool, true, false, List, [], ◌∷◌, length, Some, None, sym, ap, ◌∙◌, arith, inl, inr}
 use Rattle.std.specs.Prelude.{slice_get, ◌==◌, MatchBool}
-use Rattle.std.specs.declared.cmp.Ordering.{Ordering}
 use Rattle.std.specs.declared.cmp.Ordering.TheVariants.{Less, Equal, Greater}
-use Rattle.std.specs.Ordering.{ordering_reverse, ordering_then}
+use Rattle.std.specs.Ordering.{ordering_reverse}
 use Rattle.std.specs.List.{AllByRecursion}
 use Rattle.std.specs.List.Sorted.{IsStrictlySortedBy}
 use Rattle.std.specs.Cmp.{IsTotalOrder}
@@ -13,6 +12,7 @@ use Rattle.std.proofs.lemmas.Bool.{cases_lt}
 use Rattle.std.proofs.lemmas.Option.{same_Some, slice_get_past, slice_get_cases}
 use Rattle.list_core.proofs.Lists.{AllByRecursion-weaker}
 use Rattle.list_core.proofs.Order.{Less-at_places}
+use Rattle.list_core.proofs.Bools.{Equal-from_then}
 use Rattle.label_sets.specs.Labels.{compare_texts}
 use Rattle.label_sets.proofs.LabelValues.{same_text}
 use Rattle.index_parts.specs.declared.postings_row.PostingsRow.{PostingsRow}
@@ -47,11 +47,6 @@ reversed a b e = rows_total.antisymm b a ∙ ap ordering_reverse e
 
 unreversed : (a b : PostingsRow) → compare_rows a b ≡ Greater → compare_rows b a ≡ Less
 unreversed a b e = rows_total.antisymm b a ∙ ap ordering_reverse e
-
-both_equal : (a b : Ordering) → ordering_then a b ≡ Equal → (a ≡ Equal) × (b ≡ Equal)
-both_equal Less b e = absurd cc
-both_equal Equal b e = (refl, e)
-both_equal Greater b e = absurd cc
 
 key : List ℕ → List ℕ → PostingsRow
 key name value = record { name = name; value = value; offset = 0 }
@@ -112,7 +107,7 @@ between_some rows name value low high middle b lt none =
 
 pub equal_texts : (row : PostingsRow) (name value : List ℕ) → compare_row row name value ≡ Equal → (row.name ≡ name) × (row.value ≡ value)
 equal_texts row name value e =
-    let parts = both_equal (compare_texts row.name name) (compare_texts row.value value) e in
+    let parts = Equal-from_then (compare_texts row.name name) (compare_texts row.value value) e in
     (same_text row.name name parts.0, same_text row.value value parts.1)
 
 pub equal_row : (rows : List PostingsRow) (name value : List ℕ) (place : ℕ) (row : PostingsRow) → slice_get rows place ≡ Some row → compare_row row name value ≡ Equal → IsRowAt rows name value place

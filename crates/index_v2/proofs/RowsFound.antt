@@ -12,7 +12,8 @@ use Rattle.std.proofs.lemmas.Bool.{and_parts, cases_lt}
 use Rattle.std.proofs.lemmas.Option.{same_Some}
 use Rattle.std.proofs.lemmas.Map.Keys.{sorted_tail}
 use Rattle.list_core.proofs.Order.{Less-at_places}
-use Rattle.label_sets.proofs.LabelValues.{by_bool, bytes_eq_self}
+use Rattle.list_core.proofs.Bools.{bytes_eq-itself}
+use Rattle.label_sets.proofs.LabelValues.{by_bool}
 use Rattle.index_parts.specs.declared.postings_row.PostingsRow.{PostingsRow}
 use Rattle.index_parts.specs.Rows.{compare_rows}
 use Rattle.index_v2.specs.RowOrder.{compare_row, IsRowAt, StandsAt, IsAlone}
@@ -25,7 +26,7 @@ use Rattle.index_v2.specs.PostingsLists.{is_row_of, row_of, list_of}
 use Rattle.index_v2.proofs.RowPlaces.{rows_total}
 
 row_test : (name value : List ℕ) (row : PostingsRow) → row.name ≡ name → row.value ≡ value → is_row_of name value row ≡ true
-row_test name value row n v = rw (n, v, bytes_eq_self name, bytes_eq_self value) refl
+row_test name value row n v = rw (n, v, bytes_eq-itself name, bytes_eq-itself value) refl
 
 equal_key : (name value : List ℕ) (row : PostingsRow) → is_row_of name value row ≡ true → compare_row row name value ≡ Equal
 equal_key name value row e =

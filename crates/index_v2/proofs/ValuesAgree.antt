@@ -10,9 +10,10 @@ use Rattle.std.proofs.lemmas.List.Elements.{filter_passes, recursion_from_All}
 use Rattle.std.proofs.lemmas.List.Kept.{IsStrictlySortedBy-filter}
 use Rattle.std.proofs.lemmas.Option.{same_Some}
 use Rattle.list_core.proofs.Membership.{place_of_member, of_filter, into_filter, member_passes, of_map, into_map}
+use Rattle.list_core.proofs.Bools.{bytes_eq-itself}
 use Rattle.label_sets.specs.declared.label.Label.{Label}
 use Rattle.label_sets.specs.Labels.{compare_texts, IsLabelSet}
-use Rattle.label_sets.proofs.LabelValues.{by_bool, bytes_eq_self}
+use Rattle.label_sets.proofs.LabelValues.{by_bool}
 use Rattle.index_parts.specs.declared.postings_row.PostingsRow.{PostingsRow}
 use Rattle.index_parts.specs.Rows.{compare_rows}
 use Rattle.index_file.specs.declared.index_series.IndexSeries.{IndexSeries}
@@ -47,7 +48,7 @@ value_only rows name value has = by_bool {P = (name ≢ []) × HasRow rows (reco
 
 value_each : (rows : List PostingsRow) (name value : List ℕ) → name ≢ [] → HasRow rows (record { name = name; value = value }) → Contains (values_of rows name) value
 value_each rows name value some has =
-    let test : is_named name has.0 ≡ true = ap (λ (n : List ℕ). bytes_eq n name) has.2 ∙ bytes_eq_self name in
+    let test : is_named name has.0 ≡ true = ap (λ (n : List ℕ). bytes_eq n name) has.2 ∙ bytes_eq-itself name in
     let row = into_filter (is_named name) rows has.0 has.1 test in
     subst (λ (l : List (List ℕ)). Contains l value) (sym (values_named rows name some)) (subst (Contains (named_values rows name)) has.3 (into_map value_in (filter (is_named name) rows) has.0 row))
 

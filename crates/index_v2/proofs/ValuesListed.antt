@@ -12,8 +12,9 @@ use Rattle.std.proofs.lemmas.Bool.{cases_lt}
 use Rattle.std.proofs.lemmas.List.{append-nil, drop_all}
 use Rattle.std.proofs.lemmas.Option.{same_Some, slice_get_within, get_or_from_slice_get, slice_get_cases}
 use Rattle.list_core.proofs.Order.{Less-at_places}
+use Rattle.list_core.proofs.Bools.{bytes_eq-itself}
 use Rattle.label_sets.specs.Labels.{compare_texts}
-use Rattle.label_sets.proofs.LabelValues.{bytes_eq_self, bytes_eq_differs, compare_self, before_trans, same_text}
+use Rattle.label_sets.proofs.LabelValues.{bytes_eq_differs, compare_self, before_trans, same_text}
 use Rattle.index_parts.specs.declared.postings_row.PostingsRow.{PostingsRow}
 use Rattle.index_parts.specs.Rows.{compare_rows}
 use Rattle.index_v2.specs.RowOrder.{compare_row, IsRowAt, StandsAt, BeginsAt}
@@ -125,7 +126,7 @@ drop_at rows place row at = rw (add-one, ← get_or_from_slice_get rows place ro
 pub listed_more : (rows : List PostingsRow) (name : List ℕ) (first place : ℕ) (values new : List (List ℕ)) (row : PostingsRow) (value : List ℕ) → AreListed rows name first place values → slice_get rows place ≡ Some row → row.name ≡ name → value ≡ row.value → new ≡ values ++ value ∷ [] → AreListed rows name first (place + 1) new
 listed_more rows name first place values new row value listed at named v e =
     let from = listed.from in
-    let test : bytes_eq row.name name ≡ true = rw named (bytes_eq_self name) in
+    let test : bytes_eq row.name name ≡ true = rw named (bytes_eq-itself name) in
     let step : map value_in (filter (is_named name) (drop place rows)) ≡ row.value ∷ map value_in (filter (is_named name) (drop (place + 1) rows)) = rw (drop_at rows place row at, test) refl in
     rw (e, v) (record {
       from = omega arith;
@@ -161,7 +162,7 @@ listed_none rows name place lt none =
     ]
 
 pub other_name : (x : Bool) (one other : List ℕ) → x ≡ not (bytes_eq one other) → x ≡ true → one ≢ other
-other_name x one other e differ same = let equal : bytes_eq one other ≡ true = rw same (bytes_eq_self other) in not_both (bytes_eq one other) (sym e ∙ differ) equal
+other_name x one other e differ same = let equal : bytes_eq one other ≡ true = rw same (bytes_eq-itself other) in not_both (bytes_eq one other) (sym e ∙ differ) equal
 
 pub same_name : (x : Bool) (one other : List ℕ) → x ≡ not (bytes_eq one other) → x ≡ false → one ≡ other
 same_name x one other e equal = (bytes_decides one other).0 (not_not (bytes_eq one other) (sym e ∙ equal))

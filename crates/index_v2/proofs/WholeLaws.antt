@@ -3,7 +3,6 @@ use Rattle.std.proofs.Common.{◌≡◌, ◌≢◌, ℕ, zero, suc, true, cond, 
 use Rattle.std.specs.Prelude.{slice_get, ◌&&◌, ◌==◌, nat_lt}
 use Rattle.std.specs.List.{list_any, list_all, Contains}
 use Rattle.std.specs.List.Sorted.{IsStrictlySortedBy}
-use Rattle.std.specs.Str.{bytes_eq}
 use Rattle.std.specs.declared.cmp.Ordering.TheVariants.{Equal}
 use Rattle.std.specs.Cmp.Lexicographic.{bytes_decides}
 use Rattle.std.proofs.lemmas.Bool.{and_parts, cases_order, lt-ltb, ltb-true, eq-eqb, eqb-true}
@@ -12,14 +11,16 @@ use Rattle.std.proofs.lemmas.Option.{same_Some}
 use Rattle.std.proofs.lemmas.Cmp.{tied_itself, tied_back}
 use Rattle.std.proofs.lemmas.List.{nil_from_length}
 use Rattle.list_core.proofs.Lists.{zip_firsts, zip_seconds, zip_parts}
-use Rattle.list_core.proofs.Membership.{all_at_member, any_of_member, contains_later, contains_place, member_of_any, place_of_member}
+use Rattle.list_core.proofs.Membership.{all_at_member, any_of_member, contains_place, member_of_any, place_of_member}
 use Rattle.list_core.proofs.Order.{Less-at_places}
+use Rattle.list_core.proofs.Bools.{bytes_eq-itself}
 use Rattle.reading_core.specs.Reading.{◌>>◌, unless, refused_as}
 use Rattle.reading_core.specs.Grammar.{IsBytes}
 use Rattle.reading_core.proofs.Binds.{unless_ok, refused_as_ok, ok_is}
 use Rattle.label_sets.specs.declared.label.Label.{Label}
 use Rattle.label_sets.specs.Labels.{value_of, IsLabelSet, StandsBefore, ComesBefore, compare_texts}
-use Rattle.label_sets.proofs.LabelValues.{by_bool, bytes_eq_self, value_hit, value_miss, before_differs}
+use Rattle.label_sets.proofs.LabelValues.{by_bool, value_hit, value_miss, before_differs}
+use Rattle.label_sets.proofs.SetLaws.{value_in}
 use Rattle.index_parts.specs.declared.refusal.PartRefusal.TheVariants as part
 use Rattle.index_parts.specs.declared.toc.Toc.{Toc}
 use Rattle.index_parts.specs.declared.postings_row.PostingsRow.{PostingsRow}
@@ -46,19 +47,6 @@ use Rattle.index_v2.proofs.WholeParts.{AreLists, all_found, all_again, lists_fou
 
 -- ---- which row a series belongs to
 
-value_has : (ls : List Label) (name value : List ℕ) → value_of ls name ≡ Some value → Contains ls (record { name = name; value = value })
-unfolding value_of
-value_has [] name value e = absurd cc
-value_has (l ∷ ls) name value e = by_bool (bytes_eq l.name name)
-    (λ here.
-    let v : ◌≡◌ {A = Option (List ℕ)} (Some l.value) (Some value) = rw here at e in
-    let name_is : l.name ≡ name = (bytes_decides l.name name).0 here in
-    let value_is : l.value ≡ value = same_Some l.value value v in
-    contains_place (l ∷ ls) 0 (record { name = name; value = value }) (rw (← name_is, ← value_is) refl))
-    (λ other.
-    let e' : value_of ls name ≡ Some value = rw other at e in
-    contains_later l (record { name = name; value = value }) ls (value_has ls name value e'))
-
 has_value_is : (value : List ℕ) (o : Option (List ℕ)) → has_value value o ≡ true → o ≡ Some value
 has_value_is value None e = absurd cc
 has_value_is value (Some found) e = ap Some ((bytes_decides found value).0 e)
@@ -72,7 +60,7 @@ belongs_found row one e = by_bool ((length row.name == 0) && (length row.value =
     (λ empty. let b = and_parts (length row.name == 0) (length row.value == 0) empty in inl (empty_text row.name b.0, empty_text row.value b.1))
     (λ some.
     let e' : has_value row.value (value_of one.labels row.name) ≡ true = rw some at e in
-    inr (value_has one.labels row.name row.value (has_value_is row.value (value_of one.labels row.name) e')))
+    inr (value_in one.labels row.name row.value (has_value_is row.value (value_of one.labels row.name) e')))
 
 stands_at : (name : List ℕ) (ls : List Label) (place : ℕ) (l : Label) → StandsBefore name ls → slice_get ls place ≡ Some l → ComesBefore name l.name
 stands_at name [] place l stands at = absurd cc
@@ -94,7 +82,7 @@ belongs_label : (row : PostingsRow) (one : IndexSeries) → value_of one.labels 
 unfolding belongs
 belongs_label row one e = by_bool {P = cond ((length row.name == 0) && (length row.value == 0)) true (has_value row.value (value_of one.labels row.name)) ≡ true} ((length row.name == 0) && (length row.value == 0))
     (λ empty. rw empty refl)
-    (λ some. rw (some, e) (bytes_eq_self row.value))
+    (λ some. rw (some, e) (bytes_eq-itself row.value))
 
 pub belongs_again : (row : PostingsRow) (one : IndexSeries) → IsLabelSet one.labels → BelongsTo row one → belongs row.name row.value one ≡ true
 belongs_again row one is (inl empty) = belongs_empty row one empty.0 empty.1

@@ -9,6 +9,7 @@ use Rattle.index_parts.specs.declared.raw_series.RawSeries.{RawSeries}
 use Rattle.index_writing.specs.declared.label_groups.Entry.{Entry}
 use Rattle.index_writing.specs.LabelGroups.{entries_of, all_entries, compare_entries, is_lesser_entry}
 use Rattle.list_core.proofs.Membership.{contains_first, contains_later, no_member, member_cases, each_member}
+use Rattle.list_core.proofs.Bools.{Equal-from_then}
 use Rattle.std.proofs.lemmas.List.Elements.{Contains-append_cases}
 use Rattle.index_writing.proofs.OrderedEntries.{IsStrict, strict_order, Once, Below, first_pairs, later_pairs}
 use Rattle.index_writing.proofs.LabelRows.{Before}
@@ -27,11 +28,6 @@ then_less Less b e = inl refl
 then_less Equal b e = inr (refl, e)
 then_less Greater b e = absurd cc
 
-then_equal : (a b : Ordering) → ordering_then a b ≡ Equal → (a ≡ Equal) × (b ≡ Equal)
-then_equal Less b e = absurd cc
-then_equal Equal b e = (refl, e)
-then_equal Greater b e = absurd cc
-
 before_from : (x y : Entry) → compare_entries x y ≡ Less → Before x y
 before_from x y e =
     let inner = ordering_then (nat_cmp x.value y.value) (nat_cmp x.series y.series) in
@@ -45,8 +41,8 @@ before_from x y e =
 
 same_entry : (x y : Entry) → compare_entries x y ≡ Equal → x ≡ y
 same_entry x y e =
-    let one = then_equal (nat_cmp x.name y.name) (ordering_then (nat_cmp x.value y.value) (nat_cmp x.series y.series)) e in
-    let two = then_equal (nat_cmp x.value y.value) (nat_cmp x.series y.series) one.1 in
+    let one = Equal-from_then (nat_cmp x.name y.name) (ordering_then (nat_cmp x.value y.value) (nat_cmp x.series y.series)) e in
+    let two = Equal-from_then (nat_cmp x.value y.value) (nat_cmp x.series y.series) one.1 in
     let name = cmp_equal x.name y.name one.0 in
     let value = cmp_equal x.value y.value two.0 in
     let series = cmp_equal x.series y.series two.1 in

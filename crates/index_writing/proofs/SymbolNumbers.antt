@@ -5,8 +5,7 @@ use Rattle.std.specs.declared.cmp.Ordering.TheVariants.{Less}
 use Rattle.std.specs.Ordering.{is_lt}
 use Rattle.std.specs.List.{prefix_len, AllByRecursion, Contains}
 use Rattle.std.specs.List.Sorted.{IsStrictlySortedBy}
-use Rattle.std.specs.Str.{bytes_eq}
-use Rattle.std.specs.Cmp.Lexicographic.{nat_list_cmp_total, nat_list_eq_equiv, bytes_decides}
+use Rattle.std.specs.Cmp.Lexicographic.{nat_list_cmp_total, nat_list_eq_equiv}
 use Rattle.std.proofs.lemmas.Cmp.{tied_itself}
 use Rattle.std.proofs.lemmas.List.Kept.{Contains-dedup}
 use Rattle.label_sets.specs.declared.label.Label.{Label}
@@ -17,15 +16,13 @@ use Rattle.index_parts.specs.Symbols.{MayFollow}
 use Rattle.index_file.specs.declared.index_series.IndexSeries.{IndexSeries}
 use Rattle.index_writing.specs.SymbolsInUse.{is_lesser_text, texts_of_labels, texts_of, symbols_of, number_of, symbol_of}
 use Rattle.list_core.proofs.Membership.{contains_first, contains_later, no_member, member_cases, each_member, into_flat_map, into_in_order}
+use Rattle.list_core.proofs.Bools.{bytes_eq-same}
 
 -- ---- symbols in use
 
-same_bytes : (x y : List ℕ) → bytes_eq x y ≡ true → x ≡ y
-same_bytes x y e = (bytes_decides x y).0 e
-
 pub symbol_in : (list : List IndexSeries) (text : List ℕ) → Contains (texts_of list) text → Contains (symbols_of list) text
 unfolding symbols_of
-symbol_in list text h = Contains-dedup nat_list_eq_equiv same_bytes (in_order is_lesser_text (texts_of list)) text (into_in_order is_lesser_text text (texts_of list) h)
+symbol_in list text h = Contains-dedup nat_list_eq_equiv bytes_eq-same (in_order is_lesser_text (texts_of list)) text (into_in_order is_lesser_text text (texts_of list) h)
 
 in_labels : (labels : List Label) (label : Label) → Contains labels label → Contains (texts_of_labels labels) label.name × Contains (texts_of_labels labels) label.value
 in_labels labels label h = (

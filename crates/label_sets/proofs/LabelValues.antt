@@ -28,9 +28,6 @@ before_differs one other b e = lesser_equal (compare_texts one one) (subst (λ n
 pub before_trans : (a b c : List ℕ) → ComesBefore a b → ComesBefore b c → ComesBefore a c
 before_trans a b c p q = nat_list_cmp_total.trans a b c p q
 
-pub bytes_eq_self : (name : List ℕ) → bytes_eq name name ≡ true
-bytes_eq_self name = (bytes_decides name name).1 refl
-
 pub bytes_eq_differs : (one other : List ℕ) → one ≢ other → bytes_eq one other ≡ false
 bytes_eq_differs one other n = untrue (bytes_eq one other) (λ t. n ((bytes_decides one other).0 t))
 

@@ -116,7 +116,7 @@ able_from_order listed set able p =
     able_from_counts listed (All-permutation IsFilled set listed (IsPermutation-sym listed set p) (all_filled set able))
     (λ name. omega (arith, sum_by-IsPermutation (λ (l : Label). cond (bytes_eq l.name name) 1 0) listed set p, counts_from_able set able name))
 
-value_in : (ls : List Label) (name value : List ℕ) → value_of ls name ≡ Some value → Contains ls (record { name = name; value = value })
+pub value_in : (ls : List Label) (name value : List ℕ) → value_of ls name ≡ Some value → Contains ls (record { name = name; value = value })
 value_in [] name value some = absurd (some_not_none value (value_of [] name) some (value_nil name))
 value_in (l ∷ ls) name value some = by_name l.name name
     (λ e. let same : l.value ≡ value = one_value l.value value (value_of (l ∷ ls) name) (value_hit l ls name e) some in

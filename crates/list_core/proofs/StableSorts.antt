@@ -6,6 +6,7 @@ use Rattle.std.specs.List.Sorted.{IsSortedBy, IsStableBy, ties}
 use Rattle.std.proofs.lemmas.List.Sorted.{sorted_far}
 use Rattle.std.proofs.lemmas.Bool.{true≢false}
 use Rattle.list_core.specs.Ordered.{placed, in_order}
+use Rattle.list_core.proofs.Bools.{by_bool}
 
 pub filter_hit : {A : Type 0} (p : A → Bool) (x : A) (xs : List A) → p x ≡ true → filter p (x ∷ xs) ≡ x ∷ filter p xs
 filter_hit p x xs h = ap (λ b. cond b (x ∷ filter p xs) (filter p xs)) h
@@ -16,10 +17,6 @@ filter_miss p x xs h = ap (λ b. cond b (x ∷ filter p xs) (filter p xs)) h
 no_cycle : (b : Bool) → (b ≡ true → b ≡ false) → b ≡ false
 no_cycle true h = h refl
 no_cycle false h = refl
-
-by_bool : {P : Type 0} (b : Bool) → (b ≡ true → P) → (b ≡ false → P) → P
-by_bool true f g = f refl
-by_bool false f g = g refl
 
 -- no member of the list is less than x
 abbrev pub NoneLess : {A : Type 0} → (A → A → Bool) → A → List A → Type 0

@@ -14,11 +14,12 @@ use Rattle.std.proofs.lemmas.List.Kept.{IsStrictlySortedBy-filter}
 use Rattle.std.proofs.lemmas.List.Elements.{Contains-append_left, Contains-append_right, Contains-append_cases}
 use Rattle.list_core.proofs.Order.{Less-at_places}
 use Rattle.list_core.proofs.Membership.{contains_first, contains_later, member_cases, no_member, into_map, place_of_member, of_filter, member_passes}
+use Rattle.list_core.proofs.Bools.{bytes_eq-itself}
 use Rattle.reading_core.specs.Reading.{refused_as}
 use Rattle.reading_core.proofs.Binds.{ok_is}
 use Rattle.label_sets.specs.declared.label.Label.{Label}
 use Rattle.label_sets.specs.Labels.{value_of}
-use Rattle.label_sets.proofs.LabelValues.{by_bool, bytes_eq_self, bytes_eq_differs}
+use Rattle.label_sets.proofs.LabelValues.{by_bool, bytes_eq_differs}
 use Rattle.matchers.specs.declared.matcher.Matcher.{Matcher}
 use Rattle.index_parts.specs.declared.postings_row.PostingsRow.{PostingsRow}
 use Rattle.index_parts.specs.Postings.{IsNextPosting}

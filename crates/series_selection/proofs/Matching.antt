@@ -4,17 +4,15 @@ use Rattle.std.specs.Prelude.{IsTrue, IsFalse, ◌↔◌, unwrap_or}
 use Rattle.std.specs.List.{All, Contains, list_all}
 use Rattle.std.specs.List.Sorted.{IsStrictlyIncreasing}
 use Rattle.std.specs.Option.{option_or}
-use Rattle.std.specs.Str.{bytes_eq}
-use Rattle.std.specs.Cmp.Lexicographic.{bytes_decides}
 use Rattle.std.proofs.lemmas.Bool.{and_parts, and_from}
-use Rattle.std.proofs.lemmas.Option.{same_Some}
 use Rattle.std.proofs.lemmas.List.Elements.{All-nil, All-cons, All-head, All-tail}
-use Rattle.list_core.proofs.Membership.{no_member, of_map, into_map, contains_first, contains_later, member_cases}
+use Rattle.list_core.proofs.Membership.{no_member, of_map, into_map, member_cases}
 use Rattle.label_sets.specs.declared.label.Label.{Label}
 use Rattle.label_sets.specs.Labels.{value_of, IsLabelSet, StandsBefore, ComesBefore}
 use Rattle.label_sets.specs.Finals.{final_of, is_among}
 use Rattle.label_sets.proofs.FinalLabels.{value_of-final}
 use Rattle.label_sets.proofs.LabelValues.{by_bool, value_hit, value_miss, value_nil, before_differs}
+use Rattle.label_sets.proofs.SetLaws.{value_in}
 use Rattle.matchers.specs.declared.matcher.Matcher.{Matcher}
 use Rattle.matchers.specs.Selectors.{is_accepted, accepts, is_match, value_or_empty}
 use Rattle.matchers.specs.SelectorText.{named_replicas}
@@ -30,18 +28,6 @@ use Rattle.series_selection.specs.Selections.{HasNumber, IsListed, StandsUnder, 
 use Rattle.series_selection.proofs.Taking.{taken_apart, apart_taken, taken_among, among_taken, differ}
 
 -- ---- labels of a set
-
-value_has : (ls : List Label) (name value : List ℕ) → value_of ls name ≡ Some value → Contains ls (record { name = name; value = value })
-unfolding value_of
-value_has [] name value e = absurd cc
-value_has (l ∷ ls) name value e = by_bool (bytes_eq l.name name)
-    (λ here.
-    let v : ◌≡◌ {A = Option (List ℕ)} (Some l.value) (Some value) = rw here at e in
-    let same : l ≡ record { name = name; value = value } = λ i. record { name = (bytes_decides l.name name).0 here i; value = same_Some l.value value v i } in
-    subst (Contains (l ∷ ls)) same (contains_first l ls))
-    (λ other.
-    let e' : value_of ls name ≡ Some value = rw other at e in
-    contains_later l (record { name = name; value = value }) ls (value_has ls name value e'))
 
 stands_before : (name : List ℕ) (ls : List Label) (l : Label) → StandsBefore name ls → Contains ls l → ComesBefore name l.name
 stands_before name [] l stands among = absurd (no_member l among)
@@ -172,7 +158,7 @@ module _ (bytes : List ℕ) (list : List IndexSeries) (is : IsIndex bytes list) 
     -- the series stands under its own value
     stands_under : (Holds : List ℕ → Type 0) (value : List ℕ) → value_of series.labels m.name ≡ Some value → Holds value → StandsUnder (Stands is.opened.bytes) is.opened.rows m.name Holds number
     stands_under Holds value e holds =
-        let labelled = value_has series.labels m.name value e in
+        let labelled = value_in series.labels m.name value e in
         let row = is.complete number series has (record { name = m.name; value = value }) labelled in
         let belongs : BelongsTo row.0 series = inr (subst (Contains series.labels) (λ i. record { name = sym row.2 i; value = sym row.3 i }) labelled) in
         record { row = row.0; among = row.1; name_is = row.2; holds = subst Holds (sym row.3) holds; listed = has_row row.0 number series row.1 has belongs }

@@ -13,7 +13,7 @@ use Rattle.std.proofs.lemmas.List.Elements.{filter-append, Contains-append_cases
 use Rattle.std.proofs.lemmas.Option.{same_Some, slice_get_within}
 use Rattle.list_core.proofs.Membership.{no_member, only_member}
 use Rattle.label_sets.specs.Labels.{compare_texts}
-use Rattle.label_sets.proofs.LabelValues.{bytes_eq_self, bytes_eq_differs, same_text}
+use Rattle.label_sets.proofs.LabelValues.{bytes_eq_differs, same_text}
 use Rattle.matchers.specs.declared.condition.Condition.{Condition}
 use Rattle.matchers.specs.declared.matcher.Matcher.{Matcher}
 use Rattle.matchers.specs.Selectors.{is_accepted}
@@ -22,6 +22,7 @@ use Rattle.index_parts.specs.Postings.{IsPostings}
 use Rattle.index_parts.specs.Rows.{compare_rows}
 use Rattle.index_file.specs.Opened.{Opened}
 use Rattle.list_core.proofs.Order.{Less-at_places}
+use Rattle.list_core.proofs.Bools.{bytes_eq-itself}
 use Rattle.index_v2.specs.declared.refusal.IndexRefusal.{IndexRefusal}
 use Rattle.index_v2.specs.declared.refusal.IndexRefusal.TheVariants.{NoMemory}
 use Rattle.index_v2.specs.Held.{Held, IsHeldOf}
@@ -41,7 +42,7 @@ pub other_name : (m : Matcher) (row : PostingsRow) → row.name ≢ m.name → d
 other_name m row differs = rw (bytes_eq_differs row.name m.name differs) refl
 
 pub own_name : (m : Matcher) (row : PostingsRow) → row.name ≡ m.name → decides m row ≡ (if is_accepted m.condition [] then not (is_accepted m.condition row.value) else is_accepted m.condition row.value)
-own_name m row same = rw (same, bytes_eq_self m.name) refl
+own_name m row same = rw (same, bytes_eq-itself m.name) refl
 
 chosen_is : (empty a r : Bool) → beq a (not empty) ≡ r → (if empty then not a else a) ≡ r
 chosen_is true true r e = e

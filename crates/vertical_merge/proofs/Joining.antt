@@ -35,7 +35,7 @@ AllInhabited (s ∷ ss) = (s.samples ≢ []) × AllInhabited ss
 same_labels : (one next : Series) → has_same_labels one next ≡ true → one.labels ≡ next.labels
 same_labels one next e = same_set one.labels next.labels (is_equal (compare_sets one.labels next.labels) e)
 
-triples_under-append : (labels : List Label) (one more : List Sample) → triples_under labels (one ++ more) ≡ triples_under labels one ++ triples_under labels more
+pub triples_under-append : (labels : List Label) (one more : List Sample) → triples_under labels (one ++ more) ≡ triples_under labels one ++ triples_under labels more
 unfolding triples_under
 triples_under-append labels one more = map-append (λ (s : Sample). record { labels = labels; time = s.time; pattern = s.pattern }) one more
 

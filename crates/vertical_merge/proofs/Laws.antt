@@ -96,10 +96,10 @@ ascending-first list = IsStrictlySortedBy-dedup keys_total (λ x y. refl) (in_or
 -- ---- the first at its key
 
 -- a member that passes nothing does not change what is found
-find_skip : (p : Triple → Bool) (x : Triple) (xs : List Triple) → p x ≡ false → find p (x ∷ xs) ≡ find p xs
+pub find_skip : (p : Triple → Bool) (x : Triple) (xs : List Triple) → p x ≡ false → find p (x ∷ xs) ≡ find p xs
 find_skip p x xs f = ap (λ b. cond b (Some x) (find p xs)) f
 
-find_here : (p : Triple → Bool) (x : Triple) (xs : List Triple) → p x ≡ true → find p (x ∷ xs) ≡ Some x
+pub find_here : (p : Triple → Bool) (x : Triple) (xs : List Triple) → p x ≡ true → find p (x ∷ xs) ≡ Some x
 find_here p x xs h = ap (λ b. cond b (Some x) (find p xs)) h
 
 less_not_equal : (o : Ordering) → is_lt o ≡ true → is_eq o ≡ false

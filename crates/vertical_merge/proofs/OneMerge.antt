@@ -41,7 +41,7 @@ kept_in list kept other p q = recursion_from_All (Contains other) kept (All-weak
     let same : t ≡ u.0 = cc (first, also, tests) in
     subst (Contains other) (sym same) u.1) kept p.first)
 
-one_kept : (list kept other : List Triple) → AreFirst list kept → AreFirst list other → kept ≡ other
+pub one_kept : (list kept other : List Triple) → AreFirst list kept → AreFirst list other → kept ≡ other
 one_kept list kept other p q = same_members kept other p.ascending q.ascending (kept_in list kept other p q) (kept_in list other kept q p)
 
 -- ---- the series that hold them

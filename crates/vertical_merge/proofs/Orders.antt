@@ -6,6 +6,7 @@ use Rattle.std.specs.Ordering.{int_cmp, ordering_then, is_eq}
 use Rattle.std.specs.Cmp.{IsTotalOrder, IsStrictWeakOrder}
 use Rattle.std.proofs.lemmas.Cmp.{nat_list_cmp_total, lists_total, then_total, on_total, int_cmp_total, tied_itself, int_ranked, by_ranked}
 use Rattle.std.proofs.lemmas.List.Sorted.{ranks_by}
+use Rattle.list_core.proofs.Bools.{Equal-from_then}
 use Rattle.label_sets.specs.declared.label.Label.{Label}
 use Rattle.label_sets.specs.declared.sample.Sample.{Sample}
 use Rattle.label_sets.specs.declared.series.Series.{Series}
@@ -33,14 +34,10 @@ pub times_ranked : IsStrictWeakOrder has_lesser_time
 times_ranked = ranks_by int_cmp_total (λ (s : Sample). s.time)
 
 -- a composed order is equal where both parts are
-then_equal : (a b : Ordering) → ordering_then a b ≡ Equal → (a ≡ Equal) × (b ≡ Equal)
-then_equal Less b e = absurd (let f : Less ≡ Equal = e in cc)
-then_equal Equal b e = (refl, e)
-then_equal Greater b e = absurd (let f : Greater ≡ Equal = e in cc)
 
 same_label : (one other : Label) → compare_labels one other ≡ Equal → one ≡ other
 same_label one other e =
-    let parts : _ = then_equal (compare_texts one.name other.name) (compare_texts one.value other.value) e in
+    let parts : _ = Equal-from_then (compare_texts one.name other.name) (compare_texts one.value other.value) e in
     λ i. record { name = same_text one.name other.name parts.0 i; value = same_text one.value other.value parts.1 i }
 
 -- label sets that compare equal are equal
@@ -49,7 +46,7 @@ same_set [] [] e = refl
 same_set [] (o ∷ os) e = absurd (let f : Less ≡ Equal = e in cc)
 same_set (l ∷ ls) [] e = absurd (let f : Greater ≡ Equal = e in cc)
 same_set (l ∷ ls) (o ∷ os) e =
-    let parts : _ = then_equal (compare_labels l o) (compare_sets ls os) e in
+    let parts : _ = Equal-from_then (compare_labels l o) (compare_sets ls os) e in
     let head : l ≡ o = same_label l o parts.0 in
     let tail : ls ≡ os = same_set ls os parts.1 in
     λ i. head i ∷ tail i
@@ -73,5 +70,5 @@ is_equal Greater e = absurd (let f : false ≡ true = e in cc)
 -- triples with the same key have the same labels and the same time
 pub same_key : (one other : Triple) → has_same_key one other ≡ true → (one.labels ≡ other.labels) × (one.time ≡ other.time)
 same_key one other e =
-    let parts : _ = then_equal (compare_sets one.labels other.labels) (int_cmp one.time other.time) (is_equal (compare_keys one other) e) in
+    let parts : _ = Equal-from_then (compare_sets one.labels other.labels) (int_cmp one.time other.time) (is_equal (compare_keys one other) e) in
     (same_set one.labels other.labels parts.0, same_time one.time other.time parts.1)

@@ -4,6 +4,7 @@ use Rattle.std.specs.List.{fold}
 use Rattle.std.specs.Str.{bytes_eq}
 use Rattle.std.proofs.lemmas.List.Sums.{fold-append}
 use Rattle.std.proofs.lemmas.Slice.Eq.{bytes_eq-Decides}
+use Rattle.list_core.proofs.Bools.{bytes_eq-itself}
 use Rattle.block_keys.specs.KeyText.{key_text}
 use Rattle.block_keys.specs.declared.key.Key.{Key}
 use Rattle.bucket_core.specs.Contents.{Contents, nothing, with_object, without_object}
@@ -13,9 +14,6 @@ use Rattle.world_core.specs.declared.op.Op.{Op}
 use Rattle.world_core.specs.declared.op.Op.TheVariants.{Clock, Put, Get, GetRange, Delete, RootPage, BlockPage}
 use Rattle.world_core.specs.declared.reply.Reply.{Reply}
 use Rattle.world_core.specs.declared.entry.Entry.{Entry}
-
-same_bytes : (text : List ℕ) → bytes_eq text text ≡ true
-same_bytes text = (bytes_eq-Decides text text).1 refl
 
 other_bytes : (b : Bool) (one other : List ℕ) → bytes_eq one other ≡ b → one ≢ other → b ≡ false
 other_bytes true one other is differ = absurd (differ ((bytes_eq-Decides one other).0 is))
@@ -51,13 +49,13 @@ landed_put : (op : Op) (reply : Reply) (c : Contents) (key : Key) (bytes : List 
 landed_put op reply c key bytes is landed =
     ap (λ o. left_by o reply c (key_text key)) is
     ∙ ap (λ b. cond b (with_object (key_text key) bytes c) c (key_text key)) landed
-    ∙ ap (λ b. cond b (Some bytes) (c (key_text key))) (same_bytes (key_text key))
+    ∙ ap (λ b. cond b (Some bytes) (c (key_text key))) (bytes_eq-itself (key_text key))
 
 landed_delete : (op : Op) (reply : Reply) (c : Contents) (key : Key) → op ≡ Delete key → IsTrue (has_landed reply) → left_by op reply c (key_text key) ≡ None
 landed_delete op reply c key is landed =
     ap (λ o. left_by o reply c (key_text key)) is
     ∙ ap (λ b. cond b (without_object (key_text key) c) c (key_text key)) landed
-    ∙ ap (λ b. cond b None (c (key_text key))) (same_bytes (key_text key))
+    ∙ ap (λ b. cond b None (c (key_text key))) (bytes_eq-itself (key_text key))
 
 pub put_stands : (before after : List Entry) (e : Entry) (key : Key) (bytes : List ℕ) → e.op ≡ Put key bytes → IsTrue (has_landed e.reply) → IsUnchanged (key_text key) after → stands (before ++ e ∷ after) (key_text key) ≡ Some bytes
 put_stands before after e key bytes is landed all = after_last before after e (key_text key) all ∙ landed_put e.op e.reply (stands before) key bytes is landed
