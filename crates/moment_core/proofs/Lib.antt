@@ -1,2 +1,3 @@
 pub mod MomentLaws
+pub mod PartitionLaws
 pub mod SpanLaws

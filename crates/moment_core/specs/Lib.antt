@@ -1,4 +1,5 @@
 pub mod Limits
 pub mod MomentText
+pub mod Partitions
 pub mod SpanText
 pub mod StandardRules

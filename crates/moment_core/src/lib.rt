@@ -8,7 +8,7 @@ mod rules;
 mod span;
 
 pub use moment::Moment;
-pub use partition::Partition;
+pub use partition::{Partition, PartitionList};
 pub use refusal::{BadSpan, MomentRefusal};
 pub use rules::Rules;
 pub use span::Span;
