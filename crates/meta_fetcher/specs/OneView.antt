@@ -78,7 +78,7 @@ same_lists first begin end kept kept' covered covered' same also k c =
 
 same_view : (first first' : ℕ) (begin begin' end end' : Moment) (kept covered : List Found) (k : Rises kept) (c : Rises covered) → first ≡ first' → begin ≡ begin' → end ≡ end'
     → view_made first begin end kept covered k c ≡ view_made first' begin' end' kept covered k c
-same_view first first' begin begin' end end' kept covered k c firsts begins ends = λ i. view_made (firsts i) (begins i) (ends i) kept covered k c
+same_view first first' begin begin' end end' kept covered k c firsts begun ended = λ i. view_made (firsts i) (begun i) (ended i) kept covered k c
 
 one_view : (rules : SyncRules) (number : ℕ) (begun ended : Moment) (sightings : List Sighting) (v w : View) → IsView rules number begun ended sightings v → IsView rules number begun ended sightings w → v ≡ w
 one_view rules number begun ended sightings v w a b =
