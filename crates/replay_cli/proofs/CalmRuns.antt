@@ -1,5 +1,5 @@
 -- Where every task has ended well, every outcome is as asked.
-use Rattle.std.proofs.Common.{◌≡◌, ℕ, zero, suc, ◌+◌, Bool, true, List, [], ◌∷◌, Contains, Option, refl, ◌∙◌, ap, subst, arith}
+use Rattle.std.proofs.Common.{◌≡◌, inl, inr, ℕ, zero, suc, ◌+◌, Bool, true, List, [], ◌∷◌, Contains, Option, refl, ◌∙◌, ap, subst, arith}
 use Rattle.std.specs.List.{AllZip, list_all, zip}
 use Rattle.std.proofs.lemmas.List.Folds.{list_all-append}
 use Rattle.std.proofs.lemmas.Bool.{and_from}
@@ -28,12 +28,14 @@ use Rattle.lifecycle_core.specs.Phases.{by_workers}
 use Rattle.lifecycle_core.specs.Setting.{Setting}
 use Rattle.lifecycle_core.specs.Tasks.{End, answered, stopped, synced, uploaded, without_view}
 use Rattle.lifecycle_core.specs.Ways.{AreFinished, AreInTurn, Way}
-use Rattle.list_core.proofs.Membership.{contains_first, contains_later}
-use Rattle.script_running.specs.Outcomes.{IsOutcome, PhasesCame, TasksCame, call_outcome, sync_outcome, upload_outcome}
+use Rattle.list_core.proofs.Membership.{contains_first, contains_later, member_cases, no_member}
+use Rattle.script_running.specs.Outcomes.{AreOne, IsOutcome, IsPart, IsQueryOutcome, PhasesCame, TasksCame, call_outcome, sync_outcome, upload_outcome}
 use Rattle.script_running.specs.Outcomes.{is_as_asked}
 use Rattle.replay_cli.specs.Verdicts.{IsWholeRun}
 use Rattle.script_running.specs.declared.outcome.Outcome.{Outcome}
 use Rattle.script_running.specs.declared.outcome.Outcome.TheVariants as outcome
+use Rattle.script_running.specs.declared.outcome.QueryOutcome.{QueryOutcome}
+use Rattle.script_running.specs.declared.outcome.QueryOutcome.TheVariants as query
 
 -- ---- one task
 
@@ -48,53 +50,43 @@ sync_asked (fetched.Fault entry) well = absurd well
 sync_asked (fetched.Damaged entry) well = absurd well
 sync_asked fetched.TooMany well = absurd well
 
-call_asked : (used : Use) (end : SeriesEnd) → IsWell (answered used end) → is_as_asked (outcome.Query (call_outcome 0 end)) ≡ true
-call_asked used (called.Answer series sources) well = refl
-call_asked used (called.Missing entry) well = absurd well
-call_asked used (called.Damaged entry) well = absurd well
-call_asked used (called.Fault entry) well = absurd well
+call_asked : (gateway : ℕ) (used : Use) (end : SeriesEnd) → IsWell (answered used end) → is_as_asked (outcome.Query (call_outcome gateway end)) ≡ true
+call_asked gateway used (called.Answer series sources) well = refl
+call_asked gateway used (called.Missing entry) well = absurd well
+call_asked gateway used (called.Damaged entry) well = absurd well
+call_asked gateway used (called.Fault entry) well = absurd well
 
 asked_as : (o p : Outcome) → o ≡ p → is_as_asked p ≡ true → is_as_asked o ≡ true
 asked_as o p is asked = ap is_as_asked is ∙ asked
 
-one_asked : (w : Work) (end : End) (o : Outcome) → IsWell end → IsOutcome w (end ∷ []) o → is_as_asked o ≡ true
-one_asked (work.Upload ulid stop) (uploaded e) o well is = asked_as o _ is (upload_asked e well)
-one_asked (work.Upload ulid stop) (stopped count) o well is = asked_as o _ is refl
-one_asked (work.Upload ulid stop) (synced e) o well is = absurd is
-one_asked (work.Upload ulid stop) (answered used e) o well is = absurd is
-one_asked (work.Upload ulid stop) without_view o well is = absurd is
-one_asked (work.Sync gateway) (synced e) o well is = asked_as o _ is (sync_asked e well)
-one_asked (work.Sync gateway) (uploaded e) o well is = absurd is
-one_asked (work.Sync gateway) (answered used e) o well is = absurd is
-one_asked (work.Sync gateway) without_view o well is = absurd is
-one_asked (work.Sync gateway) (stopped count) o well is = absurd is
-one_asked (work.Query low high n) (answered used e) o well is = asked_as o _ is (call_asked used e well)
-one_asked (work.Query low high n) (uploaded e) o well is = absurd is
-one_asked (work.Query low high n) (synced e) o well is = absurd is
-one_asked (work.Query low high n) without_view o well is = absurd well
-one_asked (work.Query low high n) (stopped count) o well is = absurd is
+part_asked : (gateway : ℕ) (end : End) (o : Outcome) → IsWell end → IsPart gateway end o → is_as_asked o ≡ true
+part_asked gateway (answered used e) o well is = asked_as o _ is (call_asked gateway used e well)
+part_asked gateway without_view o well is = absurd well
+part_asked gateway (uploaded e) o well is = absurd is
+part_asked gateway (synced e) o well is = absurd is
+part_asked gateway (stopped count) o well is = absurd is
 
-none_asked : (w : Work) (o : Outcome) → IsOutcome w [] o → is_as_asked o ≡ true
-none_asked (work.Upload ulid stop) o is = absurd is
-none_asked (work.Sync gateway) o is = absurd is
-none_asked (work.Query low high n) o is = asked_as o _ is refl
+both_asked : (own others : QueryOutcome) (o : Outcome) → is_as_asked (outcome.Query own) ≡ true → is_as_asked (outcome.Query others) ≡ true → AreOne own others o → is_as_asked o ≡ true
+both_asked (query.NoAnswer gateway why) others o first rest is = absurd (cc (first))
+both_asked (query.Answer series sources) (query.NoAnswer gateway why) o first rest is = absurd (cc (rest))
+both_asked (query.Answer series sources) (query.Answer more named) o first rest (all, merge, is) = asked_as o _ is refl
 
-pub more_asked : (w : Work) (one other : End) (ends : List End) (o : Outcome) → IsOutcome w (one ∷ other ∷ ends) o → ⊥
-more_asked (work.Upload ulid stop) (uploaded e) other ends o is = is
-more_asked (work.Upload ulid stop) (synced e) other ends o is = is
-more_asked (work.Upload ulid stop) (answered used e) other ends o is = is
-more_asked (work.Upload ulid stop) without_view other ends o is = is
-more_asked (work.Upload ulid stop) (stopped count) other ends o is = is
-more_asked (work.Sync gateway) (uploaded e) other ends o is = is
-more_asked (work.Sync gateway) (synced e) other ends o is = is
-more_asked (work.Sync gateway) (answered used e) other ends o is = is
-more_asked (work.Sync gateway) without_view other ends o is = is
-more_asked (work.Sync gateway) (stopped count) other ends o is = is
-more_asked (work.Query low high n) (uploaded e) other ends o is = is
-more_asked (work.Query low high n) (synced e) other ends o is = is
-more_asked (work.Query low high n) (answered used e) other ends o is = is
-more_asked (work.Query low high n) without_view other ends o is = is
-more_asked (work.Query low high n) (stopped count) other ends o is = is
+abbrev AreWell : List End → Type 0
+AreWell ends = (end : End) → Contains ends end → IsWell end
+
+query_asked : (gateway : ℕ) (ends : List End) (o : Outcome) → AreWell ends → IsQueryOutcome gateway ends o → is_as_asked o ≡ true
+query_asked gateway [] o well is = asked_as o _ is refl
+query_asked gateway (end ∷ []) o well is = part_asked gateway end o (well end (contains_first end [])) is
+query_asked gateway (end ∷ next ∷ ends) o well (own, others, first, rest, both) =
+    both_asked own others o (part_asked gateway end (outcome.Query own) (well end (contains_first end (next ∷ ends))) first)
+    (query_asked (gateway + 1) (next ∷ ends) (outcome.Query others) (λ e among. well e (contains_later end e (next ∷ ends) among)) rest) both
+
+outcome_asked : (w : Work) (own : List End) (o : Outcome) → AreWell own → IsOutcome w own o → is_as_asked o ≡ true
+outcome_asked (work.Upload ulid stop) (uploaded e ∷ []) o well is = asked_as o _ is (upload_asked e (well (uploaded e) (contains_first (uploaded e) [])))
+outcome_asked (work.Upload ulid stop) (stopped count ∷ []) o well is = asked_as o _ is refl
+outcome_asked (work.Sync gateway) (synced e ∷ []) o well is = asked_as o _ is (sync_asked e (well (synced e) (contains_first (synced e) [])))
+outcome_asked (work.Query low high n) own o well is = query_asked 0 own o well is
+outcome_asked w own o well is = absurd is
 
 -- ---- the ends of workers
 
@@ -108,18 +100,20 @@ pub end_came : (workers : List Worker) (ends : List (List End)) (gateway : Optio
 end_came workers ends gateway place end c = (c.own, of_zip workers ends c.worker c.own c.among, of_zip (c.worker).tasks c.own place end c.came)
 
 module _ (workers : List Worker) (ends : List (List End)) (well : (own : List End) (end : End) → Contains ends own → Contains own end → IsWell end) where
-  hands_asked : (place : ℕ) (w : Work) (hs : List Hand) (own : List End) (o : Outcome) → AllZip (λ hand end. CameTo workers ends (gateway_of hand) place end) hs own → IsOutcome w own o → is_as_asked o ≡ true
-  hands_asked place w [] [] o all is = none_asked w o is
-  hands_asked place w [] (end ∷ own) o all is = absurd all
-  hands_asked place w (h ∷ hs) [] o all is = absurd all
-  hands_asked place w (h ∷ hs) (end ∷ []) o all is = let came = end_came workers ends (gateway_of h) place end all.0 in one_asked w end o (well came.0 end came.1 came.2) is
-  hands_asked place w (h ∷ hs) (end ∷ other ∷ own) o all is = absurd (more_asked w end other own o is)
+  hands_well : (place : ℕ) (hs : List Hand) (own : List End) → AllZip (λ hand end. CameTo workers ends (gateway_of hand) place end) hs own → AreWell own
+  hands_well place [] [] all end among = absurd (no_member end among)
+  hands_well place [] (e ∷ own) all end among = absurd all
+  hands_well place (h ∷ hs) [] all end among = absurd all
+  hands_well place (h ∷ hs) (e ∷ own) all end among = elim (member_cases e end own among) [
+    | inl same ↦ let came = end_came workers ends (gateway_of h) place e all.0 in subst IsWell same (well came.0 e came.1 came.2)
+    | inr later ↦ hands_well place hs own all.1 end later
+  ]
 
   tasks_asked : (script : Script) (place : ℕ) (tasks : List Task) (outcomes : List Outcome) → TasksCame script workers ends place tasks outcomes → list_all is_as_asked outcomes ≡ true
   tasks_asked script place [] outcomes came = ap (list_all is_as_asked) came
   tasks_asked script place (task ∷ tasks) [] came = absurd came
   tasks_asked script place (task ∷ tasks) (o ∷ outcomes) came =
-      and_from _ _ (hands_asked place task.work (hands_of_task (gateway_count script.gateways) place task.work) (came.0).own o (came.0).came (came.0).is) (tasks_asked script (place + 1) tasks outcomes came.1)
+      and_from _ _ (outcome_asked task.work (came.0).own o (hands_well place (hands_of_task (gateway_count script.gateways) place task.work) (came.0).own (came.0).came) (came.0).is) (tasks_asked script (place + 1) tasks outcomes came.1)
 
 phases_asked : (script : Script) (number : ℕ) (phases : List Phase) (ends : List (List (List End))) (outcomes : List Outcome) → ((phase : List (List End)) (own : List End) (end : End) → Contains ends phase → Contains phase own → Contains own end → IsWell end)
     → PhasesCame script number phases ends outcomes → list_all is_as_asked outcomes ≡ true

@@ -8,6 +8,9 @@ use Rattle.std.specs.Ordering.{nat_cmp}
 use Rattle.std.specs.declared.cmp.Ordering.TheVariants.{Less}
 use Rattle.std.proofs.lemmas.Bool.Decides.{nat_tests}
 use Rattle.std.proofs.lemmas.List.Elements.{All-contains}
+use Rattle.label_sets.specs.Triples.{triples_of}
+use Rattle.label_sets.specs.declared.series.Series.{Series}
+use Rattle.block_meta.specs.Lawful.{ascending}
 use Rattle.world_core.specs.declared.entry.Entry.{Entry}
 use Rattle.script_workers.specs.Hands.{gateway_count, gateway_of, hands_of, hands_of_task, places_from, same_hand, seats_after, worker_of, workers_from}
 use Rattle.script_workers.specs.Whose.{IsFor, IsTaskOf, asks, ships, syncs}
@@ -24,12 +27,16 @@ use Rattle.script_core.specs.declared.script.Script.{Script}
 use Rattle.lifecycle_core.specs.Conducts.{CameTo}
 use Rattle.lifecycle_core.specs.Setting.{Setting}
 use Rattle.lifecycle_core.specs.Tasks.{End, answered, stopped, synced, uploaded, without_view}
+use Rattle.lifecycle_core.proofs.answers.OneMerge.{one_merge}
 use Rattle.lifecycle_core.proofs.phases.Duties.{same_self}
 use Rattle.lifecycle_core.proofs.phases.HandLists.{Apart, joins_from}
 use Rattle.lifecycle_core.proofs.phases.OneCut.{cut_is_unfinished, cuts_tell}
 use Rattle.lifecycle_core.proofs.phases.OneEnding.{ends_tell}
-use Rattle.script_running.specs.Outcomes.{IsOutcome, PhasesCame, TaskCame, TasksCame, is_as_asked}
+use Rattle.script_running.specs.Outcomes.{AreOne, IsOutcome, IsPart, IsQueryOutcome, PhasesCame, TaskCame, TasksCame, is_as_asked}
 use Rattle.script_running.specs.declared.outcome.Outcome.{Outcome}
+use Rattle.script_running.specs.declared.outcome.Outcome.TheVariants as outcome
+use Rattle.script_running.specs.declared.outcome.QueryOutcome.{QueryOutcome}
+use Rattle.script_running.specs.declared.outcome.QueryOutcome.TheVariants as query
 use Rattle.replay_cli.specs.Verdicts.{IsFullRun, IsReport, IsWholeRun, report_of, tasks_of}
 
 -- ---- one worker does a task
@@ -142,13 +149,32 @@ module _ (gateways : ℕ) (tasks : List Task) where
 
 -- ---- outcomes
 
+part_once : (gateway : ℕ) (end : End) (one other : Outcome) → IsPart gateway end one → IsPart gateway end other → one ≡ other
+part_once gateway (answered used end) one other is so = is ∙ sym so
+part_once gateway without_view one other is so = is ∙ sym so
+part_once gateway (uploaded end) one other is so = absurd is
+part_once gateway (synced end) one other is so = absurd is
+part_once gateway (stopped count) one other is so = absurd is
+
+both_once : (own others : QueryOutcome) (one other : Outcome) → AreOne own others one → AreOne own others other → one ≡ other
+both_once (query.NoAnswer gateway why) others one other is so = is ∙ sym so
+both_once (query.Answer series sources) (query.NoAnswer gateway why) one other is so = is ∙ sym so
+both_once (query.Answer series sources) (query.Answer more named) one other (all, merge, is) (also, merges, so) =
+    is ∙ ap (λ (s : List Series). outcome.Query (query.Answer s (ascending (sources ++ named)))) (one_merge (triples_of series ++ triples_of more) all also merge merges) ∙ sym so
+
+query_once : (gateway : ℕ) (ends : List End) (one other : Outcome) → IsQueryOutcome gateway ends one → IsQueryOutcome gateway ends other → one ≡ other
+query_once gateway [] one other is so = is ∙ sym so
+query_once gateway (end ∷ []) one other is so = part_once gateway end one other is so
+query_once gateway (end ∷ next ∷ ends) one other (own, others, first, rest, both) (own', others', first', rest', both') =
+    let here : own ≡ own' = cc (part_once gateway end (outcome.Query own) (outcome.Query own') first first') in
+    let there : others ≡ others' = cc (query_once (gateway + 1) (next ∷ ends) (outcome.Query others) (outcome.Query others') rest rest') in
+    both_once own others one other both (subst (λ (q : QueryOutcome). AreOne q others other) (sym here) (subst (λ (q : QueryOutcome). AreOne own' q other) (sym there) both'))
+
 outcome_once : (w : Work) (own : List End) (one other : Outcome) → IsOutcome w own one → IsOutcome w own other → one ≡ other
 outcome_once (work.Upload ulid stop) (uploaded end ∷ []) one other is so = is ∙ sym so
 outcome_once (work.Upload ulid stop) (stopped count ∷ []) one other is so = is ∙ sym so
 outcome_once (work.Sync gateway) (synced end ∷ []) one other is so = is ∙ sym so
-outcome_once (work.Query low high selector) [] one other is so = is ∙ sym so
-outcome_once (work.Query low high selector) (answered used end ∷ []) one other is so = is ∙ sym so
-outcome_once (work.Query low high selector) (without_view ∷ []) one other is so = is ∙ sym so
+outcome_once (work.Query low high selector) own one other is so = query_once 0 own one other is so
 outcome_once w own one other is so = absurd is
 
 module _ (script : Script) where

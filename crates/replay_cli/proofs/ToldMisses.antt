@@ -1,6 +1,6 @@
 -- A missing object that a report tells of is one that a call found missing.
-use Rattle.list_core.proofs.Membership.{contains_later}
-use Rattle.std.proofs.Common.{◌≡◌, inl, inr, ℕ, zero, suc, ◌+◌, ℤ, Bool, List, [], ◌∷◌, ◌++◌, Contains, refl, sym, ap, subst, arith}
+use Rattle.list_core.proofs.Membership.{contains_first, contains_later, member_cases, no_member}
+use Rattle.std.proofs.Common.{◌≡◌, ◌⊎◌, inl, inr, ℕ, zero, suc, ◌+◌, ℤ, Bool, List, [], ◌∷◌, ◌++◌, Contains, refl, sym, ap, subst, arith}
 use Rattle.std.specs.List.{AllZip}
 use Rattle.std.proofs.lemmas.List.Elements.{Contains-append_cases, Contains-append_left}
 use Rattle.world_core.specs.declared.entry.Entry.{Entry}
@@ -20,13 +20,14 @@ use Rattle.lifecycle_core.specs.Conducts.{CameTo}
 use Rattle.lifecycle_core.specs.Holdings.{Use}
 use Rattle.lifecycle_core.specs.Setting.{Setting}
 use Rattle.lifecycle_core.specs.Tasks.{End, answered, stopped, synced, uploaded, without_view}
-use Rattle.script_running.specs.Outcomes.{IsOutcome, PhasesCame, TaskCame, TasksCame}
+use Rattle.script_running.specs.Outcomes.{AreOne, IsOutcome, IsPart, IsQueryOutcome, PhasesCame, TaskCame, TasksCame}
 use Rattle.replay_cli.specs.Verdicts.{IsFullRun, IsWholeRun}
 use Rattle.script_running.specs.declared.outcome.Outcome.{Outcome}
 use Rattle.script_running.specs.declared.outcome.Outcome.TheVariants as outcome
+use Rattle.script_running.specs.declared.outcome.QueryOutcome.{QueryOutcome}
 use Rattle.script_running.specs.declared.outcome.QueryOutcome.TheVariants as query
 use Rattle.script_running.specs.declared.outcome.NoAnswer.TheVariants as none
-use Rattle.replay_cli.proofs.CalmRuns.{end_came, more_asked}
+use Rattle.replay_cli.proofs.CalmRuns.{end_came}
 
 -- a line that tells of a missing object
 abbrev missing : ℕ → ℕ → Outcome
@@ -34,40 +35,47 @@ missing gateway number = outcome.Query (query.NoAnswer gateway (none.Missing num
 
 -- one end of its task was such a call's
 abbrev Missed : List End → ℕ → Type 0
-Missed own number = (used : Use) × (own ≡ answered used (called.Missing number) ∷ [])
+Missed own number = (used : Use) × Contains own (answered used (called.Missing number))
 
-query_missed : (low high : ℤ) (n gateway number : ℕ) (used : Use) (end : SeriesEnd) → IsOutcome (work.Query low high n) (answered used end ∷ []) (missing gateway number) → Missed (answered used end ∷ []) number
-query_missed low high n gateway number used (called.Answer series sources) is = absurd (cc (is))
-query_missed low high n gateway number used (called.Missing m) is = let same : number ≡ m = cc (is) in (used, ap (λ (k : ℕ). answered used (called.Missing k) ∷ []) (sym same))
-query_missed low high n gateway number used (called.Damaged m) is = absurd (cc (is))
-query_missed low high n gateway number used (called.Fault m) is = absurd (cc (is))
+call_missed : (first gateway number : ℕ) (used : Use) (end : SeriesEnd) → IsPart first (answered used end) (missing gateway number) → Missed (answered used end ∷ []) number
+call_missed first gateway number used (called.Answer series sources) is = absurd (cc (is))
+call_missed first gateway number used (called.Missing m) is =
+    let same : m ≡ number = cc (is) in
+    (used, subst (λ (k : ℕ). Contains (answered used (called.Missing m) ∷ []) (answered used (called.Missing k))) same (contains_first (answered used (called.Missing m)) []))
+call_missed first gateway number used (called.Damaged m) is = absurd (cc (is))
+call_missed first gateway number used (called.Fault m) is = absurd (cc (is))
 
-one_missed : (w : Work) (end : End) (gateway number : ℕ) → IsOutcome w (end ∷ []) (missing gateway number) → Missed (end ∷ []) number
-one_missed (work.Upload ulid stop) (uploaded e) gateway number is = absurd (cc (is))
-one_missed (work.Upload ulid stop) (stopped count) gateway number is = absurd (cc (is))
-one_missed (work.Upload ulid stop) (synced e) gateway number is = absurd is
-one_missed (work.Upload ulid stop) (answered used e) gateway number is = absurd is
-one_missed (work.Upload ulid stop) without_view gateway number is = absurd is
-one_missed (work.Sync own) (synced e) gateway number is = absurd (cc (is))
-one_missed (work.Sync own) (uploaded e) gateway number is = absurd is
-one_missed (work.Sync own) (answered used e) gateway number is = absurd is
-one_missed (work.Sync own) without_view gateway number is = absurd is
-one_missed (work.Sync own) (stopped count) gateway number is = absurd is
-one_missed (work.Query low high n) (answered used e) gateway number is = query_missed low high n gateway number used e is
-one_missed (work.Query low high n) (uploaded e) gateway number is = absurd is
-one_missed (work.Query low high n) (synced e) gateway number is = absurd is
-one_missed (work.Query low high n) without_view gateway number is = absurd (cc (is))
-one_missed (work.Query low high n) (stopped count) gateway number is = absurd is
+part_missed : (first : ℕ) (end : End) (gateway number : ℕ) → IsPart first end (missing gateway number) → Missed (end ∷ []) number
+part_missed first (answered used e) gateway number is = call_missed first gateway number used e is
+part_missed first without_view gateway number is = absurd (cc (is))
+part_missed first (uploaded e) gateway number is = absurd is
+part_missed first (synced e) gateway number is = absurd is
+part_missed first (stopped count) gateway number is = absurd is
 
-none_missed : (w : Work) (gateway number : ℕ) → IsOutcome w [] (missing gateway number) → ⊥
-none_missed (work.Upload ulid stop) gateway number is = is
-none_missed (work.Sync own) gateway number is = is
-none_missed (work.Query low high n) gateway number is = cc (is)
+-- of two parts, one is told
+both_missed : (own others : QueryOutcome) (gateway number : ℕ) → AreOne own others (missing gateway number) → (outcome.Query own ≡ missing gateway number) ⊎ (outcome.Query others ≡ missing gateway number)
+both_missed (query.NoAnswer g why) others gateway number is = inl (sym is)
+both_missed (query.Answer series sources) (query.NoAnswer g why) gateway number is = inr (sym is)
+both_missed (query.Answer series sources) (query.Answer more named) gateway number (all, merge, is) = absurd (cc (is))
+
+query_missed : (first : ℕ) (ends : List End) (gateway number : ℕ) → IsQueryOutcome first ends (missing gateway number) → Missed ends number
+query_missed first [] gateway number is = absurd (cc (is))
+query_missed first (end ∷ []) gateway number is = part_missed first end gateway number is
+query_missed first (end ∷ next ∷ ends) gateway number (own, others, part, rest, both) = elim (both_missed own others gateway number both) [
+  | inl here ↦
+      let m = part_missed first end gateway number (subst (IsPart first end) here part) in
+      (m.0, Contains-append_left (end ∷ []) (next ∷ ends) (answered m.0 (called.Missing number)) m.1)
+  | inr there ↦
+      let m = query_missed (first + 1) (next ∷ ends) gateway number (subst (IsQueryOutcome (first + 1) (next ∷ ends)) there rest) in
+      (m.0, contains_later end (answered m.0 (called.Missing number)) (next ∷ ends) m.1)
+]
 
 all_missed : (w : Work) (own : List End) (gateway number : ℕ) → IsOutcome w own (missing gateway number) → Missed own number
-all_missed w [] gateway number is = absurd (none_missed w gateway number is)
-all_missed w (end ∷ []) gateway number is = one_missed w end gateway number is
-all_missed w (end ∷ other ∷ own) gateway number is = absurd (more_asked w end other own (missing gateway number) is)
+all_missed (work.Upload ulid stop) (uploaded e ∷ []) gateway number is = absurd (cc (is))
+all_missed (work.Upload ulid stop) (stopped count ∷ []) gateway number is = absurd (cc (is))
+all_missed (work.Sync own) (synced e ∷ []) gateway number is = absurd (cc (is))
+all_missed (work.Query low high n) own gateway number is = query_missed 0 own gateway number is
+all_missed w own gateway number is = absurd is
 
 -- ---- among the ends of a run
 
@@ -75,16 +83,21 @@ all_missed w (end ∷ other ∷ own) gateway number is = absurd (more_asked w en
 abbrev PhaseMissed : List (List End) → ℕ → Type 0
 PhaseMissed ends number = (used : Use) × (own : List End) × Contains ends own × Contains own (answered used (called.Missing number))
 
-first_missed : (workers : List Worker) (ends : List (List End)) (place : ℕ) (hs : List Hand) (used : Use) (number : ℕ) → AllZip (λ hand end. CameTo workers ends (gateway_of hand) place end) hs (answered used (called.Missing number) ∷ []) → PhaseMissed ends number
-first_missed workers ends place [] used number all = absurd all
-first_missed workers ends place (h ∷ hs) used number all =
-    let came = end_came workers ends (gateway_of h) place (answered used (called.Missing number)) all.0 in (used, came.0, came.1, came.2)
+hand_missed : (workers : List Worker) (ends : List (List End)) (place : ℕ) (hs : List Hand) (own : List End) (used : Use) (number : ℕ) → AllZip (λ hand end. CameTo workers ends (gateway_of hand) place end) hs own → Contains own (answered used (called.Missing number)) → PhaseMissed ends number
+hand_missed workers ends place [] [] used number all among = absurd (no_member (answered used (called.Missing number)) among)
+hand_missed workers ends place [] (e ∷ own) used number all among = absurd all
+hand_missed workers ends place (h ∷ hs) [] used number all among = absurd all
+hand_missed workers ends place (h ∷ hs) (e ∷ own) used number all among = elim (member_cases e (answered used (called.Missing number)) own among) [
+  | inl same ↦
+      let came = end_came workers ends (gateway_of h) place (answered used (called.Missing number)) (subst (CameTo workers ends (gateway_of h) place) same all.0) in
+      (used, came.0, came.1, came.2)
+  | inr later ↦ hand_missed workers ends place hs own used number all.1 later
+]
 
 task_missed : (script : Script) (workers : List Worker) (ends : List (List End)) (place : ℕ) (task : Task) (gateway number : ℕ) → TaskCame script workers ends place task (missing gateway number) → PhaseMissed ends number
 task_missed script workers ends place task gateway number t =
-    let hs : List Hand = hands_of_task (gateway_count script.gateways) place task.work in
     let m = all_missed task.work t.own gateway number t.is in
-    first_missed workers ends place hs m.0 number (subst (AllZip (λ hand end. CameTo workers ends (gateway_of hand) place end) hs) m.1 t.came)
+    hand_missed workers ends place (hands_of_task (gateway_count script.gateways) place task.work) t.own m.0 number t.came m.1
 
 tasks_missed : (script : Script) (workers : List Worker) (ends : List (List End)) (place : ℕ) (tasks : List Task) (outcomes : List Outcome) (gateway number : ℕ) → TasksCame script workers ends place tasks outcomes
     → Contains outcomes (missing gateway number) → PhaseMissed ends number

@@ -1,6 +1,10 @@
 -- How the lines of a script came out, by the ends to which its workers came.
 use Rattle.std.specs.Prelude.{◌≡◌, ℕ, ◌+◌, Bool, true, false, List, [], ◌∷◌, ◌++◌, length}
 use Rattle.std.specs.List.{AllZip}
+use Rattle.label_sets.specs.Triples.{triples_of}
+use Rattle.label_sets.specs.declared.series.Series.{Series}
+use Rattle.block_meta.specs.Lawful.{ascending}
+use Rattle.vertical_merge.specs.Merged.{IsMerge}
 use Rattle.shipper.specs.declared.upload_end.UploadEnd.{UploadEnd}
 use Rattle.shipper.specs.declared.upload_end.UploadEnd.TheVariants as shipped
 use Rattle.meta_fetcher.specs.declared.sync_end.SyncEnd.{SyncEnd}
@@ -45,16 +49,39 @@ call_outcome gateway (called.Missing entry) = query.NoAnswer gateway (none.Missi
 call_outcome gateway (called.Damaged entry) = query.NoAnswer gateway (none.Damaged entry)
 call_outcome gateway (called.Fault entry) = query.NoAnswer gateway (none.Fault entry)
 
--- How a task comes out, by the ends of those who did it, in their order: an upload by its worker's end, a sync by its
--- gateway's, and a query by that of the one gateway. A query that asks no gateway answers nothing.
+-- how a gateway's part of a query comes out, by its end
+abbrev pub IsPart : ℕ → End → Outcome → Type 0
+IsPart gateway (answered used end) o = o ≡ outcome.Query (call_outcome gateway end)
+IsPart gateway without_view o = o ≡ outcome.Query (query.NoAnswer gateway none.NoView)
+IsPart gateway (uploaded end) o = ⊥
+IsPart gateway (synced end) o = ⊥
+IsPart gateway (stopped count) o = ⊥
+
+-- A gateway's part, and that of the gateways behind it, together: the first that gave no answer is told. Two answers are one, which
+-- has the first pattern at each key, and the sources of both.
+abbrev pub AreOne : QueryOutcome → QueryOutcome → Outcome → Type 0
+AreOne (query.NoAnswer gateway why) others o = o ≡ outcome.Query (query.NoAnswer gateway why)
+AreOne (query.Answer series sources) (query.NoAnswer gateway why) o = o ≡ outcome.Query (query.NoAnswer gateway why)
+AreOne (query.Answer series sources) (query.Answer more others) o =
+    (all : List Series) × IsMerge (triples_of series ++ triples_of more) all × (o ≡ outcome.Query (query.Answer all (ascending (sources ++ others))))
+
+-- How a query comes out, by the ends of its gateways in their order, the first of which has this number. A query that asks no gateway
+-- answers nothing.
+abbrev pub IsQueryOutcome : ℕ → List End → Outcome → Type 0
+IsQueryOutcome gateway [] o = o ≡ outcome.Query (query.Answer [] [])
+IsQueryOutcome gateway (end ∷ []) o = IsPart gateway end o
+IsQueryOutcome gateway (end ∷ next ∷ ends) o =
+    (own : QueryOutcome) × (others : QueryOutcome) × IsPart gateway end (outcome.Query own)
+    × IsQueryOutcome (gateway + 1) (next ∷ ends) (outcome.Query others) × AreOne own others o
+
+-- How a task comes out, by the ends of those who did it, in their order: an upload by its worker's end, a sync by its gateway's, and
+-- a query by those of all gateways.
 abbrev pub IsOutcome : Work → List End → Outcome → Type 0
 IsOutcome (work.Upload ulid stop) (uploaded end ∷ []) o = o ≡ outcome.Upload (upload_outcome end)
 IsOutcome (work.Upload ulid stop) (stopped count ∷ []) o = o ≡ outcome.Upload (upload.Stopped count)
 IsOutcome (work.Sync gateway) (synced end ∷ []) o = o ≡ outcome.Sync (sync_outcome end)
-IsOutcome (work.Query low high selector) [] o = o ≡ outcome.Query (query.Answer [] [])
-IsOutcome (work.Query low high selector) (answered used end ∷ []) o = o ≡ outcome.Query (call_outcome 0 end)
-IsOutcome (work.Query low high selector) (without_view ∷ []) o = o ≡ outcome.Query (query.NoAnswer 0 none.NoView)
--- there are no other ends of these tasks, and no script has a second gateway yet
+IsOutcome (work.Query low high selector) ends o = IsQueryOutcome 0 ends o
+-- there are no other ends of uploads and syncs
 IsOutcome other ends o = ⊥
 
 -- the task at a place of a phase came out so, by the ends of the phase's workers
