@@ -1,7 +1,8 @@
 #!/usr/bin/env bash
-# Times two scripts by one thread and with a thread for each worker, prints a table, and says whether the bars are met: eight
-# gateways that are asked one query over 24 blocks take at most one 2.2th of the time on four processors (one 1.5th on two), and
-# 64 uploads of small blocks take no longer.
+# Times work by one thread and with a thread for each worker, prints a table, and says whether the bars are met: eight gateways
+# that sync and are asked one query over 24 blocks take at most one 2.2th of the time on four processors (one 1.5th on two), and
+# a script of 64 uploads of small blocks takes no longer. A script has one gateway today, so the job of its worker is done eight
+# times over one world, each time from an empty view.
 # CPU names the processor that the code is built for.
 set -euo pipefail
 top=$(cd "$(dirname "$0")/.." && pwd)
@@ -11,13 +12,14 @@ trap 'rm -rf "$made"' EXIT
 
 # A repository of its own for the program, over this one's crates and what their checks kept.
 own=$made/crates/replay_speed
-mkdir -p "$own/src" "$own/proofs"
-cp "$top/bench/replay_speed/main.rt.txt" "$own/src/main.rt"
+mkdir -p "$own/src" "$own/proofs/gateways/jobs_by"
+for name in main uploads gateways; do cp "$top/bench/replay_speed/$name.rt.txt" "$own/src/$name.rt"; done
+cp "$top/bench/replay_speed/jobs_by.antt.txt" "$own/proofs/gateways/jobs_by/Answers.antt"
 touch "$own/proofs/Lib.antt"
 cp "$top/HANDLES" "$made/HANDLES"
 grep -v "^tests_\|^tosraem" "$top/crates.txt" >"$made/crates.txt"
 for name in $(sed -n 's/^\([a-z0-9_]*\):.*/\1/p' "$made/crates.txt"); do cp -al "$top/crates/$name" "$made/crates/$name"; done
-echo "replay_speed: bucket_core phase_runner replay_cli wire_bytes" >>"$made/crates.txt"
+echo "replay_speed: list_core moment_core bucket_core world_core world_turn phase_runner script_core script_running replay_cli wire_bytes" >>"$made/crates.txt"
 (cd "$own" && rt run --cpu "$cpu" >"$made/lines" 2>"$made/run.log") || { tail -20 "$made/run.log"; exit 1; }
 
 awk -v processors="$(nproc)" 'NF == 4 {

@@ -1,12 +1,14 @@
 -- A worker's job, from its tasks.
-use Rattle.std.proofs.Common.{◌≡◌, ℕ, zero, suc, ◌<◌, List, [], ◌∷◌, ◌++◌, length, drop, get_or, refl, sym, ◌∙◌, ap, subst}
-use Rattle.std.specs.Prelude.{Option, Some, None, Ok, Err, IfSome, slice_get}
+use Rattle.std.proofs.Common.{◌≡◌, ℕ, ◌<◌, true, List, [], ◌∷◌, ◌++◌, length, drop, refl, sym, ◌∙◌, ap, subst}
+use Rattle.std.specs.Prelude.{Option, Some, None, Ok, Err, IfSome, IsTrue, slice_get}
 use Rattle.std.specs.List.{All}
+use Rattle.std.proofs.lemmas.List.Elements.{All-weaker}
 use Rattle.world_core.specs.Keeping.{IsFull}
 use Rattle.world_core.specs.declared.entry.Entry.{Entry}
 use Rattle.meta_fetcher.specs.declared.view.View.{View}
 use Rattle.script_core.specs.Reading.{script_of}
 use Rattle.script_core.specs.Lawful.{IsLawfulPhase, IsLawfulScript, IsLawfulWork}
+use Rattle.script_core.specs.declared.block.Block.{Block}
 use Rattle.script_core.specs.declared.script.Script.{Script}
 use Rattle.script_workers.specs.declared.phase.Phase.{Phase}
 use Rattle.script_workers.specs.declared.task.Task.{Task}
@@ -16,7 +18,7 @@ use Rattle.lifecycle_core.specs.Holdings.{Holding, nothing_held}
 use Rattle.lifecycle_core.specs.Setting.{Setting, setting_of}
 use Rattle.script_running.proofs.WorkerSteps.{member}
 use Rattle.script_running.specs.Tasks.{Sees}
-use Rattle.script_running.specs.Workers.{HasWorked, IsAtWork, MayWork, Post}
+use Rattle.script_running.specs.Workers.{AreUploads, HasWorked, IsAtWork, IsLent, MayWork, Post, is_upload}
 use Rattle.script_running.specs.declared.came.Broken.TheVariants as broken
 use Rattle.script_running.specs.declared.worker.WorkerEnd.{WorkerEnd}
 
@@ -80,28 +82,53 @@ module _ (post : Post) (script : Script) (phase : Phase) (spelled : script_of po
         },
       )
 
--- ---- what a worker knows of its phase, by the script that it has read
-
-pub record Knows (script : Script) (number : ℕ) (worker : Worker) : Type 0 where
-  pub phase : Phase
-  pub at : slice_get script.phases number ≡ Some phase
-  pub places : All (λ place. place < length phase.tasks) worker.tasks
-
-pub knows : (text : List ℕ) (number : ℕ) (worker : Worker) (script : Script) → IsAtWork text number worker → script_of text ≡ Ok script → Knows script number worker
-knows text number worker script at is =
-    let same : at.script ≡ script = cc (at.spelled, is) in
-    record { phase = at.phase; at = ap (λ (s : Script). slice_get s.phases number) (sym same) ∙ at.at; places = at.within }
-
 pub allowed : (script : Script) (number : ℕ) (phase : Phase) → IsLawfulScript script → slice_get script.phases number ≡ Some phase → All (λ t. IsLawfulWork script.gateways script.blocks (length script.selectors) t.work) phase.tasks
 allowed script number phase lawful at = (member (IsLawfulPhase script.gateways script.blocks (length script.selectors)) script.phases number phase (lawful.phases).each at).tasks
 
-got_same : (phases : List Phase) (number : ℕ) (one found : Phase) → slice_get phases number ≡ Some one → found ≡ get_or phases number found → one ≡ found
-got_same [] number one found at is = absurd (cc (at))
-got_same (p ∷ phases) zero one found at is = cc (at, is)
-got_same (p ∷ phases) (suc number) one found at is = got_same phases number one found at is
+-- ---- what a worker knows of its phase, by what it was lent
 
--- the tasks that were found are the phase's
-pub tasks_are : (script : Script) (number : ℕ) (phase : Phase) (phases : List Phase) (found : Phase) (tasks : List Task) → slice_get script.phases number ≡ Some phase → phases ≡ script.phases → found ≡ get_or phases number found
-    → tasks ≡ (get_or phases number found).tasks → tasks ≡ phase.tasks
-tasks_are script number phase phases found tasks at same is are =
-    are ∙ ap (λ (p : Phase). p.tasks) (sym is ∙ sym (got_same script.phases number phase found at (is ∙ ap (λ (l : List Phase). get_or l number found) same)))
+pub record Ready (number : ℕ) (worker : Worker) (script : Script) (tasks : List Task) : Type 0 where
+  pub phase : Phase
+  pub at : slice_get script.phases number ≡ Some phase
+  pub own : tasks ≡ phase.tasks
+  pub lawful : IsLawfulScript script
+  pub places : All (λ place. place < length tasks) worker.tasks
+  pub allows : All (λ t. IsLawfulWork script.gateways script.blocks (length script.selectors) t.work) tasks
+  pub ships : worker.gateway ≡ None → AreUploads tasks worker.tasks
+
+pub ready : (text : List ℕ) (number : ℕ) (worker : Worker) (script lent_by : Script) (blocks : List Block) (tasks : List Task) → script_of text ≡ Ok script → IsAtWork text number worker → IsLent text number lent_by blocks tasks → Ready number worker script tasks
+ready text number worker script lent_by blocks tasks spelled at lent =
+    let same : at.script ≡ script = cc (at.spelled, spelled) in
+    let its : lent_by ≡ script = cc (lent.spelled, spelled) in
+    let found : slice_get script.phases number ≡ Some at.phase = ap (λ (s : Script). slice_get s.phases number) (sym same) ∙ at.at in
+    let here : slice_get script.phases number ≡ Some lent.phase = ap (λ (s : Script). slice_get s.phases number) (sym its) ∙ lent.at in
+    let phases : at.phase ≡ lent.phase = some_same at.phase lent.phase (slice_get script.phases number) found here in
+    let lawful : IsLawfulScript script = subst IsLawfulScript same at.lawful in
+    let own : at.phase.tasks ≡ tasks = ap (λ (p : Phase). p.tasks) phases ∙ sym lent.own in
+    record {
+      phase = lent.phase;
+      at = here;
+      own = lent.own;
+      lawful = lawful;
+      places = subst (λ (ts : List Task). All (λ place. place < length ts) worker.tasks) own at.within;
+      allows = subst (All (λ (t : Task). IsLawfulWork script.gateways script.blocks (length script.selectors) t.work)) (sym lent.own) (allowed script number lent.phase lawful here);
+      ships = λ none. subst (λ (ts : List Task). AreUploads ts worker.tasks) own (at.ships none);
+    }
+
+-- ---- what a worker does its tasks by serves for them
+
+with_blocks : (blocks own : List Block) (task : Option Task) → blocks ≡ own → IfSome task (λ (t : Task). is_upload t.work ≡ true) → IfSome task (λ (t : Task). IsTrue (is_upload t.work) × (blocks ≡ own))
+with_blocks blocks own None same up = tt
+with_blocks blocks own (Some t) same up = (up, same)
+
+pub blocks_serve : (tasks : List Task) (places : List ℕ) (blocks own : List Block) → blocks ≡ own → AreUploads tasks places → All (λ place. IfSome (slice_get tasks place) (λ (t : Task). IsTrue (is_upload t.work) × (blocks ≡ own))) places
+blocks_serve tasks places blocks own same up =
+    All-weaker (λ place. IfSome (slice_get tasks place) (λ (t : Task). is_upload t.work ≡ true)) (λ place. IfSome (slice_get tasks place) (λ (t : Task). IsTrue (is_upload t.work) × (blocks ≡ own)))
+    (λ place is. with_blocks blocks own (slice_get tasks place) same is) places up
+
+serves_any : (task : Option Task) → IfSome task (λ (t : Task). Unit {0})
+serves_any None = tt
+serves_any (Some t) = tt
+
+pub script_serves : (tasks : List Task) (places : List ℕ) → All (λ place. place < length tasks) places → All (λ place. IfSome (slice_get tasks place) (λ (t : Task). Unit {0})) places
+script_serves tasks places within = All-weaker (λ place. place < length tasks) (λ place. IfSome (slice_get tasks place) (λ (t : Task). Unit {0})) (λ place less. serves_any (slice_get tasks place)) places within

@@ -46,7 +46,7 @@ use Rattle.script_running.specs.Ended.{AreInRow, HaveEnded, IsPostOf}
 use Rattle.script_running.specs.Gathering.{HaveOwnGateways, Gathers}
 use Rattle.script_running.specs.Going.{HasCome, HasGone, HasSeenFull, HasStopped, IfFull, IsClockSet, Met}
 use Rattle.script_running.specs.Outcomes.{PhasesCame, TasksCame}
-use Rattle.script_running.specs.Workers.{IsAtWork, MayWork, Post}
+use Rattle.script_running.specs.Workers.{AreUploads, IsAtWork, MayWork, Post, is_upload}
 use Rattle.script_running.specs.declared.came.Broken.{Broken}
 use Rattle.script_running.specs.declared.came.Broken.TheVariants as broken
 use Rattle.script_running.specs.declared.outcome.Outcome.{Outcome}
@@ -315,11 +315,23 @@ module _ (script : Script) (bytes : List ℕ) (lawful : IsLawfulScript script) (
       let s = seats_of w among in
       All-weaker (IsTaskOf (gateway_count script.gateways) phase.tasks s.0) (λ p. p < length phase.tasks) (λ p t. slice_get_within phase.tasks p t.task t.is) w.tasks ((s.3).places).only
 
+  -- a worker of no gateway has uploads
+  ships_alone : (w : Worker) → Contains (workers_of script place) w → w.gateway ≡ None → AreUploads phase.tasks w.tasks
+  ships_alone w among none =
+      let s = seats_of w among in
+      All-weaker (IsTaskOf (gateway_count script.gateways) phase.tasks s.0) (λ p. IfSome (slice_get phase.tasks p) (λ (t : Task). is_upload t.work ≡ true))
+      (λ p t. subst (λ (o : Option Task). IfSome o (λ (x : Task). is_upload x.work ≡ true)) (sym t.is) (an_upload s.0 p (t.task).work (sym (s.3).gateway ∙ none) t.whose)) w.tasks ((s.3).places).only
+    where
+      an_upload : (h : Hand) (p : ℕ) (own : Work) → gateway_of h ≡ None → IsFor (gateway_count script.gateways) h p own → is_upload own ≡ true
+      an_upload h p own none (ships ulid stop is whose) = ap is_upload is
+      an_upload h p own none (syncs gateway is whose) = let some : gateway_of h ≡ Some gateway = ap gateway_of whose in absurd (cc (some, none))
+      an_upload h p own none (asks low high selector gateway is whose less) = let some : gateway_of h ≡ Some gateway = ap gateway_of whose in absurd (cc (some, none))
+
   pub within_tasks : (workers : List Worker) (tasks : List Task) → workers ≡ workers_of script place → tasks ≡ phase.tasks → All (λ (w : Worker). All (λ p. p < length tasks) w.tasks) workers
   within_tasks workers tasks are same = subst (λ (ts : List Task). All (λ (w : Worker). All (λ p. p < length ts) w.tasks) workers) (sym same) (each_worker (λ (w : Worker). All (λ p. p < length phase.tasks) w.tasks) has_tasks workers are)
 
   pub at_work : (workers : List Worker) → workers ≡ workers_of script place → All (IsAtWork bytes place) workers
-  at_work workers are = each_worker (IsAtWork bytes place) (λ w among. record { script = script; spelled = spelled; lawful = lawful; phase = phase; at = at; within = has_tasks w among }) workers are
+  at_work workers are = each_worker (IsAtWork bytes place) (λ w among. record { script = script; spelled = spelled; lawful = lawful; phase = phase; at = at; within = has_tasks w among; ships = ships_alone w among }) workers are
 
   pub within_gateways : (workers : List Worker) (count : ℕ) → workers ≡ workers_of script place → count ≡ length script.gateways → All (λ (w : Worker). IfSome w.gateway (λ gateway. gateway < count)) workers
   within_gateways workers count are same = each_worker (λ (w : Worker). IfSome w.gateway (λ gateway. gateway < count))

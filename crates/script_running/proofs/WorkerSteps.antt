@@ -1,6 +1,6 @@
 -- A worker's tasks, one after another.
 use Rattle.std.proofs.Common.{◌≡◌, ◌||◌, Bool, true, false, ℕ, zero, suc, ◌+◌, ◌<◌, List, [], ◌∷◌, ◌++◌, length, take, drop, get_or, refl, sym, ◌∙◌, ap, subst, inl, inr, append_assoc, arith}
-use Rattle.std.specs.Prelude.{Option, Some, None, Ok, Err, Result, slice_get}
+use Rattle.std.specs.Prelude.{Option, Some, None, Ok, Err, Result, IfSome, slice_get}
 use Rattle.std.specs.List.{All}
 use Rattle.std.proofs.lemmas.List.{append-nil, length-append, take_more}
 use Rattle.std.proofs.lemmas.Option.{slice_get-get_or}
@@ -295,6 +295,13 @@ at_place tasks place task within is = slice_get-get_or tasks place task within �
 
 front_more : (places : List ℕ) (number place : ℕ) → number < length places → place ≡ get_or places number place → take (number + 1) places ≡ take number places ++ place ∷ []
 front_more places number place below is = take_more places number place below ∙ ap (λ (p : ℕ). take number places ++ p ∷ []) (sym is)
+
+-- what serves at all places serves at this one
+pub serves_at : (P : Task → Type 0) (tasks : List Task) (places : List ℕ) (number place : ℕ) (task : Task) → number < length places → place ≡ get_or places number place → place < length tasks → task ≡ get_or tasks place task
+    → All (λ p. IfSome (slice_get tasks p) P) places → P task
+serves_at P tasks places number place task below is within found serves =
+    subst (λ (o : Option Task). IfSome o P) (at_place tasks place task within found)
+    (member (λ p. IfSome (slice_get tasks p) P) places number place serves (slice_get-get_or places number place below ∙ ap Some (sym is)))
 
 parts_at : (places : List ℕ) (number place : ℕ) → number < length places → place ≡ get_or places number place → places ≡ take number places ++ place ∷ drop (number + 1) places
 parts_at [] number place below is = absurd (omega (arith, below))

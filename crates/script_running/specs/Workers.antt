@@ -1,13 +1,16 @@
 -- A worker of a phase: its post, and what it leaves.
-use Rattle.std.specs.Prelude.{◌≡◌, ℕ, ◌<◌, Bool, true, false, List, [], ◌∷◌, ◌++◌, length, All, Option, Some, Result, Ok, Err, IfSome, slice_get}
+use Rattle.std.specs.Prelude.{◌≡◌, ℕ, ◌<◌, Bool, true, false, List, [], ◌∷◌, ◌++◌, length, All, Option, Some, None, Result, Ok, Err, IfSome, slice_get}
 use Rattle.world_core.specs.Keeping.{IsFull}
 use Rattle.world_core.specs.declared.entry.Entry.{Entry}
 use Rattle.meta_fetcher.specs.declared.view.View.{View}
 use Rattle.script_core.specs.Lawful.{IsLawfulScript}
 use Rattle.script_core.specs.Reading.{script_of}
+use Rattle.script_core.specs.declared.block.Block.{Block}
 use Rattle.script_core.specs.declared.script.Script.{Script}
 use Rattle.script_workers.specs.declared.phase.Phase.{Phase}
 use Rattle.script_workers.specs.declared.task.Task.{Task}
+use Rattle.script_workers.specs.declared.work.Work.{Work}
+use Rattle.script_workers.specs.declared.work.Work.TheVariants as works
 use Rattle.script_workers.specs.declared.worker.Worker.{Worker}
 use Rattle.lifecycle_core.specs.Conducts.{Assigned, TasksAt, TasksRun, Who, who_of}
 use Rattle.lifecycle_core.specs.Holdings.{Holding}
@@ -28,7 +31,16 @@ pub record Post : Type 0 where
   pub worker : Worker
   pub view : Option View
 
--- The text spells a lawful script, whose phase at this place has tasks at the worker's places.
+abbrev pub is_upload : Work → Bool
+is_upload (works.Upload ulid stop) = true
+is_upload (works.Sync gateway) = false
+is_upload (works.Query low high selector) = false
+
+-- the tasks at these places are uploads
+abbrev pub AreUploads : List Task → List ℕ → Type 0
+AreUploads tasks places = All (λ place. IfSome (slice_get tasks place) (λ task. is_upload task.work ≡ true)) places
+
+-- The text spells a lawful script, whose phase at this place has tasks at the worker's places. A worker of no gateway has uploads.
 pub record IsAtWork (text : List ℕ) (number : ℕ) (worker : Worker) : Type 0 where
   pub script : Script
   pub spelled : script_of text ≡ Ok script
@@ -36,6 +48,15 @@ pub record IsAtWork (text : List ℕ) (number : ℕ) (worker : Worker) : Type 0 
   pub phase : Phase
   pub at : slice_get script.phases number ≡ Some phase
   pub within : All (λ place. place < length phase.tasks) worker.tasks
+  pub ships : worker.gateway ≡ None → AreUploads phase.tasks worker.tasks
+
+-- What is lent of a script that the text spells: the blocks that it declares, and the tasks of its phase at this place.
+pub record IsLent (text : List ℕ) (number : ℕ) (script : Script) (blocks : List Block) (tasks : List Task) : Type 0 where
+  pub spelled : script_of text ≡ Ok script
+  pub declared : blocks ≡ script.blocks
+  pub phase : Phase
+  pub at : slice_get script.phases number ≡ Some phase
+  pub own : tasks ≡ phase.tasks
 
 -- How a worker's first tasks came out, by the ends to which they came.
 abbrev pub AreOutcomes : List Assigned → List End → List Outcome → Type 0

@@ -191,7 +191,8 @@ fn phase_beside<B: Bucket + Send, G: Gate + Sync, R: Threads + Wait + Sync>(
         return (Err(Broken::NoMemory), root);
     };
     let workers = staff.members();
-    let Ok(jobs) = jobs_of(alloc, text, place, workers, &mut standing.views) else {
+    let views = &mut standing.views;
+    let Ok(jobs) = jobs_of(alloc, script, text, place, phase, workers, views) else {
         return (Err(Broken::NoMemory), root);
     };
     let (begun, root) = begin_phase(rt, shared, root, phase);

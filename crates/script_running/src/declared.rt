@@ -4,17 +4,34 @@ ghost use Rattle.script_core.specs.Blocks.{declares};
 ghost use Rattle.lifecycle_core.specs.Held.{declared};
 
 use script_core::{Block, Script};
+use std::snapshot::Snapshot;
 use ulid_core::Ulid;
 
 /// The declared block of a ULID.
-#[tactic(auto, using(crate::proofs::Blocks::is_found))]
 pub(crate) fn declared_block<'a>(script: &'a Script, ulid: Ulid) -> &'a Block
     requires lawful { IsLawfulScript script.now }
     requires declared { IsTrue (declares script.now.blocks ulid) }
     ensures found { declared script.now ulid ≡ Some result.now }
     ensures lawful { IsLawfulBlock result.now }
 {
-    match find_block(script.blocks.members(), ulid) {
+    block_among(&Snapshot::of(script), script.blocks.members(), ulid)
+}
+
+/// The same, where the blocks of the script are at hand.
+#[tactic(auto, using(crate::proofs::Blocks::is_found))]
+pub(crate) fn block_among<'a>(
+    script: &Snapshot<Script>,
+    blocks: &'a [Block],
+    ulid: Ulid,
+) -> &'a Block
+    requires lawful { IsLawfulScript script.now.value }
+    requires own { blocks.now ≡ script.now.value.blocks }
+    requires declared { IsTrue (declares script.now.value.blocks ulid) }
+    ensures found { declared script.now.value ulid ≡ Some result.now }
+    ensures lawful { IsLawfulBlock result.now }
+{
+    let _script = script;
+    match find_block(blocks, ulid) {
         Some(block) => block,
         None => unreachable!(),
     }

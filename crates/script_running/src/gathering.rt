@@ -1,9 +1,10 @@
 //! The workers of a phase, sent with what their gateways see, and their ends, laid together in the order of the lines.
 
-ghost use Rattle.std.specs.Prelude.{◌≡◌, ◌≢◌, ◌<◌, ◌++◌, ℕ, List, Err, None, Some, IfOk, IfSome, MatchBool, OnOk, length, map, slice_get};
+ghost use Rattle.std.specs.Prelude.{◌≡◌, ◌≢◌, ◌<◌, ◌++◌, ℕ, List, Ok, Err, None, Some, IfOk, IfSome, MatchBool, OnOk, length, map, slice_get};
 ghost use Rattle.std.specs.List.{All, AllZip};
 ghost use Rattle.world_core.specs.declared.entry.Entry.{Entry};
 ghost use Rattle.script_core.specs.Lawful.{IsLawfulScript};
+ghost use Rattle.script_core.specs.Reading.{script_of};
 ghost use Rattle.script_core.specs.Workers.{workers_of};
 ghost use Rattle.script_workers.specs.declared.phase.Phase.{Phase};
 ghost use Rattle.lifecycle_core.specs.Holdings.{Holding, Holdings};
@@ -20,26 +21,30 @@ use crate::{Broken, Outcome, OutcomeList, QueryOutcome, WorkerEnd, WorkerJob};
 use label_sets::SeriesList;
 use list_core::{NoMemory, TryCopy};
 use meta_fetcher::View;
-use script_core::{Task, Worker};
+use script_core::{Phase, Script, Task, Worker};
 use std::alloc::Global;
 use ulid_core::UlidList;
 
 /// A job for each worker of the phase, which takes what its gateway sees.
 pub(crate) fn jobs_of<'a>(
     alloc: Global,
+    script: &'a Script,
     text: &'a [u8],
-    phase: usize,
+    place: usize,
+    phase: &'a Phase,
     workers: &[Worker],
     views: &mut Vec<Option<View>>,
 ) -> Result<Vec<WorkerJob<'a>>, NoMemory>
-    requires work { All (IsAtWork text.now phase) workers.now }
+    requires spelled { script_of text.now ≡ Ok script.now }
+    requires at { slice_get script.now.phases place ≡ Some phase.now }
+    requires work { All (IsAtWork text.now place) workers.now }
     requires gateways { All
         (λ worker. IfSome worker.gateway (λ gateway. gateway < length views.old.items))
         workers.now }
     requires apart { HaveOwnGateways workers.now }
     ensures each { length views.new.items ≡ length views.old.items }
     ensures sent { (held : Holdings) → AreSeen held views.old.items
-        → IfOk result (λ jobs. AllZip (IsPostOf text.now phase held) workers.now jobs.items) }
+        → IfOk result (λ jobs. AllZip (IsPostOf text.now place held) workers.now jobs.items) }
     ensures left { (held : Holdings) → AreSeen held views.old.items
         → OnOk result (AreSeenBeside held workers.now views.new.items) }
 {
@@ -47,7 +52,7 @@ pub(crate) fn jobs_of<'a>(
     for worker in workers {
         let own = worker.copy()?;
         let view = take_view(worker.gateway, views);
-        jobs.push_reserved(WorkerJob::new(alloc, text, phase, own, view));
+        jobs.push_reserved(WorkerJob::new(alloc, script, text, place, phase, own, view));
     }
     Ok(jobs)
 }

@@ -1,36 +1,42 @@
 //! A worker of a phase: it does its tasks one after another.
 
-ghost use Rattle.std.specs.Prelude.{◌≡◌, ◌<◌, ◌||◌, ◌⊎◌, [], Ok, Err, IfSome, IsTrue, length};
+ghost use Rattle.std.specs.Prelude.{◌≡◌, ◌<◌, ◌||◌, ◌⊎◌, [], Ok, Err, Some, IfSome, IsTrue, length, slice_get};
 ghost use Rattle.std.specs.List.{All};
 ghost use Rattle.world_core.specs.Keeping.{IsFull};
 ghost use Rattle.script_core.specs.Lawful.{IsLawfulScript};
+ghost use Rattle.script_core.specs.Reading.{script_of};
 ghost use Rattle.lifecycle_core.specs.Conducts.{Who};
 ghost use Rattle.lifecycle_core.specs.Holdings.{Holding};
 ghost use Rattle.lifecycle_core.specs.Setting.{setting_of};
 ghost use Rattle.script_running.specs.Tasks.{Allows, Sees};
 ghost use Rattle.script_running.specs.Workers.{IsAtWork, HasWorked, is_full_end};
 
-use crate::{Broken, Outcome, run_task};
+use crate::task::{Means, Shipping};
+use crate::{Broken, Outcome};
 use meta_fetcher::View;
 use phase_runner::Job;
-use script_core::{Script, Task, Worker};
+use script_core::{Block, Phase, Script, Task, Worker};
 use std::alloc::Global;
 use std::marker::Model;
+use std::snapshot::Snapshot;
 use world_core::Hand;
 
-/// A worker of a phase and what its gateway sees. It lends the script as a text, and reads it for itself, since the patterns
-/// of a script that was read do not cross threads.
+/// A worker of a phase and what its gateway sees. It borrows the blocks and the tasks that it needs to ship. To sync and to ask
+/// it lends the script as a text, and reads it for itself, since the patterns of a script that was read do not cross threads.
 #[derive(Drop)]
 pub struct WorkerJob<'a> {
     alloc: Global,
     text: &'a [u8],
+    blocks: &'a [Block],
+    tasks: &'a [Task],
     phase: usize,
     worker: Worker,
     view: Option<View>,
+    script: Snapshot<Script>,
 }
 
 impl<'a> Model for WorkerJob<'a> {
-    ghost use Rattle.script_running.specs.Workers.{IsAtWork, Post};
+    ghost use Rattle.script_running.specs.Workers.{IsAtWork, IsLent, Post};
 
     ghost Value = { Post };
 
@@ -41,7 +47,8 @@ impl<'a> Model for WorkerJob<'a> {
       view = job.view;
     } };
 
-    ghost invariant = { λ job. IsAtWork job.text.now job.phase job.worker };
+    ghost invariant = { λ job. IsAtWork job.text.now job.phase job.worker
+        × IsLent job.text.now job.phase job.script.value job.blocks.now job.tasks.now };
 }
 
 /// What a worker leaves.
@@ -59,21 +66,28 @@ impl<'a> WorkerJob<'a> {
     /// The job of a worker of the phase at a place, by the script that the text spells.
     pub fn new(
         alloc: Global,
+        script: &'a Script,
         text: &'a [u8],
-        phase: usize,
+        place: usize,
+        phase: &'a Phase,
         worker: Worker,
         view: Option<View>,
     ) -> WorkerJob<'a>
-        requires { IsAtWork text.now phase worker }
-        ensures { (result.text ≡ text.now) × (result.phase ≡ phase) × (result.worker ≡ worker)
+        requires work { IsAtWork text.now place worker }
+        requires spelled { script_of text.now ≡ Ok script.now }
+        requires at { slice_get script.now.phases place ≡ Some phase.now }
+        ensures { (result.text ≡ text.now) × (result.phase ≡ place) × (result.worker ≡ worker)
             × (result.view ≡ view) }
     {
         WorkerJob {
             alloc,
             text,
-            phase,
+            blocks: script.blocks.members(),
+            tasks: phase.tasks.members(),
+            phase: place,
             worker,
             view,
+            script: Snapshot::of(script),
         }
     }
 }
@@ -93,16 +107,23 @@ impl<'a> Job for WorkerJob<'a> {
         let WorkerJob {
             alloc,
             text,
-            phase,
+            blocks,
+            tasks,
+            phase: _,
             worker,
             view,
+            script,
         } = self;
-        match Script::read(alloc, text) {
-            Ok(script) => {
-                let tasks = script.phases.members()[phase].tasks.members();
-                do_tasks(alloc, &script, tasks, worker.tasks.members(), view, hand)
+        let places = worker.tasks.members();
+        match worker.gateway {
+            None => {
+                let shipping = Shipping { blocks, script };
+                do_tasks(alloc, &shipping, tasks, places, view, hand)
             }
-            Err(_) => wanting(alloc, view),
+            Some(_) => match Script::read(alloc, text) {
+                Ok(script) => do_tasks(alloc, &script, tasks, places, view, hand),
+                Err(_) => wanting(alloc, view),
+            },
         }
     }
 }
@@ -121,19 +142,21 @@ fn wanting(alloc: Global, view: Option<View>) -> WorkerEnd
 
 /// Does the tasks at these places one after another, until one of them is broken off. It takes its memory for their
 /// outcomes first.
-fn do_tasks<H: Hand>(
+fn do_tasks<M: Means, H: Hand>(
     alloc: Global,
-    script: &Script,
+    means: &M,
     tasks: &[Task],
     places: &[u64],
     view: Option<View>,
     hand: &mut H,
 ) -> WorkerEnd
-    requires lawful { IsLawfulScript script.now }
-    requires tasks { All (λ task. Allows script.now task.work) tasks.now }
+    requires lawful { IsLawfulScript (M.script means.now) }
+    requires tasks { All (λ task. Allows (M.script means.now) task.work) tasks.now }
     requires places { All (λ place. place < length tasks.now) places.now }
+    requires serves { All (λ place.
+        IfSome (slice_get tasks.now place) (λ task. M.serves means.now task.work)) places.now }
     ensures worked { (who : Who) (held : Holding) → Sees held view
-        → HasWorked (setting_of script.now) tasks.now who places.now held (H.seat hand.old)
+        → HasWorked (setting_of (M.script means.now)) tasks.now who places.now held (H.seat hand.old)
         (H.entries hand.old) (H.entries hand.new) result }
     ensures seat { H.seat hand.new ≡ H.seat hand.old }
     ensures keeps { H.keeps hand.old hand.new }
@@ -150,7 +173,7 @@ fn do_tasks<H: Hand>(
     };
     for number in 0..places.len() {
         let task = &tasks[places[number] as usize];
-        match run_task(alloc, script, &task.work, &mut view, hand) {
+        match means.do_task(alloc, &task.work, &mut view, hand) {
             Ok(outcome) => outcomes.push_reserved(outcome),
             Err(broken) => {
                 return WorkerEnd {

@@ -8,5 +8,5 @@ invariant-loop-worker l = record {
   each : length l.views.items ≡ length l.initial.views.items;
   count : length l.jobs.items ≡ l.worker-index;
   room : length l.workers ≤ l.jobs.cap;
-  sent : AreSent l.text l.phase (take l.worker-index l.workers) l.initial.views.items l.views.items l.jobs.items;
+  sent : AreSent l.text l.place (take l.worker-index l.workers) l.initial.views.items l.views.items l.jobs.items;
 }

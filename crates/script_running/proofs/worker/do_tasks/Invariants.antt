@@ -13,7 +13,7 @@ invariant-loop-number g l =
     let h = g.H.Hand in
     record {
       worked : (who : Who) (held : Holding) → Sees held l.initial.view
-          → Worked (setting_of l.script) l.tasks who (take l.number l.places) held (h.seat l.initial.hand) (h.entries l.initial.hand) (h.entries l.hand) l.view l.outcomes.items;
+          → Worked (setting_of (g.M.Means.script l.means)) l.tasks who (take l.number l.places) held (h.seat l.initial.hand) (h.entries l.initial.hand) (h.entries l.hand) l.view l.outcomes.items;
       seat : h.seat l.hand ≡ h.seat l.initial.hand;
       refused : h.refused l.hand ≡ h.refused l.initial.hand;
       keeps : h.keeps l.initial.hand l.hand;

@@ -1,9 +1,0 @@
-use Rattle.std.proofs.Common.{◌==◌, ap, sym, ◌∙◌, Bor, List, find, option_map}
-use Rattle.script_core.specs.declared.block.Block.{Block}
-use Rattle.script_running.proofs.Blocks.{found_lawful}
-use Rattle.script_running.proofs.declared.declared_block.Goals as goal
-
-pub returns-clause-lawful : goal.returns-clause-lawful
-returns-clause-lawful c =
-    found_lawful c.args.script.now c.args.ulid c.in-Some.block.now c.requires.lawful
-    (ap (λ (blocks : List Block). find (λ (b : Block). b.ulid == c.args.ulid) blocks) (sym c.members.ensures) ∙ sym c.find_block.ensures ∙ ap (option_map (λ (b : Bor Block). b.now)) c.in-Some.is)
