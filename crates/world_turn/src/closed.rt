@@ -13,6 +13,13 @@ pub struct Closed<B: Bucket> {
 }
 
 impl<B: Bucket> Closed<B> {
+    /// The world, as it was left.
+    pub fn world(&self) -> &World<B>
+        ensures { result.now ≡ self.now.world }
+    {
+        &self.world
+    }
+
     /// The world.
     pub fn into_world(self) -> World<B>
         ensures { result ≡ self.world }
