@@ -29,7 +29,7 @@ use Rattle.script_workers.specs.declared.work.Work.{Work}
 use Rattle.script_workers.specs.declared.work.Work.TheVariants.{Upload, Sync, Query}
 use Rattle.lifecycle_core.specs.Causes.{AreFaultsShown, AreUndamaged, AreWell, IsDamaged, IsFault, IsWell, SomeCame}
 use Rattle.lifecycle_core.specs.Completed.{IsUploadedBefore}
-use Rattle.lifecycle_core.specs.Conducts.{Who}
+use Rattle.lifecycle_core.specs.Conducts.{Who, who_of}
 use Rattle.lifecycle_core.specs.Guarantees.{Answered, IsExact, IsGiven, IsGuaranteed, IsGuaranteedJournal, IsPartGiven, IsSound, LeavesNoneOut, Named, NamesAll, NamesUploads, asked_of}
 use Rattle.lifecycle_core.specs.Held.{held}
 use Rattle.lifecycle_core.specs.Holdings.{Holding, Use}
@@ -47,7 +47,7 @@ use Rattle.lifecycle_core.proofs.journals.Positions.{filtered, zip_right}
 use Rattle.lifecycle_core.proofs.views.FewNames.{none_found_many}
 use Rattle.lifecycle_core.proofs.views.ViewsThere.{views_are_there}
 use Rattle.lifecycle_core.proofs.blocks.Readable.{is_readable}
-use Rattle.lifecycle_core.proofs.phases.TasksMade.{answers_are_made, ends_are_made}
+use Rattle.lifecycle_core.proofs.phases.TasksMade.{IsMadeBy, answers_are_made, ends_are_made}
 use Rattle.lifecycle_core.proofs.journals.Telling.{all_told, journal_rises}
 use Rattle.lifecycle_core.proofs.journals.TellingPuts.{PutsShipped, puts_are_shipped}
 use Rattle.lifecycle_core.proofs.journals.Told.{IsMade, IsOrigin, IsReadable, IsTold, IsTrueView, PutsTexts, Rises}
@@ -218,7 +218,7 @@ module _ (setting : Setting) (journal : List Entry) (ends : List (List (List End
   texts : PutsTexts journal
   texts = puts_texts setting journal readable (λ e among. All-contains (PutsShipped setting) journal e (puts_are_shipped setting journal ends run) among)
 
-  view_is_true : (used : Use) → IsOrigin setting journal used → IsTrueView setting journal used
+  view_is_true : (used : Use) (origin : IsOrigin setting journal used) → IsTrueView setting journal origin.gateway used
   view_is_true used origin = origin_is_true setting journal used lawful readable rising texts told origin
 
   undamaged : AreUndamaged ends
@@ -234,15 +234,21 @@ module _ (setting : Setting) (journal : List Entry) (ends : List (List (List End
 
     -- one gateway's part
     module _ (named : Named) (series : List Series) (part : Part named series) where
-      made : IsMade setting journal given.task (answered named.used (called.Answer series named.sources))
-      made = answers_are_made setting journal ends rising run given.phase_number given.phase given.phase_ends (Some named.gateway) given.place given.task
+      made_by : IsMadeBy setting journal (who_of part.came.worker) given.task (answered named.used (called.Answer series named.sources))
+      made_by = answers_are_made setting journal ends rising run given.phase_number given.phase given.phase_ends (Some named.gateway) given.place given.task
           (answered named.used (called.Answer series named.sources)) given.in_phases given.in_tasks given.phase_came part.came
+
+      abbrev made : IsMade setting journal given.task (answered named.used (called.Answer series named.sources))
+      made = made_by.0
 
       the_call : Called setting made.held.used made.entries named.used series named.sources given.low given.high query.selector
       the_call = task_called setting made.who made.place given.task.work made.held made.after made.entries named.used series named.sources given.low given.high given.selector_number query.selector given.asks given.selects made.run
 
-      view : IsTrueView setting journal named.used
-      view = view_is_true named.used (made.origin named.used the_call.is)
+      -- the view is of a sync by its own gateway's rules
+      view : IsTrueView setting journal named.gateway named.used
+      view =
+          let by : made.who.gateway ≡ Some named.gateway = ap (λ (who : Who). who.gateway) made_by.1 ∙ part.came.is in
+          subst (λ (gateway : ℕ). IsTrueView setting journal gateway named.used) (made.same named.used the_call.is named.gateway by) (view_is_true named.used (made.origin named.used the_call.is))
 
       part_exact : IsDeduplication (triples_of series) (asked_of setting query.selector named)
       part_exact =
@@ -260,7 +266,7 @@ module _ (setting : Setting) (journal : List Entry) (ends : List (List (List End
           subst (λ (u : ℕ). IsUploadedBefore setting journal u named.used.last) found.2 (All-contains (λ (f : Found). IsUploadedBefore setting journal f.ulid named.used.last) named.used.view.kept found.0 view.uploaded found.1)
 
       part_covers : NamesAll setting journal named
-      part_covers ulid settled = (named_by ulid).1 (view.settled named.gateway ulid settled)
+      part_covers ulid settled = (named_by ulid).1 (view.settled ulid settled)
 
     all_exact : (named : List Named) (parts : List (List Series)) → AllZip Part named parts → AllZip (λ n series. IsDeduplication (triples_of series) (asked_of setting query.selector n)) named parts
     all_exact named parts all = zip_weaken Part (λ n series. IsDeduplication (triples_of series) (asked_of setting query.selector n)) part_exact named parts all

@@ -5,4 +5,5 @@ pub mod Joining
 pub mod OneCall
 pub mod ActingCalls
 pub mod OneGateway
+pub mod SeveralGateways
 pub mod EndsAreCalls

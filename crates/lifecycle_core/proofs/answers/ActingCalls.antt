@@ -106,7 +106,7 @@ module _ (setting : Setting) (journal : List Entry) (lawful : IsLawfulScript set
         let own : IsPart journal (of_seat gave.seat journal) = part_filter journal (λ (e : Entry). e.seat == gave.seat) journal (part_whole journal rising) in
         part_middle journal s.before sync s.after (subst (IsPart journal) (s.parts ∙ append_assoc s.before sync s.after) own)
 
-    origin : IsOrigin setting journal used
+    abbrev origin : IsOrigin setting journal used
     origin = record { gateway = gateway; entries = sync; run = gave.sync.run; last = gave.last; part = sync_part; seat = gave.seat; stretch = record { before = gave.sync.before; after = gave.sync.after; parts = gave.sync.parts } }
 
     -- ---- a missing object
@@ -195,7 +195,7 @@ module _ (setting : Setting) (journal : List Entry) (lawful : IsLawfulScript set
       told : All (IsTold setting journal) journal
       told = all_told_by setting journal readable acts.kept (acting_puts setting journal acts) (acting_in_order setting journal lawful acts) honest
 
-      view : IsTrueView setting journal used
+      view : IsTrueView setting journal gateway used
       view = origin_is_true setting journal used lawful readable rising (puts_texts setting journal readable (λ e among. All-contains (PutsShipped setting) journal e (acting_puts setting journal acts) among)) told origin
 
       named_by : (series : List Series) (sources : List ℕ) → IsCallIn journal used question entries (Some (called.Answer series sources)) → (ulid : ℕ)
@@ -212,7 +212,7 @@ module _ (setting : Setting) (journal : List Entry) (lawful : IsLawfulScript set
       same_end one other is call = subst (IsCallIn journal used question entries) is call
 
       pub names_all : (series : List Series) (sources : List ℕ) → IsCallIn journal used question entries (Some (called.Answer series sources)) → (ulid : ℕ) → IsSettled setting journal (sync_rules setting gateway) used ulid → Contains sources ulid
-      names_all series sources call ulid settled = (named_by series sources call ulid).1 (view.settled gateway ulid settled)
+      names_all series sources call ulid settled = (named_by series sources call ulid).1 (view.settled ulid settled)
 
       pub call_is_worth : (end : Option SeriesEnd) → IsCallIn journal used question entries end → IsSoundCall setting (watched_call used sync entries) journal (sync_rules setting gateway) used question end
       call_is_worth end call = record {

@@ -5,7 +5,9 @@ use Rattle.matchers.specs.declared.matcher.Matcher.{Matcher}
 use Rattle.std.specs.List.{All, AllPairs}
 use Rattle.world_core.specs.declared.entry.Entry.{Entry}
 use Rattle.shipper.specs.declared.upload_end.UploadEnd.{UploadEnd}
+use Rattle.meta_fetcher.specs.Syncs.{SyncRun}
 use Rattle.meta_fetcher.specs.declared.sync_end.SyncEnd.{SyncEnd}
+use Rattle.meta_fetcher.specs.declared.sync_end.SyncEnd.TheVariants as fetched
 use Rattle.store_gateway.specs.SeriesRuns.{Query as Question, SeriesRun, asking}
 use Rattle.store_gateway.specs.declared.series_end.SeriesEnd.{SeriesEnd}
 use Rattle.script_core.specs.Workers.{workers_of}
@@ -76,10 +78,16 @@ pairs_of (e ∷ entries) rises zero (suc j) d less inside = (rises.0 j d (omega 
 pairs_of (e ∷ entries) rises (suc i) zero d less inside = absurd (omega (arith, less))
 pairs_of (e ∷ entries) rises (suc i) (suc j) d less inside = pairs_of entries rises.1 i j d (omega (arith, less)) (omega (arith, inside))
 
-abbrev view_of : (setting : Setting) (journal : List Entry) (used : Use) (o : IsOrigin setting journal used) → IsViewOf (sync_rules setting o.gateway) journal used o.entries
-view_of setting journal used o = record {
+abbrev view_of : (setting : Setting) (journal : List Entry) (gateway : ℕ) (used : Use) (o : IsOrigin setting journal used) → o.gateway ≡ gateway → IsViewOf (sync_rules setting gateway) journal used o.entries
+view_of setting journal gateway used o same = record {
   seat = o.seat;
-  sync = record { before = o.stretch.before; after = o.stretch.after; parts = o.stretch.parts; run = o.run; whole = λ none. absurd (cc (none)) };
+  sync = record {
+    before = o.stretch.before;
+    after = o.stretch.after;
+    parts = o.stretch.parts;
+    run = subst (λ (n : ℕ). SyncRun (sync_rules setting n) o.entries (Some (fetched.View used.view))) same o.run;
+    whole = λ none. absurd (cc (none));
+  };
   last = o.last;
 }
 
@@ -90,15 +98,16 @@ ends_are_calls setting journal ends number place gateway own used end run own_is
     let made = answers_are_made_by setting journal ends (journal_rises setting.script.rules.tick.ms journal run.kept) run number own (Some gateway) place (answered used end) own_is came in
     let m = (made.4).0 in
     let call = task_asked setting m.who m.place (made.1).work m.held m.after m.entries used end m.run in
-    let origin = m.origin used call.is in (
+    let origin = m.origin used call.is in
+    let by : m.who.gateway ≡ Some gateway = ap (λ (who : Who). who.gateway) (made.4).1 ∙ came.is in (
       call.selector,
       call.low,
       call.high,
       origin.entries,
       m.entries,
       record { phase = made.0; task = made.1; selector_number = call.number; in_phases = made.2; in_tasks = made.3; asks = call.asks; selects = call.selects },
-      view_of setting journal used origin,
-      m.sits used call.is gateway (ap (λ (who : Who). who.gateway) (made.4).1 ∙ came.is),
+      view_of setting journal gateway used origin (m.same used call.is gateway by),
+      m.sits used call.is gateway by,
       record { among = m.part.among; rising = pairs_of m.entries m.part.rises; later = m.later used call.is; run = call.run },
       subst (λ (who : Who). All (λ (e : Entry). e.seat ≡ who.seat) m.entries) (made.4).1 m.own,
     )

@@ -64,7 +64,7 @@ module _ (setting : Setting) (journal : List Entry) (ends : List (List (List End
 
   module _ (low high : ℤ) (selector : List Matcher) (used : Use) (series : List Series) (sources : List ℕ) (g : IsGivenByOne setting ends low high selector used series sources) where
     made : IsMade setting journal g.task (answered used (called.Answer series sources))
-    made = answers_are_made setting journal ends rises run g.phase_number g.phase g.phase_ends (Some 0) g.place g.task (answered used (called.Answer series sources)) g.in_phases g.in_tasks g.phase_came g.came
+    made = (answers_are_made setting journal ends rises run g.phase_number g.phase g.phase_ends (Some 0) g.place g.task (answered used (called.Answer series sources)) g.in_phases g.in_tasks g.phase_came g.came).0
 
     the_call : Called setting made.held.used made.entries used series sources low high selector
     the_call = task_called setting made.who made.place g.task.work made.held made.after made.entries used series sources low high g.selector_number selector g.asks g.selects made.run

@@ -13,11 +13,11 @@ use Rattle.world_core.specs.Worlds.{IsJournal}
 use Rattle.world_core.specs.declared.entry.Entry.{Entry}
 use Rattle.meta_fetcher.specs.declared.view.View.{View}
 use Rattle.script_core.specs.Lawful.{IsLawfulScript}
-use Rattle.lifecycle_core.specs.Breaches.{FirstDiffer, IsBreach, IsKept, IsLie, IsOver, IsUnbroken, IsViewAt, Refuses, Rule, honesty, mark_time, next_byte, rank, sync_time, upload_time, view_time}
+use Rattle.lifecycle_core.specs.Breaches.{FirstDiffer, IsBreach, IsKept, IsLie, IsOver, IsSeatOf, IsUnbroken, IsViewAt, Refuses, Rule, honesty, mark_time, next_byte, rank, sync_time, upload_time, view_time}
 use Rattle.lifecycle_core.specs.Setting.{Setting}
 use Rattle.lifecycle_core.specs.TimeRules.{PutsMark, PutsObject}
 use Rattle.lifecycle_core.proofs.journals.Honesty.{one_reply}
-use Rattle.lifecycle_core.proofs.journals.OneSync.{one_sync}
+use Rattle.lifecycle_core.proofs.journals.OneSync.{one_sync, same_seat}
 use Rattle.lifecycle_core.proofs.journals.OneViewAt.{one_view}
 use Rattle.lifecycle_core.proofs.journals.Positions.{split}
 use Rattle.lifecycle_core.proofs.journals.Telling.{journal_rises}
@@ -165,7 +165,9 @@ one_refusal setting journal lawful rises mark_time before e x y a b (ulid, secon
     let same = one_second e ulid ulid' second second' puts puts' in
     one_over e.moment.ms (1000 * second + setting.script.rules.ignore.ms) x y a b over (subst (λ (s : ℕ). IsOver e.moment.ms (1000 * s + setting.script.rules.ignore.ms) a b) same over')
 one_refusal setting journal lawful rises sync_time before e x y a b (entries, end, first, others, front, (gateway, sync), begins, ends, over) (entries', end', first', others', front', (gateway', sync'), begins', ends', over') =
-    let same = one_sync setting journal rises e gateway gateway' entries entries' front front' end end' sync sync' ends ends' in
+    let seat = same_seat setting journal rises e gateway gateway' entries entries' front front' end end' sync sync' ends ends' in
+    let own : gateway' ≡ gateway = one_gateway setting lawful gateway gateway' sync'.seat (subst (IsSeatOf setting gateway) seat sync.sits) sync'.sits in
+    let same = one_sync setting journal rises e gateway gateway' entries entries' front front' end end' sync sync' ends ends' (sym own) in
     let start : first' ≡ first = one_first entries entries' others others' first first' same begins begins' in
     one_over (e.moment.ms + 1000) (first.moment.ms + setting.script.rules.ignore.ms) x y a b over (subst (λ (f : Entry). IsOver (e.moment.ms + 1000) (f.moment.ms + setting.script.rules.ignore.ms) a b) start over')
 one_refusal setting journal lawful rises view_time before e x y a b (view, (gateway, (sits, reads), has), over) (view', (gateway', (sits', reads'), has'), over') =

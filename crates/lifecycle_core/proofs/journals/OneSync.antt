@@ -4,6 +4,7 @@ use Rattle.std.specs.List.{All}
 use Rattle.std.proofs.lemmas.List.{length-append}
 use Rattle.std.proofs.lemmas.List.Elements.{All-contains}
 use Rattle.world_core.specs.declared.entry.Entry.{Entry}
+use Rattle.meta_fetcher.specs.Syncs.{SyncRun}
 use Rattle.meta_fetcher.specs.declared.sync_end.SyncEnd.{SyncEnd}
 use Rattle.lifecycle_core.specs.Breaches.{IsSyncIn}
 use Rattle.lifecycle_core.specs.Conducts.{of_seat}
@@ -58,7 +59,7 @@ module _ (setting : Setting) (journal : List Entry) (rises : Rises journal) (e :
     second_parts : of_seat t.seat journal ≡ (t.sync.before ++ begin) ++ e ∷ t.sync.after
     second_parts = around t.seat t.sync.before others begin t.sync.after t.sync.parts stops
 
-    same_seat : s.seat ≡ t.seat
+    pub same_seat : s.seat ≡ t.seat
     same_seat = sym (seat_is s.seat (s.sync.before ++ front) s.sync.after first_parts) ∙ seat_is t.seat (t.sync.before ++ begin) t.sync.after second_parts
 
     same_front : s.sync.before ++ front ≡ t.sync.before ++ begin
@@ -69,25 +70,25 @@ module _ (setting : Setting) (journal : List Entry) (rises : Rises journal) (e :
     lengths : length s.sync.before + length front ≡ length t.sync.before + length begin
     lengths = sym (length-append s.sync.before front) ∙ ap (length {A = Entry}) same_front ∙ length-append t.sync.before begin
 
-    -- the one as a sync of the other's seat
-    moved : IsSyncBy (sync_rules setting also) journal t.seat entries end
-    moved = record { before = s.sync.before; after = s.sync.after; parts = ap (λ (n : ℕ). of_seat n journal) (sym same_seat) ∙ s.sync.parts; run = s.sync.run; whole = s.sync.whole }
+    -- the one as a sync of the other's seat, where both are one gateway's
+    moved : gateway ≡ also → IsSyncBy (sync_rules setting also) journal t.seat entries end
+    moved whose = record { before = s.sync.before; after = s.sync.after; parts = ap (λ (n : ℕ). of_seat n journal) (sym same_seat) ∙ s.sync.parts; run = subst (λ (n : ℕ). SyncRun (sync_rules setting n) entries end) whose s.sync.run; whole = s.sync.whole }
 
-    not_earlier : ¬ (length s.sync.before < length t.sync.before)
+    not_earlier : gateway ≡ also → ¬ (length s.sync.before < length t.sync.before)
     unfolding moved
-    not_earlier less =
-        let most = t.alone entries end moved less in
+    not_earlier whose less =
+        let most = t.alone entries end (moved whose) less in
         let long : length entries ≡ length front + 1 = ap (length {A = Entry}) ends ∙ length-append front (e ∷ []) in
         absurd (omega (arith, most, long, lengths))
 
 -- ---- the one sync
 
 module _ (setting : Setting) (journal : List Entry) (rises : Rises journal) (e : Entry) (gateway also : ℕ) (entries others front begin : List Entry) (end own : Option SyncEnd) (s : IsSyncIn setting journal gateway entries end) (t : IsSyncIn setting journal also others own)
-    (ends : entries ≡ front ++ e ∷ []) (stops : others ≡ begin ++ e ∷ []) where
+    (ends : entries ≡ front ++ e ∷ []) (stops : others ≡ begin ++ e ∷ []) (whose : gateway ≡ also) where
   same_length : length s.sync.before ≡ length t.sync.before
   same_length =
-      let one = not_earlier setting journal rises e gateway also entries others front begin end own s t ends stops in
-      let other = not_earlier setting journal rises e also gateway others entries begin front own end t s stops ends in
+      let one = not_earlier setting journal rises e gateway also entries others front begin end own s t ends stops whose in
+      let other = not_earlier setting journal rises e also gateway others entries begin front own end t s stops ends (sym whose) in
       omega (arith, one, other)
 
   pub one_sync : entries ≡ others

@@ -1,6 +1,6 @@
 -- At each entry of a journal a gateway has one view at most.
 use Rattle.list_core.proofs.Membership.{member_cases}
-use Rattle.std.proofs.Common.{◌≡◌, inl, inr, ℕ, ◌<◌, ◌≤◌, ◌==◌, List, [], ◌∷◌, ◌++◌, Contains, Some, sym, ◌∙◌, ap, subst, arith}
+use Rattle.std.proofs.Common.{◌≡◌, inl, inr, ℕ, ◌<◌, ◌≤◌, ◌==◌, List, [], ◌∷◌, ◌++◌, Contains, Some, refl, sym, ◌∙◌, ap, subst, arith}
 use Rattle.std.proofs.lemmas.List.Elements.{All-contains, Contains-append_left, Contains-append_right}
 use Rattle.std.proofs.lemmas.List.Sums.{fold-append}
 use Rattle.list_core.proofs.Membership.{of_filter}
@@ -64,7 +64,7 @@ module _ (setting : Setting) (journal : List Entry) (rises : Rises journal) wher
       let here = of_journal gateway entries view one.entry s (subst (λ (es : List Entry). Contains es one.entry) (sym one.parts) (stands_in one.front [] one.entry)) in
       let there = of_journal gateway others other two.entry t (subst (λ (es : List Entry). Contains es two.entry) (sym two.parts) (stands_in two.front [] two.entry)) in
       let last : two.entry ≡ one.entry = one_entry journal rises two.entry one.entry there here (sym two.number ∙ sym same ∙ one.number) in
-      one_sync setting journal rises one.entry gateway gateway entries others one.front two.front (Some (fetched.View view)) (Some (fetched.View other)) s t one.parts (two.parts ∙ ap (λ (x : Entry). two.front ++ x ∷ []) last)
+      one_sync setting journal rises one.entry gateway gateway entries others one.front two.front (Some (fetched.View view)) (Some (fetched.View other)) s t one.parts (two.parts ∙ ap (λ (x : Entry). two.front ++ x ∷ []) last) refl
 
   pub one_view : (gateway number : ℕ) (view other : View) → IsViewAt setting journal gateway number view → IsViewAt setting journal gateway number other → other ≡ view
   one_view gateway number view other v w =

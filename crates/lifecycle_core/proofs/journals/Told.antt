@@ -115,6 +115,8 @@ pub record IsMade (setting : Setting) (journal : List Entry) (task : Task) (end 
   pub origin : (used : Use) → held.used ≡ Some used → IsOrigin setting journal used
   -- a worker of the same gateway made the sync of the view
   pub sits : (used : Use) (is : held.used ≡ Some used) (gateway : ℕ) → who.gateway ≡ Some gateway → IsSeatOf setting gateway (origin used is).seat
+  -- by this gateway's rules
+  pub same : (used : Use) (is : held.used ≡ Some used) (gateway : ℕ) → who.gateway ≡ Some gateway → (origin used is).gateway ≡ gateway
   -- it was made after the sync of the view that it used
   pub later : (used : Use) → held.used ≡ Some used → All (λ e. used.last < e.seq) entries
 
@@ -146,8 +148,8 @@ pub record IsTrueFound (setting : Setting) (found : Found) : Type 0 where
   pub labels : found.meta.labels ≡ block.labels
   pub times : Spans block.body found.meta.min_time found.meta.max_time
 
--- The view keeps such blocks, which were complete before its sync's last entry, and each that was settled.
-pub record IsTrueView (setting : Setting) (journal : List Entry) (used : Use) : Type 0 where
+-- The view of a gateway keeps such blocks, which were complete before its sync's last entry, and each that was settled for that sync.
+pub record IsTrueView (setting : Setting) (journal : List Entry) (gateway : ℕ) (used : Use) : Type 0 where
   pub kept : All (IsTrueFound setting) used.view.kept
   pub uploaded : All (λ (found : Found). IsUploadedBefore setting journal found.ulid used.last) used.view.kept
-  pub settled : (gateway ulid : ℕ) → IsSettled setting journal (sync_rules setting gateway) used ulid → (found : Found) × Contains used.view.kept found × (found.ulid ≡ ulid)
+  pub settled : (ulid : ℕ) → IsSettled setting journal (sync_rules setting gateway) used ulid → (found : Found) × Contains used.view.kept found × (found.ulid ≡ ulid)

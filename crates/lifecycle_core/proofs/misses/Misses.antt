@@ -101,7 +101,7 @@ view_given setting before made gateway own run v is = λ used same.
     subst (λ (o : Use). All (λ (block : Found). IsSeen (before ++ made) block.ulid) o.view.kept) one ((syncs (sync_rules setting gateway) before made own run).sees v is)
 
 after_task : (setting : Setting) (who : Who) (place : ℕ) (before made : List Entry) (held after : Holding) (w : Work) (end : Option End) → ViewSeen before held → TaskRun setting who place w held made end after → ViewSeen (before ++ made) after
-after_task setting who place before made held after w end seen run = task_leaves (ViewSeen (before ++ made)) setting who place held (view_left before made held seen) made w end after (view_given setting before made) run
+after_task setting who place before made held after w end seen run = task_leaves (ViewSeen (before ++ made)) setting who place held (view_left before made held seen) made w end after (λ gateway own is. view_given setting before made gateway own) run
 
 -- ---- a missing object
 

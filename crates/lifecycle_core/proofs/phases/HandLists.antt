@@ -1,13 +1,12 @@
--- The hands of a phase: each duty's hand is among them, each once, and there are no more than duties.
+-- The hands of a phase: each duty's hand is among them, each once, and there are no more than duties. A task has each of its hands once.
 use Rattle.list_core.proofs.Lists.{AllByRecursion-push}
 use Rattle.std.proofs.lemmas.Bool.{or_from, or_left, or_parts, or_right}
-use Rattle.std.proofs.Common.{◌≡◌, ℕ, ◌+◌, ◌≤◌, Bool, true, false, ◌||◌, cond, List, [], ◌∷◌, ◌++◌, length, map, refl, sym, ◌∙◌, ap, subst, arith}
+use Rattle.std.proofs.Common.{◌≡◌, ℕ, zero, suc, ◌+◌, ◌<◌, ◌≤◌, ◌==◌, Bool, true, false, ◌||◌, cond, List, [], ◌∷◌, ◌++◌, length, map, refl, sym, ◌∙◌, ap, subst, arith}
 use Rattle.std.specs.Prelude.{fold}
-use Rattle.std.specs.List.{AllByRecursion, list_any}
+use Rattle.std.specs.List.{AllByRecursion, list_any, range_with_len}
 use Rattle.std.proofs.lemmas.Bool.Decides.{nat_tests}
-use Rattle.std.proofs.lemmas.List.{length-append, length-map}
+use Rattle.std.proofs.lemmas.List.{length-append}
 use Rattle.std.proofs.lemmas.List.Folds.{list_any-append}
-use Rattle.std.proofs.lemmas.List.FromFn.{length-map-range_with_len}
 use Rattle.script_workers.specs.Hands.{same_hand, with_hand, with_hands, hands_from, hands_of_task}
 use Rattle.script_workers.specs.declared.hand.Hand.{Hand}
 use Rattle.script_workers.specs.declared.hand.Hand.TheVariants as hands
@@ -134,19 +133,19 @@ joins_from P gateways others place (task ∷ tasks) =
     subst (λ (l : List Hand). JoinsAll P others l (hands_from gateways mid (place + 1) tasks)) (sym (duties_hands hs place task (duties_from gateways (place + 1) tasks)))
     (joins_both P others mid (hands_from gateways mid (place + 1) tasks) hs (hands_in (duties_from gateways (place + 1) tasks)) (joins_fold P others hs) (joins_from P gateways mid (place + 1) tasks))
 
--- with at most one gateway, a task has at most one hand
-pub one_hand : (gateways place : ℕ) (w : Work) → gateways ≤ 1 → length (hands_of_task gateways place w) ≤ 1
-unfolding hands_of_task
-one_hand gateways place (works.Upload ulid stop) few = omega arith
-one_hand gateways place (works.Sync gateway) few = omega arith
-one_hand gateways place (works.Query low high selector) few = omega (arith, few, length-map-range_with_len hands.Gateway 0 gateways)
+-- a gateway is none of those behind it
+none_behind : (gateway first count : ℕ) → gateway < first → list_any (same_hand (hands.Gateway gateway)) (map hands.Gateway (range_with_len first count)) ≡ false
+none_behind gateway first zero below = refl
+none_behind gateway first (suc count) below =
+    or_from (gateway == first) (list_any (same_hand (hands.Gateway gateway)) (map hands.Gateway (range_with_len (first + 1) count))) (grind (arith, nat_tests, below)) (none_behind gateway (first + 1) count (omega (arith, below)))
 
-pub few_duties : (gateways place : ℕ) (tasks : List Task) → gateways ≤ 1 → length (duties_from gateways place tasks) ≤ length tasks
-unfolding duties_from
-few_duties gateways place [] few = omega arith
-few_duties gateways place (task ∷ tasks) few =
-    let hs = hands_of_task gateways place task.work in
-    let made : List Duty = map (λ hand. record { place = place; hand = hand; task = task }) hs in
-    let rest = duties_from gateways (place + 1) tasks in
-    let n : length made ≡ length hs = length-map hs (λ hand. record { place = place; hand = hand; task = task }) in
-    omega (arith, few_duties gateways (place + 1) tasks few, one_hand gateways place task.work few, n, length-append made rest)
+gateways_apart : (first count : ℕ) → Apart (map hands.Gateway (range_with_len first count))
+gateways_apart first zero = tt
+gateways_apart first (suc count) = (none_behind first (first + 1) count (omega arith), gateways_apart (first + 1) count)
+
+-- each hand of a task is there once, however many gateways there are
+pub task_apart : (gateways place : ℕ) (w : Work) → Apart (hands_of_task gateways place w)
+unfolding hands_of_task
+task_apart gateways place (works.Upload ulid stop) = (refl, tt)
+task_apart gateways place (works.Sync gateway) = (refl, tt)
+task_apart gateways place (works.Query low high selector) = gateways_apart 0 gateways

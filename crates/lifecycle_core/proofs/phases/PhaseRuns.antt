@@ -197,16 +197,16 @@ served gateways before tasks all (h ∷ hs) [] ds ends x zipped found = absurd z
 served gateways before tasks all (h ∷ hs) (w ∷ ws) ds ends x zipped found =
     served_first gateways before tasks all h w hs ws ds ends x (same_hand x h) refl zipped.0 (served gateways before tasks all hs ws ds ends x zipped.1) found
 
-done_by : (gateways before : ℕ) (tasks : List Task) (all : List Worker) (hs : List Hand) (ws : List Worker) (ds : List Duty) (ends : List End) → gateways ≤ 1 → ds ≡ duties_from gateways 0 tasks → length ends ≡ length ds
+done_by : (gateways before : ℕ) (tasks : List Task) (all : List Worker) (hs : List Hand) (ws : List Worker) (ds : List Duty) (ends : List End) → ds ≡ duties_from gateways 0 tasks → length ends ≡ length ds
     → AllZip (IsWorkerOf gateways tasks before all) hs ws → AreDone ws (ends_of ds ends hs)
-done_by gateways before tasks all [] [] ds ends few are same zipped = refl
-done_by gateways before tasks all [] (w ∷ ws) ds ends few are same zipped = absurd zipped
-done_by gateways before tasks all (h ∷ hs) [] ds ends few are same zipped = absurd zipped
-done_by gateways before tasks all (h ∷ hs) (w ∷ ws) ds ends few are same zipped =
+done_by gateways before tasks all [] [] ds ends are same zipped = refl
+done_by gateways before tasks all [] (w ∷ ws) ds ends are same zipped = absurd zipped
+done_by gateways before tasks all (h ∷ hs) [] ds ends are same zipped = absurd zipped
+done_by gateways before tasks all (h ∷ hs) (w ∷ ws) ds ends are same zipped =
     let n : length w.tasks ≡ length (ends_by h ds ends) =
-    ap length ((zipped.0).places ∙ places_are gateways h 0 tasks few ∙ ap (λ (l : List Duty). places_in (part h l)) (sym are))
+    ap length ((zipped.0).places ∙ places_are gateways h 0 tasks ∙ ap (λ (l : List Duty). places_in (part h l)) (sym are))
     ∙ length-map (part h ds) (λ (d : Duty). d.place) ∙ part_ends h ds ends same in
-    let rest : AreDone ws (ends_of ds ends hs) = done_by gateways before tasks all hs ws ds ends few are same zipped.1 in
+    let rest : AreDone ws (ends_of ds ends hs) = done_by gateways before tasks all hs ws ds ends are same zipped.1 in
     ap (λ (k : ℕ). k ∷ map (λ (x : Worker). length x.tasks) ws) n ∙ ap (λ (l : List ℕ). length (ends_by h ds ends) ∷ l) rest
 
 -- where some duty has no end, some hand has fewer ends than tasks
@@ -228,25 +228,25 @@ short_hand hs (d ∷ ds) (e ∷ es) less among =
     let rest = short_hand hs ds es (omega (arith, less)) among.1 in
     (rest.0, rest.1, short_first rest.0 d e ds es (same_hand rest.0 d.hand) rest.2)
 
-undone_first : (gateways before : ℕ) (tasks : List Task) (all : List Worker) (hand h : Hand) (w : Worker) (ds : List Duty) (ends : List End) (b c : Bool) → gateways ≤ 1 → ds ≡ duties_from gateways 0 tasks
+undone_first : (gateways before : ℕ) (tasks : List Task) (all : List Worker) (hand h : Hand) (w : Worker) (ds : List Duty) (ends : List End) (b c : Bool) → ds ≡ duties_from gateways 0 tasks
     → length (ends_by hand ds ends) < length (part hand ds) → IsWorkerOf gateways tasks before all h w → same_hand hand h ≡ b → length w.tasks ≡ length (ends_by h ds ends) → (c ≡ true → ⊥) → (same_hand hand h || c) ≡ true → ⊥
-undone_first gateways before tasks all hand h w ds ends true c few are less worker is first later found =
+undone_first gateways before tasks all hand h w ds ends true c are less worker is first later found =
     let same : hand ≡ h = same_is hand h is in
     let less' : length (ends_by h ds ends) < length (part h ds) = subst (λ (x : Hand). length (ends_by x ds ends) < length (part x ds)) same less in
     let n : length w.tasks ≡ length (part h ds) =
-    ap length (worker.places ∙ places_are gateways h 0 tasks few ∙ ap (λ (l : List Duty). places_in (part h l)) (sym are)) ∙ length-map (part h ds) (λ (d : Duty). d.place) in
+    ap length (worker.places ∙ places_are gateways h 0 tasks ∙ ap (λ (l : List Duty). places_in (part h l)) (sym are)) ∙ length-map (part h ds) (λ (d : Duty). d.place) in
     absurd (omega (arith, less', n, first))
-undone_first gateways before tasks all hand h w ds ends false c few are less worker is first later found = later (rw is at found)
+undone_first gateways before tasks all hand h w ds ends false c are less worker is first later found = later (rw is at found)
 
-undone_by : (gateways before : ℕ) (tasks : List Task) (all : List Worker) (hand : Hand) (hs : List Hand) (ws : List Worker) (ds : List Duty) (ends : List End) → gateways ≤ 1 → ds ≡ duties_from gateways 0 tasks
+undone_by : (gateways before : ℕ) (tasks : List Task) (all : List Worker) (hand : Hand) (hs : List Hand) (ws : List Worker) (ds : List Duty) (ends : List End) → ds ≡ duties_from gateways 0 tasks
     → length (ends_by hand ds ends) < length (part hand ds) → AllZip (IsWorkerOf gateways tasks before all) hs ws → list_any (same_hand hand) hs ≡ true → AreDone ws (ends_of ds ends hs) → ⊥
-undone_by gateways before tasks all hand [] ws ds ends few are less zipped found done = absurd (cc (found))
-undone_by gateways before tasks all hand (h ∷ hs) [] ds ends few are less zipped found done = absurd zipped
-undone_by gateways before tasks all hand (h ∷ hs) (w ∷ ws) ds ends few are less zipped found done =
+undone_by gateways before tasks all hand [] ws ds ends are less zipped found done = absurd (cc (found))
+undone_by gateways before tasks all hand (h ∷ hs) [] ds ends are less zipped found done = absurd zipped
+undone_by gateways before tasks all hand (h ∷ hs) (w ∷ ws) ds ends are less zipped found done =
     let first : length w.tasks ≡ length (ends_by h ds ends) = cc (done) in
     let later : AreDone ws (ends_of ds ends hs) = cc (done) in
-    undone_first gateways before tasks all hand h w ds ends (same_hand hand h) (list_any (same_hand hand) hs) few are less zipped.0 refl first
-    (λ more. undone_by gateways before tasks all hand hs ws ds ends few are less zipped.1 more later) found
+    undone_first gateways before tasks all hand h w ds ends (same_hand hand h) (list_any (same_hand hand) hs) are less zipped.0 refl first
+    (λ more. undone_by gateways before tasks all hand hs ws ds ends are less zipped.1 more later) found
 
 -- ---- the phase
 
@@ -275,11 +275,11 @@ module _ (setting : Setting) (gateways before : ℕ) (tasks : List Task) (views 
   workers_are : before + length own_hands ≤ greatest → AllZip (IsWorkerOf gateways tasks before own_workers) own_hands own_workers
   workers_are room = each_worker gateways tasks before own_hands hands_placed ((hands_join (IsPlaced gateways tasks)).apart tt) room
 
-  worker_run : gateways ≤ 1 → All (λ t. MayBegin setting t.work) tasks
+  worker_run : All (λ t. MayBegin setting t.work) tasks
       → InLine setting (seat_of own_workers) views own_duties entries ends after → (hand : Hand) (worker : Worker) → IsWorkerOf gateways tasks before own_workers hand worker
       → WorkerRun (by_script setting) tasks views entries after worker (ends_by hand own_duties ends)
-  worker_run few lawful run hand worker is =
-      let places : places_in (part hand own_duties) ≡ worker.tasks = sym (is.places ∙ places_are gateways hand 0 tasks few) in
+  worker_run lawful run hand worker is =
+      let places : places_in (part hand own_duties) ≡ worker.tasks = sym (is.places ∙ places_are gateways hand 0 tasks) in
       let runs = did setting (seat_of own_workers) hand worker.seat entries views own_duties entries ends after (all_fit setting tasks gateways before own_workers hand worker own_duties lawful is duties_are) run in
       record {
         own = tasks_of (part hand own_duties);
@@ -289,25 +289,25 @@ module _ (setting : Setting) (gateways before : ℕ) (tasks : List Task) (views 
         leaves = λ g e. sym (ap (holding_of after) (sym is.gateway ∙ e));
       }
 
-  all_runs : gateways ≤ 1 → All (λ t. MayBegin setting t.work) tasks
+  all_runs : All (λ t. MayBegin setting t.work) tasks
       → InLine setting (seat_of own_workers) views own_duties entries ends after → (hs : List Hand) (ws : List Worker) → AllZip (IsWorkerOf gateways tasks before own_workers) hs ws
       → AllZip (WorkerRun (by_script setting) tasks views entries after) ws (ends_of own_duties ends hs)
-  all_runs few lawful run [] [] zipped = tt
-  all_runs few lawful run [] (w ∷ ws) zipped = absurd zipped
-  all_runs few lawful run (h ∷ hs) [] zipped = absurd zipped
-  all_runs few lawful run (h ∷ hs) (w ∷ ws) zipped = (worker_run few lawful run h w zipped.0, all_runs few lawful run hs ws zipped.1)
+  all_runs lawful run [] [] zipped = tt
+  all_runs lawful run [] (w ∷ ws) zipped = absurd zipped
+  all_runs lawful run (h ∷ hs) [] zipped = absurd zipped
+  all_runs lawful run (h ∷ hs) (w ∷ ws) zipped = (worker_run lawful run h w zipped.0, all_runs lawful run hs ws zipped.1)
 
   seats_known : (ds : List Duty) → AllByRecursion (λ d. list_any (same_hand d.hand) own_hands ≡ true) ds
       → AllByRecursion (λ d. Contains (map (λ (w : Worker). w.seat) own_workers) (seat_of own_workers d.hand)) ds
   seats_known [] among = tt
   seats_known (d ∷ ds) among = (seat_among gateways tasks before own_hands d.hand hands_placed among.0, seats_known ds among.1)
 
-  came_one : gateways ≤ 1 → before + length own_hands ≤ greatest → (d : Duty) (e : End) → list_any (same_hand d.hand) own_hands ≡ true
+  came_one : before + length own_hands ≤ greatest → (d : Duty) (e : End) → list_any (same_hand d.hand) own_hands ≡ true
       → ((hand : Hand) → Beside hand (places_in (part hand own_duties)) (ends_by hand own_duties ends) d e)
       → CameTo own_workers (ends_of own_duties ends own_hands) (gateway_of d.hand) d.place e
-  came_one few room d e among near =
+  came_one room d e among near =
       let s = served gateways before tasks own_workers own_hands own_workers own_duties ends d.hand (workers_are room) among in
-      let places : places_in (part d.hand own_duties) ≡ (s.worker).tasks = sym (s.places ∙ places_are gateways d.hand 0 tasks few) in
+      let places : places_in (part d.hand own_duties) ≡ (s.worker).tasks = sym (s.places ∙ places_are gateways d.hand 0 tasks) in
       record {
         worker = s.worker;
         own = ends_by d.hand own_duties ends;
@@ -316,35 +316,35 @@ module _ (setting : Setting) (gateways before : ℕ) (tasks : List Task) (views 
         came = subst (λ (ps : List ℕ). Contains (zip ps (ends_by d.hand own_duties ends)) (d.place, e)) places (near d.hand (same_self d.hand));
       }
 
-  came_all : gateways ≤ 1 → before + length own_hands ≤ greatest → (ds : List Duty) (es : List End) → AllByRecursion (λ d. list_any (same_hand d.hand) own_hands ≡ true) ds
+  came_all : before + length own_hands ≤ greatest → (ds : List Duty) (es : List End) → AllByRecursion (λ d. list_any (same_hand d.hand) own_hands ≡ true) ds
       → ((hand : Hand) → AllZip (Beside hand (places_in (part hand own_duties)) (ends_by hand own_duties ends)) ds es)
       → AllZip (λ d e. CameTo own_workers (ends_of own_duties ends own_hands) (gateway_of d.hand) d.place e) ds es
-  came_all few room [] [] among near = tt
-  came_all few room [] (e ∷ es) among near = absurd (near (hands.Upload 0))
-  came_all few room (d ∷ ds) [] among near = absurd (near (hands.Upload 0))
-  came_all few room (d ∷ ds) (e ∷ es) among near = (came_one few room d e among.0 (λ h. (near h).0), came_all few room ds es among.1 (λ h. (near h).1))
+  came_all room [] [] among near = tt
+  came_all room [] (e ∷ es) among near = absurd (near (hands.Upload 0))
+  came_all room (d ∷ ds) [] among near = absurd (near (hands.Upload 0))
+  came_all room (d ∷ ds) (e ∷ es) among near = (came_one room d e among.0 (λ h. (near h).0), came_all room ds es among.1 (λ h. (near h).1))
 
   -- the phase's run, by its workers
-  pub phase_run : gateways ≤ 1 → before + length own_hands ≤ greatest → All (λ t. MayBegin setting t.work) tasks
+  pub phase_run : before + length own_hands ≤ greatest → All (λ t. MayBegin setting t.work) tasks
       → InLine setting (seat_of own_workers) views own_duties entries ends after
       → PhaseRun (by_script setting) tasks own_workers views entries (ends_of own_duties ends own_hands) after
-  phase_run few room lawful run = record {
+  phase_run room lawful run = record {
     seats = All-weaker (λ e. Contains (map (λ (w : Worker). w.seat) own_workers) e.seat) (λ e. Contains (map (λ (w : Worker). w.seat) own_workers) e.seat ⊎ ⊥) (λ e sits. inl sits) entries
         (seated setting (seat_of own_workers) (map (λ (w : Worker). w.seat) own_workers) views own_duties entries ends after (seats_known own_duties hands_among) run);
-    runs = all_runs few lawful run own_hands own_workers (workers_are room);
+    runs = all_runs lawful run own_hands own_workers (workers_are room);
     kept = λ g none. kept_view setting (seat_of own_workers) g views own_duties entries ends after (apart_from gateways before g tasks own_workers own_hands own_workers own_duties (workers_are room) none hands_among) run;
   }
 
   -- each duty's end is one to which its worker came
-  pub phase_came : gateways ≤ 1 → before + length own_hands ≤ greatest → length ends ≡ length own_duties
+  pub phase_came : before + length own_hands ≤ greatest → length ends ≡ length own_duties
       → AllZip (λ d e. CameTo own_workers (ends_of own_duties ends own_hands) (gateway_of d.hand) d.place e) own_duties ends
-  phase_came few room same = came_all few room own_duties ends hands_among (λ hand. beside hand own_duties ends same)
+  phase_came room same = came_all room own_duties ends hands_among (λ hand. beside hand own_duties ends same)
 
-  pub phase_done : gateways ≤ 1 → before + length own_hands ≤ greatest → length ends ≡ length own_duties → AreDone own_workers (ends_of own_duties ends own_hands)
-  phase_done few room same = done_by gateways before tasks own_workers own_hands own_workers own_duties ends few refl same (workers_are room)
+  pub phase_done : before + length own_hands ≤ greatest → length ends ≡ length own_duties → AreDone own_workers (ends_of own_duties ends own_hands)
+  phase_done room same = done_by gateways before tasks own_workers own_hands own_workers own_duties ends refl same (workers_are room)
 
   -- where some duty has no end, the phase is not done
-  pub phase_undone : gateways ≤ 1 → before + length own_hands ≤ greatest → length ends < length own_duties → AreDone own_workers (ends_of own_duties ends own_hands) → ⊥
-  phase_undone few room less done =
+  pub phase_undone : before + length own_hands ≤ greatest → length ends < length own_duties → AreDone own_workers (ends_of own_duties ends own_hands) → ⊥
+  phase_undone room less done =
       let short = short_hand own_hands own_duties ends less hands_among in
-      undone_by gateways before tasks own_workers short.0 own_hands own_workers own_duties ends few refl short.2 (workers_are room) short.1 done
+      undone_by gateways before tasks own_workers short.0 own_hands own_workers own_duties ends refl short.2 (workers_are room) short.1 done

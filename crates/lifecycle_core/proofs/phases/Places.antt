@@ -1,5 +1,5 @@
 -- Where the tasks of a hand stand in a phase.
-use Rattle.std.proofs.Common.{◌≡◌, ◌≢◌, ℕ, zero, suc, ◌+◌, ◌<◌, ◌≤◌, Bool, true, false, ◌||◌, cond, List, [], ◌∷◌, ◌++◌, length, map, refl, sym, ◌∙◌, ap, arith}
+use Rattle.std.proofs.Common.{◌≡◌, ◌≢◌, ℕ, zero, suc, ◌+◌, ◌<◌, Bool, true, false, ◌||◌, cond, List, [], ◌∷◌, ◌++◌, map, refl, sym, ◌∙◌, ap, subst, arith}
 use Rattle.std.specs.Prelude.{Option, Some, slice_get}
 use Rattle.std.specs.List.{AllByRecursion, list_any, range_with_len}
 use Rattle.std.proofs.lemmas.Bool.Decides.{nat_tests}
@@ -12,8 +12,8 @@ use Rattle.script_workers.specs.declared.task.Task.{Task}
 use Rattle.script_workers.proofs.HandLists.{no_upload_among}
 use Rattle.lifecycle_core.specs.Conducts.{TasksAt}
 use Rattle.lifecycle_core.specs.InLine.{Duty, duties_from}
-use Rattle.lifecycle_core.proofs.phases.Duties.{part, tasks_of}
-use Rattle.lifecycle_core.proofs.phases.HandLists.{one_hand}
+use Rattle.lifecycle_core.proofs.phases.Duties.{part, same_is, tasks_of}
+use Rattle.lifecycle_core.proofs.phases.HandLists.{Apart, task_apart}
 
 abbrev pub places_in : List Duty → List ℕ
 places_in duties = map (λ duty. duty.place) duties
@@ -21,25 +21,29 @@ places_in duties = map (λ duty. duty.place) duties
 abbrev duties_at : ℕ → Task → List Hand → List Duty
 duties_at place task hs = map (λ hand. record { place = place; hand = hand; task = task }) hs
 
-place_first : (hand x : Hand) (place : ℕ) (task : Task) (ps : List ℕ) (rest : List Duty) (b : Bool) → same_hand hand x ≡ b → ps ≡ places_in (part hand rest)
-    → cond (same_hand hand x || false) (place ∷ ps) ps ≡ places_in (part hand (record { place = place; hand = x; task = task } ∷ rest))
-unfolding part
-place_first hand x place task ps rest true is same = rw is (ap (λ l. place ∷ l) same)
-place_first hand x place task ps rest false is same = rw is same
-
-place_more : (hand : Hand) (place : ℕ) (task : Task) (hs : List Hand) (ps : List ℕ) (rest : List Duty) → length hs ≤ 1 → ps ≡ places_in (part hand rest)
+place_first : (hand x : Hand) (place : ℕ) (task : Task) (hs : List Hand) (ps : List ℕ) (rest : List Duty) (b : Bool) → same_hand hand x ≡ b → list_any (same_hand x) hs ≡ false
     → cond (list_any (same_hand hand) hs) (place ∷ ps) ps ≡ places_in (part hand (duties_at place task hs ++ rest))
-place_more hand place task [] ps rest few same = same
-place_more hand place task (x ∷ []) ps rest few same = place_first hand x place task ps rest (same_hand hand x) refl same
-place_more hand place task (x ∷ y ∷ hs) ps rest few same = absurd (omega (arith, few))
+    → cond (same_hand hand x || list_any (same_hand hand) hs) (place ∷ ps) ps ≡ places_in (part hand (record { place = place; hand = x; task = task } ∷ duties_at place task hs ++ rest))
+unfolding part
+place_first hand x place task hs ps rest true is none later =
+    let others : list_any (same_hand hand) hs ≡ false = subst (λ (h : Hand). list_any (same_hand h) hs ≡ false) (sym (same_is hand x is)) none in
+    let tail : ps ≡ places_in (part hand (duties_at place task hs ++ rest)) = ap (λ (c : Bool). cond c (place ∷ ps) ps) (sym others) ∙ later in
+    rw is (ap (λ l. place ∷ l) tail)
+place_first hand x place task hs ps rest false is none later = rw is later
+
+-- where each hand of a task is there once, a hand that has the task has it once
+place_more : (hand : Hand) (place : ℕ) (task : Task) (hs : List Hand) (ps : List ℕ) (rest : List Duty) → Apart hs → ps ≡ places_in (part hand rest)
+    → cond (list_any (same_hand hand) hs) (place ∷ ps) ps ≡ places_in (part hand (duties_at place task hs ++ rest))
+place_more hand place task [] ps rest apart same = same
+place_more hand place task (x ∷ hs) ps rest apart same = place_first hand x place task hs ps rest (same_hand hand x) refl apart.0 (place_more hand place task hs ps rest apart.1 same)
 
 -- the places of a hand's tasks are those of its duties
-pub places_are : (gateways : ℕ) (hand : Hand) (place : ℕ) (tasks : List Task) → gateways ≤ 1 → places_from gateways hand place tasks ≡ places_in (part hand (duties_from gateways place tasks))
+pub places_are : (gateways : ℕ) (hand : Hand) (place : ℕ) (tasks : List Task) → places_from gateways hand place tasks ≡ places_in (part hand (duties_from gateways place tasks))
 unfolding places_from duties_from part
-places_are gateways hand place [] few = refl
-places_are gateways hand place (task ∷ tasks) few =
+places_are gateways hand place [] = refl
+places_are gateways hand place (task ∷ tasks) =
     place_more hand place task (hands_of_task gateways place task.work) (places_from gateways hand (place + 1) tasks) (duties_from gateways (place + 1) tasks)
-    (one_hand gateways place task.work few) (places_are gateways hand (place + 1) tasks few)
+    (task_apart gateways place task.work) (places_are gateways hand (place + 1) tasks)
 
 -- The duty is of the task at its place, and an upload's hand is that place's and has an upload.
 pub record IsDuty (whole : List Task) (duty : Duty) : Type 0 where

@@ -18,7 +18,7 @@ use Rattle.lifecycle_core.specs.Phases.{IsInTurn, IsRunOf, by_script, by_workers
 use Rattle.lifecycle_core.specs.Setting.{Setting}
 use Rattle.lifecycle_core.specs.Tasks.{End}
 use Rattle.lifecycle_core.specs.Ways.{AreFinished, AreInTurn, PhasesRun}
-use Rattle.script_core.proofs.SeatLaws.{few_gateways, room, workers_at}
+use Rattle.script_core.proofs.SeatLaws.{room, workers_at}
 use Rattle.lifecycle_core.proofs.phases.PhaseRuns.{ends_of, phase_came, phase_run, phase_done, phase_undone}
 use Rattle.lifecycle_core.proofs.phases.TaskRuns.{MayBegin, none_yet}
 
@@ -66,20 +66,20 @@ module _ (setting : Setting) (lawful : IsLawfulScript setting.script) where
       let are = workers_at setting.script number phase at in
       let run' = subst (λ (ws : List Worker). InLine setting (seat_of ws) views (duties_from gateways 0 phase.tasks) made first after) are run in
       subst (λ (ws : List Worker). PhaseRun (by_script setting) phase.tasks ws views made (ends_of (duties_from gateways 0 phase.tasks) first (hands_of gateways phase.tasks)) after) (sym are)
-      (phase_run setting gateways (seats_before setting.script number) phase.tasks views after made first (few_gateways setting.script lawful) (room setting.script number phase lawful at) (may_begin setting phase.tasks lawful (lawful_tasks setting number phase lawful at)) run')
+      (phase_run setting gateways (seats_before setting.script number) phase.tasks views after made first (room setting.script number phase lawful at) (may_begin setting phase.tasks lawful (lawful_tasks setting number phase lawful at)) run')
 
   own_done : (number : ℕ) (phase : Phase) (first : List End) → slice_get setting.script.phases number ≡ Some phase → length first ≡ length (duties_from (gateway_count setting.script.gateways) 0 phase.tasks)
       → AreDone (workers_of setting.script number) (ends_of (duties_from (gateway_count setting.script.gateways) 0 phase.tasks) first (hands_of (gateway_count setting.script.gateways) phase.tasks))
   own_done number phase first at same =
       let gateways = gateway_count setting.script.gateways in
       subst (λ (ws : List Worker). AreDone ws (ends_of (duties_from gateways 0 phase.tasks) first (hands_of gateways phase.tasks))) (sym (workers_at setting.script number phase at))
-      (phase_done setting gateways (seats_before setting.script number) phase.tasks none_held none_held [] first (few_gateways setting.script lawful) (room setting.script number phase lawful at) same)
+      (phase_done setting gateways (seats_before setting.script number) phase.tasks none_held none_held [] first (room setting.script number phase lawful at) same)
 
   pub own_undone : (number : ℕ) (phase : Phase) (first : List End) → slice_get setting.script.phases number ≡ Some phase → length first < length (duties_from (gateway_count setting.script.gateways) 0 phase.tasks)
       → AreDone (workers_of setting.script number) (ends_of (duties_from (gateway_count setting.script.gateways) 0 phase.tasks) first (hands_of (gateway_count setting.script.gateways) phase.tasks)) → ⊥
   own_undone number phase first at less done =
       let gateways = gateway_count setting.script.gateways in
-      phase_undone setting gateways (seats_before setting.script number) phase.tasks none_held none_held [] first (few_gateways setting.script lawful) (room setting.script number phase lawful at) less
+      phase_undone setting gateways (seats_before setting.script number) phase.tasks none_held none_held [] first (room setting.script number phase lawful at) less
       (subst (λ (ws : List Worker). AreDone ws (ends_of (duties_from gateways 0 phase.tasks) first (hands_of gateways phase.tasks))) (workers_at setting.script number phase at) done)
 
   pub own_came : (number : ℕ) (phase : Phase) (first : List End) → slice_get setting.script.phases number ≡ Some phase → length first ≡ length (duties_from (gateway_count setting.script.gateways) 0 phase.tasks)
@@ -89,7 +89,7 @@ module _ (setting : Setting) (lawful : IsLawfulScript setting.script) where
       let gateways = gateway_count setting.script.gateways in
       subst (λ (ws : List Worker). AllZip (λ d e. CameTo ws (ends_of (duties_from gateways 0 phase.tasks) first (hands_of gateways phase.tasks)) (gateway_of d.hand) d.place e) (duties_from gateways 0 phase.tasks) first)
       (sym (workers_at setting.script number phase at))
-      (phase_came setting gateways (seats_before setting.script number) phase.tasks none_held none_held [] first (few_gateways setting.script lawful) (room setting.script number phase lawful at) same)
+      (phase_came setting gateways (seats_before setting.script number) phase.tasks none_held none_held [] first (room setting.script number phase lawful at) same)
 
   pub runs : (number : ℕ) (views : Holdings) (phases : List Phase) (entries : List Entry) (ends : List (List End)) → ((k : ℕ) (p : Phase) → slice_get phases k ≡ Some p → slice_get setting.script.phases (number + k) ≡ Some p)
       → PhasesRun (in_line setting) number views phases entries ends → PhasesRun (by_workers setting) number views phases entries (ends_by_workers (gateway_count setting.script.gateways) phases ends)

@@ -104,7 +104,7 @@ module _ (Holds : Holding → Type 0) (setting : Setting) (who : Who) (place : �
   sync_leaves (Some (fetched.Damaged n)) after given is = subst Holds (sym is) known
   sync_leaves (Some fetched.TooMany) after given is = subst Holds (sym is) known
 
-  pub task_leaves : (w : Work) (end : Option End) (after : Holding) → ((gateway : ℕ) (own : Option SyncEnd) → SyncRun (sync_rules setting gateway) made own → Given own) → TaskRun setting who place w before made end after → Holds after
+  pub task_leaves : (w : Work) (end : Option End) (after : Holding) → ((gateway : ℕ) (own : Option SyncEnd) → w ≡ Sync gateway → SyncRun (sync_rules setting gateway) made own → Given own) → TaskRun setting who place w before made end after → Holds after
   task_leaves (Upload ulid stop) end after gives run = subst Holds (sym run.1) known
-  task_leaves (Sync gateway) end after gives (own, run, is, same) = sync_leaves own after (gives gateway own run) same
+  task_leaves (Sync gateway) end after gives (own, run, is, same) = sync_leaves own after (gives gateway own refl run) same
   task_leaves (Query low high selector) end after gives run = subst Holds (sym run.1) known

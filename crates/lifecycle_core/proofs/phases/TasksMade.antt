@@ -1,8 +1,8 @@
 -- Whence the ends of a run come: each from a task's run, whose entries are part of the journal, with a view that such a run gave.
-use Rattle.list_core.proofs.Membership.{all_members, of_filter}
+use Rattle.list_core.proofs.Membership.{all_members, contains_first, contains_later, member_cases, no_member, of_filter}
 use Rattle.std.proofs.Common.{◌≡◌, inl, inr, ℕ, zero, suc, ◌+◌, ◌<◌, ◌≤◌, ◌==◌, Bool, true, false, List, [], ◌∷◌, ◌++◌, Contains, Option, Some, None, refl, sym, ◌∙◌, ap, subst, append_assoc, arith}
 use Rattle.std.specs.Prelude.{fold, slice_get}
-use Rattle.std.specs.List.{All, AllZip, filter, zip}
+use Rattle.std.specs.List.{All, AllByRecursion, AllZip, filter, zip}
 use Rattle.std.proofs.lemmas.Bool.Decides.{nat_tests}
 use Rattle.std.proofs.lemmas.List.Elements.{All-append, All-contains, All-contains_itself, All-filter, All-weaker, Contains-append_left, Contains-append_right, filter-append, filter_passes}
 use Rattle.world_core.specs.declared.entry.Entry.{Entry}
@@ -12,10 +12,16 @@ use Rattle.meta_fetcher.specs.declared.rules.SyncRules.{SyncRules}
 use Rattle.meta_fetcher.specs.declared.view.View.{View}
 use Rattle.meta_fetcher.specs.declared.sync_end.SyncEnd.{SyncEnd}
 use Rattle.meta_fetcher.specs.declared.sync_end.SyncEnd.TheVariants as fetched
-use Rattle.script_core.specs.Workers.{workers_of}
+use Rattle.script_core.specs.Workers.{seats_before, workers_of}
+use Rattle.script_core.proofs.SeatLaws.{workers_at}
+use Rattle.script_workers.specs.Hands.{gateway_count, gateway_of, hands_of, places_from, seats_after, worker_of, workers_from}
+use Rattle.script_workers.specs.Whose.{IsFor, IsTaskOf, asks, ships, syncs}
+use Rattle.script_workers.proofs.StaffLaws.{are_places}
+use Rattle.script_workers.specs.declared.hand.Hand.{Hand}
 use Rattle.script_workers.specs.declared.phase.Phase.{Phase}
 use Rattle.script_workers.specs.declared.task.Task.{Task}
 use Rattle.script_workers.specs.declared.work.Work.{Work}
+use Rattle.script_workers.specs.declared.work.Work.TheVariants.{Upload, Sync, Query}
 use Rattle.script_workers.specs.declared.worker.Worker.{Worker}
 use Rattle.lifecycle_core.specs.Breaches.{IsSeatOf}
 use Rattle.lifecycle_core.specs.Causes.{SomeCame}
@@ -127,16 +133,74 @@ is_seat one other test = grind (arith, nat_tests, test)
 pub all_of_seat : (seat : ℕ) (es : List Entry) → All (λ (e : Entry). e.seat ≡ seat) (of_seat seat es)
 all_of_seat seat es = All-weaker (λ (e : Entry). (e.seat == seat) ≡ true) (λ (e : Entry). e.seat ≡ seat) (λ e test. is_seat e.seat seat test) (of_seat seat es) (filter_passes (λ (e : Entry). e.seat == seat) es)
 
+-- ---- whose tasks are
+
+-- a worker of this gateway may have the task: a sync is its gateway's
+abbrev IsFitFor : Option ℕ → Work → Type 0
+IsFitFor by (Upload ulid stop) = Unit {0}
+IsFitFor by (Sync gateway) = by ≡ Some gateway
+IsFitFor by (Query low high selector) = Unit {0}
+
+abbrev AllFit : Option ℕ → List Assigned → Type 0
+AllFit by assigned = AllByRecursion (λ (own : Assigned). IsFitFor by own.task.work) assigned
+
+-- the tasks at a worker's places may be its own
+abbrev HasFitting : List Task → Worker → Type 0
+HasFitting tasks worker = (place : ℕ) (task : Task) → Contains worker.tasks place → slice_get tasks place ≡ Some task → IsFitFor worker.gateway task.work
+
+all_fitting : (by : Option ℕ) (tasks : List Task) (places : List ℕ) (found : List Assigned) → ((place : ℕ) (task : Task) → Contains places place → slice_get tasks place ≡ Some task → IsFitFor by task.work) → TasksAt tasks places found → AllFit by found
+all_fitting by tasks [] found each at = subst (AllFit by) (sym at) tt
+all_fitting by tasks (p ∷ places) [] each at = absurd at
+all_fitting by tasks (p ∷ places) (own ∷ found) each at = (
+  each p own.task (contains_first p places) (at.0).1,
+  all_fitting by tasks places found (λ place task among is. each place task (contains_later p place places among) is) at.1,
+)
+
+fit_for : (gateways : ℕ) (hand : Hand) (place : ℕ) (w : Work) (by : Option ℕ) → by ≡ gateway_of hand → IsFor gateways hand place w → IsFitFor by w
+fit_for gateways hand place w by is (ships ulid stop work own) = subst (IsFitFor by) (sym work) tt
+fit_for gateways hand place w by is (syncs gateway work own) = subst (IsFitFor by) (sym work) (is ∙ ap gateway_of own)
+fit_for gateways hand place w by is (asks low high selector gateway work own below) = subst (IsFitFor by) (sym work) tt
+
+-- each worker of a list of hands is one of them
+hand_of : (gateways before : ℕ) (tasks : List Task) (hs : List Hand) (worker : Worker) → Contains (workers_from gateways before tasks hs) worker
+    → (hand : Hand) × (worker.gateway ≡ gateway_of hand) × (worker.tasks ≡ places_from gateways hand 0 tasks)
+unfolding workers_from
+hand_of gateways before tasks [] worker among = absurd (no_member worker among)
+hand_of gateways before tasks (hand ∷ hs) worker among =
+    elim (member_cases (worker_of gateways (seats_after before 1) hand tasks) worker (workers_from gateways (seats_after before 1) tasks hs) among) [
+      | inl same ↦ (hand, sym (ap (λ (w : Worker). w.gateway) same), sym (ap (λ (w : Worker). w.tasks) same))
+      | inr later ↦ hand_of gateways (seats_after before 1) tasks hs worker later
+    ]
+
+-- a worker's tasks are for it
+tasks_fit : (setting : Setting) (number : ℕ) (phase : Phase) → slice_get setting.script.phases number ≡ Some phase → (worker : Worker) → Contains (workers_of setting.script number) worker → HasFitting phase.tasks worker
+tasks_fit setting number phase at worker among place task inside is =
+    let gateways = gateway_count setting.script.gateways in
+    let own = hand_of gateways (seats_before setting.script number) phase.tasks (hands_of gateways phase.tasks) worker (subst (λ (ws : List Worker). Contains ws worker) (workers_at setting.script number phase at) among) in
+    let places = places_from gateways own.0 0 phase.tasks in
+    let here : Contains places place = subst (λ (ps : List ℕ). Contains ps place) own.2 inside in
+    let found = All-contains (IsTaskOf gateways phase.tasks own.0) places place (are_places gateways phase.tasks own.0).only here in
+    let same : found.task ≡ task = cc (found.is, is) in
+    subst (λ (t : Task). IsFitFor worker.gateway t.work) same (fit_for gateways own.0 place found.task.work worker.gateway own.1 found.whose)
+
 module _ (setting : Setting) (journal : List Entry) where
   -- ---- a worker's tasks
+
+  -- rules of this gateway are those of the worker's, if it has one
+  abbrev IsRuledBy : Option ℕ → ℕ → Type 0
+  IsRuledBy by gateway = (own : ℕ) → by ≡ Some own → gateway ≡ own
+
+  fit_ruled : (by : Option ℕ) (w : Work) (gateway : ℕ) → IsFitFor by w → w ≡ Sync gateway → IsRuledBy by gateway
+  fit_ruled by w gateway fit is = λ own same. let mine : by ≡ Some gateway = subst (IsFitFor by) is fit in cc (mine, same)
 
   -- a worker of the gateway has this seat
   abbrev Sits : Option ℕ → ℕ → Type 0
   Sits gateway seat = (own : ℕ) → gateway ≡ Some own → IsSeatOf setting own seat
 
   -- the view is that of a sync of the journal, which a worker of this gateway made
+  -- by its own rules
   abbrev IsGivenBy : Option ℕ → Use → Type 0
-  IsGivenBy gateway used = (o : IsOrigin setting journal used) × Sits gateway o.seat
+  IsGivenBy gateway used = (o : IsOrigin setting journal used) × Sits gateway o.seat × IsRuledBy gateway o.gateway
 
   -- The view that is held is that of such a sync, which ended before these entries.
   abbrev IsKnown : List Entry → Option ℕ → Holding → Type 0
@@ -148,20 +212,21 @@ module _ (setting : Setting) (journal : List Entry) where
   known_after : (xs ys : List Entry) (gateway : Option ℕ) (held : Holding) → IsKnown (xs ++ ys) gateway held → IsKnown ys gateway held
   known_after xs ys gateway held known = λ used is. ((known used is).0, all_right (λ (e : Entry). used.last < e.seq) xs ys (known used is).1)
 
-  view_given : (made rest : List Entry) (by : Option ℕ) (seat : ℕ) → Sits by seat → IsPart journal made → IsStretch journal seat made → Rises (made ++ rest) → (gateway : ℕ) (own : Option SyncEnd) → SyncRun (sync_rules setting gateway) made own → (v : View) → own ≡ Some (fetched.View v)
+  view_given : (made rest : List Entry) (by : Option ℕ) (seat : ℕ) → Sits by seat → IsPart journal made → IsStretch journal seat made → Rises (made ++ rest) → (gateway : ℕ) (own : Option SyncEnd) → IsRuledBy by gateway → SyncRun (sync_rules setting gateway) made own → (v : View) → own ≡ Some (fetched.View v)
       → IsKnown rest by (record { used = Some (record { view = v; last = last_number made }) })
-  view_given made rest by seat sits part stretch rises gateway own run v is = λ used same.
+  view_given made rest by seat sits part stretch rises gateway own ruled run v is = λ used same.
       let one : record { view = v; last = last_number made } ≡ used = cc (same) in
       let mine : SyncRun (sync_rules setting gateway) made (Some (fetched.View v)) = subst (SyncRun (sync_rules setting gateway) made) is run in
       subst (λ (u : Use). IsGivenBy by u × All (λ (e : Entry). u.last < e.seq) rest) one (
-        (record { gateway = gateway; entries = made; run = mine; last = refl; part = part; seat = seat; stretch = stretch }, sits),
+        (record { gateway = gateway; entries = made; run = mine; last = refl; part = part; seat = seat; stretch = stretch }, sits, ruled),
         after_last (sync_rules setting gateway) made rest v mine rises,
       )
 
-  after_task : (who : Who) (place : ℕ) (made rest : List Entry) (held after : Holding) (w : Work) (end : Option End) → Sits who.gateway who.seat → IsKnown (made ++ rest) who.gateway held → IsPart journal made → IsStretch journal who.seat made → Rises (made ++ rest)
+  after_task : (who : Who) (place : ℕ) (made rest : List Entry) (held after : Holding) (w : Work) (end : Option End) → IsFitFor who.gateway w → Sits who.gateway who.seat → IsKnown (made ++ rest) who.gateway held → IsPart journal made → IsStretch journal who.seat made → Rises (made ++ rest)
       → TaskRun setting who place w held made end after → IsKnown rest who.gateway after
-  after_task who place made rest held after w end sits known part stretch rises run =
-      task_leaves (IsKnown rest who.gateway) setting who place held (known_after made rest who.gateway held known) made w end after (view_given made rest who.gateway who.seat sits part stretch rises) run
+  after_task who place made rest held after w end fit sits known part stretch rises run =
+      task_leaves (IsKnown rest who.gateway) setting who place held (known_after made rest who.gateway held known) made w end after
+      (λ gateway own is. view_given made rest who.gateway who.seat sits part stretch rises gateway own (fit_ruled who.gateway w gateway fit is)) run
 
   -- the task came to its end in a run that this worker made
   abbrev pub IsMadeBy : Who → Task → End → Type 0
@@ -178,10 +243,10 @@ module _ (setting : Setting) (journal : List Entry) where
   AreOf seat entries = All (λ (e : Entry). e.seat ≡ seat) entries
 
   -- a worker's tasks are made, and the view that they leave is known
-  tasks_made : (who : Who) (all : List Entry) (held last : Holding) (tasks : List Assigned) (entries beyond : List Entry) (ends : List End) → Sits who.gateway who.seat → IsKnown (entries ++ beyond) who.gateway held → IsPart journal entries → IsStretch journal who.seat entries → AreOf who.seat entries → Rises (entries ++ beyond)
+  tasks_made : (who : Who) (all : List Entry) (held last : Holding) (tasks : List Assigned) (entries beyond : List Entry) (ends : List End) → AllFit who.gateway tasks → Sits who.gateway who.seat → IsKnown (entries ++ beyond) who.gateway held → IsPart journal entries → IsStretch journal who.seat entries → AreOf who.seat entries → Rises (entries ++ beyond)
       → TasksRun (by_script setting) who all held tasks entries ends last → AreMade who tasks ends × IsKnown beyond who.gateway last
-  tasks_made who all held last [] entries beyond ends sits known part stretch seat rises (nil, none, same) = (subst (AreMade who []) (sym none) tt, same_held beyond who.gateway last held same (known_after entries beyond who.gateway held known))
-  tasks_made who all held last (own ∷ tasks) entries beyond ends sits known part stretch seat rises (inl (made, others, end, later, next, parts, run, is, rest)) =
+  tasks_made who all held last [] entries beyond ends fits sits known part stretch seat rises (nil, none, same) = (subst (AreMade who []) (sym none) tt, same_held beyond who.gateway last held same (known_after entries beyond who.gateway held known))
+  tasks_made who all held last (own ∷ tasks) entries beyond ends fits sits known part stretch seat rises (inl (made, others, end, later, next, parts, run, is, rest)) =
       let all_same : entries ++ beyond ≡ made ++ (others ++ beyond) = ap (λ (l : List Entry). l ++ beyond) parts ∙ append_assoc made others beyond in
       let both : IsPart journal (made ++ others) = subst (IsPart journal) parts part in
       let whole : IsStretch journal who.seat (made ++ others) = subst (IsStretch journal who.seat) parts stretch in
@@ -190,7 +255,7 @@ module _ (setting : Setting) (journal : List Entry) where
       let mine = part_left journal made others both in
       let seats : AreOf who.seat (made ++ others) = subst (AreOf who.seat) parts seat in
       let own_stretch = stretch_left journal who.seat made others whole in
-      let tail = tasks_made who all next last tasks others beyond later sits (after_task who own.place made (others ++ beyond) held next own.task.work (Some end) sits had mine own_stretch up run)
+      let tail = tasks_made who all next last tasks others beyond later fits.1 sits (after_task who own.place made (others ++ beyond) held next own.task.work (Some end) fits.0 sits had mine own_stretch up run)
       (part_right journal made others both) (stretch_right journal who.seat made others whole) (all_right (λ (e : Entry). e.seat ≡ who.seat) made others seats) (rises_right made (others ++ beyond) up) rest in
       let one : IsMade setting journal own.task end = record {
         who = who;
@@ -203,11 +268,12 @@ module _ (setting : Setting) (journal : List Entry) where
         own = all_left (λ (e : Entry). e.seat ≡ who.seat) made others seats;
         origin = λ used same. ((had used same).0).0;
         sits = λ used same gateway is. ((had used same).0).1 gateway is;
+        same = λ used same gateway is. ((had used same).0).2 gateway is;
         later = λ used same. all_left (λ (e : Entry). used.last < e.seq) made (others ++ beyond) (had used same).1;
       } in
       (subst (AreMade who (own ∷ tasks)) (sym is) ((one, refl), tail.0), tail.1)
-  tasks_made who all held last (own ∷ tasks) entries beyond ends sits known part stretch seat rises (inr (run, none)) =
-      (subst (AreMade who (own ∷ tasks)) (sym none) tt, after_task who own.place entries beyond held last own.task.work None sits known part stretch rises run)
+  tasks_made who all held last (own ∷ tasks) entries beyond ends fits sits known part stretch seat rises (inr (run, none)) =
+      (subst (AreMade who (own ∷ tasks)) (sym none) tt, after_task who own.place entries beyond held last own.task.work None fits.0 sits known part stretch rises run)
 
   -- some task came to an end
   some_task : (who : Who) (tasks : List Assigned) (ends : List End) (end : End) → AreMade who tasks ends → Contains ends end → (task : Task) × IsMade setting journal task end
@@ -240,11 +306,11 @@ module _ (setting : Setting) (journal : List Entry) where
 
   module _ (tasks : List Task) (workers : List Worker) (views : Holdings) (made : List Entry) (ends : List (List End)) (after : Holdings) (run : PhaseRun (by_script setting) tasks workers views made ends after) (part : IsPart journal made)
       (front beyond : List Entry) (is : journal ≡ front ++ (made ++ beyond)) (rises : Rises (made ++ beyond)) (known : (gateway : Option ℕ) → IsKnown (made ++ beyond) gateway (holding_of views gateway))
-      (number : ℕ) (staff : (worker : Worker) → Contains workers worker → Contains (workers_of setting.script number) worker) where
+      (number : ℕ) (staff : (worker : Worker) → Contains workers worker → Contains (workers_of setting.script number) worker) (fits : (worker : Worker) → Contains workers worker → HasFitting tasks worker) where
     worker_made : (worker : Worker) (own : List End) (w : WorkerRun (by_script setting) tasks views made after worker own) → Contains workers worker → AreMade (who_of worker) w.own own × IsKnown beyond worker.gateway w.last
     worker_made worker own w among =
         let p : Entry → Bool = λ x. x.seat == worker.seat in
-        tasks_made (who_of worker) made (holding_of views worker.gateway) w.last w.own (of_seat worker.seat made) beyond own (λ gateway same. (number, worker, staff worker among, same, refl))
+        tasks_made (who_of worker) made (holding_of views worker.gateway) w.last w.own (of_seat worker.seat made) beyond own (all_fitting worker.gateway tasks worker.tasks w.own (fits worker among) w.are) (λ gateway same. (number, worker, staff worker among, same, refl))
         (λ used same. ((known worker.gateway used same).0, all_before p (λ (e : Entry). used.last < e.seq) made beyond (known worker.gateway used same).1))
         (part_filter journal p made part) (stretch_within journal worker.seat front made beyond is) (all_of_seat worker.seat made) (rises_before p made beyond rises) w.runs
 
@@ -269,11 +335,12 @@ module _ (setting : Setting) (journal : List Entry) where
   no_phases : (number : ℕ) (phases : List Phase) (ends : List (List (List End))) → ends ≡ [] → PhasesMade number phases ends
   no_phases number phases ends none = subst (PhasesMade number phases) (sym none) tt
 
-  phases_made : (number : ℕ) (views : Holdings) (phases : List Phase) (front entries : List Entry) (ends : List (List (List End))) → ((gateway : Option ℕ) → IsKnown entries gateway (holding_of views gateway)) → IsPart journal entries → journal ≡ front ++ entries
+  phases_made : (number : ℕ) (views : Holdings) (phases : List Phase) (front entries : List Entry) (ends : List (List (List End))) → ((k : ℕ) (p : Phase) → slice_get phases k ≡ Some p → slice_get setting.script.phases (number + k) ≡ Some p)
+      → ((gateway : Option ℕ) → IsKnown entries gateway (holding_of views gateway)) → IsPart journal entries → journal ≡ front ++ entries
       → PhasesRun (by_workers setting) number views phases entries ends → PhasesMade number phases ends
-  phases_made number views [] front entries ends known part is (nil, none) = no_phases number [] ends none
-  phases_made number views (phase ∷ phases) front entries ends known part is (inl (nil, none)) = no_phases number (phase ∷ phases) ends none
-  phases_made number views (phase ∷ phases) front entries ends known part is (inr (clock, made, others, first, later, after, parts, begins, run, are, go)) =
+  phases_made number views [] front entries ends same known part is (nil, none) = no_phases number [] ends none
+  phases_made number views (phase ∷ phases) front entries ends same known part is (inl (nil, none)) = no_phases number (phase ∷ phases) ends none
+  phases_made number views (phase ∷ phases) front entries ends same known part is (inr (clock, made, others, first, later, after, parts, begins, run, are, go)) =
       let all : IsPart journal (clock ∷ made ++ others) = subst (IsPart journal) parts part in
       let had : (gateway : Option ℕ) → IsKnown (clock ∷ made ++ others) gateway (holding_of views gateway) = λ gateway. subst (λ (l : List Entry). IsKnown l gateway (holding_of views gateway)) parts (known gateway) in
       let start : journal ≡ front ++ (clock ∷ made ++ others) = is ∙ ap (λ (l : List Entry). front ++ l) parts in
@@ -282,12 +349,14 @@ module _ (setting : Setting) (journal : List Entry) where
       let rest = part_right journal (clock ∷ made) others all in
       let up = rises_right (clock ∷ []) (made ++ others) all.rises in
       let mine : (gateway : Option ℕ) → IsKnown (made ++ others) gateway (holding_of views gateway) = λ gateway. known_after (clock ∷ []) (made ++ others) gateway (holding_of views gateway) (had gateway) in
-      let one = phase_made phase.tasks (workers_of setting.script number) views made first after run own (front ++ clock ∷ []) others begun up mine number (λ worker among. among) in
-      let next = after_phase phase.tasks (workers_of setting.script number) views made first after run own (front ++ clock ∷ []) others begun up mine number (λ worker among. among) in
+      let at : slice_get setting.script.phases number ≡ Some phase = ap (slice_get setting.script.phases) (omega arith) ∙ same 0 phase refl in
+      let onward : (k : ℕ) (p : Phase) → slice_get phases k ≡ Some p → slice_get setting.script.phases (number + 1 + k) ≡ Some p = λ k p own. ap (slice_get setting.script.phases) (omega arith) ∙ same (suc k) p own in
+      let one = phase_made phase.tasks (workers_of setting.script number) views made first after run own (front ++ clock ∷ []) others begun up mine number (λ worker among. among) (tasks_fit setting number phase at) in
+      let next = after_phase phase.tasks (workers_of setting.script number) views made first after run own (front ++ clock ∷ []) others begun up mine number (λ worker among. among) (tasks_fit setting number phase at) in
       let ended : journal ≡ (front ++ clock ∷ made) ++ others = start ∙ sym (append_assoc front (clock ∷ made) others) in
       subst (PhasesMade number (phase ∷ phases)) (sym are) (
         one,
-        phases_made (number + 1) after phases (front ++ clock ∷ made) others later next rest ended go,
+        phases_made (number + 1) after phases (front ++ clock ∷ made) others later onward next rest ended go,
       )
 
   no_view_yet : (gateway : Option ℕ) → IsKnown journal gateway (holding_of none_held gateway)
@@ -295,7 +364,7 @@ module _ (setting : Setting) (journal : List Entry) where
   no_view_yet (Some gateway) = λ used is. absurd (cc (is))
 
   run_made : (ends : List (List (List End))) → Rises journal → IsRunOf setting journal ends → PhasesMade 0 setting.script.phases ends
-  run_made ends rises run = phases_made 0 none_held setting.script.phases [] journal ends no_view_yet (part_whole journal rises) refl run.phases
+  run_made ends rises run = phases_made 0 none_held setting.script.phases [] journal ends (λ k p own. ap (slice_get setting.script.phases) (omega arith) ∙ own) no_view_yet (part_whole journal rises) refl run.phases
 
   -- the phase at a place is one of the script's, and is made
   phase_at : (number k : ℕ) (phases : List Phase) (ends : List (List (List End))) (own : List (List End)) → PhasesMade number phases ends → slice_get ends k ≡ Some own
@@ -339,9 +408,9 @@ answers_are_made_by setting journal ends rises run number own gateway place end 
 -- where the phase and the task are known
 pub answers_are_made : (setting : Setting) (journal : List Entry) (ends : List (List (List End))) → Rises journal → IsRunOf setting journal ends
     → (number : ℕ) (phase : Phase) (own : List (List End)) (gateway : Option ℕ) (place : ℕ) (task : Task) (end : End) → slice_get setting.script.phases number ≡ Some phase → slice_get phase.tasks place ≡ Some task → slice_get ends number ≡ Some own
-    → CameTo (workers_of setting.script number) own gateway place end → IsMade setting journal task end
+    → (came : CameTo (workers_of setting.script number) own gateway place end) → IsMadeBy setting journal (who_of came.worker) task end
 answers_are_made setting journal ends rises run number phase own gateway place task end phase_is task_is own_is came =
     let there = answers_are_made_by setting journal ends rises run number own gateway place end own_is came in
     let one : there.0 ≡ phase = cc (there.2, phase_is) in
     let same : there.1 ≡ task = cc (subst (λ (p : Phase). slice_get p.tasks place ≡ Some there.1) one there.3, task_is) in
-    subst (λ (t : Task). IsMade setting journal t end) same (there.4).0
+    subst (λ (t : Task). IsMadeBy setting journal (who_of came.worker) t end) same there.4

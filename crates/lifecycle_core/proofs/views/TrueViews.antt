@@ -159,7 +159,7 @@ module _ (setting : Setting) (readable : IsReadable setting) (journal : List Ent
 -- ---- true views
 
 true_from : (setting : Setting) (journal : List Entry) (used : Use) → IsLawfulScript setting.script → IsReadable setting → Rises journal → PutsTexts journal → All (IsTold setting journal) journal → (gateway : ℕ) (entries : List Entry)
-    → SyncRun (sync_rules setting gateway) entries (Some (fetched.View used.view)) → used.last ≡ last_number entries → IsPart journal entries → IsTrueView setting journal used
+    → SyncRun (sync_rules setting gateway) entries (Some (fetched.View used.view)) → used.last ≡ last_number entries → IsPart journal entries → IsTrueView setting journal gateway used
 true_from setting journal used lawful readable rises texts told gateway [] run last part = absurd ((let none = run.1 in cc (none)))
 true_from setting journal used lawful readable rises texts told gateway (first ∷ entries) run last part =
     let finds = finds_past setting journal first entries (sync_rules setting gateway) used.view (own_entries setting journal first entries told part) run in
@@ -167,12 +167,12 @@ true_from setting journal used lawful readable rises texts told gateway (first �
       kept = of_found setting readable journal first entries gateway (IsTrueFound setting) used.view finds (sighted_true setting readable journal first entries);
       uploaded = of_found setting readable journal first entries gateway (λ (f : Found). IsUploadedBefore setting journal f.ulid used.last) used.view finds
           (λ f s. subst (IsUploadedBefore setting journal f.ulid) (sym last) (sighted_uploaded setting readable journal first entries rises texts part f s));
-      settled = λ other ulid settled. settled_kept setting readable journal first entries lawful gateway used.view finds ulid settled.uploaded settled.old;
+      settled = λ ulid settled. settled_kept setting readable journal first entries lawful gateway used.view finds ulid settled.uploaded settled.old;
     }
 
 -- a view that a sync of the journal gave is true
 pub origin_is_true : (setting : Setting) (journal : List Entry) (used : Use) → IsLawfulScript setting.script → IsReadable setting → Rises journal → PutsTexts journal → All (IsTold setting journal) journal
-    → IsOrigin setting journal used → IsTrueView setting journal used
+    → (origin : IsOrigin setting journal used) → IsTrueView setting journal origin.gateway used
 origin_is_true setting journal used lawful readable rises texts told origin = true_from setting journal used lawful readable rises texts told origin.gateway origin.entries origin.run origin.last origin.part
 
 -- ---- nothing is damaged
