@@ -1,4 +1,5 @@
--- What is left of a cleaning in each of its states.
+-- What is left of a cleaning in each of its states. The machine's steps alone speak of this. What a cleaning is from its start on,
+-- Cleanings says.
 use Rattle.std.specs.Prelude.{◌≡◌, ℕ, suc, ◌+◌, ◌-◌, ◌*◌, ◌^◌, ◌≤◌, ◌<◌, List, [], ◌∷◌, ◌++◌, length, Option, Some, None, unwrap_or, Result}
 use Rattle.list_core.specs.declared.memory.NoMemory.{NoMemory}
 use Rattle.block_keys.specs.declared.key.Key.{Key}

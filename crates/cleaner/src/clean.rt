@@ -45,15 +45,15 @@ pub struct Clean {
 }
 
 impl Clean {
-    ghost use Rattle.cleaner.specs.CleanStates.{IsFresh, asked_clean, may_at, may_clean, goes_after, goes_by_blocks, goes_by_objects, goes_to_blocks, goes_to_delete, goes_to_objects, goes_to_deletes, Leads, most_asked, count_at, count_of};
+    ghost use Rattle.cleaner.specs.CleanStates.{asked_clean, may_at, goes_after, goes_by_blocks, goes_by_objects, goes_to_blocks, goes_to_delete, goes_to_objects, goes_to_deletes, Leads, most_asked, count_at, count_of};
 
     /// Begins a cleaning. It takes no memory today.
     pub fn start(alloc: Global, rules: &Rules) -> Result<Clean, NoMemory>
         requires { 1 ≤ rules.now.page_limit }
-        ensures begun { IfOk result IsFresh }
+        ensures begun { IfOk result ⟦<Clean as Machine>⟧.fresh }
         ensures run { IfOk result
-            (λ clean. (entries : List Entry) (end : Option CleanEnd) (last : _)
-            → may_clean clean entries end last → CleanRun rules.now entries end) }
+            (λ clean. (entries : List Entry) (end : Option CleanEnd) (last : Clean)
+            → ⟦<Clean as Machine>⟧.may clean entries end last → CleanRun rules.now entries end) }
     {
         Ok(Clean {
             alloc,
