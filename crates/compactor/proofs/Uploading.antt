@@ -42,11 +42,13 @@ notes_end note noted (finds Is one on) entries last (inr (found, is, run)) = inr
 
 -- an upload of a block's objects that has begun
 pub upload_keeps : (r : Result Upload NoMemory) (started : Upload) (block : BlockFiles) (ulid : ℕ) (objects : List Object) → r ≡ Ok started → block.meta.ulid ≡ ulid → IsBlock block.meta.ulid objects
-    → objects ≡ block_objects block.meta.ulid block → ((n : ℕ) → IsBlock n objects → IfOk r (λ (u : Upload). Keeps (left_of u) (upload n objects))) → Keeps (left_of started) (upload ulid (block_objects ulid block))
+    → objects ≡ block_objects block.meta.ulid block → ((n : ℕ) → IsBlock n objects → IfOk r (λ (u : Upload). (entries : List Entry) (end : Option UploadEnd) (last : Upload) → may_upload u entries end last → Runs (upload n objects) entries end)) → Keeps (left_of started) (upload ulid (block_objects ulid block))
 upload_keeps r started block ulid objects was named is are run =
     subst (λ (n : ℕ). Keeps (left_of started) (upload n (block_objects n block))) named
     (subst (λ (os : List Object). Keeps (left_of started) (upload block.meta.ulid os)) are
-    (subst (λ (x : Result Upload NoMemory). IfOk x (λ (u : Upload). Keeps (left_of u) (upload block.meta.ulid objects))) was (run block.meta.ulid is)))
+    (λ entries end left.
+    subst (λ (x : Result Upload NoMemory). IfOk x (λ (u : Upload). (es : List Entry) (e : Option UploadEnd) (last : Upload) → may_upload u es e last → Runs (upload block.meta.ulid objects) es e)) was (run block.meta.ulid is)
+    entries end started left))
 
 module _ (c : Compact) (parents : List ℕ) (ulid : ℕ) (objects : List Object) (old : Upload) (keeps : Keeps (left_of old) (upload ulid objects)) where
   abbrev whole : Plan CompactEnd

@@ -51,15 +51,15 @@ pub struct Sync {
 
 impl Sync {
     ghost use Rattle.meta_fetcher.specs.Sightings.{IsView, sighting_of};
-    ghost use Rattle.meta_fetcher.specs.SyncStates.{IsFresh, may_sync, asked_sync, count_at, count_of, Goes, Leads, course_of, blocks_left, meta_left, goes_by_names, goes_after};
+    ghost use Rattle.meta_fetcher.specs.SyncStates.{asked_sync, count_at, count_of, Goes, Leads, course_of, blocks_left, meta_left, goes_by_names, goes_after};
 
     /// Begins a sync.
     pub fn start(alloc: Global, rules: SyncRules) -> Result<Sync, NoMemory>
         requires { 1 ≤ rules.page_limit }
-        ensures begun { IfOk result IsFresh }
+        ensures begun { IfOk result ⟦<Sync as Machine>⟧.fresh }
         ensures run { IfOk result
-            (λ sync. (entries : List Entry) (end : Option SyncEnd) (last : _)
-            → may_sync sync entries end last → SyncRun rules entries end) }
+            (λ sync. (entries : List Entry) (end : Option SyncEnd) (last : Sync)
+            → ⟦<Sync as Machine>⟧.may sync entries end last → SyncRun rules entries end) }
     {
         let none = Moment { ms: 0 };
         Ok(Sync {

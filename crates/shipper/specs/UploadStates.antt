@@ -1,4 +1,5 @@
--- What is left of an upload.
+-- What is left of an upload in each of its states. The machine's steps alone speak of this. What an upload is from its start on,
+-- Uploads says.
 use Rattle.std.specs.Prelude.{◌≡◌, ℕ, ◌+◌, ◌-◌, List, length, drop, Option, Some}
 use Rattle.block_keys.specs.declared.object.Object.{Object}
 use Rattle.world_core.specs.Plans.{Plan, Runs, asked}

@@ -1,11 +1,13 @@
-ghost use Rattle.std.specs.Prelude.{◌≡◌, ℕ, ◌<◌, ◌≤◌, [], ◌∷◌, length, Some, IfOk, OnOk, IsTrue, IsSomeAnd};
+ghost use Rattle.std.specs.Prelude.{◌≡◌, ℕ, ◌<◌, ◌≤◌, List, [], ◌∷◌, length, Option, Some, IfOk, OnOk, IsTrue, IsSomeAnd};
 ghost use Rattle.world_core.specs.Machines.{GoesOn, Falls};
 ghost use Rattle.world_core.specs.Operations.{IsAnswer, entry_of};
 ghost use Rattle.world_core.specs.declared.op.Op.{Op};
-ghost use Rattle.world_core.specs.Plans.{Keeps};
+ghost use Rattle.world_core.specs.declared.entry.Entry.{Entry};
+ghost use Rattle.world_core.specs.Plans.{Runs};
 ghost use Rattle.block_keys.specs.Blocks.{IsBlock};
 ghost use Rattle.shipper.specs.Limits.{most_objects, have_lawful_keys};
 ghost use Rattle.shipper.specs.Uploads.{upload};
+ghost use Rattle.shipper.specs.declared.upload_end.UploadEnd.{UploadEnd};
 
 use crate::UploadEnd;
 use crate::stage::Stage;
@@ -27,14 +29,16 @@ pub struct Upload {
 }
 
 impl Upload {
-    ghost use Rattle.shipper.specs.UploadStates.{IsFresh, PutsNext, may_upload, asked_upload, count_of, left_of};
+    ghost use Rattle.shipper.specs.UploadStates.{PutsNext, may_upload, asked_upload, count_of};
 
     /// An upload of a block's objects, segments first, then the index, then the meta. It takes no memory today.
     pub fn start(objects: ObjectList) -> Result<Upload, NoMemory>
         requires { (ulid : ℕ) × IsBlock ulid objects }
-        ensures begun { IfOk result IsFresh }
+        ensures begun { IfOk result ⟦<Upload as Machine>⟧.fresh }
         ensures run { (ulid : ℕ) → IsBlock ulid objects
-            → IfOk result (λ started. Keeps (left_of started) (upload ulid objects)) }
+            → IfOk result (λ started. (entries : List Entry) (end : Option UploadEnd) (last : Upload)
+            → ⟦<Upload as Machine>⟧.may started entries end last
+            → Runs (upload ulid objects) entries end) }
     {
         let objects = objects.into_vec();
         let ulid = objects[0].key.ulid();

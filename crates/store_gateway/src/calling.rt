@@ -37,10 +37,10 @@ impl<'a> SeriesCall<'a> {
         low: i64,
         high: i64,
     ) -> Result<SeriesCall<'a>, NoMemory>
-        ensures begun { IfOk result IsFresh }
+        ensures begun { IfOk result ⟦<SeriesCall<'a> as Machine>⟧.fresh }
         ensures run { IfOk result
             (λ call. (entries : List Entry) (end : Option SeriesEnd) (last : Calling)
-            → may_call call entries end last
+            → ⟦<SeriesCall<'a> as Machine>⟧.may call entries end last
             → SeriesRun view.now (asking selector.now replicas.now low high) entries end) }
     {
         let kept = view.kept.members();

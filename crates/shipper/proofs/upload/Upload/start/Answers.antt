@@ -19,7 +19,7 @@ invariant_of-result c =
 pub returns : goal.returns
 returns c = record {
   begun = refl;
-  run = λ ulid given entries end run. (let block : IsBlock ulid c.into_vec-objects.result.items = subst (λ (l : List Object). IsBlock ulid l) (sym c.into_vec-objects.ensures) given in
+  run = λ ulid given entries end last run. (let block : IsBlock ulid c.into_vec-objects.result.items = subst (λ (l : List Object). IsBlock ulid l) (sym c.into_vec-objects.ensures) given in
       let same : c.ulid-ulid.result ≡ ulid =
       c.ulid-ulid.ensures ∙ ap (λ (o : Object). key_ulid o.key) c.index.ensures ∙ first_ulid ulid c.into_vec-objects.result.items c.index.result.now block in
       subst (λ (l : List Object). Runs (upload ulid l) entries end) c.into_vec-objects.ensures
