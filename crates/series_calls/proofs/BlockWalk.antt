@@ -1,11 +1,15 @@
 -- What holds of the reads of a block wherever it holds of each read of an object, and of the plans that follow it.
-use Rattle.std.proofs.Common.{◌≡◌, ℕ, Bool, true, false, List, [], ◌∷◌, ◌++◌, length, map, zip, refl, Option, Some, None, Result, Ok, Err, slice_get, ◌==◌}
+use Rattle.std.proofs.Common.{◌≡◌, ℕ, ◌*◌, ◌≤◌, Bool, true, false, List, [], ◌∷◌, ◌++◌, length, map, drop, zip, refl, sym, ap, subst, ◌∙◌, inl, inr, append_assoc, append-nil, Option, Some, None, Result, Ok, Err, slice_get, ◌==◌, arith}
 use Rattle.std.specs.Prelude.{nat_le}
-use Rattle.std.specs.List.{flat_map}
+use Rattle.std.specs.List.{AllByRecursion, AllZip, flat_map}
+use Rattle.std.specs.List.Sorted.{IsStrictlyIncreasing}
 use Rattle.std.specs.Map.{lookup}
+use Rattle.std.proofs.lemmas.Bool.{eqb-true}
+use Rattle.std.proofs.lemmas.List.{map-append}
 use Rattle.block_keys.specs.declared.key.Key.{Key}
 use Rattle.block_keys.specs.declared.key.Key.TheVariants.{Index, Segment}
 use Rattle.label_sets.specs.Triples.{Triple}
+use Rattle.label_sets.specs.declared.sample.Sample.{Sample}
 use Rattle.world_core.specs.Plans.{IsAtMostOne, Plan, ends, never, asks, finds, after_get, choose}
 use Rattle.world_core.specs.declared.op.Op.{Op}
 use Rattle.world_core.specs.declared.op.Op.TheVariants.{Get, GetRange}
@@ -28,24 +32,32 @@ use Rattle.index_v2.specs.SeriesLabels.{numbered_at}
 use Rattle.index_v2.specs.WholeReading.{lists_at}
 use Rattle.series_selection.specs.Selections.{rows_read}
 use Rattle.block_content.specs.Firsts.{each_at}
-use Rattle.block_ranges.specs.ChunkRanges.{AreGroups, Group, IsNear, IsSetOf, group_of, offset_of}
+use Rattle.block_ranges.specs.ChunkRanges.{AreGroups, Group, IsNear, IsSetOf, group_of, group_piece, offset_of, segment_of}
 use Rattle.block_ranges.specs.ChunkReads.{Glimpse, Read, Tests, glimpse_at, have_keys, read, reads_chunks, reads_group, reads_groups, reads_out, reads_references, shows, sticks_out, tests_at}
-use Rattle.block_ranges.specs.IndexRanges.{AreRuns, Follows, Piece, Run, contents_piece, has_sections, least_size, run_of, section_piece}
-use Rattle.block_ranges.specs.IndexReads.{Goes, IsTakenBy, Tables, after_contents, after_lists, after_run, after_runs, after_sections, after_symbols, after_table, after_whole, by_size, falls_back, have_bytes, part_at, reached, reads_contents, reads_runs, reads_sections, reads_whole, selects, tables_of}
+use Rattle.block_ranges.specs.IndexRanges.{AreRuns, Follows, Piece, Run, contents_piece, has_bytes, has_sections, least_size, run_of, section_piece}
+use Rattle.block_ranges.specs.IndexReads.{Goes, IsTakenBy, Tables, after_contents, after_lists, after_run, after_runs, after_symbols, after_table, after_whole, by_size, falls_back, have_bytes, part_at, reached, reads_contents, reads_runs, reads_sections, reads_whole, selects, tables_of}
 use Rattle.block_ranges.specs.OneCut.{one_cut}
 use Rattle.block_ranges.specs.OneSet.{one_selection, one_set}
+use Rattle.block_ranges.specs.Stretches.{Stretch, members}
 use Rattle.block_ranges.specs.BlockReads.{reads_block, shown, taken}
 use Rattle.block_ranges.specs.Reads.{Block, Break, Cache, Query, Reached, by_cache, damaged, fault, if_read, kept, missing, range_of, reads, sized, takes, used}
+use Rattle.series_calls.proofs.BlockFindings.{AreChunksRead, AreSeries, AreTables, AreTaken, IsChunkRead, IsFull, IsReadFull, IsSeriesRead}
+use Rattle.series_calls.proofs.ReadLists.{each_read, hold_runs, lists_some, near_groups, none_behind, numbers_of, ok_read, one_more, shown_is, symbols_some, table_some, zip_append, zip_with}
 
--- `Fine` holds of the cache as it is, `Given` of the entries, and `Asks` of what is asked for.
+-- `Fine` holds of the cache as it is, `Given` of the entries, and `Asks` of what is asked for. `Known` holds of the bytes of a range that
+-- was read or kept, and `Whole` of those of an object that was read.
 module _ {E : Type 0} (breaks : Break → Cache → E) (Holds : List Entry → Plan E → Type 0) (Asks : Op → Type 0) (Given : Entry → Type 0) (Fine : Cache → Type 0)
+    (Known : Key → Piece → List ℕ → Type 0) (Whole : Key → List ℕ → Type 0)
     (idle : (made : List Entry) → Holds made never)
     (asked : (made : List Entry) (op : Op) (next : Entry → Plan E) → Asks op → ((e : Entry) → e.op ≡ op → Given e → Holds (made ++ e ∷ []) (next e)) → Holds made (asks op next))
     (found : (A : Type 0) (made : List Entry) (Such : A → Type 0) (one : IsAtMostOne Such) (next : A → Plan E) → ((a : A) → Such a → Holds made (next a)) → Holds made (finds Such one next))
     (broken : (made : List Entry) (why : Break) (cache : Cache) → Fine cache → Holds made (ends (breaks why cache)))
     (uses : (range : Range) (cache : Cache) → Fine cache → Fine (used range cache))
     (keeps : (e : Entry) (key : Key) (piece : Piece) (bytes : List ℕ) (cache : Cache) → e.op ≡ GetRange key piece.from piece.len → Given e → e.reply ≡ Found bytes
-    → lookup (same_range (range_of key piece)) cache.entries ≡ None → Fine cache → Fine (kept (range_of key piece) bytes cache)) where
+    → lookup (same_range (range_of key piece)) cache.entries ≡ None → Fine cache → Fine (kept (range_of key piece) bytes cache))
+    (known_read : (e : Entry) (key : Key) (piece : Piece) (bytes : List ℕ) → e.op ≡ GetRange key piece.from piece.len → Given e → e.reply ≡ Found bytes → Known key piece bytes)
+    (known_kept : (key : Key) (piece : Piece) (bytes : List ℕ) (cache : Cache) → Fine cache → lookup (same_range (range_of key piece)) cache.entries ≡ Some bytes → Known key piece bytes)
+    (whole_read : (e : Entry) (key : Key) (bytes : List ℕ) → e.op ≡ Get key → Given e → e.reply ≡ Found bytes → Whole key bytes) where
   -- ---- words
 
   reads_hold : (made : List Entry) (op : Op) (cache : Cache) (next : ℕ → List ℕ → Plan E) → Asks op → Fine cache
@@ -64,162 +76,300 @@ module _ {E : Type 0} (breaks : Break → Cache → E) (Holds : List Entry → P
       by e same given Deleted so = idle (made ++ e ∷ [])
       by e same given (Names names) so = idle (made ++ e ∷ [])
 
-  either : (made : List Entry) (b : Bool) (one other : Plan E) → Holds made one → Holds made other → Holds made (choose b one other)
-  either made true one other first second = first
+  either : (made : List Entry) (b : Bool) (one other : Plan E) → (b ≡ true → Holds made one) → Holds made other → Holds made (choose b one other)
+  either made true one other first second = first refl
   either made false one other first second = second
 
-  if_holds : {A R : Type 0} (made : List Entry) (r : Result A R) (next : A → Plan E) (refused : Plan E) → ((a : A) → Holds made (next a)) → Holds made refused → Holds made (if_read r next refused)
-  if_holds made (Ok value) next refused on off = on value
+  if_holds : {A R : Type 0} (made : List Entry) (r : Result A R) (next : A → Plan E) (refused : Plan E) → ((a : A) → r ≡ Ok a → Holds made (next a)) → Holds made refused → Holds made (if_read r next refused)
+  if_holds made (Ok value) next refused on off = on value refl
   if_holds made (Err refusal) next refused on off = off
 
   abbrev AfterAll : (Reached → Plan E) → Type 0
   AfterAll next = (made : List Entry) (so : Reached) → Fine so.cache → Holds made (next so)
 
-  abbrev AfterBytes : (Reached → List ℕ → Plan E) → Type 0
-  AfterBytes next = (made : List Entry) (so : Reached) (bytes : List ℕ) → Fine so.cache → Holds made (next so bytes)
+  abbrev Full : Key → Piece → List ℕ → Type 0
+  Full = IsFull Known Whole
+
+  -- what follows the bytes of a range, which are as many as were asked for
+  abbrev AfterBytes : Key → Piece → (Reached → List ℕ → Plan E) → Type 0
+  AfterBytes key piece next = (made : List Entry) (so : Reached) (bytes : List ℕ) → Full key piece bytes → Fine so.cache → Holds made (next so bytes)
 
   takes_hold : (key : Key) (piece : Piece) (at : Reached) (otherwise : Reached → Plan E) (next : Reached → List ℕ → Plan E) → Asks (GetRange key piece.from piece.len)
-      → AfterAll otherwise → AfterBytes next → (made : List Entry) → Fine at.cache → Holds made (takes breaks key piece at otherwise next)
-  takes_hold key piece at otherwise next is off on made fine = by_held (lookup (same_range (range_of key piece)) at.cache.entries) refl
+      → has_bytes piece ≡ true → AfterAll otherwise → AfterBytes key piece next → (made : List Entry) → Fine at.cache → Holds made (takes breaks key piece at otherwise next)
+  takes_hold key piece at otherwise next is some off on made fine = by_held (lookup (same_range (range_of key piece)) at.cache.entries) refl
     where
-      fits : AfterBytes (sized piece otherwise next)
-      fits made so bytes fine = either made (length bytes == piece.len) (next so bytes) (otherwise so) (on made so bytes fine) (off made so fine)
+      fits : (made : List Entry) (so : Reached) (bytes : List ℕ) → Known key piece bytes → Fine so.cache → Holds made (sized piece otherwise next so bytes)
+      fits made so bytes is fine =
+          either made (length bytes == piece.len) (next so bytes) (otherwise so)
+          (λ same. on made so bytes (record { known_so = is; size = eqb-true (length bytes) piece.len same; some = some }) fine) (off made so fine)
 
       by_held : (o : Option (List ℕ)) → lookup (same_range (range_of key piece)) at.cache.entries ≡ o → Holds made (by_cache breaks o key piece at (sized piece otherwise next))
-      by_held (Some bytes) so = fits made (record { last = at.last; cache = used (range_of key piece) at.cache }) bytes (uses (range_of key piece) at.cache fine)
+      by_held (Some bytes) so =
+          fits made (record { last = at.last; cache = used (range_of key piece) at.cache }) bytes (known_kept key piece bytes at.cache fine so) (uses (range_of key piece) at.cache fine)
       by_held None none =
           reads_hold made (GetRange key piece.from piece.len) at.cache
           (λ seq bytes. sized piece otherwise next (record { last = seq; cache = kept (range_of key piece) bytes at.cache }) bytes) is fine
-          (λ e bytes same given so. fits (made ++ e ∷ []) (record { last = e.seq; cache = kept (range_of key piece) bytes at.cache }) bytes (keeps e key piece bytes at.cache same given so none fine))
+          (λ e bytes same given so. fits (made ++ e ∷ []) (record { last = e.seq; cache = kept (range_of key piece) bytes at.cache }) bytes (known_read e key piece bytes same given so)
+          (keeps e key piece bytes at.cache same given so none fine))
 
   -- ---- the index
 
   module _ (query : Query) (block : Block) (whole : Asks (Get (Index block.ulid))) (ranges : (from len : ℕ) → Asks (GetRange (Index block.ulid) from len)) where
-    abbrev AfterSeries : Goes breaks query block → Type 0
-    AfterSeries next = (made : List Entry) (at : Reached) (series : List IndexSeries) → Fine at.cache → Holds made (next at series)
+    abbrev Series : List IndexSeries → Type 0
+    Series series = AreSeries Known Whole query block series
 
-    selects_holds : (made : List Entry) (tables : Tables) (refused : Plan E) (next : List ℕ → List ℕ → Plan E) → Holds made refused → ((all numbers : List ℕ) → Holds made (next all numbers))
-        → Holds made (selects breaks query block tables refused next)
+    abbrev AfterSeries : Goes breaks query block → Type 0
+    AfterSeries next = (made : List Entry) (at : Reached) (series : List IndexSeries) → Series series → Fine at.cache → Holds made (next at series)
+
+    selects_holds : (made : List Entry) (tables : Tables) (refused : Plan E) (next : List ℕ → List ℕ → Plan E) → Holds made refused
+        → ((all numbers : List ℕ) → AreTaken Known Whole query block tables numbers → Holds made (next all numbers)) → Holds made (selects breaks query block tables refused next)
     selects_holds made tables refused next off on =
         if_holds made (list_of tables.lists (slice_get tables.rows 0)) _ refused
-        (λ all. if_holds made (lists_at tables.lists (rows_read block.external tables.rows query.selector)) _ refused
-        (λ lists. found _ made (IsTakenBy query block tables) (one_selection _ tables.rows block.external query.selector) (next all) (λ numbers is. on all numbers)) off) off
+        (λ all all_are. if_holds made (lists_at tables.lists (rows_read block.external tables.rows query.selector)) _ refused
+        (λ lists lists_are. found _ made (IsTakenBy query block tables) (one_selection _ tables.rows block.external query.selector) (next all)
+        (λ numbers is. on all numbers (record { lists_read = ok_read _ lists lists_are; taken = is }))) off) off
 
     whole_holds : (next : Goes breaks query block) → AfterSeries next → (made : List Entry) (cache : Cache) → Fine cache → Holds made (reads_whole breaks query block next cache)
     whole_holds next on made cache fine =
-        reads_hold made (Get (Index block.ulid)) cache (after_whole breaks query block cache next) whole fine (λ e bytes same given so. after (made ++ e ∷ []) e.seq bytes)
+        reads_hold made (Get (Index block.ulid)) cache (after_whole breaks query block cache next) whole fine
+        (λ e bytes same given so. after (made ++ e ∷ []) e.seq bytes (whole_read e (Index block.ulid) bytes same given so))
       where
-        after : (made : List Entry) (seq : ℕ) (bytes : List ℕ) → Holds made (after_whole breaks query block cache next seq bytes)
-        after made seq bytes =
+        after : (made : List Entry) (seq : ℕ) (bytes : List ℕ) → Whole (Index block.ulid) bytes → Holds made (after_whole breaks query block cache next seq bytes)
+        after made seq bytes shown =
             if_holds made (opened_at bytes) _ (ends (breaks (damaged seq) cache))
-            (λ opened. selects_holds made (tables_of opened) (ends (breaks (damaged seq) cache)) _ (broken made (damaged seq) cache fine)
-            (λ all numbers. if_holds made (each_at (numbered_at bytes opened.symbols) numbers) (next (reached seq cache)) (ends (breaks (damaged seq) cache))
-            (λ series. on made (reached seq cache) series fine) (broken made (damaged seq) cache fine))) (broken made (damaged seq) cache fine)
+            (λ opened opened_is. selects_holds made (tables_of opened) (ends (breaks (damaged seq) cache)) _ (broken made (damaged seq) cache fine)
+            (λ all numbers taken. if_holds made (each_at (numbered_at bytes opened.symbols) numbers) (next (reached seq cache)) (ends (breaks (damaged seq) cache))
+            (λ series read_so. on made (reached seq cache) series
+            (inl (record {
+              bytes = bytes;
+              whole_so = shown;
+              opened = opened;
+              opened_is = opened_is;
+              numbers = numbers;
+              taken = taken;
+              read_so = each_read (numbered_at bytes opened.symbols) numbers series read_so;
+            })) fine) (broken made (damaged seq) cache fine))) (broken made (damaged seq) cache fine)
 
     falls_hold : (next : Goes breaks query block) → AfterSeries next → AfterAll (falls_back breaks query block next)
     falls_hold next on made at fine = whole_holds next on made at.cache fine
 
-    runs_hold : (symbols : List (List ℕ)) (next : Goes breaks query block) → AfterSeries next → (runs : List Run) (made : List Entry) (at : Reached) (series : List IndexSeries) → Fine at.cache
-        → Holds made (reads_runs breaks query block symbols next runs at series)
-    runs_hold symbols next on [] made at series fine = on made at series fine
-    runs_hold symbols next on (run ∷ runs) made at series fine =
+    abbrev ReadSo : List (List ℕ) → ℕ → IndexSeries → Type 0
+    ReadSo symbols = IsSeriesRead Known Whole query block symbols
+
+    -- each run has bytes, and begins no later than its series
+    abbrev HoldsRun : Run → Type 0
+    HoldsRun run = (has_bytes run.piece ≡ true) × AllByRecursion (λ number. run.piece.from ≤ 16 * number) run.numbers
+
+    -- what completes the series of the runs that are left makes the series that the selector takes
+    abbrev Completes : List (List ℕ) → List Run → List IndexSeries → Type 0
+    Completes symbols runs series = (rest : List IndexSeries) → AllZip (ReadSo symbols) (flat_map (λ (run : Run). run.numbers) runs) rest → Series (series ++ rest)
+
+    runs_hold : (symbols : List (List ℕ)) (next : Goes breaks query block) → AfterSeries next → (runs : List Run) (made : List Entry) (at : Reached) (series : List IndexSeries)
+        → AllByRecursion HoldsRun runs → Completes symbols runs series → Fine at.cache → Holds made (reads_runs breaks query block symbols next runs at series)
+    runs_hold symbols next on [] made at series hold so fine = on made at series (subst Series (append-nil series) (so [] tt)) fine
+    runs_hold symbols next on (run ∷ runs) made at series hold so fine =
         takes_hold (Index block.ulid) run.piece at (falls_back breaks query block next) (after_run breaks query block symbols next run (reads_runs breaks query block symbols next runs) series)
-        (ranges run.piece.from run.piece.len) (falls_hold next on)
-        (λ made so bytes fine. if_holds made (each_at (numbered_at (known (part_at run.piece bytes)) symbols) run.numbers) _ (falls_back breaks query block next so)
-        (λ more. runs_hold symbols next on runs made so (series ++ more) fine) (falls_hold next on made so fine)) made fine
+        (ranges run.piece.from run.piece.len) hold.0.0 (falls_hold next on)
+        (λ made reach bytes full fine. if_holds made (each_at (numbered_at (known (part_at run.piece bytes)) symbols) run.numbers) _ (falls_back breaks query block next reach)
+        (λ more read_so. runs_hold symbols next on runs made reach (series ++ more) hold.1
+        (λ rest later. subst Series (sym (append_assoc series more rest))
+        (so (more ++ rest) (zip_append (ReadSo symbols) run.numbers (flat_map (λ (r : Run). r.numbers) runs) more rest
+        (zip_with (λ number. run.piece.from ≤ 16 * number) (λ number one. numbered_at (known (part_at run.piece bytes)) symbols number ≡ Ok one) (ReadSo symbols)
+        (λ number one begins reads_as. record { piece = run.piece; begins = begins; read_so = record { bytes = bytes; full = full; reads_as = reads_as } })
+        run.numbers more hold.0.1 (each_read (numbered_at (known (part_at run.piece bytes)) symbols) run.numbers more read_so)) later))) fine)
+        (falls_hold next on made reach fine)) made fine
 
-    sections_hold : (size : ℕ) (toc : Toc) (next : Goes breaks query block) → AfterSeries next → (made : List Entry) (at : Reached) (tables : Tables) → Fine at.cache
-        → Holds made (after_sections breaks query block size toc next at tables)
-    sections_hold size toc next on made at tables fine =
+    lists_hold : (size : ℕ) (toc : Toc) (next : Goes breaks query block) → AfterSeries next → (symbols : List (List ℕ)) (rows : List PostingsRow) → AreTables Known Whole query block size toc symbols rows
+        → AfterBytes (Index block.ulid) (section_piece toc size toc.postings) (after_lists breaks query block size toc next symbols rows)
+    lists_hold size toc next on symbols rows are made at bytes full fine =
         selects_holds made tables (falls_back breaks query block next at) _ (falls_hold next on made at fine)
-        (λ all numbers. found _ made (AreRuns all numbers) (one_cut (Follows all) numbers) (λ runs. after_runs breaks query block next at tables.symbols (map (run_of toc size all) runs))
-        (λ runs is. either made (have_bytes breaks query block (map (run_of toc size all) runs)) (reads_runs breaks query block tables.symbols next (map (run_of toc size all) runs) at [])
+        (λ all numbers taken. found _ made (AreRuns all numbers) (one_cut (Follows all) numbers) (λ runs. after_runs breaks query block next at symbols (map (run_of toc size all) runs))
+        (λ runs cut. either made (have_bytes breaks query block (map (run_of toc size all) runs)) (reads_runs breaks query block symbols next (map (run_of toc size all) runs) at [])
         (falls_back breaks query block next at)
-        (runs_hold tables.symbols next on (map (run_of toc size all) runs) made at [] fine) (falls_hold next on made at fine)))
-
-    lists_hold : (size : ℕ) (toc : Toc) (next : Goes breaks query block) → AfterSeries next → (symbols : List (List ℕ)) (rows : List PostingsRow)
-        → AfterBytes (after_lists breaks query block size toc next symbols rows)
-    lists_hold size toc next on symbols rows made at bytes fine =
-        sections_hold size toc next on made at (record { symbols = symbols; rows = rows; lists = part_at (section_piece toc size toc.postings) bytes }) fine
-
-    table_holds : (size : ℕ) (toc : Toc) (next : Goes breaks query block) → AfterSeries next → (symbols : List (List ℕ)) → AfterBytes (after_table breaks query block size toc next symbols)
-    table_holds size toc next on symbols made at bytes fine =
-        if_holds made (postings_table_at (known (part_at (section_piece toc size toc.postings_table) bytes)) toc.postings_table) _ (falls_back breaks query block next at)
-        (λ rows. takes_hold (Index block.ulid) (section_piece toc size toc.postings) at (falls_back breaks query block next) (after_lists breaks query block size toc next symbols rows)
-        (ranges _ _) (falls_hold next on) (lists_hold size toc next on symbols rows) made fine) (falls_hold next on made at fine)
-
-    symbols_hold : (size : ℕ) (toc : Toc) (next : Goes breaks query block) → AfterSeries next → AfterBytes (after_symbols breaks query block size toc next)
-    symbols_hold size toc next on made at bytes fine =
-        if_holds made (symbols_at (known (part_at (section_piece toc size toc.symbols) bytes)) toc.symbols) _ (falls_back breaks query block next at)
-        (λ symbols. takes_hold (Index block.ulid) (section_piece toc size toc.postings_table) at (falls_back breaks query block next) (after_table breaks query block size toc next symbols)
-        (ranges _ _) (falls_hold next on) (table_holds size toc next on symbols) made fine) (falls_hold next on made at fine)
-
-    contents_hold : (size : ℕ) (next : Goes breaks query block) → AfterSeries next → (made : List Entry) (cache : Cache) → Fine cache → Holds made (reads_contents breaks query block size next cache)
-    contents_hold size next on made cache fine =
-        reads_hold made (GetRange (Index block.ulid) (contents_piece size).from (contents_piece size).len) cache (after_contents breaks query block size next cache) (ranges _ _) fine
-        (λ e bytes same given so. after (made ++ e ∷ []) e.seq bytes)
+        (λ have. runs_hold symbols next on (map (run_of toc size all) runs) made at [] (hold_runs toc size all numbers runs taken.taken.ascend cut have)
+        (λ rest reads. inr (record {
+          size = size;
+          toc = toc;
+          symbols = symbols;
+          rows = rows;
+          tables = are;
+          lists = bytes;
+          lists_full = full;
+          numbers = numbers;
+          taken = taken;
+          read_so = subst (λ l. AllZip (ReadSo symbols) l rest) (numbers_of toc size all runs ∙ cut.whole) reads;
+        })) fine) (falls_hold next on made at fine)))
       where
-        after : (made : List Entry) (seq : ℕ) (bytes : List ℕ) → Holds made (after_contents breaks query block size next cache seq bytes)
-        after made seq bytes =
+        tables : Tables
+        tables = record { symbols = symbols; rows = rows; lists = part_at (section_piece toc size toc.postings) bytes }
+
+    table_holds : (size : ℕ) (toc : Toc) (next : Goes breaks query block) → AfterSeries next → has_sections toc size ≡ true → (symbols : List (List ℕ)) → ((rows : List PostingsRow)
+        → IsReadFull Known Whole (Index block.ulid) (section_piece toc size toc.postings_table)
+        (λ bytes. postings_table_at (known (part_at (section_piece toc size toc.postings_table) bytes)) toc.postings_table) rows
+        → AreTables Known Whole query block size toc symbols rows)
+        → AfterBytes (Index block.ulid) (section_piece toc size toc.postings_table) (after_table breaks query block size toc next symbols)
+    table_holds size toc next on has symbols are made at bytes full fine =
+        if_holds made (postings_table_at (known (part_at (section_piece toc size toc.postings_table) bytes)) toc.postings_table) _ (falls_back breaks query block next at)
+        (λ rows reads_as. takes_hold (Index block.ulid) (section_piece toc size toc.postings) at (falls_back breaks query block next) (after_lists breaks query block size toc next symbols rows)
+        (ranges _ _) (lists_some toc size has) (falls_hold next on)
+        (lists_hold size toc next on symbols rows (are rows (record { bytes = bytes; full = full; reads_as = reads_as }))) made fine) (falls_hold next on made at fine)
+
+    symbols_hold : (size : ℕ) (toc : Toc) (next : Goes breaks query block) → AfterSeries next → block.index_size ≡ Some size
+        → IsReadFull Known Whole (Index block.ulid) (contents_piece size) toc_at toc → has_sections toc size ≡ true
+        → AfterBytes (Index block.ulid) (section_piece toc size toc.symbols) (after_symbols breaks query block size toc next)
+    symbols_hold size toc next on told contents has made at bytes full fine =
+        if_holds made (symbols_at (known (part_at (section_piece toc size toc.symbols) bytes)) toc.symbols) _ (falls_back breaks query block next at)
+        (λ symbols reads_as. takes_hold (Index block.ulid) (section_piece toc size toc.postings_table) at (falls_back breaks query block next) (after_table breaks query block size toc next symbols)
+        (ranges _ _) (table_some toc size has) (falls_hold next on)
+        (table_holds size toc next on has symbols
+        (λ rows found_so. record { told = told; contents = contents; has = has; symbols_read = record { bytes = bytes; full = full; reads_as = reads_as }; rows_found = found_so })) made fine)
+        (falls_hold next on made at fine)
+
+    contents_hold : (size : ℕ) (next : Goes breaks query block) → AfterSeries next → block.index_size ≡ Some size → (made : List Entry) (cache : Cache) → Fine cache
+        → Holds made (reads_contents breaks query block size next cache)
+    contents_hold size next on told made cache fine =
+        reads_hold made (GetRange (Index block.ulid) (contents_piece size).from (contents_piece size).len) cache (after_contents breaks query block size next cache) (ranges _ _) fine
+        (λ e bytes same given so. after (made ++ e ∷ []) e.seq bytes (known_read e (Index block.ulid) (contents_piece size) bytes same given so))
+      where
+        after : (made : List Entry) (seq : ℕ) (bytes : List ℕ) → Known (Index block.ulid) (contents_piece size) bytes → Holds made (after_contents breaks query block size next cache seq bytes)
+        after made seq bytes is =
             either made (length bytes == 52) _ (reads_whole breaks query block next cache)
-            (if_holds made (toc_at bytes) _ (reads_whole breaks query block next cache)
-            (λ toc. either made (has_sections toc size) (reads_sections breaks query block size toc next (reached seq cache)) (reads_whole breaks query block next cache)
-            (takes_hold (Index block.ulid) (section_piece toc size toc.symbols) (reached seq cache) (falls_back breaks query block next) (after_symbols breaks query block size toc next)
-            (ranges _ _) (falls_hold next on) (symbols_hold size toc next on) made fine)
+            (λ long. if_holds made (toc_at bytes) _ (reads_whole breaks query block next cache)
+            (λ toc reads_as. either made (has_sections toc size) (reads_sections breaks query block size toc next (reached seq cache)) (reads_whole breaks query block next cache)
+            (λ has. takes_hold (Index block.ulid) (section_piece toc size toc.symbols) (reached seq cache) (falls_back breaks query block next) (after_symbols breaks query block size toc next)
+            (ranges _ _) (symbols_some toc size has) (falls_hold next on)
+            (symbols_hold size toc next on told
+            (record { bytes = bytes; full = record { known_so = is; size = eqb-true (length bytes) 52 long; some = refl }; reads_as = reads_as }) has) made fine)
             (whole_holds next on made cache fine))
             (whole_holds next on made cache fine))
             (whole_holds next on made cache fine)
 
-    by_size_holds : (size : Option ℕ) (next : Goes breaks query block) → AfterSeries next → (made : List Entry) (cache : Cache) → Fine cache → Holds made (by_size breaks query block size next cache)
-    by_size_holds None next on made cache fine = whole_holds next on made cache fine
-    by_size_holds (Some size) next on made cache fine =
+    by_size_holds : (size : Option ℕ) (next : Goes breaks query block) → AfterSeries next → block.index_size ≡ size → (made : List Entry) (cache : Cache) → Fine cache
+        → Holds made (by_size breaks query block size next cache)
+    by_size_holds None next on told made cache fine = whole_holds next on made cache fine
+    by_size_holds (Some size) next on told made cache fine =
         either made (nat_le least_size size) (reads_contents breaks query block size next cache) (reads_whole breaks query block next cache)
-        (contents_hold size next on made cache fine) (whole_holds next on made cache fine)
+        (λ long. contents_hold size next on told made cache fine) (whole_holds next on made cache fine)
 
   -- ---- chunks
 
   module _ (ulid : ℕ) (tests : Tests) (cache : Cache) (fine : Fine cache) (ranges : (number from len : ℕ) → Asks (GetRange (Segment ulid number) from len)) where
-    abbrev AfterReads : (List Read → Plan E) → Type 0
-    AfterReads next = (made : List Entry) (all : List Read) → Holds made (next all)
+    abbrev AreRead : List Read → Type 0
+    AreRead all = AreChunksRead Known Whole ulid tests all
 
-    out_holds : (group : Group) (next : List Read → Plan E) → AfterReads next → (chunks : List (ℕ × Glimpse)) → AfterReads (reads_out breaks ulid tests cache group next chunks)
-    out_holds group next on [] made all = on made all
-    out_holds group next on ((reference, shows samples) ∷ chunks) made all = out_holds group next on chunks made (all ++ read reference samples ∷ [])
-    out_holds group next on ((reference, sticks_out len) ∷ chunks) made all =
+    -- what follows the chunks of these references
+    abbrev AfterReads : (List Read → Plan E) → List ℕ → Type 0
+    AfterReads next done = (made : List Entry) (all : List Read) → AreRead all → map (λ (one : Read). one.reference) all ≡ done → Holds made (next all)
+
+    -- a chunk of a group is read, or it stands in the group's segment
+    abbrev Fits : Group → ℕ × Glimpse → Type 0
+    Fits group (reference, shows samples) = IsChunkRead Known Whole ulid tests (read reference samples)
+    Fits group (reference, sticks_out len) = group.segment ≡ segment_of reference
+
+    out_holds : (group : Group) (next : List Read → Plan E) (chunks : List (ℕ × Glimpse)) (done : List ℕ) → AllByRecursion (Fits group) chunks
+        → AfterReads next (done ++ map (λ (chunk : ℕ × Glimpse). chunk.0) chunks) → AfterReads (reads_out breaks ulid tests cache group next chunks) done
+    out_holds group next [] done fit on made all are same = on made all are (same ∙ sym (append-nil done))
+    out_holds group next ((reference, shows samples) ∷ chunks) done fit on made all are same =
+        out_holds group next chunks (done ++ reference ∷ []) fit.1
+        (subst (AfterReads next) (sym (append_assoc done (reference ∷ []) (map (λ (chunk : ℕ × Glimpse). chunk.0) chunks))) on)
+        made (all ++ read reference samples ∷ []) (one_more (IsChunkRead Known Whole ulid tests) all (read reference samples) are fit.0)
+        (map-append (λ (one : Read). one.reference) all (read reference samples ∷ []) ∙ ap (λ l. l ++ reference ∷ []) same)
+    out_holds group next ((reference, sticks_out len) ∷ chunks) done fit on made all are same =
         reads_hold made (GetRange (Segment ulid group.segment) (offset_of reference) len) cache _ (ranges group.segment (offset_of reference) len) fine
-        (λ e bytes same given so. if_holds (made ++ e ∷ []) (tests reference bytes) _ (ends (breaks (damaged e.seq) cache))
-        (λ samples. out_holds group next on chunks (made ++ e ∷ []) (all ++ read reference samples ∷ [])) (broken (made ++ e ∷ []) (damaged e.seq) cache fine))
+        (λ e bytes is_op given so. if_holds (made ++ e ∷ []) (tests reference bytes) _ (ends (breaks (damaged e.seq) cache))
+        (λ samples reads_as. out_holds group next chunks (done ++ reference ∷ []) fit.1
+        (subst (AfterReads next) (sym (append_assoc done (reference ∷ []) (map (λ (chunk : ℕ × Glimpse). chunk.0) chunks))) on)
+        (made ++ e ∷ []) (all ++ read reference samples ∷ [])
+        (one_more (IsChunkRead Known Whole ulid tests) all (read reference samples) are
+        (alone reference len samples bytes
+        (subst (λ n. Known (Segment ulid n) (record { from = offset_of reference; len = len }) bytes) fit.0
+        (known_read e (Segment ulid group.segment) (record { from = offset_of reference; len = len }) bytes is_op given so)) reads_as))
+        (map-append (λ (one : Read). one.reference) all (read reference samples ∷ []) ∙ ap (λ l. l ++ reference ∷ []) same))
+        (broken (made ++ e ∷ []) (damaged e.seq) cache fine))
+      where
+        alone : (reference len : ℕ) (samples : List Sample) (bytes : List ℕ) → Known (Segment ulid (segment_of reference)) (record { from = offset_of reference; len = len }) bytes
+            → tests reference bytes ≡ Ok samples → IsChunkRead Known Whole ulid tests (read reference samples)
+        alone reference len samples bytes is reads_as = record {
+          piece = record { from = offset_of reference; len = len };
+          first = reference;
+          same_segment = refl;
+          behind = omega arith;
+          from = refl;
+          read_so = record { bytes = bytes; known_so = is; reads_as = subst (λ n. tests reference (drop n bytes) ≡ Ok samples) (sym (none_behind reference)) reads_as };
+        }
 
-    group_holds : (group : Group) (next : List Read → Plan E) → AfterReads next → AfterReads (reads_group breaks ulid tests cache group next)
-    group_holds group next on made all =
-        reads_hold made (GetRange (Segment ulid group.segment) group.piece.from group.piece.len) cache _ (ranges group.segment group.piece.from group.piece.len) fine
-        (λ e bytes same given so. if_holds (made ++ e ∷ []) (each_at (glimpse_at tests group bytes) group.references) _ (ends (breaks (damaged e.seq) cache))
-        (λ glimpses. out_holds group next on (zip group.references glimpses) (made ++ e ∷ []) all) (broken (made ++ e ∷ []) (damaged e.seq) cache fine))
+    -- a group of references, of which each stands in the segment of the first and not before it
+    abbrev IsGroup : Stretch ℕ → Type 0
+    IsGroup stretch = AllByRecursion (λ reference. (segment_of stretch.first ≡ segment_of reference) × (stretch.first ≤ reference)) (members stretch)
 
-    groups_hold : (next : List Read → Plan E) → AfterReads next → (groups : List Group) → AfterReads (reads_groups breaks ulid tests cache next groups)
-    groups_hold next on [] made all = on made all
-    groups_hold next on (group ∷ groups) made all = group_holds group (reads_groups breaks ulid tests cache next groups) (groups_hold next on groups) made all
+    fits_read : (stretch : Stretch ℕ) (bytes : List ℕ) → Known (Segment ulid (segment_of stretch.first)) (group_piece stretch) bytes → (references : List ℕ) (glimpses : List Glimpse)
+        → AllByRecursion (λ reference. (segment_of stretch.first ≡ segment_of reference) × (stretch.first ≤ reference)) references
+        → AllZip (λ reference seen. glimpse_at tests (group_of stretch) bytes reference ≡ Ok seen) references glimpses
+        → AllByRecursion (Fits (group_of stretch)) (zip references glimpses) × (map (λ (chunk : ℕ × Glimpse). chunk.0) (zip references glimpses) ≡ references)
+    fits_read stretch bytes is [] [] near seen = (tt, refl)
+    fits_read stretch bytes is [] (g ∷ glimpses) near seen = absurd seen
+    fits_read stretch bytes is (reference ∷ references) [] near seen = absurd seen
+    fits_read stretch bytes is (reference ∷ references) (g ∷ glimpses) near seen =
+        let later = fits_read stretch bytes is references glimpses near.1 seen.1 in
+        ((one g seen.0, later.0), ap (λ l. reference ∷ l) later.1)
+      where
+        one : (g : Glimpse) → glimpse_at tests (group_of stretch) bytes reference ≡ Ok g → Fits (group_of stretch) (reference, g)
+        one (shows samples) so = record {
+          piece = group_piece stretch;
+          first = stretch.first;
+          same_segment = near.0.0;
+          behind = near.0.1;
+          from = refl;
+          read_so = record { bytes = bytes; known_so = is; reads_as = shown_is tests (group_of stretch) bytes reference samples so };
+        }
+        one (sticks_out len) so = near.0.0
 
-    references_hold : (next : List Read → Plan E) → AfterReads next → (made : List Entry) (references : List ℕ) → Holds made (reads_references breaks ulid tests cache next references)
-    references_hold next on made references =
-        found _ made (AreGroups references) (one_cut IsNear references) _ (λ groups is. groups_hold next on (map group_of groups) made [])
+    group_holds : (stretch : Stretch ℕ) (next : List Read → Plan E) (done : List ℕ) → IsGroup stretch → AfterReads next (done ++ members stretch)
+        → AfterReads (reads_group breaks ulid tests cache (group_of stretch) next) done
+    group_holds stretch next done near on made all are same =
+        reads_hold made (GetRange (Segment ulid (segment_of stretch.first)) (group_piece stretch).from (group_piece stretch).len) cache _
+        (ranges (segment_of stretch.first) (group_piece stretch).from (group_piece stretch).len) fine
+        (λ e bytes is_op given so. if_holds (made ++ e ∷ []) (each_at (glimpse_at tests (group_of stretch) bytes) (members stretch)) _ (ends (breaks (damaged e.seq) cache))
+        (λ glimpses seen.
+        let fit = fits_read stretch bytes (known_read e (Segment ulid (segment_of stretch.first)) (group_piece stretch) bytes is_op given so) (members stretch) glimpses near
+        (each_read (glimpse_at tests (group_of stretch) bytes) (members stretch) glimpses seen) in
+        out_holds (group_of stretch) next (zip (members stretch) glimpses) done fit.0 (subst (λ l. AfterReads next (done ++ l)) (sym fit.1) on) (made ++ e ∷ []) all are same)
+        (broken (made ++ e ∷ []) (damaged e.seq) cache fine))
+
+    groups_hold : (next : List Read → Plan E) (groups : List (Stretch ℕ)) (done : List ℕ) → AllByRecursion IsGroup groups → AfterReads next (done ++ flat_map members groups)
+        → AfterReads (reads_groups breaks ulid tests cache next (map group_of groups)) done
+    groups_hold next [] done near on made all are same = on made all are (same ∙ sym (append-nil done))
+    groups_hold next (stretch ∷ groups) done near on made all are same =
+        group_holds stretch (reads_groups breaks ulid tests cache next (map group_of groups)) done near.0
+        (groups_hold next groups (done ++ members stretch) near.1 (subst (AfterReads next) (sym (append_assoc done (members stretch) (flat_map members groups))) on)) made all are same
+
+    references_hold : (next : List Read → Plan E) (references : List ℕ) → IsStrictlyIncreasing references → AfterReads next references → (made : List Entry)
+        → Holds made (reads_references breaks ulid tests cache next references)
+    references_hold next references rises on made =
+        found _ made (AreGroups references) (one_cut IsNear references) _
+        (λ groups is. groups_hold next groups [] (near_groups references groups rises is) (subst (AfterReads next) (sym is.whole) on) made [] tt refl)
 
   -- ---- the block
 
   pub block_holds : (query : Query) (block : Block) → Asks (Get (Index block.ulid)) → ((from len : ℕ) → Asks (GetRange (Index block.ulid) from len))
       → ((number from len : ℕ) → Asks (GetRange (Segment block.ulid number) from len))
-      → (next : Cache → List Triple → Plan E) → ((made : List Entry) (after : Cache) (series : List IndexSeries) (all : List Read) → Fine after → Holds made (next after (flat_map (shown query block all) series)))
+      → (next : Cache → List Triple → Plan E)
+      → ((made : List Entry) (after : Cache) (series : List IndexSeries) (all : List Read) → AreSeries Known Whole query block series
+      → AreChunksRead Known Whole block.ulid (tests_at block (flat_map (taken query) series)) all
+      → IsSetOf (map reference_of (flat_map (taken query) series)) (map (λ (one : Read). one.reference) all)
+      → Fine after → Holds made (next after (flat_map (shown query block all) series)))
       → (made : List Entry) (cache : Cache) → Fine cache → Holds made (reads_block breaks query block cache next)
   block_holds query block whole index segments next on made cache fine =
       by_size_holds query block whole index block.index_size
       (λ at series. reads_chunks breaks block (flat_map (taken query) series) at.cache at.last (λ all. next at.cache (flat_map (shown query block all) series)))
-      (λ made at series fine. chunks made at series fine) made cache fine
+      (λ made at series are fine. chunks made at series are fine) refl made cache fine
     where
-      chunks : (made : List Entry) (at : Reached) (series : List IndexSeries) → Fine at.cache
+      chunks : (made : List Entry) (at : Reached) (series : List IndexSeries) → AreSeries Known Whole query block series → Fine at.cache
           → Holds made (reads_chunks breaks block (flat_map (taken query) series) at.cache at.last (λ all. next at.cache (flat_map (shown query block all) series)))
-      chunks made at series fine =
+      chunks made at series are fine =
           either made (have_keys (flat_map (taken query) series)) _ (ends (breaks (damaged at.last) at.cache))
-          (found _ made (IsSetOf (map reference_of (flat_map (taken query) series))) (one_set (map reference_of (flat_map (taken query) series))) _
+          (λ keys. found _ made (IsSetOf (map reference_of (flat_map (taken query) series))) (one_set (map reference_of (flat_map (taken query) series))) _
           (λ references is. references_hold block.ulid (tests_at block (flat_map (taken query) series)) at.cache fine segments
-          (λ all. next at.cache (flat_map (shown query block all) series)) (λ made all. on made at.cache series all fine) made references))
+          (λ all. next at.cache (flat_map (shown query block all) series)) references is.increasing
+          (λ made all read_so same. on made at.cache series all are read_so (subst (IsSetOf (map reference_of (flat_map (taken query) series))) (sym same) is) fine) made))
           (broken made (damaged at.last) at.cache fine)

@@ -4,7 +4,15 @@ pub mod FirstReads
 pub mod Meeting
 pub mod Steps
 pub mod CacheChanges
+pub mod BlockFindings
+pub mod ReadLists
 pub mod BlockWalk
 pub mod BlockLaws
 pub mod CallLaws
 pub mod RangeLaws
+pub mod PartLaws
+pub mod ExactSelection
+pub mod ExactIndex
+pub mod ExactChunks
+pub mod ExactBlock
+pub mod ExactCalls

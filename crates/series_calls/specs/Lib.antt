@@ -5,5 +5,6 @@ pub mod SeriesCalls
 pub mod Shares
 pub mod Asking
 pub mod KeptRanges
+pub mod Exact
 pub mod BlockRuns
 pub mod Calls

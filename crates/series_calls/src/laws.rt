@@ -1,4 +1,8 @@
-ghost use Rattle.std.specs.Prelude.{◌≡◌, ℕ, List, true, All, Contains, Option, Some};
+ghost use Rattle.std.specs.Prelude.{◌≡◌, ℕ, List, [], true, All, Contains, Option, Some};
+ghost use Rattle.std.specs.List.{AllZip};
+ghost use Rattle.bucket_core.specs.Contents.{Contents};
+ghost use Rattle.matchers.specs.SelectorText.{named_replicas};
+ghost use Rattle.series_calls.specs.Exact.{AreShown, HoldsBlock, IsCacheOf, asked_of_all};
 ghost use Rattle.label_sets.specs.Triples.{Triple, triples_of};
 ghost use Rattle.label_sets.specs.declared.series.Series.{Series};
 ghost use Rattle.std.specs.List.Sorted.{IsStrictlyIncreasing};
@@ -58,4 +62,18 @@ pub fn answers_lie_in_the_range()
         → SeriesRun view query before entries
         (Some (record { end = ended.Answer series sources; cache = after }))
         → All (λ t. is_between query.low query.high t.time ≡ true) (triples_of series) }
+{}
+
+/// A law: where the bucket's contents are shown by each entry of a call, and by the cache before it, an answer has exactly those
+/// samples of the blocks, by their content, that the query asks for. The selector names no replica label.
+pub fn calls_are_exact()
+    ensures { (view : View) (query : Query) (contents : Contents) (lists : List (List Series))
+        (before after : Cache) (entries : List Entry) (series : List Series) (sources : List ℕ)
+        → named_replicas query.replicas query.selector ≡ []
+        → AllZip (HoldsBlock contents) (to_read query view.kept) lists
+        → AreShown contents entries → IsCacheOf contents before
+        → SeriesRun view query before entries
+        (Some (record { end = ended.Answer series sources; cache = after }))
+        → IsMerge (asked_of_all query (to_read query view.kept) lists) series
+        × IsCacheOf contents after }
 {}

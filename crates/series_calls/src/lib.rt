@@ -8,8 +8,8 @@ mod series_end;
 mod stage;
 
 pub use laws::{
-    answers_are_of_shares, answers_lie_in_the_range, caches_are_of_reads, calls_have_one_end,
-    calls_read_their_blocks,
+    answers_are_of_shares, answers_lie_in_the_range, caches_are_of_reads, calls_are_exact,
+    calls_have_one_end, calls_read_their_blocks,
 };
 pub use series_call::SeriesCall;
 pub use series_end::SeriesEnd;

@@ -1,10 +1,9 @@
-ghost use Rattle.std.specs.Prelude.{◌≡◌, ◌+◌, ◌<◌, ℕ, List, [], ◌∷◌, ◌++◌, Option, Some, Ok, IfOk, OnOk, IsSomeAnd};
+ghost use Rattle.std.specs.Prelude.{◌≡◌, ◌+◌, ◌<◌, ℕ, List, [], ◌∷◌, Option, Some, Ok, IfOk, IsSomeAnd};
 ghost use Rattle.world_core.specs.Operations.{IsAnswer, entry_of};
 ghost use Rattle.world_core.specs.Machines.{GoesOn, Falls};
 ghost use Rattle.world_core.specs.declared.op.Op.{Op};
 ghost use Rattle.world_core.specs.declared.entry.Entry.{Entry};
 ghost use Rattle.world_core.specs.declared.act.Act.TheVariants as act;
-ghost use Rattle.label_sets.specs.Triples.{triples_of};
 ghost use Rattle.index_cache.specs.Caches.{held};
 ghost use Rattle.block_ranges.specs.Reads.{block_of};
 ghost use Rattle.series_calls.specs.SeriesCalls.{SeriesRun, asking};

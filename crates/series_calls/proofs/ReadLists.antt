@@ -1,0 +1,158 @@
+-- Lists of what is read: members read one by one, groups of references, runs of series.
+use Rattle.std.proofs.Common.{◌≡◌, ℕ, ◌+◌, ◌-◌, ◌<◌, ◌≤◌, ◌*◌, Bool, true, false, List, [], ◌∷◌, ◌++◌, map, drop, Result, Ok, Err, refl, sym, ap, subst, ◌∙◌, arith}
+use Rattle.std.specs.Prelude.{IsOk, nat_le, nat_lt, ◌&&◌}
+use Rattle.std.specs.List.{AllByRecursion, AllZip, flat_map, list_all}
+use Rattle.std.specs.List.Sorted.{IsStrictlyIncreasing}
+use Rattle.std.proofs.lemmas.Bool.{and_parts}
+use Rattle.reading_core.proofs.Binds.{bind_ok}
+use Rattle.label_sets.specs.declared.sample.Sample.{Sample}
+use Rattle.index_parts.specs.declared.toc.Toc.{Toc}
+use Rattle.series_selection.proofs.Matching.{rest_rises}
+use Rattle.block_content.specs.Firsts.{each_at}
+use Rattle.block_content.proofs.FirstLaws.{each_found}
+use Rattle.block_ranges.specs.ChunkRanges.{AreGroups, Group, IsNear, segment_of}
+use Rattle.block_ranges.specs.ChunkReads.{Tests, chunk_len_at, glimpse, glimpse_at, shows}
+use Rattle.block_ranges.specs.IndexRanges.{AreRuns, Run, has_bytes, has_sections, run_of, section_piece}
+use Rattle.block_ranges.specs.Stretches.{AreJoined, IsJoined, Stretch, members}
+
+-- ---- members
+
+pub ok_read : {A R : Type 0} (r : Result A R) (x : A) → r ≡ Ok x → IsOk r
+ok_read (Ok y) x is = refl
+ok_read (Err e) x is = absurd (cc (is))
+
+pub each_read : {A B R : Type 0} (read : A → Result B R) (xs : List A) (ys : List B) → each_at read xs ≡ Ok ys → AllZip (λ x y. read x ≡ Ok y) xs ys
+each_read read xs ys is =
+    each_found read (λ x y. read x ≡ Ok y) (λ x e. read x ≡ Err e) (record { found = λ x y so. so; again = λ x y so. so; refused = λ x e so. so; refuses = λ x e so. so }) xs ys is
+
+pub zip_append : {A B : Type 0} (R : A → B → Type 0) (xs others : List A) (ys more : List B) → AllZip R xs ys → AllZip R others more → AllZip R (xs ++ others) (ys ++ more)
+zip_append R [] others [] more first later = later
+zip_append R [] others (y ∷ ys) more first later = absurd first
+zip_append R (x ∷ xs) others [] more first later = absurd first
+zip_append R (x ∷ xs) others (y ∷ ys) more first later = (first.0, zip_append R xs others ys more first.1 later)
+
+pub zip_with : {A B : Type 0} (P : A → Type 0) (R S : A → B → Type 0) → ((x : A) (y : B) → P x → R x y → S x y) → (xs : List A) (ys : List B) → AllByRecursion P xs → AllZip R xs ys → AllZip S xs ys
+zip_with P R S both [] [] each all = tt
+zip_with P R S both [] (y ∷ ys) each all = absurd all
+zip_with P R S both (x ∷ xs) [] each all = absurd all
+zip_with P R S both (x ∷ xs) (y ∷ ys) each all = (both x y each.0 all.0, zip_with P R S both xs ys each.1 all.1)
+
+pub one_more : {A : Type 0} (P : A → Type 0) (xs : List A) (x : A) → AllByRecursion P xs → P x → AllByRecursion P (xs ++ x ∷ [])
+one_more P [] x all is = (is, tt)
+one_more P (y ∷ xs) x all is = (all.0, one_more P xs x all.1 is)
+
+-- ---- numbers that ascend
+
+-- each is below the one behind it
+abbrev Up : ℕ → List ℕ → Type 0
+Up x [] = Unit {0}
+Up x (y ∷ ys) = (x < y) × Up y ys
+
+abbrev Rises : List ℕ → Type 0
+Rises [] = Unit {0}
+Rises (x ∷ xs) = Up x xs
+
+goes_up : (x : ℕ) (xs : List ℕ) → IsStrictlyIncreasing (x ∷ xs) → Up x xs
+goes_up x [] rises = tt
+goes_up x (y ∷ ys) rises = let first : x < y = rises 0 (omega arith) in (first, goes_up y ys (rest_rises x (y ∷ ys) rises))
+
+rises_up : (xs : List ℕ) → IsStrictlyIncreasing xs → Rises xs
+rises_up [] rises = tt
+rises_up (x ∷ xs) rises = goes_up x xs rises
+
+later_rises : (one : ℕ) (others rest : List ℕ) → Up one (others ++ rest) → Rises rest
+later_rises one [] [] up = tt
+later_rises one [] (x ∷ xs) up = up.1
+later_rises one (o ∷ others) rest up = later_rises o others rest up.1
+
+-- ---- runs of series
+
+pub numbers_of : (toc : Toc) (size : ℕ) (all : List ℕ) (runs : List (Stretch ℕ)) → flat_map (λ (run : Run). run.numbers) (map (run_of toc size all) runs) ≡ flat_map members runs
+numbers_of toc size all [] = refl
+numbers_of toc size all (run ∷ runs) = ap (λ l. members run ++ l) (numbers_of toc size all runs)
+
+behind_all : (first one : ℕ) (others rest : List ℕ) → first ≤ one → Up one (others ++ rest) → AllByRecursion (λ number. 16 * first ≤ 16 * number) others
+behind_all first one [] rest le up = tt
+behind_all first one (o ∷ others) rest le up =
+    let far : first ≤ o = omega (arith, le, up.0) in
+    let here : 16 * first ≤ 16 * o = omega (arith, far) in (here, behind_all first o others rest far up.1)
+
+-- each run begins with its first series
+pub hold_runs : (toc : Toc) (size : ℕ) (all numbers : List ℕ) (runs : List (Stretch ℕ)) → IsStrictlyIncreasing numbers → AreRuns all numbers runs
+    → list_all (λ (run : Run). has_bytes run.piece) (map (run_of toc size all) runs) ≡ true
+    → AllByRecursion (λ (run : Run). (has_bytes run.piece ≡ true) × AllByRecursion (λ number. run.piece.from ≤ 16 * number) run.numbers) (map (run_of toc size all) runs)
+hold_runs toc size all numbers runs rises cut have = each runs (subst Rises (sym cut.whole) (rises_up numbers rises)) have
+  where
+    each : (runs : List (Stretch ℕ)) → Rises (flat_map members runs) → list_all (λ (run : Run). has_bytes run.piece) (map (run_of toc size all) runs) ≡ true
+        → AllByRecursion (λ (run : Run). (has_bytes run.piece ≡ true) × AllByRecursion (λ number. run.piece.from ≤ 16 * number) run.numbers) (map (run_of toc size all) runs)
+    each [] up have = tt
+    each (run ∷ runs) up have =
+        let both = and_parts (has_bytes (run_of toc size all run).piece) (list_all (λ (r : Run). has_bytes r.piece) (map (run_of toc size all) runs)) have in
+        let here : 16 * run.first ≤ 16 * run.first = omega arith in
+        ((both.0, (here, behind_all run.first run.first run.others (flat_map members runs) (omega arith) up)), each runs (later_rises run.first run.others (flat_map members runs) up) both.1)
+
+-- ---- sections
+
+-- of tests that all hold, joined from the left
+front_true : (a b : Bool) → (a && b) ≡ true → a ≡ true
+front_true a b is = (and_parts a b is).0
+
+last_true : (a b : Bool) → (a && b) ≡ true → b ≡ true
+last_true a b is = (and_parts a b is).1
+
+pub symbols_there : (toc : Toc) (size : ℕ) → has_sections toc size ≡ true → nat_lt 0 toc.symbols ≡ true
+symbols_there toc size has = front_true _ _ (front_true _ _ (front_true _ _ (front_true _ _ (front_true _ _ (front_true _ _ has)))))
+
+pub table_there : (toc : Toc) (size : ℕ) → has_sections toc size ≡ true → nat_lt 0 toc.postings_table ≡ true
+table_there toc size has = last_true _ _ (front_true _ _ (front_true _ _ (front_true _ _ has)))
+
+pub symbols_some : (toc : Toc) (size : ℕ) → has_sections toc size ≡ true → has_bytes (section_piece toc size toc.symbols) ≡ true
+symbols_some toc size has = last_true _ _ (front_true _ _ (front_true _ _ has))
+
+pub table_some : (toc : Toc) (size : ℕ) → has_sections toc size ≡ true → has_bytes (section_piece toc size toc.postings_table) ≡ true
+table_some toc size has = last_true _ _ (front_true _ _ has)
+
+pub lists_some : (toc : Toc) (size : ℕ) → has_sections toc size ≡ true → has_bytes (section_piece toc size toc.postings) ≡ true
+lists_some toc size has = last_true _ _ has
+
+-- ---- groups of references
+
+abbrev IsBehind : ℕ → ℕ → Type 0
+IsBehind first reference = (segment_of first ≡ segment_of reference) × (first ≤ reference)
+
+near_members : (first one : ℕ) (others rest : List ℕ) → IsBehind first one → AreJoined IsNear one others → Up one (others ++ rest) → AllByRecursion (IsBehind first) others
+near_members first one [] rest behind joined up = tt
+near_members first one (o ∷ others) rest behind joined up =
+    let le : first ≤ o = omega (arith, behind.1, up.0) in
+    let so : IsBehind first o = (behind.0 ∙ joined.0.same_segment, le) in (so, near_members first o others rest so joined.1 up.1)
+
+near_cut : (groups : List (Stretch ℕ)) → AllByRecursion (IsJoined IsNear) groups → Rises (flat_map members groups) → AllByRecursion (λ stretch. AllByRecursion (IsBehind stretch.first) (members stretch)) groups
+near_cut [] joined up = tt
+near_cut (stretch ∷ groups) joined up =
+    let here : IsBehind stretch.first stretch.first = (refl, omega arith) in (
+      (here, near_members stretch.first stretch.first stretch.others (flat_map members groups) here joined.0 up),
+      near_cut groups joined.1 (later_rises stretch.first stretch.others (flat_map members groups) up),
+    )
+
+pub near_groups : (references : List ℕ) (groups : List (Stretch ℕ)) → IsStrictlyIncreasing references → AreGroups references groups
+    → AllByRecursion (λ stretch. AllByRecursion (λ reference. (segment_of stretch.first ≡ segment_of reference) × (stretch.first ≤ reference)) (members stretch)) groups
+near_groups references groups rises is = near_cut groups is.joined (subst Rises (sym is.whole) (rises_up references rises))
+
+-- ---- a chunk of a group
+
+pub none_behind : (n : ℕ) → n - n ≡ 0
+none_behind n = omega arith
+
+seen_whole : (b : Bool) (r : Result (List Sample) (Unit {0})) (len : ℕ) (samples : List Sample) → glimpse b r len ≡ Ok (shows samples) → r ≡ Ok samples
+seen_whole true (Ok list) len samples is = cc (is)
+seen_whole true (Err e) len samples is = absurd (cc (is))
+seen_whole false r len samples is = absurd (cc (is))
+
+pub shown_is : (tests : Tests) (group : Group) (bytes : List ℕ) (reference : ℕ) (samples : List Sample) → glimpse_at tests group bytes reference ≡ Ok (shows samples)
+    → tests reference (drop (reference - group.first) bytes) ≡ Ok samples
+unfolding glimpse_at
+shown_is tests group bytes reference samples is =
+    let len =
+    bind_ok (chunk_len_at bytes (reference - group.first))
+    (λ len. glimpse (nat_le (reference - group.first + len) group.piece.len) (tests reference (drop (reference - group.first) bytes)) len) (shows samples) is in
+    seen_whole (nat_le (reference - group.first + len.0) group.piece.len) (tests reference (drop (reference - group.first) bytes)) len.0 samples len.2
