@@ -9,6 +9,7 @@ use Rattle.world_core.specs.Keeping.{IsFull}
 use Rattle.world_core.specs.Standing.{IsHonest}
 use Rattle.world_core.specs.Worlds.{failed_count}
 use Rattle.world_core.specs.declared.entry.Entry.{Entry}
+use Rattle.script_core.specs.GivenUp.{HasPatternLine}
 use Rattle.script_core.specs.Reading.{script_of}
 use Rattle.script_core.specs.declared.script_refusal.ScriptRefusal.{ScriptRefusal}
 use Rattle.script_core.specs.declared.script_refusal.ScriptRefusal.TheVariants.{TooLong}
@@ -22,13 +23,17 @@ use Rattle.replay_cli.specs.declared.verdict.Verdict.{Verdict}
 use Rattle.replay_cli.specs.declared.verdict.Verdict.TheVariants.{WordsRefused, SourceFault, ScriptRefused, SiteFault, NotEmpty, Full, Report, Checked, NoMemory}
 use Rattle.replay_cli.proofs.CalmRuns.{calm_run}
 
-abbrev IsGood : Status → Type 0
-IsGood status = (number_of status ≡ 0) ⊎ (number_of status ≡ 6)
+-- some query of the text asks by a lawful pattern
+abbrev HasPatterns : Around → Type 0
+HasPatterns around = IsSomeAnd around.text (λ text. (number : ℕ) × HasPatternLine text number)
 
-said_well : (verdict : Verdict) (saying : Saying) (status : Status) → ¬ Rose saying.faults_before saying.faults_after → IsGood (status_of verdict) → IsSaid verdict saying status → IsGood status
-said_well verdict saying status sink good (inl (is, added)) = subst IsGood (sym is) good
-said_well verdict saying status sink good (inr (inl (is, other, rose, part))) = absurd (sink rose)
-said_well verdict saying status sink good (inr (inr (is, kept, same))) = inr (ap number_of is)
+abbrev IsGood : Around → Status → Type 0
+IsGood around status = (number_of status ≡ 0) ⊎ (number_of status ≡ 6) ⊎ ((number_of status ≡ 2) × HasPatterns around)
+
+said_well : (around : Around) (verdict : Verdict) (saying : Saying) (status : Status) → ¬ Rose saying.faults_before saying.faults_after → IsGood around (status_of verdict) → IsSaid verdict saying status → IsGood around status
+said_well around verdict saying status sink good (inl (is, added)) = subst (IsGood around) (sym is) good
+said_well around verdict saying status sink good (inr (inl (is, other, rose, part))) = absurd (sink rose)
+said_well around verdict saying status sink good (inr (inr (is, kept, same))) = inr (inl (ap number_of is))
 
 -- what holds if there is a journal, and what there is
 joined : (o : Option (List Entry)) (P Q : List Entry → Type 0) → IfSome o P → IsSomeAnd o Q → (entries : List Entry) × P entries × Q entries
@@ -44,15 +49,18 @@ no_name name page =
     let first = All-head (IsName nothing []) name [] page.stand in
     cc (first.1)
 
--- a run that begins has a script
-no_refusal : (around : Around) (refusal : ScriptRefusal) → IsBegun around → IsUnread around.text around.left around.source_failed (ScriptRefused refusal) → around.journal ≡ None → ⊥
-no_refusal around refusal (inl ready) (inl (long, told)) none =
+-- a run that begins has a script, which is refused for the size of a pattern alone
+refused_for_size : (around : Around) (refusal : ScriptRefusal) → IsBegun around → IsUnread around.text around.left around.source_failed (ScriptRefused refusal) → around.journal ≡ None → HasPatterns around
+refused_for_size around refusal (inl ready) (inl (long, told)) none =
     let read : script_of ready.text ≡ Err TooLong = subst (λ (o : Option (List ℕ)). IfSome o (λ bytes. script_of bytes ≡ Err TooLong)) ready.told told in
     absurd (cc (read, ready.spelled))
-no_refusal around refusal (inl ready) (inr (text, whole, refused)) none =
+refused_for_size around refusal (inl ready) (inr (text, whole, inl refused)) none =
     let read : (text ≡ ready.text) × (around.left ≡ Some []) = subst (λ (o : Option (List ℕ)). IfSome o (λ all. (text ≡ all) × (around.left ≡ Some []))) ready.told whole in
     absurd (cc (read.0, refused, ready.spelled))
-no_refusal around refusal (inr some) refused none = subst (λ (o : Option (List Entry)). IsSomeAnd o (λ entries. entries ≢ [])) none some
+refused_for_size around refusal (inl ready) (inr (text, whole, inr (number, is, pattern))) none =
+    let read : (text ≡ ready.text) × (around.left ≡ Some []) = subst (λ (o : Option (List ℕ)). IfSome o (λ all. (text ≡ all) × (around.left ≡ Some []))) ready.told whole in
+    subst (λ (o : Option (List ℕ)). IsSomeAnd o (λ t. (line : ℕ) × HasPatternLine t line)) (sym ready.told) (number, subst (λ t. HasPatternLine t number) read.0 pattern)
+refused_for_size around refusal (inr some) refused none = absurd (subst (λ (o : Option (List Entry)). IsSomeAnd o (λ entries. entries ≢ [])) none some)
 
 -- and no object stood in its bucket
 no_name_first : (around : Around) (name : List ℕ) → IsBegun around → IfSome around.before (λ contents. IsPage contents [] [] 1 (name ∷ [])) → IsSomeAnd around.journal (λ entries. entries ≡ []) → ⊥
@@ -74,12 +82,13 @@ at_rest contents faults setting None store back rests = tt
 at_rest contents faults setting (Some entries) None back rests = absurd back
 at_rest contents faults setting (Some entries) (Some b) back rests = (rests.0, trusted_is_honest contents faults setting entries b back rests.1, rests.2)
 
-calm_worked : (around : Around) (saying : Saying) (verdict : Verdict) (status : Status) → IsCalm around saying → IfSome around.journal Rests → IsWorked around verdict → IsSaid verdict saying status → IsGood status
+calm_worked : (around : Around) (saying : Saying) (verdict : Verdict) (status : Status) → IsCalm around saying → IfSome around.journal Rests → IsWorked around verdict → IsSaid verdict saying status → IsGood around status
 calm_worked around saying WordsRefused status calm rests (inl (unread, none, unasked)) said = absurd unread
 calm_worked around saying WordsRefused status calm rests (inr run) said = absurd run.run
 calm_worked around saying SourceFault status calm rests (inl (unread, none, unasked)) said = absurd (calm.source unread)
 calm_worked around saying SourceFault status calm rests (inr run) said = absurd run.run
-calm_worked around saying (ScriptRefused refusal) status calm rests (inl (unread, none, unasked)) said = absurd (no_refusal around refusal calm.begins unread none)
+calm_worked around saying (ScriptRefused refusal) status calm rests (inl (unread, none, unasked)) said =
+    said_well around (ScriptRefused refusal) saying status calm.sink (inr (inr (refl, refused_for_size around refusal calm.begins unread none))) said
 calm_worked around saying (ScriptRefused refusal) status calm rests (inr run) said = absurd run.run
 calm_worked around saying SiteFault status calm rests (inl (unread, none, unasked)) said = absurd unread
 calm_worked around saying SiteFault status calm rests (inr run) said = absurd (calm.site run.run.0)
@@ -94,13 +103,13 @@ calm_worked around saying (Report lines as_asked) status calm rests (inr run) sa
     let both = joined around.journal Rests (λ entries. around.is_done (setting_of run.script) entries × IsWholeRun (setting_of run.script) as_asked lines.items entries) rests run.run.1 in
     let at = both.1 in
     let well : as_asked ≡ true = calm_run (setting_of run.script) as_asked lines.items both.0 (both.2).1 at.1 at.2 in
-    let good : IsGood (status_of (Report lines as_asked)) = subst (λ (b : Bool). IsGood (status_of (Report lines b))) (sym well) (inl refl) in
-    said_well (Report lines as_asked) saying status calm.sink good said
+    let good : IsGood around (status_of (Report lines as_asked)) = subst (λ (b : Bool). IsGood around (status_of (Report lines b))) (sym well) (inl refl) in
+    said_well around (Report lines as_asked) saying status calm.sink good said
 calm_worked around saying (Checked block outcome) status calm rests (inl (unread, none, unasked)) said = absurd unread
 calm_worked around saying (Checked block outcome) status calm rests (inr run) said = absurd run.run
-calm_worked around saying NoMemory status calm rests worked said = said_well NoMemory saying status calm.sink (inr refl) said
+calm_worked around saying NoMemory status calm rests worked said = said_well around NoMemory saying status calm.sink (inr (inl refl)) said
 
-pub calm_end : (around : Around) (saying : Saying) (verdict : Verdict) (status : Status) → IsCalm around saying → IfSome around.journal Rests → IsCaused around verdict → IsSaid verdict saying status → IsGood status
+pub calm_end : (around : Around) (saying : Saying) (verdict : Verdict) (status : Status) → IsCalm around saying → IfSome around.journal Rests → IsCaused around verdict → IsSaid verdict saying status → IsGood around status
 calm_end around saying verdict status calm rests (inl (run, none, worked), short) said = calm_worked around saying verdict status calm rests worked said
 calm_end around saying verdict status calm rests (inr (inl (no_run, checked, opened)), short) said = absurd (no_run.none calm.accepts)
 calm_end around saying verdict status calm rests (inr (inr (no_run, block, refused, unasked)), short) said = absurd (no_run.none calm.accepts)

@@ -1,5 +1,5 @@
 -- Verdicts and their causes, from a run outwards to the whole call.
-use Rattle.std.proofs.Common.{◌≡◌, ◌⊎◌, inl, inr, ℕ, ◌<◌, ◌≤◌, List, [], ◌∷◌, length, refl, sym, ◌∙◌, subst, arith}
+use Rattle.std.proofs.Common.{◌≡◌, ◌≢◌, ◌⊎◌, inl, inr, ℕ, ◌<◌, ◌≤◌, List, [], ◌∷◌, length, refl, sym, ◌∙◌, subst, arith}
 use Rattle.std.specs.Prelude.{Option, Some, None, IfSome, IsSome, IsSomeAnd, Ok, Err}
 use Rattle.std.proofs.lemmas.Bool.{lt-ltb}
 use Rattle.bucket_core.specs.Causes.{Rose}
@@ -8,15 +8,18 @@ use Rattle.bucket_core.specs.declared.site_refusal.SiteRefusal.TheVariants as si
 use Rattle.bucket_core.specs.Contents.{Contents, nothing}
 use Rattle.bucket_core.specs.Pages.{IsPage}
 use Rattle.world_core.specs.declared.entry.Entry.{Entry}
+use Rattle.script_core.specs.GivenUp.{HasPatternLine, IsGivenUp, IsGivenUpFor}
 use Rattle.script_core.specs.Lawful.{IsLawfulScript}
 use Rattle.script_core.specs.Reading.{script_of}
+use Rattle.script_core.specs.declared.cause.LineCause.{LineCause}
+use Rattle.script_core.specs.declared.cause.LineCause.TheVariants.{PatternSizeText}
 use Rattle.script_core.specs.declared.script.Script.{Script}
 use Rattle.script_core.specs.declared.script_refusal.ScriptRefusal.{ScriptRefusal}
-use Rattle.script_core.specs.declared.script_refusal.ScriptRefusal.TheVariants.{TooLong}
+use Rattle.script_core.specs.declared.script_refusal.ScriptRefusal.TheVariants.{BadLine, TooLong, NoMemory as NoScriptMemory}
 use Rattle.script_core.specs.Limits.{longest_text}
 use Rattle.replay_cli.specs.Kept.{HoldsNothing}
 use Rattle.replay_cli.specs.Undone.{IsUndone}
-use Rattle.replay_cli.specs.Verdicts.{Around, BehindOpening, IsFullRun, IsRun, IsScriptRead, IsUnread, IsWholeRun, IsWorked}
+use Rattle.replay_cli.specs.Verdicts.{Around, BehindOpening, IsFullRun, IsRefused, IsRun, IsScriptRead, IsUnread, IsWholeRun, IsWorked}
 use Rattle.replay_cli.specs.declared.verdict.Verdict.{Verdict}
 use Rattle.replay_cli.specs.declared.verdict.Verdict.TheVariants.{WordsRefused, SourceFault, ScriptRefused, SiteFault, NotEmpty, Full, Report, Checked, NoMemory}
 use Rattle.lifecycle_core.specs.Guarantees.{IsGuaranteedJournal}
@@ -124,8 +127,20 @@ told_too_long (Some text) long = too_long text long
 pub refused_too_long : (told left : Option (List ℕ)) (failed : Type 0) → IfSome told (λ text. longest_text < length text) → IsUnread told left failed (ScriptRefused TooLong)
 refused_too_long told left failed long = inl (refl, told_too_long told long)
 
-pub refused_whole : (told left : Option (List ℕ)) (failed : Type 0) (text : List ℕ) (refusal : ScriptRefusal) → IfSome told (λ all. (text ≡ all) × (left ≡ Some [])) → script_of text ≡ Err refusal → IsUnread told left failed (ScriptRefused refusal)
-refused_whole told left failed text refusal read is = inr (text, read, is)
+-- what is given up, and not for want of memory
+for_size : (text : List ℕ) (number : ℕ) (cause : LineCause) → IsGivenUpFor text number cause → (line : ℕ) × (BadLine number cause ≡ BadLine line PatternSizeText) × HasPatternLine text line
+for_size text number PatternSizeText given_up = (number, refl, given_up)
+for_size text number other given_up = absurd given_up
+
+refused_by : (text : List ℕ) (refusal : ScriptRefusal) → refusal ≢ NoScriptMemory → IsGivenUp text refusal ⊎ (script_of text ≡ Err refusal) → IsRefused text refusal
+refused_by text refusal some (inr refused) = inl refused
+refused_by text (BadLine number cause) some (inl given_up) = inr (for_size text number cause given_up)
+refused_by text NoScriptMemory some (inl given_up) = absurd (some refl)
+refused_by text other some (inl given_up) = absurd given_up
+
+pub refused_whole : (told left : Option (List ℕ)) (failed : Type 0) (text : List ℕ) (refusal : ScriptRefusal) → IfSome told (λ all. (text ≡ all) × (left ≡ Some [])) → refusal ≢ NoScriptMemory → IsGivenUp text refusal ⊎ (script_of text ≡ Err refusal)
+    → IsUnread told left failed (ScriptRefused refusal)
+refused_whole told left failed text refusal read some why = inr (text, read, refused_by text refusal some why)
 
 pub read_whole : (told left : Option (List ℕ)) (text : List ℕ) (script : Script) → IfSome told (λ all. (text ≡ all) × (left ≡ Some [])) → script_of text ≡ Ok script → IsScriptRead told left script
 read_whole told left text script read is = (text, read, is)

@@ -8,12 +8,15 @@ use Rattle.world_core.specs.Keeping.{IsFull}
 use Rattle.world_core.specs.Standing.{IsHonest}
 use Rattle.world_core.specs.Worlds.{failed_count}
 use Rattle.world_core.specs.declared.entry.Entry.{Entry}
+use Rattle.script_core.specs.GivenUp.{HasPatternLine}
 use Rattle.script_core.specs.Lawful.{IsLawfulScript}
 use Rattle.script_core.specs.Reading.{script_of}
 use Rattle.script_core.specs.Wording.{refusal_text}
 use Rattle.script_workers.specs.declared.phase.Phase.{Phase}
 use Rattle.script_core.specs.declared.script.Script.{Script}
-use Rattle.script_core.specs.declared.script_refusal.ScriptRefusal.TheVariants.{TooLong}
+use Rattle.script_core.specs.declared.cause.LineCause.TheVariants.{PatternSizeText}
+use Rattle.script_core.specs.declared.script_refusal.ScriptRefusal.{ScriptRefusal}
+use Rattle.script_core.specs.declared.script_refusal.ScriptRefusal.TheVariants.{BadLine, TooLong}
 use Rattle.script_workers.specs.declared.task.Task.{Task}
 use Rattle.lifecycle_core.specs.Breaches.{IsUnbroken}
 use Rattle.lifecycle_core.specs.Cuts.{IsCutBehind}
@@ -186,6 +189,10 @@ BehindOpening NoMemory P = Unit {0}
 abbrev pub IsReadWhole : Option (List ℕ) → Option (List ℕ) → List ℕ → Type 0
 IsReadWhole told left bytes = IfSome told (λ all. (bytes ≡ all) × (left ≡ Some []))
 
+-- The text is refused for what it says; or for the size of a pattern, which is lawful, as are all lines before it.
+abbrev pub IsRefused : List ℕ → ScriptRefusal → Type 0
+IsRefused text refusal = (script_of text ≡ Err refusal) ⊎ ((number : ℕ) × (refusal ≡ BadLine number PatternSizeText) × HasPatternLine text number)
+
 -- The source was read to its end, and its text spells the script. One that tells nothing was of some text.
 abbrev pub IsScriptRead : Option (List ℕ) → Option (List ℕ) → Script → Type 0
 IsScriptRead told left script = (text : List ℕ) × IsReadWhole told left text × (script_of text ≡ Ok script)
@@ -203,7 +210,7 @@ abbrev pub IsUnread : Option (List ℕ) → Option (List ℕ) → Type 0 → Ver
 IsUnread told left source_failed SourceFault = source_failed
 IsUnread told left source_failed (ScriptRefused refusal) =
     ((refusal ≡ TooLong) × IfSome told (λ bytes. script_of bytes ≡ Err TooLong))
-    ⊎ ((text : List ℕ) × IsReadWhole told left text × (script_of text ≡ Err refusal))
+    ⊎ ((text : List ℕ) × IsReadWhole told left text × IsRefused text refusal)
 IsUnread told left source_failed NoMemory = Unit {0}
 IsUnread told left source_failed other = ⊥
 
@@ -303,3 +310,10 @@ pub record IsCalm (around : Around) (saying : Saying) : Type 0 where
   pub sink : ¬ Rose saying.faults_before saying.faults_after
   pub setting : Setting
   pub journal : IfSome around.journal (λ entries. (¬ IsFull entries) × IsTrusted setting entries × (failed_count entries ≡ 0))
+
+-- A calm call ends as asked, unless there is no memory. Only where its text asks for patterns may its script be refused for the
+-- size of one: of which sizes `regex` builds a pattern, no definition says.
+abbrev pub EndsCalmly : Around → Saying → ℕ → Type 0
+EndsCalmly around saying status =
+    IsCalm around saying
+    → (status ≡ 0) ⊎ (status ≡ 6) ⊎ ((status ≡ 2) × IsSomeAnd around.text (λ text. (number : ℕ) × HasPatternLine text number))

@@ -1,9 +1,9 @@
-ghost use Rattle.std.specs.Prelude.{◌≡◌, ◌⊎◌, [], Some, None, IfSome, is_some};
+ghost use Rattle.std.specs.Prelude.{◌≡◌, [], Some, None, IfSome, is_some};
 ghost use Rattle.replay_cli.specs.InPhases.{IsInPhases};
 ghost use Rattle.replay_cli.specs.Kept.{IsHandedBack, IsHandedOut, IsNotAsked, IsShelfOf, IsUnfailed, IsUntouched, told_of};
 ghost use Rattle.replay_cli.specs.ShelfAsked.{WasAsked};
 ghost use Rattle.replay_cli.specs.Statuses.{number_of};
-ghost use Rattle.replay_cli.specs.Verdicts.{IfShort, IsCalm, IsCaused, IsSaid, IsWorked, around_call, saying_to};
+ghost use Rattle.replay_cli.specs.Verdicts.{EndsCalmly, IfShort, IsCaused, IsSaid, IsWorked, around_call, saying_to};
 ghost use Rattle.replay_cli.specs.Words.{named_by, replay_shelf, replay_word};
 
 use crate::conclusion::{Conclusion, Ended};
@@ -42,15 +42,14 @@ where
         × IsSaid verdict (saying_to K.faults K.written out.old out.new) status
         × (result.status ≡ number_of status) }
 
-    // A calm call ends as asked, unless there is no memory.
-    ensures calm { IsCalm
+    // A calm call ends as asked, unless there is no memory, or a pattern of its script is too large.
+    ensures calm { EndsCalmly
         (around_call IsInPhases R.left R.faults script.old script.new
         S.buckets S.next_bucket S.shelves S.next_shelf S.faults
         (replay_word words.now) (replay_shelf words.now)
         None site.old site.new S.Store.faults S.Files.faults
         result.store result.shelf result.journal)
-        (saying_to K.faults K.written out.old out.new)
-        → (result.status ≡ 0) ⊎ (result.status ≡ 6) }
+        (saying_to K.faults K.written out.old out.new) result.status }
 
     // Of the bucket and the shelf all holds that holds of those of `run_tool`.
     ensures handed { IsHandedOut S.buckets site.old site.new result.store }

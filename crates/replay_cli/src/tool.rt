@@ -1,9 +1,9 @@
-ghost use Rattle.std.specs.Prelude.{◌≡◌, ◌⊎◌, ℕ, [], Some, None, IfSome, is_some};
+ghost use Rattle.std.specs.Prelude.{◌≡◌, ℕ, [], Some, None, IfSome, is_some};
 ghost use Rattle.replay_cli.specs.Checks.{files_of};
 ghost use Rattle.replay_cli.specs.Kept.{IsHandedBack, IsHandedOut, IsNotAsked, IsShelfOf, IsUnfailed, IsUntouched, told_of};
 ghost use Rattle.replay_cli.specs.ShelfAsked.{IsBroken, IsUndecided, WasAsked, WasAskedFor};
 ghost use Rattle.replay_cli.specs.Statuses.{number_of};
-ghost use Rattle.replay_cli.specs.Verdicts.{IfShort, IsCalm, IsCaused, IsCheckSaid, IsSaid, IsWorked, around_call, saying_to};
+ghost use Rattle.replay_cli.specs.Verdicts.{EndsCalmly, IfShort, IsCaused, IsCheckSaid, IsSaid, IsWorked, around_call, saying_to};
 ghost use Rattle.replay_cli.specs.Words.{block_word, bucket_word, named_by, shelf_word};
 ghost use Rattle.lifecycle_core.specs.InLine.{IsInLine};
 
@@ -38,15 +38,14 @@ pub fn run_tool<S: Site, R: Source, K: Sink>(
         × IsSaid verdict (saying_to K.faults K.written out.old out.new) status
         × (result.status ≡ number_of status) }
 
-    // A calm call ends as asked, unless there is no memory.
-    ensures calm { IsCalm
+    // A calm call ends as asked, unless there is no memory, or a pattern of its script is too large.
+    ensures calm { EndsCalmly
         (around_call IsInLine R.left R.faults script.old script.new
         S.buckets S.next_bucket S.shelves S.next_shelf S.faults
         (bucket_word words.now) (shelf_word words.now)
         (block_word words.now) site.old site.new S.Store.faults S.Files.faults
         result.store result.shelf result.journal)
-        (saying_to K.faults K.written out.old out.new)
-        → (result.status ≡ 0) ⊎ (result.status ≡ 6) }
+        (saying_to K.faults K.written out.old out.new) result.status }
 
     // Where the words ask for the check of a block, the statuses 0 and 5 say that its line was written.
     ensures checked { (block : ℕ) → block_word words.now ≡ Some block

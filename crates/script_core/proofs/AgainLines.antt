@@ -19,7 +19,7 @@ use Rattle.script_core.proofs.Kept.{Kept, so_far_of, start_kept, start_is}
 use Rattle.script_core.proofs.LineTools.{line_word, kind_again, ended_again}
 use Rattle.script_core.proofs.FoundSetup.{closed}
 use Rattle.script_core.proofs.FoundLines.{text_found}
-use Rattle.script_core.proofs.AgainSetup.{IsRead, rule_line_again, gateway_line_again, block_line_again}
+use Rattle.script_core.proofs.AgainSetup.{IsRead, rule_line_again, replica_line_again, gateway_line_again, block_line_again}
 use Rattle.script_core.proofs.AgainSeries.{series_line_again}
 use Rattle.script_core.proofs.AgainPhases.{at_line_again, upload_line_again, sync_line_again, query_line_again}
 use Rattle.script_core.specs.Limits.{longest_text}
@@ -53,6 +53,7 @@ read_line st before number line kind next first is =
 says_again : (st : State) (number : ℕ) (line : List ℕ) (next : SoFar) → Kept st → Says (so_far_of st) number line next → IsReadLine st number line next
 says_again st number line next kept (spelling.series says) = read_line st st number line kinds.Series next refl (series_line_again st number line next kept says)
 says_again st number line next kept (spelling.rule ended says) = read_line st (closed st) number line kinds.Rule next (end_again st ended) (rule_line_again st number line next kept says)
+says_again st number line next kept (spelling.replica ended says) = read_line st (closed st) number line kinds.Rule next (end_again st ended) (replica_line_again st number line next kept says)
 says_again st number line next kept (spelling.gateway ended says) = read_line st (closed st) number line kinds.Gateway next (end_again st ended) (gateway_line_again st number line next kept says)
 says_again st number line next kept (spelling.block ended says) = read_line st (closed st) number line kinds.Block next (end_again st ended) (block_line_again st number line next kept says)
 says_again st number line next kept (spelling.at ended says) = read_line st (closed st) number line kinds.At next (end_again st ended) (at_line_again st number line next kept says)

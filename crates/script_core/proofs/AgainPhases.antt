@@ -1,9 +1,11 @@
 -- What a line of a phase spells is read of it.
-use Rattle.std.proofs.Common.{◌≡◌, ℕ, zero, suc, ◌+◌, ◌%◌, ◌^◌, ◌<◌, ◌≤◌, ℤ, ◌≤ℤ◌, Bool, true, false, nat_lt, nat_le, int_lt, List, [], ◌∷◌, ◌++◌, length, Option, Some, None, is_some, Ok, refl, sym, ap, ◌∙◌, subst, arith}
+use Rattle.std.proofs.Common.{◌≡◌, ℕ, zero, suc, ◌+◌, ◌%◌, ◌^◌, ◌<◌, ◌≤◌, ℤ, ◌≤ℤ◌, Bool, true, false, not, nat_lt, nat_le, int_lt, List, [], ◌∷◌, ◌++◌, length, Option, Some, None, is_some, Ok, refl, sym, ap, ◌∙◌, subst, arith, inl, inr}
 use Rattle.std.specs.List.{list_all, range_with_len}
 use Rattle.std.proofs.lemmas.Bool.Decides.{nat_tests}
 use Rattle.std.proofs.lemmas.Int.{ints}
-use Rattle.matchers.specs.Selectors.{simple_selector, is_metric_name}
+use Rattle.list_core.proofs.Lists.{nil_not_middle}
+use Rattle.matchers.specs.SelectorText.{IsSelectorText}
+use Rattle.matchers.specs.Selectors.{is_metric_name}
 use Rattle.matchers.specs.declared.matcher.Matcher.{Matcher}
 use Rattle.moment_core.specs.declared.moment.Moment.{Moment}
 use Rattle.moment_core.specs.declared.rules.Rules.{Rules}
@@ -15,7 +17,7 @@ use Rattle.script_workers.specs.declared.work.Work.TheVariants as works
 use Rattle.script_core.specs.Fields.{is_empty, next_field}
 use Rattle.script_workers.specs.Hands.{gateway_count, with_hands, hands_of}
 use Rattle.script_core.specs.Values.{is_reserved, agree, moment_from}
-use Rattle.script_core.specs.Lines.{fields_line, may_begin, at_line, upload_line, sync_line, last_selector, query_line}
+use Rattle.script_core.specs.Lines.{fields_line, may_begin, at_line, upload_line, sync_line, query_line, question_at, selector_field}
 use Rattle.script_core.specs.State.{State, all_phases, begin_phase, add_task, add_query, note_sync, is_declared, is_synced, script_of_state, are_all_synced}
 use Rattle.script_core.specs.Spelling.{SoFar, AtLine, AddsTask, UploadLine, SyncLine, QueryLine}
 use Rattle.script_core.proofs.FieldLaws.{cut_again, cut_last}
@@ -24,7 +26,8 @@ use Rattle.script_core.proofs.Kept.{Kept, at, so_far_of, hands_of-append}
 use Rattle.script_core.proofs.LineTools.{is_some_field, only_again, last_phase}
 use Rattle.script_core.proofs.FoundSetup.{closed}
 use Rattle.script_core.proofs.AgainSetup.{IsRead, starts_again}
-use Rattle.script_core.proofs.SpelledValues.{near_tested, free_tested, agree_tested, selector_read}
+use Rattle.script_core.proofs.SpelledValues.{near_tested, free_tested, agree_tested}
+use Rattle.script_core.proofs.ReadSelectors.{selector_again}
 use Rattle.script_workers.proofs.HandLaws.{few_counted}
 use Rattle.script_workers.specs.Limits.{most_workers}
 use Rattle.script_core.specs.Limits.{most_tasks}
@@ -75,11 +78,12 @@ task_again st number work script kept adds =
 
 -- ---- queries
 
-selector_again : (text : List ℕ) (selector : List Matcher) → simple_selector text ≡ Some selector → last_selector (Some text) ≡ Ok (Some selector)
-unfolding last_selector simple_selector is_metric_name
-selector_again [] selector read = absurd cc
-selector_again (byte ∷ text) selector read =
-    let some : is_empty (byte ∷ text) ≡ false = grind (arith, nat_tests) in rw (some, read) refl
+-- a text of a selector is not empty
+selector_some : (text : List ℕ) (selector : List Matcher) → IsSelectorText text selector → not (is_empty text) ≡ true
+unfolding is_metric_name
+selector_some [] selector (inl metric) = absurd cc
+selector_some [] selector (inr braces) = absurd (nil_not_middle 123 braces.metric (braces.inside ++ 125 ∷ []) braces.written)
+selector_some (byte ∷ text) selector is = grind (arith, nat_tests)
 
 range_passes : (p : ℕ → Bool) (first count : ℕ) → ((n : ℕ) → first ≤ n → n < first + count → p n ≡ true) → list_all p (range_with_len first count) ≡ true
 range_passes p first zero each = refl
@@ -153,7 +157,7 @@ module _ (st : State) (number : ℕ) (line : List ℕ) (next : SoFar) (kept : Ke
       }
 
   pub query_line_again : QueryLine (so_far_of st) number line next → IsRead (closed st) number line kinds.Query next
-  unfolding fields_line query_line add_query
+  unfolding fields_line query_line question_at add_query
   query_line_again says =
       let low = says.is_low in
       let high = says.is_high in
@@ -162,7 +166,8 @@ module _ (st : State) (number : ℕ) (line : List ℕ) (next : SoFar) (kept : Ke
       let second = cut_again says.high_text says.selector_text high.field.no_space in
       let some_low = is_some_field says.low_text low.field in
       let some_high = is_some_field says.high_text high.field in
-      let selector = selector_again says.selector_text says.selector (selector_read says.selector_text says.selector says.is_selector) in
+      let some_selector = selector_some says.selector_text says.selector says.is_selector.is_text in
+      let selector : selector_field st.rules.replicas says.selector_text ≡ Ok says.selector = selector_again st.rules.replicas says.selector_text says.selector says.is_selector in
       let read_low = time_again says.low_text says.low low.written (near_tested says.low low.near) in
       let read_high = time_again says.high_text says.high high.written (near_tested says.high high.near) in
       let times : int_lt says.high says.low ≡ false = in_order says.low says.high says.times in
@@ -174,6 +179,6 @@ module _ (st : State) (number : ℕ) (line : List ℕ) (next : SoFar) (kept : Ke
         left = Some rest;
         after = record task.after { selectors = task.after.selectors ++ says.selector ∷ [] };
         cut = starts_again line kinds.Query rest says.spelled;
-        read = rw (first, second, selector, some_low, some_high, read_low, read_high, begun, times, synced, added) refl;
+        read = rw (first, second, some_low, some_high, some_selector, read_low, read_high, begun, times, selector, synced, added) refl;
         next_is = (λ i. at (record (task.script_is i) { selectors = (task.script_is i).selectors ++ says.selector ∷ [] }) (task.in_block i)) ∙ sym says.adds;
       }

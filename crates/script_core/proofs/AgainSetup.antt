@@ -1,5 +1,5 @@
 -- What a rule line, a gateway line or a block line spells is read of it.
-use Rattle.std.proofs.Common.{◌≡◌, ℕ, ◌%◌, ◌^◌, ℤ, ◌<ℤ◌, true, false, not, ◌==◌, nat_lt, int_lt, List, [], ◌∷◌, ◌++◌, length, Option, Some, is_none, Ok, refl, sym, ap, ◌∙◌, subst, arith, append-nil}
+use Rattle.std.proofs.Common.{◌≡◌, ℕ, ◌%◌, ◌^◌, ℤ, ◌<ℤ◌, true, false, not, ◌==◌, nat_lt, int_lt, List, [], ◌∷◌, ◌++◌, length, Option, Some, is_none, Ok, refl, sym, ap, ◌∙◌, subst, arith, append-nil, codes}
 use Rattle.std.proofs.lemmas.Bool.Decides.{nat_tests}
 use Rattle.std.proofs.lemmas.Int.{ints}
 use Rattle.std.specs.BTreeSet.{insert_key}
@@ -10,15 +10,16 @@ use Rattle.label_sets.specs.SetText.{IsSetText}
 use Rattle.label_sets.specs.declared.label.Label.{Label}
 use Rattle.script_core.specs.declared.line_kind.LineKind.{LineKind}
 use Rattle.script_core.specs.declared.line_kind.LineKind.TheVariants as kinds
-use Rattle.script_core.specs.Fields.{is_empty, next_field, only_field, rule_name}
-use Rattle.script_core.specs.Values.{is_reserved, with_rule, set_rule}
+use Rattle.script_core.specs.declared.rule_kind.RuleKind.TheVariants.{Valued}
+use Rattle.script_core.specs.Fields.{is_empty, next_field, only_field, rule_kind}
+use Rattle.script_core.specs.Values.{add_replica, is_reserved, with_rule, set_rule}
 use Rattle.script_core.specs.Lines.{fields_line, rule_line, gateway_line, block_line, last_labels}
 use Rattle.script_core.specs.State.{State, Last, add_gateway, begin_block, is_declared, all_blocks, script_of_state}
-use Rattle.script_core.specs.Spelling.{SoFar, outside, rule_word, RuleLine, GatewayLine, BlockLine}
+use Rattle.script_core.specs.Spelling.{SoFar, outside, rule_word, RuleLine, ReplicaLine, GatewayLine, BlockLine}
 use Rattle.script_core.proofs.FieldLaws.{cut_again}
 use Rattle.script_core.proofs.ValueLaws.{time_again, ulid_again, value_again}
 use Rattle.script_core.proofs.Kept.{Kept, so_far_of}
-use Rattle.script_core.proofs.LineTools.{is_some_field, only_again, line_word, word_free, name_again, name_free, early_again}
+use Rattle.script_core.proofs.LineTools.{is_some_field, only_again, line_word, word_free, name_free, valued_again, replica_again, replica_free, early_again}
 use Rattle.script_core.proofs.FoundSetup.{closed}
 use Rattle.moment_core.specs.declared.rules.Rules.{Rules}
 use Rattle.script_core.proofs.SpelledValues.{near_tested, free_tested}
@@ -62,7 +63,7 @@ module _ (st : State) (number : ℕ) (line : List ℕ) (next : SoFar) (kept : Ke
       let word = rule_word says.name in
       let text : List ℕ = word ++ 32 ∷ says.text in
       let cut : next_field (Some text) ≡ (word, Some says.text) = cut_again word says.text (name_free says.name) in
-      let named : rule_name word ≡ Some says.name = name_again says.name in
+      let named : rule_kind word ≡ Some (Valued says.name) = valued_again says.name in
       let only : only_field (Some says.text) ≡ Ok says.text = only_again says.text says.field in
       let early : is_none st.phase ≡ true = early_again st.phases st.phase says.early in
       let valued = value_again says.name says.text says.value says.is_value in
@@ -72,6 +73,24 @@ module _ (st : State) (number : ℕ) (line : List ℕ) (next : SoFar) (kept : Ke
         cut = starts_again line kinds.Rule text says.spelled;
         read = rw (cut, named, only, valued, early) refl;
         next_is = ap (λ (set : Rules). outside (record (script_of_state st) { rules = set })) (sym (rule_set says.name says.value st.rules says.set says.sets)) ∙ sym says.adds;
+      }
+
+  pub replica_line_again : ReplicaLine (so_far_of st) line next → IsRead (closed st) number line kinds.Rule next
+  unfolding fields_line rule_line add_replica
+  replica_line_again says =
+      let word : List ℕ = codes "replica-label" in
+      let text : List ℕ = word ++ 32 ∷ says.name in
+      let cut : next_field (Some text) ≡ (word, Some says.name) = cut_again word says.name replica_free in
+      let known = replica_again in
+      let only : only_field (Some says.name) ≡ Ok says.name = only_again says.name says.field in
+      let named = says.is_name in
+      let early : is_none st.phase ≡ true = early_again st.phases st.phase says.early in
+      record {
+        left = Some text;
+        after = record (closed st) { rules = record st.rules { replicas = st.rules.replicas ++ says.name ∷ [] } };
+        cut = starts_again line kinds.Rule text says.spelled;
+        read = rw (cut, known, only, named, early) refl;
+        next_is = sym says.adds;
       }
 
   pub gateway_line_again : GatewayLine (so_far_of st) line next → IsRead (closed st) number line kinds.Gateway next

@@ -5,10 +5,10 @@ use Rattle.std.specs.Prelude.{IsTrue}
 use Rattle.std.specs.Str.{is_utf8}
 use Rattle.std.specs.List.{sum_by, join_with_byte}
 use Rattle.std.proofs.lemmas.List.{length-append}
+use Rattle.std.proofs.lemmas.List.Concat.{flat_map-cons}
 use Rattle.std.proofs.lemmas.List.Sums.{sum_by-append, sum_by-cons}
 use Rattle.std.proofs.lemmas.List.Sorted.{sum_by-IsPermutation}
 use Rattle.std.proofs.lemmas.List.Splits.{join_with_byte-slice_split}
-use Rattle.reading_core.specs.Reading.{Gives}
 use Rattle.label_sets.specs.Counts.{members_of, members_in}
 use Rattle.label_sets.specs.SetText.{IsSetText}
 use Rattle.label_sets.specs.declared.label.Label.{Label}
@@ -16,16 +16,16 @@ use Rattle.label_sets.specs.declared.sample.Sample.{Sample}
 use Rattle.label_sets.specs.declared.series.Series.{Series}
 use Rattle.label_sets.proofs.SetSizes.{longer_set}
 use Rattle.matchers.specs.declared.matcher.Matcher.{Matcher}
-use Rattle.matchers.specs.SelectorText.{IsSimpleText}
+use Rattle.matchers.specs.SelectorText.{IsSelectorText, AreListed, comma_text, commas_text, matcher_text, metric_part}
 use Rattle.script_workers.specs.declared.work.Work.{Work}
 use Rattle.script_core.specs.declared.block.Block.{Block}
 use Rattle.script_core.specs.declared.body.Body.TheVariants.{Inline}
 use Rattle.script_core.specs.declared.script.Script.{Script}
-use Rattle.script_core.specs.declared.script_refusal.ScriptRefusal.TheVariants.{NoMemory}
 use Rattle.script_core.specs.Counts.{members_of_name, members_of_series, members_of_block, members_of_selector, members_of_phase, members_of_script}
 use Rattle.script_core.specs.Fields.{lines_of, is_silent, space}
+use Rattle.script_core.specs.GivenUp.{GivesUnless, IsWholeGivenUp}
 use Rattle.script_core.specs.Reading.{script_of}
-use Rattle.script_core.specs.Spelling.{spaced, IsField, AreSampleFields, SoFar, nothing, GatewayLine, BlockLine, SeriesLine, AtLine, AddsTask, UploadLine, SyncLine, QueryLine, RuleLine, Says, Say, Spells}
+use Rattle.script_core.specs.Spelling.{spaced, IsField, AreSampleFields, SoFar, nothing, GatewayLine, BlockLine, SeriesLine, AtLine, AddsTask, UploadLine, SyncLine, QueryLine, RuleLine, ReplicaLine, Says, Say, Spells}
 use Rattle.script_core.proofs.ReadScripts.{found_of}
 
 -- ---- fields
@@ -54,9 +54,33 @@ samples_fit (text ∷ next ∷ texts) (s ∷ ss) are = omega (arith, longer_fiel
 set_fits : (text : List ℕ) (set : List Label) → IsSetText text set → members_in set ≤ length text
 set_fits text set is = omega (arith, longer_set is.listed, ap length is.written, sum_by-IsPermutation members_of is.listed set is.arranged)
 
-selector_fits : (text : List ℕ) (selector : List Matcher) → IsSimpleText text selector → length selector ≤ 1
-selector_fits text selector (inl none) = omega (arith, ap length none.1)
-selector_fits text selector (inr one) = omega (arith, ap length one.1)
+-- each matcher in braces has its comma, and the last one the byte that closes them
+commas_fit : (matchers : List Matcher) → length matchers ≤ length (commas_text matchers)
+commas_fit [] = omega arith
+commas_fit (m ∷ matchers) =
+    omega (arith, commas_fit matchers, ap length (flat_map-cons comma_text m matchers), length-append (comma_text m) (commas_text matchers), length-append (matcher_text m) (44 ∷ []))
+
+listed_fit : (inside : List ℕ) (matchers : List Matcher) → AreListed inside matchers → length matchers ≤ length inside + 1
+listed_fit inside matchers (inl all) = omega (arith, commas_fit matchers, ap length all)
+listed_fit inside matchers (inr less) = omega (arith, commas_fit matchers, ap length less, length-append inside (44 ∷ []))
+
+metric_fits : (metric : List ℕ) → length (metric_part metric) ≤ length metric
+metric_fits [] = omega arith
+metric_fits (byte ∷ bytes) = omega arith
+
+selector_fits : (text : List ℕ) (selector : List Matcher) → IsSelectorText text selector → length selector ≤ length text + 1
+selector_fits text selector (inl one) = omega (arith, ap length one.1)
+selector_fits text selector (inr is) =
+    omega (
+      arith,
+      ap length is.selector_is,
+      length-append (metric_part is.metric) is.matchers,
+      metric_fits is.metric,
+      listed_fit is.inside is.matchers is.listed,
+      ap length is.written,
+      length-append is.metric (123 ∷ (is.inside ++ 125 ∷ [])),
+      length-append is.inside (125 ∷ []),
+    )
 
 -- ---- lists with one member more, and with their last member changed
 
@@ -79,7 +103,18 @@ gateway_adds before after line is =
     omega (arith, ap size_of is.adds, one_more members_of_name before.script.gateways is.name, ap length is.spelled, two_fields (codes "gateway") is.name)
 
 rule_adds : (before after : SoFar) (line : List ℕ) → RuleLine before line after → size_of after ≤ size_of before + length line
-rule_adds before after line is = omega (arith, ap size_of is.adds)
+rule_adds before after line is =
+    omega (arith, ap size_of is.adds, ap (sum_by members_of_name) is.sets.replicas)
+
+replica_adds : (before after : SoFar) (line : List ℕ) → ReplicaLine before line after → size_of after ≤ size_of before + length line
+replica_adds before after line is =
+    omega (
+      arith,
+      ap size_of is.adds,
+      one_more members_of_name before.script.rules.replicas is.name,
+      ap length is.spelled,
+      three_fields (codes "rule") (codes "replica-label") is.name,
+    )
 
 block_adds : (before after : SoFar) (line : List ℕ) → BlockLine before line after → size_of after ≤ size_of before + length line
 block_adds before after line is =
@@ -146,7 +181,8 @@ query_adds before after number line is =
       ap size_of is.adds,
       ap length is.spelled,
       longer_field (codes "query") is.low_text (is.high_text ∷ is.selector_text ∷ []),
-      selector_fits is.selector_text is.selector is.is_selector,
+      selector_fits is.selector_text is.selector is.is_selector.is_text,
+      three_fields is.low_text is.high_text is.selector_text,
       task_adds before.script is.script number _ is.task,
       one_more members_of_selector is.script.selectors is.selector,
     )
@@ -154,6 +190,7 @@ query_adds before after number line is =
 line_adds : (before after : SoFar) (number : ℕ) (line : List ℕ) → Says before number line after → size_of after ≤ size_of before + length line
 line_adds before after number line (Says.series is) = series_adds before after line is
 line_adds before after number line (Says.rule ended is) = rule_adds before after line is
+line_adds before after number line (Says.replica ended is) = replica_adds before after line is
 line_adds before after number line (Says.gateway ended is) = gateway_adds before after line is
 line_adds before after number line (Says.block ended is) = block_adds before after line is
 line_adds before after number line (Says.at ended is) = at_adds before after number line is
@@ -188,6 +225,6 @@ spelled_few : (text : List ℕ) (script : Script) → Spells text script → mem
 spelled_few text script spells =
     omega (arith, lines_add (lines_of text) nothing (record { script = script; in_block = spells.in_block }) 1 spells.lines, lines_fit text)
 
-pub few_of : (text : List ℕ) (result : Result Script _) → Gives NoMemory (λ (script : Script). script) result (script_of text) → IfOk result (λ script. members_of_script script ≤ length text)
+pub few_of : (text : List ℕ) (result : Result Script _) → GivesUnless (IsWholeGivenUp text) (λ (script : Script). script) result (script_of text) → IfOk result (λ script. members_of_script script ≤ length text)
 few_of text (Ok script) read = spelled_few text script (found_of text (Ok script) read)
 few_of text (Err refusal) read = tt

@@ -1,5 +1,5 @@
 -- What is read of lines is what the lines spell, and what is read of a text is the script that it spells.
-use Rattle.std.proofs.Common.{◌≡◌, ℕ, ◌+◌, Bool, true, false, cond, nat_lt, List, [], ◌∷◌, ◌++◌, length, Option, Some, None, Result, Ok, Err, refl, sym, ap, ◌∙◌, subst, arith}
+use Rattle.std.proofs.Common.{◌≡◌, ℕ, ◌+◌, Bool, true, false, cond, nat_lt, List, [], ◌∷◌, ◌++◌, length, Option, Some, None, Result, Ok, Err, refl, sym, ap, ◌∙◌, subst, arith, inl, inr}
 use Rattle.std.specs.Bool.{MatchBool}
 use Rattle.std.specs.Str.{is_utf8}
 use Rattle.std.proofs.lemmas.Bool.Decides.{nat_tests}
@@ -34,7 +34,7 @@ end_found st before kept h =
     let a = then_ok (has_ended st.last) (Ok (closed st)) before h in
     (ended_found st.blocks st.last kept.blocks.no_last (a.1 ∙ unit_is a.0), ok_is _ _ a.2)
 
-starts_of : (line : List ℕ) (kind : LineKind) → line_kind (next_field (Some line)).0 ≡ Some kind → Starts line (line_word kind) (next_field (Some line)).1
+pub starts_of : (line : List ℕ) (kind : LineKind) → line_kind (next_field (Some line)).0 ≡ Some kind → Starts line (line_word kind) (next_field (Some line)).1
 starts_of line kind is rest left =
     let word : (next_field (Some line)).0 ≡ line_word kind = kind_found (next_field (Some line)).0 kind is in
     same_Some _ _ (cut_rest (Some line) (next_field (Some line)).0 (next_field (Some line)).1 rest (cut_found (Some line)) left).0 ∙ ap (λ w. w ++ 32 ∷ rest) word
@@ -47,7 +47,14 @@ module _ (st after : State) (number : ℕ) (line : List ℕ) (left : Option (Lis
   -- a line that ends the block
   other_found : (kind : LineKind) → Starts line (line_word kind) left → is_series (Some kind) ≡ false → HasEnded (all_blocks st.blocks st.last) → fields_line (closed st) number kind left ≡ Ok after → SaysKept st number line after
   unfolding fields_line
-  other_found kinds.Rule starts other ended h = let p = rule_line_found st after line left kept starts h in (spelling.rule ended p.0, p.1)
+  other_found kinds.Rule starts other ended h =
+      let p = rule_line_found st after line left kept starts h in (
+        elim p.0 [
+          | inl one ↦ spelling.rule ended one
+          | inr more ↦ spelling.replica ended more
+        ],
+        p.1,
+      )
   other_found kinds.Gateway starts other ended h = let p = gateway_line_found st after line left kept starts h in (spelling.gateway ended p.0, p.1)
   other_found kinds.Block starts other ended h = let p = block_line_found st after line left kept number starts h in (spelling.block ended p.0, p.1)
   other_found kinds.Series starts other ended h = absurd cc

@@ -1,5 +1,5 @@
 -- What is read of a line of a phase is what the line spells.
-use Rattle.std.proofs.Common.{◌≡◌, ℕ, zero, suc, ◌+◌, ◌%◌, ◌^◌, ◌<◌, ◌≤◌, ℤ, ◌≤ℤ◌, Bool, true, false, not, ◌==◌, ◌&&◌, ◌||◌, cond, nat_le, ltb-true, leb-true, int_lt, List, [], ◌∷◌, ◌++◌, length, Option, Some, None, is_none, ok_or, Result, Ok, refl, sym, ap, ◌∙◌, subst, arith, codes, inl, inr}
+use Rattle.std.proofs.Common.{◌≡◌, ℕ, zero, suc, ◌+◌, ◌%◌, ◌^◌, ◌<◌, ◌≤◌, ℤ, ◌≤ℤ◌, Bool, true, false, not, ◌==◌, ◌&&◌, ◌||◌, cond, nat_le, ltb-true, leb-true, int_lt, List, [], ◌∷◌, ◌++◌, length, Option, Some, None, is_none, is_some, unwrap_or, Result, Ok, refl, sym, ap, ◌∙◌, subst, arith, codes, inl, inr}
 use Rattle.std.specs.List.{list_all, range_with_len}
 use Rattle.std.specs.Str.{bytes_eq}
 use Rattle.std.proofs.lemmas.Bool.Decides.{nat_tests}
@@ -10,8 +10,6 @@ use Rattle.reading_core.specs.Reading.{◌>>=◌}
 use Rattle.reading_core.proofs.Binds.{bind_ok, unless_ok, ok_is, refused_as_ok, unless_is, then_ok, ok_or_ok}
 use Rattle.std.proofs.lemmas.Bool.{and_parts, not-true}
 use Rattle.reading_core.proofs.Parsed.{true_or_false}
-use Rattle.matchers.specs.Selectors.{simple_selector}
-use Rattle.matchers.specs.declared.matcher.Matcher.{Matcher}
 use Rattle.moment_core.specs.declared.moment.Moment.{Moment}
 use Rattle.moment_core.specs.declared.rules.Rules.{Rules}
 use Rattle.script_core.specs.declared.cause.LineCause.TheVariants as causes
@@ -23,16 +21,17 @@ use Rattle.script_workers.specs.declared.work.Work.TheVariants as works
 use Rattle.script_core.specs.Fields.{is_empty, next_field}
 use Rattle.script_workers.specs.Hands.{gateway_count, with_hands}
 use Rattle.script_core.specs.Values.{agree}
-use Rattle.script_core.specs.Lines.{may_begin, at_line, upload_line, sync_line, last_selector, query_line}
+use Rattle.script_core.specs.Lines.{may_begin, at_line, upload_line, sync_line, query_line, Asked, bad, question_at, selector_field}
 use Rattle.script_core.specs.State.{State, all_phases, begin_phase, add_task, add_query, note_sync, is_declared, is_synced, script_of_state, are_all_synced}
 use Rattle.script_workers.specs.Works.{is_sync_of}
-use Rattle.script_core.specs.Spelling.{AtLine, AddsTask, UploadLine, SyncLine, QueryLine}
+use Rattle.script_core.specs.Spelling.{IsTimeText, AtLine, AddsTask, UploadLine, SyncLine, QueryLine}
 use Rattle.script_core.proofs.FieldLaws.{cut_found}
 use Rattle.script_core.proofs.ValueLaws.{is_none_is, time_found, ulid_found, moment_found}
 use Rattle.script_core.proofs.Kept.{Kept, KeepsTasks, at, so_far_of, phase_kept, task_kept, sync_noted, hands_of-append}
 use Rattle.script_core.proofs.LineTools.{is_field, cut_rest, cut_end, only_found, last_phase, no_end, unit_is}
 use Rattle.script_core.proofs.FoundSetup.{Starts, closed}
-use Rattle.script_core.proofs.SpelledValues.{near_spelled, free_spelled, agree_spelled, selector_spelled}
+use Rattle.script_core.proofs.SpelledValues.{near_spelled, free_spelled, agree_spelled}
+use Rattle.script_core.proofs.ReadSelectors.{selector_found}
 use Rattle.script_workers.proofs.HandLaws.{few_spelled}
 use Rattle.script_workers.specs.Limits.{most_workers}
 use Rattle.script_core.specs.Limits.{most_tasks}
@@ -94,18 +93,6 @@ module _ (st after : State) (number : ℕ) (work : Work) (kept : Kept st) (task 
 
 -- ---- queries
 
-selector_by : (text : List ℕ) (selector : List Matcher) (b : Bool) → cond {A = Result (Option (List Matcher)) LineRefusal} b (Ok None) (ok_or (simple_selector text) (Bad causes.UnknownWord) >>= λ read. Ok (Some read)) ≡ Ok (Some selector) → simple_selector text ≡ Some selector
-selector_by text selector true h = absurd cc
-selector_by text selector false h =
-    let a = bind_ok _ _ _ h in
-    let same : a.0 ≡ selector = same_Some _ _ (ok_is _ _ a.2) in
-    ok_or_ok _ _ _ a.1 ∙ ap Some same
-
-selector_found : (left : Option (List ℕ)) (selector : List Matcher) → last_selector left ≡ Ok (Some selector) → (text : List ℕ) × (left ≡ Some text) × (simple_selector text ≡ Some selector)
-unfolding last_selector
-selector_found None selector h = absurd cc
-selector_found (Some text) selector h = (text, refl, selector_by text selector (is_empty text) h)
-
 -- a test of each number of a range
 pub all_in_range : (p : ℕ → Bool) (first count : ℕ) → list_all p (range_with_len first count) ≡ true → (n : ℕ) → first ≤ n → n < first + count → p n ≡ true
 all_in_range p first zero h n low high = absurd (omega arith)
@@ -118,6 +105,51 @@ all_in_range p first (suc count) h n low high =
 
 not_below : (low high : ℤ) → not (int_lt high low) ≡ true → low ≤ℤ high
 not_below low high h = let test = not-true (int_lt high low) h in grind (arith, ints)
+
+-- what a query line asks for before its selector is read
+pub record Asks (st : State) (left : Option (List ℕ)) (asked : Asked) : Type 0 where
+  pub low_text : List ℕ
+  pub high_text : List ℕ
+  pub left_is : left ≡ Some (low_text ++ 32 ∷ (high_text ++ 32 ∷ asked.text))
+  pub is_low : IsTimeText low_text asked.low
+  pub is_high : IsTimeText high_text asked.high
+  pub begun : is_some st.phase ≡ true
+  pub times : asked.low ≤ℤ asked.high
+
+-- something is left
+some_left : (left : Option (List ℕ)) → not (is_empty (unwrap_or left [])) ≡ true → left ≡ Some (unwrap_or left [])
+some_left None some = absurd cc
+some_left (Some text) some = refl
+
+pub question_found : (st : State) (left : Option (List ℕ)) (asked : Asked) → question_at st left ≡ Ok asked → Asks st left asked
+unfolding question_at
+question_found st left asked h =
+    let low_text = (next_field left).0 in
+    let after_low = (next_field left).1 in
+    let high_text = (next_field after_low).0 in
+    let after_high = (next_field after_low).1 in
+    let text = unwrap_or after_high [] in
+    let a = unless_ok (not (is_empty low_text) && not (is_empty high_text) && not (is_empty text)) (Bad causes.BadShape) _ _ h in
+    let b = bind_ok _ _ _ a.1 in
+    let c = bind_ok _ _ _ b.2 in
+    let d = unless_ok (is_some st.phase) (Bad causes.NoPhase) _ _ c.2 in
+    let e = unless_ok (not (int_lt c.0 b.0)) (Bad causes.BadTimes) _ _ d.1 in
+    let front = and_parts (not (is_empty low_text) && not (is_empty high_text)) (not (is_empty text)) a.0 in
+    let fields = and_parts (not (is_empty low_text)) (not (is_empty high_text)) front.0 in
+    let second = cut_rest after_low high_text after_high text (cut_found after_low) (some_left after_high front.1) in
+    let first = cut_rest left low_text after_low (high_text ++ 32 ∷ text) (cut_found left) second.0 in
+    let low_is = time_found low_text b.0 (refused_as_ok _ _ _ b.1) in
+    let high_is = time_found high_text c.0 (refused_as_ok _ _ _ c.1) in
+    let made : record { low = b.0; high = c.0; text = text } ≡ asked = ok_is _ _ e.1 in
+    subst (Asks st left) made (record {
+      low_text = low_text;
+      high_text = high_text;
+      left_is = first.0;
+      is_low = record { field = is_field low_text fields.0 first.1; written = low_is.0; near = near_spelled b.0 low_is.1 };
+      is_high = record { field = is_field high_text fields.1 second.1; written = high_is.0; near = near_spelled c.0 high_is.1 };
+      begun = d.0;
+      times = not_below b.0 c.0 e.0;
+    })
 
 -- ---- lines
 
@@ -205,45 +237,31 @@ module _ (st after : State) (number : ℕ) (line : List ℕ) (left : Option (Lis
   pub query_line_found : Starts line (codes "query") left → query_line (closed st) number left ≡ Ok after → QueryLine (so_far_of st) number line (so_far_of after) × Kept after
   unfolding query_line add_query
   query_line_found starts h =
-      let low_text = (next_field left).0 in
-      let after_low = (next_field left).1 in
-      let high_text = (next_field after_low).0 in
-      let after_high = (next_field after_low).1 in
-      let a = bind_ok (last_selector after_high) _ _ h in
-      let b = unless_ok (not (is_empty low_text) && not (is_empty high_text)) (Bad causes.BadShape) _ _ a.2 in
-      let c = bind_ok (ok_or a.0 (Bad causes.BadShape)) _ _ b.1 in
-      let d = bind_ok _ _ _ c.2 in
-      let e = bind_ok _ _ _ d.2 in
-      let f = unless_ok _ _ _ _ e.2 in
-      let g = unless_ok _ _ _ _ f.1 in
-      let i = unless_ok (are_all_synced (closed st)) _ _ _ g.1 in
-      let j = bind_ok _ _ _ i.1 in
-      let same = ok_is _ _ j.2 in
-      let work : Work = works.Query d.0 e.0 (length st.selectors) in
-      let fields = and_parts (not (is_empty low_text)) (not (is_empty high_text)) b.0 in
-      let selector = selector_found after_high c.0 (a.1 ∙ ap Ok (ok_or_ok a.0 (Bad causes.BadShape) c.0 c.1)) in
-      let second = cut_rest after_low high_text after_high selector.0 (cut_found after_low) selector.1 in
-      let first = cut_rest left low_text after_low (high_text ++ 32 ∷ selector.0) (cut_found left) second.0 in
-      let low_is = time_found low_text d.0 (refused_as_ok _ _ _ d.1) in
-      let high_is = time_found high_text e.0 (refused_as_ok _ _ _ e.1) in
-      let task = added (closed st) j.0 number work j.1 in
-      let k = same_kept (closed st) j.0 number work kept_closed task (λ gateway. refl) in (
+      let a = bind_ok (question_at (closed st) left) _ _ h in
+      let b = bind_ok (bad (selector_field st.rules.replicas a.0.text)) _ _ a.2 in
+      let c = unless_ok (are_all_synced (closed st)) _ _ _ b.2 in
+      let d = bind_ok _ _ _ c.1 in
+      let same = ok_is _ _ d.2 in
+      let asks = question_found (closed st) left a.0 a.1 in
+      let work : Work = works.Query a.0.low a.0.high (length st.selectors) in
+      let task = added (closed st) d.0 number work d.1 in
+      let k = same_kept (closed st) d.0 number work kept_closed task (λ gateway. refl) in (
         record {
-          low_text = low_text;
-          high_text = high_text;
-          selector_text = selector.0;
-          low = d.0;
-          high = e.0;
-          selector = c.0;
-          spelled = starts (low_text ++ 32 ∷ (high_text ++ 32 ∷ selector.0)) first.0;
-          is_low = record { field = is_field low_text fields.0 first.1; written = low_is.0; near = near_spelled d.0 low_is.1 };
-          is_high = record { field = is_field high_text fields.1 second.1; written = high_is.0; near = near_spelled e.0 high_is.1 };
-          is_selector = selector_spelled selector.0 c.0 selector.2;
-          times = not_below d.0 e.0 g.0;
-          synced = λ gateway below. sym (kept.tasks.are_synced gateway) ∙ all_in_range (is_synced st.synced) 0 (length st.gateways) i.0 gateway (omega arith) (omega arith);
-          script = script_of_state j.0;
-          task = adds_task (closed st) j.0 number work kept_closed task;
-          adds = ap so_far_of (sym same) ∙ ap (λ (s : State). at (record (script_of_state j.0) { selectors = j.0.selectors ++ c.0 ∷ [] }) s.continues) (sym task.is);
+          low_text = asks.low_text;
+          high_text = asks.high_text;
+          selector_text = a.0.text;
+          low = a.0.low;
+          high = a.0.high;
+          selector = b.0;
+          spelled = starts (asks.low_text ++ 32 ∷ (asks.high_text ++ 32 ∷ a.0.text)) asks.left_is;
+          is_low = asks.is_low;
+          is_high = asks.is_high;
+          is_selector = selector_found st.rules.replicas a.0.text b.0 (refused_as_ok _ _ _ b.1);
+          times = asks.times;
+          synced = λ gateway below. sym (kept.tasks.are_synced gateway) ∙ all_in_range (is_synced st.synced) 0 (length st.gateways) c.0 gateway (omega arith) (omega arith);
+          script = script_of_state d.0;
+          task = adds_task (closed st) d.0 number work kept_closed task;
+          adds = ap so_far_of (sym same) ∙ ap (λ (s : State). at (record (script_of_state d.0) { selectors = d.0.selectors ++ b.0 ∷ [] }) s.continues) (sym task.is);
         },
         subst Kept same (record { blocks = k.blocks; tasks = k.tasks }),
       )

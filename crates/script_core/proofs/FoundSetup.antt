@@ -1,5 +1,5 @@
 -- What is read of a rule line, a gateway line or a block line is what the line spells.
-use Rattle.std.proofs.Common.{◌≡◌, ℕ, ◌%◌, ◌^◌, ◌<◌, ℤ, ◌<ℤ◌, true, false, not, ◌==◌, ◌&&◌, ltb-true, int_lt, List, [], ◌∷◌, ◌++◌, length, Option, Some, None, Result, Ok, Err, refl, sym, ap, ◌∙◌, subst, arith, codes}
+use Rattle.std.proofs.Common.{◌≡◌, ℕ, ◌%◌, ◌^◌, ◌<◌, ℤ, ◌<ℤ◌, true, false, not, ◌==◌, ◌&&◌, ltb-true, int_lt, List, [], ◌∷◌, ◌++◌, length, Option, Some, None, Result, Ok, Err, refl, sym, ap, ◌∙◌, subst, arith, codes, ◌⊎◌, inl, inr}
 use Rattle.std.proofs.lemmas.Bool.Decides.{nat_tests}
 use Rattle.std.proofs.lemmas.Int.{ints}
 use Rattle.std.proofs.lemmas.Option.{same_Some}
@@ -13,15 +13,18 @@ use Rattle.label_sets.specs.declared.label.Label.{Label}
 use Rattle.label_sets.specs.declared.label_refusal.LabelRefusal.{LabelRefusal}
 use Rattle.script_core.specs.declared.cause.LineCause.TheVariants as causes
 use Rattle.script_core.specs.declared.line_refusal.LineRefusal.TheVariants.{Bad}
-use Rattle.script_core.specs.Fields.{is_empty, next_field}
-use Rattle.script_core.specs.Values.{set_rule}
+use Rattle.moment_core.specs.declared.rules.Rules.{Rules}
+use Rattle.script_core.specs.declared.rule_kind.RuleKind.{RuleKind}
+use Rattle.script_core.specs.declared.rule_kind.RuleKind.TheVariants.{Valued, ReplicaLabel}
+use Rattle.script_core.specs.Fields.{is_empty, next_field, rule_kind}
+use Rattle.script_core.specs.Values.{add_replica, apply_rule, set_rule}
 use Rattle.script_core.specs.Lines.{rule_line, gateway_line, block_line, whole_labels, last_labels}
-use Rattle.script_core.specs.State.{State, add_gateway, begin_block, is_declared}
-use Rattle.script_core.specs.Spelling.{rule_word, Sets, RuleLine, GatewayLine, BlockLine}
+use Rattle.script_core.specs.State.{State, add_gateway, all_phases, begin_block, is_declared, script_of_state}
+use Rattle.script_core.specs.Spelling.{outside, Sets, RuleLine, ReplicaLine, GatewayLine, BlockLine}
 use Rattle.script_core.proofs.FieldLaws.{cut_found}
 use Rattle.script_core.proofs.ValueLaws.{is_none_is, time_found, ulid_found, value_found}
 use Rattle.script_core.proofs.Kept.{Kept, so_far_of, gateway_kept, block_kept}
-use Rattle.script_core.proofs.LineTools.{is_field, cut_rest, only_found, name_found, early_found}
+use Rattle.script_core.proofs.LineTools.{is_field, cut_rest, only_found, valued_found, replica_found, early_found}
 use Rattle.script_core.proofs.SpelledValues.{near_spelled, free_spelled}
 use Rattle.script_core.proofs.SpelledRules.{rule_sets}
 use Rattle.script_core.specs.Limits.{most_blocks}
@@ -54,8 +57,40 @@ labels_found (Some text) labels h =
     (text, refl, subst (λ t. IsSetText t labels) (take_all (length text) text (omega arith)) (set_text_found text labels (length text) (whole_found (length text) (read_set text) labels a.1)))
 
 module _ (st after : State) (line : List ℕ) (left : Option (List ℕ)) (kept : Kept st) where
-  pub rule_line_found : Starts line (codes "rule") left → rule_line (closed st) left ≡ Ok after → RuleLine (so_far_of st) line (so_far_of after) × Kept after
-  unfolding rule_line set_rule
+  -- a rule line by what it says, where all that a rule line asks for holds
+  rule_by : (word text : List ℕ) (kind : RuleKind) (set : Rules) → IsField text → rule_kind word ≡ Some kind → apply_rule kind text st.rules ≡ Ok set
+      → line ≡ codes "rule" ++ 32 ∷ (word ++ 32 ∷ text) → all_phases st.phases st.phase ≡ [] → record (closed st) { rules = set } ≡ after
+      → RuleLine (so_far_of st) line (so_far_of after) ⊎ ReplicaLine (so_far_of st) line (so_far_of after)
+  unfolding set_rule add_replica
+  rule_by word text (Valued name) set field known is spelled early same =
+      let value = bind_ok _ _ _ is in
+      inl (record {
+        name = name;
+        text = text;
+        value = value.0;
+        spelled = spelled ∙ ap (λ w. codes "rule" ++ 32 ∷ (w ++ 32 ∷ text)) (valued_found word name known);
+        field = field;
+        is_value = value_found name text value.0 value.1;
+        early = early;
+        set = set;
+        sets = subst (Sets name value.0 st.rules) (ok_is _ _ value.2) (rule_sets name value.0 st.rules);
+        adds = ap so_far_of (sym same);
+      })
+  rule_by word text ReplicaLabel set field known is spelled early same =
+      let named = unless_ok _ _ _ _ is in
+      let made : record st.rules { replicas = st.rules.replicas ++ text ∷ [] } ≡ set = ok_is _ _ named.1 in
+      inr (record {
+        name = text;
+        spelled = spelled ∙ ap (λ w. codes "rule" ++ 32 ∷ (w ++ 32 ∷ text)) (replica_found word known);
+        field = field;
+        is_name = named.0;
+        early = early;
+        adds = ap so_far_of (sym same) ∙ ap (λ (rules : Rules). outside (record (script_of_state st) { rules = rules })) (sym made);
+      })
+
+  pub rule_line_found : Starts line (codes "rule") left → rule_line (closed st) left ≡ Ok after
+      → (RuleLine (so_far_of st) line (so_far_of after) ⊎ ReplicaLine (so_far_of st) line (so_far_of after)) × Kept after
+  unfolding rule_line
   rule_line_found starts h =
       let a = bind_ok _ _ _ h in
       let b = bind_ok _ _ _ a.2 in
@@ -63,23 +98,11 @@ module _ (st after : State) (line : List ℕ) (left : Option (List ℕ)) (kept :
       let d = bind_ok _ _ _ c.2 in
       let e = unless_ok _ _ _ _ d.2 in
       let same = ok_is _ _ e.1 in
-      let name = (next_field (Some a.0)).0 in
+      let word = (next_field (Some a.0)).0 in
       let text = only_found (next_field (Some a.0)).1 c.0 (refused_as_ok _ _ _ c.1) in
-      let value = bind_ok _ _ _ (refused_as_ok _ _ _ d.1) in
-      let cut = cut_rest (Some a.0) name (next_field (Some a.0)).1 c.0 (cut_found (Some a.0)) text.0 in
-      let word : name ≡ rule_word b.0 = name_found name b.0 (ok_or_ok _ _ _ b.1) in (
-        record {
-          name = b.0;
-          text = c.0;
-          value = value.0;
-          spelled = starts a.0 (ok_or_ok _ _ _ a.1) ∙ ap (λ rest. codes "rule" ++ 32 ∷ rest) (same_Some a.0 (name ++ 32 ∷ c.0) cut.0 ∙ ap (λ w. w ++ 32 ∷ c.0) word);
-          field = text.1;
-          is_value = value_found b.0 c.0 value.0 value.1;
-          early = early_found st.phases st.phase kept.tasks.no_phase e.0;
-          set = d.0;
-          sets = subst (Sets b.0 value.0 st.rules) (ok_is _ _ value.2) (rule_sets b.0 value.0 st.rules);
-          adds = ap so_far_of (sym same);
-        },
+      let cut = cut_rest (Some a.0) word (next_field (Some a.0)).1 c.0 (cut_found (Some a.0)) text.0 in
+      let spelled = starts a.0 (ok_or_ok _ _ _ a.1) ∙ ap (λ rest. codes "rule" ++ 32 ∷ rest) (same_Some a.0 (word ++ 32 ∷ c.0) cut.0) in (
+        rule_by word c.0 b.0 d.0 text.1 (ok_or_ok _ _ _ b.1) (refused_as_ok _ _ _ d.1) spelled (early_found st.phases st.phase kept.tasks.no_phase e.0) same,
         subst Kept same (record { blocks = kept.blocks; tasks = kept.tasks }),
       )
 

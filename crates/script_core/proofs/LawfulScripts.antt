@@ -13,6 +13,7 @@ use Rattle.label_sets.specs.Labels.{compare_sets}
 use Rattle.label_sets.specs.Notation.{is_name}
 use Rattle.label_sets.specs.declared.sample.Sample.{Sample}
 use Rattle.label_sets.specs.declared.series.Series.{Series}
+use Rattle.matchers.specs.declared.matcher.Matcher.{Matcher}
 use Rattle.moment_core.specs.declared.rules.Rules.{Rules}
 use Rattle.list_core.proofs.Order.{sorted_nil}
 use Rattle.script_core.specs.declared.block.Block.{Block}
@@ -29,9 +30,9 @@ use Rattle.script_workers.specs.Hands.{gateway_count, hands_of, hands_from}
 use Rattle.script_core.specs.State.{gateway_named}
 use Rattle.script_core.specs.Values.{with_rule, agree}
 use Rattle.script_workers.specs.Works.{works_in, works_of, has_sync}
-use Rattle.script_core.specs.Lawful.{AreLawfulRules, AreLawfulLabels, HasLawfulSamples, IsLawfulInline, HasSeries, IsLawfulBlock, AreLawfulBlocks, IsLawfulWork, IsLawfulPhase, AreLawfulPhases, IsLawfulScript}
+use Rattle.script_core.specs.Lawful.{AreLawfulRules, AreLawfulLabels, HasLawfulSamples, IsLawfulInline, HasSeries, IsLawfulBlock, AreLawfulBlocks, IsLawfulWork, IsLawfulPhase, AreLawfulPhases, IsLawfulSelector, IsLawfulScript}
 use Rattle.script_core.specs.Spelling as spelling
-use Rattle.script_core.specs.Spelling.{SoFar, HasEnded, IsValueText, AreSampleFields, RuleLine, GatewayLine, BlockLine, SeriesLine, AtLine, AddsTask, UploadLine, SyncLine, QueryLine, Says, Say, Spells}
+use Rattle.script_core.specs.Spelling.{SoFar, HasEnded, IsValueText, AreSampleFields, RuleLine, ReplicaLine, GatewayLine, BlockLine, SeriesLine, AtLine, AddsTask, UploadLine, SyncLine, QueryLine, Says, Say, Spells}
 use Rattle.script_core.proofs.Kept.{works_of-append, works_of-more}
 use Rattle.script_core.proofs.LineTools.{no_end}
 use Rattle.script_core.proofs.LawfulLabels.{block_labels, series_labels, small_patterns}
@@ -51,6 +52,9 @@ pub record InOrder (so_far : SoFar) : Type 0 where
   pub names : All (λ name. is_name name ≡ true) so_far.script.gateways
   pub blocks : AreLawfulBlocks so_far.script.blocks
   pub full : (others : List Block) (block : Block) → so_far.script.blocks ≡ others ++ block ∷ [] → All (λ (b : Block). HasSeries b.body) others
+  pub selectors : All (IsLawfulSelector so_far.script.rules.replicas) so_far.script.selectors
+  -- a selector is read once the rules are complete
+  pub none_selected : so_far.script.phases ≡ [] → so_far.script.selectors ≡ []
   pub phases : AreLawfulPhases so_far.script.gateways so_far.script.blocks (length so_far.script.selectors) so_far.script.phases
   pub early : so_far.in_block ≡ true → so_far.script.phases ≡ []
 
@@ -68,6 +72,10 @@ no_phases gateways blocks selectors = record {
 early_phases : (gateways : List (List ℕ)) (blocks : List Block) (selectors : ℕ) (phases : List Phase) → phases ≡ [] → AreLawfulPhases gateways blocks selectors phases
 early_phases gateways blocks selectors phases early =
     subst (AreLawfulPhases gateways blocks selectors) (sym early) (no_phases gateways blocks selectors)
+
+-- no selector is read yet
+early_selectors : (replicas : List (List ℕ)) (selectors : List (List Matcher)) → selectors ≡ [] → All (IsLawfulSelector replicas) selectors
+early_selectors replicas selectors none = subst (All (IsLawfulSelector replicas)) (sym none) (All-nil (IsLawfulSelector replicas))
 
 -- ---- rules, gateways and blocks
 
@@ -102,6 +110,32 @@ module _ (before after : SoFar) (line : List ℕ) (order : InOrder before) where
     names = order.names;
     blocks = order.blocks;
     full = order.full;
+    selectors = early_selectors _ before.script.selectors (order.none_selected says.early);
+    none_selected = order.none_selected;
+    phases = order.phases;
+    early = λ e. absurd cc;
+  })
+
+  replica_in_order : ReplicaLine before line after → InOrder after
+  replica_in_order says = subst InOrder (sym says.adds) (record {
+    rules = record {
+      consistency = order.rules.consistency;
+      ignore = order.rules.ignore;
+      delete = order.rules.delete;
+      partial = order.rules.partial;
+      upload = order.rules.upload;
+      tick = order.rules.tick;
+      page_limit_low = order.rules.page_limit_low;
+      page_limit_high = order.rules.page_limit_high;
+      replicas = All-push (λ name. is_name name ≡ true) before.script.rules.replicas says.name order.rules.replicas says.is_name;
+    };
+    agreed = λ some. absurd (some says.early);
+    few_gateways = order.few_gateways;
+    names = order.names;
+    blocks = order.blocks;
+    full = order.full;
+    selectors = early_selectors _ before.script.selectors (order.none_selected says.early);
+    none_selected = order.none_selected;
     phases = order.phases;
     early = λ e. absurd cc;
   })
@@ -117,6 +151,8 @@ module _ (before after : SoFar) (line : List ℕ) (order : InOrder before) where
         names = All-push (λ name. is_name name ≡ true) before.script.gateways says.name order.names says.is_name;
         blocks = order.blocks;
         full = order.full;
+        selectors = order.selectors;
+        none_selected = order.none_selected;
         phases = early_phases _ before.script.blocks (length before.script.selectors) before.script.phases says.early;
         early = λ e. absurd cc;
       })
@@ -143,6 +179,8 @@ module _ (before after : SoFar) (line : List ℕ) (order : InOrder before) where
           once = once_push before.script.blocks new order.blocks.once says.new;
         };
         full = λ others block is. subst (All (λ (b : Block). HasSeries b.body)) (same_from_push before.script.blocks others new block is).0 (all_full before.script.blocks order.full ended);
+        selectors = order.selectors;
+        none_selected = order.none_selected;
         phases = early_phases before.script.gateways _ (length before.script.selectors) before.script.phases says.early;
         early = λ e. says.early;
       })
@@ -182,6 +220,8 @@ module _ (before after : SoFar) (line : List ℕ) (order : InOrder before) where
           once = subst (IsDistinct nat_eq) (ap ulids_of says.last ∙ same_ulids says.others last more refl) order.blocks.once;
         };
         full = λ others block is. subst (All (λ (b : Block). HasSeries b.body)) (same_from_push says.others others more block is).0 (order.full says.others last says.last);
+        selectors = order.selectors;
+        none_selected = order.none_selected;
         phases = early_phases before.script.gateways _ (length before.script.selectors) before.script.phases early;
         early = λ e. early;
       })
@@ -306,6 +346,8 @@ module _ (before after : SoFar) (number : ℕ) (line : List ℕ) (order : InOrde
         names = order.names;
         blocks = order.blocks;
         full = order.full;
+        selectors = order.selectors;
+        none_selected = λ none. absurd (no_end before.script.phases new none);
         phases = phase_in_order before.script.gateways before.script.blocks (length before.script.selectors) before.script.phases new order.phases refl says.is_moment.below says.later;
         early = λ e. absurd cc;
       })
@@ -320,6 +362,8 @@ module _ (before after : SoFar) (number : ℕ) (line : List ℕ) (order : InOrde
         names = order.names;
         blocks = order.blocks;
         full = order.full;
+        selectors = order.selectors;
+        none_selected = λ none. absurd (no_end adds.others (record adds.phase { tasks = adds.phase.tasks ++ record { line = number; work = work } ∷ [] }) none);
         phases = subst (AreLawfulPhases before.script.gateways before.script.blocks (length before.script.selectors)) (ap (λ (s : Script). s.phases) adds.adds) phases;
         early = λ e. absurd cc;
       } in
@@ -349,6 +393,8 @@ module _ (before after : SoFar) (number : ℕ) (line : List ℕ) (order : InOrde
         names = order.names;
         blocks = order.blocks;
         full = order.full;
+        selectors = All-push (IsLawfulSelector before.script.rules.replicas) before.script.selectors says.selector order.selectors (says.selector_text, says.is_selector);
+        none_selected = λ none. absurd (no_end adds.others (record adds.phase { tasks = adds.phase.tasks ++ record { line = number; work = work } ∷ [] }) none);
         phases = subst (λ n. AreLawfulPhases before.script.gateways before.script.blocks n script.phases) (sym (length-append before.script.selectors (says.selector ∷ []))) moved;
         early = λ e. absurd cc;
       } in
@@ -357,6 +403,7 @@ module _ (before after : SoFar) (number : ℕ) (line : List ℕ) (order : InOrde
   says_in_order : IsUtf8 line → Says before number line after → InOrder after
   says_in_order utf8 (spelling.series says) = series_in_order before after line order utf8 says
   says_in_order utf8 (spelling.rule ended says) = rule_in_order before after line order says
+  says_in_order utf8 (spelling.replica ended says) = replica_in_order before after line order says
   says_in_order utf8 (spelling.gateway ended says) = gateway_in_order before after line order says
   says_in_order utf8 (spelling.block ended says) = block_in_order before after line order utf8 ended says
   says_in_order utf8 (spelling.at ended says) = at_in_order says
@@ -382,12 +429,14 @@ none_once = tt
 
 nothing_in_order : InOrder spelling.nothing
 nothing_in_order = record {
-  rules = record { consistency = omega arith; ignore = omega arith; delete = omega arith; partial = omega arith; upload = omega arith; tick = omega arith; page_limit_low = omega arith; page_limit_high = omega arith; replicas = refl };
+  rules = record { consistency = omega arith; ignore = omega arith; delete = omega arith; partial = omega arith; upload = omega arith; tick = omega arith; page_limit_low = omega arith; page_limit_high = omega arith; replicas = All-nil (λ name. is_name name ≡ true) };
   agreed = λ some. absurd (some refl);
   few_gateways = omega arith;
   names = All-nil (λ name. is_name name ≡ true);
   blocks = record { few = omega arith; each = All-nil IsLawfulBlock; once = none_once };
   full = λ others block is. absurd (no_end others block (sym is));
+  selectors = All-nil (IsLawfulSelector []);
+  none_selected = λ none. refl;
   phases = no_phases [] [] 0;
   early = λ e. absurd cc;
 }
@@ -403,5 +452,6 @@ spelled_lawful text script spells =
       names = order.names;
       blocks = order.blocks;
       full = all_full script.blocks order.full spells.ended;
+      selectors = order.selectors;
       phases = order.phases;
     }

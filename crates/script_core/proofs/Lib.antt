@@ -1,6 +1,7 @@
 pub mod SeriesLists
 pub mod Finishing
 pub mod LineLists
+pub mod LinesSoFar
 pub mod FieldLaws
 pub mod SampleLists
 pub mod ValueLaws
@@ -8,6 +9,8 @@ pub mod Kept
 pub mod LineTools
 pub mod SpelledValues
 pub mod SpelledSeries
+pub mod ReadSelectors
+pub mod GivenUpLines
 pub mod SeatLaws
 pub mod SpelledRules
 pub mod FoundSetup

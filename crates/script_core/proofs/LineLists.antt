@@ -1,5 +1,5 @@
 -- The lines of a text, one after another.
-use Rattle.std.proofs.Common.{◌≡◌, ℕ, ◌+◌, ◌<◌, ◌≤◌, Bool, true, false, nat_lt, ◌==◌, List, [], ◌∷◌, length, Result, Ok, Err, ◌⊎◌, inl, inr, refl, ap, sym, ◌∙◌, arith}
+use Rattle.std.proofs.Common.{◌≡◌, ℕ, ◌+◌, ◌<◌, ◌≤◌, Bool, true, false, nat_lt, ◌==◌, List, [], ◌∷◌, length, Result, Ok, Err, refl, ap, sym, ◌∙◌, arith}
 use Rattle.std.specs.List.{position_or_len, before_first, after_first}
 use Rattle.std.proofs.lemmas.List.{drop_all, take_all}
 use Rattle.std.proofs.lemmas.List.Splits.{slice_split_first, slice_split_none}
@@ -7,7 +7,6 @@ use Rattle.std.proofs.lemmas.List.Sums.{fails_before_first}
 use Rattle.std.proofs.lemmas.Bool.Decides.{nat_tests}
 use Rattle.reading_core.specs.Reading.{◌>>=◌}
 use Rattle.script_core.specs.declared.script_refusal.ScriptRefusal.{ScriptRefusal}
-use Rattle.script_core.specs.declared.script_refusal.ScriptRefusal.TheVariants.{NoMemory}
 use Rattle.script_core.specs.Fields.{is_newline, lines_of}
 use Rattle.script_core.specs.State.{State}
 use Rattle.script_core.specs.Reading.{line_at, lines_at}
@@ -49,11 +48,10 @@ module _ (st after : State) (number : ℕ) (text line rest : List ℕ) (whole : 
       let first : line_at st number (before_first is_newline text) ≡ Ok after = ap (line_at st number) (sym line_is) ∙ read in
       rw rest_is (sym (lines_at-next st number text ∙ ap (λ r. r >>= λ next. lines_at next (number + 1) (lines_of (after_first is_newline text))) first) ∙ so_far)
 
-  pub lines_refuse : (refusal : ScriptRefusal) → line ≡ before_first is_newline text → (refusal ≡ NoMemory) ⊎ (line_at st number line ≡ Err refusal) → lines_at st number (lines_of text) ≡ whole → (refusal ≡ NoMemory) ⊎ (whole ≡ Err refusal)
-  lines_refuse refusal line_is (inl memory) so_far = inl memory
-  lines_refuse refusal line_is (inr read) so_far =
+  pub lines_refuse : (refusal : ScriptRefusal) → line ≡ before_first is_newline text → line_at st number line ≡ Err refusal → lines_at st number (lines_of text) ≡ whole → whole ≡ Err refusal
+  lines_refuse refusal line_is read so_far =
       let first : line_at st number (before_first is_newline text) ≡ Err refusal = ap (line_at st number) (sym line_is) ∙ read in
-      inr (sym so_far ∙ lines_at-next st number text ∙ ap (λ r. r >>= λ next. lines_at next (number + 1) (lines_of (after_first is_newline text))) first)
+      sym so_far ∙ lines_at-next st number text ∙ ap (λ r. r >>= λ next. lines_at next (number + 1) (lines_of (after_first is_newline text))) first
 
 lines_end_at : (st : State) (number : ℕ) (text : List ℕ) (whole : Result State ScriptRefusal) → text ≡ [] → lines_at st number (lines_of text) ≡ whole → whole ≡ Ok st
 lines_end_at st number text whole none so_far =

@@ -1,7 +1,8 @@
 -- What the laws of lines share: first words, what follows them, ends of lists, and the ends of blocks.
-use Rattle.std.proofs.Common.{◌≡◌, ◌≢◌, ℕ, true, false, not, ◌==◌, ◌&&◌, List, [], ◌∷◌, ◌++◌, length, Option, Some, None, is_none, Result, Ok, refl, sym, ap, ◌∙◌, subst, arith, codes}
+use Rattle.std.proofs.Common.{◌≡◌, ◌≢◌, ℕ, Bool, true, false, not, ◌==◌, ◌&&◌, cond, List, [], ◌∷◌, ◌++◌, length, Option, Some, None, is_none, option_map, Result, Ok, refl, sym, ap, ◌∙◌, subst, arith, codes}
 use Rattle.std.specs.Str.{bytes_eq}
 use Rattle.std.proofs.lemmas.Bool.Decides.{nat_tests}
+use Rattle.std.proofs.lemmas.Option.{same_Some}
 use Rattle.std.proofs.lemmas.List.{same_from_push}
 use Rattle.std.proofs.lemmas.List.Elements.{All-contains, All-from_recursion}
 use Rattle.std.proofs.lemmas.Map.Views.{Contains-from_lookup}
@@ -16,9 +17,11 @@ use Rattle.script_core.specs.declared.cause.LineCause.TheVariants.{BadShape}
 use Rattle.script_core.specs.declared.line_kind.LineKind.{LineKind}
 use Rattle.script_core.specs.declared.line_kind.LineKind.TheVariants as kinds
 use Rattle.script_workers.specs.declared.phase.Phase.{Phase}
+use Rattle.script_core.specs.declared.rule_kind.RuleKind.{RuleKind}
+use Rattle.script_core.specs.declared.rule_kind.RuleKind.TheVariants.{Valued, ReplicaLabel}
 use Rattle.script_core.specs.declared.rule_name.RuleName.{RuleName}
 use Rattle.script_core.specs.declared.rule_name.RuleName.TheVariants as names
-use Rattle.script_core.specs.Fields.{is_empty, next_field, only_field, line_words, rule_words, line_kind, rule_name}
+use Rattle.script_core.specs.Fields.{is_empty, next_field, only_field, line_words, rule_words, line_kind, rule_kind, rule_name}
 use Rattle.script_core.specs.State.{Last, block_of, all_blocks, all_phases, has_ended}
 use Rattle.script_core.specs.Lawful.{HasSeries}
 use Rattle.script_core.specs.Spelling.{IsField, rule_word, HasEnded}
@@ -97,6 +100,35 @@ kind_found word found =
 pub name_found : (word : List ℕ) (found : RuleName) → rule_name word ≡ Some found → word ≡ rule_word found
 name_found word found =
     word_found rule_word rule_words word found (All-from_recursion (λ (e : List ℕ × RuleName). e.0 ≡ rule_word e.1) rule_words (refl, (refl, (refl, (refl, (refl, (refl, (refl, tt))))))))
+
+valued_by : (b : Bool) (named : Option RuleName) (name : RuleName) → cond {A = Option RuleKind} b (Some ReplicaLabel) (option_map Valued named) ≡ Some (Valued name) → named ≡ Some name
+valued_by true named name h = absurd cc
+valued_by false None name h = absurd cc
+valued_by false (Some own) name h = let same : Valued own ≡ Valued name = same_Some _ _ h in cc
+
+-- the word of a rule that has one value
+pub valued_found : (word : List ℕ) (name : RuleName) → rule_kind word ≡ Some (Valued name) → word ≡ rule_word name
+valued_found word name h =
+    name_found word name (valued_by (bytes_eq word (codes "replica-label")) (rule_name word) name h)
+
+replica_by : (b : Bool) (named : Option RuleName) → cond {A = Option RuleKind} b (Some ReplicaLabel) (option_map Valued named) ≡ Some ReplicaLabel → b ≡ true
+replica_by true named h = refl
+replica_by false None h = absurd cc
+replica_by false (Some own) h = let same : Valued own ≡ ReplicaLabel = same_Some _ _ h in absurd cc
+
+pub replica_found : (word : List ℕ) → rule_kind word ≡ Some ReplicaLabel → word ≡ codes "replica-label"
+replica_found word h =
+    bytes_eq-same word (codes "replica-label") (replica_by (bytes_eq word (codes "replica-label")) (rule_name word) h)
+
+pub valued_again : (name : RuleName) → rule_kind (rule_word name) ≡ Some (Valued name)
+valued_again names.Consistency = refl
+valued_again name = refl
+
+pub replica_again : rule_kind (codes "replica-label") ≡ Some ReplicaLabel
+replica_again = refl
+
+pub replica_free : no_space (codes "replica-label") ≡ true
+replica_free = refl
 
 pub kind_again : (kind : LineKind) → line_kind (line_word kind) ≡ Some kind
 kind_again kinds.Rule = refl

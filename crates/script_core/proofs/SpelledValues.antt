@@ -12,9 +12,6 @@ use Rattle.std.proofs.lemmas.List.Elements.{All-nil, All-cons, All-head, All-tai
 use Rattle.std.proofs.lemmas.Option.{same_Some}
 use Rattle.std.proofs.lemmas.Bool.{and_parts, not-true}
 use Rattle.label_sets.specs.declared.sample.Sample.{Sample}
-use Rattle.matchers.specs.SelectorText.{IsSimpleText}
-use Rattle.matchers.specs.Selectors.{is_metric_name, metric_matcher, simple_selector}
-use Rattle.matchers.specs.declared.matcher.Matcher.{Matcher}
 use Rattle.moment_core.specs.declared.rules.Rules.{Rules}
 use Rattle.list_core.proofs.Bools.{bytes_eq-same}
 use Rattle.script_core.specs.Samples.{is_within, are_within, times_of, rise_after, are_rising}
@@ -126,40 +123,3 @@ agree_tested set is =
     let two = le_tested (set.upload.ms + 1000) set.delete.ms is.delete in
     let three = le_tested set.ignore.ms set.delete.ms is.ignore in
     rw (one, two, three) refl
-
--- ---- selectors
-
-selector_by : (text : List ℕ) (selector : List Matcher) (empty metric : Bool) → bytes_eq text (codes "{}") ≡ empty → is_metric_name text ≡ metric → cond {A = Option (List Matcher)} empty (Some []) (cond metric (Some (metric_matcher text ∷ [])) None) ≡ Some selector → IsSimpleText text selector
-unfolding metric_matcher
-selector_by text selector true metric is name h = inl (bytes_eq-same text (codes "{}") is, sym (same_Some _ _ h))
-selector_by text selector false true is name h = inr (name, sym (same_Some _ _ h))
-selector_by text selector false false is name h = absurd cc
-
-pub selector_spelled : (text : List ℕ) (selector : List Matcher) → simple_selector text ≡ Some selector → IsSimpleText text selector
-unfolding simple_selector
-selector_spelled text selector h = selector_by text selector (bytes_eq text (codes "{}")) (is_metric_name text) refl refl h
-
-no_braces : is_metric_name (codes "{}") ≡ false
-unfolding is_metric_name
-no_braces = refl
-
-metric_by : (text : List ℕ) (empty : Bool) → bytes_eq text (codes "{}") ≡ empty → is_metric_name text ≡ true → cond {A = Option (List Matcher)} empty (Some []) (cond (is_metric_name text) (Some (metric_matcher text ∷ [])) None) ≡ Some (metric_matcher text ∷ [])
-metric_by text true is name =
-    let none : is_metric_name text ≡ false = ap is_metric_name (bytes_eq-same text (codes "{}") is) ∙ no_braces in absurd cc
-metric_by text false is name = rw name refl
-
-braces_read : simple_selector (codes "{}") ≡ Some []
-unfolding simple_selector
-braces_read = refl
-
-metric_read : (text : List ℕ) → is_metric_name text ≡ true → simple_selector text ≡ Some (metric_matcher text ∷ [])
-unfolding simple_selector
-metric_read text name = metric_by text (bytes_eq text (codes "{}")) refl name
-
-pub selector_read : (text : List ℕ) (selector : List Matcher) → IsSimpleText text selector → simple_selector text ≡ Some selector
-unfolding metric_matcher
-selector_read text selector is =
-    elim is [
-      | inl empty ↦ ap simple_selector empty.0 ∙ braces_read ∙ ap Some (sym empty.1)
-      | inr metric ↦ metric_read text metric.0 ∙ ap Some (sym metric.1)
-    ]

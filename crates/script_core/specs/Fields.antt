@@ -1,5 +1,5 @@
 -- The lines of a text, and the fields of a line: what stands between single spaces.
-use Rattle.std.specs.Prelude.{ℕ, List, [], ◌∷◌, length, Bool, not, ◌&&◌, ◌||◌, ◌==◌, nat_lt, slice_index, Option, None, Some, is_none, Result, Ok, Err, if◌then◌else◌, codes}
+use Rattle.std.specs.Prelude.{ℕ, List, [], ◌∷◌, length, Bool, not, ◌&&◌, ◌||◌, ◌==◌, nat_lt, slice_index, Option, None, Some, is_none, option_map, Result, Ok, Err, if◌then◌else◌, codes}
 use Rattle.std.specs.List.{slice_split, position_or_len, before_first, after_first}
 use Rattle.std.specs.Str.{byte as code, bytes_eq}
 use Rattle.std.specs.Map.{lookup}
@@ -8,6 +8,8 @@ use Rattle.script_core.specs.declared.cause.LineCause.{LineCause}
 use Rattle.script_core.specs.declared.cause.LineCause.TheVariants.{BadShape}
 use Rattle.script_core.specs.declared.line_kind.LineKind.{LineKind}
 use Rattle.script_core.specs.declared.line_kind.LineKind.TheVariants as kinds
+use Rattle.script_core.specs.declared.rule_kind.RuleKind.{RuleKind}
+use Rattle.script_core.specs.declared.rule_kind.RuleKind.TheVariants.{Valued, ReplicaLabel}
 use Rattle.script_core.specs.declared.rule_name.RuleName.{RuleName}
 use Rattle.script_core.specs.declared.rule_name.RuleName.TheVariants as names
 
@@ -68,7 +70,7 @@ line_words =
     ∷ (codes "query", kinds.Query)
     ∷ []
 
--- the names of rules
+-- the names of the rules that have one value
 abbrev pub rule_words : List (List ℕ × RuleName)
 rule_words =
     (codes "consistency-delay", names.Consistency)
@@ -85,3 +87,8 @@ line_kind word = lookup (bytes_eq word) line_words
 
 abbrev pub rule_name : List ℕ → Option RuleName
 rule_name word = lookup (bytes_eq word) rule_words
+
+-- what a rule line says, by the rule's name
+abbrev pub rule_kind : List ℕ → Option RuleKind
+rule_kind word =
+    if bytes_eq word (codes "replica-label") then Some ReplicaLabel else option_map Valued (rule_name word)

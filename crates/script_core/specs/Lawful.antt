@@ -9,6 +9,8 @@ use Rattle.label_sets.specs.Notation.{is_name}
 use Rattle.label_sets.specs.SetText.{AreNamed}
 use Rattle.label_sets.specs.declared.label.Label.{Label}
 use Rattle.label_sets.specs.declared.series.Series.{Series}
+use Rattle.matchers.specs.SelectorRefusals.{IsReadable}
+use Rattle.matchers.specs.declared.matcher.Matcher.{Matcher}
 use Rattle.moment_core.specs.declared.rules.Rules.{Rules}
 use Rattle.moment_core.specs.Limits.{longest_tick}
 use Rattle.script_workers.specs.Limits.{most_workers}
@@ -26,7 +28,7 @@ use Rattle.script_workers.specs.Hands.{gateway_count, hands_of}
 use Rattle.script_workers.specs.Works.{works_of, has_sync}
 use Rattle.script_core.specs.Blocks.{declares}
 
--- spans of at most 2^46 milliseconds, a tick of at most a day, and pages of 1 to 10,000 names
+-- spans of at most 2^46 milliseconds, a tick of at most a day, pages of 1 to 10,000 names, and replica labels that are names
 pub record AreLawfulRules (rules : Rules) : Type 0 where
   pub consistency : rules.consistency.ms ≤ 2 ^ 46
   pub ignore : rules.ignore.ms ≤ 2 ^ 46
@@ -36,7 +38,7 @@ pub record AreLawfulRules (rules : Rules) : Type 0 where
   pub tick : rules.tick.ms ≤ longest_tick
   pub page_limit_low : 1 ≤ rules.page_limit
   pub page_limit_high : rules.page_limit ≤ 10_000
-  pub replicas : rules.replicas ≡ []
+  pub replicas : All (λ name. IsTrue (is_name name)) rules.replicas
 
 -- a label set, whose names have the form of a name and whose values are texts
 pub record AreLawfulLabels (labels : List Label) : Type 0 where
@@ -98,6 +100,10 @@ pub record AreLawfulPhases (gateways : List (List ℕ)) (blocks : List Block) (s
   -- each gateway has a sync before each query
   pub synced : (before after : List Work) (low high : ℤ) (selector gateway : ℕ) → works_of phases ≡ before ++ Query low high selector ∷ after → gateway < length gateways → IsTrue (has_sync before gateway)
 
+-- Some text is read as the selector, where these are the replica labels.
+abbrev pub IsLawfulSelector : List (List ℕ) → List Matcher → Type 0
+IsLawfulSelector replicas selector = (text : List ℕ) × IsReadable text replicas selector
+
 pub record IsLawfulScript (script : Script) : Type 0 where
   pub rules : AreLawfulRules script.rules
   -- once a phase begins, the rules agree
@@ -107,4 +113,5 @@ pub record IsLawfulScript (script : Script) : Type 0 where
   pub blocks : AreLawfulBlocks script.blocks
   -- each block has a series
   pub full : All (λ block. HasSeries block.body) script.blocks
+  pub selectors : All (IsLawfulSelector script.rules.replicas) script.selectors
   pub phases : AreLawfulPhases script.gateways script.blocks (length script.selectors) script.phases

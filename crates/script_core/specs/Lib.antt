@@ -15,4 +15,5 @@ pub mod Lines
 pub mod Reading
 pub mod Lawful
 pub mod Spelling
+pub mod GivenUp
 pub mod Wording

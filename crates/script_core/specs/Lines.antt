@@ -1,6 +1,6 @@
 -- One definition for each kind of line: the causes for which it is refused, in the order in which they are tested, and
 -- what it leaves to the next line.
-use Rattle.std.specs.Prelude.{ℕ, List, [], length, drop, Bool, not, ◌&&◌, ◌==◌, nat_le, int_lt, ok_or, unwrap_or, Option, None, Some, is_none, is_some, Result, Ok, Err, codes, if◌then◌else◌}
+use Rattle.std.specs.Prelude.{ℕ, List, [], length, drop, Bool, not, ◌&&◌, ◌==◌, nat_le, int_lt, ok_or, unwrap_or, Option, None, Some, is_none, is_some, Result, Ok, Err, ℤ, codes}
 use Rattle.std.specs.Str.{bytes_eq}
 use Rattle.reading_core.specs.Reading.{◌>>=◌, ◌>>◌, unless, refused_as}
 use Rattle.label_sets.specs.declared.label.Label.{Label}
@@ -16,11 +16,12 @@ use Rattle.script_core.specs.declared.line_refusal.LineRefusal.{LineRefusal}
 use Rattle.script_core.specs.declared.line_refusal.LineRefusal.TheVariants.{Bad, FallingMoment, UnknownBlock, BadRules, NeverSynced}
 use Rattle.script_workers.specs.declared.phase.Phase.{Phase}
 use Rattle.script_workers.specs.declared.work.Work.TheVariants as works
-use Rattle.script_core.specs.Fields.{is_empty, next_field, only_field, after_space, rule_name}
-use Rattle.script_core.specs.Values.{time_field, moment_field, ulid_field, is_reserved, set_rule, agree}
+use Rattle.script_core.specs.Fields.{is_empty, next_field, only_field, after_space, rule_kind}
+use Rattle.script_core.specs.Values.{time_field, moment_field, ulid_field, is_reserved, apply_rule, agree}
 use Rattle.script_core.specs.Samples.{are_whole, have_small_numbers, samples_of, are_rising}
 use Rattle.script_core.specs.State.{State, gateway_named, add_gateway, is_declared, begin_block, add_series, begin_phase, add_task, add_query, note_sync, are_all_synced}
-use Rattle.matchers.specs.Selectors.{simple_selector}
+use Rattle.matchers.specs.SelectorText.{are_lawful, named_replicas}
+use Rattle.matchers.specs.Stages.{read_whole, selector_of}
 use Rattle.label_sets.specs.Notation.{is_name, read_set}
 
 -- a cause of `BadLine` as a refusal
@@ -38,9 +39,9 @@ has_begun st = is_some st.phase
 unfoldable pub rule_line : State → Option (List ℕ) → Result State LineRefusal
 rule_line st left = do
   text ← ok_or left (Bad causes.BadShape)
-  name ← ok_or (rule_name (next_field (Some text)).0) (Bad causes.UnknownWord)
+  kind ← ok_or (rule_kind (next_field (Some text)).0) (Bad causes.UnknownWord)
   value ← bad (only_field (next_field (Some text)).1)
-  set ← bad (set_rule name value st.rules)
+  set ← bad (apply_rule kind value st.rules)
   unless (is_early st) (Bad causes.LateLine)
   Ok (record st { rules = set })
 
@@ -138,28 +139,42 @@ sync_line st number left = do
   after ← add_task st number (works.Sync gateway)
   Ok (note_sync after gateway)
 
--- the selector that is left of a line, if anything is
-unfoldable pub last_selector : Option (List ℕ) → Result (Option (List Matcher)) LineRefusal
-last_selector left =
-    if is_empty (unwrap_or left []) then Ok None
-    else (do
-      selector ← ok_or (simple_selector (unwrap_or left [])) (Bad causes.UnknownWord)
-      Ok (Some selector))
+-- what a query line asks, before its selector is read
+pub record Asked : Type 0 where
+  pub low : ℤ
+  pub high : ℤ
+  -- the text of the selector
+  pub text : List ℕ
 
--- query LOW HIGH SELECTOR
-unfoldable pub query_line : State → ℕ → Option (List ℕ) → Result State LineRefusal
-query_line st number left = do
+-- LOW HIGH SELECTOR, where all that is left behind the times is the selector
+unfoldable pub question_at : State → Option (List ℕ) → Result Asked LineRefusal
+question_at st left = do
   let low_text = next_field left
   let high_text = next_field low_text.1
-  read ← last_selector high_text.1
-  unless (not (is_empty low_text.0) && not (is_empty high_text.0)) (Bad causes.BadShape)
-  selector ← ok_or read (Bad causes.BadShape)
+  let text = unwrap_or high_text.1 []
+  unless (not (is_empty low_text.0) && not (is_empty high_text.0) && not (is_empty text)) (Bad causes.BadShape)
   low ← bad (time_field low_text.0)
   high ← bad (time_field high_text.0)
   unless (has_begun st) (Bad causes.NoPhase)
   unless (not (int_lt high low)) (Bad causes.BadTimes)
+  Ok (record { low = low; high = high; text = text })
+
+-- The selector of a text, whatever the size of its patterns: first the text is read, then its patterns are, and then the
+-- names of its matchers are compared with those of the replica labels.
+unfoldable pub selector_field : List (List ℕ) → List ℕ → Result (List Matcher) LineCause
+selector_field replicas text = do
+  draft ← refused_as (λ _. causes.BadSelectorText) (read_whole text)
+  unless (are_lawful (selector_of draft)) causes.BadPatternText
+  unless (length (named_replicas replicas (selector_of draft)) == 0) causes.ReplicaNamed
+  Ok (selector_of draft)
+
+-- query LOW HIGH SELECTOR
+unfoldable pub query_line : State → ℕ → Option (List ℕ) → Result State LineRefusal
+query_line st number left = do
+  asked ← question_at st left
+  selector ← bad (selector_field st.rules.replicas asked.text)
   unless (are_all_synced st) NeverSynced
-  add_query st number low high selector
+  add_query st number asked.low asked.high selector
 
 -- a line by its kind
 unfoldable pub fields_line : State → ℕ → LineKind → Option (List ℕ) → Result State LineRefusal

@@ -16,7 +16,7 @@ use Rattle.label_sets.specs.SampleText.{sample_text}
 use Rattle.label_sets.specs.declared.label.Label.{Label}
 use Rattle.label_sets.specs.declared.sample.Sample.{Sample}
 use Rattle.label_sets.specs.declared.series.Series.{Series}
-use Rattle.matchers.specs.SelectorText.{IsSimpleText}
+use Rattle.matchers.specs.SelectorRefusals.{IsReadable}
 use Rattle.matchers.specs.declared.matcher.Matcher.{Matcher}
 use Rattle.moment_core.specs.MomentText.{IsMomentText}
 use Rattle.moment_core.specs.SpanText.{IsSpanText}
@@ -171,6 +171,16 @@ pub record RuleLine (before : SoFar) (line : List ℕ) (after : SoFar) : Type 0 
   pub sets : Sets name value before.script.rules set
   pub adds : after ≡ outside (record before.script { rules = set })
 
+-- rule replica-label NAME
+pub record ReplicaLine (before : SoFar) (line : List ℕ) (after : SoFar) : Type 0 where
+  pub name : List ℕ
+  pub spelled : line ≡ spaced (codes "rule" ∷ codes "replica-label" ∷ name ∷ [])
+  pub field : IsField name
+  pub is_name : IsTrue (is_name name)
+  pub early : IsEarly before
+  -- It joins the replica labels of the lines before it.
+  pub adds : after ≡ outside (record before.script { rules = record before.script.rules { replicas = before.script.rules.replicas ++ name ∷ [] } })
+
 -- gateway NAME
 pub record GatewayLine (before : SoFar) (line : List ℕ) (after : SoFar) : Type 0 where
   pub name : List ℕ
@@ -285,7 +295,7 @@ pub record QueryLine (before : SoFar) (number : ℕ) (line : List ℕ) (after : 
   pub spelled : line ≡ spaced (codes "query" ∷ low_text ∷ high_text ∷ selector_text ∷ [])
   pub is_low : IsTimeText low_text low
   pub is_high : IsTimeText high_text high
-  pub is_selector : IsSimpleText selector_text selector
+  pub is_selector : IsReadable selector_text before.script.rules.replicas selector
   pub times : low ≤ℤ high
   pub synced : (gateway : ℕ) → gateway < length before.script.gateways → IsTrue (has_sync (works_of before.script.phases) gateway)
   pub script : Script
@@ -298,6 +308,7 @@ pub record QueryLine (before : SoFar) (number : ℕ) (line : List ℕ) (after : 
 pub data Says (before : SoFar) (number : ℕ) (line : List ℕ) (after : SoFar) : Type 0 where
   series : SeriesLine before line after → Says before number line after
   rule : HasEnded before.script.blocks → RuleLine before line after → Says before number line after
+  replica : HasEnded before.script.blocks → ReplicaLine before line after → Says before number line after
   gateway : HasEnded before.script.blocks → GatewayLine before line after → Says before number line after
   block : HasEnded before.script.blocks → BlockLine before line after → Says before number line after
   at : HasEnded before.script.blocks → AtLine before number line after → Says before number line after

@@ -1,18 +1,21 @@
 -- The numbers, times, spans and ULIDs that stand in fields.
-use Rattle.std.specs.Prelude.{ℕ, ◌+◌, ◌-◌, ◌%◌, ◌^◌, List, Bool, ◌&&◌, nat_le, nat_lt, option_map, ok_or, Result, Ok, ℤ, pos, negsuc}
+use Rattle.std.specs.Prelude.{ℕ, ◌+◌, ◌-◌, ◌%◌, ◌^◌, List, [], ◌∷◌, ◌++◌, Bool, ◌&&◌, nat_le, nat_lt, option_map, ok_or, Result, Ok, ℤ, pos, negsuc}
 use Rattle.reading_core.specs.Reading.{◌>>=◌, ◌>>◌, unless, refused_as}
 use Rattle.reading_core.specs.Decimal.{unsigned_of, signed_of}
 use Rattle.ulid_core.specs.UlidText.{ulid_of}
+use Rattle.label_sets.specs.Notation.{is_name}
 use Rattle.moment_core.specs.declared.span.Span.{Span}
 use Rattle.moment_core.specs.declared.rules.Rules.{Rules}
 use Rattle.moment_core.specs.Limits.{longest_tick}
+use Rattle.script_core.specs.declared.rule_kind.RuleKind.{RuleKind}
+use Rattle.script_core.specs.declared.rule_kind.RuleKind.TheVariants.{Valued, ReplicaLabel}
 use Rattle.script_core.specs.declared.rule_name.RuleName.{RuleName}
 use Rattle.script_core.specs.declared.rule_name.RuleName.TheVariants as names
 use Rattle.moment_core.specs.SpanText.{span_of}
 use Rattle.moment_core.specs.MomentText.{moment_of}
 use Rattle.moment_core.specs.declared.moment.Moment.{Moment}
 use Rattle.script_core.specs.declared.cause.LineCause.{LineCause}
-use Rattle.script_core.specs.declared.cause.LineCause.TheVariants.{BadNumber, BadMomentText, BadSpanText, BadUlidText}
+use Rattle.script_core.specs.declared.cause.LineCause.TheVariants.{BadNumber, BadMomentText, BadSpanText, BadUlidText, BadName}
 
 -- a time of the script: within 2^62 of 0
 abbrev pub is_time : ℤ → Bool
@@ -82,6 +85,17 @@ unfoldable pub set_rule : RuleName → List ℕ → Rules → Result Rules LineC
 set_rule name text rules = do
   value ← value_field name text
   Ok (with_rule name value rules)
+
+-- the rules with one more replica label
+unfoldable pub add_replica : List ℕ → Rules → Result Rules LineCause
+add_replica text rules = do
+  unless (is_name text) BadName
+  Ok (record rules { replicas = rules.replicas ++ text ∷ [] })
+
+-- what a rule line of this kind makes of the rules, by the text of its value
+abbrev pub apply_rule : RuleKind → List ℕ → Rules → Result Rules LineCause
+apply_rule (Valued name) text rules = set_rule name text rules
+apply_rule ReplicaLabel text rules = add_replica text rules
 
 -- An upload has its time before a partial block is deleted, and a second more before a marked one is. A mark is heeded
 -- no later than it deletes.

@@ -5,7 +5,8 @@ ghost use Rattle.script_core.specs.declared.line_refusal.LineRefusal.TheVariants
 
 use crate::line_refusal::LineRefusal;
 
-/// What is wrong with a line of a script. Of several causes in one line the first in this order is given.
+/// What is wrong with a line of a script. Of several causes in one line the first in this order is given, but that the size of a
+/// pattern is looked at where the pattern is read.
 #[derive(Clone, Copy, Debug, PartialEq, Eq)]
 pub enum LineCause {
     /// The line is not UTF-8.

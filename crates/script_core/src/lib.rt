@@ -11,6 +11,7 @@ mod line_kind;
 mod line_refusal;
 mod phase_lines;
 mod reader;
+mod rule_kind;
 mod rule_name;
 mod samples;
 mod script;

@@ -1,19 +1,20 @@
 //! The lines of phases: their moments and their tasks.
 
 ghost use Rattle.std.specs.Prelude.{◌≡◌, option_copied};
-ghost use Rattle.reading_core.specs.Reading.{Gives};
+ghost use Rattle.reading_core.specs.Reading.{Answers, Gives};
 ghost use Rattle.script_core.specs.declared.line_refusal.LineRefusal.TheVariants as line_refusals;
 ghost use Rattle.script_core.specs.Values.{agree, moment_field};
-ghost use Rattle.script_core.specs.Lines.{bad, may_begin, at_line, upload_line, sync_line, query_line, last_selector};
-ghost use Rattle.script_core.specs.View.{state_of};
+ghost use Rattle.script_core.specs.GivenUp.{GivesUnless, IsQueryGivenUp, IsSelectorGivenUp};
+ghost use Rattle.script_core.specs.Lines.{bad, may_begin, at_line, upload_line, sync_line, query_line, question_at, selector_field};
+ghost use Rattle.script_core.specs.View.{asked_of, state_of};
 
 use crate::LineCause;
 use crate::draft::Draft;
 use crate::fields::{next_field, only_field};
 use crate::line_refusal::LineRefusal;
 use crate::values::{is_reserved, time, ulid};
-use label_sets::is_name;
-use matchers::Selector;
+use label_sets::{TextList, is_name};
+use matchers::{Selector, SelectorRefusal};
 use moment_core::{Moment, MomentRefusal, Rules};
 use script_workers::{Phase, TaskList, Work};
 use std::alloc::Global;
@@ -115,40 +116,71 @@ pub(crate) fn sync_line(
     Ok(())
 }
 
+/// What a query line asks, before its selector is read.
+#[derive(Clone, Copy)]
+pub(crate) struct Question<'a> {
+    pub low: i64,
+    pub high: i64,
+    /// The text of the selector.
+    pub selector: &'a str,
+}
+
 /// `query LOW HIGH SELECTOR`
-#[tactic(auto, unfolding(crate::specs::View::state_of, crate::specs::Lines::query_line))]
+#[tactic(auto, using(crate::proofs::GivenUpLines::query_given_up), unfolding(crate::specs::View::state_of, crate::specs::Lines::query_line))]
 pub(crate) fn query_line(
     draft: &mut Draft,
     alloc: Global,
     number: u32,
     fields: Option<&str>,
 ) -> Result<(), LineRefusal>
-    ensures { Gives line_refusals.NoMemory (λ _. state_of draft.new) result
+    ensures { GivesUnless (IsQueryGivenUp (state_of draft.old) (option_copied fields.entry))
+        (λ _. state_of draft.new) result
         (query_line (state_of draft.old) number (option_copied fields.entry)) }
+{
+    let asked = read_question(draft, fields)?;
+    let selector = selector(alloc, asked.selector, &draft.rules.replicas)?;
+    LineRefusal::NeverSynced.unless(draft.are_all_synced())?;
+    draft.add_query(number, asked.low, asked.high, selector)
+}
+
+/// `LOW HIGH SELECTOR`, where all that is left behind the times is the selector.
+#[tactic(auto, unfolding(crate::specs::View::state_of, crate::specs::Lines::question_at))]
+fn read_question<'a>(draft: &Draft, fields: Option<&'a str>) -> Result<Question<'a>, LineRefusal>
+    ensures { Answers asked_of result
+        (question_at (state_of draft.now) (option_copied fields.entry)) }
 {
     let (low_text, rest) = next_field(fields);
     let (high_text, rest) = next_field(rest);
-    let selector = last_selector(alloc, rest)?;
-    LineCause::BadShape.unless(!low_text.is_empty() && !high_text.is_empty())?;
-    let selector = selector.ok_or(LineCause::BadShape)?;
+    let selector = rest.unwrap_or("");
+    let whole = !low_text.is_empty() && !high_text.is_empty() && !selector.is_empty();
+    LineCause::BadShape.unless(whole)?;
     let low = time(low_text)?;
     let high = time(high_text)?;
     LineCause::NoPhase.unless(draft.phase.is_some())?;
     LineCause::BadTimes.unless(low <= high)?;
-    LineRefusal::NeverSynced.unless(draft.are_all_synced())?;
-    draft.add_query(number, low, high, selector)
+    Ok(Question {
+        low,
+        high,
+        selector,
+    })
 }
 
-/// The selector that is left of a line, or none where nothing is left.
-#[tactic(auto, unfolding(crate::specs::Lines::last_selector))]
-fn last_selector(alloc: Global, left: Option<&str>) -> Result<Option<Selector>, LineRefusal>
-    ensures { Gives line_refusals.NoMemory (λ selector. selector) result
-        (last_selector (option_copied left.entry)) }
+/// The selector of a text.
+#[tactic(auto, using(crate::proofs::ReadSelectors::read_selector, crate::proofs::ReadSelectors::refused_selector))]
+fn selector(alloc: Global, text: &str, replicas: &TextList) -> Result<Selector, LineRefusal>
+    ensures { GivesUnless (IsSelectorGivenUp text.now) (λ selector. selector) result
+        (bad (selector_field replicas.now text.now)) }
 {
-    let text = left.unwrap_or("");
-    if text.is_empty() {
-        return Ok(None);
+    match Selector::read(alloc, text, replicas) {
+        Ok(selector) => Ok(selector),
+        Err(SelectorRefusal::BadSelector(_)) => {
+            Err(LineRefusal::Bad(LineCause::BadSelectorText))
+        }
+        Err(SelectorRefusal::BadPattern(_)) => Err(LineRefusal::Bad(LineCause::BadPatternText)),
+        Err(SelectorRefusal::PatternSize(_)) => {
+            Err(LineRefusal::Bad(LineCause::PatternSizeText))
+        }
+        Err(SelectorRefusal::ReplicaNamed(_)) => Err(LineRefusal::Bad(LineCause::ReplicaNamed)),
+        Err(SelectorRefusal::NoMemory) => Err(LineRefusal::NoMemory),
     }
-    let selector = Selector::simple(alloc, text)?.ok_or(LineCause::UnknownWord)?;
-    Ok(Some(selector))
 }

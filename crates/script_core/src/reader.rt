@@ -1,9 +1,7 @@
 //! Reading a script line by line.
 
 ghost use Rattle.std.specs.Prelude.{◌≡◌, ◌≤◌, Some, None, length, option_copied, if◌then◌else◌};
-ghost use Rattle.reading_core.specs.Reading.{Gives};
-ghost use Rattle.script_core.specs.declared.script_refusal.ScriptRefusal.TheVariants as script_refusals;
-ghost use Rattle.script_core.specs.declared.line_refusal.LineRefusal.TheVariants as line_refusals;
+ghost use Rattle.script_core.specs.GivenUp.{GivesUnless, IsKindGivenUp, IsTextGivenUp, IsLineGivenUp, AreLinesGivenUp, IsWholeGivenUp};
 ghost use Rattle.script_core.specs.Reading.{is_series, kind_line, text_line, line_at, lines_at, script_of};
 ghost use Rattle.std.specs.Str.{is_utf8};
 ghost use Rattle.script_core.specs.Fields.{lines_of};
@@ -26,9 +24,10 @@ use std::alloc::Global;
 pub const LONGEST_TEXT: usize = 67_108_864;
 
 /// Reads a script.
-#[tactic(auto, unfolding(crate::specs::Reading::script_of))]
+#[tactic(auto, using(crate::proofs::GivenUpLines::whole_given_up), unfolding(crate::specs::Reading::script_of))]
 pub(crate) fn read_script(alloc: Global, text: &[u8]) -> Result<Script, ScriptRefusal>
-    ensures { Gives script_refusals.NoMemory (λ script. script) result (script_of text.now) }
+    ensures { GivesUnless (IsWholeGivenUp text.now) (λ script. script) result
+        (script_of text.now) }
 {
     if text.len() > LONGEST_TEXT {
         return Err(ScriptRefusal::TooLong);
@@ -39,8 +38,8 @@ pub(crate) fn read_script(alloc: Global, text: &[u8]) -> Result<Script, ScriptRe
 /// Reads the lines of a text in order, and answers what they leave.
 fn read_lines(alloc: Global, text: &[u8]) -> Result<Draft, ScriptRefusal>
     requires { length text.now ≤ longest_text }
-    ensures { Gives script_refusals.NoMemory state_of result
-        (lines_at (start standard_rules) 1 (lines_of text.now)) }
+    ensures { GivesUnless (AreLinesGivenUp (start standard_rules) 1 (lines_of text.now)) state_of
+        result (lines_at (start standard_rules) 1 (lines_of text.now)) }
 {
     let mut draft = Draft::new(alloc, Rules::standard(alloc));
     let mut number = 0u32;
@@ -54,15 +53,15 @@ fn read_lines(alloc: Global, text: &[u8]) -> Result<Draft, ScriptRefusal>
     Ok(draft)
 }
 
-#[tactic(auto, unfolding(crate::specs::Reading::line_at, crate::specs::Reading::spoken_line))]
+#[tactic(auto, using(crate::proofs::GivenUpLines::line_given_up), unfolding(crate::specs::Reading::line_at, crate::specs::Reading::spoken_line))]
 fn read_line(
     draft: &mut Draft,
     alloc: Global,
     number: u32,
     line: &[u8],
 ) -> Result<(), ScriptRefusal>
-    ensures { Gives script_refusals.NoMemory (λ _. state_of draft.new) result
-        (line_at (state_of draft.old) number line.now) }
+    ensures { GivesUnless (IsLineGivenUp (state_of draft.old) number line.now)
+        (λ _. state_of draft.new) result (line_at (state_of draft.old) number line.now) }
 {
     if is_silent(line) {
         return Ok(());
@@ -86,10 +85,10 @@ fn text_of(line: &[u8]) -> Option<&str>
     }
 }
 
-#[tactic(auto, unfolding(crate::specs::Reading::text_line))]
+#[tactic(auto, using(crate::proofs::GivenUpLines::text_given_up, crate::proofs::GivenUpLines::series_given_up), unfolding(crate::specs::Reading::text_line))]
 fn read_text(draft: &mut Draft, alloc: Global, number: u32, text: &str) -> Result<(), ScriptRefusal>
-    ensures { Gives script_refusals.NoMemory (λ _. state_of draft.new) result
-        (text_line (state_of draft.old) number text.now) }
+    ensures { GivesUnless (IsTextGivenUp (state_of draft.old) number text.now)
+        (λ _. state_of draft.new) result (text_line (state_of draft.old) number text.now) }
 {
     let (word, fields) = next_field(Some(text));
     let kind = LineKind::of_word(word);
@@ -108,7 +107,7 @@ fn is_series(kind: Option<LineKind>) -> bool
     kind == Some(LineKind::Series)
 }
 
-#[tactic(auto, unfolding(crate::specs::Reading::kind_line, crate::specs::Lines::fields_line))]
+#[tactic(auto, using(crate::proofs::GivenUpLines::kind_given_up), unfolding(crate::specs::Reading::kind_line, crate::specs::Lines::fields_line))]
 fn read_fields(
     draft: &mut Draft,
     alloc: Global,
@@ -116,11 +115,13 @@ fn read_fields(
     kind: Option<LineKind>,
     fields: Option<&str>,
 ) -> Result<(), LineRefusal>
-    ensures { Gives line_refusals.NoMemory (λ _. state_of draft.new) result
+    ensures { GivesUnless
+        (IsKindGivenUp (state_of draft.old) kind (option_copied fields.entry))
+        (λ _. state_of draft.new) result
         (kind_line (state_of draft.old) number kind (option_copied fields.entry)) }
 {
     match kind.ok_or(LineCause::UnknownWord)? {
-        LineKind::Rule => rule_line(draft, fields),
+        LineKind::Rule => rule_line(draft, alloc, fields),
         LineKind::Gateway => gateway_line(draft, alloc, fields),
         LineKind::Block => block_line(draft, alloc, number, fields),
         LineKind::Series => series_line(draft, alloc, fields),

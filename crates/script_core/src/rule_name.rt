@@ -2,7 +2,7 @@ use crate::LineCause;
 use crate::values::{page_limit, span, tick};
 use moment_core::Rules;
 
-/// What a rule line sets, by the rule's name.
+/// A rule of one value, by its name in a line.
 #[derive(Clone, Copy, Debug, PartialEq, Eq)]
 pub(crate) enum RuleName {
     Consistency,

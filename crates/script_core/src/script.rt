@@ -21,12 +21,11 @@ pub struct Script {
 }
 
 impl Script {
-    ghost use Rattle.std.specs.Prelude.{◌≡◌, ◌≤◌, length, Some, IfOk, slice_get};
-    ghost use Rattle.reading_core.specs.Reading.{Gives};
+    ghost use Rattle.std.specs.Prelude.{◌≡◌, ◌≤◌, length, Some, IfOk, MatchResult, slice_get};
     ghost use Rattle.script_workers.specs.declared.phase.Phase.{Phase};
     ghost use Rattle.script_core.specs.declared.script.Script.{Script};
-    ghost use Rattle.script_core.specs.declared.script_refusal.ScriptRefusal.TheVariants as script_refusals;
     ghost use Rattle.script_core.specs.Counts.{members_of_script};
+    ghost use Rattle.script_core.specs.GivenUp.{GivesUnless, IsGivenUp};
     ghost use Rattle.script_core.specs.Lawful.{IsLawfulScript};
     ghost use Rattle.script_core.specs.Reading.{script_of};
     ghost use Rattle.script_core.specs.Spelling.{Spells};
@@ -34,10 +33,11 @@ impl Script {
 
     /// Reads a script.
     pub fn read(alloc: Global, text: &[u8]) -> Result<Script, ScriptRefusal>
-        // What is read is spelled by the text, and what is spelled is read, unless memory runs out.
+        // What is read is spelled by the text, and what is spelled is read, unless memory or the size of a pattern
+        // forbids it.
         ensures found { IfOk result (λ script. Spells text.now script) }
         ensures only { (script : Script) → Spells text.now script
-            → Gives script_refusals.NoMemory (λ read. read) result (Ok script) }
+            → MatchResult result (λ read. read ≡ script) (IsGivenUp text.now) }
 
         // What a caller may rest on.
         ensures lawful { IfOk result (λ script. IsLawfulScript script) }
@@ -46,8 +46,8 @@ impl Script {
         ensures bounded { IfOk result
             (λ script. members_of_script script ≤ length text.now) }
 
-        // Which refusal it is: the first that the lines in order give.
-        ensures gives { Gives script_refusals.NoMemory (λ script. script) result
+        // Which refusal it is: the first that the lines in order give, unless the text is given up.
+        ensures gives { GivesUnless (IsGivenUp text.now) (λ script. script) result
             (script_of text.now) }
     {
         read_script(alloc, text)

@@ -11,22 +11,26 @@ use crate::draft::Draft;
 use crate::fields::{after_space, next_field, only_field};
 use crate::inline_block::InlineBlock;
 use crate::line_refusal::LineRefusal;
-use crate::rule_name::RuleName;
+use crate::rule_kind::RuleKind;
 use crate::samples::{are_rising, are_whole, have_small_numbers, read_samples};
 use crate::values::{is_reserved, time, ulid};
 use label_sets::{LabelRefusal, LabelSet, Text, is_name};
 use std::alloc::Global;
 
-/// `rule NAME VALUE`
+/// `rule NAME VALUE`, where the name `replica-label` adds a label and each other name sets its rule
 #[tactic(auto, unfolding(crate::specs::View::state_of, crate::specs::Lines::rule_line))]
-pub(crate) fn rule_line(draft: &mut Draft, fields: Option<&str>) -> Result<(), LineRefusal>
+pub(crate) fn rule_line(
+    draft: &mut Draft,
+    alloc: Global,
+    fields: Option<&str>,
+) -> Result<(), LineRefusal>
     ensures { Gives line_refusals.NoMemory (λ _. state_of draft.new) result
         (rule_line (state_of draft.old) (option_copied fields.entry)) }
 {
     let fields = fields.ok_or(LineCause::BadShape)?;
     let (name, value) = next_field(Some(fields));
-    let name = RuleName::of_word(name).ok_or(LineCause::UnknownWord)?;
-    name.set(&mut draft.rules, only_field(value)?)?;
+    let kind = RuleKind::of_word(name).ok_or(LineCause::UnknownWord)?;
+    kind.apply(&mut draft.rules, alloc, only_field(value)?)?;
     LineCause::LateLine.unless(draft.phase.is_none())
 }
 

@@ -1,7 +1,7 @@
 ghost use Rattle.std.specs.Prelude.{◌≤◌, IsTrue};
 ghost use Rattle.bucket_core.specs.Contents.{IsKey};
 
-use crate::runs::print_run;
+use crate::runs::{print_example, print_run};
 use bucket_core::{Bucket, GetAnswer, PageAnswer, Shelf, ShelfAnswer};
 use dir_bucket::{DirShelf, HostBucket};
 use label_sets::Text;
@@ -31,6 +31,7 @@ pub(crate) fn print_call(rt: &HostRuntime, folder: &mut Folder, row: &str) -> io
         "page" => print_page(rt, &mut folder.bucket, text),
         "read" => print_read(rt, folder.shelf.read(text)),
         "run" => print_run(rt, text),
+        "example" => print_example(rt, text),
         "folder" => print_done(rt, fs::create_dir_all(rt, text)),
         "file" => print_done(rt, write_zeros(rt, text)),
         "mode" => print_done(rt, set_mode(rt, text)),

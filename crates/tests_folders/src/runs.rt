@@ -3,7 +3,7 @@ use dir_bucket::HostSite;
 use list_core::NoMemory;
 use replay_cli::run_tool;
 use std::alloc::Global;
-use std::{io, str};
+use std::{fs, io, str};
 use wire_bytes::Blob;
 
 /// One block is uploaded, and found by a query after it.
@@ -19,23 +19,39 @@ query 0 5000 up
 
 /// Calls the tool with these words over real folders, and prints its status and what it wrote.
 pub(crate) fn print_run(rt: &HostRuntime, words: &str) -> io::Result<()> {
-    match run(rt, words) {
-        Ok((status, text)) => {
-            println!(rt; "status {status}")?;
-            print!(rt; "{}", str::from_utf8(&text).unwrap_or("no text"))
-        }
+    match run(rt, words, SCRIPT.as_bytes()) {
+        Ok((status, text)) => print_written(rt, status, &text),
         Err(_) => println!(rt; "no memory"),
     }
 }
 
-fn run(rt: &HostRuntime, words: &str) -> Result<(u8, Vec<u8>), NoMemory> {
+/// Runs the script of an example over a bucket in memory, and prints its status, and what it wrote unless that is what stands
+/// beside the script.
+pub(crate) fn print_example(rt: &HostRuntime, name: &str) -> io::Result<()> {
+    let script = fs::read(rt, format!(in rt.alloc(); "examples/{name}.script")?)?;
+    let output = fs::read(rt, format!(in rt.alloc(); "examples/{name}.output")?)?;
+    match run(rt, "serial memory none", &script) {
+        Ok((status, text)) if text.as_slice() == output.as_slice() => {
+            println!(rt; "status {status}, the output beside it")
+        }
+        Ok((status, text)) => print_written(rt, status, &text),
+        Err(_) => println!(rt; "no memory"),
+    }
+}
+
+fn print_written(rt: &HostRuntime, status: u8, text: &[u8]) -> io::Result<()> {
+    println!(rt; "status {status}")?;
+    print!(rt; "{}", str::from_utf8(text).unwrap_or("no text"))
+}
+
+fn run(rt: &HostRuntime, words: &str, script: &[u8]) -> Result<(u8, Vec<u8>), NoMemory> {
     let alloc = rt.alloc();
     let words = words_of(alloc, words)?;
     let Ok(host) = rt.clone() else {
         return Err(NoMemory);
     };
     let mut site = HostSite::new(host);
-    let mut script = MemorySource::new(Blob::from_bytes(alloc, SCRIPT.as_bytes())?, None);
+    let mut script = MemorySource::new(Blob::from_bytes(alloc, script)?, None);
     let mut out = MemorySink::new(alloc, None);
     let run = run_tool(alloc, &words, &mut site, &mut script, &mut out);
     Ok((run.status, Vec::from_slice(alloc, out.bytes())?))

@@ -1,10 +1,10 @@
-use Rattle.std.proofs.Common.{◌≡◌, ◌⊎◌, [], refl}
+use Rattle.std.proofs.Common.{◌≡◌, [], refl}
 use Rattle.std.specs.Prelude.{None, IfSome, is_some}
 use Rattle.replay_cli.specs.InPhases.{IsInPhases}
 use Rattle.replay_cli.specs.Kept.{IsHandedBack, IsHandedOut, IsShelfOf, IsUntouched, told_of}
 use Rattle.replay_cli.specs.ShelfAsked.{WasAsked}
 use Rattle.replay_cli.specs.Statuses.{number_of}
-use Rattle.replay_cli.specs.Verdicts.{IsCalm, IsCaused, IsSaid, around_call, saying_to}
+use Rattle.replay_cli.specs.Verdicts.{EndsCalmly, IsCaused, IsSaid, around_call, saying_to}
 use Rattle.replay_cli.specs.Words.{replay_shelf, replay_word}
 use Rattle.replay_cli.specs.declared.status.Status.{Status}
 use Rattle.replay_cli.specs.declared.verdict.Verdict.{Verdict}
@@ -22,8 +22,8 @@ returns-clause-verdict g c =
 pub returns-clause-calm : goal.returns-clause-calm
 returns-clause-calm g c =
     left_by c.into_run.result _ _ _ _ c.into_run.ensures.2
-    (λ status journal store shelf. IsCalm (around_call IsInPhases g.R.Source.left g.R.Source.faults c.args.script.now c.come_to.new.script g.S.Site.buckets g.S.Site.next_bucket g.S.Site.shelves g.S.Site.next_shelf g.S.Site.faults (replay_word c.args.words.now) (replay_shelf c.args.words.now) None
-    c.args.site.now c.come_to.new.site g.S.Store.Bucket.faults g.S.Files.Shelf.faults store shelf journal) (saying_to g.K.Sink.faults g.K.Sink.written c.args.out.now c.into_run.new.out) → (status ≡ 0) ⊎ (status ≡ 6))
+    (λ status journal store shelf. EndsCalmly (around_call IsInPhases g.R.Source.left g.R.Source.faults c.args.script.now c.come_to.new.script g.S.Site.buckets g.S.Site.next_bucket g.S.Site.shelves g.S.Site.next_shelf g.S.Site.faults (replay_word c.args.words.now) (replay_shelf c.args.words.now) None
+    c.args.site.now c.come_to.new.site g.S.Store.Bucket.faults g.S.Files.Shelf.faults store shelf journal) (saying_to g.K.Sink.faults g.K.Sink.written c.args.out.now c.into_run.new.out) status)
     (λ calm. calm_end _ _ c.come_to.result.conclusion.verdict c.into_run.ensures.0 calm
     (at_rest g.S.Store.Bucket.contents g.S.Store.Bucket.faults calm.setting c.come_to.result.conclusion.journal c.come_to.result.conclusion.store c.come_to.ensures.back calm.journal)
     c.come_to.ensures.cause c.into_run.ensures.1)

@@ -1,5 +1,5 @@
 use Rattle.script_core.proofs.FewMembers.{few_of}
-use Rattle.script_core.proofs.ReadScripts.{found_of, only_of, lawful_of}
+use Rattle.script_core.proofs.ReadScripts.{found_of, only_of, lawful_of, gives_of}
 use Rattle.script_core.proofs.script.Script.read.Goals as goal
 
 pub returns-clause-found : goal.returns-clause-found
@@ -13,3 +13,6 @@ returns-clause-only c script spells = only_of c.args.text.now c.read_script.resu
 
 pub returns-clause-bounded : goal.returns-clause-bounded
 returns-clause-bounded c = few_of c.args.text.now c.read_script.result c.read_script.ensures
+
+pub returns-clause-gives : goal.returns-clause-gives
+returns-clause-gives c = gives_of c.args.text.now c.read_script.result c.read_script.ensures
