@@ -19,7 +19,7 @@ use Rattle.script_core.specs.Spelling.{SoFar, outside, rule_word, RuleLine, Repl
 use Rattle.script_core.proofs.FieldLaws.{cut_again}
 use Rattle.script_core.proofs.ValueLaws.{time_again, ulid_again, value_again}
 use Rattle.script_core.proofs.Kept.{Kept, so_far_of}
-use Rattle.script_core.proofs.LineTools.{is_some_field, only_again, line_word, word_free, name_free, valued_again, replica_again, replica_free, early_again}
+use Rattle.script_core.proofs.LineTools.{is_some_field, only_again, line_word, word_free, name_free, valued_again, replica_free, early_again}
 use Rattle.script_core.proofs.FoundSetup.{closed}
 use Rattle.moment_core.specs.declared.rules.Rules.{Rules}
 use Rattle.script_core.proofs.SpelledValues.{near_tested, free_tested}
@@ -81,7 +81,6 @@ module _ (st : State) (number : ℕ) (line : List ℕ) (next : SoFar) (kept : Ke
       let word : List ℕ = codes "replica-label" in
       let text : List ℕ = word ++ 32 ∷ says.name in
       let cut : next_field (Some text) ≡ (word, Some says.name) = cut_again word says.name replica_free in
-      let known = replica_again in
       let only : only_field (Some says.name) ≡ Ok says.name = only_again says.name says.field in
       let named = says.is_name in
       let early : is_none st.phase ≡ true = early_again st.phases st.phase says.early in
@@ -89,7 +88,7 @@ module _ (st : State) (number : ℕ) (line : List ℕ) (next : SoFar) (kept : Ke
         left = Some text;
         after = record (closed st) { rules = record st.rules { replicas = st.rules.replicas ++ says.name ∷ [] } };
         cut = starts_again line kinds.Rule text says.spelled;
-        read = rw (cut, known, only, named, early) refl;
+        read = rw (cut, only, named, early) refl;
         next_is = sym says.adds;
       }
 

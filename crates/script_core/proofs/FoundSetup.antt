@@ -20,7 +20,7 @@ use Rattle.script_core.specs.Fields.{is_empty, next_field, rule_kind}
 use Rattle.script_core.specs.Values.{add_replica, apply_rule, set_rule}
 use Rattle.script_core.specs.Lines.{rule_line, gateway_line, block_line, whole_labels, last_labels}
 use Rattle.script_core.specs.State.{State, add_gateway, all_phases, begin_block, is_declared, script_of_state}
-use Rattle.script_core.specs.Spelling.{outside, Sets, RuleLine, ReplicaLine, GatewayLine, BlockLine}
+use Rattle.script_core.specs.Spelling.{outside, IsField, Sets, RuleLine, ReplicaLine, GatewayLine, BlockLine}
 use Rattle.script_core.proofs.FieldLaws.{cut_found}
 use Rattle.script_core.proofs.ValueLaws.{is_none_is, time_found, ulid_found, value_found}
 use Rattle.script_core.proofs.Kept.{Kept, so_far_of, gateway_kept, block_kept}

@@ -124,9 +124,6 @@ pub valued_again : (name : RuleName) → rule_kind (rule_word name) ≡ Some (Va
 valued_again names.Consistency = refl
 valued_again name = refl
 
-pub replica_again : rule_kind (codes "replica-label") ≡ Some ReplicaLabel
-replica_again = refl
-
 pub replica_free : no_space (codes "replica-label") ≡ true
 replica_free = refl
 

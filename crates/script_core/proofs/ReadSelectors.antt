@@ -3,13 +3,12 @@ use Rattle.std.proofs.Common.{◌≡◌, ℕ, Bool, true, false, ◌==◌, List,
 use Rattle.std.proofs.lemmas.Bool.Decides.{nat_tests}
 use Rattle.reading_core.specs.Reading.{◌>>=◌, ◌>>◌, unless, refused_as}
 use Rattle.reading_core.proofs.Binds.{bind_ok, unless_ok, ok_is, refused_as_ok}
-use Rattle.matchers.specs.declared.draft.Draft.{Draft}
 use Rattle.matchers.specs.declared.matcher.Matcher.{Matcher}
 use Rattle.matchers.specs.declared.selector_refusal.SelectorRefusal.{SelectorRefusal}
 use Rattle.matchers.specs.declared.selector_refusal.SelectorRefusal.TheVariants as refusals
 use Rattle.matchers.specs.SelectorRefusals.{IsReadable, IsGivenUp, IsRefused, StopsAt, HasBadPattern, NamesReplica}
 use Rattle.matchers.specs.SelectorText.{IsSelectorText, are_lawful, named_replicas}
-use Rattle.matchers.specs.Stages.{read_whole, selector_of}
+use Rattle.matchers.specs.Stages.{Next, read_whole, selector_of}
 use Rattle.matchers.proofs.OneCause.{only_of, exact_of}
 use Rattle.matchers.proofs.Stops.{read_is_whole, whole_is_text}
 use Rattle.matchers.proofs.TextsRead.{text_is_read}
@@ -27,7 +26,7 @@ tested replicas selector =
     >> (unless (length (named_replicas replicas selector) == 0) causes.ReplicaNamed >> Ok selector)
 
 -- of what was read of a text
-abbrev tested_read : List (List ℕ) → Result Draft SelectorRefusal → Result (List Matcher) LineCause
+abbrev tested_read : List (List ℕ) → Next → Result (List Matcher) LineCause
 tested_read replicas read = refused_as (λ _. causes.BadSelectorText) read >>= λ draft. tested replicas (selector_of draft)
 
 field_is : (replicas : List (List ℕ)) (text : List ℕ) → selector_field replicas text ≡ tested_read replicas (read_whole text)
@@ -72,7 +71,7 @@ selector_found replicas text selector h =
 
 -- ---- what is refused
 
-stopped_by : (replicas : List (List ℕ)) (text : List ℕ) (place : ℕ) (read : Result Draft SelectorRefusal) → read_whole text ≡ read → StopsAt text place → tested_read replicas read ≡ Err causes.BadSelectorText
+stopped_by : (replicas : List (List ℕ)) (text : List ℕ) (place : ℕ) (read : Next) → read_whole text ≡ read → StopsAt text place → tested_read replicas read ≡ Err causes.BadSelectorText
 stopped_by replicas text place (Ok draft) is stops =
     absurd (stops.no_selector (selector_of draft) (whole_is_text text draft (read_is_whole text draft is)))
 stopped_by replicas text place (Err refusal) is stops = refl
@@ -96,10 +95,11 @@ module _ (replicas : List (List ℕ)) (text : List ℕ) (place : ℕ) (selector 
   unlawful true test = absurd (unlawful_by (named_replicas replicas selector) refl test)
   unlawful false test = rw test refl
 
+  refused_pattern : selector_field replicas text ≡ Err causes.BadPatternText
+  refused_pattern = text_tested replicas text selector is ∙ unlawful (are_lawful selector) refl
+
 bad_pattern : (replicas : List (List ℕ)) (text : List ℕ) (place : ℕ) → HasBadPattern text place → selector_field replicas text ≡ Err causes.BadPatternText
-bad_pattern replicas text place why =
-    let is = why.1.is_text in
-    text_tested replicas text _ is ∙ unlawful replicas text place _ is why (are_lawful _) refl
+bad_pattern replicas text place why = refused_pattern replicas text place _ why.1.is_text why
 
 some_named : (name : List ℕ) (names all : List (List ℕ)) → all ≡ name ∷ names → (length all == 0) ≡ false
 some_named name names [] is = absurd cc

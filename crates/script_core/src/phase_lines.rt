@@ -126,7 +126,7 @@ pub(crate) struct Question<'a> {
 }
 
 /// `query LOW HIGH SELECTOR`
-#[tactic(auto, using(crate::proofs::GivenUpLines::query_given_up), unfolding(crate::specs::View::state_of, crate::specs::Lines::query_line))]
+#[tactic(auto, unfolding(crate::specs::View::state_of, crate::specs::Lines::query_line))]
 pub(crate) fn query_line(
     draft: &mut Draft,
     alloc: Global,
