@@ -7,6 +7,7 @@ ghost use Rattle.script_core.specs.Lawful.{IsLawfulScript};
 ghost use Rattle.script_core.specs.Reading.{script_of};
 ghost use Rattle.lifecycle_core.specs.InLine.{IsInLine};
 ghost use Rattle.lifecycle_core.specs.Setting.{setting_of};
+ghost use Rattle.script_running.specs.Beside.{HasRunBeside};
 ghost use Rattle.replay_cli.specs.InPhases.{IsInPhases};
 ghost use Rattle.replay_cli.specs.Verdicts.{IsRun};
 
@@ -16,7 +17,7 @@ use crate::telling::told_lines;
 use bucket_core::Bucket;
 use phase_runner::Gate;
 use script_core::Script;
-use script_running::{Broken, run_beside};
+use script_running::{Broken, RunEnd, run_beside};
 use std::alloc::Global;
 use std::sync::Wait;
 use std::thread::Threads;
@@ -62,7 +63,25 @@ pub(crate) fn run_with_threads<B: Bucket + Send, G: Gate + Sync, T: Threads + Wa
     ensures unfailed { failed_count result.1.journal ≡ 0
         → B.faults result.1.bucket ≡ B.faults world.bucket }
 {
-    let (end, world) = run_beside(rt, alloc, script, text, world, gate);
+    match run_beside(rt, alloc, script, text, world, gate) {
+        Ok((end, closed)) => told_run(alloc, script, end, closed.into_world()),
+        Err(world) => (Verdict::NoMemory, world),
+    }
+}
+
+/// What a run with threads comes to, by how it came out. The world is the one that it left.
+fn told_run<B: Bucket>(
+    alloc: Global,
+    script: &Script,
+    end: RunEnd,
+    world: World<B>,
+) -> (Verdict, World<B>)
+    requires lawful { IsLawfulScript script.now }
+    requires ran { HasRunBeside (setting_of script.now) world.journal end.outcomes end.came }
+    ensures cause { IsRun IsInPhases (setting_of script.now) (Some nothing) ⊥
+        (Some result.1.journal) result.0 }
+    ensures same { result.1 ≡ world }
+{
     match told_lines(alloc, script, end.outcomes.members()) {
         Ok(report) => (verdict_of(end.came, report), world),
         Err(_) => (Verdict::NoMemory, world),

@@ -86,6 +86,7 @@ pub(crate) fn gather(
     requires places { All (λ worker. All (λ place. place < length tasks.now) worker.tasks)
         workers.now }
     ensures each { length views.new.items ≡ length views.old.items }
+    ensures came { HaveCome ends.items result }
     ensures gathers { (setting : Setting) (number : ℕ) (phase : Phase) (before after : Holdings)
         (front : List Entry) (kept : List (ℕ × List Entry)) (own : List (List End))
         (lasts : List Holding) → IsLawfulScript setting.script
