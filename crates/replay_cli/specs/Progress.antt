@@ -1,5 +1,5 @@
 -- How far a run in the order of the lines has come, as the contracts of its parts say it.
-use Rattle.std.specs.Prelude.{◌≡◌, ℕ, ◌+◌, ◌<◌, Bool, List, [], ◌∷◌, ◌++◌, length, take, drop, Some, slice_get, Result, Ok, Err}
+use Rattle.std.specs.Prelude.{◌≡◌, ℕ, ◌+◌, ◌<◌, Bool, true, false, List, [], ◌∷◌, ◌++◌, length, take, drop, Some, slice_get, Result, Ok, Err}
 use Rattle.std.specs.List.{list_all}
 use Rattle.world_core.specs.Operations.{IsAnswer, IsLawful, entry_of}
 use Rattle.world_core.specs.declared.entry.Entry.{Entry}
@@ -23,6 +23,8 @@ use Rattle.script_running.specs.declared.came.Broken.{Broken}
 use Rattle.script_running.specs.declared.came.Broken.TheVariants as broken
 use Rattle.script_running.specs.Drives.{Came}
 use Rattle.script_running.specs.declared.outcome.Outcome.{Outcome}
+use Rattle.replay_cli.specs.declared.verdict.Verdict.{Verdict}
+use Rattle.replay_cli.specs.declared.verdict.Verdict.TheVariants as verdict
 
 -- ---- one task
 
@@ -157,3 +159,10 @@ abbrev pub RunCame : Setting → List Gateway → List Entry → Bool → List �
 RunCame setting gateways journal as_asked text (Ok done) = Reached setting (length setting.script.phases) gateways journal as_asked text
 RunCame setting gateways journal as_asked text (Err broken.Full) = (place : ℕ) × (place < length setting.script.phases) × IsBrokenAt setting place journal as_asked text
 RunCame setting gateways journal as_asked text (Err broken.NoMemory) = HasRun setting journal
+
+-- ---- verdicts
+
+-- the verdict tells that the journal is full
+abbrev pub tells_full : Verdict → Bool
+tells_full (verdict.Full lines) = true
+tells_full other = false

@@ -9,7 +9,7 @@ ghost use Rattle.script_core.specs.Workers.{seats_before};
 ghost use Rattle.lifecycle_core.specs.Setting.{setting_of};
 ghost use Rattle.script_running.specs.Beside.{HasRunBeside};
 ghost use Rattle.script_running.specs.Going.{HasCome, HasGone, IsClockSet};
-ghost use Rattle.script_running.specs.Workers.{is_full_end};
+ghost use Rattle.script_running.specs.Tasks.{is_full_came};
 ghost use Rattle.world_turn.specs.Closing.{AllJoined};
 ghost use Rattle.world_turn.specs.Passes.{table_of, view_of};
 ghost use Rattle.world_turn.specs.Turns.{IsLater, IsSame};
@@ -64,7 +64,7 @@ pub fn run_beside<B: Bucket + Send, G: Gate + Sync, R: Threads + Wait + Sync>(
 
     // The full journal is told just where a pass of the run met it. So want of memory is told only where none did.
     ensures refused { IfOk result
-        (λ run. (view_of run.1.root.value).refused ≡ is_full_end run.0.came) }
+        (λ run. (view_of run.1.root.value).refused ≡ is_full_came run.0.came) }
 
     // The bucket has failed no more often than before, unless the journal shows it.
     ensures unfailed { IfOk result (λ run. failed_count run.1.world.journal ≡ 0
@@ -141,7 +141,7 @@ fn run_phases<B: Bucket + Send, G: Gate + Sync, R: Threads + Wait + Sync>(
     ensures pass { (table_of result.1 ≡ table_of root) × (result.1.seat ≡ 0) }
     ensures tick { (view_of result.1).tick ≡ (view_of root).tick }
     ensures refused { (view_of result.1).refused
-        ≡ ((view_of root).refused || is_full_end result.0) }
+        ≡ ((view_of root).refused || is_full_came result.0) }
     ensures all { AllJoined (view_of result.1) }
     ensures came { HasCome (setting_of script.now) (view_of result.1) script.now.phases
         standing.new.views.items standing.new.outcomes result.0 }
@@ -183,7 +183,7 @@ fn phase_beside<B: Bucket + Send, G: Gate + Sync, R: Threads + Wait + Sync>(
     ensures pass { (table_of result.1 ≡ table_of root) × (result.1.seat ≡ 0) }
     ensures tick { (view_of result.1).tick ≡ (view_of root).tick }
     ensures refused { (view_of result.1).refused
-        ≡ ((view_of root).refused || is_full_end result.0) }
+        ≡ ((view_of root).refused || is_full_came result.0) }
     ensures seats { OnOk result.0 (result.1.splits ≡ seats_before script.now (place + 1)) }
     ensures all { AllJoined (view_of result.1) }
     ensures came { HasCome (setting_of script.now) (view_of result.1)

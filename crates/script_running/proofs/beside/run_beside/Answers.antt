@@ -5,7 +5,7 @@ use Rattle.world_core.specs.declared.entry.Entry.{Entry}
 use Rattle.world_turn.specs.Opening.{opening_of}
 use Rattle.world_turn.specs.Passes.{view_of}
 use Rattle.world_turn.specs.declared.pass.Pass.{Pass}
-use Rattle.script_running.specs.Workers.{is_full_end}
+use Rattle.script_running.specs.Tasks.{is_full_came}
 use Rattle.script_running.proofs.Running.{first_gone, none_before, run_came}
 use Rattle.script_running.proofs.beside.run_beside.Goals as goal
 
@@ -30,7 +30,7 @@ returns-in-Ok-open-clause-ran g c =
 
 pub returns-in-Ok-open-clause-refused : goal.returns-in-Ok-open-clause-refused
 returns-in-Ok-open-clause-refused g c =
-    ap (λ (p : Pass). (view_of p).refused) c.close-closed.ensures.root ∙ c.run_phases-came.ensures.refused ∙ ap (λ v. v.refused || is_full_end c.run_phases-came.result.0) c.in-Ok-open.ensures.pass.3
+    ap (λ (p : Pass). (view_of p).refused) c.close-closed.ensures.root ∙ c.run_phases-came.ensures.refused ∙ ap (λ v. v.refused || is_full_came c.run_phases-came.result.0) c.in-Ok-open.ensures.pass.3
 
 pub returns-in-Ok-open-clause-unfailed : goal.returns-in-Ok-open-clause-unfailed
 returns-in-Ok-open-clause-unfailed g c = λ none. c.close-closed.ensures.comes.unfailed none ∙ ap (λ w. g.B.Bucket.faults w.bucket) c.in-Ok-open.ensures.opened
