@@ -88,14 +88,15 @@ pub(crate) fn run_phases<B: Bucket>(
     requires ready { length progress.old.gateways.items ≡ length script.now.gateways }
     requires unrefused { hand.refused ≡ false }
     requires workers { progress.old.workers ≡ seats_before script.now 0 }
-    requires reached { Reached (setting_of script.now) 0 progress.old.gateways.items hand.world.journal
-        progress.old.report.as_asked progress.old.report.text.items }
+    requires reached { Reached (setting_of script.now) 0 progress.old.gateways.items
+        hand.world.journal progress.old.report.as_asked progress.old.report.text.items }
     ensures full { result.0 ≡ Err Broken.Full → IsFull result.1.world.journal }
     ensures refused { result.1.refused ≡ is_full_came result.0 }
     ensures keeps { KeepsRun B.faults B.quiet hand.opened.value hand.world
         result.1.opened.value result.1.world }
-    ensures came { RunCame (setting_of script.now) progress.new.gateways.items result.1.world.journal
-        progress.new.report.as_asked progress.new.report.text.items result.0 }
+    ensures came { RunCame (setting_of script.now) progress.new.gateways.items
+        result.1.world.journal progress.new.report.as_asked progress.new.report.text.items
+        result.0 }
 {
     let mut hand = hand;
     for (place, phase) in script.phases.members().iter().enumerate() {
@@ -133,7 +134,8 @@ fn run_phase<B: Bucket>(
     ensures workers { result.0 ≡ Ok tt
         → progress.new.workers ≡ seats_before script.now (place + 1) }
     ensures step { PhaseStep (setting_of script.now) place progress.new.gateways.items
-        result.1.world.journal progress.new.report.as_asked progress.new.report.text.items result.0 }
+        result.1.world.journal progress.new.report.as_asked progress.new.report.text.items
+        result.0 }
 {
     let Ok(seats) = Seats::new(alloc, script, place, progress.workers) else {
         return (Err(Broken::NoMemory), hand);
@@ -245,7 +247,8 @@ fn run_tasks<B: Bucket>(
         (seat_of seats.now.workers) tasks.now views progress.new.gateways.items hand.world.journal
         result.1.world.journal lines.as_asked lines.text.items)
         (λ broken. TasksBroken (setting_of script.now)
-        (seat_of seats.now.workers) tasks.now views hand.world.journal result.1.world.journal broken) }
+        (seat_of seats.now.workers) tasks.now views hand.world.journal result.1.world.journal
+        broken) }
     ensures report { progress.new.report ≡ progress.old.report }
     ensures workers { progress.new.workers ≡ progress.old.workers }
     ensures ready { length progress.new.gateways.items ≡ length script.now.gateways }

@@ -187,7 +187,8 @@ fn phase_beside<B: Bucket + Send, G: Gate + Sync, R: Threads + Wait + Sync>(
     ensures seats { OnOk result.0 (result.1.splits ≡ seats_before script.now (place + 1)) }
     ensures all { AllJoined (view_of result.1) }
     ensures came { HasCome (setting_of script.now) (view_of result.1)
-        (take (place + 1) script.now.phases) standing.new.views.items standing.new.outcomes result.0 }
+        (take (place + 1) script.now.phases) standing.new.views.items standing.new.outcomes
+        result.0 }
 {
     let Ok(staff) = script.workers_after(alloc, place, root.splits()) else {
         return (Err(Broken::NoMemory), root);

@@ -157,8 +157,8 @@ fn do_tasks<M: Means, H: Hand>(
     requires serves { All (λ place.
         IfSome (slice_get tasks.now place) (λ task. M.serves means.now task.work)) places.now }
     ensures worked { (who : Who) (held : Holding) → Sees held view
-        → HasWorked (setting_of (M.script means.now)) tasks.now who places.now held (H.seat hand.old)
-        (H.entries hand.old) (H.entries hand.new) result }
+        → HasWorked (setting_of (M.script means.now)) tasks.now who places.now held
+        (H.seat hand.old) (H.entries hand.old) (H.entries hand.new) result }
     ensures seat { H.seat hand.new ≡ H.seat hand.old }
     ensures keeps { H.keeps hand.old hand.new }
 
