@@ -1,5 +1,5 @@
 -- Phases that were done one after another.
-use Rattle.std.proofs.Common.{◌≡◌, ℕ, zero, suc, ◌+◌, ◌-◌, ◌<◌, Bool, true, ◌&&◌, List, [], ◌∷◌, ◌++◌, length, take, drop, refl, sym, ◌∙◌, ap, subst, inr, append_assoc, take-append-drop, arith}
+use Rattle.std.proofs.Common.{◌≡◌, ℕ, zero, suc, ◌+◌, ◌-◌, ◌<◌, ◌≤◌, Bool, true, ◌&&◌, List, [], ◌∷◌, ◌++◌, length, take, drop, refl, sym, ◌∙◌, ap, subst, inl, inr, append_assoc, take-append-drop, arith}
 use Rattle.std.proofs.Math.Seq.{take-length}
 use Rattle.std.specs.Prelude.{◌≢◌, ◌^◌, min, Some, None, Result, Ok, Err, OnOk, slice_get}
 use Rattle.std.specs.List.{All, list_all}
@@ -10,7 +10,7 @@ use Rattle.world_core.specs.Operations.{entry_of}
 use Rattle.world_core.specs.Worlds.{IsJournal}
 use Rattle.world_core.specs.declared.entry.Entry.{Entry}
 use Rattle.store_gateway.specs.declared.gateway.Gateway.{Gateway}
-use Rattle.script_workers.specs.Hands.{gateway_count, hands_of, seats_after, seats_from, workers_from}
+use Rattle.script_workers.specs.Hands.{gateway_count, gateway_of, hands_of, seats_after, seats_from, workers_from}
 use Rattle.script_core.specs.Workers.{seats_before, workers_of}
 use Rattle.script_core.specs.Lawful.{IsLawfulPhase, IsLawfulScript}
 use Rattle.script_workers.specs.declared.hand.Hand.{Hand}
@@ -23,7 +23,7 @@ use Rattle.script_core.proofs.SeatLaws.{workers_at}
 use Rattle.lifecycle_core.proofs.phases.FirstPhases.{no_phase}
 use Rattle.lifecycle_core.proofs.phases.RunsInLine.{AreWhole, by_none, by_parts, ends_by_workers, finished, own_came, own_undone, run_by, runs, turns_by}
 use Rattle.script_running.specs.Outcomes.{PhasesCame}
-use Rattle.replay_cli.specs.Progress.{HasRun, IsBrokenAt, IsDueAt, IsDueInLine, IsUnfinished, PhaseStep, PhasesTold, Reached, Shows, RunCame, TasksBroken, TasksDone, TasksTold, duties_at}
+use Rattle.replay_cli.specs.Progress.{HasRun, IsBrokenAt, IsDueInLine, PhaseStep, PhasesDone, Reached, Shows, RunCame, TasksBroken, TasksDone, TasksTold, duties_at}
 use Rattle.script_running.specs.Outcomes.{is_as_asked}
 use Rattle.replay_cli.specs.Verdicts.{IsFullRun, IsWholeRun, report_of, tasks_of}
 use Rattle.script_running.specs.declared.came.Broken.{Broken}
@@ -32,8 +32,8 @@ use Rattle.script_running.specs.declared.outcome.Outcome.{Outcome}
 use Rattle.replay_cli.proofs.ReportLists.{all_append, report_append, tasks_append}
 use Rattle.replay_cli.proofs.Told.{tasks_came, told_length, told_outcomes}
 use Rattle.lifecycle_core.specs.Guarantees.{IsGuaranteedJournal}
-use Rattle.lifecycle_core.specs.Holdings.{Holdings, none_held}
-use Rattle.lifecycle_core.specs.InLine.{InLine, IsInLine, duties_from, in_line, seat_of}
+use Rattle.lifecycle_core.specs.Holdings.{Holdings, none_held, with_holding}
+use Rattle.lifecycle_core.specs.InLine.{Duty, InLine, IsInLine, duties_from, in_line, seat_of}
 use Rattle.lifecycle_core.specs.Phases.{IsRunOf, by_workers}
 use Rattle.lifecycle_core.specs.Setting.{Setting}
 use Rattle.lifecycle_core.specs.Tasks.{End}
@@ -64,33 +64,33 @@ last_by gateways phase own = ends_of (duties_from gateways 0 phase.tasks) own (h
 
 -- ---- what phases told
 
-told_more : (setting : Setting) (phases : List Phase) (phase : Phase) (ends : List (List End)) (own : List End) (outcomes first : List Outcome) → PhasesTold setting phases ends outcomes → TasksTold setting 0 phase.tasks own first
-    → PhasesTold setting (phases ++ phase ∷ []) (ends ++ own ∷ []) (outcomes ++ first)
-told_more setting [] phase [] own outcomes first told one = (first, [], ap (λ (l : List Outcome). l ++ first) told.1 ∙ sym (append-nil first), one, (refl, refl))
-told_more setting [] phase (e ∷ es) own outcomes first told one = absurd (cc (told.0))
-told_more setting (p ∷ ps) phase [] own outcomes first told one = absurd told
-told_more setting (p ∷ ps) phase (e ∷ es) own outcomes first told one =
-    (told.0, told.1 ++ first, ap (λ (l : List Outcome). l ++ first) told.2 ∙ append_assoc told.0 told.1 first, told.3, told_more setting ps phase es own told.1 first told.4 one)
+told_more : (setting : Setting) (number : ℕ) (phases : List Phase) (phase : Phase) (ends : List (List End)) (own : List End) (outcomes first : List Outcome) → PhasesDone setting number phases ends outcomes → TasksTold setting 0 phase.tasks own first
+    → PhasesDone setting number (phases ++ phase ∷ []) (ends ++ own ∷ []) (outcomes ++ first)
+told_more setting number [] phase [] own outcomes first told one = (first, [], ap (λ (l : List Outcome). l ++ first) told.1 ∙ sym (append-nil first), one, (refl, refl))
+told_more setting number [] phase (e ∷ es) own outcomes first told one = absurd (cc (told.0))
+told_more setting number (p ∷ ps) phase [] own outcomes first told one = absurd told
+told_more setting number (p ∷ ps) phase (e ∷ es) own outcomes first told one =
+    (told.0, told.1 ++ first, ap (λ (l : List Outcome). l ++ first) told.2 ∙ append_assoc told.0 told.1 first, told.3, told_more setting (number + 1) ps phase es own told.1 first told.4 one)
 
-told_count : (setting : Setting) (phases : List Phase) (ends : List (List End)) (outcomes : List Outcome) → PhasesTold setting phases ends outcomes → length outcomes ≡ length (tasks_of phases)
-told_count setting [] ends outcomes told = ap (length {A = Outcome}) told.1
-told_count setting (p ∷ ps) [] outcomes told = absurd told
-told_count setting (p ∷ ps) (e ∷ es) outcomes told =
-    omega (arith, ap (length {A = Outcome}) told.2, length-append told.0 told.1, length-append p.tasks (tasks_of ps), told_outcomes setting 0 p.tasks e told.0 told.3, told_count setting ps es told.1 told.4)
+told_count : (setting : Setting) (number : ℕ) (phases : List Phase) (ends : List (List End)) (outcomes : List Outcome) → PhasesDone setting number phases ends outcomes → length outcomes ≡ length (tasks_of phases)
+told_count setting number [] ends outcomes told = ap (length {A = Outcome}) told.1
+told_count setting number (p ∷ ps) [] outcomes told = absurd told
+told_count setting number (p ∷ ps) (e ∷ es) outcomes told =
+    omega (arith, ap (length {A = Outcome}) told.2, length-append told.0 told.1, length-append p.tasks (tasks_of ps), told_outcomes setting 0 p.tasks e told.0 told.3, told_count setting (number + 1) ps es told.1 told.4)
 
-told_ends : (setting : Setting) (phases : List Phase) (ends : List (List End)) (outcomes : List Outcome) → PhasesTold setting phases ends outcomes → length ends ≡ length phases
-told_ends setting [] ends outcomes told = ap (length {A = List End}) told.0
-told_ends setting (p ∷ ps) [] outcomes told = absurd told
-told_ends setting (p ∷ ps) (e ∷ es) outcomes told = ap suc (told_ends setting ps es told.1 told.4)
+told_ends : (setting : Setting) (number : ℕ) (phases : List Phase) (ends : List (List End)) (outcomes : List Outcome) → PhasesDone setting number phases ends outcomes → length ends ≡ length phases
+told_ends setting number [] ends outcomes told = ap (length {A = List End}) told.0
+told_ends setting number (p ∷ ps) [] outcomes told = absurd told
+told_ends setting number (p ∷ ps) (e ∷ es) outcomes told = ap suc (told_ends setting (number + 1) ps es told.1 told.4)
 
-told_whole : (setting : Setting) (phases : List Phase) (ends : List (List End)) (outcomes : List Outcome) → PhasesTold setting phases ends outcomes → AreWhole (gateway_count setting.script.gateways) phases ends
-told_whole setting [] [] outcomes told = tt
-told_whole setting [] (e ∷ es) outcomes told = absurd (cc (told.0))
-told_whole setting (p ∷ ps) [] outcomes told = absurd told
-told_whole setting (p ∷ ps) (e ∷ es) outcomes told = (told_length setting 0 p.tasks e told.0 told.3, told_whole setting ps es told.1 told.4)
+told_whole : (setting : Setting) (number : ℕ) (phases : List Phase) (ends : List (List End)) (outcomes : List Outcome) → PhasesDone setting number phases ends outcomes → AreWhole (gateway_count setting.script.gateways) phases ends
+told_whole setting number [] [] outcomes told = tt
+told_whole setting number [] (e ∷ es) outcomes told = absurd (cc (told.0))
+told_whole setting number (p ∷ ps) [] outcomes told = absurd told
+told_whole setting number (p ∷ ps) (e ∷ es) outcomes told = (told_length setting 0 p.tasks e told.0 told.3, told_whole setting (number + 1) ps es told.1 told.4)
 
 phases_came : (setting : Setting) → IsLawfulScript setting.script → (number : ℕ) (phases : List Phase) (ends : List (List End)) (outcomes : List Outcome)
-    → ((k : ℕ) (p : Phase) → slice_get phases k ≡ Some p → slice_get setting.script.phases (number + k) ≡ Some p) → PhasesTold setting phases ends outcomes
+    → ((k : ℕ) (p : Phase) → slice_get phases k ≡ Some p → slice_get setting.script.phases (number + k) ≡ Some p) → PhasesDone setting number phases ends outcomes
     → PhasesCame setting.script number phases (ends_by_workers (gateway_count setting.script.gateways) phases ends) outcomes
 unfolding ends_by_workers
 phases_came setting lawful number [] ends outcomes same told = (refl, told.1)
@@ -122,12 +122,15 @@ turns_one setting number (p ∷ ps) phase left [] own whole = absurd whole
 turns_one setting number (p ∷ ps) phase left (e ∷ es) own whole = (λ more. whole.0, turns_one setting (number + 1) ps phase left es own whole.1)
 
 -- and with those of which none was begun, or the first one alone
-turns_unfinished : (setting : Setting) (phases left : List Phase) (ends unfinished : List (List End)) (is_due : Type 0) → AreWhole (gateway_count setting.script.gateways) phases ends → IsUnfinished setting left unfinished is_due
+turns_unfinished : (setting : Setting) (number : ℕ) (phases left : List Phase) (ends unfinished : List (List End)) → AreWhole (gateway_count setting.script.gateways) phases ends → AreUnfinished (in_line setting) number left unfinished
     → AreInTurn (in_line setting) 0 (phases ++ left) (ends ++ unfinished)
-turns_unfinished setting phases left ends [] is_due whole short = turns_none setting 0 phases left ends whole
-turns_unfinished setting phases [] ends (own ∷ more) is_due whole short = absurd short
-turns_unfinished setting phases (phase ∷ left) ends (own ∷ more) is_due whole short =
-    subst (λ (l : List (List End)). AreInTurn (in_line setting) 0 (phases ++ phase ∷ left) (ends ++ own ∷ l)) (sym short.0) (turns_one setting 0 phases phase left ends own whole)
+turns_unfinished setting number phases left ends [] whole short = turns_none setting 0 phases left ends whole
+turns_unfinished setting number phases [] ends (own ∷ more) whole short = absurd short
+turns_unfinished setting number phases (phase ∷ left) ends (own ∷ more) whole short =
+    subst (λ (l : List (List End)). AreInTurn (in_line setting) 0 (phases ++ phase ∷ left) (ends ++ own ∷ l)) (sym short.1) (turns_one setting 0 phases phase left ends own whole)
+
+too_few : (m n : ℕ) → m < n → m ≡ n → ⊥
+too_few m n less same = absurd (omega (arith, less, same))
 
 -- ---- from one phase to the next
 
@@ -137,7 +140,8 @@ module _ (setting : Setting) (place : ℕ) (phase : Phase) (shown : List Gateway
   unbegun gateways r = record {
     ends = r.ends;
     unfinished = [];
-    short = tt;
+    left = tt;
+    due = λ more. absurd (more refl);
     run = subst (λ (es : List Entry). PhasesRun (in_line setting) 0 none_held setting.script.phases es (r.ends ++ [])) (append-nil journal) (r.onward [] [] (no_phase (in_line setting) place r.views (drop place setting.script.phases)));
     outcomes = r.outcomes;
     told = r.told;
@@ -166,15 +170,15 @@ module _ (setting : Setting) (place : ℕ) (phase : Phase) (shown : List Gateway
 
   -- an operation that is due in its tasks is due in the run
   broken_due : (clock : Entry) (new made : List Entry) → BeginsPhase phase clock → (r : Reached setting place shown journal as_asked text)
-      → IsDueInLine setting (seat_of (workers_of setting.script place)) r.views (duties_at setting 0 phase.tasks) made → new ≡ (journal ++ clock ∷ []) ++ made → IsDueAt setting new r.ends
+      → IsDueInLine setting (seat_of (workers_of setting.script place)) r.views (duties_at setting 0 phase.tasks) made → new ≡ (journal ++ clock ∷ []) ++ made → IsOperationDue (in_line setting) none_held setting.script.phases new r.ends
   broken_due clock new made begins r due same = (
     due.0,
-    due.1,
-    due.2,
+    due.1.0,
+    due.1.1,
     λ seen answer.
-        let e = entry_of due.0 due.1 seen in
-        let next = due.3 seen answer in
-        (next.0, broken_run clock (new ++ e ∷ []) (made ++ e ∷ []) next.0 next.1 begins r next.2 (ap (λ (es : List Entry). es ++ e ∷ []) same ∙ append_assoc (journal ++ clock ∷ []) made (e ∷ []))),
+        let e = entry_of due.0 due.1.0 seen in
+        let next = due.1.2 seen answer in
+        (next.0.0, broken_run clock (new ++ e ∷ []) (made ++ e ∷ []) next.0.0 next.0.1 begins r next.1 (ap (λ (es : List Entry). es ++ e ∷ []) same ∙ append_assoc (journal ++ clock ∷ []) made (e ∷ []))),
   )
 
   pub broken_off : (clock : Entry) (new : List Entry) → BeginsPhase phase clock → (r : Reached setting place shown journal as_asked text)
@@ -184,7 +188,8 @@ module _ (setting : Setting) (place : ℕ) (phase : Phase) (shown : List Gateway
       record {
         ends = r.ends;
         unfinished = t.ends ∷ [];
-        short = subst (λ (ps : List Phase). IsUnfinished setting ps (t.ends ∷ []) (IsDueAt setting new r.ends)) (sym (drop_at setting.script.phases place phase at)) (refl, t.short.0, broken_due clock new t.made begins r t.short.1 t.entries);
+        left = subst (λ (ps : List Phase). AreUnfinished (in_line setting) place ps (t.ends ∷ [])) (sym (drop_at setting.script.phases place phase at)) (λ done. too_few _ _ t.short.0 done, refl);
+        due = λ more. broken_due clock new t.made begins r t.short.1 t.entries;
         run = broken_run clock new t.made t.ends t.after begins r t.run t.entries;
         outcomes = r.outcomes;
         told = r.told;
@@ -200,7 +205,7 @@ module _ (setting : Setting) (place : ℕ) (phase : Phase) (shown : List Gateway
         r.ends ++ t.ends ∷ [],
         broken_run clock new t.made t.ends t.after begins r t.run t.entries,
         subst (λ (ps : List Phase). AreInTurn (in_line setting) 0 ps (r.ends ++ t.ends ∷ [])) (sym front)
-            (turns_one setting 0 (take place setting.script.phases) phase (drop (place + 1) setting.script.phases) r.ends t.ends (told_whole setting (take place setting.script.phases) r.ends r.outcomes r.told)),
+            (turns_one setting 0 (take place setting.script.phases) phase (drop (place + 1) setting.script.phases) r.ends t.ends (told_whole setting 0 (take place setting.script.phases) r.ends r.outcomes r.told)),
       )
 
   -- the phase was done to its end
@@ -217,9 +222,9 @@ module _ (setting : Setting) (place : ℕ) (phase : Phase) (shown : List Gateway
         onward = λ entries later next. subst (λ (l : List (List End)). PhasesRun (in_line setting) 0 none_held setting.script.phases (new ++ entries) l) (sym (append_assoc r.ends (t.ends ∷ []) later))
             (begun r clock t.made entries t.ends later t.after new begins t.run next t.entries);
         outcomes = r.outcomes ++ t.outcomes;
-        told = subst (λ (ps : List Phase). PhasesTold setting ps (r.ends ++ t.ends ∷ []) (r.outcomes ++ t.outcomes)) (sym front) (told_more setting (take place setting.script.phases) phase r.ends t.ends r.outcomes t.outcomes r.told t.told);
+        told = subst (λ (ps : List Phase). PhasesDone setting 0 ps (r.ends ++ t.ends ∷ []) (r.outcomes ++ t.outcomes)) (sym front) (told_more setting 0 (take place setting.script.phases) phase r.ends t.ends r.outcomes t.outcomes r.told t.told);
         lines = lines_are ∙ ap (λ (l : List ℕ). l ++ own) r.lines ∙ ap (λ (l : List ℕ). report_of setting.script (tasks_of (take place setting.script.phases)) r.outcomes ++ l) t.lines
-            ∙ sym (report_append setting.script (tasks_of (take place setting.script.phases)) phase.tasks r.outcomes t.outcomes (told_count setting (take place setting.script.phases) r.ends r.outcomes r.told))
+            ∙ sym (report_append setting.script (tasks_of (take place setting.script.phases)) phase.tasks r.outcomes t.outcomes (told_count setting 0 (take place setting.script.phases) r.ends r.outcomes r.told))
             ∙ ap (λ (ts : List Task). report_of setting.script ts (r.outcomes ++ t.outcomes)) (sym (ap tasks_of front ∙ tasks_append (take place setting.script.phases) (phase ∷ []) ∙ ap (λ (l : List Task). tasks_of (take place setting.script.phases) ++ l) (append-nil phase.tasks)));
         flag = flag ∙ ap (λ b. b && asked) r.flag ∙ ap (λ b. list_all is_as_asked r.outcomes && b) t.flag ∙ sym (all_append r.outcomes t.outcomes);
       }
@@ -229,7 +234,7 @@ run_so_far setting place shown journal as_asked text r = (
   r.ends ++ [],
   subst (λ (es : List Entry). PhasesRun (in_line setting) 0 none_held setting.script.phases es (r.ends ++ [])) (append-nil journal) (r.onward [] [] (no_phase (in_line setting) place r.views (drop place setting.script.phases))),
   subst (λ (ps : List Phase). AreInTurn (in_line setting) 0 ps (r.ends ++ [])) (take-append-drop place setting.script.phases)
-      (turns_none setting 0 (take place setting.script.phases) (drop place setting.script.phases) r.ends (told_whole setting (take place setting.script.phases) r.ends r.outcomes r.told)),
+      (turns_none setting 0 (take place setting.script.phases) (drop place setting.script.phases) r.ends (told_whole setting 0 (take place setting.script.phases) r.ends r.outcomes r.told)),
 )
 
 blind_at : (gateways : List Gateway) (place : ℕ) (gateway : Gateway) → All (λ (g : Gateway). g.view ≡ None) gateways → slice_get gateways place ≡ Some gateway → gateway.view ≡ None
@@ -255,7 +260,7 @@ reached_none setting gateways journal asked text blind none all empty = record {
   onward = λ entries later run. subst (λ (ps : List Phase). PhasesRun (in_line setting) 0 none_held ps (journal ++ entries) later) (drop_none setting.script.phases)
       (subst (λ (es : List Entry). PhasesRun (in_line setting) 0 none_held (drop 0 setting.script.phases) (es ++ entries) later) (sym none) run);
   outcomes = [];
-  told = subst (λ (ps : List Phase). PhasesTold setting ps [] []) (sym (take_none setting.script.phases)) (refl, refl);
+  told = subst (λ (ps : List Phase). PhasesDone setting 0 ps [] []) (sym (take_none setting.script.phases)) (refl, refl);
   lines = empty ∙ ap (λ (ps : List Phase). report_of setting.script (tasks_of ps) []) (sym (take_none setting.script.phases));
   flag = all;
 }
@@ -268,13 +273,13 @@ whole_run setting gateways journal as_asked text lawful kept r =
     let run : PhasesRun (in_line setting) 0 none_held setting.script.phases journal r.ends =
     subst (λ (l : List (List End)). PhasesRun (in_line setting) 0 none_held setting.script.phases journal l) (append-nil r.ends)
     (subst (λ (es : List Entry). PhasesRun (in_line setting) 0 none_held setting.script.phases es (r.ends ++ [])) (append-nil journal) (r.onward [] [] (no_phase (in_line setting) (length setting.script.phases) r.views (drop (length setting.script.phases) setting.script.phases)))) in
-    let told : PhasesTold setting setting.script.phases r.ends r.outcomes = subst (λ (ps : List Phase). PhasesTold setting ps r.ends r.outcomes) (take-length setting.script.phases) r.told in
+    let told : PhasesDone setting 0 setting.script.phases r.ends r.outcomes = subst (λ (ps : List Phase). PhasesDone setting 0 ps r.ends r.outcomes) (take-length setting.script.phases) r.told in
     let same : (k : ℕ) (p : Phase) → slice_get setting.script.phases k ≡ Some p → slice_get setting.script.phases (0 + k) ≡ Some p = λ k p own. ap (slice_get setting.script.phases) (omega arith) ∙ own in
     record {
       ends = ends_by_workers (gateway_count setting.script.gateways) setting.script.phases r.ends;
       run = run_by setting journal r.ends lawful kept run;
       guaranteed = all_guaranteed setting journal (ends_by_workers (gateway_count setting.script.gateways) setting.script.phases r.ends) lawful (run_by setting journal r.ends lawful kept run);
-      finished = finished setting lawful 0 setting.script.phases r.ends same (told_whole setting setting.script.phases r.ends r.outcomes told);
+      finished = finished setting lawful 0 setting.script.phases r.ends same (told_whole setting 0 setting.script.phases r.ends r.outcomes told);
       report = record {
         outcomes = r.outcomes;
         came = phases_came setting lawful 0 setting.script.phases r.ends r.outcomes same told;
@@ -299,19 +304,45 @@ front_length phases zero below = refl
 front_length [] (suc n) below = absurd (omega (arith, below))
 front_length (p ∷ ps) (suc n) below = ap suc (front_length ps n (omega (arith, below)))
 
-unfinished_left : (setting : Setting) → IsLawfulScript setting.script → (place : ℕ) (left : List Phase) (ends : List (List End)) (is_due : Type 0) → ((k : ℕ) (p : Phase) → slice_get left k ≡ Some p → slice_get setting.script.phases (place + k) ≡ Some p) → place < length setting.script.phases
-    → IsUnfinished setting left ends is_due → AreUnfinished (by_workers setting) (length (take place setting.script.phases)) left (ends_by_workers (gateway_count setting.script.gateways) left ends)
+-- a run has no more ends than duties
+few_ends : (setting : Setting) (seat : Hand → ℕ) (before : Holdings) (duties : List Duty) (entries : List Entry) (ends : List End) (after : Holdings) → InLine setting seat before duties entries ends after → length ends ≤ length duties
+few_ends setting seat before [] entries ends after run = omega (arith, ap (length {A = End}) run.1)
+few_ends setting seat before (duty ∷ duties) entries ends after (inl run) =
+    omega (arith, ap (length {A = End}) run.8, few_ends setting seat (with_holding before (gateway_of duty.hand) run.4) duties run.1 run.3 after run.9)
+few_ends setting seat before (duty ∷ duties) entries ends after (inr run) = omega (arith, ap (length {A = End}) run.3)
+
+-- so has the phase behind some finished ones
+last_few : (setting : Setting) (number : ℕ) (before : Holdings) (phases : List Phase) (phase : Phase) (left : List Phase) (entries : List Entry) (ends : List (List End)) (own : List End) (more : List (List End)) → length ends ≡ length phases
+    → PhasesRun (in_line setting) number before (phases ++ phase ∷ left) entries (ends ++ own ∷ more) → length own ≤ length (duties_at setting 0 phase.tasks)
+last_few setting number before [] phase left entries [] own more same (inl none) = absurd (cc (none.1))
+last_few setting number before [] phase left entries [] own more same (inr run) =
+    let first : own ≡ run.3 = cc (run.9) in
+    subst (λ (l : List End). length l ≤ length (duties_at setting 0 phase.tasks)) (sym first) (few_ends setting (seat_of (workers_of setting.script number)) before (duties_at setting 0 phase.tasks) run.1 run.3 run.5 run.8)
+last_few setting number before [] phase left entries (e ∷ es) own more same run = absurd (cc (same))
+last_few setting number before (p ∷ ps) phase left entries [] own more same run = absurd (cc (same))
+last_few setting number before (p ∷ ps) phase left entries (e ∷ es) own more same (inl none) = absurd (cc (none.1))
+last_few setting number before (p ∷ ps) phase left entries (e ∷ es) own more same (inr run) =
+    let later : es ++ own ∷ more ≡ run.4 = cc (run.9) in
+    last_few setting (number + 1) run.5 ps phase left run.2 es own more (omega (arith, same)) (subst (PhasesRun (in_line setting) (number + 1) run.5 (ps ++ phase ∷ left) run.2) (sym later) run.10)
+
+less_by : (m n : ℕ) → m ≤ n → (m ≡ n → ⊥) → m < n
+less_by m n below differ = omega (arith, below, differ)
+
+unfinished_left : (setting : Setting) → IsLawfulScript setting.script → (place : ℕ) (journal : List Entry) (told : List (List End)) (left : List Phase) (ends : List (List End)) → ((k : ℕ) (p : Phase) → slice_get left k ≡ Some p → slice_get setting.script.phases (place + k) ≡ Some p)
+    → place < length setting.script.phases → length told ≡ length (take place setting.script.phases) → PhasesRun (in_line setting) 0 none_held (take place setting.script.phases ++ left) journal (told ++ ends)
+    → AreUnfinished (in_line setting) place left ends → AreUnfinished (by_workers setting) (length (take place setting.script.phases)) left (ends_by_workers (gateway_count setting.script.gateways) left ends)
 unfolding ends_by_workers
-unfinished_left setting lawful place [] [] is_due same below short = tt
-unfinished_left setting lawful place [] (own ∷ ends) is_due same below short = absurd short
-unfinished_left setting lawful place (phase ∷ left) [] is_due same below short = tt
-unfinished_left setting lawful place (phase ∷ left) (own ∷ ends) is_due same below short =
+unfinished_left setting lawful place journal told [] [] same below many run short = tt
+unfinished_left setting lawful place journal told [] (own ∷ ends) same below many run short = absurd short
+unfinished_left setting lawful place journal told (phase ∷ left) [] same below many run short = tt
+unfinished_left setting lawful place journal told (phase ∷ left) (own ∷ ends) same below many run short =
     let at : slice_get setting.script.phases (length (take place setting.script.phases)) ≡ Some phase = ap (slice_get setting.script.phases) (omega (arith, front_length setting.script.phases place below)) ∙ same 0 phase refl in
-    (λ done. own_undone setting lawful (length (take place setting.script.phases)) phase own at short.1 done, ap (ends_by_workers (gateway_count setting.script.gateways) left) short.0 ∙ by_none (gateway_count setting.script.gateways) left)
+    let less = less_by (length own) (length (duties_at setting 0 phase.tasks)) (last_few setting 0 none_held (take place setting.script.phases) phase left journal told own ends many run) short.0 in
+    (λ done. own_undone setting lawful (length (take place setting.script.phases)) phase own at less done, ap (ends_by_workers (gateway_count setting.script.gateways) left) short.1 ∙ by_none (gateway_count setting.script.gateways) left)
 
 -- what is due in line is due in the run, whose finished phases came to the ends that are told
 due_run : (setting : Setting) → IsLawfulScript setting.script → (place : ℕ) (journal : List Entry) (ends : List (List End)) (phase : Phase) (left : List Phase) → drop place setting.script.phases ≡ phase ∷ left → length ends ≡ length (take place setting.script.phases)
-    → IsDueAt setting journal ends → IsOperationDue (by_workers setting) none_held setting.script.phases journal (ends_by_workers (gateway_count setting.script.gateways) (take place setting.script.phases) ends)
+    → IsOperationDue (in_line setting) none_held setting.script.phases journal ends → IsOperationDue (by_workers setting) none_held setting.script.phases journal (ends_by_workers (gateway_count setting.script.gateways) (take place setting.script.phases) ends)
 unfolding ends_by_workers
 due_run setting lawful place journal ends phase left are same due =
     let gateways = gateway_count setting.script.gateways in
@@ -328,12 +359,13 @@ due_run setting lawful place journal ends phase left are same due =
     )
 
 due_left : (setting : Setting) → IsLawfulScript setting.script → (place : ℕ) (journal : List Entry) (ends : List (List End)) (left : List Phase) (unfinished : List (List End)) → drop place setting.script.phases ≡ left → length ends ≡ length (take place setting.script.phases)
-    → IsUnfinished setting left unfinished (IsDueAt setting journal ends) → ends_by_workers (gateway_count setting.script.gateways) left unfinished ≢ [] → IsOperationDue (by_workers setting) none_held setting.script.phases journal (ends_by_workers (gateway_count setting.script.gateways) (take place setting.script.phases) ends)
+    → AreUnfinished (in_line setting) place left unfinished → (unfinished ≢ [] → IsOperationDue (in_line setting) none_held setting.script.phases journal ends) → ends_by_workers (gateway_count setting.script.gateways) left unfinished ≢ []
+    → IsOperationDue (by_workers setting) none_held setting.script.phases journal (ends_by_workers (gateway_count setting.script.gateways) (take place setting.script.phases) ends)
 unfolding ends_by_workers
-due_left setting lawful place journal ends [] [] are same short begun = absurd (begun refl)
-due_left setting lawful place journal ends [] (own ∷ more) are same short begun = absurd short
-due_left setting lawful place journal ends (phase ∷ left) [] are same short begun = absurd (begun (by_none (gateway_count setting.script.gateways) (phase ∷ left)))
-due_left setting lawful place journal ends (phase ∷ left) (own ∷ more) are same short begun = due_run setting lawful place journal ends phase left are same short.2
+due_left setting lawful place journal ends [] [] are same short due begun = absurd (begun refl)
+due_left setting lawful place journal ends [] (own ∷ more) are same short due begun = absurd short
+due_left setting lawful place journal ends (phase ∷ left) [] are same short due begun = absurd (begun (by_none (gateway_count setting.script.gateways) (phase ∷ left)))
+due_left setting lawful place journal ends (phase ∷ left) (own ∷ more) are same short due begun = due_run setting lawful place journal ends phase left are same (due (λ none. absurd (cc (none))))
 
 pub full_run : (setting : Setting) (place : ℕ) (journal : List Entry) (as_asked : Bool) (text : List ℕ) → IsLawfulScript setting.script → IsJournal setting.script.rules.tick.ms journal → IsFull journal → place < length setting.script.phases
     → IsBrokenAt setting place journal as_asked text → IsFullRun setting text journal
@@ -344,7 +376,7 @@ full_run setting place journal as_asked text lawful kept full below b =
     let same : (k : ℕ) (p : Phase) → slice_get done k ≡ Some p → slice_get setting.script.phases (0 + k) ≡ Some p = λ k p own. ap (slice_get setting.script.phases) (omega arith) ∙ front_at setting.script.phases place k p own in
     let told = ends_by_workers gateways done b.ends in
     let untold = ends_by_workers gateways left b.unfinished in
-    let many = told_ends setting done b.ends b.outcomes b.told in
+    let many = told_ends setting 0 done b.ends b.outcomes b.told in
     let parts : ends_by_workers gateways setting.script.phases (b.ends ++ b.unfinished) ≡ told ++ untold =
     ap (λ (ps : List Phase). ends_by_workers gateways ps (b.ends ++ b.unfinished)) (sym (take-append-drop place setting.script.phases)) ∙ by_parts gateways done left b.ends b.unfinished many in
     let run = subst (IsRunOf setting journal) parts (run_by setting journal (b.ends ++ b.unfinished) lawful kept b.run) in
@@ -357,9 +389,10 @@ full_run setting place journal as_asked text lawful kept full below b =
         more = λ none. left_some setting.script.phases place below none;
         untold = untold;
         run = run;
-        finished = finished setting lawful 0 done b.ends same (told_whole setting done b.ends b.outcomes b.told);
-        unfinished = unfinished_left setting lawful place left b.unfinished (IsDueAt setting journal b.ends) (drop_front setting.script.phases place) below b.short;
-        due = due_left setting lawful place journal b.ends left b.unfinished refl many b.short;
+        finished = finished setting lawful 0 done b.ends same (told_whole setting 0 done b.ends b.outcomes b.told);
+        unfinished = unfinished_left setting lawful place journal b.ends left b.unfinished (drop_front setting.script.phases place) below many
+            (subst (λ (ps : List Phase). PhasesRun (in_line setting) 0 none_held ps journal (b.ends ++ b.unfinished)) (sym (take-append-drop place setting.script.phases)) b.run) b.left;
+        due = due_left setting lawful place journal b.ends left b.unfinished refl many b.left b.due;
       };
       full = full;
       as_asked = as_asked;
@@ -378,7 +411,7 @@ run_in_line setting gateways journal as_asked text (Err broken.Full) kept (place
     kept = kept;
     phases = b.run;
     turns = subst (λ (ps : List Phase). AreInTurn (in_line setting) 0 ps (b.ends ++ b.unfinished)) (take-append-drop place setting.script.phases)
-        (turns_unfinished setting (take place setting.script.phases) (drop place setting.script.phases) b.ends b.unfinished (IsDueAt setting journal b.ends) (told_whole setting (take place setting.script.phases) b.ends b.outcomes b.told) b.short);
+        (turns_unfinished setting place (take place setting.script.phases) (drop place setting.script.phases) b.ends b.unfinished (told_whole setting 0 (take place setting.script.phases) b.ends b.outcomes b.told) b.left);
   },
 )
 run_in_line setting gateways journal as_asked text (Err broken.NoMemory) kept came = (came.0, record { kept = kept; phases = came.1; turns = came.2 })

@@ -1,5 +1,5 @@
 -- What a run of all phases comes to.
-use Rattle.std.proofs.Common.{◌≡◌, ℕ, List, [], ◌∷◌, refl, sym, ◌∙◌, ap, subst, take}
+use Rattle.std.proofs.Common.{◌≡◌, ◌≢◌, ℕ, Bool, false, List, [], ◌∷◌, refl, sym, ◌∙◌, ap, subst, take}
 use Rattle.std.specs.Prelude.{Option, Some, Result, Ok, Err, IfSome, IsSomeAnd}
 use Rattle.bucket_core.specs.Causes.{Rose}
 use Rattle.bucket_core.specs.Contents.{Contents, nothing}
@@ -7,7 +7,7 @@ use Rattle.bucket_core.specs.Pages.{IsPage}
 use Rattle.bucket_core.specs.declared.site_refusal.SiteRefusal.{SiteRefusal}
 use Rattle.bucket_core.specs.declared.site_refusal.SiteRefusal.TheVariants as site
 use Rattle.world_core.specs.Keeping.{IsFull}
-use Rattle.world_core.specs.Worlds.{IsJournal}
+use Rattle.world_core.specs.Worlds.{IsJournal, WorldView}
 use Rattle.world_core.specs.declared.entry.Entry.{Entry}
 use Rattle.world_core.specs.declared.open_refusal.OpenRefusal.{OpenRefusal}
 use Rattle.world_core.specs.declared.open_refusal.OpenRefusal.TheVariants as unopened
@@ -21,7 +21,8 @@ use Rattle.lifecycle_core.specs.InLine.{IsInLine}
 use Rattle.lifecycle_core.specs.Setting.{Setting}
 use Rattle.lifecycle_core.proofs.phases.FirstPhases.{none_in_line}
 use Rattle.lifecycle_core.proofs.Assembling.{none_guaranteed}
-use Rattle.replay_cli.specs.Progress.{RunCame}
+use Rattle.script_running.specs.Tasks.{is_full_came}
+use Rattle.replay_cli.specs.Progress.{RunCame, tells_full}
 use Rattle.replay_cli.specs.Verdicts.{IsRun}
 use Rattle.script_running.specs.declared.came.Broken.{Broken}
 use Rattle.script_running.specs.declared.came.Broken.TheVariants as broken
@@ -40,6 +41,22 @@ no_seats setting workers none = none ∙ sym (ap (seats_from (gateway_count sett
 
 pub kept_by : (tick other : ℕ) (journal : List Entry) → tick ≡ other → IsJournal tick journal → IsJournal other journal
 kept_by tick other journal same kept = subst (λ (t : ℕ). IsJournal t journal) same kept
+
+pub kept_of : {B : Type 0} (one other : WorldView B) → one ≡ other → IsJournal one.tick one.journal → IsJournal other.tick other.journal
+kept_of {B} one other same kept = subst (λ (w : WorldView B). IsJournal w.tick w.journal) same kept
+
+-- a part of the run that took no operation, and so was not refused
+pub unrefused : (refused : Bool) (r : Result (Unit {0}) Broken) → refused ≡ false → r ≢ Err broken.Full → refused ≡ is_full_came r
+unrefused refused (Ok done) none never = none
+unrefused refused (Err broken.Full) none never = absurd (never refl)
+unrefused refused (Err broken.NoMemory) none never = none
+
+-- the verdict tells what broke the run off
+pub full_told : (report : Lines) (r : Result (Unit {0}) Broken) (v : Verdict)
+    → (r ≡ Ok tt → v ≡ verdict.Report report.text report.as_asked) → (r ≡ Err broken.Full → v ≡ verdict.Full report.text) → (r ≡ Err broken.NoMemory → v ≡ verdict.NoMemory) → is_full_came r ≡ tells_full v
+full_told report (Ok done) v whole filled short = sym (ap tells_full (whole refl))
+full_told report (Err broken.Full) v whole filled short = sym (ap tells_full (filled refl))
+full_told report (Err broken.NoMemory) v whole filled short = sym (ap tells_full (short refl))
 
 -- what the run came to has its cause
 run_by : (setting : Setting) (gateways : List Gateway) (journal : List Entry) (report : Lines) (r : Result (Unit {0}) Broken) (v : Verdict) → IsLawfulScript setting.script → IsJournal setting.script.rules.tick.ms journal

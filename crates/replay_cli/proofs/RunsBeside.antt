@@ -14,14 +14,15 @@ use Rattle.script_workers.specs.declared.task.Task.{Task}
 use Rattle.script_workers.specs.declared.worker.Worker.{Worker}
 use Rattle.lifecycle_core.specs.Setting.{Setting}
 use Rattle.lifecycle_core.specs.Tasks.{End}
-use Rattle.lifecycle_core.proofs.Assembling.{all_guaranteed}
+use Rattle.lifecycle_core.specs.Guarantees.{IsGuaranteedJournal}
+use Rattle.lifecycle_core.proofs.Assembling.{all_guaranteed, none_guaranteed}
 use Rattle.script_running.specs.Beside.{HasRunBeside}
 use Rattle.script_running.specs.Outcomes.{PhasesCame, TasksCame, is_as_asked}
 use Rattle.script_running.specs.declared.came.Broken.{Broken}
 use Rattle.script_running.specs.declared.came.Broken.TheVariants as broken
 use Rattle.script_running.specs.declared.outcome.Outcome.{Outcome}
 use Rattle.replay_cli.specs.Reports.{activity_text}
-use Rattle.replay_cli.specs.InPhases.{IsInPhases}
+use Rattle.replay_cli.specs.InPhases.{IsInPhases, none_in_phases}
 use Rattle.replay_cli.specs.Verdicts.{IsRun, report_of, tasks_of}
 use Rattle.replay_cli.specs.declared.phases.Lines.{Lines}
 use Rattle.replay_cli.proofs.ToldLines.{told_none}
@@ -104,3 +105,7 @@ pub beside_told : (setting : Setting) → IsLawfulScript setting.script → (jou
 beside_told setting lawful journal outcomes report lines flag (Ok done) v ran whole full none = subst (IsRun IsInPhases setting (Some nothing) ⊥ (Some journal)) (sym (whole refl)) (whole_beside setting lawful journal outcomes report lines flag ran)
 beside_told setting lawful journal outcomes report lines flag (Err broken.Full) v ran whole full none = subst (IsRun IsInPhases setting (Some nothing) ⊥ (Some journal)) (sym (full refl)) (full_beside setting lawful journal outcomes report lines flag ran)
 beside_told setting lawful journal outcomes report lines flag (Err broken.NoMemory) v ran whole full none = subst (IsRun IsInPhases setting (Some nothing) ⊥ (Some journal)) (sym (none refl)) (short_beside setting lawful journal outcomes (Err broken.NoMemory) ran)
+
+-- nothing was begun
+pub none_beside : (setting : Setting) (journal : List Entry) → journal ≡ [] → IsRun IsInPhases setting (Some nothing) ⊥ (Some journal) verdict.NoMemory
+none_beside setting journal none = subst (λ (es : List Entry). IsInPhases setting es × IsGuaranteedJournal setting es) (sym none) (none_in_phases setting, none_guaranteed setting)

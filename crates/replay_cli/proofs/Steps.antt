@@ -58,12 +58,14 @@ due_in_line : (setting : Setting) (seat : Hand → ℕ) (views : Holdings) (duty
 due_in_line setting seat views duty duties made are seats d =
     subst (λ (ds : List Duty). IsDueInLine setting seat views ds made) (sym are) (
       seat duty.hand,
-      d.0,
-      d.1,
-      λ seen answer.
-          let e = entry_of (seat duty.hand) d.0 seen in
-          let next = d.2 seen answer in
-          (one_end next.0, with_holding views (gateway_of duty.hand) next.1.0, one_run setting seat views duty (made ++ e ∷ []) next.0 next.1.0 (one_more (seat duty.hand) made e seats refl) next.1.1),
+      (
+        d.0,
+        d.1,
+        λ seen answer.
+            let e = entry_of (seat duty.hand) d.0 seen in
+            let next = d.2 seen answer in
+            ((one_end next.0, with_holding views (gateway_of duty.hand) next.1.0), one_run setting seat views duty (made ++ e ∷ []) next.0 next.1.0 (one_more (seat duty.hand) made e seats refl) next.1.1),
+      ),
     )
 
 -- a task that one worker did

@@ -155,16 +155,17 @@ module _ (setting : Setting) (seat : Hand → ℕ) (place : ℕ) (tasks : List T
       → IsDueInLine setting seat d.after (duties_at setting place (task ∷ [])) made → IsDueInLine setting seat views (duties_at setting 0 tasks) (d.made ++ made)
   cut_due begin d made due = (
     due.0,
-    due.1,
-    due.2,
-    λ seen answer.
-        let e = entry_of due.0 due.1 seen in
-        let next = due.3 seen answer in (
-          d.ends ++ next.0,
-          next.1,
-          subst (λ (es : List Entry). InLine setting seat views (duties_at setting 0 tasks) es (d.ends ++ next.0) next.1) (sym (append_assoc d.made made (e ∷ [])))
-              (cut_run begin d (made ++ e ∷ []) next.0 next.1 next.2),
-        ),
+    (
+      due.1.0,
+      due.1.1,
+      λ seen answer.
+          let e = entry_of due.0 due.1.0 seen in
+          let next = due.1.2 seen answer in (
+            (d.ends ++ next.0.0, next.0.1),
+            subst (λ (es : List Entry). InLine setting seat views (duties_at setting 0 tasks) es (d.ends ++ next.0.0) next.0.1) (sym (append_assoc d.made made (e ∷ [])))
+                (cut_run begin d (made ++ e ∷ []) next.0.0 next.0.1 next.1),
+          ),
+    ),
   )
 
   -- broken off for want of memory

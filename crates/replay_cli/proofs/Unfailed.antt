@@ -3,7 +3,7 @@ use Rattle.std.proofs.Common.{◌≡◌, ◌≢◌, ℕ, ◌≤◌, false, List,
 use Rattle.std.specs.Prelude.{Option, Some, None, IfSome, Result, Ok, Err}
 use Rattle.bucket_core.specs.declared.site_refusal.SiteRefusal.{SiteRefusal}
 use Rattle.bucket_core.specs.declared.site_refusal.SiteRefusal.TheVariants as site
-use Rattle.world_core.specs.Worlds.{WorldGoesOn, WorldView, failed_count, goes_on-none, goes_on-more}
+use Rattle.world_core.specs.Worlds.{WorldGoesOn, WorldView, failed_count}
 use Rattle.world_core.specs.Machines.{gained, is_failed, IfDone}
 use Rattle.world_core.specs.Operations.{has_failed}
 use Rattle.world_core.specs.declared.acted.Acted.{Acted}
@@ -19,6 +19,7 @@ use Rattle.block_loading.specs.declared.load_refusal.LoadRefusal.TheVariants as 
 use Rattle.replay_cli.specs.Checks.{cause_number}
 use Rattle.replay_cli.specs.CheckVerdicts.{refused_for, verdict_on}
 use Rattle.replay_cli.specs.Kept.{IsUnfailed}
+use Rattle.replay_cli.specs.LineHands.{KeepsRun, keeps_run-more, keeps_run-none}
 use Rattle.replay_cli.specs.Verdicts.{IfShort}
 use Rattle.replay_cli.specs.declared.verdict.Verdict.{Verdict}
 use Rattle.replay_cli.specs.declared.verdict.Verdict.TheVariants.{WordsRefused, SourceFault, ScriptRefused, SiteFault, NotEmpty, Full, Report, Checked, NoMemory}
@@ -98,11 +99,16 @@ unfailed_ended {B} faults old new journal back unfailed none kept handed =
 
 -- ---- worlds that go on
 
-pub still : {B : Type 0} (faults : B → ℕ) (quiet : B → Type 0) (world : WorldView B) → WorldGoesOn faults quiet world world
-still faults quiet world = goes_on-none faults quiet world
+pub kept : {B : Type 0} (faults : B → ℕ) (quiet : B → Type 0) (opened world : WorldView B) → KeepsRun faults quiet opened world opened world
+kept faults quiet opened world = keeps_run-none faults quiet opened world
 
-pub gone_on : {B : Type 0} (faults : B → ℕ) (quiet : B → Type 0) (first next last : WorldView B) → WorldGoesOn faults quiet first next → WorldGoesOn faults quiet next last → WorldGoesOn faults quiet first last
-gone_on faults quiet first next last one two = goes_on-more faults quiet first next last one two
+pub kept_on : {B : Type 0} (faults : B → ℕ) (quiet : B → Type 0) (opened still last_opened first next last : WorldView B) → KeepsRun faults quiet opened first still next → KeepsRun faults quiet still next last_opened last → KeepsRun faults quiet opened first last_opened last
+kept_on faults quiet opened still last_opened first next last one two = keeps_run-more faults quiet opened still last_opened first next last one two
+
+-- from a hand that was set to another seat
+pub kept_at : {B : Type 0} (faults : B → ℕ) (quiet : B → Type 0) (opened set_opened still first set next : WorldView B) → set_opened ≡ opened → set ≡ first → KeepsRun faults quiet set_opened set still next → KeepsRun faults quiet opened first still next
+kept_at {B} faults quiet opened set_opened still first set next one other keeps =
+    subst (λ (w : WorldView B). KeepsRun faults quiet opened w still next) other (subst (λ (w : WorldView B). KeepsRun faults quiet w set still next) one keeps)
 
 pub acted : {B : Type 0} (faults : B → ℕ) (quiet : B → Type 0) (old new : WorldView B) (seat : ℕ) (op : Op) (a : Acted) → new.journal ≡ old.journal ++ gained seat op a → new.tick ≡ old.tick
     → faults old.bucket ≤ faults new.bucket → (is_failed a ≡ false → faults new.bucket ≡ faults old.bucket) → (quiet old.bucket → quiet new.bucket × IfDone a (λ seen. has_failed seen.reply ≡ false)) → WorldGoesOn faults quiet old new

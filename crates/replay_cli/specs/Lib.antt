@@ -2,6 +2,7 @@ pub mod Checks
 pub mod CheckVerdicts
 pub mod InPhases
 pub mod Kept
+pub mod LineHands
 pub mod Output
 pub mod Progress
 pub mod Reports

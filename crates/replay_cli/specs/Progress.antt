@@ -1,10 +1,7 @@
 -- How far a run in the order of the lines has come, as the contracts of its parts say it.
-use Rattle.std.specs.Prelude.{◌≡◌, ℕ, ◌+◌, ◌<◌, Bool, List, [], ◌∷◌, ◌++◌, length, take, drop, Some, slice_get, Result, Ok, Err}
+use Rattle.std.specs.Prelude.{◌≡◌, ◌≢◌, ℕ, ◌+◌, ◌<◌, Bool, true, false, List, [], ◌∷◌, ◌++◌, length, take, drop, Some, slice_get, Result, Ok, Err}
 use Rattle.std.specs.List.{list_all}
-use Rattle.world_core.specs.Operations.{IsAnswer, IsLawful, entry_of}
 use Rattle.world_core.specs.declared.entry.Entry.{Entry}
-use Rattle.world_core.specs.declared.op.Op.{Op}
-use Rattle.world_core.specs.declared.seen.Seen.{Seen}
 use Rattle.store_gateway.specs.declared.gateway.Gateway.{Gateway}
 use Rattle.script_workers.specs.Hands.{gateway_count}
 use Rattle.script_workers.specs.declared.hand.Hand.{Hand}
@@ -14,15 +11,16 @@ use Rattle.lifecycle_core.specs.Holdings.{Holdings, none_held}
 use Rattle.lifecycle_core.specs.InLine.{Duty, duties_from, InLine, in_line}
 use Rattle.lifecycle_core.specs.Setting.{Setting}
 use Rattle.lifecycle_core.specs.Tasks.{End}
-use Rattle.lifecycle_core.specs.Ways.{AreInTurn, IsOperationDue, PhasesRun}
-use Rattle.script_running.specs.Outcomes.{IsOutcome}
-use Rattle.script_running.specs.Tasks.{Sees, WhenFull}
-use Rattle.script_running.specs.Outcomes.{is_as_asked}
+use Rattle.lifecycle_core.specs.Ways.{AreInTurn, AreUnfinished, IsOperationDue, PhasesRun}
+use Rattle.script_running.specs.Outcomes.{IsOutcome, PhasesTold, is_as_asked}
+use Rattle.script_running.specs.Tasks.{IsDueAfter, Sees, WhenFull}
 use Rattle.replay_cli.specs.Verdicts.{report_of, tasks_of}
 use Rattle.script_running.specs.declared.came.Broken.{Broken}
 use Rattle.script_running.specs.declared.came.Broken.TheVariants as broken
 use Rattle.script_running.specs.Drives.{Came}
 use Rattle.script_running.specs.declared.outcome.Outcome.{Outcome}
+use Rattle.replay_cli.specs.declared.verdict.Verdict.{Verdict}
+use Rattle.replay_cli.specs.declared.verdict.Verdict.TheVariants as verdict
 
 -- ---- one task
 
@@ -44,11 +42,9 @@ IsWhole setting place task ends (Ok o) = (length ends ≡ length (duties_at sett
 IsWhole setting place task ends (Err broken.Full) = length ends < length (duties_at setting place (task ∷ []))
 IsWhole setting place task ends (Err broken.NoMemory) = Unit {0}
 
--- An operation is due after these entries of duties: whatever the reply to it, its entry goes on with them.
+-- an operation of some seat is due after these entries of duties
 abbrev pub IsDueInLine : Setting → (Hand → ℕ) → Holdings → List Duty → List Entry → Type 0
-IsDueInLine setting seat views duties made =
-    (at : ℕ) × (op : Op) × IsLawful op
-    × ((seen : Seen) → IsAnswer op seen → (ends : List End) × (after : Holdings) × InLine setting seat views duties (made ++ entry_of at op seen ∷ []) ends after)
+IsDueInLine setting seat views duties made = (at : ℕ) × IsDueAfter (λ entries (run : List End × Holdings). InLine setting seat views duties entries run.0 run.1) at made
 
 -- a task's entries and what it came to
 pub record TaskStep (setting : Setting) (seat : Hand → ℕ) (place : ℕ) (task : Task) (views : Holdings) (gateways : List Gateway) (old new : List Entry) (came : Came) : Type 0 where
@@ -63,7 +59,8 @@ pub record TaskStep (setting : Setting) (seat : Hand → ℕ) (place : ℕ) (tas
 
 -- ---- the tasks of a phase
 
--- how tasks from a place on came out, by the ends of their duties
+-- How tasks from a place on came out, by the ends of their duties. These stand in the order of the lines, so a task has the next ones;
+-- among the ends of workers, by which `TasksCame` says the same, each has to be found.
 abbrev pub TasksTold : Setting → ℕ → List Task → List End → List Outcome → Type 0
 TasksTold setting place [] ends outcomes = (ends ≡ []) × (outcomes ≡ [])
 TasksTold setting place (task ∷ tasks) ends outcomes =
@@ -101,11 +98,8 @@ pub record TasksBroken (setting : Setting) (seat : Hand → ℕ) (tasks : List T
 -- ---- phases
 
 -- how phases came out, by the ends of their duties
-abbrev pub PhasesTold : Setting → List Phase → List (List End) → List Outcome → Type 0
-PhasesTold setting [] ends outcomes = (ends ≡ []) × (outcomes ≡ [])
-PhasesTold setting (phase ∷ phases) [] outcomes = ⊥
-PhasesTold setting (phase ∷ phases) (own ∷ ends) outcomes =
-    (first : List Outcome) × (later : List Outcome) × (outcomes ≡ first ++ later) × TasksTold setting 0 phase.tasks own first × PhasesTold setting phases ends later
+abbrev pub PhasesDone : Setting → ℕ → List Phase → List (List End) → List Outcome → Type 0
+PhasesDone setting number phases ends outcomes = PhasesTold (λ number phase own first. TasksTold setting 0 phase.tasks own first) number phases ends outcomes
 
 -- The phases before a place were done to their ends, and these are their lines. What completes the rest completes the run.
 pub record Reached (setting : Setting) (place : ℕ) (gateways : List Gateway) (journal : List Entry) (as_asked : Bool) (text : List ℕ) : Type 0 where
@@ -115,28 +109,20 @@ pub record Reached (setting : Setting) (place : ℕ) (gateways : List Gateway) (
   pub onward : (entries : List Entry) (later : List (List End)) → PhasesRun (in_line setting) place views (drop place setting.script.phases) entries later
       → PhasesRun (in_line setting) 0 none_held setting.script.phases (journal ++ entries) (ends ++ later)
   pub outcomes : List Outcome
-  pub told : PhasesTold setting (take place setting.script.phases) ends outcomes
+  pub told : PhasesDone setting 0 (take place setting.script.phases) ends outcomes
   pub lines : text ≡ report_of setting.script (tasks_of (take place setting.script.phases)) outcomes
   pub flag : as_asked ≡ list_all is_as_asked outcomes
 
--- An operation is due in the phase after those of these ends.
-abbrev pub IsDueAt : Setting → List Entry → List (List End) → Type 0
-IsDueAt setting journal ends = IsOperationDue (in_line setting) none_held setting.script.phases journal ends
-
--- Of the phases left, none was begun, or the first one alone, and not to its end: an operation is due in it.
-abbrev pub IsUnfinished : Setting → List Phase → List (List End) → Type 0 → Type 0
-IsUnfinished setting left [] is_due = Unit {0}
-IsUnfinished setting [] (own ∷ ends) is_due = ⊥
-IsUnfinished setting (phase ∷ left) (own ∷ ends) is_due = (ends ≡ []) × (length own < length (duties_at setting 0 phase.tasks)) × is_due
-
--- a run that was broken off in the phase at a place, or before that phase was begun
+-- A run that was broken off in the phase at a place, where an operation is due, or before that phase was begun. By the words for runs of
+-- workers beside each other this is `IsCutBehind`.
 pub record IsBrokenAt (setting : Setting) (place : ℕ) (journal : List Entry) (as_asked : Bool) (text : List ℕ) : Type 0 where
   pub ends : List (List End)
   pub unfinished : List (List End)
-  pub short : IsUnfinished setting (drop place setting.script.phases) unfinished (IsDueAt setting journal ends)
+  pub left : AreUnfinished (in_line setting) place (drop place setting.script.phases) unfinished
+  pub due : unfinished ≢ [] → IsOperationDue (in_line setting) none_held setting.script.phases journal ends
   pub run : PhasesRun (in_line setting) 0 none_held setting.script.phases journal (ends ++ unfinished)
   pub outcomes : List Outcome
-  pub told : PhasesTold setting (take place setting.script.phases) ends outcomes
+  pub told : PhasesDone setting 0 (take place setting.script.phases) ends outcomes
   pub lines : text ≡ report_of setting.script (tasks_of (take place setting.script.phases)) outcomes
   pub flag : as_asked ≡ list_all is_as_asked outcomes
 
@@ -157,3 +143,10 @@ abbrev pub RunCame : Setting → List Gateway → List Entry → Bool → List �
 RunCame setting gateways journal as_asked text (Ok done) = Reached setting (length setting.script.phases) gateways journal as_asked text
 RunCame setting gateways journal as_asked text (Err broken.Full) = (place : ℕ) × (place < length setting.script.phases) × IsBrokenAt setting place journal as_asked text
 RunCame setting gateways journal as_asked text (Err broken.NoMemory) = HasRun setting journal
+
+-- ---- verdicts
+
+-- the verdict tells that the journal is full
+abbrev pub tells_full : Verdict → Bool
+tells_full (verdict.Full lines) = true
+tells_full other = false

@@ -7,6 +7,7 @@ mod conclusion;
 mod input;
 mod input_refusal;
 mod laws;
+mod line_hand;
 mod opening;
 mod output;
 mod phases;

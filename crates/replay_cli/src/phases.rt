@@ -1,7 +1,6 @@
-ghost use Rattle.std.specs.Prelude.{◌≡◌, ◌≢◌, ◌++◌, ◌+◌, ◌<◌, ◌^◌, ◌&&◌, [], ◌∷◌, true, length, take, List, Ok, Err, Some, None, IfOk, OnErr, OnOk, MatchResult, slice_get};
+ghost use Rattle.std.specs.Prelude.{◌≡◌, ◌≢◌, ◌++◌, ◌+◌, ◌<◌, ◌^◌, ◌&&◌, [], ◌∷◌, true, false, length, take, List, Ok, Err, Some, None, IfOk, OnErr, OnOk, MatchResult, slice_get};
 ghost use Rattle.std.specs.List.{All};
 ghost use Rattle.world_core.specs.Keeping.{IsFull};
-ghost use Rattle.world_core.specs.Worlds.{WorldGoesOn};
 ghost use Rattle.world_core.specs.declared.entry.Entry.{Entry};
 ghost use Rattle.store_gateway.specs.declared.gateway.Gateway.{Gateway};
 ghost use Rattle.script_core.specs.Workers.{seats_before};
@@ -10,11 +9,13 @@ ghost use Rattle.lifecycle_core.specs.InLine.{seat_of};
 ghost use Rattle.lifecycle_core.specs.Ways.{BeginsPhase};
 ghost use Rattle.lifecycle_core.specs.Holdings.{Holdings};
 ghost use Rattle.replay_cli.specs.Progress.{PhaseStep, Reached, RunCame, Shows, TasksBroken, TasksDone};
-ghost use Rattle.script_running.specs.Tasks.{Allows};
+ghost use Rattle.script_running.specs.Tasks.{Allows, is_full_came};
+ghost use Rattle.replay_cli.specs.LineHands.{KeepsRun};
 ghost use Rattle.replay_cli.specs.Reports.{activity_text};
 ghost use Rattle.script_running.specs.Outcomes.{is_as_asked};
 ghost use Rattle.lifecycle_core.specs.Setting.{setting_of};
 
+use crate::line_hand::LineHand;
 use crate::report::put_activity;
 use crate::seats::Seats;
 use crate::tasks::do_task;
@@ -24,7 +25,7 @@ use script_core::{Phase, Script, Task};
 use script_running::{Broken, Outcome};
 use std::alloc::Global;
 use store_gateway::Gateway;
-use world_core::{Acted, Op, World};
+use world_core::{Acted, Hand, Op};
 
 /// The lines of some tasks, and whether all of them ended as asked.
 #[derive(Drop)]
@@ -75,96 +76,107 @@ impl Progress {
     }
 }
 
-/// Runs the phases in order. What broke the run off, if anything did, comes with the world.
-#[tactic(auto, using(crate::proofs::Unfailed::still, crate::proofs::Unfailed::gone_on))]
+/// Runs the phases in order. What broke the run off, if anything did, comes with the hand.
+#[tactic(auto, using(crate::proofs::Unfailed::kept, crate::proofs::Unfailed::kept_on))]
 pub(crate) fn run_phases<B: Bucket>(
     alloc: Global,
     script: &Script,
     progress: &mut Progress,
-    world: World<B>,
-) -> (Result<(), Broken>, World<B>)
+    hand: LineHand<B>,
+) -> (Result<(), Broken>, LineHand<B>)
     requires lawful { IsLawfulScript script.now }
     requires ready { length progress.old.gateways.items ≡ length script.now.gateways }
+    requires unrefused { hand.refused ≡ false }
     requires workers { progress.old.workers ≡ seats_before script.now 0 }
-    requires reached { Reached (setting_of script.now) 0 progress.old.gateways.items world.journal
-        progress.old.report.as_asked progress.old.report.text.items }
-    ensures full { result.0 ≡ Err Broken.Full → IsFull result.1.journal }
-    ensures goes_on { WorldGoesOn B.faults B.quiet world result.1 }
-    ensures came { RunCame (setting_of script.now) progress.new.gateways.items result.1.journal
-        progress.new.report.as_asked progress.new.report.text.items result.0 }
+    requires reached { Reached (setting_of script.now) 0 progress.old.gateways.items
+        hand.world.journal progress.old.report.as_asked progress.old.report.text.items }
+    ensures full { result.0 ≡ Err Broken.Full → IsFull result.1.world.journal }
+    ensures refused { result.1.refused ≡ is_full_came result.0 }
+    ensures keeps { KeepsRun B.faults B.quiet hand.opened.value hand.world
+        result.1.opened.value result.1.world }
+    ensures came { RunCame (setting_of script.now) progress.new.gateways.items
+        result.1.world.journal progress.new.report.as_asked progress.new.report.text.items
+        result.0 }
 {
-    let mut world = world;
+    let mut hand = hand;
     for (place, phase) in script.phases.members().iter().enumerate() {
-        let (came, next) = run_phase(alloc, script, place, phase, progress, world);
-        world = next;
+        let (came, next) = run_phase(alloc, script, place, phase, progress, hand);
+        hand = next;
         if let Err(broken) = came {
-            return (Err(broken), world);
+            return (Err(broken), hand);
         }
     }
-    (Ok(()), world)
+    (Ok(()), hand)
 }
 
 /// Sets the clock, and then runs the tasks in the order of their lines.
-#[tactic(auto, using(crate::proofs::Unfailed::still, crate::proofs::Unfailed::gone_on))]
+#[tactic(auto, using(crate::proofs::Unfailed::kept, crate::proofs::Unfailed::kept_on))]
 fn run_phase<B: Bucket>(
     alloc: Global,
     script: &Script,
     place: usize,
     phase: &Phase,
     progress: &mut Progress,
-    world: World<B>,
-) -> (Result<(), Broken>, World<B>)
+    hand: LineHand<B>,
+) -> (Result<(), Broken>, LineHand<B>)
     requires lawful { IsLawfulScript script.now }
     requires at { slice_get script.now.phases place ≡ Some phase.now }
     requires ready { length progress.old.gateways.items ≡ length script.now.gateways }
+    requires unrefused { hand.refused ≡ false }
     requires workers { progress.old.workers ≡ seats_before script.now place }
     requires reached { Reached (setting_of script.now) place progress.old.gateways.items
-        world.journal progress.old.report.as_asked progress.old.report.text.items }
-    ensures full { result.0 ≡ Err Broken.Full → IsFull result.1.journal }
-    ensures goes_on { WorldGoesOn B.faults B.quiet world result.1 }
+        hand.world.journal progress.old.report.as_asked progress.old.report.text.items }
+    ensures full { result.0 ≡ Err Broken.Full → IsFull result.1.world.journal }
+    ensures refused { result.1.refused ≡ is_full_came result.0 }
+    ensures keeps { KeepsRun B.faults B.quiet hand.opened.value hand.world
+        result.1.opened.value result.1.world }
     ensures ready { length progress.new.gateways.items ≡ length script.now.gateways }
     ensures workers { result.0 ≡ Ok tt
         → progress.new.workers ≡ seats_before script.now (place + 1) }
     ensures step { PhaseStep (setting_of script.now) place progress.new.gateways.items
-        result.1.journal progress.new.report.as_asked progress.new.report.text.items result.0 }
+        result.1.world.journal progress.new.report.as_asked progress.new.report.text.items
+        result.0 }
 {
     let Ok(seats) = Seats::new(alloc, script, place, progress.workers) else {
-        return (Err(Broken::NoMemory), world);
+        return (Err(Broken::NoMemory), hand);
     };
-    let (begun, world) = begin_phase(phase, world);
+    let (begun, hand) = begin_phase(phase, hand);
     if let Err(broken) = begun {
-        return (Err(broken), world);
+        return (Err(broken), hand);
     }
     let tasks = phase.tasks.members();
-    let (came, world) = run_tasks(alloc, script, tasks, &seats, progress, world);
+    let (came, hand) = run_tasks(alloc, script, tasks, &seats, progress, hand);
     match came {
         Ok(lines) => {
             progress.workers = progress.workers.saturating_add(seats.count());
-            (progress.report.take(lines), world)
+            (progress.report.take(lines), hand)
         }
-        Err(broken) => (Err(broken), world),
+        Err(broken) => (Err(broken), hand),
     }
 }
 
 /// Sets the clock to the moment of the phase.
-#[tactic(auto, using(crate::proofs::Unfailed::acted))]
-fn begin_phase<B: Bucket>(phase: &Phase, world: World<B>) -> (Result<(), Broken>, World<B>)
-    requires { phase.now.moment.ms < 2 ^ 47 }
+#[tactic(auto, using(crate::proofs::Unfailed::kept_at))]
+fn begin_phase<B: Bucket>(phase: &Phase, hand: LineHand<B>) -> (Result<(), Broken>, LineHand<B>)
+    requires moment { phase.now.moment.ms < 2 ^ 47 }
+    requires unrefused { hand.refused ≡ false }
     ensures begun { OnOk result.0
         ((clock : Entry) × BeginsPhase phase.now clock
-        × (result.1.journal ≡ world.journal ++ clock ∷ [])) }
-    ensures unbegun { OnErr result.0 (result.1.journal ≡ world.journal) }
-    ensures full { result.0 ≡ Err Broken.Full → IsFull result.1.journal }
-    ensures memory { result.0 ≡ Err Broken.NoMemory → ¬ IsFull result.1.journal }
-    ensures goes_on { WorldGoesOn B.faults B.quiet world result.1 }
+        × (result.1.world.journal ≡ hand.world.journal ++ clock ∷ [])) }
+    ensures unbegun { OnErr result.0 (result.1.world.journal ≡ hand.world.journal) }
+    ensures full { result.0 ≡ Err Broken.Full → IsFull result.1.world.journal }
+    ensures memory { result.0 ≡ Err Broken.NoMemory → ¬ IsFull result.1.world.journal }
+    ensures refused { result.1.refused ≡ is_full_came result.0 }
+    ensures keeps { KeepsRun B.faults B.quiet hand.opened.value hand.world
+        result.1.opened.value result.1.world }
 {
-    let mut world = world;
-    let begun = match world.act(0, Op::Clock(phase.moment)) {
+    let mut hand = hand.at_seat(0);
+    let begun = match hand.act(Op::Clock(phase.moment)) {
         Acted::Done(_) => Ok(()),
         Acted::Full => Err(Broken::Full),
         Acted::NoMemory => Err(Broken::NoMemory),
     };
-    (begun, world)
+    (begun, hand)
 }
 
 impl Lines {
@@ -219,36 +231,40 @@ fn run_tasks<B: Bucket>(
     tasks: &[Task],
     seats: &Seats,
     progress: &mut Progress,
-    world: World<B>,
-) -> (Result<Lines, Broken>, World<B>)
+    hand: LineHand<B>,
+) -> (Result<Lines, Broken>, LineHand<B>)
     requires lawful { IsLawfulScript script.now }
     requires tasks { All (λ task. Allows script.now task.work) tasks.now }
     requires ready { length progress.old.gateways.items ≡ length script.now.gateways }
-    ensures full { result.0 ≡ Err Broken.Full → IsFull result.1.journal }
-    ensures goes_on { WorldGoesOn B.faults B.quiet world result.1 }
+    requires unrefused { hand.refused ≡ false }
+    ensures full { result.0 ≡ Err Broken.Full → IsFull result.1.world.journal }
+    ensures refused { result.1.refused ≡ is_full_came result.0 }
+    ensures keeps { KeepsRun B.faults B.quiet hand.opened.value hand.world
+        result.1.opened.value result.1.world }
     ensures came { (views : Holdings) → Shows views progress.old.gateways.items
         → MatchResult result.0
         (λ lines. TasksDone (setting_of script.now)
-        (seat_of seats.now.workers) tasks.now views progress.new.gateways.items world.journal
-        result.1.journal lines.as_asked lines.text.items)
+        (seat_of seats.now.workers) tasks.now views progress.new.gateways.items hand.world.journal
+        result.1.world.journal lines.as_asked lines.text.items)
         (λ broken. TasksBroken (setting_of script.now)
-        (seat_of seats.now.workers) tasks.now views world.journal result.1.journal broken) }
+        (seat_of seats.now.workers) tasks.now views hand.world.journal result.1.world.journal
+        broken) }
     ensures report { progress.new.report ≡ progress.old.report }
     ensures workers { progress.new.workers ≡ progress.old.workers }
     ensures ready { length progress.new.gateways.items ≡ length script.now.gateways }
 {
-    let mut world = world;
+    let mut hand = hand;
     let mut lines = Lines::new(alloc);
     for place in 0..tasks.len() {
         let (came, next) = next_task(
-            alloc, script, tasks, place, seats, progress, &mut lines, world,
+            alloc, script, tasks, place, seats, progress, &mut lines, hand,
         );
-        world = next;
+        hand = next;
         if let Err(broken) = came {
-            return (Err(broken), world);
+            return (Err(broken), hand);
         }
     }
-    (Ok(lines), world)
+    (Ok(lines), hand)
 }
 
 /// Runs the task at a place, and adds its lines to those of the tasks before it.
@@ -260,35 +276,38 @@ fn next_task<B: Bucket>(
     seats: &Seats,
     progress: &mut Progress,
     lines: &mut Lines,
-    world: World<B>,
-) -> (Result<(), Broken>, World<B>)
+    hand: LineHand<B>,
+) -> (Result<(), Broken>, LineHand<B>)
     requires lawful { IsLawfulScript script.now }
     requires tasks { All (λ task. Allows script.now task.work) tasks.now }
     requires within { place < length tasks.now }
     requires ready { length progress.old.gateways.items ≡ length script.now.gateways }
-    ensures full { result.0 ≡ Err Broken.Full → IsFull result.1.journal }
-    ensures goes_on { WorldGoesOn B.faults B.quiet world result.1 }
+    requires unrefused { hand.refused ≡ false }
+    ensures full { result.0 ≡ Err Broken.Full → IsFull result.1.world.journal }
+    ensures refused { result.1.refused ≡ is_full_came result.0 }
+    ensures keeps { KeepsRun B.faults B.quiet hand.opened.value hand.world
+        result.1.opened.value result.1.world }
     ensures came { (views : Holdings) (start : List Entry)
         → TasksDone (setting_of script.now) (seat_of seats.now.workers)
-        (take place tasks.now) views progress.old.gateways.items start world.journal
+        (take place tasks.now) views progress.old.gateways.items start hand.world.journal
         lines.old.as_asked lines.old.text.items
         → MatchResult result.0
         (λ done. TasksDone (setting_of script.now) (seat_of seats.now.workers)
-        (take (place + 1) tasks.now) views progress.new.gateways.items start result.1.journal
+        (take (place + 1) tasks.now) views progress.new.gateways.items start result.1.world.journal
         lines.new.as_asked lines.new.text.items)
         (λ broken. TasksBroken (setting_of script.now)
-        (seat_of seats.now.workers) tasks.now views start result.1.journal broken) }
+        (seat_of seats.now.workers) tasks.now views start result.1.world.journal broken) }
     ensures report { progress.new.report ≡ progress.old.report }
     ensures workers { progress.new.workers ≡ progress.old.workers }
     ensures ready { length progress.new.gateways.items ≡ length script.now.gateways }
 {
     let task = &tasks[place];
-    let (came, world) = do_task(alloc, script, task, place, seats, progress, world);
+    let (came, hand) = do_task(alloc, script, task, place, seats, progress, hand);
     match came {
         Ok(outcome) => match lines.tell(script, task, &outcome) {
-            Ok(()) => (Ok(()), world),
-            Err(_) => (Err(Broken::NoMemory), world),
+            Ok(()) => (Ok(()), hand),
+            Err(_) => (Err(Broken::NoMemory), hand),
         },
-        Err(broken) => (Err(broken), world),
+        Err(broken) => (Err(broken), hand),
     }
 }

@@ -7,41 +7,51 @@ ghost use Rattle.script_core.specs.Lawful.{IsLawfulScript};
 ghost use Rattle.script_core.specs.Reading.{script_of};
 ghost use Rattle.lifecycle_core.specs.InLine.{IsInLine};
 ghost use Rattle.lifecycle_core.specs.Setting.{setting_of};
+ghost use Rattle.script_running.specs.Beside.{HasRunBeside};
 ghost use Rattle.replay_cli.specs.InPhases.{IsInPhases};
+ghost use Rattle.replay_cli.specs.Progress.{tells_full};
 ghost use Rattle.replay_cli.specs.Verdicts.{IsRun};
 
 use crate::Verdict;
+use crate::line_hand::LineHand;
 use crate::phases::{Lines, Progress, run_phases};
 use crate::telling::told_lines;
 use bucket_core::Bucket;
 use phase_runner::Gate;
 use script_core::Script;
-use script_running::{Broken, run_beside};
+use script_running::{Broken, RunEnd, run_beside};
 use std::alloc::Global;
 use std::sync::Wait;
 use std::thread::Threads;
 use world_core::World;
 
-/// Does the tasks one after another, in the order of their lines.
+/// Does the tasks one after another, in the order of their lines. The hand that did them comes with the verdict.
 pub(crate) fn run_in_line<B: Bucket>(
     alloc: Global,
     script: &Script,
     world: World<B>,
-) -> (Verdict, World<B>)
+) -> (Verdict, LineHand<B>)
     requires lawful { IsLawfulScript script.now }
     requires fresh { world.journal ≡ [] }
     requires tick { world.tick ≡ script.now.rules.tick.ms }
     ensures cause { IsRun IsInLine (setting_of script.now) (Some nothing) ⊥
-        (Some result.1.journal) result.0 }
-    ensures unfailed { failed_count result.1.journal ≡ 0
-        → B.faults result.1.bucket ≡ B.faults world.bucket }
+        (Some result.1.world.journal) result.0 }
+    ensures unfailed { failed_count result.1.world.journal ≡ 0
+        → B.faults result.1.world.bucket ≡ B.faults world.bucket }
+
+    // The full journal is told just where an operation of the run was answered so. So want of memory is told only where none was.
+    ensures refused { result.1.refused ≡ tells_full result.0 }
+    ensures opened { result.1.opened.value ≡ world }
 {
+    let hand = LineHand::new(world);
     let Ok(mut progress) = Progress::new(alloc, script) else {
-        return (Verdict::NoMemory, world);
+        return (Verdict::NoMemory, hand);
     };
-    let (came, world) = run_phases(alloc, script, &mut progress, world);
-    let _after = world.journal();
-    (verdict_of(came, progress.into_report()), world)
+    let (came, hand) = run_phases(alloc, script, &mut progress, hand);
+    // what every world keeps, as this one does
+    let kept = hand.world();
+    let _after = kept.journal();
+    (verdict_of(came, progress.into_report()), hand)
 }
 
 /// Does the phases one after another, each with a thread for each of its workers. The text spells the script.
@@ -62,7 +72,25 @@ pub(crate) fn run_with_threads<B: Bucket + Send, G: Gate + Sync, T: Threads + Wa
     ensures unfailed { failed_count result.1.journal ≡ 0
         → B.faults result.1.bucket ≡ B.faults world.bucket }
 {
-    let (end, world) = run_beside(rt, alloc, script, text, world, gate);
+    match run_beside(rt, alloc, script, text, world, gate) {
+        Ok((end, closed)) => told_run(alloc, script, end, closed.into_world()),
+        Err(world) => (Verdict::NoMemory, world),
+    }
+}
+
+/// What a run with threads comes to, by how it came out. The world is the one that it left.
+fn told_run<B: Bucket>(
+    alloc: Global,
+    script: &Script,
+    end: RunEnd,
+    world: World<B>,
+) -> (Verdict, World<B>)
+    requires lawful { IsLawfulScript script.now }
+    requires ran { HasRunBeside (setting_of script.now) world.journal end.outcomes end.came }
+    ensures cause { IsRun IsInPhases (setting_of script.now) (Some nothing) ⊥
+        (Some result.1.journal) result.0 }
+    ensures same { result.1 ≡ world }
+{
     match told_lines(alloc, script, end.outcomes.members()) {
         Ok(report) => (verdict_of(end.came, report), world),
         Err(_) => (Verdict::NoMemory, world),

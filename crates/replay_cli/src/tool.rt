@@ -156,9 +156,9 @@ fn read_and_run<S: Site, R: Source>(
                 shelf,
             },
         ) => {
-            let (verdict, world) = run_in_line(alloc, &script, world);
+            let (verdict, hand) = run_in_line(alloc, &script, world);
             Ended {
-                conclusion: Conclusion::of_world(verdict, world),
+                conclusion: Conclusion::of_world(verdict, hand.into_world()),
                 shelf,
             }
         }

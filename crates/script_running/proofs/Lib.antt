@@ -18,3 +18,4 @@ pub mod Going
 pub mod Sending
 pub mod Phasing
 pub mod Running
+pub mod Refused

@@ -40,18 +40,6 @@ pub first_gone : (setting : Setting) (opened : Opened) (known : Known) (views : 
 first_gone setting opened known views outcomes is each none empty =
     subst (HasGone setting known [] views) (sym empty) (gone_none setting opened known views is each (λ place view at. at_place (λ (view : Option View). view ≡ None) views place view none at))
 
-pub no_run : (setting : Setting) (tick : ℕ) (journal : List Entry) (outcomes : List Outcome) (came : Result (Unit {0}) Broken) → IsJournal tick journal → tick ≡ setting.script.rules.tick.ms → journal ≡ [] → outcomes ≡ [] → came ≡ Err broken.NoMemory → HasRunBeside setting journal outcomes came
-no_run setting tick journal outcomes came kept same none empty wanting =
-    subst (HasRunBeside setting journal outcomes) (sym wanting) (record {
-      ends = [];
-      run = record {
-        kept = subst (λ (t : ℕ). IsJournal t journal) same kept;
-        phases = subst (λ (es : List Entry). PhasesRun (by_workers setting) 0 none_held setting.script.phases es []) (sym none) (no_phase (by_workers setting) 0 none_held setting.script.phases);
-      };
-      turns = tt;
-      far = tt;
-    })
-
 pub run_came : (setting : Setting) (root : Known) (tick : ℕ) (journal : List Entry) (views : List (Option View)) (outcomes : List Outcome) (came : Result (Unit {0}) Broken) → IsLawfulScript setting.script → Closes root tick journal → AllJoined root → IsJournal tick journal → tick ≡ setting.script.rules.tick.ms
     → HasCome setting root setting.script.phases views outcomes came → HasRunBeside setting journal outcomes came
 run_came setting root tick journal views outcomes (Ok done) lawful closes joined kept same come =

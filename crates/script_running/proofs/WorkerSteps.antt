@@ -20,7 +20,7 @@ use Rattle.lifecycle_core.proofs.phases.TaskRuns.{MayBegin}
 use Rattle.script_running.specs.Drives.{Came}
 use Rattle.script_running.specs.Outcomes.{IsOutcome}
 use Rattle.script_running.specs.Tasks.{CameBy, HasDone, Sees, is_full_came}
-use Rattle.script_running.specs.Workers.{AreOutcomes, HasWorked, IsBrokenOff, OwnRun, is_full_end}
+use Rattle.script_running.specs.Workers.{AreOutcomes, HasWorked, IsBrokenOff, OwnRun}
 use Rattle.script_running.specs.declared.came.Broken.{Broken}
 use Rattle.script_running.specs.declared.came.Broken.TheVariants as broken
 use Rattle.script_running.specs.declared.outcome.Outcome.{Outcome}
@@ -82,19 +82,19 @@ pub refused_none : (first mid new : Bool) (came : Came) (o : Outcome) → new �
 refused_none first mid new came o is so same = is ∙ ap (λ (r : Came). mid || is_full_came r) so ∙ or_false mid ∙ same
 
 -- the task that broke off tells of the worker
-pub refused_broken : (first mid new : Bool) (came : Came) (why : Broken) → new ≡ (mid || is_full_came came) → came ≡ Err why → mid ≡ first → new ≡ (first || is_full_end (Err why))
+pub refused_broken : (first mid new : Bool) (came : Came) (why : Broken) → new ≡ (mid || is_full_came came) → came ≡ Err why → mid ≡ first → new ≡ (first || is_full_came {X = Unit {0}} (Err why))
 refused_broken first mid new came broken.Full is so same = is ∙ ap (λ (r : Came). mid || is_full_came r) so ∙ ap (λ (b : Bool). b || true) same
 refused_broken first mid new came broken.NoMemory is so same = is ∙ ap (λ (r : Came). mid || is_full_came r) so ∙ ap (λ (b : Bool). b || false) same
 
 -- a worker that was not refused
-pub unrefused : (first new : Bool) (came : Result (Unit {0}) Broken) → is_full_end came ≡ false → new ≡ first → new ≡ (first || is_full_end came)
+pub unrefused : (first new : Bool) (came : Result (Unit {0}) Broken) → is_full_came came ≡ false → new ≡ first → new ≡ (first || is_full_came came)
 unrefused first new came none same = same ∙ sym (or_false first) ∙ ap (λ (b : Bool). first || b) (sym none)
 
 -- a task that was broken off for want of memory breaks its worker off for that
 pub short_by : (came : Came) (why : Broken) → came ≡ Err why → came ≡ Err broken.NoMemory → ◌≡◌ {A = Result (Unit {0}) Broken} (Err why) (Err broken.NoMemory)
 short_by came why is none = let same : why ≡ broken.NoMemory = cc (is, none) in ap (λ (b : Broken). Err b) same
 
-pub full_end : (came : Result (Unit {0}) Broken) → is_full_end came ≡ true → came ≡ Err broken.Full
+pub full_end : (came : Result (Unit {0}) Broken) → is_full_came came ≡ true → came ≡ Err broken.Full
 full_end (Ok tt) is = absurd (cc (is))
 full_end (Err broken.Full) is = refl
 full_end (Err broken.NoMemory) is = absurd (cc (is))

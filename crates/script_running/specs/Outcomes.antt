@@ -97,14 +97,16 @@ TasksCame script workers ends place (task ∷ tasks) [] = ⊥
 TasksCame script workers ends place (task ∷ tasks) (o ∷ outcomes) =
     TaskCame script workers ends place task o × TasksCame script workers ends (place + 1) tasks outcomes
 
--- the tasks of phases, from a number on, by the ends of each phase
+-- Phases from a number on, by the ends of each: how each came out, and so one after another.
+abbrev pub PhasesTold : {Ends : Type 0} → (ℕ → Phase → Ends → List Outcome → Type 0) → ℕ → List Phase → List Ends → List Outcome → Type 0
+PhasesTold came number [] ends outcomes = (ends ≡ []) × (outcomes ≡ [])
+PhasesTold came number (phase ∷ phases) [] outcomes = ⊥
+PhasesTold came number (phase ∷ phases) (first ∷ later) outcomes =
+    (own : List Outcome) × (others : List Outcome) × (outcomes ≡ own ++ others) × came number phase first own × PhasesTold came (number + 1) phases later others
+
+-- the tasks of phases, from a number on, by the ends to which the workers of each phase came
 abbrev pub PhasesCame : Script → ℕ → List Phase → List (List (List End)) → List Outcome → Type 0
-PhasesCame script number [] ends outcomes = (ends ≡ []) × (outcomes ≡ [])
-PhasesCame script number (phase ∷ phases) [] outcomes = ⊥
-PhasesCame script number (phase ∷ phases) (first ∷ later) outcomes =
-    (own : List Outcome) × (others : List Outcome) × (outcomes ≡ own ++ others)
-    × TasksCame script (workers_of script number) first 0 phase.tasks own
-    × PhasesCame script (number + 1) phases later others
+PhasesCame script number phases ends outcomes = PhasesTold (λ number phase ends own. TasksCame script (workers_of script number) ends 0 phase.tasks own) number phases ends outcomes
 
 -- the activity ended as asked
 abbrev pub is_as_asked : Outcome → Bool

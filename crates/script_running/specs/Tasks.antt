@@ -1,5 +1,5 @@
 -- What a worker's hand gains by one task, and what the task came to.
-use Rattle.std.specs.Prelude.{◌≡◌, ℕ, Bool, true, false, List, [], ◌∷◌, ◌++◌, length, All, Option, Some, None, option_map, Ok, Err}
+use Rattle.std.specs.Prelude.{◌≡◌, ℕ, Bool, true, false, List, [], ◌∷◌, ◌++◌, length, All, Option, Some, None, option_map, Result, Ok, Err}
 use Rattle.world_core.specs.Operations.{IsAnswer, IsLawful, entry_of}
 use Rattle.world_core.specs.declared.entry.Entry.{Entry}
 use Rattle.world_core.specs.declared.op.Op.{Op}
@@ -16,6 +16,7 @@ use Rattle.lifecycle_core.specs.Setting.{Setting}
 use Rattle.lifecycle_core.specs.Tasks.{End, TaskRun}
 use Rattle.script_running.specs.Drives.{Came}
 use Rattle.script_running.specs.Outcomes.{IsOutcome}
+use Rattle.script_running.specs.declared.came.Broken.{Broken}
 use Rattle.script_running.specs.declared.came.Broken.TheVariants as broken
 
 -- the script allows the work
@@ -28,9 +29,9 @@ WhenFull (Ok o) P = Unit {0}
 WhenFull (Err broken.Full) P = P
 WhenFull (Err broken.NoMemory) P = Unit {0}
 
--- whether an operation was answered that the journal is full
-abbrev pub is_full_came : Came → Bool
-is_full_came (Ok o) = false
+-- whether an operation was answered that the journal is full, by what it broke off
+abbrev pub is_full_came : {X : Type 0} → Result X Broken → Bool
+is_full_came (Ok x) = false
 is_full_came (Err broken.Full) = true
 is_full_came (Err broken.NoMemory) = false
 

@@ -78,12 +78,6 @@ IsBrokenOff setting who seat before own made ends (Err broken.Full) =
     × IsDueAfter (λ entries (run : List End × Holding). OwnRun setting who before own entries run.0 run.1) seat made
 IsBrokenOff setting who seat before own made ends (Err broken.NoMemory) = Unit {0}
 
--- whether the full journal broke a worker off
-abbrev pub is_full_end : Result (Unit {0}) Broken → Bool
-is_full_end (Ok done) = false
-is_full_end (Err broken.Full) = true
-is_full_end (Err broken.NoMemory) = false
-
 -- whether want of memory broke a worker off
 abbrev pub is_short_end : Result (Unit {0}) Broken → Bool
 is_short_end (Ok done) = false

@@ -1,6 +1,6 @@
 //! A script's phases one after another, each with a thread for each of its workers.
 
-ghost use Rattle.std.specs.Prelude.{◌≡◌, ◌+◌, ◌<◌, ◌^◌, [], None, Ok, Err, Some, IfOk, OnOk, length, slice_get, take};
+ghost use Rattle.std.specs.Prelude.{◌≡◌, ◌+◌, ◌<◌, ◌^◌, ◌||◌, [], None, Ok, Some, IfOk, IfErr, OnOk, length, slice_get, take};
 ghost use Rattle.std.specs.List.{All};
 ghost use Rattle.world_core.specs.Worlds.{failed_count};
 ghost use Rattle.script_core.specs.Lawful.{IsLawfulScript};
@@ -9,6 +9,7 @@ ghost use Rattle.script_core.specs.Workers.{seats_before};
 ghost use Rattle.lifecycle_core.specs.Setting.{setting_of};
 ghost use Rattle.script_running.specs.Beside.{HasRunBeside};
 ghost use Rattle.script_running.specs.Going.{HasCome, HasGone, IsClockSet};
+ghost use Rattle.script_running.specs.Tasks.{is_full_came};
 ghost use Rattle.world_turn.specs.Closing.{AllJoined};
 ghost use Rattle.world_turn.specs.Passes.{table_of, view_of};
 ghost use Rattle.world_turn.specs.Turns.{IsLater, IsSame};
@@ -24,7 +25,7 @@ use std::alloc::Global;
 use std::sync::Wait;
 use std::thread::Threads;
 use world_core::{Acted, Op, World};
-use world_turn::{Pass, Shared};
+use world_turn::{Closed, Pass, Shared};
 
 /// How a run came out.
 #[derive(Drop)]
@@ -44,7 +45,7 @@ struct Standing {
 }
 
 /// Runs a script over a world: each phase's workers beside each other, and the phases one after another. No phase is begun
-/// after one that broke off.
+/// after one that broke off. For want of memory nothing may be begun.
 pub fn run_beside<B: Bucket + Send, G: Gate + Sync, R: Threads + Wait + Sync>(
     rt: &R,
     alloc: Global,
@@ -52,23 +53,28 @@ pub fn run_beside<B: Bucket + Send, G: Gate + Sync, R: Threads + Wait + Sync>(
     text: &[u8],
     world: World<B>,
     gate: &G,
-) -> (RunEnd, World<B>)
+) -> Result<(RunEnd, Closed<B>), World<B>>
     requires lawful { IsLawfulScript script.now }
     requires spelled { script_of text.now ≡ Ok script.now }
     requires fresh { world.journal ≡ [] }
     requires tick { world.tick ≡ script.now.rules.tick.ms }
-    ensures ran { HasRunBeside (setting_of script.now) result.1.journal result.0.outcomes
-        result.0.came }
-    ensures tick { result.1.tick ≡ world.tick }
+    ensures ran { IfOk result (λ run. HasRunBeside (setting_of script.now) run.1.world.journal
+        run.0.outcomes run.0.came) }
+    ensures tick { IfOk result (λ run. run.1.world.tick ≡ world.tick) }
+
+    // The full journal is told just where a pass of the run met it. So want of memory is told only where none did.
+    ensures refused { IfOk result
+        (λ run. (view_of run.1.root.value).refused ≡ is_full_came run.0.came) }
 
     // The bucket has failed no more often than before, unless the journal shows it.
-    ensures unfailed { failed_count result.1.journal ≡ 0
-        → B.faults result.1.bucket ≡ B.faults world.bucket }
+    ensures unfailed { IfOk result (λ run. failed_count run.1.world.journal ≡ 0
+        → B.faults run.1.world.bucket ≡ B.faults world.bucket) }
+
+    // Where nothing was begun, the world is as it was.
+    ensures unbegun { IfErr result (λ same. same ≡ world) }
 {
-    // what every world keeps, as this one does
-    let _before = world.journal();
     let Ok(mut standing) = Standing::new(alloc, script) else {
-        return (without_memory(alloc), world);
+        return Err(world);
     };
     match Shared::open(alloc, world) {
         Ok((shared, root)) => {
@@ -83,22 +89,13 @@ pub fn run_beside<B: Bucket + Send, G: Gate + Sync, R: Threads + Wait + Sync>(
                 &mut standing,
             );
             let closed = shared.close(root);
-            let world = closed.into_world();
-            let _after = world.journal();
+            // what every world keeps, as this one does
+            let kept = closed.world();
+            let _after = kept.journal();
             let outcomes = standing.outcomes;
-            (RunEnd { outcomes, came }, world)
+            Ok((RunEnd { outcomes, came }, closed))
         }
-        Err((NoMemory, world)) => (without_memory(alloc), world),
-    }
-}
-
-/// Nothing was run.
-fn without_memory(alloc: Global) -> RunEnd
-    ensures { (result.outcomes ≡ []) × (result.came ≡ Err Broken.NoMemory) }
-{
-    RunEnd {
-        outcomes: OutcomeList::new(alloc),
-        came: Err(Broken::NoMemory),
+        Err((NoMemory, world)) => Err(world),
     }
 }
 
@@ -123,6 +120,7 @@ impl Standing {
 }
 
 /// Does the phases one after another, up to one that breaks off.
+#[tactic(auto, using(crate::proofs::Refused::on_tells, crate::proofs::Refused::off_tells, crate::proofs::Refused::all_tell))]
 fn run_phases<B: Bucket + Send, G: Gate + Sync, R: Threads + Wait + Sync>(
     rt: &R,
     alloc: Global,
@@ -142,6 +140,8 @@ fn run_phases<B: Bucket + Send, G: Gate + Sync, R: Threads + Wait + Sync>(
         standing.old.outcomes }
     ensures pass { (table_of result.1 ≡ table_of root) × (result.1.seat ≡ 0) }
     ensures tick { (view_of result.1).tick ≡ (view_of root).tick }
+    ensures refused { (view_of result.1).refused
+        ≡ ((view_of root).refused || is_full_came result.0) }
     ensures all { AllJoined (view_of result.1) }
     ensures came { HasCome (setting_of script.now) (view_of result.1) script.now.phases
         standing.new.views.items standing.new.outcomes result.0 }
@@ -182,10 +182,13 @@ fn phase_beside<B: Bucket + Send, G: Gate + Sync, R: Threads + Wait + Sync>(
         standing.old.views.items standing.old.outcomes }
     ensures pass { (table_of result.1 ≡ table_of root) × (result.1.seat ≡ 0) }
     ensures tick { (view_of result.1).tick ≡ (view_of root).tick }
+    ensures refused { (view_of result.1).refused
+        ≡ ((view_of root).refused || is_full_came result.0) }
     ensures seats { OnOk result.0 (result.1.splits ≡ seats_before script.now (place + 1)) }
     ensures all { AllJoined (view_of result.1) }
     ensures came { HasCome (setting_of script.now) (view_of result.1)
-        (take (place + 1) script.now.phases) standing.new.views.items standing.new.outcomes result.0 }
+        (take (place + 1) script.now.phases) standing.new.views.items standing.new.outcomes
+        result.0 }
 {
     let Ok(staff) = script.workers_after(alloc, place, root.splits()) else {
         return (Err(Broken::NoMemory), root);

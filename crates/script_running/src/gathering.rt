@@ -15,7 +15,8 @@ ghost use Rattle.script_running.specs.Beside.{AreSeen};
 ghost use Rattle.script_running.specs.Ended.{HaveEnded, IsPostOf};
 ghost use Rattle.script_running.specs.Gathering.{HaveOwnGateways, AreLaid, AreSeenBeside, AreTakenIn, Gathers, HaveCome, IsSeen, IsTaken, IsWorse, told};
 ghost use Rattle.script_running.specs.Going.{Met};
-ghost use Rattle.script_running.specs.Workers.{IsAtWork, is_full_end};
+ghost use Rattle.script_running.specs.Workers.{IsAtWork};
+ghost use Rattle.script_running.specs.Tasks.{is_full_came};
 
 use crate::{Broken, Outcome, OutcomeList, QueryOutcome, WorkerEnd, WorkerJob};
 use label_sets::SeriesList;
@@ -86,6 +87,7 @@ pub(crate) fn gather(
     requires places { All (λ worker. All (λ place. place < length tasks.now) worker.tasks)
         workers.now }
     ensures each { length views.new.items ≡ length views.old.items }
+    ensures came { HaveCome ends.items result }
     ensures gathers { (setting : Setting) (number : ℕ) (phase : Phase) (before after : Holdings)
         (front : List Entry) (kept : List (ℕ × List Entry)) (own : List (List End))
         (lasts : List Holding) → IsLawfulScript setting.script
@@ -121,7 +123,7 @@ fn any_full(ends: &[WorkerEnd]) -> bool
 }
 
 fn met_full(end: &WorkerEnd) -> bool
-    ensures { result ≡ is_full_end end.now.came }
+    ensures { result ≡ is_full_came end.now.came }
 {
     match end.came {
         Err(Broken::Full) => true,

@@ -8,8 +8,8 @@ ghost use Rattle.script_core.specs.Reading.{script_of};
 ghost use Rattle.lifecycle_core.specs.Conducts.{Who};
 ghost use Rattle.lifecycle_core.specs.Holdings.{Holding};
 ghost use Rattle.lifecycle_core.specs.Setting.{setting_of};
-ghost use Rattle.script_running.specs.Tasks.{Allows, Sees};
-ghost use Rattle.script_running.specs.Workers.{IsAtWork, HasWorked, is_full_end};
+ghost use Rattle.script_running.specs.Tasks.{Allows, Sees, is_full_came};
+ghost use Rattle.script_running.specs.Workers.{IsAtWork, HasWorked};
 
 use crate::task::{Means, Shipping};
 use crate::{Broken, Outcome};
@@ -93,13 +93,14 @@ impl<'a> WorkerJob<'a> {
 }
 
 impl<'a> Job for WorkerJob<'a> {
-    ghost use Rattle.script_running.specs.Workers.{MayWork, is_full_end, is_short_end};
+    ghost use Rattle.script_running.specs.Workers.{MayWork, is_short_end};
+    ghost use Rattle.script_running.specs.Tasks.{is_full_came};
 
     type End = WorkerEnd;
 
     ghost may = { MayWork };
 
-    ghost met_full = { λ end. is_full_end end.came };
+    ghost met_full = { λ end. is_full_came end.came };
 
     ghost wanted = { λ end. is_short_end end.came };
 
@@ -156,13 +157,13 @@ fn do_tasks<M: Means, H: Hand>(
     requires serves { All (λ place.
         IfSome (slice_get tasks.now place) (λ task. M.serves means.now task.work)) places.now }
     ensures worked { (who : Who) (held : Holding) → Sees held view
-        → HasWorked (setting_of (M.script means.now)) tasks.now who places.now held (H.seat hand.old)
-        (H.entries hand.old) (H.entries hand.new) result }
+        → HasWorked (setting_of (M.script means.now)) tasks.now who places.now held
+        (H.seat hand.old) (H.entries hand.old) (H.entries hand.new) result }
     ensures seat { H.seat hand.new ≡ H.seat hand.old }
     ensures keeps { H.keeps hand.old hand.new }
 
     // The worker is broken off as full exactly where an operation was answered so, and then the journal is full.
-    ensures refused { H.refused hand.new ≡ (H.refused hand.old || is_full_end result.came) }
+    ensures refused { H.refused hand.new ≡ (H.refused hand.old || is_full_came result.came) }
     ensures full { result.came ≡ Err Broken.Full → IfSome (H.front hand.new) IsFull }
     ensures wanted { IsTrue (H.wanted hand.new)
         → IsTrue (H.wanted hand.old) ⊎ (result.came ≡ Err Broken.NoMemory) }

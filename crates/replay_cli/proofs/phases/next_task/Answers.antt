@@ -9,22 +9,22 @@ use Rattle.replay_cli.proofs.phases.next_task.Goals as goal
 pub returns-in-Ok-tell-clause-came : goal.returns-in-Ok-tell-clause-came
 returns-in-Ok-tell-clause-came g c = λ views start d.
     done_more (setting_of c.args.script.now) (seat_of c.args.seats.now.workers) c.args.place c.args.tasks.now c.index-tasks-place.result views c.args.progress.now.gateways.items c.do_task-came.new.progress.gateways.items
-    start c.args.world.journal c.do_task-came.result.1.journal c.args.lines.now.as_asked c.args.lines.now.text.items c.requires.within c.index-tasks-place.is
+    start c.args.hand.world.journal c.do_task-came.result.1.world.journal c.args.lines.now.as_asked c.args.lines.now.text.items c.requires.within c.index-tasks-place.is
     c.in-Ok.outcome c.tell.new.self.as_asked c.tell.new.self.text.items d
-    (λ v shows. subst (λ (x : Came). TaskStep (setting_of c.args.script.now) (seat_of c.args.seats.now.workers) c.args.place c.index-tasks-place.result v c.do_task-came.new.progress.gateways.items c.args.world.journal c.do_task-came.result.1.journal x)
+    (λ v shows. subst (λ (x : Came). TaskStep (setting_of c.args.script.now) (seat_of c.args.seats.now.workers) c.args.place c.index-tasks-place.result v c.do_task-came.new.progress.gateways.items c.args.hand.world.journal c.do_task-came.result.1.world.journal x)
     c.in-Ok.is (c.do_task-came.ensures.step v shows))
     c.in-Ok-tell.ensures.text c.in-Ok-tell.ensures.asked
 
 pub returns-in-Ok-clause-came : goal.returns-in-Ok-clause-came
 returns-in-Ok-clause-came g c = λ views start d.
     cut_short (setting_of c.args.script.now) (seat_of c.args.seats.now.workers) c.args.place c.args.tasks.now c.index-tasks-place.result views c.args.progress.now.gateways.items c.do_task-came.new.progress.gateways.items
-    start c.args.world.journal c.do_task-came.result.1.journal c.args.lines.now.as_asked c.args.lines.now.text.items c.requires.within c.index-tasks-place.is
+    start c.args.hand.world.journal c.do_task-came.result.1.world.journal c.args.lines.now.as_asked c.args.lines.now.text.items c.requires.within c.index-tasks-place.is
     c.do_task-came.result.0 (later_begin (setting_of c.args.script.now) (c.args.place + 1) c.args.tasks.now c.requires.lawful c.requires.tasks) d (λ v shows. c.do_task-came.ensures.step v shows)
 
 pub returns-clause-came : goal.returns-clause-came
 returns-clause-came g c = λ views start d.
     cut_off (setting_of c.args.script.now) (seat_of c.args.seats.now.workers) c.args.place c.args.tasks.now c.index-tasks-place.result views c.args.progress.now.gateways.items c.do_task-came.new.progress.gateways.items
-    start c.args.world.journal c.do_task-came.result.1.journal c.args.lines.now.as_asked c.args.lines.now.text.items c.requires.within c.index-tasks-place.is
+    start c.args.hand.world.journal c.do_task-came.result.1.world.journal c.args.lines.now.as_asked c.args.lines.now.text.items c.requires.within c.index-tasks-place.is
     c.in-Err.broken (later_begin (setting_of c.args.script.now) (c.args.place + 1) c.args.tasks.now c.requires.lawful c.requires.tasks) d
-    (λ v shows. subst (λ (x : Came). TaskStep (setting_of c.args.script.now) (seat_of c.args.seats.now.workers) c.args.place c.index-tasks-place.result v c.do_task-came.new.progress.gateways.items c.args.world.journal c.do_task-came.result.1.journal x)
+    (λ v shows. subst (λ (x : Came). TaskStep (setting_of c.args.script.now) (seat_of c.args.seats.now.workers) c.args.place c.index-tasks-place.result v c.do_task-came.new.progress.gateways.items c.args.hand.world.journal c.do_task-came.result.1.world.journal x)
     c.in-Err.is (c.do_task-came.ensures.step v shows))

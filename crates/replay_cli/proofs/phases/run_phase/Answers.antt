@@ -9,20 +9,22 @@ use Rattle.script_workers.specs.declared.task.Task.{Task}
 use Rattle.lifecycle_core.specs.InLine.{seat_of}
 use Rattle.lifecycle_core.specs.Setting.{setting_of}
 use Rattle.lifecycle_core.specs.Ways.{BeginsPhase}
+use Rattle.script_running.specs.Tasks.{is_full_came}
 use Rattle.replay_cli.specs.Progress.{TasksBroken, TasksDone}
 use Rattle.replay_cli.proofs.PhaseLists.{broken_from, broken_step, done_from, lawful_phase, reached_more, run_so_far, seats_next, taken_step, unbegun_step}
+use Rattle.replay_cli.proofs.Runs.{unrefused}
 use Rattle.replay_cli.proofs.Told.{on_err, on_ok}
 use Rattle.replay_cli.proofs.phases.run_phase.Goals as goal
 
 pub returns-in_default-clause-step : goal.returns-in_default-clause-step
-returns-in_default-clause-step g c = run_so_far (setting_of c.args.script.now) c.args.place c.args.progress.now.gateways.items c.args.world.journal _ _ c.requires.reached
+returns-in_default-clause-step g c = run_so_far (setting_of c.args.script.now) c.args.place c.args.progress.now.gateways.items c.args.hand.world.journal _ _ c.requires.reached
 
 pub begin_phase-begun-requires : goal.begin_phase-begun-requires
 begin_phase-begun-requires g c = (lawful_phase (setting_of c.args.script.now) c.args.place c.args.phase.now c.requires.lawful c.requires.at).moment
 
 pub returns-in-Err-clause-step : goal.returns-in-Err-clause-step
 returns-in-Err-clause-step g c =
-    unbegun_step (setting_of c.args.script.now) c.args.place c.args.phase.now c.args.progress.now.gateways.items c.args.progress.now.gateways.items c.args.world.journal c.begin_phase-begun.result.1.journal _ _ c.in-Err.broken c.requires.at
+    unbegun_step (setting_of c.args.script.now) c.args.place c.args.phase.now c.args.progress.now.gateways.items c.args.progress.now.gateways.items c.args.hand.world.journal c.begin_phase-begun.result.1.world.journal _ _ c.in-Err.broken c.requires.at
     (on_err _ c.begin_phase-begun.result.0 c.in-Err.broken c.in-Err.is c.begin_phase-begun.ensures.unbegun) c.requires.reached
 
 pub run_tasks-came-requires-clause-tasks : goal.run_tasks-came-requires-clause-tasks
@@ -36,23 +38,26 @@ returns-in-Ok-came-clause-workers g c = λ done.
 
 pub returns-in-Ok-came-clause-step : goal.returns-in-Ok-came-clause-step
 returns-in-Ok-came-clause-step g c =
-    let begun = on_ok ((clock : Entry) × BeginsPhase c.args.phase.now clock × (c.begin_phase-begun.result.1.journal ≡ c.args.world.journal ++ clock ∷ [])) c.begin_phase-begun.result.0 c.in_default-begun.field-0 c.in_default-begun.is c.begin_phase-begun.ensures.begun in
-    let tasks = done_from (setting_of c.args.script.now) c.args.place c.args.phase.now c.args.progress.now.gateways.items c.run_tasks-came.new.progress.gateways.items c.args.world.journal c.begin_phase-begun.result.1.journal c.run_tasks-came.result.1.journal
+    let begun = on_ok ((clock : Entry) × BeginsPhase c.args.phase.now clock × (c.begin_phase-begun.result.1.world.journal ≡ c.args.hand.world.journal ++ clock ∷ [])) c.begin_phase-begun.result.0 c.in_default-begun.field-0 c.in_default-begun.is c.begin_phase-begun.ensures.begun in
+    let tasks = done_from (setting_of c.args.script.now) c.args.place c.args.phase.now c.args.progress.now.gateways.items c.run_tasks-came.new.progress.gateways.items c.args.hand.world.journal c.begin_phase-begun.result.1.world.journal c.run_tasks-came.result.1.world.journal
     c.in-Ok-came.lines.as_asked c.in-Ok-came.lines.text.items c.in-Ok.seats.workers c.members-tasks.result.now begun.0 c.in-Ok.ensures c.members-tasks.ensures begun.2
-    (λ v shows. MatchResult-at_ok (λ lines. TasksDone (setting_of c.args.script.now) (seat_of c.in-Ok.seats.workers) c.members-tasks.result.now v c.run_tasks-came.new.progress.gateways.items c.begin_phase-begun.result.1.journal c.run_tasks-came.result.1.journal lines.as_asked lines.text.items) _ c.in-Ok-came.lines c.in-Ok-came.is (c.run_tasks-came.ensures.came v shows)) in
-    taken_step (setting_of c.args.script.now) c.args.place c.run_tasks-came.new.progress.gateways.items c.run_tasks-came.result.1.journal c.args.progress.now.report.as_asked c.in-Ok-came.lines.as_asked c.take.new.self.as_asked
+    (λ v shows. MatchResult-at_ok (λ lines. TasksDone (setting_of c.args.script.now) (seat_of c.in-Ok.seats.workers) c.members-tasks.result.now v c.run_tasks-came.new.progress.gateways.items c.begin_phase-begun.result.1.world.journal c.run_tasks-came.result.1.world.journal lines.as_asked lines.text.items) _ c.in-Ok-came.lines c.in-Ok-came.is (c.run_tasks-came.ensures.came v shows)) in
+    taken_step (setting_of c.args.script.now) c.args.place c.run_tasks-came.new.progress.gateways.items c.run_tasks-came.result.1.world.journal c.args.progress.now.report.as_asked c.in-Ok-came.lines.as_asked c.take.new.self.as_asked
     c.args.progress.now.report.text.items c.in-Ok-came.lines.text.items c.take.new.self.text.items c.take.result c.take.ensures.refusal
-    (λ a l lines flag. reached_more (setting_of c.args.script.now) c.args.place c.args.phase.now c.args.progress.now.gateways.items c.args.world.journal c.args.progress.now.report.as_asked c.args.progress.now.report.text.items c.requires.at
-    begun.0 c.run_tasks-came.result.1.journal c.run_tasks-came.new.progress.gateways.items c.in-Ok-came.lines.as_asked a c.in-Ok-came.lines.text.items l begun.1 c.requires.reached tasks lines flag)
+    (λ a l lines flag. reached_more (setting_of c.args.script.now) c.args.place c.args.phase.now c.args.progress.now.gateways.items c.args.hand.world.journal c.args.progress.now.report.as_asked c.args.progress.now.report.text.items c.requires.at
+    begun.0 c.run_tasks-came.result.1.world.journal c.run_tasks-came.new.progress.gateways.items c.in-Ok-came.lines.as_asked a c.in-Ok-came.lines.text.items l begun.1 c.requires.reached tasks lines flag)
     (subst (λ (r : Lines). OnOk c.take.result (c.take.new.self.text.items ≡ r.text.items ++ c.in-Ok-came.lines.text.items)) c.run_tasks-came.ensures.report c.take.ensures.text)
     (subst (λ (r : Lines). OnOk c.take.result (c.take.new.self.as_asked ≡ r.as_asked && c.in-Ok-came.lines.as_asked)) c.run_tasks-came.ensures.report c.take.ensures.asked)
 
+pub returns-in-Ok-came-clause-refused : goal.returns-in-Ok-came-clause-refused
+returns-in-Ok-came-clause-refused g c = unrefused c.run_tasks-came.result.1.refused c.take.result (c.run_tasks-came.ensures.refused ∙ ap is_full_came c.in-Ok-came.is) c.take.ensures.refusal
+
 pub returns-clause-step : goal.returns-clause-step
 returns-clause-step g c =
-    let begun = on_ok ((clock : Entry) × BeginsPhase c.args.phase.now clock × (c.begin_phase-begun.result.1.journal ≡ c.args.world.journal ++ clock ∷ [])) c.begin_phase-begun.result.0 c.in_default-begun.field-0 c.in_default-begun.is c.begin_phase-begun.ensures.begun in
-    let tasks = broken_from (setting_of c.args.script.now) c.args.place c.args.phase.now c.args.progress.now.gateways.items c.args.world.journal c.begin_phase-begun.result.1.journal c.run_tasks-came.result.1.journal c.in-Err-came.broken
+    let begun = on_ok ((clock : Entry) × BeginsPhase c.args.phase.now clock × (c.begin_phase-begun.result.1.world.journal ≡ c.args.hand.world.journal ++ clock ∷ [])) c.begin_phase-begun.result.0 c.in_default-begun.field-0 c.in_default-begun.is c.begin_phase-begun.ensures.begun in
+    let tasks = broken_from (setting_of c.args.script.now) c.args.place c.args.phase.now c.args.progress.now.gateways.items c.args.hand.world.journal c.begin_phase-begun.result.1.world.journal c.run_tasks-came.result.1.world.journal c.in-Err-came.broken
     c.in-Ok.seats.workers c.members-tasks.result.now begun.0 c.in-Ok.ensures c.members-tasks.ensures begun.2
-    (λ v shows. MatchResult-at_err _ (λ broken. TasksBroken (setting_of c.args.script.now) (seat_of c.in-Ok.seats.workers) c.members-tasks.result.now v c.begin_phase-begun.result.1.journal c.run_tasks-came.result.1.journal broken) c.in-Err-came.broken c.in-Err-came.is (c.run_tasks-came.ensures.came v shows)) in
-    broken_step (setting_of c.args.script.now) c.args.place c.args.phase.now c.args.progress.now.gateways.items c.run_tasks-came.new.progress.gateways.items c.args.world.journal c.run_tasks-came.result.1.journal c.args.progress.now.report.as_asked c.run_tasks-came.new.progress.report.as_asked
+    (λ v shows. MatchResult-at_err _ (λ broken. TasksBroken (setting_of c.args.script.now) (seat_of c.in-Ok.seats.workers) c.members-tasks.result.now v c.begin_phase-begun.result.1.world.journal c.run_tasks-came.result.1.world.journal broken) c.in-Err-came.broken c.in-Err-came.is (c.run_tasks-came.ensures.came v shows)) in
+    broken_step (setting_of c.args.script.now) c.args.place c.args.phase.now c.args.progress.now.gateways.items c.run_tasks-came.new.progress.gateways.items c.args.hand.world.journal c.run_tasks-came.result.1.world.journal c.args.progress.now.report.as_asked c.run_tasks-came.new.progress.report.as_asked
     c.args.progress.now.report.text.items c.run_tasks-came.new.progress.report.text.items c.in-Err-came.broken begun.0 c.requires.at (ap (λ r. r.as_asked) (sym c.run_tasks-came.ensures.report)) (ap (λ r. r.text.items) (sym c.run_tasks-came.ensures.report))
     begun.1 c.requires.reached tasks

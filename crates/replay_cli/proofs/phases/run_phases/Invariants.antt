@@ -1,6 +1,6 @@
-use Rattle.std.proofs.Common.{◌≡◌, length}
+use Rattle.std.proofs.Common.{◌≡◌, false, length}
 use Rattle.script_core.specs.Workers.{seats_before}
-use Rattle.world_core.specs.Worlds.{WorldGoesOn}
+use Rattle.replay_cli.specs.LineHands.{KeepsRun}
 use Rattle.replay_cli.specs.Progress.{Reached}
 use Rattle.replay_cli.proofs.phases.run_phases.Given as goal
 use Rattle.lifecycle_core.specs.Setting.{setting_of}
@@ -8,8 +8,9 @@ use Rattle.lifecycle_core.specs.Setting.{setting_of}
 -- the phases so far are done and told
 abbrev pub invariant-loop-place : goal.invariant-loop-place
 invariant-loop-place g l = record {
-  reached : Reached (setting_of l.script) l.place l.progress.gateways.items l.world.journal l.progress.report.as_asked l.progress.report.text.items;
-  goes_on : WorldGoesOn g.B.Bucket.faults g.B.Bucket.quiet l.initial.world l.world;
+  reached : Reached (setting_of l.script) l.place l.progress.gateways.items l.hand.world.journal l.progress.report.as_asked l.progress.report.text.items;
+  keeps : KeepsRun g.B.Bucket.faults g.B.Bucket.quiet l.initial.hand.opened.value l.initial.hand.world l.hand.opened.value l.hand.world;
+  unrefused : l.hand.refused ≡ false;
   workers : l.progress.workers ≡ seats_before l.script l.place;
   ready : length l.progress.gateways.items ≡ length l.script.gateways;
 }

@@ -1,17 +1,22 @@
-use Rattle.std.proofs.Common.{List, ◌∙◌, ap}
-use Rattle.std.specs.List.{list_all}
+use Rattle.std.proofs.Common.{List, sym, ◌∙◌, ap, subst}
+use Rattle.world_core.specs.Worlds.{failed_count}
+use Rattle.world_core.specs.declared.entry.Entry.{Entry}
 use Rattle.lifecycle_core.specs.Setting.{setting_of}
-use Rattle.replay_cli.specs.Verdicts.{report_of, tasks_of}
-use Rattle.script_running.specs.Outcomes.{is_as_asked}
-use Rattle.script_running.specs.declared.outcome.Outcome.{Outcome}
-use Rattle.replay_cli.proofs.RunsBeside.{beside_told, short_beside}
+use Rattle.script_running.specs.Beside.{HasRunBeside}
+use Rattle.replay_cli.proofs.RunsBeside.{none_beside}
 use Rattle.replay_cli.proofs.runner.run_with_threads.Goals as goal
 
-pub returns-in-Ok-clause-cause : goal.returns-in-Ok-clause-cause
-returns-in-Ok-clause-cause g c =
-    beside_told (setting_of c.args.script.now) c.requires.lawful c.run_beside-end.result.1.journal c.run_beside-end.result.0.outcomes c.in-Ok.report
-    (c.in-Ok.ensures.text ∙ ap (λ (os : List Outcome). report_of c.args.script.now (tasks_of c.args.script.now.phases) os) c.members.ensures) (c.in-Ok.ensures.asked ∙ ap (λ (os : List Outcome). list_all is_as_asked os) c.members.ensures) c.run_beside-end.result.0.came c.verdict_of.result
-    c.run_beside-end.ensures.ran c.verdict_of.ensures.whole c.verdict_of.ensures.full c.verdict_of.ensures.none
+pub told_run-requires-clause-ran : goal.told_run-requires-clause-ran
+told_run-requires-clause-ran g c =
+    subst (λ (es : List Entry). HasRunBeside (setting_of c.args.script.now) es c.in-Ok.end.outcomes c.in-Ok.end.came) (sym (ap (λ w. w.journal) c.into_world.ensures)) c.in-Ok.ensures.ran
 
-pub returns-clause-cause : goal.returns-clause-cause
-returns-clause-cause g c = short_beside (setting_of c.args.script.now) c.requires.lawful c.run_beside-end.result.1.journal c.run_beside-end.result.0.outcomes c.run_beside-end.result.0.came c.run_beside-end.ensures.ran
+pub returns-in-Ok-clause-unfailed : goal.returns-in-Ok-clause-unfailed
+returns-in-Ok-clause-unfailed g c = λ none.
+    let same = c.told_run.ensures.same ∙ c.into_world.ensures in
+    ap (λ w. g.B.Bucket.faults w.bucket) same ∙ c.in-Ok.ensures.unfailed (sym (ap (λ w. failed_count w.journal) same) ∙ none)
+
+pub returns-in-Err-clause-cause : goal.returns-in-Err-clause-cause
+returns-in-Err-clause-cause g c = none_beside (setting_of c.args.script.now) c.in-Err.world.journal (ap (λ w. w.journal) c.in-Err.ensures.unbegun ∙ c.requires.fresh)
+
+pub returns-in-Err-clause-unfailed : goal.returns-in-Err-clause-unfailed
+returns-in-Err-clause-unfailed g c = λ none. ap (λ w. g.B.Bucket.faults w.bucket) c.in-Err.ensures.unbegun

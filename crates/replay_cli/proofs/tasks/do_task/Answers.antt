@@ -11,7 +11,7 @@ use Rattle.replay_cli.proofs.tasks.do_task.Goals as goal
 
 pub returns-in-Upload-clause-step : goal.returns-in-Upload-clause-step
 returns-in-Upload-clause-step g c = λ views shows.
-    upload_step (setting_of c.args.script.now) (seat_of c.args.seats.now.workers) c.seat_of-seat.result c.args.place c.args.task.now views c.args.progress.now.gateways.items c.args.world.journal c.do_over.result.1.journal c.do_over.new.view c.do_over.result.0
+    upload_step (setting_of c.args.script.now) (seat_of c.args.seats.now.workers) c.seat_of-seat.result c.args.place c.args.task.now views c.args.progress.now.gateways.items c.args.hand.world.journal c.do_over.result.1.world.journal c.do_over.new.view c.do_over.result.0
     c.in-Upload.field-0 c.in-Upload.field-1 c.in-Upload.is c.seat_of-seat.ensures
     (c.do_over.ensures.done (who_does (seat_of c.args.seats.now.workers) (hands.Upload c.args.place)) c.args.place nothing_held refl) shows
 
@@ -20,8 +20,8 @@ at_gateway-requires-clause-alone g c = sync_for (setting_of c.args.script.now) c
 
 pub returns-then-is_empty-clause-step : goal.returns-then-is_empty-clause-step
 returns-then-is_empty-clause-step g c = λ views shows.
-    subst (λ (o : Outcome). TaskStep (setting_of c.args.script.now) (seat_of c.args.seats.now.workers) c.args.place c.args.task.now views c.args.progress.now.gateways.items c.args.world.journal c.args.world.journal (Ok o)) (sym c.answer_of_none.ensures)
-    (unasked_step (setting_of c.args.script.now) (seat_of c.args.seats.now.workers) c.args.place c.args.task.now views c.args.progress.now.gateways.items c.args.world.journal c.in-Query.low c.in-Query.high c.in-Query.selector c.in-Query.is
+    subst (λ (o : Outcome). TaskStep (setting_of c.args.script.now) (seat_of c.args.seats.now.workers) c.args.place c.args.task.now views c.args.progress.now.gateways.items c.args.hand.world.journal c.args.hand.world.journal (Ok o)) (sym c.answer_of_none.ensures)
+    (unasked_step (setting_of c.args.script.now) (seat_of c.args.seats.now.workers) c.args.place c.args.task.now views c.args.progress.now.gateways.items c.args.hand.world.journal c.in-Query.low c.in-Query.high c.in-Query.selector c.in-Query.is
     c.requires.ready (let none = no_member _ c.is_empty.result c.is_empty.ensures c.if-is_empty.true in let ok = c.args.progress.now.gateways.ok in omega arith) shows)
 
 pub at_gateway-requires-in-Query-clause-alone : goal.at_gateway-requires-in-Query-clause-alone

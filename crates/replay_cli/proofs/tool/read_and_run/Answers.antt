@@ -18,21 +18,22 @@ returns-in-Ok-clause-cause g c =
     (around_call IsInLine g.R.Source.left g.R.Source.faults c.args.script.now c.read_and_open.new.script g.S.Site.buckets g.S.Site.next_bucket g.S.Site.shelves g.S.Site.next_shelf g.S.Site.faults (Some c.args.bucket.now) (named_by c.args.shelf.now) None
     c.args.site.now c.read_and_open.new.site g.S.Store.Bucket.faults g.S.Files.Shelf.faults
     c.of_world.result.store c.in-Ok.field-0.shelf c.of_world.result.journal)
-    c.in-Ok.field-0.script c.run_in_line-verdict.result.1.journal c.run_in_line-verdict.result.0 c.of_world.result.verdict c.in-Ok.ensures.read c.in-Ok.ensures.lawful
-    (ap is_some c.of_world.ensures.store, c.in-Ok.ensures.opened) c.in-Ok.ensures.empty c.of_world.ensures.journal c.of_world.ensures.verdict c.run_in_line-verdict.ensures.cause
+    c.in-Ok.field-0.script c.run_in_line-verdict.result.1.world.journal c.run_in_line-verdict.result.0 c.of_world.result.verdict c.in-Ok.ensures.read c.in-Ok.ensures.lawful
+    (ap is_some c.of_world.ensures.store, c.in-Ok.ensures.opened) c.in-Ok.ensures.empty (c.of_world.ensures.journal ∙ ap (λ w. Some w.journal) c.into_world.ensures) c.of_world.ensures.verdict c.run_in_line-verdict.ensures.cause
 
 pub returns-in-Ok-clause-short : goal.returns-in-Ok-clause-short
 returns-in-Ok-clause-short g c =
     short_of c.of_world.result.verdict _ (
       c.in-Ok.ensures.source,
       c.in-Ok.ensures.site,
-      unfailed_ended g.S.Store.Bucket.faults c.in-Ok.field-0.world c.run_in_line-verdict.result.1 _ _ c.run_in_line-verdict.ensures.unfailed c.in-Ok.ensures.unfailed c.of_world.ensures.journal c.of_world.ensures.store,
+      unfailed_ended g.S.Store.Bucket.faults c.in-Ok.field-0.world c.run_in_line-verdict.result.1.world _ _ c.run_in_line-verdict.ensures.unfailed c.in-Ok.ensures.unfailed
+          (c.of_world.ensures.journal ∙ ap (λ w. Some w.journal) c.into_world.ensures) (c.of_world.ensures.store ∙ ap (λ w. Some w.bucket) c.into_world.ensures),
       c.in-Ok.ensures.unread,
     )
 
 pub returns-in-Ok-clause-handed : goal.returns-in-Ok-clause-handed
 returns-in-Ok-clause-handed g c =
-    handed_some g.S.Site.buckets c.args.site.now c.read_and_open.new.site c.of_world.result.store c.run_in_line-verdict.result.1.bucket c.of_world.ensures.store c.in-Ok.ensures.buckets
+    handed_some g.S.Site.buckets c.args.site.now c.read_and_open.new.site c.of_world.result.store c.into_world.result.bucket c.of_world.ensures.store c.in-Ok.ensures.buckets
 
 pub returns-in-Ok-clause-kept : goal.returns-in-Ok-clause-kept
 returns-in-Ok-clause-kept g c = ap is_some c.of_world.ensures.journal ∙ sym (ap is_some c.of_world.ensures.store)

@@ -1,4 +1,5 @@
 use Rattle.std.proofs.Common.{◌≡◌, ◌∙◌, ◌+◌, ℕ, List, length, [], ap, sym, subst, vec_len, arith}
+use Rattle.std.specs.Prelude.{Err}
 use Rattle.world_core.specs.declared.entry.Entry.{Entry}
 use Rattle.world_turn.specs.Passes.{view_of}
 use Rattle.world_turn.specs.declared.pass.Pass.{Pass}
@@ -11,6 +12,7 @@ use Rattle.script_running.specs.Workers.{MayWork, Post}
 use Rattle.script_running.specs.declared.came.Broken.TheVariants as broken
 use Rattle.script_running.specs.declared.worker.WorkerEnd.{WorkerEnd}
 use Rattle.script_running.proofs.Phasing.{always, as_many, at_work, clock_refused, ends_long, few_seats, idled, if_false, if_true, joined_on, moment_lawful, next_seats, no_room, phase_apart, phase_comes, within_gateways, within_tasks, workers_here}
+use Rattle.script_running.proofs.Refused.{clock_done, clock_tells, come_tells, or_none, phase_tells}
 use Rattle.script_running.proofs.beside.phase_beside.Goals as goal
 
 pub returns-in_default-clause-came : goal.returns-in_default-clause-came
@@ -107,3 +109,27 @@ returns-clause-came g c =
     c.run_phase-end.result.root (vec_len c.in-Ok-jobs_of.jobs) run.0 run.1 c.run_phase-end.result.ends.items run.2 c.gather-came.new.views.items c.gather-came.new.outcomes c.gather-came.result (c.gather-came.ensures.each ∙ c.jobs_of.ensures.each)
     (λ after own lasts have left. c.gather-came.ensures.gathers (setting_of c.args.script.now) c.args.place c.args.phase.now c.requires.gone.held after (view_of c.run_phase-end.result.root).front run.0 own lasts c.requires.lawful c.requires.at c.members.ensures are have left
     (c.in-Ok-jobs_of.ensures.left c.requires.gone.held c.requires.gone.seen))
+
+-- ---- whether the full journal was met
+
+pub returns-in_default-clause-refused : goal.returns-in_default-clause-refused
+returns-in_default-clause-refused g c = sym (or_none (view_of c.args.root).refused)
+
+pub returns-in_default-jobs_of-clause-refused : goal.returns-in_default-jobs_of-clause-refused
+returns-in_default-jobs_of-clause-refused g c = sym (or_none (view_of c.args.root).refused)
+
+pub returns-in-Err-clause-refused : goal.returns-in-Err-clause-refused
+returns-in-Err-clause-refused g c =
+    clock_tells c.args.phase.now (view_of c.args.root) (view_of c.begin_phase-begun.result.1) (Err c.in-Err.broken) (subst (IsClockSet c.args.phase.now (view_of c.args.root) (view_of c.begin_phase-begun.result.1)) c.in-Err.is c.begin_phase-begun.ensures.clock)
+
+pub returns-then-end-clause-refused : goal.returns-then-end-clause-refused
+returns-then-end-clause-refused g c =
+    let same = if_true {P = ((c.run_phase-end.result.root ≡ c.begin_phase-begun.result.1) × (c.run_phase-end.result.ends.items ≡ []))}
+    ((kept : List (ℕ × List Entry)) × HasRun c.begin_phase-begun.result.1 c.run_phase-end.result.root (vec_len c.in-Ok-jobs_of.jobs) kept × Runs {J = Post} {E = WorkerEnd} MayWork (view_of c.begin_phase-begun.result.1).known (view_of c.run_phase-end.result.root).front (c.begin_phase-begun.result.1.splits + 1) c.in-Ok-jobs_of.jobs.items c.run_phase-end.result.ends.items kept) c.run_phase-end.result.memory c.if-end.true c.run_phase-end.ensures.run in
+    ap (λ (p : Pass). (view_of p).refused) same.0 ∙ clock_done c.args.phase.now (view_of c.args.root) (view_of c.begin_phase-begun.result.1) c.begin_phase-begun.result.0 c.in_default-begun.is c.begin_phase-begun.ensures.clock
+
+pub returns-clause-refused : goal.returns-clause-refused
+returns-clause-refused g c =
+    phase_tells (view_of c.args.root).refused (view_of c.begin_phase-begun.result.1).refused (view_of c.run_phase-end.result.root).refused _ c.gather-came.result
+    (clock_done c.args.phase.now (view_of c.args.root) (view_of c.begin_phase-begun.result.1) c.begin_phase-begun.result.0 c.in_default-begun.is c.begin_phase-begun.ensures.clock) c.run_phase-end.ensures.refused
+    (come_tells c.run_phase-end.result.ends.items c.gather-came.result c.gather-came.ensures.came)

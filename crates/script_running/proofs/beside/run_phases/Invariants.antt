@@ -12,6 +12,7 @@ invariant-loop-place g l = record {
   table : table_of l.root ≡ table_of l.initial.root;
   seat : l.root.seat ≡ 0;
   tick : (view_of l.root).tick ≡ (view_of l.initial.root).tick;
+  refused : (view_of l.root).refused ≡ (view_of l.initial.root).refused;
   seats : l.root.splits ≡ seats_before l.script l.place;
   all : AllJoined (view_of l.root);
   gone : HasGone (setting_of l.script) (view_of l.root) (take l.place l.script.phases) l.standing.views.items l.standing.outcomes;

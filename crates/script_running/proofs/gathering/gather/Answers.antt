@@ -1,6 +1,12 @@
-use Rattle.std.proofs.Common.{length, ap, ◌∙◌, refl, subst}
+use Rattle.std.proofs.Common.{List, length, ap, ◌∙◌, refl, subst}
+use Rattle.std.specs.Prelude.{MatchBool}
 use Rattle.script_running.specs.Gathering.{HaveCome}
+use Rattle.script_running.specs.Going.{Met}
+use Rattle.script_running.specs.declared.came.Broken.TheVariants as broken
+use Rattle.script_running.specs.declared.worker.WorkerEnd.{WorkerEnd}
 use Rattle.script_running.proofs.Gathers.{came_whole, met_so}
+use Rattle.script_running.proofs.Refused.{still_come}
+use Rattle.script_running.proofs.Phasing.{if_false}
 use Rattle.script_running.proofs.gathering.gather.Goals as goal
 
 pub returns-in-Ok-take_in-clause-gathers : goal.returns-in-Ok-take_in-clause-gathers
@@ -11,3 +17,17 @@ returns-in-Ok-take_in-clause-gathers c = λ setting number phase before after fr
 pub returns-then-any_full-clause-gathers : goal.returns-then-any_full-clause-gathers
 returns-then-any_full-clause-gathers c = λ setting number phase before after front kept own lasts lawful at tasks workers have left beside.
     (refl, met_so c.any_full.result c.deref.result.now c.args.ends.items c.any_full.ensures c.if-any_full.true c.deref.ensures.value)
+
+pub returns-in-Ok-take_in-clause-came : goal.returns-in-Ok-take_in-clause-came
+returns-in-Ok-take_in-clause-came c =
+    still_come c.args.ends.items c.tell.result (subst (HaveCome c.args.ends.items) c.in-Ok-take_in.is c.take_in.ensures.came) (if_false (Met broken.Full c.args.ends.items) c.any_full.result c.if-any_full.false (subst (λ (es : List WorkerEnd). MatchBool c.any_full.result (Met broken.Full es) (Met broken.NoMemory es)) c.deref.ensures.value c.any_full.ensures)) c.tell.ensures.why
+
+pub returns-in-Err-clause-came : goal.returns-in-Err-clause-came
+returns-in-Err-clause-came c = subst (HaveCome c.args.ends.items) c.in-Err.is c.take_in.ensures.came
+
+pub returns-in_default-clause-came : goal.returns-in_default-clause-came
+returns-in_default-clause-came c =
+    if_false (Met broken.Full c.args.ends.items) c.any_full.result c.if-any_full.false (subst (λ (es : List WorkerEnd). MatchBool c.any_full.result (Met broken.Full es) (Met broken.NoMemory es)) c.deref.ensures.value c.any_full.ensures)
+
+pub returns-then-any_full-clause-came : goal.returns-then-any_full-clause-came
+returns-then-any_full-clause-came c = met_so c.any_full.result c.deref.result.now c.args.ends.items c.any_full.ensures c.if-any_full.true c.deref.ensures.value

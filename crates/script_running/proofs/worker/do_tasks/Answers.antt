@@ -3,7 +3,7 @@ use Rattle.std.proofs.lemmas.List.{take_all}
 use Rattle.std.specs.Prelude.{Ok}
 use Rattle.script_workers.specs.declared.task.Task.{Task}
 use Rattle.lifecycle_core.specs.Setting.{setting_of}
-use Rattle.script_running.specs.Workers.{is_full_end}
+use Rattle.script_running.specs.Tasks.{is_full_came}
 use Rattle.script_running.proofs.WorkerSteps.{all_worked, default_any, none_done, none_worked, place_within, refused_broken, refused_none, serves_at, short_by, step_broken, step_worked, unrefused}
 use Rattle.script_running.proofs.worker.do_tasks.Goals as goal
 
@@ -58,7 +58,7 @@ returns-clause-worked g c = λ who held sees.
     (take_all c.loop-number.number c.args.places.now (omega (arith, c.loop-number-test.false))) refl refl refl (c.loop-number.invariant.worked who held sees)
 
 pub returns-in_default-clause-refused : goal.returns-in_default-clause-refused
-returns-in_default-clause-refused g c = unrefused (g.H.Hand.refused c.args.hand.now) (g.H.Hand.refused c.args.hand.now) c.wanting.result.came (ap is_full_end c.wanting.ensures.1) refl
+returns-in_default-clause-refused g c = unrefused (g.H.Hand.refused c.args.hand.now) (g.H.Hand.refused c.args.hand.now) c.wanting.result.came (ap is_full_came c.wanting.ensures.1) refl
 
 pub returns-in-Err-clause-refused : goal.returns-in-Err-clause-refused
 returns-in-Err-clause-refused g c =

@@ -4,7 +4,8 @@ use Rattle.std.specs.List.{All}
 use Rattle.world_core.specs.declared.entry.Entry.{Entry}
 use Rattle.script_workers.specs.declared.task.Task.{Task}
 use Rattle.lifecycle_core.specs.Setting.{setting_of}
-use Rattle.script_running.specs.Workers.{HasWorked, MayWork, Post, is_full_end, is_short_end, is_upload}
+use Rattle.script_running.specs.Workers.{HasWorked, MayWork, Post, is_short_end, is_upload}
+use Rattle.script_running.specs.Tasks.{is_full_came}
 use Rattle.script_running.proofs.JobSteps.{allowed, blocks_serve, may_work, ready, script_serves}
 use Rattle.script_running.proofs.WorkerSteps.{none_done, unrefused}
 use Rattle.script_running.proofs.worker.WorkerJobJob.run.Goals as goal
@@ -108,4 +109,4 @@ pub returns-clause-wanted : goal.returns-clause-wanted
 returns-clause-wanted g c = λ so. inl so
 
 pub returns-clause-refused : goal.returns-clause-refused
-returns-clause-refused g c = unrefused (g.H.Hand.refused c.args.hand.now) (g.H.Hand.refused c.args.hand.now) c.wanting.result.came (ap is_full_end c.wanting.ensures.1) refl
+returns-clause-refused g c = unrefused (g.H.Hand.refused c.args.hand.now) (g.H.Hand.refused c.args.hand.now) c.wanting.result.came (ap is_full_came c.wanting.ensures.1) refl

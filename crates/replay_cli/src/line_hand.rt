@@ -1,0 +1,104 @@
+ghost use Rattle.std.specs.Prelude.{◌≡◌, false};
+
+use bucket_core::Bucket;
+use std::snapshot::Snapshot;
+use world_core::{Acted, Hand, Op, World};
+
+/// The hand of a run whose tasks are done one after another: it does the operations of all its workers, from seat to seat, on a
+/// world of its own.
+///
+/// It keeps whether an operation was answered that the journal is full. Nothing makes it forget that: a hand that is made anew is
+/// made over another world.
+#[derive(Drop)]
+pub(crate) struct LineHand<B: Bucket> {
+    world: World<B>,
+    seat: u32,
+    refused: bool,
+    /// The world over which it was made, as it was then.
+    opened: Snapshot<World<B>>,
+}
+
+impl<B: Bucket> LineHand<B> {
+    /// A hand at seat 0, which has been refused nothing yet.
+    pub(crate) fn new(world: World<B>) -> Self
+        ensures world { result.world ≡ world }
+        ensures opened { result.opened.value ≡ world }
+        ensures refused { result.refused ≡ false }
+    {
+        let opened = Snapshot::of(&world);
+        LineHand {
+            world,
+            seat: 0,
+            refused: false,
+            opened,
+        }
+    }
+
+    /// The hand at another seat.
+    pub(crate) fn at_seat(self, seat: u32) -> Self
+        ensures world { result.world ≡ self.world }
+        ensures seat { result.seat ≡ seat }
+        ensures opened { result.opened ≡ self.opened }
+        ensures refused { result.refused ≡ self.refused }
+    {
+        let LineHand {
+            world,
+            seat: _,
+            refused,
+            opened,
+        } = self;
+        LineHand {
+            world,
+            seat,
+            refused,
+            opened,
+        }
+    }
+
+    /// The world, as it is now.
+    pub(crate) fn world(&self) -> &World<B>
+        ensures { result.now ≡ self.now.world }
+    {
+        &self.world
+    }
+
+    /// Hands the world back.
+    pub(crate) fn into_world(self) -> World<B>
+        ensures { result ≡ self.world }
+    {
+        self.world
+    }
+}
+
+impl<B: Bucket> Hand for LineHand<B> {
+    ghost use Rattle.std.specs.Prelude.{Some, false};
+    ghost use Rattle.replay_cli.specs.LineHands.{KeepsRun, keeps_run-none, keeps_run-more};
+
+    ghost entries = { λ hand. hand.world.journal };
+
+    ghost seat = { λ hand. hand.seat };
+
+    ghost front = { λ hand. Some hand.world.journal };
+
+    ghost refused = { λ hand. hand.refused };
+
+    ghost wanted = { λ hand. false };
+
+    ghost keeps = { λ old new. KeepsRun B.faults B.quiet old.opened.value old.world new.opened.value
+        new.world };
+
+    ghost keeps_none = { λ hand. keeps_run-none B.faults B.quiet hand.opened.value hand.world };
+
+    ghost keeps_more = { λ first next last one two. keeps_run-more B.faults B.quiet
+        first.opened.value next.opened.value last.opened.value first.world next.world last.world
+        one two };
+
+    #[tactic(auto, using(crate::proofs::Unfailed::acted))]
+    fn act(&mut self, op: Op) -> Acted {
+        let acted = self.world.act(self.seat, op);
+        if let Acted::Full = acted {
+            self.refused = true;
+        }
+        acted
+    }
+}
