@@ -5,6 +5,7 @@ mod ages;
 mod clean;
 mod clean_end;
 mod clean_rules;
+mod laws;
 mod objects;
 mod page;
 mod stage;
@@ -12,3 +13,4 @@ mod walk;
 
 pub use clean::Clean;
 pub use clean_end::CleanEnd;
+pub use laws::cleanings_have_one_end;
