@@ -1,67 +1,48 @@
 //! The files of a block of one sample: its objects, and what is read from them again.
 
-use block_files::{BuildRefusal, build, files_objects, read_plain_index, read_plain_segment};
-use block_keys::{Object, ObjectList};
-use block_meta::{BlockPlan, ParentList, own_sources};
-use label_sets::{LabelSet, Sample, SampleList, Series, SeriesList, Text};
-use list_core::NoMemory;
-use std::alloc::Global;
-use std::{io, str};
-use ulid_core::Ulid;
+use crate::labels::series_of;
+use crate::metas::plan_of;
+use crate::says::{put, say, say_text, show};
+use block_files::{BlockFiles, build, files_objects, read_plain_index, read_plain_segment};
+use block_keys::Object;
+use label_sets::SeriesList;
 
-pub(crate) fn print_block(rt: &HostRuntime) -> io::Result<()> {
-    match built_objects(rt.alloc()) {
-        Ok(objects) => print_objects(rt, objects.members()),
-        Err(refusal) => println!(rt; "{refusal:?}"),
+pub(crate) fn print_block(rt: &HostRuntime) {
+    let Some(plan) = plan_of(rt.alloc()) else {
+        return say(rt, "no memory");
+    };
+    let mut series = SeriesList::new(rt.alloc());
+    let _ = series.push(series_of(rt.alloc(), "{__name__=\"up\"} 1000:3ff0000000000000"));
+    match build(rt.alloc(), &plan, &series) {
+        Ok(files) => print_files(rt, files),
+        Err(refusal) => show(rt, &refusal),
     }
 }
 
-fn built_objects(alloc: Global) -> Result<ObjectList, BuildRefusal> {
-    let plan = level_one(alloc, Ulid::from_parts(0, 10))?;
-    let series = one_series(alloc)?;
-    Ok(files_objects(alloc, build(alloc, &plan, &series)?)?)
-}
-
-fn level_one(alloc: Global, ulid: Ulid) -> Result<BlockPlan, NoMemory> {
-    Ok(BlockPlan {
-        ulid,
-        min_time: 1000,
-        max_time: 2000,
-        level: 1,
-        sources: own_sources(alloc, ulid)?,
-        parents: ParentList::new(alloc),
-        labels: LabelSet::empty(alloc),
-        source: Text::from_str(alloc, "sidecar")?,
-    })
-}
-
-fn one_series(alloc: Global) -> Result<SeriesList, NoMemory> {
-    let (labels, _) = LabelSet::read(alloc, "{__name__=\"up\"}").map_err(|_| NoMemory)?;
-    let mut samples = SampleList::new(alloc);
-    samples.push(Sample {
-        time: 1000,
-        pattern: 0x3ff0_0000_0000_0000,
-    })?;
-    let mut series = SeriesList::new(alloc);
-    series.push(Series { labels, samples })?;
-    Ok(series)
+fn print_files(rt: &HostRuntime, files: BlockFiles) {
+    match files_objects(rt.alloc(), files) {
+        Ok(objects) => print_objects(rt, objects.members()),
+        Err(_) => say(rt, "no memory"),
+    }
 }
 
 /// Prints the objects, and for each whether it is read as an index, and how many series it has as a segment.
-fn print_objects(rt: &HostRuntime, objects: &[Object]) -> io::Result<()> {
+fn print_objects(rt: &HostRuntime, objects: &[Object]) {
     for object in objects {
-        let bytes = object.bytes.bytes();
-        println!(rt; "{:?}", object.key)?;
-        println!(rt; "{}", str::from_utf8(bytes).unwrap_or("no text"))?;
-        println!(rt; "as an index: {:?}", read_plain_index(bytes))?;
-        print_segment(rt, bytes)?;
+        show(rt, &object.key);
+        print_bytes(rt, object.bytes.bytes());
     }
-    Ok(())
 }
 
-fn print_segment(rt: &HostRuntime, bytes: &[u8]) -> io::Result<()> {
+fn print_bytes(rt: &HostRuntime, bytes: &[u8]) {
+    say_text(rt, bytes);
+    put(rt, "as an index: ");
+    show(rt, &read_plain_index(bytes));
+    put(rt, "as a segment: ");
     match read_plain_segment(rt.alloc(), bytes) {
-        Ok(series) => println!(rt; "as a segment: {} series", series.len()),
-        Err(refusal) => println!(rt; "as a segment: {refusal:?}"),
+        Ok(series) => {
+            let _ = println!(rt; "{} series", series.len());
+        }
+        Err(refusal) => show(rt, &refusal),
     }
 }

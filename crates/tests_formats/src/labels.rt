@@ -7,11 +7,12 @@ mod series;
 mod sets;
 
 use crate::labels::merges::print_merged;
+pub(crate) use crate::labels::series::{samples_of, series_of};
 use crate::labels::series::{print_sample, print_series};
 use crate::labels::sets::{print_added, print_final, print_set};
-use std::io;
+use crate::says::say;
 
-pub(crate) fn print_call(rt: &HostRuntime, word: &str, text: &str) -> io::Result<()> {
+pub(crate) fn print_call(rt: &HostRuntime, word: &str, text: &str) {
     match word {
         "set" => print_set(rt, text),
         "newline" => print_set(rt, "{a=\"x\n\"}"),
@@ -20,6 +21,6 @@ pub(crate) fn print_call(rt: &HostRuntime, word: &str, text: &str) -> io::Result
         "sample" => print_sample(rt, text),
         "series" => print_series(rt, text),
         "merge" => print_merged(rt, text),
-        _ => println!(rt; "no call"),
+        _ => say(rt, "no call"),
     }
 }

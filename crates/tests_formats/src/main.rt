@@ -7,33 +7,43 @@ mod base;
 mod blocks;
 mod labels;
 mod metas;
+mod says;
 mod scripts;
 mod xor;
 
+use crate::says::{cut, put, say};
 use std::io;
 
 fn main(rt: HostRuntime) -> io::Result<()> {
     for row in rt.lines(rt.alloc()) {
-        print_row(&rt, row?.as_str())?;
+        print_row(&rt, row?.as_str());
     }
     Ok(())
 }
 
 /// Prints a row, and what its call gives.
-fn print_row(rt: &HostRuntime, row: &str) -> io::Result<()> {
-    let (table, call) = row.split_once(' ').unwrap_or((row, ""));
+fn print_row(rt: &HostRuntime, row: &str) {
+    let (table, call) = cut(row);
     if table == "=" {
-        return println!(rt; "{row}");
+        say(rt, row);
+    } else {
+        put(rt, row);
+        put(rt, " -> ");
+        print_call(rt, table, call);
     }
-    print!(rt; "{row} -> ")?;
-    let (word, text) = call.split_once(' ').unwrap_or((call, ""));
+}
+
+fn print_call(rt: &HostRuntime, table: &str, call: &str) {
+    let (word, text) = cut(call);
     match table {
         "base" => base::print_call(rt, word, text),
         "blocks" => blocks::print_block(rt),
         "labels" => labels::print_call(rt, word, text),
         "metas" => metas::print_call(rt, word, text),
-        "scripts" => scripts::print_call(rt, call),
+        "scripts" => {
+            let _ = scripts::print_call(rt, call);
+        }
         "xor" => xor::print_call(rt, word, text),
-        _ => println!(rt; "no table"),
+        _ => say(rt, "no table"),
     }
 }

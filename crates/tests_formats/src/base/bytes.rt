@@ -1,40 +1,43 @@
-use std::io;
+use crate::says::{say, show};
 use wire_bytes::{Cursor, crc_of};
 
 /// Prints what bytes are read as.
-pub(crate) fn print_bytes(rt: &HostRuntime, kind: &str, text: &str) -> io::Result<()> {
+pub(crate) fn print_bytes(rt: &HostRuntime, kind: &str, text: &str) {
     match hex::decode(rt.alloc(), text) {
-        Ok(bytes) => print_read(rt, kind, &bytes),
-        Err(_) => println!(rt; "no bytes"),
+        Ok(bytes) => print_read(rt, kind, bytes.as_slice()),
+        Err(_) => say(rt, "no bytes"),
     }
 }
 
-fn print_read(rt: &HostRuntime, kind: &str, bytes: &[u8]) -> io::Result<()> {
+fn print_read(rt: &HostRuntime, kind: &str, bytes: &[u8]) {
     match kind {
-        "sum" => println!(rt; "{:08x}", crc_of(bytes)),
-        "uvarint" => println!(rt; "{:?}", Cursor::new(bytes).take_uvarint()),
-        "varint" => println!(rt; "{:?}", Cursor::new(bytes).take_varint()),
+        "sum" => {
+            let _ = println!(rt; "{:08x}", crc_of(bytes));
+        }
+        "uvarint" => show(rt, &Cursor::new(bytes).take_uvarint()),
+        "varint" => show(rt, &Cursor::new(bytes).take_varint()),
         "fields" => print_fields(rt, bytes),
-        _ => println!(rt; "no row"),
+        _ => say(rt, "no row"),
     }
 }
 
 /// Prints fields that follow each other, and then what is left of the bytes.
-fn print_fields(rt: &HostRuntime, bytes: &[u8]) -> io::Result<()> {
+fn print_fields(rt: &HostRuntime, bytes: &[u8]) {
     let mut cursor = Cursor::new(bytes);
-    println!(rt; "{:?}", cursor.take_uvarint())?;
-    println!(rt; "{:?}", cursor.take_varint())?;
-    println!(rt; "{:?}", cursor.take_u32())?;
-    println!(rt; "{:?}", cursor.take_u8())?;
-    println!(rt; "{:?}", cursor.take_u16())?;
-    println!(rt; "{:?}", cursor.take_u64())?;
-    println!(rt; "{:?}", cursor.take_u64())?;
-    print_rest(rt, bytes, cursor.place())
+    show(rt, &cursor.take_uvarint());
+    show(rt, &cursor.take_varint());
+    show(rt, &cursor.take_u32());
+    show(rt, &cursor.take_u8());
+    show(rt, &cursor.take_u16());
+    show(rt, &cursor.take_u64());
+    show(rt, &cursor.take_u64());
+    print_rest(rt, bytes, cursor.place());
 }
 
-fn print_rest(rt: &HostRuntime, bytes: &[u8], place: usize) -> io::Result<()> {
+fn print_rest(rt: &HostRuntime, bytes: &[u8], place: usize) {
     let mut cursor = Cursor::at(bytes, place.min(bytes.len()));
-    println!(rt; "at {place}: {:?}", cursor.rest())?;
-    println!(rt; "{:?}", cursor.take_bytes(2))?;
-    println!(rt; "{:?}", cursor.take_bytes(1))
+    let _ = print!(rt; "at {place}: ");
+    show(rt, &cursor.rest());
+    show(rt, &cursor.take_bytes(2));
+    show(rt, &cursor.take_bytes(1));
 }

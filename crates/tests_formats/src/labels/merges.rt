@@ -1,33 +1,33 @@
 use crate::labels::series::series_of;
-use crate::labels::sets::print_text;
-use list_core::NoMemory;
-use std::alloc::Global;
-use std::io;
+use crate::says::{say, say_text};
+use label_sets::Series;
 use vertical_merge::Merger;
 
 /// Prints the merge of series: those with samples are added, and the others taken.
-pub(crate) fn print_merged(rt: &HostRuntime, text: &str) -> io::Result<()> {
-    print_text(rt, merged(rt.alloc(), text))
-}
-
-fn merged(alloc: Global, text: &str) -> Result<Vec<u8>, NoMemory> {
-    let mut merger = Merger::new(alloc);
+pub(crate) fn print_merged(rt: &HostRuntime, text: &str) {
+    let mut merger = Merger::new(rt.alloc());
     for part in text.split('|') {
-        add_series(&mut merger, alloc, part)?;
+        add_series(&mut merger, series_of(rt.alloc(), part));
     }
-    let mut out = Vec::new(alloc);
-    for series in merger.finish()?.members() {
-        series.write(&mut out)?;
-        out.push(b';')?;
+    match merger.finish() {
+        Ok(list) => print_list(rt, list.members()),
+        Err(_) => say(rt, "no memory"),
     }
-    Ok(out)
 }
 
-fn add_series(merger: &mut Merger, alloc: Global, text: &str) -> Result<(), NoMemory> {
-    let series = series_of(alloc, text)?;
+fn add_series(merger: &mut Merger, series: Series) {
     if series.samples.is_empty() {
-        merger.take(series)
+        let _ = merger.take(series);
     } else {
-        merger.add(&series.labels, &series.samples)
+        let _ = merger.add(&series.labels, &series.samples);
     }
+}
+
+fn print_list(rt: &HostRuntime, list: &[Series]) {
+    let mut out = Vec::new(rt.alloc());
+    for series in list {
+        let _ = series.write(&mut out);
+        let _ = out.push(b';');
+    }
+    say_text(rt, out.as_slice());
 }

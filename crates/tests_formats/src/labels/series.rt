@@ -1,43 +1,47 @@
-use crate::labels::sets::{print_text, set_of};
+use crate::labels::sets::set_of;
+use crate::says::{cut, say, say_text, show};
 use label_sets::{Sample, SampleList, Series};
-use list_core::{NoMemory, TryCopy};
+use list_core::TryCopy;
 use std::alloc::Global;
-use std::io;
 
 /// Prints a sample, or why the text is none.
-pub(crate) fn print_sample(rt: &HostRuntime, text: &str) -> io::Result<()> {
+pub(crate) fn print_sample(rt: &HostRuntime, text: &str) {
     match Sample::read(text) {
-        Ok(sample) => println!(rt; "{} {:x}", sample.time, sample.pattern),
-        Err(refusal) => println!(rt; "{refusal:?}"),
+        Ok(sample) => {
+            let _ = println!(rt; "{} {:x}", sample.time, sample.pattern);
+        }
+        Err(refusal) => show(rt, &refusal),
     }
 }
 
-/// Prints a series as it is written.
-pub(crate) fn print_series(rt: &HostRuntime, text: &str) -> io::Result<()> {
-    print_text(rt, written_series(rt.alloc(), text))
-}
-
-fn written_series(alloc: Global, text: &str) -> Result<Vec<u8>, NoMemory> {
-    let mut out = Vec::new(alloc);
-    series_of(alloc, text)?.copy()?.write(&mut out)?;
-    Ok(out)
+/// Prints a series as its copy is written.
+pub(crate) fn print_series(rt: &HostRuntime, text: &str) {
+    let mut out = Vec::new(rt.alloc());
+    match series_of(rt.alloc(), text).copy() {
+        Ok(copy) => {
+            let _ = copy.write(&mut out);
+            say_text(rt, out.as_slice());
+        }
+        Err(_) => say(rt, "no memory"),
+    }
 }
 
 /// The series of a text: a label set, and samples after spaces.
-pub(crate) fn series_of(alloc: Global, text: &str) -> Result<Series, NoMemory> {
-    let (set, samples) = text.split_once(' ').unwrap_or((text, ""));
-    Ok(Series {
+pub(crate) fn series_of(alloc: Global, text: &str) -> Series {
+    let (set, samples) = cut(text);
+    Series {
         labels: set_of(alloc, set),
-        samples: samples_of(alloc, samples)?,
-    })
+        samples: samples_of(alloc, samples),
+    }
 }
 
-fn samples_of(alloc: Global, text: &str) -> Result<SampleList, NoMemory> {
+/// The samples of a text, each as in a script.
+pub(crate) fn samples_of(alloc: Global, text: &str) -> SampleList {
     let mut samples = SampleList::new(alloc);
     for word in text.split(' ') {
         if let Ok(sample) = Sample::read(word) {
-            samples.push(sample)?;
+            let _ = samples.push(sample);
         }
     }
-    Ok(samples)
+    samples
 }

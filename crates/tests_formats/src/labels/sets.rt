@@ -1,46 +1,70 @@
+use crate::says::{cut, say, say_text, show};
 use label_sets::{LabelSet, Text, TextList, final_labels, reduced};
-use list_core::{NoMemory, TryCopy};
+use list_core::TryCopy;
 use std::alloc::Global;
-use std::io;
 
-/// Prints a label set as it is written and how many bytes it took, or why the text is none.
-pub(crate) fn print_set(rt: &HostRuntime, text: &str) -> io::Result<()> {
+/// Prints a label set as its copy is written and how many bytes it took, or why the text is none.
+pub(crate) fn print_set(rt: &HostRuntime, text: &str) {
     match LabelSet::read(rt.alloc(), text) {
         Ok((labels, taken)) => {
-            print!(rt; "{taken} bytes: ")?;
-            print_text(rt, written_set(rt.alloc(), &labels))
+            let _ = print!(rt; "{taken} bytes: ");
+            print_labels(rt, &labels);
         }
-        Err(refusal) => println!(rt; "{refusal:?}"),
+        Err(refusal) => show(rt, &refusal),
+    }
+}
+
+fn print_labels(rt: &HostRuntime, labels: &LabelSet) {
+    let mut out = Vec::new(rt.alloc());
+    match labels.copy() {
+        Ok(copy) => {
+            let _ = copy.write(&mut out);
+            say_text(rt, out.as_slice());
+        }
+        Err(_) => say(rt, "no memory"),
     }
 }
 
 /// Prints a set with one more label, or why the label was not added.
-pub(crate) fn print_added(rt: &HostRuntime, text: &str) -> io::Result<()> {
-    let (set, label) = text.split_once(' ').unwrap_or((text, ""));
-    let (name, value) = label.split_once(' ').unwrap_or((label, ""));
+pub(crate) fn print_added(rt: &HostRuntime, text: &str) {
+    let (set, label) = cut(text);
+    let (name, value) = cut(label);
     let mut labels = set_of(rt.alloc(), set);
     match labels.add(name, value) {
-        Ok(()) => print_text(rt, written_set(rt.alloc(), &labels)),
-        Err(refusal) => println!(rt; "{refusal:?}"),
+        Ok(()) => print_labels(rt, &labels),
+        Err(refusal) => show(rt, &refusal),
     }
 }
 
 /// Prints the final labels and the reduced labels of a set.
-pub(crate) fn print_final(rt: &HostRuntime, text: &str) -> io::Result<()> {
-    let (own, others) = text.split_once(' ').unwrap_or((text, ""));
-    let (external, replica) = others.split_once(' ').unwrap_or((others, ""));
-    print_text(rt, final_and_reduced(rt.alloc(), own, external, replica))
+pub(crate) fn print_final(rt: &HostRuntime, text: &str) {
+    let (own, others) = cut(text);
+    let (external, replica) = cut(others);
+    print_both(
+        rt,
+        &set_of(rt.alloc(), own),
+        &set_of(rt.alloc(), external),
+        &one_replica(rt.alloc(), replica),
+    );
 }
 
-/// Prints bytes that were written, which are a text.
-pub(crate) fn print_text(rt: &HostRuntime, written: Result<Vec<u8>, NoMemory>) -> io::Result<()> {
-    match written {
-        Ok(bytes) => println!(rt;
-            "{}",
-            std::str::from_utf8(bytes.as_slice()).unwrap_or("no text")
-        ),
-        Err(_) => println!(rt; "no memory"),
+fn one_replica(alloc: Global, replica: &str) -> TextList {
+    let mut replicas = TextList::new(alloc);
+    if let Ok(text) = Text::from_str(alloc, replica) {
+        let _ = replicas.push(text);
     }
+    replicas
+}
+
+fn print_both(rt: &HostRuntime, own: &LabelSet, external: &LabelSet, replicas: &TextList) {
+    let mut out = Vec::new(rt.alloc());
+    if let Ok(labels) = final_labels(rt.alloc(), own, external, replicas) {
+        let _ = labels.write(&mut out);
+    }
+    if let Ok(labels) = reduced(rt.alloc(), own, external, replicas) {
+        let _ = labels.write(&mut out);
+    }
+    say_text(rt, out.as_slice());
 }
 
 /// The set that a text begins with, or the set without labels.
@@ -49,26 +73,4 @@ pub(crate) fn set_of(alloc: Global, text: &str) -> LabelSet {
         Ok((labels, _)) => labels,
         Err(_) => LabelSet::empty(alloc),
     }
-}
-
-fn written_set(alloc: Global, labels: &LabelSet) -> Result<Vec<u8>, NoMemory> {
-    let mut out = Vec::new(alloc);
-    labels.copy()?.write(&mut out)?;
-    Ok(out)
-}
-
-fn final_and_reduced(
-    alloc: Global,
-    own: &str,
-    external: &str,
-    replica: &str,
-) -> Result<Vec<u8>, NoMemory> {
-    let own = set_of(alloc, own);
-    let external = set_of(alloc, external);
-    let mut replicas = TextList::new(alloc);
-    replicas.push(Text::from_str(alloc, replica)?)?;
-    let mut out = Vec::new(alloc);
-    final_labels(alloc, &own, &external, &replicas)?.write(&mut out)?;
-    reduced(alloc, &own, &external, &replicas)?.write(&mut out)?;
-    Ok(out)
 }

@@ -1,9 +1,9 @@
 use crate::metas::copies::print_copy;
 use crate::metas::server_metas::print_server_meta;
+use crate::says::{put, say};
 use block_meta::{DeletionMark, Meta, MetaRefusal};
 use list_core::{NoMemory, TryCopy};
-use std::alloc::{AllocError, Global};
-use std::io;
+use std::alloc::Global;
 use wire_bytes::Blob;
 
 /// A lawful meta without its last brace.
@@ -14,33 +14,42 @@ const LAWFUL: &str =
 const LAWFUL_MARK: &str = r#"{"version":1,"id":"0000000000000000000000000A","deletion_time":1800"#;
 
 /// Prints what a text is.
-pub(crate) fn print_call(rt: &HostRuntime, kind: &str, text: &str) -> io::Result<()> {
+pub(crate) fn print_call(rt: &HostRuntime, kind: &str, text: &str) {
     match kind {
-        "meta" => print_meta(rt, text.as_bytes()),
-        "mark" => print_mark(rt, text.as_bytes()),
-        "meta+" => print_meta(rt, with_members(rt.alloc(), LAWFUL, text)?.as_bytes()),
-        "mark+" => print_mark(rt, with_members(rt.alloc(), LAWFUL_MARK, text)?.as_bytes()),
+        "meta" | "mark" => print_text(rt, kind, text.as_bytes()),
+        "meta+" => print_longer(rt, "meta", LAWFUL, text),
+        "mark+" => print_longer(rt, "mark", LAWFUL_MARK, text),
         "bytes" => print_meta(rt, b"{\"version\":\"\xff\"}"),
         "file" => print_server_meta(rt, text),
         "copy" => print_copy(rt),
-        _ => println!(rt; "no call"),
+        _ => say(rt, "no call"),
     }
 }
 
-/// An object with other members behind the first ones.
-fn with_members(alloc: Global, first: &str, others: &str) -> Result<String, AllocError> {
-    format!(in alloc; "{first},{others}}}")
+/// Prints what an object is with other members behind the first ones.
+fn print_longer(rt: &HostRuntime, kind: &str, first: &str, others: &str) {
+    match format!(in rt.alloc(); "{first},{others}}}") {
+        Ok(text) => print_text(rt, kind, text.as_bytes()),
+        Err(_) => say(rt, "no memory"),
+    }
 }
 
-/// Prints whether a text is a meta, and the text that the meta is written as, or why it is none.
-fn print_meta(rt: &HostRuntime, text: &[u8]) -> io::Result<()> {
+fn print_text(rt: &HostRuntime, kind: &str, text: &[u8]) {
+    match kind {
+        "meta" => print_meta(rt, text),
+        _ => print_mark(rt, text),
+    }
+}
+
+/// Prints whether a text is a meta, and whether its copy is written again as it stood there, or why it is none.
+fn print_meta(rt: &HostRuntime, text: &[u8]) {
     match Meta::read(rt.alloc(), text) {
         Ok(meta) => print_read(rt, text, meta_again(rt.alloc(), &meta)),
         Err(refusal) => print_refusal(rt, &refusal),
     }
 }
 
-fn print_mark(rt: &HostRuntime, text: &[u8]) -> io::Result<()> {
+fn print_mark(rt: &HostRuntime, text: &[u8]) {
     match DeletionMark::read(rt.alloc(), text) {
         Ok(mark) => print_read(rt, text, mark_again(rt.alloc(), &mark)),
         Err(refusal) => print_refusal(rt, &refusal),
@@ -48,26 +57,33 @@ fn print_mark(rt: &HostRuntime, text: &[u8]) -> io::Result<()> {
 }
 
 fn meta_again(alloc: Global, meta: &Meta) -> Result<Blob, NoMemory> {
-    meta.copy()?.write(alloc)
+    match meta.copy() {
+        Ok(copy) => copy.write(alloc),
+        Err(_) => Err(NoMemory),
+    }
 }
 
 fn mark_again(alloc: Global, mark: &DeletionMark) -> Result<Blob, NoMemory> {
-    mark.copy()?.write(alloc)
+    match mark.copy() {
+        Ok(copy) => copy.write(alloc),
+        Err(_) => Err(NoMemory),
+    }
 }
 
 /// Prints that a text was read, and whether it was written again as it stood there.
-fn print_read(rt: &HostRuntime, text: &[u8], again: Result<Blob, NoMemory>) -> io::Result<()> {
+fn print_read(rt: &HostRuntime, text: &[u8], again: Result<Blob, NoMemory>) {
     match again {
-        Ok(again) if again.bytes() == text => println!(rt; "read, and written again"),
-        Ok(_) => println!(rt; "read"),
-        Err(_) => println!(rt; "no memory"),
+        Ok(again) if again.bytes() == text => say(rt, "read, and written again"),
+        Ok(_) => say(rt, "read"),
+        Err(_) => say(rt, "no memory"),
     }
 }
 
 /// Prints the case of a refusal, and the field that it names.
-pub(crate) fn print_refusal(rt: &HostRuntime, refusal: &MetaRefusal) -> io::Result<()> {
+pub(crate) fn print_refusal(rt: &HostRuntime, refusal: &MetaRefusal) {
     let (case, field) = case_of(refusal);
-    println!(rt; "{case}{field}")
+    put(rt, case);
+    say(rt, field);
 }
 
 fn case_of(refusal: &MetaRefusal) -> (&'static str, &str) {

@@ -1,7 +1,5 @@
-use chunk_files::{ChunkRefusal, SegmentRefusal, SegmentWriter, read_chunk, take_chunk};
-use std::alloc::Global;
-use std::io;
-use wire_bytes::Blob;
+use crate::says::{cut, say, say_hex, show};
+use chunk_files::{ChunkRefusal, SegmentWriter, read_chunk, take_chunk};
 
 /// A segment file as Prometheus 2.42 wrote it, with a chunk of two samples and one of three.
 const STORED: [u8; 61] = [
@@ -12,55 +10,50 @@ const STORED: [u8; 61] = [
 ];
 
 /// Prints the data of the chunk at a place of a segment: the text is the place and the segment's bytes.
-pub(crate) fn print_chunk_at(rt: &HostRuntime, text: &str) -> io::Result<()> {
-    let (place, bytes) = text.split_once(' ').unwrap_or((text, ""));
-    let place = place.parse::<u64>().unwrap_or(0);
+pub(crate) fn print_chunk_at(rt: &HostRuntime, text: &str) {
+    let (place, bytes) = cut(text);
     match hex::decode(rt.alloc(), bytes) {
-        Ok(bytes) => print_lent(rt, read_chunk(&bytes, place)),
-        Err(_) => println!(rt; "no bytes"),
+        Ok(bytes) => print_lent(rt, read_chunk(&bytes, place.parse().unwrap_or(0))),
+        Err(_) => say(rt, "no bytes"),
     }
 }
 
 /// Prints the data of the chunk in front of bytes.
-pub(crate) fn print_front(rt: &HostRuntime, text: &str) -> io::Result<()> {
+pub(crate) fn print_front(rt: &HostRuntime, text: &str) {
     match hex::decode(rt.alloc(), text) {
         Ok(bytes) => print_lent(rt, take_chunk(&bytes)),
-        Err(_) => println!(rt; "no bytes"),
+        Err(_) => say(rt, "no bytes"),
     }
 }
 
-fn print_lent(rt: &HostRuntime, lent: Result<&[u8], ChunkRefusal>) -> io::Result<()> {
+fn print_lent(rt: &HostRuntime, lent: Result<&[u8], ChunkRefusal>) {
     match lent {
-        Ok(content) => println!(rt; "{}", hex::encode(rt.alloc(), content)?.as_str()),
-        Err(refusal) => println!(rt; "{refusal:?}"),
+        Ok(content) => say_hex(rt, content),
+        Err(refusal) => show(rt, &refusal),
     }
 }
 
 /// Prints the segment that is written of the data of some chunks.
-pub(crate) fn print_segment(rt: &HostRuntime, texts: &str) -> io::Result<()> {
-    match segment_of(rt.alloc(), texts) {
-        Ok(segment) => println!(rt; "{}", hex::encode(rt.alloc(), segment.bytes())?.as_str()),
-        Err(refusal) => println!(rt; "{refusal:?}"),
-    }
-}
-
-fn segment_of(alloc: Global, texts: &str) -> Result<Blob, SegmentRefusal> {
-    let mut writer = SegmentWriter::new(alloc)?;
+pub(crate) fn print_segment(rt: &HostRuntime, texts: &str) {
+    let Ok(empty) = SegmentWriter::new(rt.alloc()) else {
+        return say(rt, "no memory");
+    };
+    let mut writer = empty;
     for text in texts.split(' ') {
-        if let Ok(content) = hex::decode(alloc, text) {
-            writer.append(&content)?;
+        if let Ok(content) = hex::decode(rt.alloc(), text) {
+            let _ = writer.append(&content);
         }
     }
-    Ok(writer.finish())
+    say_hex(rt, writer.finish().bytes());
 }
 
 /// Prints at how many places of the first chunk's encoding, data and sum the sum refuses a changed bit.
-pub(crate) fn print_changes(rt: &HostRuntime) -> io::Result<()> {
+pub(crate) fn print_changes(rt: &HostRuntime) {
     let mut count = 0u32;
     for place in 9usize..33 {
         count = count.saturating_add(u32::from(is_refused_by_sum(place)));
     }
-    println!(rt; "changed bits of a chunk that its sum refuses: {count}")
+    let _ = println!(rt; "changed bits of a chunk that its sum refuses: {count}");
 }
 
 fn is_refused_by_sum(place: usize) -> bool {
