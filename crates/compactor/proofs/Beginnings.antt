@@ -12,22 +12,22 @@ use Rattle.world_core.specs.declared.act.Act.TheVariants as act
 use Rattle.group_planner.specs.Members.{ulids_of}
 use Rattle.compactor.specs.Compactions.{read_ends, merging, compacting}
 use Rattle.world_core.specs.Parts.{PartThen, HandsOn}
-use Rattle.compactor.specs.Marking.{marking}
-use Rattle.compactor.specs.Reading.{reads_block, reads_blocks}
-use Rattle.compactor.specs.MarkStates as marks
-use Rattle.compactor.specs.ReadStates as reads
+use Rattle.block_marking.specs.Marking.{marking}
+use Rattle.compaction_inputs.specs.Reading.{reads_block, reads_blocks}
+use Rattle.block_marking.specs.MarkStates as marks
+use Rattle.compaction_inputs.specs.ReadStates as reads
 use Rattle.compactor.specs.CompactStates.{may_compact, asked_compact, Begins, groups_left, after_reads}
 use Rattle.compactor.specs.declared.compact.Compact.{Compact}
 use Rattle.compactor.specs.declared.compact_end.CompactEnd.{CompactEnd}
 use Rattle.compactor.specs.declared.compact_end.CompactEnd.TheVariants.{Fault}
-use Rattle.compactor.specs.declared.marks.Marks.{Marks}
-use Rattle.compactor.specs.declared.marks_end.MarksEnd.{MarksEnd}
-use Rattle.compactor.specs.declared.marks_end.MarksEnd.TheVariants as marked
-use Rattle.compactor.specs.declared.reads.Reads.{Reads}
-use Rattle.compactor.specs.declared.reads_end.ReadsEnd.{ReadsEnd}
-use Rattle.compactor.specs.declared.reason.Reason.{Reason}
-use Rattle.compactor.proofs.MarkSteps.{marks_then}
-use Rattle.compactor.proofs.ReadSteps.{reads_then}
+use Rattle.block_marking.specs.declared.marks.Marks.{Marks}
+use Rattle.block_marking.specs.declared.marks_end.MarksEnd.{MarksEnd}
+use Rattle.block_marking.specs.declared.marks_end.MarksEnd.TheVariants as marked
+use Rattle.compaction_inputs.specs.declared.reads.Reads.{Reads}
+use Rattle.compaction_inputs.specs.declared.reads_end.ReadsEnd.{ReadsEnd}
+use Rattle.block_marking.specs.declared.reason.Reason.{Reason}
+use Rattle.block_marking.proofs.MarkSteps.{marks_then}
+use Rattle.compaction_inputs.proofs.ReadSteps.{reads_then}
 use Rattle.compactor.proofs.CompactSteps.{whole_runs, goes_begins, part_asks, part_ends}
 
 module _ (old part : Marks) (reason : Reason) (ulids : List ℕ) (next : MarksEnd → Plan CompactEnd) (fails : (n : ℕ) → next (marked.Fault n) ≡ ends (Fault n)) (keeps : Keeps (marks.left_of old) (marks.marks_of reason 0 ulids)) where

@@ -1,13 +1,4 @@
-mod LastNamed
-mod MarkSteps
-mod ReadSteps
 mod JobRuns
-mod Expired
-mod PutTogether
-mod Refusing
-mod MergedInputs
-mod TwoPlanned
-mod ReadRooms
 mod CompactCounts
 mod CompactSteps
 mod Beginnings

@@ -17,14 +17,14 @@ use Rattle.meta_fetcher.specs.declared.sync_end.SyncEnd.{SyncEnd}
 use Rattle.group_planner.specs.declared.group.Group.{Group}
 use Rattle.compactor.specs.Compactions.{last_number, after_upload, merging, compacting_groups, after_sync}
 use Rattle.world_core.specs.Parts.{PartThen}
-use Rattle.compactor.specs.Marking.{marking}
-use Rattle.compactor.specs.MarkStates as marks
-use Rattle.compactor.specs.ReadStates as reads
-use Rattle.compactor.specs.declared.reason.Reason.TheVariants.{Covered, Compacted, Expired}
-use Rattle.compactor.specs.declared.marks_end.MarksEnd.{MarksEnd}
-use Rattle.compactor.specs.declared.marks_end.MarksEnd.TheVariants as marked
-use Rattle.compactor.specs.declared.reads_end.ReadsEnd.{ReadsEnd}
-use Rattle.compactor.specs.declared.reads_end.ReadsEnd.TheVariants as read
+use Rattle.block_marking.specs.Marking.{marking}
+use Rattle.block_marking.specs.MarkStates as marks
+use Rattle.compaction_inputs.specs.ReadStates as reads
+use Rattle.block_marking.specs.declared.reason.Reason.TheVariants.{Covered, Compacted, Expired}
+use Rattle.block_marking.specs.declared.marks_end.MarksEnd.{MarksEnd}
+use Rattle.block_marking.specs.declared.marks_end.MarksEnd.TheVariants as marked
+use Rattle.compaction_inputs.specs.declared.reads_end.ReadsEnd.{ReadsEnd}
+use Rattle.compaction_inputs.specs.declared.reads_end.ReadsEnd.TheVariants as read
 use Rattle.compactor.specs.declared.stage.Stage.{Stage}
 use Rattle.compactor.specs.declared.stage.Stage.TheVariants.{Syncing, Collecting, Reading, Uploading, Retiring, Expiring, Over}
 use Rattle.compactor.specs.declared.compact.Compact.{Compact}

@@ -3,22 +3,8 @@
 
 mod compact;
 mod compact_end;
-mod found;
-mod input;
-mod input_files;
-mod job;
 mod laws;
-mod mark_stage;
-mod marks;
-mod marks_end;
-mod merging;
-mod named;
 mod new_block;
-mod new_mark;
-mod read_stage;
-mod reads;
-mod reads_end;
-mod reason;
 mod stage;
 mod sync_rules;
 

@@ -1,5 +1,5 @@
-use crate::marks::Marks;
-use crate::reads::Reads;
+use block_marking::Marks;
+use compaction_inputs::Reads;
 use label_sets::LabelSet;
 use meta_fetcher::Sync;
 use shipper::Upload;

@@ -9,12 +9,12 @@ use std::alloc::Global;
 use std::io;
 use world_core::{Driven, Hand, Op, WorldHand, drive};
 
-/// The rules by which all compactions here go: the standard ones, with one replica label.
-fn rules(alloc: Global) -> Result<Rules, NoMemory>
-    ensures { IfOk result (λ rules. rules.page_limit ≡ 1000) }
+/// The rules by which all compactions here go: the standard ones, with one replica label and pages of so many names.
+pub(crate) fn rules(alloc: Global, page_limit: u32) -> Result<Rules, NoMemory>
+    ensures { IfOk result (λ rules. rules.page_limit ≡ page_limit) }
 {
     let mut rules = Rules::standard(alloc);
-    rules.page_limit = 1000;
+    rules.page_limit = page_limit;
     rules.replicas.push(Text::from_str(alloc, "replica")?)?;
     Ok(rules)
 }
@@ -45,7 +45,7 @@ fn compacted(
     retention: Option<Span>,
     stop: Option<u32>,
 ) -> Result<Driven<CompactEnd>, NoMemory> {
-    let mut compact = Compact::start(alloc, &rules(alloc)?, retention)?;
+    let mut compact = Compact::start(alloc, &rules(alloc, 1000)?, retention)?;
     Ok(drive(&mut compact, hand, stop))
 }
 

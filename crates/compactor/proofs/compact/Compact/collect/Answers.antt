@@ -1,9 +1,10 @@
 use Rattle.std.proofs.Common.{refl, ◌+◌, ◌*◌, ◌^◌, length, arith}
 use Rattle.compactor.specs.CompactStates.{after_covered}
-use Rattle.compactor.specs.MarkStates.{count_of}
-use Rattle.compactor.specs.declared.reason.Reason.TheVariants.{Covered}
+use Rattle.block_marking.specs.MarkStates.{count_of}
+use Rattle.block_marking.specs.declared.reason.Reason.TheVariants.{Covered}
 use Rattle.compactor.proofs.Beginnings.{marks_ask, marks_end}
-use Rattle.compactor.proofs.CompactCounts.{marks_few, part_under}
+use Rattle.block_marking.proofs.MarkRooms.{marks_few}
+use Rattle.compactor.proofs.CompactCounts.{part_under}
 use Rattle.world_core.proofs.LeadSteps.{falls_more}
 use Rattle.compactor.proofs.compact.Compact.collect.Goals as goal
 

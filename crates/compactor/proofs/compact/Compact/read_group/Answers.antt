@@ -1,8 +1,9 @@
 use Rattle.std.proofs.Common.{refl, [], ◌+◌, ◌*◌, length, arith}
-use Rattle.compactor.specs.ReadStates.{count_of}
+use Rattle.compaction_inputs.specs.ReadStates.{count_of}
 use Rattle.compactor.proofs.Beginnings.{reads_ask, reads_end}
 use Rattle.compactor.proofs.CompactBegins.{fits_first}
-use Rattle.compactor.proofs.CompactCounts.{reads_few, part_under}
+use Rattle.compaction_inputs.proofs.ReadCounts.{reads_few}
+use Rattle.compactor.proofs.CompactCounts.{part_under}
 use Rattle.world_core.proofs.LeadSteps.{falls_more}
 use Rattle.compactor.proofs.compact.Compact.read_group.Goals as goal
 

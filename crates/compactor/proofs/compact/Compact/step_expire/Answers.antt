@@ -1,6 +1,6 @@
 use Rattle.std.proofs.Common.{Ok, refl, [], ◌∷◌, arith}
 use Rattle.world_core.specs.Operations.{entry_of}
-use Rattle.compactor.specs.MarkStates.{may_mark, asked_mark, count_of}
+use Rattle.block_marking.specs.MarkStates.{may_mark, asked_mark, count_of}
 use Rattle.world_core.specs.declared.act.Act.TheVariants as act
 use Rattle.compactor.specs.CompactStates.{after_expired}
 use Rattle.compactor.proofs.CompactCounts.{asks_falls}

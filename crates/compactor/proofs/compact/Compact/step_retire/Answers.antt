@@ -1,6 +1,6 @@
 use Rattle.std.proofs.Common.{refl, [], ◌∷◌, ◌+◌, ◌*◌, length, arith}
 use Rattle.world_core.specs.Operations.{entry_of}
-use Rattle.compactor.specs.MarkStates.{may_mark, asked_mark, count_of}
+use Rattle.block_marking.specs.MarkStates.{may_mark, asked_mark, count_of}
 use Rattle.compactor.specs.CompactStates.{after_retired}
 use Rattle.compactor.proofs.CompactCounts.{asks_falls, level_falls}
 use Rattle.compactor.proofs.CompactSteps.{part_asks, part_ends, part_stops}
