@@ -2,6 +2,7 @@ mod JobRuns
 mod CompactCounts
 mod CompactSteps
 mod Beginnings
+mod MarksLeft
 mod Uploading
 mod Rounds
 mod AfterMerge
