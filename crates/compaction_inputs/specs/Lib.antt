@@ -7,9 +7,7 @@ pub mod InputFiles
 pub mod ReadRoom
 pub mod ReadStates
 pub use Rattle.world_core.specs.Plans
-pub use Rattle.group_planner.specs.Plans
 pub use Rattle.block_content.specs.ContentReading
 pub use Rattle.block_content.specs.ContentRefusals
 pub use Rattle.vertical_merge.specs.Compacted
-pub use Rattle.block_merging.specs.Inputs
 pub use Rattle.block_merging.specs.MergedBlock
