@@ -10,8 +10,8 @@ use Rattle.world_core.specs.declared.seen.Seen.{Seen}
 use Rattle.world_core.specs.declared.act.Act.{Act}
 use Rattle.world_core.specs.Leads.{after_entry, LeadsBy}
 use Rattle.block_marking.specs.NewMarks.{new_mark_text}
-use Rattle.block_marking.specs.Marking.{details_of, marking}
-use Rattle.block_marking.specs.MarkStates.{marks_of, left_at, left_of, may_mark, asked_at, asked_mark}
+use Rattle.block_marking.specs.Marking.{details_of, marking, marks_of}
+use Rattle.block_marking.specs.MarkStates.{left_at, left_of, may_mark, asked_at, asked_mark}
 use Rattle.block_marking.specs.declared.reason.Reason.{Reason}
 use Rattle.block_marking.specs.declared.mark_stage.MarkStage.{MarkStage}
 use Rattle.block_marking.specs.declared.mark_stage.MarkStage.TheVariants.{Fresh, Looking, Putting}

@@ -1,22 +1,19 @@
--- What is left of a marking in each of its states.
+-- What is left of a marking in each of its states. The machine's steps alone speak of this. What a marking is from its start on,
+-- Marking says.
 use Rattle.std.specs.Prelude.{◌≡◌, ℕ, ◌+◌, ◌*◌, List, ◌∷◌, length, Option, Some, None}
 use Rattle.block_keys.specs.declared.key.Key.TheVariants as key
-use Rattle.world_core.specs.Plans.{Plan, Runs, ends, puts}
+use Rattle.world_core.specs.Plans.{Plan, Runs, puts}
 use Rattle.world_core.specs.declared.op.Op.{Op}
 use Rattle.world_core.specs.declared.op.Op.TheVariants as op
 use Rattle.world_core.specs.declared.entry.Entry.{Entry}
 use Rattle.block_marking.specs.NewMarks.{new_mark_text}
-use Rattle.block_marking.specs.Marking.{details_of, marking}
+use Rattle.block_marking.specs.Marking.{details_of, marks_of}
 use Rattle.block_marking.specs.declared.reason.Reason.{Reason}
 use Rattle.block_marking.specs.declared.mark_stage.MarkStage.{MarkStage}
 use Rattle.block_marking.specs.declared.mark_stage.MarkStage.TheVariants.{Fresh, Looking, Putting}
 use Rattle.block_marking.specs.declared.marks.Marks.{Marks}
 use Rattle.block_marking.specs.declared.marks_end.MarksEnd.{MarksEnd}
-use Rattle.block_marking.specs.declared.marks_end.MarksEnd.TheVariants.{Done, Fault}
-
--- the marking of these blocks, after so many marks
-abbrev pub marks_of : Reason → ℕ → List ℕ → Plan MarksEnd
-marks_of reason put ulids = marking Fault reason put ulids (λ all. ends (Done all))
+use Rattle.block_marking.specs.declared.marks_end.MarksEnd.TheVariants.{Fault}
 
 -- the put of a block's mark, and then the marking of the blocks that wait
 abbrev pub put_of : Reason → ℕ → List ℕ → ℕ → List ℕ → Plan MarksEnd

@@ -1,10 +1,12 @@
 ghost use Rattle.std.specs.Prelude.{◌≡◌, ◌+◌, ◌-◌, ◌*◌, ◌^◌, ◌<◌, ℕ, List, length, Option, Some, IsSomeAnd};
 ghost use Rattle.world_core.specs.Machines.{Falls};
 ghost use Rattle.world_core.specs.Operations.{IsAnswer, entry_of};
-ghost use Rattle.world_core.specs.Plans.{Keeps};
+ghost use Rattle.world_core.specs.Plans.{Runs};
 ghost use Rattle.world_core.specs.declared.op.Op.{Op};
+ghost use Rattle.world_core.specs.declared.entry.Entry.{Entry};
 ghost use Rattle.world_core.specs.Leads.{after_entry, LeadsBy};
 ghost use Rattle.block_marking.specs.MarkCounts.{held};
+ghost use Rattle.block_marking.specs.declared.marks_end.MarksEnd.{MarksEnd};
 
 use crate::mark_stage::MarkStage;
 use crate::marks_end::MarksEnd;
@@ -32,13 +34,15 @@ pub struct Marks {
 }
 
 impl Marks {
-    ghost use Rattle.block_marking.specs.MarkStates.{IsFresh, marks_of, put_of, left_at, left_of, asked_mark, count_at, count_of};
+    ghost use Rattle.block_marking.specs.Marking.{marks_of};
+    ghost use Rattle.block_marking.specs.MarkStates.{left_at, left_of, asked_mark, count_of};
 
     /// Begins the marking of these blocks.
     pub fn start(alloc: Global, reason: Reason, ulids: VecDeque<Ulid>) -> Marks
-        ensures begun { IsFresh result }
-        ensures plan { Keeps (left_of result) (marks_of reason 0 ulids.items) }
-        ensures count { count_of result ≡ 2 * length ulids.items + 1 }
+        ensures begun { ⟦<Marks as Machine>⟧.fresh result }
+        ensures run { (entries : List Entry) (end : Option MarksEnd) (last : Marks)
+            → ⟦<Marks as Machine>⟧.may result entries end last
+            → Runs (marks_of reason 0 ulids.items) entries end }
     {
         Marks {
             alloc,

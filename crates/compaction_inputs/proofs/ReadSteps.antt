@@ -15,8 +15,8 @@ use Rattle.world_core.specs.declared.act.Act.{Act}
 use Rattle.world_core.specs.declared.act.Act.TheVariants as act
 use Rattle.world_core.specs.Leads.{after_entry, LeadsBy}
 use Rattle.compaction_inputs.specs.Named.{named_segments}
-use Rattle.compaction_inputs.specs.Reading.{ReadEnds, read_at, reads, reads_segments, after_index, reads_block, reads_blocks}
-use Rattle.compaction_inputs.specs.ReadStates.{read_ends, all_read, blocks_after, block_of, input_of, segments_of, segment_of, left_at, left_of, may_read, asked_at, asked_read, Fits}
+use Rattle.compaction_inputs.specs.Reading.{ReadEnds, read_at, reads, reads_segments, after_index, reads_block, reads_blocks, read_ends, all_read, blocks_after, block_of}
+use Rattle.compaction_inputs.specs.ReadStates.{input_of, segments_of, segment_of, left_at, left_of, may_read, asked_at, asked_read, Fits}
 use Rattle.compaction_inputs.specs.declared.input.Input.{Input}
 use Rattle.compaction_inputs.specs.declared.input.Read.{Read}
 use Rattle.compaction_inputs.specs.declared.read_stage.ReadStage.{ReadStage}

@@ -1,4 +1,5 @@
--- What is left of the reads of blocks in each of their states.
+-- What is left of the reads of blocks in each of their states. The machine's steps alone speak of this. What the reads are from
+-- their start on, Reading says.
 use Rattle.std.specs.Prelude.{◌≡◌, ℕ, ◌+◌, ◌*◌, ◌<◌, ◌≤◌, ◌^◌, List, [], ◌∷◌, ◌++◌, length, Option, Some, None, Result, Ok, Err}
 use Rattle.std.specs.List.{AllByRecursion}
 use Rattle.list_core.specs.declared.memory.NoMemory.{NoMemory}
@@ -10,7 +11,7 @@ use Rattle.world_core.specs.declared.op.Op.TheVariants as op
 use Rattle.world_core.specs.declared.entry.Entry.{Entry}
 use Rattle.world_core.specs.declared.act.Act.{Act}
 use Rattle.world_core.specs.declared.act.Act.TheVariants as act
-use Rattle.compaction_inputs.specs.Reading.{ReadEnds, read_at, reads, reads_segments, reads_block, reads_blocks}
+use Rattle.compaction_inputs.specs.Reading.{read_at, reads, reads_segments, read_ends, blocks_after, block_of}
 use Rattle.compaction_inputs.specs.Inputs.{HasFew}
 use Rattle.compaction_inputs.specs.declared.input.Input.{Input}
 use Rattle.compaction_inputs.specs.declared.input.Read.{Read}
@@ -20,25 +21,6 @@ use Rattle.compaction_inputs.specs.declared.reads.Reads.{Reads}
 use Rattle.compaction_inputs.specs.declared.reads_end.Gathered.{Gathered}
 use Rattle.compaction_inputs.specs.declared.reads_end.ReadsEnd.{ReadsEnd}
 use Rattle.compaction_inputs.specs.declared.reads_end.ReadsEnd.TheVariants as read
-
-abbrev pub read_ends : ReadEnds ReadsEnd
-read_ends = record { fault = read.Fault; missing = read.Missing; damaged = read.Damaged }
-
--- all was read, the last object at that entry
-abbrev pub all_read : List Input → Entry → Plan ReadsEnd
-all_read inputs last = ends (read.Done (record { inputs = inputs; number = last.seq; moment = last.moment }))
-
--- the reads of the blocks that wait, after those that gave these inputs
-abbrev pub blocks_of : List Input → List Meta → Entry → Plan ReadsEnd
-blocks_of inputs waiting last = reads_blocks read_ends inputs last waiting all_read
-
--- the same after one more
-abbrev pub blocks_after : List Input → List Meta → Input → Entry → Plan ReadsEnd
-blocks_after inputs waiting input last = blocks_of (inputs ++ input ∷ []) waiting last
-
--- the reads of a block, and of those that wait
-abbrev pub block_of : List Input → List Meta → Meta → Plan ReadsEnd
-block_of inputs waiting meta = reads_block read_ends meta (blocks_after inputs waiting)
 
 -- what follows the segments of a block
 abbrev pub input_of : List Input → List Meta → Input → List Read → Entry → Plan ReadsEnd

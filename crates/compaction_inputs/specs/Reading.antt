@@ -8,6 +8,8 @@ use Rattle.world_core.specs.declared.entry.Entry.{Entry}
 use Rattle.compaction_inputs.specs.Named.{named_segments}
 use Rattle.compaction_inputs.specs.declared.input.Input.{Input}
 use Rattle.compaction_inputs.specs.declared.input.Read.{Read}
+use Rattle.compaction_inputs.specs.declared.reads_end.ReadsEnd.{ReadsEnd}
+use Rattle.compaction_inputs.specs.declared.reads_end.ReadsEnd.TheVariants as read
 
 -- how an activity ends at a read
 pub record ReadEnds (E : Type 0) : Type 0 where
@@ -45,3 +47,24 @@ reads_block ways meta next = reads ways (key.Index meta.ulid) (λ e bytes. after
 abbrev pub reads_blocks : {E : Type 0} → ReadEnds E → List Input → Entry → List Meta → (List Input → Entry → Plan E) → Plan E
 reads_blocks ways inputs last [] next = next inputs last
 reads_blocks ways inputs last (meta ∷ metas) next = reads_block ways meta (λ input e. reads_blocks ways (inputs ++ input ∷ []) e metas next)
+
+-- ---- the same by themselves
+
+abbrev pub read_ends : ReadEnds ReadsEnd
+read_ends = record { fault = read.Fault; missing = read.Missing; damaged = read.Damaged }
+
+-- all was read, the last object at that entry
+abbrev pub all_read : List Input → Entry → Plan ReadsEnd
+all_read inputs last = ends (read.Done (record { inputs = inputs; number = last.seq; moment = last.moment }))
+
+-- the reads of the blocks that wait, after those that gave these inputs
+abbrev pub blocks_of : List Input → List Meta → Entry → Plan ReadsEnd
+blocks_of inputs waiting last = reads_blocks read_ends inputs last waiting all_read
+
+-- the same after one more
+abbrev pub blocks_after : List Input → List Meta → Input → Entry → Plan ReadsEnd
+blocks_after inputs waiting input last = blocks_of (inputs ++ input ∷ []) waiting last
+
+-- the reads of a block, and of those that wait
+abbrev pub block_of : List Input → List Meta → Meta → Plan ReadsEnd
+block_of inputs waiting meta = reads_block read_ends meta (blocks_after inputs waiting)

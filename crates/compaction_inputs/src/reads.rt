@@ -1,12 +1,13 @@
 ghost use Rattle.std.specs.Prelude.{◌≡◌, ◌+◌, ◌*◌, ◌≤◌, ◌<◌, ◌^◌, ℕ, List, [], ◌∷◌, ◌++◌, length, Option, Some, IfOk, IsSomeAnd};
 ghost use Rattle.world_core.specs.Machines.{Falls};
 ghost use Rattle.world_core.specs.Operations.{IsAnswer, entry_of};
-ghost use Rattle.world_core.specs.Plans.{Keeps};
+ghost use Rattle.world_core.specs.Plans.{Runs};
 ghost use Rattle.world_core.specs.declared.op.Op.{Op};
 ghost use Rattle.world_core.specs.declared.entry.Entry.{Entry};
 ghost use Rattle.block_keys.specs.declared.key.Key.TheVariants as key;
 ghost use Rattle.world_core.specs.Leads.{after_entry, LeadsBy};
 ghost use Rattle.compaction_inputs.specs.ReadRoom.{last_segment, most_segments, others_of};
+ghost use Rattle.compaction_inputs.specs.declared.reads_end.ReadsEnd.{ReadsEnd};
 
 use crate::input::{Input, InputList, Read, ReadList};
 use crate::named::named_segments;
@@ -36,14 +37,16 @@ pub struct Reads {
 }
 
 impl Reads {
-    ghost use Rattle.compaction_inputs.specs.ReadStates.{IsFresh, block_of, blocks_of, segments_of, left_at, left_of, asked_read, count_of, Fits};
+    ghost use Rattle.compaction_inputs.specs.Reading.{block_of, blocks_of};
+    ghost use Rattle.compaction_inputs.specs.ReadStates.{segments_of, left_at, left_of, asked_read, count_of, Fits};
 
     /// Begins the reads of a block and of those behind it, of which there is one at least.
     pub fn start(alloc: Global, first: Meta, others: VecDeque<Meta>) -> Reads
         requires many { 1 ≤ length others.items }
-        ensures begun { IsFresh result }
-        ensures plan { Keeps (left_of result) (block_of [] others.items first) }
-        ensures count { count_of result ≡ 1_000_000 * length others.items + 1_000_001 }
+        ensures begun { ⟦<Reads as Machine>⟧.fresh result }
+        ensures run { (entries : List Entry) (end : Option ReadsEnd) (last : Reads)
+            → ⟦<Reads as Machine>⟧.may result entries end last
+            → Runs (block_of [] others.items first) entries end }
     {
         Reads {
             alloc,

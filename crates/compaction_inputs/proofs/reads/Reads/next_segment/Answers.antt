@@ -3,7 +3,8 @@ use Rattle.block_keys.specs.Keys.{IsLawfulKey}
 use Rattle.world_core.specs.Plans.{Runs}
 use Rattle.world_core.specs.declared.op.Op.TheVariants as op
 use Rattle.world_core.specs.Leads.{LeadsBy}
-use Rattle.compaction_inputs.specs.ReadStates.{blocks_of, segments_of, left_of, asked_read}
+use Rattle.compaction_inputs.specs.Reading.{blocks_of}
+use Rattle.compaction_inputs.specs.ReadStates.{segments_of, left_of, asked_read}
 use Rattle.compaction_inputs.specs.ReadRoom.{others_of}
 use Rattle.compaction_inputs.proofs.ReadRooms.{pushed_few, pushed_many}
 use Rattle.world_core.proofs.LeadSteps.{falls_more}

@@ -11,7 +11,7 @@ use Rattle.compactor.proofs.compact.Compact.expire.Goals as goal
 
 pub returns-in-Do-clause-leads : goal.returns-in-Do-clause-leads
 returns-in-Do-clause-leads c =
-    marks_ask c.start-marks.result c.first.new.self Expired c.args.self.now.expired.items (after_expired c.args.self.now) (λ n. refl) (rw c.replace-expired.ensures.value at c.start-marks.ensures.plan)
+    marks_ask c.start-marks.result c.first.new.self Expired c.args.self.now.expired.items (after_expired c.args.self.now) (λ n. refl) (rw c.replace-expired.ensures.value at c.start-marks.ensures.run)
     _ c.in-Do.op _ c.in-Do.is refl (λ entries end run. run) (λ entries end run. run) c.in_ok-act.ensures
 
 pub returns-in-Do-clause-falls : goal.returns-in-Do-clause-falls
@@ -19,5 +19,5 @@ returns-in-Do-clause-falls c = part_under 1 2 (count_of c.first.new.self) (omega
 
 pub returns-in-Done-clause-leads : goal.returns-in-Done-clause-leads
 returns-in-Done-clause-leads c =
-    marks_end c.start-marks.result c.first.new.self Expired c.args.self.now.expired.items (after_expired c.args.self.now) (λ n. refl) (rw c.replace-expired.ensures.value at c.start-marks.ensures.plan)
+    marks_end c.start-marks.result c.first.new.self Expired c.args.self.now.expired.items (after_expired c.args.self.now) (λ n. refl) (rw c.replace-expired.ensures.value at c.start-marks.ensures.run)
     _ c.in-Done.end (Ok (act.Done c.last_end.result)) c.args.self.now c.in-Done.is c.in_ok-act.ensures c.last_end.ensures

@@ -10,7 +10,7 @@ use Rattle.compactor.proofs.compact.Compact.mark.Goals as goal
 
 pub returns-in-Do-clause-leads : goal.returns-in-Do-clause-leads
 returns-in-Do-clause-leads c =
-    marks_ask c.start-marks.result c.first.new.self c.args.reason c.args.ulids.items (after_marks c.args.reason c.args.self.now) (fails c.args.reason c.args.self.now) c.start-marks.ensures.plan
+    marks_ask c.start-marks.result c.first.new.self c.args.reason c.args.ulids.items (after_marks c.args.reason c.args.self.now) (fails c.args.reason c.args.self.now) c.start-marks.ensures.run
     _ c.in-Do.op _ c.in-Do.is refl (λ entries end run. run) (λ entries end run. run) c.in_ok-act.ensures
 
 pub returns-in-Do-clause-falls : goal.returns-in-Do-clause-falls
@@ -19,7 +19,7 @@ returns-in-Do-clause-falls c =
 
 pub returns-in-Done-clause-leads : goal.returns-in-Done-clause-leads
 returns-in-Done-clause-leads c =
-    marks_end c.start-marks.result c.first.new.self c.args.reason c.args.ulids.items (after_marks c.args.reason c.args.self.now) (fails c.args.reason c.args.self.now) c.start-marks.ensures.plan
+    marks_end c.start-marks.result c.first.new.self c.args.reason c.args.ulids.items (after_marks c.args.reason c.args.self.now) (fails c.args.reason c.args.self.now) c.start-marks.ensures.run
     _ c.in-Done.end c.after_marks.result c.after_marks.new.self c.in-Done.is c.in_ok-act.ensures c.after_marks.ensures.leads
 
 pub returns-in-Done-clause-falls : goal.returns-in-Done-clause-falls
