@@ -1,5 +1,5 @@
 -- How many operations a marking asks for.
-use Rattle.std.proofs.Common.{ℕ, ◌+◌, ◌*◌, ◌^◌, ◌<◌, length, arith}
+use Rattle.std.proofs.Common.{ℕ, ◌+◌, ◌^◌, ◌<◌, length, arith}
 use Rattle.block_marking.specs.MarkCounts.{held}
 use Rattle.block_marking.specs.MarkStates.{count_at, count_of}
 use Rattle.block_marking.specs.declared.mark_stage.MarkStage.{MarkStage}

@@ -1,5 +1,5 @@
 -- How many operations the reads of blocks ask for.
-use Rattle.std.proofs.Common.{ℕ, ◌+◌, ◌*◌, ◌^◌, ◌<◌, ◌≤◌, length, arith}
+use Rattle.std.proofs.Common.{ℕ, ◌^◌, ◌<◌, ◌≤◌, length, arith}
 use Rattle.compaction_inputs.specs.ReadRoom.{last_segment}
 use Rattle.compaction_inputs.specs.ReadStates.{count_at, count_of}
 use Rattle.compaction_inputs.specs.declared.read_stage.ReadStage.{ReadStage}

@@ -1,12 +1,12 @@
 -- A plan that is not empty has two blocks at least.
-use Rattle.std.proofs.Common.{◌≡◌, ◌≢◌, ◌⊎◌, ◌≤◌, ◌&&◌, ◌==◌, ℕ, Bool, true, false, nat_le, if◌then◌else◌, List, [], ◌∷◌, length, find, Option, Some, None, inl, inr, refl, sym, ap, subst, ◌∙◌, arith}
+use Rattle.std.proofs.Common.{◌≡◌, ◌⊎◌, ◌≤◌, ◌&&◌, ◌==◌, Bool, true, false, nat_le, if◌then◌else◌, List, [], ◌∷◌, length, find, Option, Some, None, inl, inr, refl, sym, ap, subst, ◌∙◌, arith}
 use Rattle.std.specs.Option.{option_map_or}
 use Rattle.std.proofs.lemmas.Bool.{leb-true}
 use Rattle.list_core.proofs.Lists.{find_passes, length-some, nil_not_cons}
 use Rattle.block_meta.specs.declared.meta.Meta.{Meta}
 use Rattle.group_planner.specs.Overlaps.{IsOverlapPlan}
 use Rattle.group_planner.specs.Plans.{IsPlan, without_last}
-use Rattle.group_planner.specs.Selections.{IsSelection, Candidate, is_wanted, is_due, last_of, last_begin}
+use Rattle.group_planner.specs.Selections.{IsSelection, Candidate, is_wanted, last_begin}
 
 left_of_both : (a b : Bool) → (a && b) ≡ true → a ≡ true
 left_of_both true b e = refl

@@ -10,4 +10,4 @@ mod sync_rules;
 
 pub use compact::Compact;
 pub use compact_end::CompactEnd;
-pub use laws::{compactions_begin_with_a_sync, groups_are_counted};
+pub use laws::{compactions_begin_with_a_sync, compactions_have_one_end, groups_are_counted};

@@ -21,6 +21,8 @@ pub(crate) fn print_op(rt: &HostRuntime, op: &Op) -> io::Result<()> {
         Op::RootPage(_, _) => print!(rt; " P"),
         Op::Get(key) => print_key(rt, "", key),
         Op::Put(key, _) => print_key(rt, "+", key),
+        Op::Delete(key) => print_key(rt, "-", key),
+        Op::BlockPage(ulid, after, _) => print!(rt; " p{}{}", letter(*ulid), after.as_str()),
         _ => print!(rt; " other"),
     }
 }

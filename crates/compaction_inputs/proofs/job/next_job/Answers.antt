@@ -1,4 +1,4 @@
-use Rattle.std.proofs.Common.{◌≤◌, ap, length, subst, arith}
+use Rattle.std.proofs.Common.{ap, length, subst, arith}
 use Rattle.compaction_inputs.specs.Jobs.{IsFor}
 use Rattle.compaction_inputs.proofs.SkippedGroups.{skips_more}
 use Rattle.compaction_inputs.proofs.job.next_job.Goals as goal
