@@ -7,13 +7,13 @@ use Rattle.world_core.specs.Plans.{Plan, Runs, ends, finds, IsAtMostOne}
 use Rattle.world_core.specs.declared.act.Act.{Act}
 use Rattle.compactor.specs.Compactions.{after_merge, merging}
 use Rattle.compactor.specs.CompactStates.{Begins, groups_left}
-use Rattle.compactor.specs.Merges.{IsMerging}
+use Rattle.compaction_inputs.specs.Merges.{IsMerging}
 use Rattle.compactor.specs.NewBlocks.{new_ulid}
-use Rattle.compactor.specs.OneMerge.{one_merging}
+use Rattle.compaction_inputs.proofs.OneMerge.{one_merging}
 use Rattle.compactor.specs.declared.compact.Compact.{Compact}
 use Rattle.compactor.specs.declared.compact_end.CompactEnd.{CompactEnd}
-use Rattle.compactor.specs.declared.input.Input.{Input}
-use Rattle.compactor.specs.declared.merging.Merging.{Merging}
+use Rattle.compaction_inputs.specs.declared.input.Input.{Input}
+use Rattle.compaction_inputs.specs.declared.merging.Merging.{Merging}
 use Rattle.compactor.proofs.CompactSteps.{begins_as}
 
 -- a call goes on from the only one that is such

@@ -1,41 +1,41 @@
 -- Parts that begin: their plan, and then what follows.
-use Rattle.std.proofs.Common.{◌≡◌, ℕ, List, [], ◌∷◌, inl, inr, refl, ap, ◌∙◌, Option, Some, None, Result, Ok, Err}
+use Rattle.std.proofs.Common.{◌≡◌, ℕ, List, [], ◌∷◌, refl, ap, ◌∙◌, Option, Result, Ok}
 use Rattle.list_core.specs.declared.memory.NoMemory.{NoMemory}
 use Rattle.label_sets.specs.declared.label.Label.{Label}
 use Rattle.block_meta.specs.declared.meta.Meta.{Meta}
 use Rattle.world_core.specs.Machines.{GoesOn}
-use Rattle.world_core.specs.Plans.{Plan, Runs, Keeps, ends, and_then}
+use Rattle.world_core.specs.Plans.{Plan, Runs, ends, and_then}
 use Rattle.world_core.specs.declared.op.Op.{Op}
 use Rattle.world_core.specs.declared.entry.Entry.{Entry}
 use Rattle.world_core.specs.declared.act.Act.{Act}
 use Rattle.world_core.specs.declared.act.Act.TheVariants as act
 use Rattle.group_planner.specs.Members.{ulids_of}
 use Rattle.compactor.specs.Compactions.{read_ends, merging, compacting}
-use Rattle.world_core.specs.Parts.{PartThen, HandsOn}
-use Rattle.compactor.specs.Marking.{marking}
-use Rattle.compactor.specs.Reading.{reads_block, reads_blocks}
-use Rattle.compactor.specs.MarkStates as marks
-use Rattle.compactor.specs.ReadStates as reads
+use Rattle.world_core.specs.Parts.{PartThen}
+use Rattle.block_marking.specs.Marking.{marking, marks_of}
+use Rattle.compaction_inputs.specs.Reading.{reads_block, reads_blocks, block_of}
+use Rattle.block_marking.specs.MarkStates as marks
+use Rattle.compaction_inputs.specs.ReadStates as reads
 use Rattle.compactor.specs.CompactStates.{may_compact, asked_compact, Begins, groups_left, after_reads}
 use Rattle.compactor.specs.declared.compact.Compact.{Compact}
 use Rattle.compactor.specs.declared.compact_end.CompactEnd.{CompactEnd}
 use Rattle.compactor.specs.declared.compact_end.CompactEnd.TheVariants.{Fault}
-use Rattle.compactor.specs.declared.marks.Marks.{Marks}
-use Rattle.compactor.specs.declared.marks_end.MarksEnd.{MarksEnd}
-use Rattle.compactor.specs.declared.marks_end.MarksEnd.TheVariants as marked
-use Rattle.compactor.specs.declared.reads.Reads.{Reads}
-use Rattle.compactor.specs.declared.reads_end.ReadsEnd.{ReadsEnd}
-use Rattle.compactor.specs.declared.reason.Reason.{Reason}
-use Rattle.compactor.proofs.MarkSteps.{marks_then}
-use Rattle.compactor.proofs.ReadSteps.{reads_then}
+use Rattle.block_marking.specs.declared.marks.Marks.{Marks}
+use Rattle.block_marking.specs.declared.marks_end.MarksEnd.{MarksEnd}
+use Rattle.block_marking.specs.declared.marks_end.MarksEnd.TheVariants as marked
+use Rattle.compaction_inputs.specs.declared.reads.Reads.{Reads}
+use Rattle.compaction_inputs.specs.declared.reads_end.ReadsEnd.{ReadsEnd}
+use Rattle.block_marking.specs.declared.reason.Reason.{Reason}
+use Rattle.block_marking.proofs.MarkSteps.{marks_then}
+use Rattle.compaction_inputs.proofs.ReadSteps.{reads_then}
 use Rattle.compactor.proofs.CompactSteps.{whole_runs, goes_begins, part_asks, part_ends}
 
-module _ (old part : Marks) (reason : Reason) (ulids : List ℕ) (next : MarksEnd → Plan CompactEnd) (fails : (n : ℕ) → next (marked.Fault n) ≡ ends (Fault n)) (keeps : Keeps (marks.left_of old) (marks.marks_of reason 0 ulids)) where
+module _ (old part : Marks) (reason : Reason) (ulids : List ℕ) (next : MarksEnd → Plan CompactEnd) (fails : (n : ℕ) → next (marked.Fault n) ≡ ends (Fault n)) (may_run : (entries : List Entry) (end : Option MarksEnd) (last : Marks) → marks.may_mark old entries end last → Runs (marks_of reason 0 ulids) entries end) where
   abbrev whole : Plan CompactEnd
   whole = marking Fault reason 0 ulids (λ all. next (marked.Done all))
 
   runs : (entries : List Entry) (end : Option CompactEnd) → PartThen marks.may_mark old (λ own came. next came) entries end → Runs whole entries end
-  runs = whole_runs marks.left_of old (marks.marks_of reason 0 ulids) next whole keeps (marks_then Fault next reason 0 ulids fails)
+  runs = whole_runs marks.may_mark old (marks_of reason 0 ulids) next whole may_run (marks_then Fault next reason 0 ulids fails)
 
   -- a marking asks for its first operation
   pub marks_ask : (a : Act MarksEnd) (op : Op) (new : Compact) → a ≡ act.Do op → asked_compact new ≡ marks.asked_mark part
@@ -53,28 +53,20 @@ module _ (old part : Marks) (reason : Reason) (ulids : List ℕ) (next : MarksEn
       goes_begins (PartThen marks.may_mark old (λ own came. next came)) whole r new runs
       (part_ends marks.may_mark marks.asked_mark old part [] (λ own came. next came) a came r new is goes begins)
 
-abbrev plain : Reads → List Entry → Option ReadsEnd → Reads → Type 0
-plain r entries end last = Runs (reads.left_of r) entries end
-
--- the reads of a group's blocks, without what they say of the moment
-unfit : (old : Reads) (next : ReadsEnd → Plan CompactEnd) (entries : List Entry) (end : Option CompactEnd) → PartThen reads.may_read old (λ own came. next came) entries end → PartThen plain old (λ own came. next came) entries end
-unfit old next entries end (inl (broken, none)) = inl ((broken.0, broken.1.0), none)
-unfit old next entries end (inr hands) = inr (record { own = hands.own; others = hands.others; are = hands.are; came = hands.came; last = hands.last; first = hands.first.0; rest = hands.rest })
-
-module _ (c : Compact) (old part : Reads) (labels : List Label) (parents : List ℕ) (first : Meta) (others : List Meta) (are : parents ≡ ulids_of (first ∷ others)) (keeps : Keeps (reads.left_of old) (reads.block_of [] others first)) where
+module _ (c : Compact) (old part : Reads) (labels : List Label) (parents : List ℕ) (first : Meta) (others : List Meta) (are : parents ≡ ulids_of (first ∷ others)) (may_run : (entries : List Entry) (end : Option ReadsEnd) (last : Reads) → reads.may_read old entries end last → Runs (block_of [] others first) entries end) where
   abbrev follows : ReadsEnd → Plan CompactEnd
   follows came = after_reads c labels parents came
 
   abbrev group : Plan CompactEnd
   group = compacting c.replicas labels (groups_left c) (groups_left c) (first ∷ others)
 
-  same : and_then (reads.block_of [] others first) follows ≡ group
+  same : and_then (block_of [] others first) follows ≡ group
   same =
       reads_then read_ends follows (λ n. refl) (λ n. refl) (λ n. refl) others first
       ∙ ap (λ (ulids : List ℕ). reads_block read_ends first (λ input e. reads_blocks read_ends (input ∷ []) e others (λ inputs last. merging c.replicas labels ulids (groups_left c) inputs last.seq last.moment))) are
 
   read_runs : (entries : List Entry) (end : Option CompactEnd) → PartThen reads.may_read old (λ own came. follows came) entries end → Runs group entries end
-  read_runs entries end run = whole_runs reads.left_of old (reads.block_of [] others first) follows group keeps same entries end (unfit old follows entries end run)
+  read_runs = whole_runs reads.may_read old (block_of [] others first) follows group may_run same
 
   -- the reads of a group's blocks ask for their first operation
   pub reads_ask : (a : Act ReadsEnd) (op : Op) (new : Compact) → a ≡ act.Do op → asked_compact new ≡ reads.asked_read part

@@ -17,10 +17,10 @@ use Rattle.meta_fetcher.specs.declared.sync.Sync.{Sync}
 use Rattle.meta_fetcher.specs.declared.sync_end.SyncEnd.{SyncEnd}
 use Rattle.compactor.specs.Compactions.{sync_rules, after_sync, CompactRun}
 use Rattle.world_core.specs.Parts.{PartThen, HandsOn}
-use Rattle.compactor.specs.ReadStates.{may_read, asked_read, FitsEnd}
+use Rattle.compaction_inputs.specs.ReadStates.{may_read, asked_read, FitsEnd}
 use Rattle.compactor.specs.declared.compact_end.CompactEnd.{CompactEnd}
-use Rattle.compactor.specs.declared.reads.Reads.{Reads}
-use Rattle.compactor.specs.declared.reads_end.ReadsEnd.{ReadsEnd}
+use Rattle.compaction_inputs.specs.declared.reads.Reads.{Reads}
+use Rattle.compaction_inputs.specs.declared.reads_end.ReadsEnd.{ReadsEnd}
 use Rattle.compactor.specs.declared.stage.Stage.{Stage}
 use Rattle.compactor.specs.declared.stage.Stage.TheVariants.{Syncing}
 use Rattle.compactor.proofs.SyncParts.{joins}

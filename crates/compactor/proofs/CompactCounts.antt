@@ -13,39 +13,12 @@ use Rattle.shipper.specs.declared.stage.Stage.TheVariants as upload_is
 use Rattle.shipper.specs.declared.upload.Upload.{Upload}
 use Rattle.group_planner.specs.declared.group.Group.{Group}
 use Rattle.compactor.specs.CompactStates.{most_asked, count_at, count_of}
-use Rattle.compactor.specs.Jobs.{Skips, TakesJob}
-use Rattle.compactor.specs.MarkCounts.{held}
-use Rattle.compactor.specs.MarkStates as marks
-use Rattle.compactor.specs.ReadRoom.{last_segment}
-use Rattle.compactor.specs.ReadStates as reads
+use Rattle.compaction_inputs.specs.Jobs.{Skips, TakesJob}
 use Rattle.compactor.specs.declared.compact.Compact.{Compact}
-use Rattle.compactor.specs.declared.job.Job.{Job}
-use Rattle.compactor.specs.declared.mark_stage.MarkStage.{MarkStage}
-use Rattle.compactor.specs.declared.mark_stage.MarkStage.TheVariants.{Fresh, Looking, Putting}
-use Rattle.compactor.specs.declared.marks.Marks.{Marks}
-use Rattle.compactor.specs.declared.read_stage.ReadStage.{ReadStage}
-use Rattle.compactor.specs.declared.read_stage.ReadStage.TheVariants as read_at
-use Rattle.compactor.specs.declared.reads.Reads.{Reads}
+use Rattle.compaction_inputs.specs.declared.job.Job.{Job}
 use Rattle.compactor.specs.declared.stage.Stage.{Stage}
 
--- ---- each part asks for fewer than the most
-
-marks_at : (stage : MarkStage) (put waiting : ℕ) → put + held stage + waiting < 2 ^ 64 → marks.count_at stage waiting < most_asked
-marks_at Fresh put waiting few = omega (arith, few)
-marks_at (Looking ulid) put waiting few = omega (arith, few)
-marks_at (Putting ulid looked) put waiting few = omega (arith, few)
-
-pub marks_few : (m : Marks) → marks.count_of m < most_asked
-marks_few m = marks_at m.stage m.put (length m.waiting.items) m.counted
-
-reads_at : (stage : ReadStage) (waiting : ℕ) → last_segment stage ≤ 999_999 → waiting < 2 ^ 64 → reads.count_at stage waiting < most_asked
-reads_at (read_at.Fresh meta) waiting room few = omega (arith, few)
-reads_at (read_at.Indexing meta) waiting room few = omega (arith, few)
-reads_at (read_at.Segmenting input more) waiting room few = omega (arith, room, few)
-reads_at read_at.Over waiting room few = omega (arith, few)
-
-pub reads_few : (r : Reads) → reads.count_of r < most_asked
-reads_few r = reads_at r.stage (length r.waiting.items) r.room (omega (arith, r.waiting.ok.0, r.waiting.small.0, r.waiting.small.1))
+-- ---- an upload asks for fewer than the most
 
 uploads_at : (stage : uploading.Stage) (objects : List Object) (place : ℕ) → length objects ≤ most_objects → shipped.count_at stage objects place < most_asked
 uploads_at upload_is.Looking objects place few = omega (arith, few)

@@ -15,7 +15,7 @@ use Rattle.compactor.specs.CompactStates.{Onward, may_at, may_compact, asked_at,
 use Rattle.compactor.specs.declared.stage.Stage.{Stage}
 use Rattle.compactor.specs.declared.compact.Compact.{Compact}
 use Rattle.compactor.specs.declared.compact_end.CompactEnd.{CompactEnd}
-use Rattle.world_core.proofs.PlanParts.{goes_on, hands_on, breaks, part_runs}
+use Rattle.world_core.proofs.PlanParts.{goes_on, hands_on, breaks, begun, joined}
 
 -- ---- a part that goes on
 
@@ -88,18 +88,15 @@ answer_in stage old seen is answer = subst (λ (s : Stage). IsSomeAnd (asked_at 
 
 -- ---- a part that begins
 
--- what is left of a part that has begun, and what follows it, is a run of the whole
-pub whole_runs : {M A : Type 0} (left : M → Plan A) (part : M) (first : Plan A) (next : A → Plan CompactEnd) (whole : Plan CompactEnd) → Keeps (left part) first → and_then first next ≡ whole
-    → (entries : List Entry) (end : Option CompactEnd) → PartThen (λ m es a last. Runs (left m) es a) part (λ own came. next came) entries end → Runs whole entries end
-whole_runs left part first next whole keeps same entries end run =
-    subst (λ p. Runs p entries end) same (first_runs entries end (kept run))
-  where
-    kept : PartThen (λ m es a last. Runs (left m) es a) part (λ own came. next came) entries end → PartThen (λ m es a last. Runs first es a) part (λ own came. next came) entries end
-    kept (inl (broken, none)) = inl ((broken.0, keeps entries None broken.1), none)
-    kept (inr hands) = inr (record { own = hands.own; others = hands.others; are = hands.are; came = hands.came; last = hands.last; first = keeps hands.own (Some hands.came) hands.first; rest = hands.rest })
-
-    first_runs : (entries : List Entry) (end : Option CompactEnd) → PartThen (λ m es a last. Runs first es a) part (λ own came. next came) entries end → Runs (and_then first next) entries end
-    first_runs entries end run = part_runs (λ m. first) part next entries end run
+-- what a part may do that has begun, and what follows it, is a run of the whole
+pub whole_runs : {M A : Type 0} (may : M → List Entry → Option A → M → Type 0) (part : M) (first : Plan A) (next : A → Plan CompactEnd) (whole : Plan CompactEnd)
+    → ((entries : List Entry) (end : Option A) (last : M) → may part entries end last → Runs first entries end) → and_then first next ≡ whole
+    → (entries : List Entry) (end : Option CompactEnd) → PartThen may part (λ own came. next came) entries end → Runs whole entries end
+whole_runs may part first next whole runs same entries end (inl (broken, none)) =
+    subst (λ p. Runs p entries end) same (subst (Runs (and_then first next) entries) (sym none) (begun first next entries (runs entries None broken.0 broken.1)))
+whole_runs may part first next whole runs same entries end (inr hands) =
+    subst (λ p. Runs p entries end) same
+    (subst (λ es. Runs (and_then first next) es end) (sym hands.are) (joined first next hands.own hands.others hands.came end (runs hands.own (Some hands.came) hands.last hands.first) hands.rest))
 
 -- what goes on as a part may and what follows it goes on by the plan of both
 pub goes_begins : (follows : Onward) (whole : Plan CompactEnd) (r : Result (Act CompactEnd) NoMemory) (new : Compact) → ((entries : List Entry) (end : Option CompactEnd) → follows entries end → Runs whole entries end)

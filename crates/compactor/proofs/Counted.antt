@@ -1,5 +1,5 @@
 -- A compaction counts the groups that have a plan.
-use Rattle.std.proofs.Common.{◌≡◌, ℕ, zero, suc, ◌+◌, List, [], ◌∷◌, ◌++◌, length, Option, Some, None, refl, sym, subst, arith, inl, inr, zero-add}
+use Rattle.std.proofs.Common.{◌≡◌, ℕ, zero, suc, ◌+◌, List, [], ◌∷◌, ◌++◌, length, Option, Some, None, refl, sym, ap, ◌∙◌, subst, arith, inl, inr, zero-add}
 use Rattle.std.specs.List.{AllByRecursion}
 use Rattle.label_sets.specs.declared.label.Label.{Label}
 use Rattle.block_keys.specs.declared.key.Key.{Key}
@@ -24,20 +24,23 @@ use Rattle.group_planner.specs.Members.{ulids_of}
 use Rattle.group_planner.specs.Plans.{IsPlan}
 use Rattle.group_planner.specs.declared.group.Group.{Group}
 use Rattle.group_planner.proofs.GroupLaws.{one_answer}
-use Rattle.compactor.specs.NewMarks.{new_mark_text}
+use Rattle.block_marking.specs.NewMarks.{new_mark_text}
 use Rattle.compactor.specs.NewBlocks.{new_ulid, block_objects}
-use Rattle.compactor.specs.Marking.{details_of, marking}
-use Rattle.compactor.specs.Named.{named_segments}
-use Rattle.compactor.specs.Reading.{read_at, reads, reads_segments, after_index, reads_block, reads_blocks}
-use Rattle.compactor.specs.declared.input.Input.{Input}
-use Rattle.compactor.specs.declared.input.Read.{Read}
-use Rattle.compactor.specs.declared.reason.Reason.{Reason}
-use Rattle.compactor.specs.declared.reason.Reason.TheVariants.{Covered, Compacted, Expired}
-use Rattle.compactor.specs.declared.merging.Merging.{Merging}
-use Rattle.compactor.specs.declared.merging.Merging.TheVariants as merging_is
+use Rattle.block_marking.specs.Marking.{details_of, marking}
+use Rattle.compaction_inputs.specs.Named.{named_segments}
+use Rattle.compaction_inputs.specs.Reading.{read_at, reads, reads_segments, after_index, reads_block, reads_blocks}
+use Rattle.compaction_inputs.specs.declared.input.Input.{Input}
+use Rattle.compaction_inputs.specs.declared.input.Read.{Read}
+use Rattle.block_marking.specs.declared.reason.Reason.{Reason}
+use Rattle.block_marking.specs.declared.reason.Reason.TheVariants.{Covered, Compacted, Expired}
+use Rattle.compaction_inputs.specs.declared.merging.Merging.{Merging}
+use Rattle.compaction_inputs.specs.declared.merging.Merging.TheVariants as merging_is
 use Rattle.meta_fetcher.specs.OneView.{one_end_of}
-use Rattle.compactor.specs.Counts.{HavePlans, IsCounted}
-use Rattle.compactor.specs.Compactions.{read_ends, last_number, after_upload, after_merge, merging, compacting, compacting_groups, metas_of, names_of, expired_at, rounds, sync_rules, after_sync, CompactRun}
+use Rattle.group_planner.proofs.PlanLaws.{one_plan}
+use Rattle.compaction_inputs.specs.Jobs.{IsUnplanned}
+use Rattle.compactor.specs.Counts.{with_planned, HavePlans, IsCounted}
+use Rattle.block_marking.specs.FoundNames.{names_of, expired_at}
+use Rattle.compactor.specs.Compactions.{read_ends, last_number, after_upload, after_merge, merging, compacting, compacting_groups, metas_of, rounds, sync_rules, after_sync, CompactRun}
 use Rattle.compactor.specs.declared.compact_end.CompactEnd.{CompactEnd}
 use Rattle.compactor.specs.declared.compact_end.CompactEnd.TheVariants.{Done, Fault, Missing}
 
@@ -175,9 +178,25 @@ module _ (all : List Group) where
         (λ collected made found is. subst (λ groups. Ends all made (compact collected groups)) (one_answer replicas (metas_of view.kept) all found are is)
         (groups_end replicas 0 all (λ compacted. finish collected compacted) made (λ n made have. finish_end collected n made have)))
 
+-- ---- none has a plan
+
+none_planned : (groups : List Group) (count : ℕ) → HavePlans groups count → count ≡ 0 → AllByRecursion IsUnplanned groups
+none_planned [] count have none = tt
+none_planned (group ∷ groups) count ([], others, is, have, same) none = (is, none_planned groups others have (sym same ∙ none))
+none_planned (group ∷ groups) count (first ∷ metas, others, is, have, same) none = let more : others + 1 ≡ 0 = sym same ∙ none in absurd (omega (arith, more))
+
+all_unplanned : (groups : List Group) (count : ℕ) → HavePlans groups count → AllByRecursion IsUnplanned groups → count ≡ 0
+all_unplanned [] count have all = have
+all_unplanned (group ∷ groups) count (plan, others, is, have, same) all =
+    same ∙ ap (λ (p : List Meta). with_planned p others) (one_plan group.members plan [] is all.0) ∙ all_unplanned groups others have all.1
+
 module _ (rules : Rules) (retention : Option Span) (entries : List Entry) (collected compacted expired : ℕ) where
   abbrev done : CompactEnd
   done = Done collected compacted expired
+
+  have_plans : (view : View) (others : List Entry) → Runs (rounds rules.replicas retention view) others (Some done) → (groups : List Group) → AreGroups rules.replicas (metas_of view.kept) groups → HavePlans groups compacted
+  have_plans view others run groups are =
+      end_is Any (λ made end. Counts groups end) (rounds rules.replicas retention view) [] others done (rounds_end groups rules.replicas retention view [] are) (all_any others) run
 
   after : (own others : List Entry) (told : Synced × Option Course) (end : SyncEnd) → entries ≡ own ++ others → Runs (sync (sync_rules rules)) own (Some told) → IsEnd (sync_rules rules) told end → Runs (after_sync rules.replicas retention end) others (Some done) → IsCounted rules entries compacted
   after own others told (ended.View view) same first is run = record {
@@ -186,7 +205,8 @@ module _ (rules : Rules) (retention : Option Span) (entries : List Entry) (colle
     are = same;
     view = view;
     synced = (told, first, is);
-    counted = λ groups are. end_is Any (λ made end. Counts groups end) (rounds rules.replicas retention view) [] others done (rounds_end groups rules.replicas retention view [] are) (all_any others) run;
+    counted = have_plans view others run;
+    none = λ groups are. (none_planned groups compacted (have_plans view others run groups are), all_unplanned groups compacted (have_plans view others run groups are));
   }
   after own others told (ended.Fault number) same first is (nil, inl none) = absurd (cc (none))
   after own others told (ended.Fault number) same first is (nil, inr end) = absurd (cc (end))

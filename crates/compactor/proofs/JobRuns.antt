@@ -1,21 +1,12 @@
 -- Groups of which nothing is to be compacted are passed over.
-use Rattle.std.proofs.Common.{◌≡◌, ℕ, ◌+◌, List, [], ◌∷◌, ◌++◌, inr, sym, ap, subst, append_assoc, ◌∙◌}
+use Rattle.std.proofs.Common.{ℕ, ◌+◌, List, [], ◌∷◌, ◌++◌, inr, sym, subst}
 use Rattle.std.specs.List.{AllByRecursion}
-use Rattle.list_core.proofs.Lists.{AllByRecursion-append}
 use Rattle.world_core.specs.Plans.{Plan, Runs, Keeps}
 use Rattle.group_planner.specs.declared.group.Group.{Group}
 use Rattle.compactor.specs.Compactions.{compacting, compacting_groups}
-use Rattle.compactor.specs.Jobs.{IsUnplanned, metas_of, Skips, TakesJob}
-use Rattle.compactor.specs.declared.job.Job.{Job}
+use Rattle.compaction_inputs.specs.Jobs.{IsUnplanned, metas_of, Skips, TakesJob}
+use Rattle.compaction_inputs.specs.declared.job.Job.{Job}
 use Rattle.compactor.specs.declared.compact_end.CompactEnd.{CompactEnd}
-
--- one more group is passed over
-pub skips_more : (all old left : List Group) (group : Group) → Skips all old → old ≡ group ∷ left → IsUnplanned group → Skips all left
-skips_more all old left group skips is none = record {
-  front = skips.front ++ group ∷ [];
-  are = skips.are ∙ ap (λ (l : List Group). skips.front ++ l) is ∙ sym (append_assoc skips.front (group ∷ []) left);
-  unplanned = AllByRecursion-append IsUnplanned skips.front (group ∷ []) skips.unplanned (none, tt);
-}
 
 module _ (replicas : List (List ℕ)) (compacted : ℕ) (next : ℕ → Plan CompactEnd) where
   skip : (front left : List Group) → AllByRecursion IsUnplanned front → Keeps (compacting_groups replicas compacted left next) (compacting_groups replicas compacted (front ++ left) next)

@@ -1,16 +1,8 @@
-mod LastNamed
-mod MarkSteps
-mod ReadSteps
 mod JobRuns
-mod Expired
-mod PutTogether
-mod Refusing
-mod MergedInputs
-mod TwoPlanned
-mod ReadRooms
 mod CompactCounts
 mod CompactSteps
 mod Beginnings
+mod MarksLeft
 mod Uploading
 mod Rounds
 mod AfterMerge

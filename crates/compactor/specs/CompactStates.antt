@@ -17,16 +17,17 @@ use Rattle.meta_fetcher.specs.declared.sync_end.SyncEnd.{SyncEnd}
 use Rattle.group_planner.specs.declared.group.Group.{Group}
 use Rattle.compactor.specs.Compactions.{last_number, after_upload, merging, compacting_groups, after_sync}
 use Rattle.world_core.specs.Parts.{PartThen}
-use Rattle.compactor.specs.Marking.{marking}
-use Rattle.compactor.specs.MarkStates as marks
-use Rattle.compactor.specs.ReadStates as reads
-use Rattle.compactor.specs.declared.reason.Reason.TheVariants.{Covered, Compacted, Expired}
-use Rattle.compactor.specs.declared.marks_end.MarksEnd.{MarksEnd}
-use Rattle.compactor.specs.declared.marks_end.MarksEnd.TheVariants as marked
-use Rattle.compactor.specs.declared.reads_end.ReadsEnd.{ReadsEnd}
-use Rattle.compactor.specs.declared.reads_end.ReadsEnd.TheVariants as read
+use Rattle.block_marking.specs.Marking.{marking}
+use Rattle.block_marking.specs.MarkStates as marks
+use Rattle.compaction_inputs.specs.ReadStates as reads
+use Rattle.block_marking.specs.declared.reason.Reason.{Reason}
+use Rattle.block_marking.specs.declared.reason.Reason.TheVariants.{Covered, Compacted, Expired}
+use Rattle.block_marking.specs.declared.marks_end.MarksEnd.{MarksEnd}
+use Rattle.block_marking.specs.declared.marks_end.MarksEnd.TheVariants as marked
+use Rattle.compaction_inputs.specs.declared.reads_end.ReadsEnd.{ReadsEnd}
+use Rattle.compaction_inputs.specs.declared.reads_end.ReadsEnd.TheVariants as read
 use Rattle.compactor.specs.declared.stage.Stage.{Stage}
-use Rattle.compactor.specs.declared.stage.Stage.TheVariants.{Syncing, Collecting, Reading, Uploading, Retiring, Expiring, Over}
+use Rattle.compactor.specs.declared.stage.Stage.TheVariants.{Syncing, Reading, Uploading, Marking, Over}
 use Rattle.compactor.specs.declared.compact.Compact.{Compact}
 use Rattle.compactor.specs.declared.compact_end.CompactEnd.{CompactEnd}
 use Rattle.compactor.specs.declared.compact_end.CompactEnd.TheVariants.{Done, Fault, Missing, Damaged}
@@ -40,10 +41,6 @@ groups_from replicas expired collected compacted groups =
 
 abbrev pub groups_left : Compact → Plan CompactEnd
 groups_left c = groups_from c.replicas c.expired.items c.collected c.compacted c.groups.items
-
--- the marks of covered blocks, and then the groups that are left
-abbrev pub covered_left : Compact → List ℕ → Plan CompactEnd
-covered_left c covered = marking Fault Covered 0 covered (λ put. groups_from c.replicas c.expired.items put c.compacted c.groups.items)
 
 -- the marks of the expired blocks, where all groups were looked at
 abbrev pub expired_left : Compact → Plan CompactEnd
@@ -79,6 +76,16 @@ abbrev pub after_expired : Compact → MarksEnd → Plan CompactEnd
 after_expired c (marked.Done put) = ends (Done c.collected c.compacted put)
 after_expired c (marked.Fault number) = ends (Fault number)
 
+-- what follows the marks that are put for a reason
+abbrev pub after_marks : Reason → Compact → MarksEnd → Plan CompactEnd
+after_marks Covered c came = after_covered c came
+after_marks Compacted c came = after_retired c came
+after_marks Expired c came = after_expired c came
+
+-- the marks of these blocks, and what follows them
+abbrev pub marks_left : Reason → Compact → List ℕ → Plan CompactEnd
+marks_left reason c ulids = marking Fault reason 0 ulids (λ put. after_marks reason c (marked.Done put))
+
 -- ---- what it may still do
 
 -- what may follow, by entries and an end
@@ -87,11 +94,9 @@ Onward = List Entry → Option CompactEnd → Type 0
 
 abbrev pub may_at : Stage → Compact → Onward
 may_at (Syncing sync) c = PartThen synced.may_sync sync (λ own came. after_sync c.replicas c.retention came)
-may_at (Collecting part) c = PartThen marks.may_mark part (λ own came. after_covered c came)
 may_at (Reading part labels parents) c = PartThen reads.may_read part (λ own came. after_reads c labels parents.items came)
 may_at (Uploading upload parents) c = λ entries end. (noted : Option ℕ) → PartThen shipped.may_upload upload (after_put c parents.items noted) entries end
-may_at (Retiring part) c = PartThen marks.may_mark part (λ own came. after_retired c came)
-may_at (Expiring part) c = PartThen marks.may_mark part (λ own came. after_expired c came)
+may_at (Marking reason part) c = PartThen marks.may_mark part (λ own came. after_marks reason c came)
 may_at Over c = Runs never
 
 abbrev pub may_compact : Compact → List Entry → Option CompactEnd → Compact → Type 0
@@ -100,11 +105,9 @@ may_compact c entries end last = may_at c.stage c entries end
 -- the operation that is waited for
 abbrev pub asked_at : Stage → Option Op
 asked_at (Syncing sync) = synced.asked_sync sync
-asked_at (Collecting part) = marks.asked_mark part
 asked_at (Reading part labels parents) = reads.asked_read part
 asked_at (Uploading upload parents) = shipped.asked_upload upload
-asked_at (Retiring part) = marks.asked_mark part
-asked_at (Expiring part) = marks.asked_mark part
+asked_at (Marking reason part) = marks.asked_mark part
 asked_at Over = None
 
 abbrev pub asked_compact : Compact → Option Op
@@ -142,14 +145,18 @@ Goes follows made (Err none) new = follows made None
 abbrev pub most_asked : ℕ
 most_asked = 2 ^ 100
 
--- so many parts may still follow
+-- so many parts may still follow the marks that are put for a reason, and one more
+abbrev pub level_of : Reason → ℕ → ℕ
+level_of Covered groups = 3 * groups + 2
+level_of Compacted groups = 3 * groups + 2
+level_of Expired groups = 1
+
+-- so many operations may still follow
 abbrev pub count_at : Stage → ℕ → ℕ
 count_at (Syncing sync) groups = most_asked * 2 ^ 70 + synced.count_of sync
-count_at (Collecting part) groups = most_asked * (3 * groups + 2) + marks.count_of part
 count_at (Reading part labels parents) groups = most_asked * (3 * groups + 4) + reads.count_of part
 count_at (Uploading upload parents) groups = most_asked * (3 * groups + 3) + shipped.count_of upload
-count_at (Retiring part) groups = most_asked * (3 * groups + 2) + marks.count_of part
-count_at (Expiring part) groups = most_asked + marks.count_of part
+count_at (Marking reason part) groups = most_asked * level_of reason groups + marks.count_of part
 count_at Over groups = 0
 
 abbrev pub count_of : Compact → ℕ

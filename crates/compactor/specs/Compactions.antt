@@ -2,14 +2,12 @@
 -- plan the reads of the planned blocks, the upload of the block that they become, and their marks; and last the marks of the kept
 -- blocks that had expired when the compaction began.
 use Rattle.std.specs.Prelude.{ℕ, ◌+◌, ◌/◌, pos, negsuc, ◌^◌, ◌-◌, List, [], ◌∷◌, map, Option, Some, None}
-use Rattle.std.specs.List.{filter}
 use Rattle.label_sets.specs.declared.label.Label.{Label}
 use Rattle.block_meta.specs.declared.meta.Meta.{Meta}
 use Rattle.moment_core.specs.declared.moment.Moment.{Moment}
 use Rattle.moment_core.specs.declared.partition.Partition.{Partition}
 use Rattle.moment_core.specs.declared.rules.Rules.{Rules}
 use Rattle.moment_core.specs.declared.span.Span.{Span}
-use Rattle.sync_filters.specs.Filters.{is_expired}
 use Rattle.sync_filters.specs.declared.found.Found.{Found}
 use Rattle.world_core.specs.Plans.{Plan, Runs, ends, never, finds, and_then, noting}
 use Rattle.world_core.specs.declared.entry.Entry.{Entry}
@@ -28,15 +26,16 @@ use Rattle.group_planner.specs.declared.group.Group.{Group}
 use Rattle.group_planner.proofs.GroupLaws.{one_answer}
 use Rattle.group_planner.proofs.PlanLaws.{one_plan}
 use Rattle.compactor.specs.NewBlocks.{new_ulid, block_objects}
-use Rattle.compactor.specs.Marking.{marking}
-use Rattle.compactor.specs.Reading.{ReadEnds, reads_block, reads_blocks}
-use Rattle.compactor.specs.declared.input.Input.{Input}
-use Rattle.compactor.specs.declared.reason.Reason.TheVariants.{Covered, Compacted, Expired}
-use Rattle.compactor.specs.Merges.{IsMerging}
-use Rattle.compactor.specs.declared.merging.Merging.{Merging}
-use Rattle.compactor.specs.declared.merging.Merging.TheVariants as merging_is
+use Rattle.block_marking.specs.FoundNames.{names_of, expired_at}
+use Rattle.block_marking.specs.Marking.{marking}
+use Rattle.compaction_inputs.specs.Reading.{ReadEnds, reads_block, reads_blocks}
+use Rattle.compaction_inputs.specs.declared.input.Input.{Input}
+use Rattle.block_marking.specs.declared.reason.Reason.TheVariants.{Covered, Compacted, Expired}
+use Rattle.compaction_inputs.specs.Merges.{IsMerging}
+use Rattle.compaction_inputs.specs.declared.merging.Merging.{Merging}
+use Rattle.compaction_inputs.specs.declared.merging.Merging.TheVariants as merging_is
 use Rattle.meta_fetcher.specs.OneView.{one_end_of}
-use Rattle.compactor.specs.OneMerge.{one_merging}
+use Rattle.compaction_inputs.proofs.OneMerge.{one_merging}
 use Rattle.compactor.specs.declared.compact_end.CompactEnd.{CompactEnd}
 use Rattle.compactor.specs.declared.compact_end.CompactEnd.TheVariants.{Done, Fault, Missing, Damaged, TooMany, TooLarge}
 
@@ -91,13 +90,6 @@ compacting_groups replicas compacted (group ∷ groups) next =
 
 abbrev pub metas_of : List Found → List Meta
 metas_of blocks = map (λ block. block.meta) blocks
-
-abbrev pub names_of : List Found → List ℕ
-names_of blocks = map (λ block. block.ulid) blocks
-
--- the blocks that had expired at a moment
-abbrev pub expired_at : Option Span → Moment → List Found → List Found
-expired_at retention begun blocks = filter (λ block. is_expired block.meta retention begun) blocks
 
 -- what is done with a view
 abbrev pub rounds : List (List ℕ) → Option Span → View → Plan CompactEnd

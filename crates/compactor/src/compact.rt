@@ -8,24 +8,18 @@ ghost use Rattle.meta_fetcher.specs.SyncStates.{asked_sync, IsFresh as IsFreshSy
 ghost use Rattle.shipper.specs.UploadStates.{asked_upload};
 ghost use Rattle.group_planner.specs.Members.{ulids_of};
 ghost use Rattle.compactor.specs.Compactions.{after_sync as sync_led_to, after_merge, after_upload as upload_led_to, compacting, merging, rounds, CompactRun};
-ghost use Rattle.compactor.specs.Jobs.{metas_of};
-ghost use Rattle.compactor.specs.MarkStates.{asked_mark};
-ghost use Rattle.compactor.specs.ReadStates.{asked_read, FitsEnd, MayMerge};
+ghost use Rattle.compaction_inputs.specs.Jobs.{metas_of};
+ghost use Rattle.block_marking.specs.MarkStates.{asked_mark};
+ghost use Rattle.compaction_inputs.specs.ReadStates.{asked_read, FitsEnd, MayMerge};
 ghost use Rattle.compactor.specs.declared.compact_end.CompactEnd.{CompactEnd};
 
 use crate::CompactEnd;
-use crate::found::{expired_ulids, found_ulids};
-use crate::job::{Job, next_job};
-use crate::marks::Marks;
-use crate::marks_end::MarksEnd;
-use crate::merging::{Merging, merge_inputs};
 use crate::new_block::new_ulid;
-use crate::reads::Reads;
-use crate::reads_end::{Gathered, ReadsEnd};
-use crate::reason::Reason;
 use crate::stage::Stage;
 use crate::sync_rules::sync_rules;
 use block_files::{BlockFiles, files_objects};
+use block_marking::{Marks, MarksEnd, Reason, expired_ulids, found_ulids};
+use compaction_inputs::{Gathered, Job, Merging, Reads, ReadsEnd, merge_inputs, next_job};
 use group_planner::{Group, groups};
 use label_sets::{LabelSet, TextList};
 use list_core::{NoMemory, TryCopy};
@@ -59,15 +53,16 @@ pub struct Compact {
 }
 
 impl Compact {
-    ghost use Rattle.compactor.specs.CompactStates.{IsFresh, may_at, may_compact, Begins, Goes, groups_left, covered_left, expired_left, parents_left, after_covered, after_reads as reads_led_to, after_retired, after_expired, most_asked, count_at, count_of};
+    ghost use Rattle.compactor.specs.CompactStates.{may_at, Begins, Goes, groups_left, expired_left, parents_left, marks_left, after_marks as marks_led_to, after_covered, after_reads as reads_led_to, after_retired, after_expired, most_asked, level_of, count_at, count_of};
 
     /// Begins a compaction by these rules, where blocks are kept for so long, or for ever.
     pub fn start(alloc: Global, rules: &Rules, retention: Option<Span>) -> Result<Compact, NoMemory>
         requires { 1 ≤ rules.now.page_limit }
-        ensures begun { IfOk result IsFresh }
+        ensures begun { IfOk result ⟦<Compact as Machine>⟧.fresh }
         ensures run { IfOk result
-            (λ compact. (entries : List Entry) (end : Option CompactEnd) (last : _)
-            → may_compact compact entries end last → CompactRun rules.now retention entries end) }
+            (λ compact. (entries : List Entry) (end : Option CompactEnd) (last : Compact)
+            → ⟦<Compact as Machine>⟧.may compact entries end last
+            → CompactRun rules.now retention entries end) }
     {
         let replicas = rules.replicas.copy()?;
         let sync = Sync::start(alloc, sync_rules(rules))?;
@@ -142,41 +137,62 @@ impl Compact {
         self.expired = expired;
         self.compacted = 0;
         self.groups = VecDeque::from_vec(found.into_vec());
-        self.collect(covered)
+        self.mark(Reason::Covered, covered)
     }
 
-    /// Begins the marks of the covered blocks.
-    fn collect(&mut self, covered: VecDeque<Ulid>) -> Result<Act<CompactEnd>, NoMemory>
-        ensures leads { Begins (covered_left self.old covered.items) result self.new }
-        ensures falls { Falls (most_asked * 2 ^ 70) result (count_of self.new) }
+    /// Begins the marks of these blocks.
+    fn mark(&mut self, reason: Reason, ulids: VecDeque<Ulid>) -> Result<Act<CompactEnd>, NoMemory>
+        ensures leads { Begins (marks_left reason self.old ulids.items) result self.new }
+        ensures falls { Falls
+            (most_asked * (level_of reason (length self.old.groups.items) + 1)) result
+            (count_of self.new) }
     {
-        let mut marks = Marks::start(self.alloc, Reason::Covered, covered);
+        let mut marks = Marks::start(self.alloc, reason, ulids);
         let act = marks.first()?;
         match act {
             Act::Do(op) => {
-                self.stage = Stage::Collecting(marks);
+                self.stage = Stage::Marking(reason, marks);
                 Ok(Act::Do(op))
             }
-            Act::Done(end) => self.after_collect(end),
+            Act::Done(end) => self.after_marks(reason, end),
         }
     }
 
-    /// Goes on after the reply to an operation of the marks of the covered blocks.
-    fn step_collect(&mut self, mut marks: Marks, seen: Seen) -> Result<Act<CompactEnd>, NoMemory>
+    /// Goes on after the reply to an operation of marks.
+    fn step_marks(
+        &mut self,
+        reason: Reason,
+        mut marks: Marks,
+        seen: Seen,
+    ) -> Result<Act<CompactEnd>, NoMemory>
         requires answer { IsSomeAnd (asked_mark marks) (λ op. IsAnswer op seen) }
         ensures goes_on { (seat : ℕ) (op : Op) → asked_mark marks ≡ Some op
-            → Goes (may_at (Stage.Collecting marks) self.old) (entry_of seat op seen ∷ []) result
-            self.new }
-        ensures falls { Falls (count_at (Stage.Collecting marks) (length self.old.groups.items))
-            result (count_of self.new) }
+            → Goes (may_at (Stage.Marking reason marks) self.old) (entry_of seat op seen ∷ [])
+            result self.new }
+        ensures falls { Falls
+            (count_at (Stage.Marking reason marks) (length self.old.groups.items)) result
+            (count_of self.new) }
     {
         let act = marks.step(seen)?;
         match act {
             Act::Do(op) => {
-                self.stage = Stage::Collecting(marks);
+                self.stage = Stage::Marking(reason, marks);
                 Ok(Act::Do(op))
             }
-            Act::Done(end) => self.after_collect(end),
+            Act::Done(end) => self.after_marks(reason, end),
+        }
+    }
+
+    /// Goes on after marks that were put for this reason.
+    fn after_marks(&mut self, reason: Reason, end: MarksEnd) -> Result<Act<CompactEnd>, NoMemory>
+        ensures leads { Begins (marks_led_to reason self.old end) result self.new }
+        ensures falls { Falls (most_asked * level_of reason (length self.old.groups.items)) result
+            (count_of self.new) }
+    {
+        match reason {
+            Reason::Covered => self.after_collect(end),
+            Reason::Compacted => self.after_retire(end),
+            Reason::Expired => Ok(Act::Done(self.last_end(end))),
         }
     }
 
@@ -371,46 +387,10 @@ impl Compact {
             (count_of self.new) }
     {
         match end {
-            UploadEnd::Done(_) => self.retire(parents),
+            UploadEnd::Done(_) => self.mark(Reason::Compacted, parents),
             // A new block is nowhere before it is uploaded.
             UploadEnd::Already => Ok(Act::Done(CompactEnd::Damaged(number))),
             UploadEnd::Fault(failed) => Ok(Act::Done(CompactEnd::Fault(failed))),
-        }
-    }
-
-    /// Begins the marks of the blocks that were compacted.
-    fn retire(&mut self, parents: VecDeque<Ulid>) -> Result<Act<CompactEnd>, NoMemory>
-        ensures leads { Begins (parents_left self.old parents.items) result self.new }
-        ensures falls { Falls (most_asked * (3 * length self.old.groups.items + 3)) result
-            (count_of self.new) }
-    {
-        let mut marks = Marks::start(self.alloc, Reason::Compacted, parents);
-        let act = marks.first()?;
-        match act {
-            Act::Do(op) => {
-                self.stage = Stage::Retiring(marks);
-                Ok(Act::Do(op))
-            }
-            Act::Done(end) => self.after_retire(end),
-        }
-    }
-
-    /// Goes on after the reply to an operation of the marks of compacted blocks.
-    fn step_retire(&mut self, mut marks: Marks, seen: Seen) -> Result<Act<CompactEnd>, NoMemory>
-        requires answer { IsSomeAnd (asked_mark marks) (λ op. IsAnswer op seen) }
-        ensures goes_on { (seat : ℕ) (op : Op) → asked_mark marks ≡ Some op
-            → Goes (may_at (Stage.Retiring marks) self.old) (entry_of seat op seen ∷ []) result
-            self.new }
-        ensures falls { Falls (count_at (Stage.Retiring marks) (length self.old.groups.items))
-            result (count_of self.new) }
-    {
-        let act = marks.step(seen)?;
-        match act {
-            Act::Do(op) => {
-                self.stage = Stage::Retiring(marks);
-                Ok(Act::Do(op))
-            }
-            Act::Done(end) => self.after_retire(end),
         }
     }
 
@@ -436,26 +416,7 @@ impl Compact {
         let act = marks.first()?;
         match act {
             Act::Do(op) => {
-                self.stage = Stage::Expiring(marks);
-                Ok(Act::Do(op))
-            }
-            Act::Done(end) => Ok(Act::Done(self.last_end(end))),
-        }
-    }
-
-    /// Goes on after the reply to an operation of the marks of expired blocks.
-    fn step_expire(&mut self, mut marks: Marks, seen: Seen) -> Result<Act<CompactEnd>, NoMemory>
-        requires answer { IsSomeAnd (asked_mark marks) (λ op. IsAnswer op seen) }
-        ensures goes_on { (seat : ℕ) (op : Op) → asked_mark marks ≡ Some op
-            → Goes (may_at (Stage.Expiring marks) self.old) (entry_of seat op seen ∷ []) result
-            self.new }
-        ensures falls { Falls (count_at (Stage.Expiring marks) (length self.old.groups.items))
-            result (count_of self.new) }
-    {
-        let act = marks.step(seen)?;
-        match act {
-            Act::Do(op) => {
-                self.stage = Stage::Expiring(marks);
+                self.stage = Stage::Marking(Reason::Expired, marks);
                 Ok(Act::Do(op))
             }
             Act::Done(end) => Ok(Act::Done(self.last_end(end))),
@@ -502,11 +463,9 @@ impl Machine for Compact {
         let stage = mem::replace(&mut self.stage, Stage::Over);
         match stage {
             Stage::Syncing(sync) => self.step_sync(sync, seen),
-            Stage::Collecting(marks) => self.step_collect(marks, seen),
             Stage::Reading(reads, labels, parents) => self.step_reads(reads, labels, parents, seen),
             Stage::Uploading(upload, parents) => self.step_upload(upload, parents, seen),
-            Stage::Retiring(marks) => self.step_retire(marks, seen),
-            Stage::Expiring(marks) => self.step_expire(marks, seen),
+            Stage::Marking(reason, marks) => self.step_marks(reason, marks, seen),
             Stage::Over => unreachable!(),
         }
     }

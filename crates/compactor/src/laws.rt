@@ -1,5 +1,5 @@
 //! Laws of compactions.
-ghost use Rattle.std.specs.Prelude.{ℕ, List, Option, Some};
+ghost use Rattle.std.specs.Prelude.{◌≡◌, ℕ, List, ◌∷◌, ◌++◌, Option, Some};
 ghost use Rattle.moment_core.specs.declared.rules.Rules.{Rules};
 ghost use Rattle.moment_core.specs.declared.span.Span.{Span};
 ghost use Rattle.world_core.specs.declared.entry.Entry.{Entry};
@@ -17,6 +17,18 @@ pub fn compactions_begin_with_a_sync()
     ensures joins { (rules : Rules) (retention : Option Span) (entries : List Entry)
         (end : Option CompactEnd) → BeginsWithSync rules retention entries end
         → CompactRun rules retention entries end }
+{}
+
+/// A law: entries fix a compaction's end, and the operation that comes next: after the same entries two compactions ask for the same
+/// one, whose bytes are the same too.
+pub fn compactions_have_one_end()
+    ensures end { (rules : Rules) (retention : Option Span) (entries : List Entry)
+        (end other : CompactEnd) → CompactRun rules retention entries (Some end)
+        → CompactRun rules retention entries (Some other) → end ≡ other }
+    ensures next { (rules : Rules) (retention : Option Span) (before : List Entry)
+        (next other : Entry) (rest others : List Entry) (end last : Option CompactEnd)
+        → CompactRun rules retention (before ++ next ∷ rest) end
+        → CompactRun rules retention (before ++ other ∷ others) last → next.op ≡ other.op }
 {}
 
 /// A law: a compaction that is done has compacted each group of its own sync that has a plan, and counts these groups. So it has

@@ -1,5 +1,5 @@
-use crate::marks::Marks;
-use crate::reads::Reads;
+use block_marking::{Marks, Reason};
+use compaction_inputs::Reads;
 use label_sets::LabelSet;
 use meta_fetcher::Sync;
 use shipper::Upload;
@@ -11,16 +11,12 @@ use ulid_core::Ulid;
 pub(crate) enum Stage {
     /// It syncs.
     Syncing(Sync),
-    /// It marks the covered blocks.
-    Collecting(Marks),
     /// It reads blocks of a group, which has these labels and these blocks.
     Reading(Reads, LabelSet, VecDeque<Ulid>),
     /// It uploads the block that these become.
     Uploading(Upload, VecDeque<Ulid>),
-    /// It marks the blocks that were compacted into another.
-    Retiring(Marks),
-    /// It marks the expired blocks.
-    Expiring(Marks),
+    /// It marks blocks for this reason, which tells what follows.
+    Marking(Reason, Marks),
     /// It has come to its end.
     Over,
 }

@@ -1,16 +1,17 @@
 use Rattle.std.proofs.Common.{Ok, refl, ◌+◌, ◌*◌, ◌^◌, length, arith}
 use Rattle.world_core.specs.declared.act.Act.TheVariants as act
 use Rattle.compactor.specs.CompactStates.{after_expired}
-use Rattle.compactor.specs.MarkStates.{count_of}
-use Rattle.compactor.specs.declared.reason.Reason.TheVariants.{Expired}
+use Rattle.block_marking.specs.MarkStates.{count_of}
+use Rattle.block_marking.specs.declared.reason.Reason.TheVariants.{Expired}
 use Rattle.compactor.proofs.Beginnings.{marks_ask, marks_end}
-use Rattle.compactor.proofs.CompactCounts.{marks_few, part_under}
+use Rattle.block_marking.proofs.MarkRooms.{marks_few}
+use Rattle.compactor.proofs.CompactCounts.{part_under}
 use Rattle.world_core.proofs.LeadSteps.{falls_more}
 use Rattle.compactor.proofs.compact.Compact.expire.Goals as goal
 
 pub returns-in-Do-clause-leads : goal.returns-in-Do-clause-leads
 returns-in-Do-clause-leads c =
-    marks_ask c.start-marks.result c.first.new.self Expired c.args.self.now.expired.items (after_expired c.args.self.now) (λ n. refl) (rw c.replace-expired.ensures.value at c.start-marks.ensures.plan)
+    marks_ask c.start-marks.result c.first.new.self Expired c.args.self.now.expired.items (after_expired c.args.self.now) (λ n. refl) (rw c.replace-expired.ensures.value at c.start-marks.ensures.run)
     _ c.in-Do.op _ c.in-Do.is refl (λ entries end run. run) (λ entries end run. run) c.in_ok-act.ensures
 
 pub returns-in-Do-clause-falls : goal.returns-in-Do-clause-falls
@@ -18,5 +19,5 @@ returns-in-Do-clause-falls c = part_under 1 2 (count_of c.first.new.self) (omega
 
 pub returns-in-Done-clause-leads : goal.returns-in-Done-clause-leads
 returns-in-Done-clause-leads c =
-    marks_end c.start-marks.result c.first.new.self Expired c.args.self.now.expired.items (after_expired c.args.self.now) (λ n. refl) (rw c.replace-expired.ensures.value at c.start-marks.ensures.plan)
+    marks_end c.start-marks.result c.first.new.self Expired c.args.self.now.expired.items (after_expired c.args.self.now) (λ n. refl) (rw c.replace-expired.ensures.value at c.start-marks.ensures.run)
     _ c.in-Done.end (Ok (act.Done c.last_end.result)) c.args.self.now c.in-Done.is c.in_ok-act.ensures c.last_end.ensures

@@ -1,8 +1,9 @@
 use Rattle.std.proofs.Common.{refl, [], ◌+◌, ◌*◌, length, arith}
-use Rattle.compactor.specs.ReadStates.{count_of}
+use Rattle.compaction_inputs.specs.ReadStates.{count_of}
 use Rattle.compactor.proofs.Beginnings.{reads_ask, reads_end}
 use Rattle.compactor.proofs.CompactBegins.{fits_first}
-use Rattle.compactor.proofs.CompactCounts.{reads_few, part_under}
+use Rattle.compaction_inputs.proofs.ReadCounts.{reads_few}
+use Rattle.compactor.proofs.CompactCounts.{part_under}
 use Rattle.world_core.proofs.LeadSteps.{falls_more}
 use Rattle.compactor.proofs.compact.Compact.read_group.Goals as goal
 
@@ -11,7 +12,7 @@ after_reads-requires c = record { fits = fits_first c.start-reads.result c.first
 
 pub returns-in-Do-clause-leads : goal.returns-in-Do-clause-leads
 returns-in-Do-clause-leads c =
-    reads_ask c.args.self.now c.start-reads.result c.first.new.self c.args.job.labels c.args.job.parents.items c.args.job.first c.args.job.others.items c.requires.parents c.start-reads.ensures.plan
+    reads_ask c.args.self.now c.start-reads.result c.first.new.self c.args.job.labels c.args.job.parents.items c.args.job.first c.args.job.others.items c.requires.parents c.start-reads.ensures.run
     _ c.in-Do.op _ c.in-Do.is refl (λ entries end run. run) (λ entries end run. run) c.in_ok-act.ensures
 
 pub returns-in-Do-clause-falls : goal.returns-in-Do-clause-falls
@@ -19,7 +20,7 @@ returns-in-Do-clause-falls c = part_under (3 * length c.args.self.now.groups.ite
 
 pub returns-in-Done-clause-leads : goal.returns-in-Done-clause-leads
 returns-in-Done-clause-leads c =
-    reads_end c.args.self.now c.start-reads.result c.first.new.self c.args.job.labels c.args.job.parents.items c.args.job.first c.args.job.others.items c.requires.parents c.start-reads.ensures.plan
+    reads_end c.args.self.now c.start-reads.result c.first.new.self c.args.job.labels c.args.job.parents.items c.args.job.first c.args.job.others.items c.requires.parents c.start-reads.ensures.run
     _ c.in-Done.end c.after_reads.result c.after_reads.new.self c.in-Done.is c.in_ok-act.ensures c.after_reads.ensures.leads
 
 pub returns-in-Done-clause-falls : goal.returns-in-Done-clause-falls

@@ -1,6 +1,6 @@
 use Rattle.std.proofs.Common.{refl, [], ◌∷◌, ◌+◌, ◌*◌, length, arith}
 use Rattle.world_core.specs.Operations.{entry_of}
-use Rattle.compactor.specs.ReadStates.{may_read, asked_read, count_of}
+use Rattle.compaction_inputs.specs.ReadStates.{may_read, asked_read, count_of}
 use Rattle.compactor.specs.CompactStates.{after_reads}
 use Rattle.compactor.proofs.CompactBegins.{fits_step}
 use Rattle.compactor.proofs.CompactCounts.{asks_falls, level_falls}

@@ -1,0 +1,3 @@
+pub mod MarkSteps
+pub mod MarkRooms
+mod Expired

@@ -1,0 +1,16 @@
+-- How many operations a marking asks for.
+use Rattle.std.proofs.Common.{ℕ, ◌+◌, ◌^◌, ◌<◌, length, arith}
+use Rattle.block_marking.specs.MarkCounts.{held}
+use Rattle.block_marking.specs.MarkStates.{count_at, count_of}
+use Rattle.block_marking.specs.declared.mark_stage.MarkStage.{MarkStage}
+use Rattle.block_marking.specs.declared.mark_stage.MarkStage.TheVariants.{Fresh, Looking, Putting}
+use Rattle.block_marking.specs.declared.marks.Marks.{Marks}
+
+marks_at : (stage : MarkStage) (put waiting : ℕ) → put + held stage + waiting < 2 ^ 64 → count_at stage waiting < 2 ^ 100
+marks_at Fresh put waiting few = omega (arith, few)
+marks_at (Looking ulid) put waiting few = omega (arith, few)
+marks_at (Putting ulid looked) put waiting few = omega (arith, few)
+
+-- they are fewer than so many
+pub marks_few : (m : Marks) → count_of m < 2 ^ 100
+marks_few m = marks_at m.stage m.put (length m.waiting.items) m.counted

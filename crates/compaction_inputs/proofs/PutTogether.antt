@@ -1,0 +1,89 @@
+-- The files of blocks that were read, put together one after another.
+use Rattle.std.proofs.Common.{◌≡◌, ℕ, zero, suc, List, [], ◌∷◌, ◌++◌, ◌<◌, ◌≤◌, map, length, get_or, refl, sym, ap, subst, ◌∙◌, arith}
+use Rattle.std.specs.List.{AllByRecursion, AllZip}
+use Rattle.list_core.proofs.Lists.{AllByRecursion-push}
+use Rattle.reading_core.specs.Grammar.{IsBytes}
+use Rattle.block_files.specs.declared.block_files.BlockFiles.{BlockFiles}
+use Rattle.compaction_inputs.specs.Inputs.{IsInput, HasFew}
+use Rattle.compaction_inputs.specs.InputFiles.{numbers_of, AreFiles, AreSegments}
+use Rattle.compaction_inputs.specs.declared.input.Input.{Input}
+use Rattle.compaction_inputs.specs.declared.input.Read.{Read}
+use Rattle.compaction_inputs.specs.declared.input_files.Numbers.{Numbers}
+
+map_more : {A B : Type 0} (f : A → B) (xs : List A) (x : A) → map f (xs ++ x ∷ []) ≡ map f xs ++ f x ∷ []
+map_more f [] x = refl
+map_more f (y ∷ ys) x = ap (λ l. f y ∷ l) (map_more f ys x)
+
+-- a list that is read member by member, one more
+more : {A B : Type 0} (f : A → B) (xs : List A) (x : A) (ys new : List B) → ys ≡ map f xs → new ≡ ys ++ f x ∷ [] → new ≡ map f (xs ++ x ∷ [])
+more f xs x ys new are is = is ∙ ap (λ l. l ++ f x ∷ []) are ∙ sym (map_more f xs x)
+
+-- ---- segments
+
+pub segments_more : (segments : List Read) (files new_files : List (List ℕ)) (numbers new_numbers : List ℕ) (segment : Read) → AreSegments segments files numbers
+    → new_files ≡ files ++ segment.bytes ∷ [] → new_numbers ≡ numbers ++ segment.number ∷ [] → IsBytes segment.bytes → AreSegments (segments ++ segment ∷ []) new_files new_numbers
+segments_more segments files new_files numbers new_numbers segment are added numbered bytes = record {
+  files_are = more (λ (s : Read). s.bytes) segments segment files new_files are.files_are added;
+  numbers_are = more (λ (s : Read). s.number) segments segment numbers new_numbers are.numbers_are numbered;
+  bytes = subst (AllByRecursion IsBytes) (sym added) (AllByRecursion-push IsBytes files segment.bytes are.bytes bytes);
+}
+
+pub no_segments : (files : List (List ℕ)) (numbers : List ℕ) → files ≡ [] → numbers ≡ [] → AreSegments [] files numbers
+no_segments files numbers none empty = record { files_are = none; numbers_are = empty; bytes = subst (AllByRecursion IsBytes) (sym none) tt }
+
+pub segments_all : (segments yielded : List Read) (files : List (List ℕ)) (numbers : List ℕ) → map (λ (x : Read). x) yielded ≡ segments → AreSegments yielded files numbers → AreSegments segments files numbers
+segments_all segments yielded files numbers all are = subst (λ l. AreSegments l files numbers) (sym (same_map yielded) ∙ all) are
+  where
+    same_map : (xs : List Read) → map (λ (x : Read). x) xs ≡ xs
+    same_map [] = refl
+    same_map (x ∷ xs) = ap (λ l. x ∷ l) (same_map xs)
+
+pub few_segments : (segments : List Read) (files : List (List ℕ)) (numbers : List ℕ) → AreSegments segments files numbers → length segments ≤ 999_999 → length files ≤ 999_999
+few_segments segments files numbers are few = omega (arith, few, ap length are.files_are, same_length segments)
+  where
+    same_length : (xs : List Read) → length (map (λ (s : Read). s.bytes) xs) ≡ length xs
+    same_length [] = refl
+    same_length (x ∷ xs) = ap (λ n. suc n) (same_length xs)
+
+pub input_is : (input : Input) (block : BlockFiles) (numbers : List ℕ) → block.meta ≡ input.meta → block.index ≡ input.index.bytes → IsBytes input.index.bytes
+    → AreSegments input.segments block.segments numbers → IsInput input block
+input_is input block numbers meta index bytes are = record {
+  meta = meta;
+  index = index;
+  segments = are.files_are;
+  bytes = record { index = subst IsBytes (sym index) bytes; segments = are.bytes };
+}
+
+-- ---- blocks
+
+zip_more : {A B : Type 0} (P : A → B → Type 0) (xs : List A) (ys : List B) (x : A) (y : B) → AllZip P xs ys → P x y → AllZip P (xs ++ x ∷ []) (ys ++ y ∷ [])
+zip_more P [] [] x y are is = (is, tt)
+zip_more P [] (b ∷ bs) x y are is = absurd are
+zip_more P (a ∷ xs) [] x y are is = absurd are
+zip_more P (a ∷ xs) (b ∷ ys) x y are is = (are.0, zip_more P xs ys x y are.1 is)
+
+pub files_more : (inputs : List Input) (blocks new_blocks : List BlockFiles) (numbers new_numbers : List Numbers) (input : Input) (block : BlockFiles) (read : Numbers) → IsInput input block → read ≡ numbers_of input
+    → new_blocks ≡ blocks ++ block ∷ [] → new_numbers ≡ numbers ++ read ∷ [] → AreFiles inputs blocks numbers → AreFiles (inputs ++ input ∷ []) new_blocks new_numbers
+files_more inputs blocks new_blocks numbers new_numbers input block read is shown added numbered are = record {
+  read = subst (AllZip IsInput (inputs ++ input ∷ [])) (sym added) (zip_more IsInput inputs blocks input block are.read is);
+  numbers_are = more numbers_of inputs input numbers new_numbers are.numbers_are (numbered ∙ ap (λ (r : Numbers). numbers ++ r ∷ []) shown);
+}
+
+pub no_files : (blocks : List BlockFiles) (numbers : List Numbers) → blocks ≡ [] → numbers ≡ [] → AreFiles [] blocks numbers
+no_files blocks numbers none empty = record { read = subst (AllZip IsInput []) (sym none) tt; numbers_are = empty }
+
+pub files_all : (inputs yielded : List Input) (blocks : List BlockFiles) (numbers : List Numbers) → map (λ (x : Input). x) yielded ≡ inputs → AreFiles yielded blocks numbers → AreFiles inputs blocks numbers
+files_all inputs yielded blocks numbers all are = subst (λ l. AreFiles l blocks numbers) (sym (same_map yielded) ∙ all) are
+  where
+    same_map : (xs : List Input) → map (λ (x : Input). x) xs ≡ xs
+    same_map [] = refl
+    same_map (x ∷ xs) = ap (λ l. x ∷ l) (same_map xs)
+
+-- a member at a place has what all have
+at : {A : Type 0} (P : A → Type 0) (xs : List A) (k : ℕ) (d : A) → AllByRecursion P xs → k < length xs → P (get_or xs k d)
+at P [] k d are within = absurd (omega (arith, within))
+at P (x ∷ xs) zero d are within = are.0
+at P (x ∷ xs) (suc k) d are within = at P xs k d are.1 (omega (arith, within))
+
+pub few_there : (inputs : List Input) (k : ℕ) (input : Input) → AllByRecursion HasFew inputs → (k < length inputs) × (input ≡ get_or inputs k input) → HasFew input
+few_there inputs k input few there = subst HasFew (sym there.1) (at HasFew inputs k input few there.0)

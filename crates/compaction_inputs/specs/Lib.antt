@@ -1,0 +1,13 @@
+pub mod Jobs
+pub mod Named
+pub mod Reading
+pub mod Inputs
+pub mod Merges
+pub mod InputFiles
+pub mod ReadRoom
+pub mod ReadStates
+pub use Rattle.world_core.specs.Plans
+pub use Rattle.block_content.specs.ContentReading
+pub use Rattle.block_content.specs.ContentRefusals
+pub use Rattle.vertical_merge.specs.Compacted
+pub use Rattle.block_merging.specs.MergedBlock

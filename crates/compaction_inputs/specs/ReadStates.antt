@@ -1,0 +1,96 @@
+-- What is left of the reads of blocks in each of their states. The machine's steps alone speak of this. What the reads are from
+-- their start on, Reading says.
+use Rattle.std.specs.Prelude.{◌≡◌, ℕ, ◌+◌, ◌*◌, ◌<◌, ◌≤◌, ◌^◌, List, [], ◌∷◌, ◌++◌, length, Option, Some, None, Result, Ok, Err}
+use Rattle.std.specs.List.{AllByRecursion}
+use Rattle.list_core.specs.declared.memory.NoMemory.{NoMemory}
+use Rattle.block_keys.specs.declared.key.Key.TheVariants as key
+use Rattle.block_meta.specs.declared.meta.Meta.{Meta}
+use Rattle.world_core.specs.Plans.{Plan, Runs, never}
+use Rattle.world_core.specs.declared.op.Op.{Op}
+use Rattle.world_core.specs.declared.op.Op.TheVariants as op
+use Rattle.world_core.specs.declared.entry.Entry.{Entry}
+use Rattle.world_core.specs.declared.act.Act.{Act}
+use Rattle.world_core.specs.declared.act.Act.TheVariants as act
+use Rattle.compaction_inputs.specs.Reading.{read_at, reads, reads_segments, read_ends, blocks_after, block_of}
+use Rattle.compaction_inputs.specs.Inputs.{HasFew}
+use Rattle.compaction_inputs.specs.declared.input.Input.{Input}
+use Rattle.compaction_inputs.specs.declared.input.Read.{Read}
+use Rattle.compaction_inputs.specs.declared.read_stage.ReadStage.{ReadStage}
+use Rattle.compaction_inputs.specs.declared.read_stage.ReadStage.TheVariants.{Fresh, Indexing, Segmenting, Over}
+use Rattle.compaction_inputs.specs.declared.reads.Reads.{Reads}
+use Rattle.compaction_inputs.specs.declared.reads_end.Gathered.{Gathered}
+use Rattle.compaction_inputs.specs.declared.reads_end.ReadsEnd.{ReadsEnd}
+use Rattle.compaction_inputs.specs.declared.reads_end.ReadsEnd.TheVariants as read
+
+-- what follows the segments of a block
+abbrev pub input_of : List Input → List Meta → Input → List Read → Entry → Plan ReadsEnd
+input_of inputs waiting input segments last = blocks_after inputs waiting (record { meta = input.meta; index = input.index; segments = segments }) last
+
+-- the reads of so many segments of a block, after those that it has
+abbrev pub segments_of : List Input → List Meta → Input → ℕ → Entry → Plan ReadsEnd
+segments_of inputs waiting input more last = reads_segments read_ends input.meta.ulid more input.segments last (input_of inputs waiting input)
+
+-- the read of its next segment, and then of so many
+abbrev pub segment_of : List Input → List Meta → Input → ℕ → Plan ReadsEnd
+segment_of inputs waiting input more =
+    reads read_ends (key.Segment input.meta.ulid (length input.segments + 1))
+    (λ e bytes. reads_segments read_ends input.meta.ulid more (input.segments ++ read_at e bytes ∷ []) e (input_of inputs waiting input))
+
+abbrev pub left_at : ReadStage → List Input → List Meta → Plan ReadsEnd
+left_at (Fresh meta) inputs waiting = block_of inputs waiting meta
+left_at (Indexing meta) inputs waiting = block_of inputs waiting meta
+left_at (Segmenting input more) inputs waiting = segment_of inputs waiting input more
+left_at Over inputs waiting = never
+
+abbrev pub left_of : Reads → Plan ReadsEnd
+left_of reads = left_at reads.stage reads.inputs reads.waiting.items
+
+-- it was not begun
+abbrev pub IsFresh : Reads → Type 0
+IsFresh reads = (meta : Meta) × (reads.stage ≡ Fresh meta)
+
+-- the blocks that were read may be merged into one, and its upload may follow the last entry, whose moment fits a ULID
+pub record MayMerge (all : Gathered) : Type 0 where
+  pub moment : all.moment.ms < 2 ^ 48
+  pub many : 2 ≤ length all.inputs
+  pub few : AllByRecursion HasFew all.inputs
+
+abbrev pub FitsEnd : ReadsEnd → Type 0
+FitsEnd (read.Done all) = MayMerge all
+FitsEnd (read.Fault number) = Unit {0}
+FitsEnd (read.Missing number) = Unit {0}
+FitsEnd (read.Damaged number) = Unit {0}
+
+abbrev pub FitsIfEnded : Option ReadsEnd → Type 0
+FitsIfEnded None = Unit {0}
+FitsIfEnded (Some end) = FitsEnd end
+
+-- what it may still do
+abbrev pub may_read : Reads → List Entry → Option ReadsEnd → Reads → Type 0
+may_read reads entries end last = Runs (left_of reads) entries end × FitsIfEnded end
+
+-- a call that comes to an end comes to such a one
+abbrev pub Fits : Result (Act ReadsEnd) NoMemory → Type 0
+Fits (Ok (act.Do op)) = Unit {0}
+Fits (Ok (act.Done end)) = FitsEnd end
+Fits (Err none) = Unit {0}
+
+-- the operation that is waited for
+abbrev pub asked_at : ReadStage → Option Op
+asked_at (Fresh meta) = None
+asked_at (Indexing meta) = Some (op.Get (key.Index meta.ulid))
+asked_at (Segmenting input more) = Some (op.Get (key.Segment input.meta.ulid (length input.segments + 1)))
+asked_at Over = None
+
+abbrev pub asked_read : Reads → Option Op
+asked_read reads = asked_at reads.stage
+
+-- at most so many operations are still asked for, and one more
+abbrev pub count_at : ReadStage → ℕ → ℕ
+count_at (Fresh meta) waiting = 1_000_000 * waiting + 1_000_001
+count_at (Indexing meta) waiting = 1_000_000 * waiting + 1_000_000
+count_at (Segmenting input more) waiting = 1_000_000 * waiting + more + 1
+count_at Over waiting = 0
+
+abbrev pub count_of : Reads → ℕ
+count_of reads = count_at reads.stage (length reads.waiting.items)

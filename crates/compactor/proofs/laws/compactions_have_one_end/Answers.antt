@@ -1,0 +1,9 @@
+use Rattle.world_core.proofs.PlanLaws.{one_end, same_op}
+use Rattle.compactor.specs.Compactions.{compaction}
+use Rattle.compactor.proofs.laws.compactions_have_one_end.Goals as goal
+
+pub returns : goal.returns
+returns c = record {
+  end = λ rules retention. one_end (compaction rules retention);
+  next = λ rules retention. same_op (compaction rules retention);
+}
