@@ -19,8 +19,8 @@ use Rattle.replay_cli.proofs.phases.run_phase.Goals as goal
 pub returns-in_default-clause-step : goal.returns-in_default-clause-step
 returns-in_default-clause-step g c = run_so_far (setting_of c.args.script.now) c.args.place c.args.progress.now.gateways.items c.args.hand.world.journal _ _ c.requires.reached
 
-pub begin_phase-begun-requires : goal.begin_phase-begun-requires
-begin_phase-begun-requires g c = (lawful_phase (setting_of c.args.script.now) c.args.place c.args.phase.now c.requires.lawful c.requires.at).moment
+pub begin_phase-begun-requires-clause-moment : goal.begin_phase-begun-requires-clause-moment
+begin_phase-begun-requires-clause-moment g c = (lawful_phase (setting_of c.args.script.now) c.args.place c.args.phase.now c.requires.lawful c.requires.at).moment
 
 pub returns-in-Err-clause-step : goal.returns-in-Err-clause-step
 returns-in-Err-clause-step g c =
