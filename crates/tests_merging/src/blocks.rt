@@ -1,140 +1,100 @@
-//! Blocks in words. ` / ` stands between two blocks, and `; ` between two series of one. A series is a label set, and behind it its
-//! samples: `TIME:PATTERN` is one, and `TIME+STEP*COUNT:PATTERN` so many, one STEP after another. ` !` behind a block cuts the last byte
-//! of its segment off.
+//! Blocks in words. ` / ` stands between two blocks. ` !` behind a block cuts the last byte of its segment off.
+ghost use Rattle.std.specs.Prelude.{◌≤◌, length, IfOk};
+
+use crate::series::read_list;
 use block_files::BlockFiles;
 use block_meta::{BlockPlan, ParentList, own_sources};
 use block_writing::{build, may_build};
-use label_sets::{LabelSet, Sample, Series, SeriesList, Text, TextList};
+use label_sets::{LabelSet, SeriesList, Text};
 use list_core::{List, NoMemory};
 use std::alloc::Global;
 use ulid_core::Ulid;
 use wire_bytes::Blob;
 
 /// A plan of all blocks here.
-pub(crate) fn plan(alloc: Global, level: u32) -> Result<BlockPlan, NoMemory> {
-    let Ok(ulid) = Ulid::read("01ARZ3NDEKTSV4RRFFQ69G5FAV") else {
-        return Err(NoMemory);
+pub(crate) fn plan(alloc: Global, level: u32) -> Option<BlockPlan> {
+    let ulid = Ulid::from_parts(1, 10);
+    let Ok(source) = Text::from_str(alloc, "compactor") else {
+        return None;
     };
-    Ok(BlockPlan {
+    let Ok(sources) = own_sources(alloc, ulid) else {
+        return None;
+    };
+    Some(BlockPlan {
         ulid,
         min_time: -1000,
         max_time: 2_000_000_000_000,
         level,
-        sources: own_sources(alloc, ulid)?,
+        sources,
         parents: ParentList::new(alloc),
         labels: LabelSet::empty(alloc),
-        source: Text::from_str(alloc, "compactor")?,
+        source,
     })
 }
 
-/// The one replica label, `r`.
-pub(crate) fn replicas(alloc: Global) -> Result<TextList, NoMemory> {
-    let mut names = TextList::new(alloc);
-    names.push(Text::from_str(alloc, "r")?)?;
-    Ok(names)
-}
-
 /// The blocks of a row. What is no block is left out.
-pub(crate) fn read_blocks(alloc: Global, row: &str) -> Result<Vec<BlockFiles>, NoMemory> {
+pub(crate) fn read_blocks(alloc: Global, row: &str) -> Vec<BlockFiles> {
     let mut blocks = Vec::new(alloc);
     for text in row.split(" / ") {
-        if let Some(block) = read_block(alloc, text)? {
-            blocks.push(block)?;
+        if let Some(block) = read_block(alloc, text) {
+            let _ = blocks.push(block);
         }
     }
-    Ok(blocks)
+    blocks
 }
 
-fn read_block(alloc: Global, text: &str) -> Result<Option<BlockFiles>, NoMemory> {
+fn read_block(alloc: Global, text: &str) -> Option<BlockFiles> {
     let Some(front) = text.strip_suffix(" !") else {
-        return built(alloc, text);
+        return build_of(alloc, &read_list(alloc, text));
     };
-    match built(alloc, front)? {
-        Some(block) => Ok(Some(cut(alloc, block)?)),
-        None => Ok(None),
+    match build_of(alloc, &read_list(alloc, front)) {
+        Some(block) => cut(alloc, block),
+        None => None,
     }
+}
+
+/// A block of series, if it may be built.
+pub(crate) fn build_of(alloc: Global, list: &SeriesList) -> Option<BlockFiles> {
+    let Some(plan) = plan(alloc, 1) else {
+        return None;
+    };
+    if !may_build(&plan, list) {
+        return None;
+    }
+    build(alloc, &plan, list).ok()
 }
 
 /// The block without the last byte of its first segment, and without the others.
-fn cut(alloc: Global, block: BlockFiles) -> Result<BlockFiles, NoMemory> {
+fn cut(alloc: Global, block: BlockFiles) -> Option<BlockFiles> {
     let BlockFiles {
         meta,
         index,
         segments,
     } = block;
+    match first_cut(alloc, segments.members()) {
+        Ok(left) => Some(BlockFiles {
+            meta,
+            index,
+            segments: left,
+        }),
+        Err(_) => None,
+    }
+}
+
+fn first_cut(alloc: Global, segments: &[Blob]) -> Result<List<Blob>, NoMemory>
+    ensures { IfOk result (λ left. length left ≤ 1) }
+{
     let mut left = List::new(alloc);
-    if let Some(segment) = segments.members().first() {
-        left.push(without_last(alloc, segment.bytes())?)?;
-    }
-    Ok(BlockFiles {
-        meta,
-        index,
-        segments: left,
-    })
+    left.push(Blob::from_bytes(alloc, without_last(segments))?)?;
+    Ok(left)
 }
 
-fn without_last(alloc: Global, bytes: &[u8]) -> Result<Blob, NoMemory> {
-    match bytes {
-        [front @ .., _] => Blob::from_bytes(alloc, front),
-        [] => Blob::from_bytes(alloc, bytes),
-    }
-}
-
-fn built(alloc: Global, text: &str) -> Result<Option<BlockFiles>, NoMemory> {
-    let mut list = SeriesList::new(alloc);
-    for one in text.split("; ") {
-        if let Some(series) = read_series(alloc, one)? {
-            list.push(series)?;
+fn without_last(segments: &[Blob]) -> &[u8] {
+    match segments {
+        [first, ..] => {
+            let bytes = first.bytes();
+            &bytes[..bytes.len().saturating_sub(1)]
         }
+        [] => &[],
     }
-    build_of(alloc, &list)
-}
-
-/// A block of series, if it may be built.
-pub(crate) fn build_of(alloc: Global, list: &SeriesList) -> Result<Option<BlockFiles>, NoMemory> {
-    let plan = plan(alloc, 1)?;
-    if !may_build(&plan, list) {
-        return Ok(None);
-    }
-    match build(alloc, &plan, list) {
-        Ok(block) => Ok(Some(block)),
-        Err(_) => Err(NoMemory),
-    }
-}
-
-fn read_series(alloc: Global, text: &str) -> Result<Option<Series>, NoMemory> {
-    let Ok((labels, count)) = LabelSet::read(alloc, text) else {
-        return Ok(None);
-    };
-    let mut samples = Vec::new(alloc);
-    for word in text[count..].split(' ') {
-        add_samples(&mut samples, word)?;
-    }
-    Ok(Some(Series {
-        labels,
-        samples: List::from_vec(samples),
-    }))
-}
-
-/// Adds the samples of a word. A word that is none adds nothing.
-fn add_samples(samples: &mut Vec<Sample>, word: &str) -> Result<(), NoMemory> {
-    let Some((times, pattern)) = word.split_once(':') else {
-        return Ok(());
-    };
-    let (start, run) = times.split_once('+').unwrap_or((times, "0*1"));
-    let (step, count) = run.split_once('*').unwrap_or(("0", "0"));
-    let (Ok(start), Ok(step), Ok(count), Ok(pattern)) = (
-        start.parse::<i64>(),
-        step.parse::<i64>(),
-        count.parse::<u16>(),
-        pattern.parse::<u64>(),
-    ) else {
-        return Ok(());
-    };
-    let mut time = start;
-    for _ in 0..count {
-        samples.push(Sample { time, pattern })?;
-        time = time.saturating_add(step);
-    }
-    Ok(())
 }

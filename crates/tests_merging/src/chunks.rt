@@ -1,82 +1,65 @@
 //! A block as text: for each series its labels, and for each of its chunks its times, whether it is one of the given blocks' data,
 //! whether these have a byte of zeros that our own writer leaves out, and its samples.
+use crate::says::say;
 use block_content::read_index;
 use block_files::BlockFiles;
 use chunk_files::read_chunk;
 use index_file::IndexSeries;
 use index_parts::ChunkPlace;
-use label_sets::Sample;
-use list_core::NoMemory;
-use std::alloc::Global;
+use label_sets::{LabelSet, Sample};
+use std::str;
 use wire_bytes::Blob;
 use xor_chunks::{decode, decode_stored};
 
 /// How many samples are printed of a chunk.
 const SHOWN: usize = 6;
 
-pub(crate) fn block_text(
-    alloc: Global,
-    given: &[BlockFiles],
-    block: &BlockFiles,
-) -> Result<String, NoMemory> {
-    let mut text = String::new(alloc);
-    let Ok(list) = read_index(alloc, block.index.bytes()) else {
-        return Err(NoMemory);
-    };
-    for series in list.members() {
-        text.push_str(series_text(alloc, given, block.segments.members(), series)?.as_str())?;
+pub(crate) fn print_block(rt: &HostRuntime, given: &[BlockFiles], block: &BlockFiles) {
+    match read_index(rt.alloc(), block.index.bytes()) {
+        Ok(list) => print_list(rt, given, block.segments.members(), list.members()),
+        Err(_) => say(rt, "no index"),
     }
-    Ok(text)
 }
 
-fn series_text(
-    alloc: Global,
-    given: &[BlockFiles],
-    segments: &[Blob],
-    series: &IndexSeries,
-) -> Result<String, NoMemory> {
-    let mut labels = Vec::new(alloc);
-    series.labels.write(&mut labels)?;
-    let mut text = String::from_str(alloc, "  ")?;
-    text.push_str(std::str::from_utf8(labels.as_slice()).unwrap_or(""))?;
-    text.push_str("\n")?;
-    for place in series.chunks.members() {
-        text.push_str(chunk_text(alloc, given, segments, *place)?.as_str())?;
+fn print_list(rt: &HostRuntime, given: &[BlockFiles], segments: &[Blob], list: &[IndexSeries]) {
+    for series in list {
+        print_labels(rt, &series.labels);
+        for place in series.chunks.members() {
+            print_chunk(rt, given, *place, chunk_bytes(segments, *place));
+        }
     }
-    Ok(text)
 }
 
-fn chunk_text(
-    alloc: Global,
-    given: &[BlockFiles],
-    segments: &[Blob],
-    place: ChunkPlace,
-) -> Result<String, NoMemory> {
-    let bytes = chunk_bytes(segments, place);
+fn print_labels(rt: &HostRuntime, labels: &LabelSet) {
+    let mut text = Vec::new(rt.alloc());
+    let _ = labels.write(&mut text);
+    let _ = println!(rt;
+        "  {}",
+        str::from_utf8(text.as_slice()).unwrap_or("no text")
+    );
+}
+
+fn print_chunk(rt: &HostRuntime, given: &[BlockFiles], place: ChunkPlace, bytes: &[u8]) {
+    let is_ours = decode(rt.alloc(), bytes).is_ok();
+    let longer = if is_ours { "" } else { " with a byte of zeros" };
     let word = if is_given(given, bytes) {
         "given"
     } else {
         "new"
     };
-    let Ok(samples) = decode_stored(alloc, bytes) else {
-        return Err(NoMemory);
-    };
-    let count = samples.len();
-    let longer = if decode(alloc, bytes).is_err() {
-        " with a byte of zeros"
-    } else {
-        ""
-    };
-    let mut text = format!(in alloc; "    {} {} {word}{longer} {count}", place.min, place.max)?;
-    for sample in samples.members().iter().take(SHOWN) {
-        text.push_str(sample_text(alloc, sample)?.as_str())?;
+    let _ = print!(rt; "    {} {} {word}{longer}", place.min, place.max);
+    match decode_stored(rt.alloc(), bytes) {
+        Ok(samples) => print_samples(rt, samples.members()),
+        Err(_) => say(rt, " no samples"),
     }
-    text.push_str("\n")?;
-    Ok(text)
 }
 
-fn sample_text(alloc: Global, sample: &Sample) -> Result<String, NoMemory> {
-    Ok(format!(in alloc; " {}:{}", sample.time, sample.pattern)?)
+fn print_samples(rt: &HostRuntime, samples: &[Sample]) {
+    let _ = print!(rt; " {}", samples.len());
+    for sample in samples.iter().take(SHOWN) {
+        let _ = print!(rt; " {}:{}", sample.time, sample.pattern);
+    }
+    say(rt, "");
 }
 
 fn chunk_bytes(segments: &[Blob], place: ChunkPlace) -> &[u8] {

@@ -7,54 +7,32 @@
 
 mod blocks;
 mod chunks;
+mod merges;
 mod real;
+mod says;
+mod series;
 
-use crate::blocks::{plan, read_blocks, replicas};
-use crate::chunks::block_text;
-use crate::real::merged_real;
-use block_merging::{may_merge, merge_blocks};
-use list_core::NoMemory;
-use std::alloc::Global;
+use crate::blocks::read_blocks;
+use crate::merges::print_merge;
+use crate::real::print_real;
+use crate::says::say;
 use std::io;
 
 fn main(rt: HostRuntime) -> io::Result<()> {
     for row in rt.lines(rt.alloc()) {
-        print_row(&rt, row?.as_str())?;
+        print_row(&rt, row?.as_str());
     }
     Ok(())
 }
 
 /// Prints a row and what comes of it. A heading is printed alone.
-fn print_row(rt: &HostRuntime, row: &str) -> io::Result<()> {
-    println!(rt; "{row}")?;
+fn print_row(rt: &HostRuntime, row: &str) {
+    say(rt, row);
     if row.starts_with("= ") {
-        return Ok(());
+        return;
     }
-    if let Some(rest) = row.strip_prefix("real ") {
-        return print_real(rt, rest);
-    }
-    match merged(rt.alloc(), row) {
-        Ok(text) => print!(rt; "{text}"),
-        Err(_) => println!(rt; "no memory"),
-    }
-}
-
-fn print_real(rt: &HostRuntime, row: &str) -> io::Result<()> {
-    match merged_real(rt, row) {
-        Some(text) => print!(rt; "{text}"),
-        None => println!(rt; "  no merge"),
-    }
-}
-
-/// The chunks of the block that a row's blocks become.
-fn merged(alloc: Global, row: &str) -> Result<String, NoMemory> {
-    let blocks = read_blocks(alloc, row)?;
-    let plan = plan(alloc, 2)?;
-    if !may_merge(&plan, blocks.as_slice()) {
-        return Ok(String::from_str(alloc, "  no blocks of the plan\n")?);
-    }
-    match merge_blocks(alloc, &plan, blocks.as_slice(), &replicas(alloc)?) {
-        Ok(block) => block_text(alloc, blocks.as_slice(), &block),
-        Err(refusal) => Ok(format!(in alloc; "  {refusal:?}\n")?),
+    match row.strip_prefix("real ") {
+        Some(rest) => print_real(rt, rest),
+        None => print_merge(rt, read_blocks(rt.alloc(), row).as_slice()),
     }
 }
