@@ -29,7 +29,7 @@ pub(crate) fn print_play(rt: &HostRuntime, text: &str, texts: bool) -> io::Resul
     let (setting, words) = text.split_once(" / ").unwrap_or((text, ""));
     let (kept, blocks) = setting.split_once(' ').unwrap_or((setting, ""));
     let retention = kept.parse::<u32>().ok();
-    match played(
+    match play_of(
         rt.alloc(),
         retention.map(|ms| Span { ms: u64::from(ms) }),
         blocks,
@@ -65,7 +65,7 @@ fn print_played_texts(rt: &HostRuntime, asked: &[Op]) -> io::Result<()> {
 }
 
 /// Plays a compaction of these blocks.
-fn played(
+fn play_of(
     alloc: Global,
     retention: Option<Span>,
     blocks: &str,
