@@ -47,9 +47,12 @@ abbrev pub expired_left : Compact → Plan CompactEnd
 expired_left c = marking Fault Expired 0 c.expired.items (λ marked. ends (Done c.collected c.compacted marked))
 
 -- what follows the marks of the covered blocks
+abbrev pub covered_then : List (List ℕ) → List ℕ → ℕ → List Group → MarksEnd → Plan CompactEnd
+covered_then replicas expired compacted groups (marked.Done put) = groups_from replicas expired put compacted groups
+covered_then replicas expired compacted groups (marked.Fault number) = ends (Fault number)
+
 abbrev pub after_covered : Compact → MarksEnd → Plan CompactEnd
-after_covered c (marked.Done put) = groups_from c.replicas c.expired.items put c.compacted c.groups.items
-after_covered c (marked.Fault number) = ends (Fault number)
+after_covered c came = covered_then c.replicas c.expired.items c.compacted c.groups.items came
 
 -- what follows the reads of a group's blocks
 abbrev pub after_reads : Compact → List Label → List ℕ → ReadsEnd → Plan CompactEnd
@@ -67,20 +70,29 @@ abbrev pub after_put : Compact → List ℕ → Option ℕ → List Entry → Up
 after_put c parents noted own came = after_upload (parents_left c parents) (came, fold last_number noted own)
 
 -- what follows the marks of the blocks that were compacted
+abbrev pub retired_then : List (List ℕ) → List ℕ → ℕ → ℕ → List Group → MarksEnd → Plan CompactEnd
+retired_then replicas expired collected compacted groups (marked.Done put) = groups_from replicas expired collected compacted groups
+retired_then replicas expired collected compacted groups (marked.Fault number) = ends (Fault number)
+
 abbrev pub after_retired : Compact → MarksEnd → Plan CompactEnd
-after_retired c (marked.Done put) = groups_left c
-after_retired c (marked.Fault number) = ends (Fault number)
+after_retired c came = retired_then c.replicas c.expired.items c.collected c.compacted c.groups.items came
 
 -- what follows the marks of the expired blocks
+abbrev pub expired_then : ℕ → ℕ → MarksEnd → Plan CompactEnd
+expired_then collected compacted (marked.Done put) = ends (Done collected compacted put)
+expired_then collected compacted (marked.Fault number) = ends (Fault number)
+
 abbrev pub after_expired : Compact → MarksEnd → Plan CompactEnd
-after_expired c (marked.Done put) = ends (Done c.collected c.compacted put)
-after_expired c (marked.Fault number) = ends (Fault number)
+after_expired c came = expired_then c.collected c.compacted came
 
 -- what follows the marks that are put for a reason
+abbrev pub marks_then : Reason → List (List ℕ) → List ℕ → ℕ → ℕ → List Group → MarksEnd → Plan CompactEnd
+marks_then Covered replicas expired collected compacted groups came = covered_then replicas expired compacted groups came
+marks_then Compacted replicas expired collected compacted groups came = retired_then replicas expired collected compacted groups came
+marks_then Expired replicas expired collected compacted groups came = expired_then collected compacted came
+
 abbrev pub after_marks : Reason → Compact → MarksEnd → Plan CompactEnd
-after_marks Covered c came = after_covered c came
-after_marks Compacted c came = after_retired c came
-after_marks Expired c came = after_expired c came
+after_marks reason c came = marks_then reason c.replicas c.expired.items c.collected c.compacted c.groups.items came
 
 -- the marks of these blocks, and what follows them
 abbrev pub marks_left : Reason → Compact → List ℕ → Plan CompactEnd
