@@ -71,7 +71,8 @@ fn add_chunk(
         segment: u32::try_from(segments.len()).unwrap_or(0),
         offset: 8,
     })?;
-    segments.push(segment_of(alloc, encode(alloc, samples)?.bytes())?)
+    let data = encode(alloc, samples)?;
+    segments.push(segment_of(alloc, data.bytes())?)
 }
 
 /// A segment with one chunk of that data, which begins behind the eight bytes of its head.
@@ -94,13 +95,12 @@ fn samples_of(alloc: Global, text: &str) -> Result<Vec<Sample>, NoMemory> {
     Ok(samples)
 }
 
-/// The index of one series with these chunks.
+/// The index of one series with these chunks, and of none where they do not follow one another.
 fn index_of(alloc: Global, labels: &LabelSet, places: &ChunkList) -> Result<Blob, NoMemory> {
     let mut writer = IndexWriter::new(alloc);
-    if !writer.may_add(labels) || !are_in_order(places.members()) {
-        return Err(NoMemory);
+    if writer.may_add(labels) && are_in_order(places.members()) {
+        writer.add(labels, places)?;
     }
-    writer.add(labels, places)?;
     match writer.finish() {
         Ok(index) => Ok(index),
         Err(_) => Err(NoMemory),

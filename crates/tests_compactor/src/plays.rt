@@ -1,4 +1,4 @@
-ghost use Rattle.std.specs.Prelude.{◌≡◌, Some, IfOk};
+ghost use Rattle.std.specs.Prelude.{◌≡◌, Some, IfOk, IfSome};
 ghost use Rattle.world_core.specs.Operations.{IsAnswer};
 ghost use Rattle.world_core.specs.declared.op.Op.{Op};
 ghost use Rattle.compactor.specs.CompactStates.{asked_compact, IsFresh};
@@ -16,6 +16,9 @@ use world_core::{Act, Machine, Op, Seen};
 
 /// The names of a page at most.
 const PAGE_LIMIT: u32 = 1_000_000;
+
+/// The least number that is no moment of an entry: 2^48.
+const LIMIT: u64 = 0x1_0000_0000_0000;
 
 /// A compaction that was answered: the operations that it asked for, and its end, if it came to one.
 #[derive(Drop)]
@@ -92,16 +95,9 @@ fn play(alloc: Global, mut compact: Compact, replies: Vec<Written>) -> Result<Pl
     for written in replies {
         act = match act {
             Act::Do(op) => {
-                if !may_answer(&op, &written.reply) {
-                    return Ok(Played { asked, end: None });
-                }
                 number = number.saturating_add(1);
-                let seen = Seen {
-                    seq: number,
-                    moment: Moment {
-                        ms: u64::from(written.ms),
-                    },
-                    reply: written.reply,
+                let Some(seen) = seen_of(&op, number, written) else {
+                    return Ok(Played { asked, end: None });
                 };
                 let next = answer(&mut compact, &op, seen)?;
                 asked.push(op)?;
@@ -132,20 +128,36 @@ fn last(mut asked: Vec<Op>, act: Act<CompactEnd>) -> Result<Played, NoMemory> {
     }
 }
 
+/// What a compaction is told of a reply, if its operation may be answered so.
+fn seen_of(op: &Op, number: u64, written: Written) -> Option<Seen>
+    ensures { IfSome result (λ seen. IsAnswer op.now seen) }
+{
+    let Written { ms, reply } = written;
+    if ms < LIMIT && may_answer(op, &reply) {
+        Some(Seen {
+            seq: number,
+            moment: Moment { ms },
+            reply,
+        })
+    } else {
+        None
+    }
+}
+
 fn begin(compact: &mut Compact) -> Result<Act<CompactEnd>, NoMemory>
     requires fresh { IsFresh compact.old }
-    ensures asks { IfOk result (λ act.
+    ensures { IfOk result (λ act.
         (next : Op) → act ≡ Act.Do next → asked_compact compact.new ≡ Some next) }
 {
-    compact.first()
+    Ok(compact.first()?)
 }
 
 /// Answers an operation.
 fn answer(compact: &mut Compact, op: &Op, seen: Seen) -> Result<Act<CompactEnd>, NoMemory>
     requires asked { asked_compact compact.old ≡ Some op.now }
     requires answer { IsAnswer op.now seen }
-    ensures asks { IfOk result (λ act.
+    ensures { IfOk result (λ act.
         (next : Op) → act ≡ Act.Do next → asked_compact compact.new ≡ Some next) }
 {
-    compact.step(seen)
+    Ok(compact.step(seen)?)
 }

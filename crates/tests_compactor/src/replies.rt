@@ -14,7 +14,7 @@ const OBJECTS: &str = "12ckiyzxdm";
 /// A reply that was written out, and the millisecond of its entry.
 #[derive(Drop)]
 pub(crate) struct Written {
-    pub(crate) ms: u32,
+    pub(crate) ms: u64,
     pub(crate) reply: Reply,
 }
 
