@@ -36,7 +36,7 @@ abbrev pub seen : ℕ → Found
 seen moment = small.found (moment + 1) (moment + 2)
 
 -- one block, or none, is in order
-at_most_one : (kept : Option Found) → IsNonDecreasingBy (λ (b : Found). b.ulid) (cons_option kept [])
+pub at_most_one : (kept : Option Found) → IsNonDecreasingBy (λ (b : Found). b.ulid) (cons_option kept [])
 at_most_one None = IsNonDecreasingBy-short (λ (b : Found). b.ulid) [] (omega arith)
 at_most_one (Some block) = IsNonDecreasingBy-short (λ (b : Found). b.ulid) (block ∷ []) (omega arith)
 
