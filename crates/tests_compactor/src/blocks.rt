@@ -1,9 +1,12 @@
 ghost use Rattle.std.specs.Prelude.{IfOk};
 ghost use Rattle.block_keys.specs.Keys.{IsLawfulKey};
 
-use crate::files::{Files, files_of, index_naming};
+use block_files::BlockFiles;
 use block_keys::Key;
-use list_core::{NoMemory, TryCopy};
+use block_meta::{BlockPlan, ParentList, own_sources};
+use block_writing::{build, may_build};
+use label_sets::{LabelSet, Sample, Series, SeriesList, Text};
+use list_core::{List, NoMemory, TryCopy};
 use std::alloc::Global;
 use ulid_core::Ulid;
 use wire_bytes::Blob;
@@ -14,33 +17,33 @@ pub(crate) struct Described {
     pub(crate) ulid: Ulid,
     /// What is put of it, a letter for each object.
     pub(crate) letters: String,
-    name: String,
     meta: String,
-    files: Files,
+    files: Option<BlockFiles>,
 }
 
-/// The block that a word tells: NAME:MIN:MAX:LABELS:SAMPLES:OBJECTS.
+/// The block that a word tells: NAME:MIN:MAX:REPLICA:SAMPLES:OBJECTS.
 pub(crate) fn read_block(alloc: Global, word: &str) -> Result<Option<Described>, NoMemory> {
     let mut fields = word.split(':');
     let (Some(name), Some(min), Some(max)) = (fields.next(), fields.next(), fields.next()) else {
         return Ok(None);
     };
-    let (Some(labels), Some(samples), Some(letters)) = (fields.next(), fields.next(), fields.next())
-    else {
+    let (Some(replica), Some(samples), Some(letters)) = (
+        fields.next(),
+        fields.next(),
+        fields.next(),
+    ) else {
         return Ok(None);
     };
-    let (name, sources) = name.split_once('=').unwrap_or((name, name));
     Ok(Some(Described {
         ulid: named(name),
         letters: String::from_str(alloc, letters)?,
-        name: String::from_str(alloc, name)?,
-        meta: meta_text(alloc, name, sources, min, max, labels)?,
-        files: files_of(alloc, name, samples)?,
+        meta: meta_text(alloc, name, min, max, replica)?,
+        files: files_of(alloc, samples)?,
     }))
 }
 
 /// The block of 1970 whose ULID ends with that letter, of `A` to `H`.
-pub(crate) fn named(name: &str) -> Ulid {
+fn named(name: &str) -> Ulid {
     let number: u8 = match name {
         "A" => 10,
         "B" => 11,
@@ -54,55 +57,28 @@ pub(crate) fn named(name: &str) -> Ulid {
     Ulid::from_parts(0, u128::from(number))
 }
 
-/// The first block of that name, if there is one.
-pub(crate) fn find<'a>(blocks: &'a [Described], name: &str) -> Option<&'a Described> {
-    for block in blocks {
-        if block.name.as_str() == name {
-            return Some(block);
-        }
-    }
-    None
-}
-
-/// The meta of a block, with the sources of those names.
+/// The meta of a block that a shipper uploaded.
 fn meta_text(
     alloc: Global,
     name: &str,
-    sources: &str,
     min: &str,
     max: &str,
-    labels: &str,
+    replica: &str,
 ) -> Result<String, NoMemory> {
     let ulid = format!(in alloc; "0000000000000000000000000{name}")?;
     let ulid = ulid.as_str();
     let head = format!(in alloc;
         "{{\"version\":1,\"ulid\":\"{ulid}\",\"minTime\":{min},\"maxTime\":{max},"
     )?;
-    let sources = sources_text(alloc, sources)?;
-    let sources = sources.as_str();
     let own = format!(in alloc;
-        "\"stats\":{{}},\"compaction\":{{\"level\":1,\"sources\":[{sources}]}},"
+        "\"stats\":{{}},\"compaction\":{{\"level\":1,\"sources\":[\"{ulid}\"]}},"
     )?;
-    let labels = labels_text(alloc, labels)?;
+    let labels = labels_text(alloc, replica)?;
     let labels = labels.as_str();
     let tail = format!(in alloc;
         "\"thanos\":{{\"labels\":{{{labels}}},\"source\":\"sidecar\"}}}}"
     )?;
     Ok(format!(in alloc; "{}{}{}", head.as_str(), own.as_str(), tail.as_str())?)
-}
-
-/// The list of the blocks of these names.
-fn sources_text(alloc: Global, names: &str) -> Result<String, NoMemory> {
-    let mut text = String::new(alloc);
-    for name in names.chars() {
-        if !text.is_empty() {
-            text.push(',')?;
-        }
-        text.push_str("\"0000000000000000000000000")?;
-        text.push(name)?;
-        text.push('"')?;
-    }
-    Ok(text)
 }
 
 /// The labels of a block: `0` tells the replica, and `0+q` also a label `z`.
@@ -111,6 +87,57 @@ fn labels_text(alloc: Global, word: &str) -> Result<String, NoMemory> {
         return Ok(format!(in alloc; "\"replica\":\"{word}\"")?);
     };
     Ok(format!(in alloc; "\"replica\":\"{replica}\",\"z\":\"{other}\"")?)
+}
+
+/// The files of a block with one series of these samples, each `TIME=PATTERN`. None where they are no series.
+fn files_of(alloc: Global, text: &str) -> Result<Option<BlockFiles>, NoMemory> {
+    let mut samples = Vec::new(alloc);
+    for word in text.split(',') {
+        add_sample(&mut samples, word)?;
+    }
+    let Ok((labels, _)) = LabelSet::read(alloc, "{a=\"x\"}") else {
+        return Ok(None);
+    };
+    let mut series = SeriesList::new(alloc);
+    series.push(Series {
+        labels,
+        samples: List::from_vec(samples),
+    })?;
+    built(alloc, &series)
+}
+
+fn add_sample(samples: &mut Vec<Sample>, word: &str) -> Result<(), NoMemory> {
+    let (time, pattern) = word.split_once('=').unwrap_or((word, ""));
+    if let (Ok(time), Ok(pattern)) = (time.parse::<i64>(), pattern.parse::<u64>()) {
+        samples.push(Sample { time, pattern })?;
+    }
+    Ok(())
+}
+
+fn built(alloc: Global, series: &SeriesList) -> Result<Option<BlockFiles>, NoMemory> {
+    let plan = plan(alloc)?;
+    if !may_build(&plan, series) {
+        return Ok(None);
+    }
+    match build(alloc, &plan, series) {
+        Ok(files) => Ok(Some(files)),
+        Err(_) => Err(NoMemory),
+    }
+}
+
+/// A plan that has room for all samples here. What is built by it has a meta that is not used.
+fn plan(alloc: Global) -> Result<BlockPlan, NoMemory> {
+    let ulid = Ulid::from_parts(0, 10);
+    Ok(BlockPlan {
+        ulid,
+        min_time: 0,
+        max_time: 2_000_000_000_000,
+        level: 1,
+        sources: own_sources(alloc, ulid)?,
+        parents: ParentList::new(alloc),
+        labels: LabelSet::empty(alloc),
+        source: Text::from_str(alloc, "sidecar")?,
+    })
 }
 
 /// The object of a block that a letter stands for, and its bytes.
@@ -123,38 +150,33 @@ pub(crate) fn object(
 {
     let ulid = block.ulid;
     match letter {
-        '1' => Ok((Key::Segment(ulid, 1), segment(alloc, block, 0)?)),
-        '2' => Ok((Key::Segment(ulid, 2), segment(alloc, block, 1)?)),
-        'c' => Ok((Key::Segment(ulid, 1), no_object(alloc)?)),
-        'k' => Ok((Key::Segment(ulid, 2), no_object(alloc)?)),
-        'i' => Ok((Key::Index(ulid), block.files.index.copy()?)),
-        'y' => Ok((Key::Index(ulid), index_naming(alloc, 999_999)?)),
-        'z' => Ok((Key::Index(ulid), index_naming(alloc, 1_000_000)?)),
-        'x' => Ok((Key::Index(ulid), no_object(alloc)?)),
-        'd' => Ok((Key::Mark(ulid), mark(alloc, block.name.as_str())?)),
-        _ => Ok((
+        '1' => Ok((Key::Segment(ulid, 1), segment(alloc, block)?)),
+        'i' => Ok((Key::Index(ulid), index(alloc, block)?)),
+        'm' => Ok((
             Key::Meta(ulid),
             Blob::from_bytes(alloc, block.meta.as_bytes())?,
+        )),
+        'x' => Ok((Key::Index(ulid), Blob::from_bytes(alloc, b"no index")?)),
+        _ => Ok((
+            Key::Segment(ulid, 1),
+            Blob::from_bytes(alloc, b"no segment")?,
         )),
     }
 }
 
-/// Bytes that are no object of a block.
-pub(crate) fn no_object(alloc: Global) -> Result<Blob, NoMemory> {
-    Blob::from_bytes(alloc, b"no object")
+fn index(alloc: Global, block: &Described) -> Result<Blob, NoMemory> {
+    match &block.files {
+        Some(files) => files.index.copy(),
+        None => Blob::from_bytes(alloc, b""),
+    }
 }
 
-/// A mark of the block of that name, of half an hour after 1970.
-fn mark(alloc: Global, name: &str) -> Result<Blob, NoMemory> {
-    let text = format!(in alloc;
-        "{{\"deletion_time\":1800,\"details\":\"\",\"id\":\"0000000000000000000000000{name}\",\"version\":1}}"
-    )?;
-    Blob::from_bytes(alloc, text.as_bytes())
-}
-
-/// The segment of the block at that place, and nothing where it has none.
-fn segment(alloc: Global, block: &Described, place: usize) -> Result<Blob, NoMemory> {
-    match block.files.segments.get(place) {
+/// The first segment of the block.
+fn segment(alloc: Global, block: &Described) -> Result<Blob, NoMemory> {
+    let Some(files) = &block.files else {
+        return Blob::from_bytes(alloc, b"");
+    };
+    match files.segments.members().first() {
         Some(segment) => segment.copy(),
         None => Blob::from_bytes(alloc, b""),
     }

@@ -3,15 +3,11 @@
 #![tactic(auto)]
 
 mod blocks;
-mod files;
 mod ops;
-mod plays;
-mod replies;
 mod rounds;
 mod worlds;
 
 use crate::ops::{print_ops, print_texts};
-use crate::plays::print_play;
 use crate::rounds::print_rounds;
 use crate::worlds::hand_of;
 use bucket_core::MemoryBucket;
@@ -32,8 +28,6 @@ fn print_row(rt: &HostRuntime, row: &str) -> io::Result<()> {
     match row.split_once(' ') {
         Some(("compact", rest)) => print_compactions(rt, rest, false),
         Some(("texts", rest)) => print_compactions(rt, rest, true),
-        Some(("play", rest)) => print_play(rt, rest, false),
-        Some(("told", rest)) => print_play(rt, rest, true),
         _ => println!(rt; ""),
     }
 }

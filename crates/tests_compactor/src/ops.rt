@@ -14,15 +14,12 @@ pub(crate) fn print_ops(rt: &HostRuntime, entries: &[Entry]) -> io::Result<()> {
     println!(rt; "")
 }
 
-/// Prints the word of an operation.
-pub(crate) fn print_op(rt: &HostRuntime, op: &Op) -> io::Result<()> {
+fn print_op(rt: &HostRuntime, op: &Op) -> io::Result<()> {
     match op {
         Op::Clock(moment) => print!(rt; " @{}", moment.ms),
         Op::RootPage(_, _) => print!(rt; " P"),
         Op::Get(key) => print_key(rt, "", key),
         Op::Put(key, _) => print_key(rt, "+", key),
-        Op::Delete(key) => print_key(rt, "-", key),
-        Op::BlockPage(ulid, after, _) => print!(rt; " p{}{}", letter(*ulid), after.as_str()),
         _ => print!(rt; " other"),
     }
 }
@@ -57,8 +54,7 @@ pub(crate) fn print_texts(rt: &HostRuntime, entries: &[Entry]) -> io::Result<()>
     Ok(())
 }
 
-/// Prints the text of a mark or a meta that is put, behind the number of its entry.
-pub(crate) fn print_text(rt: &HostRuntime, number: u64, op: &Op) -> io::Result<()> {
+fn print_text(rt: &HostRuntime, number: u64, op: &Op) -> io::Result<()> {
     match op {
         Op::Put(Key::Mark(_) | Key::Meta(_), bytes) => {
             println!(rt; "  {number} {}", text_of(bytes))
