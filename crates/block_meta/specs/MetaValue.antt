@@ -56,9 +56,12 @@ compaction_value level sources (parent ∷ parents) =
     (member (codes "parents") (array (items_value parent_value (parent ∷ parents)))
     (member (codes "sources") (array (items_value ulid_value sources)) no_members)))
 
+abbrev pub downsample_value : ℤ → Data
+downsample_value resolution = object (member (codes "resolution") (signed_value resolution) no_members)
+
 unfoldable pub thanos_value : MetaFields → Data
 thanos_value meta =
-    object (member (codes "downsample") (object (member (codes "resolution") (signed_value meta.resolution) no_members))
+    object (member (codes "downsample") (downsample_value meta.resolution)
     (member (codes "files") (array (items_value file_value meta.files))
     (member (codes "labels") (object (label_members meta.labels))
     (member (codes "segment_files") (array (items_value string meta.segment_files))

@@ -11,7 +11,7 @@ use crate::item::{read_list, write_list};
 use crate::json_values::{missing, needed, section, unsigned, wrong_kind};
 use crate::sources::read_sources;
 use crate::{MetaRefusal, ParentList};
-use serde_json::{Value, json};
+use serde_json::{Map, Value, put};
 use std::alloc::{AllocError, Global};
 use ulid_core::UlidList;
 
@@ -78,13 +78,14 @@ pub(crate) fn write_compaction(
         (compaction_members_of (compaction_value level sources.now parents.now)
         ≡ Ok (record { level = level; sources = ascending sources.now; parents = parents.now })) }
 {
+    let mut members = Map::new(alloc);
+    put(&mut members, alloc, "level", Value::from(level))?;
     if parents.is_empty() {
-        json!(in alloc; {"level": level, "sources": write_list(alloc, sources)?})
+        put(&mut members, alloc, "sources", write_list(alloc, sources)?)?;
+        Ok(Value::Object(members))
     } else {
-        json!(in alloc; {
-            "level": level,
-            "parents": write_list(alloc, parents)?,
-            "sources": write_list(alloc, sources)?
-        })
+        put(&mut members, alloc, "parents", write_list(alloc, parents)?)?;
+        put(&mut members, alloc, "sources", write_list(alloc, sources)?)?;
+        Ok(Value::Object(members))
     }
 }

@@ -1,12 +1,13 @@
 ghost use Rattle.std.specs.Prelude.{◌≡◌, ◌<◌, ◌^◌, IfOk};
 
 use crate::MetaRefusal;
-use crate::json_values::{needed, read_object, ulid, unsigned, version, wrong_kind};
+use crate::item::Item;
+use crate::json_values::{VERSION, needed, read_object, ulid, unsigned, version, wrong_kind};
 use crate::sources::write_ulid;
 use crate::thanos::read_text_or_empty;
 use label_sets::Text;
 use list_core::{NoMemory, TryCopy};
-use serde_json::{Value, json};
+use serde_json::{Map, Value, put};
 use std::alloc::{AllocError, Global};
 use ulid_core::Ulid;
 use wire_bytes::Blob;
@@ -101,12 +102,17 @@ impl DeletionMark {
         ensures again { OnOk result (mark_of (mark_value (mark_fields_of self.now))
             ≡ Ok (mark_fields_of self.now)) }
     {
-        json!(in alloc; {
-            "deletion_time": self.deletion_time,
-            "details": self.details.as_str(),
-            "id": write_ulid(alloc, self.id)?,
-            "version": 1u64
-        })
+        let mut mark = Map::new(alloc);
+        put(
+            &mut mark,
+            alloc,
+            "deletion_time",
+            Value::from(self.deletion_time),
+        )?;
+        put(&mut mark, alloc, "details", self.details.write(alloc)?)?;
+        put(&mut mark, alloc, "id", write_ulid(alloc, self.id)?)?;
+        put(&mut mark, alloc, "version", Value::from(VERSION))?;
+        Ok(Value::Object(mark))
     }
 }
 

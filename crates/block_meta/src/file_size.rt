@@ -5,7 +5,7 @@ use crate::item::Item;
 use crate::json_values::{count, needed, text, wrong_kind};
 use label_sets::Text;
 use list_core::{List, NoMemory, TryCopy};
-use serde_json::{Value, json};
+use serde_json::{Map, Value, put};
 use std::alloc::{AllocError, Global};
 
 /// One of a block's files.
@@ -49,6 +49,9 @@ impl Item for FileSize {
 
     #[tactic(auto, unfolding(crate::specs::MetaValue::file_value), using(crate::proofs::Again::file_again))]
     fn write(&self, alloc: Global) -> Result<Value, AllocError> {
-        json!(in alloc; {"rel_path": self.path.as_str(), "size_bytes": self.bytes})
+        let mut file = Map::new(alloc);
+        put(&mut file, alloc, "rel_path", self.path.write(alloc)?)?;
+        put(&mut file, alloc, "size_bytes", Value::from(self.bytes))?;
+        Ok(Value::Object(file))
     }
 }

@@ -83,6 +83,9 @@ pub(crate) fn section<'v>(
     }
 }
 
+/// The version that is written.
+pub(crate) const VERSION: u64 = 1;
+
 /// A version is the number 1.
 #[tactic(auto, unfolding(crate::specs::Members::version_of))]
 pub(crate) fn version(value: &Value) -> Result<(), MetaRefusal>

@@ -3,16 +3,16 @@ ghost use Rattle.std.specs.List.Sorted.{IsStrictlyIncreasing};
 ghost use Rattle.block_meta.specs.Lawful.{AreLawfulTimes};
 
 use crate::compaction::{Compaction, write_compaction};
-use crate::item::write_list;
-use crate::json_values::{needed, read_object, ulid, version};
+use crate::item::{Item, write_list};
+use crate::json_values::{VERSION, needed, read_object, ulid, version};
 use crate::sources::write_ulid;
 use crate::stats::{Stats, write_stats};
-use crate::thanos::{Thanos, write_labels};
+use crate::thanos::{Thanos, write_downsample, write_labels};
 use crate::times::Times;
 use crate::{FileSizeList, MetaRefusal, ParentList};
 use label_sets::{LabelSet, Text, TextList};
 use list_core::{NoMemory, TryCopy};
-use serde_json::{Value, json};
+use serde_json::{Map, Value, put};
 use std::alloc::{AllocError, Global};
 use ulid_core::{Ulid, UlidList};
 use wire_bytes::Blob;
@@ -123,15 +123,17 @@ impl Meta {
         ensures again { OnOk result (meta_of (meta_value (fields_of self.now))
             ≡ Ok (fields_of self.now)) }
     {
-        json!(in alloc; {
-            "compaction": write_compaction(alloc, self.level, &self.sources, &self.parents)?,
-            "maxTime": self.max_time,
-            "minTime": self.min_time,
-            "stats": write_stats(alloc, self.series, self.samples, self.chunks)?,
-            "thanos": self.write_thanos(alloc)?,
-            "ulid": write_ulid(alloc, self.ulid)?,
-            "version": 1u64
-        })
+        let mut meta = Map::new(alloc);
+        let compaction = write_compaction(alloc, self.level, &self.sources, &self.parents)?;
+        put(&mut meta, alloc, "compaction", compaction)?;
+        put(&mut meta, alloc, "maxTime", Value::from(self.max_time))?;
+        put(&mut meta, alloc, "minTime", Value::from(self.min_time))?;
+        let stats = write_stats(alloc, self.series, self.samples, self.chunks)?;
+        put(&mut meta, alloc, "stats", stats)?;
+        put(&mut meta, alloc, "thanos", self.write_thanos(alloc)?)?;
+        put(&mut meta, alloc, "ulid", write_ulid(alloc, self.ulid)?)?;
+        put(&mut meta, alloc, "version", Value::from(VERSION))?;
+        Ok(Value::Object(meta))
     }
 
     #[tactic(auto, unfolding(crate::specs::MetaValue::thanos_value))]
@@ -141,15 +143,17 @@ impl Meta {
             (labels_from [] (label_members self.now.labels) ≡ Ok self.now.labels) }
         ensures fits { OnOk result (FitsSigned w64 self.now.resolution) }
     {
+        let mut thanos = Map::new(alloc);
+        let downsample = write_downsample(alloc, self.resolution)?;
+        put(&mut thanos, alloc, "downsample", downsample)?;
+        put(&mut thanos, alloc, "files", write_list(alloc, &self.files)?)?;
+        let labels = write_labels(alloc, &self.labels)?;
+        put(&mut thanos, alloc, "labels", labels)?;
         let segments = write_list(alloc, &self.segment_files)?;
-        json!(in alloc; {
-            "downsample": {"resolution": self.resolution},
-            "files": write_list(alloc, &self.files)?,
-            "labels": write_labels(alloc, &self.labels)?,
-            "segment_files": segments,
-            "source": self.source.as_str(),
-            "version": 1u64
-        })
+        put(&mut thanos, alloc, "segment_files", segments)?;
+        put(&mut thanos, alloc, "source", self.source.write(alloc)?)?;
+        put(&mut thanos, alloc, "version", Value::from(VERSION))?;
+        Ok(Value::Object(thanos))
     }
 }
 

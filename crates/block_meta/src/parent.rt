@@ -5,7 +5,7 @@ use crate::item::Item;
 use crate::json_values::{needed, signed, ulid, wrong_kind};
 use crate::sources::write_ulid;
 use list_core::{List, NoMemory, TryCopy};
-use serde_json::{Value, json};
+use serde_json::{Map, Value, put};
 use std::alloc::{AllocError, Global};
 use ulid_core::Ulid;
 
@@ -48,10 +48,10 @@ impl Item for Parent {
 
     #[tactic(auto, unfolding(crate::specs::MetaValue::parent_value), using(crate::proofs::Again::parent_again))]
     fn write(&self, alloc: Global) -> Result<Value, AllocError> {
-        json!(in alloc; {
-            "maxTime": self.max_time,
-            "minTime": self.min_time,
-            "ulid": write_ulid(alloc, self.ulid)?
-        })
+        let mut parent = Map::new(alloc);
+        put(&mut parent, alloc, "maxTime", Value::from(self.max_time))?;
+        put(&mut parent, alloc, "minTime", Value::from(self.min_time))?;
+        put(&mut parent, alloc, "ulid", write_ulid(alloc, self.ulid)?)?;
+        Ok(Value::Object(parent))
     }
 }

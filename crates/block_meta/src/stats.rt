@@ -7,7 +7,7 @@ ghost use Rattle.block_meta.specs.MetaValue.{stats_value};
 
 use crate::MetaRefusal;
 use crate::json_values::{count, missing, section};
-use serde_json::{Value, json};
+use serde_json::{Map, Value, put};
 use std::alloc::{AllocError, Global};
 
 /// How much a block holds.
@@ -50,9 +50,9 @@ pub(crate) fn write_stats(
 ) -> Result<Value, AllocError>
     ensures { IfOk result (λ v. view v ≡ stats_value series samples chunks) }
 {
-    json!(in alloc; {
-        "numChunks": chunks,
-        "numSamples": samples,
-        "numSeries": series
-    })
+    let mut stats = Map::new(alloc);
+    put(&mut stats, alloc, "numChunks", Value::from(chunks))?;
+    put(&mut stats, alloc, "numSamples", Value::from(samples))?;
+    put(&mut stats, alloc, "numSeries", Value::from(series))?;
+    Ok(Value::Object(stats))
 }

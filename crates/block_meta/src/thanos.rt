@@ -7,13 +7,13 @@ ghost use Rattle.label_sets.specs.Labels.{IsLabelSet};
 ghost use Rattle.block_meta.specs.Members.{or_absent, text_of, version_of, member_of};
 ghost use Rattle.block_meta.specs.MetaFields.{no_thanos};
 ghost use Rattle.block_meta.specs.MetaReading.{thanos_of, thanos_members_of, resolution_of, text_or_empty, labels_of, labels_from, label_added};
-ghost use Rattle.block_meta.specs.MetaValue.{label_members};
+ghost use Rattle.block_meta.specs.MetaValue.{downsample_value, label_members};
 
 use crate::item::{Item, read_list};
 use crate::json_values::{member, section, signed, text, version, wrong_kind};
 use crate::{FileSizeList, MetaRefusal};
 use label_sets::{Label, LabelRefusal, LabelSet, Text, TextList};
-use serde_json::{Map, Value};
+use serde_json::{Map, Value, put};
 use std::alloc::{AllocError, Global};
 
 /// What the system adds to a meta of Prometheus.
@@ -161,6 +161,20 @@ fn add_label(
     }
 }
 
+/// The member `downsample`.
+pub(crate) fn write_downsample(alloc: Global, resolution: i64) -> Result<Value, AllocError>
+    ensures { IfOk result (λ v. view v ≡ downsample_value resolution) }
+{
+    let mut downsample = Map::new(alloc);
+    put(
+        &mut downsample,
+        alloc,
+        "resolution",
+        Value::from(resolution),
+    )?;
+    Ok(Value::Object(downsample))
+}
+
 /// The member `labels`.
 pub(crate) fn write_labels(alloc: Global, labels: &LabelSet) -> Result<Value, AllocError>
     ensures value { IfOk result (λ v. view v ≡ object (label_members labels.now)) }
@@ -176,7 +190,7 @@ fn write_members(alloc: Global, labels: &[Label]) -> Result<Map<String, Value>, 
     let mut members = Map::new(alloc);
     for label in labels {
         let value = Value::try_from_str(alloc, label.value.as_str())?;
-        serde_json::put(&mut members, alloc, label.name.as_str(), value)?;
+        put(&mut members, alloc, label.name.as_str(), value)?;
     }
     Ok(members)
 }
