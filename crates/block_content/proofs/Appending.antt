@@ -14,6 +14,7 @@ use Rattle.xor_chunks.specs.declared.refusal.XorRefusal.{XorRefusal}
 use Rattle.xor_chunks.specs.declared.refusal.XorRefusal.TheVariants as xor
 use Rattle.xor_chunks.specs.State.{State}
 use Rattle.xor_chunks.specs.Data.{data_at, with_samples}
+use Rattle.xor_chunks.specs.Spans.{end_of}
 use Rattle.xor_chunks.specs.Grammar.{AreOthers, IsText, Follows}
 use Rattle.chunk_files.specs.declared.refusal.ChunkRefusal.{ChunkRefusal}
 use Rattle.block_content.specs.Content.{HaveTimesOf, times_of}
@@ -57,10 +58,6 @@ alone_read front all lent read none lends e =
 -- each time lies between two
 abbrev pub Between : ℤ → ℤ → Sample → Type 0
 Between low high s = (low ≤ℤ s.time) × (s.time ≤ℤ high)
-
-pub alone_between : (front all lent : List Sample) (low high : ℤ) → front ≡ [] → lent ≡ all → ((part : List Sample) × (all ≡ front ++ part) × AllByRecursion (Between low high) part) → AllByRecursion (Between low high) lent
-alone_between front all lent low high none lends (part, is, between) =
-    subst (AllByRecursion (Between low high)) (sym (lends ∙ is ∙ ap (λ (xs : List Sample). xs ++ part) none)) between
 
 -- ---- the tests of a part
 
@@ -126,11 +123,6 @@ module _ (segments : List (List ℕ)) (place : ChunkPlace) where
 
 -- ---- times
 
--- the last of these times
-end_of : ℤ → List Sample → ℤ
-end_of t [] = t
-end_of t (s ∷ ss) = end_of s.time ss
-
 all_weaker : (P Q : Sample → Type 0) → ((s : Sample) → P s → Q s) → (ss : List Sample) → AllByRecursion P ss → AllByRecursion Q ss
 all_weaker P Q weaker [] all = tt
 all_weaker P Q weaker (s ∷ ss) all = (weaker s all.0, all_weaker P Q weaker ss all.1)
@@ -142,7 +134,6 @@ follows_later : (a b : ℤ) (delta : ℕ) → Follows a b delta → a ≤ℤ b
 follows_later a b delta is = let e = is.later in omega (arith, ints, e)
 
 others_rise : (last : State) (bits : List Bool) (others : List Sample) → AreOthers last bits others → AllByRecursion (Between last.time (end_of last.time others)) others × (last.time ≤ℤ end_of last.time others)
-unfolding end_of
 others_rise last bits [] are = (tt, omega (arith, ints))
 others_rise last bits (s ∷ ss) (next, first, behind, text, is, same, are) =
     let deeper = others_rise next behind ss are in
@@ -154,7 +145,6 @@ others_rise last bits (s ∷ ss) (next, first, behind, text, is, same, are) =
     (((first_later, far), all_weaker (Between s.time (end_of s.time ss)) (Between last.time (end_of s.time ss)) (λ x b. (le_trans last.time s.time x.time first_later b.0, b.1)) ss rest), le_trans last.time s.time (end_of s.time ss) first_later far)
 
 text_rises : (content : List ℕ) (s : Sample) (ss : List Sample) → IsText 8 content (s ∷ ss) → AllByRecursion (Between s.time (end_of s.time ss)) (s ∷ ss)
-unfolding end_of
 text_rises content s [] is = ((omega (arith, ints), omega (arith, ints)), tt)
 text_rises content s (t ∷ ss) is =
     let second = is.samples_are.rest_are in
@@ -164,7 +154,6 @@ text_rises content s (t ∷ ss) is =
     ((omega (arith, ints), far), ((later, deeper.1), all_weaker (Between t.time (end_of t.time ss)) (Between s.time (end_of t.time ss)) (λ x b. (le_trans s.time t.time x.time later b.0, b.1)) ss deeper.0))
 
 last_time : (s : Sample) (ss : List Sample) → slice_get (times_of (s ∷ ss)) (length ss) ≡ Some (end_of s.time ss)
-unfolding end_of
 last_time s [] = refl
 last_time s (t ∷ ss) = last_time t ss
 

@@ -14,3 +14,4 @@ pub mod SlashNames
 pub mod SameFiles
 pub mod FewListed
 pub mod ContentTests
+pub mod SpanTests

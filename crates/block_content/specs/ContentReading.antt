@@ -7,6 +7,7 @@ use Rattle.label_sets.specs.declared.sample.Sample.{Sample}
 use Rattle.label_sets.specs.declared.series.Series.{Series}
 use Rattle.xor_chunks.specs.Data.{data_at}
 use Rattle.xor_chunks.specs.declared.refusal.XorRefusal.TheVariants as xor
+use Rattle.xor_chunks.specs.declared.sample_span.SampleSpan.{SampleSpan}
 use Rattle.chunk_files.specs.declared.refusal.ChunkRefusal.{ChunkRefusal}
 use Rattle.chunk_files.specs.declared.refusal.ChunkRefusal.TheVariants.{Short}
 use Rattle.chunk_files.specs.ChunkReading.{segment_at}
@@ -67,6 +68,23 @@ unfoldable pub chunk_at : List (List ℕ) → ChunkPlace → Result (List Sample
 chunk_at segments place = do
   content ← refused_as File (data_of segments place)
   samples_at place content
+
+-- what the span of a part tells of the part
+abbrev pub span_at : ChunkPlace → Option SampleSpan → Result ℕ ChunkCause
+span_at place None = Err NoSamples
+span_at place (Some span) = unless (int_eq span.first place.min && int_eq span.last place.max) TimesDiffer >> Ok span.count
+
+-- What a call made of the samples that a chunk's data stands for, or the first refusal.
+abbrev pub MadeOfData : {X : Type 0} → ChunkPlace → List ℕ → (X → List Sample → Type 0) → Result X ChunkCause → Type 0
+MadeOfData place content Is result = MatchResult result
+    (λ made. (part : List Sample) × (samples_at place content ≡ Ok part) × Is made part)
+    (λ e. samples_at place content ≡ Err e)
+
+-- The same of a chunk, unless memory ran out.
+abbrev pub MadeOfChunk : {X : Type 0} → List (List ℕ) → ChunkPlace → (X → List Sample → Type 0) → Result X ChunkCause → Type 0
+MadeOfChunk segments place Is result = MatchResult result
+    (λ made. (part : List Sample) × (chunk_at segments place ≡ Ok part) × Is made part)
+    (λ e. (e ≡ Data xor.NoMemory) ⊎ (chunk_at segments place ≡ Err e))
 
 abbrev pub bytes_in : Result (List ℕ) ChunkRefusal → ℕ
 bytes_in (Ok content) = length content

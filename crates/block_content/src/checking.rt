@@ -1,5 +1,5 @@
 //! Whether a block may be shipped.
-ghost use Rattle.std.specs.Prelude.{◌≡◌, ◌⊎◌, ◌^◌, ◌-◌, ◌+◌, ◌*◌, ◌≤◌, min, ℕ, List, length, sum_by, option_map, Ok, Err, IfOk, IfErr, MatchResult};
+ghost use Rattle.std.specs.Prelude.{◌≡◌, ◌⊎◌, ◌^◌, ◌-◌, ◌+◌, ◌*◌, ◌≤◌, min, ℕ, List, length, sum_by, option_map, None, Ok, Err, IfOk, IfErr, MatchResult};
 ghost use Rattle.std.specs.List.{AllByRecursion};
 ghost use Rattle.std.specs.Result.{IsOkAnd};
 ghost use Rattle.reading_core.specs.Grammar.{IsBytes};
@@ -8,19 +8,18 @@ ghost use Rattle.label_sets.specs.declared.series.Series.{Series};
 ghost use Rattle.label_sets.specs.Counts.{sample_count};
 ghost use Rattle.index_file.specs.declared.index_series.IndexSeries.{IndexSeries};
 ghost use Rattle.block_content.specs.Firsts.{or_else, first_at};
-ghost use Rattle.block_content.specs.ContentReading.{index_at, chunk_bytes, series_bytes, joined, list_of, first_time, first_outside, lies_within, LieBetween, WalksChunks, WalksSeries};
+ghost use Rattle.block_content.specs.ContentReading.{index_at, chunk_bytes, series_bytes, joined, list_of, first_time, first_outside, lies_within, LieBetween, MadeOfChunk, WalksChunks, WalksSeries};
 ghost use Rattle.block_content.specs.Verdict.{IsVerdict};
 ghost use Rattle.block_content.specs.Checking.{HasPassed};
 ghost use Rattle.block_content.specs.CheckReading.{is_alone, own_at, some_at, check_at, indexed_at, found_at, IsFirstFound, HaveCounts};
 
-use crate::chunk_reading::{append_chunk, refused_chunk};
+use crate::chunk_reading::{append_chunk, count_chunk, refused_chunk};
 use crate::content_reading::{budget_of, first_repeated, first_time, read_index};
-use crate::{CheckRefusal, Checked};
+use crate::{CheckRefusal, Checked, ChunkCause};
 use block_files::BlockFiles;
 use block_meta::Meta;
 use index_parts::ChunkPlace;
 use index_v2::{IndexSeries, IndexSeriesList};
-use label_sets::Sample;
 use std::alloc::Global;
 use ulid_core::Ulid;
 use wire_bytes::Blob;
@@ -55,7 +54,7 @@ fn is_alone(ulid: Ulid, sources: &[Ulid]) -> bool
     }
 }
 
-/// What was counted of a series.
+/// What was counted of a chunk or of a series.
 #[derive(Clone, Copy)]
 struct Counted {
     samples: u64,
@@ -72,26 +71,77 @@ fn lies_within(meta: &Meta, place: &ChunkPlace) -> bool
     meta.min_time <= place.min && place.max < meta.max_time
 }
 
-/// The time that was found, or the first one of a chunk's samples outside the block's times. No sample is looked at where
-/// the place lies within these.
-#[tactic(auto, using(crate::proofs::Appending::none_outside))]
-fn found_or_first(
-    found: Option<i64>,
-    meta: &Meta,
-    place: &ChunkPlace,
-    samples: &[Sample],
-) -> Option<i64>
-    requires { LieBetween place.now samples.now }
-    ensures { result ≡ or_else found (first_time meta.now samples.now) }
+/// The time that was found, or else this one.
+fn found_or_time(found: Option<i64>, time: Option<i64>) -> Option<i64>
+    ensures { result ≡ or_else found time }
 {
     match found {
-        Some(time) => Some(time),
-        None if lies_within(meta, place) => None,
-        None => first_time(meta, samples),
+        Some(found) => Some(found),
+        None => time,
     }
 }
 
-/// Reads the chunks of a series, and counts their samples and their bytes.
+/// Counts the samples of the chunk at a place. They are kept, for as long as this takes, only where the place does not lie
+/// within the block's times.
+fn count_one(
+    alloc: Global,
+    meta: &Meta,
+    segments: &[Blob],
+    place: ChunkPlace,
+    budget: usize,
+) -> Result<Counted, ChunkCause>
+    ensures counted { MadeOfChunk segments.now place
+        (λ counted part. (counted.samples ≡ length part)
+        × (counted.outside ≡ first_time meta.now part)) result }
+    ensures spent { IfOk result
+        (λ counted. counted.left + chunk_bytes segments.now place ≡ budget) }
+{
+    if lies_within(meta, &place) {
+        count_within(segments, place, budget)
+    } else {
+        count_beyond(alloc, meta, segments, place, budget)
+    }
+}
+
+/// The same of a chunk whose place lies within the block's times. No sample is looked at.
+fn count_within(segments: &[Blob], place: ChunkPlace, budget: usize) -> Result<Counted, ChunkCause>
+    ensures counted { MadeOfChunk segments.now place
+        (λ counted part. (counted.samples ≡ length part) × (counted.outside ≡ None)
+        × LieBetween place part) result }
+    ensures spent { IfOk result
+        (λ counted. counted.left + chunk_bytes segments.now place ≡ budget) }
+{
+    let (samples, left) = count_chunk(segments, place, budget)?;
+    Ok(Counted {
+        samples: u64::from(samples),
+        outside: None,
+        left,
+    })
+}
+
+/// The same of a chunk at any place.
+fn count_beyond(
+    alloc: Global,
+    meta: &Meta,
+    segments: &[Blob],
+    place: ChunkPlace,
+    budget: usize,
+) -> Result<Counted, ChunkCause>
+    ensures counted { MadeOfChunk segments.now place
+        (λ counted part. (counted.samples ≡ length part)
+        × (counted.outside ≡ first_time meta.now part)) result }
+    ensures spent { IfOk result
+        (λ counted. counted.left + chunk_bytes segments.now place ≡ budget) }
+{
+    let (part, left) = append_chunk(Vec::new(alloc), segments, place, budget)?;
+    Ok(Counted {
+        samples: part.len() as u64,
+        outside: first_time(meta, part.as_slice()),
+        left,
+    })
+}
+
+/// Counts the samples of the chunks of a series, and their bytes.
 fn count_series(
     alloc: Global,
     meta: &Meta,
@@ -110,18 +160,14 @@ fn count_series(
     let mut outside = None;
     let mut left = budget;
     let mut chunk = 0u32;
-    // the samples of one chunk after another
-    let mut part = Vec::new(alloc);
     for place in chunks {
-        part.clear();
-        let (read, rest) = match append_chunk(part, segments, *place, left) {
-            Ok(read) => read,
+        let counted = match count_one(alloc, meta, segments, *place, left) {
+            Ok(counted) => counted,
             Err(cause) => return Err(refused_chunk(series, chunk, cause)),
         };
-        samples = samples.saturating_add(read.len() as u64);
-        outside = found_or_first(outside, meta, place, read.as_slice());
-        part = read;
-        left = rest;
+        samples = samples.saturating_add(counted.samples);
+        outside = found_or_time(outside, counted.outside);
+        left = counted.left;
         chunk = chunk.saturating_add(1);
     }
     Ok(Counted {

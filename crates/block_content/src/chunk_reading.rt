@@ -1,16 +1,17 @@
 //! The samples of one chunk.
-ghost use Rattle.std.specs.Prelude.{◌≡◌, ◌+◌, ◌*◌, ◌≤◌, ◌++◌, List, length, drop, option_copied, IfOk, MatchResult};
+ghost use Rattle.std.specs.Prelude.{◌≡◌, ◌+◌, ◌*◌, ◌≤◌, ◌++◌, ◌&&◌, List, length, drop, option_copied, IfOk, MatchResult};
+ghost use Rattle.std.specs.Ordering.{int_eq};
 ghost use Rattle.label_sets.specs.declared.sample.Sample.{Sample};
 ghost use Rattle.xor_chunks.specs.Data.{with_samples};
 ghost use Rattle.reading_core.specs.Reading.{Answers, Gives};
-ghost use Rattle.block_content.specs.ContentReading.{data_of, is_time, have_times_of, part_at, samples_at, chunk_at, chunk_bytes, refused_cause, LieBetween};
+ghost use Rattle.block_content.specs.ContentReading.{data_of, is_time, have_times_of, part_at, samples_at, chunk_at, chunk_bytes, span_at, refused_cause, LieBetween, MadeOfData, MadeOfChunk};
 
 use crate::{CheckRefusal, ChunkCause};
 use chunk_files::{ChunkRefusal, read_chunk};
 use index_parts::ChunkPlace;
 use label_sets::Sample;
 use wire_bytes::Blob;
-use xor_chunks::{XorRefusal, append_stored};
+use xor_chunks::{SampleSpan, XorRefusal, append_stored, span_stored};
 
 /// The XOR data of the chunk at a place.
 fn data_of<'a>(segments: &'a [Blob], place: ChunkPlace) -> Result<&'a [u8], ChunkRefusal>
@@ -80,6 +81,33 @@ fn append_samples(
     Ok(all)
 }
 
+/// Whether a span has the times that the place tells.
+fn has_times_of(place: &ChunkPlace, span: &SampleSpan) -> bool
+    ensures { result ≡ (int_eq span.now.first place.now.min && int_eq span.now.last place.now.max) }
+{
+    span.first == place.min && span.last == place.max
+}
+
+/// Tests whether the span of samples is that of a chunk at a place, and gives how many they are.
+fn test_span(span: Option<SampleSpan>, place: &ChunkPlace) -> Result<u16, ChunkCause>
+    ensures { Answers (λ count. count) result (span_at place.now span) }
+{
+    match span {
+        Some(span) if has_times_of(place, &span) => Ok(span.count),
+        Some(_) => Err(ChunkCause::TimesDiffer),
+        None => Err(ChunkCause::NoSamples),
+    }
+}
+
+/// Counts the samples that a chunk's data stands for, and keeps none.
+fn count_samples(content: &[u8], place: &ChunkPlace) -> Result<u16, ChunkCause>
+    ensures { MadeOfData place.now content.now
+        (λ count part. (count ≡ length part) × LieBetween place.now part) result }
+{
+    let span = span_stored(content)?;
+    test_span(span, place)
+}
+
 /// What is left of a budget behind so many bytes.
 fn spend(left: usize, bytes: usize) -> Result<usize, XorRefusal>
     ensures { MatchResult result (λ rest. rest + bytes ≡ left) (λ e. e ≡ XorRefusal.NoMemory) }
@@ -107,6 +135,23 @@ pub(crate) fn append_chunk(
     let rest = spend(left, content.len())?;
     let all = append_samples(samples, content, &place)?;
     Ok((all, rest))
+}
+
+/// Counts the samples of the chunk at a place, and keeps none; with the count comes what is left of a budget of bytes behind
+/// its data.
+pub(crate) fn count_chunk(
+    segments: &[Blob],
+    place: ChunkPlace,
+    left: usize,
+) -> Result<(u16, usize), ChunkCause>
+    ensures counted { MadeOfChunk segments.now place
+        (λ counted part. (counted.0 ≡ length part) × LieBetween place part) result }
+    ensures spent { IfOk result (λ counted. counted.1 + chunk_bytes segments.now place ≡ left) }
+{
+    let content = data_of(segments, place)?;
+    let rest = spend(left, content.len())?;
+    let count = count_samples(content, &place)?;
+    Ok((count, rest))
 }
 
 /// A chunk's cause, as the block's refusal.

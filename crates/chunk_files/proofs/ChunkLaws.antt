@@ -2,7 +2,6 @@
 use Rattle.std.proofs.Common.{◌≡◌, ℕ, ◌+◌, ◌<◌, Bool, true, false, cond, List, [], ◌∷◌, ◌++◌, length, get_or, drop, Result, Ok, Err, refl, sym, ap, subst, ◌∙◌, append_assoc, arith}
 use Rattle.std.specs.Prelude.{◌==◌, ◌||◌, nat_le, IfOk}
 use Rattle.std.specs.Result.{IsOkAnd}
-use Rattle.std.specs.Borrow.{Bor}
 use Rattle.std.specs.Int.{w8, w32}
 use Rattle.std.proofs.lemmas.Bool.{leb-true, le-leb, eqb-true, eq-eqb}
 use Rattle.std.proofs.lemmas.List.{drop_at, drop_all}
@@ -34,7 +33,7 @@ xor_found encoding bytes content e =
     let h = xor_cases (encoding == xor) (encoding == histogram || encoding == float_histogram) bytes content (Histogram encoding) (UnknownEncoding encoding) e in
     (eqb-true encoding xor h.0, h.1)
 
-one_in_front : (framed content : List ℕ) → 0 < length framed → get_or framed 0 0 ≡ xor → drop 1 framed ≡ content → framed ≡ xor ∷ content
+pub one_in_front : (framed content : List ℕ) → 0 < length framed → get_or framed 0 0 ≡ xor → drop 1 framed ≡ content → framed ≡ xor ∷ content
 one_in_front [] content some e d = absurd (omega arith)
 one_in_front (x ∷ xs) content some e d = ap (λ (n : ℕ). n ∷ xs) e ∙ ap (λ (a : List ℕ). xor ∷ a) d
 
@@ -132,10 +131,11 @@ too_far segment offset lt = ap chunk_at (drop_all offset segment (omega arith)) 
 
 -- ---- what the calls say
 
-pub found : (Is : List ℕ → Type 0) (r : Result (Bor (List ℕ)) ChunkRefusal) (read : Result (List ℕ) ChunkRefusal) → ((content : List ℕ) → read ≡ Ok content → Is content) → Answers (λ c. c.now) r read → IfOk r (λ c. Is c.now)
-found Is (Ok c) read one h = one c.now h
-found Is (Err d) read one h = tt
+module _ {X : Type 0} (view : X → List ℕ) where
+  pub found : (Is : List ℕ → Type 0) (r : Result X ChunkRefusal) (read : Result (List ℕ) ChunkRefusal) → ((content : List ℕ) → read ≡ Ok content → Is content) → Answers view r read → IfOk r (λ c. Is (view c))
+  found Is (Ok c) read one h = one (view c) h
+  found Is (Err d) read one h = tt
 
-pub only : (r : Result (Bor (List ℕ)) ChunkRefusal) (read : Result (List ℕ) ChunkRefusal) (content : List ℕ) → read ≡ Ok content → Answers (λ c. c.now) r read → IsOkAnd r (λ c. c.now ≡ content)
-only (Ok c) read content one h = ok_is {E = ChunkRefusal} _ _ (sym h ∙ one)
-only (Err d) read content one h = let no = sym h ∙ one in absurd cc
+  pub only : (r : Result X ChunkRefusal) (read : Result (List ℕ) ChunkRefusal) (content : List ℕ) → read ≡ Ok content → Answers view r read → IsOkAnd r (λ c. view c ≡ content)
+  only (Ok c) read content one h = ok_is {E = ChunkRefusal} _ _ (sym h ∙ one)
+  only (Err d) read content one h = let no = sym h ∙ one in absurd cc

@@ -7,7 +7,7 @@ mod refusal;
 mod segment_refusal;
 mod segment_writer;
 
-pub use reading::{read_chunk, take_chunk};
+pub use reading::{read_chunk, read_summed, take_chunk};
 pub use refusal::ChunkRefusal;
 pub use segment_refusal::SegmentRefusal;
 pub use segment_writer::SegmentWriter;

@@ -1,10 +1,12 @@
-ghost use Rattle.std.specs.Prelude.{◌≡◌, ◌+◌, ◌<◌, IfOk, ℕ, List, slice_index, drop, length};
+ghost use Rattle.std.specs.Prelude.{◌≡◌, ◌+◌, ◌<◌, ◌∷◌, IfOk, ℕ, List, slice_index, drop, length};
 ghost use Rattle.std.specs.Result.{IsOkAnd};
 ghost use Rattle.reading_core.specs.Grammar.{IsBytes};
 ghost use Rattle.reading_core.specs.Reading.{Answers, Steps, refused_as};
+ghost use Rattle.wire_bytes.specs.Crc.{crc};
 ghost use Rattle.wire_bytes.specs.Fields.{bytes_at};
 ghost use Rattle.chunk_files.specs.Chunk.{IsFront, IsPlace};
 ghost use Rattle.chunk_files.specs.ChunkReading.{as_short, header_at, by_encoding, chunk_at, segment_at};
+ghost use Rattle.chunk_files.specs.Layout.{xor};
 
 use crate::ChunkRefusal;
 use crate::layout::{FLOAT_HISTOGRAM, HEADER, HISTOGRAM, MAGIC, VERSION, XOR};
@@ -25,10 +27,12 @@ fn take_framed<'a>(cursor: &mut Cursor<'a>, size: u64) -> Result<&'a [u8], Chunk
 }
 
 /// The data behind an encoding that is XOR's.
+#[tactic(auto, using(crate::proofs::ChunkLaws::one_in_front))]
 fn data_of<'a>(framed: &'a [u8]) -> Result<&'a [u8], ChunkRefusal>
     requires { 0 < length framed.now }
-    ensures { Answers (λ content. content.now) result
+    ensures exact { Answers (λ content. content.now) result
         (by_encoding (slice_index framed.now 0) (drop 1 framed.now)) }
+    ensures whole { IfOk result (λ content. framed.now ≡ xor ∷ content.now) }
 {
     match framed[0] {
         XOR => Ok(&framed[1..]),
@@ -37,9 +41,11 @@ fn data_of<'a>(framed: &'a [u8]) -> Result<&'a [u8], ChunkRefusal>
     }
 }
 
+/// The data of the chunk at the front, and the sum of its encoding and data.
 #[tactic(auto, unfolding(crate::specs::ChunkReading::chunk_at))]
-fn chunk_of<'a>(part: &'a [u8]) -> Result<&'a [u8], ChunkRefusal>
-    ensures exact { Answers (λ content. content.now) result (chunk_at part.now) }
+fn summed_of<'a>(part: &'a [u8]) -> Result<(&'a [u8], u32), ChunkRefusal>
+    ensures exact { Answers (λ read. read.0.now) result (chunk_at part.now) }
+    ensures sum { IfOk result (λ read. read.1 ≡ crc (xor ∷ read.0.now)) }
     ensures bytes { IsBytes part.now }
 {
     let mut cursor = Cursor::new(part);
@@ -50,7 +56,16 @@ fn chunk_of<'a>(part: &'a [u8]) -> Result<&'a [u8], ChunkRefusal>
     if kept != computed {
         return Err(ChunkRefusal::BadSum { kept, computed });
     }
-    data_of(framed)
+    let content = data_of(framed)?;
+    Ok((content, computed))
+}
+
+fn chunk_of<'a>(part: &'a [u8]) -> Result<&'a [u8], ChunkRefusal>
+    ensures exact { Answers (λ content. content.now) result (chunk_at part.now) }
+    ensures bytes { IsBytes part.now }
+{
+    let (content, _) = summed_of(part)?;
+    Ok(content)
 }
 
 /// Tests how a segment begins.
@@ -95,9 +110,33 @@ pub fn read_chunk<'a>(segment: &'a [u8], offset: u64) -> Result<&'a [u8], ChunkR
     segment_chunk(segment, offset)
 }
 
-#[tactic(auto, using(crate::proofs::ChunkLaws::too_far), unfolding(crate::specs::ChunkReading::segment_at))]
+/// Lends the XOR data of the chunk at a place of a segment, as `read_chunk` does, with the sum of its encoding and data, which
+/// was tested.
+pub fn read_summed<'a>(segment: &'a [u8], offset: u64) -> Result<(&'a [u8], u32), ChunkRefusal>
+    // What is lent is what stands there, and data that stands there is lent.
+    ensures found { IfOk result (λ read. IsPlace segment.now offset read.0.now) }
+    ensures only { (content : List ℕ) → IsPlace segment.now offset content
+        → IsOkAnd result (λ read. read.0.now ≡ content) }
+    ensures sum { IfOk result (λ read. read.1 ≡ crc (xor ∷ read.0.now)) }
+
+    // The first refusal in the order of its cases.
+    ensures exact { Answers (λ read. read.0.now) result (segment_at segment.now offset) }
+{
+    segment_summed(segment, offset)
+}
+
 fn segment_chunk<'a>(segment: &'a [u8], offset: u64) -> Result<&'a [u8], ChunkRefusal>
     ensures exact { Answers (λ content. content.now) result (segment_at segment.now offset) }
+    ensures bytes { IsBytes segment.now }
+{
+    let (content, _) = segment_summed(segment, offset)?;
+    Ok(content)
+}
+
+#[tactic(auto, using(crate::proofs::ChunkLaws::too_far), unfolding(crate::specs::ChunkReading::segment_at))]
+fn segment_summed<'a>(segment: &'a [u8], offset: u64) -> Result<(&'a [u8], u32), ChunkRefusal>
+    ensures exact { Answers (λ read. read.0.now) result (segment_at segment.now offset) }
+    ensures sum { IfOk result (λ read. read.1 ≡ crc (xor ∷ read.0.now)) }
     ensures bytes { IsBytes segment.now }
 {
     test_header(segment)?;
@@ -107,5 +146,5 @@ fn segment_chunk<'a>(segment: &'a [u8], offset: u64) -> Result<&'a [u8], ChunkRe
     if offset > segment.len() as u64 {
         return Err(ChunkRefusal::Short);
     }
-    chunk_of(&segment[offset as usize..])
+    summed_of(&segment[offset as usize..])
 }

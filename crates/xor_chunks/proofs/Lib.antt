@@ -17,3 +17,4 @@ pub mod FieldsRead
 pub mod SamplesRead
 pub mod TextsRead
 pub mod Appending
+pub mod SpansRead

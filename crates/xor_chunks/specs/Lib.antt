@@ -10,3 +10,4 @@ pub mod Steps
 pub mod Data
 pub mod Grammar
 pub mod Written
+pub mod Spans

@@ -17,7 +17,7 @@ use wire_bytes::Cursor;
 
 /// How many samples there are, and the bytes after that.
 #[tactic(auto, unfolding(crate::specs::Data::count_at))]
-fn count_of(bytes: &[u8]) -> Result<(u16, &[u8]), XorRefusal>
+pub(crate) fn count_of(bytes: &[u8]) -> Result<(u16, &[u8]), XorRefusal>
     ensures { Answers (λ x. (x.0, x.1.now)) result (count_at bytes.now) }
 {
     let mut cursor = Cursor::new(bytes);
@@ -27,7 +27,7 @@ fn count_of(bytes: &[u8]) -> Result<(u16, &[u8]), XorRefusal>
 
 /// The first sample, and the bytes after it.
 #[tactic(auto, unfolding(crate::specs::Data::first_at))]
-fn first_of(bytes: &[u8]) -> Result<(Sample, &[u8]), XorRefusal>
+pub(crate) fn first_of(bytes: &[u8]) -> Result<(Sample, &[u8]), XorRefusal>
     ensures { Answers (λ x. (x.0, x.1.now)) result (first_at bytes.now) }
 {
     let mut cursor = Cursor::new(bytes);
@@ -38,7 +38,7 @@ fn first_of(bytes: &[u8]) -> Result<(Sample, &[u8]), XorRefusal>
 
 /// How long the second sample comes after the first, and the bytes after that.
 #[tactic(auto, unfolding(crate::specs::Data::gap_at))]
-fn gap_of(bytes: &[u8]) -> Result<(u64, &[u8]), XorRefusal>
+pub(crate) fn gap_of(bytes: &[u8]) -> Result<(u64, &[u8]), XorRefusal>
     ensures { Answers (λ x. (x.0, x.1.now)) result (gap_at bytes.now) }
 {
     let mut cursor = Cursor::new(bytes);
@@ -145,7 +145,7 @@ fn room_for(count: u16, bytes: &[u8]) -> usize {
 }
 
 /// Whether at most `most` bits are left, all zero.
-fn is_filling(mut reader: BitReader<'_>, most: u32) -> bool
+pub(crate) fn is_filling(mut reader: BitReader<'_>, most: u32) -> bool
     requires { most ≤ 64 }
     ensures { result ≡ is_filling most reader.entry }
 {

@@ -4,7 +4,7 @@ use Rattle.chunk_files.proofs.ChunkLaws.{place_found, place_again, found, only}
 use Rattle.chunk_files.proofs.reading.read_chunk.Goals as goal
 
 pub returns-clause-found : goal.returns-clause-found
-returns-clause-found c = found (IsPlace c.args.segment.now c.args.offset) c.segment_chunk.result (segment_at c.args.segment.now c.args.offset) (λ content e. place_found c.args.segment.now c.args.offset content c.segment_chunk.ensures.bytes e) c.segment_chunk.ensures.exact
+returns-clause-found c = found (λ x. x.now) (IsPlace c.args.segment.now c.args.offset) c.segment_chunk.result (segment_at c.args.segment.now c.args.offset) (λ content e. place_found c.args.segment.now c.args.offset content c.segment_chunk.ensures.bytes e) c.segment_chunk.ensures.exact
 
 pub returns-clause-only : goal.returns-clause-only
-returns-clause-only c = λ content h. only c.segment_chunk.result (segment_at c.args.segment.now c.args.offset) content (place_again c.args.segment.now c.args.offset content h) c.segment_chunk.ensures.exact
+returns-clause-only c = λ content h. only (λ x. x.now) c.segment_chunk.result (segment_at c.args.segment.now c.args.offset) content (place_again c.args.segment.now c.args.offset content h) c.segment_chunk.ensures.exact

@@ -4,7 +4,7 @@ use Rattle.chunk_files.proofs.ChunkLaws.{chunk_found, chunk_again, found, only}
 use Rattle.chunk_files.proofs.reading.take_chunk.Goals as goal
 
 pub returns-clause-found : goal.returns-clause-found
-returns-clause-found c = found (IsFront c.args.part.now) c.chunk_of.result (chunk_at c.args.part.now) (λ content e. chunk_found c.args.part.now content c.chunk_of.ensures.bytes e) c.chunk_of.ensures.exact
+returns-clause-found c = found (λ x. x.now) (IsFront c.args.part.now) c.chunk_of.result (chunk_at c.args.part.now) (λ content e. chunk_found c.args.part.now content c.chunk_of.ensures.bytes e) c.chunk_of.ensures.exact
 
 pub returns-clause-only : goal.returns-clause-only
-returns-clause-only c = λ content h. only c.chunk_of.result (chunk_at c.args.part.now) content (chunk_again c.args.part.now content h) c.chunk_of.ensures.exact
+returns-clause-only c = λ content h. only (λ x. x.now) c.chunk_of.result (chunk_at c.args.part.now) content (chunk_again c.args.part.now content h) c.chunk_of.ensures.exact
