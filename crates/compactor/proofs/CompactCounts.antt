@@ -25,7 +25,7 @@ uploads_at upload_is.Looking objects place few = omega (arith, few)
 uploads_at upload_is.Putting objects place few = omega (arith, few)
 
 pub upload_few : (u : Upload) → shipped.count_of u < most_asked
-upload_few u = uploads_at u.stage u.objects.items u.place u.few
+upload_few u = uploads_at u.stage u.objects.value.items u.place u.few
 
 -- ---- the measure falls
 

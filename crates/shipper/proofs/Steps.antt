@@ -1,10 +1,9 @@
 -- An upload's steps are those of its plan.
-use Rattle.std.proofs.Common.{◌≡◌, ℕ, ◌<◌, ◌+◌, ◌-◌, zero, suc, Bool, true, List, [], ◌∷◌, ◌++◌, length, drop, refl, sym, ◌∙◌, ap, subst, inr, arith, Option, Some, None, Result, Ok, Err}
-use Rattle.std.specs.Prelude.{IsSomeAnd, IfOk, OnOk, nat_le}
-use Rattle.std.proofs.lemmas.Bool.{and_parts, leb-true}
-use Rattle.shipper.specs.Limits.{is_lawful_key, have_lawful_keys}
-use Rattle.std.proofs.lemmas.List.{drop_all}
-use Rattle.list_core.specs.declared.memory.NoMemory.{NoMemory}
+use Rattle.std.proofs.Common.{◌≡◌, ℕ, ◌<◌, ◌+◌, ◌-◌, zero, suc, ◌==◌, Bool, true, false, List, [], ◌∷◌, ◌++◌, length, drop, refl, sym, ◌∙◌, ap, subst, inr, arith, Option, Some, None, Ok}
+use Rattle.std.specs.Prelude.{IsSomeAnd, nat_le}
+use Rattle.std.proofs.lemmas.Bool.{and_parts, leb-true, eqb-true}
+use Rattle.shipper.specs.Limits.{is_lawful_key, have_lawful_keys, begun}
+use Rattle.std.proofs.lemmas.List.{drop_all, length-drop}
 use Rattle.block_keys.specs.Keys.{IsLawfulKey}
 use Rattle.block_keys.specs.declared.key.Key.{Key}
 use Rattle.block_keys.specs.declared.key.Key.TheVariants as key
@@ -24,6 +23,7 @@ use Rattle.world_core.specs.declared.act.Act.{Act}
 use Rattle.world_core.specs.declared.act.Act.TheVariants.{Do, Done as Over}
 use Rattle.shipper.specs.UploadStates.{PutsNext, asked_upload, count_at, left_at, left_of, may_upload}
 use Rattle.shipper.specs.Uploads.{putting}
+use Rattle.shipper.specs.declared.stage.Stage.{Stage}
 use Rattle.shipper.specs.declared.stage.Stage.TheVariants.{Looking, Putting}
 use Rattle.shipper.specs.declared.upload.Upload.{Upload}
 use Rattle.shipper.specs.declared.upload_end.UploadEnd.{UploadEnd}
@@ -58,37 +58,66 @@ object_at (o ∷ os) (suc place) lt =
 asks_own : (u : Upload) (o : Op) → asked_upload u ≡ Some o → asked (left_of u) ≡ Some o
 asks_own u o is = is
 
--- a call that asks for the put at the place, or finds no memory
-leads_put : (new : Upload) (objects : List Object) (place : ℕ) (r : Result (Act UploadEnd) NoMemory)
-    → IfOk r (PutsNext objects place) → OnOk r (new.stage ≡ Putting) → new.objects.items ≡ objects → new.place ≡ place
-    → LeadsBy left_of asked_upload (putting (length objects) (drop place objects)) r new
-leads_put new objects place (Ok (Do o)) puts waits same_objects same_place =
+-- what waits, from the object at the place on
+pub waits_first : (stage : Stage) (objects waiting : List Object) (at place : ℕ) → waiting ≡ drop (begun stage at) objects → begun stage at ≡ place → waiting ≡ drop place objects
+waits_first stage objects waiting at place rest next = rest ∙ ap (λ (n : ℕ). drop n objects) next
+
+pub some_wait : (objects waiting : List Object) (place : ℕ) → waiting ≡ drop place objects → place < length objects → 0 < length waiting
+some_wait objects waiting place rest lt = omega (arith, ap length rest, length-drop place objects)
+
+-- what waits behind it
+pub waits_behind : (objects waiting : List Object) (place : ℕ) (object : Object) → place < length objects → drop place objects ≡ object ∷ waiting → waiting ≡ drop (place + 1) objects
+waits_behind objects waiting place object lt is = ap (drop 1) (sym is ∙ (object_at objects place lt).split)
+
+-- the last object leaves none that waits
+pub last_is : (objects waiting : List Object) (place count : ℕ) (empty : Bool) → waiting ≡ drop (place + 1) objects → place < length objects → count ≡ length waiting → empty ≡ (count == 0) → empty ≡ true → place + 1 ≡ length objects
+last_is objects waiting place count empty rest within many is yes' =
+    let none : count ≡ 0 = eqb-true count 0 (sym is ∙ yes') in
+    omega (arith, none, many, ap length rest, length-drop (place + 1) objects)
+
+not_none : (count : ℕ) → (count == 0) ≡ false → 0 < count
+not_none zero e = absurd (cc)
+not_none (suc n) e = omega arith
+
+-- and any other does
+pub more_wait : (objects waiting : List Object) (place count : ℕ) (empty : Bool) → waiting ≡ drop (place + 1) objects → count ≡ length waiting → empty ≡ (count == 0) → empty ≡ false → place + 1 < length objects
+more_wait objects waiting place count empty rest many is no' =
+    let some : 0 < count = not_none count (sym is ∙ no') in
+    omega (arith, some, many, ap length rest, length-drop (place + 1) objects)
+
+-- its put is what the plan asks for
+pub asks_put : (objects waiting : List Object) (place : ℕ) (object : Object) → drop place objects ≡ object ∷ waiting → asked (putting (length objects) (drop place objects)) ≡ Some (op.Put object.key object.bytes)
+asks_put objects waiting place object is = ap (λ l. asked (putting (length objects) l)) is
+
+-- a call that asks for the put at the place
+leads_put : (new : Upload) (objects : List Object) (place : ℕ) (act : Act UploadEnd)
+    → PutsNext objects place act → new.stage ≡ Putting → new.objects.value.items ≡ objects → new.place ≡ place
+    → LeadsBy left_of asked_upload (putting (length objects) (drop place objects)) (Ok act) new
+leads_put new objects place (Do o) puts waits same_objects same_place =
     let kept : place < length objects = subst (λ n. n < length objects) same_place (subst (λ (l : List Object). new.place < length l) same_objects new.within) in
     let at : ObjectAt objects place = object_at objects place kept in
     let keys : IsLawfulKey at.object.key = at.lawful (ap have_lawful_keys (sym same_objects) ∙ new.keys) in
     let is : Some (op.Put at.object.key at.object.bytes) ≡ Some o = ap (λ l. asked (putting (length objects) l)) (sym at.split) ∙ puts in
     let put : op.Put at.object.key at.object.bytes ≡ o = cc (is) in
     let left : left_of new ≡ putting (length objects) (drop place objects) =
-    ap (λ s. left_at s new.ulid new.objects.items new.place) waits
+    ap (λ s. left_at s new.ulid new.objects.value.items new.place) waits
     ∙ ap (λ (l : List Object). putting (length l) (drop new.place l)) same_objects ∙ ap (λ n. putting (length objects) (drop n objects)) same_place in
     record {
       lawful = subst IsLawful put keys;
       asks = ap asked left ∙ puts;
       onward = λ entries end run. subst (λ p. Runs p entries end) left run;
     }
-leads_put new objects place (Ok (Over end)) puts waits same_objects same_place = absurd puts
-leads_put new objects place (Err e) puts waits same_objects same_place = tt
+leads_put new objects place (Over end) puts waits same_objects same_place = absurd puts
 
 -- and its count falls
-pub falls_put : (count : ℕ) (new : Upload) (objects : List Object) (place : ℕ) (r : Result (Act UploadEnd) NoMemory)
-    → IfOk r (PutsNext objects place) → OnOk r (new.stage ≡ Putting) → new.objects.items ≡ objects → new.place ≡ place
-    → length objects - place < count → Falls count r (count_at new.stage new.objects.items new.place)
-falls_put count new objects place (Ok (Do o)) puts waits same_objects same_place less =
-    let is : count_at new.stage new.objects.items new.place ≡ length objects - place =
-    ap (λ s. count_at s new.objects.items new.place) waits ∙ ap (λ (l : List Object). length l - new.place) same_objects ∙ ap (λ n. length objects - n) same_place in
+pub falls_put : (count : ℕ) (new : Upload) (objects : List Object) (place : ℕ) (act : Act UploadEnd)
+    → PutsNext objects place act → new.stage ≡ Putting → new.objects.value.items ≡ objects → new.place ≡ place
+    → length objects - place < count → Falls count (Ok act) (count_at new.stage new.objects.value.items new.place)
+falls_put count new objects place (Do o) puts waits same_objects same_place less =
+    let is : count_at new.stage new.objects.value.items new.place ≡ length objects - place =
+    ap (λ s. count_at s new.objects.value.items new.place) waits ∙ ap (λ (l : List Object). length l - new.place) same_objects ∙ ap (λ n. length objects - n) same_place in
     omega (arith, is)
-falls_put count new objects place (Ok (Over end)) puts waits same_objects same_place less = tt
-falls_put count new objects place (Err e) puts waits same_objects same_place less = tt
+falls_put count new objects place (Over end) puts waits same_objects same_place less = tt
 
 -- ---- the look
 
@@ -105,25 +134,25 @@ absent_reply k (reply.Names ns) kind found failed = absurd kind
 pub asks_look : (u : Upload) → u.stage ≡ Looking → GoesOn may_upload asked_upload u [] (Ok (Do (op.Get (key.Meta u.ulid)))) u
 asks_look u looking = opens_by left_of asked_upload asks_own u u (Ok (Do (op.Get (key.Meta u.ulid)))) (record {
   lawful = tt;
-  asks = ap (λ s. asked (left_at s u.ulid u.objects.items u.place)) looking;
+  asks = ap (λ s. asked (left_at s u.ulid u.objects.value.items u.place)) looking;
   onward = λ entries end run. run;
 })
 
 -- after a look that found nothing, the first put
-pub look_goes : (u new : Upload) (seat : ℕ) (o : Op) (seen : Seen) (r : Result (Act UploadEnd) NoMemory) → u.stage ≡ Looking
+pub look_goes : (u new : Upload) (seat : ℕ) (o : Op) (seen : Seen) (act : Act UploadEnd) → u.stage ≡ Looking
     → IsSomeAnd (asked_upload u) (λ p. IsAnswer p seen) → ((b : List ℕ) → seen.reply ≡ reply.Found b → ⊥) → ((l : Bool) → seen.reply ≡ reply.Failed l → ⊥)
-    → IfOk r (PutsNext u.objects.items 0) → OnOk r (new.stage ≡ Putting) → new.objects.items ≡ u.objects.items → new.place ≡ 0
-    → asked_upload u ≡ Some o → GoesOn may_upload asked_upload u (entry_of seat o seen ∷ []) r new
-look_goes u new seat o seen r looking answer found failed puts waits same_objects same_place asks =
-    let is : Some o ≡ Some (op.Get (key.Meta u.ulid)) = sym asks ∙ ap (λ s. asked (left_at s u.ulid u.objects.items u.place)) looking in
+    → PutsNext u.objects.value.items 0 act → new.stage ≡ Putting → new.objects.value.items ≡ u.objects.value.items → new.place ≡ 0
+    → asked_upload u ≡ Some o → GoesOn may_upload asked_upload u (entry_of seat o seen ∷ []) (Ok act) new
+look_goes u new seat o seen act looking answer found failed puts waits same_objects same_place asks =
+    let is : Some o ≡ Some (op.Get (key.Meta u.ulid)) = sym asks ∙ ap (λ s. asked (left_at s u.ulid u.objects.value.items u.place)) looking in
     let get : o ≡ op.Get (key.Meta u.ulid) = cc (is) in
     let kind : IsReplyTo (op.Get (key.Meta u.ulid)) seen.reply = subst (λ p. IsReplyTo p seen.reply) get (answer_of seen (asked_upload u) o answer asks).kind in
     let absent : seen.reply ≡ reply.Absent = absent_reply (key.Meta u.ulid) seen.reply kind found failed in
-    let left : after_entry (left_of u) (entry_of seat o seen) ≡ putting (length u.objects.items) u.objects.items =
-    ap (λ s. after_entry (left_at s u.ulid u.objects.items u.place) (entry_of seat o seen)) looking
-    ∙ ap (λ q. after_get q (λ bytes. ends Already) (putting (length u.objects.items) u.objects.items) (ends (Fault seen.seq))) absent in
-    steps_by left_of asked_upload asks_own u new seat o seen r asks
-    (subst (λ p. LeadsBy left_of asked_upload p r new) (sym left) (leads_put new u.objects.items 0 r puts waits same_objects same_place))
+    let left : after_entry (left_of u) (entry_of seat o seen) ≡ putting (length u.objects.value.items) u.objects.value.items =
+    ap (λ s. after_entry (left_at s u.ulid u.objects.value.items u.place) (entry_of seat o seen)) looking
+    ∙ ap (λ q. after_get q (λ bytes. ends Already) (putting (length u.objects.value.items) u.objects.value.items) (ends (Fault seen.seq))) absent in
+    steps_by left_of asked_upload asks_own u new seat o seen (Ok act) asks
+    (subst (λ p. LeadsBy left_of asked_upload p (Ok act) new) (sym left) (leads_put new u.objects.value.items 0 act puts waits same_objects same_place))
 
 -- ---- the puts
 
@@ -141,19 +170,19 @@ stored_reply o k bytes r is kind failed = stored r (subst (λ p. IsReplyTo p r) 
 
 -- what follows a put, by its reply
 after_this : (u : Upload) (seat : ℕ) (o : Op) (seen : Seen) → u.stage ≡ Putting
-    → after_entry (left_of u) (entry_of seat o seen) ≡ after_put seen.reply (putting (length u.objects.items) (drop (u.place + 1) u.objects.items)) (ends (Fault seen.seq))
+    → after_entry (left_of u) (entry_of seat o seen) ≡ after_put seen.reply (putting (length u.objects.value.items) (drop (u.place + 1) u.objects.value.items)) (ends (Fault seen.seq))
 after_this u seat o seen putting' =
-    let at : ObjectAt u.objects.items u.place = object_at u.objects.items u.place u.within in
-    ap (λ s. after_entry (left_at s u.ulid u.objects.items u.place) (entry_of seat o seen)) putting'
-    ∙ ap (λ l. after_entry (putting (length u.objects.items) l) (entry_of seat o seen)) at.split
+    let at : ObjectAt u.objects.value.items u.place = object_at u.objects.value.items u.place u.within in
+    ap (λ s. after_entry (left_at s u.ulid u.objects.value.items u.place) (entry_of seat o seen)) putting'
+    ∙ ap (λ l. after_entry (putting (length u.objects.value.items) l) (entry_of seat o seen)) at.split
 
 -- an end to which this reply leads
 comes_to : (u : Upload) (seat : ℕ) (o : Op) (seen : Seen) (r : Reply) (end : UploadEnd) → u.stage ≡ Putting → asked_upload u ≡ Some o → seen.reply ≡ r
-    → Runs (after_put r (putting (length u.objects.items) (drop (u.place + 1) u.objects.items)) (ends (Fault seen.seq))) [] (Some end)
+    → Runs (after_put r (putting (length u.objects.value.items) (drop (u.place + 1) u.objects.value.items)) (ends (Fault seen.seq))) [] (Some end)
     → may_upload u (entry_of seat o seen ∷ []) (Some end) u
 comes_to u seat o seen r end putting' asks is run =
-    let left : after_entry (left_of u) (entry_of seat o seen) ≡ after_put r (putting (length u.objects.items) (drop (u.place + 1) u.objects.items)) (ends (Fault seen.seq)) =
-    after_this u seat o seen putting' ∙ ap (λ q. after_put q (putting (length u.objects.items) (drop (u.place + 1) u.objects.items)) (ends (Fault seen.seq))) is in
+    let left : after_entry (left_of u) (entry_of seat o seen) ≡ after_put r (putting (length u.objects.value.items) (drop (u.place + 1) u.objects.value.items)) (ends (Fault seen.seq)) =
+    after_this u seat o seen putting' ∙ ap (λ q. after_put q (putting (length u.objects.value.items) (drop (u.place + 1) u.objects.value.items)) (ends (Fault seen.seq))) is in
     on_entry (left_of u) (entry_of seat o seen) [] (Some end) asks (subst (λ p. Runs p [] (Some end)) (sym left) run)
 
 -- a put that failed
@@ -164,23 +193,23 @@ put_fails u seat o seen landed putting' asks failed = comes_to u seat o seen (re
 module _ (u : Upload) (seat : ℕ) (o : Op) (seen : Seen) (putting' : u.stage ≡ Putting) (answer : IsSomeAnd (asked_upload u) (λ p. IsAnswer p seen)) (failed : (l : Bool) → seen.reply ≡ reply.Failed l → ⊥) (asks : asked_upload u ≡ Some o) where
   was_stored : seen.reply ≡ reply.Stored
   was_stored =
-      let at : ObjectAt u.objects.items u.place = object_at u.objects.items u.place u.within in
+      let at : ObjectAt u.objects.value.items u.place = object_at u.objects.value.items u.place u.within in
       let is : Some o ≡ Some (op.Put at.object.key at.object.bytes) =
-      sym asks ∙ ap (λ s. asked (left_at s u.ulid u.objects.items u.place)) putting' ∙ ap (λ l. asked (putting (length u.objects.items) l)) at.split in
+      sym asks ∙ ap (λ s. asked (left_at s u.ulid u.objects.value.items u.place)) putting' ∙ ap (λ l. asked (putting (length u.objects.value.items) l)) at.split in
       stored_reply o at.object.key at.object.bytes seen.reply (cc (is)) (answer_of seen (asked_upload u) o answer asks).kind failed
 
   -- the last put was stored
-  pub put_last : u.place + 1 ≡ length u.objects.items → may_upload u (entry_of seat o seen ∷ []) (Some (Done (u.place + 1))) u
+  pub put_last : u.place + 1 ≡ length u.objects.value.items → may_upload u (entry_of seat o seen ∷ []) (Some (Done (u.place + 1))) u
   put_last last =
       comes_to u seat o seen reply.Stored (Done (u.place + 1)) putting' asks was_stored
-      (subst (λ (l : List Object). Runs (putting (length u.objects.items) l) [] (Some (Done (u.place + 1)))) (sym (drop_all (u.place + 1) u.objects.items (omega arith)))
+      (subst (λ (l : List Object). Runs (putting (length u.objects.value.items) l) [] (Some (Done (u.place + 1)))) (sym (drop_all (u.place + 1) u.objects.value.items (omega arith)))
       (refl, inr (ap (λ n. Some (Done n)) last)))
 
   -- the next put follows one that was stored
-  pub put_goes : (new : Upload) (r : Result (Act UploadEnd) NoMemory) → IfOk r (PutsNext u.objects.items (u.place + 1)) → OnOk r (new.stage ≡ Putting)
-      → new.objects.items ≡ u.objects.items → new.place ≡ u.place + 1 → GoesOn may_upload asked_upload u (entry_of seat o seen ∷ []) r new
-  put_goes new r puts waits same_objects same_place =
-      let left : after_entry (left_of u) (entry_of seat o seen) ≡ putting (length u.objects.items) (drop (u.place + 1) u.objects.items) =
-      after_this u seat o seen putting' ∙ ap (λ q. after_put q (putting (length u.objects.items) (drop (u.place + 1) u.objects.items)) (ends (Fault seen.seq))) was_stored in
-      steps_by left_of asked_upload asks_own u new seat o seen r asks
-      (subst (λ p. LeadsBy left_of asked_upload p r new) (sym left) (leads_put new u.objects.items (u.place + 1) r puts waits same_objects same_place))
+  pub put_goes : (new : Upload) (act : Act UploadEnd) → PutsNext u.objects.value.items (u.place + 1) act → new.stage ≡ Putting
+      → new.objects.value.items ≡ u.objects.value.items → new.place ≡ u.place + 1 → GoesOn may_upload asked_upload u (entry_of seat o seen ∷ []) (Ok act) new
+  put_goes new act puts waits same_objects same_place =
+      let left : after_entry (left_of u) (entry_of seat o seen) ≡ putting (length u.objects.value.items) (drop (u.place + 1) u.objects.value.items) =
+      after_this u seat o seen putting' ∙ ap (λ q. after_put q (putting (length u.objects.value.items) (drop (u.place + 1) u.objects.value.items)) (ends (Fault seen.seq))) was_stored in
+      steps_by left_of asked_upload asks_own u new seat o seen (Ok act) asks
+      (subst (λ p. LeadsBy left_of asked_upload p (Ok act) new) (sym left) (leads_put new u.objects.value.items (u.place + 1) act puts waits same_objects same_place))

@@ -1,9 +1,11 @@
 -- What an upload keeps of its objects.
-use Rattle.std.specs.Prelude.{ℕ, Bool, true, ◌&&◌, nat_le, List}
+use Rattle.std.specs.Prelude.{ℕ, ◌+◌, Bool, true, ◌&&◌, nat_le, List}
 use Rattle.std.specs.List.{list_all}
 use Rattle.block_keys.specs.declared.key.Key.{Key}
 use Rattle.block_keys.specs.declared.key.Key.TheVariants.{Segment}
 use Rattle.block_keys.specs.declared.object.Object.{Object}
+use Rattle.shipper.specs.declared.stage.Stage.{Stage}
+use Rattle.shipper.specs.declared.stage.Stage.TheVariants.{Looking, Putting}
 
 -- how many objects a block has at most: 999,999 segments, the index and the meta
 abbrev pub most_objects : ℕ
@@ -16,3 +18,8 @@ is_lawful_key other = true
 
 abbrev pub have_lawful_keys : List Object → Bool
 have_lawful_keys objects = list_all (λ object. is_lawful_key object.key) objects
+
+-- how many puts were asked for where one is waited for at this place, or none yet
+abbrev pub begun : Stage → ℕ → ℕ
+begun Looking place = 0
+begun Putting place = place + 1

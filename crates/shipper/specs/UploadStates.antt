@@ -19,7 +19,7 @@ left_at Looking ulid objects place = upload ulid objects
 left_at Putting ulid objects place = putting (length objects) (drop place objects)
 
 abbrev pub left_of : Upload → Plan UploadEnd
-left_of upload = left_at upload.stage upload.ulid upload.objects.items upload.place
+left_of upload = left_at upload.stage upload.ulid upload.objects.value.items upload.place
 
 -- it was not begun
 abbrev pub IsFresh : Upload → Type 0
@@ -39,7 +39,7 @@ count_at Looking objects place = length objects + 1
 count_at Putting objects place = length objects - place
 
 abbrev pub count_of : Upload → ℕ
-count_of upload = count_at upload.stage upload.objects.items upload.place
+count_of upload = count_at upload.stage upload.objects.value.items upload.place
 
 -- a call that asks for the put at the place
 abbrev pub PutsNext : List Object → ℕ → Act UploadEnd → Type 0

@@ -1,18 +1,20 @@
-ghost use Rattle.std.specs.Prelude.{◌≡◌, ℕ, ◌<◌, ◌≤◌, List, [], ◌∷◌, length, Option, Some, IfOk, OnOk, IsTrue, IsSomeAnd};
+ghost use Rattle.std.specs.Prelude.{◌≡◌, ℕ, ◌<◌, ◌≤◌, List, [], ◌∷◌, length, drop, Option, Some, IfOk, IsTrue, IsSomeAnd};
 ghost use Rattle.world_core.specs.Machines.{GoesOn, Falls};
 ghost use Rattle.world_core.specs.Operations.{IsAnswer, entry_of};
 ghost use Rattle.world_core.specs.declared.op.Op.{Op};
 ghost use Rattle.world_core.specs.declared.entry.Entry.{Entry};
 ghost use Rattle.world_core.specs.Plans.{Runs};
 ghost use Rattle.block_keys.specs.Blocks.{IsBlock};
-ghost use Rattle.shipper.specs.Limits.{most_objects, have_lawful_keys};
+ghost use Rattle.shipper.specs.Limits.{most_objects, have_lawful_keys, begun};
 ghost use Rattle.shipper.specs.Uploads.{upload};
 ghost use Rattle.shipper.specs.declared.upload_end.UploadEnd.{UploadEnd};
 
 use crate::UploadEnd;
 use crate::stage::Stage;
 use block_keys::{Key, Object, ObjectList};
-use list_core::{NoMemory, TryCopy};
+use list_core::NoMemory;
+use std::collections::VecDeque;
+use std::snapshot::Snapshot;
 use ulid_core::Ulid;
 use world_core::{Act, Machine, Op, Reply, Seen};
 
@@ -20,12 +22,28 @@ use world_core::{Act, Machine, Op, Reply, Seen};
 #[derive(Drop)]
 pub struct Upload {
     ulid: Ulid,
-    objects: Vec<Object>,
+    /// The objects as they were handed over. It has no bytes.
+    objects: Snapshot<Vec<Object>>,
+    /// The objects whose puts are still to be asked for. An object leaves with its put.
+    waiting: VecDeque<Object>,
+    /// The place of the object whose put is waited for.
     place: usize,
     stage: Stage,
-    ghost keys: { IsTrue (have_lawful_keys objects.items) },
-    ghost few: { length objects.items ≤ most_objects },
-    ghost within: { place < length objects.items },
+    ghost keys: { IsTrue (have_lawful_keys objects.value.items) },
+    ghost few: { length objects.value.items ≤ most_objects },
+    ghost within: { place < length objects.value.items },
+    ghost rest: { waiting.items ≡ drop (begun stage place) objects.value.items },
+}
+
+/// Takes the first of the objects that wait.
+fn take_first(waiting: &mut VecDeque<Object>) -> Object
+    requires { 0 < length waiting.old.items }
+    ensures { waiting.old.items ≡ result ∷ waiting.new.items }
+{
+    match waiting.pop_front() {
+        Some(object) => object,
+        None => unreachable!(),
+    }
 }
 
 impl Upload {
@@ -42,25 +60,30 @@ impl Upload {
     {
         let objects = objects.into_vec();
         let ulid = objects[0].key.ulid();
+        let all = Snapshot::of(&objects);
+        let waiting = VecDeque::from_vec(objects);
         Ok(Upload {
             ulid,
-            objects,
+            objects: all,
+            waiting,
             place: 0,
             stage: Stage::Looking,
         })
     }
 
-    /// Asks for the put of the object at the place.
-    fn put_next(&mut self) -> Result<Act<UploadEnd>, NoMemory>
-        ensures puts { IfOk result (PutsNext self.old.objects.items self.old.place) }
-        ensures waits { OnOk result (self.new.stage ≡ Stage.Putting) }
-        ensures objects { self.new.objects.items ≡ self.old.objects.items }
-        ensures place { self.new.place ≡ self.old.place }
+    /// Asks for the put of the object at a place, the first of those that wait, and lets go of it.
+    fn put_at(&mut self, place: usize) -> Act<UploadEnd>
+        requires next { begun self.old.stage self.old.place ≡ place }
+        requires some { place < length self.old.objects.value.items }
+        ensures puts { PutsNext self.old.objects.value.items place result }
+        ensures waits { self.new.stage ≡ Stage.Putting }
+        ensures objects { self.new.objects.value.items ≡ self.old.objects.value.items }
+        ensures place { self.new.place ≡ place }
     {
-        let object = &self.objects[self.place];
-        let bytes = object.bytes.copy()?;
+        let object = take_first(&mut self.waiting);
+        self.place = place;
         self.stage = Stage::Putting;
-        Ok(Act::Do(Op::Put(object.key, bytes)))
+        Act::Do(Op::Put(object.key, object.bytes))
     }
 
     /// Goes on after the look at the meta.
@@ -74,10 +97,7 @@ impl Upload {
         match seen.reply {
             Reply::Found(_) => Ok(Act::Done(UploadEnd::Already)),
             Reply::Failed(_) => Ok(Act::Done(UploadEnd::Fault(seen.seq))),
-            _ => {
-                self.place = 0;
-                self.put_next()
-            }
+            _ => Ok(self.put_at(0)),
         }
     }
 
@@ -93,11 +113,10 @@ impl Upload {
             return Ok(Act::Done(UploadEnd::Fault(seen.seq)));
         }
         let next = self.place + 1;
-        if next == self.objects.len() {
+        if self.waiting.is_empty() {
             return Ok(Act::Done(UploadEnd::Done(next as u32)));
         }
-        self.place = next;
-        self.put_next()
+        Ok(self.put_at(next))
     }
 }
 
