@@ -1,13 +1,10 @@
 -- What pages of the names of blocks, and reads of their marks and metas, lead to.
 use Rattle.std.proofs.Common.{◌≡◌, ℕ, suc, ◌+◌, ◌*◌, ◌-◌, ◌^◌, ◌<◌, ◌≤◌, Bool, true, false, List, [], ◌∷◌, ◌++◌, length, min, sym, ◌∙◌, ap, subst, Option, Some, None, Result, arith, length-append}
-use Rattle.std.specs.Result.{result_ok}
-use Rattle.std.proofs.lemmas.List.Elements.{filter_map-append}
 use Rattle.list_core.specs.declared.memory.NoMemory.{NoMemory}
-use Rattle.ulid_core.specs.UlidText.{ulid_of}
 use Rattle.block_meta.specs.MetaFields.{MarkFields}
 use Rattle.world_core.specs.Operations.{entry_of}
 use Rattle.world_core.specs.Plans.{Plan, Runs, ends, choose, after_get}
-use Rattle.world_core.specs.Walks.{last_listed}
+use Rattle.world_core.specs.Walks.{last_listed, ulids_in}
 use Rattle.world_core.specs.declared.op.Op.{Op}
 use Rattle.world_core.specs.declared.reply.Reply.{Reply}
 use Rattle.world_core.specs.declared.reply.Reply.TheVariants as reply
@@ -17,7 +14,7 @@ use Rattle.world_core.specs.declared.act.Act.{Act}
 use Rattle.cleaner.specs.Marks.{is_old_mark, is_old_block}
 use Rattle.block_meta.specs.OfBlocks.{block_mark}
 use Rattle.cleaner.specs.Pages.{page_of}
-use Rattle.cleaner.specs.Cleanings.{Counts, if_mark, reads_meta, deletion, looking, none_deleted, one_block_more, ulids_in, listing}
+use Rattle.cleaner.specs.Cleanings.{Counts, if_mark, reads_meta, deletion, looking, none_deleted, one_block_more, listing}
 use Rattle.cleaner.specs.CleanStates.{AreBlocks, Onward, Leads, counts_of, blocks_left, blocks_after_partial, may_at, goes_after, goes_by_blocks, goes_to_blocks}
 use Rattle.cleaner.specs.declared.page.Page.{Page}
 use Rattle.cleaner.specs.declared.page.Page.TheVariants as page_is
@@ -26,7 +23,7 @@ use Rattle.cleaner.specs.declared.walk.Walk.{Walk}
 use Rattle.cleaner.specs.declared.clean.Clean.{Clean}
 use Rattle.cleaner.specs.declared.clean_end.CleanEnd.{CleanEnd}
 use Rattle.cleaner.specs.declared.clean_end.CleanEnd.TheVariants.{Done, Fault, Damaged, TooMany}
-use Rattle.cleaner.proofs.Names.{length-found}
+use Rattle.world_core.proofs.PageNames.{ulids_in-append, length-ulids_in}
 use Rattle.world_core.proofs.LeadSteps.{ended}
 use Rattle.cleaner.proofs.Steps.{leads_as}
 use Rattle.cleaner.proofs.Walked.{followed, page_follows, page_came, page_failed, WalksOn, walks_on}
@@ -44,12 +41,6 @@ module _ (c : Clean) (seat : ℕ) (o : Op) (seen : Seen) where
   blocks_failed landed is = λ names more blocks. page_failed c.rules.page_limit seen.seq names (λ all. looking c.rules none_deleted (ulids_in all)) (listing c.rules more) seen.reply landed is
 
 -- ---- its names
-
-ulids_in-append : (before more : List (List ℕ)) → ulids_in (before ++ more) ≡ ulids_in before ++ ulids_in more
-ulids_in-append before more = filter_map-append (λ name. result_ok (ulid_of name)) before more
-
-few_ulids : (names : List (List ℕ)) → length (ulids_in names) ≤ length names
-few_ulids names = length-found (λ name. result_ok (ulid_of name)) names
 
 all_wait : (before : List ℕ) (page names : List (List ℕ)) (waiting : List ℕ) → waiting ≡ before ++ ulids_in page → ulids_in names ≡ before → waiting ≡ ulids_in (names ++ page)
 all_wait before page names waiting added listed = added ∙ ap (λ l. l ++ ulids_in page) (sym listed) ∙ sym (ulids_in-append names page)
@@ -75,7 +66,7 @@ module _ (c : Clean) (seq : ℕ) (page : List (List ℕ)) where
       let no_blocks : c.blocks ≡ 0 = ap (λ (n : Counts). n.blocks) blocks.0 in
       let no_partials : c.partials ≡ 0 = ap (λ (n : Counts). n.partials) blocks.0 in
       let all : waiting ≡ ulids_in (names ++ page) = all_wait c.waiting.items page names waiting added blocks.1.blocks in
-      let many : length waiting ≤ length (names ++ page) = subst (λ l. length l ≤ length (names ++ page)) (sym all) (few_ulids (names ++ page)) in
+      let many : length waiting ≤ length (names ++ page) = subst (λ l. length l ≤ length (names ++ page)) (sym all) (length-ulids_in (names ++ page)) in
       let both : length (names ++ page) ≡ length names + length page = length-append names page in
       let few : length names < 1_000_000 = blocks.1.walked.few in
       subst (λ n. Runs (looking c.rules n (ulids_in (names ++ page))) entries end) blocks.0
@@ -97,7 +88,7 @@ module _ (c : Clean) (seq : ℕ) (page : List (List ℕ)) where
       → 2 ^ 34 * length waiting + 1 ≤ 2 ^ 34 * length c.waiting.items + (2 ^ 34 + 1) * (1_000_000 - c.walk.listed) + 2 ^ 34 * 2 ^ 32 + 1
   blocks_last_falls waiting added short =
       let all : length waiting ≡ length c.waiting.items + length (ulids_in page) = ap length added ∙ length-append c.waiting.items (ulids_in page) in
-      let few : length (ulids_in page) ≤ length page = few_ulids page in
+      let few : length (ulids_in page) ≤ length page = length-ulids_in page in
       omega (arith, all, few, short)
 
   pub blocks_full_falls : (waiting : List ℕ) (listed : ℕ) → waiting ≡ c.waiting.items ++ ulids_in page → 0 < length page → listed ≡ c.walk.listed + length page → listed < 1_000_000
@@ -105,7 +96,7 @@ module _ (c : Clean) (seq : ℕ) (page : List (List ℕ)) where
       ≤ 2 ^ 34 * length c.waiting.items + (2 ^ 34 + 1) * (1_000_000 - c.walk.listed) + 2 ^ 34 * 2 ^ 32 + 1
   blocks_full_falls waiting listed added some counted fewer =
       let all : length waiting ≡ length c.waiting.items + length (ulids_in page) = ap length added ∙ length-append c.waiting.items (ulids_in page) in
-      let few : length (ulids_in page) ≤ length page = few_ulids page in
+      let few : length (ulids_in page) ≤ length page = length-ulids_in page in
       omega (arith, all, few, counted, some, fewer)
 
 -- ---- the next block

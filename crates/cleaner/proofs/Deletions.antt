@@ -25,7 +25,7 @@ use Rattle.cleaner.specs.declared.walk.Walk.{Walk}
 use Rattle.cleaner.specs.declared.clean.Clean.{Clean}
 use Rattle.cleaner.specs.declared.clean_end.CleanEnd.{CleanEnd}
 use Rattle.cleaner.specs.declared.clean_end.CleanEnd.TheVariants.{Fault, Damaged, TooMany}
-use Rattle.cleaner.proofs.Names.{length-found}
+use Rattle.world_core.proofs.PageNames.{length-found}
 use Rattle.world_core.proofs.LeadSteps.{ended}
 use Rattle.cleaner.proofs.Steps.{leads_as}
 use Rattle.cleaner.proofs.Walked.{followed, page_follows, page_came, page_failed, WalksOn, walks_on}

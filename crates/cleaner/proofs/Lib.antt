@@ -1,6 +1,5 @@
 mod Steps
 mod Keys
-mod Names
 mod Walked
 mod Blocks
 mod Deletions

@@ -15,7 +15,7 @@ use Rattle.cleaner.specs.declared.page.Page.TheVariants as page_is
 use Rattle.cleaner.specs.declared.walk.Walk.{Walk}
 use Rattle.cleaner.specs.declared.clean_end.CleanEnd.{CleanEnd}
 use Rattle.cleaner.specs.declared.clean_end.CleanEnd.TheVariants.{Damaged, Fault, TooMany}
-use Rattle.cleaner.proofs.Names.{last_listed-append}
+use Rattle.world_core.proofs.PageNames.{last_listed-append}
 use Rattle.world_core.proofs.LeadSteps.{ended}
 
 -- what follows a page that is such

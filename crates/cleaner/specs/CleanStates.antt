@@ -8,14 +8,14 @@ use Rattle.world_core.specs.Leads as lead
 use Rattle.world_core.specs.Leads.{after_entry}
 use Rattle.world_core.specs.Limits.{most_listed}
 use Rattle.world_core.specs.Plans.{Plan, Runs}
-use Rattle.world_core.specs.Walks.{after_page, last_listed}
+use Rattle.world_core.specs.Walks.{after_page, last_listed, ulids_in}
 use Rattle.world_core.specs.declared.op.Op.{Op}
 use Rattle.world_core.specs.declared.op.Op.TheVariants as op
 use Rattle.world_core.specs.declared.reply.Reply.TheVariants as reply
 use Rattle.world_core.specs.declared.entry.Entry.{Entry}
 use Rattle.world_core.specs.declared.act.Act.{Act}
 use Rattle.cleaner.specs.Objects.{data_keys, objects_of}
-use Rattle.cleaner.specs.Cleanings.{Counts, one_partial_more, walk_ends, deleting, walking, deletion, reads_meta, looking, none_deleted, ulids_in, listing}
+use Rattle.cleaner.specs.Cleanings.{Counts, one_partial_more, walk_ends, deleting, walking, deletion, reads_meta, looking, none_deleted, listing}
 use Rattle.cleaner.specs.declared.clean_end.CleanEnd.{CleanEnd}
 use Rattle.cleaner.specs.declared.stage.Stage.{Stage}
 use Rattle.cleaner.specs.declared.stage.Stage.TheVariants.{Fresh, Listing, Marking, Reading, Walking, Deleting}

@@ -2,9 +2,6 @@
 -- old enough. Where there is no mark, the block's meta is read: a block without a meta is a partial, and is deleted where its ULID is
 -- old enough. A deletion is a walk over the block's names, and then the deletes of its objects, the meta first and the mark last.
 use Rattle.std.specs.Prelude.{ℕ, ◌+◌, List, [], ◌∷◌, Option, Some, None}
-use Rattle.std.specs.List.{filter_map}
-use Rattle.std.specs.Result.{result_ok}
-use Rattle.ulid_core.specs.UlidText.{ulid_of}
 use Rattle.block_keys.specs.declared.key.Key.{Key}
 use Rattle.block_keys.specs.declared.key.Key.TheVariants as key
 use Rattle.block_meta.specs.MetaFields.{MarkFields}
@@ -76,10 +73,6 @@ looking rules counts (ulid ∷ ulids) =
     (λ e. reads_meta rules ulid (looking rules counts ulids) (deletion rules ulid (looking rules (one_partial_more counts) ulids)))
 
 -- ---- the whole
-
--- the ULIDs among names, in order; every other name is passed over
-abbrev pub ulids_in : List (List ℕ) → List ℕ
-ulids_in names = filter_map (λ name. result_ok (ulid_of name)) names
 
 -- at most so many pages after these names, and then the looks at all blocks that were listed
 abbrev pub listing : CleanRules → ℕ → List (List ℕ) → Plan CleanEnd

@@ -10,7 +10,7 @@ ghost use Rattle.cleaner.specs.declared.clean_end.CleanEnd.{CleanEnd};
 use crate::CleanEnd;
 use crate::ages::{is_old_block, is_old_mark};
 use crate::clean_rules::{CleanRules, rules_of};
-use crate::objects::{add_data_keys, add_ulids, first_of};
+use crate::objects::{add_data_keys, first_of};
 use crate::page::Page;
 use crate::stage::Stage;
 use crate::walk::Walk;
@@ -22,7 +22,7 @@ use moment_core::Rules;
 use std::alloc::Global;
 use std::collections::VecDeque;
 use ulid_core::Ulid;
-use world_core::{Act, Machine, Op, Reply, Seen};
+use world_core::{Act, Machine, Op, Reply, Seen, add_ulids};
 
 /// A cleaning: the pages of the bucket's names up to the first short one, then of each block its mark, and where there is none its
 /// meta. Of a block that is to be deleted the pages of its names, and then the deletes of its objects.

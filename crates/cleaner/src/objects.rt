@@ -2,7 +2,6 @@ ghost use Rattle.std.specs.Prelude.{◌≡◌, [], ◌∷◌, ◌++◌, drop, Is
 ghost use Rattle.std.specs.String.{string_bytes};
 ghost use Rattle.ulid_core.specs.UlidText.{IsUlidText, text_of};
 ghost use Rattle.cleaner.specs.Objects.{data_named, data_keys, have_lawful_keys, is_lawful_key, only_data as only_data_of};
-ghost use Rattle.cleaner.specs.Cleanings.{ulids_in};
 
 use block_keys::Key;
 use label_sets::Text;
@@ -10,18 +9,6 @@ use list_core::NoMemory;
 use std::alloc::Global;
 use std::collections::VecDeque;
 use ulid_core::Ulid;
-
-/// Adds the ULIDs among the names.
-pub(crate) fn add_ulids(ulids: &mut VecDeque<Ulid>, names: &[Text]) -> Result<(), NoMemory>
-    ensures { OnOk result (ulids.new.items ≡ ulids.old.items ++ ulids_in names.now) }
-{
-    for name in names {
-        if let Ok(ulid) = Ulid::read(name.as_str()) {
-            ulids.push_back(ulid)?;
-        }
-    }
-    Ok(())
-}
 
 /// Adds the keys of the segments and of the index among the names of a block.
 pub(crate) fn add_data_keys(

@@ -1,12 +1,12 @@
-ghost use Rattle.std.specs.Prelude.{◌≡◌, ◌+◌, ◌<◌, ◌≤◌, ◌^◌, nat_lt, [], length, None, Some, unwrap_or, Ok, IfOk};
-ghost use Rattle.std.specs.Option.{option_copied};
-ghost use Rattle.world_core.specs.Walks.{ascends as do_ascend, is_after as comes_after, last_listed};
+ghost use Rattle.std.specs.Prelude.{◌≡◌, ◌+◌, ◌<◌, ◌≤◌, ◌^◌, [], length, None, unwrap_or, Ok, IfOk};
+ghost use Rattle.world_core.specs.Walks.{last_listed};
 ghost use Rattle.cleaner.specs.Pages.{page_of};
 
 use crate::page::Page;
 use label_sets::Text;
 use list_core::{NoMemory, TryCopy};
 use std::alloc::Global;
+use world_core::{ascends, is_short, last_name};
 
 /// A walk that has listed so many names and has not come to its end is given up.
 const MOST_NAMES: u64 = 1_000_000;
@@ -68,42 +68,4 @@ impl Walk {
         self.last = Some(last_name(names)?);
         Ok(Page::Full)
     }
-}
-
-/// Tells whether each name is greater than the one before it, where the first one may have one before it too.
-fn ascends(before: Option<&Text>, names: &[Text]) -> bool
-    ensures { result ≡ do_ascend (option_copied before.entry) names.now }
-{
-    let mut last = before;
-    for name in names {
-        if !is_after(last, name) {
-            return false;
-        }
-        last = Some(name);
-    }
-    true
-}
-
-fn is_after(before: Option<&Text>, name: &Text) -> bool
-    ensures { result ≡ comes_after (option_copied before.entry) name.now }
-{
-    match before {
-        Some(before) => before.as_str() < name.as_str(),
-        None => true,
-    }
-}
-
-/// Tells whether a page of so many names has fewer than it was asked for.
-fn is_short(count: usize, limit: u32) -> bool
-    ensures { result ≡ nat_lt count limit }
-{
-    (count as u64) < u64::from(limit)
-}
-
-/// A copy of the last name.
-fn last_name(names: &[Text]) -> Result<Text, NoMemory>
-    requires { 0 < length names.now }
-    ensures { IfOk result (λ name. last_listed names.now ≡ Some name) }
-{
-    names[names.len() - 1].copy()
 }

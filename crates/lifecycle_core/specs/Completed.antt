@@ -7,7 +7,7 @@ use Rattle.meta_fetcher.specs.declared.rules.SyncRules.{SyncRules}
 use Rattle.world_core.specs.Standing.{has_landed}
 use Rattle.world_core.specs.declared.op.Op.TheVariants.{Put}
 use Rattle.world_core.specs.declared.entry.Entry.{Entry}
-use Rattle.sync_filters.specs.Filters.{time_of}
+use Rattle.ulid_core.specs.Times.{time_of}
 use Rattle.lifecycle_core.specs.Setting.{Setting}
 use Rattle.lifecycle_core.specs.Held.{declared}
 use Rattle.lifecycle_core.specs.Holdings.{Use}

@@ -8,7 +8,7 @@ use Rattle.block_meta.specs.MetaFields.{MarkFields}
 use Rattle.block_meta.specs.MetaText.{IsMarkText}
 use Rattle.moment_core.specs.declared.rules.Rules.{Rules}
 use Rattle.meta_fetcher.specs.declared.view.View.{View}
-use Rattle.sync_filters.specs.Filters.{time_of}
+use Rattle.ulid_core.specs.Times.{time_of}
 use Rattle.world_core.specs.Standing.{has_landed}
 use Rattle.world_core.specs.declared.op.Op.TheVariants.{Put}
 use Rattle.world_core.specs.declared.entry.Entry.{Entry}

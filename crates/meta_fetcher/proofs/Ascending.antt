@@ -16,13 +16,13 @@ use Rattle.ulid_core.specs.UlidText.{IsUlidText, ulid_of, text_of}
 use Rattle.ulid_core.specs.declared.refusal.UlidRefusal.{UlidRefusal}
 use Rattle.ulid_core.proofs.UlidLaws.{IsUlidText-unique, slice_cmp-text_of, ulid_of-found}
 use Rattle.world_core.specs.Plans.{Runs}
-use Rattle.world_core.specs.Walks.{ascends, is_after}
+use Rattle.world_core.specs.Walks.{ascends, is_after, ulids_in}
 use Rattle.world_core.specs.declared.entry.Entry.{Entry}
 use Rattle.world_core.proofs.PlanLaws.{nothing_given}
 use Rattle.sync_filters.specs.Filters.{is_consistent, is_covered, is_in_partition, is_unmarked}
 use Rattle.sync_filters.specs.declared.found.Found.{Found}
 use Rattle.meta_fetcher.specs.Sightings.{Sighting, sighting_of, passed_by, kept_by, covered_by}
-use Rattle.meta_fetcher.specs.Syncs.{Synced, sighted, fault, damaged, too_many, Course, sync, ulids_in}
+use Rattle.meta_fetcher.specs.Syncs.{Synced, sighted, fault, damaged, too_many, Course, sync}
 use Rattle.meta_fetcher.specs.SyncStates.{Ascend}
 use Rattle.meta_fetcher.specs.declared.rules.SyncRules.{SyncRules}
 use Rattle.meta_fetcher.proofs.SyncLaws.{KeptByPages, KeptByReads, sighting_at, told}

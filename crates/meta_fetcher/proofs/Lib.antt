@@ -1,4 +1,3 @@
-mod Listed
 pub mod SyncLaws
 pub mod Ascending
 mod Begin

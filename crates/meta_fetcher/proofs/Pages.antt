@@ -5,7 +5,7 @@ use Rattle.std.proofs.lemmas.Bool.{lt-leb, le-leb}
 use Rattle.list_core.specs.declared.memory.NoMemory.{NoMemory}
 use Rattle.world_core.specs.Operations.{entry_of}
 use Rattle.world_core.specs.Plans.{Plan, choose}
-use Rattle.world_core.specs.Walks.{after_page, ascends, last_listed}
+use Rattle.world_core.specs.Walks.{after_page, ascends, last_listed, ulids_in}
 use Rattle.world_core.specs.declared.op.Op.{Op}
 use Rattle.world_core.specs.declared.reply.Reply.{Reply}
 use Rattle.world_core.specs.declared.reply.Reply.TheVariants as reply
@@ -14,14 +14,14 @@ use Rattle.world_core.specs.declared.entry.Entry.{Entry}
 use Rattle.world_core.specs.declared.act.Act.{Act}
 use Rattle.sync_filters.specs.declared.found.Found.{Found}
 use Rattle.meta_fetcher.specs.Sightings.{sighting_of}
-use Rattle.meta_fetcher.specs.Syncs.{Synced, Course, ulids_in, walk_ends, reading, listing}
+use Rattle.meta_fetcher.specs.Syncs.{Synced, Course, walk_ends, reading, listing}
 use Rattle.meta_fetcher.specs.SyncStates.{AreListed, IsAfter, Goes, Onward, course_of, sightings_of, goes_by_names, goes_after, Leads}
 use Rattle.meta_fetcher.specs.declared.rules.SyncRules.{SyncRules}
 use Rattle.meta_fetcher.specs.declared.stage.Stage.TheVariants.{Opening, Listing}
 use Rattle.meta_fetcher.specs.declared.sync.Sync.{Sync}
 use Rattle.meta_fetcher.specs.declared.sync_end.SyncEnd.{SyncEnd}
 use Rattle.meta_fetcher.specs.declared.sync_end.SyncEnd.TheVariants.{TooMany, Damaged, Fault}
-use Rattle.meta_fetcher.proofs.Listed.{ulids_in-append, length-ulids_in, last_listed-append}
+use Rattle.world_core.proofs.PageNames.{ulids_in-append, length-ulids_in, last_listed-more}
 use Rattle.meta_fetcher.proofs.Steps.{ended, leads_as}
 
 -- a run of the one that a test chooses
@@ -129,7 +129,7 @@ full_page s page waiting count last entries end added full some counted few is r
     goes_if s.rules course (ascends (last_listed names) page) _ _ entries end (ap (λ l. ascends l page) listed.ends ∙ up)
     (goes_else s.rules course (nat_lt (length page) s.rules.page_limit) _ _ entries end full
     (goes_else s.rules course (nat_le 1_000_000 (length (names ++ page))) _ _ entries end (lt-leb 1_000_000 (length (names ++ page)) (omega (arith, many, few)))
-    (more_pages s course (names ++ page) last waiting count more entries end many few (last_listed-append names page last is)
+    (more_pages s course (names ++ page) last waiting count more entries end many few (last_listed-more names page last is)
     (sym (all_wait s.waiting.items page names waiting added listed.blocks)) listed.unread (let enough = listed.enough in omega (arith, enough, both, some)) run)))
 
 -- too many names were listed

@@ -7,7 +7,7 @@ use Rattle.block_meta.specs.MetaFields.{MetaFields, MarkFields}
 use Rattle.moment_core.specs.declared.moment.Moment.{Moment}
 use Rattle.world_core.specs.Limits.{most_listed}
 use Rattle.world_core.specs.Plans.{Plan, ends, Runs, after_get}
-use Rattle.world_core.specs.Walks.{after_page, ascends, last_listed}
+use Rattle.world_core.specs.Walks.{after_page, ascends, last_listed, ulids_in}
 use Rattle.world_core.specs.declared.entry.Entry.{Entry}
 use Rattle.world_core.specs.declared.op.Op.{Op}
 use Rattle.world_core.specs.declared.op.Op.TheVariants as op
@@ -18,7 +18,7 @@ use Rattle.world_core.proofs.PlanParts.{noted_end, noted_run}
 use Rattle.world_core.proofs.PlanWords.{chosen, gets_ask, pages_ask}
 use Rattle.meta_fetcher.specs.Sightings.{Sighting}
 use Rattle.block_meta.specs.OfBlocks.{block_meta, block_mark}
-use Rattle.meta_fetcher.specs.Syncs.{Synced, sighted, fault, damaged, too_many, Course, with_entry, if_mark, if_meta, reads_meta, reading, ulids_in, walk_ends, listing, sync, IsEnd, SyncRun}
+use Rattle.meta_fetcher.specs.Syncs.{Synced, sighted, fault, damaged, too_many, Course, with_entry, if_mark, if_meta, reads_meta, reading, walk_ends, listing, sync, IsEnd, SyncRun}
 use Rattle.meta_fetcher.specs.declared.rules.SyncRules.{SyncRules}
 use Rattle.meta_fetcher.specs.declared.sync_end.SyncEnd.{SyncEnd}
 

@@ -1,9 +1,6 @@
 -- A sync: a walk over the names of the bucket's blocks, then of each block a read of its mark and after it one of its meta,
 -- whatever the mark's read found. It comes to a view of the blocks that were found and pass the filters.
 use Rattle.std.specs.Prelude.{◌≡◌, ℕ, List, [], ◌∷◌, ◌++◌, Option, Some, None}
-use Rattle.std.specs.List.{filter_map}
-use Rattle.std.specs.Result.{result_ok}
-use Rattle.ulid_core.specs.UlidText.{ulid_of}
 use Rattle.block_keys.specs.declared.key.Key.TheVariants as key
 use Rattle.block_meta.specs.MetaFields.{MetaFields, MarkFields}
 use Rattle.moment_core.specs.declared.moment.Moment.{Moment}
@@ -66,10 +63,6 @@ reading sightings (ulid ∷ ulids) =
     (reading sightings ulids))
 
 -- ---- the walk
-
--- the ULIDs among names, in order; every other name is passed over
-abbrev pub ulids_in : List (List ℕ) → List ℕ
-ulids_in names = filter_map (λ name. result_ok (ulid_of name)) names
 
 -- how a sync ends during its walk
 abbrev pub walk_ends : WalkEnds Synced

@@ -3,7 +3,6 @@
 
 mod filters;
 mod laws;
-mod names;
 mod rules;
 mod stage;
 mod sync;

@@ -8,7 +8,6 @@ ghost use Rattle.meta_fetcher.specs.declared.sync_end.SyncEnd.{SyncEnd};
 ghost use Rattle.meta_fetcher.specs.Syncs.{SyncRun};
 
 use crate::filters::passed_blocks;
-use crate::names::{add_ulids, ascends, is_short, last_name};
 use crate::stage::Stage;
 use crate::{SyncEnd, SyncRules, View};
 use block_keys::Key;
@@ -21,7 +20,7 @@ use std::collections::VecDeque;
 use std::mem;
 use sync_filters::{Found, uncovered};
 use ulid_core::Ulid;
-use world_core::{Act, Machine, Op, Reply, Seen};
+use world_core::{Act, Machine, Op, Reply, Seen, add_ulids, ascends, is_short, last_name};
 
 /// A walk that has listed so many names and has not come to its end is given up.
 const MOST_NAMES: u64 = 1_000_000;

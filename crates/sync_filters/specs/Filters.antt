@@ -1,19 +1,16 @@
 -- Which of the blocks that a sync finds it keeps.
-use Rattle.std.specs.Prelude.{◌≡◌, ℕ, pos, ◌+◌, ◌*◌, ◌/◌, ◌^◌, ◌==◌, nat_lt, nat_le, int_le, int_lt, ◌+ℤ◌, Bool, true, false, ◌&&◌, ◌||◌, not, List, length, Option, Some, None, codes}
+use Rattle.std.specs.Prelude.{◌≡◌, ℕ, pos, ◌+◌, ◌*◌, ◌==◌, nat_lt, nat_le, int_le, int_lt, ◌+ℤ◌, Bool, true, false, ◌&&◌, ◌||◌, not, List, length, Option, Some, None, codes}
 use Rattle.std.specs.List.{filter, list_any, list_all}
 use Rattle.std.specs.List.Sorted.{IsPermutation, IsNonDecreasingBy}
 use Rattle.std.specs.Ordering.{int_eq}
 use Rattle.std.specs.Str.{bytes_eq}
+use Rattle.ulid_core.specs.Times.{time_of}
 use Rattle.block_meta.specs.declared.deletion_mark.DeletionMark.{DeletionMark}
 use Rattle.block_meta.specs.declared.meta.Meta.{Meta}
 use Rattle.moment_core.specs.declared.moment.Moment.{Moment}
 use Rattle.moment_core.specs.declared.partition.Partition.{Partition}
 use Rattle.moment_core.specs.declared.span.Span.{Span}
 use Rattle.sync_filters.specs.declared.found.Found.{Found}
-
--- the milliseconds of a ULID
-abbrev pub time_of : ℕ → ℕ
-time_of ulid = ulid / 2 ^ 80
 
 -- the programs that write a block's objects all at one time, long after its samples
 abbrev pub is_late_source : List ℕ → Bool

@@ -2,7 +2,7 @@
 use Rattle.std.proofs.Common.{◌≡◌, ◌+◌, ◌*◌, ◌≤◌, ◌==◌, ℕ, All, Bool, true, false, cond, [], ◌∷◌, Some, None, is_some, refl, ap, subst, arith, lit<, lit≤}
 use Rattle.std.proofs.lemmas.Bool.Decides.{nat_tests}
 use Rattle.std.proofs.lemmas.List.Elements.{All-cons, All-contains, All-from_recursion, All-nil}
-use Rattle.sync_filters.specs.Filters.{time_of}
+use Rattle.ulid_core.specs.Times.{time_of}
 use Rattle.world_core.specs.declared.entry.Entry.{Entry}
 use Rattle.lifecycle_core.specs.Guarantees.{LeavesNoneOut, NamesAll}
 use Rattle.lifecycle_core.specs.SyncsAndCalls.{IsViewOf}

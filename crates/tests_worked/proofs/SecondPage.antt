@@ -6,7 +6,8 @@ use Rattle.std.proofs.lemmas.List.Elements.{All-contains}
 use Rattle.ulid_core.specs.UlidText.{ulid_of}
 use Rattle.world_core.specs.Plans.{Runs, noting}
 use Rattle.world_core.specs.declared.entry.Entry.{Entry}
-use Rattle.meta_fetcher.specs.Syncs.{Course, SyncRun, listing, sighted, ulids_in, with_entry}
+use Rattle.world_core.specs.Walks.{ulids_in}
+use Rattle.meta_fetcher.specs.Syncs.{Course, SyncRun, listing, sighted, with_entry}
 use Rattle.meta_fetcher.specs.declared.rules.SyncRules.{SyncRules}
 use Rattle.meta_fetcher.specs.declared.sync_end.SyncEnd.{SyncEnd}
 use Rattle.meta_fetcher.specs.declared.sync_end.SyncEnd.TheVariants as fetched

@@ -13,7 +13,7 @@ use Rattle.block_meta.specs.Members.{json_of, object_of, member_of, needed_of, o
 use Rattle.block_meta.specs.Members as members
 use Rattle.block_meta.specs.MetaReading.{meta_of_text, meta_of, times_of, stats_of, stats_members_of, compaction_of, compaction_members_of, level_of, sources_of, thanos_of, thanos_members_of, labels_of, labels_from, resolution_of, text_or_empty, file_of, parent_of}
 use Rattle.serde_json.proofs.OnLiterals.{serde_json_on_literals}
-use Rattle.sync_filters.specs.Filters.{time_of}
+use Rattle.ulid_core.specs.Times.{time_of}
 use Rattle.block_keys.specs.Keys.{key_ulid}
 use Rattle.block_keys.specs.KeyText.{key_text, name_of, six_digits}
 use Rattle.block_keys.specs.declared.key.Key.TheVariants as key

@@ -13,7 +13,7 @@ use Rattle.lifecycle_core.specs.Setting.{Setting, setting_of}
 use Rattle.lifecycle_core.specs.Tasks.{End, uploaded, synced, answered}
 use Rattle.lifecycle_core.specs.Holdings.{Use}
 use Rattle.lifecycle_core.specs.Completed.{IsUploadedBefore}
-use Rattle.sync_filters.specs.Filters.{time_of}
+use Rattle.ulid_core.specs.Times.{time_of}
 use Rattle.lifecycle_core.specs.Guarantees.{Answered}
 use Rattle.tests_worked.specs.SmallBlock as small
 use Rattle.tests_worked.specs.SmallRuns as runs

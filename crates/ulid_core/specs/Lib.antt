@@ -1,2 +1,3 @@
 pub mod FixedDigits
 pub mod UlidText
+pub mod Times

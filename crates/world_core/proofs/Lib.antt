@@ -11,3 +11,4 @@ pub mod PlanWords
 pub mod PlanParts
 pub mod LeadSteps
 pub mod Asking
+pub mod PageNames

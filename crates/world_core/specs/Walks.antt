@@ -1,9 +1,11 @@
 -- Walks of pages, which several machines use. A walk asks for page after page of names, each after the last name of the
 -- pages before it, until a page has fewer names than its limit.
 use Rattle.std.specs.Prelude.{ℕ, zero, suc, Bool, true, ◌&&◌, nat_lt, nat_le, List, [], ◌∷◌, ◌++◌, length, Option, None, Some, unwrap_or}
-use Rattle.std.specs.List.{last_or}
+use Rattle.std.specs.List.{last_or, filter_map}
 use Rattle.std.specs.Ordering.{is_lt, nat_cmp}
 use Rattle.std.specs.Cmp.Lexicographic.{slice_cmp}
+use Rattle.std.specs.Result.{result_ok}
+use Rattle.ulid_core.specs.UlidText.{ulid_of}
 use Rattle.world_core.specs.Limits.{most_listed}
 use Rattle.world_core.specs.Plans.{Plan, ends, never, asks, choose}
 use Rattle.world_core.specs.declared.op.Op.{Op}
@@ -23,6 +25,10 @@ ascends before (name ∷ names) = is_after before name && ascends (Some name) na
 -- the last name of those that were listed
 abbrev pub last_listed : List (List ℕ) → Option (List ℕ)
 last_listed listed = last_or None listed
+
+-- the ULIDs among names, in order; every other name is passed over
+abbrev pub ulids_in : List (List ℕ) → List ℕ
+ulids_in names = filter_map (λ name. result_ok (ulid_of name)) names
 
 -- how a run ends during its walk, by the number of the page's entry
 pub record WalkEnds (E : Type 0) : Type 0 where

@@ -6,7 +6,7 @@ use Rattle.block_keys.specs.Keys.{key_ulid}
 use Rattle.block_meta.specs.MetaFields.{MarkFields}
 use Rattle.block_meta.specs.MetaReading.{mark_of_text}
 use Rattle.block_meta.proofs.FoundTexts.{mark_text_only}
-use Rattle.sync_filters.specs.Filters.{time_of}
+use Rattle.ulid_core.specs.Times.{time_of}
 use Rattle.world_core.specs.Journals.{Each}
 use Rattle.world_core.specs.Standing.{stands}
 use Rattle.world_core.specs.Worlds.{IsJournal}

@@ -11,8 +11,7 @@ use Rattle.ulid_core.specs.UlidText.{text_of, ulid_of}
 use Rattle.ulid_core.specs.declared.refusal.UlidRefusal.{UlidRefusal}
 use Rattle.ulid_core.proofs.UlidLaws.{IsUlidText-text_of, length-text_of, ulid_of-found, ulid_of-only}
 use Rattle.bucket_core.specs.Pages.{Ascends, Before}
-use Rattle.world_core.specs.Walks.{ascends, is_after, last_listed}
-use Rattle.meta_fetcher.specs.Syncs.{ulids_in}
+use Rattle.world_core.specs.Walks.{ascends, is_after, last_listed, ulids_in}
 
 -- ---- the order of names
 

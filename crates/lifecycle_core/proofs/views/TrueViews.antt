@@ -15,7 +15,8 @@ use Rattle.moment_core.specs.declared.moment.Moment.{Moment}
 use Rattle.moment_core.specs.declared.span.Span.{Span}
 use Rattle.world_core.specs.Walks.{last_listed}
 use Rattle.world_core.specs.declared.entry.Entry.{Entry}
-use Rattle.sync_filters.specs.Filters.{is_consistent, is_covered, is_in_partition, is_late_source, is_recent, is_unmarked, time_of}
+use Rattle.ulid_core.specs.Times.{time_of}
+use Rattle.sync_filters.specs.Filters.{is_consistent, is_covered, is_in_partition, is_late_source, is_recent, is_unmarked}
 use Rattle.sync_filters.specs.declared.found.Found.{Found}
 use Rattle.meta_fetcher.specs.Sightings.{passed_by, sighting_of}
 use Rattle.meta_fetcher.specs.Syncs.{Course, IsEnd, Synced, SyncRun, with_entry}

@@ -1,7 +1,7 @@
 use Rattle.std.proofs.Common.{◌∙◌, sym, ap}
 use Rattle.cleaner.specs.Objects.{data_named, have_lawful_keys}
 use Rattle.cleaner.proofs.Keys.{lawful_more, lawful_some}
-use Rattle.cleaner.proofs.Names.{add_found, add_none, none_else}
+use Rattle.world_core.proofs.PageNames.{add_found, add_none, none_else}
 use Rattle.cleaner.proofs.objects.add_data_keys.Goals as goal
 use Rattle.cleaner.proofs.objects.add_data_keys.Goals.{in-Some+in_ok-push_back, in_default}
 

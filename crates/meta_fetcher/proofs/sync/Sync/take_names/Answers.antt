@@ -1,9 +1,8 @@
 use Rattle.std.proofs.Common.{◌≡◌, ◌∙◌, ◌+◌, ◌<◌, ◌++◌, refl, sym, ap, arith, length, Some, false}
 use Rattle.std.specs.Prelude.{nat_lt}
 use Rattle.std.proofs.lemmas.Bool.{ltb-false}
-use Rattle.world_core.specs.Walks.{last_listed}
+use Rattle.world_core.specs.Walks.{last_listed, ulids_in}
 use Rattle.world_core.specs.declared.op.Op.TheVariants as op
-use Rattle.meta_fetcher.specs.Syncs.{ulids_in}
 use Rattle.meta_fetcher.specs.SyncStates.{goes_by_names}
 use Rattle.meta_fetcher.proofs.Pages.{last_page, full_page, last_page_falls, full_page_falls, too_many_names}
 use Rattle.world_core.proofs.LeadSteps.{falls_more}

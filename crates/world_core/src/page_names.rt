@@ -1,7 +1,7 @@
+//! The names of a page, on which walks of pages go on.
 ghost use Rattle.std.specs.Prelude.{◌≡◌, ◌<◌, ◌^◌, ◌++◌, nat_lt, length, Some, IfOk, OnOk, IsTrue};
 ghost use Rattle.std.specs.Option.{option_copied};
-ghost use Rattle.world_core.specs.Walks.{ascends as do_ascend, is_after as comes_after, last_listed};
-ghost use Rattle.meta_fetcher.specs.Syncs.{ulids_in};
+ghost use Rattle.world_core.specs.Walks.{ascends as do_ascend, is_after as comes_after, last_listed, ulids_in};
 
 use label_sets::Text;
 use list_core::{NoMemory, TryCopy};
@@ -9,7 +9,7 @@ use std::collections::VecDeque;
 use ulid_core::Ulid;
 
 /// Tells whether each name is greater than the one before it, where the first one may have one before it too.
-pub(crate) fn ascends(before: Option<&Text>, names: &[Text]) -> bool
+pub fn ascends(before: Option<&Text>, names: &[Text]) -> bool
     ensures { result ≡ do_ascend (option_copied before.entry) names.now }
 {
     let mut last = before;
@@ -32,15 +32,15 @@ fn is_after(before: Option<&Text>, name: &Text) -> bool
 }
 
 /// Tells whether a page of so many names has fewer than it was asked for.
-pub(crate) fn is_short(count: usize, limit: u32) -> bool
+pub fn is_short(count: usize, limit: u32) -> bool
     ensures value { result ≡ nat_lt count limit }
     ensures few { IsTrue result → count < 2 ^ 32 }
 {
     (count as u64) < u64::from(limit)
 }
 
-/// Adds the ULIDs among the names.
-pub(crate) fn add_ulids(ulids: &mut VecDeque<Ulid>, names: &[Text]) -> Result<(), NoMemory>
+/// Adds the ULIDs among the names, in their order. Every other name is passed over.
+pub fn add_ulids(ulids: &mut VecDeque<Ulid>, names: &[Text]) -> Result<(), NoMemory>
     ensures { OnOk result (ulids.new.items ≡ ulids.old.items ++ ulids_in names.now) }
 {
     for name in names {
@@ -52,7 +52,7 @@ pub(crate) fn add_ulids(ulids: &mut VecDeque<Ulid>, names: &[Text]) -> Result<()
 }
 
 /// A copy of the last name.
-pub(crate) fn last_name(names: &[Text]) -> Result<Text, NoMemory>
+pub fn last_name(names: &[Text]) -> Result<Text, NoMemory>
     requires { 0 < length names.now }
     ensures { IfOk result (λ name. last_listed names.now ≡ Some name) }
 {

@@ -1,9 +1,9 @@
 use Rattle.std.proofs.Common.{◌∙◌, sym, ap}
 use Rattle.std.specs.Result.{result_ok}
 use Rattle.ulid_core.specs.UlidText.{ulid_of}
-use Rattle.cleaner.proofs.Names.{add_found, add_none, no_ulid}
-use Rattle.cleaner.proofs.objects.add_ulids.Goals as goal
-use Rattle.cleaner.proofs.objects.add_ulids.Goals.{in-Ok+in_ok-push_back, in_default}
+use Rattle.world_core.proofs.PageNames.{add_found, add_none, no_ulid}
+use Rattle.world_core.proofs.page_names.add_ulids.Goals as goal
+use Rattle.world_core.proofs.page_names.add_ulids.Goals.{in-Ok+in_ok-push_back, in_default}
 
 pub loop-name-preserved : goal.loop-name-preserved
 loop-name-preserved c =

@@ -6,7 +6,8 @@ use Rattle.std.specs.List.{last_or, cons_option, filter_map}
 use Rattle.std.specs.Result.{result_ok}
 use Rattle.std.proofs.lemmas.List.Elements.{filter_map-append}
 use Rattle.std.proofs.lemmas.List.{take_more}
-use Rattle.world_core.specs.Walks.{last_listed}
+use Rattle.ulid_core.specs.UlidText.{ulid_of}
+use Rattle.world_core.specs.Walks.{last_listed, ulids_in}
 
 -- ---- what is found among names
 
@@ -48,6 +49,12 @@ pub no_ulid : {E : Type 0} (read : Result ℕ E) → ((ulid : ℕ) → read ≡ 
 no_ulid (Ok ulid) refused = absurd (refused ulid refl)
 no_ulid (Err e) refused = refl
 
+pub ulids_in-append : (before more : List (List ℕ)) → ulids_in (before ++ more) ≡ ulids_in before ++ ulids_in more
+ulids_in-append before more = filter_map-append (λ name. result_ok (ulid_of name)) before more
+
+pub length-ulids_in : (names : List (List ℕ)) → length (ulids_in names) ≤ length names
+length-ulids_in names = length-found (λ name. result_ok (ulid_of name)) names
+
 -- ---- the last name
 
 last_or-append : {X : Type 0} (o : Option X) (xs : List X) (y : X) (ys : List X) → last_or o (xs ++ y ∷ ys) ≡ last_or (Some y) ys
@@ -58,6 +65,10 @@ last_or-append o (x ∷ xs) y ys = last_or-append (Some x) xs y ys
 pub last_listed-append : (before more : List (List ℕ)) → 0 < length more → last_listed (before ++ more) ≡ last_listed more
 last_listed-append before [] some = absurd (omega arith)
 last_listed-append before (x ∷ more) some = last_or-append None before x more
+
+pub last_listed-more : (before more : List (List ℕ)) (name : List ℕ) → last_listed more ≡ Some name → last_listed (before ++ more) ≡ Some name
+last_listed-more before [] name is = absurd (cc)
+last_listed-more before (x ∷ more) name is = last_or-append None before x more ∙ is
 
 last_or-at : {X : Type 0} (o : Option X) (xs : List X) (d : X) → 0 < length xs → last_or o xs ≡ Some (get_or xs (length xs - 1) d)
 last_or-at o [] d some = absurd (omega arith)

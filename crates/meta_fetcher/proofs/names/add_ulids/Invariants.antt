@@ -1,6 +1,0 @@
-use Rattle.std.proofs.Common.{◌≡◌, ◌++◌, take}
-use Rattle.meta_fetcher.specs.Syncs.{ulids_in}
-use Rattle.meta_fetcher.proofs.names.add_ulids.Given as goal
-
-abbrev pub invariant-loop-name : goal.invariant-loop-name
-invariant-loop-name l = l.ulids.items ≡ l.initial.ulids.items ++ ulids_in (take l.name-index l.names)

@@ -1,7 +1,0 @@
-use Rattle.std.proofs.Common.{◌≡◌, drop}
-use Rattle.std.specs.Option.{option_copied}
-use Rattle.world_core.specs.Walks.{ascends}
-use Rattle.meta_fetcher.proofs.names.ascends.Given as goal
-
-abbrev pub invariant-loop-name : goal.invariant-loop-name
-invariant-loop-name l = ascends (option_copied l.last) (drop l.name-index l.names) ≡ ascends (option_copied l.fn.before) l.names
