@@ -2,7 +2,6 @@
 use Rattle.std.proofs.Common.{◌≡◌, ℕ, List, [], ◌∷◌, Option, Some, None, IsSomeAnd, Result, Ok, Err, inl, inr, refl, sym, subst, ◌∙◌}
 use Rattle.list_core.specs.declared.memory.NoMemory.{NoMemory}
 use Rattle.moment_core.specs.declared.rules.Rules.{Rules}
-use Rattle.moment_core.specs.declared.span.Span.{Span}
 use Rattle.world_core.specs.Machines.{GoesOn}
 use Rattle.world_core.specs.Operations.{IsAnswer, entry_of}
 use Rattle.world_core.specs.declared.op.Op.{Op}
@@ -26,19 +25,19 @@ use Rattle.compactor.specs.declared.stage.Stage.TheVariants.{Syncing}
 use Rattle.compactor.proofs.SyncParts.{joins}
 
 -- a sync, and then what follows it, is a compaction
-pub starts : (rules : Rules) (retention : Option Span) (given : SyncRules) (replicas : List (List ℕ)) (sync : Sync) → given ≡ sync_rules rules → replicas ≡ rules.replicas
+pub starts : (rules : Rules) (given : SyncRules) (replicas : List (List ℕ)) (sync : Sync) → given ≡ sync_rules rules → replicas ≡ rules.replicas
     → ((entries : List Entry) (end : Option SyncEnd) (last : Sync) → synced.may_sync sync entries end last → SyncRun given entries end)
-    → (entries : List Entry) (end : Option CompactEnd) → PartThen synced.may_sync sync (λ own came. after_sync replicas retention came) entries end → CompactRun rules retention entries end
-starts rules retention given replicas sync same copied run entries end part =
-    by (subst (λ (rs : List (List ℕ)). PartThen synced.may_sync sync (λ own came. after_sync rs retention came) entries end) copied part)
+    → (entries : List Entry) (end : Option CompactEnd) → PartThen synced.may_sync sync (λ own came. after_sync replicas rules.retention came) entries end → CompactRun rules entries end
+starts rules given replicas sync same copied run entries end part =
+    by (subst (λ (rs : List (List ℕ)). PartThen synced.may_sync sync (λ own came. after_sync rs rules.retention came) entries end) copied part)
   where
     ran : (entries : List Entry) (end : Option SyncEnd) (last : Sync) → synced.may_sync sync entries end last → SyncRun (sync_rules rules) entries end
     ran entries end last may = subst (λ (rs : SyncRules). SyncRun rs entries end) same (run entries end last may)
 
-    by : PartThen synced.may_sync sync (λ own came. after_sync rules.replicas retention came) entries end → CompactRun rules retention entries end
-    by (inl (broken, none)) = joins rules retention entries end (inl (ran entries None broken.0 broken.1, none))
+    by : PartThen synced.may_sync sync (λ own came. after_sync rules.replicas rules.retention came) entries end → CompactRun rules entries end
+    by (inl (broken, none)) = joins rules entries end (inl (ran entries None broken.0 broken.1, none))
     by (inr hands) =
-        joins rules retention entries end
+        joins rules entries end
         (inr (record { own = hands.own; others = hands.others; are = hands.are; came = hands.came; synced = ran hands.own (Some hands.came) hands.last hands.first; rest = hands.rest }))
 
 -- the sync that is begun was not begun before

@@ -190,15 +190,15 @@ all_unplanned [] count have all = have
 all_unplanned (group ∷ groups) count (plan, others, is, have, same) all =
     same ∙ ap (λ (p : List Meta). with_planned p others) (one_plan group.members plan [] is all.0) ∙ all_unplanned groups others have all.1
 
-module _ (rules : Rules) (retention : Option Span) (entries : List Entry) (collected compacted expired : ℕ) where
+module _ (rules : Rules) (entries : List Entry) (collected compacted expired : ℕ) where
   abbrev done : CompactEnd
   done = Done collected compacted expired
 
-  have_plans : (view : View) (others : List Entry) → Runs (rounds rules.replicas retention view) others (Some done) → (groups : List Group) → AreGroups rules.replicas (metas_of view.kept) groups → HavePlans groups compacted
+  have_plans : (view : View) (others : List Entry) → Runs (rounds rules.replicas rules.retention view) others (Some done) → (groups : List Group) → AreGroups rules.replicas (metas_of view.kept) groups → HavePlans groups compacted
   have_plans view others run groups are =
-      end_is Any (λ made end. Counts groups end) (rounds rules.replicas retention view) [] others done (rounds_end groups rules.replicas retention view [] are) (all_any others) run
+      end_is Any (λ made end. Counts groups end) (rounds rules.replicas rules.retention view) [] others done (rounds_end groups rules.replicas rules.retention view [] are) (all_any others) run
 
-  after : (own others : List Entry) (told : Synced × Option Course) (end : SyncEnd) → entries ≡ own ++ others → Runs (sync (sync_rules rules)) own (Some told) → IsEnd (sync_rules rules) told end → Runs (after_sync rules.replicas retention end) others (Some done) → IsCounted rules entries compacted
+  after : (own others : List Entry) (told : Synced × Option Course) (end : SyncEnd) → entries ≡ own ++ others → Runs (sync (sync_rules rules)) own (Some told) → IsEnd (sync_rules rules) told end → Runs (after_sync rules.replicas rules.retention end) others (Some done) → IsCounted rules entries compacted
   after own others told (ended.View view) same first is run = record {
     own = own;
     others = others;
@@ -216,12 +216,12 @@ module _ (rules : Rules) (retention : Option Span) (entries : List Entry) (colle
   after own others told ended.TooMany same first is (nil, inr end) = absurd (cc (end))
 
   abbrev next : Synced × Option Course → Plan CompactEnd
-  next told = finds (IsEnd (sync_rules rules) told) (one_end_of (sync_rules rules) told) (after_sync rules.replicas retention)
+  next told = finds (IsEnd (sync_rules rules) told) (one_end_of (sync_rules rules) told) (after_sync rules.replicas rules.retention)
 
   counted_parts : Parts (sync (sync_rules rules)) next entries (Some done) → IsCounted rules entries compacted
   counted_parts (broken one none) = absurd (cc (none))
   counted_parts (both own others told same first (inl none)) = absurd (cc (none.1))
   counted_parts (both own others told same first (inr (end, is, run))) = after own others told end same first is run
 
-  pub counted : CompactRun rules retention entries (Some done) → IsCounted rules entries compacted
+  pub counted : CompactRun rules entries (Some done) → IsCounted rules entries compacted
   counted run = counted_parts (parts (sync (sync_rules rules)) next entries (Some done) run)

@@ -1,11 +1,11 @@
 -- A compaction: a sync; of each covered block a look at its mark, and where it has none the put of one; then for each group with a
 -- plan the reads of the planned blocks, the upload of the block that they become, and their marks; and last the marks of the kept
 -- blocks that had expired when the compaction began.
-use Rattle.std.specs.Prelude.{ℕ, ◌+◌, ◌/◌, pos, negsuc, ◌^◌, ◌-◌, List, [], ◌∷◌, map, Option, Some, None}
+use Rattle.std.specs.Prelude.{ℕ, ◌+◌, ◌/◌, List, [], ◌∷◌, map, Option, Some, None}
 use Rattle.label_sets.specs.declared.label.Label.{Label}
 use Rattle.block_meta.specs.declared.meta.Meta.{Meta}
 use Rattle.moment_core.specs.declared.moment.Moment.{Moment}
-use Rattle.moment_core.specs.declared.partition.Partition.{Partition}
+use Rattle.moment_core.specs.Partitions.{all_times}
 use Rattle.moment_core.specs.declared.rules.Rules.{Rules}
 use Rattle.moment_core.specs.declared.span.Span.{Span}
 use Rattle.sync_filters.specs.declared.found.Found.{Found}
@@ -107,20 +107,16 @@ after_sync replicas retention (ended.Fault number) = ends (Fault number)
 after_sync replicas retention (ended.Damaged number) = ends (Damaged number)
 after_sync replicas retention ended.TooMany = ends TooMany
 
--- all times of 64 bits
-abbrev pub all_times : Partition
-all_times = record { low = negsuc (2 ^ 63 - 1); high = pos (2 ^ 63 - 1) }
-
 -- A compaction's sync passes over a marked block long before the block may be deleted.
 abbrev pub sync_rules : Rules → SyncRules
 sync_rules rules = record { consistency = rules.consistency; mark_delay = record { ms = rules.delete.ms / 2 }; page_limit = rules.page_limit; partition = all_times }
 
--- a compaction by these rules, where blocks are kept for so long
-abbrev pub compaction : Rules → Option Span → Plan CompactEnd
-compaction rules retention =
+-- a compaction by these rules
+abbrev pub compaction : Rules → Plan CompactEnd
+compaction rules =
     and_then (sync (sync_rules rules)) (λ told.
-    finds (IsEnd (sync_rules rules) told) (one_end_of (sync_rules rules) told) (after_sync rules.replicas retention))
+    finds (IsEnd (sync_rules rules) told) (one_end_of (sync_rules rules) told) (after_sync rules.replicas rules.retention))
 
 -- the entries and the end of a compaction; without an end it was broken off
-abbrev pub CompactRun : Rules → Option Span → List Entry → Option CompactEnd → Type 0
-CompactRun rules retention = Runs (compaction rules retention)
+abbrev pub CompactRun : Rules → List Entry → Option CompactEnd → Type 0
+CompactRun rules = Runs (compaction rules)

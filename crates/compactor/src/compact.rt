@@ -55,21 +55,21 @@ pub struct Compact {
 impl Compact {
     ghost use Rattle.compactor.specs.CompactStates.{may_at, Begins, Goes, groups_left, expired_left, parents_left, marks_left, after_marks as marks_led_to, after_covered, after_reads as reads_led_to, after_retired, after_expired, most_asked, level_of, count_at, count_of};
 
-    /// Begins a compaction by these rules, where blocks are kept for so long, or for ever.
-    pub fn start(alloc: Global, rules: &Rules, retention: Option<Span>) -> Result<Compact, NoMemory>
+    /// Begins a compaction by these rules.
+    pub fn start(alloc: Global, rules: &Rules) -> Result<Compact, NoMemory>
         requires { 1 ≤ rules.now.page_limit }
         ensures begun { IfOk result ⟦<Compact as Machine>⟧.fresh }
         ensures run { IfOk result
             (λ compact. (entries : List Entry) (end : Option CompactEnd) (last : Compact)
             → ⟦<Compact as Machine>⟧.may compact entries end last
-            → CompactRun rules.now retention entries end) }
+            → CompactRun rules.now entries end) }
     {
         let replicas = rules.replicas.copy()?;
         let sync = Sync::start(alloc, sync_rules(rules))?;
         Ok(Compact {
             alloc,
             replicas,
-            retention,
+            retention: rules.retention,
             stage: Stage::Syncing(sync),
             groups: VecDeque::new(alloc),
             expired: VecDeque::new(alloc),

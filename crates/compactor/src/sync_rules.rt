@@ -14,9 +14,6 @@ pub(crate) fn sync_rules(rules: &Rules) -> SyncRules
             ms: rules.delete.ms / 2,
         },
         page_limit: rules.page_limit,
-        partition: Partition {
-            low: i64::MIN,
-            high: i64::MAX,
-        },
+        partition: Partition::all_times(),
     }
 }

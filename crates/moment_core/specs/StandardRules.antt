@@ -1,5 +1,5 @@
 -- The rules of a script that sets none.
-use Rattle.std.specs.Prelude.{ℕ, ◌*◌, []}
+use Rattle.std.specs.Prelude.{ℕ, ◌*◌, [], None}
 use Rattle.moment_core.specs.declared.rules.Rules.{Rules}
 use Rattle.moment_core.specs.declared.span.Span.{Span}
 
@@ -19,4 +19,5 @@ standard_rules = record {
   tick = record { ms = 1 };
   page_limit = 1_000;
   replicas = [];
+  retention = None;
 }

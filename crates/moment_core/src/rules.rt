@@ -5,7 +5,7 @@ use label_sets::TextList;
 use list_core::{NoMemory, TryCopy};
 use std::alloc::Global;
 
-/// The delays, limits and replica labels that a run goes by.
+/// The delays, limits, replica labels and retention that a run goes by.
 #[derive(Drop)]
 pub struct Rules {
     /// How old a block has to be before it is looked at.
@@ -24,6 +24,8 @@ pub struct Rules {
     pub page_limit: u32,
     /// The names of the labels that tell replicas of one series apart.
     pub replicas: TextList,
+    /// How long after its end a block is kept; none keeps blocks for ever.
+    pub retention: Option<Span>,
 }
 
 impl TryCopy for Rules {
@@ -37,6 +39,7 @@ impl TryCopy for Rules {
             upload: self.upload,
             tick: self.tick,
             page_limit: self.page_limit,
+            retention: self.retention,
         })
     }
 }
@@ -63,6 +66,7 @@ impl Rules {
             tick: Span { ms: 1 },
             page_limit: 1_000,
             replicas: TextList::new(alloc),
+            retention: None,
         }
     }
 }

@@ -24,13 +24,17 @@ same_replicas : (name : RuleName) (value : ℕ) (rules : Rules) → (with_rule n
 same_replicas names.Consistency value rules = refl
 same_replicas name value rules = refl
 
+same_retention : (name : RuleName) (value : ℕ) (rules : Rules) → (with_rule name value rules).retention ≡ rules.retention
+same_retention names.Consistency value rules = refl
+same_retention name value rules = refl
+
 pub rule_sets : (name : RuleName) (value : ℕ) (rules : Rules) → Sets name value rules (with_rule name value rules)
 rule_sets name value rules =
-    record { sets = set_value name value rules; others = λ other. other_value name other value rules; replicas = same_replicas name value rules }
+    record { sets = set_value name value rules; others = λ other. other_value name other value rules; replicas = same_replicas name value rules; retention = same_retention name value rules }
 
 -- rules are equal where all their values are
-same_rules : (one other : Rules) → ((name : RuleName) → rule_value name one ≡ rule_value name other) → one.replicas ≡ other.replicas → one ≡ other
-same_rules one other same replicas i = record {
+same_rules : (one other : Rules) → ((name : RuleName) → rule_value name one ≡ rule_value name other) → one.replicas ≡ other.replicas → one.retention ≡ other.retention → one ≡ other
+same_rules one other same replicas retention i = record {
   consistency = record { ms = same names.Consistency i };
   ignore = record { ms = same names.Ignore i };
   delete = record { ms = same names.Delete i };
@@ -39,6 +43,7 @@ same_rules one other same replicas i = record {
   tick = record { ms = same names.Tick i };
   page_limit = same names.PageLimit i;
   replicas = replicas i;
+  retention = retention i;
 }
 
 -- what sets one rule sets all of them alike
@@ -55,4 +60,4 @@ same_values name other value rules one two is are = is.others other (λ e. cc) �
 pub rule_set : (name : RuleName) (value : ℕ) (before after : Rules) → Sets name value before after → after ≡ with_rule name value before
 rule_set name value before after is =
     let made = rule_sets name value before in
-    same_rules after (with_rule name value before) (λ other. same_values name other value before after (with_rule name value before) is made) (is.replicas ∙ sym made.replicas)
+    same_rules after (with_rule name value before) (λ other. same_values name other value before after (with_rule name value before) is made) (is.replicas ∙ sym made.replicas) (is.retention ∙ sym made.retention)

@@ -121,6 +121,7 @@ pub record Sets (name : RuleName) (value : ℕ) (before after : Rules) : Type 0 
   pub sets : rule_value name after ≡ value
   pub others : (other : RuleName) → other ≢ name → rule_value other after ≡ rule_value other before
   pub replicas : after.replicas ≡ before.replicas
+  pub retention : after.retention ≡ before.retention
 
 -- An upload ends before a partial block is deleted, and a second before a marked one is. A mark is heeded no later than
 -- it deletes.

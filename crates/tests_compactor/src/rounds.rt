@@ -9,12 +9,13 @@ use std::alloc::Global;
 use std::io;
 use world_core::{Driven, Hand, Op, WorldHand, drive};
 
-/// The rules by which all compactions here go: the standard ones, with one replica label.
-fn rules(alloc: Global) -> Result<Rules, NoMemory>
+/// The rules by which all compactions here go: the standard ones, with one replica label and this retention.
+fn rules(alloc: Global, retention: Option<Span>) -> Result<Rules, NoMemory>
     ensures { IfOk result (λ rules. rules.page_limit ≡ 1000) }
 {
     let mut rules = Rules::standard(alloc);
     rules.page_limit = 1000;
+    rules.retention = retention;
     rules.replicas.push(Text::from_str(alloc, "replica")?)?;
     Ok(rules)
 }
@@ -45,7 +46,7 @@ fn compacted(
     retention: Option<Span>,
     stop: Option<u32>,
 ) -> Result<Driven<CompactEnd>, NoMemory> {
-    let mut compact = Compact::start(alloc, &rules(alloc)?, retention)?;
+    let mut compact = Compact::start(alloc, &rules(alloc, retention)?)?;
     Ok(drive(&mut compact, hand, stop))
 }
 

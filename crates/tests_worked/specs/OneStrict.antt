@@ -1,5 +1,5 @@
 -- The script of one block with another ignore delay. Its run is the same.
-use Rattle.std.specs.Prelude.{ℕ, List, []}
+use Rattle.std.specs.Prelude.{ℕ, List, [], None}
 use Rattle.block_keys.specs.declared.key.Key.TheVariants as key
 use Rattle.moment_core.specs.StandardRules.{minutes, hours}
 use Rattle.moment_core.specs.declared.rules.Rules.{Rules}
@@ -22,6 +22,7 @@ rules_with ignore = record {
   tick = record { ms = 1 };
   page_limit = 1_000;
   replicas = [];
+  retention = None;
 }
 
 abbrev pub script_with : Span → Script

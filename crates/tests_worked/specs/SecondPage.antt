@@ -28,6 +28,7 @@ script = record {
     tick = record { ms = 1 };
     page_limit = 1;
     replicas = [];
+    retention = None;
   };
   gateways = codes "g" ∷ [];
   blocks = [];

@@ -62,6 +62,7 @@ script = record {
     tick = record { ms = 1 };
     page_limit = 1_000;
     replicas = [];
+    retention = None;
   };
   gateways = codes "g" ∷ [];
   blocks = small.block ∷ small.block_of b ∷ [];

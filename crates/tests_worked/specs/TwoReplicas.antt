@@ -6,7 +6,7 @@
 --     series {a="x"} 1000:0000000000000001 3000:0000000000000003
 --     block 0000000000000000000000000B 1000 4000 {replica="1"}
 --     series {a="x"} 1000:0000000000000001 2000:0000000000000002
-use Rattle.std.specs.Prelude.{ℕ, ℤ, pos, List, [], ◌∷◌, codes}
+use Rattle.std.specs.Prelude.{ℕ, ℤ, pos, List, [], ◌∷◌, codes, None}
 use Rattle.label_sets.specs.declared.label.Label.{Label}
 use Rattle.label_sets.specs.declared.sample.Sample.{Sample}
 use Rattle.label_sets.specs.Triples.{Triple}
@@ -43,6 +43,7 @@ script = record {
     tick = record { ms = 1 };
     page_limit = 1_000;
     replicas = codes "replica" ∷ [];
+    retention = None;
   };
   gateways = codes "g" ∷ [];
   blocks =

@@ -4,6 +4,6 @@ use Rattle.compactor.proofs.laws.compactions_have_one_end.Goals as goal
 
 pub returns : goal.returns
 returns c = record {
-  end = λ rules retention. one_end (compaction rules retention);
-  next = λ rules retention. same_op (compaction rules retention);
+  end = λ rules. one_end (compaction rules);
+  next = λ rules. same_op (compaction rules);
 }
