@@ -8,7 +8,7 @@ use Rattle.block_meta.specs.MetaFields.{MarkFields}
 use Rattle.moment_core.specs.declared.rules.Rules.{Rules}
 use Rattle.world_core.specs.Limits.{most_listed}
 use Rattle.world_core.specs.Plans.{Plan, Runs, ends, choose, gets, deletes}
-use Rattle.world_core.specs.Walks.{WalkEnds, pages}
+use Rattle.world_core.specs.Walks.{WalkEnds, pages, ulids_in}
 use Rattle.world_core.specs.declared.op.Op.TheVariants as op
 use Rattle.world_core.specs.declared.entry.Entry.{Entry}
 use Rattle.cleaner.specs.Marks.{is_old_mark, is_old_block}

@@ -6,7 +6,7 @@ use Rattle.block_meta.specs.MetaFields.{MetaFields, MarkFields}
 use Rattle.moment_core.specs.declared.moment.Moment.{Moment}
 use Rattle.world_core.specs.Limits.{most_listed}
 use Rattle.world_core.specs.Plans.{Plan, ends, gets, noting, ComesTo}
-use Rattle.world_core.specs.Walks.{WalkEnds, pages}
+use Rattle.world_core.specs.Walks.{WalkEnds, pages, ulids_in}
 use Rattle.world_core.specs.declared.op.Op.TheVariants as op
 use Rattle.world_core.specs.declared.entry.Entry.{Entry}
 use Rattle.meta_fetcher.specs.Sightings.{Sighting, IsView}
