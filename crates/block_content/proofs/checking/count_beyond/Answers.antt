@@ -15,4 +15,4 @@ returns-in_err-part-clause-counted c =
 pub returns-clause-counted : goal.returns-clause-counted
 returns-clause-counted c =
     beyond_is c.args.meta.now c.args.segments.now c.args.place c.new.result.items c.in_ok-part.part.items c.as_slice.result.now c.len.result c.first_time.result
-    c.new.ensures.items c.as_slice.ensures.value c.in_ok-part.ensures.exact (c.len.ensures ∙ c.in_ok-part.part.ok.0) c.first_time.ensures
+    c.new.ensures.items c.as_slice.ensures.value c.in_ok-part.ensures.exact (c.len.ensures ∙ c.in_ok-part.part.ok.0) c.first_time.ensures.value
