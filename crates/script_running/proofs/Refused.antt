@@ -1,5 +1,5 @@
--- Whether a pass of a run met the full journal, by what its phases came to.
-use Rattle.std.proofs.Common.{◌≡◌, ◌≢◌, ◌||◌, Bool, true, false, List, [], ◌∷◌, All, refl, sym, ◌∙◌, ap, subst}
+-- Whether a pass of a run met the full journal, or wanted memory, by what its phases came to.
+use Rattle.std.proofs.Common.{◌≡◌, ◌≢◌, ◌||◌, ◌⊎◌, inl, inr, Bool, true, false, IsTrue, List, [], ◌∷◌, All, refl, sym, ◌∙◌, ap, subst}
 use Rattle.std.specs.Prelude.{Ok, Err, Result}
 use Rattle.std.specs.List.{list_any}
 use Rattle.std.proofs.lemmas.List.Elements.{All-head, All-tail, All-weaker}
@@ -9,6 +9,7 @@ use Rattle.script_workers.specs.declared.phase.Phase.{Phase}
 use Rattle.script_running.specs.Gathering.{HaveCome}
 use Rattle.script_running.specs.Going.{IsClockSet, Met}
 use Rattle.script_running.specs.Tasks.{is_full_came}
+use Rattle.script_running.specs.Workers.{is_short_end}
 use Rattle.script_running.specs.declared.came.Broken.{Broken}
 use Rattle.script_running.specs.declared.came.Broken.TheVariants as broken
 use Rattle.script_running.specs.declared.worker.WorkerEnd.{WorkerEnd}
@@ -73,3 +74,29 @@ off_tells first mid last came why same is off = is ∙ ap (λ (c : Came). mid ||
 
 pub all_tell : (first last : Bool) → last ≡ first → last ≡ (first || false)
 all_tell first last same = same ∙ sym (or_none first)
+
+-- ---- want of memory
+
+abbrev IsShort : WorkerEnd → Bool
+IsShort end = is_short_end end.came
+
+none_short : (ends : List WorkerEnd) → All (λ (end : WorkerEnd). end.came ≡ Ok tt) ends → list_any IsShort ends ≡ false
+none_short [] all = refl
+none_short (end ∷ ends) all =
+    let first : IsShort end ≡ false = ap is_short_end (All-head (λ (e : WorkerEnd). e.came ≡ Ok tt) end ends all) in
+    ap (λ (b : Bool). b || list_any IsShort ends) first ∙ none_short ends (All-tail (λ (e : WorkerEnd). e.came ≡ Ok tt) end ends all)
+
+-- of workers that all came to all their ends, none wanted memory
+pub come_unwanted : (ends : List WorkerEnd) (came : Came) → HaveCome ends came → came ≡ Ok tt → list_any (λ (end : WorkerEnd). is_short_end end.came) ends ≡ false
+come_unwanted ends (Ok done) all is = none_short ends all
+come_unwanted ends (Err why) all is = absurd (cc is)
+
+pub clock_unwanted : (phase : Phase) (before after : Known) (came : Came) → IsClockSet phase before after came → came ≡ Ok tt → before.wanted ≡ false → after.wanted ≡ false
+clock_unwanted phase before after (Ok done) set is none = (set.1).wanted ∙ or_none before.wanted ∙ none
+clock_unwanted phase before after (Err why) set is none = absurd (cc is)
+
+pub phase_unwanted : (last clock any : Bool) → clock ≡ false → any ≡ false → (IsTrue last → IsTrue clock ⊎ IsTrue any) → last ≡ false
+phase_unwanted false clock any none all step = refl
+phase_unwanted true true any none all step = absurd (cc none)
+phase_unwanted true false true none all step = absurd (cc all)
+phase_unwanted true false false none all step = elim (step refl) [ inl so ↦ absurd (cc so) | inr so ↦ absurd (cc so) ]

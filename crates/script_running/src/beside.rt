@@ -1,7 +1,9 @@
 //! A script's phases one after another, each with a thread for each of its workers.
 
-ghost use Rattle.std.specs.Prelude.{◌≡◌, ◌+◌, ◌<◌, ◌^◌, ◌||◌, [], None, Ok, Some, IfOk, IfErr, OnOk, length, slice_get, take};
+ghost use Rattle.std.specs.Prelude.{◌≡◌, ◌+◌, ◌<◌, ◌^◌, ◌||◌, List, [], None, Ok, Some, IfOk, IfErr, OnOk, false, length, slice_get, take};
 ghost use Rattle.std.specs.List.{All};
+ghost use Rattle.bucket_core.specs.Asking.{Call};
+ghost use Rattle.world_core.specs.Asking.{IsAllAsked};
 ghost use Rattle.world_core.specs.Worlds.{failed_count};
 ghost use Rattle.script_core.specs.Lawful.{IsLawfulScript};
 ghost use Rattle.script_core.specs.Reading.{script_of};
@@ -70,6 +72,10 @@ pub fn run_beside<B: Bucket + Send, G: Gate + Sync, R: Threads + Wait + Sync>(
     ensures unfailed { IfOk result (λ run. failed_count run.1.world.journal ≡ 0
         → B.faults run.1.world.bucket ≡ B.faults world.bucket) }
 
+    // A run that came to its end wanted no memory for an operation: if all that the bucket was asked was journaled, it still is.
+    ensures all { IfOk result (λ run. run.0.came ≡ Ok tt → (before : List Call)
+        → IsAllAsked B.asked before world → IsAllAsked B.asked before run.1.world) }
+
     // Where nothing was begun, the world is as it was.
     ensures unbegun { IfErr result (λ same. same ≡ world) }
 {
@@ -135,6 +141,7 @@ fn run_phases<B: Bucket + Send, G: Gate + Sync, R: Threads + Wait + Sync>(
     requires spelled { script_of text.now ≡ Ok script.now }
     requires own { (table_of root ≡ shared.now.table.shared.table_id) × (root.seat ≡ 0) }
     requires seats { root.splits ≡ seats_before script.now 0 }
+    requires unwanted { (view_of root).wanted ≡ false }
     requires all { AllJoined (view_of root) }
     requires gone { HasGone (setting_of script.now) (view_of root) [] standing.old.views.items
         standing.old.outcomes }
@@ -142,6 +149,7 @@ fn run_phases<B: Bucket + Send, G: Gate + Sync, R: Threads + Wait + Sync>(
     ensures tick { (view_of result.1).tick ≡ (view_of root).tick }
     ensures refused { (view_of result.1).refused
         ≡ ((view_of root).refused || is_full_came result.0) }
+    ensures unwanted { result.0 ≡ Ok tt → (view_of result.1).wanted ≡ false }
     ensures all { AllJoined (view_of result.1) }
     ensures came { HasCome (setting_of script.now) (view_of result.1) script.now.phases
         standing.new.views.items standing.new.outcomes result.0 }
@@ -177,6 +185,7 @@ fn phase_beside<B: Bucket + Send, G: Gate + Sync, R: Threads + Wait + Sync>(
     requires at { slice_get script.now.phases place ≡ Some phase.now }
     requires own { (table_of root ≡ shared.now.table.shared.table_id) × (root.seat ≡ 0) }
     requires seats { root.splits ≡ seats_before script.now place }
+    requires unwanted { (view_of root).wanted ≡ false }
     requires all { AllJoined (view_of root) }
     requires gone { HasGone (setting_of script.now) (view_of root) (take place script.now.phases)
         standing.old.views.items standing.old.outcomes }
@@ -184,6 +193,7 @@ fn phase_beside<B: Bucket + Send, G: Gate + Sync, R: Threads + Wait + Sync>(
     ensures tick { (view_of result.1).tick ≡ (view_of root).tick }
     ensures refused { (view_of result.1).refused
         ≡ ((view_of root).refused || is_full_came result.0) }
+    ensures unwanted { result.0 ≡ Ok tt → (view_of result.1).wanted ≡ false }
     ensures seats { OnOk result.0 (result.1.splits ≡ seats_before script.now (place + 1)) }
     ensures all { AllJoined (view_of result.1) }
     ensures came { HasCome (setting_of script.now) (view_of result.1)

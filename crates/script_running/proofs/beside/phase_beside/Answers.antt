@@ -12,7 +12,7 @@ use Rattle.script_running.specs.Workers.{MayWork, Post}
 use Rattle.script_running.specs.declared.came.Broken.TheVariants as broken
 use Rattle.script_running.specs.declared.worker.WorkerEnd.{WorkerEnd}
 use Rattle.script_running.proofs.Phasing.{always, as_many, at_work, clock_refused, ends_long, few_seats, idled, if_false, if_true, joined_on, moment_lawful, next_seats, no_room, phase_apart, phase_comes, within_gateways, within_tasks, workers_here}
-use Rattle.script_running.proofs.Refused.{clock_done, clock_tells, come_tells, or_none, phase_tells}
+use Rattle.script_running.proofs.Refused.{clock_done, clock_tells, clock_unwanted, come_tells, come_unwanted, or_none, phase_tells, phase_unwanted}
 use Rattle.script_running.proofs.beside.phase_beside.Goals as goal
 
 pub returns-in_default-clause-came : goal.returns-in_default-clause-came
@@ -133,3 +133,23 @@ returns-clause-refused g c =
     phase_tells (view_of c.args.root).refused (view_of c.begin_phase-begun.result.1).refused (view_of c.run_phase-end.result.root).refused _ c.gather-came.result
     (clock_done c.args.phase.now (view_of c.args.root) (view_of c.begin_phase-begun.result.1) c.begin_phase-begun.result.0 c.in_default-begun.is c.begin_phase-begun.ensures.clock) c.run_phase-end.ensures.refused
     (come_tells c.run_phase-end.result.ends.items c.gather-came.result c.gather-came.ensures.came)
+
+-- ---- whether memory was wanted
+
+pub returns-in_default-clause-unwanted : goal.returns-in_default-clause-unwanted
+returns-in_default-clause-unwanted g c = λ done. absurd (cc done)
+
+pub returns-in_default-jobs_of-clause-unwanted : goal.returns-in_default-jobs_of-clause-unwanted
+returns-in_default-jobs_of-clause-unwanted g c = λ done. absurd (cc done)
+
+pub returns-in-Err-clause-unwanted : goal.returns-in-Err-clause-unwanted
+returns-in-Err-clause-unwanted g c = λ done. absurd (cc done)
+
+pub returns-then-end-clause-unwanted : goal.returns-then-end-clause-unwanted
+returns-then-end-clause-unwanted g c = λ done. absurd (cc done)
+
+pub returns-clause-unwanted : goal.returns-clause-unwanted
+returns-clause-unwanted g c = λ done.
+    phase_unwanted (view_of c.run_phase-end.result.root).wanted (view_of c.begin_phase-begun.result.1).wanted _
+    (clock_unwanted c.args.phase.now (view_of c.args.root) (view_of c.begin_phase-begun.result.1) c.begin_phase-begun.result.0 c.begin_phase-begun.ensures.clock c.in_default-begun.is c.requires.unwanted)
+    (come_unwanted c.run_phase-end.result.ends.items c.gather-came.result c.gather-came.ensures.came done) c.run_phase-end.ensures.wanted

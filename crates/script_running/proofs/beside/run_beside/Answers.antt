@@ -1,5 +1,6 @@
 use Rattle.std.proofs.Common.{◌≡◌, ◌∙◌, ◌||◌, ℕ, List, sym, ap, subst}
 use Rattle.lifecycle_core.specs.Setting.{setting_of}
+use Rattle.world_core.specs.Asking.{IsAllAsked}
 use Rattle.world_core.specs.Worlds.{IsJournal}
 use Rattle.world_core.specs.declared.entry.Entry.{Entry}
 use Rattle.world_turn.specs.Opening.{opening_of}
@@ -34,3 +35,10 @@ returns-in-Ok-open-clause-refused g c =
 
 pub returns-in-Ok-open-clause-unfailed : goal.returns-in-Ok-open-clause-unfailed
 returns-in-Ok-open-clause-unfailed g c = λ none. c.close-closed.ensures.comes.unfailed none ∙ ap (λ w. g.B.Bucket.faults w.bucket) c.in-Ok-open.ensures.opened
+
+pub run_phases-came-requires-clause-unwanted : goal.run_phases-came-requires-clause-unwanted
+run_phases-came-requires-clause-unwanted g c = λ κs lives. ap (λ v. v.wanted) c.in-Ok-open.ensures.pass.3
+
+pub returns-in-Ok-open-clause-all : goal.returns-in-Ok-open-clause-all
+returns-in-Ok-open-clause-all g c = λ done before was.
+    c.close-closed.ensures.all (c.run_phases-came.ensures.unwanted done) before (subst (IsAllAsked g.B.Bucket.asked before) (sym c.in-Ok-open.ensures.opened) was)

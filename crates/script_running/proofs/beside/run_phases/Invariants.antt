@@ -1,4 +1,4 @@
-use Rattle.std.proofs.Common.{◌≡◌, take}
+use Rattle.std.proofs.Common.{◌≡◌, false, take}
 use Rattle.script_core.specs.Workers.{seats_before}
 use Rattle.lifecycle_core.specs.Setting.{setting_of}
 use Rattle.world_turn.specs.Closing.{AllJoined}
@@ -13,6 +13,7 @@ invariant-loop-place g l = record {
   seat : l.root.seat ≡ 0;
   tick : (view_of l.root).tick ≡ (view_of l.initial.root).tick;
   refused : (view_of l.root).refused ≡ (view_of l.initial.root).refused;
+  unwanted : (view_of l.root).wanted ≡ false;
   seats : l.root.splits ≡ seats_before l.script l.place;
   all : AllJoined (view_of l.root);
   gone : HasGone (setting_of l.script) (view_of l.root) (take l.place l.script.phases) l.standing.views.items l.standing.outcomes;
