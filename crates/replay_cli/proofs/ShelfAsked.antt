@@ -12,7 +12,7 @@ use Rattle.block_loading.proofs.Asked.{asks_none, asks_then}
 use Rattle.replay_cli.specs.CheckVerdicts.{verdict_on}
 use Rattle.replay_cli.specs.Checks.{files_in, files_of}
 use Rattle.replay_cli.specs.Kept.{IsShelfBack, told_of}
-use Rattle.replay_cli.specs.ShelfAsked.{IsBroken, IsUndecided, WasAsked, WasAskedFor, WasChecked}
+use Rattle.replay_cli.specs.Asked.{IsBroken, IsUndecided, WasAsked, WasAskedFor, WasChecked}
 use Rattle.replay_cli.specs.Statuses.{number_of}
 use Rattle.replay_cli.specs.Verdicts.{IsSaid, Saying, status_of}
 use Rattle.replay_cli.specs.declared.status.Status.{Status}

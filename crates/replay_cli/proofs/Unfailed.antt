@@ -1,6 +1,7 @@
 -- Where memory was wanted, nothing failed but what the journal shows.
-use Rattle.std.proofs.Common.{◌≡◌, ◌≢◌, ℕ, ◌≤◌, false, List, [], ◌++◌, refl, sym, ◌∙◌, ap, subst}
+use Rattle.std.proofs.Common.{◌≡◌, ◌≢◌, ℕ, ◌≤◌, Bool, false, List, [], ◌++◌, refl, sym, ◌∙◌, ap, subst}
 use Rattle.std.specs.Prelude.{Option, Some, None, IfSome, Result, Ok, Err}
+use Rattle.bucket_core.specs.Asking.{Call}
 use Rattle.bucket_core.specs.declared.site_refusal.SiteRefusal.{SiteRefusal}
 use Rattle.bucket_core.specs.declared.site_refusal.SiteRefusal.TheVariants as site
 use Rattle.world_core.specs.Worlds.{WorldGoesOn, WorldView, failed_count}
@@ -99,16 +100,19 @@ unfailed_ended {B} faults old new journal back unfailed none kept handed =
 
 -- ---- worlds that go on
 
-pub kept : {B : Type 0} (faults : B → ℕ) (quiet : B → Type 0) (opened world : WorldView B) → KeepsRun faults quiet opened world opened world
-kept faults quiet opened world = keeps_run-none faults quiet opened world
+pub kept : {B : Type 0} (faults : B → ℕ) (quiet : B → Type 0) (asked : B → Option (List Call)) (opened : WorldView B) (wanted : Bool) (world : WorldView B) → KeepsRun faults quiet asked opened wanted world opened wanted world
+kept faults quiet asked opened wanted world = keeps_run-none faults quiet asked opened wanted world
 
-pub kept_on : {B : Type 0} (faults : B → ℕ) (quiet : B → Type 0) (opened still last_opened first next last : WorldView B) → KeepsRun faults quiet opened first still next → KeepsRun faults quiet still next last_opened last → KeepsRun faults quiet opened first last_opened last
-kept_on faults quiet opened still last_opened first next last one two = keeps_run-more faults quiet opened still last_opened first next last one two
+pub kept_on : {B : Type 0} (faults : B → ℕ) (quiet : B → Type 0) (asked : B → Option (List Call)) (opened still last_opened : WorldView B) (a b c : Bool) (first next last : WorldView B)
+    → KeepsRun faults quiet asked opened a first still b next → KeepsRun faults quiet asked still b next last_opened c last → KeepsRun faults quiet asked opened a first last_opened c last
+kept_on faults quiet asked opened still last_opened a b c first next last one two = keeps_run-more faults quiet asked opened still last_opened a b c first next last one two
 
 -- from a hand that was set to another seat
-pub kept_at : {B : Type 0} (faults : B → ℕ) (quiet : B → Type 0) (opened set_opened still first set next : WorldView B) → set_opened ≡ opened → set ≡ first → KeepsRun faults quiet set_opened set still next → KeepsRun faults quiet opened first still next
-kept_at {B} faults quiet opened set_opened still first set next one other keeps =
-    subst (λ (w : WorldView B). KeepsRun faults quiet opened w still next) other (subst (λ (w : WorldView B). KeepsRun faults quiet w set still next) one keeps)
+pub kept_at : {B : Type 0} (faults : B → ℕ) (quiet : B → Type 0) (asked : B → Option (List Call)) (opened set_opened still : WorldView B) (wanted set_wanted now : Bool) (first set next : WorldView B)
+    → set_opened ≡ opened → set_wanted ≡ wanted → set ≡ first → KeepsRun faults quiet asked set_opened set_wanted set still now next → KeepsRun faults quiet asked opened wanted first still now next
+kept_at {B} faults quiet asked opened set_opened still wanted set_wanted now first set next one flag other keeps =
+    subst (λ (w : WorldView B). KeepsRun faults quiet asked opened wanted w still now next) other
+    (subst (λ (f : Bool). KeepsRun faults quiet asked opened f set still now next) flag (subst (λ (w : WorldView B). KeepsRun faults quiet asked w set_wanted set still now next) one keeps))
 
 pub acted : {B : Type 0} (faults : B → ℕ) (quiet : B → Type 0) (old new : WorldView B) (seat : ℕ) (op : Op) (a : Acted) → new.journal ≡ old.journal ++ gained seat op a → new.tick ≡ old.tick
     → faults old.bucket ≤ faults new.bucket → (is_failed a ≡ false → faults new.bucket ≡ faults old.bucket) → (quiet old.bucket → quiet new.bucket × IfDone a (λ seen. has_failed seen.reply ≡ false)) → WorldGoesOn faults quiet old new

@@ -1,3 +1,4 @@
+pub mod Asked
 pub mod Checks
 pub mod CheckVerdicts
 pub mod InPhases
@@ -6,7 +7,6 @@ pub mod LineHands
 pub mod Output
 pub mod Progress
 pub mod Reports
-pub mod ShelfAsked
 pub mod Statuses
 pub mod ToldAnswers
 pub mod Undone

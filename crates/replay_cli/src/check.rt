@@ -4,7 +4,7 @@ ghost use Rattle.bucket_core.specs.Causes.{Rose};
 ghost use Rattle.replay_cli.specs.CheckVerdicts.{refused_for, verdict_on};
 ghost use Rattle.replay_cli.specs.Checks.{cause_number, files_in, files_of, HasFailed};
 ghost use Rattle.replay_cli.specs.Kept.{IsNotAsked, IsShelfOf};
-ghost use Rattle.replay_cli.specs.ShelfAsked.{IsBroken, WasAsked, WasChecked};
+ghost use Rattle.replay_cli.specs.Asked.{IsBroken, WasAsked, WasChecked};
 ghost use Rattle.replay_cli.specs.Verdicts.{BehindOpening, IfShort, IsChecked, SiteFailed};
 ghost use Rattle.replay_cli.specs.Words.{named_by};
 

@@ -7,29 +7,32 @@ use world_core::{Acted, Hand, Op, World};
 /// The hand of a run whose tasks are done one after another: it does the operations of all its workers, from seat to seat, on a
 /// world of its own.
 ///
-/// It keeps whether an operation was answered that the journal is full. Nothing makes it forget that: a hand that is made anew is
-/// made over another world.
+/// It keeps whether an operation was answered that the journal is full, and whether memory was wanted for one. Nothing makes it
+/// forget that: a hand that is made anew is made over another world.
 #[derive(Drop)]
 pub(crate) struct LineHand<B: Bucket> {
     world: World<B>,
     seat: u32,
     refused: bool,
+    wanted: bool,
     /// The world over which it was made, as it was then.
     opened: Snapshot<World<B>>,
 }
 
 impl<B: Bucket> LineHand<B> {
-    /// A hand at seat 0, which has been refused nothing yet.
+    /// A hand at seat 0, which has been refused nothing yet, and has wanted no memory.
     pub(crate) fn new(world: World<B>) -> Self
         ensures world { result.world ≡ world }
         ensures opened { result.opened.value ≡ world }
         ensures refused { result.refused ≡ false }
+        ensures wanted { result.wanted ≡ false }
     {
         let opened = Snapshot::of(&world);
         LineHand {
             world,
             seat: 0,
             refused: false,
+            wanted: false,
             opened,
         }
     }
@@ -40,17 +43,20 @@ impl<B: Bucket> LineHand<B> {
         ensures seat { result.seat ≡ seat }
         ensures opened { result.opened ≡ self.opened }
         ensures refused { result.refused ≡ self.refused }
+        ensures wanted { result.wanted ≡ self.wanted }
     {
         let LineHand {
             world,
             seat: _,
             refused,
+            wanted,
             opened,
         } = self;
         LineHand {
             world,
             seat,
             refused,
+            wanted,
             opened,
         }
     }
@@ -71,7 +77,7 @@ impl<B: Bucket> LineHand<B> {
 }
 
 impl<B: Bucket> Hand for LineHand<B> {
-    ghost use Rattle.std.specs.Prelude.{Some, false};
+    ghost use Rattle.std.specs.Prelude.{Some};
     ghost use Rattle.replay_cli.specs.LineHands.{KeepsRun, keeps_run-none, keeps_run-more};
 
     ghost entries = { λ hand. hand.world.journal };
@@ -82,22 +88,25 @@ impl<B: Bucket> Hand for LineHand<B> {
 
     ghost refused = { λ hand. hand.refused };
 
-    ghost wanted = { λ hand. false };
+    ghost wanted = { λ hand. hand.wanted };
 
-    ghost keeps = { λ old new. KeepsRun B.faults B.quiet old.opened.value old.world new.opened.value
-        new.world };
+    ghost keeps = { λ old new. KeepsRun B.faults B.quiet B.asked old.opened.value old.wanted
+        old.world new.opened.value new.wanted new.world };
 
-    ghost keeps_none = { λ hand. keeps_run-none B.faults B.quiet hand.opened.value hand.world };
+    ghost keeps_none = { λ hand. keeps_run-none B.faults B.quiet B.asked hand.opened.value
+        hand.wanted hand.world };
 
-    ghost keeps_more = { λ first next last one two. keeps_run-more B.faults B.quiet
-        first.opened.value next.opened.value last.opened.value first.world next.world last.world
-        one two };
+    ghost keeps_more = { λ first next last one two. keeps_run-more B.faults B.quiet B.asked
+        first.opened.value next.opened.value last.opened.value first.wanted next.wanted
+        last.wanted first.world next.world last.world one two };
 
     #[tactic(auto, using(crate::proofs::Unfailed::acted))]
     fn act(&mut self, op: Op) -> Acted {
         let acted = self.world.act(self.seat, op);
-        if let Acted::Full = acted {
-            self.refused = true;
+        match acted {
+            Acted::Full => self.refused = true,
+            Acted::NoMemory => self.wanted = true,
+            Acted::Done(_) => {}
         }
         acted
     }

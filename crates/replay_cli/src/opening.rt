@@ -6,7 +6,7 @@ ghost use Rattle.script_core.specs.Lawful.{IsLawfulScript};
 ghost use Rattle.script_core.specs.Reading.{script_of};
 ghost use Rattle.lifecycle_core.specs.Setting.{setting_of};
 ghost use Rattle.replay_cli.specs.Kept.{HoldsNothing, IsHandedBack, IsHandedOut, IsNotAsked, IsOpened, IsShelfOf, IsUnfailed, IsUntouched};
-ghost use Rattle.replay_cli.specs.ShelfAsked.{WasAsked};
+ghost use Rattle.replay_cli.specs.Asked.{IsBucketAsked, WasAsked, for_opening};
 ghost use Rattle.replay_cli.specs.Undone.{IsUndone};
 ghost use Rattle.replay_cli.specs.Verdicts.{BehindOpening, IfShort, IsRun, IsScriptRead, IsUnread, IsWorked, SiteFailed, around_call};
 ghost use Rattle.replay_cli.specs.Words.{named_by};
@@ -29,7 +29,7 @@ pub(crate) struct Ready<B: Bucket, F> {
 }
 
 /// Reads the script, and opens the bucket and the shelf; or ends the call.
-#[tactic(auto, using(crate::proofs::Verdicts::worked, crate::proofs::Verdicts::unread))]
+#[tactic(auto, using(crate::proofs::Verdicts::worked, crate::proofs::Verdicts::unread, crate::proofs::BucketAsked::none_asked))]
 pub(crate) fn read_and_open<S: Site, R: Source>(
     alloc: Global,
     bucket: &str,
@@ -53,6 +53,8 @@ pub(crate) fn read_and_open<S: Site, R: Source>(
     ensures unread { IfOk result
         (λ ready. IfSome ready.shelf (λ files. S.Files.faults files ≡ 0)) }
     ensures unasked { IfOk result (λ ready. IfSome ready.shelf (WasAsked S.Files.asked [])) }
+    ensures asked { IfOk result
+        (λ ready. WasAsked S.Store.asked for_opening ready.world.bucket) }
     ensures opened { IfOk result (λ ready. is_some ready.shelf ≡ is_some (named_by shelf.now)) }
     ensures shelf { IfOk result
         (λ ready. IsShelfOf S.shelves S.next_shelf S.Files.files (named_by shelf.now)
@@ -81,6 +83,10 @@ pub(crate) fn read_and_open<S: Site, R: Source>(
         ended.conclusion.store) }
     ensures untouched { IfErr result (λ ended. IfSome (S.next_bucket site.old bucket.now)
         (λ c. IsUntouched S.Store.contents c ended.conclusion.journal ended.conclusion.store)) }
+    ensures back_asked { IfErr result
+        (λ ended. ended.conclusion.verdict ≢ Verdict.NoMemory
+        → IsBucketAsked S.Store.asked ended.conclusion.verdict ended.conclusion.journal
+        ended.conclusion.store) }
     ensures back_shelf { IfErr result
         (λ ended. IsShelfOf S.shelves S.next_shelf S.Files.files (named_by shelf.now)
         site.old site.new ended.shelf) }
@@ -133,7 +139,7 @@ fn read_script<R: Source>(alloc: Global, source: &mut R) -> Result<(Script, Vec<
 }
 
 /// Opens the bucket and the shelf, and a world over the bucket; or ends the call.
-#[tactic(auto, using(crate::proofs::Verdicts::run_told, crate::proofs::Verdicts::failed_later))]
+#[tactic(auto, using(crate::proofs::Verdicts::run_told, crate::proofs::Verdicts::failed_later, crate::proofs::BucketAsked::none_asked))]
 fn open_site<S: Site>(
     alloc: Global,
     script: &Script,
@@ -151,6 +157,8 @@ fn open_site<S: Site>(
     ensures unfailed { IfOk result (λ ready. S.Store.faults ready.0.bucket ≡ 0) }
     ensures unread { IfOk result (λ ready. IfSome ready.1 (λ files. S.Files.faults files ≡ 0)) }
     ensures unasked { IfOk result (λ ready. IfSome ready.1 (WasAsked S.Files.asked [])) }
+    ensures asked { IfOk result
+        (λ ready. WasAsked S.Store.asked for_opening ready.0.bucket) }
     ensures opened { IfOk result (λ ready. is_some ready.1 ≡ is_some (named_by shelf.now)) }
     ensures shelf { IfOk result
         (λ ready. IsShelfOf S.shelves S.next_shelf S.Files.files (named_by shelf.now)
@@ -177,6 +185,10 @@ fn open_site<S: Site>(
         ended.conclusion.store) }
     ensures untouched { IfErr result (λ ended. IfSome (S.next_bucket site.old bucket.now)
         (λ c. IsUntouched S.Store.contents c ended.conclusion.journal ended.conclusion.store)) }
+    ensures back_asked { IfErr result
+        (λ ended. ended.conclusion.verdict ≢ Verdict.NoMemory
+        → IsBucketAsked S.Store.asked ended.conclusion.verdict ended.conclusion.journal
+        ended.conclusion.store) }
     ensures back_shelf { IfErr result
         (λ ended. IsShelfOf S.shelves S.next_shelf S.Files.files (named_by shelf.now)
         site.old site.new ended.shelf) }
@@ -210,6 +222,8 @@ fn open_behind<S: Site>(
         (λ ready. S.Store.faults ready.0.bucket ≡ S.Store.faults bucket) }
     ensures unread { IfOk result (λ ready. IfSome ready.1 (λ files. S.Files.faults files ≡ 0)) }
     ensures unasked { IfOk result (λ ready. IfSome ready.1 (WasAsked S.Files.asked [])) }
+    ensures asked { IfOk result (λ ready. WasAsked S.Store.asked [] bucket
+        → WasAsked S.Store.asked for_opening ready.0.bucket) }
     ensures opened { IfOk result (λ ready. is_some ready.1 ≡ is_some (named_by shelf.now)) }
     ensures shelf { IfOk result
         (λ ready. IsShelfOf S.shelves S.next_shelf S.Files.files (named_by shelf.now)
@@ -238,6 +252,10 @@ fn open_behind<S: Site>(
         ended.conclusion.store) }
     ensures untouched { IfErr result (λ ended. IfSome (S.Store.contents bucket)
         (λ c. IsUntouched S.Store.contents c ended.conclusion.journal ended.conclusion.store)) }
+    ensures back_asked { IfErr result (λ ended. WasAsked S.Store.asked [] bucket
+        → ended.conclusion.verdict ≢ Verdict.NoMemory
+        → IsBucketAsked S.Store.asked ended.conclusion.verdict ended.conclusion.journal
+        ended.conclusion.store) }
     ensures back_shelf { IfErr result
         (λ ended. IsShelfOf S.shelves S.next_shelf S.Files.files (named_by shelf.now)
         site.old site.new ended.shelf) }
@@ -267,6 +285,8 @@ fn open_world<B: Bucket>(
     ensures tick { IfOk result (λ world. world.tick ≡ script.now.rules.tick.ms) }
     ensures empty { IfOk result (λ world. IfSome (B.contents bucket) HoldsNothing) }
     ensures unfailed { IfOk result (λ world. B.faults world.bucket ≡ B.faults bucket) }
+    ensures asked { IfOk result (λ world. WasAsked B.asked [] bucket
+        → WasAsked B.asked for_opening world.bucket) }
     ensures cause { IfErr result (λ ended. IsRun IsUndone (setting_of script.now)
         (B.contents bucket)
         (IsSomeAnd ended.store (λ store. Rose (B.faults bucket) (B.faults store)))
@@ -279,6 +299,9 @@ fn open_world<B: Bucket>(
         (λ ended. IsHandedBack B.contents B.faults ended.journal ended.store) }
     ensures untouched { IfErr result (λ ended. IfSome (B.contents bucket)
         (λ c. IsUntouched B.contents c ended.journal ended.store)) }
+    ensures back_asked { IfErr result (λ ended. WasAsked B.asked [] bucket
+        → ended.verdict ≢ Verdict.NoMemory
+        → IsBucketAsked B.asked ended.verdict ended.journal ended.store) }
 {
     match World::open(alloc, bucket, script.rules.tick) {
         Ok(world) => Ok(world),
@@ -352,6 +375,8 @@ pub(crate) fn without_shelf<B: Bucket>(
     ensures journal { result.journal ≡ Some [] }
     ensures back { IsHandedBack B.contents B.faults result.journal result.store }
     ensures unfailed { IsUnfailed B.faults (B.faults bucket) result.journal result.store }
+    ensures asked { WasAsked B.asked [] bucket → result.verdict ≢ Verdict.NoMemory
+        → IsBucketAsked B.asked result.verdict result.journal result.store }
 {
     Conclusion::with_bucket(refused(refusal), Journal::empty(alloc), bucket)
 }

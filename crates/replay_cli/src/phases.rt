@@ -1,4 +1,4 @@
-ghost use Rattle.std.specs.Prelude.{◌≡◌, ◌≢◌, ◌++◌, ◌+◌, ◌<◌, ◌^◌, ◌&&◌, [], ◌∷◌, true, false, length, take, List, Ok, Err, Some, None, IfOk, OnErr, OnOk, MatchResult, slice_get};
+ghost use Rattle.std.specs.Prelude.{◌≡◌, ◌≢◌, ◌++◌, ◌+◌, ◌<◌, ◌^◌, ◌&&◌, [], ◌∷◌, true, false, length, take, List, Ok, Err, Some, None, IsTrue, IfOk, OnErr, OnOk, MatchResult, slice_get};
 ghost use Rattle.std.specs.List.{All};
 ghost use Rattle.world_core.specs.Keeping.{IsFull};
 ghost use Rattle.world_core.specs.declared.entry.Entry.{Entry};
@@ -77,7 +77,7 @@ impl Progress {
 }
 
 /// Runs the phases in order. What broke the run off, if anything did, comes with the hand.
-#[tactic(auto, using(crate::proofs::Unfailed::kept, crate::proofs::Unfailed::kept_on))]
+#[tactic(auto, using(crate::proofs::Unfailed::kept, crate::proofs::Unfailed::kept_on, crate::proofs::Wanted::still_unwanted))]
 pub(crate) fn run_phases<B: Bucket>(
     alloc: Global,
     script: &Script,
@@ -87,13 +87,15 @@ pub(crate) fn run_phases<B: Bucket>(
     requires lawful { IsLawfulScript script.now }
     requires ready { length progress.old.gateways.items ≡ length script.now.gateways }
     requires unrefused { hand.refused ≡ false }
+    requires unwanted { hand.wanted ≡ false }
     requires workers { progress.old.workers ≡ seats_before script.now 0 }
     requires reached { Reached (setting_of script.now) 0 progress.old.gateways.items
         hand.world.journal progress.old.report.as_asked progress.old.report.text.items }
     ensures full { result.0 ≡ Err Broken.Full → IsFull result.1.world.journal }
     ensures refused { result.1.refused ≡ is_full_came result.0 }
-    ensures keeps { KeepsRun B.faults B.quiet hand.opened.value hand.world
-        result.1.opened.value result.1.world }
+    ensures wanted { IsTrue result.1.wanted → result.0 ≡ Err Broken.NoMemory }
+    ensures keeps { KeepsRun B.faults B.quiet B.asked hand.opened.value hand.wanted hand.world
+        result.1.opened.value result.1.wanted result.1.world }
     ensures came { RunCame (setting_of script.now) progress.new.gateways.items
         result.1.world.journal progress.new.report.as_asked progress.new.report.text.items
         result.0 }
@@ -123,13 +125,15 @@ fn run_phase<B: Bucket>(
     requires at { slice_get script.now.phases place ≡ Some phase.now }
     requires ready { length progress.old.gateways.items ≡ length script.now.gateways }
     requires unrefused { hand.refused ≡ false }
+    requires unwanted { hand.wanted ≡ false }
     requires workers { progress.old.workers ≡ seats_before script.now place }
     requires reached { Reached (setting_of script.now) place progress.old.gateways.items
         hand.world.journal progress.old.report.as_asked progress.old.report.text.items }
     ensures full { result.0 ≡ Err Broken.Full → IsFull result.1.world.journal }
     ensures refused { result.1.refused ≡ is_full_came result.0 }
-    ensures keeps { KeepsRun B.faults B.quiet hand.opened.value hand.world
-        result.1.opened.value result.1.world }
+    ensures wanted { IsTrue result.1.wanted → result.0 ≡ Err Broken.NoMemory }
+    ensures keeps { KeepsRun B.faults B.quiet B.asked hand.opened.value hand.wanted hand.world
+        result.1.opened.value result.1.wanted result.1.world }
     ensures ready { length progress.new.gateways.items ≡ length script.now.gateways }
     ensures workers { result.0 ≡ Ok tt
         → progress.new.workers ≡ seats_before script.now (place + 1) }
@@ -156,10 +160,11 @@ fn run_phase<B: Bucket>(
 }
 
 /// Sets the clock to the moment of the phase.
-#[tactic(auto, using(crate::proofs::Unfailed::kept_at))]
+#[tactic(auto, using(crate::proofs::Unfailed::kept_at, crate::proofs::Wanted::wanted_for))]
 fn begin_phase<B: Bucket>(phase: &Phase, hand: LineHand<B>) -> (Result<(), Broken>, LineHand<B>)
     requires moment { phase.now.moment.ms < 2 ^ 47 }
     requires unrefused { hand.refused ≡ false }
+    requires unwanted { hand.wanted ≡ false }
     ensures begun { OnOk result.0
         ((clock : Entry) × BeginsPhase phase.now clock
         × (result.1.world.journal ≡ hand.world.journal ++ clock ∷ [])) }
@@ -167,8 +172,9 @@ fn begin_phase<B: Bucket>(phase: &Phase, hand: LineHand<B>) -> (Result<(), Broke
     ensures full { result.0 ≡ Err Broken.Full → IsFull result.1.world.journal }
     ensures memory { result.0 ≡ Err Broken.NoMemory → ¬ IsFull result.1.world.journal }
     ensures refused { result.1.refused ≡ is_full_came result.0 }
-    ensures keeps { KeepsRun B.faults B.quiet hand.opened.value hand.world
-        result.1.opened.value result.1.world }
+    ensures wanted { IsTrue result.1.wanted → result.0 ≡ Err Broken.NoMemory }
+    ensures keeps { KeepsRun B.faults B.quiet B.asked hand.opened.value hand.wanted hand.world
+        result.1.opened.value result.1.wanted result.1.world }
 {
     let mut hand = hand.at_seat(0);
     let begun = match hand.act(Op::Clock(phase.moment)) {
@@ -237,10 +243,12 @@ fn run_tasks<B: Bucket>(
     requires tasks { All (λ task. Allows script.now task.work) tasks.now }
     requires ready { length progress.old.gateways.items ≡ length script.now.gateways }
     requires unrefused { hand.refused ≡ false }
+    requires unwanted { hand.wanted ≡ false }
     ensures full { result.0 ≡ Err Broken.Full → IsFull result.1.world.journal }
     ensures refused { result.1.refused ≡ is_full_came result.0 }
-    ensures keeps { KeepsRun B.faults B.quiet hand.opened.value hand.world
-        result.1.opened.value result.1.world }
+    ensures wanted { IsTrue result.1.wanted → result.0 ≡ Err Broken.NoMemory }
+    ensures keeps { KeepsRun B.faults B.quiet B.asked hand.opened.value hand.wanted hand.world
+        result.1.opened.value result.1.wanted result.1.world }
     ensures came { (views : Holdings) → Shows views progress.old.gateways.items
         → MatchResult result.0
         (λ lines. TasksDone (setting_of script.now)
@@ -283,10 +291,12 @@ fn next_task<B: Bucket>(
     requires within { place < length tasks.now }
     requires ready { length progress.old.gateways.items ≡ length script.now.gateways }
     requires unrefused { hand.refused ≡ false }
+    requires unwanted { hand.wanted ≡ false }
     ensures full { result.0 ≡ Err Broken.Full → IsFull result.1.world.journal }
     ensures refused { result.1.refused ≡ is_full_came result.0 }
-    ensures keeps { KeepsRun B.faults B.quiet hand.opened.value hand.world
-        result.1.opened.value result.1.world }
+    ensures wanted { IsTrue result.1.wanted → result.0 ≡ Err Broken.NoMemory }
+    ensures keeps { KeepsRun B.faults B.quiet B.asked hand.opened.value hand.wanted hand.world
+        result.1.opened.value result.1.wanted result.1.world }
     ensures came { (views : Holdings) (start : List Entry)
         → TasksDone (setting_of script.now) (seat_of seats.now.workers)
         (take place tasks.now) views progress.old.gateways.items start hand.world.journal

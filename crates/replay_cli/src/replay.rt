@@ -1,7 +1,8 @@
-ghost use Rattle.std.specs.Prelude.{◌≡◌, [], Some, None, IfSome, is_some};
+ghost use Rattle.std.specs.Prelude.{◌≡◌, ◌≢◌, false, [], Some, None, IfSome, is_some};
 ghost use Rattle.replay_cli.specs.InPhases.{IsInPhases};
 ghost use Rattle.replay_cli.specs.Kept.{IsHandedBack, IsHandedOut, IsNotAsked, IsShelfOf, IsUnfailed, IsUntouched, told_of};
-ghost use Rattle.replay_cli.specs.ShelfAsked.{WasAsked};
+ghost use Rattle.replay_cli.specs.Asked.{IsBucketAsked, WasAsked};
+ghost use Rattle.replay_cli.specs.Progress.{tells_full};
 ghost use Rattle.replay_cli.specs.Statuses.{number_of};
 ghost use Rattle.replay_cli.specs.Verdicts.{EndsCalmly, IfShort, IsCaused, IsSaid, IsWorked, around_call, saying_to};
 ghost use Rattle.replay_cli.specs.Words.{named_by, replay_shelf, replay_word};
@@ -31,7 +32,9 @@ pub fn run_replay<S: Site, R: Source, K: Sink, G: Gate + Sync, T: Threads + Wait
 ) -> Run<S::Store, S::Files>
 where
     S::Store: Send,
-    // The call comes to a verdict that has its cause, and says it. The journal is one of workers beside each other.
+    // The call comes to a verdict that has its cause, and says it. The journal is one of workers beside each other. Unless want
+    // of memory is told or the full journal, the bucket was asked for what the journal shows, behind the page that opens it, and
+    // for nothing else.
     ensures verdict { (verdict : Verdict) × (status : Status)
         × IsCaused
         (around_call IsInPhases R.left R.faults script.old script.new
@@ -40,7 +43,9 @@ where
         None site.old site.new S.Store.faults S.Files.faults
         result.store result.shelf result.journal) verdict
         × IsSaid verdict (saying_to K.faults K.written out.old out.new) status
-        × (result.status ≡ number_of status) }
+        × (result.status ≡ number_of status)
+        × (verdict ≢ Verdict.NoMemory → tells_full verdict ≡ false
+        → IsBucketAsked S.Store.asked verdict result.journal result.store) }
 
     // A calm call ends as asked, unless there is no memory, or a pattern of its script is too large.
     ensures calm { EndsCalmly
@@ -88,6 +93,10 @@ where
     ensures kept { is_some result.conclusion.journal ≡ is_some result.conclusion.store }
     ensures back { IsHandedBack S.Store.contents S.Store.faults result.conclusion.journal
         result.conclusion.store }
+    ensures asked_bucket { result.conclusion.verdict ≢ Verdict.NoMemory
+        → tells_full result.conclusion.verdict ≡ false
+        → IsBucketAsked S.Store.asked result.conclusion.verdict result.conclusion.journal
+        result.conclusion.store }
     ensures untouched { IfSome (told_of (S.next_bucket site.old) (replay_word words.now))
         (λ c. IsUntouched S.Store.contents c result.conclusion.journal result.conclusion.store) }
     ensures closed { replay_word words.now ≡ None
@@ -132,6 +141,10 @@ where
     ensures handed { IsHandedOut S.buckets site.old site.new result.conclusion.store }
     ensures kept { is_some result.conclusion.journal ≡ is_some result.conclusion.store }
     ensures back { IsHandedBack S.Store.contents S.Store.faults result.conclusion.journal
+        result.conclusion.store }
+    ensures asked_bucket { result.conclusion.verdict ≢ Verdict.NoMemory
+        → tells_full result.conclusion.verdict ≡ false
+        → IsBucketAsked S.Store.asked result.conclusion.verdict result.conclusion.journal
         result.conclusion.store }
     ensures untouched { IfSome (S.next_bucket site.old bucket.now)
         (λ c. IsUntouched S.Store.contents c result.conclusion.journal result.conclusion.store) }

@@ -1,7 +1,9 @@
 //! A script is run over a world: by the caller itself, in the order of the lines, or with a thread for each worker of a phase.
 
-ghost use Rattle.std.specs.Prelude.{◌≡◌, [], Ok, Err, Some};
+ghost use Rattle.std.specs.Prelude.{◌≡◌, ◌≢◌, List, [], Ok, Err, Some, false};
+ghost use Rattle.bucket_core.specs.Asking.{Call};
 ghost use Rattle.bucket_core.specs.Contents.{nothing};
+ghost use Rattle.world_core.specs.Asking.{IsAllAsked};
 ghost use Rattle.world_core.specs.Worlds.{failed_count};
 ghost use Rattle.script_core.specs.Lawful.{IsLawfulScript};
 ghost use Rattle.script_core.specs.Reading.{script_of};
@@ -39,6 +41,10 @@ pub(crate) fn run_in_line<B: Bucket>(
     ensures unfailed { failed_count result.1.world.journal ≡ 0
         → B.faults result.1.world.bucket ≡ B.faults world.bucket }
 
+    // Unless want of memory is told, all that the bucket was asked is journaled if it was before.
+    ensures all { result.0 ≢ Verdict.NoMemory → (before : List Call)
+        → IsAllAsked B.asked before world → IsAllAsked B.asked before result.1.world }
+
     // The full journal is told just where an operation of the run was answered so. So want of memory is told only where none was.
     ensures refused { result.1.refused ≡ tells_full result.0 }
     ensures opened { result.1.opened.value ≡ world }
@@ -71,6 +77,12 @@ pub(crate) fn run_with_threads<B: Bucket + Send, G: Gate + Sync, T: Threads + Wa
         (Some result.1.journal) result.0 }
     ensures unfailed { failed_count result.1.journal ≡ 0
         → B.faults result.1.bucket ≡ B.faults world.bucket }
+
+    // All that the bucket was asked is journaled if it was before, unless want of memory is told, or the full journal. (Where one
+    // worker meets that, another may have wanted memory.)
+    ensures all { result.0 ≢ Verdict.NoMemory → tells_full result.0 ≡ false
+        → (before : List Call) → IsAllAsked B.asked before world
+        → IsAllAsked B.asked before result.1 }
 {
     match run_beside(rt, alloc, script, text, world, gate) {
         Ok((end, closed)) => told_run(alloc, script, end, closed.into_world()),
@@ -89,6 +101,8 @@ fn told_run<B: Bucket>(
     requires ran { HasRunBeside (setting_of script.now) world.journal end.outcomes end.came }
     ensures cause { IsRun IsInPhases (setting_of script.now) (Some nothing) ⊥
         (Some result.1.journal) result.0 }
+    ensures whole { result.0 ≢ Verdict.NoMemory → tells_full result.0 ≡ false
+        → end.came ≡ Ok tt }
     ensures same { result.1 ≡ world }
 {
     match told_lines(alloc, script, end.outcomes.members()) {

@@ -1,6 +1,6 @@
 //! One task of a script, done in the order of the lines.
 
-ghost use Rattle.std.specs.Prelude.{◌≡◌, ◌<◌, [], ℕ, false, Err, length};
+ghost use Rattle.std.specs.Prelude.{◌≡◌, ◌<◌, [], ℕ, false, Err, IsTrue, length};
 ghost use Rattle.world_core.specs.Keeping.{IsFull};
 ghost use Rattle.script_core.specs.Lawful.{IsLawfulScript};
 ghost use Rattle.script_workers.specs.declared.hand.Hand.TheVariants as hands;
@@ -38,10 +38,12 @@ pub(crate) fn do_task<B: Bucket>(
     requires work { Allows script.now task.now.work }
     requires ready { length progress.old.gateways.items ≡ length script.now.gateways }
     requires unrefused { hand.refused ≡ false }
+    requires unwanted { hand.wanted ≡ false }
     ensures full { result.0 ≡ Err Broken.Full → IsFull result.1.world.journal }
     ensures refused { result.1.refused ≡ is_full_came result.0 }
-    ensures keeps { KeepsRun B.faults B.quiet hand.opened.value hand.world
-        result.1.opened.value result.1.world }
+    ensures wanted { IsTrue result.1.wanted → result.0 ≡ Err Broken.NoMemory }
+    ensures keeps { KeepsRun B.faults B.quiet B.asked hand.opened.value hand.wanted hand.world
+        result.1.opened.value result.1.wanted result.1.world }
     ensures step { (views : Holdings) → Shows views progress.old.gateways.items
         → TaskStep (setting_of script.now)
         (seat_of seats.now.workers) place task.now views progress.new.gateways.items
@@ -83,12 +85,14 @@ fn at_gateway<B: Bucket>(
     requires work { Allows script.now task.now.work }
     requires ready { length progress.old.gateways.items ≡ length script.now.gateways }
     requires unrefused { hand.refused ≡ false }
+    requires unwanted { hand.wanted ≡ false }
     requires within { number < length progress.old.gateways.items }
     requires alone { IsOnlyHand (setting_of script.now) place task.now (hands.Gateway number) }
     ensures full { result.0 ≡ Err Broken.Full → IsFull result.1.world.journal }
     ensures refused { result.1.refused ≡ is_full_came result.0 }
-    ensures keeps { KeepsRun B.faults B.quiet hand.opened.value hand.world
-        result.1.opened.value result.1.world }
+    ensures wanted { IsTrue result.1.wanted → result.0 ≡ Err Broken.NoMemory }
+    ensures keeps { KeepsRun B.faults B.quiet B.asked hand.opened.value hand.wanted hand.world
+        result.1.opened.value result.1.wanted result.1.world }
     ensures step { (views : Holdings) → Shows views progress.old.gateways.items
         → TaskStep (setting_of script.now)
         (seat_of seats.now.workers) place task.now views progress.new.gateways.items
@@ -122,10 +126,12 @@ fn do_over<B: Bucket>(
     requires lawful { IsLawfulScript script.now }
     requires work { Allows script.now work.now }
     requires unrefused { hand.refused ≡ false }
+    requires unwanted { hand.wanted ≡ false }
     ensures full { result.0 ≡ Err Broken.Full → IsFull result.1.world.journal }
     ensures refused { result.1.refused ≡ is_full_came result.0 }
-    ensures keeps { KeepsRun B.faults B.quiet hand.opened.value hand.world
-        result.1.opened.value result.1.world }
+    ensures wanted { IsTrue result.1.wanted → result.0 ≡ Err Broken.NoMemory }
+    ensures keeps { KeepsRun B.faults B.quiet B.asked hand.opened.value hand.wanted hand.world
+        result.1.opened.value result.1.wanted result.1.world }
     ensures done { (who : Who) (place : ℕ) (held : Holding) → Sees held view.old
         → HasDone (setting_of script.now) who place work.now held seat
         hand.world.journal result.1.world.journal view.new result.0 }

@@ -1,7 +1,7 @@
-ghost use Rattle.std.specs.Prelude.{◌≡◌, ℕ, [], Some, None, IfSome, is_some};
+ghost use Rattle.std.specs.Prelude.{◌≡◌, ◌≢◌, ℕ, [], Some, None, IfSome, is_some};
 ghost use Rattle.replay_cli.specs.Checks.{files_of};
 ghost use Rattle.replay_cli.specs.Kept.{IsHandedBack, IsHandedOut, IsNotAsked, IsShelfOf, IsUnfailed, IsUntouched, told_of};
-ghost use Rattle.replay_cli.specs.ShelfAsked.{IsBroken, IsUndecided, WasAsked, WasAskedFor};
+ghost use Rattle.replay_cli.specs.Asked.{IsBroken, IsBucketAsked, IsUndecided, WasAsked, WasAskedFor};
 ghost use Rattle.replay_cli.specs.Statuses.{number_of};
 ghost use Rattle.replay_cli.specs.Verdicts.{EndsCalmly, IfShort, IsCaused, IsCheckSaid, IsSaid, IsWorked, around_call, saying_to};
 ghost use Rattle.replay_cli.specs.Words.{block_word, bucket_word, named_by, shelf_word};
@@ -27,7 +27,8 @@ pub fn run_tool<S: Site, R: Source, K: Sink>(
     out: &mut K,
 ) -> Run<S::Store, S::Files>
     // The call comes to a verdict that has its cause, and says it: its status and its text, or that the sink failed or
-    // memory ran out as it was said.
+    // memory ran out as it was said. Unless that is want of memory, the bucket was asked for what the journal shows, behind
+    // the page that opens it, and for nothing else.
     ensures verdict { (verdict : Verdict) × (status : Status)
         × IsCaused
         (around_call IsInLine R.left R.faults script.old script.new
@@ -36,7 +37,9 @@ pub fn run_tool<S: Site, R: Source, K: Sink>(
         (block_word words.now) site.old site.new S.Store.faults S.Files.faults
         result.store result.shelf result.journal) verdict
         × IsSaid verdict (saying_to K.faults K.written out.old out.new) status
-        × (result.status ≡ number_of status) }
+        × (result.status ≡ number_of status)
+        × (verdict ≢ Verdict.NoMemory
+        → IsBucketAsked S.Store.asked verdict result.journal result.store) }
 
     // A calm call ends as asked, unless there is no memory, or a pattern of its script is too large.
     ensures calm { EndsCalmly
@@ -96,6 +99,9 @@ fn come_to<S: Site, R: Source>(
     ensures kept { is_some result.conclusion.journal ≡ is_some result.conclusion.store }
     ensures back { IsHandedBack S.Store.contents S.Store.faults result.conclusion.journal
         result.conclusion.store }
+    ensures asked_bucket { result.conclusion.verdict ≢ Verdict.NoMemory
+        → IsBucketAsked S.Store.asked result.conclusion.verdict result.conclusion.journal
+        result.conclusion.store }
     ensures untouched { IfSome (told_of (S.next_bucket site.old) (bucket_word words.now))
         (λ c. IsUntouched S.Store.contents c result.conclusion.journal result.conclusion.store) }
     ensures closed { bucket_word words.now ≡ None
@@ -141,6 +147,9 @@ fn read_and_run<S: Site, R: Source>(
     ensures handed { IsHandedOut S.buckets site.old site.new result.conclusion.store }
     ensures kept { is_some result.conclusion.journal ≡ is_some result.conclusion.store }
     ensures back { IsHandedBack S.Store.contents S.Store.faults result.conclusion.journal
+        result.conclusion.store }
+    ensures asked_bucket { result.conclusion.verdict ≢ Verdict.NoMemory
+        → IsBucketAsked S.Store.asked result.conclusion.verdict result.conclusion.journal
         result.conclusion.store }
     ensures untouched { IfSome (S.next_bucket site.old bucket.now)
         (λ c. IsUntouched S.Store.contents c result.conclusion.journal result.conclusion.store) }

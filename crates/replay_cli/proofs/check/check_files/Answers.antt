@@ -4,7 +4,7 @@ use Rattle.replay_cli.specs.Verdicts.{IsChecked}
 use Rattle.replay_cli.specs.declared.verdict.Verdict.{Verdict}
 use Rattle.replay_cli.proofs.Checks.{check_caused}
 use Rattle.replay_cli.proofs.Unfailed.{not_short, short_checked}
-use Rattle.replay_cli.specs.ShelfAsked.{IsBroken}
+use Rattle.replay_cli.specs.Asked.{IsBroken}
 use Rattle.replay_cli.proofs.ShelfAsked.{broken_on, checked_since}
 use Rattle.replay_cli.proofs.check.check_files.Goals as goal
 

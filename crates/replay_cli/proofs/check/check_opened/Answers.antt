@@ -1,7 +1,7 @@
 use Rattle.replay_cli.proofs.CheckedShelf.{none_opened}
 use Rattle.std.proofs.Common.{◌≡◌, ◌∙◌}
 use Rattle.replay_cli.proofs.Unfailed.{if_some, short_map, short_of}
-use Rattle.replay_cli.specs.ShelfAsked.{IsBroken}
+use Rattle.replay_cli.specs.Asked.{IsBroken}
 use Rattle.replay_cli.proofs.ShelfAsked.{some_checked}
 use Rattle.replay_cli.proofs.check.check_opened.Goals as goal
 

@@ -1,5 +1,7 @@
 use Rattle.std.proofs.Common.{◌∙◌, refl}
+use Rattle.replay_cli.specs.Asked.{for_opening}
 use Rattle.replay_cli.specs.Undone.{IsUndone}
+use Rattle.replay_cli.proofs.BucketAsked.{asked_first, unopened_asked}
 use Rattle.replay_cli.proofs.HandedBack.{back_of_none}
 use Rattle.replay_cli.proofs.Runs.{opened_told}
 use Rattle.replay_cli.proofs.Unfailed.{short_unopened, unfailed_at}
@@ -20,3 +22,11 @@ pub returns-in-Err-clause-short : goal.returns-in-Err-clause-short
 returns-in-Err-clause-short g c =
     short_unopened c.in-Err.refusal c.with_bucket.result.verdict _ (λ is. c.with_bucket.ensures.verdict ∙ c.unopened.ensures.failed is)
     (λ other. unfailed_at g.B.Bucket.faults (g.B.Bucket.faults c.args.bucket) _ _ c.in-Err.store c.with_bucket.ensures.store (c.in-Err.ensures.only other))
+
+pub returns-in-Ok-clause-asked : goal.returns-in-Ok-clause-asked
+returns-in-Ok-clause-asked g c = λ was. asked_first g.B.Bucket.asked c.args.bucket c.in-Ok.world.bucket for_opening was c.in-Ok.ensures.asks
+
+pub returns-in-Err-clause-back_asked : goal.returns-in-Err-clause-back_asked
+returns-in-Err-clause-back_asked g c = λ was never.
+    unopened_asked g.B.Bucket.asked c.args.bucket c.in-Err.store c.in-Err.refusal c.with_bucket.result.verdict c.with_bucket.result.journal c.with_bucket.result.store c.empty.result
+    c.with_bucket.ensures.journal c.empty.ensures c.with_bucket.ensures.store (λ is. c.with_bucket.ensures.verdict ∙ c.unopened.ensures.none is) c.in-Err.ensures.asks was never

@@ -1,4 +1,4 @@
-use Rattle.std.proofs.Common.{◌≡◌, ◌&&◌, ◌++◌, ◌∷◌, [], length, ap, sym, ◌∙◌, subst}
+use Rattle.std.proofs.Common.{◌≡◌, ◌&&◌, ◌++◌, ◌∷◌, [], length, refl, ap, sym, ◌∙◌, subst}
 use Rattle.std.specs.Prelude.{OnOk}
 use Rattle.std.proofs.lemmas.Result.{MatchResult-at_err, MatchResult-at_ok}
 use Rattle.replay_cli.specs.declared.phases.Lines.{Lines}
@@ -14,6 +14,7 @@ use Rattle.replay_cli.specs.Progress.{TasksBroken, TasksDone}
 use Rattle.replay_cli.proofs.PhaseLists.{broken_from, broken_step, done_from, lawful_phase, reached_more, run_so_far, seats_next, taken_step, unbegun_step}
 use Rattle.replay_cli.proofs.Runs.{unrefused}
 use Rattle.replay_cli.proofs.Told.{on_err, on_ok}
+use Rattle.replay_cli.proofs.Wanted.{short_on, still_unwanted}
 use Rattle.replay_cli.proofs.phases.run_phase.Goals as goal
 
 pub returns-in_default-clause-step : goal.returns-in_default-clause-step
@@ -61,3 +62,20 @@ returns-clause-step g c =
     broken_step (setting_of c.args.script.now) c.args.place c.args.phase.now c.args.progress.now.gateways.items c.run_tasks-came.new.progress.gateways.items c.args.hand.world.journal c.run_tasks-came.result.1.world.journal c.args.progress.now.report.as_asked c.run_tasks-came.new.progress.report.as_asked
     c.args.progress.now.report.text.items c.run_tasks-came.new.progress.report.text.items c.in-Err-came.broken begun.0 c.requires.at (ap (λ r. r.as_asked) (sym c.run_tasks-came.ensures.report)) (ap (λ r. r.text.items) (sym c.run_tasks-came.ensures.report))
     begun.1 c.requires.reached tasks
+
+-- ---- whether memory was wanted
+
+pub run_tasks-came-requires-clause-unwanted : goal.run_tasks-came-requires-clause-unwanted
+run_tasks-came-requires-clause-unwanted g c = still_unwanted c.begin_phase-begun.result.1.wanted c.begin_phase-begun.result.0 c.in_default-begun.field-0 c.in_default-begun.is c.begin_phase-begun.ensures.wanted
+
+pub returns-in_default-clause-wanted : goal.returns-in_default-clause-wanted
+returns-in_default-clause-wanted g c = λ so. refl
+
+pub returns-in-Err-clause-wanted : goal.returns-in-Err-clause-wanted
+returns-in-Err-clause-wanted g c = λ so. short_on c.begin_phase-begun.result.0 c.in-Err.broken c.in-Err.is (c.begin_phase-begun.ensures.wanted so)
+
+pub returns-in-Ok-came-clause-wanted : goal.returns-in-Ok-came-clause-wanted
+returns-in-Ok-came-clause-wanted g c = λ so. let short = c.run_tasks-came.ensures.wanted so in absurd (cc (c.in-Ok-came.is, short))
+
+pub returns-clause-wanted : goal.returns-clause-wanted
+returns-clause-wanted g c = λ so. short_on c.run_tasks-came.result.0 c.in-Err-came.broken c.in-Err-came.is (c.run_tasks-came.ensures.wanted so)

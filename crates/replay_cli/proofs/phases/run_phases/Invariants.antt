@@ -9,8 +9,9 @@ use Rattle.lifecycle_core.specs.Setting.{setting_of}
 abbrev pub invariant-loop-place : goal.invariant-loop-place
 invariant-loop-place g l = record {
   reached : Reached (setting_of l.script) l.place l.progress.gateways.items l.hand.world.journal l.progress.report.as_asked l.progress.report.text.items;
-  keeps : KeepsRun g.B.Bucket.faults g.B.Bucket.quiet l.initial.hand.opened.value l.initial.hand.world l.hand.opened.value l.hand.world;
+  keeps : KeepsRun g.B.Bucket.faults g.B.Bucket.quiet g.B.Bucket.asked l.initial.hand.opened.value l.initial.hand.wanted l.initial.hand.world l.hand.opened.value l.hand.wanted l.hand.world;
   unrefused : l.hand.refused ≡ false;
+  unwanted : l.hand.wanted ≡ false;
   workers : l.progress.workers ≡ seats_before l.script l.place;
   ready : length l.progress.gateways.items ≡ length l.script.gateways;
 }

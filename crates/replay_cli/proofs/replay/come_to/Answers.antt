@@ -5,6 +5,7 @@ use Rattle.replay_cli.specs.Verdicts.{around_call}
 use Rattle.replay_cli.specs.Words.{named_by, replay_shelf, replay_word}
 use Rattle.replay_cli.specs.declared.words.Named.{Named}
 use Rattle.replay_cli.proofs.Checks.{caused_run, caused_words, not_named}
+use Rattle.replay_cli.proofs.BucketAsked.{none_asked}
 use Rattle.replay_cli.proofs.Openings.{shelf_named, untouched_named}
 use Rattle.replay_cli.proofs.Verdicts.{is_named}
 use Rattle.replay_cli.specs.declared.verdict.Verdict.TheVariants.{WordsRefused}
@@ -46,3 +47,12 @@ returns-in-None-clause-cause g c =
           (record { handed = refl; next = refl }, record { handed = refl; next = refl }),
       not_short c.without_bucket.result.verdict WordsRefused _ c.without_bucket.ensures.verdict tt,
     )
+
+-- ---- what the bucket was asked
+
+pub returns-in-Some-clause-asked_bucket : goal.returns-in-Some-clause-asked_bucket
+returns-in-Some-clause-asked_bucket g c = c.read_and_run.ensures.asked_bucket
+
+pub returns-in-None-clause-asked_bucket : goal.returns-in-None-clause-asked_bucket
+returns-in-None-clause-asked_bucket g c = λ never told.
+    none_asked g.S.Store.Bucket.asked c.without_bucket.result.verdict c.without_bucket.result.journal c.without_bucket.result.store c.without_bucket.ensures.journal

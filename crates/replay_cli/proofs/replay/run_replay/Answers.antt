@@ -1,13 +1,15 @@
-use Rattle.std.proofs.Common.{◌≡◌, [], refl}
+use Rattle.std.proofs.Common.{◌≡◌, ◌≢◌, false, [], refl}
 use Rattle.std.specs.Prelude.{None, IfSome, is_some}
 use Rattle.replay_cli.specs.InPhases.{IsInPhases}
 use Rattle.replay_cli.specs.Kept.{IsHandedBack, IsHandedOut, IsShelfOf, IsUntouched, told_of}
-use Rattle.replay_cli.specs.ShelfAsked.{WasAsked}
+use Rattle.replay_cli.specs.Asked.{IsBucketAsked, WasAsked}
+use Rattle.replay_cli.specs.Progress.{tells_full}
 use Rattle.replay_cli.specs.Statuses.{number_of}
 use Rattle.replay_cli.specs.Verdicts.{EndsCalmly, IsCaused, IsSaid, around_call, saying_to}
 use Rattle.replay_cli.specs.Words.{replay_shelf, replay_word}
 use Rattle.replay_cli.specs.declared.status.Status.{Status}
 use Rattle.replay_cli.specs.declared.verdict.Verdict.{Verdict}
+use Rattle.replay_cli.specs.declared.verdict.Verdict.TheVariants.{NoMemory}
 use Rattle.replay_cli.proofs.Calm.{at_rest, calm_end}
 use Rattle.replay_cli.proofs.Leaving.{left_by}
 use Rattle.replay_cli.proofs.replay.run_replay.Goals as goal
@@ -16,8 +18,8 @@ pub returns-clause-verdict : goal.returns-clause-verdict
 returns-clause-verdict g c =
     left_by c.into_run.result _ _ _ _ c.into_run.ensures.2
     (λ status journal store shelf. (verdict : Verdict) × (said : Status) × IsCaused (around_call IsInPhases g.R.Source.left g.R.Source.faults c.args.script.now c.come_to.new.script g.S.Site.buckets g.S.Site.next_bucket g.S.Site.shelves g.S.Site.next_shelf g.S.Site.faults (replay_word c.args.words.now) (replay_shelf c.args.words.now) None
-    c.args.site.now c.come_to.new.site g.S.Store.Bucket.faults g.S.Files.Shelf.faults store shelf journal) verdict × IsSaid verdict (saying_to g.K.Sink.faults g.K.Sink.written c.args.out.now c.into_run.new.out) said × (status ≡ number_of said))
-    (c.come_to.result.conclusion.verdict, c.into_run.ensures.0, c.come_to.ensures.cause, c.into_run.ensures.1, refl)
+    c.args.site.now c.come_to.new.site g.S.Store.Bucket.faults g.S.Files.Shelf.faults store shelf journal) verdict × IsSaid verdict (saying_to g.K.Sink.faults g.K.Sink.written c.args.out.now c.into_run.new.out) said × (status ≡ number_of said) × (verdict ≢ NoMemory → tells_full verdict ≡ false → IsBucketAsked g.S.Store.Bucket.asked verdict journal store))
+    (c.come_to.result.conclusion.verdict, c.into_run.ensures.0, c.come_to.ensures.cause, c.into_run.ensures.1, refl, c.come_to.ensures.asked_bucket)
 
 pub returns-clause-calm : goal.returns-clause-calm
 returns-clause-calm g c =

@@ -1,4 +1,5 @@
 use Rattle.std.proofs.Common.{Some, refl, sym, ◌∙◌, ap, subst}
+use Rattle.world_core.specs.Asking.{IsAllAsked}
 use Rattle.lifecycle_core.specs.Setting.{setting_of}
 use Rattle.replay_cli.specs.Progress.{RunCame}
 use Rattle.replay_cli.specs.declared.phases.Lines.{Lines}
@@ -6,6 +7,7 @@ use Rattle.replay_cli.specs.declared.verdict.Verdict.TheVariants as verdict
 use Rattle.replay_cli.proofs.PhaseLists.{reached_none}
 use Rattle.replay_cli.proofs.Runs.{full_told, kept_by, kept_of, no_seats, none_told, run_told}
 use Rattle.replay_cli.proofs.Unfailed.{unfailed_run}
+use Rattle.replay_cli.proofs.Wanted.{unwanted_told}
 use Rattle.replay_cli.proofs.runner.run_in_line.Goals as goal
 
 pub returns-in_default-clause-cause : goal.returns-in_default-clause-cause
@@ -35,3 +37,12 @@ returns-clause-unfailed g c = λ none.
 
 pub returns-clause-refused : goal.returns-clause-refused
 returns-clause-refused g c = c.run_phases-came.ensures.refused ∙ full_told c.into_report.result c.run_phases-came.result.0 c.verdict_of.result c.verdict_of.ensures.whole c.verdict_of.ensures.full c.verdict_of.ensures.none
+
+pub returns-in_default-clause-all : goal.returns-in_default-clause-all
+returns-in_default-clause-all g c = λ never before was. absurd (never refl)
+
+pub returns-clause-all : goal.returns-clause-all
+returns-clause-all g c = λ never before was.
+    c.run_phases-came.ensures.keeps.asks.all
+    (unwanted_told c.run_phases-came.result.1.wanted c.run_phases-came.result.0 c.verdict_of.result c.verdict_of.ensures.none never c.run_phases-came.ensures.wanted)
+    before (subst (IsAllAsked g.B.Bucket.asked before) (sym c.new-hand.ensures.world) was)

@@ -1,4 +1,5 @@
-use Rattle.std.proofs.Common.{List, sym, ◌∙◌, ap, subst}
+use Rattle.std.proofs.Common.{List, refl, sym, ◌∙◌, ap, subst}
+use Rattle.world_core.specs.Asking.{IsAllAsked}
 use Rattle.world_core.specs.Worlds.{failed_count}
 use Rattle.world_core.specs.declared.entry.Entry.{Entry}
 use Rattle.lifecycle_core.specs.Setting.{setting_of}
@@ -20,3 +21,10 @@ returns-in-Err-clause-cause g c = none_beside (setting_of c.args.script.now) c.i
 
 pub returns-in-Err-clause-unfailed : goal.returns-in-Err-clause-unfailed
 returns-in-Err-clause-unfailed g c = λ none. ap (λ w. g.B.Bucket.faults w.bucket) c.in-Err.ensures.unbegun
+
+pub returns-in-Ok-clause-all : goal.returns-in-Ok-clause-all
+returns-in-Ok-clause-all g c = λ never told before was.
+    subst (IsAllAsked g.B.Bucket.asked before) (sym (c.told_run.ensures.same ∙ c.into_world.ensures)) (c.in-Ok.ensures.all (c.told_run.ensures.whole never told) before was)
+
+pub returns-in-Err-clause-all : goal.returns-in-Err-clause-all
+returns-in-Err-clause-all g c = λ never told before was. absurd (never refl)

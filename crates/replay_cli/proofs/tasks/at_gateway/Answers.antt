@@ -13,3 +13,6 @@ returns-clause-step g c = λ views shows.
     c.args.number c.index_mut-gateway.result.now _ c.requires.alone c.seat_of-seat.ensures
     (slice_get-get_or c.args.progress.now.gateways.items c.args.number c.index_mut-gateway.result.now c.requires.within ∙ ap Some (sym c.index_mut-gateway.ensures.value))
     (λ held sees. c.do_over.ensures.done (who_does (seat_of c.args.seats.now.workers) (hands.Gateway c.args.number)) c.args.place held sees) shows
+
+pub returns-clause-wanted : goal.returns-clause-wanted
+returns-clause-wanted g c = c.do_over.ensures.wanted

@@ -1,4 +1,4 @@
-use Rattle.std.proofs.Common.{refl, sym, subst, arith}
+use Rattle.std.proofs.Common.{IsTrue, refl, sym, subst, arith}
 use Rattle.std.specs.Prelude.{Ok}
 use Rattle.script_workers.specs.declared.hand.Hand.TheVariants as hands
 use Rattle.lifecycle_core.specs.Holdings.{nothing_held}
@@ -28,3 +28,6 @@ pub at_gateway-requires-in-Query-clause-alone : goal.at_gateway-requires-in-Quer
 at_gateway-requires-in-Query-clause-alone g c =
     query_for (setting_of c.args.script.now) c.args.place c.args.task.now c.args.progress.now.gateways.items c.in-Query.low c.in-Query.high c.in-Query.selector c.in-Query.is c.requires.lawful.few_gateways c.requires.ready
     (let some = some_member _ c.is_empty.result c.is_empty.ensures c.if-is_empty.false in let ok = c.args.progress.now.gateways.ok in omega arith)
+
+pub returns-then-is_empty-clause-wanted : goal.returns-then-is_empty-clause-wanted
+returns-then-is_empty-clause-wanted g c = λ so. absurd (cc (subst IsTrue c.requires.unwanted so))

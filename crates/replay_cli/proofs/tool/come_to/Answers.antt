@@ -5,12 +5,13 @@ use Rattle.replay_cli.specs.Verdicts.{around_call}
 use Rattle.replay_cli.specs.Words.{block_word, bucket_word, named_by, shelf_word}
 use Rattle.replay_cli.specs.declared.words.Named.{Named}
 use Rattle.replay_cli.proofs.Checks.{back_none, behind_map, caused_check, caused_run, caused_words, handed_none, not_named, untouched_none}
+use Rattle.replay_cli.proofs.BucketAsked.{none_asked}
 use Rattle.replay_cli.proofs.Openings.{shelf_named, untouched_named}
 use Rattle.replay_cli.proofs.Verdicts.{is_named}
 use Rattle.replay_cli.specs.declared.verdict.Verdict.TheVariants.{WordsRefused}
 use Rattle.replay_cli.proofs.Unfailed.{not_short, short_map, unfailed_none}
 use Rattle.replay_cli.specs.Checks.{files_of}
-use Rattle.replay_cli.specs.ShelfAsked.{IsBroken}
+use Rattle.replay_cli.specs.Asked.{IsBroken}
 use Rattle.replay_cli.proofs.ShelfAsked.{check_asked, run_asked}
 use Rattle.replay_cli.proofs.tool.come_to.Goals as goal
 
@@ -98,3 +99,16 @@ returns-in-None-clause-cause g c =
           (record { handed = refl; next = refl }, record { handed = refl; next = refl }),
       not_short c.without_bucket.result.verdict WordsRefused _ c.without_bucket.ensures.verdict tt,
     )
+
+-- ---- what the bucket was asked
+
+pub returns-in-Some-clause-asked_bucket : goal.returns-in-Some-clause-asked_bucket
+returns-in-Some-clause-asked_bucket g c = c.read_and_run.ensures.asked_bucket
+
+pub returns-in-Some-read_check-clause-asked_bucket : goal.returns-in-Some-read_check-clause-asked_bucket
+returns-in-Some-read_check-clause-asked_bucket g c = λ never.
+    none_asked g.S.Store.Bucket.asked c.check_block.result.conclusion.verdict c.check_block.result.conclusion.journal c.check_block.result.conclusion.store c.check_block.ensures.journal
+
+pub returns-in-None-clause-asked_bucket : goal.returns-in-None-clause-asked_bucket
+returns-in-None-clause-asked_bucket g c = λ never.
+    none_asked g.S.Store.Bucket.asked c.without_bucket.result.verdict c.without_bucket.result.journal c.without_bucket.result.store c.without_bucket.ensures.journal

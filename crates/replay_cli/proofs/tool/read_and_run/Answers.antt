@@ -5,6 +5,7 @@ use Rattle.lifecycle_core.proofs.phases.FirstPhases.{none_in_line}
 use Rattle.replay_cli.specs.Kept.{IsUntouched}
 use Rattle.replay_cli.specs.Verdicts.{around_call}
 use Rattle.replay_cli.specs.Words.{named_by}
+use Rattle.replay_cli.proofs.BucketAsked.{ended_asked}
 use Rattle.replay_cli.proofs.Checks.{handed_some}
 use Rattle.replay_cli.proofs.Unfailed.{short_of, unfailed_ended}
 use Rattle.replay_cli.proofs.Verdicts.{if_nothing, worked_run, worked_undone}
@@ -42,7 +43,16 @@ pub returns-in-Ok-clause-untouched : goal.returns-in-Ok-clause-untouched
 returns-in-Ok-clause-untouched g c =
     if_nothing (λ k. IsUntouched g.S.Store.Bucket.contents k c.of_world.result.journal c.of_world.result.store) (g.S.Site.next_bucket c.args.site.now c.args.bucket.now) c.in-Ok.ensures.empty c.of_world.ensures.untouched
 
+pub returns-in-Ok-clause-asked_bucket : goal.returns-in-Ok-clause-asked_bucket
+returns-in-Ok-clause-asked_bucket g c = λ never.
+    ended_asked g.S.Store.Bucket.asked c.in-Ok.field-0.world c.run_in_line-verdict.result.1.world c.of_world.result.verdict c.of_world.result.journal c.of_world.result.store
+    c.in-Ok.ensures.fresh c.in-Ok.ensures.asked (c.run_in_line-verdict.ensures.all (λ is. never (c.of_world.ensures.verdict ∙ is)))
+    (c.of_world.ensures.journal ∙ ap (λ w. Some w.journal) c.into_world.ensures) (c.of_world.ensures.store ∙ ap (λ w. Some w.bucket) c.into_world.ensures)
+
 -- ---- a call that ended before
+
+pub returns-in-Err-clause-asked_bucket : goal.returns-in-Err-clause-asked_bucket
+returns-in-Err-clause-asked_bucket g c = c.in-Err.ensures.back_asked
 
 pub returns-in-Err-clause-cause : goal.returns-in-Err-clause-cause
 returns-in-Err-clause-cause g c =
