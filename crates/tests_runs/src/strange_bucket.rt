@@ -6,7 +6,7 @@ use bucket_core::{
 };
 use label_sets::{Text, TextList};
 use list_core::NoMemory;
-use std::alloc::Global;
+use std::alloc::{AllocError, Global};
 use wire_bytes::Blob;
 
 /// How a strange bucket lies.
@@ -19,20 +19,34 @@ pub enum Lie {
     Pages,
 }
 
-/// A bucket in memory that may lie. It tells no contents.
+/// A bucket in memory that may lie. It tells no contents. It notes its calls, and a call for whose note there is no memory is not
+/// done, unless it is a deletion.
 #[derive(Drop)]
 pub struct StrangeBucket {
     alloc: Global,
     inner: MemoryBucket,
     lie: Lie,
+    /// A line for each call: its kind and the key, or the name behind which names are listed.
+    notes: Vec<u8>,
 }
 
 impl StrangeBucket {
+    /// The notes of its calls, in order.
+    pub fn notes(&self) -> &[u8] {
+        &self.notes
+    }
+
     fn name_page(&self) -> Result<TextList, NoMemory> {
         let mut names = TextList::new(self.alloc);
         names.push(Text::from_str(self.alloc, "x")?)?;
         Ok(names)
     }
+}
+
+fn note(notes: &mut Vec<u8>, kind: &str, name: &str) -> Result<(), AllocError> {
+    notes.extend_from_slice(kind.as_bytes())?;
+    notes.extend_from_slice(name.as_bytes())?;
+    notes.extend_from_slice(b"\n")
 }
 
 impl Bucket for StrangeBucket {
@@ -50,10 +64,16 @@ impl Bucket for StrangeBucket {
     ghost only_keys = { λ b c key told stands. absurd (Prim.cc told) };
 
     fn put(&mut self, key: &str, bytes: &[u8]) -> PutAnswer {
+        if note(&mut self.notes, "put ", key).is_err() {
+            return PutAnswer::NoMemory;
+        }
         self.inner.put(key, bytes)
     }
 
     fn get(&mut self, key: &str) -> GetAnswer {
+        if note(&mut self.notes, "get ", key).is_err() {
+            return GetAnswer::NoMemory;
+        }
         match self.inner.get(key) {
             GetAnswer::Found(bytes) => {
                 if self.lie != Lie::Metas || !key.ends_with("meta.json") {
@@ -69,14 +89,21 @@ impl Bucket for StrangeBucket {
     }
 
     fn get_range(&mut self, key: &str, from: u64, len: u64) -> GetAnswer {
+        if note(&mut self.notes, "range ", key).is_err() {
+            return GetAnswer::NoMemory;
+        }
         self.inner.get_range(key, from, len)
     }
 
     fn delete(&mut self, key: &str) -> DeleteAnswer {
+        let _noted = note(&mut self.notes, "delete ", key);
         self.inner.delete(key)
     }
 
     fn page(&mut self, within: &str, after: &str, limit: u32) -> PageAnswer {
+        if note(&mut self.notes, "page ", after).is_err() {
+            return PageAnswer::NoMemory;
+        }
         if self.lie != Lie::Pages {
             return self.inner.page(within, after, limit);
         }
@@ -123,6 +150,7 @@ impl Site for StrangeSite {
             alloc: self.alloc,
             inner: MemoryBucket::new(self.alloc, FailList::new(self.alloc)),
             lie: self.lie,
+            notes: Vec::new(self.alloc),
         })
     }
 
