@@ -3,12 +3,10 @@ use Rattle.std.specs.Prelude.{◌≡◌, ◌⊎◌, ℕ, ◌+◌, ◌*◌, ◌^�
 use Rattle.std.specs.List.{flat_map}
 use Rattle.std.specs.List.Sorted.{IsNonDecreasingBy, IsStrictlyIncreasing}
 use Rattle.list_core.specs.declared.memory.NoMemory.{NoMemory}
-use Rattle.label_sets.specs.declared.series.Series.{Series}
-use Rattle.label_sets.specs.Triples.{triples_of}
 use Rattle.block_keys.specs.declared.key.Key.TheVariants.{Index, Segment}
 use Rattle.world_core.specs.Leads.{after_entry}
 use Rattle.world_core.specs.Operations.{IsLawful}
-use Rattle.world_core.specs.Plans.{Plan, ends, never, ComesTo, Keeps}
+use Rattle.world_core.specs.Plans.{Plan, ends, never}
 use Rattle.world_core.specs.declared.op.Op.{Op}
 use Rattle.world_core.specs.declared.op.Op.TheVariants.{Get, GetRange}
 use Rattle.world_core.specs.declared.entry.Entry.{Entry}
@@ -27,10 +25,11 @@ use Rattle.index_slices.specs.Parts.{known}
 use Rattle.index_file.specs.declared.index_series.IndexSeries.{IndexSeries}
 use Rattle.block_ranges.specs.IndexRanges.{Piece, Run, contents_piece, section_piece}
 use Rattle.block_ranges.specs.ChunkRanges.{offset_of}
-use Rattle.block_ranges.specs.Reads.{Query, Block, Cache, Break, missing, damaged, fault, Reached, kept, range_of, sized, by_cache, takes, if_read}
+use Rattle.block_ranges.specs.Reads.{Query, Block, Cache, damaged, Reached, kept, range_of, sized, by_cache, takes, if_read}
 use Rattle.block_ranges.specs.IndexReads.{Tables, IsTakenBy, Goes, reached, part_at, falls_back, after_symbols, after_table, after_lists, after_run, reads_runs, reads_whole, reads_contents, after_contents, after_whole}
 use Rattle.block_ranges.specs.ChunkReads.{Read, read, Glimpse, shows, sticks_out, glimpse_at, tests_at, reads_one, reads_out, reads_group, reads_groups, reads_chunks}
 use Rattle.block_ranges.specs.BlockReads.{BlockEnd, gives, breaks_off, taken, shown, block_call}
+use Rattle.block_ranges.specs.BlockRuns.{Onward, Leading}
 use Rattle.block_ranges.specs.Asking.{query_asked, block_asked, piece_of}
 use Rattle.block_ranges.specs.ToRead.{group_read, run_read, AreRunsToRead}
 use Rattle.block_ranges.specs.Glimpsed.{pending_chunk}
@@ -38,7 +37,6 @@ use Rattle.block_ranges.specs.ChunksRead.{reads_of, references_in}
 use Rattle.block_ranges.specs.declared.asked.Asked.{Asked}
 use Rattle.block_ranges.specs.declared.sections.Sections.{Sections}
 use Rattle.block_ranges.specs.declared.block_outcome.BlockOutcome.{BlockOutcome}
-use Rattle.block_ranges.specs.declared.block_outcome.BlockOutcome.TheVariants as outcome
 use Rattle.block_ranges.specs.declared.work.ChunkWork.{ChunkWork}
 use Rattle.block_ranges.specs.declared.work.RunWork.{RunWork}
 use Rattle.block_ranges.specs.declared.work.SymbolsRead.{SymbolsRead}
@@ -51,29 +49,6 @@ use Rattle.block_ranges.specs.declared.glimpses.Pending.{Pending}
 use Rattle.block_ranges.specs.declared.shown.ChunkRead.{ChunkRead}
 use Rattle.block_ranges.specs.declared.work.Step.{Step}
 use Rattle.block_ranges.specs.declared.work.Step.TheVariants.{Wait, Done}
-
--- ---- ends
-
-abbrev pub outcome_of : Break → BlockOutcome
-outcome_of (missing number) = outcome.Missing number
-outcome_of (damaged number) = outcome.Damaged number
-outcome_of (fault number) = outcome.Fault number
-
--- What the reads come to gives this end, where this cache is left.
-abbrev pub IsEnd : Cache → BlockEnd → BlockOutcome → Type 0
-IsEnd left (gives triples cache) end = ((series : List Series) × (end ≡ outcome.Taken series) × (triples_of series ≡ triples)) × (left ≡ cache)
-IsEnd left (breaks_off break cache) end = (end ≡ outcome_of break) × (left ≡ cache)
-
--- what may follow, by its entries, its end, and the cache that is left
-abbrev pub Onward : Type 1
-Onward = List Entry → Option BlockOutcome → Cache → Type 0
-
-abbrev pub Leading : Plan BlockEnd → Onward
-Leading plan entries end left = ComesTo plan (IsEnd left) entries end
-
--- The entries and the end of a call of one block, and the cache that is left. Without an end it was broken off.
-abbrev pub BlockRun : Query → Block → Cache → List Entry → Option BlockOutcome → Cache → Type 0
-BlockRun query block cache = Leading (block_call query block cache)
 
 -- ---- the plan that is left
 
@@ -253,75 +228,84 @@ goes_after asked work cache e = Where (Holds work) (Leading (after_entry (left_a
 -- ---- the plans that the calls go on with
 
 module _ (asked : Asked) where
-  abbrev Query_ : Query
-  Query_ = query_asked asked
+  abbrev its_query : Query
+  its_query = query_asked asked
 
-  abbrev Block_ : Block
-  Block_ = block_asked asked
+  abbrev its_block : Block
+  its_block = block_asked asked
 
-  abbrev Index_ : Goes {E = BlockEnd} breaks_off Query_ Block_
-  Index_ = after_index Query_ Block_
+  -- what follows the series of the index
+  abbrev after_series : Goes {E = BlockEnd} breaks_off its_query its_block
+  after_series = after_index its_query its_block
 
   abbrev pub contents_left : ℕ → Cache → Plan BlockEnd
-  contents_left size cache = reads_contents breaks_off Query_ Block_ size Index_ cache
+  contents_left size cache = reads_contents breaks_off its_query its_block size after_series cache
 
   abbrev pub whole_left : Cache → Plan BlockEnd
-  whole_left cache = reads_whole breaks_off Query_ Block_ Index_ cache
+  whole_left cache = reads_whole breaks_off its_query its_block after_series cache
 
   -- the read of a range by the cache, and what follows
   abbrev pub range_left : Piece → Reached → (Reached → List ℕ → Plan BlockEnd) → Plan BlockEnd
-  range_left piece at next = takes breaks_off (Index Block_.ulid) piece at (falls_back breaks_off Query_ Block_ Index_) next
+  range_left piece at next = takes breaks_off (Index its_block.ulid) piece at (falls_back breaks_off its_query its_block after_series) next
 
   -- what follows the bytes of such a range
   abbrev pub sized_left : Piece → Reached → (Reached → List ℕ → Plan BlockEnd) → List ℕ → Plan BlockEnd
-  sized_left piece at next bytes = sized piece (falls_back breaks_off Query_ Block_ Index_) next at bytes
+  sized_left piece at next bytes = sized piece (falls_back breaks_off its_query its_block after_series) next at bytes
 
   -- the same, where they were read and kept
   abbrev pub kept_left : Piece → Cache → (Reached → List ℕ → Plan BlockEnd) → ℕ → List ℕ → Plan BlockEnd
-  kept_left piece cache next seq bytes = sized_left piece (reached seq (kept (range_of (Index Block_.ulid) piece) bytes cache)) next bytes
+  kept_left piece cache next seq bytes =
+      sized_left piece (reached seq (kept (range_of (Index its_block.ulid) piece) bytes cache)) next bytes
 
   abbrev pub with_symbols : Sections → Reached → List ℕ → Plan BlockEnd
-  with_symbols places = after_symbols breaks_off Query_ Block_ places.size places.toc Index_
+  with_symbols places =
+      after_symbols breaks_off its_query its_block places.size places.toc after_series
 
   abbrev pub with_table : SymbolsRead → Reached → List ℕ → Plan BlockEnd
-  with_table read = after_table breaks_off Query_ Block_ read.places.size read.places.toc Index_ (texts_of read)
+  with_table read =
+      after_table breaks_off its_query its_block read.places.size read.places.toc after_series (texts_of read)
 
   abbrev pub with_lists : TablesRead → Reached → List ℕ → Plan BlockEnd
-  with_lists read = after_lists breaks_off Query_ Block_ read.first.places.size read.first.places.toc Index_ (texts_of read.first) (rows_in read.first.places read.table)
+  with_lists read =
+      after_lists breaks_off its_query its_block read.first.places.size read.first.places.toc after_series
+      (texts_of read.first) (rows_in read.first.places read.table)
 
   abbrev pub runs_left : List (List ℕ) → List Run → Reached → List IndexSeries → Plan BlockEnd
-  runs_left symbols runs at series = reads_runs breaks_off Query_ Block_ symbols Index_ runs at series
+  runs_left symbols runs at series = reads_runs breaks_off its_query its_block symbols after_series runs at series
 
   -- what follows the bytes of a run
   abbrev pub with_run : List (List ℕ) → Run → List Run → List IndexSeries → Reached → List ℕ → Plan BlockEnd
-  with_run symbols run runs series = after_run breaks_off Query_ Block_ symbols Index_ run (reads_runs breaks_off Query_ Block_ symbols Index_ runs) series
+  with_run symbols run runs series =
+      after_run breaks_off its_query its_block symbols after_series run
+      (reads_runs breaks_off its_query its_block symbols after_series runs) series
 
   abbrev pub chunks_left : Reached → List IndexSeries → Plan BlockEnd
-  chunks_left at series = Index_ at series
+  chunks_left at series = after_series at series
 
   -- what follows the bytes of a group
   abbrev pub with_group : Cache → ChunkWork → ℕ → List ℕ → Plan BlockEnd
   with_group cache work seq bytes =
-      if_read (each_at (glimpse_at (tests_at Block_ work.places.items) (group_read work.group) bytes) work.group.references)
-      (λ glimpses. shows_out Query_ Block_ cache work (zip work.group.references glimpses) (reads_of work.found.items))
+      if_read (each_at (glimpse_at (tests_at its_block work.places.items) (group_read work.group) bytes) work.group.references)
+      (λ glimpses. shows_out its_query its_block cache work (zip work.group.references glimpses) (reads_of work.found.items))
       (ends (breaks_off (damaged seq) cache))
 
   -- what follows the bytes of a chunk that stuck out
   abbrev pub with_single : Cache → ChunkWork → ℕ → List Pending → ℕ → List ℕ → Plan BlockEnd
   with_single cache work reference pending seq bytes =
-      if_read (tests_at Block_ work.places.items reference bytes)
-      (λ samples. shows_out Query_ Block_ cache work (map pending_chunk pending) (reads_of work.found.items ++ read reference samples ∷ []))
+      if_read (tests_at its_block work.places.items reference bytes)
+      (λ samples. shows_out its_query its_block cache work (map pending_chunk pending) (reads_of work.found.items ++ read reference samples ∷ []))
       (ends (breaks_off (damaged seq) cache))
 
   -- what follows the bytes that are waited for
   abbrev pub with_bytes : Work → Cache → ℕ → List ℕ → Plan BlockEnd
-  with_bytes (Contents size) cache seq bytes = after_contents breaks_off Query_ Block_ size.bytes Index_ cache seq bytes
+  with_bytes (Contents size) cache seq bytes = after_contents breaks_off its_query its_block size.bytes after_series cache seq bytes
   with_bytes (Symbols places) cache seq bytes = kept_left (symbols_piece places) cache (with_symbols places) seq bytes
   with_bytes (Table read) cache seq bytes = kept_left (table_piece read.places) cache (with_table read) seq bytes
   with_bytes (Lists read) cache seq bytes = kept_left (lists_piece read.first.places) cache (with_lists read) seq bytes
   with_bytes (AtRun work) cache seq bytes =
-      kept_left (piece_of work.run.range) cache (with_run (texts_of work.read) (run_read work.run) (map run_read work.later.items) work.series.items) seq bytes
-  with_bytes Whole cache seq bytes = after_whole breaks_off Query_ Block_ cache Index_ seq bytes
+      kept_left (piece_of work.run.range) cache
+      (with_run (texts_of work.read) (run_read work.run) (map run_read work.later.items) work.series.items) seq bytes
+  with_bytes Whole cache seq bytes = after_whole breaks_off its_query its_block cache after_series seq bytes
   with_bytes (Group work) cache seq bytes = with_group cache work seq bytes
   with_bytes (Single work reference len pending) cache seq bytes = with_single cache work reference pending.items seq bytes
   with_bytes other cache seq bytes = never

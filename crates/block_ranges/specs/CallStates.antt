@@ -1,12 +1,12 @@
--- A call of one block as a machine: what it waits for, what it may still do, and how often it still asks.
-use Rattle.std.specs.Prelude.{◌≡◌, ℕ, ◌*◌, List, Option}
+-- A call of one block as a machine: what it waits for, what it may still do, and how often it still asks. The machine's steps alone
+-- speak of this. What a call is from its start on, BlockRuns says.
+use Rattle.std.specs.Prelude.{◌≡◌, ℕ, List, Option}
 use Rattle.world_core.specs.declared.op.Op.{Op}
 use Rattle.world_core.specs.declared.entry.Entry.{Entry}
 use Rattle.world_core.specs.declared.act.Act.{Act}
 use Rattle.world_core.specs.declared.act.Act.TheVariants as act
-use Rattle.index_cache.specs.Caches.{held}
-use Rattle.block_ranges.specs.Reads.{Cache}
-use Rattle.block_ranges.specs.BlockWork.{most, may_at, asked_at, count_at}
+use Rattle.block_ranges.specs.BlockRuns.{cache_of}
+use Rattle.block_ranges.specs.BlockWork.{may_at, asked_at, count_at}
 use Rattle.block_ranges.specs.declared.block_call.BlockCall.{BlockCall}
 use Rattle.block_ranges.specs.declared.block_outcome.BlockOutcome.{BlockOutcome}
 use Rattle.block_ranges.specs.declared.work.Work.TheVariants.{Fresh}
@@ -15,10 +15,6 @@ use Rattle.block_ranges.specs.declared.work.Step.TheVariants.{Wait, Done}
 
 abbrev pub IsFresh : BlockCall → Type 0
 IsFresh call = call.work ≡ Fresh
-
--- the cache as it is
-abbrev pub cache_of : BlockCall → Cache
-cache_of call = held call.cache
 
 -- a run of what is left, which leaves the cache that the machine has then
 abbrev pub may_call : BlockCall → List Entry → Option BlockOutcome → BlockCall → Type 0
@@ -29,10 +25,6 @@ asked_call call = asked_at call.asked.ulid call.work
 
 abbrev pub count_call : BlockCall → ℕ
 count_call call = count_at call.work
-
--- A call asks for no more operations than this.
-unfoldable pub most_reads : ℕ
-most_reads = 9 * most * most
 
 -- It waits, or it has come to its end.
 abbrev pub ActsAs : BlockCall → Step → Act BlockOutcome → BlockCall → Type 0

@@ -10,6 +10,7 @@ pub mod Findings
 pub mod IndexReads
 pub mod ChunkReads
 pub mod BlockReads
+pub mod BlockRuns
 pub mod ToRead
 pub mod Glimpsed
 pub mod Selecting

@@ -5,7 +5,8 @@ ghost use Rattle.world_core.specs.Operations.{IsAnswer, entry_of};
 ghost use Rattle.world_core.specs.declared.entry.Entry.{Entry};
 ghost use Rattle.world_core.specs.declared.op.Op.{Op};
 ghost use Rattle.block_ranges.specs.Reads.{block_of};
-ghost use Rattle.block_ranges.specs.BlockWork.{Leads, Leading, Where, Holds, asked_at, count_at, with_bytes, goes_after, BlockRun};
+ghost use Rattle.block_ranges.specs.BlockRuns.{Leading};
+ghost use Rattle.block_ranges.specs.BlockWork.{Leads, Where, Holds, asked_at, count_at, with_bytes, goes_after};
 
 use crate::BlockOutcome;
 use crate::asked::Asked;
@@ -41,7 +42,8 @@ pub struct BlockCall<'a> {
 impl<'a> BlockCall<'a> {
     ghost use Rattle.std.specs.Prelude.{◌↔◌};
     ghost use Rattle.block_ranges.specs.declared.block_outcome.BlockOutcome.{BlockOutcome};
-    ghost use Rattle.block_ranges.specs.CallStates.{IsFresh, ActsAs, may_call, count_call, most_reads, cache_of};
+    ghost use Rattle.block_ranges.specs.BlockRuns.{BlockRun, cache_of, most_reads};
+    ghost use Rattle.block_ranges.specs.CallStates.{ActsAs};
 
     /// Begins a call for the series that the selector takes, with their samples from `low` to
     /// `high`, both included.
@@ -55,14 +57,14 @@ impl<'a> BlockCall<'a> {
         high: i64,
         cache: IndexCache,
     ) -> BlockCall<'a>
-        ensures fresh { IsFresh result }
+        ensures begun { ⟦<BlockCall<'a> as Machine>⟧.fresh result }
         // What it may do is what the call of the block comes to, with the cache that it leaves.
         ensures run { (entries : List Entry) (end : Option BlockOutcome) (last : BlockCall)
-            → may_call result entries end last
+            → ⟦<BlockCall<'a> as Machine>⟧.may result entries end last
             ↔ BlockRun
             (record { selector = selector.now; replicas = replicas.now; low = low; high = high })
             (block_of ulid meta.now) (held cache) entries end (cache_of last) }
-        ensures few { count_call result ≤ most_reads }
+        ensures few { ⟦<BlockCall<'a> as Machine>⟧.measure result ≤ most_reads }
     {
         BlockCall {
             asked: Asked {

@@ -3,9 +3,8 @@ use Rattle.std.specs.Prelude.{ℕ, List, Option}
 use Rattle.world_core.specs.declared.op.Op.{Op}
 use Rattle.world_core.specs.declared.entry.Entry.{Entry}
 use Rattle.block_ranges.specs.CallStates.{asked_call, count_call, may_call}
-pub use Rattle.block_ranges.specs.CallStates.{cache_of}
-unfoldable pub use Rattle.block_ranges.specs.CallStates.{most_reads}
-pub use Rattle.block_ranges.specs.BlockWork.{BlockRun, IsEnd}
+pub use Rattle.block_ranges.specs.BlockRuns.{BlockRun, IsEnd, cache_of}
+unfoldable pub use Rattle.block_ranges.specs.BlockRuns.{most_reads}
 use Rattle.block_ranges.specs.declared.block_call.BlockCall.{BlockCall}
 use Rattle.block_ranges.specs.declared.block_outcome.BlockOutcome.{BlockOutcome}
 

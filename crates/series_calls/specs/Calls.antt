@@ -1,4 +1,5 @@
--- A series call as a machine: what it waits for, and what it may still do.
+-- A series call as a machine: what it waits for, and what it may still do. The machine's steps alone speak of this. What a call is
+-- from its start on, SeriesCalls says.
 use Rattle.std.specs.Prelude.{◌≡◌, ◌⊎◌, true, ℕ, ◌+◌, List, [], ◌∷◌, ◌++◌, Option, Some, None, Result, Ok, Err}
 use Rattle.list_core.specs.declared.memory.NoMemory.{NoMemory}
 use Rattle.label_sets.specs.Triples.{Triple, triples_of}
@@ -16,6 +17,7 @@ use Rattle.block_ranges.specs.Reads.{Query, Block, Cache, missing, damaged, faul
 use Rattle.block_ranges.specs.BlockReads.{BlockEnd, gives, breaks_off}
 use Rattle.series_calls.specs.SeriesCalls.{CallEnd, Gives, after_block, asking, meets, reading, sources_of, to_read}
 use Rattle.series_calls.specs.BlockRuns.{asked_block, cache_of, count_block, may_block, most_reads}
+use Rattle.series_calls.specs.Endings.{IsOver, ended_with, with_cache}
 use Rattle.block_ranges.specs.declared.block_call.BlockCall.{BlockCall}
 use Rattle.block_ranges.specs.declared.block_outcome.BlockOutcome.{BlockOutcome}
 use Rattle.block_ranges.specs.declared.block_outcome.BlockOutcome.TheVariants as outcome
@@ -40,9 +42,6 @@ left_of call = to_read (query_of call.wanted) call.left.now
 
 abbrev pub IsFresh : SeriesCall → Type 0
 IsFresh call = (cache : IndexCache) × (call.stage ≡ Fresh cache)
-
-abbrev pub IsOver : SeriesCall → Type 0
-IsOver call = (cache : IndexCache) × (call.stage ≡ Over cache)
 
 -- ---- what is left of a call
 
@@ -86,15 +85,6 @@ left_at (Fresh cache) call = reads_of call (left_of call) (held cache)
 left_at (Reading part) call = beyond part (after_reads call)
 left_at (Over cache) call = nothing_left
 left_at Lost call = nothing_left
-
--- the end of a call with the cache that is left, by the state in which it is then
-abbrev pub with_cache : SeriesEnd → Stage → Option CallEnd
-with_cache end (Over cache) = Some (record { end = end; cache = held cache })
-with_cache end stage = None
-
-abbrev pub ended_with : Option SeriesEnd → SeriesCall → Option CallEnd
-ended_with None last = None
-ended_with (Some end) last = with_cache end last.stage
 
 -- what may still come: with an end, the call is over, and has its cache
 pub record may_call (call : SeriesCall) (entries : List Entry) (end : Option SeriesEnd) (last : SeriesCall) : Type 0 where

@@ -26,8 +26,8 @@ use sync_filters::Found;
 use vertical_merge::Merger;
 use world_core::{Act, Machine, Seen};
 
-/// The call of one gateway for a query: it reads ranges of each kept block that meets the range of times, and answers the merged
-/// samples.
+/// The call of one gateway for a query: it reads ranges of each kept block that meets the range of
+/// times, and answers the merged samples.
 #[derive(Drop)]
 pub struct SeriesCall<'a> {
     alloc: Global,
@@ -41,11 +41,12 @@ pub struct SeriesCall<'a> {
 }
 
 impl<'a> SeriesCall<'a> {
-    ghost use Rattle.series_calls.specs.Calls.{IsFresh, IsOver, Leads, after_reads, asked_call, count_call, count_left, ended_with, left_of, may_call, reads_of};
+    ghost use Rattle.series_calls.specs.Calls.{Leads, after_reads, asked_call, count_call, count_left, left_of, may_call, reads_of};
+    ghost use Rattle.series_calls.specs.Endings.{IsOver, Leaves, ended_with};
     ghost use Rattle.series_calls.specs.declared.series_call.SeriesCall.{SeriesCall};
 
-    /// Begins a call over a view for the series that the selector matches, with their samples from `low` to `high`, both
-    /// included. The cache is the gateway's. Beginning takes no memory.
+    /// Begins a call over a view for the series that the selector matches, with their samples from
+    /// `low` to `high`, both included. The cache is the gateway's. Beginning takes no memory.
     pub fn start(
         alloc: Global,
         view: &'a View,
@@ -55,15 +56,15 @@ impl<'a> SeriesCall<'a> {
         high: i64,
         cache: IndexCache,
     ) -> Result<SeriesCall<'a>, NoMemory>
-        ensures begun { IfOk result IsFresh }
+        ensures begun { IfOk result ⟦<SeriesCall<'a> as Machine>⟧.fresh }
         ensures run { IfOk result
             (λ call. (entries : List Entry) (end : Option SeriesEnd) (last : SeriesCall)
-            → may_call call entries end last
+            → ⟦<SeriesCall<'a> as Machine>⟧.may call entries end last
             → SeriesRun view.now (asking selector.now replicas.now low high) (held cache) entries
             (ended_with end last)) }
         ensures over { IfOk result
             (λ call. (entries : List Entry) (end : SeriesEnd) (last : SeriesCall)
-            → may_call call entries (Some end) last → IsOver last) }
+            → ⟦<SeriesCall<'a> as Machine>⟧.may call entries (Some end) last → IsOver last) }
     {
         let kept = view.kept.members();
         Ok(SeriesCall {
@@ -84,7 +85,7 @@ impl<'a> SeriesCall<'a> {
     /// The gateway's cache as the call left it, once that has come to its end.
     pub fn into_cache(self) -> IndexCache
         requires { IsOver self }
-        ensures { self.entry.stage ≡ stage.Over result }
+        ensures { Leaves self.entry result }
     {
         let SeriesCall { stage, .. } = self;
         match stage {
@@ -93,7 +94,8 @@ impl<'a> SeriesCall<'a> {
         }
     }
 
-    /// Begins the reads of the first block that is left and meets the range, or answers where there is none.
+    /// Begins the reads of the first block that is left and meets the range, or answers where there
+    /// is none.
     fn read_next(&mut self, cache: IndexCache) -> Result<Act<SeriesEnd>, NoMemory>
         ensures leads { Leads (reads_of self.old (left_of self.old) (held cache)) result self.new }
         ensures falls { Falls (count_left (left_of self.old)) result (count_call self.new) }
@@ -174,7 +176,8 @@ impl<'a> SeriesCall<'a> {
         }
     }
 
-    /// Takes what the reads of a block came to, and goes on with the next block, or comes to its end.
+    /// Takes what the reads of a block came to, and goes on with the next block, or comes to its
+    /// end.
     fn after_block(
         &mut self,
         came: BlockOutcome,

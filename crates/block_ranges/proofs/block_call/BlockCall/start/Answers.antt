@@ -1,5 +1,5 @@
 use Rattle.std.proofs.Common.{arith}
-use Rattle.block_ranges.specs.CallStates.{most_reads}
+use Rattle.block_ranges.specs.BlockRuns.{most_reads}
 use Rattle.block_ranges.proofs.block_call.BlockCall.start.Goals as goal
 
 pub returns-clause-few : goal.returns-clause-few
