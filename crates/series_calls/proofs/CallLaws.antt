@@ -66,7 +66,8 @@ abbrev cache_told : Called → Cache
 cache_told (took taken cache) = cache
 cache_told (broke why cache) = cache
 
-each_front : (P : Entry → Type 0) (own others : List Entry) → AllByRecursion P (own ++ others) → AllByRecursion P own × AllByRecursion P others
+-- entries are such, where they and others are
+pub each_front : (P : Entry → Type 0) (own others : List Entry) → AllByRecursion P (own ++ others) → AllByRecursion P own × AllByRecursion P others
 each_front P [] others all = (tt, all)
 each_front P (e ∷ own) others all = let rest = each_front P own others all.1 in ((all.0, rest.0), rest.1)
 

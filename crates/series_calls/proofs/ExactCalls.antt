@@ -32,6 +32,7 @@ use Rattle.series_calls.specs.SeriesCalls.{Called, took, broke, CallEnd, Gives, 
 use Rattle.series_calls.specs.declared.series_end.SeriesEnd.TheVariants as ended
 use Rattle.series_calls.proofs.BlockWalk.{block_holds}
 use Rattle.series_calls.proofs.CacheChanges.{all_kept, all_promoted}
+use Rattle.series_calls.proofs.CallLaws.{each_front}
 use Rattle.series_calls.proofs.ExactBlock.{KnownIn, WholeIn, share_is}
 
 -- ---- ranges of a cache
@@ -119,10 +120,6 @@ block_exact contents query block list unnamed holds cache fine =
 abbrev ToldExact : Contents → List Triple → Called → Type 0
 ToldExact contents all (took taken cache) = (taken ≡ all) × IsCacheOf contents cache
 ToldExact contents all (broke why cache) = IsCacheOf contents cache
-
-each_front : (P : Entry → Type 0) (own others : List Entry) → AllByRecursion P (own ++ others) → AllByRecursion P own × AllByRecursion P others
-each_front P [] others all = (tt, all)
-each_front P (e ∷ own) others all = let rest = each_front P own others all.1 in ((all.0, rest.0), rest.1)
 
 module _ (contents : Contents) (query : Query) (unnamed : named_replicas query.replicas query.selector ≡ []) where
   abbrev AllExact : List Block → List (List Series) → Type 0

@@ -50,7 +50,7 @@ use Rattle.block_keys.specs.declared.key.Key.TheVariants.{Index}
 use Rattle.series_calls.proofs.BlockFindings.{AreOfRanges, AreOfWhole, AreSeries, AreTaken, IsFull, IsSeriesRead}
 use Rattle.series_calls.proofs.ExactSelection.{selection_stands}
 use Rattle.series_calls.proofs.PartLaws.{is_part, list_in_index, one_series, series_in_index, toc_in_index}
-use Rattle.series_calls.proofs.ReadLists.{symbols_there, table_there}
+use Rattle.series_calls.proofs.ReadLists.{symbols_there, table_there, zip_weaker}
 
 -- ---- sections
 
@@ -103,12 +103,6 @@ zipped index symbols (one ∷ pairs) (s ∷ series) stand zip =
     let here : s ≡ one.1 = one_series index symbols one.0 s one.1 zip.0 (stand one (contains_first one pairs)) in
     let later : series ≡ map (λ (x : ℕ × IndexSeries). x.1) pairs = zipped index symbols pairs series (λ other among. stand other (contains_later one other pairs among)) zip.1 in
     λ i. here i ∷ later i
-
-zip_so : {A B : Type 0} (R S : A → B → Type 0) → ((x : A) (y : B) → R x y → S x y) → (xs : List A) (ys : List B) → AllZip R xs ys → AllZip S xs ys
-zip_so R S so [] [] all = tt
-zip_so R S so [] (y ∷ ys) all = absurd all
-zip_so R S so (x ∷ xs) [] all = absurd all
-zip_so R S so (x ∷ xs) (y ∷ ys) all = (so x y all.0, zip_so R S so xs ys all.1)
 
 -- ---- what was read
 
@@ -175,7 +169,7 @@ module _ (query : Query) (block : Block) (index : List ℕ) (indexed : List Inde
         record {
           numbers = read.numbers;
           selection = selection_stands (file I) I block.external is.opened.rows query.selector read.numbers (file_is I) are taken.lists_read taken.taken;
-          stand = zip_so (λ number one. numbered_at I is.opened.symbols number ≡ Ok one) (IsSeriesOf I is.opened.symbols)
+          stand = zip_weaker (λ number one. numbered_at I is.opened.symbols number ≡ Ok one) (IsSeriesOf I is.opened.symbols)
               (λ number one so. numbered_found I is.opened.symbols number one are so) read.numbers series reads;
         }
 
@@ -205,7 +199,7 @@ module _ (query : Query) (block : Block) (index : List ℕ) (indexed : List Inde
         selection_stands lists I block.external read.rows query.selector read.numbers (piece_part (section_piece read.toc read.size read.toc.postings) read.lists read.lists_full)
         (piece_bytes (section_piece read.toc read.size read.toc.postings) read.lists read.lists_full.known_so) read.taken.lists_read read.taken.taken in
         let stand : AllZip (IsSeriesOf I read.symbols) read.numbers series =
-        zip_so (IsSeriesRead Known Whole query block read.symbols) (IsSeriesOf I read.symbols)
+        zip_weaker (IsSeriesRead Known Whole query block read.symbols) (IsSeriesOf I read.symbols)
         (λ number one so. series_in_index (part_at so.piece so.read_so.bytes) I read.symbols number one (piece_part so.piece so.read_so.bytes so.read_so.full) so.begins
         (piece_bytes so.piece so.read_so.bytes so.read_so.full.known_so) so.read_so.reads_as) read.numbers series read.read_so in
         record {

@@ -31,6 +31,12 @@ zip_append R [] others (y ∷ ys) more first later = absurd first
 zip_append R (x ∷ xs) others [] more first later = absurd first
 zip_append R (x ∷ xs) others (y ∷ ys) more first later = (first.0, zip_append R xs others ys more first.1 later)
 
+pub zip_weaker : {A B : Type 0} (R S : A → B → Type 0) → ((x : A) (y : B) → R x y → S x y) → (xs : List A) (ys : List B) → AllZip R xs ys → AllZip S xs ys
+zip_weaker R S so [] [] all = tt
+zip_weaker R S so [] (y ∷ ys) all = absurd all
+zip_weaker R S so (x ∷ xs) [] all = absurd all
+zip_weaker R S so (x ∷ xs) (y ∷ ys) all = (so x y all.0, zip_weaker R S so xs ys all.1)
+
 pub zip_with : {A B : Type 0} (P : A → Type 0) (R S : A → B → Type 0) → ((x : A) (y : B) → P x → R x y → S x y) → (xs : List A) (ys : List B) → AllByRecursion P xs → AllZip R xs ys → AllZip S xs ys
 zip_with P R S both [] [] each all = tt
 zip_with P R S both [] (y ∷ ys) each all = absurd all
