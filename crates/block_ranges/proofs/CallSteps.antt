@@ -20,7 +20,7 @@ use Rattle.block_ranges.specs.Reads.{Cache, missing, fault}
 use Rattle.block_ranges.specs.BlockReads.{BlockEnd, breaks_off as ends_off}
 use Rattle.block_ranges.specs.Asking.{query_asked, block_asked}
 use Rattle.block_ranges.specs.BlockRuns.{Onward, Leading, IsEnd, cache_of}
-use Rattle.block_ranges.specs.BlockWork.{Where, Holds, Leads, most, may_at, asked_at, count_at, left_at, goes_after, with_bytes}
+use Rattle.block_ranges.specs.WorkStates.{Where, Holds, Leads, most, may_at, asked_at, count_at, left_at, goes_after, with_bytes}
 use Rattle.block_ranges.specs.CallStates.{ActsAs, may_call, asked_call, count_call}
 use Rattle.block_ranges.specs.declared.asked.Asked.{Asked}
 use Rattle.block_ranges.specs.declared.block_call.BlockCall.{BlockCall}

@@ -30,7 +30,7 @@ use Rattle.block_ranges.specs.ToRead.{group_read, AreGroupsToRead}
 use Rattle.block_ranges.specs.Glimpsed.{pending_chunk, Pends}
 use Rattle.block_ranges.specs.ChunksRead.{reads_of, references_in}
 use Rattle.block_ranges.specs.BlockRuns.{Leading, IsEnd}
-use Rattle.block_ranges.specs.BlockWork.{Where, Leads, most, count_at, AreInOrder, IsGroupWork, IsSingleWork, ArePending, references_left, references_pending, shows_all, shows_groups, shows_out, later_groups, with_group, with_single, chunks_left, shown_first}
+use Rattle.block_ranges.specs.WorkStates.{Where, Leads, most, count_at, AreInOrder, IsGroupWork, IsSingleWork, ArePending, references_left, references_pending, shows_all, shows_groups, shows_out, later_groups, with_group, with_single, chunks_left, shown_first}
 use Rattle.block_ranges.specs.declared.asked.Asked.{Asked}
 use Rattle.block_ranges.specs.declared.block_outcome.BlockOutcome.{BlockOutcome}
 use Rattle.block_ranges.specs.declared.block_outcome.BlockOutcome.TheVariants as outcome

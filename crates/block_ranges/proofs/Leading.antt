@@ -17,7 +17,7 @@ use Rattle.block_ranges.specs.IndexReads.{reached, falls_back}
 use Rattle.block_ranges.specs.BlockReads.{BlockEnd, breaks_off}
 use Rattle.block_ranges.specs.Asking.{query_asked, block_asked}
 use Rattle.block_ranges.specs.BlockRuns.{Onward, Leading, IsEnd, outcome_of}
-use Rattle.block_ranges.specs.BlockWork.{Where, Holds, Leads, Waits, may_at, asked_at, count_at, waits, left_at, after_index, range_left, sized_left, whole_left}
+use Rattle.block_ranges.specs.WorkStates.{Where, Holds, Leads, Waits, may_at, asked_at, count_at, waits, left_at, after_index, range_left, sized_left, whole_left}
 use Rattle.block_ranges.specs.declared.asked.Asked.{Asked}
 use Rattle.block_ranges.specs.declared.block_outcome.BlockOutcome.{BlockOutcome}
 use Rattle.block_ranges.specs.declared.work.Work.{Work}

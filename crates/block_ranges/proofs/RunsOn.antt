@@ -12,7 +12,7 @@ use Rattle.block_ranges.specs.BlockReads.{BlockEnd}
 use Rattle.block_ranges.specs.Asking.{query_asked, block_asked, piece_of}
 use Rattle.block_ranges.specs.ToRead.{run_read}
 use Rattle.block_ranges.specs.BlockRuns.{Leading, IsEnd}
-use Rattle.block_ranges.specs.BlockWork.{most, Leads, waits, left_at, runs_left, with_run, with_lists, sized_left, texts_of, lists_piece, TakesRun}
+use Rattle.block_ranges.specs.WorkStates.{most, Leads, waits, left_at, runs_left, with_run, with_lists, sized_left, texts_of, lists_piece, TakesRun}
 use Rattle.block_ranges.specs.RunFindings.{GoesOnRuns, FindsRuns}
 use Rattle.block_ranges.specs.declared.asked.Asked.{Asked}
 use Rattle.block_ranges.specs.declared.run_read.RunRead.{RunRead}

@@ -8,7 +8,7 @@ use Rattle.block_ranges.specs.Reads.{Cache, Reached, kept, range_of}
 use Rattle.block_ranges.specs.IndexReads.{reached}
 use Rattle.block_ranges.specs.BlockReads.{BlockEnd}
 use Rattle.block_ranges.specs.BlockRuns.{Leading}
-use Rattle.block_ranges.specs.BlockWork.{Where, Leads, Holds, count_at, with_bytes, sized_left, kept_left}
+use Rattle.block_ranges.specs.WorkStates.{Where, Leads, Holds, count_at, with_bytes, sized_left, kept_left}
 use Rattle.block_ranges.specs.declared.asked.Asked.{Asked}
 use Rattle.block_ranges.specs.declared.work.Work.{Work}
 use Rattle.block_ranges.specs.declared.work.Step.{Step}

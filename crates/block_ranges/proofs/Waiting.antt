@@ -12,7 +12,7 @@ use Rattle.block_ranges.specs.IndexReads.{reached}
 use Rattle.block_ranges.specs.BlockReads.{BlockEnd}
 use Rattle.block_ranges.specs.Asking.{query_asked, block_asked}
 use Rattle.block_ranges.specs.BlockRuns.{Leading, IsEnd}
-use Rattle.block_ranges.specs.BlockWork.{Leads, Holds, asked_at, count_at, left_at, waits, range_left, sized_left}
+use Rattle.block_ranges.specs.WorkStates.{Leads, Holds, asked_at, count_at, left_at, waits, range_left, sized_left}
 use Rattle.block_ranges.specs.declared.asked.Asked.{Asked}
 use Rattle.block_ranges.specs.declared.work.Work.{Work}
 use Rattle.block_ranges.specs.declared.work.Step.{Step}

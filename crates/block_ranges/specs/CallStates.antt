@@ -6,7 +6,7 @@ use Rattle.world_core.specs.declared.entry.Entry.{Entry}
 use Rattle.world_core.specs.declared.act.Act.{Act}
 use Rattle.world_core.specs.declared.act.Act.TheVariants as act
 use Rattle.block_ranges.specs.BlockRuns.{cache_of}
-use Rattle.block_ranges.specs.BlockWork.{may_at, asked_at, count_at}
+use Rattle.block_ranges.specs.WorkStates.{may_at, asked_at, count_at}
 use Rattle.block_ranges.specs.declared.block_call.BlockCall.{BlockCall}
 use Rattle.block_ranges.specs.declared.block_outcome.BlockOutcome.{BlockOutcome}
 use Rattle.block_ranges.specs.declared.work.Work.TheVariants.{Fresh}

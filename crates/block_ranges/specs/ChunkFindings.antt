@@ -3,7 +3,7 @@ use Rattle.std.specs.Prelude.{◌≡◌, List, [], ◌∷◌, map}
 use Rattle.block_ranges.specs.ChunkReads.{sticks_out}
 use Rattle.block_ranges.specs.ChunksRead.{reads_of}
 use Rattle.block_ranges.specs.Glimpsed.{pending_chunk}
-use Rattle.block_ranges.specs.BlockWork.{shown_first}
+use Rattle.block_ranges.specs.WorkStates.{shown_first}
 use Rattle.block_ranges.specs.declared.chunk_steps.Shown.{Shown}
 use Rattle.block_ranges.specs.declared.chunk_steps.Shown.TheVariants.{SticksOut, All}
 use Rattle.block_ranges.specs.declared.glimpses.Pending.{Pending}

@@ -16,7 +16,7 @@ pub mod Glimpsed
 pub mod Selecting
 pub mod Caching
 pub mod ChunksRead
-pub mod BlockWork
+pub mod WorkStates
 pub mod RunFindings
 pub mod ChunkFindings
 pub mod CallStates

@@ -23,7 +23,7 @@ use Rattle.block_ranges.specs.Reads.{Query, Block, Cache, range_of}
 use Rattle.block_ranges.specs.IndexReads.{reached, part_at, tables_of, IsTakenBy}
 use Rattle.block_ranges.specs.Asking.{query_asked, block_asked, piece_of}
 use Rattle.block_ranges.specs.ToRead.{run_read}
-use Rattle.block_ranges.specs.BlockWork.{AreSelectedRuns, SelectsRuns, whole_left, runs_left, chunks_left, tables_in, texts_of, symbols_piece, table_piece, lists_piece}
+use Rattle.block_ranges.specs.WorkStates.{AreSelectedRuns, SelectsRuns, whole_left, runs_left, chunks_left, tables_in, texts_of, symbols_piece, table_piece, lists_piece}
 use Rattle.block_ranges.specs.declared.asked.Asked.{Asked}
 use Rattle.block_ranges.specs.declared.sections.Sections.{Sections}
 use Rattle.block_ranges.specs.declared.run_read.RunRead.{RunRead}

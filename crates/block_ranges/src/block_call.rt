@@ -6,7 +6,7 @@ ghost use Rattle.world_core.specs.declared.entry.Entry.{Entry};
 ghost use Rattle.world_core.specs.declared.op.Op.{Op};
 ghost use Rattle.block_ranges.specs.Reads.{block_of};
 ghost use Rattle.block_ranges.specs.BlockRuns.{Leading};
-ghost use Rattle.block_ranges.specs.BlockWork.{Leads, Where, Holds, asked_at, count_at, with_bytes, goes_after};
+ghost use Rattle.block_ranges.specs.WorkStates.{Leads, Where, Holds, asked_at, count_at, with_bytes, goes_after};
 
 use crate::BlockOutcome;
 use crate::asked::Asked;

@@ -6,7 +6,7 @@ ghost use Rattle.block_ranges.specs.Asking.{query_asked, block_asked};
 ghost use Rattle.block_ranges.specs.ChunksRead.{reads_of};
 ghost use Rattle.block_ranges.specs.Glimpsed.{pending_chunk};
 ghost use Rattle.block_ranges.specs.BlockRuns.{Leading};
-ghost use Rattle.block_ranges.specs.BlockWork.{most, Leads, Where, AreInOrder, IsGroupWork, IsSingleWork, ArePending, references_left, chunks_left, shows_groups, shows_out, with_group, with_single};
+ghost use Rattle.block_ranges.specs.WorkStates.{most, Leads, Where, AreInOrder, IsGroupWork, IsSingleWork, ArePending, references_left, chunks_left, shows_groups, shows_out, with_group, with_single};
 ghost use Rattle.block_ranges.specs.ChunkFindings.{ShowsFirst};
 
 use crate::asked::Asked;

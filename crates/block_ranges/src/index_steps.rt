@@ -7,7 +7,7 @@ ghost use Rattle.block_ranges.specs.BlockReads.{block_call, breaks_off};
 ghost use Rattle.block_ranges.specs.Asking.{query_asked, block_asked, piece_of};
 ghost use Rattle.block_ranges.specs.ToRead.{run_read};
 ghost use Rattle.block_ranges.specs.BlockRuns.{Leading};
-ghost use Rattle.block_ranges.specs.BlockWork.{most, Leads, after_index, whole_left, range_left, sized_left, runs_left, with_run, with_symbols, with_table, with_lists, texts_of, symbols_piece, table_piece, lists_piece, contents_left};
+ghost use Rattle.block_ranges.specs.WorkStates.{most, Leads, after_index, whole_left, range_left, sized_left, runs_left, with_run, with_symbols, with_table, with_lists, texts_of, symbols_piece, table_piece, lists_piece, contents_left};
 ghost use Rattle.block_ranges.specs.RunFindings.{HasSections, FindsSections, TestsSymbols, TestsTable, FindsRuns};
 
 use crate::asked::{Asked, index_size};

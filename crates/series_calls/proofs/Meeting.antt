@@ -9,7 +9,7 @@ use Rattle.label_sets.proofs.StableSorts.{filter_hit, filter_miss}
 use Rattle.sync_filters.specs.declared.found.Found.{Found}
 use Rattle.block_ranges.specs.Reads.{Query, Block, block_of}
 use Rattle.series_calls.specs.SeriesCalls.{meets, to_read}
-use Rattle.series_calls.specs.Calls.{StartsMeeting}
+use Rattle.series_calls.specs.CallStates.{StartsMeeting}
 
 abbrev pub read_of : Found → Block
 read_of block = block_of block.ulid block.meta

@@ -20,7 +20,7 @@ use Rattle.block_ranges.specs.Reads.{Query, Block, Cache, missing, damaged, faul
 use Rattle.block_ranges.specs.BlockReads.{BlockEnd, gives, breaks_off as broken, block_call}
 use Rattle.series_calls.specs.SeriesCalls.{CallEnd, Gives, took, broke, after_block, asking, reading, sources_of, to_read}
 use Rattle.series_calls.specs.BlockRuns.{BlockRun, IsEnd, asked_block, cache_of, may_block}
-use Rattle.series_calls.specs.Calls.{Leads, Onward, StartsMeeting, Waits, after_reads, asked_at, asked_call, beyond, left_at, left_of, may_call, query_of, reads_of, told_by}
+use Rattle.series_calls.specs.CallStates.{Leads, Onward, StartsMeeting, Waits, after_reads, asked_at, asked_call, beyond, left_at, left_of, may_call, query_of, reads_of, told_by}
 use Rattle.series_calls.specs.Endings.{ended_with, with_cache}
 use Rattle.block_ranges.specs.declared.block_call.BlockCall.{BlockCall}
 use Rattle.block_ranges.specs.declared.block_outcome.BlockOutcome.{BlockOutcome}

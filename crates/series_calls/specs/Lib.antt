@@ -8,4 +8,4 @@ pub mod KeptRanges
 pub mod Exact
 pub mod BlockRuns
 pub mod Endings
-pub mod Calls
+pub mod CallStates

@@ -4,7 +4,7 @@ ghost use Rattle.std.specs.Int.{w64};
 ghost use Rattle.std.specs.List.{position};
 ghost use Rattle.block_ranges.specs.ChunkRanges.{IsSetOf};
 ghost use Rattle.series_calls.specs.SeriesCalls.{meets, sources_of, to_read};
-ghost use Rattle.series_calls.specs.Calls.{StartsMeeting, query_of};
+ghost use Rattle.series_calls.specs.CallStates.{StartsMeeting, query_of};
 
 use label_sets::TextList;
 use list_core::NoMemory;

@@ -41,7 +41,7 @@ pub struct SeriesCall<'a> {
 }
 
 impl<'a> SeriesCall<'a> {
-    ghost use Rattle.series_calls.specs.Calls.{Leads, after_reads, asked_call, count_call, count_left, left_of, may_call, reads_of};
+    ghost use Rattle.series_calls.specs.CallStates.{Leads, after_reads, asked_call, count_call, count_left, left_of, may_call, reads_of};
     ghost use Rattle.series_calls.specs.Endings.{IsOver, Leaves, ended_with};
     ghost use Rattle.series_calls.specs.declared.series_call.SeriesCall.{SeriesCall};
 
@@ -201,7 +201,7 @@ impl<'a> SeriesCall<'a> {
 impl<'a> Machine for SeriesCall<'a> {
     type End = SeriesEnd;
 
-    ghost use Rattle.series_calls.specs.Calls.{IsFresh, asked_call, count_call, may_call};
+    ghost use Rattle.series_calls.specs.CallStates.{IsFresh, asked_call, count_call, may_call};
 
     ghost may = { may_call };
 

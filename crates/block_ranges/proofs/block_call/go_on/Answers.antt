@@ -1,7 +1,7 @@
 use Rattle.std.proofs.Common.{refl, sym, ap, subst, Ok}
 use Rattle.index_cache.specs.Caches.{held}
 use Rattle.world_core.specs.Operations.{entry_of}
-use Rattle.block_ranges.specs.BlockWork.{count_at}
+use Rattle.block_ranges.specs.WorkStates.{count_at}
 use Rattle.block_ranges.proofs.CallSteps.{found_leads, absent_ends, failed_ends}
 use Rattle.block_ranges.proofs.block_call.go_on.Goals as goal
 

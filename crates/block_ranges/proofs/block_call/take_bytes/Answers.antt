@@ -1,6 +1,6 @@
 use Rattle.std.proofs.Common.{◌*◌, ◌+◌, length, map, refl}
 use Rattle.index_cache.specs.Caches.{held}
-use Rattle.block_ranges.specs.BlockWork.{most, symbols_piece, table_piece, lists_piece, with_symbols, with_table, with_lists, with_run, with_bytes, texts_of}
+use Rattle.block_ranges.specs.WorkStates.{most, symbols_piece, table_piece, lists_piece, with_symbols, with_table, with_lists, with_run, with_bytes, texts_of}
 use Rattle.block_ranges.specs.Asking.{piece_of}
 use Rattle.block_ranges.specs.ToRead.{run_read}
 use Rattle.block_ranges.specs.declared.work.Work.TheVariants as work

@@ -4,7 +4,7 @@ use Rattle.block_ranges.specs.Asking.{query_asked, block_asked}
 use Rattle.block_ranges.specs.IndexReads.{reached, after_contents}
 use Rattle.block_ranges.specs.BlockReads.{breaks_off}
 use Rattle.block_ranges.specs.RunFindings.{FindsSections}
-use Rattle.block_ranges.specs.BlockWork.{most, after_index, range_left, symbols_piece, with_symbols, whole_left}
+use Rattle.block_ranges.specs.WorkStates.{most, after_index, range_left, symbols_piece, with_symbols, whole_left}
 use Rattle.block_ranges.proofs.Leading.{leads_kept}
 use Rattle.block_ranges.proofs.IndexPlans.{contents_read, contents_refused}
 use Rattle.block_ranges.proofs.index_steps.take_contents.Goals as goal

@@ -7,7 +7,7 @@ use Rattle.block_ranges.specs.Reads.{damaged}
 use Rattle.block_ranges.specs.IndexReads.{reached, after_whole}
 use Rattle.block_ranges.specs.BlockReads.{breaks_off}
 use Rattle.block_ranges.specs.BlockRuns.{IsEnd}
-use Rattle.block_ranges.specs.BlockWork.{most, after_index, chunks_left}
+use Rattle.block_ranges.specs.WorkStates.{most, after_index, chunks_left}
 use Rattle.block_ranges.specs.RunFindings.{FindsSeries}
 use Rattle.block_ranges.specs.declared.block_outcome.BlockOutcome.TheVariants.{Damaged}
 use Rattle.block_ranges.proofs.Leading.{leads_kept, breaks}

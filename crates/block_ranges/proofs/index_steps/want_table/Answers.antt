@@ -6,7 +6,7 @@ use Rattle.block_ranges.specs.IndexRanges.{Piece}
 use Rattle.block_ranges.specs.Reads.{range_of}
 use Rattle.block_ranges.specs.Caching.{IsFromCache}
 use Rattle.block_ranges.specs.Asking.{query_asked, block_asked}
-use Rattle.block_ranges.specs.BlockWork.{most, left_at, table_piece, with_table}
+use Rattle.block_ranges.specs.WorkStates.{most, left_at, table_piece, with_table}
 use Rattle.block_ranges.specs.declared.work.Work.TheVariants.{Table}
 use Rattle.block_ranges.specs.declared.work.Step.TheVariants.{Wait}
 use Rattle.block_ranges.proofs.Leading.{keeps_all}

@@ -3,7 +3,7 @@ use Rattle.world_core.specs.Plans.{Keeps}
 use Rattle.index_cache.specs.Caches.{held}
 use Rattle.block_ranges.specs.IndexReads.{reached}
 use Rattle.block_ranges.specs.ToRead.{run_read}
-use Rattle.block_ranges.specs.BlockWork.{runs_left, texts_of}
+use Rattle.block_ranges.specs.WorkStates.{runs_left, texts_of}
 use Rattle.block_ranges.proofs.run_steps.cached_runs.Given as goal
 
 abbrev pub invariant-loop-run : goal.invariant-loop-run

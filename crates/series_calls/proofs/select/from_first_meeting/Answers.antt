@@ -1,4 +1,4 @@
-use Rattle.series_calls.specs.Calls.{query_of}
+use Rattle.series_calls.specs.CallStates.{query_of}
 use Rattle.series_calls.proofs.Meeting.{from_place, from_none}
 use Rattle.series_calls.proofs.select.from_first_meeting.Goals as goal
 

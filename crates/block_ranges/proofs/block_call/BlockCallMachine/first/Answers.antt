@@ -1,6 +1,6 @@
 use Rattle.std.proofs.Common.{◌*◌, refl}
 use Rattle.block_ranges.specs.BlockRuns.{cache_of}
-use Rattle.block_ranges.specs.BlockWork.{most}
+use Rattle.block_ranges.specs.WorkStates.{most}
 use Rattle.block_ranges.proofs.CallSteps.{begins, begins_fall}
 use Rattle.block_ranges.proofs.block_call.BlockCallMachine.first.Goals as goal
 

@@ -2,7 +2,7 @@ use Rattle.std.proofs.Common.{◌∙◌}
 use Rattle.std.specs.Int.{w64}
 use Rattle.std.proofs.lemmas.Int.{to_z-of_z}
 use Rattle.index_cache.specs.Caches.{held}
-use Rattle.series_calls.specs.Calls.{query_of}
+use Rattle.series_calls.specs.CallStates.{query_of}
 use Rattle.series_calls.proofs.Meeting.{read_of}
 use Rattle.series_calls.proofs.Steps.{are_of, asks_first, begins, came_to, does}
 use Rattle.series_calls.proofs.series_call.SeriesCall.begin.Goals as goal

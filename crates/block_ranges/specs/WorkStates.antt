@@ -1,4 +1,4 @@
--- What is left of the reads of a block in each of their states.
+-- What is left of the reads of a block in each of their states. The machine's steps alone speak of this.
 use Rattle.std.specs.Prelude.{◌≡◌, ◌⊎◌, ℕ, ◌+◌, ◌*◌, ◌^◌, ◌<◌, ◌==◌, Bool, true, false, List, [], ◌∷◌, ◌++◌, length, map, zip, slice_get, Option, Some, None, Result, Ok, Err, IsOk, IsErr}
 use Rattle.std.specs.List.{flat_map}
 use Rattle.std.specs.List.Sorted.{IsNonDecreasingBy, IsStrictlyIncreasing}
