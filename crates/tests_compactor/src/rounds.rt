@@ -1,48 +1,103 @@
+//! Compactions and cleanings, one after another over one world.
 ghost use Rattle.std.specs.Prelude.{◌≡◌, IfOk};
 
+use crate::bytes::Named;
+use crate::ops::print_done;
+use crate::says::{cut, put, say};
+use crate::worlds::hand_of;
 use bucket_core::MemoryBucket;
+use cleaner::{Clean, CleanEnd};
 use compactor::{Compact, CompactEnd};
 use label_sets::Text;
 use list_core::NoMemory;
 use moment_core::{Moment, Rules, Span};
 use std::alloc::Global;
-use std::io;
+use std::fmt::Debug;
 use world_core::{Driven, Hand, Op, WorldHand, drive};
 
-/// The rules by which all compactions here go: the standard ones, with one replica label and this retention.
+/// Prints how the rounds of a row came out, and what they did.
+pub(crate) fn print_rounds(rt: &HostRuntime, objects: &[Named], text: &str, texts: bool) {
+    let (setting, rounds) = text.split_once(" / ").unwrap_or((text, ""));
+    let (fail, rest) = cut(setting);
+    let (kept, blocks) = cut(rest);
+    match hand_of(rt.alloc(), objects, fail, blocks) {
+        Some(hand) => print_hand(rt, hand, retention_of(kept), rounds, texts),
+        None => say(rt, " not opened"),
+    }
+}
+
+fn print_hand(
+    rt: &HostRuntime,
+    mut hand: WorldHand<MemoryBucket>,
+    retention: Option<Span>,
+    rounds: &str,
+    texts: bool,
+) {
+    for round in rounds.split(' ') {
+        print_round(rt, &mut hand, retention, round);
+    }
+    print_done(rt, hand.into_world().journal().entries(), texts);
+}
+
+/// Does a round at its moment, and prints how it came out.
+fn print_round(
+    rt: &HostRuntime,
+    hand: &mut WorldHand<MemoryBucket>,
+    retention: Option<Span>,
+    round: &str,
+) {
+    let (moment, stop) = round.split_once('!').unwrap_or((round, ""));
+    let stop = stop.parse::<u32>().ok();
+    match moment.strip_prefix('c') {
+        Some(moment) => {
+            set_clock(hand, moment);
+            print_end(rt, &cleaned(rt.alloc(), hand, stop));
+        }
+        None => {
+            set_clock(hand, moment);
+            print_end(rt, &compacted(rt.alloc(), hand, retention, stop));
+        }
+    }
+}
+
+fn set_clock(hand: &mut WorldHand<MemoryBucket>, moment: &str) {
+    let ms = u64::from(moment.parse::<u32>().unwrap_or(0));
+    let _clock = hand.act(Op::Clock(Moment { ms }));
+}
+
+/// How long a word keeps blocks, in milliseconds. `.` keeps them for ever.
+pub(crate) fn retention_of(word: &str) -> Option<Span> {
+    match word.parse::<u32>() {
+        Ok(ms) => Some(Span { ms: u64::from(ms) }),
+        Err(_) => None,
+    }
+}
+
+/// The rules by which all rounds here go: the standard ones, but with pages of a million names, a replica label and this retention.
 fn rules(alloc: Global, retention: Option<Span>) -> Result<Rules, NoMemory>
-    ensures { IfOk result (λ rules. rules.page_limit ≡ 1000) }
+    ensures { IfOk result (λ rules. rules.page_limit ≡ 1_000_000) }
 {
     let mut rules = Rules::standard(alloc);
-    rules.page_limit = 1000;
+    rules.page_limit = 1_000_000;
     rules.retention = retention;
     rules.replicas.push(Text::from_str(alloc, "replica")?)?;
     Ok(rules)
 }
 
-/// Does the compactions of a row one after another, each at its moment, and prints how each of them came out.
-pub(crate) fn print_rounds(
-    rt: &HostRuntime,
-    hand: &mut WorldHand<MemoryBucket>,
-    retention: Option<Span>,
-    rounds: &str,
-) -> io::Result<()> {
-    for round in rounds.split(' ') {
-        let (moment, stop) = round.split_once('!').unwrap_or((round, ""));
-        let ms = u64::from(moment.parse::<u32>().unwrap_or(0));
-        let _clock = hand.act(Op::Clock(Moment { ms }));
-        print_end(
-            rt,
-            compacted(rt.alloc(), hand, retention, stop.parse().ok()),
-        )?;
-    }
-    Ok(())
+/// Drives a cleaning to its end or its stop.
+fn cleaned<H: Hand>(
+    alloc: Global,
+    hand: &mut H,
+    stop: Option<u32>,
+) -> Result<Driven<CleanEnd>, NoMemory> {
+    let mut clean = Clean::start(alloc, &rules(alloc, None)?)?;
+    Ok(drive(&mut clean, hand, stop))
 }
 
 /// Drives a compaction to its end or its stop.
-fn compacted(
+pub(crate) fn compacted<H: Hand>(
     alloc: Global,
-    hand: &mut WorldHand<MemoryBucket>,
+    hand: &mut H,
     retention: Option<Span>,
     stop: Option<u32>,
 ) -> Result<Driven<CompactEnd>, NoMemory> {
@@ -50,10 +105,15 @@ fn compacted(
     Ok(drive(&mut compact, hand, stop))
 }
 
-fn print_end(rt: &HostRuntime, driven: Result<Driven<CompactEnd>, NoMemory>) -> io::Result<()> {
+/// Prints how a machine came out.
+pub(crate) fn print_end<E: Debug>(rt: &HostRuntime, driven: &Result<Driven<E>, NoMemory>) {
     match driven {
-        Ok(Driven::Ended(end)) => print!(rt; " {end:?},"),
-        Ok(Driven::Stopped(count)) => print!(rt; " Stopped({count}),"),
-        _ => print!(rt; " no end,"),
+        Ok(Driven::Ended(end)) => {
+            let _ = print!(rt; " {end:?},");
+        }
+        Ok(Driven::Stopped(count)) => {
+            let _ = print!(rt; " Stopped({count}),");
+        }
+        _ => put(rt, " no end,"),
     }
 }

@@ -1,30 +1,32 @@
-ghost use Rattle.world_core.specs.Operations.{IsLawful};
-
-use crate::blocks::{Described, object, read_block};
+//! Worlds in which the blocks of a row were uploaded.
+use crate::blocks::{Described, key_of, object, read_block};
+use crate::bytes::Named;
 use block_keys::Key;
 use bucket_core::{Fail, FailList, MemoryBucket};
-use list_core::NoMemory;
 use moment_core::{Moment, Span};
 use std::alloc::Global;
-use world_core::{Acted, Op, World, WorldHand};
+use wire_bytes::Blob;
+use world_core::{Op, World, WorldHand};
 
-/// A hand over a world in which a setting's blocks were uploaded, and for how long the setting keeps blocks.
+/// A hand over a world in which these blocks were uploaded at 0. Its bucket fails at a call of the hand: `5+` names the fifth call,
+/// which is done all the same, and `5-` one that is not done.
 pub(crate) fn hand_of(
     alloc: Global,
-    setting: &str,
-) -> Result<(WorldHand<MemoryBucket>, Option<Span>), NoMemory> {
-    let (fail, rest) = setting.split_once(' ').unwrap_or((setting, ""));
-    let (kept, blocks) = rest.split_once(' ').unwrap_or((rest, ""));
-    let mut world = opened(alloc, fail, calls_in(blocks))?;
-    act(&mut world, Op::Clock(Moment { ms: 0 }))?;
+    objects: &[Named],
+    fail: &str,
+    blocks: &str,
+) -> Option<WorldHand<MemoryBucket>> {
+    let bucket = MemoryBucket::new(alloc, failing(alloc, fail, calls_in(blocks)));
+    let Ok(mut world) = World::open(alloc, bucket, Span { ms: 1 }) else {
+        return None;
+    };
+    let _clock = world.act(0, Op::Clock(Moment { ms: 0 }));
     for word in blocks.split(' ') {
-        if let Some(block) = read_block(alloc, word)? {
-            upload(alloc, &mut world, &block)?;
+        if let Some(block) = read_block(word) {
+            upload(alloc, &mut world, objects, &block);
         }
     }
-    let kept = kept.parse::<u32>().ok();
-    let retention = kept.map(|ms| Span { ms: u64::from(ms) });
-    Ok((WorldHand::new(world, 1), retention))
+    Some(WorldHand::new(world, 1))
 }
 
 /// How many calls of a bucket the uploads of these words are: a look and a put for each letter.
@@ -38,44 +40,44 @@ fn calls_in(blocks: &str) -> u64 {
     count
 }
 
-/// A world whose bucket fails at an operation of the first compaction, after so many calls and the page of its opening.
-fn opened(alloc: Global, fail: &str, calls: u64) -> Result<World<MemoryBucket>, NoMemory> {
+/// What fails, after so many calls and the page of the world's opening.
+fn failing(alloc: Global, fail: &str, calls: u64) -> FailList {
     let mut failing = FailList::new(alloc);
     let (number, landed) = match fail.strip_suffix('+') {
         Some(number) => (number, true),
         None => (fail.strip_suffix('-').unwrap_or(""), false),
     };
     if let Ok(number) = number.parse::<u32>() {
-        failing.push(Fail {
+        let _ = failing.push(Fail {
             call: u64::from(number).saturating_add(calls).saturating_add(1),
             landed,
-        })?;
+        });
     }
-    match World::open(alloc, MemoryBucket::new(alloc, failing), Span { ms: 1 }) {
-        Ok(world) => Ok(world),
-        Err(_) => Err(NoMemory),
-    }
+    failing
 }
 
 /// Looks at a block's meta and puts its objects, as its upload does.
 fn upload(
     alloc: Global,
     world: &mut World<MemoryBucket>,
-    block: &Described,
-) -> Result<(), NoMemory> {
-    act(world, Op::Get(Key::Meta(block.ulid)))?;
+    objects: &[Named],
+    block: &Described<'_>,
+) {
+    let _look = world.act(0, Op::Get(Key::Meta(block.ulid)));
     for letter in block.letters.chars() {
-        let (key, bytes) = object(alloc, block, letter)?;
-        act(world, Op::Put(key, bytes))?;
+        upload_object(alloc, world, objects, block, letter);
     }
-    Ok(())
 }
 
-fn act(world: &mut World<MemoryBucket>, op: Op) -> Result<(), NoMemory>
-    requires { IsLawful op }
-{
-    match world.act(0, op) {
-        Acted::Done(_) => Ok(()),
-        _ => Err(NoMemory),
-    }
+fn upload_object(
+    alloc: Global,
+    world: &mut World<MemoryBucket>,
+    objects: &[Named],
+    block: &Described<'_>,
+    letter: char,
+) {
+    let Ok(bytes) = Blob::from_bytes(alloc, object(objects, block, letter)) else {
+        return;
+    };
+    let _put = world.act(0, Op::Put(key_of(block.ulid, letter), bytes));
 }
