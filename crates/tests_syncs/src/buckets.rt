@@ -11,9 +11,11 @@ mod worlds;
 
 use crate::buckets::bucket_calls::print_bucket;
 use crate::buckets::drives::{print_drives, print_full};
+pub(crate) use crate::buckets::fails::bucket_of;
 use crate::buckets::streams::print_streams;
 use crate::buckets::worlds::{print_refused, print_world};
-use std::{fs, io};
+use crate::says::{put, say};
+use std::fs;
 
 /// Files of calls.
 const BUCKETS: [&str; 4] = ["names", "cursor", "objects", "failing"];
@@ -21,17 +23,36 @@ const BUCKETS: [&str; 4] = ["names", "cursor", "objects", "failing"];
 /// Files of operations.
 const WORLDS: [&str; 3] = ["replies", "pages", "failed-page"];
 
-pub(crate) fn print_buckets(rt: &HostRuntime) -> io::Result<()> {
+pub(crate) fn print_buckets(rt: &HostRuntime) {
     for name in BUCKETS {
-        println!(rt; "= {name}")?;
-        print_bucket(rt, fs::read_to_string(rt, name)?.as_str())?;
+        print_bucket_file(rt, name);
     }
-    print_streams(rt)?;
+    print_streams(rt);
     for name in WORLDS {
-        println!(rt; "= {name}")?;
-        print_world(rt, fs::read_to_string(rt, name)?.as_str())?;
+        print_world_file(rt, name);
     }
-    print_refused(rt)?;
-    print_drives(rt)?;
-    print_full(rt)
+    print_refused(rt);
+    print_drives(rt);
+    print_full(rt);
+}
+
+fn print_bucket_file(rt: &HostRuntime, name: &str) {
+    print_heading(rt, name);
+    match fs::read_to_string(rt, name) {
+        Ok(text) => print_bucket(rt, text.as_str()),
+        Err(_) => say(rt, "no file"),
+    }
+}
+
+fn print_world_file(rt: &HostRuntime, name: &str) {
+    print_heading(rt, name);
+    match fs::read_to_string(rt, name) {
+        Ok(text) => print_world(rt, text.as_str()),
+        Err(_) => say(rt, "no file"),
+    }
+}
+
+fn print_heading(rt: &HostRuntime, name: &str) {
+    put(rt, "= ");
+    say(rt, name);
 }

@@ -1,13 +1,12 @@
 use crate::cleanings::{print_cleanings, print_play};
 use crate::marks::print_marked;
 use crate::metas::read_meta;
-use crate::says::say;
+use crate::says::{cut, put, put_letter, say};
 use crate::uploads::print_uploads;
 use block_meta::DeletionMark;
 use list_core::{NoMemory, TryCopy};
 use moment_core::{Moment, Span};
 use std::alloc::Global;
-use std::io;
 use sync_filters::{Found, FoundList, consistent, is_expired, uncovered, unmarked};
 
 /// How old a block has to be, half an hour.
@@ -20,12 +19,13 @@ pub(crate) const MARK_DELAY: Span = Span { ms: 86_400_000 };
 const MARK: &str = r#"{"id":"00000000000000000000000001","version":1,"deletion_time":1800}"#;
 
 /// Prints a row, and what is answered. The head of standard input says what the rows mean.
-pub(crate) fn print_row(rt: &HostRuntime, row: &str) -> io::Result<()> {
+pub(crate) fn print_row(rt: &HostRuntime, row: &str) {
     if row.starts_with("= ") {
         return say(rt, row);
     }
-    let (kind, text) = row.split_once(' ').unwrap_or((row, ""));
-    print!(rt; "{row} ->")?;
+    let (kind, text) = cut(row);
+    put(rt, row);
+    put(rt, " ->");
     match kind {
         "clean" => print_cleanings(rt, text),
         "play" => print_play(rt, text),
@@ -33,8 +33,8 @@ pub(crate) fn print_row(rt: &HostRuntime, row: &str) -> io::Result<()> {
     }
 }
 
-fn print_answer(rt: &HostRuntime, kind: &str, text: &str) -> io::Result<()> {
-    print!(rt; " ")?;
+fn print_answer(rt: &HostRuntime, kind: &str, text: &str) {
+    put(rt, " ");
     match kind {
         "young" => print_kept(rt, is_old(rt.alloc(), text)),
         "marked" => print_kept(rt, is_kept(rt.alloc(), Some(MARK), text)),
@@ -47,7 +47,7 @@ fn print_answer(rt: &HostRuntime, kind: &str, text: &str) -> io::Result<()> {
     }
 }
 
-fn print_kept(rt: &HostRuntime, kept: Result<bool, NoMemory>) -> io::Result<()> {
+fn print_kept(rt: &HostRuntime, kept: Result<bool, NoMemory>) {
     match kept {
         Ok(true) => say(rt, "kept"),
         Ok(false) => say(rt, "dropped"),
@@ -62,7 +62,7 @@ pub(crate) fn moment_of(text: &str) -> Moment {
 }
 
 fn is_old(alloc: Global, text: &str) -> Result<bool, NoMemory> {
-    let (program, read) = text.split_once(' ').unwrap_or((text, ""));
+    let (program, read) = cut(text);
     let program = if program == "." { "" } else { program };
     let mut found = found_of(alloc, "1", "1", "0", program)?;
     found.meta_read = moment_of(read);
@@ -91,8 +91,8 @@ fn is_copy_kept(found: &Found) -> Result<bool, NoMemory> {
 
 /// The row is a retention in milliseconds (`.` for none), the block's resolution, and a moment.
 fn is_retained(alloc: Global, text: &str) -> Result<bool, NoMemory> {
-    let (retention, rest) = text.split_once(' ').unwrap_or((text, ""));
-    let (resolution, moment) = rest.split_once(' ').unwrap_or((rest, ""));
+    let (retention, rest) = cut(text);
+    let (resolution, moment) = cut(rest);
     let retention = match retention.parse() {
         Ok(ms) => Some(Span { ms }),
         Err(_) => None,
@@ -118,22 +118,19 @@ fn found_of(
     })
 }
 
-fn print_split(rt: &HostRuntime, text: &str) -> io::Result<()> {
+fn print_split(rt: &HostRuntime, text: &str) {
     match blocks_of(rt.alloc(), text) {
         Ok(found) => print_parts(rt, uncovered(rt.alloc(), found)),
         Err(_) => say(rt, "no memory"),
     }
 }
 
-fn print_parts(
-    rt: &HostRuntime,
-    split: Result<(FoundList, FoundList), NoMemory>,
-) -> io::Result<()> {
+fn print_parts(rt: &HostRuntime, split: Result<(FoundList, FoundList), NoMemory>) {
     match split {
         Ok((kept, covered)) => {
-            print_blocks(rt, "kept", &kept)?;
-            print_blocks(rt, ", covered", &covered)?;
-            say(rt, "")
+            print_blocks(rt, "kept", &kept);
+            print_blocks(rt, ", covered", &covered);
+            say(rt, "");
         }
         Err(_) => say(rt, "no memory"),
     }
@@ -154,10 +151,10 @@ fn named_block(alloc: Global, word: &str) -> Result<Found, NoMemory> {
 }
 
 /// Prints a word, and of each block the last character of its ULID.
-pub(crate) fn print_blocks(rt: &HostRuntime, word: &str, blocks: &FoundList) -> io::Result<()> {
-    print!(rt; "{word}")?;
+pub(crate) fn print_blocks(rt: &HostRuntime, word: &str, blocks: &FoundList) {
+    put(rt, word);
     for block in blocks.members() {
-        print!(rt; " {}", char::from(block.ulid.text()[25]))?;
+        put(rt, " ");
+        put_letter(rt, block.ulid);
     }
-    Ok(())
 }

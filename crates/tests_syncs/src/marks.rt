@@ -1,7 +1,7 @@
 ghost use Rattle.world_core.specs.Operations.{IsLawful};
 
 use crate::metas::meta_text;
-use crate::says::say;
+use crate::says::{cut, put, put_char, say};
 use crate::syncs::{SYNC_SEAT, driven, print_driven, world};
 use crate::uploads::letter_of;
 use block_keys::Key;
@@ -10,21 +10,20 @@ use list_core::NoMemory;
 use meta_fetcher::SyncEnd;
 use moment_core::Moment;
 use std::alloc::Global;
-use std::io;
 use ulid_core::Ulid;
 use wire_bytes::Blob;
 use world_core::{Acted, Driven, Entry, Op, World};
 
 /// Prints for what a sync over some objects asks, and to what it comes. The head of standard input says what the row means.
-pub(crate) fn print_marked(rt: &HostRuntime, text: &str) -> io::Result<()> {
+pub(crate) fn print_marked(rt: &HostRuntime, text: &str) {
     match world(rt.alloc(), 0) {
         Ok(world) => print_filled(rt, world, text),
         Err(_) => say(rt, "not opened"),
     }
 }
 
-fn print_filled(rt: &HostRuntime, mut world: World<MemoryBucket>, text: &str) -> io::Result<()> {
-    let (clock, words) = text.split_once(' ').unwrap_or((text, ""));
+fn print_filled(rt: &HostRuntime, mut world: World<MemoryBucket>, text: &str) {
+    let (clock, words) = cut(text);
     match put_words(rt.alloc(), &mut world, clock.parse().unwrap_or(0), words) {
         Ok(()) => print_synced(rt, driven(rt.alloc(), world)),
         Err(_) => say(rt, "no end"),
@@ -34,11 +33,11 @@ fn print_filled(rt: &HostRuntime, mut world: World<MemoryBucket>, text: &str) ->
 fn print_synced(
     rt: &HostRuntime,
     synced: Result<(Driven<SyncEnd>, World<MemoryBucket>), NoMemory>,
-) -> io::Result<()> {
+) {
     match synced {
         Ok((ended, world)) => {
-            print_reads(rt, world.journal().entries())?;
-            print_driven(rt, &ended)
+            print_reads(rt, world.journal().entries());
+            print_driven(rt, &ended);
         }
         Err(_) => say(rt, "no end"),
     }
@@ -76,7 +75,7 @@ pub(crate) fn put_meta(
     let ulid = named(alloc, block)?;
     let text = meta_text(alloc, block, sources, "0", "")?;
     let bytes = Blob::from_bytes(alloc, text.as_bytes())?;
-    put(world, Op::Put(Key::Meta(ulid), bytes))
+    put_object(world, Op::Put(Key::Meta(ulid), bytes))
 }
 
 /// Puts a mark of the block BLOCK that names the block ID, by a word BLOCK@ID@SECOND.
@@ -88,10 +87,10 @@ fn put_mark(alloc: Global, world: &mut World<MemoryBucket>, word: &str) -> Resul
         "{{\"id\":\"0000000000000000000000000{id}\",\"version\":1,\"deletion_time\":{second}}}"
     )?;
     let bytes = Blob::from_bytes(alloc, text.as_bytes())?;
-    put(world, Op::Put(Key::Mark(ulid), bytes))
+    put_object(world, Op::Put(Key::Mark(ulid), bytes))
 }
 
-fn put(world: &mut World<MemoryBucket>, op: Op) -> Result<(), NoMemory>
+fn put_object(world: &mut World<MemoryBucket>, op: Op) -> Result<(), NoMemory>
     requires { IsLawful op }
 {
     match world.act(1, op) {
@@ -110,11 +109,11 @@ fn named(alloc: Global, block: &str) -> Result<Ulid, NoMemory> {
 }
 
 /// Prints a letter for each operation of the sync.
-fn print_reads(rt: &HostRuntime, entries: &[Entry]) -> io::Result<()> {
+fn print_reads(rt: &HostRuntime, entries: &[Entry]) {
     for entry in entries {
         if entry.seat == SYNC_SEAT {
-            print!(rt; "{}", letter_of(&entry.op))?;
+            put_char(rt, letter_of(&entry.op));
         }
     }
-    print!(rt; ", ")
+    put(rt, ", ");
 }

@@ -2,14 +2,13 @@ ghost use Rattle.std.specs.Prelude.{◌≡◌};
 
 use crate::filters::{MARK_DELAY, print_blocks};
 use crate::marks::put_meta;
-use crate::says::say;
+use crate::says::{put, say, show};
 use crate::turns::{finish, turn};
 use bucket_core::{Fail, FailList, MemoryBucket};
 use list_core::NoMemory;
 use meta_fetcher::{Sync, SyncEnd, SyncRules};
 use moment_core::{Moment, Partition, Span};
 use std::alloc::Global;
-use std::io;
 use world_core::{Act, Driven, Machine, Op, World, drive_over};
 
 /// The seat at which syncs are driven.
@@ -57,24 +56,24 @@ fn overtaken(alloc: Global, world: &mut World<MemoryBucket>) -> Result<SyncEnd, 
 }
 
 /// Prints the view of a sync that a block came behind, and that of the next one.
-pub(crate) fn print_two_syncs(rt: &HostRuntime) -> io::Result<()> {
-    say(rt, "= a block behind the cursor is found by the next sync")?;
+pub(crate) fn print_two_syncs(rt: &HostRuntime) {
+    say(rt, "= a block behind the cursor is found by the next sync");
     match world(rt.alloc(), 0) {
         Ok(world) => print_overtaken(rt, world),
         Err(_) => say(rt, "not opened"),
     }
 }
 
-fn print_overtaken(rt: &HostRuntime, mut world: World<MemoryBucket>) -> io::Result<()> {
+fn print_overtaken(rt: &HostRuntime, mut world: World<MemoryBucket>) {
     match overtaken(rt.alloc(), &mut world) {
-        Ok(end) => print_end(rt, &end)?,
-        Err(_) => say(rt, "no end")?,
+        Ok(end) => print_end(rt, &end),
+        Err(_) => say(rt, "no end"),
     }
-    print_sync(rt, world)
+    print_sync(rt, world);
 }
 
 /// Prints how a sync ends.
-fn print_sync(rt: &HostRuntime, world: World<MemoryBucket>) -> io::Result<()> {
+fn print_sync(rt: &HostRuntime, world: World<MemoryBucket>) {
     match driven(rt.alloc(), world) {
         Ok((ended, _world)) => print_driven(rt, &ended),
         Err(_) => say(rt, "no end"),
@@ -89,33 +88,38 @@ pub(crate) fn driven(
     Ok(drive_over(&mut sync, world, SYNC_SEAT, None))
 }
 
-pub(crate) fn print_driven(rt: &HostRuntime, driven: &Driven<SyncEnd>) -> io::Result<()> {
+pub(crate) fn print_driven(rt: &HostRuntime, driven: &Driven<SyncEnd>) {
     match driven {
         Driven::Ended(end) => print_end(rt, end),
         _ => say(rt, "no end"),
     }
 }
 
-fn print_end(rt: &HostRuntime, end: &SyncEnd) -> io::Result<()> {
+fn print_end(rt: &HostRuntime, end: &SyncEnd) {
     match end {
         SyncEnd::View(view) => {
-            print_blocks(rt, "a view of", &view.kept)?;
-            print_blocks(rt, ", covered", &view.covered)?;
+            print_blocks(rt, "a view of", &view.kept);
+            print_blocks(rt, ", covered", &view.covered);
+            say(rt, "");
         }
-        SyncEnd::Fault(entry) => print!(rt; "a fault at entry {entry}")?,
-        SyncEnd::Damaged(entry) => print!(rt; "damage at entry {entry}")?,
-        SyncEnd::TooMany => print!(rt; "too many")?,
+        SyncEnd::Fault(entry) => print_entry(rt, "a fault at entry ", *entry),
+        SyncEnd::Damaged(entry) => print_entry(rt, "damage at entry ", *entry),
+        SyncEnd::TooMany => say(rt, "too many"),
     }
-    say(rt, "")
+}
+
+fn print_entry(rt: &HostRuntime, words: &str, entry: u64) {
+    put(rt, words);
+    show(rt, &entry);
 }
 
 /// Prints the end of a sync whose page fails.
-pub(crate) fn print_fault(rt: &HostRuntime) -> io::Result<()> {
-    say(rt, "= a page that fails at the second entry")?;
+pub(crate) fn print_fault(rt: &HostRuntime) {
+    say(rt, "= a page that fails at the second entry");
     match world(rt.alloc(), 2) {
         Ok(mut world) => {
             let _clock = world.act(0, Op::Clock(Moment { ms: 5 }));
-            print_sync(rt, world)
+            print_sync(rt, world);
         }
         Err(_) => say(rt, "not opened"),
     }

@@ -1,14 +1,14 @@
 ghost use Rattle.std.specs.Prelude.{IfOk};
 ghost use Rattle.block_keys.specs.Blocks.{IsBlock};
 
-use crate::says::say;
+use crate::buckets::bucket_of;
+use crate::says::{cut, put, put_char, say};
 use block_keys::{Key, Object, ObjectList};
-use bucket_core::{Fail, FailList, MemoryBucket};
+use bucket_core::MemoryBucket;
 use list_core::NoMemory;
 use moment_core::Span;
 use shipper::{Upload, UploadEnd};
 use std::alloc::Global;
-use std::io;
 use ulid_core::Ulid;
 use wire_bytes::Blob;
 use world_core::{Driven, Entry, Op, World, WorldHand, drive};
@@ -16,41 +16,26 @@ use world_core::{Driven, Entry, Op, World, WorldHand, drive};
 /// Prints what becomes of uploads of one block over one bucket, and which operations they did. A word says which call of the
 /// bucket fails, by its number with `+` where it is done all the same and `-` where it is not, or `.`; each further word is one
 /// upload, by the number of operations after which it is stopped, or `.`.
-pub(crate) fn print_uploads(rt: &HostRuntime, text: &str) -> io::Result<()> {
-    let (fail, stops) = text.split_once(' ').unwrap_or((text, ""));
+pub(crate) fn print_uploads(rt: &HostRuntime, text: &str) {
+    let (fail, stops) = cut(text);
     match hand_of(rt.alloc(), fail) {
         Ok(hand) => print_stops(rt, hand, stops),
         Err(_) => say(rt, "not opened"),
     }
 }
 
-fn print_stops(rt: &HostRuntime, mut hand: WorldHand<MemoryBucket>, stops: &str) -> io::Result<()> {
+fn print_stops(rt: &HostRuntime, mut hand: WorldHand<MemoryBucket>, stops: &str) {
     for stop in stops.split(' ') {
-        print_end(rt, uploaded(rt.alloc(), &mut hand, stop.parse().ok()))?;
+        print_end(rt, uploaded(rt.alloc(), &mut hand, stop.parse().ok()));
     }
-    print_letters(rt, hand.into_world().journal().entries())
+    print_letters(rt, hand.into_world().journal().entries());
 }
 
 fn hand_of(alloc: Global, fail: &str) -> Result<WorldHand<MemoryBucket>, NoMemory> {
-    let mut failing = FailList::new(alloc);
-    if let Some(fail) = fail_of(fail) {
-        failing.push(fail)?;
-    }
-    match World::open(alloc, MemoryBucket::new(alloc, failing), Span { ms: 1 }) {
+    match World::open(alloc, bucket_of(alloc, fail)?, Span { ms: 1 }) {
         Ok(world) => Ok(WorldHand::new(world, 1)),
         Err(_) => Err(NoMemory),
     }
-}
-
-fn fail_of(word: &str) -> Option<Fail> {
-    let (number, landed) = match word.strip_suffix('+') {
-        Some(number) => (number, true),
-        None => (word.strip_suffix('-')?, false),
-    };
-    Some(Fail {
-        call: number.parse().ok()?,
-        landed,
-    })
 }
 
 fn uploaded(
@@ -82,20 +67,28 @@ fn block(alloc: Global, ulid: Ulid) -> Result<ObjectList, NoMemory>
     Ok(objects)
 }
 
-fn print_end(rt: &HostRuntime, driven: Result<Driven<UploadEnd>, NoMemory>) -> io::Result<()> {
+fn print_end(rt: &HostRuntime, driven: Result<Driven<UploadEnd>, NoMemory>) {
     match driven {
-        Ok(Driven::Ended(end)) => print!(rt; "{end:?}, "),
-        Ok(Driven::Stopped(count)) => print!(rt; "Stopped({count}), "),
-        _ => print!(rt; "no end, "),
+        Ok(Driven::Ended(end)) => print_told(rt, &end),
+        Ok(Driven::Stopped(count)) => print_stopped(rt, count),
+        _ => put(rt, "no end, "),
     }
 }
 
+fn print_told(rt: &HostRuntime, end: &UploadEnd) {
+    let _ = print!(rt; "{end:?}, ");
+}
+
+fn print_stopped(rt: &HostRuntime, count: u32) {
+    let _ = print!(rt; "Stopped({count}), ");
+}
+
 /// Prints a letter for each operation.
-fn print_letters(rt: &HostRuntime, entries: &[Entry]) -> io::Result<()> {
+fn print_letters(rt: &HostRuntime, entries: &[Entry]) {
     for entry in entries {
-        print!(rt; "{}", letter_of(&entry.op))?;
+        put_char(rt, letter_of(&entry.op));
     }
-    say(rt, "")
+    say(rt, "");
 }
 
 pub(crate) fn letter_of(op: &Op) -> char {

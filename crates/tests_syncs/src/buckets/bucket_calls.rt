@@ -2,13 +2,13 @@ ghost use Rattle.std.specs.Prelude.{◌≤◌, IsTrue};
 ghost use Rattle.bucket_core.specs.Contents.{IsKey};
 
 use crate::buckets::fails::bucket_of;
-use crate::says::{say, show};
+use crate::says::{cut, put, say, show};
 use bucket_core::{Bucket, GetAnswer, MemoryBucket, PageAnswer};
 use label_sets::Text;
-use std::{io, str};
+use std::str;
 
 /// Prints the calls of a text, and what each is answered. `.` stands for an empty text.
-pub(crate) fn print_bucket(rt: &HostRuntime, text: &str) -> io::Result<()> {
+pub(crate) fn print_bucket(rt: &HostRuntime, text: &str) {
     let (first, rows) = text.split_once('\n').unwrap_or((text, ""));
     match bucket_of(rt.alloc(), first) {
         Ok(bucket) => print_calls(rt, bucket, rows),
@@ -16,16 +16,16 @@ pub(crate) fn print_bucket(rt: &HostRuntime, text: &str) -> io::Result<()> {
     }
 }
 
-fn print_calls(rt: &HostRuntime, mut bucket: MemoryBucket, rows: &str) -> io::Result<()> {
+fn print_calls(rt: &HostRuntime, mut bucket: MemoryBucket, rows: &str) {
     for row in rows.lines() {
-        print_call(rt, &mut bucket, row)?;
+        print_call(rt, &mut bucket, row);
     }
-    Ok(())
 }
 
-fn print_call(rt: &HostRuntime, bucket: &mut MemoryBucket, row: &str) -> io::Result<()> {
-    print!(rt; "{row} -> ")?;
-    let (kind, text) = row.split_once(' ').unwrap_or((row, ""));
+fn print_call(rt: &HostRuntime, bucket: &mut MemoryBucket, row: &str) {
+    put(rt, row);
+    put(rt, " -> ");
+    let (kind, text) = cut(row);
     match kind {
         "put" => print_put(rt, bucket, text),
         "get" => print_get(rt, bucket.get(text)),
@@ -45,27 +45,27 @@ fn is_key(key: &str) -> bool
     }
 }
 
-fn print_put(rt: &HostRuntime, bucket: &mut MemoryBucket, text: &str) -> io::Result<()> {
-    let (key, bytes) = text.split_once(' ').unwrap_or((text, ""));
+fn print_put(rt: &HostRuntime, bucket: &mut MemoryBucket, text: &str) {
+    let (key, bytes) = cut(text);
     if !is_key(key) {
         return say(rt, "no key");
     }
-    show(rt, &bucket.put(key, bytes.as_bytes()))
+    show(rt, &bucket.put(key, bytes.as_bytes()));
 }
 
-fn print_range(rt: &HostRuntime, bucket: &mut MemoryBucket, text: &str) -> io::Result<()> {
-    let (key, range) = text.split_once(' ').unwrap_or((text, ""));
-    let (from, len) = range.split_once(' ').unwrap_or((range, ""));
-    print_get(rt, bucket.get_range(key, number_of(from), number_of(len)))
+fn print_range(rt: &HostRuntime, bucket: &mut MemoryBucket, text: &str) {
+    let (key, range) = cut(text);
+    let (from, len) = cut(range);
+    print_get(rt, bucket.get_range(key, number_of(from), number_of(len)));
 }
 
 pub(crate) fn number_of(text: &str) -> u64 {
     text.parse().unwrap_or(0)
 }
 
-fn print_page(rt: &HostRuntime, bucket: &mut MemoryBucket, text: &str) -> io::Result<()> {
-    let (within, rest) = text.split_once(' ').unwrap_or((text, ""));
-    let (after, limit) = rest.split_once(' ').unwrap_or((rest, ""));
+fn print_page(rt: &HostRuntime, bucket: &mut MemoryBucket, text: &str) {
+    let (within, rest) = cut(text);
+    let (after, limit) = cut(rest);
     match bucket.page(unless_dot(within), unless_dot(after), limit_of(limit)) {
         PageAnswer::Names(names) => print_names(rt, names.members()),
         PageAnswer::Failed => say(rt, "failed"),
@@ -86,7 +86,7 @@ pub(crate) fn limit_of(text: &str) -> u32
     }
 }
 
-fn print_get(rt: &HostRuntime, answer: GetAnswer) -> io::Result<()> {
+fn print_get(rt: &HostRuntime, answer: GetAnswer) {
     match answer {
         GetAnswer::Found(bytes) => print_found(rt, bytes.bytes()),
         GetAnswer::Absent => say(rt, "absent"),
@@ -95,14 +95,16 @@ fn print_get(rt: &HostRuntime, answer: GetAnswer) -> io::Result<()> {
     }
 }
 
-pub(crate) fn print_found(rt: &HostRuntime, bytes: &[u8]) -> io::Result<()> {
-    println!(rt; "found {:?}", str::from_utf8(bytes).unwrap_or("no text"))
+pub(crate) fn print_found(rt: &HostRuntime, bytes: &[u8]) {
+    put(rt, "found ");
+    show(rt, &str::from_utf8(bytes).unwrap_or("no text"));
 }
 
-pub(crate) fn print_names(rt: &HostRuntime, names: &[Text]) -> io::Result<()> {
-    print!(rt; "names")?;
+pub(crate) fn print_names(rt: &HostRuntime, names: &[Text]) {
+    put(rt, "names");
     for name in names {
-        print!(rt; " {}", name.as_str())?;
+        put(rt, " ");
+        put(rt, name.as_str());
     }
-    say(rt, "")
+    say(rt, "");
 }

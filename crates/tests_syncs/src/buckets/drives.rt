@@ -1,15 +1,14 @@
 use crate::buckets::looks::Looks;
 use crate::buckets::worlds::TICK;
-use crate::says::say;
+use crate::says::{put, say, show};
 use bucket_core::{FailList, MemoryBucket};
 use moment_core::Moment;
-use std::io;
 use ulid_core::Ulid;
 use world_core::{Acted, Driven, Op, World, WorldHand, drive};
 
 /// Prints what became of machines that are driven to their end or their stop.
-pub(crate) fn print_drives(rt: &HostRuntime) -> io::Result<()> {
-    say(rt, "= a machine that looks three times")?;
+pub(crate) fn print_drives(rt: &HostRuntime) {
+    say(rt, "= a machine that looks three times");
     let bucket = MemoryBucket::new(rt.alloc(), FailList::new(rt.alloc()));
     match World::open(rt.alloc(), bucket, TICK) {
         Ok(world) => print_stops(rt, WorldHand::new(world, 4)),
@@ -17,11 +16,13 @@ pub(crate) fn print_drives(rt: &HostRuntime) -> io::Result<()> {
     }
 }
 
-fn print_stops(rt: &HostRuntime, mut hand: WorldHand<MemoryBucket>) -> io::Result<()> {
+fn print_stops(rt: &HostRuntime, mut hand: WorldHand<MemoryBucket>) {
     for stop in [None, Some(2), Some(3), Some(4)] {
-        println!(rt; "stop {stop:?}: {}", driven_word(&mut hand, stop))?;
+        let _ = print!(rt; "stop {stop:?}: ");
+        say(rt, driven_word(&mut hand, stop));
     }
-    println!(rt; "entries: {}", hand.into_world().journal().len())
+    put(rt, "entries: ");
+    show(rt, &hand.into_world().journal().len());
 }
 
 fn driven_word(hand: &mut WorldHand<MemoryBucket>, stop: Option<u32>) -> &'static str {
@@ -38,8 +39,8 @@ fn driven_word(hand: &mut WorldHand<MemoryBucket>, stop: Option<u32>) -> &'stati
 }
 
 /// Prints that a journal with all its entries takes no more.
-pub(crate) fn print_full(rt: &HostRuntime) -> io::Result<()> {
-    say(rt, "= a full journal")?;
+pub(crate) fn print_full(rt: &HostRuntime) {
+    say(rt, "= a full journal");
     let bucket = MemoryBucket::new(rt.alloc(), FailList::new(rt.alloc()));
     match World::open(rt.alloc(), bucket, TICK) {
         Ok(world) => print_filled(rt, filled(world)),
@@ -55,11 +56,13 @@ fn filled(mut world: World<MemoryBucket>) -> World<MemoryBucket> {
     world
 }
 
-fn print_filled(rt: &HostRuntime, mut world: World<MemoryBucket>) -> io::Result<()> {
+fn print_filled(rt: &HostRuntime, mut world: World<MemoryBucket>) {
     let before = world.journal().len();
     let is_full = matches!(world.act(0, Op::Clock(Moment { ms: 0 })), Acted::Full);
     let mut hand = WorldHand::new(world, 1);
     let word = driven_word(&mut hand, Some(1));
     let after = hand.into_world().journal().len();
-    println!(rt; "entries: {before}, takes no more: {is_full}, a machine: {word}, entries: {after}")
+    let _ = println!(rt;
+        "entries: {before}, takes no more: {is_full}, a machine: {word}, entries: {after}"
+    );
 }

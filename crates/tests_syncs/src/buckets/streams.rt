@@ -3,7 +3,7 @@ ghost use Rattle.bucket_core.specs.MemoryBucket.{faults_counted};
 ghost use Rattle.bucket_core.specs.MemoryShelf.{faults_counted as shelf_faults};
 
 use crate::buckets::bucket_calls::print_found;
-use crate::says::{say, show};
+use crate::says::{put, say, show};
 use bucket_core::{
     Bucket, Fail, FailList, File, FileList, MemoryBucket, MemoryShelf, MemorySink, MemorySite,
     MemorySource, PutAnswer, Shelf, ShelfAnswer, Sink, Site, Source,
@@ -11,31 +11,28 @@ use bucket_core::{
 use label_sets::Text;
 use list_core::NoMemory;
 use std::alloc::Global;
-use std::io;
 use wire_bytes::Blob;
 
 /// Prints what a site, a shelf, a source and a sink do.
-pub(crate) fn print_streams(rt: &HostRuntime) -> io::Result<()> {
-    println!(rt;
-        "= a site hands its bucket and its shelf out once: {}",
-        opens_once(rt.alloc())
-    )?;
-    print_failing_shelf(rt)?;
-    print_failing_source(rt)?;
-    say(rt, "= a sink that fails at its second call")?;
-    print_sink(rt, MemorySink::new(rt.alloc(), Some(2)))
+pub(crate) fn print_streams(rt: &HostRuntime) {
+    put(rt, "= a site hands its bucket and its shelf out once: ");
+    show(rt, &opens_once(rt.alloc()));
+    print_failing_shelf(rt);
+    print_failing_source(rt);
+    say(rt, "= a sink that fails at its second call");
+    print_sink(rt, MemorySink::new(rt.alloc(), Some(2)));
 }
 
-fn print_failing_shelf(rt: &HostRuntime) -> io::Result<()> {
-    say(rt, "= a shelf that fails at its fourth call")?;
+fn print_failing_shelf(rt: &HostRuntime) {
+    say(rt, "= a shelf that fails at its fourth call");
     match shelf_of(rt.alloc()) {
         Ok(shelf) => print_shelf(rt, shelf),
         Err(NoMemory) => say(rt, "no memory"),
     }
 }
 
-fn print_failing_source(rt: &HostRuntime) -> io::Result<()> {
-    say(rt, "= a source that fails at its second call")?;
+fn print_failing_source(rt: &HostRuntime) {
+    say(rt, "= a source that fails at its second call");
     match Blob::from_bytes(rt.alloc(), b"abcde") {
         Ok(bytes) => print_source(rt, MemorySource::new(bytes, Some(2))),
         Err(_) => say(rt, "no memory"),
@@ -96,15 +93,15 @@ fn fourth_call(alloc: Global) -> Result<FailList, NoMemory> {
     Ok(failing)
 }
 
-fn print_shelf(rt: &HostRuntime, mut shelf: MemoryShelf) -> io::Result<()> {
+fn print_shelf(rt: &HostRuntime, mut shelf: MemoryShelf) {
     for name in ["A/index", "B/index", "C/index", "A/index", "A/index"] {
-        print!(rt; "{name} -> ")?;
-        print_file(rt, shelf.read(name))?;
+        put(rt, name);
+        put(rt, " -> ");
+        print_file(rt, shelf.read(name));
     }
-    Ok(())
 }
 
-fn print_file(rt: &HostRuntime, answer: ShelfAnswer) -> io::Result<()> {
+fn print_file(rt: &HostRuntime, answer: ShelfAnswer) {
     match answer {
         ShelfAnswer::Found(bytes) => print_found(rt, bytes.bytes()),
         ShelfAnswer::Absent => say(rt, "absent"),
@@ -114,18 +111,19 @@ fn print_file(rt: &HostRuntime, answer: ShelfAnswer) -> io::Result<()> {
     }
 }
 
-fn print_source(rt: &HostRuntime, mut source: MemorySource) -> io::Result<()> {
+fn print_source(rt: &HostRuntime, mut source: MemorySource) {
     let mut buffer = [0u8; 3];
     for _ in 0..4u32 {
         let answer = source.read(&mut buffer);
-        println!(rt; "{answer:?} {buffer:?}")?;
+        let _ = println!(rt; "{answer:?} {buffer:?}");
     }
-    Ok(())
 }
 
-fn print_sink(rt: &HostRuntime, mut sink: MemorySink) -> io::Result<()> {
+fn print_sink(rt: &HostRuntime, mut sink: MemorySink) {
     for piece in ["ab", "cd", "ef"] {
-        println!(rt; "{piece} -> {:?}", sink.write(piece.as_bytes()))?;
+        put(rt, piece);
+        put(rt, " -> ");
+        show(rt, &sink.write(piece.as_bytes()));
     }
-    show(rt, &sink.bytes())
+    show(rt, &sink.bytes());
 }

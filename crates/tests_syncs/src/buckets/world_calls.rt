@@ -2,25 +2,21 @@ ghost use Rattle.std.specs.Prelude.{◌<◌, ◌^◌, IfOk};
 ghost use Rattle.world_core.specs.Operations.{IsLawful};
 
 use crate::buckets::bucket_calls::{limit_of, number_of, print_found, print_names, unless_dot};
-use crate::says::say;
+use crate::says::{cut, put, say};
 use block_keys::Key;
 use bucket_core::MemoryBucket;
 use label_sets::Text;
 use list_core::NoMemory;
 use moment_core::Moment;
 use std::alloc::Global;
-use std::io;
 use ulid_core::Ulid;
 use wire_bytes::Blob;
 use world_core::{Acted, Op, Reply, Seen, World};
 
 /// Does the operation of a row, and prints what was told.
-pub(crate) fn print_act(
-    rt: &HostRuntime,
-    world: &mut World<MemoryBucket>,
-    row: &str,
-) -> io::Result<()> {
-    print!(rt; "{row} -> ")?;
+pub(crate) fn print_act(rt: &HostRuntime, world: &mut World<MemoryBucket>, row: &str) {
+    put(rt, row);
+    put(rt, " -> ");
     match op_of(rt.alloc(), row) {
         Ok(op) => match world.act(3, op) {
             Acted::Done(seen) => print_seen(rt, seen),
@@ -35,7 +31,7 @@ pub(crate) fn print_act(
 fn op_of(alloc: Global, row: &str) -> Result<Op, NoMemory>
     ensures { IfOk result IsLawful }
 {
-    let (kind, text) = row.split_once(' ').unwrap_or((row, ""));
+    let (kind, text) = cut(row);
     match kind {
         "put" => put_of(alloc, text),
         "get" => Ok(Op::Get(Key::Index(ulid_of(text)))),
@@ -62,7 +58,7 @@ fn moment_of(text: &str) -> Moment
 fn put_of(alloc: Global, text: &str) -> Result<Op, NoMemory>
     ensures { IfOk result IsLawful }
 {
-    let (block, bytes) = text.split_once(' ').unwrap_or((text, ""));
+    let (block, bytes) = cut(text);
     let bytes = Blob::from_bytes(alloc, bytes.as_bytes())?;
     Ok(Op::Put(Key::Index(ulid_of(block)), bytes))
 }
@@ -70,15 +66,15 @@ fn put_of(alloc: Global, text: &str) -> Result<Op, NoMemory>
 fn range_of(text: &str) -> Op
     ensures { IsLawful result }
 {
-    let (block, range) = text.split_once(' ').unwrap_or((text, ""));
-    let (from, len) = range.split_once(' ').unwrap_or((range, ""));
+    let (block, range) = cut(text);
+    let (from, len) = cut(range);
     Op::GetRange(Key::Index(ulid_of(block)), number_of(from), number_of(len))
 }
 
 fn root_page_of(alloc: Global, text: &str) -> Result<Op, NoMemory>
     ensures { IfOk result IsLawful }
 {
-    let (after, limit) = text.split_once(' ').unwrap_or((text, ""));
+    let (after, limit) = cut(text);
     let after = Text::from_str(alloc, unless_dot(after))?;
     Ok(Op::RootPage(after, limit_of(limit)))
 }
@@ -86,17 +82,17 @@ fn root_page_of(alloc: Global, text: &str) -> Result<Op, NoMemory>
 fn block_page_of(alloc: Global, text: &str) -> Result<Op, NoMemory>
     ensures { IfOk result IsLawful }
 {
-    let (block, limit) = text.split_once(' ').unwrap_or((text, ""));
+    let (block, limit) = cut(text);
     let after = Text::from_str(alloc, "")?;
     Ok(Op::BlockPage(ulid_of(block), after, limit_of(limit)))
 }
 
-fn print_seen(rt: &HostRuntime, seen: Seen) -> io::Result<()> {
-    print!(rt; "{} at {}: ", seen.seq, seen.moment.ms)?;
+fn print_seen(rt: &HostRuntime, seen: Seen) {
+    let _ = print!(rt; "{} at {}: ", seen.seq, seen.moment.ms);
     match seen.reply {
         Reply::Found(bytes) => print_found(rt, bytes.bytes()),
         Reply::Names(names) => print_names(rt, names.members()),
-        reply => println!(rt; "{}", word_of(&reply)),
+        reply => say(rt, word_of(&reply)),
     }
 }
 

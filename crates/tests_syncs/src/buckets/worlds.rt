@@ -1,18 +1,17 @@
 use crate::buckets::fails::bucket_of;
 use crate::buckets::world_calls::print_act;
-use crate::says::{say, show};
+use crate::says::{put, say, show};
 use bucket_core::{Bucket, FailList, MemoryBucket};
 use list_core::{List, NoMemory, TryCopy};
 use moment_core::Span;
 use std::alloc::Global;
-use std::io;
 use world_core::{Entry, EntryList, Journal, OpenRefusal, World};
 
 /// How long an operation takes.
 pub(crate) const TICK: Span = Span { ms: 5 };
 
 /// Prints the operations of a text, what each is told, and what the journal has then.
-pub(crate) fn print_world(rt: &HostRuntime, text: &str) -> io::Result<()> {
+pub(crate) fn print_world(rt: &HostRuntime, text: &str) {
     let (first, rows) = text.split_once('\n').unwrap_or((text, ""));
     match bucket_of(rt.alloc(), first) {
         Ok(bucket) => print_opened(rt, bucket, rows),
@@ -20,33 +19,37 @@ pub(crate) fn print_world(rt: &HostRuntime, text: &str) -> io::Result<()> {
     }
 }
 
-fn print_opened(rt: &HostRuntime, bucket: MemoryBucket, rows: &str) -> io::Result<()> {
+fn print_opened(rt: &HostRuntime, bucket: MemoryBucket, rows: &str) {
     match World::open(rt.alloc(), bucket, TICK) {
         Ok(world) => print_acts(rt, world, rows),
         Err((refusal, _bucket)) => print_refusal(rt, refusal),
     }
 }
 
-fn print_acts(rt: &HostRuntime, mut world: World<MemoryBucket>, rows: &str) -> io::Result<()> {
+fn print_acts(rt: &HostRuntime, mut world: World<MemoryBucket>, rows: &str) {
     for row in rows.lines() {
-        print_act(rt, &mut world, row)?;
+        print_act(rt, &mut world, row);
     }
     let (journal, _bucket) = world.into_parts();
-    print_journal(rt, &journal)
+    print_journal(rt, &journal);
 }
 
-fn print_journal(rt: &HostRuntime, journal: &Journal) -> io::Result<()> {
-    println!(rt; "entries: {}, empty: {}", journal.len(), journal.is_empty())?;
+fn print_journal(rt: &HostRuntime, journal: &Journal) {
+    let _ = println!(rt; "entries: {}, empty: {}", journal.len(), journal.is_empty());
     for number in [0u64, 7, 8] {
-        println!(rt;
+        let _ = println!(rt;
             "entry {number}: {:?}",
             journal.get(number).map(|entry| entry.seq)
-        )?;
+        );
     }
     match copied(rt.alloc(), journal.entries()) {
-        Ok(copies) => println!(rt; "copies: {}", copies.len()),
+        Ok(copies) => print_count(rt, copies.len()),
         Err(_) => say(rt, "no memory"),
     }
+}
+
+fn print_count(rt: &HostRuntime, copies: usize) {
+    let _ = println!(rt; "copies: {copies}");
 }
 
 fn copied(alloc: Global, entries: &[Entry]) -> Result<EntryList, NoMemory> {
@@ -57,20 +60,23 @@ fn copied(alloc: Global, entries: &[Entry]) -> Result<EntryList, NoMemory> {
     copies.copy()
 }
 
-fn print_refusal(rt: &HostRuntime, refusal: OpenRefusal) -> io::Result<()> {
+fn print_refusal(rt: &HostRuntime, refusal: OpenRefusal) {
     match refusal {
-        OpenRefusal::NotEmpty(name) => println!(rt; "not empty: {}", name.as_str()),
+        OpenRefusal::NotEmpty(name) => {
+            put(rt, "not empty: ");
+            say(rt, name.as_str());
+        }
         OpenRefusal::Failed => say(rt, "failed"),
         OpenRefusal::NoMemory => say(rt, "no memory"),
     }
 }
 
 /// Prints why no world is opened over a bucket that holds something.
-pub(crate) fn print_refused(rt: &HostRuntime) -> io::Result<()> {
-    say(rt, "= a bucket that holds something")?;
+pub(crate) fn print_refused(rt: &HostRuntime) {
+    say(rt, "= a bucket that holds something");
     let mut bucket = MemoryBucket::new(rt.alloc(), FailList::new(rt.alloc()));
     for key in ["x/y", "w"] {
-        show(rt, &bucket.put(key, b"1"))?;
+        show(rt, &bucket.put(key, b"1"));
     }
-    print_opened(rt, bucket, "")
+    print_opened(rt, bucket, "");
 }

@@ -1,51 +1,69 @@
-use crate::says::say;
+use crate::says::{put, put_char, put_letter, say};
 use block_keys::Key;
 use cleaner::CleanEnd;
 use list_core::NoMemory;
-use std::io;
 use ulid_core::Ulid;
 use world_core::{Driven, Entry, Op};
 
 /// Prints how a cleaning came out.
-pub(crate) fn print_end(
-    rt: &HostRuntime,
-    driven: Result<Driven<CleanEnd>, NoMemory>,
-) -> io::Result<()> {
+pub(crate) fn print_end(rt: &HostRuntime, driven: Result<Driven<CleanEnd>, NoMemory>) {
     match driven {
-        Ok(Driven::Ended(end)) => print!(rt; " {end:?},"),
-        Ok(Driven::Stopped(count)) => print!(rt; " Stopped({count}),"),
-        _ => print!(rt; " no end,"),
+        Ok(Driven::Ended(end)) => print_told(rt, &end),
+        Ok(Driven::Stopped(count)) => print_stopped(rt, count),
+        _ => put(rt, " no end,"),
     }
+}
+
+fn print_told(rt: &HostRuntime, end: &CleanEnd) {
+    let _ = print!(rt; " {end:?},");
+}
+
+fn print_stopped(rt: &HostRuntime, count: u32) {
+    let _ = print!(rt; " Stopped({count}),");
 }
 
 /// Prints a word for each operation of the seat 1. The head of standard input says what the words mean.
-pub(crate) fn print_ops(rt: &HostRuntime, entries: &[Entry]) -> io::Result<()> {
+pub(crate) fn print_ops(rt: &HostRuntime, entries: &[Entry]) {
     for entry in entries {
         if entry.seat == 1 {
-            print_op(rt, &entry.op)?;
+            print_op(rt, &entry.op);
         }
     }
-    say(rt, "")
+    say(rt, "");
 }
 
-fn print_op(rt: &HostRuntime, op: &Op) -> io::Result<()> {
+fn print_op(rt: &HostRuntime, op: &Op) {
     match op {
-        Op::RootPage(after, _) => match after.as_str().chars().last() {
-            Some(letter) => print!(rt; " P{letter}"),
-            None => print!(rt; " P"),
-        },
-        Op::BlockPage(ulid, after, _) => print!(rt; " p{}{}", letter(*ulid), after.as_str()),
-        Op::Get(Key::Mark(ulid)) => print!(rt; " d{}", letter(*ulid)),
-        Op::Get(Key::Meta(ulid)) => print!(rt; " m{}", letter(*ulid)),
-        Op::Delete(Key::Mark(ulid)) => print!(rt; " -d{}", letter(*ulid)),
-        Op::Delete(Key::Meta(ulid)) => print!(rt; " -m{}", letter(*ulid)),
-        Op::Delete(Key::Index(ulid)) => print!(rt; " -i{}", letter(*ulid)),
-        Op::Delete(Key::Segment(ulid, number)) => print!(rt; " -{number}{}", letter(*ulid)),
-        _ => print!(rt; " other"),
+        Op::RootPage(after, _) => print_root(rt, after.as_str()),
+        Op::BlockPage(ulid, after, _) => print_page(rt, *ulid, after.as_str()),
+        Op::Get(Key::Mark(ulid)) => print_of(rt, " d", *ulid),
+        Op::Get(Key::Meta(ulid)) => print_of(rt, " m", *ulid),
+        Op::Delete(Key::Mark(ulid)) => print_of(rt, " -d", *ulid),
+        Op::Delete(Key::Meta(ulid)) => print_of(rt, " -m", *ulid),
+        Op::Delete(Key::Index(ulid)) => print_of(rt, " -i", *ulid),
+        Op::Delete(Key::Segment(ulid, number)) => print_segment(rt, *ulid, *number),
+        _ => put(rt, " other"),
     }
 }
 
-/// The last character of a ULID.
-fn letter(ulid: Ulid) -> char {
-    char::from(ulid.text()[25])
+fn print_root(rt: &HostRuntime, after: &str) {
+    put(rt, " P");
+    if let Some(letter) = after.chars().last() {
+        put_char(rt, letter);
+    }
+}
+
+fn print_page(rt: &HostRuntime, ulid: Ulid, after: &str) {
+    print_of(rt, " p", ulid);
+    put(rt, after);
+}
+
+fn print_segment(rt: &HostRuntime, ulid: Ulid, number: u32) {
+    let _ = print!(rt; " -{number}");
+    put_letter(rt, ulid);
+}
+
+fn print_of(rt: &HostRuntime, word: &str, ulid: Ulid) {
+    put(rt, word);
+    put_letter(rt, ulid);
 }

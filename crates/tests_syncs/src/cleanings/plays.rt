@@ -2,29 +2,28 @@ use crate::cleanings::ops::{print_end, print_ops};
 use crate::cleanings::replies::Replies;
 use crate::cleanings::rules::cleaned;
 use crate::cleanings::words::{block, mark_of};
-use crate::says::say;
+use crate::says::{cut, say};
 use label_sets::{Text, TextList};
 use list_core::NoMemory;
 use std::alloc::Global;
-use std::io;
 use wire_bytes::Blob;
 use world_core::Reply;
 
 /// Prints what becomes of a cleaning that is answered so, and which operations it did.
-pub(crate) fn print_play(rt: &HostRuntime, text: &str) -> io::Result<()> {
-    let (limit, words) = text.split_once(' ').unwrap_or((text, ""));
+pub(crate) fn print_play(rt: &HostRuntime, text: &str) {
+    let (limit, words) = cut(text);
     match (limit.parse::<u32>(), replies_of(rt.alloc(), words)) {
         (Ok(limit), Ok(replies)) => print_played(rt, replies, limit),
         _ => say(rt, " not played"),
     }
 }
 
-fn print_played(rt: &HostRuntime, mut replies: Replies, limit: u32) -> io::Result<()> {
+fn print_played(rt: &HostRuntime, mut replies: Replies, limit: u32) {
     if limit == 0 {
         return say(rt, " no limit");
     }
-    print_end(rt, cleaned(rt.alloc(), &mut replies, limit, None))?;
-    print_ops(rt, replies.entries())
+    print_end(rt, cleaned(rt.alloc(), &mut replies, limit, None));
+    print_ops(rt, replies.entries());
 }
 
 fn replies_of(alloc: Global, words: &str) -> Result<Replies, NoMemory> {
@@ -45,8 +44,18 @@ fn reply_of(alloc: Global, word: &str) -> Result<Reply, NoMemory> {
         "meta" => Reply::Found(Blob::from_bytes(alloc, b"meta")?),
         "d" => Reply::Found(mark_of(alloc, 'A')?),
         "e" => Reply::Found(mark_of(alloc, 'E')?),
+        "many" => Reply::Names(many_names(alloc)?),
         _ => Reply::Names(names_of(alloc, word)?),
     })
+}
+
+/// A million names, which ascend.
+fn many_names(alloc: Global) -> Result<TextList, NoMemory> {
+    let mut names = TextList::new(alloc);
+    for number in 1_000_000..2_000_000u32 {
+        names.push(Text::from_string(number.to_string(alloc)?))?;
+    }
+    Ok(names)
 }
 
 /// The names between the commas. A letter stands for the name of its block, `~` for an empty name, and `.` for none.

@@ -3,43 +3,37 @@ ghost use Rattle.world_core.specs.Operations.{IsLawful};
 use crate::cleanings::ops::{print_end, print_ops};
 use crate::cleanings::rules::cleaned;
 use crate::cleanings::words::object;
-use crate::says::say;
+use crate::says::{cut, say};
 use bucket_core::{Fail, FailList, MemoryBucket};
 use list_core::NoMemory;
 use moment_core::{Moment, Span};
 use std::alloc::Global;
-use std::io;
 use world_core::{Acted, Op, World, WorldHand};
 
 /// Prints what becomes of cleanings of one bucket, and which operations they did.
-pub(crate) fn print_cleanings(rt: &HostRuntime, text: &str) -> io::Result<()> {
+pub(crate) fn print_cleanings(rt: &HostRuntime, text: &str) {
     let (setting, stops) = text.split_once(" / ").unwrap_or((text, "."));
-    let (limit, setting) = setting.split_once(' ').unwrap_or((setting, ""));
+    let (limit, setting) = cut(setting);
     match (limit.parse::<u32>(), hand_of(rt.alloc(), setting)) {
         (Ok(limit), Ok(hand)) => print_stops(rt, hand, limit, stops),
         _ => say(rt, " not opened"),
     }
 }
 
-fn print_stops(
-    rt: &HostRuntime,
-    mut hand: WorldHand<MemoryBucket>,
-    limit: u32,
-    stops: &str,
-) -> io::Result<()> {
+fn print_stops(rt: &HostRuntime, mut hand: WorldHand<MemoryBucket>, limit: u32, stops: &str) {
     if limit == 0 {
         return say(rt, " no limit");
     }
     for stop in stops.split(' ') {
-        print_end(rt, cleaned(rt.alloc(), &mut hand, limit, stop.parse().ok()))?;
+        print_end(rt, cleaned(rt.alloc(), &mut hand, limit, stop.parse().ok()));
     }
-    print_ops(rt, hand.into_world().journal().entries())
+    print_ops(rt, hand.into_world().journal().entries());
 }
 
 /// A hand over a world in which these blocks were put, and the clock was set.
 fn hand_of(alloc: Global, setting: &str) -> Result<WorldHand<MemoryBucket>, NoMemory> {
-    let (moment, rest) = setting.split_once(' ').unwrap_or((setting, ""));
-    let (fail, blocks) = rest.split_once(' ').unwrap_or((rest, ""));
+    let (moment, rest) = cut(setting);
+    let (fail, blocks) = cut(rest);
     let mut world = opened(alloc, fail, objects_in(blocks))?;
     for word in blocks.split(' ') {
         put_block(alloc, &mut world, word)?;
