@@ -3,45 +3,52 @@ ghost use Rattle.std.specs.Prelude.{◌<◌, ◌≤◌};
 ghost use Rattle.block_meta.specs.Lawful.{AreLawfulTimes};
 
 use crate::objects::print_objects;
+use crate::says::{cut, say, show};
+use crate::verdicts::print_counts;
 use block_content::{check, read_index};
-use block_files::{BlockFiles, BuildRefusal, files_objects};
+use block_files::{BlockFiles, files_objects};
 use block_keys::ObjectList;
 use block_meta::{BlockPlan, ParentList, own_sources};
 use block_writing::{build, may_build};
 use chunk_files::read_chunk;
+use index_file::IndexSeries;
 use index_parts::ChunkPlace;
 use label_sets::{LabelSet, Sample, SampleList, Series, SeriesList, Text};
-use list_core::NoMemory;
 use std::alloc::Global;
-use std::{io, str};
+use std::str;
 use ulid_core::Ulid;
 use wire_bytes::Blob;
 use xor_chunks::decode_stored;
 
 /// The block of the worked rows.
-pub(crate) fn block() -> Ulid {
+fn block() -> Ulid {
     Ulid::from_parts(0, 10)
 }
 
 /// The plan of a block of its own.
-pub(crate) fn plan_of(alloc: Global, min_time: i64, max_time: i64) -> Result<BlockPlan, NoMemory>
+fn plan_of(alloc: Global, min_time: i64, max_time: i64) -> Option<BlockPlan>
     requires { AreLawfulTimes min_time max_time }
 {
-    let ulid = block();
-    Ok(BlockPlan {
-        ulid,
+    let Ok(source) = Text::from_str(alloc, "sidecar") else {
+        return None;
+    };
+    let Ok(sources) = own_sources(alloc, block()) else {
+        return None;
+    };
+    Some(BlockPlan {
+        ulid: block(),
         min_time,
         max_time,
         level: 1,
-        sources: own_sources(alloc, ulid)?,
+        sources,
         parents: ParentList::new(alloc),
         labels: LabelSet::empty(alloc),
-        source: Text::from_str(alloc, "sidecar")?,
+        source,
     })
 }
 
 /// The plan of a block that may have all samples of these rows.
-pub(crate) fn wide_plan(alloc: Global) -> Result<BlockPlan, NoMemory> {
+pub(crate) fn wide_plan(alloc: Global) -> Option<BlockPlan> {
     plan_of(alloc, -1_000_000_000_000_000, 1_000_000_000_000_000)
 }
 
@@ -53,120 +60,151 @@ fn build_of(alloc: Global, plan: &BlockPlan, series: &SeriesList) -> Option<Bloc
     build(alloc, plan, series).ok()
 }
 
-/// A series of these labels.
-fn series_of(alloc: Global, labels: &str, samples: SampleList) -> Option<Series> {
-    let (labels, _) = LabelSet::read(alloc, labels).ok()?;
-    Some(Series { labels, samples })
-}
-
 /// The objects of a block from 1000 to 2000 with one series of one sample.
 pub(crate) fn objects_of_one(alloc: Global, text: &str) -> Option<ObjectList> {
-    let (sample, labels) = text.split_once(' ')?;
+    let (sample, labels) = cut(text);
     let mut samples = SampleList::new(alloc);
-    samples.push(Sample::read(sample).ok()?).ok()?;
-    let mut series = SeriesList::new(alloc);
-    series.push(series_of(alloc, labels, samples)?).ok()?;
-    let plan = plan_of(alloc, 1000, 2000).ok()?;
-    files_objects(alloc, build_of(alloc, &plan, &series)?).ok()
+    if let Ok(sample) = Sample::read(sample) {
+        let _ = samples.push(sample);
+    }
+    let series = one_series(alloc, labels, samples)?;
+    built_objects(alloc, &series)
 }
 
-pub(crate) fn print_built(rt: &HostRuntime, text: &str) -> io::Result<()> {
-    print_objects(rt, objects_of_one(rt.alloc(), text))
+/// A list of one series.
+fn one_series(alloc: Global, labels: &str, samples: SampleList) -> Option<SeriesList> {
+    let Ok((labels, _)) = LabelSet::read(alloc, labels) else {
+        return None;
+    };
+    Some(list_of(alloc, Series { labels, samples }))
+}
+
+fn list_of(alloc: Global, series: Series) -> SeriesList {
+    let mut list = SeriesList::new(alloc);
+    let _ = list.push(series);
+    list
+}
+
+fn built_objects(alloc: Global, series: &SeriesList) -> Option<ObjectList> {
+    let plan = plan_of(alloc, 1000, 2000)?;
+    match build_of(alloc, &plan, series) {
+        Some(files) => files_objects(alloc, files).ok(),
+        None => None,
+    }
+}
+
+pub(crate) fn print_built(rt: &HostRuntime, text: &str) {
+    match objects_of_one(rt.alloc(), text) {
+        Some(objects) => print_objects(rt, objects.members()),
+        None => say(rt, "no objects"),
+    }
+}
+
+/// Prints how many bytes the index of a block has whose one sample stands under a label with a value of so many bytes, or why
+/// there is no such block.
+pub(crate) fn print_large(rt: &HostRuntime, text: &str) {
+    let Ok(value) = vec![in rt.alloc(); b'x'; text.parse().unwrap_or(0)] else {
+        return say(rt, "no memory");
+    };
+    let mut labels = LabelSet::empty(rt.alloc());
+    let _ = labels.add("a", str::from_utf8(value.as_slice()).unwrap_or(""));
+    let samples = samples_of(rt.alloc(), 1);
+    print_size(rt, &list_of(rt.alloc(), Series { labels, samples }));
+}
+
+fn print_size(rt: &HostRuntime, series: &SeriesList) {
+    let Some(plan) = wide_plan(rt.alloc()) else {
+        return say(rt, "no memory");
+    };
+    if !may_build(&plan, series) {
+        return say(rt, "not built");
+    }
+    match build(rt.alloc(), &plan, series) {
+        Ok(files) => {
+            let _ = println!(rt; "an index of {} bytes", files.index.bytes().len());
+        }
+        Err(refusal) => show(rt, &refusal),
+    }
 }
 
 /// So many samples, fifteen seconds apart.
-fn samples_of(alloc: Global, count: u16) -> Result<SampleList, NoMemory> {
+fn samples_of(alloc: Global, count: u16) -> SampleList {
     let mut samples = SampleList::new(alloc);
     for number in 0..count {
-        samples.push(Sample {
+        let _ = samples.push(Sample {
             time: i64::from(number) * 15_000,
             pattern: u64::from(number),
-        })?;
+        });
     }
-    Ok(samples)
+    samples
 }
 
-/// How many bytes the index of a block has whose one sample stands under a label with a value of so many bytes, or why there is
-/// no such block.
-fn large(alloc: Global, count: usize) -> Option<Result<usize, BuildRefusal>> {
-    let value = vec![in alloc; b'x'; count].ok()?;
-    let mut labels = LabelSet::empty(alloc);
-    labels
-        .add("a", str::from_utf8(value.as_slice()).ok()?)
-        .ok()?;
-    let samples = samples_of(alloc, 1).ok()?;
-    let mut series = SeriesList::new(alloc);
-    series.push(Series { labels, samples }).ok()?;
-    let plan = wide_plan(alloc).ok()?;
-    if !may_build(&plan, &series) {
-        return None;
-    }
-    match build(alloc, &plan, &series) {
-        Ok(files) => Some(Ok(files.index.bytes().len())),
-        Err(refusal) => Some(Err(refusal)),
+/// Builds a block of two series, and prints how many samples each chunk has, and how many there are as a check counts them.
+pub(crate) fn print_counted(rt: &HostRuntime, text: &str) {
+    let (first, second) = cut(text);
+    let mut series = SeriesList::new(rt.alloc());
+    add_series(rt.alloc(), &mut series, "{a=\"x\"}", first);
+    add_series(rt.alloc(), &mut series, "{a=\"y\"}", second);
+    match block_of(rt.alloc(), &series) {
+        Some(files) => print_chunks(rt, files),
+        None => say(rt, "not built"),
     }
 }
 
-pub(crate) fn print_large(rt: &HostRuntime, row: &str, text: &str) -> io::Result<()> {
-    match large(rt.alloc(), text.parse().unwrap_or(0)) {
-        Some(Ok(bytes)) => println!(rt; "{row}: an index of {bytes} bytes"),
-        Some(Err(refusal)) => println!(rt; "{row}: {refusal:?}"),
-        None => println!(rt; "{row}: not built"),
+/// Adds a series with so many samples.
+fn add_series(alloc: Global, series: &mut SeriesList, labels: &str, count: &str) {
+    if let Ok((labels, _)) = LabelSet::read(alloc, labels) {
+        let samples = samples_of(alloc, count.parse().unwrap_or(0));
+        let _ = series.push(Series { labels, samples });
     }
 }
 
-/// A block of two series with so many samples.
-fn block_of_two(alloc: Global, first: u16, second: u16) -> Option<BlockFiles> {
-    let mut series = SeriesList::new(alloc);
-    let samples = samples_of(alloc, first).ok()?;
-    series.push(series_of(alloc, "{a=\"x\"}", samples)?).ok()?;
-    let samples = samples_of(alloc, second).ok()?;
-    series.push(series_of(alloc, "{a=\"y\"}", samples)?).ok()?;
-    let plan = wide_plan(alloc).ok()?;
-    build_of(alloc, &plan, &series)
+fn block_of(alloc: Global, series: &SeriesList) -> Option<BlockFiles> {
+    let plan = wide_plan(alloc)?;
+    build_of(alloc, &plan, series)
 }
 
-/// How many samples the chunk at a place has.
-fn count_at(alloc: Global, segments: &[Blob], place: ChunkPlace) -> Option<usize> {
-    let segment = segments.get(place.segment as usize)?;
-    let data = read_chunk(segment.bytes(), u64::from(place.offset)).ok()?;
-    let samples = decode_stored(alloc, data).ok()?;
-    Some(samples.len())
+/// Prints how many samples each chunk of a block has.
+fn print_chunks(rt: &HostRuntime, files: BlockFiles) {
+    let mut counts = Vec::new(rt.alloc());
+    if let Ok(list) = read_index(rt.alloc(), files.index.bytes()) {
+        put_counts(
+            rt.alloc(),
+            &mut counts,
+            files.segments.members(),
+            list.members(),
+        );
+    }
+    let _ = print!(rt; "{:?}, ", counts.as_slice());
+    print_totals(rt, files);
 }
 
-/// How many samples each chunk of a block has.
-fn counts_of(alloc: Global, files: &BlockFiles) -> Option<Vec<usize>> {
-    let indexed = read_index(alloc, files.index.bytes()).ok()?;
-    let mut counts = Vec::new(alloc);
-    for series in indexed.members() {
+/// Prints how many series and samples a block of these rows holds.
+pub(crate) fn print_totals(rt: &HostRuntime, files: BlockFiles) {
+    match check(rt.alloc(), block(), files) {
+        Ok(checked) => print_counts(rt, checked.series(), checked.samples()),
+        Err(refusal) => show(rt, &refusal),
+    }
+}
+
+fn put_counts(alloc: Global, counts: &mut Vec<usize>, segments: &[Blob], list: &[IndexSeries]) {
+    for series in list {
         for place in series.chunks.members() {
-            counts
-                .push(count_at(alloc, files.segments.members(), *place)?)
-                .ok()?;
+            let _ = counts.push(count_at(alloc, segments, *place));
         }
     }
-    Some(counts)
 }
 
-/// How many series and samples a block of these rows holds.
-pub(crate) fn totals_of(alloc: Global, files: BlockFiles) -> Option<(u64, u64)> {
-    let checked = check(alloc, block(), files).ok()?;
-    Some((checked.series(), checked.samples()))
-}
-
-/// Builds a block of two series, and counts the samples of each chunk, and all of them as a check does.
-fn counted(alloc: Global, text: &str) -> Option<(Vec<usize>, (u64, u64))> {
-    let (first, second) = text.split_once(' ')?;
-    let files = block_of_two(alloc, first.parse().ok()?, second.parse().ok()?)?;
-    let counts = counts_of(alloc, &files)?;
-    Some((counts, totals_of(alloc, files)?))
-}
-
-pub(crate) fn print_counted(rt: &HostRuntime, row: &str, text: &str) -> io::Result<()> {
-    match counted(rt.alloc(), text) {
-        Some((counts, (series, samples))) => {
-            println!(rt; "{row}: {counts:?}, ok {series} series {samples} samples")
-        }
-        None => println!(rt; "{row}: not built"),
+/// How many samples the chunk at a place has, or none.
+fn count_at(alloc: Global, segments: &[Blob], place: ChunkPlace) -> usize {
+    let Some(segment) = segments.get(place.segment as usize) else {
+        return 0;
+    };
+    let Ok(data) = read_chunk(segment.bytes(), u64::from(place.offset)) else {
+        return 0;
+    };
+    match decode_stored(alloc, data) {
+        Ok(samples) => samples.len(),
+        Err(_) => 0,
     }
 }

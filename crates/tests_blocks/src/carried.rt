@@ -4,15 +4,15 @@ ghost use Rattle.std.specs.Int.{w64};
 ghost use Rattle.block_writing.specs.Put.{IsStored, IsWithin};
 ghost use Rattle.block_writing.specs.Writing.{plan_fields};
 
-use crate::built::{totals_of, wide_plan};
+use crate::built::{print_totals, wide_plan};
 use crate::checks::verdict_on;
+use crate::says::say;
 use block_files::BlockFiles;
 use block_meta::BlockPlan;
 use block_writing::BlockWriter;
 use chunk_files::read_chunk;
 use label_sets::{LabelSet, Sample};
 use std::alloc::Global;
-use std::io;
 use wire_bytes::Blob;
 use xor_chunks::decode_stored;
 
@@ -51,7 +51,9 @@ fn carry(alloc: Global, bytes: &[u8]) -> Option<BlockFiles> {
     let [sample] = samples.members() else {
         return None;
     };
-    let plan = wide_plan(alloc).ok()?;
+    let Some(plan) = wide_plan(alloc) else {
+        return None;
+    };
     if !is_within(&plan, sample) {
         return None;
     }
@@ -66,22 +68,32 @@ fn are_same(one: &[Blob], other: &[Blob]) -> bool {
     }
 }
 
-/// Whether the first chunk of the block that a row names, put into a new one, gives the same segment, and how many series and
-/// samples the new one holds.
-fn carried(rt: &HostRuntime, text: &str) -> Option<(bool, (u64, u64))> {
-    let alloc = rt.alloc();
-    let checked = verdict_on(rt, text, false).ok()?;
-    let segments = checked.files().segments.members();
-    let files = carry(alloc, read_chunk(segments.first()?.bytes(), 8).ok()?)?;
-    let same = are_same(segments, files.segments.members());
-    Some((same, totals_of(alloc, files)?))
+/// Prints whether the first chunk of the block that a row names, put into a new one, gives the same segment, and how many
+/// series and samples the new one holds.
+pub(crate) fn print_carried(rt: &HostRuntime, text: &str) {
+    match verdict_on(rt, text, false) {
+        Ok(checked) => print_first(rt, checked.files().segments.members()),
+        Err(_) => say(rt, "not carried"),
+    }
 }
 
-pub(crate) fn print_carried(rt: &HostRuntime, row: &str, text: &str) -> io::Result<()> {
-    match carried(rt, text) {
-        Some((same, (series, samples))) => {
-            println!(rt; "{row}: same segment {same}, ok {series} series {samples} samples")
-        }
-        None => println!(rt; "{row}: not carried"),
+fn print_first(rt: &HostRuntime, segments: &[Blob]) {
+    match carry(rt.alloc(), first_chunk(segments)) {
+        Some(files) => print_files(rt, segments, files),
+        None => say(rt, "not carried"),
     }
+}
+
+/// The data of the first chunk, or none.
+fn first_chunk(segments: &[Blob]) -> &[u8] {
+    match segments {
+        [first, ..] => read_chunk(first.bytes(), 8).unwrap_or(&[]),
+        [] => &[],
+    }
+}
+
+fn print_files(rt: &HostRuntime, segments: &[Blob], files: BlockFiles) {
+    let same = are_same(segments, files.segments.members());
+    let _ = print!(rt; "same segment {same}, ");
+    print_totals(rt, files);
 }

@@ -9,35 +9,48 @@ mod carried;
 mod checks;
 mod noting_shelf;
 mod objects;
+mod says;
+mod verdicts;
 mod words;
 
 use crate::asked::print_asked;
 use crate::built::{print_built, print_counted, print_large};
 use crate::carried::print_carried;
-use crate::checks::{print_content, print_verdict};
 use crate::objects::print_shipped;
+use crate::says::{cut, put, say};
+use crate::verdicts::{print_content, print_verdict};
 use crate::words::print_words;
 use std::io;
 
 fn main(rt: HostRuntime) -> io::Result<()> {
     for line in rt.lines(rt.alloc()) {
-        print_row(&rt, line?.as_str())?;
+        print_row(&rt, line?.as_str());
     }
     Ok(())
 }
 
-fn print_row(rt: &HostRuntime, row: &str) -> io::Result<()> {
-    let (word, rest) = row.split_once(' ').unwrap_or((row, ""));
+fn print_row(rt: &HostRuntime, row: &str) {
+    let (word, rest) = cut(row);
     match word {
-        "shelf" | "files" => print_verdict(rt, row, word == "files", rest),
-        "loads" | "checks" => print_asked(rt, row, word == "checks", rest),
+        "=" => say(rt, row),
         "content" => print_content(rt, rest),
         "shipped" => print_shipped(rt, rest),
-        "carried" => print_carried(rt, row, rest),
         "built" => print_built(rt, rest),
-        "counted" => print_counted(rt, row, rest),
-        "large" => print_large(rt, row, rest),
-        "words" => print_words(rt, row, rest),
-        _ => println!(rt; "{row}"),
+        _ => print_call(rt, row, word, rest),
+    }
+}
+
+/// Prints a row, and on the same line what its call gives.
+fn print_call(rt: &HostRuntime, row: &str, word: &str, rest: &str) {
+    put(rt, row);
+    put(rt, ": ");
+    match word {
+        "shelf" | "files" => print_verdict(rt, word == "files", rest),
+        "loads" | "checks" => print_asked(rt, word == "checks", rest),
+        "carried" => print_carried(rt, rest),
+        "counted" => print_counted(rt, rest),
+        "large" => print_large(rt, rest),
+        "words" => print_words(rt, rest),
+        _ => say(rt, "no call"),
     }
 }

@@ -1,50 +1,40 @@
 //! The objects of blocks, as they are uploaded.
-use crate::checks::{name_of, verdict_on};
-use block_content::Checked;
-use block_keys::{Key, Object, ObjectList};
+use crate::checks::verdict_on;
+use crate::says::{say, say_text};
+use crate::verdicts::print_name;
+use block_keys::{Key, Object};
 use label_sets::LabelSet;
-use std::alloc::Global;
-use std::{io, str};
 
 /// Prints what is shipped of the block that a row names, under its external labels.
-pub(crate) fn print_shipped(rt: &HostRuntime, text: &str) -> io::Result<()> {
-    let (block, labels) = text.split_once(" {").unwrap_or((text, ""));
-    let external = external_labels(rt.alloc(), labels);
-    let objects = match (verdict_on(rt, block, false), external) {
-        (Ok(checked), Some(external)) => shipped(rt.alloc(), checked, &external),
-        _ => None,
+pub(crate) fn print_shipped(rt: &HostRuntime, text: &str) {
+    let (block, labels) = text.split_at(text.find(" {").unwrap_or(text.len()));
+    match LabelSet::read(rt.alloc(), labels.trim()) {
+        Ok((external, _)) => print_beside(rt, block, &external),
+        Err(_) => say(rt, "no labels"),
+    }
+}
+
+fn print_beside(rt: &HostRuntime, block: &str, external: &LabelSet) {
+    let Ok(checked) = verdict_on(rt, block, false) else {
+        return say(rt, "no objects");
     };
-    print_objects(rt, objects)
-}
-
-/// A label set, whose opening brace is left out.
-fn external_labels(alloc: Global, labels: &str) -> Option<LabelSet> {
-    let text = format!(in alloc; "{{{labels}").ok()?;
-    let (labels, _) = LabelSet::read(alloc, text.as_str()).ok()?;
-    Some(labels)
-}
-
-fn shipped(alloc: Global, checked: Checked, external: &LabelSet) -> Option<ObjectList> {
-    checked.objects(alloc, external).ok()
+    match checked.objects(rt.alloc(), external) {
+        Ok(objects) => print_objects(rt, objects.members()),
+        Err(_) => say(rt, "no objects"),
+    }
 }
 
 /// Prints the name and the size of each object, and the texts of metas.
-pub(crate) fn print_objects(rt: &HostRuntime, objects: Option<ObjectList>) -> io::Result<()> {
-    let Some(objects) = objects else {
-        return println!(rt; "no objects");
-    };
-    for object in objects.members() {
-        print_object(rt, object)?;
+pub(crate) fn print_objects(rt: &HostRuntime, objects: &[Object]) {
+    for object in objects {
+        print_object(rt, object.key, object.bytes.bytes());
     }
-    Ok(())
 }
 
-fn print_object(rt: &HostRuntime, object: &Object) -> io::Result<()> {
-    let name = name_of(rt.alloc(), object.key)?;
-    let bytes = object.bytes.bytes();
-    println!(rt; "{name} {}", bytes.len())?;
-    match (object.key, str::from_utf8(bytes)) {
-        (Key::Meta(_), Ok(text)) => println!(rt; "{text}"),
-        _ => Ok(()),
+fn print_object(rt: &HostRuntime, key: Key, bytes: &[u8]) {
+    print_name(rt, key);
+    let _ = println!(rt; " {}", bytes.len());
+    if matches!(key, Key::Meta(_)) {
+        say_text(rt, bytes);
     }
 }

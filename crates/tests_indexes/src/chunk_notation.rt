@@ -4,7 +4,6 @@ use crate::says::say;
 use index_parts::{ChunkList, ChunkPlace};
 use list_core::NoMemory;
 use std::alloc::Global;
-use std::io;
 
 /// The chunks of a text, with a blank between.
 pub(crate) fn chunks_of(alloc: Global, text: &str) -> Result<ChunkList, NoMemory> {
@@ -30,12 +29,12 @@ fn chunk_of(word: &str) -> ChunkPlace {
 }
 
 /// Prints chunks, each behind a blank, up to the line's end.
-pub(crate) fn print_chunks(rt: &HostRuntime, chunks: &[ChunkPlace]) -> io::Result<()> {
+pub(crate) fn print_chunks(rt: &HostRuntime, chunks: &[ChunkPlace]) {
     for chunk in chunks {
-        print!(rt;
+        let _ = print!(rt;
             " {}..{}@{}:{}",
             chunk.min, chunk.max, chunk.segment, chunk.offset
-        )?;
+        );
     }
     say(rt, "")
 }

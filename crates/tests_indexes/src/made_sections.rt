@@ -5,7 +5,7 @@
 
 use crate::calls::print_hex;
 use crate::chunk_notation::chunks_of;
-use crate::says::say;
+use crate::says::{cut, say};
 use crate::texts::{numbers_of, rows_of, texts_of};
 use index_parts::{
     RawSeries, Toc, write_label_index, write_label_offsets, write_postings, write_postings_table,
@@ -13,11 +13,10 @@ use index_parts::{
 };
 use index_v2::are_in_order;
 use list_core::NoMemory;
-use std::io;
 
 /// Prints the bytes of a section.
-pub(crate) fn print_made(rt: &HostRuntime, section: &str) -> io::Result<()> {
-    let (kind, text) = section.split_once(' ').unwrap_or((section, ""));
+pub(crate) fn print_made(rt: &HostRuntime, section: &str) {
+    let (kind, text) = cut(section);
     let mut out = Vec::new(rt.alloc());
     match put_section(&mut out, kind, text) {
         Ok(()) => print_hex(rt, out.as_slice()),
@@ -41,8 +40,8 @@ fn put_symbols(out: &mut Vec<u8>, text: &str) -> Result<(), NoMemory> {
 }
 
 fn put_series(out: &mut Vec<u8>, text: &str) -> Result<(), NoMemory> {
-    let (names, others) = text.split_once(' ').unwrap_or((text, ""));
-    let (values, chunks) = others.split_once(' ').unwrap_or((others, ""));
+    let (names, others) = cut(text);
+    let (values, chunks) = cut(others);
     let alloc = *out.allocator();
     let series = RawSeries {
         names: numbers_of(alloc, names)?,
@@ -60,7 +59,7 @@ fn put_raw(out: &mut Vec<u8>, series: &RawSeries) -> Result<(), NoMemory> {
 }
 
 fn put_label_offsets(out: &mut Vec<u8>, text: &str) -> Result<(), NoMemory> {
-    let (names, places) = text.split_once(' ').unwrap_or((text, ""));
+    let (names, places) = cut(text);
     let names = texts_of(*out.allocator(), names)?;
     let places = numbers_of(*out.allocator(), places)?;
     if names.len() == places.len() {

@@ -23,7 +23,7 @@ mod texts;
 use crate::blocks::print_block;
 use crate::calls::print_call;
 use crate::pieces::put_pieces;
-use crate::says::{say, show};
+use crate::says::{cut, put, say, show};
 use crate::selectors::print_asked;
 use crate::series_rows::written;
 use std::io;
@@ -31,47 +31,41 @@ use std::io;
 fn main(rt: HostRuntime) -> io::Result<()> {
     let mut index = Vec::new(rt.alloc());
     for row in rt.lines(rt.alloc()) {
-        do_row(&rt, &mut index, row?.as_str())?;
+        do_row(&rt, &mut index, row?.as_str());
     }
     Ok(())
 }
 
 /// Does what a row says. Rows that make the index at hand print nothing.
-fn do_row(rt: &HostRuntime, index: &mut Vec<u8>, row: &str) -> io::Result<()> {
-    let (word, text) = row.split_once(' ').unwrap_or((row, ""));
+fn do_row(rt: &HostRuntime, index: &mut Vec<u8>, row: &str) {
+    let (word, text) = cut(row);
     match word {
         "=" => say(rt, row),
-        "new" => {
-            index.clear();
-            Ok(())
-        }
-        "put" => put(rt, index, text),
+        "new" => index.clear(),
+        "put" => put_to(rt, index, text),
         "write" => write(rt, index, text),
         "selection" => {
-            print!(rt; "{row} -> ")?;
-            print_asked(rt, text)
+            put(rt, row);
+            put(rt, " -> ");
+            print_asked(rt, text);
         }
         "block" => {
-            say(rt, row)?;
-            print_block(rt, text)
+            say(rt, row);
+            print_block(rt, text);
         }
         _ => print_call(rt, index.as_slice(), row),
     }
 }
 
-fn put(rt: &HostRuntime, index: &mut Vec<u8>, pieces: &str) -> io::Result<()> {
-    match put_pieces(index, pieces) {
-        Ok(()) => Ok(()),
-        Err(_) => say(rt, "no bytes"),
+fn put_to(rt: &HostRuntime, index: &mut Vec<u8>, pieces: &str) {
+    if put_pieces(index, pieces).is_err() {
+        say(rt, "no bytes");
     }
 }
 
-fn write(rt: &HostRuntime, index: &mut Vec<u8>, series: &str) -> io::Result<()> {
+fn write(rt: &HostRuntime, index: &mut Vec<u8>, series: &str) {
     match written(rt.alloc(), series) {
-        Ok(text) => {
-            *index = text.into_vec();
-            Ok(())
-        }
+        Ok(text) => *index = text.into_vec(),
         Err(refusal) => show(rt, &refusal),
     }
 }

@@ -1,16 +1,15 @@
 ghost use Rattle.std.specs.Prelude.{◌+◌, ◌^◌, ◌<◌, length, IfSome};
 
 use crate::reader_calls::{print_opened, print_series};
-use crate::says::{say, show};
+use crate::says::{cut, say, show};
 use index_parts::{Toc, read_toc};
 use index_v2::{IndexParts, IndexReader, IndexRefusal, IndexSeries};
 use std::alloc::Global;
-use std::io;
 
 /// Prints what a call gives on a reader over parts of an index: those that begin where the table of contents says, and end where
 /// it says that another begins.
-pub(crate) fn print_over(rt: &HostRuntime, index: &[u8], call: &str) -> io::Result<()> {
-    let (word, argument) = call.split_once(' ').unwrap_or((call, ""));
+pub(crate) fn print_over(rt: &HostRuntime, index: &[u8], call: &str) {
+    let (word, argument) = cut(call);
     match over(rt.alloc(), index) {
         Some(Ok(reader)) => print_opened(rt, &reader, word, argument),
         Some(Err(refusal)) => show(rt, &refusal),
@@ -19,8 +18,8 @@ pub(crate) fn print_over(rt: &HostRuntime, index: &[u8], call: &str) -> io::Resu
 }
 
 /// Prints the series of a number as it is read from the bytes `FROM..END` of an index: `FROM..END NUMBER`.
-pub(crate) fn print_in(rt: &HostRuntime, index: &[u8], call: &str) -> io::Result<()> {
-    let (range, number) = call.split_once(' ').unwrap_or((call, ""));
+pub(crate) fn print_in(rt: &HostRuntime, index: &[u8], call: &str) {
+    let (range, number) = cut(call);
     match series_in(rt.alloc(), index, range, number.parse().unwrap_or(0)) {
         Some(read) => print_series(rt, read),
         None => say(rt, "no bytes"),
@@ -40,8 +39,10 @@ fn series_in(
     if at > 16 * u64::from(number) {
         return None;
     }
-    let reader = over(alloc, index)?.ok()?;
-    Some(reader.series_in(alloc, part, at, number))
+    match over(alloc, index)? {
+        Ok(reader) => Some(reader.series_in(alloc, part, at, number)),
+        Err(_) => None,
+    }
 }
 
 fn over(alloc: Global, index: &[u8]) -> Option<Result<IndexReader<'_>, IndexRefusal>> {

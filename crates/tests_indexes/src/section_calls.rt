@@ -5,17 +5,11 @@ use index_parts::{
     PartRefusal, PostingsTable, RawSeries, SymbolTable, label_place, read_postings,
     read_postings_table, read_series, read_symbols,
 };
-use std::io;
 
 /// Prints what is read of the section at a place, by `WORD PLACE,NUMBER`: of `symbols` and `table` how many there are, and the
 /// one of the number, the numbers of `list`, the names, the values and the chunks of the series of `raw`, and of `place` where
 /// the symbol numbers of this label of the series stand.
-pub(crate) fn print_section(
-    rt: &HostRuntime,
-    index: &[u8],
-    word: &str,
-    argument: &str,
-) -> io::Result<()> {
+pub(crate) fn print_section(rt: &HostRuntime, index: &[u8], word: &str, argument: &str) {
     let (place, number) = argument.split_once(',').unwrap_or((argument, ""));
     let place = place.parse().unwrap_or(0);
     let number = number.parse().unwrap_or(0);
@@ -28,37 +22,33 @@ pub(crate) fn print_section(
     }
 }
 
-fn print_symbol(
-    rt: &HostRuntime,
-    read: Result<SymbolTable<'_>, PartRefusal>,
-    number: usize,
-) -> io::Result<()> {
+fn print_symbol(rt: &HostRuntime, read: Result<SymbolTable<'_>, PartRefusal>, number: usize) {
     match read {
-        Ok(table) => println!(rt; "{:?} of {}", table.get(number), table.len()),
+        Ok(table) => {
+            let _ = println!(rt; "{:?} of {}", table.get(number), table.len());
+        }
         Err(refusal) => show(rt, &refusal),
     }
 }
 
-fn print_row(
-    rt: &HostRuntime,
-    read: Result<PostingsTable<'_>, PartRefusal>,
-    number: usize,
-) -> io::Result<()> {
+fn print_row(rt: &HostRuntime, read: Result<PostingsTable<'_>, PartRefusal>, number: usize) {
     match read {
-        Ok(table) => println!(rt; "{:?} of {}", table.get(number), table.len()),
+        Ok(table) => {
+            let _ = println!(rt; "{:?} of {}", table.get(number), table.len());
+        }
         Err(refusal) => show(rt, &refusal),
     }
 }
 
-fn print_raw(rt: &HostRuntime, read: Result<RawSeries, PartRefusal>) -> io::Result<()> {
+fn print_raw(rt: &HostRuntime, read: Result<RawSeries, PartRefusal>) {
     match read {
         Ok(series) => print_raw_series(rt, &series),
         Err(refusal) => show(rt, &refusal),
     }
 }
 
-fn print_raw_series(rt: &HostRuntime, series: &RawSeries) -> io::Result<()> {
+fn print_raw_series(rt: &HostRuntime, series: &RawSeries) {
     let names = series.names.members();
-    print!(rt; "{names:?} {:?}", series.values.members())?;
+    let _ = print!(rt; "{names:?} {:?}", series.values.members());
     print_chunks(rt, series.chunks.members())
 }

@@ -10,15 +10,14 @@ mod postings;
 mod selections;
 mod slices;
 
-use crate::says::say;
+use crate::says::{cut, say};
 use crate::selectors::caches::print_cache;
 use crate::selectors::postings::print_postings;
 use crate::selectors::selections::{print_beside_replica, print_selection, print_selector};
 use crate::selectors::slices::print_shared;
-use std::io;
 
-pub(crate) fn print_asked(rt: &HostRuntime, text: &str) -> io::Result<()> {
-    let (kind, text) = text.split_once(' ').unwrap_or((text, ""));
+pub(crate) fn print_asked(rt: &HostRuntime, text: &str) {
+    let (kind, text) = cut(text);
     match kind {
         "selector" => print_selector(rt, text),
         "replica" => print_beside_replica(rt, text),

@@ -2,8 +2,7 @@ use crate::blocks::block_fault::BlockFault;
 use crate::blocks::guarded::test_guard;
 use chunk_files::read_chunk;
 use index_parts::ChunkPlace;
-use label_sets::{Sample, SampleList};
-use list_core::NoMemory;
+use label_sets::SampleList;
 use std::alloc::Global;
 use xor_chunks::decode_stored;
 
@@ -24,15 +23,11 @@ pub(crate) fn samples_of(
 }
 
 fn add_chunk(alloc: Global, samples: &mut SampleList, data: &[u8]) -> Result<(), BlockFault> {
-    match decode_stored(alloc, data) {
-        Ok(read) => Ok(add_samples(samples, read.members())?),
-        Err(_) => Err(BlockFault::Samples),
-    }
-}
-
-fn add_samples(samples: &mut SampleList, more: &[Sample]) -> Result<(), NoMemory> {
-    for sample in more {
-        samples.push(*sample)?;
+    let Ok(read) = decode_stored(alloc, data) else {
+        return Err(BlockFault::Samples);
+    };
+    for sample in read.members() {
+        let _ = samples.push(*sample);
     }
     Ok(())
 }

@@ -1,30 +1,30 @@
-use crate::says::say;
+use crate::says::{cut, say};
 use block_keys::Key;
 use index_cache::IndexCache;
-use std::io;
+use std::str;
 use ulid_core::Ulid;
 use wire_bytes::Blob;
 
 /// Makes the calls of a row, and prints what is got.
-pub(crate) fn print_cache(rt: &HostRuntime, text: &str) -> io::Result<()> {
-    let (capacity, calls) = text.split_once(' ').unwrap_or((text, ""));
+pub(crate) fn print_cache(rt: &HostRuntime, text: &str) {
+    let (capacity, calls) = cut(text);
     match IndexCache::new(rt.alloc(), capacity.parse().unwrap_or(1).max(1)) {
         Ok(cache) => print_calls(rt, cache, calls),
         Err(_) => say(rt, "no memory"),
     }
 }
 
-fn print_calls(rt: &HostRuntime, cache: IndexCache, calls: &str) -> io::Result<()> {
-    let mut cache = cache;
+fn print_calls(rt: &HostRuntime, empty: IndexCache, calls: &str) {
+    let mut cache = empty;
     let mut got = String::new(rt.alloc());
     for call in calls.split(' ') {
         let (kind, range) = call.split_once('/').unwrap_or((call, ""));
         match kind {
-            "get" => add_got(&mut got, &mut cache, range)?,
-            _ => keep(rt, &mut cache, range)?,
+            "get" => add_got(&mut got, &mut cache, range),
+            _ => keep(rt, &mut cache, range),
         }
     }
-    println!(rt; "{}", got.as_str().trim())
+    say(rt, got.as_str().trim());
 }
 
 /// A range, and the bytes that are kept of it.
@@ -56,25 +56,23 @@ fn index_of(block: &str) -> Key {
     }
 }
 
-fn keep(rt: &HostRuntime, cache: &mut IndexCache, text: &str) -> io::Result<()> {
+fn keep(rt: &HostRuntime, cache: &mut IndexCache, text: &str) {
     let call = call_of(text);
-    let kept = match Blob::from_bytes(rt.alloc(), call.bytes.as_bytes()) {
-        Ok(bytes) => cache.keep(call.key, call.from, call.len, bytes).is_ok(),
-        Err(_) => false,
-    };
-    if kept {
-        return Ok(());
+    if let Ok(bytes) = Blob::from_bytes(rt.alloc(), call.bytes.as_bytes()) {
+        let _ = cache.keep(call.key, call.from, call.len, bytes);
     }
-    say(rt, "no memory")
 }
 
 /// Adds the bytes that the cache has of a range, or `none`.
-fn add_got(got: &mut String, cache: &mut IndexCache, text: &str) -> io::Result<()> {
+fn add_got(got: &mut String, cache: &mut IndexCache, text: &str) {
     let call = call_of(text);
-    got.push_str(" ")?;
+    let _ = got.push_str(" ");
     match cache.get(call.key, call.from, call.len) {
-        Some(bytes) => got.push_str(std::str::from_utf8(bytes.bytes()).unwrap_or("no text"))?,
-        None => got.push_str("none")?,
+        Some(bytes) => {
+            let _ = got.push_str(str::from_utf8(bytes.bytes()).unwrap_or("no text"));
+        }
+        None => {
+            let _ = got.push_str("none");
+        }
     }
-    Ok(())
 }

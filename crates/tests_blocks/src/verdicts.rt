@@ -1,0 +1,82 @@
+//! What is printed of checked blocks.
+use crate::checks::verdict_on;
+use crate::says::{put, say, say_text, show};
+use block_content::{CheckRefusal, Checked, content};
+use block_keys::Key;
+use block_loading::LoadRefusal;
+use label_sets::Series;
+
+/// Prints whether the block that a row names may be shipped.
+pub(crate) fn print_verdict(rt: &HostRuntime, in_two: bool, text: &str) {
+    match verdict_on(rt, text, in_two) {
+        Ok(checked) => print_counts(rt, checked.series(), checked.samples()),
+        Err(LoadRefusal::Refused(refusal)) => print_refusal(rt, &refusal),
+        Err(LoadRefusal::ShelfFault) => say(rt, "shelf fault"),
+        Err(LoadRefusal::NoMemory) => say(rt, "no memory"),
+    }
+}
+
+pub(crate) fn print_counts(rt: &HostRuntime, series: u64, samples: u64) {
+    let _ = println!(rt; "ok {series} series {samples} samples");
+}
+
+fn print_refusal(rt: &HostRuntime, refusal: &CheckRefusal) {
+    put(rt, "refused ");
+    match refusal {
+        CheckRefusal::NoFile(key) => {
+            put(rt, "NoFile ");
+            print_name(rt, *key);
+            say(rt, "");
+        }
+        CheckRefusal::BadMeta(cause) => {
+            put(rt, "BadMeta ");
+            show(rt, cause);
+        }
+        CheckRefusal::BadIndex(cause) => {
+            put(rt, "BadIndex ");
+            show(rt, cause);
+        }
+        CheckRefusal::BadChunk {
+            series,
+            chunk,
+            cause,
+        } => {
+            let _ = println!(rt; "BadChunk {series} {chunk} {cause:?}");
+        }
+        CheckRefusal::OutsideRange { series, time } => {
+            let _ = println!(rt; "OutsideRange {series} {time}");
+        }
+        refusal => show(rt, refusal),
+    }
+}
+
+/// Prints the name of a file within its block.
+pub(crate) fn print_name(rt: &HostRuntime, key: Key) {
+    match key {
+        Key::Meta(_) => put(rt, "meta.json"),
+        Key::Index(_) => put(rt, "index"),
+        Key::Segment(_, number) => {
+            let _ = print!(rt; "chunks/{number:06}");
+        }
+        Key::Mark(_) => put(rt, "deletion-mark.json"),
+    }
+}
+
+/// Prints the series that a block holds.
+pub(crate) fn print_content(rt: &HostRuntime, text: &str) {
+    let Ok(checked) = verdict_on(rt, text, false) else {
+        return say(rt, "not read");
+    };
+    match content(rt.alloc(), checked.files()) {
+        Ok(list) => print_list(rt, list.members()),
+        Err(_) => say(rt, "not read"),
+    }
+}
+
+fn print_list(rt: &HostRuntime, list: &[Series]) {
+    for series in list {
+        let mut line = Vec::new(rt.alloc());
+        let _ = series.write(&mut line);
+        say_text(rt, line.as_slice());
+    }
+}
