@@ -7,8 +7,8 @@ use label_sets::LabelSet;
 
 /// Prints what is shipped of the block that a row names, under its external labels.
 pub(crate) fn print_shipped(rt: &HostRuntime, text: &str) {
-    let (block, labels) = text.split_at(text.find(" {").unwrap_or(text.len()));
-    match LabelSet::read(rt.alloc(), labels.trim()) {
+    let (block, labels) = text.rsplit_once(' ').unwrap_or((text, ""));
+    match LabelSet::read(rt.alloc(), labels) {
         Ok((external, _)) => print_beside(rt, block, &external),
         Err(_) => say(rt, "no labels"),
     }

@@ -1,69 +1,61 @@
-use block_meta::{Meta, MetaRefusal};
-use group_planner::{GroupList, groups};
+use crate::metas::read_meta;
+use crate::says::{cut, put, put_number, say};
+use group_planner::{Group, groups};
 use label_sets::{Text, TextList};
 use moment_core::Moment;
-use std::alloc::{AllocError, Global};
-use std::io;
+use std::alloc::Global;
 use sync_filters::{Found, FoundList};
-use ulid_core::Ulid;
 
-/// Prints the groups of a row: of each its resolution, and the places of its blocks.
-pub(crate) fn print_groups(rt: &HostRuntime, text: &str) -> io::Result<()> {
-    match groups_of(rt.alloc(), text) {
-        Ok(groups) => print_each(rt, &groups),
-        Err(refusal) => println!(rt; " {refusal:?}"),
+/// Prints the groups of a row: of each its resolution, and the places of its blocks. The row is the name of the replica label and
+/// the blocks, whose ULIDs are their places.
+pub(crate) fn print_groups(rt: &HostRuntime, text: &str) {
+    let (replica, blocks) = cut(text);
+    let mut replicas = TextList::new(rt.alloc());
+    if let Ok(replica) = Text::from_str(rt.alloc(), replica) {
+        let _ = replicas.push(replica);
+    }
+    match groups(rt.alloc(), &found_in(rt.alloc(), blocks), &replicas) {
+        Ok(groups) => print_each(rt, groups.members()),
+        Err(_) => say(rt, " no memory"),
     }
 }
 
-fn print_each(rt: &HostRuntime, groups: &GroupList) -> io::Result<()> {
-    for group in groups.members() {
-        print!(rt; " {}:", group.resolution)?;
+fn print_each(rt: &HostRuntime, groups: &[Group]) {
+    for group in groups {
+        let _ = print!(rt; " {}:", group.resolution);
         for meta in group.members.members() {
-            print!(rt; " {}", meta.ulid.entropy())?;
+            put_number(rt, meta.ulid);
         }
-        print!(rt; ";")?;
+        put(rt, ";");
     }
-    println!(rt; "")
+    say(rt, "");
 }
 
-/// The row is the name of the replica label and the blocks, whose ULIDs are their places.
-fn groups_of(alloc: Global, text: &str) -> Result<GroupList, MetaRefusal> {
-    let (replica, text) = text.split_once(' ').unwrap_or((text, ""));
-    let mut replicas = TextList::new(alloc);
-    replicas.push(Text::from_str(alloc, replica)?)?;
+fn found_in(alloc: Global, text: &str) -> FoundList {
     let mut found = FoundList::new(alloc);
-    let mut place = 0u64;
     for word in text.split_ascii_whitespace() {
-        found.push(found_of(alloc, place, word)?)?;
-        place = place.saturating_add(1);
+        add_found(alloc, &mut found, word);
     }
-    Ok(groups(alloc, &found, &replicas)?)
+    found
 }
 
-fn found_of(alloc: Global, place: u64, word: &str) -> Result<Found, MetaRefusal> {
-    let none = Moment { ms: 0 };
-    let meta = match meta_text(alloc, place, word) {
-        Ok(text) => Meta::read(alloc, text.as_bytes())?,
-        Err(AllocError) => return Err(MetaRefusal::NoMemory),
-    };
-    Ok(Found {
-        ulid: meta.ulid,
-        mark: None,
-        mark_read: none,
-        meta,
-        meta_read: none,
-    })
-}
-
-/// A block is MIN;RESOLUTION;LABELS, and its labels are a JSON object.
-fn meta_text(alloc: Global, place: u64, word: &str) -> Result<String, AllocError> {
+/// Adds a block, which is MIN;RESOLUTION;LABELS. Its labels are a JSON object.
+fn add_found(alloc: Global, found: &mut FoundList, word: &str) {
     let (begin, rest) = word.split_once(';').unwrap_or((word, ""));
     let (resolution, labels) = rest.split_once(';').unwrap_or((rest, ""));
-    let ulid = Ulid::from_parts(0, u128::from(place))
-        .to_string(alloc)
-        .map_err(|_| AllocError)?;
-    let ulid = ulid.as_str();
-    format!(in alloc;
-        "{{\"version\":1,\"ulid\":\"{ulid}\",\"minTime\":{begin},\"maxTime\":1000,\"stats\":{{}},\"compaction\":{{\"level\":1,\"sources\":[\"{ulid}\"]}},\"thanos\":{{\"labels\":{labels},\"downsample\":{{\"resolution\":{resolution}}},\"source\":\"\"}}}}"
-    )
+    let Ok(members) = format!(in alloc;
+        ",\"thanos\":{{\"labels\":{labels},\"downsample\":{{\"resolution\":{resolution}}},\"source\":\"\"}}"
+    ) else {
+        return;
+    };
+    let none = Moment { ms: 0 };
+    if let Some(meta) = read_meta(alloc, found.len() as u64, begin, "1000", members.as_str()) {
+        let _ = found.push(Found {
+            ulid: meta.ulid,
+            mark: None,
+            mark_read: none,
+            meta,
+            meta_read: none,
+        });
+    }
 }

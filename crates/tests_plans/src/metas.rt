@@ -1,33 +1,36 @@
-use block_meta::{Meta, MetaRefusal};
+use block_meta::Meta;
 use group_planner::MetaList;
-use std::alloc::{AllocError, Global};
+use std::alloc::Global;
 use ulid_core::Ulid;
 
-/// The blocks of a row: each is MIN,MAX, and its ULID is its place in the row.
-pub(crate) fn metas_of(alloc: Global, text: &str) -> Result<MetaList, MetaRefusal> {
+/// The blocks of a row: each is MIN,MAX, and its ULID is its place in the row. A block that cannot be read is lacking.
+pub(crate) fn metas_of(alloc: Global, text: &str) -> MetaList {
     let mut metas = MetaList::new(alloc);
-    let mut place = 0u64;
     for word in text.split_ascii_whitespace() {
-        metas.push(meta_of(alloc, place, word)?)?;
-        place = place.saturating_add(1);
+        let (begin, end) = word.split_once(',').unwrap_or((word, ""));
+        if let Some(meta) = read_meta(alloc, metas.len() as u64, begin, end, "") {
+            let _ = metas.push(meta);
+        }
     }
-    Ok(metas)
+    metas
 }
 
-fn meta_of(alloc: Global, place: u64, times: &str) -> Result<Meta, MetaRefusal> {
-    match meta_text(alloc, place, times) {
-        Ok(text) => Meta::read(alloc, text.as_bytes()),
-        Err(AllocError) => Err(MetaRefusal::NoMemory),
-    }
-}
-
-fn meta_text(alloc: Global, place: u64, times: &str) -> Result<String, AllocError> {
-    let (begin, end) = times.split_once(',').unwrap_or((times, ""));
-    let ulid = Ulid::from_parts(0, u128::from(place))
-        .to_string(alloc)
-        .map_err(|_| AllocError)?;
+/// The block at a place, with these members behind those that each one has.
+pub(crate) fn read_meta(
+    alloc: Global,
+    place: u64,
+    begin: &str,
+    end: &str,
+    members: &str,
+) -> Option<Meta> {
+    let Ok(ulid) = Ulid::from_parts(0, u128::from(place)).to_string(alloc) else {
+        return None;
+    };
     let ulid = ulid.as_str();
-    format!(in alloc;
-        "{{\"version\":1,\"ulid\":\"{ulid}\",\"minTime\":{begin},\"maxTime\":{end},\"stats\":{{}},\"compaction\":{{\"level\":1,\"sources\":[\"{ulid}\"]}}}}"
-    )
+    let Ok(text) = format!(in alloc;
+        "{{\"version\":1,\"ulid\":\"{ulid}\",\"minTime\":{begin},\"maxTime\":{end},\"stats\":{{}},\"compaction\":{{\"level\":1,\"sources\":[\"{ulid}\"]}}{members}}}"
+    ) else {
+        return None;
+    };
+    Meta::read(alloc, text.as_bytes()).ok()
 }

@@ -1,0 +1,75 @@
+use crate::says::{put, put_number, say};
+use label_sets::{LabelSet, Sample, SampleList, Series, SeriesList};
+use querier::{Answer, Gather};
+use std::alloc::Global;
+use ulid_core::{Ulid, UlidList};
+
+/// Prints what is gathered. The row is the answers of gateways, in their order.
+pub(crate) fn print_gathered(rt: &HostRuntime, text: &str) {
+    let mut gather = Gather::new(rt.alloc());
+    for word in text.split_ascii_whitespace() {
+        add_answer(rt.alloc(), &mut gather, word);
+    }
+    match gather.finish() {
+        Ok(answer) => print_answer(rt, &answer),
+        Err(_) => say(rt, " no memory"),
+    }
+}
+
+fn print_answer(rt: &HostRuntime, answer: &Answer) {
+    for source in answer.sources.members() {
+        put_number(rt, *source);
+    }
+    put(rt, ";");
+    for series in answer.series.members() {
+        print_series(rt, series);
+    }
+    say(rt, "");
+}
+
+fn print_series(rt: &HostRuntime, series: &Series) {
+    put(rt, " ");
+    put(rt, series.labels.value("a").unwrap_or(""));
+    for sample in series.samples.members() {
+        let _ = print!(rt; ":{},{}", sample.time, sample.pattern);
+    }
+}
+
+/// Adds an answer, which is SOURCE,SOURCE;VALUE:TIME,PATTERN;VALUE:TIME,PATTERN
+fn add_answer(alloc: Global, gather: &mut Gather, word: &str) {
+    let (sources, samples) = word.split_once(';').unwrap_or((word, ""));
+    let mut series = SeriesList::new(alloc);
+    for sample in samples.split(';') {
+        if !sample.is_empty() {
+            add_series(alloc, &mut series, sample);
+        }
+    }
+    let _ = gather.add(&series, &sources_of(alloc, sources));
+}
+
+fn sources_of(alloc: Global, text: &str) -> UlidList {
+    let mut sources = UlidList::new(alloc);
+    for source in text.split(',') {
+        let _ = sources.push(Ulid::from_parts(0, u128::from(number_of(source))));
+    }
+    sources
+}
+
+/// Adds a series of one sample.
+fn add_series(alloc: Global, series: &mut SeriesList, text: &str) {
+    let (value, sample) = text.split_once(':').unwrap_or((text, ""));
+    let (time, pattern) = sample.split_once(',').unwrap_or((sample, ""));
+    let mut labels = LabelSet::empty(alloc);
+    let _ = labels.add("a", value);
+    let mut samples = SampleList::new(alloc);
+    let _ = samples.push(Sample {
+        time: i64::from(number_of(time)),
+        pattern: u64::from(number_of(pattern)),
+    });
+    let _ = series.push(Series { labels, samples });
+}
+
+/// A number of the row, which is small.
+fn number_of(text: &str) -> u32 {
+    text.parse().unwrap_or(0)
+}
