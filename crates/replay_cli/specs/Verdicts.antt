@@ -239,7 +239,14 @@ IsCheckDone around verdict = IsNoRun around × IsSomeAnd around.block (λ ulid. 
 -- what holds where memory was wanted
 abbrev pub IfShort : Verdict → Type 0 → Type 0
 IfShort NoMemory P = P
-IfShort other P = Unit {0}
+IfShort WordsRefused P = Unit {0}
+IfShort SourceFault P = Unit {0}
+IfShort (ScriptRefused refusal) P = Unit {0}
+IfShort SiteFault P = Unit {0}
+IfShort (NotEmpty name) P = Unit {0}
+IfShort (Full lines) P = Unit {0}
+IfShort (Report lines as_asked) P = Unit {0}
+IfShort (Checked block outcome) P = Unit {0}
 
 -- By what the words of a call ask for: the run of a script; or the check of a block; or they are no form of a call, and then the
 -- site is asked for nothing.
