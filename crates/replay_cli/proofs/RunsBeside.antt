@@ -22,9 +22,10 @@ use Rattle.script_running.specs.declared.came.Broken.{Broken}
 use Rattle.script_running.specs.declared.came.Broken.TheVariants as broken
 use Rattle.script_running.specs.declared.outcome.Outcome.{Outcome}
 use Rattle.replay_cli.specs.Reports.{activity_text}
-use Rattle.replay_cli.specs.InPhases.{IsInPhases, none_in_phases}
+use Rattle.replay_cli.specs.InPhases.{IsInPhases}
 use Rattle.replay_cli.specs.Verdicts.{IsRun, report_of, tasks_of}
 use Rattle.replay_cli.specs.declared.phases.Lines.{Lines}
+use Rattle.replay_cli.proofs.NoneInPhases.{none_in_phases}
 use Rattle.replay_cli.proofs.ToldLines.{told_none}
 use Rattle.replay_cli.specs.declared.verdict.Verdict.{Verdict}
 use Rattle.replay_cli.specs.declared.verdict.Verdict.TheVariants as verdict

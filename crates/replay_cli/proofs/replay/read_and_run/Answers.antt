@@ -1,12 +1,13 @@
 use Rattle.std.proofs.Common.{ap, sym, ◌∙◌}
 use Rattle.std.specs.Prelude.{Some, None, is_some}
-use Rattle.replay_cli.specs.InPhases.{IsInPhases, none_in_phases}
+use Rattle.replay_cli.specs.InPhases.{IsInPhases}
 use Rattle.replay_cli.specs.Kept.{IsUntouched}
 use Rattle.replay_cli.specs.Verdicts.{around_call}
 use Rattle.replay_cli.specs.Words.{named_by}
 use Rattle.replay_cli.specs.Progress.{tells_full}
 use Rattle.replay_cli.proofs.BucketAsked.{ended_asked}
 use Rattle.replay_cli.proofs.Checks.{handed_some}
+use Rattle.replay_cli.proofs.NoneInPhases.{none_in_phases}
 use Rattle.replay_cli.proofs.Unfailed.{short_of, unfailed_ended}
 use Rattle.replay_cli.proofs.Verdicts.{if_nothing, worked_run, worked_undone}
 use Rattle.replay_cli.proofs.replay.read_and_run.Goals as goal
