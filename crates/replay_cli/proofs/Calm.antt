@@ -82,7 +82,7 @@ at_rest contents faults setting None store back rests = tt
 at_rest contents faults setting (Some entries) None back rests = absurd back
 at_rest contents faults setting (Some entries) (Some b) back rests = (rests.0, trusted_is_honest contents faults setting entries b back rests.1, rests.2)
 
-calm_worked : (around : Around) (saying : Saying) (verdict : Verdict) (status : Status) → IsCalm around saying → IfSome around.journal Rests → IsWorked around verdict → IsSaid verdict saying status → IsGood around status
+calm_worked : {setting : Setting} (around : Around) (saying : Saying) (verdict : Verdict) (status : Status) → IsCalm around saying setting → IfSome around.journal Rests → IsWorked around verdict → IsSaid verdict saying status → IsGood around status
 calm_worked around saying WordsRefused status calm rests (inl (unread, none, unasked)) said = absurd unread
 calm_worked around saying WordsRefused status calm rests (inr run) said = absurd run.run
 calm_worked around saying SourceFault status calm rests (inl (unread, none, unasked)) said = absurd (calm.source unread)
@@ -109,7 +109,7 @@ calm_worked around saying (Checked block outcome) status calm rests (inl (unread
 calm_worked around saying (Checked block outcome) status calm rests (inr run) said = absurd run.run
 calm_worked around saying NoMemory status calm rests worked said = said_well around NoMemory saying status calm.sink (inr (inl refl)) said
 
-pub calm_end : (around : Around) (saying : Saying) (verdict : Verdict) (status : Status) → IsCalm around saying → IfSome around.journal Rests → IsCaused around verdict → IsSaid verdict saying status → IsGood around status
+pub calm_end : {setting : Setting} (around : Around) (saying : Saying) (verdict : Verdict) (status : Status) → IsCalm around saying setting → IfSome around.journal Rests → IsCaused around verdict → IsSaid verdict saying status → IsGood around status
 calm_end around saying verdict status calm rests (inl (run, none, worked), short) said = calm_worked around saying verdict status calm rests worked said
 calm_end around saying verdict status calm rests (inr (inl (no_run, checked, opened)), short) said = absurd (no_run.none calm.accepts)
 calm_end around saying verdict status calm rests (inr (inr (no_run, block, refused, unasked)), short) said = absurd (no_run.none calm.accepts)

@@ -308,19 +308,19 @@ IsBegun around = IsReady around ⊎ IsSomeAnd around.journal (λ entries. entrie
 abbrev pub IsTrusted : Setting → List Entry → Type 0
 IsTrusted setting entries = IsHonest entries ⊎ IsUnbroken setting entries
 
--- A call is calm: its words ask for a run, the run begins, nothing failed, and the journal is not full, and honest or unbroken.
-pub record IsCalm (around : Around) (saying : Saying) : Type 0 where
+-- A call is calm: its words ask for a run, the run begins, nothing failed, and the journal is not full, and honest or unbroken by
+-- this setting.
+pub record IsCalm (around : Around) (saying : Saying) (setting : Setting) : Type 0 where
   pub accepts : around.run
   pub begins : IsBegun around
   pub source : ¬ around.source_failed
   pub site : ¬ around.site_failed
   pub sink : ¬ Rose saying.faults_before saying.faults_after
-  pub setting : Setting
   pub journal : IfSome around.journal (λ entries. (¬ IsFull entries) × IsTrusted setting entries × (failed_count entries ≡ 0))
 
--- A calm call ends as asked, unless there is no memory. Only where its text asks for patterns may its script be refused for the
--- size of one: of which sizes `regex` builds a pattern, no definition says.
+-- A call that is calm by some setting ends as asked, unless there is no memory. Only where its text asks for patterns may its
+-- script be refused for the size of one: of which sizes `regex` builds a pattern, no definition says.
 abbrev pub EndsCalmly : Around → Saying → ℕ → Type 0
 EndsCalmly around saying status =
-    IsCalm around saying
+    (setting : Setting) → IsCalm around saying setting
     → (status ≡ 0) ⊎ (status ≡ 6) ⊎ ((status ≡ 2) × IsSomeAnd around.text (λ text. (number : ℕ) × HasPatternLine text number))

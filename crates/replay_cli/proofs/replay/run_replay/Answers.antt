@@ -26,8 +26,8 @@ returns-clause-calm g c =
     left_by c.into_run.result _ _ _ _ c.into_run.ensures.2
     (λ status journal store shelf. EndsCalmly (around_call IsInPhases g.R.Source.left g.R.Source.faults c.args.script.now c.come_to.new.script g.S.Site.buckets g.S.Site.next_bucket g.S.Site.shelves g.S.Site.next_shelf g.S.Site.faults (replay_word c.args.words.now) (replay_shelf c.args.words.now) None
     c.args.site.now c.come_to.new.site g.S.Store.Bucket.faults g.S.Files.Shelf.faults store shelf journal) (saying_to g.K.Sink.faults g.K.Sink.written c.args.out.now c.into_run.new.out) status)
-    (λ calm. calm_end _ _ c.come_to.result.conclusion.verdict c.into_run.ensures.0 calm
-    (at_rest g.S.Store.Bucket.contents g.S.Store.Bucket.faults calm.setting c.come_to.result.conclusion.journal c.come_to.result.conclusion.store c.come_to.ensures.back calm.journal)
+    (λ setting calm. calm_end _ _ c.come_to.result.conclusion.verdict c.into_run.ensures.0 calm
+    (at_rest g.S.Store.Bucket.contents g.S.Store.Bucket.faults setting c.come_to.result.conclusion.journal c.come_to.result.conclusion.store c.come_to.ensures.back calm.journal)
     c.come_to.ensures.cause c.into_run.ensures.1)
 
 pub returns-clause-handed : goal.returns-clause-handed
