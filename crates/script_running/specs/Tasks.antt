@@ -56,10 +56,13 @@ CameBy work None (Ok o) = ⊥
 CameBy work None (Err broken.Full) = Unit {0}
 CameBy work None (Err broken.NoMemory) = Unit {0}
 
--- the view that a sync leaves
+-- the view that a sync leaves: a sync that came to none, or was broken off, leaves what was seen before
 abbrev pub view_by : Option View → Option SyncEnd → Option View
 view_by before (Some (fetched.View view)) = Some view
-view_by before other = before
+view_by before (Some (fetched.Fault number)) = before
+view_by before (Some (fetched.Damaged number)) = before
+view_by before (Some fetched.TooMany) = before
+view_by before None = before
 
 -- a worker that holds this sees by this view
 abbrev pub Sees : Holding → Option View → Type 0
