@@ -27,14 +27,15 @@ fn print_beside(rt: &HostRuntime, block: &str, external: &LabelSet) {
 /// Prints the name and the size of each object, and the texts of metas.
 pub(crate) fn print_objects(rt: &HostRuntime, objects: &[Object]) {
     for object in objects {
-        print_object(rt, object.key, object.bytes.bytes());
+        print_object(rt, object);
     }
 }
 
-fn print_object(rt: &HostRuntime, key: Key, bytes: &[u8]) {
-    print_name(rt, key);
+fn print_object(rt: &HostRuntime, object: &Object) {
+    print_name(rt, object.key);
+    let bytes = object.bytes.bytes();
     let _ = println!(rt; " {}", bytes.len());
-    if matches!(key, Key::Meta(_)) {
+    if matches!(&object.key, Key::Meta(_)) {
         say_text(rt, bytes);
     }
 }

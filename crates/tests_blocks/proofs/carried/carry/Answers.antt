@@ -13,4 +13,4 @@ block_of-requires c =
     let back = to_z-of_z w64 c.time_of.result c.time_of.ensures.fits in
     let least = c.in-len1.len_at_least in
     let most = c.in-len1.len_below in
-    one_stored (plan_fields c.in_ok-plan.plan) c.args.bytes.now c.members.result.now _ _ _ (subst (IsText 8 c.args.bytes.now) (sym c.members.ensures) c.in-Ok.ensures.found) (omega (arith, least, most)) (back ∙ c.time_of.ensures.value) (back ∙ c.time_of.ensures.value) (c.is_within.ensures.0 c.if-not-is_within.false)
+    one_stored (plan_fields c.in-Some.plan) c.args.bytes.now c.members.result.now _ _ _ (subst (IsText 8 c.args.bytes.now) (sym c.members.ensures) c.in-Ok.ensures.found) (omega (arith, least, most)) (back ∙ c.time_of.ensures.value) (back ∙ c.time_of.ensures.value) (c.is_within.ensures.0 c.if-not-is_within.false)
