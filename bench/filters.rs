@@ -25,6 +25,17 @@ fn meta(block: usize, sources: &[u64]) -> String {
     )
 }
 
+/// Any 64 of 128 sources.
+fn any_64(random: &mut u64) -> Vec<u64> {
+    let mut all: Vec<u64> = (0..128).collect();
+    for place in 0..SOURCES {
+        *random = random.wrapping_mul(6_364_136_223_846_793_005).wrapping_add(1_442_695_040_888_963_407);
+        all.swap(place, place + (*random >> 33) as usize % (128 - place));
+    }
+    all.truncate(SOURCES);
+    all
+}
+
 /// The sources of a block, of one kind of bucket.
 fn sources(kind: &str, block: usize, random: &mut u64) -> Vec<u64> {
     let from = |first: usize| (first..first + SOURCES).map(|source| source as u64).collect();
@@ -38,13 +49,13 @@ fn sources(kind: &str, block: usize, random: &mut u64) -> Vec<u64> {
         // all blocks have the same sources
         "equal" => from(0),
         // any 64 of 128 sources, so that each is half of the blocks'
-        "dense" => {
-            let mut all: Vec<u64> = (0..128).collect();
-            for place in 0..SOURCES {
-                *random = random.wrapping_mul(6_364_136_223_846_793_005).wrapping_add(1_442_695_040_888_963_407);
-                all.swap(place, place + (*random >> 33) as usize % (128 - place));
-            }
-            all.truncate(SOURCES);
+        "dense" => any_64(random),
+        // of each list of sources all, three quarters, a half and a quarter, so that each but the first is covered by a larger one
+        "nested" => (0..SOURCES - block % 4 * 16).map(|source| (block / 4 * SOURCES + source) as u64).collect(),
+        // any 33 to 64 of 128 sources, so that each source is one of many larger blocks, of which none covers
+        "mixed" => {
+            let mut all = any_64(random);
+            all.truncate(33 + block % 32);
             all
         }
         // blocks of one source each, and above 63 of them one that has them all
@@ -75,7 +86,7 @@ fn seconds(metas: &str, times: u64, splits: u64, kept: u64) -> f64 {
 
 fn main() {
     const MORE: u64 = 10;
-    for kind in ["own", "windows", "pairs", "equal", "dense", "levels"] {
+    for kind in ["own", "windows", "pairs", "equal", "dense", "nested", "levels", "mixed"] {
         for count in [1024usize, 4096] {
             let (mut metas, mut length, mut random) = (String::new(), 0, 1u64);
             for block in 0..count {
@@ -87,6 +98,7 @@ fn main() {
                 "pairs" => count / 2,
                 "equal" => 1,
                 "levels" => count / SOURCES,
+                "nested" => count / 4,
                 _ => count,
             } as u64;
             let split = seconds(&metas, MORE + 1, 1, kept * (MORE + 1)) - seconds(&metas, 1, 1, kept);

@@ -1,5 +1,5 @@
 #!/usr/bin/env bash
-# Times the proved splitting of blocks that are covered and that are not, over 1,024 and 4,096 blocks of 64 sources each, and
+# Times the proved splitting of blocks that are covered and that are not, over 1,024 and 4,096 blocks of up to 64 sources each, and
 # prints a table of processor nanoseconds a source, and whether four times as many blocks take at most twice as long a source.
 # CPU names the processor that the proved code is built for.
 set -euo pipefail
@@ -30,8 +30,11 @@ END {
     row("two blocks of each list", "pairs", 2)
     row("the same for all", "equal", 2)
     row("any 64 of 128", "dense", 2)
+    row("all, 48, 32 and 16 of each list of 64", "nested", 2)
     # two sources a block, so that moving the blocks themselves counts
     row("63 blocks of one source below one of 64", "levels", "none")
+    # each source is one of many larger blocks that do not cover
+    row("any 33 to 64 of 128", "mixed", "none")
     print missed ? "\nMissed: " missed : "\nEvery bar is met."
 }
 function row(title, name, bar,   few, many) {
