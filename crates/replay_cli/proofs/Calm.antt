@@ -33,7 +33,7 @@ IsGood around status = (number_of status ≡ 0) ⊎ (number_of status ≡ 6) ⊎
 said_well : (around : Around) (verdict : Verdict) (saying : Saying) (status : Status) → ¬ Rose saying.faults_before saying.faults_after → IsGood around (status_of verdict) → IsSaid verdict saying status → IsGood around status
 said_well around verdict saying status sink good (inl (is, added)) = subst (IsGood around) (sym is) good
 said_well around verdict saying status sink good (inr (inl (is, other, rose, part))) = absurd (sink rose)
-said_well around verdict saying status sink good (inr (inr (is, kept, same))) = inr (inl (ap number_of is))
+said_well around verdict saying status sink good (inr (inr (is, mute, kept, same))) = inr (inl (ap number_of is))
 
 -- what holds if there is a journal, and what there is
 joined : (o : Option (List Entry)) (P Q : List Entry → Type 0) → IfSome o P → IsSomeAnd o Q → (entries : List Entry) × P entries × Q entries

@@ -148,14 +148,14 @@ told_check : (files : Option Contents) (saying : Saying) (result : Status) (bloc
 told_check files saying result block own outcome same is (inl (of, added)) =
     λ number. (outcome, is, ap number_of of, subst (λ (b : ℕ). saying.written_after ≡ option_map (λ bytes. bytes ++ check_line b outcome) saying.written_before) same added)
 told_check files saying result block own outcome same is (inr (inl (failed, some, rose, part))) = λ number. absurd (no_check result status.SinkFault failed (λ e. absurd (cc (e))) (λ e. absurd (cc (e))) number)
-told_check files saying result block own outcome same is (inr (inr (short, kept, none))) = λ number. absurd (no_check result status.NoMemory short (λ e. absurd (cc (e))) (λ e. absurd (cc (e))) number)
+told_check files saying result block own outcome same is (inr (inr (short, mute, kept, none))) = λ number. absurd (no_check result status.NoMemory short (λ e. absurd (cc (e))) (λ e. absurd (cc (e))) number)
 
 -- a verdict whose status is none of a check
 other_said : (files : Option Contents) (saying : Saying) (verdict : Verdict) (result : Status) (block : ℕ) → (number_of (status_of verdict) ≡ 0 → ⊥) → (number_of (status_of verdict) ≡ 5 → ⊥) → IsSaid verdict saying result
     → IsCheckSaid files block saying (number_of result)
 other_said files saying verdict result block one two (inl (of, added)) = λ number. absurd (no_check result (status_of verdict) of one two number)
 other_said files saying verdict result block one two (inr (inl (failed, some, rose, part))) = λ number. absurd (no_check result status.SinkFault failed (λ e. absurd (cc (e))) (λ e. absurd (cc (e))) number)
-other_said files saying verdict result block one two (inr (inr (short, kept, none))) = λ number. absurd (no_check result status.NoMemory short (λ e. absurd (cc (e))) (λ e. absurd (cc (e))) number)
+other_said files saying verdict result block one two (inr (inr (short, mute, kept, none))) = λ number. absurd (no_check result status.NoMemory short (λ e. absurd (cc (e))) (λ e. absurd (cc (e))) number)
 
 said_check : (files : Option Contents) (failed : Type 0) (saying : Saying) (verdict : Verdict) (result : Status) (block : ℕ) → IsChecked files block failed verdict → IsSaid verdict saying result
     → IsCheckSaid files block saying (number_of result)

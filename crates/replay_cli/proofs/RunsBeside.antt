@@ -1,5 +1,5 @@
 -- What a run comes to whose phases' workers were beside each other.
-use Rattle.std.proofs.Common.{◌≡◌, ℕ, ◌+◌, List, [], ◌∷◌, ◌++◌, length, refl, sym, ◌∙◌, ap, subst, arith}
+use Rattle.std.proofs.Common.{◌≡◌, ◌≢◌, ℕ, ◌+◌, List, [], ◌∷◌, ◌++◌, length, refl, sym, ◌∙◌, ap, subst, arith}
 use Rattle.std.specs.Prelude.{Some, Result, Ok, Err}
 use Rattle.std.specs.List.{list_all}
 use Rattle.std.proofs.lemmas.List.{length-append}
@@ -17,12 +17,14 @@ use Rattle.lifecycle_core.specs.Tasks.{End}
 use Rattle.lifecycle_core.specs.Guarantees.{IsGuaranteedJournal}
 use Rattle.lifecycle_core.proofs.Assembling.{all_guaranteed, none_guaranteed}
 use Rattle.script_running.specs.Beside.{HasRunBeside}
+use Rattle.script_running.specs.Reporting.{TellsFirst}
 use Rattle.script_running.specs.Outcomes.{PhasesCame, TasksCame, is_as_asked}
 use Rattle.script_running.specs.declared.came.Broken.{Broken}
 use Rattle.script_running.specs.declared.came.Broken.TheVariants as broken
 use Rattle.script_running.specs.declared.outcome.Outcome.{Outcome}
 use Rattle.replay_cli.specs.Reports.{activity_text}
 use Rattle.replay_cli.specs.InPhases.{IsInPhases}
+use Rattle.replay_cli.specs.Telling.{AreLinesOf}
 use Rattle.replay_cli.specs.Verdicts.{IsRun, report_of, tasks_of}
 use Rattle.replay_cli.specs.declared.phases.Lines.{Lines}
 use Rattle.replay_cli.proofs.NoneInPhases.{none_in_phases}
@@ -59,6 +61,15 @@ count_phases script number (phase ∷ phases) (first ∷ later) outcomes (own, o
 lines_of_done : (script : Script) (done left : List Phase) (told : List (List (List End))) (outcomes : List Outcome) → script.phases ≡ done ++ left → PhasesCame script 0 done told outcomes → report_of script (tasks_of script.phases) outcomes ≡ report_of script (tasks_of done) outcomes
 lines_of_done script done left told outcomes is came =
     ap (λ (ts : List Task). report_of script ts outcomes) (ap tasks_of is ∙ flat_map-append (λ (phase : Phase). phase.tasks) done left) ∙ told_front script (tasks_of done) (tasks_of left) outcomes (count_phases script 0 done told outcomes came)
+
+-- what the lines of some first phases tell is the report of all, as far as there are outcomes
+lines_told : (script : Script) (lines : Lines) (outcomes : List Outcome) → TellsFirst AreLinesOf script lines outcomes
+    → (lines.text.items ≡ report_of script (tasks_of script.phases) outcomes) × (lines.as_asked ≡ list_all is_as_asked outcomes)
+lines_told script lines outcomes (done, left, is, are) = (
+  are.text ∙ sym (told_front script (tasks_of done) (tasks_of left) outcomes are.each)
+      ∙ ap (λ (ts : List Task). report_of script ts outcomes) (sym (ap tasks_of is ∙ flat_map-append (λ (phase : Phase). phase.tasks) done left)),
+  are.flag,
+)
 
 module _ (setting : Setting) (lawful : IsLawfulScript setting.script) (journal : List Entry) (outcomes : List Outcome) (report : Lines) (lines : report.text.items ≡ report_of setting.script (tasks_of setting.script.phases) outcomes) (flag : report.as_asked ≡ list_all is_as_asked outcomes) where
   -- the script was done to its end
@@ -100,12 +111,17 @@ pub short_beside : (setting : Setting) → IsLawfulScript setting.script → (jo
 short_beside setting lawful journal outcomes came r = ((r.ends, r.run, r.turns), (r.ends, r.run, r.turns, all_guaranteed setting journal r.ends lawful r.run))
 
 -- what a run beside comes to has its cause
-pub beside_told : (setting : Setting) → IsLawfulScript setting.script → (journal : List Entry) (outcomes : List Outcome) (report : Lines) → report.text.items ≡ report_of setting.script (tasks_of setting.script.phases) outcomes → report.as_asked ≡ list_all is_as_asked outcomes
-    → (came : Result (Unit {0}) Broken) (v : Verdict) → HasRunBeside setting journal outcomes came → (came ≡ Ok tt → v ≡ verdict.Report report.text report.as_asked) → (came ≡ Err broken.Full → v ≡ verdict.Full report.text) → (came ≡ Err broken.NoMemory → v ≡ verdict.NoMemory)
+pub beside_told : (setting : Setting) → IsLawfulScript setting.script → (journal : List Entry) (outcomes : List Outcome) (report : Lines) (came : Result (Unit {0}) Broken) (v : Verdict)
+    → (came ≢ Err broken.NoMemory → TellsFirst AreLinesOf setting.script report outcomes) → HasRunBeside setting journal outcomes came → (came ≡ Ok tt → v ≡ verdict.Report report.text report.as_asked) → (came ≡ Err broken.Full → v ≡ verdict.Full report.text) → (came ≡ Err broken.NoMemory → v ≡ verdict.NoMemory)
     → IsRun IsInPhases setting (Some nothing) ⊥ (Some journal) v
-beside_told setting lawful journal outcomes report lines flag (Ok done) v ran whole full none = subst (IsRun IsInPhases setting (Some nothing) ⊥ (Some journal)) (sym (whole refl)) (whole_beside setting lawful journal outcomes report lines flag ran)
-beside_told setting lawful journal outcomes report lines flag (Err broken.Full) v ran whole full none = subst (IsRun IsInPhases setting (Some nothing) ⊥ (Some journal)) (sym (full refl)) (full_beside setting lawful journal outcomes report lines flag ran)
-beside_told setting lawful journal outcomes report lines flag (Err broken.NoMemory) v ran whole full none = subst (IsRun IsInPhases setting (Some nothing) ⊥ (Some journal)) (sym (none refl)) (short_beside setting lawful journal outcomes (Err broken.NoMemory) ran)
+beside_told setting lawful journal outcomes report (Ok done) v told ran whole full none =
+    let t = lines_told setting.script report outcomes (told (λ e. absurd (cc (e)))) in
+    subst (IsRun IsInPhases setting (Some nothing) ⊥ (Some journal)) (sym (whole refl)) (whole_beside setting lawful journal outcomes report t.0 t.1 ran)
+beside_told setting lawful journal outcomes report (Err broken.Full) v told ran whole full none =
+    let t = lines_told setting.script report outcomes (told (λ e. absurd (cc (e)))) in
+    subst (IsRun IsInPhases setting (Some nothing) ⊥ (Some journal)) (sym (full refl)) (full_beside setting lawful journal outcomes report t.0 t.1 ran)
+beside_told setting lawful journal outcomes report (Err broken.NoMemory) v told ran whole full none =
+    subst (IsRun IsInPhases setting (Some nothing) ⊥ (Some journal)) (sym (none refl)) (short_beside setting lawful journal outcomes (Err broken.NoMemory) ran)
 
 -- nothing was begun
 pub none_beside : (setting : Setting) (journal : List Entry) → journal ≡ [] → IsRun IsInPhases setting (Some nothing) ⊥ (Some journal) verdict.NoMemory

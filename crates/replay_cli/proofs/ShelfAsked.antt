@@ -113,7 +113,7 @@ not_sink number sink (inr failed) = absurd (omega (arith, sink, failed))
 undecided : (v : Verdict) (saying : Saying) (result : Status) → IsSaid v saying result → IsBroken v → IsUndecided (number_of result)
 undecided v saying result (inl (is, added)) off = let n = ap number_of is in let m = broken_number v off in not_decided (number_of result) (omega (arith, n, m))
 undecided v saying result (inr (inl (is, other, rose, part))) off = not_sink (number_of result) (ap number_of is)
-undecided v saying result (inr (inr (is, kept, same))) off = let n : number_of result ≡ 6 = ap number_of is in not_decided (number_of result) (omega (arith, n))
+undecided v saying result (inr (inr (is, mute, kept, same))) off = let n : number_of result ≡ 6 = ap number_of is in not_decided (number_of result) (omega (arith, n))
 
 pub call_asked : {F : Type 0} (asked : F → Option (List (List ℕ))) (told : Option Contents) (block : Option ℕ) (shelf : Option F) (v : Verdict) (saying : Saying) (result : Status) → IsSaid v saying result
     → IfSome shelf (WasAskedFor asked told block (IsBroken v)) → IfSome shelf (WasAskedFor asked told block (IsUndecided (number_of result)))

@@ -4,10 +4,12 @@ pub mod CheckVerdicts
 pub mod InPhases
 pub mod Kept
 pub mod LineHands
+pub mod Noted
 pub mod Output
 pub mod Progress
 pub mod Reports
 pub mod Statuses
+pub mod Telling
 pub mod ToldAnswers
 pub mod Undone
 pub mod Verdicts

@@ -56,10 +56,46 @@ text_of SourceFault = codes "script read fault" ++ newline
 text_of (ScriptRefused refusal) = codes "script refused: " ++ refusal_text refusal ++ newline
 text_of SiteFault = codes "site fault" ++ newline
 text_of (NotEmpty name) = codes "bucket not empty: " ++ name ++ newline
-text_of (Full lines) = lines.items ++ codes "journal full" ++ newline
+text_of (Full lines) = lines.items ++ (codes "journal full" ++ newline)
 text_of (Report lines as_asked) = lines.items
 text_of (Checked block outcome) = check_line block outcome
 text_of NoMemory = []
+
+-- the last line of a text, where it is the same in each call
+abbrev pub last_of : Verdict → List ℕ
+last_of (Full lines) = codes "journal full" ++ newline
+last_of WordsRefused = []
+last_of SourceFault = []
+last_of (ScriptRefused refusal) = []
+last_of SiteFault = []
+last_of (NotEmpty name) = []
+last_of (Report lines as_asked) = []
+last_of (Checked block outcome) = []
+last_of NoMemory = []
+
+-- the text before that line
+abbrev pub first_of : Verdict → List ℕ
+first_of (Full lines) = lines.items
+first_of WordsRefused = text_of WordsRefused
+first_of SourceFault = text_of SourceFault
+first_of (ScriptRefused refusal) = text_of (ScriptRefused refusal)
+first_of SiteFault = text_of SiteFault
+first_of (NotEmpty name) = text_of (NotEmpty name)
+first_of (Report lines as_asked) = text_of (Report lines as_asked)
+first_of (Checked block outcome) = text_of (Checked block outcome)
+first_of NoMemory = text_of NoMemory
+
+-- the verdict of a run that brings its lines along
+abbrev pub has_lines : Verdict → Bool
+has_lines (Full lines) = true
+has_lines (Report lines as_asked) = true
+has_lines WordsRefused = false
+has_lines SourceFault = false
+has_lines (ScriptRefused refusal) = false
+has_lines SiteFault = false
+has_lines (NotEmpty name) = false
+has_lines (Checked block outcome) = false
+has_lines NoMemory = false
 
 -- ---- reports
 
@@ -278,12 +314,12 @@ abbrev pub IsAdded : List ℕ → Saying → Type 0
 IsAdded text saying = saying.written_after ≡ option_map (λ bytes. bytes ++ text) saying.written_before
 
 -- The verdict's text was written and its status is the call's; or the sink failed as it was written; or there was no memory for
--- it, and the sink was asked for nothing: it has not failed, and nothing was written.
+-- it, and the sink was asked for nothing: it has not failed, and nothing was written. The text of a run wants none.
 abbrev pub IsSaid : Verdict → Saying → Status → Type 0
 IsSaid verdict saying result =
     ((result ≡ status_of verdict) × IsAdded (text_of verdict) saying)
     ⊎ ((result ≡ status.SinkFault) × (verdict ≢ NoMemory) × Rose saying.faults_before saying.faults_after × IsWrittenInPart (text_of verdict) saying.written_before saying.written_after)
-    ⊎ ((result ≡ status.NoMemory) × (saying.faults_after ≡ saying.faults_before) × (saying.written_after ≡ saying.written_before))
+    ⊎ ((result ≡ status.NoMemory) × (has_lines verdict ≡ false) × (saying.faults_after ≡ saying.faults_before) × (saying.written_after ≡ saying.written_before))
 
 -- With the status of a check, the line of the block's check was written, and it tells how the check ended.
 abbrev pub IsCheckSaid : Option Contents → ℕ → Saying → ℕ → Type 0

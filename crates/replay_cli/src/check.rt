@@ -42,6 +42,7 @@ pub(crate) fn check_block<S: Site>(
         (IsBroken result.conclusion.verdict)) }
     ensures store { result.conclusion.store ≡ None }
     ensures journal { result.conclusion.journal ≡ None }
+    ensures note { result.note ≡ None }
 {
     match open_shelf(site, shelf) {
         Ok(files) => {
@@ -49,11 +50,13 @@ pub(crate) fn check_block<S: Site>(
             Ended {
                 conclusion: Conclusion::without_bucket(verdict),
                 shelf: files,
+                note: None,
             }
         }
         Err(refusal) => Ended {
             conclusion: Conclusion::without_bucket(refused(refusal)),
             shelf: None,
+            note: None,
         },
     }
 }

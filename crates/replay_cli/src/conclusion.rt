@@ -1,20 +1,23 @@
-ghost use Rattle.std.specs.Prelude.{◌≡◌, Some, None};
+ghost use Rattle.std.specs.Prelude.{◌≡◌, ◌++◌, OnErr, OnOk, Some, None, option_map};
+ghost use Rattle.bucket_core.specs.Causes.{Rose};
 ghost use Rattle.bucket_core.specs.Contents.{nothing};
 ghost use Rattle.replay_cli.specs.Kept.{IsHandedBack, IsUntouched};
+ghost use Rattle.replay_cli.specs.Output.{IsWrittenInPart};
 ghost use Rattle.replay_cli.specs.Statuses.{number_of};
 ghost use Rattle.replay_cli.specs.Verdicts.{IsSaid, saying_to};
 
 use crate::output::write_all;
-use crate::{Run, Status, Verdict};
+use crate::{Run, RunNote, SinkFault, Status, Verdict};
 use bucket_core::{Bucket, Sink};
 use std::alloc::Global;
 use world_core::{Journal, World};
 
-/// What a call comes to, with the shelf that the site handed out.
+/// What a call comes to, with the shelf that the site handed out, and the note of its run, where one began.
 #[derive(Drop)]
 pub(crate) struct Ended<B, F> {
     pub conclusion: Conclusion<B>,
     pub shelf: Option<F>,
+    pub note: Option<RunNote>,
 }
 
 /// A verdict, with the bucket that the site handed out and the journal over it.
@@ -35,15 +38,21 @@ impl<B, F> Ended<B, F> {
               journal = self.conclusion.journal;
               store = self.conclusion.store;
               shelf = self.shelf;
+              note = self.note;
             }) }
     {
-        let Ended { conclusion, shelf } = self;
+        let Ended {
+            conclusion,
+            shelf,
+            note,
+        } = self;
         let status = say(alloc, conclusion.verdict, out);
         Run {
             status: status.number(),
             journal: conclusion.journal,
             store: conclusion.store,
             shelf,
+            note,
         }
     }
 }
@@ -53,13 +62,26 @@ fn say<K: Sink>(alloc: Global, verdict: Verdict, out: &mut K) -> Status
     ensures { IsSaid verdict (saying_to K.faults K.written out.old out.new) result }
 {
     let status = verdict.status();
+    let last = verdict.last_line();
     let Ok(text) = verdict.into_text(alloc) else {
         return Status::NoMemory;
     };
-    match write_all(out, &text) {
+    match write_both(out, &text, last.as_bytes()) {
         Ok(()) => status,
         Err(_) => Status::SinkFault,
     }
+}
+
+/// Writes all of the one text, and then all of the other.
+fn write_both<K: Sink>(out: &mut K, first: &[u8], last: &[u8]) -> Result<(), SinkFault>
+    ensures whole { OnOk result (K.written out.new
+        ≡ option_map (λ before. before ++ (first.now ++ last.now)) (K.written out.old)) }
+    ensures part { OnErr result
+        (IsWrittenInPart (first.now ++ last.now) (K.written out.old) (K.written out.new)) }
+    ensures cause { OnErr result (Rose (K.faults out.old) (K.faults out.new)) }
+{
+    write_all(out, first)?;
+    write_all(out, last)
 }
 
 impl<B> Conclusion<B> {

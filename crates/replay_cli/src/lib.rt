@@ -14,13 +14,13 @@ mod phases;
 mod replay;
 mod report;
 mod run;
+mod run_note;
 mod runner;
 mod seats;
 mod standard;
 mod status;
 mod status_number;
 mod tasks;
-mod telling;
 mod tool;
 mod verdict;
 mod words;
@@ -35,6 +35,7 @@ pub use laws::{
 pub use output::{SinkFault, write_all};
 pub use replay::run_replay;
 pub use run::Run;
+pub use run_note::RunNote;
 pub use script_running::{
     NoAnswer, Outcome, OutcomeList, QueryOutcome, SyncOutcome, UploadOutcome,
 };

@@ -68,6 +68,13 @@ impl<B: Bucket> LineHand<B> {
         &self.world
     }
 
+    /// Whether an operation was answered that the journal is full.
+    pub(crate) fn refused(&self) -> bool
+        ensures { result ≡ self.now.refused }
+    {
+        self.refused
+    }
+
     /// Hands the world back.
     pub(crate) fn into_world(self) -> World<B>
         ensures { result ≡ self.world }

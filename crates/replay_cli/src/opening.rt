@@ -81,6 +81,7 @@ pub(crate) fn read_and_open<S: Site, R: Source>(
     ensures back { IfErr result
         (λ ended. IsHandedBack S.Store.contents S.Store.faults ended.conclusion.journal
         ended.conclusion.store) }
+    ensures unnoted { IfErr result (λ ended. ended.note ≡ None) }
     ensures untouched { IfErr result (λ ended. IfSome (S.next_bucket site.old bucket.now)
         (λ c. IsUntouched S.Store.contents c ended.conclusion.journal ended.conclusion.store)) }
     ensures back_asked { IfErr result
@@ -107,6 +108,7 @@ pub(crate) fn read_and_open<S: Site, R: Source>(
             Err(Ended {
                 conclusion: Conclusion::without_bucket(verdict),
                 shelf: None,
+                note: None,
             })
         }
     }
@@ -183,6 +185,7 @@ fn open_site<S: Site>(
     ensures back { IfErr result
         (λ ended. IsHandedBack S.Store.contents S.Store.faults ended.conclusion.journal
         ended.conclusion.store) }
+    ensures unnoted { IfErr result (λ ended. ended.note ≡ None) }
     ensures untouched { IfErr result (λ ended. IfSome (S.next_bucket site.old bucket.now)
         (λ c. IsUntouched S.Store.contents c ended.conclusion.journal ended.conclusion.store)) }
     ensures back_asked { IfErr result
@@ -199,6 +202,7 @@ fn open_site<S: Site>(
             Err(Ended {
                 conclusion: Conclusion::without_bucket(refused(refusal)),
                 shelf: None,
+                note: None,
             })
         }
     }
@@ -250,6 +254,7 @@ fn open_behind<S: Site>(
     ensures back { IfErr result
         (λ ended. IsHandedBack S.Store.contents S.Store.faults ended.conclusion.journal
         ended.conclusion.store) }
+    ensures unnoted { IfErr result (λ ended. ended.note ≡ None) }
     ensures untouched { IfErr result (λ ended. IfSome (S.Store.contents bucket)
         (λ c. IsUntouched S.Store.contents c ended.conclusion.journal ended.conclusion.store)) }
     ensures back_asked { IfErr result (λ ended. WasAsked S.Store.asked [] bucket
@@ -263,12 +268,17 @@ fn open_behind<S: Site>(
     match open_shelf(site, shelf) {
         Ok(shelf) => match open_world(alloc, script, bucket) {
             Ok(world) => Ok((world, shelf)),
-            Err(conclusion) => Err(Ended { conclusion, shelf }),
+            Err(conclusion) => Err(Ended {
+                conclusion,
+                shelf,
+                note: None,
+            }),
         },
         Err(refusal) => {
             Err(Ended {
                 conclusion: without_shelf(alloc, refusal, bucket),
                 shelf: None,
+                note: None,
             })
         }
     }

@@ -22,7 +22,7 @@ use crate::tasks::do_task;
 use bucket_core::Bucket;
 use list_core::{NoMemory, TryCopy};
 use script_core::{Phase, Script, Task};
-use script_running::{Broken, Outcome};
+use script_running::{Broken, Outcome, Report};
 use std::alloc::Global;
 use store_gateway::Gateway;
 use world_core::{Acted, Hand, Op};
@@ -227,6 +227,16 @@ impl Lines {
         put_activity(&mut self.text, script, task, outcome)?;
         self.as_asked = self.as_asked && outcome.is_as_asked();
         Ok(())
+    }
+}
+
+impl Report for Lines {
+    ghost use Rattle.replay_cli.specs.Telling.{AreLinesOf};
+
+    ghost tells = { AreLinesOf };
+
+    fn add(&mut self, script: &Script, task: &Task, outcome: &Outcome) -> Result<(), NoMemory> {
+        self.tell(script, task, outcome)
     }
 }
 

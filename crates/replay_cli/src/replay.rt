@@ -1,5 +1,6 @@
 ghost use Rattle.std.specs.Prelude.{◌≡◌, ◌≢◌, false, [], Some, None, IfSome, is_some};
 ghost use Rattle.replay_cli.specs.InPhases.{IsInPhases};
+ghost use Rattle.replay_cli.specs.Noted.{IsFullSaid, IsNoted};
 ghost use Rattle.replay_cli.specs.Kept.{IsHandedBack, IsHandedOut, IsNotAsked, IsShelfOf, IsUnfailed, IsUntouched, told_of};
 ghost use Rattle.replay_cli.specs.Asked.{IsBucketAsked, WasAsked};
 ghost use Rattle.replay_cli.specs.Progress.{tells_full};
@@ -34,7 +35,8 @@ where
     S::Store: Send,
     // The call comes to a verdict that has its cause, and says it. The journal is one of workers beside each other. Unless want
     // of memory is told or the full journal, the bucket was asked for what the journal shows, behind the page that opens it, and
-    // for nothing else.
+    // for nothing else. The note of the run is of its journal, and tells of an operation that was answered with the full journal
+    // just where the verdict does.
     ensures verdict { (verdict : Verdict) × (status : Status)
         × IsCaused
         (around_call IsInPhases R.left R.faults script.old script.new
@@ -45,7 +47,13 @@ where
         × IsSaid verdict (saying_to K.faults K.written out.old out.new) status
         × (result.status ≡ number_of status)
         × (verdict ≢ Verdict.NoMemory → tells_full verdict ≡ false
-        → IsBucketAsked S.Store.asked verdict result.journal result.store) }
+        → IsBucketAsked S.Store.asked verdict result.journal result.store)
+        × IsNoted verdict result.journal result.note }
+
+    // Where an operation of the run was answered that the journal is full, the status says that, unless the sink failed: want
+    // of memory is never told in its place.
+    ensures full { IfSome result.note (λ note. IsFullSaid note.full
+        (saying_to K.faults K.written out.old out.new) result.status) }
 
     // A calm call ends as asked, unless there is no memory, or a pattern of its script is too large.
     ensures calm { EndsCalmly
@@ -97,6 +105,7 @@ where
         → tells_full result.conclusion.verdict ≡ false
         → IsBucketAsked S.Store.asked result.conclusion.verdict result.conclusion.journal
         result.conclusion.store }
+    ensures noted { IsNoted result.conclusion.verdict result.conclusion.journal result.note }
     ensures untouched { IfSome (told_of (S.next_bucket site.old) (replay_word words.now))
         (λ c. IsUntouched S.Store.contents c result.conclusion.journal result.conclusion.store) }
     ensures closed { replay_word words.now ≡ None
@@ -110,6 +119,7 @@ where
         None => Ended {
             conclusion: Conclusion::without_bucket(Verdict::WordsRefused),
             shelf: None,
+            note: None,
         },
     }
 }
@@ -146,6 +156,7 @@ where
         → tells_full result.conclusion.verdict ≡ false
         → IsBucketAsked S.Store.asked result.conclusion.verdict result.conclusion.journal
         result.conclusion.store }
+    ensures noted { IsNoted result.conclusion.verdict result.conclusion.journal result.note }
     ensures untouched { IfSome (S.next_bucket site.old bucket.now)
         (λ c. IsUntouched S.Store.contents c result.conclusion.journal result.conclusion.store) }
     ensures shelf { IsShelfOf S.shelves S.next_shelf S.Files.files (named_by shelf.now)
@@ -160,10 +171,11 @@ where
                 shelf,
             },
         ) => {
-            let (verdict, world) = run_with_threads(rt, alloc, gate, &script, &text, world);
+            let (verdict, note, world) = run_with_threads(rt, alloc, gate, &script, &text, world);
             Ended {
                 conclusion: Conclusion::of_world(verdict, world),
                 shelf,
+                note,
             }
         }
         Err(ended) => ended,

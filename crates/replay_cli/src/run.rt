@@ -1,3 +1,4 @@
+use crate::RunNote;
 use world_core::Journal;
 
 /// What a call of the program leaves.
@@ -11,4 +12,6 @@ pub struct Run<B, F> {
     pub store: Option<B>,
     /// The shelf, where the site handed one out.
     pub shelf: Option<F>,
+    /// What the operations of its run were answered, where one began.
+    pub note: Option<RunNote>,
 }

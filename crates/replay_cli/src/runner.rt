@@ -9,19 +9,19 @@ ghost use Rattle.script_core.specs.Lawful.{IsLawfulScript};
 ghost use Rattle.script_core.specs.Reading.{script_of};
 ghost use Rattle.lifecycle_core.specs.InLine.{IsInLine};
 ghost use Rattle.lifecycle_core.specs.Setting.{setting_of};
-ghost use Rattle.script_running.specs.Beside.{HasRunBeside};
+ghost use Rattle.script_running.specs.Tasks.{is_full_came};
 ghost use Rattle.replay_cli.specs.InPhases.{IsInPhases};
+ghost use Rattle.replay_cli.specs.Noted.{IsNoted};
 ghost use Rattle.replay_cli.specs.Progress.{tells_full};
 ghost use Rattle.replay_cli.specs.Verdicts.{IsRun};
 
-use crate::Verdict;
 use crate::line_hand::LineHand;
 use crate::phases::{Lines, Progress, run_phases};
-use crate::telling::told_lines;
+use crate::{RunNote, Verdict};
 use bucket_core::Bucket;
 use phase_runner::Gate;
 use script_core::Script;
-use script_running::{Broken, RunEnd, run_beside};
+use script_running::{Broken, run_beside};
 use std::alloc::Global;
 use std::sync::Wait;
 use std::thread::Threads;
@@ -60,7 +60,8 @@ pub(crate) fn run_in_line<B: Bucket>(
     (verdict_of(came, progress.into_report()), hand)
 }
 
-/// Does the phases one after another, each with a thread for each of its workers. The text spells the script.
+/// Does the phases one after another, each with a thread for each of its workers. The text spells the script. The note of the
+/// operations comes with the verdict, unless nothing was begun.
 pub(crate) fn run_with_threads<B: Bucket + Send, G: Gate + Sync, T: Threads + Wait + Sync>(
     rt: &T,
     alloc: Global,
@@ -68,46 +69,46 @@ pub(crate) fn run_with_threads<B: Bucket + Send, G: Gate + Sync, T: Threads + Wa
     script: &Script,
     text: &[u8],
     world: World<B>,
-) -> (Verdict, World<B>)
+) -> (Verdict, Option<RunNote>, World<B>)
     requires lawful { IsLawfulScript script.now }
     requires spelled { script_of text.now ≡ Ok script.now }
     requires fresh { world.journal ≡ [] }
     requires tick { world.tick ≡ script.now.rules.tick.ms }
     ensures cause { IsRun IsInPhases (setting_of script.now) (Some nothing) ⊥
-        (Some result.1.journal) result.0 }
-    ensures unfailed { failed_count result.1.journal ≡ 0
-        → B.faults result.1.bucket ≡ B.faults world.bucket }
+        (Some result.2.journal) result.0 }
+    ensures unfailed { failed_count result.2.journal ≡ 0
+        → B.faults result.2.bucket ≡ B.faults world.bucket }
 
     // All that the bucket was asked is journaled if it was before, unless want of memory is told, or the full journal. (Where one
     // worker meets that, another may have wanted memory.)
     ensures all { result.0 ≢ Verdict.NoMemory → tells_full result.0 ≡ false
         → (before : List Call) → IsAllAsked B.asked before world
-        → IsAllAsked B.asked before result.1 }
+        → IsAllAsked B.asked before result.2 }
+
+    // The full journal is told just where an operation of the run was answered so. So want of memory is told only where none was.
+    ensures noted { IsNoted result.0 (Some result.2.journal) result.1 }
 {
-    match run_beside(rt, alloc, script, text, world, gate) {
-        Ok((end, closed)) => told_run(alloc, script, end, closed.into_world()),
-        Err(world) => (Verdict::NoMemory, world),
+    let mut report = Lines::new(alloc);
+    match run_beside(rt, alloc, script, text, world, gate, &mut report) {
+        Ok((end, closed)) => {
+            let note = RunNote::of_closed(&closed, is_full(end.came));
+            (
+                verdict_of(end.came, report),
+                Some(note),
+                closed.into_world(),
+            )
+        }
+        Err(world) => (Verdict::NoMemory, None, world),
     }
 }
 
-/// What a run with threads comes to, by how it came out. The world is the one that it left.
-fn told_run<B: Bucket>(
-    alloc: Global,
-    script: &Script,
-    end: RunEnd,
-    world: World<B>,
-) -> (Verdict, World<B>)
-    requires lawful { IsLawfulScript script.now }
-    requires ran { HasRunBeside (setting_of script.now) world.journal end.outcomes end.came }
-    ensures cause { IsRun IsInPhases (setting_of script.now) (Some nothing) ⊥
-        (Some result.1.journal) result.0 }
-    ensures whole { result.0 ≢ Verdict.NoMemory → tells_full result.0 ≡ false
-        → end.came ≡ Ok tt }
-    ensures same { result.1 ≡ world }
+/// Whether the full journal broke a run off.
+fn is_full(came: Result<(), Broken>) -> bool
+    ensures { result ≡ is_full_came came }
 {
-    match told_lines(alloc, script, end.outcomes.members()) {
-        Ok(report) => (verdict_of(end.came, report), world),
-        Err(_) => (Verdict::NoMemory, world),
+    match came {
+        Err(Broken::Full) => true,
+        Ok(()) | Err(Broken::NoMemory) => false,
     }
 }
 

@@ -1,5 +1,6 @@
 ghost use Rattle.std.specs.Prelude.{◌≡◌, ◌≢◌, ℕ, [], Some, None, IfSome, is_some};
 ghost use Rattle.replay_cli.specs.Checks.{files_of};
+ghost use Rattle.replay_cli.specs.Noted.{IsFullSaid, IsNoted};
 ghost use Rattle.replay_cli.specs.Kept.{IsHandedBack, IsHandedOut, IsNotAsked, IsShelfOf, IsUnfailed, IsUntouched, told_of};
 ghost use Rattle.replay_cli.specs.Asked.{IsBroken, IsBucketAsked, IsUndecided, WasAsked, WasAskedFor};
 ghost use Rattle.replay_cli.specs.Statuses.{number_of};
@@ -12,7 +13,7 @@ use crate::conclusion::{Conclusion, Ended};
 use crate::opening::{Ready, read_and_open};
 use crate::runner::run_in_line;
 use crate::words::{read_check, read_serial};
-use crate::{Run, Status, Verdict};
+use crate::{Run, RunNote, Status, Verdict};
 use bucket_core::{Sink, Site, Source};
 use std::alloc::Global;
 
@@ -28,7 +29,8 @@ pub fn run_tool<S: Site, R: Source, K: Sink>(
 ) -> Run<S::Store, S::Files>
     // The call comes to a verdict that has its cause, and says it: its status and its text, or that the sink failed or
     // memory ran out as it was said. Unless that is want of memory, the bucket was asked for what the journal shows, behind
-    // the page that opens it, and for nothing else.
+    // the page that opens it, and for nothing else. The note of the run is of its journal, and tells of an operation that was
+    // answered with the full journal just where the verdict does.
     ensures verdict { (verdict : Verdict) × (status : Status)
         × IsCaused
         (around_call IsInLine R.left R.faults script.old script.new
@@ -39,7 +41,13 @@ pub fn run_tool<S: Site, R: Source, K: Sink>(
         × IsSaid verdict (saying_to K.faults K.written out.old out.new) status
         × (result.status ≡ number_of status)
         × (verdict ≢ Verdict.NoMemory
-        → IsBucketAsked S.Store.asked verdict result.journal result.store) }
+        → IsBucketAsked S.Store.asked verdict result.journal result.store)
+        × IsNoted verdict result.journal result.note }
+
+    // Where an operation of the run was answered that the journal is full, the status says that, unless the sink failed: want
+    // of memory is never told in its place.
+    ensures full { IfSome result.note (λ note. IsFullSaid note.full
+        (saying_to K.faults K.written out.old out.new) result.status) }
 
     // A calm call ends as asked, unless there is no memory, or a pattern of its script is too large.
     ensures calm { EndsCalmly
@@ -106,6 +114,7 @@ fn come_to<S: Site, R: Source>(
         (λ c. IsUntouched S.Store.contents c result.conclusion.journal result.conclusion.store) }
     ensures closed { bucket_word words.now ≡ None
         → IsNotAsked S.buckets S.next_bucket site.old site.new }
+    ensures noted { IsNoted result.conclusion.verdict result.conclusion.journal result.note }
     ensures shelf { IsShelfOf S.shelves S.next_shelf S.Files.files (shelf_word words.now)
         site.old site.new result.shelf }
     ensures asked { IfSome result.shelf (WasAskedFor S.Files.asked
@@ -120,6 +129,7 @@ fn come_to<S: Site, R: Source>(
         None => Ended {
             conclusion: Conclusion::without_bucket(Verdict::WordsRefused),
             shelf: None,
+            note: None,
         },
     }
 }
@@ -151,6 +161,7 @@ fn read_and_run<S: Site, R: Source>(
     ensures asked_bucket { result.conclusion.verdict ≢ Verdict.NoMemory
         → IsBucketAsked S.Store.asked result.conclusion.verdict result.conclusion.journal
         result.conclusion.store }
+    ensures noted { IsNoted result.conclusion.verdict result.conclusion.journal result.note }
     ensures untouched { IfSome (S.next_bucket site.old bucket.now)
         (λ c. IsUntouched S.Store.contents c result.conclusion.journal result.conclusion.store) }
     ensures shelf { IsShelfOf S.shelves S.next_shelf S.Files.files (named_by shelf.now)
@@ -166,9 +177,11 @@ fn read_and_run<S: Site, R: Source>(
             },
         ) => {
             let (verdict, hand) = run_in_line(alloc, &script, world);
+            let note = RunNote::of_hand(&hand);
             Ended {
                 conclusion: Conclusion::of_world(verdict, hand.into_world()),
                 shelf,
+                note: Some(note),
             }
         }
         Err(ended) => ended,

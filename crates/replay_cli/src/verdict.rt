@@ -1,8 +1,8 @@
-ghost use Rattle.std.specs.Prelude.{◌≡◌, ◌≢◌, ◌++◌, ◌∷◌, [], codes, IfOk, OnOk};
+ghost use Rattle.std.specs.Prelude.{◌≡◌, ◌≢◌, ◌++◌, ◌∷◌, [], codes, false, IfOk, OnErr, OnOk};
 ghost use Rattle.replay_cli.specs.Checks.{check_line};
 ghost use Rattle.replay_cli.specs.Reports.{newline};
 ghost use Rattle.script_core.specs.Wording.{refusal_text};
-ghost use Rattle.replay_cli.specs.Verdicts.{status_of, text_of};
+ghost use Rattle.replay_cli.specs.Verdicts.{first_of, has_lines, last_of, status_of};
 
 use crate::report::put_check;
 use crate::{CheckOutcome, Status};
@@ -54,10 +54,21 @@ impl Verdict {
         }
     }
 
-    /// What is to be written. Want of memory has no words.
+    /// The line that is to be written last. It stands in the program.
+    pub(crate) fn last_line(&self) -> &'static str
+        ensures { result.now ≡ last_of self.now }
+    {
+        match self {
+            Verdict::Full(_) => "journal full\n",
+            _ => "",
+        }
+    }
+
+    /// What is to be written before the last line. Want of memory has no words. The lines of a run are there already.
     pub(crate) fn into_text(self, alloc: Global) -> Result<Vec<u8>, NoMemory>
-        ensures text { IfOk result (λ text. text.items ≡ text_of self) }
+        ensures text { IfOk result (λ text. text.items ≡ first_of self) }
         ensures words { OnOk result (self ≢ Verdict.NoMemory) }
+        ensures kept { OnErr result (has_lines self ≡ false) }
     {
         match self {
             Verdict::WordsRefused => line(alloc, "words refused"),
@@ -65,8 +76,7 @@ impl Verdict {
             Verdict::ScriptRefused(refusal) => refusal_line(alloc, refusal),
             Verdict::SiteFault => line(alloc, "site fault"),
             Verdict::NotEmpty(name) => name_line(alloc, &name),
-            Verdict::Full(lines) => with_full(lines),
-            Verdict::Report(lines, _) => Ok(lines),
+            Verdict::Full(lines) | Verdict::Report(lines, _) => Ok(lines),
             Verdict::Checked(block, outcome) => check_line(alloc, block, outcome),
             Verdict::NoMemory => Err(NoMemory),
         }
@@ -97,14 +107,6 @@ fn name_line(alloc: Global, name: &Text) -> Result<Vec<u8>, NoMemory>
     let mut text = Vec::from_slice(alloc, b"bucket not empty: ")?;
     text.extend_from_slice(name.as_str().as_bytes())?;
     text.push(b'\n')?;
-    Ok(text)
-}
-
-fn with_full(lines: Vec<u8>) -> Result<Vec<u8>, NoMemory>
-    ensures { IfOk result (λ text. text.items ≡ lines.items ++ codes "journal full" ++ newline) }
-{
-    let mut text = lines;
-    text.extend_from_slice(b"journal full\n")?;
     Ok(text)
 }
 

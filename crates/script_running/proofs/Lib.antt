@@ -19,3 +19,4 @@ pub mod Sending
 pub mod Phasing
 pub mod Running
 pub mod Refused
+pub mod Reporting

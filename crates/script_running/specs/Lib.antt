@@ -8,5 +8,6 @@ pub mod Ended
 pub mod Beside
 pub mod Going
 pub mod Gathering
+pub mod Reporting
 pub use Rattle.world_core.specs.Machines
 pub use Rattle.world_core.specs.Keeping

@@ -1,6 +1,6 @@
 //! A script's phases one after another, each with a thread for each of its workers.
 
-ghost use Rattle.std.specs.Prelude.{◌≡◌, ◌+◌, ◌<◌, ◌^◌, ◌||◌, List, [], None, Ok, Some, IfOk, IfErr, OnOk, false, length, slice_get, take};
+ghost use Rattle.std.specs.Prelude.{◌≡◌, ◌≢◌, ◌+◌, ◌++◌, ◌<◌, ◌^◌, ◌||◌, List, [], None, Ok, Err, Some, IfOk, IfErr, OnOk, false, length, slice_get, take};
 ghost use Rattle.std.specs.List.{All};
 ghost use Rattle.bucket_core.specs.Asking.{Call};
 ghost use Rattle.world_core.specs.Asking.{IsAllAsked};
@@ -8,8 +8,10 @@ ghost use Rattle.world_core.specs.Worlds.{failed_count};
 ghost use Rattle.script_core.specs.Lawful.{IsLawfulScript};
 ghost use Rattle.script_core.specs.Reading.{script_of};
 ghost use Rattle.script_core.specs.Workers.{seats_before};
+ghost use Rattle.script_workers.specs.declared.task.Task.{Task};
 ghost use Rattle.lifecycle_core.specs.Setting.{setting_of};
 ghost use Rattle.script_running.specs.Beside.{HasRunBeside};
+ghost use Rattle.script_running.specs.Reporting.{TellsFirst};
 ghost use Rattle.script_running.specs.Going.{HasCome, HasGone, IsClockSet};
 ghost use Rattle.script_running.specs.Tasks.{is_full_came};
 ghost use Rattle.world_turn.specs.Closing.{AllJoined};
@@ -17,7 +19,7 @@ ghost use Rattle.world_turn.specs.Passes.{table_of, view_of};
 ghost use Rattle.world_turn.specs.Turns.{IsLater, IsSame};
 
 use crate::gathering::{gather, jobs_of};
-use crate::{Broken, OutcomeList};
+use crate::{Broken, OutcomeList, Report};
 use bucket_core::Bucket;
 use list_core::NoMemory;
 use meta_fetcher::View;
@@ -48,18 +50,22 @@ struct Standing {
 
 /// Runs a script over a world: each phase's workers beside each other, and the phases one after another. No phase is begun
 /// after one that broke off. For want of memory nothing may be begun.
-pub fn run_beside<B: Bucket + Send, G: Gate + Sync, R: Threads + Wait + Sync>(
+///
+/// The tasks of a phase are added to the report when all its workers came to their ends, before the next phase is begun.
+pub fn run_beside<B: Bucket + Send, G: Gate + Sync, P: Report, R: Threads + Wait + Sync>(
     rt: &R,
     alloc: Global,
     script: &Script,
     text: &[u8],
     world: World<B>,
     gate: &G,
+    report: &mut P,
 ) -> Result<(RunEnd, Closed<B>), World<B>>
     requires lawful { IsLawfulScript script.now }
     requires spelled { script_of text.now ≡ Ok script.now }
     requires fresh { world.journal ≡ [] }
     requires tick { world.tick ≡ script.now.rules.tick.ms }
+    requires untold { P.tells report.old script.now [] [] }
     ensures ran { IfOk result (λ run. HasRunBeside (setting_of script.now) run.1.world.journal
         run.0.outcomes run.0.came) }
     ensures tick { IfOk result (λ run. run.1.world.tick ≡ world.tick) }
@@ -67,6 +73,10 @@ pub fn run_beside<B: Bucket + Send, G: Gate + Sync, R: Threads + Wait + Sync>(
     // The full journal is told just where a pass of the run met it. So want of memory is told only where none did.
     ensures refused { IfOk result
         (λ run. (view_of run.1.root.value).refused ≡ is_full_came run.0.came) }
+
+    // The report tells of the tasks of some first phases, unless memory was wanting: just those that have these outcomes.
+    ensures reported { IfOk result (λ run. run.0.came ≢ Err Broken.NoMemory
+        → TellsFirst P.tells script.now report.new run.0.outcomes) }
 
     // The bucket has failed no more often than before, unless the journal shows it.
     ensures unfailed { IfOk result (λ run. failed_count run.1.world.journal ≡ 0
@@ -93,6 +103,7 @@ pub fn run_beside<B: Bucket + Send, G: Gate + Sync, R: Threads + Wait + Sync>(
                 root,
                 gate,
                 &mut standing,
+                report,
             );
             let closed = shared.close(root);
             // what every world keeps, as this one does
@@ -127,7 +138,7 @@ impl Standing {
 
 /// Does the phases one after another, up to one that breaks off.
 #[tactic(auto, using(crate::proofs::Refused::on_tells, crate::proofs::Refused::off_tells, crate::proofs::Refused::all_tell))]
-fn run_phases<B: Bucket + Send, G: Gate + Sync, R: Threads + Wait + Sync>(
+fn run_phases<B: Bucket + Send, G: Gate + Sync, P: Report, R: Threads + Wait + Sync>(
     rt: &R,
     alloc: Global,
     script: &Script,
@@ -136,6 +147,7 @@ fn run_phases<B: Bucket + Send, G: Gate + Sync, R: Threads + Wait + Sync>(
     root: Pass,
     gate: &G,
     standing: &mut Standing,
+    report: &mut P,
 ) -> (Result<(), Broken>, Pass)
     requires lawful { IsLawfulScript script.now }
     requires spelled { script_of text.now ≡ Ok script.now }
@@ -145,6 +157,7 @@ fn run_phases<B: Bucket + Send, G: Gate + Sync, R: Threads + Wait + Sync>(
     requires all { AllJoined (view_of root) }
     requires gone { HasGone (setting_of script.now) (view_of root) [] standing.old.views.items
         standing.old.outcomes }
+    requires untold { P.tells report.old script.now [] standing.old.outcomes }
     ensures pass { (table_of result.1 ≡ table_of root) × (result.1.seat ≡ 0) }
     ensures tick { (view_of result.1).tick ≡ (view_of root).tick }
     ensures refused { (view_of result.1).refused
@@ -153,11 +166,13 @@ fn run_phases<B: Bucket + Send, G: Gate + Sync, R: Threads + Wait + Sync>(
     ensures all { AllJoined (view_of result.1) }
     ensures came { HasCome (setting_of script.now) (view_of result.1) script.now.phases
         standing.new.views.items standing.new.outcomes result.0 }
+    ensures reported { result.0 ≢ Err Broken.NoMemory
+        → TellsFirst P.tells script.now report.new standing.new.outcomes }
 {
     let mut root = root;
     for (place, phase) in script.phases.members().iter().enumerate() {
         let (came, next) = phase_beside(
-            rt, alloc, script, text, shared, root, gate, place, phase, standing,
+            rt, alloc, script, text, shared, root, gate, place, phase, standing, report,
         );
         root = next;
         if let Err(broken) = came {
@@ -168,7 +183,7 @@ fn run_phases<B: Bucket + Send, G: Gate + Sync, R: Threads + Wait + Sync>(
 }
 
 /// Sets the clock, and has the phase's workers do their tasks.
-fn phase_beside<B: Bucket + Send, G: Gate + Sync, R: Threads + Wait + Sync>(
+fn phase_beside<B: Bucket + Send, G: Gate + Sync, P: Report, R: Threads + Wait + Sync>(
     rt: &R,
     alloc: Global,
     script: &Script,
@@ -179,6 +194,7 @@ fn phase_beside<B: Bucket + Send, G: Gate + Sync, R: Threads + Wait + Sync>(
     place: usize,
     phase: &Phase,
     standing: &mut Standing,
+    report: &mut P,
 ) -> (Result<(), Broken>, Pass)
     requires lawful { IsLawfulScript script.now }
     requires spelled { script_of text.now ≡ Ok script.now }
@@ -199,6 +215,12 @@ fn phase_beside<B: Bucket + Send, G: Gate + Sync, R: Threads + Wait + Sync>(
     ensures came { HasCome (setting_of script.now) (view_of result.1)
         (take (place + 1) script.now.phases) standing.new.views.items standing.new.outcomes
         result.0 }
+    ensures reported { (before : List Task)
+        → P.tells report.old script.now before standing.old.outcomes
+        → OnOk result.0
+        (P.tells report.new script.now (before ++ phase.now.tasks) standing.new.outcomes) }
+    ensures unreported { result.0 ≡ Err Broken.Full
+        → (report.new ≡ report.old) × (standing.new.outcomes ≡ standing.old.outcomes) }
 {
     let Ok(staff) = script.workers_after(alloc, place, root.splits()) else {
         return (Err(Broken::NoMemory), root);
@@ -218,11 +240,13 @@ fn phase_beside<B: Bucket + Send, G: Gate + Sync, R: Threads + Wait + Sync>(
     }
     let came = gather(
         alloc,
+        script,
         phase.tasks.members(),
         workers,
         end.ends,
         &mut standing.views,
         &mut standing.outcomes,
+        report,
     );
     (came, end.root)
 }

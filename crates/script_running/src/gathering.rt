@@ -1,12 +1,13 @@
 //! The workers of a phase, sent with what their gateways see, and their ends, laid together in the order of the lines.
 
-ghost use Rattle.std.specs.Prelude.{◌≡◌, ◌≢◌, ◌<◌, ◌++◌, ℕ, List, Ok, Err, None, Some, IfOk, IfSome, MatchBool, OnOk, length, map, slice_get};
+ghost use Rattle.std.specs.Prelude.{◌≡◌, ◌≢◌, ◌<◌, ◌++◌, ◌∷◌, [], ℕ, List, Ok, Err, None, Some, IfOk, IfSome, MatchBool, OnOk, length, map, slice_get};
 ghost use Rattle.std.specs.List.{All, AllZip};
 ghost use Rattle.world_core.specs.declared.entry.Entry.{Entry};
 ghost use Rattle.script_core.specs.Lawful.{IsLawfulScript};
 ghost use Rattle.script_core.specs.Reading.{script_of};
 ghost use Rattle.script_core.specs.Workers.{workers_of};
 ghost use Rattle.script_workers.specs.declared.phase.Phase.{Phase};
+ghost use Rattle.script_workers.specs.declared.task.Task.{Task};
 ghost use Rattle.lifecycle_core.specs.Holdings.{Holding, Holdings};
 ghost use Rattle.lifecycle_core.specs.Setting.{Setting};
 ghost use Rattle.lifecycle_core.specs.Tasks.{End};
@@ -18,7 +19,7 @@ ghost use Rattle.script_running.specs.Going.{Met};
 ghost use Rattle.script_running.specs.Workers.{IsAtWork};
 ghost use Rattle.script_running.specs.Tasks.{is_full_came};
 
-use crate::{Broken, Outcome, OutcomeList, QueryOutcome, WorkerEnd, WorkerJob};
+use crate::{Broken, Outcome, OutcomeList, QueryOutcome, Report, WorkerEnd, WorkerJob};
 use label_sets::SeriesList;
 use list_core::{NoMemory, TryCopy};
 use meta_fetcher::View;
@@ -69,16 +70,19 @@ fn take_view(gateway: Option<u32>, views: &mut Vec<Option<View>>) -> Option<View
     }
 }
 
-/// Takes what each worker's gateway sees from now on, and where none was broken off, adds the outcomes of the phase's tasks.
+/// Takes what each worker's gateway sees from now on, and where none was broken off, adds the outcomes of the phase's tasks, also to
+/// the report.
 ///
 /// It takes memory only where no worker met the full journal, so that this is what is told of such a phase.
-pub(crate) fn gather(
+pub(crate) fn gather<P: Report>(
     alloc: Global,
+    script: &Script,
     tasks: &[Task],
     workers: &[Worker],
     ends: Vec<WorkerEnd>,
     views: &mut Vec<Option<View>>,
     outcomes: &mut OutcomeList,
+    report: &mut P,
 ) -> Result<(), Broken>
     requires many { length workers.now ≡ length ends.items }
     requires gateways { All
@@ -97,6 +101,10 @@ pub(crate) fn gather(
         → AreLeft before workers.now lasts after → AreSeenBeside before workers.now views.old.items
         → Gathers setting phase workers.now own ends.items after views.new.items outcomes.old
         outcomes.new result }
+    ensures reported { (before : List Task) → P.tells report.old script.now before outcomes.old
+        → OnOk result (P.tells report.new script.now (before ++ tasks.now) outcomes.new) }
+    ensures unreported { result ≡ Err Broken.Full
+        → (report.new ≡ report.old) × (outcomes.new ≡ outcomes.old) }
 {
     if any_full(&ends) {
         return Err(Broken::Full);
@@ -105,7 +113,7 @@ pub(crate) fn gather(
         return Err(Broken::NoMemory);
     };
     match take_in(workers, ends, views, &mut slots) {
-        Ok(()) => tell(alloc, slots, outcomes),
+        Ok(()) => tell(alloc, script, tasks, slots, outcomes, report),
         Err(broken) => Err(broken),
     }
 }
@@ -231,21 +239,46 @@ fn slots_for(alloc: Global, count: usize) -> Result<Vec<Option<Outcome>>, NoMemo
     Ok(slots)
 }
 
-/// Adds the outcomes in the order of their tasks.
-fn tell(
+/// Adds the outcomes in the order of their tasks, also to the report.
+fn tell<P: Report>(
     alloc: Global,
+    script: &Script,
+    tasks: &[Task],
     slots: Vec<Option<Outcome>>,
     outcomes: &mut OutcomeList,
+    report: &mut P,
 ) -> Result<(), Broken>
+    requires many { length slots.items ≡ length tasks.now }
     ensures told { OnOk result (outcomes.new ≡ outcomes.old ++ map told slots.items) }
     ensures why { result ≢ Err Broken.Full }
+    ensures reported { (before : List Task) → P.tells report.old script.now before outcomes.old
+        → OnOk result (P.tells report.new script.now (before ++ tasks.now) outcomes.new) }
 {
+    let mut place = 0;
     for slot in slots {
-        if outcomes.push(told(alloc, slot)).is_err() {
+        let outcome = told(alloc, slot);
+        if tell_one(script, &tasks[place], outcome, outcomes, report).is_err() {
             return Err(Broken::NoMemory);
         }
+        place += 1;
     }
     Ok(())
+}
+
+/// Adds the outcome of one task.
+fn tell_one<P: Report>(
+    script: &Script,
+    task: &Task,
+    outcome: Outcome,
+    outcomes: &mut OutcomeList,
+    report: &mut P,
+) -> Result<(), NoMemory>
+    ensures told { OnOk result (outcomes.new ≡ outcomes.old ++ outcome ∷ []) }
+    ensures reported { (before : List Task) → P.tells report.old script.now before outcomes.old
+        → OnOk result (P.tells report.new script.now (before ++ task.now ∷ []) outcomes.new) }
+{
+    report.add(script, task, &outcome)?;
+    outcomes.push(outcome)
 }
 
 /// How the task of a slot came out. A query that no gateway was asked answers nothing.

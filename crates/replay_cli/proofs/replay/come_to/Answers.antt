@@ -6,6 +6,8 @@ use Rattle.replay_cli.specs.Words.{named_by, replay_shelf, replay_word}
 use Rattle.replay_cli.specs.declared.words.Named.{Named}
 use Rattle.replay_cli.proofs.Checks.{caused_run, caused_words, not_named}
 use Rattle.replay_cli.proofs.BucketAsked.{none_asked}
+use Rattle.replay_cli.specs.Progress.{tells_full}
+use Rattle.replay_cli.proofs.Noted.{without_journal}
 use Rattle.replay_cli.proofs.Openings.{shelf_named, untouched_named}
 use Rattle.replay_cli.proofs.Verdicts.{is_named}
 use Rattle.replay_cli.specs.declared.verdict.Verdict.TheVariants.{WordsRefused}
@@ -56,3 +58,12 @@ returns-in-Some-clause-asked_bucket g c = c.read_and_run.ensures.asked_bucket
 pub returns-in-None-clause-asked_bucket : goal.returns-in-None-clause-asked_bucket
 returns-in-None-clause-asked_bucket g c = λ never told.
     none_asked g.S.Store.Bucket.asked c.without_bucket.result.verdict c.without_bucket.result.journal c.without_bucket.result.store c.without_bucket.ensures.journal
+
+-- ---- the note of a run
+
+pub returns-in-Some-clause-noted : goal.returns-in-Some-clause-noted
+returns-in-Some-clause-noted g c = c.read_and_run.ensures.noted
+
+pub returns-in-None-clause-noted : goal.returns-in-None-clause-noted
+returns-in-None-clause-noted g c =
+    without_journal c.without_bucket.result.verdict c.without_bucket.result.journal None refl c.without_bucket.ensures.journal (ap tells_full c.without_bucket.ensures.verdict)

@@ -8,6 +8,7 @@ use Rattle.replay_cli.specs.Progress.{tells_full}
 use Rattle.replay_cli.proofs.BucketAsked.{ended_asked}
 use Rattle.replay_cli.proofs.Checks.{handed_some}
 use Rattle.replay_cli.proofs.NoneInPhases.{none_in_phases}
+use Rattle.replay_cli.proofs.Noted.{noted_as, undone_noted}
 use Rattle.replay_cli.proofs.Unfailed.{short_of, unfailed_ended}
 use Rattle.replay_cli.proofs.Verdicts.{if_nothing, worked_run, worked_undone}
 use Rattle.replay_cli.proofs.replay.read_and_run.Goals as goal
@@ -20,7 +21,7 @@ returns-in-Ok-clause-cause g c =
     (around_call IsInPhases g.R.Source.left g.R.Source.faults c.args.script.now c.read_and_open.new.script g.S.Site.buckets g.S.Site.next_bucket g.S.Site.shelves g.S.Site.next_shelf g.S.Site.faults (Some c.args.bucket.now) (named_by c.args.shelf.now) None
     c.args.site.now c.read_and_open.new.site g.S.Store.Bucket.faults g.S.Files.Shelf.faults
     c.of_world.result.store c.in-Ok.field-0.shelf c.of_world.result.journal)
-    c.in-Ok.field-0.script c.run_with_threads-verdict.result.1.journal c.run_with_threads-verdict.result.0 c.of_world.result.verdict c.in-Ok.ensures.read c.in-Ok.ensures.lawful
+    c.in-Ok.field-0.script c.run_with_threads-verdict.result.2.journal c.run_with_threads-verdict.result.0 c.of_world.result.verdict c.in-Ok.ensures.read c.in-Ok.ensures.lawful
     (ap is_some c.of_world.ensures.store, c.in-Ok.ensures.opened) c.in-Ok.ensures.empty c.of_world.ensures.journal c.of_world.ensures.verdict c.run_with_threads-verdict.ensures.cause
 
 pub returns-in-Ok-clause-short : goal.returns-in-Ok-clause-short
@@ -28,13 +29,13 @@ returns-in-Ok-clause-short g c =
     short_of c.of_world.result.verdict _ (
       c.in-Ok.ensures.source,
       c.in-Ok.ensures.site,
-      unfailed_ended g.S.Store.Bucket.faults c.in-Ok.field-0.world c.run_with_threads-verdict.result.1 _ _ c.run_with_threads-verdict.ensures.unfailed c.in-Ok.ensures.unfailed c.of_world.ensures.journal c.of_world.ensures.store,
+      unfailed_ended g.S.Store.Bucket.faults c.in-Ok.field-0.world c.run_with_threads-verdict.result.2 _ _ c.run_with_threads-verdict.ensures.unfailed c.in-Ok.ensures.unfailed c.of_world.ensures.journal c.of_world.ensures.store,
       c.in-Ok.ensures.unread,
     )
 
 pub returns-in-Ok-clause-handed : goal.returns-in-Ok-clause-handed
 returns-in-Ok-clause-handed g c =
-    handed_some g.S.Site.buckets c.args.site.now c.read_and_open.new.site c.of_world.result.store c.run_with_threads-verdict.result.1.bucket c.of_world.ensures.store c.in-Ok.ensures.buckets
+    handed_some g.S.Site.buckets c.args.site.now c.read_and_open.new.site c.of_world.result.store c.run_with_threads-verdict.result.2.bucket c.of_world.ensures.store c.in-Ok.ensures.buckets
 
 pub returns-in-Ok-clause-kept : goal.returns-in-Ok-clause-kept
 returns-in-Ok-clause-kept g c = ap is_some c.of_world.ensures.journal ∙ sym (ap is_some c.of_world.ensures.store)
@@ -45,11 +46,23 @@ returns-in-Ok-clause-untouched g c =
 
 pub returns-in-Ok-clause-asked_bucket : goal.returns-in-Ok-clause-asked_bucket
 returns-in-Ok-clause-asked_bucket g c = λ never told.
-    ended_asked g.S.Store.Bucket.asked c.in-Ok.field-0.world c.run_with_threads-verdict.result.1 c.of_world.result.verdict c.of_world.result.journal c.of_world.result.store
+    ended_asked g.S.Store.Bucket.asked c.in-Ok.field-0.world c.run_with_threads-verdict.result.2 c.of_world.result.verdict c.of_world.result.journal c.of_world.result.store
     c.in-Ok.ensures.fresh c.in-Ok.ensures.asked (c.run_with_threads-verdict.ensures.all (λ is. never (c.of_world.ensures.verdict ∙ is)) (ap tells_full (sym c.of_world.ensures.verdict) ∙ told))
     c.of_world.ensures.journal c.of_world.ensures.store
 
+pub returns-in-Ok-clause-noted : goal.returns-in-Ok-clause-noted
+returns-in-Ok-clause-noted g c =
+    noted_as c.run_with_threads-verdict.result.0 c.of_world.result.verdict c.run_with_threads-verdict.result.2.journal c.of_world.result.journal c.run_with_threads-verdict.result.1 c.of_world.ensures.verdict c.of_world.ensures.journal c.run_with_threads-verdict.ensures.noted
+
 -- ---- a call that ended before
+
+pub returns-in-Err-clause-noted : goal.returns-in-Err-clause-noted
+returns-in-Err-clause-noted g c =
+    undone_noted
+    (around_call IsInPhases g.R.Source.left g.R.Source.faults c.args.script.now c.read_and_open.new.script g.S.Site.buckets g.S.Site.next_bucket g.S.Site.shelves g.S.Site.next_shelf g.S.Site.faults (Some c.args.bucket.now) (named_by c.args.shelf.now) None
+    c.args.site.now c.read_and_open.new.site g.S.Store.Bucket.faults g.S.Files.Shelf.faults
+    c.in-Err.ended.conclusion.store c.in-Err.ended.shelf c.in-Err.ended.conclusion.journal)
+    c.in-Err.ended.conclusion.verdict c.in-Err.ended.note c.in-Err.ensures.unnoted c.in-Err.ensures.cause
 
 pub returns-in-Err-clause-asked_bucket : goal.returns-in-Err-clause-asked_bucket
 returns-in-Err-clause-asked_bucket g c = λ never told. c.in-Err.ensures.back_asked never

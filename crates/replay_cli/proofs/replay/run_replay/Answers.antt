@@ -4,6 +4,7 @@ use Rattle.replay_cli.specs.InPhases.{IsInPhases}
 use Rattle.replay_cli.specs.Kept.{IsHandedBack, IsHandedOut, IsShelfOf, IsUntouched, told_of}
 use Rattle.replay_cli.specs.Asked.{IsBucketAsked, WasAsked}
 use Rattle.replay_cli.specs.Progress.{tells_full}
+use Rattle.replay_cli.specs.Noted.{IsFullSaid, IsNoted}
 use Rattle.replay_cli.specs.Statuses.{number_of}
 use Rattle.replay_cli.specs.Verdicts.{EndsCalmly, IsCaused, IsSaid, around_call, saying_to}
 use Rattle.replay_cli.specs.Words.{replay_shelf, replay_word}
@@ -12,56 +13,63 @@ use Rattle.replay_cli.specs.declared.verdict.Verdict.{Verdict}
 use Rattle.replay_cli.specs.declared.verdict.Verdict.TheVariants.{NoMemory}
 use Rattle.replay_cli.proofs.Calm.{at_rest, calm_end}
 use Rattle.replay_cli.proofs.Leaving.{left_by}
+use Rattle.replay_cli.proofs.Noted.{full_said}
 use Rattle.replay_cli.proofs.replay.run_replay.Goals as goal
 
 pub returns-clause-verdict : goal.returns-clause-verdict
 returns-clause-verdict g c =
-    left_by c.into_run.result _ _ _ _ c.into_run.ensures.2
-    (λ status journal store shelf. (verdict : Verdict) × (said : Status) × IsCaused (around_call IsInPhases g.R.Source.left g.R.Source.faults c.args.script.now c.come_to.new.script g.S.Site.buckets g.S.Site.next_bucket g.S.Site.shelves g.S.Site.next_shelf g.S.Site.faults (replay_word c.args.words.now) (replay_shelf c.args.words.now) None
-    c.args.site.now c.come_to.new.site g.S.Store.Bucket.faults g.S.Files.Shelf.faults store shelf journal) verdict × IsSaid verdict (saying_to g.K.Sink.faults g.K.Sink.written c.args.out.now c.into_run.new.out) said × (status ≡ number_of said) × (verdict ≢ NoMemory → tells_full verdict ≡ false → IsBucketAsked g.S.Store.Bucket.asked verdict journal store))
-    (c.come_to.result.conclusion.verdict, c.into_run.ensures.0, c.come_to.ensures.cause, c.into_run.ensures.1, refl, c.come_to.ensures.asked_bucket)
+    left_by c.into_run.result _ _ _ _ _ c.into_run.ensures.2
+    (λ status journal store shelf note. (verdict : Verdict) × (said : Status) × IsCaused (around_call IsInPhases g.R.Source.left g.R.Source.faults c.args.script.now c.come_to.new.script g.S.Site.buckets g.S.Site.next_bucket g.S.Site.shelves g.S.Site.next_shelf g.S.Site.faults (replay_word c.args.words.now) (replay_shelf c.args.words.now) None
+    c.args.site.now c.come_to.new.site g.S.Store.Bucket.faults g.S.Files.Shelf.faults store shelf journal) verdict × IsSaid verdict (saying_to g.K.Sink.faults g.K.Sink.written c.args.out.now c.into_run.new.out) said × (status ≡ number_of said) × (verdict ≢ NoMemory → tells_full verdict ≡ false → IsBucketAsked g.S.Store.Bucket.asked verdict journal store) × IsNoted verdict journal note)
+    (c.come_to.result.conclusion.verdict, c.into_run.ensures.0, c.come_to.ensures.cause, c.into_run.ensures.1, refl, c.come_to.ensures.asked_bucket, c.come_to.ensures.noted)
 
 pub returns-clause-calm : goal.returns-clause-calm
 returns-clause-calm g c =
-    left_by c.into_run.result _ _ _ _ c.into_run.ensures.2
-    (λ status journal store shelf. EndsCalmly (around_call IsInPhases g.R.Source.left g.R.Source.faults c.args.script.now c.come_to.new.script g.S.Site.buckets g.S.Site.next_bucket g.S.Site.shelves g.S.Site.next_shelf g.S.Site.faults (replay_word c.args.words.now) (replay_shelf c.args.words.now) None
+    left_by c.into_run.result _ _ _ _ _ c.into_run.ensures.2
+    (λ status journal store shelf note. EndsCalmly (around_call IsInPhases g.R.Source.left g.R.Source.faults c.args.script.now c.come_to.new.script g.S.Site.buckets g.S.Site.next_bucket g.S.Site.shelves g.S.Site.next_shelf g.S.Site.faults (replay_word c.args.words.now) (replay_shelf c.args.words.now) None
     c.args.site.now c.come_to.new.site g.S.Store.Bucket.faults g.S.Files.Shelf.faults store shelf journal) (saying_to g.K.Sink.faults g.K.Sink.written c.args.out.now c.into_run.new.out) status)
     (λ setting calm. calm_end _ _ c.come_to.result.conclusion.verdict c.into_run.ensures.0 calm
     (at_rest g.S.Store.Bucket.contents g.S.Store.Bucket.faults setting c.come_to.result.conclusion.journal c.come_to.result.conclusion.store c.come_to.ensures.back calm.journal)
     c.come_to.ensures.cause c.into_run.ensures.1)
 
+pub returns-clause-full : goal.returns-clause-full
+returns-clause-full g c =
+    left_by c.into_run.result _ _ _ _ _ c.into_run.ensures.2
+    (λ status journal store shelf note. IfSome note (λ n. IsFullSaid n.full (saying_to g.K.Sink.faults g.K.Sink.written c.args.out.now c.into_run.new.out) status))
+    (full_said c.come_to.result.conclusion.verdict _ c.into_run.ensures.0 c.come_to.result.conclusion.journal c.come_to.result.note c.come_to.ensures.noted c.into_run.ensures.1)
+
 pub returns-clause-handed : goal.returns-clause-handed
 returns-clause-handed g c =
-    left_by c.into_run.result _ _ _ _ c.into_run.ensures.2
-    (λ status journal store shelf. IsHandedOut g.S.Site.buckets c.args.site.now c.come_to.new.site store)
+    left_by c.into_run.result _ _ _ _ _ c.into_run.ensures.2
+    (λ status journal store shelf note. IsHandedOut g.S.Site.buckets c.args.site.now c.come_to.new.site store)
     c.come_to.ensures.handed
 
 pub returns-clause-kept : goal.returns-clause-kept
 returns-clause-kept g c =
-    left_by c.into_run.result _ _ _ _ c.into_run.ensures.2
-    (λ status journal store shelf. is_some journal ≡ is_some store)
+    left_by c.into_run.result _ _ _ _ _ c.into_run.ensures.2
+    (λ status journal store shelf note. is_some journal ≡ is_some store)
     c.come_to.ensures.kept
 
 pub returns-clause-back : goal.returns-clause-back
 returns-clause-back g c =
-    left_by c.into_run.result _ _ _ _ c.into_run.ensures.2
-    (λ status journal store shelf. IsHandedBack g.S.Store.Bucket.contents g.S.Store.Bucket.faults journal store)
+    left_by c.into_run.result _ _ _ _ _ c.into_run.ensures.2
+    (λ status journal store shelf note. IsHandedBack g.S.Store.Bucket.contents g.S.Store.Bucket.faults journal store)
     c.come_to.ensures.back
 
 pub returns-clause-untouched : goal.returns-clause-untouched
 returns-clause-untouched g c =
-    left_by c.into_run.result _ _ _ _ c.into_run.ensures.2
-    (λ status journal store shelf. IfSome (told_of (g.S.Site.next_bucket c.args.site.now) (replay_word c.args.words.now)) (λ k. IsUntouched g.S.Store.Bucket.contents k journal store))
+    left_by c.into_run.result _ _ _ _ _ c.into_run.ensures.2
+    (λ status journal store shelf note. IfSome (told_of (g.S.Site.next_bucket c.args.site.now) (replay_word c.args.words.now)) (λ k. IsUntouched g.S.Store.Bucket.contents k journal store))
     c.come_to.ensures.untouched
 
 pub returns-clause-shelf : goal.returns-clause-shelf
 returns-clause-shelf g c =
-    left_by c.into_run.result _ _ _ _ c.into_run.ensures.2
-    (λ status journal store shelf. IsShelfOf g.S.Site.shelves g.S.Site.next_shelf g.S.Files.Shelf.files (replay_shelf c.args.words.now) c.args.site.now c.come_to.new.site shelf)
+    left_by c.into_run.result _ _ _ _ _ c.into_run.ensures.2
+    (λ status journal store shelf note. IsShelfOf g.S.Site.shelves g.S.Site.next_shelf g.S.Files.Shelf.files (replay_shelf c.args.words.now) c.args.site.now c.come_to.new.site shelf)
     c.come_to.ensures.shelf
 
 pub returns-clause-asked : goal.returns-clause-asked
 returns-clause-asked g c =
-    left_by c.into_run.result _ _ _ _ c.into_run.ensures.2
-    (λ status journal store shelf. IfSome shelf (WasAsked g.S.Files.Shelf.asked []))
+    left_by c.into_run.result _ _ _ _ _ c.into_run.ensures.2
+    (λ status journal store shelf note. IfSome shelf (WasAsked g.S.Files.Shelf.asked []))
     c.come_to.ensures.asked

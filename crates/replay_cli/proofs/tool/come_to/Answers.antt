@@ -6,6 +6,8 @@ use Rattle.replay_cli.specs.Words.{block_word, bucket_word, named_by, shelf_word
 use Rattle.replay_cli.specs.declared.words.Named.{Named}
 use Rattle.replay_cli.proofs.Checks.{back_none, behind_map, caused_check, caused_run, caused_words, handed_none, not_named, untouched_none}
 use Rattle.replay_cli.proofs.BucketAsked.{none_asked}
+use Rattle.replay_cli.specs.Progress.{tells_full}
+use Rattle.replay_cli.proofs.Noted.{checked_tells, without_journal}
 use Rattle.replay_cli.proofs.Openings.{shelf_named, untouched_named}
 use Rattle.replay_cli.proofs.Verdicts.{is_named}
 use Rattle.replay_cli.specs.declared.verdict.Verdict.TheVariants.{WordsRefused}
@@ -112,3 +114,17 @@ returns-in-Some-read_check-clause-asked_bucket g c = λ never.
 pub returns-in-None-clause-asked_bucket : goal.returns-in-None-clause-asked_bucket
 returns-in-None-clause-asked_bucket g c = λ never.
     none_asked g.S.Store.Bucket.asked c.without_bucket.result.verdict c.without_bucket.result.journal c.without_bucket.result.store c.without_bucket.ensures.journal
+
+-- ---- the note of a run
+
+pub returns-in-Some-clause-noted : goal.returns-in-Some-clause-noted
+returns-in-Some-clause-noted g c = c.read_and_run.ensures.noted
+
+pub returns-in-Some-read_check-clause-noted : goal.returns-in-Some-read_check-clause-noted
+returns-in-Some-read_check-clause-noted g c =
+    without_journal c.check_block.result.conclusion.verdict c.check_block.result.conclusion.journal c.check_block.result.note c.check_block.ensures.note c.check_block.ensures.journal
+    (checked_tells _ _ _ c.check_block.result.conclusion.verdict c.check_block.ensures.cause)
+
+pub returns-in-None-clause-noted : goal.returns-in-None-clause-noted
+returns-in-None-clause-noted g c =
+    without_journal c.without_bucket.result.verdict c.without_bucket.result.journal None refl c.without_bucket.ensures.journal (ap tells_full c.without_bucket.ensures.verdict)

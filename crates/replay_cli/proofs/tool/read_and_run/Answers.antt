@@ -1,12 +1,15 @@
-use Rattle.std.proofs.Common.{ap, sym, ◌∙◌}
+use Rattle.std.proofs.Common.{List, ap, sym, ◌∙◌}
 use Rattle.std.specs.Prelude.{Some, None, is_some}
 use Rattle.lifecycle_core.specs.InLine.{IsInLine}
 use Rattle.lifecycle_core.proofs.phases.FirstPhases.{none_in_line}
+use Rattle.world_core.specs.declared.entry.Entry.{Entry}
 use Rattle.replay_cli.specs.Kept.{IsUntouched}
+use Rattle.replay_cli.specs.Progress.{tells_full}
 use Rattle.replay_cli.specs.Verdicts.{around_call}
 use Rattle.replay_cli.specs.Words.{named_by}
 use Rattle.replay_cli.proofs.BucketAsked.{ended_asked}
 use Rattle.replay_cli.proofs.Checks.{handed_some}
+use Rattle.replay_cli.proofs.Noted.{undone_noted}
 use Rattle.replay_cli.proofs.Unfailed.{short_of, unfailed_ended}
 use Rattle.replay_cli.proofs.Verdicts.{if_nothing, worked_run, worked_undone}
 use Rattle.replay_cli.proofs.tool.read_and_run.Goals as goal
@@ -49,7 +52,24 @@ returns-in-Ok-clause-asked_bucket g c = λ never.
     c.in-Ok.ensures.fresh c.in-Ok.ensures.asked (c.run_in_line-verdict.ensures.all (λ is. never (c.of_world.ensures.verdict ∙ is)))
     (c.of_world.ensures.journal ∙ ap (λ w. Some w.journal) c.into_world.ensures) (c.of_world.ensures.store ∙ ap (λ w. Some w.bucket) c.into_world.ensures)
 
+pub of_hand-note-requires : goal.of_hand-note-requires
+of_hand-note-requires g c = record { fresh = ap (λ w. w.journal) c.run_in_line-verdict.ensures.opened ∙ c.in-Ok.ensures.fresh }
+
+pub returns-in-Ok-clause-noted : goal.returns-in-Ok-clause-noted
+returns-in-Ok-clause-noted g c = (
+  c.of_world.ensures.journal ∙ ap (λ w. Some w.journal) c.into_world.ensures ∙ ap (λ (es : List Entry). Some es) (sym c.of_hand-note.ensures.journal),
+  c.of_hand-note.ensures.full ∙ c.run_in_line-verdict.ensures.refused ∙ ap tells_full (sym c.of_world.ensures.verdict),
+)
+
 -- ---- a call that ended before
+
+pub returns-in-Err-clause-noted : goal.returns-in-Err-clause-noted
+returns-in-Err-clause-noted g c =
+    undone_noted
+    (around_call IsInLine g.R.Source.left g.R.Source.faults c.args.script.now c.read_and_open.new.script g.S.Site.buckets g.S.Site.next_bucket g.S.Site.shelves g.S.Site.next_shelf g.S.Site.faults (Some c.args.bucket.now) (named_by c.args.shelf.now) None
+    c.args.site.now c.read_and_open.new.site g.S.Store.Bucket.faults g.S.Files.Shelf.faults
+    c.in-Err.ended.conclusion.store c.in-Err.ended.shelf c.in-Err.ended.conclusion.journal)
+    c.in-Err.ended.conclusion.verdict c.in-Err.ended.note c.in-Err.ensures.unnoted c.in-Err.ensures.cause
 
 pub returns-in-Err-clause-asked_bucket : goal.returns-in-Err-clause-asked_bucket
 returns-in-Err-clause-asked_bucket g c = c.in-Err.ensures.back_asked

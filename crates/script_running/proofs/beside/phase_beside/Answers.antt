@@ -1,5 +1,6 @@
-use Rattle.std.proofs.Common.{◌≡◌, ◌∙◌, ◌+◌, ℕ, List, length, [], ap, sym, subst, vec_len, arith}
-use Rattle.std.specs.Prelude.{Err}
+use Rattle.std.proofs.Common.{◌≡◌, ◌∙◌, ◌+◌, ◌++◌, ℕ, List, length, [], refl, ap, sym, subst, vec_len, arith}
+use Rattle.std.specs.Prelude.{Err, OnOk}
+use Rattle.script_workers.specs.declared.task.Task.{Task}
 use Rattle.world_core.specs.declared.entry.Entry.{Entry}
 use Rattle.world_turn.specs.Passes.{view_of}
 use Rattle.world_turn.specs.declared.pass.Pass.{Pass}
@@ -153,3 +154,36 @@ returns-clause-unwanted g c = λ done.
     phase_unwanted (view_of c.run_phase-end.result.root).wanted (view_of c.begin_phase-begun.result.1).wanted _
     (clock_unwanted c.args.phase.now (view_of c.args.root) (view_of c.begin_phase-begun.result.1) c.begin_phase-begun.result.0 c.begin_phase-begun.ensures.clock c.in_default-begun.is c.requires.unwanted)
     (come_unwanted c.run_phase-end.result.ends.items c.gather-came.result c.gather-came.ensures.came done) c.run_phase-end.ensures.wanted
+
+-- ---- what the report tells
+
+pub returns-in_default-clause-reported : goal.returns-in_default-clause-reported
+returns-in_default-clause-reported g c = λ before told. tt
+
+pub returns-in_default-clause-unreported : goal.returns-in_default-clause-unreported
+returns-in_default-clause-unreported g c = λ full. absurd (cc full)
+
+pub returns-in_default-jobs_of-clause-reported : goal.returns-in_default-jobs_of-clause-reported
+returns-in_default-jobs_of-clause-reported g c = λ before told. tt
+
+pub returns-in_default-jobs_of-clause-unreported : goal.returns-in_default-jobs_of-clause-unreported
+returns-in_default-jobs_of-clause-unreported g c = λ full. absurd (cc full)
+
+pub returns-in-Err-clause-reported : goal.returns-in-Err-clause-reported
+returns-in-Err-clause-reported g c = λ before told. tt
+
+pub returns-in-Err-clause-unreported : goal.returns-in-Err-clause-unreported
+returns-in-Err-clause-unreported g c = λ full. (refl, refl)
+
+pub returns-then-end-clause-reported : goal.returns-then-end-clause-reported
+returns-then-end-clause-reported g c = λ before told. tt
+
+pub returns-then-end-clause-unreported : goal.returns-then-end-clause-unreported
+returns-then-end-clause-unreported g c = λ full. absurd (cc full)
+
+pub returns-clause-reported : goal.returns-clause-reported
+returns-clause-reported g c = λ before told.
+    subst (λ (ts : List Task). OnOk c.gather-came.result (g.P.Report.tells c.gather-came.new.report c.args.script.now (before ++ ts) c.gather-came.new.outcomes)) c.members.ensures (c.gather-came.ensures.reported before told)
+
+pub returns-clause-unreported : goal.returns-clause-unreported
+returns-clause-unreported g c = c.gather-came.ensures.unreported

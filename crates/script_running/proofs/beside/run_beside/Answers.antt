@@ -1,4 +1,4 @@
-use Rattle.std.proofs.Common.{◌≡◌, ◌∙◌, ◌||◌, ℕ, List, sym, ap, subst}
+use Rattle.std.proofs.Common.{◌≡◌, ◌∙◌, ◌||◌, ℕ, List, [], sym, ap, subst}
 use Rattle.lifecycle_core.specs.Setting.{setting_of}
 use Rattle.world_core.specs.Asking.{IsAllAsked}
 use Rattle.world_core.specs.Worlds.{IsJournal}
@@ -7,6 +7,7 @@ use Rattle.world_turn.specs.Opening.{opening_of}
 use Rattle.world_turn.specs.Passes.{view_of}
 use Rattle.world_turn.specs.declared.pass.Pass.{Pass}
 use Rattle.script_running.specs.Tasks.{is_full_came}
+use Rattle.script_running.specs.declared.outcome.Outcome.{Outcome}
 use Rattle.script_running.proofs.Running.{first_gone, none_before, run_came}
 use Rattle.script_running.proofs.beside.run_beside.Goals as goal
 
@@ -42,3 +43,9 @@ run_phases-came-requires-clause-unwanted g c = λ κs lives. ap (λ v. v.wanted)
 pub returns-in-Ok-open-clause-all : goal.returns-in-Ok-open-clause-all
 returns-in-Ok-open-clause-all g c = λ done before was.
     c.close-closed.ensures.all (c.run_phases-came.ensures.unwanted done) before (subst (IsAllAsked g.B.Bucket.asked before) (sym c.in-Ok-open.ensures.opened) was)
+
+pub run_phases-came-requires-clause-untold : goal.run_phases-came-requires-clause-untold
+run_phases-came-requires-clause-untold g c = λ κs lives. subst (λ (os : List Outcome). g.P.Report.tells c.args.report.now c.args.script.now [] os) (sym c.in-Ok.ensures.empty) c.requires.untold
+
+pub returns-in-Ok-open-clause-reported : goal.returns-in-Ok-open-clause-reported
+returns-in-Ok-open-clause-reported g c = c.run_phases-came.ensures.reported

@@ -4,6 +4,7 @@ use Rattle.lifecycle_core.specs.Setting.{setting_of}
 use Rattle.world_turn.specs.Closing.{AllJoined}
 use Rattle.world_turn.specs.Passes.{table_of, view_of}
 use Rattle.script_running.specs.Going.{HasGone}
+use Rattle.script_running.proofs.Reporting.{tasks_in}
 use Rattle.script_running.proofs.beside.run_phases.Given as goal
 
 -- the phases so far are finished
@@ -16,5 +17,6 @@ invariant-loop-place g l = record {
   unwanted : (view_of l.root).wanted ≡ false;
   seats : l.root.splits ≡ seats_before l.script l.place;
   all : AllJoined (view_of l.root);
+  reported : g.P.Report.tells l.report l.script (tasks_in (take l.place l.script.phases)) l.standing.outcomes;
   gone : HasGone (setting_of l.script) (view_of l.root) (take l.place l.script.phases) l.standing.views.items l.standing.outcomes;
 }

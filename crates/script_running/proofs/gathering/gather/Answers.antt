@@ -10,24 +10,24 @@ use Rattle.script_running.proofs.Phasing.{if_false}
 use Rattle.script_running.proofs.gathering.gather.Goals as goal
 
 pub returns-in-Ok-take_in-clause-gathers : goal.returns-in-Ok-take_in-clause-gathers
-returns-in-Ok-take_in-clause-gathers c = λ setting number phase before after front kept own lasts lawful at tasks workers have left beside.
+returns-in-Ok-take_in-clause-gathers g c = λ setting number phase before after front kept own lasts lawful at tasks workers have left beside.
     came_whole setting number phase before after front c.args.workers.now kept own lasts c.args.ends.items c.args.views.now.items lawful at workers have left c.take_in.new.views.items beside c.in-Ok.slots.items c.take_in.new.slots.items
     (subst (HaveCome c.args.ends.items) c.in-Ok-take_in.is c.take_in.ensures.came) c.take_in.ensures.taken (c.in-Ok.ensures.wide ∙ ap length tasks) c.in-Ok.ensures.empty c.args.outcomes.now c.tell.new.outcomes c.tell.result c.tell.ensures.why c.tell.ensures.told
 
 pub returns-then-any_full-clause-gathers : goal.returns-then-any_full-clause-gathers
-returns-then-any_full-clause-gathers c = λ setting number phase before after front kept own lasts lawful at tasks workers have left beside.
+returns-then-any_full-clause-gathers g c = λ setting number phase before after front kept own lasts lawful at tasks workers have left beside.
     (refl, met_so c.any_full.result c.deref.result.now c.args.ends.items c.any_full.ensures c.if-any_full.true c.deref.ensures.value)
 
 pub returns-in-Ok-take_in-clause-came : goal.returns-in-Ok-take_in-clause-came
-returns-in-Ok-take_in-clause-came c =
+returns-in-Ok-take_in-clause-came g c =
     still_come c.args.ends.items c.tell.result (subst (HaveCome c.args.ends.items) c.in-Ok-take_in.is c.take_in.ensures.came) (if_false (Met broken.Full c.args.ends.items) c.any_full.result c.if-any_full.false (subst (λ (es : List WorkerEnd). MatchBool c.any_full.result (Met broken.Full es) (Met broken.NoMemory es)) c.deref.ensures.value c.any_full.ensures)) c.tell.ensures.why
 
 pub returns-in-Err-clause-came : goal.returns-in-Err-clause-came
-returns-in-Err-clause-came c = subst (HaveCome c.args.ends.items) c.in-Err.is c.take_in.ensures.came
+returns-in-Err-clause-came g c = subst (HaveCome c.args.ends.items) c.in-Err.is c.take_in.ensures.came
 
 pub returns-in_default-clause-came : goal.returns-in_default-clause-came
-returns-in_default-clause-came c =
+returns-in_default-clause-came g c =
     if_false (Met broken.Full c.args.ends.items) c.any_full.result c.if-any_full.false (subst (λ (es : List WorkerEnd). MatchBool c.any_full.result (Met broken.Full es) (Met broken.NoMemory es)) c.deref.ensures.value c.any_full.ensures)
 
 pub returns-then-any_full-clause-came : goal.returns-then-any_full-clause-came
-returns-then-any_full-clause-came c = met_so c.any_full.result c.deref.result.now c.args.ends.items c.any_full.ensures c.if-any_full.true c.deref.ensures.value
+returns-then-any_full-clause-came g c = met_so c.any_full.result c.deref.result.now c.args.ends.items c.any_full.ensures c.if-any_full.true c.deref.ensures.value

@@ -1,0 +1,19 @@
+-- What a call leaves of the answers to its run's operations, and what it says by them.
+use Rattle.std.specs.Prelude.{◌≡◌, ◌≢◌, ◌⊎◌, ℕ, Bool, true, false, List, [], Option, Some, None, IfSome}
+use Rattle.bucket_core.specs.Causes.{Rose}
+use Rattle.world_core.specs.declared.entry.Entry.{Entry}
+use Rattle.replay_cli.specs.Progress.{tells_full}
+use Rattle.replay_cli.specs.Verdicts.{Saying}
+use Rattle.replay_cli.specs.declared.run_note.RunNote.{RunNote}
+use Rattle.replay_cli.specs.declared.verdict.Verdict.{Verdict}
+
+-- The note is of the journal that is handed back, and an operation was answered that it is full just where the verdict tells that.
+-- Without a note no operation was done.
+abbrev pub IsNoted : Verdict → Option (List Entry) → Option RunNote → Type 0
+IsNoted verdict journal (Some note) = (journal ≡ Some note.journal.value) × (note.full ≡ tells_full verdict)
+IsNoted verdict journal None = IfSome journal (λ entries. entries ≡ []) × (tells_full verdict ≡ false)
+
+-- Where an operation was answered that the journal is full, the status is 8, or 4 as the sink failed. Else it is not 8.
+abbrev pub IsFullSaid : Bool → Saying → ℕ → Type 0
+IsFullSaid true saying number = (number ≡ 8) ⊎ ((number ≡ 4) × Rose saying.faults_before saying.faults_after)
+IsFullSaid false saying number = number ≢ 8
