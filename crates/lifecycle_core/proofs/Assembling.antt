@@ -1,4 +1,5 @@
 -- All that is guaranteed of a run, from what its entries tell, its views and its answers.
+use Rattle.list_core.proofs.Membership.{all_members, into_map}
 use Rattle.std.proofs.Common.{◌≡◌, ◌≢◌, ◌↔◌, inl, inr, ℕ, ℤ, Bool, List, [], ◌∷◌, ◌++◌, length, All, Contains, Option, Some, None, refl, sym, ◌∙◌, ap, subst, arith}
 use Rattle.std.specs.Prelude.{option_map, slice_get, count_by, get_or}
 use Rattle.std.specs.List.{AllZip, filter, flat_map}
@@ -7,7 +8,6 @@ use Rattle.std.proofs.lemmas.List.Elements.{All-contains, All-contains_itself, A
 use Rattle.std.proofs.lemmas.List.Sums.{length-filter}
 use Rattle.label_sets.specs.Triples.{Triple}
 use Rattle.label_sets.specs.declared.series.Series.{Series}
-use Rattle.matchers.specs.Selected.{IsQueryAnswer}
 use Rattle.matchers.specs.declared.matcher.Matcher.{Matcher}
 use Rattle.world_core.specs.Journals.{IsNumbered, entry_at}
 use Rattle.world_core.specs.Operations.{has_failed}
@@ -24,20 +24,21 @@ use Rattle.meta_fetcher.specs.declared.view.View.{View}
 use Rattle.store_gateway.specs.SeriesRuns.{Query as Question, SeriesRun}
 use Rattle.store_gateway.specs.declared.series_end.SeriesEnd.{SeriesEnd}
 use Rattle.store_gateway.specs.declared.series_end.SeriesEnd.TheVariants as called
+use Rattle.querier.specs.declared.ask.Ask.{Ask}
 use Rattle.script_core.specs.Lawful.{IsLawfulScript}
 use Rattle.script_workers.specs.declared.work.Work.{Work}
 use Rattle.script_workers.specs.declared.work.Work.TheVariants.{Upload, Sync, Query}
 use Rattle.lifecycle_core.specs.Causes.{AreFaultsShown, AreUndamaged, AreWell, IsDamaged, IsFault, IsWell, SomeCame}
 use Rattle.lifecycle_core.specs.Completed.{IsUploadedBefore}
 use Rattle.lifecycle_core.specs.Conducts.{Who, who_of}
-use Rattle.lifecycle_core.specs.Guarantees.{Answered, IsExact, IsGiven, IsGuaranteed, IsGuaranteedJournal, IsPartGiven, IsSound, LeavesNoneOut, Named, NamesAll, NamesUploads, asked_of}
+use Rattle.lifecycle_core.specs.Guarantees.{Answered, IsExact, IsGiven, IsGuaranteed, IsGuaranteedJournal, IsPartGiven, IsSound, LeavesNoneOut, Named, NamesAll, NamesUploads, ask_by, asked_of}
 use Rattle.lifecycle_core.specs.Held.{held}
 use Rattle.lifecycle_core.specs.Holdings.{Holding, Use}
 use Rattle.lifecycle_core.specs.Phases.{IsInTurn, IsRunOf}
 use Rattle.lifecycle_core.specs.Setting.{Setting}
 use Rattle.lifecycle_core.specs.SyncsAndCalls.{IsViewOf}
 use Rattle.lifecycle_core.specs.TimeRules.{IsSyncedInTime}
-use Rattle.lifecycle_core.specs.Tasks.{End, QueryTask, TaskRun, answered, asked_by, stopped, sync_rules, synced, uploaded, without_view}
+use Rattle.lifecycle_core.specs.Tasks.{End, PartTask, QueryTask, TaskRun, answered, ask_to, asks_in, not_asked, question_of, stopped, sync_rules, synced, uploaded, without_view}
 use Rattle.lifecycle_core.proofs.misses.Explaining.{honest_misses_nothing, misses_explained, parted, the_entry}
 use Rattle.lifecycle_core.proofs.answers.Joining.{joined}
 use Rattle.lifecycle_core.proofs.answers.ExactAnswers.{answer_is_exact, calls_undamaged, sources_are}
@@ -50,9 +51,9 @@ use Rattle.lifecycle_core.proofs.blocks.Readable.{is_readable}
 use Rattle.lifecycle_core.proofs.phases.TasksMade.{IsMadeBy, answers_are_made, ends_are_made}
 use Rattle.lifecycle_core.proofs.journals.Telling.{all_told, journal_rises}
 use Rattle.lifecycle_core.proofs.journals.TellingPuts.{PutsShipped, puts_are_shipped}
-use Rattle.lifecycle_core.proofs.journals.Told.{IsMade, IsOrigin, IsReadable, IsTold, IsTrueView, PutsTexts, Rises}
-use Rattle.lifecycle_core.proofs.phases.PhaseRuns.{zip_weaken}
-use Rattle.lifecycle_core.proofs.views.Metas.{puts_texts}
+use Rattle.lifecycle_core.proofs.journals.Told.{IsMade, IsOrigin, IsReadable, IsTold, IsTrueView, Rises}
+use Rattle.lifecycle_core.proofs.phases.PhaseRuns.{all_zip}
+use Rattle.lifecycle_core.proofs.phases.GatewayParts.{one_ask, part_ends}
 use Rattle.vertical_merge.specs.Merged.{IsDeduplication}
 use Rattle.label_sets.specs.Triples.{triples_of}
 use Rattle.script_core.specs.Workers.{workers_of}
@@ -86,6 +87,11 @@ query_shows (Some used) (Some asked) entries end number (Some own, run, same) is
     let e : end ≡ answered used own = cc (same) in
     call_shows used.view asked entries (Some own) run number (ap (λ x. Some x) (call_fault used own number (subst (λ (x : End). IsFault x number) e is)))
 
+part_shows : (setting : Setting) (selector : ℕ) (ask : Option Ask) (used : Option Use) (entries : List Entry) (end : End) (number : ℕ) → PartTask setting selector ask used entries (Some end) → IsFault end number → ShowsFault entries number
+part_shows setting selector None used entries end number (nil, inl none) is = absurd (cc (none))
+part_shows setting selector None used entries end number (nil, inr same) is = let e : end ≡ not_asked = cc (same) in absurd (subst (λ (x : End). IsFault x number) e is)
+part_shows setting selector (Some ask) used entries end number run is = query_shows used (question_of setting selector ask) entries end number run is
+
 task_shows : (setting : Setting) (who : Who) (place : ℕ) (w : Work) (held after : Holding) (entries : List Entry) (end : End) (number : ℕ) → TaskRun setting who place w held entries (Some end) after → IsFault end number → ShowsFault entries number
 task_shows setting who place (Upload ulid stop) held after entries end number ((block, declared_is, (objects, None, ships, run, inl (same, early))), left) is = absurd (cc (same))
 task_shows setting who place (Upload ulid stop) held after entries end number ((block, declared_is, (objects, Some own, ships, run, inl (same, early))), left) is =
@@ -97,7 +103,7 @@ task_shows setting who place (Sync gateway) held after entries end number (None,
 task_shows setting who place (Sync gateway) held after entries end number (Some own, run, same, left) is =
     let e : end ≡ synced own = cc (same) in
     sync_shows (sync_rules setting gateway) entries (Some own) run number (ap (λ x. Some x) (sync_fault own number (subst (λ (x : End). IsFault x number) e is)))
-task_shows setting who place (Query low high selector) held after entries end number (run, left) is = query_shows held.used (asked_by setting who.gateway selector low high) entries end number run is
+task_shows setting who place (Query low high selector) held after entries end number (run, left) is = part_shows setting selector (ask_to setting who.gateway low high) held.used entries end number run is
 
 shown_at : (journal : List Entry) (number : ℕ) → IsNumbered journal → (e : Entry) → Contains journal e → e.seq ≡ number → entry_at journal number ≡ Some e
 shown_at journal number numbered e among is =
@@ -141,6 +147,13 @@ query_undamaged (Some used) (Some asked) entries end calls (Some (called.Missing
 query_undamaged (Some used) (Some asked) entries end calls (Some (called.Fault n), run, same) is = let e : end ≡ answered used (called.Fault n) = cc (same) in subst IsDamaged e is
 query_undamaged (Some used) (Some asked) entries end calls (Some (called.Damaged n), run, same) is = calls used refl asked n run
 
+part_undamaged : (setting : Setting) (selector : ℕ) (ask : Option Ask) (view : Option Use) (entries : List Entry) (end : End)
+    → ((used : Use) → view ≡ Some used → (q : Question) (number : ℕ) → ¬ SeriesRun used.view q entries (Some (called.Damaged number)))
+    → PartTask setting selector ask view entries (Some end) → ¬ IsDamaged end
+part_undamaged setting selector None view entries end calls (nil, inl none) is = absurd (cc (none))
+part_undamaged setting selector None view entries end calls (nil, inr same) is = let e : end ≡ not_asked = cc (same) in subst IsDamaged e is
+part_undamaged setting selector (Some ask) view entries end calls run is = query_undamaged view (question_of setting selector ask) entries end calls run is
+
 task_undamaged : (setting : Setting) (who : Who) (place : ℕ) (w : Work) (held after : Holding) (entries : List Entry) (end : End)
     → ((gateway number : ℕ) → ¬ SyncRun (sync_rules setting gateway) entries (Some (fetched.Damaged number)))
     → ((used : Use) → held.used ≡ Some used → (q : Question) (number : ℕ) → ¬ SeriesRun used.view q entries (Some (called.Damaged number)))
@@ -153,7 +166,7 @@ task_undamaged setting who place (Sync gateway) held after entries end syncs cal
 task_undamaged setting who place (Sync gateway) held after entries end syncs calls (Some (fetched.Fault n), run, same, left) is = let e : end ≡ synced (fetched.Fault n) = cc (same) in subst IsDamaged e is
 task_undamaged setting who place (Sync gateway) held after entries end syncs calls (Some fetched.TooMany, run, same, left) is = let e : end ≡ synced fetched.TooMany = cc (same) in subst IsDamaged e is
 task_undamaged setting who place (Sync gateway) held after entries end syncs calls (Some (fetched.Damaged n), run, same, left) is = syncs gateway n run
-task_undamaged setting who place (Query low high selector) held after entries end syncs calls (run, left) is = query_undamaged held.used (asked_by setting who.gateway selector low high) entries end calls run is
+task_undamaged setting who place (Query low high selector) held after entries end syncs calls (run, left) is = part_undamaged setting selector (ask_to setting who.gateway low high) held.used entries end calls run is
 
 -- ---- every end is well
 
@@ -170,6 +183,7 @@ well (answered used (called.Missing n)) faults damaged missing few there = absur
 well (answered used (called.Damaged n)) faults damaged missing few there = absurd (damaged tt)
 well (answered used (called.Fault n)) faults damaged missing few there = absurd (faults n refl)
 well without_view faults damaged missing few there = absurd (there refl)
+well not_asked faults damaged missing few there = tt
 well (stopped n) faults damaged missing few there = tt
 
 -- ---- an answer
@@ -198,10 +212,12 @@ query_called setting (Some own) low high (Some matchers) entries used series sou
     }
 
 pub task_called : (setting : Setting) (who : Who) (place : ℕ) (w : Work) (held after : Holding) (entries : List Entry) (used : Use) (series : List Series) (sources : List ℕ) (low high : ℤ) (number : ℕ) (selector : List Matcher)
-    → w ≡ Query low high number → slice_get setting.script.selectors number ≡ Some selector → TaskRun setting who place w held entries (Some (answered used (called.Answer series sources))) after → Called setting held.used entries used series sources low high selector
+    → w ≡ Query low high number → slice_get setting.script.selectors number ≡ Some selector → TaskRun setting who place w held entries (Some (answered used (called.Answer series sources))) after
+    → (ask : Ask) × (ask_to setting who.gateway low high ≡ Some ask) × Called setting held.used entries used series sources ask.low ask.high selector
 task_called setting who place w held after entries used series sources low high number selector is selects run =
-    query_called setting held.used low high (slice_get setting.script.selectors number) entries used series sources selector selects
-    (subst (λ (x : Work). TaskRun setting who place x held entries (Some (answered used (called.Answer series sources))) after) is run).0
+    let by = (subst (λ (x : Work). TaskRun setting who place x held entries (Some (answered used (called.Answer series sources))) after) is run).0 in
+    let part = part_ends setting number (ask_to setting who.gateway low high) held.used entries (answered used (called.Answer series sources)) (λ no. cc (no)) by in
+    (part.0, part.1, query_called setting held.used part.0.low part.0.high (slice_get setting.script.selectors number) entries used series sources selector selects part.2)
 
 -- ---- an honest journal
 
@@ -215,11 +231,11 @@ module _ (setting : Setting) (journal : List Entry) (ends : List (List (List End
   told : All (IsTold setting journal) journal
   told = all_told setting journal ends lawful readable run honest
 
-  texts : PutsTexts journal
-  texts = puts_texts setting journal readable (λ e among. All-contains (PutsShipped setting) journal e (puts_are_shipped setting journal ends run) among)
+  puts_known : All (PutsShipped setting) journal
+  puts_known = puts_are_shipped setting journal ends run
 
   view_is_true : (used : Use) (origin : IsOrigin setting journal used) → IsTrueView setting journal origin.gateway used
-  view_is_true used origin = origin_is_true setting journal used lawful readable rising texts told origin
+  view_is_true used origin = origin_is_true setting journal used readable rising puts_known told origin
 
   undamaged : AreUndamaged ends
   undamaged end came =
@@ -230,34 +246,38 @@ module _ (setting : Setting) (journal : List Entry) (ends : List (List (List End
 
   module _ (query : Answered) (given : IsGiven setting ends query) where
     abbrev Part : Named → List Series → Type 0
-    Part = IsPartGiven (workers_of setting.script given.phase_number) given.phase_ends given.place given.low given.high
+    Part = IsPartGiven (workers_of setting.script given.phase_number) given.phase_ends given.place
 
     -- one gateway's part
-    module _ (named : Named) (series : List Series) (part : Part named series) where
-      made_by : IsMadeBy setting journal (who_of part.came.worker) given.task (answered named.used (called.Answer series named.sources))
+    module _ (named : Named) (series : List Series) (among : Contains query.named named) (part : Part named series) where
+      made_by : IsMadeBy setting journal (who_of part.worker) given.task (answered named.used (called.Answer series named.sources))
       made_by = answers_are_made setting journal ends rising run given.phase_number given.phase given.phase_ends (Some named.gateway) given.place given.task
-          (answered named.used (called.Answer series named.sources)) given.in_phases given.in_tasks given.phase_came part.came
+          (answered named.used (called.Answer series named.sources)) given.in_phases given.in_tasks given.phase_came part
 
       abbrev made : IsMade setting journal given.task (answered named.used (called.Answer series named.sources))
       made = made_by.0
 
-      the_call : Called setting made.held.used made.entries named.used series named.sources given.low given.high query.selector
-      the_call = task_called setting made.who made.place given.task.work made.held made.after made.entries named.used series named.sources given.low given.high given.selector_number query.selector given.asks given.selects made.run
+      by_gateway : made.who.gateway ≡ Some named.gateway
+      by_gateway = ap (λ (who : Who). who.gateway) made_by.1 ∙ part.is
+
+      -- the call is for the times that are named
+      the_call : Called setting made.held.used made.entries named.used series named.sources named.low named.high query.selector
+      the_call =
+          let call = task_called setting made.who made.place given.task.work made.held made.after made.entries named.used series named.sources given.low given.high given.selector_number query.selector given.asks given.selects made.run in
+          let asks : Contains (asks_in setting given.low given.high) (ask_by named) = subst (λ (l : List Ask). Contains l (ask_by named)) given.every (into_map ask_by query.named named among) in
+          let found : ask_to setting (Some named.gateway) given.low given.high ≡ Some call.0 = ap (λ (o : Option ℕ). ask_to setting o given.low given.high) (sym by_gateway) ∙ call.1 in
+          let same : call.0 ≡ ask_by named = one_ask setting named.gateway given.low given.high call.0 (ask_by named) found asks refl in
+          subst (λ (ask : Ask). Called setting made.held.used made.entries named.used series named.sources ask.low ask.high query.selector) same call.2
 
       -- the view is of a sync by its own gateway's rules
       view : IsTrueView setting journal named.gateway named.used
-      view =
-          let by : made.who.gateway ≡ Some named.gateway = ap (λ (who : Who). who.gateway) made_by.1 ∙ part.came.is in
-          subst (λ (gateway : ℕ). IsTrueView setting journal gateway named.used) (made.same named.used the_call.is named.gateway by) (view_is_true named.used (made.origin named.used the_call.is))
+      view = subst (λ (gateway : ℕ). IsTrueView setting journal gateway named.used) (made.same named.used the_call.is named.gateway by_gateway) (view_is_true named.used (made.origin named.used the_call.is))
 
       part_exact : IsDeduplication (triples_of series) (asked_of setting query.selector named)
-      part_exact =
-          subst (λ (z : ℤ). IsQueryAnswer query.selector z named.high (triples_of series) (held setting named.sources)) (sym part.from)
-          (subst (λ (z : ℤ). IsQueryAnswer query.selector given.low z (triples_of series) (held setting named.sources)) (sym part.upto)
-          (answer_is_exact setting journal made.entries named.used.view query.selector given.low given.high series named.sources lawful readable told made.part view.kept the_call.run))
+      part_exact = answer_is_exact setting journal made.entries named.used.view query.selector named.low named.high series named.sources lawful readable told made.part view.kept the_call.run
 
       named_by : (ulid : ℕ) → Contains named.sources ulid ↔ ((found : Found) × Contains named.used.view.kept found × (found.ulid ≡ ulid))
-      named_by = sources_are setting journal made.entries named.used.view (record { selector = query.selector; replicas = setting.script.rules.replicas; low = given.low; high = given.high }) series named.sources readable told made.part view.kept the_call.run
+      named_by = sources_are setting journal made.entries named.used.view (record { selector = query.selector; replicas = setting.script.rules.replicas; low = named.low; high = named.high }) series named.sources readable told made.part view.kept the_call.run
 
       part_names : All (λ ulid. IsUploadedBefore setting journal ulid named.used.last) named.sources
       part_names = λ k d below.
@@ -268,19 +288,22 @@ module _ (setting : Setting) (journal : List Entry) (ends : List (List (List End
       part_covers : NamesAll setting journal named
       part_covers ulid settled = (named_by ulid).1 (view.settled ulid settled)
 
-    all_exact : (named : List Named) (parts : List (List Series)) → AllZip Part named parts → AllZip (λ n series. IsDeduplication (triples_of series) (asked_of setting query.selector n)) named parts
-    all_exact named parts all = zip_weaken Part (λ n series. IsDeduplication (triples_of series) (asked_of setting query.selector n)) part_exact named parts all
+    all_exact : AllZip (λ n series. IsDeduplication (triples_of series) (asked_of setting query.selector n)) query.named given.parts
+    all_exact =
+        all_zip (Contains query.named) Part (λ n series. IsDeduplication (triples_of series) (asked_of setting query.selector n)) part_exact query.named given.parts
+        (all_members (Contains query.named) query.named (λ n among. among)) given.given
 
     exact : IsExact setting query
     exact = subst (λ (ts : List Triple). IsDeduplication ts (flat_map (asked_of setting query.selector) query.named)) (sym given.samples)
-        (joined (asked_of setting query.selector) query.named given.parts (all_exact query.named given.parts given.given) given.series given.merged)
+        (joined (asked_of setting query.selector) query.named given.parts all_exact given.series given.merged)
 
     -- what holds of each gateway's part holds of all that are named
-    of_parts : (P : Named → Type 0) → ((n : Named) (series : List Series) → Part n series → P n) → All P query.named
+    of_parts : (P : Named → Type 0) → ((n : Named) (series : List Series) → Contains query.named n → Part n series → P n) → All P query.named
     of_parts P each = λ k d below.
         let n = get_or query.named k d in
-        let part = zip_right Part query.named given.parts n given.given (All-contains_itself query.named k d below) in
-        each n part.0 part.2
+        let among = All-contains_itself query.named k d below in
+        let part = zip_right Part query.named given.parts n given.given among in
+        each n part.0 among part.2
 
     names : NamesUploads setting journal query
     names = of_parts (λ n. All (λ ulid. IsUploadedBefore setting journal ulid n.used.last) n.sources) part_names

@@ -4,6 +4,5 @@ pub mod ExactAnswers
 pub mod Joining
 pub mod OneCall
 pub mod ActingCalls
-pub mod OneGateway
 pub mod SeveralGateways
 pub mod EndsAreCalls

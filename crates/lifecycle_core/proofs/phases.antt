@@ -4,6 +4,7 @@ pub mod EachEntry
 pub mod Seats
 pub mod OneSeat
 pub mod Duties
+pub mod GatewayParts
 pub mod TaskRuns
 pub mod HandLists
 pub mod Places

@@ -11,7 +11,7 @@ use Rattle.meta_fetcher.specs.declared.sync_end.SyncEnd.TheVariants as fetched
 use Rattle.store_gateway.specs.declared.series_end.SeriesEnd.TheVariants as called
 use Rattle.lifecycle_core.specs.Setting.{Setting}
 use Rattle.lifecycle_core.specs.Breaches.{Rule, honesty, upload_time, mark_time, sync_time, view_time, RefusesUnder, Watch, read_key, watched}
-use Rattle.lifecycle_core.specs.Tasks.{End, uploaded, synced, answered, without_view, stopped}
+use Rattle.lifecycle_core.specs.Tasks.{End, uploaded, synced, answered, not_asked, without_view, stopped}
 use Rattle.lifecycle_core.specs.TimeRules.{PutsMark, PutsObject}
 
 -- some worker came to this end
@@ -61,6 +61,7 @@ IsMissing (answered used (called.Missing entry)) number = entry ≡ number
 IsMissing (answered used (called.Damaged entry)) number = ⊥
 IsMissing (answered used (called.Fault entry)) number = ⊥
 IsMissing without_view number = ⊥
+IsMissing not_asked number = ⊥
 IsMissing (stopped count) number = ⊥
 
 -- Where a worker says that an object was missing, the journal shows why.
@@ -85,6 +86,7 @@ IsDamaged (answered used (called.Missing entry)) = ⊥
 IsDamaged (answered used (called.Damaged entry)) = Unit {0}
 IsDamaged (answered used (called.Fault entry)) = ⊥
 IsDamaged without_view = ⊥
+IsDamaged not_asked = ⊥
 IsDamaged (stopped count) = ⊥
 
 -- no worker says that bytes or names were not of the form
@@ -105,6 +107,7 @@ IsFault (answered used (called.Missing entry)) number = ⊥
 IsFault (answered used (called.Damaged entry)) number = ⊥
 IsFault (answered used (called.Fault entry)) number = entry ≡ number
 IsFault without_view number = ⊥
+IsFault not_asked number = ⊥
 IsFault (stopped count) number = ⊥
 
 -- Where a worker says that a call failed, the entry that it names was answered so.
@@ -127,6 +130,7 @@ IsWell (answered used (called.Missing entry)) = ⊥
 IsWell (answered used (called.Damaged entry)) = ⊥
 IsWell (answered used (called.Fault entry)) = ⊥
 IsWell without_view = ⊥
+IsWell not_asked = Unit {0}
 IsWell (stopped count) = Unit {0}
 
 -- every task that came to its end came to such a one

@@ -1,8 +1,9 @@
 -- Which uploads a journal shows to be complete, and which of them a sync has to see.
-use Rattle.std.specs.Prelude.{◌≡◌, ◌<◌, ◌≤◌, ◌+◌, ℕ, List, ◌∷◌, ◌++◌, All, IsTrue, IsSome}
+use Rattle.std.specs.Prelude.{◌≡◌, ◌<◌, ◌≤◌, ◌+◌, ◌≤ℤ◌, ℕ, List, ◌∷◌, ◌++◌, All, IsTrue, IsSome}
 use Rattle.block_keys.specs.declared.key.Key.TheVariants.{Meta}
 use Rattle.block_meta.specs.MetaFields.{MetaFields}
 use Rattle.block_meta.specs.MetaText.{IsMetaText}
+use Rattle.moment_core.specs.declared.partition.Partition.{Partition}
 use Rattle.meta_fetcher.specs.declared.rules.SyncRules.{SyncRules}
 use Rattle.world_core.specs.Standing.{has_landed}
 use Rattle.world_core.specs.declared.op.Op.TheVariants.{Put}
@@ -38,7 +39,14 @@ pub record IsUploadedBefore (setting : Setting) (journal : List Entry) (ulid las
   pub completed : IsCompletedAt journal ulid seq meta
   pub earlier : seq < last
 
--- The block was complete before the sync of a view began, and the consistency delay of the rules by which it synced was over by then.
+-- Some of the times that a meta tells lie in the partition: both of its ends count, and so does the meta's end.
+pub record Passes (partition : Partition) (meta : MetaFields) : Type 0 where
+  pub from : partition.low ≤ℤ meta.max_time
+  pub upto : meta.min_time ≤ℤ partition.high
+
+-- By the rules of a view's sync: the block was complete before the sync began, its consistency delay was over by then, and it passes
+-- its partition.
 pub record IsSettled (setting : Setting) (journal : List Entry) (rules : SyncRules) (used : Use) (ulid : ℕ) : Type 0 where
   pub uploaded : IsUploadedBefore setting journal ulid used.view.first
   pub old : time_of ulid + rules.consistency.ms ≤ used.view.begin.ms
+  pub passes : Passes rules.partition uploaded.meta

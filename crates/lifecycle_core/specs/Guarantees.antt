@@ -1,6 +1,6 @@
 -- What a query's answer is worth: the statement about each answered query of a lawful journal.
 use Rattle.std.specs.Prelude.{◌≡◌, ◌≢◌, ℕ, ℤ, List, map, All, Contains, Option, Some, slice_get}
-use Rattle.std.specs.List.{AllZip, flat_map, range_with_len}
+use Rattle.std.specs.List.{AllZip, flat_map}
 use Rattle.label_sets.specs.Triples.{triples_of}
 use Rattle.label_sets.specs.declared.series.Series.{Series}
 use Rattle.world_core.specs.Standing.{IsHonest}
@@ -16,13 +16,14 @@ use Rattle.lifecycle_core.specs.Breaches.{Watch}
 use Rattle.lifecycle_core.specs.Causes.{AreFaultsShown, AreMissesExplained, AreUndamaged, AreWell, IsExplainedUnder}
 use Rattle.lifecycle_core.specs.Conducts.{CameTo}
 use Rattle.lifecycle_core.specs.Phases.{IsInTurn, IsRunOf}
-use Rattle.lifecycle_core.specs.Tasks.{End, answered, sync_rules}
+use Rattle.lifecycle_core.specs.Tasks.{End, answered, asks_in, sync_rules}
 use Rattle.lifecycle_core.specs.TimeRules.{IsUploadedInTime, IsSyncedInTime}
 use Rattle.label_sets.specs.Triples.{Triple}
 use Rattle.matchers.specs.Selected.{IsQueryAnswer, selected}
 use Rattle.meta_fetcher.specs.declared.rules.SyncRules.{SyncRules}
+use Rattle.querier.specs.declared.answer.Names.{Names}
+use Rattle.querier.specs.declared.ask.Ask.{Ask}
 use Rattle.vertical_merge.specs.Merged.{IsDeduplication, IsMerge}
-use Rattle.script_workers.specs.Hands.{gateway_count}
 use Rattle.script_workers.specs.declared.worker.Worker.{Worker}
 use Rattle.lifecycle_core.specs.SyncsAndCalls.{IsViewOf}
 use Rattle.matchers.specs.declared.matcher.Matcher.{Matcher}
@@ -49,11 +50,19 @@ pub record Answered : Type 0 where
   pub named : List Named
   pub samples : List Triple
 
+-- what a gateway was asked
+abbrev pub ask_by : Named → Ask
+ask_by named = record { gateway = named.gateway; low = named.low; high = named.high }
+
+-- what a gateway names
+abbrev pub names_by : Named → Names
+names_by named = record { gateway = named.gateway; sources = named.sources }
+
 -- of the blocks that a gateway names, the samples for which it was asked
 abbrev pub asked_of : Setting → List Matcher → Named → List Triple
 asked_of setting selector named = selected selector named.low named.high (held setting named.sources)
 
--- The answer has each matching sample of the blocks that are named once, and nothing else.
+-- The answer has each matching sample once, for which a gateway was asked, of the blocks that it names, and nothing else.
 abbrev pub IsExact : Setting → Answered → Type 0
 IsExact setting query = IsDeduplication query.samples (flat_map (asked_of setting query.selector) query.named)
 
@@ -71,14 +80,12 @@ NamesAll setting journal named =
 abbrev pub LeavesNoneOut : Setting → List Entry → Answered → Type 0
 LeavesNoneOut setting journal query = All (NamesAll setting journal) query.named
 
--- the series with which a gateway's worker answered in the task at a place of a phase, whose query asks for these times
-pub record IsPartGiven (workers : List Worker) (ends : List (List End)) (place : ℕ) (low high : ℤ)
-    (named : Named) (series : List Series) : Type 0 where
-  pub came : CameTo workers ends (Some named.gateway) place (answered named.used (ended.Answer series named.sources))
-  pub from : named.low ≡ low
-  pub upto : named.high ≡ high
+-- the series with which a gateway's worker answered in the task at a place of a phase
+abbrev pub IsPartGiven : List Worker → List (List End) → ℕ → Named → List Series → Type 0
+IsPartGiven workers ends place named series =
+    CameTo workers ends (Some named.gateway) place (answered named.used (ended.Answer series named.sources))
 
--- Each gateway gave its part of the answer, to the query at some place of some phase, and the answer is the merge of all parts.
+-- Each asked gateway gave its part of the answer, to the query at some place of some phase, and the answer is the merge of all parts.
 pub record IsGiven (setting : Setting) (ends : List (List (List End)))
     (query : Answered) : Type 0 where
   pub phase_number : ℕ
@@ -95,9 +102,9 @@ pub record IsGiven (setting : Setting) (ends : List (List (List End)))
   pub phase_ends : List (List End)
   pub phase_came : slice_get ends phase_number ≡ Some phase_ends
   pub parts : List (List Series)
-  pub given : AllZip (IsPartGiven (workers_of setting.script phase_number) phase_ends place low high) query.named parts
-  -- every gateway is asked
-  pub every : map (λ named. named.gateway) query.named ≡ range_with_len 0 (gateway_count setting.script.gateways)
+  pub given : AllZip (IsPartGiven (workers_of setting.script phase_number) phase_ends place) query.named parts
+  -- those that are asked gave a part, each for its times, and no others
+  pub every : map ask_by query.named ≡ asks_in setting low high
   pub series : List Series
   pub merged : IsMerge (flat_map triples_of parts) series
   pub samples : query.samples ≡ triples_of series

@@ -1,6 +1,7 @@
 -- The runs of a script's tasks: which entries a worker makes for a task, and how the task ends.
-use Rattle.std.specs.Prelude.{◌≡◌, ◌⊎◌, ◌-◌, ◌^◌, ℕ, ℤ, pos, negsuc, List, [], fold, Option, Some, None, option_map, slice_get}
+use Rattle.std.specs.Prelude.{◌≡◌, ◌⊎◌, ◌==◌, ℕ, ℤ, List, [], fold, find, Option, Some, None, option_map, slice_get, unwrap_or}
 use Rattle.moment_core.specs.declared.partition.Partition.{Partition}
+pub use Rattle.moment_core.specs.Partitions.{all_times}
 use Rattle.world_core.specs.Plans.{Runs}
 use Rattle.world_core.specs.Stops.{IsBefore, IsStopped}
 use Rattle.world_core.specs.declared.entry.Entry.{Entry}
@@ -14,6 +15,8 @@ use Rattle.meta_fetcher.specs.Syncs.{SyncRun}
 use Rattle.store_gateway.specs.declared.series_end.SeriesEnd.{SeriesEnd}
 use Rattle.store_gateway.specs.SeriesRuns.{Query as Question, SeriesRun, asking}
 use Rattle.lifecycle_core.specs.Shipped.{IsShipped}
+use Rattle.querier.specs.declared.ask.Ask.{Ask}
+use Rattle.querier.specs.Asks.{asks_of}
 use Rattle.script_core.specs.declared.block.Block.{Block}
 use Rattle.script_workers.specs.declared.work.Work.{Work}
 use Rattle.script_workers.specs.declared.work.Work.TheVariants.{Upload, Sync, Query}
@@ -30,12 +33,14 @@ pub data End : Type 0 where
   answered : Use → SeriesEnd → End
   -- a gateway's part of a query, where none of its syncs gave a view
   without_view : End
+  -- a gateway's part of a query, where none of the query's times lie in its partition
+  not_asked : End
   -- stopped after so many operations, as the script asks
   stopped : ℕ → End
 
--- the whole range of times, for which a gateway answers
-abbrev pub all_times : Partition
-all_times = record { low = negsuc (2 ^ 63 - 1); high = pos (2 ^ 63 - 1) }
+-- the times for which the gateway at a place answers
+abbrev pub partition_of : Setting → ℕ → Partition
+partition_of setting gateway = unwrap_or (slice_get setting.script.partitions gateway) all_times
 
 -- by what a gateway syncs
 abbrev pub sync_rules : Setting → ℕ → SyncRules
@@ -43,13 +48,22 @@ sync_rules setting gateway = record {
   consistency = setting.script.rules.consistency;
   mark_delay = setting.script.rules.ignore;
   page_limit = setting.script.rules.page_limit;
-  partition = all_times;
+  partition = partition_of setting gateway;
 }
 
--- what a worker is asked in a query, by its gateway
-abbrev pub asked_by : Setting → Option ℕ → ℕ → ℤ → ℤ → Option Question
-asked_by setting gateway selector low high =
-    option_map (λ matchers. asking matchers setting.script.rules.replicas low high)
+-- what gateways are asked in a query for the times from low to high: each for those that lie in its partition, if there are any
+abbrev pub asks_in : Setting → ℤ → ℤ → List Ask
+asks_in setting low high = asks_of low high setting.script.partitions
+
+-- what a worker of such a gateway is asked, if it is one's, and is asked
+abbrev pub ask_to : Setting → Option ℕ → ℤ → ℤ → Option Ask
+ask_to setting None low high = None
+ask_to setting (Some gateway) low high = find (λ ask. ask.gateway == gateway) (asks_in setting low high)
+
+-- the question that it asks of its view
+abbrev pub question_of : Setting → ℕ → Ask → Option Question
+question_of setting selector ask =
+    option_map (λ matchers. asking matchers setting.script.rules.replicas ask.low ask.high)
     (slice_get setting.script.selectors selector)
 
 -- the number of the last entry
@@ -85,14 +99,22 @@ SyncTask setting gateway before entries end after =
     (own : Option SyncEnd) × SyncRun (sync_rules setting gateway) entries own
     × (end ≡ option_map synced own) × (after ≡ synced_with before entries own)
 
+-- nothing is done, and a task comes to this end, unless it breaks off
+abbrev pub NothingDone : End → List Entry → Option End → Type 0
+NothingDone own entries end = (entries ≡ []) × ((end ≡ None) ⊎ (end ≡ Some own))
+
 -- A gateway that has a view asks it; one that has none does nothing.
 abbrev pub QueryTask : Option Use → Option Question → List Entry → Option End → Type 0
-QueryTask None asked entries end =
-    (entries ≡ []) × ((end ≡ None) ⊎ (end ≡ Some without_view))
+QueryTask None asked entries end = NothingDone without_view entries end
 QueryTask (Some used) None entries end = ⊥
 QueryTask (Some used) (Some asked) entries end =
     (own : Option SeriesEnd) × SeriesRun used.view asked entries own
     × (end ≡ option_map (answered used) own)
+
+-- A gateway's part of a query: every gateway has the task, also one that is not asked.
+abbrev pub PartTask : Setting → ℕ → Option Ask → Option Use → List Entry → Option End → Type 0
+PartTask setting selector None used entries end = NothingDone not_asked entries end
+PartTask setting selector (Some ask) used entries end = QueryTask used (question_of setting selector ask) entries end
 
 -- What a worker may do for the task at a place of its phase: from what it holds, its entries, its end, which is none where the
 -- run broke off, and what it holds then.
@@ -102,4 +124,4 @@ TaskRun setting who place (Upload ulid stop) before entries end after =
 TaskRun setting who place (Sync gateway) before entries end after =
     SyncTask setting gateway before entries end after
 TaskRun setting who place (Query low high selector) before entries end after =
-    QueryTask before.used (asked_by setting who.gateway selector low high) entries end × (after ≡ before)
+    PartTask setting selector (ask_to setting who.gateway low high) before.used entries end × (after ≡ before)

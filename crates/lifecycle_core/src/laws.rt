@@ -22,6 +22,7 @@ ghost use Rattle.store_gateway.specs.SeriesRuns.{Query as Question, SeriesRun, a
 ghost use Rattle.store_gateway.specs.declared.series_end.SeriesEnd.{SeriesEnd};
 ghost use Rattle.store_gateway.specs.declared.series_end.SeriesEnd.TheVariants as ended;
 ghost use Rattle.script_workers.specs.declared.phase.Phase.{Phase};
+ghost use Rattle.querier.specs.declared.ask.Ask.{Ask};
 ghost use Rattle.lifecycle_core.specs.Setting.{Setting};
 ghost use Rattle.script_core.specs.Lawful.{IsLawfulScript};
 ghost use Rattle.script_core.specs.Workers.{workers_of};
@@ -37,7 +38,7 @@ ghost use Rattle.lifecycle_core.specs.SyncsAndCalls.{IsCallIn, IsViewOf};
 ghost use Rattle.lifecycle_core.specs.InLine.{IsRunInLine};
 ghost use Rattle.lifecycle_core.specs.Phases.{IsFinished, IsInTurn, IsLawfulJournal, IsRunOf, by_workers};
 ghost use Rattle.lifecycle_core.specs.QueriesAsked.{IsQueryAt};
-ghost use Rattle.lifecycle_core.specs.Tasks.{End, answered, sync_rules};
+ghost use Rattle.lifecycle_core.specs.Tasks.{End, answered, ask_to, sync_rules};
 ghost use Rattle.lifecycle_core.specs.Ways.{AreFinished, BeginsPhase};
 ghost use Rattle.lifecycle_core.specs.TimeRules.{IsMarkedInTime, IsReadInTime, IsSyncedInTime, IsUploadedInTime};
 
@@ -129,20 +130,21 @@ pub fn calls_miss_nothing_while_nothing_deletes()
 
 /// A law: each end to which a gateway's worker came in a query is that of a call in the journal, over the view of a sync in it by
 /// that gateway's rules, which a worker of this gateway made. The worker that came to the end made the call's entries, for the
-/// selector and the times that the query's line names.
+/// selector that the query's line names and those of its times for which the gateway is asked.
 pub fn ends_are_calls()
     ensures { (setting : Setting) (journal : List Entry) (ends : List (List (List End)))
         (number place gateway : ℕ) (own : List (List End)) (used : Use) (end : SeriesEnd)
         → IsRunOf setting journal ends → slice_get ends number ≡ Some own
         → (came : CameTo (workers_of setting.script number) own (Some gateway) place
         (answered used end))
-        → (selector : List Matcher) × (low : ℤ) × (high : ℤ)
+        → (selector : List Matcher) × (low : ℤ) × (high : ℤ) × (ask : Ask)
         × (sync : List Entry) × (entries : List Entry)
         × IsQueryAt setting number place selector low high
+        × (ask_to setting (Some gateway) low high ≡ Some ask)
         × (view : IsViewOf (sync_rules setting gateway) journal used sync)
         × IsSeatOf setting gateway view.seat
-        × IsCallIn journal used (asking selector setting.script.rules.replicas low high) entries
-        (Some end)
+        × IsCallIn journal used
+        (asking selector setting.script.rules.replicas ask.low ask.high) entries (Some end)
         × All (λ e. e.seat ≡ came.worker.seat) entries }
 {}
 

@@ -1,13 +1,9 @@
 -- Which gateways a query asks, and for which times.
 use Rattle.std.specs.Prelude.{ℕ, ℤ, int_le, Bool, List, map}
-use Rattle.std.specs.Int.{int_min, int_max}
 use Rattle.std.specs.List.{filter, enumerate_from}
+use Rattle.moment_core.specs.Partitions.{common}
 use Rattle.moment_core.specs.declared.partition.Partition.{Partition}
 use Rattle.querier.specs.declared.ask.Ask.{Ask}
-
--- the times that two ranges have in common; both ends of a range are in it
-abbrev pub common : Partition → Partition → Partition
-common one other = record { low = int_max one.low other.low; high = int_min one.high other.high }
 
 -- what the gateway of a partition is asked of these times: those that lie in its partition
 abbrev pub ask_of : Partition → ℕ → Partition → Ask

@@ -11,3 +11,14 @@ pub struct Answer {
 
 /// A list of answers.
 pub type AnswerList = List<Answer>;
+
+/// A gateway that was asked, and the uploads that it names.
+#[derive(Drop)]
+pub struct Names {
+    /// The gateway's place.
+    pub gateway: u32,
+    pub sources: UlidList,
+}
+
+/// What gateways name, in their order.
+pub type NamesList = List<Names>;

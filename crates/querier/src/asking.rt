@@ -1,13 +1,10 @@
 ghost use Rattle.std.specs.Prelude.{◌≡◌, ◌<◌, ◌≤◌, ◌^◌, [], ◌∷◌, ◌++◌, length, IfOk, OnOk};
-ghost use Rattle.querier.specs.Asks.{asks_from, asks_of, common};
+ghost use Rattle.querier.specs.Asks.{asks_from, asks_of};
 
 use crate::{Ask, AskList};
-use list_core::{List, NoMemory};
-use moment_core::Partition;
+use list_core::NoMemory;
+use moment_core::{Partition, PartitionList};
 use std::alloc::Global;
-
-/// The partitions of all gateways, in the gateways' order.
-pub type PartitionList = List<Partition>;
 
 /// What each gateway is asked in a query for the times from `low` to `high`, both included: those that lie in its partition.
 /// A gateway whose partition has none of them is not asked.
@@ -44,7 +41,7 @@ fn add_ask(
     requires { place < 2 ^ 32 }
     ensures { OnOk result (asks.new ≡ asks.old ++ asks_from times.now place (partition.now ∷ [])) }
 {
-    let shared = common(times, partition);
+    let shared = times.common(partition);
     if shared.low <= shared.high {
         asks.push(Ask {
             gateway: place as u32,
@@ -53,14 +50,4 @@ fn add_ask(
         })?;
     }
     Ok(())
-}
-
-/// The times that two ranges have in common.
-fn common(one: &Partition, other: &Partition) -> Partition
-    ensures { result ≡ common one.now other.now }
-{
-    Partition {
-        low: one.low.max(other.low),
-        high: one.high.min(other.high),
-    }
 }

@@ -6,7 +6,7 @@ mod ask;
 mod asking;
 mod gather;
 
-pub use answer::{Answer, AnswerList};
+pub use answer::{Answer, AnswerList, Names, NamesList};
 pub use ask::{Ask, AskList};
-pub use asking::{PartitionList, fan_out};
+pub use asking::fan_out;
 pub use gather::Gather;

@@ -1,11 +1,11 @@
--- What a rule line, a gateway line or a block line spells is read of it.
-use Rattle.std.proofs.Common.{◌≡◌, ℕ, ◌%◌, ◌^◌, ℤ, ◌<ℤ◌, true, false, not, ◌==◌, nat_lt, int_lt, List, [], ◌∷◌, ◌++◌, length, Option, Some, is_none, Ok, refl, sym, ap, ◌∙◌, subst, arith, append-nil, codes}
+-- What a line before the first phase spells is read of it; of series lines AgainSeries speaks.
+use Rattle.std.proofs.Common.{◌≡◌, ℕ, ◌%◌, ◌^◌, ℤ, ◌<ℤ◌, ◌≤ℤ◌, true, false, not, ◌==◌, nat_lt, int_lt, List, [], ◌∷◌, ◌++◌, length, Option, Some, None, is_none, Ok, refl, sym, ap, ◌∙◌, subst, arith, append-nil, codes}
 use Rattle.std.proofs.lemmas.Bool.Decides.{nat_tests}
 use Rattle.std.proofs.lemmas.Int.{ints}
 use Rattle.std.specs.BTreeSet.{insert_key}
 use Rattle.std.specs.Ordering.{nat_cmp}
 use Rattle.label_sets.proofs.SetLaws.{set_text_again}
-use Rattle.label_sets.specs.Notation.{read_set, set_text}
+use Rattle.label_sets.specs.Notation.{is_name, read_set, set_text}
 use Rattle.label_sets.specs.SetText.{IsSetText}
 use Rattle.label_sets.specs.declared.label.Label.{Label}
 use Rattle.script_core.specs.declared.line_kind.LineKind.{LineKind}
@@ -13,18 +13,20 @@ use Rattle.script_core.specs.declared.line_kind.LineKind.TheVariants as kinds
 use Rattle.script_core.specs.declared.rule_kind.RuleKind.TheVariants.{Valued}
 use Rattle.script_core.specs.Fields.{is_empty, next_field, only_field, rule_kind}
 use Rattle.script_core.specs.Values.{add_replica, is_reserved, with_rule, set_rule}
-use Rattle.script_core.specs.Lines.{fields_line, rule_line, gateway_line, block_line, last_labels}
-use Rattle.script_core.specs.State.{State, Last, add_gateway, begin_block, is_declared, all_blocks, script_of_state}
-use Rattle.script_core.specs.Spelling.{SoFar, outside, rule_word, RuleLine, ReplicaLine, GatewayLine, BlockLine}
-use Rattle.script_core.proofs.FieldLaws.{cut_again}
+use Rattle.script_core.specs.Lines.{fields_line, rule_line, partition_field, gateway_line, block_line, last_labels}
+use Rattle.script_core.specs.State.{State, Last, add_gateway, gateway_named, begin_block, is_declared, all_blocks, script_of_state}
+use Rattle.script_core.specs.Spelling.{SoFar, outside, spaced, IsField, IsTimeText, rule_word, RuleLine, ReplicaLine, ArePartitionTexts, at_all_times, from_to, GatewayLine, BlockLine}
+use Rattle.script_core.proofs.FieldLaws.{cut_again, cut_last}
 use Rattle.script_core.proofs.ValueLaws.{time_again, ulid_again, value_again}
 use Rattle.script_core.proofs.Kept.{Kept, so_far_of}
 use Rattle.script_core.proofs.LineTools.{is_some_field, only_again, line_word, word_free, name_free, valued_again, replica_free, early_again}
 use Rattle.script_core.proofs.FoundSetup.{closed}
+use Rattle.moment_core.specs.Partitions.{all_times}
+use Rattle.moment_core.specs.declared.partition.Partition.{Partition}
 use Rattle.moment_core.specs.declared.rules.Rules.{Rules}
 use Rattle.script_core.proofs.SpelledValues.{near_tested, free_tested}
 use Rattle.script_core.proofs.SpelledRules.{rule_set}
-use Rattle.script_core.specs.Limits.{most_blocks}
+use Rattle.script_core.specs.Limits.{most_gateways, most_blocks}
 
 -- A line that is read in this state as one of a kind, and leads to what is so far.
 pub record IsRead (st : State) (number : ℕ) (line : List ℕ) (kind : LineKind) (next : SoFar) : Type 0 where
@@ -41,6 +43,23 @@ starts_again line kind rest is =
 
 below_again : (a b : ℤ) → a <ℤ b → int_lt a b ≡ true
 below_again a b below = grind (arith, ints)
+
+not_below_again : (low high : ℤ) → low ≤ℤ high → not (int_lt high low) ≡ true
+not_below_again low high order = let test : int_lt high low ≡ false = grind (arith, ints) in rw test refl
+
+whole_again : (partition : Partition) → partition ≡ all_times → (partition_field None ≡ Ok partition) × (not (int_lt partition.high partition.low) ≡ true)
+unfolding partition_field
+whole_again partition is = (ap Ok (sym is), ap (λ (p : Partition). not (int_lt p.high p.low)) is)
+
+part_again : (low_text high_text : List ℕ) (partition : Partition) → IsTimeText low_text partition.low → IsTimeText high_text partition.high → partition_field (Some (low_text ++ 32 ∷ high_text)) ≡ Ok partition
+unfolding partition_field
+part_again low_text high_text partition low high =
+    let cut = cut_again low_text high_text low.field.no_space in
+    let only = only_again high_text high.field in
+    let some = is_some_field low_text low.field in
+    let read_low = time_again low_text partition.low low.written (near_tested partition.low low.near) in
+    let read_high = time_again high_text partition.high high.written (near_tested partition.high high.near) in
+    rw (cut, only, some, read_low, read_high) refl
 
 labels_by : (text : List ℕ) (labels : List Label) → not (is_empty text) ≡ true → read_set text ≡ Ok (labels, length text) → last_labels (Some text) ≡ Ok (Some labels)
 unfolding last_labels
@@ -92,21 +111,39 @@ module _ (st : State) (number : ℕ) (line : List ℕ) (next : SoFar) (kept : Ke
         next_is = sym says.adds;
       }
 
-  pub gateway_line_again : GatewayLine (so_far_of st) line next → IsRead (closed st) number line kinds.Gateway next
-  unfolding fields_line gateway_line add_gateway
-  gateway_line_again says =
-      let only : only_field (Some says.name) ≡ Ok says.name = only_again says.name says.field in
-      let named = says.is_name in
-      let early : is_none st.phase ≡ true = early_again st.phases st.phase says.early in
-      let new = says.new in
-      let few : nat_lt (length st.gateways) 1 ≡ true = let l = says.few in grind (arith, nat_tests) in
+  -- a gateway line whose partition is read
+  gateway_read : (name : List ℕ) (partition : Partition) (left rest : Option (List ℕ)) → next_field left ≡ (name, rest) → IsField name → is_name name ≡ true → partition_field rest ≡ Ok partition
+      → is_none st.phase ≡ true → not (int_lt partition.high partition.low) ≡ true → gateway_named st.gateways name ≡ None → nat_lt (length st.gateways) most_gateways ≡ true
+      → gateway_line (closed st) left ≡ Ok (record (closed st) { gateways = st.gateways ++ name ∷ []; partitions = st.partitions ++ partition ∷ [] })
+  unfolding gateway_line add_gateway
+  gateway_read name partition left rest cut field named read early order new few =
+      let some = is_some_field name field in
+      rw (cut, some, read, named, early, order, new, few) refl
+
+  gateway_by : (texts : List (List ℕ)) (says : GatewayLine (so_far_of st) line next) → ArePartitionTexts texts says.partition → says.texts ≡ texts → IsRead (closed st) number line kinds.Gateway next
+  unfolding fields_line
+  gateway_by texts says (at_all_times none is) same =
+      let few : nat_lt (length st.gateways) most_gateways ≡ true = let l = says.few in grind (arith, nat_tests) in
       record {
         left = Some says.name;
-        after = record (closed st) { gateways = st.gateways ++ says.name ∷ [] };
-        cut = starts_again line kinds.Gateway says.name says.spelled;
-        read = rw (only, named, early, new, few) refl;
+        after = record (closed st) { gateways = st.gateways ++ says.name ∷ []; partitions = st.partitions ++ says.partition ∷ [] };
+        cut = starts_again line kinds.Gateway says.name (says.spelled ∙ ap (λ ts. spaced (codes "gateway" ∷ says.name ∷ ts)) (same ∙ none));
+        read = gateway_read says.name says.partition (Some says.name) None (cut_last says.name says.field.no_space) says.field says.is_name (whole_again says.partition is).0 (early_again st.phases st.phase says.early) (whole_again says.partition is).1 says.new few;
         next_is = sym says.adds;
       }
+  gateway_by texts says (from_to low_text high_text are low high order) same =
+      let few : nat_lt (length st.gateways) most_gateways ≡ true = let l = says.few in grind (arith, nat_tests) in
+      let rest : List ℕ = low_text ++ 32 ∷ high_text in
+      record {
+        left = Some (says.name ++ 32 ∷ rest);
+        after = record (closed st) { gateways = st.gateways ++ says.name ∷ []; partitions = st.partitions ++ says.partition ∷ [] };
+        cut = starts_again line kinds.Gateway (says.name ++ 32 ∷ rest) (says.spelled ∙ ap (λ ts. spaced (codes "gateway" ∷ says.name ∷ ts)) (same ∙ are));
+        read = gateway_read says.name says.partition (Some (says.name ++ 32 ∷ rest)) (Some rest) (cut_again says.name rest says.field.no_space) says.field says.is_name (part_again low_text high_text says.partition low high) (early_again st.phases st.phase says.early) (not_below_again says.partition.low says.partition.high order) says.new few;
+        next_is = sym says.adds;
+      }
+
+  pub gateway_line_again : GatewayLine (so_far_of st) line next → IsRead (closed st) number line kinds.Gateway next
+  gateway_line_again says = gateway_by says.texts says says.are_texts refl
 
   pub block_line_again : BlockLine (so_far_of st) line next → IsRead (closed st) number line kinds.Block next
   unfolding fields_line block_line begin_block

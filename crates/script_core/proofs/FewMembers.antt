@@ -39,6 +39,10 @@ two_fields first next = longer_field first next []
 three_fields : (first next last : List ℕ) → length (spaced (first ∷ next ∷ last ∷ [])) ≡ length first + suc (length next + suc (length last))
 three_fields first next last = omega (arith, longer_field first next (last ∷ []), two_fields next last)
 
+first_fits : (first : List ℕ) (more : List (List ℕ)) → length first ≤ length (spaced (first ∷ more))
+first_fits first [] = omega arith
+first_fits first (next ∷ more) = omega (arith, longer_field first next more)
+
 some_field : (field : List ℕ) → IsField field → 1 ≤ length field
 some_field [] is = absurd (is.some refl)
 some_field (x ∷ xs) is = omega arith
@@ -100,7 +104,15 @@ size_of so_far = members_of_script so_far.script
 
 gateway_adds : (before after : SoFar) (line : List ℕ) → GatewayLine before line after → size_of after ≤ size_of before + length line
 gateway_adds before after line is =
-    omega (arith, ap size_of is.adds, one_more members_of_name before.script.gateways is.name, ap length is.spelled, two_fields (codes "gateway") is.name)
+    omega (
+      arith,
+      ap size_of is.adds,
+      one_more members_of_name before.script.gateways is.name,
+      length-append before.script.partitions (is.partition ∷ []),
+      ap length is.spelled,
+      longer_field (codes "gateway") is.name is.texts,
+      first_fits is.name is.texts,
+    )
 
 rule_adds : (before after : SoFar) (line : List ℕ) → RuleLine before line after → size_of after ≤ size_of before + length line
 rule_adds before after line is =

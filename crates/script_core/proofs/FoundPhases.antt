@@ -3,7 +3,6 @@ use Rattle.std.proofs.Common.{◌≡◌, ℕ, zero, suc, ◌+◌, ◌%◌, ◌^�
 use Rattle.std.specs.List.{list_all, range_with_len}
 use Rattle.std.specs.Str.{bytes_eq}
 use Rattle.std.proofs.lemmas.Bool.Decides.{nat_tests}
-use Rattle.std.proofs.lemmas.Int.{ints}
 use Rattle.std.proofs.lemmas.Option.{same_Some}
 use Rattle.std.proofs.Math.Bool.{or-false}
 use Rattle.reading_core.specs.Reading.{◌>>=◌}
@@ -29,7 +28,7 @@ use Rattle.script_core.proofs.FieldLaws.{cut_found}
 use Rattle.script_core.proofs.ValueLaws.{is_none_is, time_found, ulid_found, moment_found}
 use Rattle.script_core.proofs.Kept.{Kept, KeepsTasks, at, so_far_of, phase_kept, task_kept, sync_noted, hands_of-append}
 use Rattle.script_core.proofs.LineTools.{is_field, cut_rest, cut_end, only_found, last_phase, no_end, unit_is}
-use Rattle.script_core.proofs.FoundSetup.{Starts, closed}
+use Rattle.script_core.proofs.FoundSetup.{Starts, closed, not_below}
 use Rattle.script_core.proofs.SpelledValues.{near_spelled, free_spelled, agree_spelled}
 use Rattle.script_core.proofs.ReadSelectors.{selector_found}
 use Rattle.script_workers.proofs.HandLaws.{few_spelled}
@@ -102,9 +101,6 @@ all_in_range p first (suc count) h n low high =
       | inl same ↦ let e : first ≡ n = grind (arith, nat_tests) in ap p (sym e) ∙ parts.0
       | inr other ↦ let later : first + 1 ≤ n = grind (arith, nat_tests) in all_in_range p (first + 1) count parts.1 n later (omega arith)
     ]
-
-not_below : (low high : ℤ) → not (int_lt high low) ≡ true → low ≤ℤ high
-not_below low high h = let test = not-true (int_lt high low) h in grind (arith, ints)
 
 -- what a query line asks for before its selector is read
 pub record Asks (st : State) (left : Option (List ℕ)) (asked : Asked) : Type 0 where

@@ -1,5 +1,5 @@
--- What is read of a rule line, a gateway line or a block line is what the line spells.
-use Rattle.std.proofs.Common.{◌≡◌, ℕ, ◌%◌, ◌^◌, ◌<◌, ℤ, ◌<ℤ◌, true, false, not, ◌==◌, ◌&&◌, ltb-true, int_lt, List, [], ◌∷◌, ◌++◌, length, Option, Some, None, Result, Ok, Err, refl, sym, ap, ◌∙◌, subst, arith, codes, ◌⊎◌, inl, inr}
+-- What is read of a line before the first phase is what the line spells; of series lines FoundSeries speaks.
+use Rattle.std.proofs.Common.{◌≡◌, ℕ, ◌%◌, ◌^◌, ◌<◌, ℤ, ◌<ℤ◌, ◌≤ℤ◌, true, false, not, ◌==◌, ◌&&◌, ltb-true, int_lt, List, [], ◌∷◌, ◌++◌, length, Option, Some, None, Result, Ok, Err, refl, sym, ap, ◌∙◌, subst, arith, codes, ◌⊎◌, inl, inr}
 use Rattle.std.proofs.lemmas.Bool.Decides.{nat_tests}
 use Rattle.std.proofs.lemmas.Int.{ints}
 use Rattle.std.proofs.lemmas.Option.{same_Some}
@@ -16,15 +16,16 @@ use Rattle.script_core.specs.declared.line_refusal.LineRefusal.TheVariants.{Bad}
 use Rattle.moment_core.specs.declared.rules.Rules.{Rules}
 use Rattle.script_core.specs.declared.rule_kind.RuleKind.{RuleKind}
 use Rattle.script_core.specs.declared.rule_kind.RuleKind.TheVariants.{Valued, ReplicaLabel}
-use Rattle.script_core.specs.Fields.{is_empty, next_field, rule_kind}
-use Rattle.script_core.specs.Values.{add_replica, apply_rule, set_rule}
-use Rattle.script_core.specs.Lines.{rule_line, gateway_line, block_line, whole_labels, last_labels}
+use Rattle.moment_core.specs.declared.partition.Partition.{Partition}
+use Rattle.script_core.specs.Fields.{is_empty, next_field, only_field, rule_kind}
+use Rattle.script_core.specs.Values.{add_replica, apply_rule, set_rule, time_field}
+use Rattle.script_core.specs.Lines.{bad, rule_line, partition_field, gateway_line, block_line, whole_labels, last_labels}
 use Rattle.script_core.specs.State.{State, add_gateway, all_phases, begin_block, is_declared, script_of_state}
-use Rattle.script_core.specs.Spelling.{outside, IsField, Sets, RuleLine, ReplicaLine, GatewayLine, BlockLine}
-use Rattle.script_core.proofs.FieldLaws.{cut_found}
+use Rattle.script_core.specs.Spelling.{spaced, IsField, IsTimeText, outside, Sets, RuleLine, ReplicaLine, ArePartitionTexts, at_all_times, from_to, GatewayLine, BlockLine}
+use Rattle.script_core.proofs.FieldLaws.{no_space, Cut, cut_found}
 use Rattle.script_core.proofs.ValueLaws.{is_none_is, time_found, ulid_found, value_found}
 use Rattle.script_core.proofs.Kept.{Kept, so_far_of, gateway_kept, block_kept}
-use Rattle.script_core.proofs.LineTools.{is_field, cut_rest, only_found, valued_found, replica_found, early_found}
+use Rattle.script_core.proofs.LineTools.{is_field, cut_rest, cut_end, only_found, valued_found, replica_found, early_found}
 use Rattle.script_core.proofs.SpelledValues.{near_spelled, free_spelled}
 use Rattle.script_core.proofs.SpelledRules.{rule_sets}
 use Rattle.script_core.specs.Limits.{most_blocks}
@@ -55,6 +56,42 @@ labels_found None labels h = absurd cc
 labels_found (Some text) labels h =
     let a = unless_ok (not (is_empty text)) (Bad causes.BadShape) (whole_labels (length text) (read_set text)) (Some labels) h in
     (text, refl, subst (λ t. IsSetText t labels) (take_all (length text) text (omega arith)) (set_text_found text labels (length text) (whole_found (length text) (read_set text) labels a.1)))
+
+pub not_below : (low high : ℤ) → not (int_lt high low) ≡ true → low ≤ℤ high
+not_below low high h = let test = not-true (int_lt high low) h in grind (arith, ints)
+
+-- ---- partitions
+
+-- what is left behind a field, as its texts
+abbrev AreLeft : Option (List ℕ) → List (List ℕ) → Type 0
+AreLeft rest [] = rest ≡ None
+AreLeft rest (text ∷ texts) = rest ≡ Some (spaced (text ∷ texts))
+
+partition_found : (rest : Option (List ℕ)) (partition : Partition) → partition_field rest ≡ Ok partition → partition.low ≤ℤ partition.high
+    → (texts : List (List ℕ)) × AreLeft rest texts × ArePartitionTexts texts partition
+unfolding partition_field
+partition_found None partition h order = ([], refl, at_all_times refl (sym (ok_is _ _ h)))
+partition_found (Some text) partition h order =
+    let low_text = (next_field (Some text)).0 in
+    let after_low = (next_field (Some text)).1 in
+    let a = bind_ok (only_field after_low) _ _ h in
+    let b = unless_ok (not (is_empty low_text)) causes.BadShape _ _ a.2 in
+    let c = bind_ok (time_field low_text) _ _ b.1 in
+    let d = bind_ok (time_field a.0) _ _ c.2 in
+    let made : record { low = c.0; high = d.0 } ≡ partition = ok_is _ _ d.2 in
+    let high = only_found after_low a.0 a.1 in
+    let cut = cut_rest (Some text) low_text after_low a.0 (cut_found (Some text)) high.0 in
+    let low_is = time_found low_text c.0 c.1 in
+    let high_is = time_found a.0 d.0 d.1 in
+    let low_at : IsTimeText low_text partition.low = subst (IsTimeText low_text) (ap (λ (p : Partition). p.low) made) (record { field = is_field low_text b.0 cut.1; written = low_is.0; near = near_spelled c.0 low_is.1 }) in
+    let high_at : IsTimeText a.0 partition.high = subst (IsTimeText a.0) (ap (λ (p : Partition). p.high) made) (record { field = high.1; written = high_is.0; near = near_spelled d.0 high_is.1 }) in
+    (low_text ∷ a.0 ∷ [], cut.0, from_to low_text a.0 refl low_at high_at order)
+
+-- a name with the texts behind it
+named_cut : (left : Option (List ℕ)) (name : List ℕ) (rest : Option (List ℕ)) (texts : List (List ℕ)) → Cut left name rest → not (is_empty name) ≡ true → AreLeft rest texts
+    → (left ≡ Some (spaced (name ∷ texts))) × (no_space name ≡ true)
+named_cut left name rest [] cut some are = cut_end left name rest cut are some
+named_cut left name rest (text ∷ texts) cut some are = cut_rest left name rest (spaced (text ∷ texts)) cut are
 
 module _ (st after : State) (line : List ℕ) (left : Option (List ℕ)) (kept : Kept st) where
   -- a rule line by what it says, where all that a rule line asks for holds
@@ -109,24 +146,32 @@ module _ (st after : State) (line : List ℕ) (left : Option (List ℕ)) (kept :
   pub gateway_line_found : Starts line (codes "gateway") left → gateway_line (closed st) left ≡ Ok after → GatewayLine (so_far_of st) line (so_far_of after) × Kept after
   unfolding gateway_line add_gateway
   gateway_line_found starts h =
-      let a = bind_ok _ _ _ h in
-      let b = unless_ok _ _ _ _ a.2 in
-      let c = unless_ok _ _ _ _ b.1 in
+      let name = (next_field left).0 in
+      let rest = (next_field left).1 in
+      let a = unless_ok (not (is_empty name)) (Bad causes.BadShape) _ _ h in
+      let b = bind_ok (bad (partition_field rest)) _ _ a.1 in
+      let c = unless_ok _ _ _ _ b.2 in
       let d = unless_ok _ _ _ _ c.1 in
       let e = unless_ok _ _ _ _ d.1 in
-      let same = ok_is _ _ e.1 in
-      let name = only_found left a.0 (refused_as_ok _ _ _ a.1) in (
+      let f = unless_ok _ _ _ _ e.1 in
+      let g = unless_ok _ _ _ _ f.1 in
+      let same = ok_is _ _ g.1 in
+      let found = partition_found rest b.0 (refused_as_ok _ _ _ b.1) (not_below b.0.low b.0.high e.0) in
+      let cut = named_cut left name rest found.0 (cut_found left) a.0 found.1 in (
         record {
-          name = a.0;
-          spelled = starts a.0 name.0;
-          field = name.1;
-          is_name = b.0;
-          early = early_found st.phases st.phase kept.tasks.no_phase c.0;
-          new = is_none_is _ d.0;
-          few = ltb-true _ _ e.0;
+          name = name;
+          texts = found.0;
+          partition = b.0;
+          spelled = starts (spaced (name ∷ found.0)) cut.0;
+          field = is_field name a.0 cut.1;
+          is_name = c.0;
+          are_texts = found.2;
+          early = early_found st.phases st.phase kept.tasks.no_phase d.0;
+          new = is_none_is _ f.0;
+          few = ltb-true _ _ g.0;
           adds = ap so_far_of (sym same);
         },
-        subst Kept same (record { blocks = kept.blocks; tasks = gateway_kept st.gateways st.phases st.phase st.synced st.hands st.activities kept.tasks a.0 (is_none_is st.phase c.0) }),
+        subst Kept same (record { blocks = kept.blocks; tasks = gateway_kept st.gateways st.phases st.phase st.synced st.hands st.activities kept.tasks name (is_none_is st.phase d.0) }),
       )
 
   pub block_line_found : (number : ℕ) → Starts line (codes "block") left → block_line (closed st) number left ≡ Ok after → BlockLine (so_far_of st) line (so_far_of after) × Kept after

@@ -14,6 +14,7 @@ use Rattle.label_sets.specs.Notation.{is_name}
 use Rattle.label_sets.specs.declared.sample.Sample.{Sample}
 use Rattle.label_sets.specs.declared.series.Series.{Series}
 use Rattle.matchers.specs.declared.matcher.Matcher.{Matcher}
+use Rattle.moment_core.specs.declared.partition.Partition.{Partition}
 use Rattle.moment_core.specs.declared.rules.Rules.{Rules}
 use Rattle.list_core.proofs.Order.{sorted_nil}
 use Rattle.script_core.specs.declared.block.Block.{Block}
@@ -30,9 +31,9 @@ use Rattle.script_workers.specs.Hands.{gateway_count, hands_of, hands_from}
 use Rattle.script_core.specs.State.{gateway_named}
 use Rattle.script_core.specs.Values.{with_rule, agree}
 use Rattle.script_workers.specs.Works.{works_in, works_of, has_sync}
-use Rattle.script_core.specs.Lawful.{AreLawfulRules, AreLawfulLabels, HasLawfulSamples, IsLawfulInline, HasSeries, IsLawfulBlock, AreLawfulBlocks, IsLawfulWork, IsLawfulPhase, AreLawfulPhases, IsLawfulSelector, IsLawfulScript}
+use Rattle.script_core.specs.Lawful.{AreLawfulRules, AreLawfulLabels, HasLawfulSamples, IsLawfulInline, HasSeries, IsLawfulBlock, AreLawfulBlocks, IsLawfulWork, IsLawfulPhase, AreLawfulPhases, IsLawfulPartition, IsLawfulSelector, IsLawfulScript}
 use Rattle.script_core.specs.Spelling as spelling
-use Rattle.script_core.specs.Spelling.{SoFar, HasEnded, IsValueText, AreSampleFields, RuleLine, ReplicaLine, GatewayLine, BlockLine, SeriesLine, AtLine, AddsTask, UploadLine, SyncLine, QueryLine, Says, Say, Spells}
+use Rattle.script_core.specs.Spelling.{SoFar, HasEnded, IsValueText, AreSampleFields, RuleLine, ReplicaLine, ArePartitionTexts, GatewayLine, BlockLine, SeriesLine, AtLine, AddsTask, UploadLine, SyncLine, QueryLine, Says, Say, Spells}
 use Rattle.script_core.proofs.Kept.{works_of-append, works_of-more}
 use Rattle.script_core.proofs.LineTools.{no_end}
 use Rattle.script_core.proofs.LawfulLabels.{block_labels, series_labels, small_patterns}
@@ -42,14 +43,16 @@ use Rattle.script_core.proofs.SpelledSeries.{each_placed}
 use Rattle.script_workers.proofs.HandLaws.{few_counted}
 use Rattle.script_core.proofs.SpelledRules.{rule_set}
 use Rattle.script_workers.specs.Limits.{most_workers}
-use Rattle.script_core.specs.Limits.{most_tasks}
+use Rattle.script_core.specs.Limits.{most_gateways, most_tasks}
 
 -- what is lawful so far: all but the last block have series
 pub record InOrder (so_far : SoFar) : Type 0 where
   pub rules : AreLawfulRules so_far.script.rules
   pub agreed : so_far.script.phases ≢ [] → agree so_far.script.rules ≡ true
-  pub few_gateways : length so_far.script.gateways ≤ 1
+  pub few_gateways : length so_far.script.gateways ≤ most_gateways
   pub names : All (λ name. is_name name ≡ true) so_far.script.gateways
+  pub partitioned : length so_far.script.partitions ≡ length so_far.script.gateways
+  pub partitions : All IsLawfulPartition so_far.script.partitions
   pub blocks : AreLawfulBlocks so_far.script.blocks
   pub full : (others : List Block) (block : Block) → so_far.script.blocks ≡ others ++ block ∷ [] → All (λ (b : Block). HasSeries b.body) others
   pub selectors : All (IsLawfulSelector so_far.script.rules.replicas) so_far.script.selectors
@@ -101,6 +104,10 @@ some_samples [] samples some are none = some refl
 some_samples (text ∷ texts) [] some are none = are
 some_samples (text ∷ texts) (sample ∷ samples) some are none = cc
 
+lawful_partition : (texts : List (List ℕ)) (partition : Partition) → ArePartitionTexts texts partition → IsLawfulPartition partition
+lawful_partition texts partition (spelling.at_all_times none is) = inl is
+lawful_partition texts partition (spelling.from_to low_text high_text are low high order) = inr (low.near.early, order, high.near.late)
+
 module _ (before after : SoFar) (line : List ℕ) (order : InOrder before) where
   rule_in_order : RuleLine before line after → InOrder after
   rule_in_order says = subst InOrder (sym says.adds) (record {
@@ -108,6 +115,8 @@ module _ (before after : SoFar) (line : List ℕ) (order : InOrder before) where
     agreed = λ some. absurd (some says.early);
     few_gateways = order.few_gateways;
     names = order.names;
+    partitioned = order.partitioned;
+    partitions = order.partitions;
     blocks = order.blocks;
     full = order.full;
     selectors = early_selectors _ before.script.selectors (order.none_selected says.early);
@@ -132,6 +141,8 @@ module _ (before after : SoFar) (line : List ℕ) (order : InOrder before) where
     agreed = λ some. absurd (some says.early);
     few_gateways = order.few_gateways;
     names = order.names;
+    partitioned = order.partitioned;
+    partitions = order.partitions;
     blocks = order.blocks;
     full = order.full;
     selectors = early_selectors _ before.script.selectors (order.none_selected says.early);
@@ -149,6 +160,8 @@ module _ (before after : SoFar) (line : List ℕ) (order : InOrder before) where
         agreed = order.agreed;
         few_gateways = omega arith;
         names = All-push (λ name. is_name name ≡ true) before.script.gateways says.name order.names says.is_name;
+        partitioned = omega (arith, order.partitioned, size, length-append before.script.partitions (says.partition ∷ []));
+        partitions = All-push IsLawfulPartition before.script.partitions says.partition order.partitions (lawful_partition says.texts says.partition says.are_texts);
         blocks = order.blocks;
         full = order.full;
         selectors = order.selectors;
@@ -168,6 +181,8 @@ module _ (before after : SoFar) (line : List ℕ) (order : InOrder before) where
         agreed = order.agreed;
         few_gateways = order.few_gateways;
         names = order.names;
+        partitioned = order.partitioned;
+        partitions = order.partitions;
         blocks = record {
           few = omega arith;
           each = All-push IsLawfulBlock before.script.blocks new order.blocks.each (record {
@@ -214,6 +229,8 @@ module _ (before after : SoFar) (line : List ℕ) (order : InOrder before) where
         agreed = order.agreed;
         few_gateways = order.few_gateways;
         names = order.names;
+        partitioned = order.partitioned;
+        partitions = order.partitions;
         blocks = record {
           few = omega arith;
           each = All-push IsLawfulBlock says.others more (All-front IsLawfulBlock says.others last each) (record { ulid = old.ulid; not_reserved = old.not_reserved; labels = old.labels; body = inline });
@@ -344,6 +361,8 @@ module _ (before after : SoFar) (number : ℕ) (line : List ℕ) (order : InOrde
         agreed = λ _. agreed_by before.script.rules before.script.phases (λ early. agree_tested before.script.rules (says.first early)) order.agreed;
         few_gateways = order.few_gateways;
         names = order.names;
+        partitioned = order.partitioned;
+        partitions = order.partitions;
         blocks = order.blocks;
         full = order.full;
         selectors = order.selectors;
@@ -360,6 +379,8 @@ module _ (before after : SoFar) (number : ℕ) (line : List ℕ) (order : InOrde
         agreed = λ _. order.agreed (λ none. no_end adds.others adds.phase (sym adds.last ∙ none));
         few_gateways = order.few_gateways;
         names = order.names;
+        partitioned = order.partitioned;
+        partitions = order.partitions;
         blocks = order.blocks;
         full = order.full;
         selectors = order.selectors;
@@ -391,6 +412,8 @@ module _ (before after : SoFar) (number : ℕ) (line : List ℕ) (order : InOrde
         agreed = λ _. order.agreed (λ none. no_end adds.others adds.phase (sym adds.last ∙ none));
         few_gateways = order.few_gateways;
         names = order.names;
+        partitioned = order.partitioned;
+        partitions = order.partitions;
         blocks = order.blocks;
         full = order.full;
         selectors = All-push (IsLawfulSelector before.script.rules.replicas) before.script.selectors says.selector order.selectors (says.selector_text, says.is_selector);
@@ -433,6 +456,8 @@ nothing_in_order = record {
   agreed = λ some. absurd (some refl);
   few_gateways = omega arith;
   names = All-nil (λ name. is_name name ≡ true);
+  partitioned = refl;
+  partitions = All-nil IsLawfulPartition;
   blocks = record { few = omega arith; each = All-nil IsLawfulBlock; once = none_once };
   full = λ others block is. absurd (no_end others block (sym is));
   selectors = All-nil (IsLawfulSelector []);
@@ -450,6 +475,8 @@ spelled_lawful text script spells =
       agreed = order.agreed;
       few_gateways = order.few_gateways;
       names = order.names;
+      partitioned = order.partitioned;
+      partitions = order.partitions;
       blocks = order.blocks;
       full = all_full script.blocks order.full spells.ended;
       selectors = order.selectors;

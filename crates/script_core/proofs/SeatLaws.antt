@@ -1,5 +1,5 @@
 -- The seats of a lawful script count from 1 over all its phases.
-use Rattle.std.proofs.Common.{◌≡◌, ℕ, zero, suc, ◌+◌, ◌<◌, ◌≤◌, get_or, List, [], ◌∷◌, ◌++◌, length, take, refl, sym, ap, ◌∙◌, subst, arith, Some}
+use Rattle.std.proofs.Common.{◌≡◌, ℕ, zero, suc, ◌+◌, ◌^◌, ◌<◌, ◌≤◌, get_or, List, [], ◌∷◌, ◌++◌, length, take, refl, sym, ap, ◌∙◌, subst, arith, Some}
 use Rattle.std.specs.Prelude.{slice_get}
 use Rattle.std.proofs.Math.Seq.{take-suc}
 use Rattle.std.proofs.lemmas.List.{length-append}
@@ -12,10 +12,18 @@ use Rattle.script_workers.proofs.PhaseCounts.{few_hands, works_upto, workers_cou
 use Rattle.script_workers.proofs.StaffLaws.{are_places}
 use Rattle.script_core.specs.declared.script.Script.{Script}
 use Rattle.script_core.specs.Lawful.{IsLawfulScript}
+use Rattle.script_core.specs.Limits.{most_gateways}
 use Rattle.script_core.specs.Workers.{seats_before, workers_after, workers_of, workers_before}
 
-pub few_gateways : (script : Script) → IsLawfulScript script → gateway_count script.gateways ≤ 1
+pub few_gateways : (script : Script) → IsLawfulScript script → gateway_count script.gateways ≤ most_gateways
 few_gateways script lawful = omega (arith, lawful.few_gateways)
+
+pub few_partitions : (script : Script) → IsLawfulScript script → length script.partitions ≤ 2 ^ 32
+few_partitions script lawful = omega (arith, lawful.partitioned, lawful.few_gateways)
+
+-- each gateway that is counted has a partition
+pub partitions_counted : (script : Script) → IsLawfulScript script → length script.partitions ≡ gateway_count script.gateways
+partitions_counted script lawful = omega (arith, lawful.partitioned, lawful.few_gateways)
 
 module _ (script : Script) where
   abbrev gateways : ℕ

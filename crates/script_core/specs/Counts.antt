@@ -32,6 +32,7 @@ abbrev pub members_of_script : Script → ℕ
 members_of_script script =
     sum_by members_of_name script.rules.replicas
     + sum_by members_of_name script.gateways
+    + length script.partitions
     + sum_by members_of_block script.blocks
     + sum_by members_of_selector script.selectors
     + sum_by members_of_phase script.phases

@@ -1,5 +1,5 @@
 -- What holds of each script that is read, whatever its text.
-use Rattle.std.specs.Prelude.{◌≡◌, ◌≢◌, ℕ, ◌^◌, ◌<◌, ◌≤◌, ℤ, pos, neg_ℤ, ◌<ℤ◌, ◌≤ℤ◌, List, [], ◌∷◌, ◌++◌, length, map, IsTrue, IsFalse, nat_eq}
+use Rattle.std.specs.Prelude.{◌≡◌, ◌≢◌, ◌⊎◌, ℕ, ◌^◌, ◌<◌, ◌≤◌, ℤ, pos, neg_ℤ, ◌<ℤ◌, ◌≤ℤ◌, List, [], ◌∷◌, ◌++◌, length, map, IsTrue, IsFalse, nat_eq}
 use Rattle.std.specs.List.{All, IsDistinct}
 use Rattle.std.specs.List.Sorted.{IsStrictlySortedBy, IsNonDecreasingBy}
 use Rattle.std.specs.Ordering.{int_cmp}
@@ -13,8 +13,10 @@ use Rattle.matchers.specs.SelectorRefusals.{IsReadable}
 use Rattle.matchers.specs.declared.matcher.Matcher.{Matcher}
 use Rattle.moment_core.specs.declared.rules.Rules.{Rules}
 use Rattle.moment_core.specs.Limits.{longest_tick}
+use Rattle.moment_core.specs.Partitions.{all_times}
+use Rattle.moment_core.specs.declared.partition.Partition.{Partition}
 use Rattle.script_workers.specs.Limits.{most_workers}
-use Rattle.script_core.specs.Limits.{most_blocks, most_tasks}
+use Rattle.script_core.specs.Limits.{most_gateways, most_blocks, most_tasks}
 use Rattle.script_core.specs.declared.block.Block.{Block}
 use Rattle.script_core.specs.declared.body.Body.{Body}
 use Rattle.script_core.specs.declared.body.Body.TheVariants.{Inline}
@@ -100,6 +102,12 @@ pub record AreLawfulPhases (gateways : List (List ℕ)) (blocks : List Block) (s
   -- each gateway has a sync before each query
   pub synced : (before after : List Work) (low high : ℤ) (selector gateway : ℕ) → works_of phases ≡ before ++ Query low high selector ∷ after → gateway < length gateways → IsTrue (has_sync before gateway)
 
+-- all times, or a range of times that a script may name
+abbrev pub IsLawfulPartition : Partition → Type 0
+IsLawfulPartition partition =
+    (partition ≡ all_times)
+    ⊎ ((neg_ℤ (pos (2 ^ 62)) ≤ℤ partition.low) × (partition.low ≤ℤ partition.high) × (partition.high ≤ℤ pos (2 ^ 62)))
+
 -- Some text is read as the selector, where these are the replica labels.
 abbrev pub IsLawfulSelector : List (List ℕ) → List Matcher → Type 0
 IsLawfulSelector replicas selector = (text : List ℕ) × IsReadable text replicas selector
@@ -108,8 +116,11 @@ pub record IsLawfulScript (script : Script) : Type 0 where
   pub rules : AreLawfulRules script.rules
   -- once a phase begins, the rules agree
   pub agreed : script.phases ≢ [] → IsTrue (agree script.rules)
-  pub few_gateways : length script.gateways ≤ 1
+  pub few_gateways : length script.gateways ≤ most_gateways
   pub names : All (λ name. IsTrue (is_name name)) script.gateways
+  -- each gateway has a partition
+  pub partitioned : length script.partitions ≡ length script.gateways
+  pub partitions : All IsLawfulPartition script.partitions
   pub blocks : AreLawfulBlocks script.blocks
   -- each block has a series
   pub full : All (λ block. HasSeries block.body) script.blocks

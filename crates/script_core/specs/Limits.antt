@@ -5,6 +5,9 @@ use Rattle.std.specs.Prelude.{ℕ}
 abbrev pub longest_text : ℕ
 longest_text = 67_108_864
 
+abbrev pub most_gateways : ℕ
+most_gateways = 16
+
 abbrev pub most_blocks : ℕ
 most_blocks = 4_096
 

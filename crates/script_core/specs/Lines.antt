@@ -6,7 +6,9 @@ use Rattle.reading_core.specs.Reading.{◌>>=◌, ◌>>◌, unless, refused_as}
 use Rattle.label_sets.specs.declared.label.Label.{Label}
 use Rattle.label_sets.specs.declared.label_refusal.LabelRefusal.{LabelRefusal}
 use Rattle.matchers.specs.declared.matcher.Matcher.{Matcher}
+use Rattle.moment_core.specs.Partitions.{all_times}
 use Rattle.moment_core.specs.declared.moment.Moment.{Moment}
+use Rattle.moment_core.specs.declared.partition.Partition.{Partition}
 use Rattle.moment_core.specs.declared.rules.Rules.{Rules}
 use Rattle.script_core.specs.declared.cause.LineCause.{LineCause}
 use Rattle.script_core.specs.declared.cause.LineCause.TheVariants as causes
@@ -45,14 +47,28 @@ rule_line st left = do
   unless (is_early st) (Bad causes.LateLine)
   Ok (record st { rules = set })
 
--- gateway NAME
+-- what is left behind a gateway's name: nothing, for all times, or LOW HIGH
+unfoldable pub partition_field : Option (List ℕ) → Result Partition LineCause
+partition_field None = Ok all_times
+partition_field (Some text) = do
+  let low_text = next_field (Some text)
+  high_text ← only_field low_text.1
+  unless (not (is_empty low_text.0)) causes.BadShape
+  low ← time_field low_text.0
+  high ← time_field high_text
+  Ok (record { low = low; high = high })
+
+-- gateway NAME, or gateway NAME LOW HIGH
 unfoldable pub gateway_line : State → Option (List ℕ) → Result State LineRefusal
 gateway_line st left = do
-  name ← bad (only_field left)
-  unless (is_name name) (Bad causes.BadName)
+  let name = next_field left
+  unless (not (is_empty name.0)) (Bad causes.BadShape)
+  partition ← bad (partition_field name.1)
+  unless (is_name name.0) (Bad causes.BadName)
   unless (is_early st) (Bad causes.LateLine)
-  unless (is_none (gateway_named st.gateways name)) (Bad causes.RepeatedGateway)
-  add_gateway st name
+  unless (not (int_lt partition.high partition.low)) (Bad causes.BadTimes)
+  unless (is_none (gateway_named st.gateways name.0)) (Bad causes.RepeatedGateway)
+  add_gateway st name.0 partition
 
 -- a label set has to take all of its text
 abbrev pub whole_labels : ℕ → Result (List Label × ℕ) LabelRefusal → Result (Option (List Label)) LineRefusal

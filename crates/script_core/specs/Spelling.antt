@@ -19,12 +19,14 @@ use Rattle.label_sets.specs.declared.series.Series.{Series}
 use Rattle.matchers.specs.SelectorRefusals.{IsReadable}
 use Rattle.matchers.specs.declared.matcher.Matcher.{Matcher}
 use Rattle.moment_core.specs.MomentText.{IsMomentText}
+use Rattle.moment_core.specs.Partitions.{all_times}
 use Rattle.moment_core.specs.SpanText.{IsSpanText}
 use Rattle.moment_core.specs.StandardRules.{standard_rules}
+use Rattle.moment_core.specs.declared.partition.Partition.{Partition}
 use Rattle.moment_core.specs.declared.rules.Rules.{Rules}
 use Rattle.ulid_core.specs.UlidText.{IsUlidText}
 use Rattle.moment_core.specs.Limits.{longest_tick}
-use Rattle.script_core.specs.Limits.{longest_text, most_blocks, most_tasks}
+use Rattle.script_core.specs.Limits.{longest_text, most_gateways, most_blocks, most_tasks}
 use Rattle.script_core.specs.declared.block.Block.{Block}
 use Rattle.script_core.specs.declared.body.Body.TheVariants.{Inline}
 use Rattle.script_workers.specs.declared.phase.Phase.{Phase}
@@ -140,7 +142,7 @@ pub record SoFar : Type 0 where
 -- what there is before the first line
 abbrev pub nothing : SoFar
 nothing =
-    record { script = record { rules = standard_rules; gateways = []; blocks = []; selectors = []; phases = [] }; in_block = false }
+    record { script = record { rules = standard_rules; gateways = []; partitions = []; blocks = []; selectors = []; phases = [] }; in_block = false }
 
 -- after a line that no series line may follow
 abbrev pub outside : Script → SoFar
@@ -182,16 +184,24 @@ pub record ReplicaLine (before : SoFar) (line : List ℕ) (after : SoFar) : Type
   -- It joins the replica labels of the lines before it.
   pub adds : after ≡ outside (record before.script { rules = record before.script.rules { replicas = before.script.rules.replicas ++ name ∷ [] } })
 
--- gateway NAME
+-- What follows a gateway's name: nothing, for all times, or the first time of its partition and the last.
+pub data ArePartitionTexts (texts : List (List ℕ)) (partition : Partition) : Type 0 where
+  at_all_times : texts ≡ [] → partition ≡ all_times → ArePartitionTexts texts partition
+  from_to : (low_text high_text : List ℕ) → texts ≡ low_text ∷ high_text ∷ [] → IsTimeText low_text partition.low → IsTimeText high_text partition.high → partition.low ≤ℤ partition.high → ArePartitionTexts texts partition
+
+-- gateway NAME, or gateway NAME LOW HIGH
 pub record GatewayLine (before : SoFar) (line : List ℕ) (after : SoFar) : Type 0 where
   pub name : List ℕ
-  pub spelled : line ≡ spaced (codes "gateway" ∷ name ∷ [])
+  pub texts : List (List ℕ)
+  pub partition : Partition
+  pub spelled : line ≡ spaced (codes "gateway" ∷ name ∷ texts)
   pub field : IsField name
   pub is_name : IsTrue (is_name name)
+  pub are_texts : ArePartitionTexts texts partition
   pub early : IsEarly before
   pub new : position (λ gateway. bytes_eq gateway name) before.script.gateways ≡ None
-  pub few : length before.script.gateways < 1
-  pub adds : after ≡ outside (record before.script { gateways = before.script.gateways ++ name ∷ [] })
+  pub few : length before.script.gateways < most_gateways
+  pub adds : after ≡ outside (record before.script { gateways = before.script.gateways ++ name ∷ []; partitions = before.script.partitions ++ partition ∷ [] })
 
 -- block ULID MIN MAX LABELS
 pub record BlockLine (before : SoFar) (line : List ℕ) (after : SoFar) : Type 0 where

@@ -11,9 +11,10 @@ use Rattle.label_sets.specs.declared.label.Label.{Label}
 use Rattle.label_sets.specs.declared.sample.Sample.{Sample}
 use Rattle.label_sets.specs.declared.series.Series.{Series}
 use Rattle.matchers.specs.declared.matcher.Matcher.{Matcher}
+use Rattle.moment_core.specs.declared.partition.Partition.{Partition}
 use Rattle.moment_core.specs.declared.rules.Rules.{Rules}
 use Rattle.script_workers.specs.Limits.{most_workers}
-use Rattle.script_core.specs.Limits.{most_blocks, most_tasks}
+use Rattle.script_core.specs.Limits.{most_gateways, most_blocks, most_tasks}
 use Rattle.script_core.specs.declared.cause.LineCause.TheVariants.{EmptyInline, NoBlock, NoPhase, OutsideBlock, RepeatedSeries}
 use Rattle.script_core.specs.declared.line_refusal.LineRefusal.{LineRefusal}
 use Rattle.script_core.specs.declared.line_refusal.LineRefusal.TheVariants.{Bad, BlockChanged, TooMany}
@@ -44,6 +45,8 @@ pub record State : Type 0 where
   pub rules : Rules
   -- the names of the gateways
   pub gateways : List (List ℕ)
+  -- their partitions
+  pub partitions : List Partition
   -- the places of those that have a sync line, each once
   pub synced : List ℕ
   -- the blocks before the last, and the last
@@ -73,7 +76,7 @@ last_of block =
 -- what there is before the first line
 unfoldable pub start : Rules → State
 start rules =
-    record { rules = rules; gateways = []; synced = []; blocks = []; last = None; continues = false; ulids = []; selectors = []; phases = []; phase = None; hands = []; activities = 0 }
+    record { rules = rules; gateways = []; partitions = []; synced = []; blocks = []; last = None; continues = false; ulids = []; selectors = []; phases = []; phase = None; hands = []; activities = 0 }
 
 -- a declared block as the script has it
 abbrev pub block_of : Last → Block
@@ -116,10 +119,10 @@ end_block st = do
   has_ended st.last
   Ok (record st { continues = false })
 
-unfoldable pub add_gateway : State → List ℕ → Result State LineRefusal
-add_gateway st name = do
-  unless (nat_lt (length st.gateways) 1) TooMany
-  Ok (record st { gateways = st.gateways ++ name ∷ [] })
+unfoldable pub add_gateway : State → List ℕ → Partition → Result State LineRefusal
+add_gateway st name partition = do
+  unless (nat_lt (length st.gateways) most_gateways) TooMany
+  Ok (record st { gateways = st.gateways ++ name ∷ []; partitions = st.partitions ++ partition ∷ [] })
 
 unfoldable pub begin_block : State → Last → Result State LineRefusal
 begin_block st block = do
@@ -194,7 +197,7 @@ are_all_synced st = list_all (is_synced st.synced) (range_with_len 0 (length st.
 -- the script of a state that no line follows
 abbrev pub script_of_state : State → Script
 script_of_state st =
-    record { rules = st.rules; gateways = st.gateways; blocks = all_blocks st.blocks st.last; selectors = st.selectors; phases = all_phases st.phases st.phase }
+    record { rules = st.rules; gateways = st.gateways; partitions = st.partitions; blocks = all_blocks st.blocks st.last; selectors = st.selectors; phases = all_phases st.phases st.phase }
 
 -- what is left after the last line, as a script
 unfoldable pub finish : State → Result Script ScriptRefusal

@@ -9,13 +9,13 @@ use crate::{BlockList, LineCause, Script, ScriptRefusal};
 use label_sets::{LabelSet, Sample, SampleList, Text, TextList};
 use list_core::NoMemory;
 use matchers::{Selector, SelectorList};
-use moment_core::Rules;
+use moment_core::{Partition, PartitionList, Rules};
 use script_workers::{Hand, Phase, PhaseList, Task, Work, add_hands, gateway_count};
 use std::alloc::Global;
 use std::collections::BTreeSet;
 use ulid_core::Ulid;
 
-const GATEWAYS: usize = 1;
+const MOST_GATEWAYS: usize = 16;
 
 const MOST_BLOCKS: usize = 4_096;
 
@@ -29,6 +29,8 @@ const MOST_WORKERS: usize = 64;
 pub(crate) struct Draft {
     pub rules: Rules,
     pub gateways: TextList,
+    /// The partitions of the gateways.
+    pub partitions: PartitionList,
     /// The places of the gateways that have a sync line, each once.
     pub synced: Vec<u32>,
     /// The blocks before the last.
@@ -70,6 +72,7 @@ impl Draft {
         Draft {
             rules,
             gateways: TextList::new(alloc),
+            partitions: PartitionList::new(alloc),
             synced: Vec::new(alloc),
             blocks: BlockList::new(alloc),
             last: None,
@@ -95,6 +98,7 @@ impl Draft {
         Ok(Script {
             rules: self.rules,
             gateways: self.gateways,
+            partitions: self.partitions,
             blocks: self.blocks,
             selectors: self.selectors,
             phases: self.phases,
@@ -150,12 +154,17 @@ impl Draft {
     }
 
     #[tactic(auto, unfolding(crate::specs::View::state_of, crate::specs::State::add_gateway))]
-    pub(crate) fn add_gateway(&mut self, name: Text) -> Result<(), LineRefusal>
+    pub(crate) fn add_gateway(
+        &mut self,
+        name: Text,
+        partition: Partition,
+    ) -> Result<(), LineRefusal>
         ensures { Gives line_refusals.NoMemory (λ _. state_of self.new) result
-            (add_gateway (state_of self.old) name) }
+            (add_gateway (state_of self.old) name partition) }
     {
-        LineRefusal::TooMany.unless(self.gateways.len() < GATEWAYS)?;
+        LineRefusal::TooMany.unless(self.gateways.len() < MOST_GATEWAYS)?;
         self.gateways.push(name)?;
+        self.partitions.push(partition)?;
         Ok(())
     }
 

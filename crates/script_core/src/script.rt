@@ -3,7 +3,7 @@ use crate::{BlockList, ScriptRefusal};
 use label_sets::TextList;
 use list_core::NoMemory;
 use matchers::SelectorList;
-use moment_core::Rules;
+use moment_core::{PartitionList, Rules};
 use script_workers::{PhaseList, WorkerList, gateway_count, phase_workers, seats_of};
 use std::alloc::Global;
 
@@ -13,6 +13,8 @@ pub struct Script {
     pub rules: Rules,
     /// The names of the gateways, in the order of their lines.
     pub gateways: TextList,
+    /// The partitions of the gateways, in the same order.
+    pub partitions: PartitionList,
     /// The blocks in the order of their lines.
     pub blocks: BlockList,
     /// The selectors in the order of the query lines.

@@ -1,9 +1,9 @@
 //! The lines before the first phase: rules, gateways, and blocks with their series.
 
-ghost use Rattle.std.specs.Prelude.{option_copied};
+ghost use Rattle.std.specs.Prelude.{◌≡◌, option_copied};
 ghost use Rattle.reading_core.specs.Reading.{Gives};
 ghost use Rattle.script_core.specs.declared.line_refusal.LineRefusal.TheVariants as line_refusals;
-ghost use Rattle.script_core.specs.Lines.{rule_line, gateway_line, block_line, last_labels, series_line, first_labels};
+ghost use Rattle.script_core.specs.Lines.{rule_line, partition_field, gateway_line, block_line, last_labels, series_line, first_labels};
 ghost use Rattle.script_core.specs.View.{state_of};
 
 use crate::LineCause;
@@ -15,6 +15,7 @@ use crate::rule_kind::RuleKind;
 use crate::samples::{are_rising, are_whole, have_small_numbers, read_samples};
 use crate::values::{is_reserved, time, ulid};
 use label_sets::{LabelRefusal, LabelSet, Text, is_name};
+use moment_core::Partition;
 use std::alloc::Global;
 
 /// `rule NAME VALUE`, where the name `replica-label` adds a label and each other name sets its rule
@@ -34,7 +35,7 @@ pub(crate) fn rule_line(
     LineCause::LateLine.unless(draft.phase.is_none())
 }
 
-/// `gateway NAME`
+/// `gateway NAME` or `gateway NAME LOW HIGH`
 #[tactic(auto, unfolding(crate::specs::View::state_of, crate::specs::Lines::gateway_line))]
 pub(crate) fn gateway_line(
     draft: &mut Draft,
@@ -44,11 +45,33 @@ pub(crate) fn gateway_line(
     ensures { Gives line_refusals.NoMemory (λ _. state_of draft.new) result
         (gateway_line (state_of draft.old) (option_copied fields.entry)) }
 {
-    let name = only_field(fields)?;
+    let (name, rest) = next_field(fields);
+    LineCause::BadShape.unless(!name.is_empty())?;
+    let partition = partition(rest)?;
     LineCause::BadName.unless(is_name(name))?;
     LineCause::LateLine.unless(draft.phase.is_none())?;
+    LineCause::BadTimes.unless(partition.low <= partition.high)?;
     LineCause::RepeatedGateway.unless(draft.gateway_named(name).is_none())?;
-    draft.add_gateway(Text::from_str(alloc, name)?)
+    draft.add_gateway(Text::from_str(alloc, name)?, partition)
+}
+
+/// What is left behind a gateway's name: nothing, for all times, or `LOW HIGH`.
+#[tactic(auto, unfolding(crate::specs::Lines::partition_field))]
+fn partition(left: Option<&str>) -> Result<Partition, LineCause>
+    ensures { result ≡ partition_field (option_copied left.entry) }
+{
+    let Some(text) = left else {
+        return Ok(Partition::all_times());
+    };
+    let (low_text, rest) = next_field(Some(text));
+    let high_text = only_field(rest)?;
+    if low_text.is_empty() {
+        return Err(LineCause::BadShape);
+    }
+    Ok(Partition {
+        low: time(low_text)?,
+        high: time(high_text)?,
+    })
 }
 
 /// `block ULID MIN MAX LABELS`

@@ -1,5 +1,5 @@
 -- How many workers, tasks and seats there are in phases.
-use Rattle.std.proofs.Common.{◌≡◌, ℕ, zero, suc, ◌+◌, ◌≤◌, List, [], ◌∷◌, ◌++◌, length, take, fold, refl, sym, ap, ◌∙◌, arith, Some}
+use Rattle.std.proofs.Common.{◌≡◌, ℕ, zero, suc, ◌+◌, ◌*◌, ◌≤◌, List, [], ◌∷◌, ◌++◌, length, take, fold, refl, sym, ap, ◌∙◌, arith, Some}
 use Rattle.std.specs.Prelude.{slice_get}
 use Rattle.std.proofs.lemmas.List.FromFn.{length-map-range_with_len}
 use Rattle.std.proofs.lemmas.List.{length-append, length-map}
@@ -16,7 +16,7 @@ use Rattle.script_workers.specs.Hands.{greatest, hands_of_task, with_hand, with_
 use Rattle.script_workers.specs.Works.{works_in, works_of}
 use Rattle.script_workers.proofs.HandLaws.{with_by}
 
--- ---- with one gateway at most, a phase has no more workers than tasks
+-- ---- with sixteen gateways at most, a phase has at most sixteen workers for each task
 
 fold_few : (others more : List Hand) → length (fold with_hand others more) ≤ length others + length more
 fold_few others [] = omega arith
@@ -25,14 +25,14 @@ fold_few others (new ∷ more) =
     let one = with_by (λ hands. length hands ≤ length others + 1) others new (λ _. omega arith) (λ _. omega (arith, length-append others (new ∷ []))) in
     omega (arith, rest, one)
 
-task_few : (gateways place : ℕ) (work : Work) → gateways ≤ 1 → length (hands_of_task gateways place work) ≤ 1
+task_few : (gateways place : ℕ) (work : Work) → gateways ≤ 16 → length (hands_of_task gateways place work) ≤ 16
 unfolding hands_of_task
 task_few gateways place (works.Upload ulid stop) few = omega arith
 task_few gateways place (works.Sync gateway) few = omega arith
 task_few gateways place (works.Query low high selector) few =
     let count = length-map-range_with_len Gateway 0 gateways in omega (arith, few, count)
 
-from_few : (gateways : ℕ) (others : List Hand) (place : ℕ) (tasks : List Task) → gateways ≤ 1 → length (hands_from gateways others place tasks) ≤ length others + length tasks
+from_few : (gateways : ℕ) (others : List Hand) (place : ℕ) (tasks : List Task) → gateways ≤ 16 → length (hands_from gateways others place tasks) ≤ length others + 16 * length tasks
 unfolding hands_from with_hands
 from_few gateways others place [] few = omega arith
 from_few gateways others place (task ∷ tasks) few =
@@ -41,7 +41,7 @@ from_few gateways others place (task ∷ tasks) few =
     let one = task_few gateways place task.work few in
     omega (arith, rest, joined, one)
 
-pub few_hands : (gateways : ℕ) (tasks : List Task) → gateways ≤ 1 → length (hands_of gateways tasks) ≤ length tasks
+pub few_hands : (gateways : ℕ) (tasks : List Task) → gateways ≤ 16 → length (hands_of gateways tasks) ≤ 16 * length tasks
 few_hands gateways tasks few = let all = from_few gateways [] 0 tasks few in omega (arith, all)
 
 -- ---- the tasks of the phases up to one
@@ -77,12 +77,12 @@ worker_at gateways before tasks (first ∷ hands) (suc place) hand worker room i
 
 -- ---- the seats of the phases before
 
-pub seats_bound : (gateways before : ℕ) (phases : List Phase) → gateways ≤ 1 → seats_from gateways before phases ≤ before + length (works_of phases)
+pub seats_bound : (gateways before : ℕ) (phases : List Phase) → gateways ≤ 16 → seats_from gateways before phases ≤ before + 16 * length (works_of phases)
 unfolding seats_from
-seats_bound gateways before [] one = omega arith
-seats_bound gateways before (phase ∷ phases) one =
-    let rest = seats_bound gateways (seats_after before (length (hands_of gateways phase.tasks))) phases one in
-    omega (arith, rest, works_more phase phases, few_hands gateways phase.tasks one)
+seats_bound gateways before [] few = omega arith
+seats_bound gateways before (phase ∷ phases) few =
+    let rest = seats_bound gateways (seats_after before (length (hands_of gateways phase.tasks))) phases few in
+    omega (arith, rest, works_more phase phases, few_hands gateways phase.tasks few)
 
 pub seats_from-push : (gateways before : ℕ) (phases : List Phase) (phase : Phase) → seats_from gateways before (phases ++ phase ∷ []) ≡ seats_after (seats_from gateways before phases) (length (hands_of gateways phase.tasks))
 unfolding seats_from

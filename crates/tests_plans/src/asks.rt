@@ -1,6 +1,6 @@
 use crate::says::{cut, say};
-use moment_core::Partition;
-use querier::{Ask, PartitionList, fan_out};
+use moment_core::{Partition, PartitionList};
+use querier::{Ask, fan_out};
 
 /// Prints what each asked gateway is asked. The row is the times that are asked for, and then the gateways' partitions.
 pub(crate) fn print_asks(rt: &HostRuntime, text: &str) {

@@ -39,7 +39,6 @@ use Rattle.lifecycle_core.proofs.misses.GatewayEntries.{IsSeen, calls, syncs}
 use Rattle.lifecycle_core.proofs.misses.Misses.{MissesAt, task_in_order}
 use Rattle.lifecycle_core.proofs.phases.EachEntry.{phase_each, phases_each}
 use Rattle.lifecycle_core.proofs.phases.TasksMade.{part_filter, part_middle, part_whole}
-use Rattle.lifecycle_core.proofs.views.Metas.{puts_texts}
 use Rattle.lifecycle_core.proofs.views.Puts.{within_last}
 use Rattle.lifecycle_core.proofs.views.TrueViews.{origin_is_true}
 
@@ -196,7 +195,7 @@ module _ (setting : Setting) (journal : List Entry) (lawful : IsLawfulScript set
       told = all_told_by setting journal readable acts.kept (acting_puts setting journal acts) (acting_in_order setting journal lawful acts) honest
 
       view : IsTrueView setting journal gateway used
-      view = origin_is_true setting journal used lawful readable rising (puts_texts setting journal readable (λ e among. All-contains (PutsShipped setting) journal e (acting_puts setting journal acts) among)) told origin
+      view = origin_is_true setting journal used readable rising (acting_puts setting journal acts) told origin
 
       named_by : (series : List Series) (sources : List ℕ) → IsCallIn journal used question entries (Some (called.Answer series sources)) → (ulid : ℕ)
           → Contains sources ulid ↔ ((found : Found) × Contains used.view.kept found × (found.ulid ≡ ulid))

@@ -1,5 +1,5 @@
 -- Each end of a gateway's call in a run is that of a call in the journal, over the view of a sync in it.
-use Rattle.std.proofs.Common.{◌≡◌, inl, inr, ℕ, ℤ, zero, suc, ◌<◌, List, [], ◌∷◌, Option, Some, None, refl, ◌∙◌, ap, subst, arith}
+use Rattle.std.proofs.Common.{◌≡◌, inl, inr, ℕ, ℤ, zero, suc, ◌<◌, List, [], ◌∷◌, Option, Some, None, refl, sym, ◌∙◌, ap, subst, arith}
 use Rattle.std.specs.Prelude.{option_map, slice_get}
 use Rattle.matchers.specs.declared.matcher.Matcher.{Matcher}
 use Rattle.std.specs.List.{All, AllPairs}
@@ -10,6 +10,7 @@ use Rattle.meta_fetcher.specs.declared.sync_end.SyncEnd.{SyncEnd}
 use Rattle.meta_fetcher.specs.declared.sync_end.SyncEnd.TheVariants as fetched
 use Rattle.store_gateway.specs.SeriesRuns.{Query as Question, SeriesRun, asking}
 use Rattle.store_gateway.specs.declared.series_end.SeriesEnd.{SeriesEnd}
+use Rattle.querier.specs.declared.ask.Ask.{Ask}
 use Rattle.script_core.specs.Workers.{workers_of}
 use Rattle.script_workers.specs.declared.work.Work.{Work}
 use Rattle.script_workers.specs.declared.work.Work.TheVariants.{Upload, Sync, Query}
@@ -20,30 +21,33 @@ use Rattle.lifecycle_core.specs.Phases.{IsRunOf}
 use Rattle.lifecycle_core.specs.QueriesAsked.{IsQueryAt}
 use Rattle.lifecycle_core.specs.Setting.{Setting}
 use Rattle.lifecycle_core.specs.SyncsAndCalls.{IsCallIn, IsViewOf}
-use Rattle.lifecycle_core.specs.Tasks.{End, QueryTask, TaskRun, answered, sync_rules, synced, uploaded}
+use Rattle.lifecycle_core.specs.Tasks.{End, QueryTask, TaskRun, answered, ask_to, sync_rules, synced, uploaded}
 use Rattle.lifecycle_core.proofs.journals.Telling.{journal_rises}
 use Rattle.lifecycle_core.proofs.journals.Told.{IsOrigin, Rises}
+use Rattle.lifecycle_core.proofs.phases.GatewayParts.{part_ends}
 use Rattle.lifecycle_core.proofs.phases.TasksMade.{answers_are_made_by}
 
 -- the call behind an end
-record IsAsked (setting : Setting) (w : Work) (held : Option Use) (entries : List Entry) (used : Use) (end : SeriesEnd) : Type 0 where
+record IsAsked (setting : Setting) (gateway : Option ℕ) (w : Work) (held : Option Use) (entries : List Entry) (used : Use) (end : SeriesEnd) : Type 0 where
   number : ℕ
   selector : List Matcher
   low : ℤ
   high : ℤ
+  ask : Ask
   asks : w ≡ Query low high number
   selects : slice_get setting.script.selectors number ≡ Some selector
+  asked : ask_to setting gateway low high ≡ Some ask
   is : held ≡ Some used
-  run : SeriesRun used.view (asking selector setting.script.rules.replicas low high) entries (Some end)
+  run : SeriesRun used.view (asking selector setting.script.rules.replicas ask.low ask.high) entries (Some end)
 
-query_asked : (setting : Setting) (held : Option Use) (number : ℕ) (o : Option (List Matcher)) (low high : ℤ) (entries : List Entry) (used : Use) (end : SeriesEnd) → slice_get setting.script.selectors number ≡ o
-    → QueryTask held (option_map (λ matchers. record { selector = matchers; replicas = setting.script.rules.replicas; low = low; high = high }) o) entries (Some (answered used end)) → IsAsked setting (Query low high number) held entries used end
-query_asked setting None number o low high entries used end at (nil, inl none) = absurd (cc (none))
-query_asked setting None number o low high entries used end at (nil, inr same) = absurd (cc (same))
-query_asked setting (Some own) number None low high entries used end at run = absurd run
-query_asked setting (Some own) number (Some matchers) low high entries used end at (None, run, same) = absurd (cc (same))
-query_asked setting (Some own) number (Some matchers) low high entries used end at (Some ended, run, same) =
-    let question : Question = asking matchers setting.script.rules.replicas low high in
+query_asked : (setting : Setting) (gateway : Option ℕ) (held : Option Use) (number : ℕ) (o : Option (List Matcher)) (low high : ℤ) (ask : Ask) (entries : List Entry) (used : Use) (end : SeriesEnd) → ask_to setting gateway low high ≡ Some ask → slice_get setting.script.selectors number ≡ o
+    → QueryTask held (option_map (λ matchers. record { selector = matchers; replicas = setting.script.rules.replicas; low = ask.low; high = ask.high }) o) entries (Some (answered used end)) → IsAsked setting gateway (Query low high number) held entries used end
+query_asked setting gateway None number o low high ask entries used end asked at (nil, inl none) = absurd (cc (none))
+query_asked setting gateway None number o low high ask entries used end asked at (nil, inr same) = absurd (cc (same))
+query_asked setting gateway (Some own) number None low high ask entries used end asked at run = absurd run
+query_asked setting gateway (Some own) number (Some matchers) low high ask entries used end asked at (None, run, same) = absurd (cc (same))
+query_asked setting gateway (Some own) number (Some matchers) low high ask entries used end asked at (Some ended, run, same) =
+    let question : Question = asking matchers setting.script.rules.replicas ask.low ask.high in
     let one : own ≡ used = cc (same) in
     let two : ended ≡ end = cc (same) in
     record {
@@ -51,8 +55,10 @@ query_asked setting (Some own) number (Some matchers) low high entries used end 
       selector = matchers;
       low = low;
       high = high;
+      ask = ask;
       asks = refl;
       selects = at;
+      asked = asked;
       is = ap (λ (u : Use). Some u) one;
       run = subst (λ (u : Use). SeriesRun u.view question entries (Some end)) one (subst (λ (x : SeriesEnd). SeriesRun own.view question entries (Some x)) two run);
     }
@@ -65,11 +71,13 @@ no_sync_answers : (used : Use) (end : SeriesEnd) (own : Option SyncEnd) → Some
 no_sync_answers used end None is = cc (is)
 no_sync_answers used end (Some one) is = cc (is)
 
-task_asked : (setting : Setting) (who : Who) (place : ℕ) (w : Work) (held after : Holding) (entries : List Entry) (used : Use) (end : SeriesEnd) → TaskRun setting who place w held entries (Some (answered used end)) after → IsAsked setting w held.used entries used end
+task_asked : (setting : Setting) (who : Who) (place : ℕ) (w : Work) (held after : Holding) (entries : List Entry) (used : Use) (end : SeriesEnd) → TaskRun setting who place w held entries (Some (answered used end)) after → IsAsked setting who.gateway w held.used entries used end
 task_asked setting who place (Upload ulid stop) held after entries used end ((block, is, (objects, own, shipped, run, inl (same, early))), left) = absurd (no_upload_answers used end own same)
 task_asked setting who place (Upload ulid stop) held after entries used end ((block, is, (objects, own, shipped, run, inr (n, reached, same))), left) = absurd (cc (same))
 task_asked setting who place (Sync gateway) held after entries used end (own, run, is, left) = absurd (no_sync_answers used end own is)
-task_asked setting who place (Query low high selector) held after entries used end (run, left) = query_asked setting held.used selector (slice_get setting.script.selectors selector) low high entries used end refl run
+task_asked setting who place (Query low high selector) held after entries used end (run, left) =
+    let part = part_ends setting selector (ask_to setting who.gateway low high) held.used entries (answered used end) (λ no. cc (no)) run in
+    query_asked setting who.gateway held.used selector (slice_get setting.script.selectors selector) low high part.0 entries used end part.1 refl part.2
 
 pairs_of : (entries : List Entry) → Rises entries → AllPairs (λ (one other : Entry). one.seq < other.seq) entries
 pairs_of [] rises i j d less inside = absurd (omega (arith, inside))
@@ -92,8 +100,9 @@ view_of setting journal gateway used o same = record {
 }
 
 pub ends_are_calls : (setting : Setting) (journal : List Entry) (ends : List (List (List End))) (number place gateway : ℕ) (own : List (List End)) (used : Use) (end : SeriesEnd) → IsRunOf setting journal ends → slice_get ends number ≡ Some own
-    → (came : CameTo (workers_of setting.script number) own (Some gateway) place (answered used end)) → (selector : List Matcher) × (low : ℤ) × (high : ℤ) × (sync : List Entry) × (entries : List Entry) × IsQueryAt setting number place selector low high
-    × (view : IsViewOf (sync_rules setting gateway) journal used sync) × IsSeatOf setting gateway view.seat × IsCallIn journal used (asking selector setting.script.rules.replicas low high) entries (Some end) × All (λ e. e.seat ≡ came.worker.seat) entries
+    → (came : CameTo (workers_of setting.script number) own (Some gateway) place (answered used end)) → (selector : List Matcher) × (low : ℤ) × (high : ℤ) × (ask : Ask) × (sync : List Entry) × (entries : List Entry) × IsQueryAt setting number place selector low high
+    × (ask_to setting (Some gateway) low high ≡ Some ask)
+    × (view : IsViewOf (sync_rules setting gateway) journal used sync) × IsSeatOf setting gateway view.seat × IsCallIn journal used (asking selector setting.script.rules.replicas ask.low ask.high) entries (Some end) × All (λ e. e.seat ≡ came.worker.seat) entries
 ends_are_calls setting journal ends number place gateway own used end run own_is came =
     let made = answers_are_made_by setting journal ends (journal_rises setting.script.rules.tick.ms journal run.kept) run number own (Some gateway) place (answered used end) own_is came in
     let m = (made.4).0 in
@@ -103,9 +112,11 @@ ends_are_calls setting journal ends number place gateway own used end run own_is
       call.selector,
       call.low,
       call.high,
+      call.ask,
       origin.entries,
       m.entries,
       record { phase = made.0; task = made.1; selector_number = call.number; in_phases = made.2; in_tasks = made.3; asks = call.asks; selects = call.selects },
+      ap (λ (o : Option ℕ). ask_to setting o call.low call.high) (sym by) ∙ call.asked,
       view_of setting journal gateway used origin (m.same used call.is gateway by),
       m.sits used call.is gateway by,
       record { among = m.part.among; rising = pairs_of m.entries m.part.rises; later = m.later used call.is; run = call.run },

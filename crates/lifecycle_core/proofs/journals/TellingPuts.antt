@@ -29,7 +29,8 @@ use Rattle.lifecycle_core.specs.Holdings.{Holding, Use, none_held}
 use Rattle.lifecycle_core.specs.Phases.{IsRunOf, by_script, by_workers}
 use Rattle.lifecycle_core.specs.Setting.{Setting}
 use Rattle.lifecycle_core.specs.Shipped.{IsShipped}
-use Rattle.lifecycle_core.specs.Tasks.{End, QueryTask, TaskRun, asked_by, sync_rules}
+use Rattle.lifecycle_core.specs.Tasks.{End, QueryTask, TaskRun, ask_to, sync_rules}
+use Rattle.lifecycle_core.proofs.phases.GatewayParts.{part_entries}
 use Rattle.lifecycle_core.proofs.phases.EachEntry.{phase_each, phases_each}
 use Rattle.lifecycle_core.proofs.misses.GatewayEntries.{calls, syncs}
 use Rattle.lifecycle_core.specs.Acting.{IsReading}
@@ -95,7 +96,8 @@ task_puts setting who place (Upload ulid stop) held after entries end ((block, i
     All-weaker (λ (e : Entry). PutsOne objects e.op) (PutsShipped setting) (λ e one k bytes puts. shipped_object setting ulid block objects k bytes is shipped (one k bytes puts)) entries
     (All-from_recursion (λ (e : Entry). PutsOne objects e.op) entries (upload_own block.ulid objects entries own run))
 task_puts setting who place (Sync gateway) held after entries end (own, run, is, left) = reads_put_none setting entries (syncs (sync_rules setting gateway) [] entries own run).reads
-task_puts setting who place (Query low high selector) held after entries end (run, left) = query_puts setting held.used (asked_by setting who.gateway selector low high) entries end run
+task_puts setting who place (Query low high selector) held after entries end (run, left) =
+    part_entries setting selector (All (PutsShipped setting)) (ask_to setting who.gateway low high) held.used entries end (All-nil (PutsShipped setting)) (λ asked own. query_puts setting held.used asked entries end own) run
 
 -- every put of a run is that of a shipped object
 pub puts_are_shipped : (setting : Setting) (journal : List Entry) (ends : List (List (List End))) → IsRunOf setting journal ends → All (PutsShipped setting) journal

@@ -35,7 +35,7 @@ use Rattle.lifecycle_core.specs.Conducts.{Conduct, PhaseRun, Who, WorkerRun, of_
 use Rattle.lifecycle_core.specs.Holdings.{Holdings, Use, holding_of, none_held}
 use Rattle.lifecycle_core.specs.Phases.{IsRunOf, by_script, by_workers}
 use Rattle.lifecycle_core.specs.Setting.{Setting}
-use Rattle.lifecycle_core.specs.Tasks.{End, answered, stopped, synced, uploaded, without_view}
+use Rattle.lifecycle_core.specs.Tasks.{End, answered, not_asked, stopped, synced, uploaded, without_view}
 use Rattle.lifecycle_core.specs.Ways.{PhasesRun, Way}
 use Rattle.lifecycle_core.proofs.misses.Misses.{Leaves, MissesAt, ViewSeen, misses_within, seen_among, task_in_order, tasks_in_order, tasks_leave, view_among}
 use Rattle.lifecycle_core.proofs.phases.PhaseViews.{views_left}
@@ -443,6 +443,7 @@ missing_is (answered used (called.Missing n)) number is = (used, ap (λ (m : ℕ
 missing_is (answered used (called.Damaged n)) number is = absurd is
 missing_is (answered used (called.Fault n)) number is = absurd is
 missing_is without_view number is = absurd is
+missing_is not_asked number is = absurd is
 missing_is (stopped count) number is = absurd is
 
 ends_miss : (setting : Setting) (journal : List Entry) (ends : List (List (List End))) → IsRunOf setting journal ends → (end : End) (number : ℕ) → SomeCame ends end → IsMissing end number → MissesAt [] journal number

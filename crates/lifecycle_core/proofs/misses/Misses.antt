@@ -34,7 +34,8 @@ use Rattle.lifecycle_core.specs.Holdings.{Holding, Use}
 use Rattle.lifecycle_core.specs.Phases.{by_script}
 use Rattle.lifecycle_core.specs.Setting.{Setting}
 use Rattle.lifecycle_core.specs.Shipped.{AreBuilt}
-use Rattle.lifecycle_core.specs.Tasks.{End, QueryTask, TaskRun, answered, asked_by, last_number, sync_rules, synced, uploaded}
+use Rattle.lifecycle_core.specs.Tasks.{End, QueryTask, TaskRun, answered, ask_to, last_number, question_of, sync_rules, synced, uploaded}
+use Rattle.lifecycle_core.proofs.phases.GatewayParts.{part_ends, part_entries}
 use Rattle.lifecycle_core.proofs.misses.GatewayEntries.{IsSeen, calls, seen_left, syncs}
 use Rattle.lifecycle_core.proofs.journals.RunEntries.{AreInOrder, PrecedesMeta, all_read, in_order_both, more_before, upload_in_order}
 use Rattle.lifecycle_core.proofs.phases.TaskRuns.{task_leaves}
@@ -57,7 +58,8 @@ pub task_in_order : (setting : Setting) → IsLawfulScript setting.script → (w
 task_in_order setting lawful who place (Upload ulid stop) held after entries end ((block, is, (objects, own, shipped, run, how)), left) =
     built_in_order setting block block.body objects entries own (All-contains (λ (b : Block). HasSeries b.body) setting.script.blocks block lawful.full (declared_among setting ulid block is)) shipped run
 task_in_order setting lawful who place (Sync gateway) held after entries end (own, run, is, left) = all_read [] entries (syncs (sync_rules setting gateway) [] entries own run).reads
-task_in_order setting lawful who place (Query low high selector) held after entries end (run, left) = query_in_order held.used (asked_by setting who.gateway selector low high) entries end run
+task_in_order setting lawful who place (Query low high selector) held after entries end (run, left) =
+    part_entries setting selector (AreInOrder []) (ask_to setting who.gateway low high) held.used entries end tt (λ asked own. query_in_order held.used asked entries end own) run
 
 -- others may stand before all of them
 in_order_after : (others before entries : List Entry) → AreInOrder before entries → AreInOrder (others ++ before) entries
@@ -157,7 +159,9 @@ task_misses : (setting : Setting) (who : Who) (place : ℕ) (before made : List 
 task_misses setting who place before made held after (Upload ulid stop) used number seen ((block, is, (objects, own, shipped, run, inl (same, early))), left) = absurd (no_upload_misses used number own same)
 task_misses setting who place before made held after (Upload ulid stop) used number seen ((block, is, (objects, own, shipped, run, inr (n, reached, same))), left) = absurd (cc (same))
 task_misses setting who place before made held after (Sync gateway) used number seen (own, run, is, left) = absurd (no_sync_misses used number own is)
-task_misses setting who place before made held after (Query low high selector) used number seen (run, left) = query_misses before made held.used (asked_by setting who.gateway selector low high) used number seen run
+task_misses setting who place before made held after (Query low high selector) used number seen (run, left) =
+    let part = part_ends setting selector (ask_to setting who.gateway low high) held.used made (answered used (called.Missing number)) (λ no. cc (no)) run in
+    query_misses before made held.used (question_of setting selector part.0) used number seen part.2
 
 -- what a worker's runs leave: the view after them was seen, and each call that missed an object is found
 pub record Leaves (before entries : List Entry) (ends : List End) (last : Holding) : Type 0 where

@@ -28,7 +28,8 @@ use Rattle.lifecycle_core.specs.Conducts.{Assigned, Conduct, PhaseRun, TasksAt, 
 use Rattle.lifecycle_core.specs.Holdings.{Holding, Holdings, Use, holding_of, none_held, nothing_held}
 use Rattle.lifecycle_core.specs.Phases.{IsRunOf, by_script, by_workers}
 use Rattle.lifecycle_core.specs.Setting.{Setting}
-use Rattle.lifecycle_core.specs.Tasks.{End, QueryTask, TaskRun, asked_by, sync_rules}
+use Rattle.lifecycle_core.specs.Tasks.{End, QueryTask, TaskRun, ask_to, sync_rules}
+use Rattle.lifecycle_core.proofs.phases.GatewayParts.{part_entries}
 use Rattle.lifecycle_core.specs.Ways.{PhasesRun}
 use Rattle.lifecycle_core.proofs.journals.Positions.{zip_right}
 use Rattle.lifecycle_core.proofs.misses.GatewayEntries.{calls, syncs as sync_entries}
@@ -138,7 +139,8 @@ task_reads : (setting : Setting) (who : Who) (place : ℕ) (w : Work) (held afte
 task_reads setting who place (Upload ulid stop) held after entries end other run = absurd other
 task_reads setting who place (Sync gateway) held after entries end other (own, run, is, left) =
     All-from_recursion (λ (e : Entry). IsReading e.op) entries (sync_entries (sync_rules setting gateway) [] entries own run).reads
-task_reads setting who place (Query low high selector) held after entries end other (run, left) = query_reads held.used (asked_by setting who.gateway selector low high) entries end run
+task_reads setting who place (Query low high selector) held after entries end other (run, left) =
+    part_entries setting selector AllRead (ask_to setting who.gateway low high) held.used entries end (none_read [] refl) (λ asked own. query_reads held.used asked entries end own) run
 
 abbrev NoUploads : List Assigned → Type 0
 NoUploads own = AllByRecursion (λ (a : Assigned). IsOther a.task.work) own

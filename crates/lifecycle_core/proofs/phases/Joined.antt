@@ -52,7 +52,7 @@ module _ (setting : Setting) (seat : Hand → ℕ) where
       )
   both views mid after (d ∷ ds) other made more ends later (inr r) same rest = absurd (omega (arith, same, ap (length {A = End}) r.3))
 
-  nothing : (views : Holdings) (duties : List Duty) → MayAllBegin setting duties → InLine setting seat views duties [] [] views
+  pub nothing : (views : Holdings) (duties : List Duty) → MayAllBegin setting duties → InLine setting seat views duties [] [] views
   nothing views [] begins = (refl, refl, refl)
   nothing views (d ∷ ds) begins =
       let held = holding_of views (gateway_of d.hand) in

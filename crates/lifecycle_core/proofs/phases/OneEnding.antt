@@ -37,8 +37,9 @@ use Rattle.lifecycle_core.specs.Conducts.{AreDone, Assigned, PhaseRun, TasksAt, 
 use Rattle.lifecycle_core.specs.Holdings.{Holding, Holdings, Use, holding_of, none_held}
 use Rattle.lifecycle_core.specs.Phases.{IsFinished, IsRunOf, by_script, by_workers}
 use Rattle.lifecycle_core.specs.Setting.{Setting}
+use Rattle.querier.specs.declared.ask.Ask.{Ask}
 use Rattle.lifecycle_core.specs.Shipped.{AreBuilt, IsPlanOf, IsShipped}
-use Rattle.lifecycle_core.specs.Tasks.{End, IsStop, QueryTask, TaskRun, answered, asked_by, sync_rules, synced, synced_with, uploaded}
+use Rattle.lifecycle_core.specs.Tasks.{End, IsStop, PartTask, QueryTask, TaskRun, answered, ask_to, question_of, sync_rules, synced, synced_with, uploaded}
 use Rattle.lifecycle_core.specs.Ways.{AreFinished, PhasesRun}
 use Rattle.lifecycle_core.proofs.answers.OneCall.{call_tells}
 use Rattle.lifecycle_core.proofs.phases.RunFronts.{not_nil}
@@ -147,6 +148,17 @@ query_tells (Some used) (Some asked) xs one other (own, run, is) (also, more, so
     let same = call_tells used.view asked xs first.0 second.0 (subst (SeriesRun used.view asked xs) first.1 run) (subst (SeriesRun used.view asked xs) second.1 more) in
     first.2 ∙ ap (answered used) same ∙ sym second.2
 
+part_once : (setting : Setting) (selector : ℕ) (ask : Option Ask) (used : Option Use) (xs : List Entry) (y : Entry) (rest : List Entry) (last : End) (end : Option End)
+    → PartTask setting selector ask used xs (Some last) → PartTask setting selector ask used (xs ++ y ∷ rest) end → ⊥
+part_once setting selector None used xs y rest last end run more = not_nil xs y rest more.0
+part_once setting selector (Some ask) used xs y rest last end run more = query_once used (question_of setting selector ask) xs y rest last end run more
+
+part_tells : (setting : Setting) (selector : ℕ) (ask : Option Ask) (used : Option Use) (xs : List Entry) (one other : End) → PartTask setting selector ask used xs (Some one) → PartTask setting selector ask used xs (Some other) → one ≡ other
+part_tells setting selector None used xs one other (nil, inl none) more = absurd (cc (none))
+part_tells setting selector None used xs one other (nil, inr is) (nil', inl none) = absurd (cc (none))
+part_tells setting selector None used xs one other (nil, inr is) (nil', inr so) = cc (is, so)
+part_tells setting selector (Some ask) used xs one other run more = query_tells used (question_of setting selector ask) xs one other run more
+
 module _ (setting : Setting) where
   -- a task that has come to its end makes no entry more
   pub task_once : (who : Who) (place : ℕ) (w : Work) (held after later : Holding) (xs : List Entry) (y : Entry) (rest : List Entry) (last : End) (end : Option End)
@@ -159,7 +171,7 @@ module _ (setting : Setting) where
       let made = some_of synced own last is in
       comes_once (sync rules) (IsEnd rules) xs made.0 y rest also (subst (SyncRun rules xs) made.1 run) more
   task_once who place (Query low high selector) held after later xs y rest last end (run, kept) (more, keeps) =
-      query_once held.used (asked_by setting who.gateway selector low high) xs y rest last end run more
+      part_once setting selector (ask_to setting who.gateway low high) held.used xs y rest last end run more
 
   -- the entries of a task tell its end, and what its worker then holds
   pub task_tells : (who : Who) (place : ℕ) (w : Work) (held after later : Holding) (xs : List Entry) (one other : End)
@@ -175,7 +187,7 @@ module _ (setting : Setting) where
       let owns : own ≡ also = first.1 ∙ ap (λ (s : SyncEnd). Some s) same ∙ sym second.1 in
       (first.2 ∙ ap synced same ∙ sym second.2, kept ∙ ap (synced_with held xs) owns ∙ sym keeps)
   task_tells who place (Query low high selector) held after later xs one other (run, kept) (more, keeps) =
-      (query_tells held.used (asked_by setting who.gateway selector low high) xs one other run more, kept ∙ sym keeps)
+      (part_tells setting selector (ask_to setting who.gateway low high) held.used xs one other run more, kept ∙ sym keeps)
 
   -- ---- workers
 

@@ -14,7 +14,8 @@ use Rattle.script_workers.specs.declared.work.Work.TheVariants.{Upload, Sync, Qu
 use Rattle.lifecycle_core.specs.Conducts.{Who}
 use Rattle.lifecycle_core.specs.Holdings.{Holding, Use}
 use Rattle.lifecycle_core.specs.Setting.{Setting}
-use Rattle.lifecycle_core.specs.Tasks.{End, IsStop, QueryTask, TaskRun, asked_by, sync_rules}
+use Rattle.querier.specs.declared.ask.Ask.{Ask}
+use Rattle.lifecycle_core.specs.Tasks.{End, IsStop, PartTask, QueryTask, TaskRun, ask_to, question_of, sync_rules}
 
 pub not_nil : {X : Type 0} (xs : List X) (y : X) (rest : List X) → xs ++ y ∷ rest ≡ [] → ⊥
 not_nil [] y rest is = cc (is)
@@ -38,10 +39,15 @@ query_cut None asked xs y rest end (nil, how) = absurd (not_nil xs y rest nil)
 query_cut (Some used) None xs y rest end run = run
 query_cut (Some used) (Some asked) xs y rest end (own, run, is) = (None, comes_front (series_call used.view asked) (IsCallEnd (sources_of used.view.kept)) xs y rest own run, refl)
 
+part_cut : (setting : Setting) (selector : ℕ) (ask : Option Ask) (used : Option Use) (xs : List Entry) (y : Entry) (rest : List Entry) (end : Option End)
+    → PartTask setting selector ask used (xs ++ y ∷ rest) end → PartTask setting selector ask used xs None
+part_cut setting selector None used xs y rest end (nil, how) = absurd (not_nil xs y rest nil)
+part_cut setting selector (Some ask) used xs y rest end run = query_cut used (question_of setting selector ask) xs y rest end run
+
 -- entries of a task's run before its last are a run without an end
 pub task_cut : (setting : Setting) (who : Who) (place : ℕ) (w : Work) (before after : Holding) (xs : List Entry) (y : Entry) (rest : List Entry) (end : Option End)
     → TaskRun setting who place w before (xs ++ y ∷ rest) end after → TaskRun setting who place w before xs None before
 task_cut setting who place (Upload ulid stop) before after xs y rest end ((block, is, (objects, own, ships, run, how)), same) =
     ((block, is, (objects, None, ships, front (upload block.ulid objects) xs y rest own run, inl (refl, before_stop stop xs y rest _ end how))), refl)
 task_cut setting who place (Sync gateway) before after xs y rest end (own, run, is, same) = (None, sync_cut (sync_rules setting gateway) xs y rest own run, refl, refl)
-task_cut setting who place (Query low high selector) before after xs y rest end (run, same) = (query_cut before.used (asked_by setting who.gateway selector low high) xs y rest end run, refl)
+task_cut setting who place (Query low high selector) before after xs y rest end (run, same) = (part_cut setting selector (ask_to setting who.gateway low high) before.used xs y rest end run, refl)

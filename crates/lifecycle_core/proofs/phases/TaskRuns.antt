@@ -1,5 +1,5 @@
 -- What every task may do: nothing yet; and what a task leaves of a view.
-use Rattle.std.proofs.Common.{◌≡◌, ℕ, ℤ, zero, suc, ◌<◌, Bool, true, false, List, [], ◌∷◌, length, refl, sym, ap, subst, inl, arith}
+use Rattle.std.proofs.Common.{◌≡◌, ℕ, zero, suc, ◌<◌, Bool, true, false, List, [], ◌∷◌, length, refl, sym, ap, subst, inl, arith}
 use Rattle.std.specs.Prelude.{◌==◌, Option, Some, None, option_map, slice_get, codes, find}
 use Rattle.std.specs.List.{All, list_any}
 use Rattle.std.specs.List.Sorted.{IsStrictlyIncreasing}
@@ -17,6 +17,7 @@ use Rattle.meta_fetcher.specs.declared.sync_end.SyncEnd.TheVariants as fetched
 use Rattle.store_gateway.specs.SeriesRuns.{Query as Question, series_call}
 use Rattle.world_core.proofs.PlanLaws.{breaks_off}
 use Rattle.matchers.specs.declared.matcher.Matcher.{Matcher}
+use Rattle.querier.specs.declared.ask.Ask.{Ask}
 use Rattle.script_core.specs.Lawful.{IsLawfulBlock, IsLawfulBody, IsLawfulWork}
 use Rattle.script_core.specs.declared.block.Block.{Block}
 use Rattle.script_core.specs.declared.body.Body.{Body}
@@ -27,7 +28,7 @@ use Rattle.lifecycle_core.specs.Conducts.{Who}
 use Rattle.lifecycle_core.specs.Holdings.{Holding, Use}
 use Rattle.lifecycle_core.specs.Setting.{Setting}
 use Rattle.lifecycle_core.specs.Shipped.{AreBuilt}
-use Rattle.lifecycle_core.specs.Tasks.{End, QueryTask, TaskRun, asked_by, last_number, sync_rules, synced_with}
+use Rattle.lifecycle_core.specs.Tasks.{End, PartTask, QueryTask, TaskRun, ask_to, last_number, question_of, sync_rules, synced_with}
 
 found_first : {X : Type 0} (P : X → Type 0) (p : X → Bool) (x : X) (xs : List X) (b : Bool) → p x ≡ b → P x → (list_any p xs ≡ true → (y : X) × (find p xs ≡ Some y) × P y) → list_any p (x ∷ xs) ≡ true
     → (y : X) × (find p (x ∷ xs) ≡ Some y) × P y
@@ -70,10 +71,14 @@ query_none None asked is = (refl, inl refl)
 query_none (Some used) None is = absurd (cc (is.1))
 query_none (Some used) (Some q) is = (None, breaks_off (series_call used.view q), refl)
 
-asked_some : (setting : Setting) (gateway : Option ℕ) (selector : ℕ) (low high : ℤ) → selector < length setting.script.selectors → (q : Question) × (asked_by setting gateway selector low high ≡ Some q)
-asked_some setting gateway selector low high below =
+asked_some : (setting : Setting) (selector : ℕ) (ask : Ask) → selector < length setting.script.selectors → (q : Question) × (question_of setting selector ask ≡ Some q)
+asked_some setting selector ask below =
     let g = got setting.script.selectors selector below in
-    (record { selector = g.0; replicas = setting.script.rules.replicas; low = low; high = high }, ap (λ o. option_map (λ (m : List Matcher). record { selector = m; replicas = setting.script.rules.replicas; low = low; high = high }) o) g.1)
+    (record { selector = g.0; replicas = setting.script.rules.replicas; low = ask.low; high = ask.high }, ap (λ o. option_map (λ (m : List Matcher). record { selector = m; replicas = setting.script.rules.replicas; low = ask.low; high = ask.high }) o) g.1)
+
+part_none : (setting : Setting) (selector : ℕ) (ask : Option Ask) (used : Option Use) → selector < length setting.script.selectors → PartTask setting selector ask used [] None
+part_none setting selector None used below = (refl, inl refl)
+part_none setting selector (Some ask) used below = query_none used (question_of setting selector ask) (asked_some setting selector ask below)
 
 -- a run of the work may be broken off before its first entry, and then nothing has changed
 abbrev pub MayBegin : Setting → Work → Type 0
@@ -86,7 +91,7 @@ none_yet setting (Upload ulid stop) blocks lawful = λ who place before.
     ((f.0, f.1, (b.0, None, b.1, refl, inl (refl, λ n e above. above))), refl)
 none_yet setting (Sync gateway) blocks lawful = λ who place before. (None, refl, refl, refl)
 none_yet setting (Query low high selector) blocks lawful = λ who place before.
-    (query_none before.used (asked_by setting who.gateway selector low high) (asked_some setting who.gateway selector low high lawful.3), refl)
+    (part_none setting selector (ask_to setting who.gateway low high) before.used lawful.3, refl)
 
 -- no upload changes what a worker holds
 pub upload_keeps : (setting : Setting) (who : Who) (place : ℕ) (before after : Holding) (ulid : ℕ) (stop : Option ℕ) (made : List Entry) (end : Option End) → TaskRun setting who place (Upload ulid stop) before made end after → after ≡ before

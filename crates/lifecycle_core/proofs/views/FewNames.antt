@@ -29,7 +29,8 @@ use Rattle.lifecycle_core.specs.Conducts.{Who}
 use Rattle.lifecycle_core.specs.Holdings.{Holding, Use}
 use Rattle.lifecycle_core.specs.Phases.{IsRunOf}
 use Rattle.lifecycle_core.specs.Setting.{Setting}
-use Rattle.lifecycle_core.specs.Tasks.{End, QueryTask, TaskRun, asked_by, sync_rules, synced}
+use Rattle.lifecycle_core.specs.Tasks.{End, QueryTask, TaskRun, ask_to, question_of, sync_rules, synced}
+use Rattle.lifecycle_core.proofs.phases.GatewayParts.{part_ends}
 use Rattle.lifecycle_core.proofs.misses.Explaining.{parted}
 use Rattle.lifecycle_core.proofs.phases.TasksMade.{ends_are_made}
 use Rattle.lifecycle_core.proofs.journals.Told.{IsDeclaredName, IsPart, IsReadable, IsTold, Rises}
@@ -172,7 +173,9 @@ task_finds_few setting who place (Sync gateway) held after entries few (None, ru
 task_finds_few setting who place (Sync gateway) held after entries few (Some own, run, same, left) =
     let one : own ≡ fetched.TooMany = cc (same) in
     few gateway (subst (λ (x : SyncEnd). SyncRun (sync_rules setting gateway) entries (Some x)) one run)
-task_finds_few setting who place (Query low high selector) held after entries few (run, left) = query_finds_few held.used (asked_by setting who.gateway selector low high) entries run
+task_finds_few setting who place (Query low high selector) held after entries few (run, left) =
+    let part = part_ends setting selector (ask_to setting who.gateway low high) held.used entries (synced fetched.TooMany) (λ no. cc (no)) run in
+    query_finds_few held.used (question_of setting selector part.0) entries part.2
 
 -- no worker says that a sync found too many names
 pub none_found_many : (setting : Setting) (journal : List Entry) (ends : List (List (List End))) → IsLawfulScript setting.script → IsReadable setting → Rises journal → All (IsTold setting journal) journal → IsRunOf setting journal ends

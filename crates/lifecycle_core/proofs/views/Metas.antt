@@ -64,7 +64,7 @@ built_meta_read setting readable ulid block (Inline low high series) objects byt
     read_as setting readable ulid block low high series plan bytes is body of_plan (built_object setting block low high series objects (key.Meta ulid) bytes (plan, of_plan, are) among).1
 
 -- a shipped object under the key of a meta is read as the block's meta
-meta_read_as : (setting : Setting) → IsReadable setting → (ulid : ℕ) (bytes : List ℕ) → IsShippedObject setting (key.Meta ulid) bytes → IsReadAsMeta setting ulid bytes
+pub meta_read_as : (setting : Setting) → IsReadable setting → (ulid : ℕ) (bytes : List ℕ) → IsShippedObject setting (key.Meta ulid) bytes → IsReadAsMeta setting ulid bytes
 meta_read_as setting readable ulid bytes o = built_meta_read setting readable ulid o.block o.block.body o.objects bytes o.is refl o.shipped o.among
 
 -- so puts of metas put their texts, where each put is of a shipped object

@@ -1,9 +1,8 @@
 -- A view whose sync is told of by an honest journal is true of the script: it keeps blocks that the script declares, which were
 -- complete before the sync's last entry, and each one that was settled before the sync began. And no sync finds anything damaged.
 use Rattle.list_core.proofs.Membership.{contains_first, contains_later, into_filter}
-use Rattle.lifecycle_core.proofs.blocks.Declared.{declared_lawful}
-use Rattle.std.proofs.Common.{◌≡◌, ℕ, ◌+◌, ◌<◌, ◌≤◌, ◌^◌, ◌-◌, true, false, not, ◌&&◌, List, [], ◌∷◌, Contains, Option, Some, None, ℤ, pos, negsuc, refl, sym, ap, subst, arith}
-use Rattle.std.specs.Prelude.{fold, int_le, is_some, option_map, neg_ℤ, ◌≤ℤ◌, ◌<ℤ◌}
+use Rattle.std.proofs.Common.{◌≡◌, ℕ, ◌+◌, ◌<◌, ◌≤◌, ◌^◌, true, false, not, ◌&&◌, List, [], ◌∷◌, Contains, Option, Some, None, ℤ, refl, sym, ◌∙◌, ap, subst, arith}
+use Rattle.std.specs.Prelude.{fold, int_le, is_some, option_map, ◌≤ℤ◌}
 use Rattle.std.specs.List.{All, AllByRecursion}
 use Rattle.std.proofs.lemmas.Bool.{both_ways, le-leb, not_from_false, or_left}
 use Rattle.std.proofs.lemmas.Int.{ints}
@@ -11,7 +10,9 @@ use Rattle.std.proofs.lemmas.List.Elements.{All-contains, All-filter, All-tail, 
 use Rattle.block_keys.specs.declared.key.Key.TheVariants as key
 use Rattle.block_meta.specs.declared.deletion_mark.DeletionMark.{DeletionMark}
 use Rattle.block_meta.specs.MetaFields.{MetaFields, fields_of, mark_fields_of}
+use Rattle.block_meta.proofs.FoundTexts.{meta_text_only}
 use Rattle.moment_core.specs.declared.moment.Moment.{Moment}
+use Rattle.moment_core.specs.declared.partition.Partition.{Partition}
 use Rattle.moment_core.specs.declared.span.Span.{Span}
 use Rattle.world_core.specs.Walks.{last_listed}
 use Rattle.world_core.specs.declared.entry.Entry.{Entry}
@@ -25,34 +26,40 @@ use Rattle.meta_fetcher.specs.declared.rules.SyncRules.{SyncRules}
 use Rattle.meta_fetcher.proofs.SyncLaws.{KeptByPages, KeptByReads, synced}
 use Rattle.meta_fetcher.specs.declared.sync_end.SyncEnd.TheVariants as fetched
 use Rattle.meta_fetcher.specs.declared.view.View.{View}
-use Rattle.script_core.specs.Lawful.{IsLawfulBody, IsLawfulScript}
+use Rattle.script_core.specs.Lawful.{IsLawfulScript}
+use Rattle.script_core.specs.declared.block.Block.{Block}
 use Rattle.script_core.specs.declared.body.Body.{Body}
 use Rattle.script_core.specs.declared.body.Body.TheVariants.{Inline}
-use Rattle.lifecycle_core.specs.Completed.{IsUploadedBefore}
+use Rattle.lifecycle_core.specs.Completed.{IsCompletedAt, IsUploadedBefore, Passes}
 use Rattle.lifecycle_core.specs.Held.{declared}
 use Rattle.lifecycle_core.specs.Holdings.{Use}
 use Rattle.lifecycle_core.specs.Setting.{Setting}
-use Rattle.lifecycle_core.specs.Tasks.{all_times, last_number, sync_rules}
+use Rattle.lifecycle_core.specs.Tasks.{last_number, sync_rules}
 use Rattle.lifecycle_core.proofs.journals.Told.{IsOrigin, IsPart, IsReadable, IsTold, PutsTexts, IsTrueFound, IsTrueView, Rises, Spans}
+use Rattle.lifecycle_core.proofs.journals.Positions.{stands_in}
+use Rattle.lifecycle_core.proofs.journals.TellingPuts.{PutsShipped}
 use Rattle.lifecycle_core.proofs.views.Finds.{FindsPast, IsOwn, IsPast, IsSighted, finds_past}
-use Rattle.lifecycle_core.proofs.views.Metas.{IsMetaOf, meta_found, no_mark}
+use Rattle.lifecycle_core.proofs.views.Metas.{IsMetaOf, meta_found, meta_read_as, no_mark, puts_texts}
 use Rattle.lifecycle_core.proofs.views.Soles.{IsSole, none_covered}
 use Rattle.lifecycle_core.proofs.views.Pages.{AreSmall, ascends_after, ulids_small}
 use Rattle.lifecycle_core.proofs.views.Puts.{put_before, uploaded_before, within_last}
 
 -- ---- what passes the filters
 
-times_within : (low high : ℤ) → neg_ℤ (pos (2 ^ 62)) ≤ℤ low → low <ℤ high → high ≤ℤ pos (2 ^ 62) → int_le (negsuc (2 ^ 63 - 1)) high && int_le low (pos (2 ^ 63 - 1)) ≡ true
-times_within low high early ascend late = grind (arith, ints)
+within_both : (low high first last : ℤ) → low ≤ℤ last → first ≤ℤ high → int_le low last && int_le first high ≡ true
+within_both low high first last from upto = grind (arith, ints)
 
-body_within : (body : Body) (low high : ℤ) → IsLawfulBody body → Spans body low high → int_le (negsuc (2 ^ 63 - 1)) high && int_le low (pos (2 ^ 63 - 1)) ≡ true
-body_within (Inline min_time max_time series) low high lawful (one, other) =
-    subst (λ h. int_le (negsuc (2 ^ 63 - 1)) h && int_le low (pos (2 ^ 63 - 1)) ≡ true) (sym other)
-    (subst (λ l. int_le (negsuc (2 ^ 63 - 1)) max_time && int_le l (pos (2 ^ 63 - 1)) ≡ true) (sym one) (times_within min_time max_time lawful.early lawful.ascend lawful.late))
+-- a body has one first and one last time
+one_span : (body : Body) (low high from upto : ℤ) → Spans body low high → Spans body from upto → (from ≡ low) × (upto ≡ high)
+one_span (Inline min_time max_time series) low high from upto (one, other) (also, more) = (also ∙ sym one, more ∙ sym other)
 
-in_partition : (setting : Setting) → IsLawfulScript setting.script → (f : Found) → IsTrueFound setting f → is_in_partition f.meta all_times ≡ true
-in_partition setting lawful f t =
-    body_within t.block.body f.meta.min_time f.meta.max_time (declared_lawful setting f.ulid t.block t.is lawful).body t.times
+-- what one meta of a block passes, each found one does
+in_partition : (setting : Setting) (partition : Partition) (f : Found) (meta : MetaFields) → IsTrueFound setting f → IsMetaOf setting f.ulid meta → Passes partition meta → is_in_partition f.meta partition ≡ true
+in_partition setting partition f meta t m passes =
+    let block : m.block ≡ t.block = cc (m.is, t.is) in
+    let times = one_span t.block.body f.meta.min_time f.meta.max_time meta.min_time meta.max_time t.times (subst (λ (b : Block). Spans b.body meta.min_time meta.max_time) block m.times) in
+    within_both partition.low partition.high f.meta.min_time f.meta.max_time
+    (subst (λ (z : ℤ). partition.low ≤ℤ z) times.1 passes.from) (subst (λ (z : ℤ). z ≤ℤ partition.high) times.0 passes.upto)
 
 consistent : (f : Found) (delay : Span) → time_of f.ulid + delay.ms ≤ f.meta_read.ms → is_consistent f delay ≡ true
 consistent f delay old = or_left _ (is_late_source f.meta.source) (le-leb (time_of f.ulid + delay.ms) f.meta_read.ms old)
@@ -135,16 +142,26 @@ module _ (setting : Setting) (readable : IsReadable setting) (journal : List Ent
       All-weaker (λ (x : Found). IsSighted setting journal first entries (sighting_of x)) IsSole (λ x s. sole_found x (sighted_true x s)) finds.found finds.all in
       All-filter _ IsSole _ (All-filter _ IsSole _ (All-filter _ IsSole finds.found each))
 
+  -- a complete block's meta is that of a block of the script
+  uploaded_meta : All (PutsShipped setting) journal → (ulid seq : ℕ) (meta : MetaFields) → IsCompletedAt journal ulid seq meta → IsMetaOf setting ulid meta
+  uploaded_meta shipped ulid seq meta c =
+      let among : Contains journal c.entry = subst (λ (es : List Entry). Contains es c.entry) (sym c.is) (stands_in c.before c.after c.entry) in
+      let read = meta_read_as setting readable ulid c.bytes (All-contains (PutsShipped setting) journal c.entry shipped among (key.Meta ulid) c.bytes c.puts) in
+      let same : read.0 ≡ meta = cc (read.1, meta_text_only c.bytes meta c.text) in
+      subst (IsMetaOf setting ulid) same read.2
+
   -- what was settled before the sync began is kept
-  settled_kept : IsLawfulScript setting.script → (gateway : ℕ) (view : View) → FindsPast setting journal first entries (sync_rules setting gateway) view → (ulid : ℕ) → IsUploadedBefore setting journal ulid view.first
-      → time_of ulid + setting.script.rules.consistency.ms ≤ view.begin.ms → (f : Found) × Contains view.kept f × (f.ulid ≡ ulid)
-  settled_kept lawful gateway view finds ulid uploaded old =
+  settled_kept : All (PutsShipped setting) journal → (gateway : ℕ) (view : View) → FindsPast setting journal first entries (sync_rules setting gateway) view → (ulid : ℕ) → (uploaded : IsUploadedBefore setting journal ulid view.first)
+      → time_of ulid + setting.script.rules.consistency.ms ≤ view.begin.ms → Passes (sync_rules setting gateway).partition uploaded.meta → (f : Found) × Contains view.kept f × (f.ulid ≡ ulid)
+  settled_kept shipped gateway view finds ulid uploaded old passes =
       let past = past_of ulid (subst (IsUploadedBefore setting journal ulid) finds.number uploaded) in
       let found = finds.past ulid past in
       let f = found.0 in
       let s = All-contains (λ (x : Found). IsSighted setting journal first entries (sighting_of x)) finds.found f finds.all found.1 in
       let time = old_enough f ulid setting.script.rules.consistency.ms view.begin.ms found.2 old (omega (arith, ap (λ m. m.ms) finds.begin)) s in
-      let one = into_filter (λ (b : Found). is_in_partition b.meta all_times) finds.found f found.1 (in_partition setting lawful f (sighted_true f s)) in
+      let partition = (sync_rules setting gateway).partition in
+      let meta : IsMetaOf setting f.ulid uploaded.meta = subst (λ (u : ℕ). IsMetaOf setting u uploaded.meta) (sym found.2) (uploaded_meta shipped ulid uploaded.seq uploaded.meta uploaded.completed) in
+      let one = into_filter (λ (b : Found). is_in_partition b.meta partition) finds.found f found.1 (in_partition setting partition f uploaded.meta (sighted_true f s) meta passes) in
       let two = into_filter (λ (b : Found). is_consistent b setting.script.rules.consistency) _ f one (consistent f setting.script.rules.consistency time) in
       let three = into_filter (λ (b : Found). is_unmarked b setting.script.rules.ignore) _ f two (unmarked_kept f.mark f.mark_read setting.script.rules.ignore s.unmarked) in
       let passed = passed_by (sync_rules setting gateway) finds.found in
@@ -159,22 +176,23 @@ module _ (setting : Setting) (readable : IsReadable setting) (journal : List Ent
 
 -- ---- true views
 
-true_from : (setting : Setting) (journal : List Entry) (used : Use) → IsLawfulScript setting.script → IsReadable setting → Rises journal → PutsTexts journal → All (IsTold setting journal) journal → (gateway : ℕ) (entries : List Entry)
+true_from : (setting : Setting) (journal : List Entry) (used : Use) → IsReadable setting → Rises journal → All (PutsShipped setting) journal → All (IsTold setting journal) journal → (gateway : ℕ) (entries : List Entry)
     → SyncRun (sync_rules setting gateway) entries (Some (fetched.View used.view)) → used.last ≡ last_number entries → IsPart journal entries → IsTrueView setting journal gateway used
-true_from setting journal used lawful readable rises texts told gateway [] run last part = absurd ((let none = run.1 in cc (none)))
-true_from setting journal used lawful readable rises texts told gateway (first ∷ entries) run last part =
+true_from setting journal used readable rises shipped told gateway [] run last part = absurd ((let none = run.1 in cc (none)))
+true_from setting journal used readable rises shipped told gateway (first ∷ entries) run last part =
+    let texts = puts_texts setting journal readable (λ e among. All-contains (PutsShipped setting) journal e shipped among) in
     let finds = finds_past setting journal first entries (sync_rules setting gateway) used.view (own_entries setting journal first entries told part) run in
     record {
       kept = of_found setting readable journal first entries gateway (IsTrueFound setting) used.view finds (sighted_true setting readable journal first entries);
       uploaded = of_found setting readable journal first entries gateway (λ (f : Found). IsUploadedBefore setting journal f.ulid used.last) used.view finds
           (λ f s. subst (IsUploadedBefore setting journal f.ulid) (sym last) (sighted_uploaded setting readable journal first entries rises texts part f s));
-      settled = λ ulid settled. settled_kept setting readable journal first entries lawful gateway used.view finds ulid settled.uploaded settled.old;
+      settled = λ ulid settled. settled_kept setting readable journal first entries shipped gateway used.view finds ulid settled.uploaded settled.old settled.passes;
     }
 
 -- a view that a sync of the journal gave is true
-pub origin_is_true : (setting : Setting) (journal : List Entry) (used : Use) → IsLawfulScript setting.script → IsReadable setting → Rises journal → PutsTexts journal → All (IsTold setting journal) journal
+pub origin_is_true : (setting : Setting) (journal : List Entry) (used : Use) → IsReadable setting → Rises journal → All (PutsShipped setting) journal → All (IsTold setting journal) journal
     → (origin : IsOrigin setting journal used) → IsTrueView setting journal origin.gateway used
-origin_is_true setting journal used lawful readable rises texts told origin = true_from setting journal used lawful readable rises texts told origin.gateway origin.entries origin.run origin.last origin.part
+origin_is_true setting journal used readable rises shipped told origin = true_from setting journal used readable rises shipped told origin.gateway origin.entries origin.run origin.last origin.part
 
 -- ---- nothing is damaged
 

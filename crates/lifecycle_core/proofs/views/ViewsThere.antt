@@ -34,7 +34,8 @@ use Rattle.lifecycle_core.specs.Conducts.{AreDone, Assigned, PhaseRun, TasksAt, 
 use Rattle.lifecycle_core.specs.Holdings.{Holding, Holdings, Use, holding_of, none_held, nothing_held}
 use Rattle.lifecycle_core.specs.Phases.{IsInTurn, IsRunOf, by_script, by_workers}
 use Rattle.lifecycle_core.specs.Setting.{Setting}
-use Rattle.lifecycle_core.specs.Tasks.{End, QueryTask, TaskRun, asked_by, stopped, synced, synced_with, uploaded, without_view}
+use Rattle.querier.specs.declared.ask.Ask.{Ask}
+use Rattle.lifecycle_core.specs.Tasks.{End, PartTask, QueryTask, TaskRun, ask_to, question_of, stopped, synced, synced_with, uploaded, without_view}
 use Rattle.lifecycle_core.specs.Ways.{AreInTurn, PhasesRun}
 use Rattle.lifecycle_core.proofs.phases.Duties.{same_is}
 use Rattle.lifecycle_core.proofs.journals.Positions.{zip_left, zip_right}
@@ -112,12 +113,17 @@ query_end (Some used) None made end has run = absurd run
 query_end (Some used) (Some q) made end has (None, run, is) = absurd (cc (is))
 query_end (Some used) (Some q) made end has (Some own, run, is) = λ no. absurd (cc (is, no))
 
+part_end : (setting : Setting) (selector : ℕ) (ask : Option Ask) (used : Option Use) (made : List Entry) (end : End) → IsThere used → PartTask setting selector ask used made (Some end) → end ≢ without_view
+part_end setting selector None used made end has (nil, inl none) = absurd (cc (none))
+part_end setting selector None used made end has (nil, inr same) = λ no. absurd (cc (same, no))
+part_end setting selector (Some ask) used made end has run = query_end used (question_of setting selector ask) made end has run
+
 -- with a view where one is needed, no task ends for want of one
 ends_well : (setting : Setting) (who : Who) (place : ℕ) (w : Work) (held after : Holding) (made : List Entry) (end : End) → GivesView end → (IsQuery w → HasView held) → TaskRun setting who place w held made (Some end) after → end ≢ without_view
 ends_well setting who place (Upload ulid stop) held after made end good known ((block, is, (objects, own, shipped, run, how)), left) =
     elim how [ inl went ↦ uploaded_end end own went.0 | inr went ↦ λ no. let same : end ≡ stopped went.0 = cc (went.2) in absurd (cc (same, no)) ]
 ends_well setting who place (Sync gateway) held after made end good known (own, run, is, left) = (sync_end held after made end own good is left).1
-ends_well setting who place (Query low high selector) held after made end good known (run, left) = query_end held.used (asked_by setting who.gateway selector low high) made end (known tt) run
+ends_well setting who place (Query low high selector) held after made end good known (run, left) = part_end setting selector (ask_to setting who.gateway low high) held.used made end (known tt) run
 
 -- and a view is there after it where a sync was seen before it, or it is one
 leaves_well : (setting : Setting) (g : ℕ) (seen : Bool) (who : Who) (place : ℕ) (w : Work) (held after : Holding) (made : List Entry) (end : End) → GivesView end → (seen ≡ true → HasView held) → TaskRun setting who place w held made (Some end) after → (seen || is_sync_of g w) ≡ true
